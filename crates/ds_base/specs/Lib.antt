@@ -1,0 +1,4 @@
+pub mod Limit
+pub mod Greatest
+pub mod Values
+pub mod Word

@@ -1,0 +1,157 @@
+ghost use Rattle.std.specs.Prelude.{◌≡◌, ◌*◌, ◌<◌, ◌≤◌, length, replicate, slice_index_or, slice_set, IfOk};
+ghost use Rattle.ds_base.specs.Word.{number_of_values, word_of, code_of};
+ghost use Rattle.ds_base.specs.Values.{Row};
+ghost use Rattle.ds_base.specs.declared.value.Value.TheVariants.{Zero};
+
+use crate::{OutOfMemory, Value};
+use std::alloc::Global;
+use std::marker::Model;
+
+/// A row of values. Contracts see the list of the values.
+#[derive(Drop)]
+pub struct Row3 {
+    values: Vec<Value>,
+}
+
+impl Model for Row3 {
+    ghost Value = { Row };
+
+    ghost view = { λ row. row.values.items };
+}
+
+impl Row3 {
+    /// Of these values, one a place.
+    pub fn of(values: Vec<Value>) -> Self
+        ensures { result ≡ values.items }
+    {
+        Row3 { values }
+    }
+
+    /// Zeros.
+    pub fn with_len(alloc: Global, n: usize) -> Result<Self, OutOfMemory>
+        ensures { IfOk result (λ row. row ≡ replicate n Zero) }
+    {
+        Ok(Row3 {
+            values: vec![in alloc; Value::Zero; n]?,
+        })
+    }
+
+    /// How many values there are.
+    pub fn len(&self) -> usize
+        ensures { result ≡ length self.now }
+    {
+        self.values.len()
+    }
+
+    /// The value at a place.
+    pub fn value(&self, i: usize) -> Value
+        requires { i < length self.now }
+        ensures { result ≡ slice_index_or self.now i Zero }
+    {
+        self.values[i]
+    }
+
+    /// Another value at a place.
+    pub fn set(&mut self, i: usize, value: Value)
+        requires { i < length self.old }
+        ensures { self.new ≡ slice_set self.old i value }
+    {
+        self.values[i] = value;
+    }
+
+    /// The values of another row of the same length.
+    pub fn copy_from(&mut self, other: &Row3)
+        requires { length self.old ≡ length other.now }
+        ensures { self.new ≡ other.now }
+    {
+        self.values.copy_from_slice(&other.values);
+    }
+
+    /// Values 32 i and on, two bits each, the first of them the lowest; 0 past the end.
+    pub fn word(&self, i: usize) -> u64
+        requires { 32 * i < length self.now }
+        ensures { result ≡ word_of self.now i }
+    {
+        let rest = &self.values[32 * i..];
+        if rest.len() < 32 {
+            word_from(rest)
+        } else {
+            word_from(&rest[..32])
+        }
+    }
+}
+
+// The number of these values, the first of them the lowest.
+#[tactic(auto, using(crate::proofs::Words::word_steps))]
+fn word_from(values: &[Value]) -> u64
+    requires { length values.now ≤ 32 }
+    ensures { result ≡ number_of_values values.now }
+{
+    let mut word = 0;
+    for i in (0..values.len()).rev() {
+        word = code(values[i]) + 4 * word;
+    }
+    word
+}
+
+// The two bits of a value.
+fn code(value: Value) -> u64
+    ensures code { result ≡ code_of value }
+    ensures two_bits { result ≤ 2 }
+{
+    match value {
+        Value::Zero => 0,
+        Value::One => 1,
+        Value::Unknown => 2,
+    }
+}
+
+#[cfg(test)]
+mod tests {
+    use super::*;
+    use std::alloc::AllocError;
+
+    fn row(alloc: Global, text: &str) -> Result<Row3, AllocError> {
+        let mut values = Vec::new(alloc);
+        for c in text.bytes() {
+            values.push(match c {
+                b'0' => Value::Zero,
+                b'1' => Value::One,
+                _ => Value::Unknown,
+            })?;
+        }
+        Ok(Row3::of(values))
+    }
+
+    // Codes are 0, 1 and 2, two bits each, the first value the lowest.
+    #[test]
+    fn a_word_has_thirty_two_values(rt: HostRuntime) {
+        for (text, i, want) in [
+            ("0", 0, 0),
+            ("01x", 0, 36),
+            ("x1", 0, 6),
+            ("1111111111111111111111111111111x", 0, 0x9555_5555_5555_5555),
+            ("000000000000000000000000000000001x", 1, 9),
+        ] {
+            let Ok(values) = row(rt.alloc(), text) else {
+                panic!(rt; "memory");
+            };
+            assert!(rt; 32 * i < values.len());
+            assert_eq!(rt; values.word(i), want, "{text}");
+        }
+    }
+
+    #[test]
+    fn a_row_starts_with_zeros_and_is_set(rt: HostRuntime) {
+        let (Ok(mut zeros), Ok(other)) = (Row3::with_len(rt.alloc(), 3), row(rt.alloc(), "x10"))
+        else {
+            panic!(rt; "memory");
+        };
+        assert!(rt; zeros.len() == 3 && other.len() == 3);
+        assert_eq!(rt; zeros.value(1), Value::Zero);
+        zeros.set(1, Value::Unknown);
+        assert_eq!(rt; zeros.word(0), 8);
+        zeros.copy_from(&other);
+        assert_eq!(rt; zeros.word(0), 6);
+    }
+}

@@ -1,0 +1,69 @@
+ghost use Rattle.std.specs.Prelude.{◌≡◌};
+ghost use Rattle.ds_base.specs.Values.{both, either, inverse};
+
+/// What a net carries: zero, one, or a value that is not known.
+#[derive(Clone, Copy, Debug, PartialEq, Eq)]
+pub enum Value {
+    Zero,
+    One,
+    Unknown,
+}
+
+impl Value {
+    /// Zero where one of them is zero, one where both are one.
+    pub fn and(self, other: Value) -> Value
+        ensures { result ≡ both self other }
+    {
+        match (self, other) {
+            (Value::Zero, _) | (_, Value::Zero) => Value::Zero,
+            (Value::One, Value::One) => Value::One,
+            _ => Value::Unknown,
+        }
+    }
+
+    /// One where one of them is one, zero where both are zero.
+    pub fn or(self, other: Value) -> Value
+        ensures { result ≡ either self other }
+    {
+        match (self, other) {
+            (Value::One, _) | (_, Value::One) => Value::One,
+            (Value::Zero, Value::Zero) => Value::Zero,
+            _ => Value::Unknown,
+        }
+    }
+
+    /// The other of zero and one.
+    pub fn not(self) -> Value
+        ensures { result ≡ inverse self }
+    {
+        match self {
+            Value::Zero => Value::One,
+            Value::One => Value::Zero,
+            Value::Unknown => Value::Unknown,
+        }
+    }
+}
+
+#[cfg(test)]
+mod tests {
+    use super::*;
+
+    #[test]
+    fn an_unknown_value_is_known_where_it_does_not_matter(rt: HostRuntime) {
+        let (zero, one, unknown) = (Value::Zero, Value::One, Value::Unknown);
+        for (left, right, both, either) in [
+            (one, one, one, one),
+            (one, zero, zero, one),
+            (unknown, zero, zero, unknown),
+            (unknown, one, unknown, one),
+            (unknown, unknown, unknown, unknown),
+        ] {
+            assert_eq!(rt; left.and(right), both);
+            assert_eq!(rt; right.and(left), both);
+            assert_eq!(rt; left.or(right), either);
+            assert_eq!(rt; right.or(left), either);
+        }
+        assert_eq!(rt; zero.not(), one);
+        assert_eq!(rt; unknown.not(), unknown);
+    }
+}
