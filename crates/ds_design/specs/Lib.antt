@@ -1,0 +1,25 @@
+-- In the order in which to read.
+pub mod Source
+pub mod Circuit
+pub mod InRange
+pub mod Accepted
+pub mod Levels
+pub mod Valuation
+pub mod Reach
+pub mod Rows
+pub mod Run
+pub mod Trace
+pub mod Node
+pub mod Order
+pub mod Latches
+pub mod Plan
+pub mod Numbered
+pub mod Firing
+pub mod Flow
+pub mod Controls
+pub mod Windows
+pub mod Transparent
+pub mod Laws
+pub mod Log
+pub mod Record
+pub mod Worked
