@@ -1,0 +1,9 @@
+pub mod Clean
+pub mod Distinct
+pub mod First
+pub mod Heads
+pub mod InOrder
+pub mod NoFault
+pub mod PartsFit
+pub mod Printed
+pub mod WellFormed

@@ -1,0 +1,54 @@
+//! The first fault of a list of lines.
+ghost use Rattle.std.specs.Prelude.{◌≡◌, ◌<◌, None, [], length, MatchResult};
+ghost use Rattle.ds_lines.specs.Line.{line_or_none};
+ghost use Rattle.ds_blif.specs.State.{State as Before, first_fault, fault_in, fault_or, after};
+ghost use Rattle.ds_blif.specs.State.{IsFirst};
+
+use crate::fault::{BlifFault, BlifKind, BlifRefusal, Refusal};
+use crate::state::{State, initial};
+use crate::step::step;
+use ds_lines::Lines;
+use std::alloc::Global;
+
+// The state behind a line, or the fault of the line.
+fn check_line<'a>(
+    alloc: Global,
+    state: State<'a>,
+    lines: &Lines<'a>,
+    i: usize,
+) -> Result<State<'a>, BlifRefusal>
+    requires { i < length lines.now }
+    ensures { MatchResult result
+        (λ s. (fault_in state.entry (line_or_none lines.now i).words ≡ None) × (s ≡ after
+        (line_or_none lines.now i).words state.entry))
+        (λ e. IsFirst e (fault_or (fault_in state.entry (line_or_none lines.now i).words)
+        (line_or_none lines.now i).number None)) }
+{
+    match step(alloc, state, lines.line(i)) {
+        Ok(next) => Ok(next),
+        Err(Refusal::Memory) => Err(BlifRefusal::Memory),
+        Err(Refusal::Because(kind)) => {
+            let line = lines.number(i);
+            Err(BlifRefusal::Fault(BlifFault { line, kind }))
+        }
+    }
+}
+
+/// Whether the lines are free of faults.
+pub fn check<'a>(alloc: Global, lines: &Lines<'a>) -> Result<(), BlifRefusal>
+    ensures { MatchResult result (λ _. first_fault [] lines.now ≡ None) (λ e. IsFirst e
+        (first_fault [] lines.now)) }
+{
+    let mut state: State<'a> = initial(alloc);
+    for i in 0..lines.count() {
+        state = check_line(alloc, state, lines, i)?;
+    }
+    if state.models.len() == 0 {
+        Err(BlifRefusal::Fault(BlifFault {
+            line: 1,
+            kind: BlifKind::NoModel,
+        }))
+    } else {
+        Ok(())
+    }
+}

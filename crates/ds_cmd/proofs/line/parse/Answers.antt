@@ -1,0 +1,31 @@
+use Rattle.std.proofs.Common.{◌≡◌, ◌∙◌, inl, inr, refl, ap, sym, subst, true, map, [], Result}
+use Rattle.std.proofs.lemmas.Result.{err_from_is_err_and}
+use Rattle.clap.specs.Words.{App, HasMatchesOf, HasKind, fault_of, is_simple_and_free, kind_of}
+use Rattle.ds_cmd.specs.Fault.{Gives}
+use Rattle.ds_cmd.specs.Line.{job_in}
+use Rattle.ds_cmd.specs.declared.job.Job.{Job}
+use Rattle.ds_cmd.specs.declared.fault.UsageFault.{UsageFault}
+use Rattle.ds_cmd.proofs.Meant.{is_free, is_plainly, taken, refused}
+use Rattle.ds_cmd.proofs.line.parse.Goals as goal
+
+pub returns-in_err-command : goal.returns-in_err-command
+returns-in_err-command c =
+    let p = err_from_is_err_and c.from_residual.result c.from_residual.ensures.1 in rw (p.1, p.2) (inl refl)
+
+pub returns-in-Ok : goal.returns-in-Ok
+returns-in-Ok c =
+    let kinds = subst (λ (a : App). is_simple_and_free a ≡ true → fault_of a (map (λ w. w.now) c.args.words.now) ≡ []) c.in_ok-command.ensures c.in-Ok.ensures.kinds in
+    let matches = subst (λ (a : App). HasMatchesOf a (map (λ w. w.now) c.args.words.now) c.in-Ok.matches) c.in_ok-command.ensures c.in-Ok.ensures.matches in
+    let same = taken (map (λ w. w.now) c.args.words.now) (kinds is_free) ∙ ap job_in (sym (matches is_plainly).1) in
+    subst (λ (meant : Result Job UsageFault). Gives meant c.job.result) (sym same) c.job.ensures
+
+pub returns-in-Err : goal.returns-in-Err
+returns-in-Err c =
+    let kinds = subst (λ (a : App). is_simple_and_free a ≡ true → HasKind (fault_of a (map (λ w. w.now) c.args.words.now)) c.in-Err.error) c.in_ok-command.ensures c.in-Err.ensures.kinds in
+    elim (kinds is_free) [
+      | inl memory ↦ inl (c.usage_fault.ensures.memory memory)
+      | inr among ↦ elim c.usage_fault.ensures.others [
+        | inl memory ↦ inl memory
+        | inr line ↦ inr (rw line (refused (map (λ w. w.now) c.args.words.now) (kind_of c.in-Err.error) among))
+      ]
+    ]

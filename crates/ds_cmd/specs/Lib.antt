@@ -1,0 +1,9 @@
+-- In the order in which to read.
+pub mod Fault
+pub mod Argument
+pub mod Run
+pub mod Clock
+pub mod Check
+pub mod Commands
+pub mod Line
+pub mod Plain

@@ -1,0 +1,21 @@
+ghost use Rattle.std.specs.Prelude.{◌≡◌, false, option_map, MatchResult};
+ghost use Rattle.clap.specs.Words.{rule_of, found_of, rows_of, first_of};
+ghost use Rattle.ds_cmd.specs.Argument.{file_rule};
+
+use clap::{Arg, ArgMatches};
+use std::alloc::Global;
+
+/// A word that is required, in its place behind the command's name.
+pub fn file<'a>(alloc: Global, id: &'a str) -> Arg<'a>
+    ensures rule { rule_of result ≡ file_rule id.entry.now }
+    ensures local { result.global ≡ false }
+{
+    Arg::new(alloc, id).required(true)
+}
+
+/// The value of an argument, where it has one.
+pub fn text<'a>(values: &ArgMatches<'a>, id: &str) -> Option<&'a str>
+    ensures { option_map (λ s. s.now) result ≡ first_of id.now (rows_of (found_of values.now)) }
+{
+    values.get_str(id)
+}

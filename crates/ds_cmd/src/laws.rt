@@ -1,0 +1,29 @@
+ghost use Rattle.std.specs.Prelude.{◌≡◌, ℕ, List, [], ◌∷◌, Ok, Err, true, false, codes};
+ghost use Rattle.ds_cmd.specs.Line.{job_of};
+ghost use Rattle.ds_cmd.specs.Plain.{is_command, is_plain};
+ghost use Rattle.ds_cmd.specs.declared.job.Job.TheVariants.{Run, Clock, Check};
+ghost use Rattle.ds_cmd.specs.declared.fault.UsageFault.TheVariants.{Line};
+
+/// `run` with two names of files is taken, whatever the program's name is.
+pub fn run_is_taken()
+    ensures { (program net vec : List ℕ) → is_plain net ≡ true → is_plain vec ≡ true
+        → job_of (program ∷ codes "run" ∷ net ∷ vec ∷ []) ≡ Ok (Run net vec) }
+{}
+
+/// `clock` with two names of files is taken.
+pub fn clock_is_taken()
+    ensures { (program net vec : List ℕ) → is_plain net ≡ true → is_plain vec ≡ true
+        → job_of (program ∷ codes "clock" ∷ net ∷ vec ∷ []) ≡ Ok (Clock net vec) }
+{}
+
+/// `check` with the name of a file is taken.
+pub fn check_is_taken()
+    ensures { (program net : List ℕ) → is_plain net ≡ true
+        → job_of (program ∷ codes "check" ∷ net ∷ []) ≡ Ok (Check net) }
+{}
+
+/// A line that begins with another name than that of a command is refused, whatever follows.
+pub fn other_names_are_refused()
+    ensures { (program name : List ℕ) (words : List (List ℕ)) → is_plain name ≡ true
+        → is_command name ≡ false → job_of (program ∷ name ∷ words) ≡ Err Line }
+{}

@@ -1,0 +1,29 @@
+//! The words of a command line, read as the job that they ask for.
+//!
+//! A caller sees a word as its bytes, and a `Job` as one of the commands with its files' names.
+//! `parse` gives exactly the job that the words ask for, or exactly why they are no command line.
+//! What `clap` takes decides: its definition for simple commands, over the table of commands in
+//! `specs/Commands.antt`, where a command joins by an entry. The laws say without `clap` which
+//! lines are taken: the name of a command, and then its files; and that no other name is.
+//! A request for help or for the version is no command line. No clause says what a `UsageFault`
+//! displays.
+#![tactic(auto)]
+
+mod argument;
+mod check;
+mod clock;
+mod command;
+mod fault;
+mod file_name;
+mod job;
+mod laws;
+mod line;
+mod run;
+#[cfg(test)]
+mod tests;
+
+pub use fault::UsageFault;
+pub use file_name::FileName;
+pub use job::Job;
+pub use laws::{check_is_taken, clock_is_taken, other_names_are_refused, run_is_taken};
+pub use line::parse;

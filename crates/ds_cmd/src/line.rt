@@ -1,0 +1,51 @@
+ghost use Rattle.std.specs.Prelude.{◌≡◌, ◌⊎◌, map};
+ghost use Rattle.clap.specs.Words.{kind_of, subcommand_rows_of};
+ghost use Rattle.ds_cmd.specs.Fault.{Gives};
+ghost use Rattle.ds_cmd.specs.Line.{job_in, job_of};
+
+use crate::command::desync_command;
+use crate::{Job, UsageFault, check, clock, run};
+use clap::error::ErrorKind;
+use clap::{ArgMatches, Error};
+use std::alloc::Global;
+
+/// The job that the words ask for. The first word is the program's name, which nothing looks at.
+/// `Line` comes where `clap` does not take the words, or takes them for a request for help.
+pub fn parse(alloc: Global, words: &[&str]) -> Result<Job, UsageFault>
+    ensures { Gives (job_of (map (λ w. w.now) words.now)) result }
+{
+    let command = desync_command(alloc)?;
+    match command.try_get_matches_from(words) {
+        Ok(matches) => job(alloc, &matches),
+        Err(error) => Err(usage_fault(&error)),
+    }
+}
+
+// The fault of words that the command does not take.
+fn usage_fault(error: &Error) -> UsageFault
+    ensures memory { kind_of error.now ≡ ErrorKind.OutOfMemory → result ≡ UsageFault.Memory }
+    ensures others { (result ≡ UsageFault.Memory) ⊎ (result ≡ UsageFault.Line) }
+{
+    match error.kind() {
+        ErrorKind::OutOfMemory => UsageFault::Memory,
+        _ => UsageFault::Line,
+    }
+}
+
+// The job of words that the command takes.
+fn job(alloc: Global, matches: &ArgMatches<'_>) -> Result<Job, UsageFault>
+    ensures { Gives (job_in (subcommand_rows_of matches.now)) result }
+{
+    let Some((name, values)) = matches.subcommand() else {
+        return Err(UsageFault::Line);
+    };
+    if name == "run" {
+        run::job(alloc, values)
+    } else if name == "clock" {
+        clock::job(alloc, values)
+    } else if name == "check" {
+        check::job(alloc, values)
+    } else {
+        Err(UsageFault::Line)
+    }
+}

@@ -1,0 +1,36 @@
+ghost use Rattle.std.specs.Prelude.{◌≡◌, IfOk};
+ghost use Rattle.clap.specs.Words.{shape_of, found_of, rows_of};
+ghost use Rattle.ds_cmd.specs.Fault.{Gives};
+ghost use Rattle.ds_cmd.specs.Run.{run_job, run_shape};
+
+use crate::argument::{file, text};
+use crate::{FileName, Job, UsageFault};
+use clap::{ArgMatches, Command};
+use ds_base::OutOfMemory;
+use std::alloc::Global;
+
+/// `run NET VEC`, as a subcommand.
+pub fn command<'a>(alloc: Global) -> Result<Command<'a>, OutOfMemory>
+    ensures { IfOk result (λ c. shape_of c ≡ run_shape) }
+{
+    let command = Command::new(alloc, "run")
+        .arg(file(alloc, "net"))?
+        .arg(file(alloc, "vec"))?;
+    Ok(command)
+}
+
+/// The job of the values behind `run`.
+pub fn job(alloc: Global, values: &ArgMatches<'_>) -> Result<Job, UsageFault>
+    ensures { Gives (run_job (rows_of (found_of values.now))) result }
+{
+    let Some(net) = text(values, "net") else {
+        return Err(UsageFault::Line);
+    };
+    let Some(vec) = text(values, "vec") else {
+        return Err(UsageFault::Line);
+    };
+    Ok(Job::Run {
+        net: FileName::new(alloc, net)?,
+        vec: FileName::new(alloc, vec)?,
+    })
+}

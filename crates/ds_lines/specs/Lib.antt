@@ -1,0 +1,10 @@
+-- In the order in which to read.
+pub mod Line
+pub mod Fault
+pub mod Worked
+pub mod Joined
+pub mod Print
+pub mod Window
+pub mod Laws
+pub mod Span
+pub mod Draft

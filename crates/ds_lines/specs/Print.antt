@@ -1,0 +1,33 @@
+-- The text that prints some lines.
+use Rattle.std.specs.Prelude.{◌≡◌, ℕ, ◌+◌, true, false, List, [], ◌∷◌, ◌++◌}
+use Rattle.std.specs.List.{list_any, suffix_len, AllByRecursion}
+use Rattle.ds_lines.specs.Line.{Line, is_some, is_blank, is_newline, is_hash, is_end}
+
+-- words with blanks between
+abbrev pub line_text : List (List ℕ) → List ℕ
+line_text [] = []
+line_text (word ∷ []) = word
+line_text (word ∷ next ∷ words) = word ++ 32 ∷ line_text (next ∷ words)
+
+-- lines, each with an end
+abbrev pub text_of : List (List (List ℕ)) → List ℕ
+text_of [] = []
+text_of (words ∷ lines) = line_text words ++ 10 ∷ text_of lines
+
+-- lines with numbers from a number on
+abbrev pub numbered : ℕ → List (List (List ℕ)) → List Line
+numbered n [] = []
+numbered n (words ∷ lines) = record { number = n; words = words } ∷ numbered (n + 1) lines
+
+-- a word is not empty, and has no blank, no end of a line and no `#`
+pub record IsWord (word : List ℕ) : Type 0 where
+  pub some : is_some word ≡ true
+  pub no_blank : list_any is_blank word ≡ false
+  pub no_newline : list_any is_newline word ≡ false
+  pub no_hash : list_any is_hash word ≡ false
+
+-- a line has words, and does not end with a `\`
+pub record IsPlain (words : List (List ℕ)) : Type 0 where
+  pub some : is_some words ≡ true
+  pub each : AllByRecursion IsWord words
+  pub end : suffix_len is_end (line_text words) ≡ 0

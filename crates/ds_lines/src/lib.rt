@@ -1,0 +1,21 @@
+//! The logical lines of a text, for netlists, graphs, vectors and logs.
+//!
+//! A comment runs from `#` to the end of its line, a `\` at the end of a line joins the next one,
+//! and a line without words is none. A caller sees `Lines` as a list of lines, each the number of
+//! its first physical line and its words. `lines` gives exactly the lines that the text stands for,
+//! and refuses a text exactly where it is too long. `Lines::line`, `word`, `words` and `number`
+//! lend parts of a line: the words are slices of the text. `laws` says what follows: joined lines
+//! are one text with a blank between, what is printed is read, a text may be read in two parts.
+//!
+//! Not promised: an encoding. A word is bytes.
+#![tactic(auto)]
+
+mod draft;
+pub mod laws;
+mod line;
+mod list;
+mod reader;
+mod span;
+
+pub use list::Lines;
+pub use reader::{LinesFault, lines};

@@ -1,0 +1,4 @@
+pub mod Values
+pub mod Then
+pub mod Reading
+pub mod Printed

@@ -1,0 +1,4 @@
+-- In the order in which to read.
+pub mod Vector
+pub mod Print
+pub mod Worked
