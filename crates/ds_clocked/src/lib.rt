@@ -1,0 +1,14 @@
+//! Clocked simulation: a netlist run turn by turn on vectors, and its trace.
+//!
+//! In each turn the nets take the one valuation of the registers and the vector, a line with the
+//! outputs and the registers is written, and each register takes the value of its data net.
+//!
+//! `simulate` writes the whole trace, and `simulate_from` the lines of a window, from any row and
+//! turn number on, and gives the row after it. Each answers `Write` only where the sink's faults
+//! rose, and then a first part of the text was appended; on `Memory` nothing was. When memory is
+//! found is not promised.
+#![tactic(auto)]
+
+mod run;
+
+pub use run::{SimFault, simulate, simulate_from};

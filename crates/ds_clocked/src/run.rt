@@ -1,0 +1,190 @@
+ghost use Rattle.std.specs.Prelude.{◌≡◌, ◌+◌, ◌^◌, ◌<◌, ◌≤◌, length, map, All, OnOk, IfOk};
+ghost use Rattle.ds_outside.specs.Fault.{Rose};
+ghost use Rattle.ds_cover.specs.Cover.{values_at};
+ghost use Rattle.ds_design.specs.Circuit.{columns, data_nets, initial_row, initial_value};
+ghost use Rattle.ds_design.specs.Trace.{trace_line as trace_text, end_line as end_text};
+ghost use Rattle.ds_outside.specs.Writes.{GoesOn};
+ghost use Rattle.ds_clocked.specs.Appends.{AppendsTrace, AppendsTracePart, AppendsLines, AppendsLinesPart, WritesTrace, WritesLines};
+
+use ds_base::{NetId, OutOfMemory, Row3};
+use ds_design::{Netlist, Register, Vectors};
+use ds_outside::{Sink, WriteFault};
+use ds_rows::{end_line, trace_line};
+use ds_settle::{pick_data, pick_values, set_initial, settle};
+use std::alloc::Global;
+
+/// Why a trace is not written whole: a write failed, or memory was wanted and not found.
+#[derive(Clone, Copy, Debug, PartialEq, Eq)]
+pub enum SimFault {
+    Write,
+    Memory,
+}
+
+/// Writes the trace of the clocked run: a line for each turn, numbered from 0, with the outputs and
+/// the registers before the turn, and the line `end` with the registers after the last one.
+pub fn simulate<O: Sink>(
+    alloc: Global,
+    netlist: &Netlist,
+    vectors: &Vectors,
+    out: &mut O,
+) -> Result<(), SimFault>
+    requires width { vectors.now.width ≡ length (columns netlist.now) }
+    requires few { length vectors.now.rows < 2 ^ 64 }
+
+    ensures ok { OnOk result
+        (AppendsTrace netlist.now vectors.now.rows (O.written out.old) (O.written out.new)) }
+
+    // After a fault.
+    ensures part { result ≡ Err SimFault.Write
+        → AppendsTracePart netlist.now vectors.now.rows (O.written out.old) (O.written out.new) }
+    ensures same { result ≡ Err SimFault.Memory → O.written out.new ≡ O.written out.old }
+
+    // When a write failed.
+    ensures never_falls { O.faults out.old ≤ O.faults out.new }
+    ensures cause { result ≡ Err SimFault.Write → Rose (O.faults out.old) (O.faults out.new) }
+{
+    let Ok(mut rows) = rows_for(alloc, netlist) else {
+        return Err(SimFault::Memory);
+    };
+    set_initial(netlist.design().registers(), &mut rows.state);
+    match write_trace(netlist, vectors, &mut rows, out) {
+        Ok(()) => Ok(()),
+        Err(_) => Err(SimFault::Write),
+    }
+}
+
+/// Writes the lines of a window of a run, numbered from `first` on and with `start` as the registers
+/// before it, without the line `end`. Gives the registers after its last turn, one value per register.
+pub fn simulate_from<O: Sink>(
+    alloc: Global,
+    netlist: &Netlist,
+    start: &Row3,
+    first: u64,
+    vectors: &Vectors,
+    out: &mut O,
+) -> Result<Row3, SimFault>
+    requires width { vectors.now.width ≡ length (columns netlist.now) }
+    requires start { length start.now ≡ length netlist.now.registers }
+    requires few { first + length vectors.now.rows < 2 ^ 64 }
+
+    ensures ok { IfOk result (AppendsLines netlist.now first start.now vectors.now.rows
+        (O.written out.old) (O.written out.new)) }
+
+    // After a fault.
+    ensures part { result ≡ Err SimFault.Write
+        → AppendsLinesPart netlist.now first start.now vectors.now.rows
+        (O.written out.old) (O.written out.new) }
+    ensures same { result ≡ Err SimFault.Memory → O.written out.new ≡ O.written out.old }
+
+    // When a write failed.
+    ensures never_falls { O.faults out.old ≤ O.faults out.new }
+    ensures cause { result ≡ Err SimFault.Write → Rose (O.faults out.old) (O.faults out.new) }
+{
+    let Ok(mut rows) = rows_for(alloc, netlist) else {
+        return Err(SimFault::Memory);
+    };
+    rows.state.copy_from(start);
+    match write_turns(netlist, first, vectors, &mut rows, out) {
+        Ok(()) => Ok(rows.state),
+        Err(_) => Err(SimFault::Write),
+    }
+}
+
+// The rows that a run works on.
+#[derive(Drop)]
+struct Rows {
+    state: Row3,
+    nets: Row3,
+    outputs: Row3,
+}
+
+fn rows_for(alloc: Global, netlist: &Netlist) -> Result<Rows, OutOfMemory>
+    ensures state { IfOk result (λ rows. length rows.state ≡ length netlist.now.registers) }
+    ensures nets { IfOk result (λ rows. length rows.nets ≡ length netlist.now.nets) }
+    ensures outputs { IfOk result (λ rows. length rows.outputs ≡ length netlist.now.outputs) }
+{
+    let design = netlist.design();
+    Ok(Rows {
+        state: Row3::with_len(alloc, design.registers().len())?,
+        nets: Row3::with_len(alloc, design.nets().len())?,
+        outputs: Row3::with_len(alloc, design.outputs().len())?,
+    })
+}
+
+// Writes the whole trace, from the row in `rows` on.
+fn write_trace<O: Sink>(
+    netlist: &Netlist,
+    vectors: &Vectors,
+    rows: &mut Rows,
+    out: &mut O,
+) -> Result<(), WriteFault>
+    requires width { vectors.now.width ≡ length (columns netlist.now) }
+    requires state { rows.old.state ≡ initial_row netlist.now }
+    requires nets { length rows.old.nets ≡ length netlist.now.nets }
+    requires outputs { length rows.old.outputs ≡ length netlist.now.outputs }
+    requires few { length vectors.now.rows < 2 ^ 64 }
+    ensures { WritesTrace result netlist.now vectors.now.rows
+        (O.written out.old) (O.written out.new) (O.faults out.old) (O.faults out.new) }
+{
+    let so_far = write_turns(netlist, 0, vectors, rows, out);
+    put_end(so_far, &rows.state, out)
+}
+
+// Writes the lines of these turns, and leaves the row after them in `rows`.
+fn write_turns<O: Sink>(
+    netlist: &Netlist,
+    first: u64,
+    vectors: &Vectors,
+    rows: &mut Rows,
+    out: &mut O,
+) -> Result<(), WriteFault>
+    requires width { vectors.now.width ≡ length (columns netlist.now) }
+    requires state { length rows.old.state ≡ length netlist.now.registers }
+    requires nets { length rows.old.nets ≡ length netlist.now.nets }
+    requires outputs { length rows.old.outputs ≡ length netlist.now.outputs }
+    requires few { first + length vectors.now.rows < 2 ^ 64 }
+    ensures { WritesLines result netlist.now first rows.old.state vectors.now.rows rows.new.state
+        (O.written out.old) (O.written out.new) (O.faults out.old) (O.faults out.new) }
+{
+    let design = netlist.design();
+    let registers = design.registers();
+    let outputs = design.outputs();
+    let mut so_far = Ok(());
+    for k in 0..vectors.count() {
+        settle(netlist, &rows.state, vectors.row(k), &mut rows.nets);
+        pick_values(&rows.nets, outputs, &mut rows.outputs);
+        so_far = put_line(so_far, first + k as u64, &rows.outputs, &rows.state, out);
+        pick_data(&rows.nets, registers, &mut rows.state);
+    }
+    so_far
+}
+
+fn put_end<O: Sink>(
+    so_far: Result<(), WriteFault>,
+    registers: &Row3,
+    out: &mut O,
+) -> Result<(), WriteFault>
+    ensures { GoesOn so_far result (O.written out.old) (O.written out.new)
+        (O.faults out.old) (O.faults out.new) (end_text registers.now) }
+{
+    match so_far {
+        Ok(()) => end_line(registers, out),
+        Err(fault) => Err(fault),
+    }
+}
+
+fn put_line<O: Sink>(
+    so_far: Result<(), WriteFault>,
+    k: u64,
+    outputs: &Row3,
+    registers: &Row3,
+    out: &mut O,
+) -> Result<(), WriteFault>
+    ensures { GoesOn so_far result (O.written out.old) (O.written out.new)
+        (O.faults out.old) (O.faults out.new) (trace_text k outputs.now registers.now) }
+{
+    match so_far {
+        Ok(()) => trace_line(k, outputs, registers, out),
+        Err(fault) => Err(fault),
+    }
+}

@@ -1,0 +1,15 @@
+pub mod Keys
+pub mod Bindings
+pub mod NumberLemmas
+pub mod Models
+pub mod Counts
+pub mod Frames
+pub mod Connected
+pub mod Uses
+pub mod Grown
+pub mod Ranges
+pub mod Steps
+pub mod Kept
+pub mod Taken
+pub mod First
+pub mod Opens

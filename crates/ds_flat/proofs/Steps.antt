@@ -1,0 +1,104 @@
+-- One step of the frames.
+use Rattle.std.proofs.Common.{◌≡◌, ℕ, suc, ◌-◌, ◌<◌, List, [], ◌∷◌, length, None, Some}
+use Rattle.std.proofs.Common.{Result, Ok, Err, refl, sym, ap, ◌∙◌, arith, subst}
+use Rattle.ds_design.specs.declared.blif.UseText.{UseText}
+use Rattle.ds_design.specs.declared.blif.Command.{Command}
+use Rattle.ds_design.specs.declared.blif.BlifModel.{BlifModel}
+use Rattle.ds_flat.specs.declared.fault.FlatFault.{FlatFault}
+use Rattle.ds_flat.specs.declared.fault.FlatRefusal.{FlatRefusal}
+use Rattle.ds_flat.specs.declared.fault.FlatRefusal.TheVariants.{Memory, Fault}
+use Rattle.ds_flat.specs.Net.{Scope}
+use Rattle.ds_flat.specs.Copies.{Flat, Frame, Opened, ◌>>=◌, take_all, take_command, take_part, use_in, open_use, expand}
+use Rattle.ds_flat.specs.Run.{run_frames, IsFault, after_take}
+use Rattle.ds_flat.specs.Use.{after_use}
+
+pub bind-assoc : {A B C : Type 0} (r : Result A FlatFault) (f : A → Result B FlatFault)
+    (g : B → Result C FlatFault) → ((r >>= f) >>= g) ≡ (r >>= λ x. f x >>= g)
+bind-assoc (Ok x) f g = refl
+bind-assoc (Err e) f g = refl
+
+pub bind-ok : {A : Type 0} (r : Result A FlatFault) → (r >>= λ x. Ok x) ≡ r
+bind-ok (Ok x) = refl
+bind-ok (Err e) = refl
+
+-- a fault stays the fault of what would follow
+pub fault_bind : {A B : Type 0} (e : FlatRefusal) (r : Result A FlatFault)
+    (f : A → Result B FlatFault) → IsFault e r → IsFault e (r >>= f)
+fault_bind Memory r f is = tt
+fault_bind {A} {B} (Fault fault) r f is = ap (λ (x : Result A FlatFault). x >>= f) is
+
+pub fault_same : {A : Type 0} (e : FlatRefusal) (x y : Result A FlatFault) → x ≡ y → IsFault e x
+    → IsFault e y
+fault_same {A} e x y same is = subst (λ (r : Result A FlatFault). IsFault e r) same is
+
+-- a frame without commands is left
+pub run_frames-done : (models : List BlifModel) (frame : Frame) (frames : List Frame) (flat : Flat)
+    → frame.commands ≡ [] → run_frames models (frame ∷ frames) flat ≡ run_frames models frames flat
+unfolding run_frames
+run_frames-done models frame frames flat none = rw none refl
+
+-- the first command is taken, and then what is behind it
+pub run_frames-take : (models : List BlifModel) (path : List (List ℕ)) (scope : Scope)
+    (frames : List Frame) (command : Command) (commands : List Command) (flat : Flat)
+    → run_frames models (record { path = path; scope = scope; commands = command ∷ commands }
+    ∷ frames) flat
+    ≡ after_take models (record { path = path; scope = scope; commands = commands } ∷ frames) flat
+    command
+unfolding run_frames
+run_frames-take models path scope frames command commands flat =
+    bind-assoc (take_command (expand (65536 - length frames) models) models path scope command
+    (use_in command.part) flat)
+    (take_all (expand (65536 - length frames) models) models path scope commands)
+    (run_frames models frames)
+
+-- what is opened, and then the frames below it
+opened_first : (models : List BlifModel) (d : ℕ) (rest : List Frame) (r : Result Opened FlatFault)
+    → 65536 - length rest ≡ d
+    → ((r >>= expand (suc d) models) >>= run_frames models rest)
+    ≡ (r >>= λ (o : Opened). run_frames models (o.frame ∷ rest) o.flat)
+unfolding run_frames
+opened_first models d rest (Ok o) same = rw same refl
+opened_first models d rest (Err e) same = refl
+
+-- a use puts its frame on top
+pub after_take-use : (models : List BlifModel) (frame : Frame) (frames : List Frame) (flat : Flat)
+    (command : Command) (call : UseText) → use_in command.part ≡ Some call → length frames < 65536
+    → after_take models (frame ∷ frames) flat command
+    ≡ after_use models (frame ∷ frames) flat command.line call
+after_take-use models frame frames flat command call is few =
+    let deep : 65536 - length frames ≡ suc (65535 - length frames) = omega arith in
+    let deeper : 65536 - length (frame ∷ frames) ≡ 65535 - length frames = omega arith in
+    let r : Result Opened FlatFault = open_use models frame.path frame.scope command.line call flat in
+    ap (λ u. take_command (expand (65536 - length frames) models) models frame.path frame.scope
+    command u flat >>= run_frames models (frame ∷ frames)) is
+    ∙ (ap (λ d. (r >>= expand d models) >>= run_frames models (frame ∷ frames)) deep
+    ∙ opened_first models (65535 - length frames) (frame ∷ frames) r deeper)
+
+-- a fault of the use is the fault of the command
+pub taken_fault : (models : List BlifModel) (frame : Frame) (frames : List Frame) (flat : Flat)
+    (command : Command) (call : UseText) (e : FlatRefusal) → use_in command.part ≡ Some call
+    → IsFault e (open_use models frame.path frame.scope command.line call flat)
+    → IsFault e (after_take models (frame ∷ frames) flat command)
+taken_fault models frame frames flat command call e is fault =
+    let d : ℕ = 65536 - length frames in
+    let r : Result Opened FlatFault = open_use models frame.path frame.scope command.line call flat in
+    rw is (fault_bind e (r >>= expand d models) (run_frames models (frame ∷ frames)) (fault_bind e r
+    (expand d models) fault))
+
+-- another command is taken
+pub taken_part : (models : List BlifModel) (frame : Frame) (frames : List Frame) (flat next : Flat)
+    (command : Command) → use_in command.part ≡ None
+    → take_part frame.scope command.line command.part flat ≡ Ok next
+    → run_frames models (frame ∷ frames) next ≡ after_take models (frame ∷ frames) flat command
+taken_part models frame frames flat next command none is =
+    sym (ap (λ u. take_command (expand (65536 - length frames) models) models frame.path frame.scope
+    command u flat >>= run_frames models (frame ∷ frames)) none
+    ∙ ap (λ (r : Result Flat FlatFault). r >>= run_frames models (frame ∷ frames)) is)
+
+pub part_fault : (models : List BlifModel) (frame : Frame) (frames : List Frame) (flat : Flat)
+    (command : Command) (e : FlatRefusal) → use_in command.part ≡ None
+    → IsFault e (take_part frame.scope command.line command.part flat)
+    → IsFault e (after_take models (frame ∷ frames) flat command)
+part_fault models frame frames flat command e none fault =
+    rw none (fault_bind e (take_part frame.scope command.line command.part flat)
+    (run_frames models (frame ∷ frames)) fault)

@@ -1,0 +1,23 @@
+use Rattle.std.proofs.Common.{◌∙◌, ap, sym}
+use Rattle.ds_names.specs.Names.{place_of_name}
+use Rattle.ds_flat.proofs.NumberLemmas.{names_from}
+use Rattle.ds_flat.proofs.Models.{unknown_first, unknown_next}
+use Rattle.ds_flat.proofs.library.unknown_formal.Goals as goal
+
+pub returns-then-place-len : goal.returns-then-place-len
+returns-then-place-len c =
+    unknown_first c.args.ports.now _ c.args.pairs.now _ c.pair-item.result c.place.result
+    (names_from c.args.pairs.now c.loop-pair.pair-index c.pair-item.result c.pair-item.is
+    c.loop-pair-test.true)
+    c.loop-pair.invariant
+    (c.place.ensures.value ∙ ap (place_of_name c.args.ports.now) c.as_slice.ensures)
+    (c.if-place-len.true ∙ c.len.ensures)
+
+pub loop-pair-preserved : goal.loop-pair-preserved
+loop-pair-preserved c =
+    unknown_next c.args.ports.now _ c.args.pairs.now _ c.pair-item.result c.place.result
+    (names_from c.args.pairs.now c.loop-pair.pair-index c.pair-item.result c.pair-item.is
+    c.loop-pair-test.true)
+    c.loop-pair.invariant
+    (c.place.ensures.value ∙ ap (place_of_name c.args.ports.now) c.as_slice.ensures)
+    (λ same. c.if-place-len.false (same ∙ sym c.len.ensures))

@@ -1,0 +1,12 @@
+-- In the order in which to read.
+pub mod Net
+pub mod Command
+pub mod Copies
+pub mod Text
+pub mod Keys
+pub mod Interface
+pub mod Stack
+pub mod Run
+pub mod Use
+pub mod Turn
+pub mod Worked

@@ -1,0 +1,125 @@
+-- What is left to take, and what it comes to.
+use Rattle.std.specs.Prelude.{◌≡◌, ◌<◌, ◌≤◌, ◌+◌, ◌-◌, ◌++◌, ℕ, List, [], ◌∷◌, map, length, All, Result, Ok, Err, if◌then◌else◌}
+use Rattle.std.specs.Str.{bytes_eq}
+use Rattle.ds_base.specs.declared.number.Limit.TheVariants.{Nets}
+use Rattle.ds_names.specs.Names.{place_of_name}
+use Rattle.ds_design.specs.declared.blif.BlifModel.{BlifModel}
+use Rattle.ds_design.specs.declared.blif.Command.{Command}
+use Rattle.ds_design.specs.declared.blif.Pair.{Pair}
+use Rattle.ds_design.specs.declared.blif.UseText.{UseText}
+use Rattle.ds_design.specs.Source.{IsPart}
+use Rattle.ds_design.specs.Circuit.{Circuit}
+use Rattle.ds_design.specs.InRange.{IsInRange}
+use Rattle.ds_flat.specs.declared.fault.FlatFault.{FlatFault}
+use Rattle.ds_flat.specs.declared.fault.FlatKind.TheVariants.{TooMany}
+use Rattle.ds_flat.specs.declared.fault.FlatRefusal.{FlatRefusal}
+use Rattle.ds_flat.specs.declared.fault.FlatRefusal.TheVariants.{Fault, Memory}
+use Rattle.ds_flat.specs.declared.fault.Stop.{Stop}
+use Rattle.ds_flat.specs.declared.fault.Stop.TheVariants.{TooManyNets, Memory as NoMemory}
+use Rattle.ds_flat.specs.declared.frame.Open.{Open}
+use Rattle.ds_flat.specs.Net.{Scope}
+use Rattle.ds_flat.specs.Copies.{Flat, Frame, Opened, ◌>>=◌, use_in, take_command, take_all, expand, open_use, opened_within, next_copy, bindings_in}
+use Rattle.ds_flat.specs.Interface.{names_of_models}
+use Rattle.ds_flat.specs.Stack.{frame_on, path_of}
+
+-- what taking these frames gives, the innermost first: the outermost may have so many copies in one
+-- another
+unfoldable pub run_frames : List BlifModel → List Frame → Flat → Result Flat FlatFault
+run_frames models [] flat = Ok flat
+run_frames models (frame ∷ frames) flat =
+    take_all (expand (65536 - length frames) models) models frame.path frame.scope frame.commands
+    flat >>= run_frames models frames
+
+-- frames that are left, with the places of their models of so many, and what was taken
+pub record Rest : Type 0 where
+  pub frames : List Frame
+  pub places : List ℕ
+  pub models : ℕ
+  pub flat : Flat
+
+-- what it comes to
+abbrev pub run : List BlifModel → Rest → Result Flat FlatFault
+run models rest = run_frames models rest.frames rest.flat
+
+-- a refusal is this fault, unless memory was wanted
+abbrev pub IsFault : {A : Type 0} → FlatRefusal → Result A FlatFault → Type 0
+IsFault Memory text = Unit {0}
+IsFault (Fault fault) text = text ≡ Err fault
+
+-- the refusal that a stop is on a line
+abbrev pub refusal_of : Stop → ℕ → FlatRefusal
+refusal_of TooManyNets line = Fault (record { line = line; kind = TooMany Nets })
+refusal_of NoMemory line = Memory
+
+-- each place is one of so many
+abbrev pub AreWithin : ℕ → List ℕ → Type 0
+AreWithin models [] = Unit {0}
+AreWithin models (place ∷ places) = (place < models) × AreWithin models places
+
+-- the commands of frames are well formed
+abbrev pub AreParts : List Frame → Type 0
+AreParts [] = Unit {0}
+AreParts (frame ∷ frames) = All (λ command. IsPart command.part) frame.commands × AreParts frames
+
+-- what holds of a rest: each frame but the outermost is a copy, copies are few, places are those of
+-- the frames' models, and commands and numbers are sound
+pub record IsKept (models : List BlifModel) (rest : Rest) : Type 0 where
+  pub depth : length rest.frames ≤ rest.flat.copies + 1
+  pub copies : rest.flat.copies ≤ 65536
+  pub count : length rest.places ≡ length rest.frames
+  pub same : rest.models ≡ length models
+  pub known : rest.places ≡ map (place_of_name (names_of_models models)) (path_of rest.frames)
+  pub within : AreWithin rest.models rest.places
+  pub parts : AreParts rest.frames
+  pub in_range : IsInRange rest.flat.design
+
+-- a command of the innermost copy is taken, and then what is left
+abbrev pub after_take : List BlifModel → List Frame → Flat → Command → Result Flat FlatFault
+after_take models [] flat command = Ok flat
+after_take models (frame ∷ frames) flat command =
+    take_command (expand (65536 - length frames) models) models frame.path frame.scope command
+    (use_in command.part) flat >>= run_frames models (frame ∷ frames)
+
+-- the connected formals of a copy and one pair more
+abbrev pub connected : Scope → Pair → Scope → Scope
+connected caller pair scope = record scope {
+  bound = scope.bound ++ bindings_in caller (pair ∷ []);
+}
+
+-- a refusal with this fault, unless memory was wanted
+abbrev pub IsRefusal : FlatRefusal → FlatFault → Type 0
+IsRefusal Memory fault = Unit {0}
+IsRefusal (Fault given) fault = given ≡ fault
+
+-- a use copies this model, whatever the design so far
+abbrev pub CopiesModel : List BlifModel → List (List ℕ) → Scope → ℕ → UseText → ℕ → BlifModel
+    → Type 0
+CopiesModel models path scope line call copies model = (design : Circuit)
+    → open_use models path scope line call (record { copies = copies; design = design })
+    ≡ opened_within line (next_copy path scope call model (record { copies = copies; design = design }))
+
+-- a use is refused, whatever the design so far
+abbrev pub RefusesUse : FlatRefusal → List BlifModel → List (List ℕ) → Scope → ℕ → UseText → ℕ
+    → Type 0
+RefusesUse refusal models path scope line call copies = (design : Circuit)
+    → IsFault refusal (open_use models path scope line call (record {
+      copies = copies;
+      design = design;
+    }))
+
+-- what a use opens: this copy on top of a path, over a design
+abbrev pub opened_on : List (List ℕ) → Open → ℕ → Circuit → Opened
+opened_on path top copies design = record {
+  frame = frame_on top path;
+  flat = record { copies = copies + 1; design = design };
+}
+
+-- the part of a path with one more model, the innermost
+abbrev pub path_with : List ℕ → List ℕ → List (List ℕ) → List (List ℕ)
+path_with name model path = if bytes_eq name model then model ∷ [] else path ++ model ∷ []
+
+-- a copy of the model at a place, none of whose commands is taken yet
+pub record IsCopyOf (top : Open) (k : ℕ) (model : BlifModel) : Type 0 where
+  pub place : top.model ≡ k
+  pub name : top.name.now ≡ model.name
+  pub commands : top.commands.now ≡ model.commands

@@ -1,0 +1,261 @@
+//! A flat design that is being made.
+ghost use Rattle.std.specs.Prelude.{◌≡◌, OnOk, IfOk, IfErr};
+ghost use Rattle.ds_design.specs.Circuit.{Circuit};
+ghost use Rattle.ds_design.specs.Source.{IsPart, IsTableText};
+ghost use Rattle.ds_flat.specs.Net.{numbered_names, net_of, number_of, with_net};
+ghost use Rattle.ds_flat.specs.Command.{with_inputs, with_outputs, with_clocks, with_part};
+ghost use Rattle.ds_flat.specs.Command.{with_table, with_register, latch_names};
+ghost use Rattle.ds_flat.specs.Copies.{empty_design, passed_limit as limit_of};
+ghost use Rattle.ds_flat.specs.Keys.{IsStop};
+
+use crate::fault::Stop;
+use crate::nets::NetList;
+use crate::numbers::{number, numbers};
+use crate::ports::Ports;
+use crate::scope::Scope;
+use ds_base::{Limit, Name, NetId, OutOfMemory, Seq};
+use ds_cover::Table;
+use ds_design::{Gate, LatchText, Part, Register, TableText};
+use std::alloc::Global;
+use std::marker::Model;
+
+/// The main model's name, the nets, the interface, the tables and the registers so far.
+#[derive(Drop)]
+pub struct Draft<'m> {
+    pub name: &'m [u8],
+    pub nets: NetList<'m>,
+    pub inputs: Ports,
+    pub outputs: Ports,
+    pub clocks: Ports,
+    pub tables: Vec<Gate>,
+    pub registers: Vec<Register>,
+}
+
+impl<'m> Model for Draft<'m> {
+    ghost use Rattle.ds_design.specs.Circuit.{Circuit};
+
+    ghost Value = { Circuit };
+
+    ghost view = { λ d. record {
+      name = d.name.now;
+      nets = d.nets;
+      inputs = d.inputs;
+      outputs = d.outputs;
+      clocks = d.clocks;
+      tables = d.tables.items;
+      registers = d.registers.items;
+    } };
+}
+
+impl<'m> Draft<'m> {
+    /// A design without nets.
+    pub fn new(alloc: Global, name: &'m [u8]) -> Self
+        ensures { result ≡ empty_design name.entry.now }
+    {
+        Draft {
+            name,
+            nets: NetList::new(alloc),
+            inputs: Ports::new(alloc),
+            outputs: Ports::new(alloc),
+            clocks: Ports::new(alloc),
+            tables: Vec::new(alloc),
+            registers: Vec::new(alloc),
+        }
+    }
+
+    /// The first limit that it passes.
+    pub fn passed_limit(&self) -> Option<Limit>
+        ensures { result ≡ limit_of self.now }
+    {
+        if self.nets.len() > 65_536 {
+            Some(Limit::Nets)
+        } else if self.tables.len() > 65_536 {
+            Some(Limit::Tables)
+        } else if self.registers.len() > 16_384 {
+            Some(Limit::Registers)
+        } else {
+            None
+        }
+    }
+
+    /// Adds what a command says. After a refusal it holds a part of that.
+    pub fn add(
+        &mut self,
+        alloc: Global,
+        scope: &Scope<'m>,
+        line: u64,
+        part: &'m Part,
+    ) -> Result<(), Stop>
+        requires { IsPart part.now }
+        ensures ok { OnOk result (self.new ≡ with_part scope.now line part.now self.old) }
+        ensures fault { IfErr result
+            (λ e. IsStop e (with_part scope.now line part.now self.old).nets) }
+    {
+        match part {
+            Part::Inputs(names) => self.add_inputs(alloc, scope, names.as_slice()),
+            Part::Outputs(names) => self.add_outputs(alloc, scope, names.as_slice()),
+            Part::Clock(names) => self.add_clocks(alloc, scope, names.as_slice()),
+            Part::Table(text) => self.add_table(alloc, scope, line, text),
+            Part::Latch(text) => self.add_register(scope, line, text),
+            Part::Subckt(_) => Ok(()),
+        }
+    }
+
+    fn add_inputs(
+        &mut self,
+        alloc: Global,
+        scope: &Scope<'m>,
+        names: &'m [Name],
+    ) -> Result<(), Stop>
+        ensures ok { OnOk result (self.new ≡ with_inputs scope.now.copy
+            (numbered_names scope.now self.old.nets names.now) self.old) }
+        ensures fault { IfErr result
+            (λ e. IsStop e (numbered_names scope.now self.old.nets names.now).nets) }
+    {
+        match numbers(alloc, &mut self.nets, scope, names) {
+            Ok(all) => {
+                self.inputs.add(scope.copy(), all.as_slice())?;
+                Ok(())
+            }
+            Err(stop) => Err(stop),
+        }
+    }
+
+    fn add_outputs(
+        &mut self,
+        alloc: Global,
+        scope: &Scope<'m>,
+        names: &'m [Name],
+    ) -> Result<(), Stop>
+        ensures ok { OnOk result (self.new ≡ with_outputs scope.now.copy
+            (numbered_names scope.now self.old.nets names.now) self.old) }
+        ensures fault { IfErr result
+            (λ e. IsStop e (numbered_names scope.now self.old.nets names.now).nets) }
+    {
+        match numbers(alloc, &mut self.nets, scope, names) {
+            Ok(all) => {
+                self.outputs.add(scope.copy(), all.as_slice())?;
+                Ok(())
+            }
+            Err(stop) => Err(stop),
+        }
+    }
+
+    fn add_clocks(
+        &mut self,
+        alloc: Global,
+        scope: &Scope<'m>,
+        names: &'m [Name],
+    ) -> Result<(), Stop>
+        ensures ok { OnOk result (self.new ≡ with_clocks scope.now.copy
+            (numbered_names scope.now self.old.nets names.now) self.old) }
+        ensures fault { IfErr result
+            (λ e. IsStop e (numbered_names scope.now self.old.nets names.now).nets) }
+    {
+        match numbers(alloc, &mut self.nets, scope, names) {
+            Ok(all) => {
+                self.clocks.add(scope.copy(), all.as_slice())?;
+                Ok(())
+            }
+            Err(stop) => Err(stop),
+        }
+    }
+
+    fn add_table(
+        &mut self,
+        alloc: Global,
+        scope: &Scope<'m>,
+        line: u64,
+        text: &'m TableText,
+    ) -> Result<(), Stop>
+        requires { IsTableText text.now }
+        ensures ok { OnOk result (self.new ≡ with_table (net_of scope.now text.now.output) line
+            text.now (numbered_names scope.now self.old.nets text.now.inputs) self.old) }
+        ensures fault { IfErr result (λ e. IsStop e (with_net
+            (numbered_names scope.now self.old.nets text.now.inputs).nets
+            (net_of scope.now text.now.output))) }
+    {
+        match numbers(alloc, &mut self.nets, scope, text.inputs.as_slice()) {
+            Ok(inputs) => match number(&mut self.nets, scope, &text.output) {
+                Ok(output) => {
+                    let rows = rows(alloc, text.rows.as_slice())?;
+                    let table = Table::of(Seq::of(inputs), rows, text.on);
+                    self.tables.push(Gate {
+                        table,
+                        output,
+                        line,
+                    })?;
+                    Ok(())
+                }
+                Err(stop) => Err(stop),
+            },
+            Err(stop) => Err(stop),
+        }
+    }
+
+    fn add_register(
+        &mut self,
+        scope: &Scope<'m>,
+        line: u64,
+        text: &'m LatchText,
+    ) -> Result<(), Stop>
+        ensures ok { OnOk result (self.new ≡ with_register line text.now
+            (latch_names scope.now self.old.nets text.now) self.old) }
+        ensures fault { IfErr result
+            (λ e. IsStop e (latch_names scope.now self.old.nets text.now).nets) }
+    {
+        match latch_numbers(&mut self.nets, scope, text) {
+            Ok((data_net, output, control)) => {
+                self.registers.push(Register {
+                    data_net,
+                    output,
+                    edge: text.edge,
+                    control,
+                    initial: text.initial,
+                    line,
+                })?;
+                Ok(())
+            }
+            Err(stop) => Err(stop),
+        }
+    }
+}
+
+// The numbers of the nets of a latch: data net, output, control.
+fn latch_numbers<'m>(
+    nets: &mut NetList<'m>,
+    scope: &Scope<'m>,
+    text: &'m LatchText,
+) -> Result<(NetId, NetId, Option<NetId>), Stop>
+    ensures ok { IfOk result (λ n. record { data_net = n.0; output = n.1; control = n.2; nets = nets.new }
+        ≡ latch_names scope.now nets.old text.now) }
+    ensures fault { IfErr result (λ e. IsStop e (latch_names scope.now nets.old text.now).nets) }
+{
+    let data_net = match number(nets, scope, &text.data_net) {
+        Ok(found) => found,
+        Err(stop) => return Err(stop),
+    };
+    let output = match number(nets, scope, &text.output) {
+        Ok(found) => found,
+        Err(stop) => return Err(stop),
+    };
+    match &text.control {
+        None => Ok((data_net, output, None)),
+        Some(name) => match number(nets, scope, name) {
+            Ok(control) => Ok((data_net, output, Some(control))),
+            Err(stop) => Err(stop),
+        },
+    }
+}
+
+// Rows of their own.
+fn rows(alloc: Global, rows: &[Name]) -> Result<Seq<Name>, OutOfMemory>
+    ensures { IfOk result (λ r. r ≡ rows.now) }
+{
+    let mut all = Vec::with_capacity(alloc, rows.len())?;
+    for row in rows {
+        let bytes = row.as_slice().to_vec(alloc)?;
+        all.push(Seq::of(bytes))?;
+    }
+    Ok(Seq::of(all))
+}

@@ -1,0 +1,97 @@
+//! Why models have no flat design.
+ghost use Rattle.std.specs.Prelude.{◌≡◌};
+
+use ds_base::{Limit, Name, OutOfMemory, Seq};
+use std::alloc::{AllocError, AllocFailed};
+
+/// What is wrong with a command.
+///
+/// In `Recursive` each model uses the next one, and the last one the first.
+#[derive(Drop)]
+pub enum FlatKind {
+    UnknownModel(Name),
+    Recursive(Seq<Name>),
+    UnknownFormal(Name),
+    TooMany(Limit),
+}
+
+/// The first fault, and the number of its command's line.
+#[derive(Drop)]
+pub struct FlatFault {
+    pub line: u64,
+    pub kind: FlatKind,
+}
+
+/// A fault of the models, or want of memory.
+#[derive(Drop)]
+pub enum FlatRefusal {
+    Fault(FlatFault),
+    Memory,
+}
+
+impl From<OutOfMemory> for FlatRefusal {
+    ghost use Rattle.ds_flat.specs.declared.fault.FlatRefusal.TheVariants.{Memory};
+
+    ghost from_gives = { λ _ e. e ≡ Memory };
+
+    fn from(_: OutOfMemory) -> Self {
+        FlatRefusal::Memory
+    }
+}
+
+impl From<AllocError> for FlatRefusal {
+    ghost use Rattle.ds_flat.specs.declared.fault.FlatRefusal.TheVariants.{Memory};
+
+    ghost from_gives = { λ _ e. e ≡ Memory };
+
+    fn from(_: AllocError) -> Self {
+        FlatRefusal::Memory
+    }
+}
+
+impl<T: Drop> From<AllocFailed<T>> for FlatRefusal {
+    ghost use Rattle.ds_flat.specs.declared.fault.FlatRefusal.TheVariants.{Memory};
+
+    ghost from_gives = { λ _ e. e ≡ Memory };
+
+    fn from(_: AllocFailed<T>) -> Self {
+        FlatRefusal::Memory
+    }
+}
+
+/// Why a name has no number, or want of memory.
+#[derive(Clone, Copy, Debug, PartialEq, Eq)]
+pub enum Stop {
+    TooManyNets,
+    Memory,
+}
+
+impl<T: Drop> From<AllocFailed<T>> for Stop {
+    ghost use Rattle.ds_flat.specs.declared.fault.Stop.TheVariants.{Memory};
+
+    ghost from_gives = { λ _ e. e ≡ Memory };
+
+    fn from(_: AllocFailed<T>) -> Self {
+        Stop::Memory
+    }
+}
+
+impl From<AllocError> for Stop {
+    ghost use Rattle.ds_flat.specs.declared.fault.Stop.TheVariants.{Memory};
+
+    ghost from_gives = { λ _ e. e ≡ Memory };
+
+    fn from(_: AllocError) -> Self {
+        Stop::Memory
+    }
+}
+
+impl From<OutOfMemory> for Stop {
+    ghost use Rattle.ds_flat.specs.declared.fault.Stop.TheVariants.{Memory};
+
+    ghost from_gives = { λ _ e. e ≡ Memory };
+
+    fn from(_: OutOfMemory) -> Self {
+        Stop::Memory
+    }
+}

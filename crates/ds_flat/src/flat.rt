@@ -1,0 +1,130 @@
+//! The flat design of a text's models.
+ghost use Rattle.std.specs.Prelude.{◌≡◌, ◌≢◌, ◌<◌, All, AllPairs, Ok, slice_get, Some, length, IfOk, MatchResult, slice_index_or, []};
+ghost use Rattle.ds_design.specs.Source.{IsPart, IsBlif};
+ghost use Rattle.ds_design.specs.InRange.{IsInRange};
+ghost use Rattle.ds_flat.specs.Copies.{flat_of};
+ghost use Rattle.ds_flat.specs.Run.{IsFault, IsKept, run};
+ghost use Rattle.ds_flat.specs.Turn.{ComesTo};
+ghost use Rattle.ds_flat.specs.Text.{Flattens};
+
+use crate::advance::advance;
+use crate::draft::Draft;
+use crate::fault::FlatRefusal;
+use crate::frame::Open;
+use crate::library::Library;
+use crate::scope::Scope;
+use crate::stack::Stack;
+use crate::step::{State, Turn};
+use ds_base::{OutOfMemory, Seq};
+use ds_design::{Blif, BlifModel, Design};
+use std::alloc::Global;
+
+/// The flat design of the main model, the first of the text: each use of a model is replaced by
+/// the model's commands, as the next copy. The first command that has a fault gives the fault.
+pub fn flatten(alloc: Global, blif: &Blif) -> Result<Design, FlatRefusal>
+    ensures { Flattens result (flat_of blif.now) }
+{
+    let models = blif.models();
+    match all_copies(alloc, models) {
+        Ok(draft) => {
+            let design = finish(alloc, draft)?;
+            Ok(design)
+        }
+        Err(refusal) => Err(refusal),
+    }
+}
+
+// All copies of the main model are taken.
+fn all_copies<'m>(alloc: Global, models: &'m [BlifModel]) -> Result<Draft<'m>, FlatRefusal>
+    requires { IsBlif models.now }
+    ensures { MatchResult result
+        (λ d. (flat_of models.entry.now ≡ Ok d) × IsInRange d)
+        (λ e. IsFault e (flat_of models.entry.now)) }
+{
+    match Library::of(alloc, models) {
+        Err(_) => Err(FlatRefusal::Memory),
+        Ok(library) => match Stack::new(alloc, models.len()) {
+            Err(_) => Err(FlatRefusal::Memory),
+            Ok(below) => from_first(alloc, &library, &models[0], below),
+        },
+    }
+}
+
+// The main model's copy is taken, with those in it.
+fn from_first<'m>(
+    alloc: Global,
+    library: &Library<'m>,
+    main: &'m BlifModel,
+    below: Stack<'m>,
+) -> Result<Draft<'m>, FlatRefusal>
+    requires blif { IsBlif library.now }
+    requires main { main.now ≡ slice_index_or library.now 0 main.now }
+    requires below { below ≡ record { frames = []; places = []; models = length library.now } }
+    ensures { MatchResult result (λ d. (flat_of library.now ≡ Ok d) × IsInRange d)
+        (λ e. IsFault e (flat_of library.now)) }
+{
+    let first = Open {
+        model: 0,
+        name: main.name.as_slice(),
+        scope: Scope::new(alloc, 0),
+        commands: main.commands.as_slice(),
+    };
+    let state = State {
+        top: first,
+        below,
+        copies: 0,
+        draft: Draft::new(alloc, main.name.as_slice()),
+    };
+    match all_taken(alloc, library, state) {
+        Ok(draft) => Ok(draft),
+        Err(refusal) => Err(refusal),
+    }
+}
+
+// What is left is taken, turn by turn.
+fn all_taken<'m>(
+    alloc: Global,
+    library: &Library<'m>,
+    state: State<'m>,
+) -> Result<Draft<'m>, FlatRefusal>
+    requires kept { IsKept library.now state }
+    requires parts { All (λ model. All (λ command. IsPart command.part) model.commands) library.now }
+    ensures { MatchResult result (λ d. ComesTo library.now d state.entry)
+        (λ e. IsFault e (run library.now state.entry)) }
+{
+    let mut state = state;
+    for _ in 0..u64::MAX {
+        match advance(alloc, library, state) {
+            Ok(Turn::Next(next)) => state = next,
+            Ok(Turn::Done(draft)) => return Ok(draft),
+            Err(refusal) => return Err(refusal),
+        }
+    }
+    Err(FlatRefusal::Memory)
+}
+
+// The design of what was taken.
+fn finish(alloc: Global, draft: Draft<'_>) -> Result<Design, OutOfMemory>
+    requires { IsInRange draft }
+    ensures { IfOk result (λ d. d ≡ draft.entry) }
+{
+    let name = draft.name.to_vec(alloc)?;
+    let nets = draft.nets.to_nets(alloc)?;
+    let inputs = draft.inputs.to_ids(alloc)?;
+    let outputs = draft.outputs.to_ids(alloc)?;
+    let clocks = draft.clocks.to_ids(alloc)?;
+    let Draft {
+        tables,
+        registers,
+        ..
+    } = draft;
+    Ok(Design::of(
+        Seq::of(name),
+        nets,
+        inputs,
+        outputs,
+        clocks,
+        Seq::of(tables),
+        Seq::of(registers),
+    ))
+}

@@ -1,0 +1,130 @@
+//! The models of a text, by name, with their interfaces.
+ghost use Rattle.std.specs.Prelude.{◌≡◌, ◌≢◌, ◌<◌, None, Some, [], length, option_map, AllPairs};
+ghost use Rattle.std.specs.Prelude.{MatchOption, IfOk, OnOk};
+ghost use Rattle.ds_flat.specs.Copies.{model_named, unknown_formal as unknown_formal_in};
+ghost use Rattle.ds_flat.specs.Copies.{ports_in as ports_in_part};
+ghost use Rattle.ds_flat.specs.Interface.{with_ports_of, with_names as names_with, Finds};
+
+use ds_base::{Name, OutOfMemory};
+use ds_design::{BlifModel, Command, Pair, Part};
+use ds_names::Names;
+use std::alloc::Global;
+use std::marker::Model;
+
+/// Models, their names, and the names of each one's interface.
+#[derive(Drop)]
+pub struct Library<'m> {
+    models: &'m [BlifModel],
+    names: Names<'m>,
+    ports: Vec<Names<'m>>,
+}
+
+impl<'m> Model for Library<'m> {
+    ghost use Rattle.std.specs.Prelude.{List};
+    ghost use Rattle.ds_design.specs.declared.blif.BlifModel.{BlifModel};
+    ghost use Rattle.ds_flat.specs.Interface.{IsLibrary};
+
+    ghost Value = { List BlifModel };
+
+    ghost view = { λ l. l.models.now };
+
+    ghost invariant = { λ l. IsLibrary l.models.now l.names l.ports.items };
+}
+
+/// A model, its place, and the names of its interface, each once.
+#[derive(Clone, Copy)]
+pub struct Found<'l, 'm> {
+    pub place: usize,
+    pub model: &'m BlifModel,
+    pub ports: &'l Names<'m>,
+}
+
+impl<'m> Library<'m> {
+    /// The models of a text, whose names differ.
+    pub fn of(alloc: Global, models: &'m [BlifModel]) -> Result<Self, OutOfMemory>
+        requires { AllPairs (λ one other. one.name ≢ other.name) models.now }
+        ensures { IfOk result (λ l. l ≡ models.entry.now) }
+    {
+        let mut names: Names<'m> = Names::new(alloc);
+        let mut ports = Vec::with_capacity(alloc, models.len())?;
+        for model in models {
+            names.insert(model.name.as_slice())?;
+            ports.push(ports_in(alloc, model.commands.as_slice())?)?;
+        }
+        Ok(Library {
+            models,
+            names,
+            ports,
+        })
+    }
+
+    /// How many models there are.
+    pub fn len(&self) -> usize
+        ensures { result ≡ length self.now }
+    {
+        self.models.len()
+    }
+
+    /// The model of a name.
+    pub fn find(&self, name: &[u8]) -> Option<Found<'_, 'm>>
+        ensures { MatchOption result (model_named self.now name.now ≡ None)
+            (λ f. Finds self.now name.now f.place f.model.now f.ports.now) }
+    {
+        let models = self.models;
+        let place = self.names.place(name);
+        if place < models.len() {
+            Some(Found {
+                place,
+                model: &models[place],
+                ports: &self.ports[place],
+            })
+        } else {
+            None
+        }
+    }
+}
+
+/// The first formal that is not among the names of an interface.
+pub fn unknown_formal<'p>(ports: &Names<'_>, pairs: &'p [Pair]) -> Option<&'p Name>
+    ensures { option_map (λ n. n.now) result ≡ unknown_formal_in ports.now pairs.now }
+{
+    for pair in pairs {
+        if ports.place(pair.formal.as_slice()) == ports.len() {
+            return Some(&pair.formal);
+        }
+    }
+    None
+}
+
+// The names of an interface, each once.
+fn ports_in<'m>(alloc: Global, commands: &'m [Command]) -> Result<Names<'m>, OutOfMemory>
+    ensures { IfOk result (λ n. n ≡ with_ports_of [] commands.entry.now) }
+{
+    let mut ports: Names<'m> = Names::new(alloc);
+    for command in commands {
+        add_ports(&mut ports, &command.part)?;
+    }
+    Ok(ports)
+}
+
+fn add_ports<'m>(ports: &mut Names<'m>, part: &'m Part) -> Result<(), OutOfMemory>
+    ensures { OnOk result (ports.new ≡ names_with ports.old (ports_in_part part.now)) }
+{
+    match part {
+        Part::Inputs(names) => add_names(ports, names.as_slice()),
+        Part::Outputs(names) => add_names(ports, names.as_slice()),
+        Part::Clock(names) => add_names(ports, names.as_slice()),
+        Part::Table(_) => Ok(()),
+        Part::Latch(_) => Ok(()),
+        Part::Subckt(_) => Ok(()),
+    }
+}
+
+fn add_names<'m>(ports: &mut Names<'m>, names: &'m [Name]) -> Result<(), OutOfMemory>
+    ensures { OnOk result (ports.new ≡ names_with ports.old names.now) }
+{
+    for name in names {
+        ports.insert(name.as_slice())?;
+    }
+    Ok(())
+}

@@ -1,0 +1,205 @@
+//! The copy that a use opens.
+ghost use Rattle.std.specs.Prelude.{◌≡◌, ◌≤◌, ◌<◌, ◌∷◌, ◌==◌, length, map, All, IfOk, IfErr, MatchResult, List, ℕ, Ok};
+ghost use Rattle.std.specs.List.{list_any};
+ghost use Rattle.ds_names.specs.Names.{place_of_name};
+ghost use Rattle.ds_base.specs.declared.number.Limit.TheVariants.{Copies};
+ghost use Rattle.ds_design.specs.Source.{IsUseText, IsPart};
+ghost use Rattle.ds_flat.specs.declared.fault.FlatFault.{FlatFault as Fault_of};
+ghost use Rattle.ds_flat.specs.declared.fault.FlatKind.TheVariants.{UnknownModel, UnknownFormal, Recursive, TooMany};
+ghost use Rattle.ds_flat.specs.Copies.{path_from as path_from_of, opened_within, next_copy};
+ghost use Rattle.ds_flat.specs.Interface.{names_of_models, Finds};
+ghost use Rattle.ds_flat.specs.Stack.{path_of};
+ghost use Rattle.ds_flat.specs.Run.{IsFault, IsRefusal, CopiesModel, RefusesUse, opened_on, refusal_of, IsCopyOf};
+
+use crate::connect::connect;
+use crate::draft::Draft;
+use crate::fault::{FlatFault, FlatKind, FlatRefusal, Stop};
+use crate::frame::Open;
+use crate::library::{Found, Library, unknown_formal};
+use crate::stack::{Stack, extended};
+use ds_base::{Limit, Name, OutOfMemory, Seq};
+use ds_design::{BlifModel, UseText};
+use std::alloc::Global;
+
+/// A name of its own.
+fn name_of(alloc: Global, name: &Name) -> Result<Name, OutOfMemory>
+    ensures { IfOk result (λ n. n ≡ name.now) }
+{
+    let bytes = name.as_slice().to_vec(alloc)?;
+    Ok(Seq::of(bytes))
+}
+
+fn unknown_model(alloc: Global, line: u64, name: &Name) -> FlatRefusal
+    ensures { IsRefusal result (record { line = line; kind = UnknownModel name.now }) }
+{
+    match name_of(alloc, name) {
+        Ok(name) => FlatRefusal::Fault(FlatFault {
+            line,
+            kind: FlatKind::UnknownModel(name),
+        }),
+        Err(_) => FlatRefusal::Memory,
+    }
+}
+
+fn unknown_formal_of(alloc: Global, line: u64, name: &Name) -> FlatRefusal
+    ensures { IsRefusal result (record { line = line; kind = UnknownFormal name.now }) }
+{
+    match name_of(alloc, name) {
+        Ok(name) => FlatRefusal::Fault(FlatFault {
+            line,
+            kind: FlatKind::UnknownFormal(name),
+        }),
+        Err(_) => FlatRefusal::Memory,
+    }
+}
+
+/// The refusal where a limit is passed.
+pub fn too_many(line: u64, limit: Limit) -> FlatRefusal
+    ensures { IsRefusal result (record { line = line; kind = TooMany limit }) }
+{
+    FlatRefusal::Fault(FlatFault {
+        line,
+        kind: FlatKind::TooMany(limit),
+    })
+}
+
+/// The refusal where numbering stops.
+pub fn stopped(line: u64, stop: Stop) -> FlatRefusal
+    ensures { result ≡ refusal_of stop line }
+{
+    match stop {
+        Stop::TooManyNets => FlatRefusal::Fault(FlatFault {
+            line,
+            kind: FlatKind::TooMany(Limit::Nets),
+        }),
+        Stop::Memory => FlatRefusal::Memory,
+    }
+}
+
+fn path_names(
+    alloc: Global,
+    name: &Name,
+    top: &Open<'_>,
+    below: &Stack<'_>,
+) -> Result<Vec<Name>, OutOfMemory>
+    ensures { IfOk result (λ p. p.items
+        ≡ path_from_of name.now (top.now.name.now ∷ path_of below.now.frames)) }
+{
+    let path = below.path_from(alloc, name.as_slice())?;
+    let all = extended(alloc, path, name.as_slice(), top.name)?;
+    Ok(all)
+}
+
+fn recursive(
+    alloc: Global,
+    line: u64,
+    name: &Name,
+    top: &Open<'_>,
+    below: &Stack<'_>,
+) -> FlatRefusal
+    ensures { IsRefusal result (record {
+      line = line;
+      kind = Recursive (path_from_of name.now (top.now.name.now ∷ path_of below.now.frames));
+    }) }
+{
+    match path_names(alloc, name, top, below) {
+        Ok(path) => FlatRefusal::Fault(FlatFault {
+            line,
+            kind: FlatKind::Recursive(Seq::of(path)),
+        }),
+        Err(_) => FlatRefusal::Memory,
+    }
+}
+
+// Whether a model is among those that are being copied.
+fn is_open(place: usize, top: &Open<'_>, below: &Stack<'_>) -> bool
+    requires { place < below.now.models }
+    ensures { result ≡ list_any (λ other. other == place) (top.now.model ∷ below.now.places) }
+{
+    top.model == place || below.has(place)
+}
+
+/// The model that a use copies, or why there is none.
+pub fn checked<'l, 'm>(
+    alloc: Global,
+    library: &'l Library<'m>,
+    top: &Open<'m>,
+    below: &Stack<'m>,
+    copies: u32,
+    line: u64,
+    call: &'m UseText,
+) -> Result<Found<'l, 'm>, FlatRefusal>
+    requires known { top.now.model ∷ below.now.places ≡ map
+        (place_of_name (names_of_models library.now))
+        (top.now.name.now ∷ path_of below.now.frames) }
+    requires same { below.now.models ≡ length library.now }
+    requires copies { copies ≤ 65536 }
+    ensures found { IfOk result
+        (λ f. Finds library.now call.entry.now.model f.place f.model.now f.ports.now) }
+    ensures few { IfOk result (λ f. copies < 65536) }
+    ensures ok { IfOk result (λ f. CopiesModel library.now
+        (top.now.name.now ∷ path_of below.now.frames) top.now.scope line call.entry.now copies
+        f.model.now) }
+    ensures fault { IfErr result (λ e. RefusesUse e library.now
+        (top.now.name.now ∷ path_of below.now.frames) top.now.scope line call.entry.now copies) }
+{
+    match library.find(call.model.as_slice()) {
+        None => Err(unknown_model(alloc, line, &call.model)),
+        Some(found) => {
+            if is_open(found.place, top, below) {
+                return Err(recursive(alloc, line, &call.model, top, below));
+            }
+            if copies == 65_536 {
+                return Err(too_many(line, Limit::Copies));
+            }
+            match unknown_formal(found.ports, call.pairs.as_slice()) {
+                Some(formal) => Err(unknown_formal_of(alloc, line, formal)),
+                None => Ok(found),
+            }
+        }
+    }
+}
+
+/// The copy that a use opens, over the design with the nets of the use, or why there is none.
+pub fn open<'m>(
+    alloc: Global,
+    top: &Open<'m>,
+    found: Found<'_, 'm>,
+    copies: u32,
+    draft: Draft<'m>,
+    line: u64,
+    call: &'m UseText,
+) -> Result<(Open<'m>, Draft<'m>), FlatRefusal>
+    requires call { IsUseText call.now }
+    requires few { copies < 65536 }
+    ensures value { MatchResult result
+        (λ r. (path : List (List ℕ)) → opened_within line (next_copy path top.now.scope
+        call.entry.now found.entry.model.now (record { copies = copies; design = draft.entry }))
+        ≡ Ok (opened_on path r.0 copies r.1))
+        (λ e. (path : List (List ℕ)) → IsFault e (opened_within line (next_copy path top.now.scope
+        call.entry.now found.entry.model.now (record { copies = copies; design = draft.entry })))) }
+    ensures model { IfOk result (λ r. IsCopyOf r.0 found.entry.place found.entry.model.now) }
+{
+    let mut draft = draft;
+    match connect(
+        alloc,
+        &mut draft.nets,
+        &top.scope,
+        copies + 1,
+        call.pairs.as_slice(),
+    ) {
+        Ok(scope) => match draft.passed_limit() {
+            None => Ok((
+                Open {
+                    model: found.place,
+                    name: found.model.name.as_slice(),
+                    scope,
+                    commands: found.model.commands.as_slice(),
+                },
+                draft,
+            )),
+            Some(limit) => Err(too_many(line, limit)),
+        },
+        Err(stop) => Err(stopped(line, stop)),
+    }
+}

@@ -1,0 +1,167 @@
+//! The commands of the copies, one after the other.
+ghost use Rattle.std.specs.Prelude.{◌≡◌, ◌≤◌, ℕ, All, Ok, IfOk, MatchResult, option_map};
+ghost use Rattle.ds_design.specs.Source.{IsPart, IsUseText};
+ghost use Rattle.ds_flat.specs.Command.{with_part};
+ghost use Rattle.ds_flat.specs.Copies.{flat_within, use_in as use_of_part};
+ghost use Rattle.ds_flat.specs.Run.{run, after_take, IsKept, IsFault};
+ghost use Rattle.ds_flat.specs.Use.{after_use};
+
+use crate::draft::Draft;
+use crate::fault::FlatRefusal;
+use crate::frame::Open;
+use crate::library::Library;
+use crate::open::{checked, open, stopped, too_many};
+use crate::scope::Scope;
+use crate::stack::Stack;
+use ds_design::{Command, Part, UseText};
+use std::alloc::Global;
+use std::marker::Model;
+
+/// The innermost copy, those that wait for it, the number of the last copy, and the design so far.
+#[derive(Drop)]
+pub struct State<'m> {
+    pub top: Open<'m>,
+    pub below: Stack<'m>,
+    pub copies: u32,
+    pub draft: Draft<'m>,
+}
+
+impl<'m> Model for State<'m> {
+    ghost use Rattle.std.specs.Prelude.{◌∷◌};
+    ghost use Rattle.ds_flat.specs.Stack.{frame_on, path_of};
+    ghost use Rattle.ds_flat.specs.Run.{Rest};
+
+    ghost Value = { Rest };
+
+    ghost view = { λ s. record {
+      frames = frame_on s.top (path_of s.below.frames) ∷ s.below.frames;
+      places = s.top.model ∷ s.below.places;
+      models = s.below.models;
+      flat = record { copies = s.copies; design = s.draft };
+    } };
+}
+
+/// What a turn gives: what is left to take, or the design.
+#[derive(Drop)]
+pub enum Turn<'m> {
+    Next(State<'m>),
+    Done(Draft<'m>),
+}
+
+fn use_in(part: &Part) -> Option<&UseText>
+    ensures { option_map (λ u. u.now) result ≡ use_of_part part.now }
+{
+    match part {
+        Part::Subckt(call) => Some(call),
+        Part::Inputs(_) | Part::Outputs(_) | Part::Clock(_) | Part::Table(_) | Part::Latch(_) =>
+            None,
+    }
+}
+
+// A command other than a use is taken.
+fn take_part<'m>(
+    alloc: Global,
+    scope: &Scope<'m>,
+    draft: Draft<'m>,
+    command: &'m Command,
+) -> Result<Draft<'m>, FlatRefusal>
+    requires { IsPart command.now.part }
+    ensures { MatchResult result
+        (λ d. (copies : ℕ) → flat_within copies command.entry.now.line
+        (with_part scope.now command.entry.now.line command.entry.now.part draft.entry)
+        ≡ Ok (record { copies = copies; design = d }))
+        (λ e. (copies : ℕ) → IsFault e (flat_within copies command.entry.now.line
+        (with_part scope.now command.entry.now.line command.entry.now.part draft.entry))) }
+{
+    let mut draft = draft;
+    match draft.add(alloc, scope, command.line, &command.part) {
+        Ok(()) => match draft.passed_limit() {
+            None => Ok(draft),
+            Some(limit) => Err(too_many(command.line, limit)),
+        },
+        Err(stop) => Err(stopped(command.line, stop)),
+    }
+}
+
+// A use puts its copy on top.
+fn take_use<'m>(
+    alloc: Global,
+    library: &Library<'m>,
+    state: State<'m>,
+    line: u64,
+    call: &'m UseText,
+) -> Result<State<'m>, FlatRefusal>
+    requires kept { IsKept library.now state }
+    requires parts { All (λ model. All (λ command. IsPart command.part) model.commands) library.now }
+    requires call { IsUseText call.now }
+    ensures kept { IfOk result (λ s. IsKept library.now s) }
+    ensures value { MatchResult result
+        (λ s. run library.now s
+        ≡ after_use library.now state.entry.frames state.entry.flat line call.entry.now)
+        (λ e. IsFault e
+        (after_use library.now state.entry.frames state.entry.flat line call.entry.now)) }
+{
+    let State {
+        top,
+        below,
+        copies,
+        draft,
+    } = state;
+    match checked(alloc, library, &top, &below, copies, line, call) {
+        Err(refusal) => Err(refusal),
+        Ok(found) => match open(alloc, &top, found, copies, draft, line, call) {
+            Err(refusal) => Err(refusal),
+            Ok((next, draft)) => match below.pushed(top) {
+                Err(_) => Err(FlatRefusal::Memory),
+                Ok(below) => Ok(State {
+                    top: next,
+                    below,
+                    copies: copies + 1,
+                    draft,
+                }),
+            },
+        },
+    }
+}
+
+// A command of the innermost copy is taken.
+pub fn take<'m>(
+    alloc: Global,
+    library: &Library<'m>,
+    state: State<'m>,
+    command: &'m Command,
+) -> Result<State<'m>, FlatRefusal>
+    requires kept { IsKept library.now state }
+    requires parts { All (λ model. All (λ command. IsPart command.part) model.commands) library.now }
+    requires part { IsPart command.now.part }
+    ensures kept { IfOk result (λ s. IsKept library.now s) }
+    ensures value { MatchResult result
+        (λ s. run library.now s
+        ≡ after_take library.now state.entry.frames state.entry.flat command.entry.now)
+        (λ e. IsFault e
+        (after_take library.now state.entry.frames state.entry.flat command.entry.now)) }
+{
+    match use_in(&command.part) {
+        Some(call) => match take_use(alloc, library, state, command.line, call) {
+            Ok(next) => Ok(next),
+            Err(refusal) => Err(refusal),
+        },
+        None => {
+            let State {
+                top,
+                below,
+                copies,
+                draft,
+            } = state;
+            match take_part(alloc, &top.scope, draft, command) {
+                Ok(draft) => Ok(State {
+                    top,
+                    below,
+                    copies,
+                    draft,
+                }),
+                Err(refusal) => Err(refusal),
+            }
+        }
+    }
+}

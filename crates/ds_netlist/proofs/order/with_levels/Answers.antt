@@ -1,0 +1,11 @@
+use Rattle.std.proofs.Common.{◌≡◌, ◌∙◌, ◌++◌, [], ◌∷◌, List, ap, refl, arith, get_or}
+use Rattle.std.proofs.lemmas.List.{get_or_default}
+use Rattle.ds_netlist.specs.declared.order.Placed.{Placed}
+use Rattle.ds_netlist.proofs.Ordered.{placed_more}
+use Rattle.ds_netlist.proofs.order.with_levels.Goals as goal
+
+pub loop-i-preserved : goal.loop-i-preserved
+loop-i-preserved c =
+    let level : get_or c.args.levels.now c.index.result 0 ≡ get_or c.args.levels.now c.index-tables-i.result.output 0 = ap (λ n. get_or c.args.levels.now n 0) c.index.ensures in
+    c.in_ok-push.ensures.items ∙ (ap (λ (xs : List Placed). xs ++ record { level = get_or c.args.levels.now c.index.result 0; place = c.loop-i.i } ∷ []) c.loop-i.invariant
+    ∙ placed_more c.args.tables.now c.args.levels.now c.loop-i.i c.index-tables-i.result _ c.loop-i-test.true c.index-tables-i.is level)

@@ -1,0 +1,17 @@
+//! Laws of the definitions, each the contract of a function that does nothing.
+ghost use Rattle.ds_netlist.specs.Laws.{FaultsAreRefused, FaultsAreInRange, OneFault};
+
+/// A circuit that has a fault is not accepted.
+pub fn faults_are_refused()
+    ensures { FaultsAreRefused }
+{}
+
+/// A circuit has one fault.
+pub fn one_fault()
+    ensures { OneFault }
+{}
+
+/// The nets and registers of a fault are those of the design.
+pub fn faults_are_in_range()
+    ensures { FaultsAreInRange }
+{}

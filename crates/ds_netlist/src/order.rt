@@ -1,0 +1,60 @@
+//! The order of the tables by level.
+ghost use Rattle.std.specs.Prelude.{◌≡◌, ◌<◌, ◌^◌, length, map, All, IfOk, OnOk};
+ghost use Rattle.std.specs.List.Sorted.{IsNonDecreasingBy, IsPermutation};
+ghost use Rattle.ds_netlist.specs.Placed.{IsSortedOrder, placed};
+
+use ds_design::Gate;
+use std::alloc::{AllocError, Global};
+
+// The place of a table, and the level of what it drives.
+#[derive(Clone, Copy)]
+struct Placed {
+    level: u64,
+    place: u32,
+}
+
+// The places of the tables, by the level of what they drive.
+pub(crate) fn by_level(
+    alloc: Global,
+    tables: &[Gate],
+    levels: &[u64],
+) -> Result<Vec<u32>, AllocError>
+    requires few { length tables.now < 2 ^ 32 }
+    requires inside { All (λ t. t.output < length levels.now) tables.now }
+    ensures ok { IfOk result (λ v. IsSortedOrder tables.now levels.now v.items) }
+{
+    let mut all = with_levels(alloc, tables, levels)?;
+    sort_by_level(&mut all)?;
+    places_of(alloc, all.as_slice())
+}
+
+// Sorts by level.
+fn sort_by_level(all: &mut Vec<Placed>) -> Result<(), AllocError>
+    ensures permuted { IsPermutation all.old.items all.new.items }
+    ensures rising { OnOk result (IsNonDecreasingBy (λ p. p.level) all.new.items) }
+{
+    all.sort_by_key(|placed| placed.level)?;
+    Ok(())
+}
+
+// The places alone.
+fn places_of(alloc: Global, all: &[Placed]) -> Result<Vec<u32>, AllocError>
+    ensures ok { IfOk result (λ v. v.items ≡ map (λ p. p.place) all.now) }
+{
+    all.iter().map(|placed| placed.place).collect(alloc)
+}
+
+// Each table with its level.
+fn with_levels(alloc: Global, tables: &[Gate], levels: &[u64]) -> Result<Vec<Placed>, AllocError>
+    requires few { length tables.now < 2 ^ 32 }
+    requires inside { All (λ t. t.output < length levels.now) tables.now }
+    ensures ok { IfOk result (λ v. v.items ≡ placed tables.now levels.now (length tables.now)) }
+{
+    let mut all: Vec<Placed> = Vec::new(alloc);
+    for (i, table) in tables.iter().enumerate() {
+        let level = levels[table.output.index()];
+        let place = i as u32;
+        all.push(Placed { level, place })?;
+    }
+    Ok(all)
+}

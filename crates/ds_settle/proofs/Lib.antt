@@ -1,0 +1,3 @@
+pub mod SetBits
+pub mod Step
+pub mod ByIndex

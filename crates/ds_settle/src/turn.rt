@@ -1,0 +1,86 @@
+ghost use Rattle.std.specs.Prelude.{◌≡◌, ◌≢◌, ◌<◌, ℕ, [], length, map, All, AllPairs, slice_set};
+ghost use Rattle.ds_cover.specs.Cover.{value_at, values_at, value_of};
+ghost use Rattle.ds_design.specs.Circuit.{columns, register_nets, drivers};
+ghost use Rattle.ds_design.specs.Valuation.{IsValuation};
+ghost use Rattle.ds_settle.specs.Settle.{IsSettledTo, LeavesOthers};
+ghost use Rattle.ds_base.specs.declared.value.Value.TheVariants.{Zero};
+
+use ds_base::{NetId, Row3, Value};
+use ds_design::{Gate, Netlist, Register};
+
+/// Lets `nets` be the valuation of this state, one value per register, and this vector, one value
+/// per column. What `nets` held before does not matter.
+pub fn settle(netlist: &Netlist, state: &Row3, vector: &Row3, nets: &mut Row3)
+    requires state { length state.now ≡ length netlist.now.registers }
+    requires vector { length vector.now ≡ length (columns netlist.now) }
+    requires nets { length nets.old ≡ length netlist.now.nets }
+
+    ensures { IsValuation netlist.now state.now vector.now nets.new }
+{
+    let tables = netlist.design().tables();
+    set_sources(netlist, state, vector, nets);
+    for k in netlist.order() {
+        set_table(nets, &tables[*k as usize]);
+    }
+}
+
+// Sets the columns and the registers, and all other nets to 0.
+fn set_sources(netlist: &Netlist, state: &Row3, vector: &Row3, nets: &mut Row3)
+    requires state { length state.now ≡ length netlist.now.registers }
+    requires vector { length vector.now ≡ length (columns netlist.now) }
+    requires nets { length nets.old ≡ length netlist.now.nets }
+    ensures { IsSettledTo netlist.now state.now vector.now nets.new [] 0 }
+{
+    let registers = netlist.design().registers();
+    clear(nets);
+    set_bits(nets, netlist.columns(), vector);
+    set_registers(nets, registers, state);
+}
+
+// Zeros.
+fn clear(nets: &mut Row3)
+    ensures same { length nets.new ≡ length nets.old }
+    ensures zero { (net : ℕ) → value_at nets.new net ≡ Zero }
+{
+    for net in 0..nets.len() {
+        nets.set(net, Value::Zero);
+    }
+}
+
+// Sets these nets, no two of which are the same.
+fn set_bits(nets: &mut Row3, these: &[NetId], bits: &Row3)
+    requires within { All (λ net. net < length nets.old) these.now }
+    requires once { AllPairs (λ a b. a ≢ b) these.now }
+    requires one_each { length bits.now ≡ length these.now }
+    ensures same { length nets.new ≡ length nets.old }
+    ensures set { values_at nets.new these.now ≡ bits.now }
+    ensures others { LeavesOthers these.now nets.old nets.new }
+{
+    for (i, net) in these.iter().enumerate() {
+        nets.set(net.index(), bits.value(i));
+    }
+}
+
+// Sets the nets that the registers drive.
+fn set_registers(nets: &mut Row3, registers: &[Register], bits: &Row3)
+    requires within { All (λ r. r.output < length nets.old) registers.now }
+    requires once { AllPairs (λ a b. a ≢ b) (map (λ r. r.output) registers.now) }
+    requires one_each { length bits.now ≡ length registers.now }
+    ensures same { length nets.new ≡ length nets.old }
+    ensures set { values_at nets.new (map (λ r. r.output) registers.now) ≡ bits.now }
+    ensures others { LeavesOthers (map (λ r. r.output) registers.now) nets.old nets.new }
+{
+    for (i, register) in registers.iter().enumerate() {
+        nets.set(register.output.index(), bits.value(i));
+    }
+}
+
+// Gives a table's output the value of the table.
+fn set_table(nets: &mut Row3, gate: &Gate)
+    requires within { All (λ net. net < length nets.old) gate.now.table.inputs }
+    requires output { gate.now.output < length nets.old }
+    ensures { nets.new ≡ slice_set nets.old gate.now.output (value_of gate.now.table nets.old) }
+{
+    let value = gate.table.value(nets);
+    nets.set(gate.output.index(), value);
+}
