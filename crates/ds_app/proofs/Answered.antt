@@ -1,0 +1,160 @@
+-- Each way in which a call may end has its status, and no other.
+use Rattle.std.proofs.Common.{◌≡◌, ◌⊎◌, ℕ, ◌≤◌, List, Result, Ok, Err, inl, inr, refl, arith, sym, subst, lit≤}
+use Rattle.std.specs.Prelude.{codes}
+use Rattle.ds_outside.specs.Fault.{Rose}
+use Rattle.ds_outside.specs.Written.{appended, AppendsPart}
+use Rattle.ds_netlist.proofs.Refused.{faults_are_refused_lem}
+use Rattle.ds_cmd.specs.Line.{job_of}
+use Rattle.ds_cmd.specs.declared.job.Job.{Job}
+use Rattle.ds_cmd.specs.declared.fault.UsageFault.{UsageFault}
+use Rattle.ds_cmd.specs.declared.fault.UsageFault.TheVariants as usage
+use Rattle.ds_app.specs.declared.stop.Stop.{Stop}
+use Rattle.ds_app.specs.declared.stop.Stop.TheVariants.{Refused, Unread, Unwritten, Memory}
+use Rattle.ds_app.specs.Ends.{Ends, Output, RoseIn}
+use Rattle.ds_app.specs.Job.{stages_of}
+use Rattle.ds_app.specs.Status.{AreTold, Call, IsAnswered, IsNoLine, NoneFailed, Reports, SaysStop, SaysUsage}
+use Rattle.ds_app.proofs.Exclusive.{job_not_refused}
+use Rattle.ds_app.proofs.Failed.{job_says}
+
+-- the job of some words is one job
+same_job : (words : List (List ℕ)) (job other : Job) → job_of words ≡ Ok job → job_of words ≡ Ok other → job ≡ other
+same_job words job other is also = cc
+
+-- and words with a job are a command line
+no_fault : (words : List (List ℕ)) (job : Job) (fault : UsageFault) → job_of words ≡ Ok job → job_of words ≡ Err fault → ⊥
+no_fault words job fault is faulty = cc
+
+-- a job has no text and a fault
+never_both : (call : Call) (job other : Job) (text line : List ℕ) → job_of call.words ≡ Ok job → job_of call.words ≡ Ok other
+    → AreTold call.held other → (stages_of call.held job).means text → (stages_of call.held other).refused line → ⊥
+never_both call job other text line is also told means refused =
+    job_not_refused faults_are_refused_lem call.held other told text line
+    (subst (λ (j : Job). (stages_of call.held j).means text) (same_job call.words job other is also) means) refused
+
+pub answered_done : (call : Call) (job : Job) (text : List ℕ) → job_of call.words ≡ Ok job → (stages_of call.held job).means text
+    → call.out.new ≡ appended call.out.old text → call.err.new ≡ call.err.old → IsAnswered call 0
+answered_done call job text is means written silent = record {
+  known = omega arith;
+  done = λ e. record { job = job; text = text; is_job = is; is_text = means; written = written; silent = silent };
+  refused = λ e. absurd (omega arith);
+  no_line = λ e. absurd (omega arith);
+  unread = λ e. absurd (omega arith);
+  no_memory = λ e. absurd (omega arith);
+  unwritten = λ e. absurd (omega arith);
+  out_same = λ low high. absurd (omega arith);
+  exact_line = λ fault faulty. absurd (no_fault call.words job fault is faulty);
+  exact_fault = λ other line also told refused none. absurd (never_both call job other text line is also told means refused);
+  complete = λ other t also told meant none whole. inl refl;
+}
+
+answered_refused : (call : Call) (job : Job) (line : List ℕ) → job_of call.words ≡ Ok job → (stages_of call.held job).refused line
+    → call.out.new ≡ call.out.old → Reports call.err line → IsAnswered call 1
+answered_refused call job line is refused same reported = record {
+  known = omega arith;
+  done = λ e. absurd (omega arith);
+  refused = λ e. record { job = job; line = line; is_job = is; is_line = refused; reported = reported };
+  no_line = λ e. absurd (omega arith);
+  unread = λ e. absurd (omega arith);
+  no_memory = λ e. absurd (omega arith);
+  unwritten = λ e. absurd (omega arith);
+  out_same = λ low high. same;
+  exact_line = λ fault faulty. absurd (no_fault call.words job fault is faulty);
+  exact_fault = λ other l also told r none. inl refl;
+  complete = λ other text also told means none whole. absurd (never_both call other other text line also also told means
+      (subst (λ (j : Job). (stages_of call.held j).refused line) (same_job call.words job other is also) refused));
+}
+
+answered_unread : (call : Call) (job : Job) (line : List ℕ) → job_of call.words ≡ Ok job → (stages_of call.held job).unread (RoseIn call.before call.now) line
+    → call.out.new ≡ call.out.old → Reports call.err line → IsAnswered call 3
+answered_unread call job line is unread same reported =
+    let failed = job_says call.held job (RoseIn call.before call.now) line unread in
+    record {
+      known = omega arith;
+      done = λ e. absurd (omega arith);
+      refused = λ e. absurd (omega arith);
+      no_line = λ e. absurd (omega arith);
+      unread = λ e. record { job = job; line = line; is_job = is; is_line = unread; reported = reported };
+      no_memory = λ e. absurd (omega arith);
+      unwritten = λ e. absurd (omega arith);
+      out_same = λ low high. same;
+      exact_line = λ fault faulty. absurd (no_fault call.words job fault is faulty);
+      exact_fault = λ other l also told r none. absurd (none failed.which failed.name failed.is);
+      complete = λ other t also told meant none whole. absurd (none failed.which failed.name failed.is);
+    }
+
+answered_unwritten : (call : Call) (job : Job) (text : List ℕ) → job_of call.words ≡ Ok job → (stages_of call.held job).means text
+    → AppendsPart call.out.old call.out.new text → Rose call.out.before call.out.now → Reports call.err (codes "desync: cannot write\n") → IsAnswered call 5
+answered_unwritten call job text is means part cause reported = record {
+  known = omega arith;
+  done = λ e. absurd (omega arith);
+  refused = λ e. absurd (omega arith);
+  no_line = λ e. absurd (omega arith);
+  unread = λ e. absurd (omega arith);
+  no_memory = λ e. absurd (omega arith);
+  unwritten = λ e. record { job = job; text = text; is_job = is; is_text = means; part = part; cause = cause; reported = reported };
+  out_same = λ low high. absurd (omega arith);
+  exact_line = λ fault faulty. absurd (no_fault call.words job fault is faulty);
+  exact_fault = λ other line also told refused none. absurd (never_both call job other text line is also told means refused);
+  complete = λ other t also told meant none whole. absurd (whole cause);
+}
+
+pub answered_memory : (call : Call) → call.out.new ≡ call.out.old → Reports call.err (codes "desync: out of memory\n") → IsAnswered call 4
+answered_memory call same reported = record {
+  known = omega arith;
+  done = λ e. absurd (omega arith);
+  refused = λ e. absurd (omega arith);
+  no_line = λ e. absurd (omega arith);
+  unread = λ e. absurd (omega arith);
+  no_memory = λ e. reported;
+  unwritten = λ e. absurd (omega arith);
+  out_same = λ low high. same;
+  exact_line = λ fault faulty. inr refl;
+  exact_fault = λ other line also told refused none. inr refl;
+  complete = λ other t also told meant none whole. inr refl;
+}
+
+pub answered_usage : (call : Call) (fault : UsageFault) → job_of call.words ≡ Err fault → call.out.new ≡ call.out.old
+    → Reports call.err (codes "desync: bad command line\n") → IsAnswered call 2
+answered_usage call fault faulty same reported = record {
+  known = omega arith;
+  done = λ e. absurd (omega arith);
+  refused = λ e. absurd (omega arith);
+  no_line = λ e. ((fault, faulty), reported);
+  unread = λ e. absurd (omega arith);
+  no_memory = λ e. absurd (omega arith);
+  unwritten = λ e. absurd (omega arith);
+  out_same = λ low high. same;
+  exact_line = λ other also. inl refl;
+  exact_fault = λ job line is told refused none. absurd (no_fault call.words job fault is faulty);
+  complete = λ job t is told meant none whole. absurd (no_fault call.words job fault is faulty);
+}
+
+-- what ended a job says the status
+pub answered_stop : (A : Type 0) (call : Call) (job : Job) (stop : Stop) (status : ℕ) → job_of call.words ≡ Ok job
+    → Ends {A = A} (stages_of call.held job) (RoseIn call.before call.now) call.out (Err stop) → SaysStop stop call.err status → IsAnswered call status
+answered_stop A call job (Refused line) status is (refused, same) (e, reported) =
+    subst (λ (s : ℕ). IsAnswered call s) (sym e) (answered_refused call job line is refused same reported)
+answered_stop A call job (Unread line) status is (unread, same) (e, reported) =
+    subst (λ (s : ℕ). IsAnswered call s) (sym e) (answered_unread call job line is unread same reported)
+answered_stop A call job Unwritten status is (text, means, part, cause) (e, reported) =
+    subst (λ (s : ℕ). IsAnswered call s) (sym e) (answered_unwritten call job text is means part cause reported)
+answered_stop A call job Memory status is same (e, reported) =
+    subst (λ (s : ℕ). IsAnswered call s) (sym e) (answered_memory call same reported)
+
+-- words that are no command line, or for which there was no memory, say the status
+pub answered_words : (call : Call) (fault : UsageFault) (status : ℕ) → (fault ≡ usage.Memory) ⊎ (job_of call.words ≡ Err fault)
+    → call.out.new ≡ call.out.old → SaysUsage fault call.err status → IsAnswered call status
+answered_words call usage.Line status (inl memory) same says = cc
+answered_words call usage.Line status (inr is) same (e, reported) = subst (λ (s : ℕ). IsAnswered call s) (sym e) (answered_usage call usage.Line is same reported)
+answered_words call usage.Number status (inl memory) same says = cc
+answered_words call usage.Number status (inr is) same (e, reported) = subst (λ (s : ℕ). IsAnswered call s) (sym e) (answered_usage call usage.Number is same reported)
+answered_words call usage.Mode status (inl memory) same says = cc
+answered_words call usage.Mode status (inr is) same (e, reported) = subst (λ (s : ℕ). IsAnswered call s) (sym e) (answered_usage call usage.Mode is same reported)
+answered_words call usage.Memory status either same (e, reported) = subst (λ (s : ℕ). IsAnswered call s) (sym e) (answered_memory call same reported)
+
+-- what ends a job is no fault of the words
+pub stop_is_not_two : (stop : Stop) (err : Output) (status : ℕ) → SaysStop stop err status → status ≡ 2 → ⊥
+stop_is_not_two (Refused line) err status (e, reported) two = omega arith
+stop_is_not_two (Unread line) err status (e, reported) two = omega arith
+stop_is_not_two Unwritten err status (e, reported) two = omega arith
+stop_is_not_two Memory err status (e, reported) two = omega arith

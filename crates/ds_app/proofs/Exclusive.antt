@@ -1,0 +1,123 @@
+-- A job that has a text is not refused, where its files tell what they hold.
+use Rattle.std.proofs.Common.{◌≡◌, ◌≢◌, ℕ, ◌≤◌, ◌<◌, List, length, Option, None, Some, Result, Ok, Err, inl, inr, refl, arith, ap, sym, ◌∙◌, subst}
+use Rattle.ds_outside.specs.Held.{Held, untold, absent, bytes}
+use Rattle.ds_outside.specs.declared.files.Which.{Which}
+use Rattle.ds_outside.specs.declared.files.Which.TheVariants.{Net, Vectors}
+use Rattle.ds_lines.specs.Line.{Line}
+use Rattle.ds_blif.specs.Text.{read_of}
+use Rattle.ds_flat.specs.Copies.{flat_of}
+use Rattle.ds_design.specs.Circuit.{Circuit, columns}
+use Rattle.ds_design.specs.declared.blif.BlifModel.{BlifModel}
+use Rattle.ds_design.specs.Accepted.{IsAccepted}
+use Rattle.ds_design.specs.Rows.{Rows}
+use Rattle.ds_netlist.specs.Fault.{IsNetFault}
+use Rattle.ds_netlist.specs.Laws.{FaultsAreRefused}
+use Rattle.ds_netlist.specs.declared.fault.NetFault.{NetFault}
+use Rattle.ds_netlist.specs.declared.fault.NetFault.TheVariants as net
+use Rattle.ds_rows.specs.Vector.{vectors_of}
+use Rattle.ds_cmd.specs.declared.job.Job.{Job}
+use Rattle.ds_cmd.specs.declared.job.Job.TheVariants.{Run, Clock, Check}
+use Rattle.ds_app.specs.FaultText.{IsNetFaultText, net_fault_text}
+use Rattle.ds_app.specs.Stage.{OfFile, Stage, IsExclusive, then_stage}
+use Rattle.ds_app.specs.Stages.{OfBytes, accepted_stage, clusters_stage, design_stage, file_stage, flat_or_line, lines_stage, models_or_line, netlist_stage, report_stage, result_stage, rows_stage, rows_or_line, text_stage, trace_stage, vectors_stage}
+use Rattle.ds_app.specs.Job.{clock_stage, run_stage, stages_of}
+use Rattle.ds_app.specs.Status.{AreTold}
+
+-- stages that are each exclusive are together
+then_exclusive : {A B : Type 0} (first : Stage A) (next : A → Stage B) → IsExclusive first → ((a : A) → IsExclusive (next a)) → IsExclusive (then_stage first next)
+then_exclusive {A} {B} first next one all = record {
+  one = λ b d (a, is, then) (x, also, other).
+      (all x).one b d (subst (λ (y : A). (next y).means b) (one.one a x is also) then) other;
+  not_refused = λ b line (a, is, then) either. elim either [
+    | inl refused ↦ one.not_refused a line is refused
+    | inr (x, also, refused) ↦ (all x).not_refused b line (subst (λ (y : A). (next y).means b) (one.one a x is also) then) refused
+  ];
+}
+
+-- a last stage that is not refused where it gives something is enough
+then_not_refused : {A B : Type 0} (first : Stage A) (next : A → Stage B) → IsExclusive first
+    → ((a : A) (b : B) (line : List ℕ) → (next a).means b → ¬ (next a).refused line)
+    → (b : B) (line : List ℕ) → (then_stage first next).means b → ¬ (then_stage first next).refused line
+then_not_refused {A} {B} first next one last b line (a, is, then) (inl refused) = one.not_refused a line is refused
+then_not_refused {A} {B} first next one last b line (a, is, then) (inr (x, also, refused)) =
+    last x b line (subst (λ (y : A). (next y).means b) (one.one a x is also) then) refused
+
+one_text : (h : Held) (name : List ℕ) → h ≢ untold → (a b : List Line) → OfBytes h (λ text. (text_stage name text).means a) → OfBytes h (λ text. (text_stage name text).means b) → a ≡ b
+one_text untold name told a b is also = absurd (told refl)
+one_text absent name told a b is also = absurd is
+one_text (bytes text) name told a b (short, are) (few, also) = are ∙ sym also
+
+text_not_refused : (h : Held) (name : List ℕ) → h ≢ untold → (a : List Line) (line : List ℕ) → OfBytes h (λ text. (text_stage name text).means a) → OfBytes h (λ text. (text_stage name text).refused line) → ⊥
+text_not_refused untold name told a line is refused = told refl
+text_not_refused absent name told a line is refused = is
+text_not_refused (bytes text) name told a line (short, are) (long, spelt) = omega arith
+
+lines_exclusive : (held : List ℕ → Held) (which : Which) (name : List ℕ) → held name ≢ untold → IsExclusive (lines_stage held which name)
+lines_exclusive held which name told = record {
+  one = λ a b is also. one_text (held name) name told a b is also;
+  not_refused = λ a line is refused. text_not_refused (held name) name told a line is refused;
+}
+
+one_ok : {A : Type 0} (r : Result A (List ℕ)) (a b : A) → r ≡ Ok a → r ≡ Ok b → a ≡ b
+one_ok r a b is also = cc
+
+ok_or_err : {A : Type 0} (r : Result A (List ℕ)) (a : A) (line : List ℕ) → r ≡ Ok a → r ≡ Err line → ⊥
+ok_or_err r a line is also = cc
+
+result_exclusive : {A : Type 0} (r : Result A (List ℕ)) → IsExclusive (result_stage r)
+result_exclusive r = record { one = λ a b is also. one_ok r a b is also; not_refused = λ a line is refused. ok_or_err r a line is refused }
+
+design_exclusive : (file : List ℕ) (lines : List Line) → IsExclusive (design_stage file lines)
+design_exclusive file lines =
+    then_exclusive (result_stage (models_or_line file (read_of lines))) (λ (models : List BlifModel). result_stage (flat_or_line file (flat_of models)))
+    (result_exclusive (models_or_line file (read_of lines))) (λ models. result_exclusive (flat_or_line file (flat_of models)))
+
+-- a fault that has a text is not want of memory
+shown_fault : (c : Circuit) (fault : NetFault) (text : List ℕ) → IsNetFaultText c fault text → fault ≢ net.Memory
+shown_fault c fault text shown is =
+    let none : net_fault_text c net.Memory ≡ Some text = subst (λ (f : NetFault). net_fault_text c f ≡ Some text) is shown in cc
+
+accepted_exclusive : FaultsAreRefused → (file : List ℕ) (c : Circuit) → IsExclusive (accepted_stage file c)
+accepted_exclusive law file c = record {
+  one = λ a b is also. is.0 ∙ sym also.0;
+  not_refused = λ a line is refused.
+      let (fault, text, faulty, shown, spelt) = refused in
+      law c fault (shown_fault c fault text shown) faulty is.1;
+}
+
+file_exclusive : (held : List ℕ → Held) (file : List ℕ) → held file ≢ untold → IsExclusive (file_stage held file)
+file_exclusive held file told =
+    then_exclusive (lines_stage held Net file) (design_stage file) (lines_exclusive held Net file told) (design_exclusive file)
+
+netlist_exclusive : FaultsAreRefused → (held : List ℕ → Held) (file : List ℕ) → held file ≢ untold → IsExclusive (netlist_stage held file)
+netlist_exclusive law held file told =
+    then_exclusive (file_stage held file) (accepted_stage file) (file_exclusive held file told) (accepted_exclusive law file)
+
+clusters_exclusive : (file : List ℕ) (c : Circuit) → IsExclusive (clusters_stage file c)
+clusters_exclusive file c = record { one = λ a b is also. refl; not_refused = λ a line is refused. let long = refused.0 in omega arith }
+
+vectors_exclusive : (held : List ℕ → Held) (vec : List ℕ) (c : Circuit) → held vec ≢ untold → IsExclusive (vectors_stage held vec c)
+vectors_exclusive held vec c told =
+    then_exclusive (lines_stage held Vectors vec) (rows_stage vec (length (columns c))) (lines_exclusive held Vectors vec told)
+    (λ lines. result_exclusive (rows_or_line vec (vectors_of (length (columns c)) lines)))
+
+clock_not_refused : (held : List ℕ → Held) (vec : List ℕ) → held vec ≢ untold → (c : Circuit) (text line : List ℕ)
+    → (clock_stage held vec c).means text → ¬ (clock_stage held vec c).refused line
+clock_not_refused held vec told c text line means refused =
+    then_not_refused (vectors_stage held vec c) (trace_stage c) (vectors_exclusive held vec c told) (λ rows b l is none. none) text line means refused
+
+run_not_refused : (held : List ℕ → Held) (file vec : List ℕ) → held vec ≢ untold → (c : Circuit) (text line : List ℕ)
+    → (run_stage held file vec c).means text → ¬ (run_stage held file vec c).refused line
+run_not_refused held file vec told c text line means refused =
+    then_not_refused (clusters_stage file c) (λ (u : Unit {0}). then_stage (vectors_stage held vec c) (trace_stage c)) (clusters_exclusive file c)
+    (λ u b l is no_more. clock_not_refused held vec told c b l is no_more) text line means refused
+
+-- a job that has a text is not refused
+pub job_not_refused : FaultsAreRefused → (held : List ℕ → Held) (job : Job) → AreTold held job → (text line : List ℕ)
+    → (stages_of held job).means text → ¬ (stages_of held job).refused line
+job_not_refused law held (Run file vec) told text line means refused =
+    then_not_refused (netlist_stage held file) (run_stage held file vec) (netlist_exclusive law held file told.0) (run_not_refused held file vec told.1) text line means refused
+job_not_refused law held (Clock file vec) told text line means refused =
+    then_not_refused (netlist_stage held file) (clock_stage held vec) (netlist_exclusive law held file told.0) (clock_not_refused held vec told.1) text line means refused
+job_not_refused law held (Check file) told text line means refused =
+    then_not_refused (netlist_stage held file) report_stage (netlist_exclusive law held file told) (λ c b l is none. none) text line means refused

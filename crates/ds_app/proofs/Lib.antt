@@ -1,0 +1,5 @@
+pub mod Stages
+pub mod Ends
+pub mod Exclusive
+pub mod Failed
+pub mod Answered

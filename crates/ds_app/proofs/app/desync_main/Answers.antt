@@ -1,0 +1,53 @@
+use Rattle.std.proofs.Common.{◌≡◌, ℕ, List, map, refl, arith}
+use Rattle.std.specs.Borrow.{Bor}
+use Rattle.ds_app.specs.Status.{Call}
+use Rattle.ds_app.proofs.Answered.{answered_done, answered_stop, answered_words, stop_is_not_two}
+use Rattle.ds_app.proofs.app.desync_main.Goals as goal
+
+pub returns-in-Ok-do_job-clause-answered : goal.returns-in-Ok-do_job-clause-answered
+returns-in-Ok-do_job-clause-answered g c =
+    let call : Call = record {
+      words = map (λ (w : Bor (List ℕ)). w.now) c.args.words.now;
+      held = g.F.Files.held c.args.files.now;
+      before = g.F.Files.faults c.args.files.now;
+      now = g.F.Files.faults c.do_job.new.files;
+      out = record { old = g.O.Sink.written c.args.out.now; new = g.O.Sink.written c.do_job.new.out; before = g.O.Sink.faults c.args.out.now; now = g.O.Sink.faults c.do_job.new.out };
+      err = record { old = g.E.Sink.written c.args.err.now; new = g.E.Sink.written c.args.err.now; before = g.E.Sink.faults c.args.err.now; now = g.E.Sink.faults c.args.err.now };
+    } in
+    let (text, means, written) = c.in-Ok-do_job.ensures in
+    answered_done call c.in-Ok.job text c.in-Ok.ensures means written refl
+
+pub returns-in-Ok-do_job-clause-nothing_read : goal.returns-in-Ok-do_job-clause-nothing_read
+returns-in-Ok-do_job-clause-nothing_read g c = λ e. absurd (omega arith)
+
+pub returns-in-Ok-clause-answered : goal.returns-in-Ok-clause-answered
+returns-in-Ok-clause-answered g c =
+    let call : Call = record {
+      words = map (λ (w : Bor (List ℕ)). w.now) c.args.words.now;
+      held = g.F.Files.held c.args.files.now;
+      before = g.F.Files.faults c.args.files.now;
+      now = g.F.Files.faults c.do_job.new.files;
+      out = record { old = g.O.Sink.written c.args.out.now; new = g.O.Sink.written c.do_job.new.out; before = g.O.Sink.faults c.args.out.now; now = g.O.Sink.faults c.do_job.new.out };
+      err = record { old = g.E.Sink.written c.args.err.now; new = g.E.Sink.written c.say_stop.new.err; before = g.E.Sink.faults c.args.err.now; now = g.E.Sink.faults c.say_stop.new.err };
+    } in
+    answered_stop (Unit {0}) call c.in-Ok.job c.in-Err-do_job.stop c.say_stop.result c.in-Ok.ensures c.in-Err-do_job.ensures c.say_stop.ensures
+
+pub returns-in-Ok-clause-nothing_read : goal.returns-in-Ok-clause-nothing_read
+returns-in-Ok-clause-nothing_read g c = λ two. absurd (stop_is_not_two c.in-Err-do_job.stop
+    (record { old = g.E.Sink.written c.args.err.now; new = g.E.Sink.written c.say_stop.new.err; before = g.E.Sink.faults c.args.err.now; now = g.E.Sink.faults c.say_stop.new.err })
+    c.say_stop.result c.say_stop.ensures two)
+
+pub returns : goal.returns
+returns g c =
+    let call : Call = record {
+      words = map (λ (w : Bor (List ℕ)). w.now) c.args.words.now;
+      held = g.F.Files.held c.args.files.now;
+      before = g.F.Files.faults c.args.files.now;
+      now = g.F.Files.faults c.args.files.now;
+      out = record { old = g.O.Sink.written c.args.out.now; new = g.O.Sink.written c.args.out.now; before = g.O.Sink.faults c.args.out.now; now = g.O.Sink.faults c.args.out.now };
+      err = record { old = g.E.Sink.written c.args.err.now; new = g.E.Sink.written c.say_usage.new.err; before = g.E.Sink.faults c.args.err.now; now = g.E.Sink.faults c.say_usage.new.err };
+    } in
+    record {
+      answered = answered_words call c.in-Err.fault c.say_usage.result c.in-Err.ensures refl c.say_usage.ensures;
+      nothing_read = λ two. refl;
+    }

@@ -1,0 +1,26 @@
+use Rattle.std.proofs.Common.{◌≡◌, ℕ, List, subst}
+use Rattle.ds_outside.specs.Held.{Held}
+use Rattle.ds_cmd.specs.declared.job.Job.{Job}
+use Rattle.ds_cmd.specs.declared.job.Job.TheVariants.{Run, Clock, Check}
+use Rattle.ds_app.specs.Stage.{OfFile}
+use Rattle.ds_app.specs.Job.{stages_of}
+use Rattle.ds_app.specs.Ends.{Ends, Output, RoseIn}
+use Rattle.ds_app.proofs.job.do_job.Goals as goal
+
+pub returns-in-Run : goal.returns-in-Run
+returns-in-Run g c =
+    let job : Run c.as_str.result.now c.as_str-in-Run.result.now ≡ c.args.job.now = cc in
+    subst (λ (j : Job). Ends (stages_of (g.F.Files.held c.args.files.now) j) (RoseIn (g.F.Files.faults c.args.files.now) (g.F.Files.faults c.run.new.files))
+    (record { old = g.O.Sink.written c.args.out.now; new = g.O.Sink.written c.run.new.out; before = g.O.Sink.faults c.args.out.now; now = g.O.Sink.faults c.run.new.out }) c.run.result) job c.run.ensures
+
+pub returns-in-Clock : goal.returns-in-Clock
+returns-in-Clock g c =
+    let job : Clock c.as_str-in-Clock.result.now c.as_str-in-Clock-2.result.now ≡ c.args.job.now = cc in
+    subst (λ (j : Job). Ends (stages_of (g.F.Files.held c.args.files.now) j) (RoseIn (g.F.Files.faults c.args.files.now) (g.F.Files.faults c.clock.new.files))
+    (record { old = g.O.Sink.written c.args.out.now; new = g.O.Sink.written c.clock.new.out; before = g.O.Sink.faults c.args.out.now; now = g.O.Sink.faults c.clock.new.out }) c.clock.result) job c.clock.ensures
+
+pub returns-in-Check : goal.returns-in-Check
+returns-in-Check g c =
+    let job : Check c.as_str-in-Check.result.now ≡ c.args.job.now = cc in
+    subst (λ (j : Job). Ends (stages_of (g.F.Files.held c.args.files.now) j) (RoseIn (g.F.Files.faults c.args.files.now) (g.F.Files.faults c.check.new.files))
+    (record { old = g.O.Sink.written c.args.out.now; new = g.O.Sink.written c.check.new.out; before = g.O.Sink.faults c.args.out.now; now = g.O.Sink.faults c.check.new.out }) c.check.result) job c.check.ensures

@@ -1,0 +1,30 @@
+-- The stages of a job: what each one gives, which line refuses it, and what it cannot read.
+use Rattle.std.specs.Prelude.{◌≡◌, ◌⊎◌, ℕ, List}
+use Rattle.ds_outside.specs.declared.files.Which.{Which}
+
+-- a kind and a name of a file, of which something is said
+abbrev pub OfFile : Type 1
+OfFile = Which → List ℕ → Type 0
+
+-- what the stage may give; the lines that refuse it; the lines that say which file, of those that failed, was not read
+pub record Stage (A : Type 0) : Type 1 where
+  pub means : A → Type 0
+  pub refused : List ℕ → Type 0
+  pub unread : OfFile → List ℕ → Type 0
+
+-- a stage that only gives
+abbrev pub giving : {A : Type 0} → (A → Type 0) → Stage A
+giving means = record { means = means; refused = λ _. ⊥; unread = λ _ _. ⊥ }
+
+-- one stage after another: the second is met only where the first gives something
+abbrev pub then_stage : {A B : Type 0} → Stage A → (A → Stage B) → Stage B
+then_stage {A} first next = record {
+  means = λ b. (a : A) × first.means a × (next a).means b;
+  refused = λ line. first.refused line ⊎ ((a : A) × first.means a × (next a).refused line);
+  unread = λ failed line. first.unread failed line ⊎ ((a : A) × first.means a × (next a).unread failed line);
+}
+
+-- it gives one thing at most, and where it gives one it is not refused
+pub record IsExclusive {A : Type 0} (stage : Stage A) : Type 0 where
+  pub one : (a b : A) → stage.means a → stage.means b → a ≡ b
+  pub not_refused : (a : A) (line : List ℕ) → stage.means a → ¬ stage.refused line

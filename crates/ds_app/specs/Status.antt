@@ -1,0 +1,109 @@
+-- What a call of the program answers, and what it leaves on its outputs.
+use Rattle.std.specs.Prelude.{◌≡◌, ◌≢◌, ◌⊎◌, ℕ, ◌≤◌, List, Option, Ok, Err, codes}
+use Rattle.ds_outside.specs.Held.{Held, untold}
+use Rattle.ds_outside.specs.Fault.{Rose}
+use Rattle.ds_outside.specs.Written.{appended, AppendsPart}
+use Rattle.ds_outside.specs.declared.files.Which.{Which}
+use Rattle.ds_cmd.specs.Line.{job_of}
+use Rattle.ds_cmd.specs.declared.job.Job.{Job}
+use Rattle.ds_cmd.specs.declared.job.Job.TheVariants.{Run, Clock, Check}
+use Rattle.ds_cmd.specs.declared.fault.UsageFault.{UsageFault}
+use Rattle.ds_cmd.specs.declared.fault.UsageFault.TheVariants as usage
+use Rattle.ds_app.specs.declared.stop.Stop.{Stop}
+use Rattle.ds_app.specs.declared.stop.Stop.TheVariants.{Refused, Unread, Unwritten, Memory}
+use Rattle.ds_app.specs.Ends.{Output, RoseIn}
+use Rattle.ds_app.specs.Job.{stages_of}
+
+-- a call: its words, what its files hold, their counts of faults before and after, and its outputs
+pub record Call : Type 0 where
+  pub words : List (List ℕ)
+  pub held : List ℕ → Held
+  pub before : Which → List ℕ → ℕ
+  pub now : Which → List ℕ → ℕ
+  pub out : Output
+  pub err : Output
+
+-- a line stands on an output, whole or, where a write failed, in part
+abbrev pub Reports : Output → List ℕ → Type 0
+Reports err line =
+    (err.new ≡ appended err.old line) ⊎ (AppendsPart err.old err.new line × Rose err.before err.now)
+
+-- the line and the status of what ended a job
+abbrev pub SaysStop : Stop → Output → ℕ → Type 0
+SaysStop (Refused line) err status = (status ≡ 1) × Reports err line
+SaysStop (Unread line) err status = (status ≡ 3) × Reports err line
+SaysStop Memory err status = (status ≡ 4) × Reports err (codes "desync: out of memory\n")
+SaysStop Unwritten err status = (status ≡ 5) × Reports err (codes "desync: cannot write\n")
+
+-- the line and the status of words that are no command line
+abbrev pub SaysUsage : UsageFault → Output → ℕ → Type 0
+SaysUsage usage.Line err status = (status ≡ 2) × Reports err (codes "desync: bad command line\n")
+SaysUsage usage.Number err status = (status ≡ 2) × Reports err (codes "desync: bad command line\n")
+SaysUsage usage.Mode err status = (status ≡ 2) × Reports err (codes "desync: bad command line\n")
+SaysUsage usage.Memory err status = (status ≡ 4) × Reports err (codes "desync: out of memory\n")
+
+-- the words are no command line
+abbrev pub IsNoLine : List (List ℕ) → Type 0
+IsNoLine words = (fault : UsageFault) × (job_of words ≡ Err fault)
+
+-- the job's files are there and have no fault, and `out` has exactly the job's text more
+pub record IsDone (call : Call) : Type 0 where
+  pub job : Job
+  pub text : List ℕ
+  pub is_job : job_of call.words ≡ Ok job
+  pub is_text : (stages_of call.held job).means text
+  pub written : call.out.new ≡ appended call.out.old text
+  pub silent : call.err.new ≡ call.err.old
+
+-- a file has a fault, the first in the order of the stages, and its line is on `err`
+pub record IsRefused (call : Call) : Type 0 where
+  pub job : Job
+  pub line : List ℕ
+  pub is_job : job_of call.words ≡ Ok job
+  pub is_line : (stages_of call.held job).refused line
+  pub reported : Reports call.err line
+
+-- a read of a file failed, and the stages before it have no fault; the line on `err` names the file
+pub record IsUnread (call : Call) : Type 0 where
+  pub job : Job
+  pub line : List ℕ
+  pub is_job : job_of call.words ≡ Ok job
+  pub is_line : (stages_of call.held job).unread (RoseIn call.before call.now) line
+  pub reported : Reports call.err line
+
+-- a write failed, no file has a fault, and `out` has a first part of the job's text more
+pub record IsUnwritten (call : Call) : Type 0 where
+  pub job : Job
+  pub text : List ℕ
+  pub is_job : job_of call.words ≡ Ok job
+  pub is_text : (stages_of call.held job).means text
+  pub part : AppendsPart call.out.old call.out.new text
+  pub cause : Rose call.out.before call.out.now
+  pub reported : Reports call.err (codes "desync: cannot write\n")
+
+-- the files of a job tell what they hold
+abbrev pub AreTold : (List ℕ → Held) → Job → Type 0
+AreTold held (Run net vec) = (held net ≢ untold) × (held vec ≢ untold)
+AreTold held (Clock net vec) = (held net ≢ untold) × (held vec ≢ untold)
+AreTold held (Check net) = held net ≢ untold
+
+-- no read failed in the call
+abbrev pub NoneFailed : Call → Type 0
+NoneFailed call = (which : Which) (name : List ℕ) → ¬ RoseIn call.before call.now which name
+
+-- each status has its cause, and each cause its status; want of memory (4) alone is free
+pub record IsAnswered (call : Call) (status : ℕ) : Type 0 where
+  pub known : status ≤ 5
+  pub done : status ≡ 0 → IsDone call
+  pub refused : status ≡ 1 → IsRefused call
+  pub no_line : status ≡ 2 → IsNoLine call.words × Reports call.err (codes "desync: bad command line\n")
+  pub unread : status ≡ 3 → IsUnread call
+  pub no_memory : status ≡ 4 → Reports call.err (codes "desync: out of memory\n")
+  pub unwritten : status ≡ 5 → IsUnwritten call
+  pub out_same : 1 ≤ status → status ≤ 4 → call.out.new ≡ call.out.old
+  pub exact_line : (fault : UsageFault) → job_of call.words ≡ Err fault → (status ≡ 2) ⊎ (status ≡ 4)
+  pub exact_fault : (job : Job) (line : List ℕ) → job_of call.words ≡ Ok job → AreTold call.held job
+      → (stages_of call.held job).refused line → NoneFailed call → (status ≡ 1) ⊎ (status ≡ 4)
+  pub complete : (job : Job) (text : List ℕ) → job_of call.words ≡ Ok job → AreTold call.held job
+      → (stages_of call.held job).means text → NoneFailed call → ¬ Rose call.out.before call.out.now
+      → (status ≡ 0) ⊎ (status ≡ 4)

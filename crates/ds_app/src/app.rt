@@ -1,0 +1,128 @@
+//! The top call.
+ghost use Rattle.std.specs.Prelude.{◌≡◌, map};
+ghost use Rattle.ds_app.specs.Ends.{Output};
+ghost use Rattle.ds_app.specs.Status.{Call, IsAnswered, Reports, SaysStop, SaysUsage};
+
+use crate::job::do_job;
+use crate::stop::Stop;
+use ds_cmd::{UsageFault, parse};
+use ds_outside::{Files, Gate, Sink, write_all};
+
+/// Does all that the program does, and answers its status.
+///
+/// `words` begins with the program's name. The text of the job goes to `out`; where there is a
+/// fault, a line that names it goes to `err`.
+///
+/// | Status | Says |
+/// |---|---|
+/// | 0 | done, `out` has the text of the job |
+/// | 1 | a file has a fault |
+/// | 2 | the words are no command line |
+/// | 3 | a file could not be read |
+/// | 4 | memory was wanted and not found |
+/// | 5 | `out` could not be written |
+#[tactic(none)]
+pub fn desync_main<R: AllocGlobal, F: Files, O: Sink, E: Sink, G: Gate>(
+    rt: &R,
+    words: &[&str],
+    files: &mut F,
+    out: &mut O,
+    err: &mut E,
+    _gate: &G,
+) -> u8
+    // Each status has its cause, and each cause its status.
+    ensures answered { IsAnswered (record {
+      words = map (λ w. w.now) words.now;
+      held = F.held files.old;
+      before = F.faults files.old;
+      now = F.faults files.new;
+      out = record {
+        old = O.written out.old;
+        new = O.written out.new;
+        before = O.faults out.old;
+        now = O.faults out.new;
+      };
+      err = record {
+        old = E.written err.old;
+        new = E.written err.new;
+        before = E.faults err.old;
+        now = E.faults err.new;
+      };
+    }) result }
+
+    // Where the words are no command line, nothing is read.
+    ensures nothing_read { result ≡ 2 → files.new ≡ files.old }
+{
+    let alloc = rt.alloc();
+    match parse(alloc, words) {
+        Ok(job) => match do_job(alloc, &job, files, out) {
+            Ok(()) => 0,
+            Err(stop) => say_stop(&stop, err),
+        },
+        Err(fault) => say_usage(fault, err),
+    }
+}
+
+// Says that the words are no command line, and answers the status.
+fn say_usage<E: Sink>(fault: UsageFault, err: &mut E) -> u8
+    ensures { SaysUsage fault (record {
+      old = E.written err.old;
+      new = E.written err.new;
+      before = E.faults err.old;
+      now = E.faults err.new;
+    }) result }
+{
+    match fault {
+        UsageFault::Line | UsageFault::Number | UsageFault::Mode => {
+            say(b"desync: bad command line\n", err);
+            2
+        }
+        UsageFault::Memory => {
+            say(b"desync: out of memory\n", err);
+            4
+        }
+    }
+}
+
+// Says why a job ended, and answers the status.
+fn say_stop<E: Sink>(stop: &Stop, err: &mut E) -> u8
+    ensures { SaysStop stop.now (record {
+      old = E.written err.old;
+      new = E.written err.new;
+      before = E.faults err.old;
+      now = E.faults err.new;
+    }) result }
+{
+    match stop {
+        Stop::Refused(line) => {
+            say(line.as_slice(), err);
+            1
+        }
+        Stop::Unread(line) => {
+            say(line.as_slice(), err);
+            3
+        }
+        Stop::Memory => {
+            say(b"desync: out of memory\n", err);
+            4
+        }
+        Stop::Unwritten => {
+            say(b"desync: cannot write\n", err);
+            5
+        }
+    }
+}
+
+// Writes a line, or as much of it as can be written.
+fn say<E: Sink>(line: &[u8], err: &mut E)
+    ensures { Reports (record {
+      old = E.written err.old;
+      new = E.written err.new;
+      before = E.faults err.old;
+      now = E.faults err.new;
+    }) line.now }
+{
+    match write_all(err, line) {
+        Ok(()) | Err(_) => {}
+    }
+}

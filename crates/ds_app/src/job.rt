@@ -1,0 +1,119 @@
+//! A job, from its files to its text.
+ghost use Rattle.std.specs.Prelude.{◌≡◌, ◌≤◌, ◌<◌, ℕ, List, length};
+ghost use Rattle.ds_cmd.specs.declared.job.Job.TheVariants.{Check, Clock, Run};
+ghost use Rattle.ds_app.specs.Ends.{Answers, Ends, Never, Output, RoseIn};
+ghost use Rattle.ds_app.specs.Job.{stages_of};
+ghost use Rattle.ds_app.specs.Stages.{clusters_stage};
+
+use crate::clock::write_clocked;
+use crate::fault_line::too_many;
+use crate::nodes::write_run;
+use crate::report::write_report;
+use crate::source::{read_netlist, read_rows, refused};
+use crate::stop::Stop;
+use ds_base::Limit;
+use ds_cmd::Job;
+use ds_design::Netlist;
+use ds_outside::{Files, Sink};
+use std::alloc::Global;
+
+/// Does a job: reads its files and writes its text.
+#[tactic(none)]
+pub fn do_job<F: Files, O: Sink>(
+    alloc: Global,
+    job: &Job,
+    files: &mut F,
+    out: &mut O,
+) -> Result<(), Stop>
+    ensures { Ends (stages_of (F.held files.old) job.now)
+        (RoseIn (F.faults files.old) (F.faults files.new)) (record {
+          old = O.written out.old;
+          new = O.written out.new;
+          before = O.faults out.old;
+          now = O.faults out.new;
+        }) result }
+{
+    match job {
+        Job::Run { net, vec } => run(alloc, net.as_str(), vec.as_str(), files, out),
+        Job::Clock { net, vec } => clock(alloc, net.as_str(), vec.as_str(), files, out),
+        Job::Check { net } => check(alloc, net.as_str(), files, out),
+    }
+}
+
+// `run`: the latches of the netlist are fired.
+#[tactic(none)]
+fn run<F: Files, O: Sink>(
+    alloc: Global,
+    net: &str,
+    vec: &str,
+    files: &mut F,
+    out: &mut O,
+) -> Result<(), Stop>
+    ensures { Ends (stages_of (F.held files.old) (Run net.now vec.now))
+        (RoseIn (F.faults files.old) (F.faults files.new)) (record {
+          old = O.written out.old;
+          new = O.written out.new;
+          before = O.faults out.old;
+          now = O.faults out.new;
+        }) result }
+{
+    let netlist = read_netlist(alloc, files, net)?;
+    check_clusters(alloc, net, &netlist)?;
+    let vectors = read_rows(alloc, files, vec, &netlist)?;
+    write_run(alloc, &netlist, &vectors, out)
+}
+
+// `clock`: the netlist is clocked.
+#[tactic(none)]
+fn clock<F: Files, O: Sink>(
+    alloc: Global,
+    net: &str,
+    vec: &str,
+    files: &mut F,
+    out: &mut O,
+) -> Result<(), Stop>
+    ensures { Ends (stages_of (F.held files.old) (Clock net.now vec.now))
+        (RoseIn (F.faults files.old) (F.faults files.new)) (record {
+          old = O.written out.old;
+          new = O.written out.new;
+          before = O.faults out.old;
+          now = O.faults out.new;
+        }) result }
+{
+    let netlist = read_netlist(alloc, files, net)?;
+    let vectors = read_rows(alloc, files, vec, &netlist)?;
+    write_clocked(alloc, &netlist, &vectors, out)
+}
+
+// `check`: the netlist is reported on.
+#[tactic(none)]
+fn check<F: Files, O: Sink>(
+    alloc: Global,
+    net: &str,
+    files: &mut F,
+    out: &mut O,
+) -> Result<(), Stop>
+    ensures { Ends (stages_of (F.held files.old) (Check net.now))
+        (RoseIn (F.faults files.old) (F.faults files.new)) (record {
+          old = O.written out.old;
+          new = O.written out.new;
+          before = O.faults out.old;
+          now = O.faults out.new;
+        }) result }
+{
+    let netlist = read_netlist(alloc, files, net)?;
+    write_report(&netlist, out)
+}
+
+// Whether a netlist has few enough registers for clusters of one register each.
+fn check_clusters(alloc: Global, name: &str, netlist: &Netlist) -> Result<(), Stop>
+    ensures { Answers (clusters_stage name.now netlist.now) Never result }
+{
+    if netlist.registers() <= Limit::Clusters.most() {
+        return Ok(());
+    }
+    match too_many(alloc, Limit::Clusters) {
+        Ok(text) => Err(refused(alloc, name, &text)),
+        Err(_) => Err(Stop::Memory),
+    }
+}
