@@ -1,0 +1,96 @@
+#!/usr/bin/env python3
+"""Makes a netlist of a given size and vectors for it.
+
+`random` has registers each of which takes a random table of three inputs; the inputs are drawn
+among two columns and all registers. `pipeline` has stages of registers of a given width, with
+levels of exclusive ors and ands between one stage and the next. It writes PREFIX.blif and
+PREFIX.vec. The same words and seed make the same files.
+"""
+
+import argparse
+import random
+
+PIPELINE = ("width", "stages", "levels")
+ROWS = ["000", "100", "010", "110", "001", "101", "011", "111"]
+
+
+def random_netlist(draw, registers):
+    """Each register takes a random table of three nets."""
+    sources = ["x0", "x1"] + ["r%d" % j for j in range(registers)]
+    yield ".model random"
+    yield ".inputs clk x0 x1"
+    yield ".outputs d0 r%d" % (registers - 1)
+    for j in range(registers):
+        yield ".names %s d%d" % (" ".join(draw.choice(sources) for _ in range(3)), j)
+        table = draw.getrandbits(8)
+        for place, row in enumerate(ROWS):
+            if table >> place & 1:
+                yield row + " 1"
+        yield ".latch d%d r%d re clk %d" % (j, j, draw.getrandbits(1))
+    yield ".end"
+
+
+def gate(draw, level, a, b, output):
+    """An exclusive or at odd levels; at even ones an and with one input inverted, or an or."""
+    yield ".names %s %s %s" % (a, b, output)
+    rows = ["10", "01"] if level % 2 else draw.choice((["10"], ["01"], ["1-", "-1"]))
+    for row in rows:
+        yield row + " 1"
+
+
+def pipeline(draw, width, stages, levels):
+    """Stages of registers with levels of tables between them."""
+    yield ".model pipeline"
+    yield ".inputs clk " + " ".join("x%d" % i for i in range(width))
+    yield ".outputs " + " ".join("s%d_%d" % (stages, i) for i in range(width))
+    before = ["x%d" % i for i in range(width)]
+    for stage in range(1, stages + 1):
+        for level in range(1, levels + 1):
+            after = ["t%d_%d_%d" % (stage, level, i) for i in range(width)]
+            for i in range(width):
+                yield from gate(draw, level, before[i], before[(i + level) % width], after[i])
+            before = after
+        after = ["s%d_%d" % (stage, i) for i in range(width)]
+        for i in range(width):
+            yield ".latch %s %s re clk %d" % (before[i], after[i], draw.getrandbits(1))
+        before = after
+    yield ".end"
+
+
+def vectors(draw, width, turns):
+    """Random bits."""
+    for _ in range(turns):
+        yield format(draw.getrandbits(width), "0%db" % width)
+
+
+def make(prefix, seed, turns, kind, sizes):
+    """Writes both files."""
+    draw = random.Random(seed)
+    if kind == "random":
+        lines, width = random_netlist(draw, *sizes), 2
+    else:
+        lines, width = pipeline(draw, *sizes), sizes[0]
+    for name, text in ((".blif", list(lines)), (".vec", list(vectors(draw, width, turns)))):
+        with open(prefix + name, "w") as file:
+            file.writelines(line + "\n" for line in text)
+
+
+def main():
+    parser = argparse.ArgumentParser(prog="make_netlist.py", description=__doc__)
+    parser.add_argument("prefix", help="the files are PREFIX.blif and PREFIX.vec")
+    parser.add_argument("--seed", type=int, default=1)
+    parser.add_argument("--turns", type=int, default=1000, help="how many vectors")
+    kinds = parser.add_subparsers(dest="kind", required=True)
+    one = kinds.add_parser("random")
+    one.add_argument("registers", type=int)
+    two = kinds.add_parser("pipeline")
+    for name in PIPELINE:
+        two.add_argument(name, type=int)
+    asked = parser.parse_args()
+    names = ("registers",) if asked.kind == "random" else PIPELINE
+    sizes = [getattr(asked, name) for name in names]
+    make(asked.prefix, asked.seed, asked.turns, asked.kind, sizes)
+
+
+if __name__ == "__main__":
+    main()
