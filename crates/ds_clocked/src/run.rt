@@ -8,10 +8,11 @@ ghost use Rattle.ds_clocked.specs.Appends.{AppendsTrace, AppendsTracePart, Appen
 
 use ds_base::{NetId, OutOfMemory, Row3};
 use ds_design::{Netlist, Register, Vectors};
-use ds_outside::{Sink, WriteFault};
+use ds_outside::{Behind, Buffered, Lent, Sink, WriteFault};
 use ds_rows::{end_line, trace_line};
 use ds_settle::{pick_data, pick_values, set_initial, settle};
 use std::alloc::Global;
+use std::marker::Brand;
 
 /// Why a trace is not written whole: a write failed, or memory was wanted and not found.
 #[derive(Clone, Copy, Debug, PartialEq, Eq)]
@@ -47,7 +48,8 @@ pub fn simulate<O: Sink>(
         return Err(SimFault::Memory);
     };
     set_initial(netlist.design().registers(), &mut rows.state);
-    match write_trace(netlist, vectors, &mut rows, out) {
+    let (_, result) = trace_behind::<O, Brand>(netlist, vectors, &mut rows, Lent { sink: out });
+    match result {
         Ok(()) => Ok(()),
         Err(_) => Err(SimFault::Write),
     }
@@ -84,7 +86,9 @@ pub fn simulate_from<O: Sink>(
         return Err(SimFault::Memory);
     };
     rows.state.copy_from(start);
-    match write_turns(netlist, first, vectors, &mut rows, out) {
+    let lent = Lent { sink: out };
+    let (_, result) = lines_behind::<O, Brand>(netlist, first, vectors, &mut rows, lent);
+    match result {
         Ok(()) => Ok(rows.state),
         Err(_) => Err(SimFault::Write),
     }
@@ -109,6 +113,56 @@ fn rows_for(alloc: Global, netlist: &Netlist) -> Result<Rows, OutOfMemory>
         nets: Row3::with_len(alloc, design.nets().len())?,
         outputs: Row3::with_len(alloc, design.outputs().len())?,
     })
+}
+
+// Writes the whole trace by way of a buffer.
+fn trace_behind<'a, O: Sink, B: Behind>(
+    netlist: &Netlist,
+    vectors: &Vectors,
+    rows: &mut Rows,
+    behind: Lent<'a, O>,
+) -> (Lent<'a, O>, Result<(), WriteFault>)
+    requires width { vectors.now.width ≡ length (columns netlist.now) }
+    requires state { rows.old.state ≡ initial_row netlist.now }
+    requires nets { length rows.old.nets ≡ length netlist.now.nets }
+    requires outputs { length rows.old.outputs ≡ length netlist.now.outputs }
+    requires few { length vectors.now.rows < 2 ^ 64 }
+    requires same { behind.sink.ghost_name ≡ B.name }
+    requires before { O.written behind.sink.now ≡ B.before }
+
+    ensures ok { WritesTrace result.1 netlist.now vectors.now.rows B.before
+        (O.written result.0.sink.now) (O.faults behind.entry.sink.now) (O.faults result.0.sink.now) }
+    ensures same { result.0.sink.ghost_name ≡ B.name }
+{
+    let mut buffered: Buffered<'a, O, B> = Buffered::new(behind);
+    let so_far = write_trace(netlist, vectors, rows, &mut buffered);
+    buffered.finish(so_far)
+}
+
+// Writes the lines of these turns by way of a buffer, and leaves the row after them in `rows`.
+fn lines_behind<'a, O: Sink, B: Behind>(
+    netlist: &Netlist,
+    first: u64,
+    vectors: &Vectors,
+    rows: &mut Rows,
+    behind: Lent<'a, O>,
+) -> (Lent<'a, O>, Result<(), WriteFault>)
+    requires width { vectors.now.width ≡ length (columns netlist.now) }
+    requires state { length rows.old.state ≡ length netlist.now.registers }
+    requires nets { length rows.old.nets ≡ length netlist.now.nets }
+    requires outputs { length rows.old.outputs ≡ length netlist.now.outputs }
+    requires few { first + length vectors.now.rows < 2 ^ 64 }
+    requires same { behind.sink.ghost_name ≡ B.name }
+    requires before { O.written behind.sink.now ≡ B.before }
+
+    ensures ok { WritesLines result.1 netlist.now first rows.old.state vectors.now.rows
+        rows.new.state B.before (O.written result.0.sink.now)
+        (O.faults behind.entry.sink.now) (O.faults result.0.sink.now) }
+    ensures same { result.0.sink.ghost_name ≡ B.name }
+{
+    let mut buffered: Buffered<'a, O, B> = Buffered::new(behind);
+    let so_far = write_turns(netlist, first, vectors, rows, &mut buffered);
+    buffered.finish(so_far)
 }
 
 // Writes the whole trace, from the row in `rows` on.

@@ -5,11 +5,27 @@
 //! on a row of nets, some of which may be unknown: 1 where some row matches, 0 where none can, and
 //! unknown where that depends on an unknown net; the inverse of it for rows that list the zeros.
 //!
+//! `Packed` is the same function of the nets, its rows as words of bits: `Packed::value` reads up to
+//! 64 inputs at once, and a table of up to six inputs that are all known has its value in one word.
+//! A `Bank` keeps many of them by their numbers, with the nets that they drive; `set` and `set_all`
+//! give these nets their values.
+//!
 //! `laws` has what follows from that meaning alone. That the characters of a row are `0`, `1` or `-`
 //! is not asked: another one matches no known value.
 #![tactic(auto)]
 
+mod bank;
+mod entry;
+mod entry_value;
 pub mod laws;
+mod mask;
+mod packed;
 mod table;
+#[cfg(test)]
+mod tests;
+mod truth;
+mod word;
 
+pub use bank::Bank;
+pub use packed::Packed;
 pub use table::Table;

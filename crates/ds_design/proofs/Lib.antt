@@ -12,3 +12,4 @@ pub mod Windows
 pub mod Remade
 pub mod Rising
 pub mod Transparent
+pub mod Banked

@@ -4,6 +4,7 @@ pub mod Circuit
 pub mod InRange
 pub mod Accepted
 pub mod Levels
+pub mod Banked
 pub mod Valuation
 pub mod Reach
 pub mod Rows

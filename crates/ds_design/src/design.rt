@@ -86,8 +86,24 @@ impl Design {
         tables: Seq<Gate>,
         registers: Seq<Register>,
     ) -> Self
-        requires { IsInRange (record { name = name; nets = nets; inputs = inputs; outputs = outputs; clocks = clocks; tables = tables; registers = registers }) }
-        ensures { result ≡ record { name = name; nets = nets; inputs = inputs; outputs = outputs; clocks = clocks; tables = tables; registers = registers } }
+        requires { IsInRange (record {
+          name = name;
+          nets = nets;
+          inputs = inputs;
+          outputs = outputs;
+          clocks = clocks;
+          tables = tables;
+          registers = registers;
+        }) }
+        ensures { result ≡ record {
+          name = name;
+          nets = nets;
+          inputs = inputs;
+          outputs = outputs;
+          clocks = clocks;
+          tables = tables;
+          registers = registers;
+        } }
     {
         Design {
             name,
@@ -98,6 +114,13 @@ impl Design {
             tables,
             registers,
         }
+    }
+
+    /// The name of the main model.
+    pub fn name(&self) -> &[u8]
+        ensures { result.now ≡ self.now.name }
+    {
+        self.name.as_slice()
     }
 
     /// The nets, by their numbers.

@@ -4,14 +4,17 @@ ghost use Rattle.std.specs.List.{list_any};
 ghost use Rattle.ds_base.specs.Greatest.{greatest};
 ghost use Rattle.ds_design.specs.Circuit.{columns, control_nets};
 ghost use Rattle.ds_design.specs.Accepted.{IsAccepted};
+ghost use Rattle.ds_design.specs.Banked.{IsBankOf};
 ghost use Rattle.ds_design.specs.InRange.{IsInRange};
 ghost use Rattle.ds_design.specs.Levels.{AreLevels, IsDepth, IsTableOrder, net_count};
 
 use crate::{Design, Register};
 use ds_base::{NetId, Seq};
+use ds_cover::Bank;
 use std::marker::Model;
 
-/// A design that is accepted, with its columns, the level of each net, and its tables by level.
+/// A design that is accepted, with its columns, the level of each net, its tables by level, and its
+/// tables packed.
 /// Contracts see the design.
 #[derive(Drop)]
 pub struct Netlist {
@@ -19,12 +22,14 @@ pub struct Netlist {
     column_nets: Seq<NetId>,
     net_levels: Seq<u64>,
     order: Seq<u32>,
+    bank: Bank,
 }
 
 impl Model for Netlist {
     ghost use Rattle.std.specs.Prelude.{◌≡◌};
     ghost use Rattle.ds_design.specs.Circuit.{Circuit, columns};
     ghost use Rattle.ds_design.specs.Accepted.{IsAccepted};
+    ghost use Rattle.ds_design.specs.Banked.{IsBankOf};
     ghost use Rattle.ds_design.specs.InRange.{IsInRange};
     ghost use Rattle.ds_design.specs.Levels.{AreLevels, IsTableOrder};
 
@@ -34,7 +39,7 @@ impl Model for Netlist {
 
     ghost invariant = { λ n. IsInRange n.design × IsAccepted n.design
         × (n.column_nets ≡ columns n.design) × AreLevels n.design n.net_levels
-        × IsTableOrder n.design n.order };
+        × IsTableOrder n.design n.order × IsBankOf n.design.tables n.bank };
 }
 
 impl Netlist {
@@ -44,12 +49,14 @@ impl Netlist {
         column_nets: Seq<NetId>,
         net_levels: Seq<u64>,
         order: Seq<u32>,
+        bank: Bank,
     ) -> Self
         requires in_range { IsInRange design }
         requires accepted { IsAccepted design }
         requires columns { column_nets ≡ columns design }
         requires levels { AreLevels design net_levels }
         requires order { IsTableOrder design order }
+        requires bank { IsBankOf design.tables bank }
         ensures value { result ≡ design }
     {
         Netlist {
@@ -57,6 +64,7 @@ impl Netlist {
             column_nets,
             net_levels,
             order,
+            bank,
         }
     }
 
@@ -82,6 +90,13 @@ impl Netlist {
         ensures { IsTableOrder self.now result.now }
     {
         self.order.as_slice()
+    }
+
+    /// The tables packed, by their places in the file.
+    pub fn bank(&self) -> &Bank
+        ensures { IsBankOf self.now.tables result.now }
+    {
+        &self.bank
     }
 
     /// The level of each net: 0 where no table drives it, else one more than the greatest level

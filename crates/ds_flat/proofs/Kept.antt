@@ -88,24 +88,22 @@ module _ (models : List BlifModel) (top : Open) (below : Stacked) (copies : ℕ)
       All-head P command commands (subst (λ (cs : List Command). All P cs) first kept.parts.0)
 
   -- a copy is left
-  pub kept_below : (next : Open) (rest : Stacked) → below ≡ put_on next rest
-      → IsKept models (rest_of next rest copies design)
-  kept_below next rest is =
-      subst (λ (s : Stacked). IsKept models (record {
-        frames = s.frames;
-        places = s.places;
-        models = s.models;
-        flat = record { copies = copies; design = design };
-      })) is (record {
-        depth = (let e = kept.depth in omega arith);
-        copies = kept.copies;
-        count = (let e = kept.count in omega arith);
-        same = kept.same;
-        known = cons_tail _ _ _ _ kept.known;
-        within = kept.within.1;
-        parts = kept.parts.1;
-        in_range = kept.in_range;
-      })
+  pub kept_below : IsKept models (record {
+    frames = below.frames;
+    places = below.places;
+    models = below.models;
+    flat = record { copies = copies; design = design };
+  })
+  kept_below = record {
+    depth = (let e = kept.depth in omega arith);
+    copies = kept.copies;
+    count = (let e = kept.count in omega arith);
+    same = kept.same;
+    known = cons_tail _ _ _ _ kept.known;
+    within = kept.within.1;
+    parts = kept.parts.1;
+    in_range = kept.in_range;
+  }
 
   -- a copy is put on top
   pub kept_use : (line : ℕ) (call : UseText) (model : BlifModel) (place : ℕ)

@@ -11,5 +11,7 @@ pub mod Ranges
 pub mod Steps
 pub mod Kept
 pub mod Taken
+pub mod Turns
 pub mod First
 pub mod Opens
+pub mod Left

@@ -61,6 +61,10 @@ abbrev pub AreParts : List Frame → Type 0
 AreParts [] = Unit {0}
 AreParts (frame ∷ frames) = All (λ command. IsPart command.part) frame.commands × AreParts frames
 
+-- the commands of models are well formed
+abbrev pub HaveParts : List BlifModel → Type 0
+HaveParts models = All (λ model. All (λ command. IsPart command.part) model.commands) models
+
 -- what holds of a rest: each frame but the outermost is a copy, copies are few, places are those of
 -- the frames' models, and commands and numbers are sound
 pub record IsKept (models : List BlifModel) (rest : Rest) : Type 0 where

@@ -1,12 +1,12 @@
 //! A turn of the copies that are being taken.
-ghost use Rattle.std.specs.Prelude.{All, MatchResult};
-ghost use Rattle.ds_design.specs.Source.{IsPart};
-ghost use Rattle.ds_flat.specs.Run.{run, IsKept, IsFault};
-ghost use Rattle.ds_flat.specs.Turn.{GivesTurn};
+ghost use Rattle.std.specs.Prelude.{MatchResult};
+ghost use Rattle.ds_flat.specs.Run.{run, HaveParts, IsKept, IsFault};
+ghost use Rattle.ds_flat.specs.Turn.{GivesTurn, Leaves};
 
+use crate::draft::Draft;
 use crate::fault::FlatRefusal;
-use crate::frame::Open;
 use crate::library::Library;
+use crate::stack::Stack;
 use crate::step::{State, Turn, take};
 use std::alloc::Global;
 
@@ -17,7 +17,7 @@ pub fn advance<'m>(
     state: State<'m>,
 ) -> Result<Turn<'m>, FlatRefusal>
     requires kept { IsKept library.now state }
-    requires parts { All (λ model. All (λ command. IsPart command.part) model.commands) library.now }
+    requires parts { HaveParts library.now }
     ensures { MatchResult result (λ turn. GivesTurn library.now turn state.entry)
         (λ e. IsFault e (run library.now state.entry)) }
 {
@@ -27,43 +27,34 @@ pub fn advance<'m>(
         copies,
         draft,
     } = state;
-    let Open {
-        model,
-        name,
-        scope,
-        commands,
-    } = top;
-    match commands.split_first() {
+    match top.commands.split_first() {
         Some((command, rest)) => {
-            let top = Open {
-                model,
-                name,
-                scope,
-                commands: rest,
+            let behind = State {
+                top: top.with(rest),
+                below,
+                copies,
+                draft,
             };
-            match take(
-                alloc,
-                library,
-                State {
-                    top,
-                    below,
-                    copies,
-                    draft,
-                },
-                command,
-            ) {
+            match take(alloc, library, behind, command) {
                 Ok(next) => Ok(Turn::Next(next)),
                 Err(refusal) => Err(refusal),
             }
         }
-        None => match below.popped() {
-            Some((top, below)) => Ok(Turn::Next(State {
-                top,
-                below,
-                copies,
-                draft,
-            })),
-            None => Ok(Turn::Done(draft)),
-        },
+        None => Ok(left(below, copies, draft)),
+    }
+}
+
+// A copy without commands is left.
+fn left<'m>(below: Stack<'m>, copies: u32, draft: Draft<'m>) -> Turn<'m>
+    ensures { Leaves result below.entry copies draft.entry }
+{
+    match below.popped() {
+        Some((top, below)) => Turn::Next(State {
+            top,
+            below,
+            copies,
+            draft,
+        }),
+        None => Turn::Done(draft),
     }
 }

@@ -227,8 +227,12 @@ fn latch_numbers<'m>(
     scope: &Scope<'m>,
     text: &'m LatchText,
 ) -> Result<(NetId, NetId, Option<NetId>), Stop>
-    ensures ok { IfOk result (λ n. record { data_net = n.0; output = n.1; control = n.2; nets = nets.new }
-        ≡ latch_names scope.now nets.old text.now) }
+    ensures ok { IfOk result (λ n. record {
+      data_net = n.0;
+      output = n.1;
+      control = n.2;
+      nets = nets.new;
+    } ≡ latch_names scope.now nets.old text.now) }
     ensures fault { IfErr result (λ e. IsStop e (latch_names scope.now nets.old text.now).nets) }
 {
     let data_net = match number(nets, scope, &text.data_net) {

@@ -1,9 +1,9 @@
 //! The flat design of a text's models.
-ghost use Rattle.std.specs.Prelude.{◌≡◌, ◌≢◌, ◌<◌, All, AllPairs, Ok, slice_get, Some, length, IfOk, MatchResult, slice_index_or, []};
-ghost use Rattle.ds_design.specs.Source.{IsPart, IsBlif};
+ghost use Rattle.std.specs.Prelude.{◌≡◌, Ok, length, IfOk, MatchResult, slice_index_or, []};
+ghost use Rattle.ds_design.specs.Source.{IsBlif};
 ghost use Rattle.ds_design.specs.InRange.{IsInRange};
 ghost use Rattle.ds_flat.specs.Copies.{flat_of};
-ghost use Rattle.ds_flat.specs.Run.{IsFault, IsKept, run};
+ghost use Rattle.ds_flat.specs.Run.{IsFault, IsKept, HaveParts, run};
 ghost use Rattle.ds_flat.specs.Turn.{ComesTo};
 ghost use Rattle.ds_flat.specs.Text.{Flattens};
 
@@ -88,19 +88,18 @@ fn all_taken<'m>(
     state: State<'m>,
 ) -> Result<Draft<'m>, FlatRefusal>
     requires kept { IsKept library.now state }
-    requires parts { All (λ model. All (λ command. IsPart command.part) model.commands) library.now }
+    requires parts { HaveParts library.now }
     ensures { MatchResult result (λ d. ComesTo library.now d state.entry)
         (λ e. IsFault e (run library.now state.entry)) }
 {
     let mut state = state;
-    for _ in 0..u64::MAX {
+    'turns: loop {
         match advance(alloc, library, state) {
             Ok(Turn::Next(next)) => state = next,
             Ok(Turn::Done(draft)) => return Ok(draft),
             Err(refusal) => return Err(refusal),
         }
     }
-    Err(FlatRefusal::Memory)
 }
 
 // The design of what was taken.

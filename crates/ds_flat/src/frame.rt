@@ -1,4 +1,6 @@
 //! A copy that is being taken.
+ghost use Rattle.std.specs.Prelude.{◌≡◌};
+
 use crate::scope::Scope;
 use ds_design::Command;
 
@@ -10,4 +12,24 @@ pub struct Open<'m> {
     pub name: &'m [u8],
     pub scope: Scope<'m>,
     pub commands: &'m [Command],
+}
+
+impl<'m> Open<'m> {
+    /// The same copy with these commands left.
+    pub fn with(self, commands: &'m [Command]) -> Self
+        ensures { result ≡ record self.entry { commands = commands.entry } }
+    {
+        let Open {
+            model,
+            name,
+            scope,
+            ..
+        } = self;
+        Open {
+            model,
+            name,
+            scope,
+            commands,
+        }
+    }
 }

@@ -2,9 +2,9 @@
 //!
 //! `flatten` gives the flat design of a text's models, or their first fault. The main model, the
 //! first, is copy 0. Its commands are taken in order, and a use of a model takes that model's
-//! commands in its place, as the next copy. A net is a copy with a name in it, or, where the name is
-//! a connected formal of the copy, the net of the caller that it is connected to. Nets are numbered
-//! as they first appear.
+//! commands in its place, as the next copy. A net is a copy with a name in it, or, where the name
+//! is a connected formal of the copy, the net of the caller that it is connected to. Nets are
+//! numbered as they first appear.
 //!
 //! A caller sees which design or fault it is by `flat_of` of specs/Copies, which gives one answer
 //! for each list of models. Not promised is when memory is wanted.

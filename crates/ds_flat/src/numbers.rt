@@ -28,7 +28,8 @@ pub fn numbers<'m>(
     ensures ok { IfOk result (λ n. record { numbers = n.items; nets = nets.new }
         ≡ numbered_names scope.now nets.old names.now) }
     ensures len { IfOk result (λ n. length n.items ≡ length names.now) }
-    ensures fault { IfErr result (λ e. IsStop e (numbered_names scope.now nets.old names.now).nets) }
+    ensures fault { IfErr result
+        (λ e. IsStop e (numbered_names scope.now nets.old names.now).nets) }
 {
     let mut numbers = Vec::with_capacity(alloc, names.len())?;
     for name in names {

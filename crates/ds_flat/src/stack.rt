@@ -29,7 +29,8 @@ impl<'m> Model for Stack<'m> {
       models = length s.counts.items;
     } };
 
-    ghost invariant = { λ s. AreCounts s.counts.items (map (λ f. f.model) (reverse s.frames.items)) };
+    ghost invariant = { λ s. AreCounts s.counts.items
+        (map (λ f. f.model) (reverse s.frames.items)) };
 }
 
 impl<'m> Stack<'m> {

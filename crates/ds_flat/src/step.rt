@@ -1,9 +1,10 @@
 //! The commands of the copies, one after the other.
-ghost use Rattle.std.specs.Prelude.{◌≡◌, ◌≤◌, ℕ, All, Ok, IfOk, MatchResult, option_map};
+ghost use Rattle.std.specs.Prelude.{◌≡◌, ◌≤◌, ℕ, Ok, IfOk, MatchResult, option_map};
 ghost use Rattle.ds_design.specs.Source.{IsPart, IsUseText};
 ghost use Rattle.ds_flat.specs.Command.{with_part};
 ghost use Rattle.ds_flat.specs.Copies.{flat_within, use_in as use_of_part};
-ghost use Rattle.ds_flat.specs.Run.{run, after_take, IsKept, IsFault};
+ghost use Rattle.ds_flat.specs.Run.{run, after_take, HaveParts, IsKept, IsFault};
+ghost use Rattle.ds_flat.specs.Turn.{most_turns};
 ghost use Rattle.ds_flat.specs.Use.{after_use};
 
 use crate::draft::Draft;
@@ -92,9 +93,11 @@ fn take_use<'m>(
     call: &'m UseText,
 ) -> Result<State<'m>, FlatRefusal>
     requires kept { IsKept library.now state }
-    requires parts { All (λ model. All (λ command. IsPart command.part) model.commands) library.now }
+    requires parts { HaveParts library.now }
     requires call { IsUseText call.now }
     ensures kept { IfOk result (λ s. IsKept library.now s) }
+    ensures less { IfOk result
+        (λ s. most_turns library.now s ≤ most_turns library.now state.entry) }
     ensures value { MatchResult result
         (λ s. run library.now s
         ≡ after_use library.now state.entry.frames state.entry.flat line call.entry.now)
@@ -124,7 +127,7 @@ fn take_use<'m>(
     }
 }
 
-// A command of the innermost copy is taken.
+/// A command of the innermost copy is taken: a use puts its copy on top.
 pub fn take<'m>(
     alloc: Global,
     library: &Library<'m>,
@@ -132,9 +135,11 @@ pub fn take<'m>(
     command: &'m Command,
 ) -> Result<State<'m>, FlatRefusal>
     requires kept { IsKept library.now state }
-    requires parts { All (λ model. All (λ command. IsPart command.part) model.commands) library.now }
+    requires parts { HaveParts library.now }
     requires part { IsPart command.now.part }
     ensures kept { IfOk result (λ s. IsKept library.now s) }
+    ensures less { IfOk result
+        (λ s. most_turns library.now s ≤ most_turns library.now state.entry) }
     ensures value { MatchResult result
         (λ s. run library.now s
         ≡ after_take library.now state.entry.frames state.entry.flat command.entry.now)

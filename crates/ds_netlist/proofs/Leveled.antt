@@ -18,6 +18,8 @@ use Rattle.ds_design.specs.declared.design.Gate.{Gate}
 use Rattle.ds_design.proofs.Controlled.{among_yes, among_no}
 use Rattle.ds_netlist.specs.Edges.{AreNetRanks, floor_in}
 use Rattle.ds_netlist.specs.Fault.{fault_of, is_in, several_clocks, mixed_edges, driven_clock, clock_as_data, multiply_driven, undriven}
+use Rattle.ds_cover.specs.Bank.{Driven}
+use Rattle.ds_design.specs.Banked.{IsBankOf}
 use Rattle.ds_netlist.specs.Verdict.{AreParts}
 use Rattle.ds_netlist.specs.Placed.{IsSortedOrder, level_in}
 use Rattle.ds_netlist.specs.declared.fault.NetFault.TheVariants.{DrivenClock, ClockAsData}
@@ -166,8 +168,9 @@ accepts c in_range none levels h =
 
 -- the parts of the netlist
 pub are_parts : (c : Circuit) → IsInRange c → fault_of c ≡ None → (cols levels order : List ℕ) → cols ≡ columns c → AreNetRanks c levels
-    → (tables : List Gate) (lent : List ℕ) → tables ≡ c.tables → lent ≡ levels → IsSortedOrder tables lent order → AreParts c cols levels order
-are_parts c in_range none cols levels order e h tables lent a b sorted =
+    → (tables : List Gate) (lent : List ℕ) → tables ≡ c.tables → lent ≡ levels → IsSortedOrder tables lent order
+    → (gates : List Gate) (bank : List Driven) → gates ≡ c.tables → IsBankOf gates bank → AreParts c cols levels order bank
+are_parts c in_range none cols levels order e h tables lent a b sorted gates bank here banked =
     let accepted = accepts c in_range none levels h in
     let own = subst (λ (ts : List Gate). IsSortedOrder ts levels order) a (subst (λ (ls : List ℕ). IsSortedOrder tables ls order) b sorted) in
     record {
@@ -176,4 +179,5 @@ are_parts c in_range none cols levels order e h tables lent a b sorted =
       columns_are = e;
       are_levels = are_levels c in_range accepted.one_driver levels h;
       is_order = is_table_order c in_range accepted.one_driver levels h order own;
+      is_bank = subst (λ (ts : List Gate). IsBankOf ts bank) here banked;
     }

@@ -6,3 +6,4 @@ pub mod Checked
 pub mod Found
 pub mod Refused
 pub mod Leveled
+pub mod OneLevel

@@ -10,7 +10,9 @@ use crate::faults::later_fault;
 use crate::levels::level_nets;
 use crate::lists::{column_nets, control_names};
 use crate::order::by_level;
+use crate::packed::bank_of;
 use ds_base::{NetId, Seq};
+use ds_cover::Bank;
 use ds_design::{Design, Netlist};
 use std::alloc::Global;
 
@@ -29,6 +31,7 @@ pub fn levelise(alloc: Global, design: Design) -> Result<Netlist, (Design, NetFa
             Seq::of(parts.columns),
             Seq::of(parts.levels),
             Seq::of(parts.order),
+            parts.bank,
         )),
         Err(fault) => Err((design, fault)),
     }
@@ -40,12 +43,13 @@ struct Parts {
     columns: Vec<NetId>,
     levels: Vec<u64>,
     order: Vec<u32>,
+    bank: Bank,
 }
 
 // The parts of the netlist, or the fault.
 fn check(alloc: Global, design: &Design) -> Result<Parts, NetFault>
     ensures checked { MatchResult result
-        (λ p. AreParts design.now p.columns.items p.levels.items p.order.items)
+        (λ p. AreParts design.now p.columns.items p.levels.items p.order.items p.bank)
         (λ fault. IsRefusal design.now fault) }
 {
     let inputs = design.inputs();
@@ -59,9 +63,11 @@ fn check(alloc: Global, design: &Design) -> Result<Parts, NetFault>
     }
     let levels = level_nets(alloc, design)?;
     let order = by_level(alloc, design.tables(), levels.as_slice())?;
+    let bank = bank_of(alloc, design.tables())?;
     Ok(Parts {
         columns,
         levels,
         order,
+        bank,
     })
 }

@@ -1,5 +1,5 @@
 //! Laws of the definitions, each the contract of a function that does nothing.
-ghost use Rattle.ds_netlist.specs.Laws.{FaultsAreRefused, FaultsAreInRange, OneFault};
+ghost use Rattle.ds_netlist.specs.Laws.{FaultsAreRefused, FaultsAreInRange, OneFault, OneLevel, OneDepth};
 
 /// A circuit that has a fault is not accepted.
 pub fn faults_are_refused()
@@ -14,4 +14,14 @@ pub fn one_fault()
 /// The nets and registers of a fault are those of the design.
 pub fn faults_are_in_range()
     ensures { FaultsAreInRange }
+{}
+
+/// The nets of an accepted circuit have one level each.
+pub fn one_level()
+    ensures { OneLevel }
+{}
+
+/// An accepted circuit has one greatest level.
+pub fn one_depth()
+    ensures { OneDepth }
 {}

@@ -1,3 +1,12 @@
-pub mod SetBits
-pub mod Step
+pub mod Agree
+pub mod Banked
 pub mod ByIndex
+pub mod ByLevel
+pub mod Driven
+pub mod Ended
+pub mod Meeting
+pub mod PartSteps
+pub mod SetBits
+pub mod Stamps
+pub mod Step
+pub mod Tables

@@ -1,12 +1,12 @@
-ghost use Rattle.std.specs.Prelude.{◌≡◌, ◌≢◌, ◌<◌, ℕ, [], length, map, All, AllPairs, slice_set};
-ghost use Rattle.ds_cover.specs.Cover.{value_at, values_at, value_of};
+ghost use Rattle.std.specs.Prelude.{◌≡◌, ◌≢◌, ◌<◌, ℕ, [], length, map, All, AllPairs};
+ghost use Rattle.ds_cover.specs.Cover.{value_at, values_at};
 ghost use Rattle.ds_design.specs.Circuit.{columns, register_nets, drivers};
 ghost use Rattle.ds_design.specs.Valuation.{IsValuation};
 ghost use Rattle.ds_settle.specs.Settle.{IsSettledTo, LeavesOthers};
 ghost use Rattle.ds_base.specs.declared.value.Value.TheVariants.{Zero};
 
 use ds_base::{NetId, Row3, Value};
-use ds_design::{Gate, Netlist, Register};
+use ds_design::{Netlist, Register};
 
 /// Lets `nets` be the valuation of this state, one value per register, and this vector, one value
 /// per column. What `nets` held before does not matter.
@@ -17,11 +17,11 @@ pub fn settle(netlist: &Netlist, state: &Row3, vector: &Row3, nets: &mut Row3)
 
     ensures { IsValuation netlist.now state.now vector.now nets.new }
 {
-    let tables = netlist.design().tables();
     set_sources(netlist, state, vector, nets);
-    for k in netlist.order() {
-        set_table(nets, &tables[*k as usize]);
-    }
+    let bank = netlist.bank();
+    let order = netlist.order();
+    let _design = netlist.design();
+    bank.set_all(order, nets);
 }
 
 // Sets the columns and the registers, and all other nets to 0.
@@ -73,14 +73,4 @@ fn set_registers(nets: &mut Row3, registers: &[Register], bits: &Row3)
     for (i, register) in registers.iter().enumerate() {
         nets.set(register.output.index(), bits.value(i));
     }
-}
-
-// Gives a table's output the value of the table.
-fn set_table(nets: &mut Row3, gate: &Gate)
-    requires within { All (λ net. net < length nets.old) gate.now.table.inputs }
-    requires output { gate.now.output < length nets.old }
-    ensures { nets.new ≡ slice_set nets.old gate.now.output (value_of gate.now.table nets.old) }
-{
-    let value = gate.table.value(nets);
-    nets.set(gate.output.index(), value);
 }

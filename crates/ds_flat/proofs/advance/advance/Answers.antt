@@ -1,19 +1,25 @@
-use Rattle.std.proofs.Common.{◌∙◌, ap, sym, subst, refl}
+use Rattle.std.proofs.Common.{◌∙◌, ap, sym, subst, arith}
+use Rattle.ds_flat.specs.declared.frame.Open.{Open}
+use Rattle.ds_flat.specs.declared.step.Turn.{Turn}
+use Rattle.ds_flat.specs.declared.step.Turn.TheVariants.{Next, Done}
 use Rattle.ds_flat.specs.Stack.{Stacked}
 use Rattle.ds_flat.specs.Run.{Rest, IsKept, run_frames}
+use Rattle.ds_flat.specs.Turn.{most_turns, Leaves, GivesTurn}
 use Rattle.ds_flat.proofs.Kept.{first_part, kept_behind, kept_below}
+use Rattle.ds_flat.proofs.Left.{turn_given}
 use Rattle.ds_flat.proofs.Steps.{fault_same}
-use Rattle.ds_flat.proofs.Taken.{turn_taken, turn_left, run-empty}
-use Rattle.ds_flat.proofs.Opens.{none_left, ended}
+use Rattle.ds_flat.proofs.Taken.{turn_taken}
+use Rattle.ds_flat.proofs.Turns.{turns_behind}
+use Rattle.ds_flat.proofs.Opens.{none_left}
 use Rattle.ds_flat.proofs.advance.advance.Goals as goal
 
 pub take-requires-clause-kept : goal.take-requires-clause-kept
 take-requires-clause-kept c =
     let kept = subst (λ (r : Rest). IsKept c.args.library.now r) (sym c.state.view_is) c.requires.kept in
     kept_behind c.args.library.now c.state.inside.top c.state.inside.below c.state.inside.copies
-    c.state.inside.draft kept c.in-Some.command.now c.in-Some.rest.now
-    (record { model = c.state.inside.top.model; name = c.state.inside.top.name; scope = c.state.inside.top.scope; commands = c.in-Some.rest })
-    c.in-Some.ensures.cases.0 refl refl refl
+    c.state.inside.draft kept c.in-Some.command.now c.in-Some.rest.now c.with.result
+    c.in-Some.ensures.cases.0 (ap (λ (o : Open). o.commands.now) c.with.ensures)
+    (ap (λ (o : Open). o.model) c.with.ensures) (ap (λ (o : Open). o.name.now) c.with.ensures)
 
 pub take-requires-clause-parts : goal.take-requires-clause-parts
 take-requires-clause-parts c = c.requires.parts
@@ -27,46 +33,32 @@ take-requires-clause-part c =
 pub returns-in-Ok : goal.returns-in-Ok
 returns-in-Ok c = record {
   same = c.in-Ok.ensures.value
-      ∙ turn_taken c.args.library.now c.state.inside.top
-      (record { model = c.state.inside.top.model; name = c.state.inside.top.name; scope = c.state.inside.top.scope; commands = c.in-Some.rest })
+      ∙ turn_taken c.args.library.now c.state.inside.top c.with.result
       c.state.inside.below c.state.inside.copies c.state.inside.draft c.args.state
-      c.in-Some.command.now c.in-Some.rest.now c.state.view_is c.in-Some.ensures.cases.0 refl refl
-      refl;
+      c.in-Some.command.now c.in-Some.rest.now c.state.view_is c.in-Some.ensures.cases.0
+      (ap (λ (o : Open). o.commands.now) c.with.ensures)
+      (ap (λ (o : Open). o.scope) c.with.ensures) (ap (λ (o : Open). o.name.now) c.with.ensures);
   kept = c.in-Ok.ensures.kept;
+  less = (
+      let taken = c.in-Ok.ensures.less in
+      let behind = turns_behind c.args.library.now c.state.inside.top c.state.inside.below
+      c.state.inside.copies c.state.inside.draft c.in-Some.command.now c.in-Some.rest.now
+      c.with.result c.in-Some.ensures.cases.0 (ap (λ (o : Open). o.commands.now) c.with.ensures) in
+      let view = ap (most_turns c.args.library.now) c.state.view_is in
+      omega arith);
 }
 
 pub returns-in-Some : goal.returns-in-Some
 returns-in-Some c =
     fault_same c.in-Err.refusal _ _ (turn_taken c.args.library.now c.state.inside.top
-    (record { model = c.state.inside.top.model; name = c.state.inside.top.name; scope = c.state.inside.top.scope; commands = c.in-Some.rest })
-    c.state.inside.below c.state.inside.copies c.state.inside.draft c.args.state
-    c.in-Some.command.now c.in-Some.rest.now c.state.view_is c.in-Some.ensures.cases.0 refl refl
-    refl) c.in-Err.ensures.value
-
-pub returns-in-Some-popped : goal.returns-in-Some-popped
-returns-in-Some-popped c =
-    let kept = subst (λ (r : Rest). IsKept c.args.library.now r) (sym c.state.view_is) c.requires.kept in
-    record {
-      same = ap (λ (s : Stacked). run_frames c.args.library.now s.frames (record { copies = c.state.inside.copies; design = c.state.inside.draft }))
-          (sym c.in-Some-popped.ensures.some)
-          ∙ turn_left c.args.library.now c.state.inside.top c.state.inside.below
-          c.state.inside.copies c.state.inside.draft c.args.state c.state.view_is
-          (none_left c.state.inside.top.commands.now c.in-None.ensures.cases);
-      kept = kept_below c.args.library.now c.state.inside.top c.state.inside.below
-          c.state.inside.copies c.state.inside.draft kept c.in-Some-popped.top
-          c.in-Some-popped.below c.in-Some-popped.ensures.some;
-    }
+    c.with.result c.state.inside.below c.state.inside.copies c.state.inside.draft c.args.state
+    c.in-Some.command.now c.in-Some.rest.now c.state.view_is c.in-Some.ensures.cases.0
+    (ap (λ (o : Open). o.commands.now) c.with.ensures)
+    (ap (λ (o : Open). o.scope) c.with.ensures) (ap (λ (o : Open). o.name.now) c.with.ensures))
+    c.in-Err.ensures.value
 
 pub returns : goal.returns
 returns c =
-    let kept = subst (λ (r : Rest). IsKept c.args.library.now r) (sym c.state.view_is) c.requires.kept in
-    record {
-      same = sym (turn_left c.args.library.now c.state.inside.top c.state.inside.below
-          c.state.inside.copies c.state.inside.draft c.args.state c.state.view_is
-          (none_left c.state.inside.top.commands.now c.in-None.ensures.cases))
-          ∙ (run-empty c.args.library.now c.state.inside.below.frames
-          (record { copies = c.state.inside.copies; design = c.state.inside.draft })
-          c.in-None-popped.ensures.none
-          ∙ ap (λ (r : Rest). ended r c.state.inside.draft) c.state.view_is);
-      in_range = kept.in_range;
-    }
+    turn_given c.args.library.now c.state.inside.top c.state.inside.below c.state.inside.copies
+    c.state.inside.draft c.args.state c.state.view_is c.requires.kept
+    (none_left c.state.inside.top.commands.now c.in-None.ensures.cases) c.left.result c.left.ensures

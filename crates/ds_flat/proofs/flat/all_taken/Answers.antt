@@ -7,35 +7,42 @@ use Rattle.ds_flat.specs.Copies.{Flat, ◌>>=◌}
 use Rattle.ds_flat.proofs.Steps.{fault_same}
 use Rattle.ds_flat.proofs.flat.all_taken.Goals as goal
 
-pub loop-init : goal.loop-init
-loop-init c = record { kept = c.requires.kept; so_far = refl }
+pub turns-init : goal.turns-init
+turns-init c = record { kept = c.requires.kept; so_far = refl }
 
 pub advance-requires-clause-kept : goal.advance-requires-clause-kept
-advance-requires-clause-kept c = c.loop.invariant.kept
+advance-requires-clause-kept c = c.turns.invariant.kept
 
 pub advance-requires-clause-parts : goal.advance-requires-clause-parts
 advance-requires-clause-parts c = c.requires.parts
 
 pub returns-in-Ok-Done : goal.returns-in-Ok-Done
 returns-in-Ok-Done c =
-    let ends : GivesTurn c.args.library.now (Done c.in-Ok-Done.draft) c.loop.state =
-    subst (λ (t : Turn). GivesTurn c.args.library.now t c.loop.state) c.in-Ok-Done.field-0-is
+    let ends : GivesTurn c.args.library.now (Done c.in-Ok-Done.draft) c.turns.state =
+    subst (λ (t : Turn). GivesTurn c.args.library.now t c.turns.state) c.in-Ok-Done.field-0-is
     c.in-Ok-Done.ensures in
     record {
       same = ap (λ (r : Result Flat FlatFault). r >>= λ (flat : Flat). Ok flat.design)
-          (sym c.loop.invariant.so_far ∙ ends.same);
+          (sym c.turns.invariant.so_far ∙ ends.same);
       in_range = ends.in_range;
     }
 
 pub returns-in-Err : goal.returns-in-Err
-returns-in-Err c = fault_same c.in-Err.refusal _ _ c.loop.invariant.so_far c.in-Err.ensures
+returns-in-Err c = fault_same c.in-Err.refusal _ _ c.turns.invariant.so_far c.in-Err.ensures
 
-pub loop-preserved : goal.loop-preserved
-loop-preserved c =
-    let goes : GivesTurn c.args.library.now (Next c.in-Ok-Next.next) c.loop.state =
-    subst (λ (t : Turn). GivesTurn c.args.library.now t c.loop.state) c.in-Ok-Next.field-0-is
+pub turns-preserved : goal.turns-preserved
+turns-preserved c =
+    let goes : GivesTurn c.args.library.now (Next c.in-Ok-Next.next) c.turns.state =
+    subst (λ (t : Turn). GivesTurn c.args.library.now t c.turns.state) c.in-Ok-Next.field-0-is
     c.in-Ok-Next.ensures in
     record {
       kept = goes.kept;
-      so_far = goes.same ∙ c.loop.invariant.so_far;
+      so_far = goes.same ∙ c.turns.invariant.so_far;
     }
+
+pub turns-smaller : goal.turns-smaller
+turns-smaller c =
+    let goes : GivesTurn c.args.library.now (Next c.in-Ok-Next.next) c.turns.state =
+    subst (λ (t : Turn). GivesTurn c.args.library.now t c.turns.state) c.in-Ok-Next.field-0-is
+    c.in-Ok-Next.ensures in
+    goes.less

@@ -1,9 +1,10 @@
-use Rattle.std.proofs.Common.{◌∙◌, ap, sym, subst}
+use Rattle.std.proofs.Common.{◌∙◌, ap, sym, subst, arith}
 use Rattle.ds_flat.specs.Stack.{frame_on, path_of}
 use Rattle.ds_flat.specs.Run.{Rest, IsKept, IsFault, after_take}
 use Rattle.ds_flat.proofs.Kept.{kept_part}
 use Rattle.ds_flat.proofs.Steps.{taken_part, part_fault, fault_same}
 use Rattle.ds_flat.proofs.Opens.{after_take-any, use_fine}
+use Rattle.ds_flat.specs.Turn.{most_turns}
 use Rattle.ds_flat.proofs.step.take.Goals as goal
 
 pub take_use-requires-clause-kept : goal.take_use-requires-clause-kept
@@ -66,3 +67,10 @@ returns-clause-value c =
     (record { copies = c.state.inside.copies; design = c.state.inside.draft })
     c.args.command.now c.in-Err-take_part.refusal (sym c.in-None.ensures)
     (c.in-Err-take_part.ensures c.state.inside.copies))
+
+pub returns-in-Ok-clause-less : goal.returns-in-Ok-clause-less
+returns-in-Ok-clause-less c = c.in-Ok.ensures.less
+
+pub returns-in-Ok-take_part-clause-less : goal.returns-in-Ok-take_part-clause-less
+returns-in-Ok-take_part-clause-less c =
+    let view = ap (most_turns c.args.library.now) c.state.view_is in omega arith

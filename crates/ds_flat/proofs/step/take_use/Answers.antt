@@ -1,8 +1,10 @@
-use Rattle.std.proofs.Common.{sym, subst, ◌+◌, arith, ◌∷◌}
-use Rattle.ds_flat.specs.Stack.{Stacked, path_of}
+use Rattle.std.proofs.Common.{sym, subst, ◌+◌, ◌≤◌, arith, ◌∷◌}
+use Rattle.ds_flat.specs.Stack.{Stacked, put_on, path_of}
 use Rattle.ds_flat.proofs.Kept.{rest_of, kept_use}
 use Rattle.ds_flat.specs.Run.{Rest, IsKept}
 use Rattle.ds_flat.proofs.Taken.{use_refused, use_fault, use_value}
+use Rattle.ds_flat.specs.Turn.{most_turns}
+use Rattle.ds_flat.proofs.Turns.{turns_use}
 use Rattle.ds_flat.proofs.step.take_use.Goals as goal
 
 pub checked-requires : goal.checked-requires
@@ -53,3 +55,16 @@ returns-clause-kept c =
     c.requires.parts c.in-Ok.ensures.found c.in-Ok.ensures.few
     (c.in-Ok-open.ensures.value (c.state.inside.top.name.now ∷ path_of c.state.inside.below.frames))
     c.in-Ok-open.ensures.model)
+
+pub returns-clause-less : goal.returns-clause-less
+returns-clause-less c =
+    subst (λ (s : Stacked). most_turns c.args.library.now (rest_of c.in-Ok-open.next s
+    (c.state.inside.copies + 1) c.in-Ok-open.draft) ≤ most_turns c.args.library.now c.args.state)
+    (sym c.in-Ok-pushed.ensures)
+    (subst (λ (r : Rest). most_turns c.args.library.now (rest_of c.in-Ok-open.next (put_on
+    c.state.inside.top c.state.inside.below) (c.state.inside.copies + 1) c.in-Ok-open.draft)
+    ≤ most_turns c.args.library.now r) c.state.view_is
+    (turns_use c.args.library.now c.state.inside.top c.state.inside.below c.state.inside.copies
+    c.state.inside.draft c.in-Ok-open.next c.args.call.now.model c.in-Ok.found.model.now
+    c.in-Ok.found.place c.in-Ok-open.draft c.in-Ok.ensures.found.named c.in-Ok-open.ensures.model
+    c.in-Ok.ensures.few))

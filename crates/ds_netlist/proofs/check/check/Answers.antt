@@ -44,5 +44,6 @@ returns c =
     c.in_ok-names.ensures.ok c.as_slice-2.ensures.value c.inputs-inputs.ensures.inputs c.first_name.ensures.value c.in_ok-columns.ensures.ok in
     record {
       checked = are_parts d c.inputs-inputs.ensures.in_range none c.in_ok-columns.columns.items c.in_ok-levels.levels.items c.in_ok-order.order.items cols c.in_ok-levels.ensures.ok
-          c.tables.result.now c.as_slice-5.result.now c.tables.ensures.tables c.as_slice-5.ensures.value c.in_ok-order.ensures.ok;
+          c.tables.result.now c.as_slice-5.result.now c.tables.ensures.tables c.as_slice-5.ensures.value c.in_ok-order.ensures.ok
+          c.tables-2.result.now c.in_ok-bank.bank c.tables-2.ensures.tables c.in_ok-bank.ensures.ok;
     }

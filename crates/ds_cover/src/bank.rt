@@ -1,0 +1,143 @@
+//! All tables of a design, packed.
+ghost use Rattle.std.specs.Prelude.{◌≡◌, ◌<◌, [], length, All, IfOk};
+ghost use Rattle.ds_cover.specs.Kept.{IsAdded};
+ghost use Rattle.ds_cover.specs.Packed.{packed_value};
+ghost use Rattle.ds_cover.specs.Bank.{IsMore, IsWithin, after_table, after_tables, driven_at};
+
+use crate::Table;
+use crate::entry::{Quick, Span};
+use crate::entry_value::entry_value;
+use crate::mask::{Mask, push_rows};
+use crate::truth::quick_of;
+use ds_base::{NetId, OutOfMemory, Row3, Value};
+use std::alloc::{AllocError, Global};
+use std::marker::Model;
+
+/// Packed tables, each with the net that it drives, by their numbers from 0. Contracts see the list
+/// of them.
+#[derive(Drop)]
+pub struct Bank {
+    quicks: Vec<Quick>,
+    spans: Vec<Span>,
+    inputs: Vec<NetId>,
+    masks: Vec<Mask>,
+}
+
+impl Model for Bank {
+    ghost use Rattle.std.specs.Prelude.{List, map};
+    ghost use Rattle.ds_cover.specs.Bank.{Driven};
+    ghost use Rattle.ds_cover.specs.Kept.{AreKept, driven_in};
+
+    ghost Value = { List Driven };
+
+    ghost view = { λ b. map (driven_in b.inputs.items b.masks.items) b.spans.items };
+
+    ghost invariant = { λ b. AreKept b.inputs.items b.masks.items b.spans.items b.quicks.items };
+}
+
+impl Bank {
+    /// Without tables.
+    pub fn new(alloc: Global) -> Self
+        ensures { result ≡ [] }
+    {
+        Bank {
+            quicks: Vec::new(alloc),
+            spans: Vec::new(alloc),
+            inputs: Vec::new(alloc),
+            masks: Vec::new(alloc),
+        }
+    }
+
+    /// With one table more, which drives this net.
+    pub fn with(self, table: &Table, output: NetId) -> Result<Self, OutOfMemory>
+        ensures { IfOk result (IsMore self table.now output) }
+    {
+        let mut quicks = self.quicks;
+        let mut spans = self.spans;
+        let mut inputs = self.inputs;
+        let mut masks = self.masks;
+        let (span, quick) = add(&mut inputs, &mut masks, table, output)?;
+        spans.push(span)?;
+        quicks.push(quick)?;
+        Ok(Bank {
+            quicks,
+            spans,
+            inputs,
+            masks,
+        })
+    }
+
+    /// How many tables there are.
+    pub fn len(&self) -> usize
+        ensures { result ≡ length self.now }
+    {
+        self.spans.len()
+    }
+
+    /// The value of a table on these nets.
+    pub fn value(&self, table: usize, nets: &Row3) -> Value
+        requires place { table < length self.now }
+        requires within { All (λ net. net < length nets.now)
+            (driven_at self.now table).cover.inputs }
+        ensures { result ≡ packed_value (driven_at self.now table).cover nets.now }
+    {
+        let quick = &self.quicks[table];
+        let span = &self.spans[table];
+        entry_value(
+            quick,
+            span,
+            self.inputs.as_slice(),
+            self.masks.as_slice(),
+            nets,
+        )
+    }
+
+    /// Gives the net that a table drives the value of the table.
+    pub fn set(&self, table: usize, nets: &mut Row3)
+        requires place { table < length self.now }
+        requires within { IsWithin (driven_at self.now table) nets.old }
+        ensures { nets.new ≡ after_table self.now nets.old table }
+    {
+        let value = self.value(table, nets);
+        nets.set(self.quicks[table].output.index(), value);
+    }
+
+    /// Sets what these tables drive, one after another.
+    pub fn set_all(&self, tables: &[u32], nets: &mut Row3)
+        requires places { All (λ k. k < length self.now) tables.now }
+        requires within { All (λ t. IsWithin t nets.old) self.now }
+        ensures { nets.new ≡ after_tables self.now nets.old tables.now }
+    {
+        for k in tables {
+            self.set(*k as usize, nets);
+        }
+    }
+}
+
+// Adds the inputs and the masks of a table, and says where they stand.
+fn add(
+    inputs: &mut Vec<NetId>,
+    masks: &mut Vec<Mask>,
+    table: &Table,
+    output: NetId,
+) -> Result<(Span, Quick), AllocError>
+    ensures { IfOk result (λ entry. IsAdded inputs.old.items masks.old.items table.now output
+        inputs.new.items masks.new.items entry.0 entry.1) }
+{
+    let own = table.inputs();
+    let first_input = inputs.len();
+    let first_mask = masks.len();
+    inputs.extend_from_slice(own)?;
+    push_rows(masks, own.len(), table.rows())?;
+    let own_masks = &masks[first_mask..];
+    let quick = quick_of(own, own_masks, table.is_on(), output);
+    let span = Span {
+        first_input,
+        inputs: own.len(),
+        first_mask,
+        masks: own_masks.len(),
+        on: table.is_on(),
+        output,
+    };
+    Ok((span, quick))
+}

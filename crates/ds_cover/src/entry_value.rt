@@ -1,0 +1,122 @@
+//! The value of a table that a bank keeps.
+ghost use Rattle.std.specs.Prelude.{◌≡◌, ◌<◌, ◌≤◌, All, IfSome, drop, length, take};
+ghost use Rattle.ds_base.specs.Word.{code_of};
+ghost use Rattle.ds_cover.specs.Cover.{values_at};
+ghost use Rattle.ds_cover.specs.Kept.{AreKnown, IsKept, bit_value, driven_in, quick_bit};
+ghost use Rattle.ds_cover.specs.Packed.{mask_value, masks_value, packed_value, words_of};
+ghost use Rattle.ds_base.specs.declared.value.Value.TheVariants.{One};
+
+use crate::entry::{Quick, Span};
+use crate::mask::Mask;
+use crate::word::{Word, word_at};
+use ds_base::{NetId, Row3, Value};
+
+// The value of a table: that of its word where it has one and all its inputs are known, else that
+// of its rows.
+pub(crate) fn entry_value(
+    quick: &Quick,
+    span: &Span,
+    inputs: &[NetId],
+    masks: &[Mask],
+    nets: &Row3,
+) -> Value
+    requires kept { IsKept inputs.now masks.now span.now quick.now }
+    requires within { All (λ net. net < length nets.now)
+        (driven_in inputs.now masks.now span.now).cover.inputs }
+    ensures { result ≡ packed_value (driven_in inputs.now masks.now span.now).cover nets.now }
+{
+    if quick.few {
+        if let Some(value) = quick_value(quick, nets) {
+            return value;
+        }
+    }
+    let inputs = &inputs[span.first_input..span.first_input + span.inputs];
+    let masks = &masks[span.first_mask..span.first_mask + span.masks];
+    rows_value(inputs, masks, span.on, nets)
+}
+
+// The value by the word, where no input is unknown.
+fn quick_value(quick: &Quick, nets: &Row3) -> Option<Value>
+    requires { All (λ net. net < length nets.now) quick.now.nets }
+    ensures known { IfSome result (λ _. AreKnown (values_at nets.now quick.now.nets)) }
+    ensures value { IfSome result (λ value. value ≡ quick_bit quick.now nets.now) }
+{
+    let a = code(nets.value(quick.nets[0].index()));
+    let b = code(nets.value(quick.nets[1].index()));
+    let c = code(nets.value(quick.nets[2].index()));
+    let d = code(nets.value(quick.nets[3].index()));
+    let e = code(nets.value(quick.nets[4].index()));
+    let f = code(nets.value(quick.nets[5].index()));
+    if a | b | c | d | e | f > 1 {
+        return None;
+    }
+    let place = a + 2 * (b + 2 * (c + 2 * (d + 2 * (e + 2 * f))));
+    Some(value_of_bit((quick.truth >> place) & 1))
+}
+
+// 0 is zero, and another bit one.
+fn value_of_bit(bit: u64) -> Value
+    ensures { result ≡ bit_value bit }
+{
+    if bit == 0 { Value::Zero } else { Value::One }
+}
+
+// The number of a value: 2 where it is not known.
+fn code(value: Value) -> u64
+    ensures code { result ≡ code_of value }
+    ensures few { result ≤ 2 }
+{
+    match value {
+        Value::Zero => 0,
+        Value::One => 1,
+        Value::Unknown => 2,
+    }
+}
+
+// The value by the masks of the rows.
+fn rows_value(inputs: &[NetId], masks: &[Mask], on: bool, nets: &Row3) -> Value
+    requires fit { All (λ mask. mask.first ≤ length inputs.now) masks.now }
+    requires within { All (λ net. net < length nets.now) inputs.now }
+    ensures { result ≡ packed_value
+        (record { inputs = inputs.now; masks = masks.now; on = on }) nets.now }
+{
+    let some = some_row(inputs, masks, nets);
+    if on { some } else { some.not() }
+}
+
+// Whether some row matches.
+fn some_row(inputs: &[NetId], masks: &[Mask], nets: &Row3) -> Value
+    requires fit { All (λ mask. mask.first ≤ length inputs.now) masks.now }
+    requires within { All (λ net. net < length nets.now) inputs.now }
+    ensures { result ≡ masks_value (values_at nets.now inputs.now) One masks.now }
+{
+    let front = word_at(inputs, 0, nets);
+    let mut some = Value::Zero;
+    let mut so_far = Value::One;
+    for mask in masks {
+        so_far = so_far.and(part_value(inputs, mask, &front, nets));
+        if mask.last {
+            some = some.or(so_far);
+            if let Value::One = some {
+                break;
+            }
+            so_far = Value::One;
+        }
+    }
+    some
+}
+
+// Whether the inputs are as a mask asks. The front is the word of the first inputs.
+fn part_value(inputs: &[NetId], mask: &Mask, front: &Word, nets: &Row3) -> Value
+    requires fit { mask.now.first ≤ length inputs.now }
+    requires within { All (λ net. net < length nets.now) inputs.now }
+    requires front { front.now ≡ words_of (take 64 (drop 0 (values_at nets.now inputs.now))) }
+    ensures { result ≡ mask_value mask.now
+        (words_of (take 64 (drop mask.now.first (values_at nets.now inputs.now)))) }
+{
+    if mask.first == 0 {
+        mask.value(front)
+    } else {
+        mask.value(&word_at(inputs, mask.first, nets))
+    }
+}

@@ -1,0 +1,5 @@
+use Rattle.ds_settle.proofs.Agree.{cone_settles}
+use Rattle.ds_settle.proofs.laws.cone_settles.Goals as goal
+
+pub returns : goal.returns
+returns c = cone_settles

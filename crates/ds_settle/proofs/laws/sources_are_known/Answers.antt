@@ -1,0 +1,5 @@
+use Rattle.ds_settle.proofs.Agree.{sources_known}
+use Rattle.ds_settle.proofs.laws.sources_are_known.Goals as goal
+
+pub returns : goal.returns
+returns c = sources_known
