@@ -9,7 +9,7 @@ use Rattle.ds_app.specs.declared.stop.Stop.{Stop}
 use Rattle.ds_app.specs.declared.stop.Stop.TheVariants.{Refused, Unread, Unwritten, Memory}
 use Rattle.ds_app.specs.Stage.{OfFile, Stage, then_stage}
 use Rattle.ds_app.specs.Stages.{rows_stage, lines_stage, vectors_stage}
-use Rattle.ds_app.specs.Ends.{Answers, Ends, Output, RoseIn, Stops}
+use Rattle.ds_app.specs.Ends.{Answers, Ends, Never, Output, RoseIn, Stops}
 use Rattle.ds_app.proofs.Stages.{IsWider}
 
 -- a stage that stops leaves the output as it is
@@ -38,6 +38,11 @@ ends_more stage failed more out unread (Err (Refused line)) is = is
 ends_more stage failed more out unread (Err (Unread line)) (is, same) = (unread line is, same)
 ends_more stage failed more out unread (Err Unwritten) is = is
 ends_more stage failed more out unread (Err Memory) is = is
+
+-- the parts of a job behind the split need not know what failed
+pub no_more : {A : Type 0} (stage : Stage A) (more : OfFile) → ((line : List ℕ) → stage.unread Never line → stage.unread more line)
+    → IsWider stage stage Never more
+no_more stage more unread = record { means = λ a is. is; refused = λ line is. is; unread = unread }
 
 -- a count that rose since later rose since earlier
 rose_since : (before mid now : ℕ) → before ≤ mid → Rose mid now → Rose before now

@@ -15,12 +15,21 @@ use Rattle.ds_netlist.specs.Laws.{FaultsAreRefused}
 use Rattle.ds_netlist.specs.declared.fault.NetFault.{NetFault}
 use Rattle.ds_netlist.specs.declared.fault.NetFault.TheVariants as net
 use Rattle.ds_rows.specs.Vector.{vectors_of}
+use Rattle.ds_base.specs.Limit.{most_of}
+use Rattle.ds_base.specs.declared.number.Limit.TheVariants.{Clusters}
+use Rattle.ds_base.specs.declared.number.Mode.{Mode}
+use Rattle.ds_design.specs.Node.{Split}
+use Rattle.ds_split.specs.Cluster.{HasTooManyClusters}
+use Rattle.ds_split.specs.Split.{HasTooManyOrders, split_of}
+use Rattle.ds_split.specs.Laws.{OneClustering}
 use Rattle.ds_cmd.specs.declared.job.Job.{Job}
-use Rattle.ds_cmd.specs.declared.job.Job.TheVariants.{Run, Clock, Check}
+use Rattle.ds_cmd.specs.declared.job.Job.TheVariants.{Run, Clock, Check, Graph}
 use Rattle.ds_app.specs.FaultText.{IsNetFaultText, net_fault_text}
 use Rattle.ds_app.specs.Stage.{OfFile, Stage, IsExclusive, then_stage}
-use Rattle.ds_app.specs.Stages.{OfBytes, accepted_stage, clusters_stage, design_stage, file_stage, flat_or_line, lines_stage, models_or_line, netlist_stage, report_stage, result_stage, rows_stage, rows_or_line, text_stage, trace_stage, vectors_stage}
-use Rattle.ds_app.specs.Job.{clock_stage, run_stage, stages_of}
+use Rattle.ds_app.specs.Stages.{OfBytes, accepted_stage, design_stage, file_stage, flat_or_line, lines_stage, models_or_line, netlist_stage, report_stage, result_stage, rows_stage, rows_or_line, text_stage, trace_stage, vectors_stage}
+use Rattle.ds_app.specs.SplitStage.{IsInClusters, IsSplitLine, split_stage}
+use Rattle.ds_app.specs.GraphStage.{controller_stage}
+use Rattle.ds_app.specs.Job.{clock_stage, graph_stage, run_stage, stages_of}
 use Rattle.ds_app.specs.Status.{AreTold}
 
 -- stages that are each exclusive are together
@@ -93,8 +102,28 @@ netlist_exclusive : FaultsAreRefused → (held : List ℕ → Held) (file : List
 netlist_exclusive law held file told =
     then_exclusive (file_stage held file) (accepted_stage file) (file_exclusive held file told) (accepted_exclusive law file)
 
-clusters_exclusive : (file : List ℕ) (c : Circuit) → IsExclusive (clusters_stage file c)
-clusters_exclusive file c = record { one = λ a b is also. refl; not_refused = λ a line is refused. let long = refused.0 in omega arith }
+-- a circuit has one split by a mode
+one_split : OneClustering → (mode : Mode) (c : Circuit) (a b : Split) → IsInClusters mode c a → IsInClusters mode c b → a ≡ b
+one_split law mode c a b one other = one.is ∙ (ap (split_of c) (law c mode one.clusters other.clusters one.are other.are) ∙ sym other.is)
+
+-- few clusters are not too many
+few_clusters : OneClustering → (mode : Mode) (c : Circuit) (s : Split) → IsInClusters mode c s → ¬ HasTooManyClusters c mode
+few_clusters law mode c s is (clusters, are, many) =
+    let same : length is.clusters ≡ length clusters = ap length (law c mode is.clusters clusters is.are are) in
+    let few : length is.clusters ≤ most_of Clusters = is.few in
+    omega arith
+
+split_not_refused : OneClustering → (file : List ℕ) (mode : Mode) (c : Circuit) (s : Split) (line : List ℕ)
+    → (split_stage file mode c).means s → ¬ IsSplitLine file mode c line
+split_not_refused law file mode c s line is (inl (many, spelt)) = few_clusters law mode c s is.0 many
+split_not_refused law file mode c s line is (inr (other, also, many, spelt)) =
+    is.1 (subst (λ (t : Split). HasTooManyOrders t) (one_split law mode c other s also is.0) many)
+
+split_exclusive : OneClustering → (file : List ℕ) (mode : Mode) (c : Circuit) → IsExclusive (split_stage file mode c)
+split_exclusive law file mode c = record {
+  one = λ a b is also. one_split law mode c a b is.0 also.0;
+  not_refused = λ a line is refused. split_not_refused law file mode c a line is refused;
+}
 
 vectors_exclusive : (held : List ℕ → Held) (vec : List ℕ) (c : Circuit) → held vec ≢ untold → IsExclusive (vectors_stage held vec c)
 vectors_exclusive held vec c told =
@@ -106,18 +135,26 @@ clock_not_refused : (held : List ℕ → Held) (vec : List ℕ) → held vec ≢
 clock_not_refused held vec told c text line means refused =
     then_not_refused (vectors_stage held vec c) (trace_stage c) (vectors_exclusive held vec c told) (λ rows b l is none. none) text line means refused
 
-run_not_refused : (held : List ℕ → Held) (file vec : List ℕ) → held vec ≢ untold → (c : Circuit) (text line : List ℕ)
-    → (run_stage held file vec c).means text → ¬ (run_stage held file vec c).refused line
-run_not_refused held file vec told c text line means refused =
-    then_not_refused (clusters_stage file c) (λ (u : Unit {0}). then_stage (vectors_stage held vec c) (trace_stage c)) (clusters_exclusive file c)
-    (λ u b l is no_more. clock_not_refused held vec told c b l is no_more) text line means refused
+run_not_refused : OneClustering → (held : List ℕ → Held) (file vec : List ℕ) (mode : Mode) → held vec ≢ untold → (c : Circuit) (text line : List ℕ)
+    → (run_stage held file vec mode c).means text → ¬ (run_stage held file vec mode c).refused line
+run_not_refused law held file vec mode told c text line means refused =
+    then_not_refused (split_stage file mode c) (λ (s : Split). clock_stage held vec c) (split_exclusive law file mode c)
+    (λ s b l is no_more. clock_not_refused held vec told c b l is no_more) text line means refused
+
+graph_not_refused : OneClustering → (file : List ℕ) (mode : Mode) (c : Circuit) (text line : List ℕ)
+    → (graph_stage file mode c).means text → ¬ (graph_stage file mode c).refused line
+graph_not_refused law file mode c text line means refused =
+    then_not_refused (split_stage file mode c) controller_stage (split_exclusive law file mode c)
+    (λ s b l is none. none) text line means refused
 
 -- a job that has a text is not refused
-pub job_not_refused : FaultsAreRefused → (held : List ℕ → Held) (job : Job) → AreTold held job → (text line : List ℕ)
+pub job_not_refused : FaultsAreRefused → OneClustering → (held : List ℕ → Held) (job : Job) → AreTold held job → (text line : List ℕ)
     → (stages_of held job).means text → ¬ (stages_of held job).refused line
-job_not_refused law held (Run file vec) told text line means refused =
-    then_not_refused (netlist_stage held file) (run_stage held file vec) (netlist_exclusive law held file told.0) (run_not_refused held file vec told.1) text line means refused
-job_not_refused law held (Clock file vec) told text line means refused =
+job_not_refused law one held (Run file vec mode) told text line means refused =
+    then_not_refused (netlist_stage held file) (run_stage held file vec mode) (netlist_exclusive law held file told.0) (run_not_refused one held file vec mode told.1) text line means refused
+job_not_refused law one held (Clock file vec) told text line means refused =
     then_not_refused (netlist_stage held file) (clock_stage held vec) (netlist_exclusive law held file told.0) (clock_not_refused held vec told.1) text line means refused
-job_not_refused law held (Check file) told text line means refused =
+job_not_refused law one held (Check file) told text line means refused =
     then_not_refused (netlist_stage held file) report_stage (netlist_exclusive law held file told) (λ c b l is none. none) text line means refused
+job_not_refused law one held (Graph file mode) told text line means refused =
+    then_not_refused (netlist_stage held file) (graph_stage file mode) (netlist_exclusive law held file told) (graph_not_refused one file mode) text line means refused

@@ -9,10 +9,14 @@ use Rattle.ds_flat.specs.Copies.{flat_of}
 use Rattle.ds_design.specs.Circuit.{Circuit, columns}
 use Rattle.ds_design.specs.declared.blif.BlifModel.{BlifModel}
 use Rattle.ds_cmd.specs.declared.job.Job.{Job}
-use Rattle.ds_cmd.specs.declared.job.Job.TheVariants.{Run, Clock, Check}
+use Rattle.ds_cmd.specs.declared.job.Job.TheVariants.{Run, Clock, Check, Graph}
 use Rattle.ds_app.specs.Stage.{OfFile, Stage, then_stage}
-use Rattle.ds_app.specs.Stages.{accepted_stage, clusters_stage, design_stage, file_stage, flat_or_line, lines_stage, models_or_line, netlist_stage, report_stage, result_stage, rows_stage, trace_stage, vectors_stage}
-use Rattle.ds_app.specs.Job.{clock_stage, run_stage, stages_of}
+use Rattle.ds_app.specs.Stages.{accepted_stage, design_stage, file_stage, flat_or_line, lines_stage, models_or_line, netlist_stage, report_stage, result_stage, rows_stage, trace_stage, vectors_stage}
+use Rattle.ds_app.specs.SplitStage.{split_stage}
+use Rattle.ds_app.specs.GraphStage.{controller_stage}
+use Rattle.ds_app.specs.Job.{clock_stage, graph_stage, run_stage, stages_of}
+use Rattle.ds_base.specs.declared.number.Mode.{Mode}
+use Rattle.ds_design.specs.Node.{Split}
 
 -- a read of some file failed
 pub record IsFailed (failed : OfFile) : Type 0 where
@@ -49,13 +53,18 @@ vectors_say held vec c failed =
 clock_says : (held : List ℕ → Held) (vec : List ℕ) (failed : OfFile) (c : Circuit) → Says (clock_stage held vec c) failed
 clock_says held vec failed c = then_says (vectors_stage held vec c) (trace_stage c) failed (vectors_say held vec c failed) (λ rows line none. absurd none)
 
-run_says : (held : List ℕ → Held) (file vec : List ℕ) (failed : OfFile) (c : Circuit) → Says (run_stage held file vec c) failed
-run_says held file vec failed c =
-    then_says (clusters_stage file c) (λ (u : Unit {0}). then_stage (vectors_stage held vec c) (trace_stage c)) failed
-    (λ line none. absurd none) (λ u. clock_says held vec failed c)
+run_says : (held : List ℕ → Held) (file vec : List ℕ) (mode : Mode) (failed : OfFile) (c : Circuit) → Says (run_stage held file vec mode c) failed
+run_says held file vec mode failed c =
+    then_says (split_stage file mode c) (λ (s : Split). clock_stage held vec c) failed
+    (λ line none. absurd none) (λ s. clock_says held vec failed c)
+
+graph_says : (file : List ℕ) (mode : Mode) (failed : OfFile) (c : Circuit) → Says (graph_stage file mode c) failed
+graph_says file mode failed c =
+    then_says (split_stage file mode c) controller_stage failed (λ line none. absurd none) (λ s line none. absurd none)
 
 -- where a job names a file that it did not read, a read failed
 pub job_says : (held : List ℕ → Held) (job : Job) (failed : OfFile) (line : List ℕ) → (stages_of held job).unread failed line → IsFailed failed
-job_says held (Run file vec) failed line is = then_says (netlist_stage held file) (run_stage held file vec) failed (netlist_says held file failed) (run_says held file vec failed) line is
+job_says held (Run file vec mode) failed line is = then_says (netlist_stage held file) (run_stage held file vec mode) failed (netlist_says held file failed) (run_says held file vec mode failed) line is
 job_says held (Clock file vec) failed line is = then_says (netlist_stage held file) (clock_stage held vec) failed (netlist_says held file failed) (clock_says held vec failed) line is
 job_says held (Check file) failed line is = then_says (netlist_stage held file) report_stage failed (netlist_says held file failed) (λ c l none. absurd none) line is
+job_says held (Graph file mode) failed line is = then_says (netlist_stage held file) (graph_stage file mode) failed (netlist_says held file failed) (graph_says file mode failed) line is

@@ -3,3 +3,4 @@ pub mod Ends
 pub mod Exclusive
 pub mod Failed
 pub mod Answered
+pub mod SplitStops

@@ -5,7 +5,10 @@ use Rattle.ds_outside.specs.Written.{appended, AppendsPart}
 use Rattle.ds_outside.specs.declared.files.Which.{Which}
 use Rattle.ds_app.specs.declared.stop.Stop.{Stop}
 use Rattle.ds_app.specs.declared.stop.Stop.TheVariants.{Refused, Unread, Unwritten, Memory}
-use Rattle.ds_app.specs.FaultText.{unread_line}
+use Rattle.ds_app.specs.FaultText.{file_line, too_many_text, unread_line}
+use Rattle.ds_split.specs.declared.fault.SplitFault.{SplitFault}
+use Rattle.ds_split.specs.declared.fault.SplitFault.TheVariants.{TooMany}
+use Rattle.ds_split.specs.declared.fault.SplitFault.TheVariants as split
 use Rattle.ds_app.specs.Stage.{OfFile, Stage}
 
 -- the files whose count of faults rose
@@ -41,6 +44,11 @@ SaysRefused text (Refused line) = line ≡ text
 SaysRefused text (Unread line) = ⊥
 SaysRefused text Unwritten = ⊥
 SaysRefused text Memory = Unit {0}
+
+-- the line of a fault of clusters or latches, or memory was wanted
+abbrev pub SaysSplit : List ℕ → SplitFault → Stop → Type 0
+SaysSplit file (TooMany limit) stop = SaysRefused (file_line file (too_many_text limit)) stop
+SaysSplit file split.Memory stop = stop ≡ Memory
 
 -- an output before and after a call: its bytes and its count of faults
 pub record Output : Type 0 where

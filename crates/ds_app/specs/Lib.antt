@@ -3,6 +3,8 @@ pub mod Stage
 pub mod FaultText
 pub mod Report
 pub mod Stages
+pub mod SplitStage
+pub mod GraphStage
 pub mod Job
 pub mod Status
 pub mod Ends

@@ -1,7 +1,7 @@
 -- What the files of a job stand for, stage by stage.
 use Rattle.std.specs.Prelude.{◌≡◌, ℕ, ◌<◌, ◌≤◌, List, length, Result, Ok, Err}
 use Rattle.ds_base.specs.Limit.{most_of}
-use Rattle.ds_base.specs.declared.number.Limit.TheVariants.{Bytes, Clusters}
+use Rattle.ds_base.specs.declared.number.Limit.TheVariants.{Bytes}
 use Rattle.ds_outside.specs.Held.{Held, untold, absent, bytes}
 use Rattle.ds_outside.specs.declared.files.Which.{Which}
 use Rattle.ds_outside.specs.declared.files.Which.TheVariants.{Net, Vectors}
@@ -20,7 +20,7 @@ use Rattle.ds_netlist.specs.Fault.{IsNetFault}
 use Rattle.ds_netlist.specs.declared.fault.NetFault.{NetFault}
 use Rattle.ds_rows.specs.Vector.{vectors_of}
 use Rattle.ds_rows.specs.declared.fault.VectorFault.{VectorFault}
-use Rattle.ds_app.specs.FaultText.{file_line, numbered_line, unread_line, too_long_text, too_many_text, blif_text, flat_text, IsNetFaultText, vector_text}
+use Rattle.ds_app.specs.FaultText.{file_line, numbered_line, unread_line, too_long_text, blif_text, flat_text, IsNetFaultText, vector_text}
 use Rattle.ds_app.specs.Report.{report_text}
 use Rattle.ds_app.specs.Stage.{Stage, giving, then_stage}
 
@@ -76,14 +76,6 @@ accepted_stage file c = record {
   means = λ d. (d ≡ c) × IsAccepted c;
   refused = λ line. (fault : NetFault) × (text : List ℕ) × IsNetFault c fault
       × IsNetFaultText c fault text × (line ≡ file_line file text);
-  unread = λ _ _. ⊥;
-}
-
--- few enough registers for clusters of one register each
-abbrev pub clusters_stage : List ℕ → Circuit → Stage (Unit {0})
-clusters_stage file c = record {
-  means = λ _. length c.registers ≤ most_of Clusters;
-  refused = λ line. (most_of Clusters < length c.registers) × (line ≡ file_line file (too_many_text Clusters));
   unread = λ _ _. ⊥;
 }
 

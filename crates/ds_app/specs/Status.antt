@@ -6,7 +6,7 @@ use Rattle.ds_outside.specs.Written.{appended, AppendsPart}
 use Rattle.ds_outside.specs.declared.files.Which.{Which}
 use Rattle.ds_cmd.specs.Line.{job_of}
 use Rattle.ds_cmd.specs.declared.job.Job.{Job}
-use Rattle.ds_cmd.specs.declared.job.Job.TheVariants.{Run, Clock, Check}
+use Rattle.ds_cmd.specs.declared.job.Job.TheVariants.{Run, Clock, Check, Graph}
 use Rattle.ds_cmd.specs.declared.fault.UsageFault.{UsageFault}
 use Rattle.ds_cmd.specs.declared.fault.UsageFault.TheVariants as usage
 use Rattle.ds_app.specs.declared.stop.Stop.{Stop}
@@ -83,9 +83,10 @@ pub record IsUnwritten (call : Call) : Type 0 where
 
 -- the files of a job tell what they hold
 abbrev pub AreTold : (List ℕ → Held) → Job → Type 0
-AreTold held (Run net vec) = (held net ≢ untold) × (held vec ≢ untold)
+AreTold held (Run net vec mode) = (held net ≢ untold) × (held vec ≢ untold)
 AreTold held (Clock net vec) = (held net ≢ untold) × (held vec ≢ untold)
 AreTold held (Check net) = held net ≢ untold
+AreTold held (Graph net mode) = held net ≢ untold
 
 -- no read failed in the call
 abbrev pub NoneFailed : Call → Type 0

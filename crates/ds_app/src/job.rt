@@ -1,19 +1,18 @@
 //! A job, from its files to its text.
 ghost use Rattle.std.specs.Prelude.{◌≡◌, ◌≤◌, ◌<◌, ℕ, List, length};
-ghost use Rattle.ds_cmd.specs.declared.job.Job.TheVariants.{Check, Clock, Run};
-ghost use Rattle.ds_app.specs.Ends.{Answers, Ends, Never, Output, RoseIn};
+ghost use Rattle.ds_cmd.specs.declared.job.Job.TheVariants.{Check, Clock, Graph, Run};
+ghost use Rattle.ds_app.specs.Ends.{Ends, Output, RoseIn};
 ghost use Rattle.ds_app.specs.Job.{stages_of};
-ghost use Rattle.ds_app.specs.Stages.{clusters_stage};
 
 use crate::clock::write_clocked;
-use crate::fault_line::too_many;
+use crate::graph::write_graph;
 use crate::nodes::write_run;
 use crate::report::write_report;
-use crate::source::{read_netlist, read_rows, refused};
+use crate::source::{read_netlist, read_rows};
+use crate::split::split_netlist;
 use crate::stop::Stop;
-use ds_base::Limit;
+use ds_base::Mode;
 use ds_cmd::Job;
-use ds_design::Netlist;
 use ds_outside::{Files, Sink};
 use std::alloc::Global;
 
@@ -34,9 +33,12 @@ pub fn do_job<F: Files, O: Sink>(
         }) result }
 {
     match job {
-        Job::Run { net, vec } => run(alloc, net.as_str(), vec.as_str(), files, out),
+        Job::Run { net, vec, clusters } => {
+            run(alloc, net.as_str(), vec.as_str(), *clusters, files, out)
+        }
         Job::Clock { net, vec } => clock(alloc, net.as_str(), vec.as_str(), files, out),
         Job::Check { net } => check(alloc, net.as_str(), files, out),
+        Job::Graph { net, clusters } => graph(alloc, net.as_str(), *clusters, files, out),
     }
 }
 
@@ -46,10 +48,11 @@ fn run<F: Files, O: Sink>(
     alloc: Global,
     net: &str,
     vec: &str,
+    clusters: Mode,
     files: &mut F,
     out: &mut O,
 ) -> Result<(), Stop>
-    ensures { Ends (stages_of (F.held files.old) (Run net.now vec.now))
+    ensures { Ends (stages_of (F.held files.old) (Run net.now vec.now clusters))
         (RoseIn (F.faults files.old) (F.faults files.new)) (record {
           old = O.written out.old;
           new = O.written out.new;
@@ -58,9 +61,9 @@ fn run<F: Files, O: Sink>(
         }) result }
 {
     let netlist = read_netlist(alloc, files, net)?;
-    check_clusters(alloc, net, &netlist)?;
+    let latches = split_netlist(alloc, net, &netlist, clusters)?;
     let vectors = read_rows(alloc, files, vec, &netlist)?;
-    write_run(alloc, &netlist, &vectors, out)
+    write_run(alloc, latches.netlist(), &vectors, out)
 }
 
 // `clock`: the netlist is clocked.
@@ -105,15 +108,24 @@ fn check<F: Files, O: Sink>(
     write_report(&netlist, out)
 }
 
-// Whether a netlist has few enough registers for clusters of one register each.
-fn check_clusters(alloc: Global, name: &str, netlist: &Netlist) -> Result<(), Stop>
-    ensures { Answers (clusters_stage name.now netlist.now) Never result }
+// `graph`: the controller graph is written.
+#[tactic(none)]
+fn graph<F: Files, O: Sink>(
+    alloc: Global,
+    net: &str,
+    clusters: Mode,
+    files: &mut F,
+    out: &mut O,
+) -> Result<(), Stop>
+    ensures { Ends (stages_of (F.held files.old) (Graph net.now clusters))
+        (RoseIn (F.faults files.old) (F.faults files.new)) (record {
+          old = O.written out.old;
+          new = O.written out.new;
+          before = O.faults out.old;
+          now = O.faults out.new;
+        }) result }
 {
-    if netlist.registers() <= Limit::Clusters.most() {
-        return Ok(());
-    }
-    match too_many(alloc, Limit::Clusters) {
-        Ok(text) => Err(refused(alloc, name, &text)),
-        Err(_) => Err(Stop::Memory),
-    }
+    let netlist = read_netlist(alloc, files, net)?;
+    let latches = split_netlist(alloc, net, &netlist, clusters)?;
+    write_graph(alloc, &latches, out)
 }

@@ -7,21 +7,31 @@
 //! the error output has the line of the first fault of the files.
 //!
 //! `run` fires the latches of the netlist in one fixed order, `clock` clocks it, and both texts are
-//! the trace of the one clocked run; `check` reports on the netlist. Not promised is that memory is
-//! found, and which of several combinational cycles is shown.
+//! the trace of the one clocked run; `check` reports on the netlist, and `graph` writes the controller
+//! graph. Not promised is that memory is found, and which of several combinational cycles is shown.
 #![tactic(auto)]
 
 mod app;
 mod clock;
 mod fault_line;
+#[cfg(test)]
+mod fault_tests;
 mod fault_text;
+mod graph;
+#[cfg(test)]
+mod graph_tests;
 mod job;
 mod net_text;
 mod nodes;
 mod report;
+#[cfg(test)]
+mod settle_tests;
 mod source;
+mod split;
 mod stop;
 #[cfg(test)]
 mod tests;
+#[cfg(test)]
+mod trial;
 
 pub use app::desync_main;

@@ -14,10 +14,11 @@ ghost use Rattle.ds_app.specs.Stages.{trace_stage};
 use crate::stop::Stop;
 use ds_base::{OutOfMemory, Row3};
 use ds_design::{Netlist, Vectors};
-use ds_outside::{Sink, WriteFault};
+use ds_outside::{Behind, Buffered, Lent, Sink, WriteFault};
 use ds_rows::{end_line, trace_line};
 use ds_settle::{pick_data, pick_values, set_initial, settle};
 use std::alloc::Global;
+use std::marker::Brand;
 
 /// The rows that the nodes hold, and the values of all nets as they last settled.
 #[derive(Drop)]
@@ -53,7 +54,9 @@ pub fn write_run<O: Sink>(
 {
     let mut nodes = nodes_of(alloc, netlist)?;
     set_initial(netlist.design().registers(), &mut nodes.slaves);
-    match write_trace(netlist, vectors, &mut nodes, out) {
+    let lent = Lent { sink: out };
+    let (_, result) = write_behind::<O, Brand>(netlist, vectors, &mut nodes, lent);
+    match result {
         Ok(()) => Ok(()),
         Err(_) => Err(Stop::Unwritten),
     }
@@ -71,6 +74,29 @@ fn nodes_of(alloc: Global, netlist: &Netlist) -> Result<Nodes, OutOfMemory>
         slaves: Row3::with_len(alloc, design.registers().len())?,
         nets: Row3::with_len(alloc, design.nets().len())?,
     })
+}
+
+// Writes the whole trace by way of a buffer.
+fn write_behind<'a, O: Sink, B: Behind>(
+    netlist: &Netlist,
+    vectors: &Vectors,
+    nodes: &mut Nodes,
+    behind: Lent<'a, O>,
+) -> (Lent<'a, O>, Result<(), WriteFault>)
+    requires width { vectors.now.width ≡ length (columns netlist.now) }
+    requires rows { HasRows netlist.now nodes.old }
+    requires slaves { nodes.old.slaves ≡ initial_row netlist.now }
+    requires same { behind.sink.ghost_name ≡ B.name }
+    requires before { O.written behind.sink.now ≡ B.before }
+
+    ensures ok { (text : List ℕ) × IsTrace netlist.now vectors.now.rows text
+        × Writes result.1 B.before (O.written result.0.sink.now)
+        (O.faults behind.entry.sink.now) (O.faults result.0.sink.now) text }
+    ensures same { result.0.sink.ghost_name ≡ B.name }
+{
+    let mut buffered: Buffered<'a, O, B> = Buffered::new(behind);
+    let so_far = write_trace(netlist, vectors, nodes, &mut buffered);
+    buffered.finish(so_far)
 }
 
 // Writes the whole trace, from what the slaves hold on.

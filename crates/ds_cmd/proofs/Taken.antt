@@ -7,7 +7,10 @@ use Rattle.clap.specs.Lexer.{short_of, short_of_rest, long_of, long_of_rest, str
 use Rattle.clap.proofs.OnLiterals.{clap_on_literals}
 use Rattle.ds_cmd.specs.Line.{job_of}
 use Rattle.ds_cmd.specs.Plain.{is_plain}
-use Rattle.ds_cmd.specs.declared.job.Job.TheVariants.{Run, Clock, Check}
+use Rattle.ds_cmd.specs.declared.job.Job.TheVariants.{Run, Clock, Check, Graph}
+use Rattle.ds_base.specs.declared.number.Mode.{Mode}
+use Rattle.ds_base.specs.declared.number.Mode.TheVariants.{Each, One, Bus}
+use Rattle.ds_cmd.specs.Clusters.{mode_word}
 
 -- a test that is not true
 not_true : (b : Bool) → not b ≡ true → b ≡ false
@@ -45,9 +48,15 @@ no_option (byte ∷ []) plain = record {
 }
 no_option (byte ∷ next ∷ rest) plain = let e = not_true (byte == 45) plain in record { dashes = rw e refl; long = rw e refl; short = rw e refl }
 
-run_at : (program net vec : Text) → IsNoOption net → IsNoOption vec → job_of (program ∷ codes "run" ∷ net ∷ vec ∷ []) ≡ Ok (Run net vec)
+run_at : (program net vec : Text) → IsNoOption net → IsNoOption vec → job_of (program ∷ codes "run" ∷ net ∷ vec ∷ []) ≡ Ok (Run net vec Each)
 unfolding clap_on_literals
 run_at program net vec n v = rw (n.dashes, n.long, n.short) (rw (v.dashes, v.long, v.short) refl)
+
+run_in : (program net vec : Text) (mode : Mode) → IsNoOption net → IsNoOption vec → job_of (program ∷ codes "run" ∷ net ∷ vec ∷ codes "--clusters" ∷ mode_word mode ∷ []) ≡ Ok (Run net vec mode)
+unfolding clap_on_literals
+run_in program net vec Each n v = rw (n.dashes, n.long, n.short) (rw (v.dashes, v.long, v.short) refl)
+run_in program net vec One n v = rw (n.dashes, n.long, n.short) (rw (v.dashes, v.long, v.short) refl)
+run_in program net vec Bus n v = rw (n.dashes, n.long, n.short) (rw (v.dashes, v.long, v.short) refl)
 
 clock_at : (program net vec : Text) → IsNoOption net → IsNoOption vec → job_of (program ∷ codes "clock" ∷ net ∷ vec ∷ []) ≡ Ok (Clock net vec)
 unfolding clap_on_literals
@@ -57,11 +66,30 @@ check_at : (program net : Text) → IsNoOption net → job_of (program ∷ codes
 unfolding clap_on_literals
 check_at program net n = rw (n.dashes, n.long, n.short) refl
 
-pub run_taken : (program net vec : Text) → is_plain net ≡ true → is_plain vec ≡ true → job_of (program ∷ codes "run" ∷ net ∷ vec ∷ []) ≡ Ok (Run net vec)
+graph_at : (program net : Text) → IsNoOption net → job_of (program ∷ codes "graph" ∷ net ∷ []) ≡ Ok (Graph net Each)
+unfolding clap_on_literals
+graph_at program net n = rw (n.dashes, n.long, n.short) refl
+
+graph_in : (program net : Text) (mode : Mode) → IsNoOption net → job_of (program ∷ codes "graph" ∷ net ∷ codes "--clusters" ∷ mode_word mode ∷ []) ≡ Ok (Graph net mode)
+unfolding clap_on_literals
+graph_in program net Each n = rw (n.dashes, n.long, n.short) refl
+graph_in program net One n = rw (n.dashes, n.long, n.short) refl
+graph_in program net Bus n = rw (n.dashes, n.long, n.short) refl
+
+pub run_taken : (program net vec : Text) → is_plain net ≡ true → is_plain vec ≡ true → job_of (program ∷ codes "run" ∷ net ∷ vec ∷ []) ≡ Ok (Run net vec Each)
 run_taken program net vec n v = run_at program net vec (no_option net n) (no_option vec v)
+
+pub run_with_mode : (program net vec : Text) (mode : Mode) → is_plain net ≡ true → is_plain vec ≡ true → job_of (program ∷ codes "run" ∷ net ∷ vec ∷ codes "--clusters" ∷ mode_word mode ∷ []) ≡ Ok (Run net vec mode)
+run_with_mode program net vec mode n v = run_in program net vec mode (no_option net n) (no_option vec v)
 
 pub clock_taken : (program net vec : Text) → is_plain net ≡ true → is_plain vec ≡ true → job_of (program ∷ codes "clock" ∷ net ∷ vec ∷ []) ≡ Ok (Clock net vec)
 clock_taken program net vec n v = clock_at program net vec (no_option net n) (no_option vec v)
 
 pub check_taken : (program net : Text) → is_plain net ≡ true → job_of (program ∷ codes "check" ∷ net ∷ []) ≡ Ok (Check net)
 check_taken program net n = check_at program net (no_option net n)
+
+pub graph_taken : (program net : Text) → is_plain net ≡ true → job_of (program ∷ codes "graph" ∷ net ∷ []) ≡ Ok (Graph net Each)
+graph_taken program net n = graph_at program net (no_option net n)
+
+pub graph_with_mode : (program net : Text) (mode : Mode) → is_plain net ≡ true → job_of (program ∷ codes "graph" ∷ net ∷ codes "--clusters" ∷ mode_word mode ∷ []) ≡ Ok (Graph net mode)
+graph_with_mode program net mode n = graph_in program net mode (no_option net n)

@@ -5,6 +5,7 @@ use Rattle.clap.specs.Simple.{new_shape}
 use Rattle.ds_cmd.specs.Run.{run_job, run_shape}
 use Rattle.ds_cmd.specs.Clock.{clock_job, clock_shape}
 use Rattle.ds_cmd.specs.Check.{check_job, check_shape}
+use Rattle.ds_cmd.specs.Graph.{graph_job, graph_shape}
 use Rattle.ds_cmd.specs.declared.job.Job.{Job}
 use Rattle.ds_cmd.specs.declared.fault.UsageFault.{UsageFault}
 
@@ -18,6 +19,7 @@ abbrev pub commands : List Entry
 commands = record { shape = run_shape; job = run_job }
     ∷ record { shape = clock_shape; job = clock_job }
     ∷ record { shape = check_shape; job = check_job }
+    ∷ record { shape = graph_shape; job = graph_job }
     ∷ []
 
 -- the program, which wants one of the commands

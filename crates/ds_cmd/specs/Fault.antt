@@ -3,11 +3,18 @@ use Rattle.std.specs.Prelude.{Option, Some, None, Result, Ok, Err, ◌≡◌, �
 use Rattle.ds_cmd.specs.declared.job.Job.{Job}
 use Rattle.ds_cmd.specs.declared.fault.UsageFault.{UsageFault}
 use Rattle.ds_cmd.specs.declared.fault.UsageFault.TheVariants.{Line, Memory}
+use Rattle.ds_cmd.specs.declared.fault.UsageFault.TheVariants as usage
+use Rattle.ds_base.specs.declared.number.Mode.{Mode}
 
 -- what follows from a value; without one the words are no command line
 abbrev pub with_value : {A : Type 0} → Option A → (A → Result Job UsageFault) → Result Job UsageFault
 with_value None next = Err Line
 with_value (Some value) next = next value
+
+-- what follows from how registers are put into clusters; without it there is no such mode
+abbrev pub with_mode : Option Mode → (Mode → Result Job UsageFault) → Result Job UsageFault
+with_mode None next = Err usage.Mode
+with_mode (Some mode) next = next mode
 
 -- the answer is what is meant, or memory was wanted and not found
 abbrev pub Gives : Result Job UsageFault → Result Job UsageFault → Type 0

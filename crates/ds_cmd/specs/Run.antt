@@ -1,18 +1,22 @@
 -- The command `run`.
 use Rattle.std.specs.Prelude.{List, [], ◌∷◌, Result, Ok, codes}
 use Rattle.clap.specs.Words.{Row, Shape, first_of}
-use Rattle.ds_cmd.specs.Argument.{command_shape, file_rule}
-use Rattle.ds_cmd.specs.Fault.{with_value}
+use Rattle.ds_cmd.specs.Argument.{command_shape, file_rule, option_rule}
+use Rattle.ds_cmd.specs.Clusters.{clusters_of}
+use Rattle.ds_cmd.specs.Fault.{with_mode, with_value}
 use Rattle.ds_cmd.specs.declared.job.Job.{Job}
 use Rattle.ds_cmd.specs.declared.job.Job.TheVariants.{Run}
 use Rattle.ds_cmd.specs.declared.fault.UsageFault.{UsageFault}
 
--- `run NET VEC`
+-- `run NET VEC [--clusters MODE]`
 abbrev pub run_shape : Shape
-run_shape =
-    command_shape (codes "run") (file_rule (codes "net") ∷ file_rule (codes "vec") ∷ [])
+run_shape = command_shape (codes "run") (
+    file_rule (codes "net") ∷
+    file_rule (codes "vec") ∷
+    option_rule (codes "clusters") ∷ [])
 
 -- its job, from the values of its arguments
 abbrev pub run_job : List Row → Result Job UsageFault
 run_job rows = with_value (first_of (codes "net") rows) (λ net.
-    with_value (first_of (codes "vec") rows) (λ vec. Ok (Run net vec)))
+    with_value (first_of (codes "vec") rows) (λ vec.
+    with_mode (clusters_of rows) (λ clusters. Ok (Run net vec clusters))))

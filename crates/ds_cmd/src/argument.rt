@@ -1,6 +1,6 @@
 ghost use Rattle.std.specs.Prelude.{◌≡◌, false, option_map, MatchResult};
 ghost use Rattle.clap.specs.Words.{rule_of, found_of, rows_of, first_of};
-ghost use Rattle.ds_cmd.specs.Argument.{file_rule};
+ghost use Rattle.ds_cmd.specs.Argument.{file_rule, option_rule};
 
 use clap::{Arg, ArgMatches};
 use std::alloc::Global;
@@ -11,6 +11,14 @@ pub fn file<'a>(alloc: Global, id: &'a str) -> Arg<'a>
     ensures local { result.global ≡ false }
 {
     Arg::new(alloc, id).required(true)
+}
+
+/// An option with a value: `--id VALUE`, or `--id=VALUE`.
+pub fn option<'a>(alloc: Global, id: &'a str) -> Arg<'a>
+    ensures rule { rule_of result ≡ option_rule id.entry.now }
+    ensures local { result.global ≡ false }
+{
+    Arg::new(alloc, id).long(id)
 }
 
 /// The value of an argument, where it has one.

@@ -1,13 +1,21 @@
 ghost use Rattle.std.specs.Prelude.{◌≡◌, ℕ, List, [], ◌∷◌, Ok, Err, true, false, codes};
 ghost use Rattle.ds_cmd.specs.Line.{job_of};
 ghost use Rattle.ds_cmd.specs.Plain.{is_command, is_plain};
-ghost use Rattle.ds_cmd.specs.declared.job.Job.TheVariants.{Run, Clock, Check};
+ghost use Rattle.ds_cmd.specs.declared.job.Job.TheVariants.{Run, Clock, Check, Graph};
+ghost use Rattle.ds_base.specs.declared.number.Mode.TheVariants.{Each};
+ghost use Rattle.ds_base.specs.declared.number.Mode.{Mode};
+ghost use Rattle.ds_cmd.specs.Clusters.{mode_word};
 ghost use Rattle.ds_cmd.specs.declared.fault.UsageFault.TheVariants.{Line};
 
-/// `run` with two names of files is taken, whatever the program's name is.
+/// `run` with two names of files is taken, whatever the program's name is; each register is then a
+/// cluster of its own, unless the word behind `--clusters` says otherwise.
 pub fn run_is_taken()
-    ensures { (program net vec : List ℕ) → is_plain net ≡ true → is_plain vec ≡ true
-        → job_of (program ∷ codes "run" ∷ net ∷ vec ∷ []) ≡ Ok (Run net vec) }
+    ensures each { (program net vec : List ℕ) → is_plain net ≡ true → is_plain vec ≡ true
+        → job_of (program ∷ codes "run" ∷ net ∷ vec ∷ []) ≡ Ok (Run net vec Each) }
+    ensures clusters { (program net vec : List ℕ) (mode : Mode) → is_plain net ≡ true
+        → is_plain vec ≡ true
+        → job_of (program ∷ codes "run" ∷ net ∷ vec ∷ codes "--clusters" ∷ mode_word mode ∷ [])
+        ≡ Ok (Run net vec mode) }
 {}
 
 /// `clock` with two names of files is taken.
@@ -20,6 +28,15 @@ pub fn clock_is_taken()
 pub fn check_is_taken()
     ensures { (program net : List ℕ) → is_plain net ≡ true
         → job_of (program ∷ codes "check" ∷ net ∷ []) ≡ Ok (Check net) }
+{}
+
+/// `graph` with the name of a file is taken.
+pub fn graph_is_taken()
+    ensures each { (program net : List ℕ) → is_plain net ≡ true
+        → job_of (program ∷ codes "graph" ∷ net ∷ []) ≡ Ok (Graph net Each) }
+    ensures clusters { (program net : List ℕ) (mode : Mode) → is_plain net ≡ true
+        → job_of (program ∷ codes "graph" ∷ net ∷ codes "--clusters" ∷ mode_word mode ∷ [])
+        ≡ Ok (Graph net mode) }
 {}
 
 /// A line that begins with another name than that of a command is refused, whatever follows.

@@ -4,17 +4,19 @@
 //! `parse` gives exactly the job that the words ask for, or exactly why they are no command line.
 //! What `clap` takes decides: its definition for simple commands, over the table of commands in
 //! `specs/Commands.antt`, where a command joins by an entry. The laws say without `clap` which
-//! lines are taken: the name of a command, and then its files; and that no other name is.
-//! A request for help or for the version is no command line. No clause says what a `UsageFault`
-//! displays.
+//! lines are taken: the name of a command, its files, and the option behind them; and that no other
+//! name is. A request for help or for the version is no command line. No clause says what a
+//! `UsageFault` displays.
 #![tactic(auto)]
 
 mod argument;
 mod check;
 mod clock;
+mod clusters;
 mod command;
 mod fault;
 mod file_name;
+mod graph;
 mod job;
 mod laws;
 mod line;
@@ -25,5 +27,7 @@ mod tests;
 pub use fault::UsageFault;
 pub use file_name::FileName;
 pub use job::Job;
-pub use laws::{check_is_taken, clock_is_taken, other_names_are_refused, run_is_taken};
+pub use laws::{
+    check_is_taken, clock_is_taken, graph_is_taken, other_names_are_refused, run_is_taken,
+};
 pub use line::parse;

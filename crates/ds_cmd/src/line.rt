@@ -4,7 +4,7 @@ ghost use Rattle.ds_cmd.specs.Fault.{Gives};
 ghost use Rattle.ds_cmd.specs.Line.{job_in, job_of};
 
 use crate::command::desync_command;
-use crate::{Job, UsageFault, check, clock, run};
+use crate::{Job, UsageFault, check, clock, graph, run};
 use clap::error::ErrorKind;
 use clap::{ArgMatches, Error};
 use std::alloc::Global;
@@ -45,6 +45,8 @@ fn job(alloc: Global, matches: &ArgMatches<'_>) -> Result<Job, UsageFault>
         clock::job(alloc, values)
     } else if name == "check" {
         check::job(alloc, values)
+    } else if name == "graph" {
+        graph::job(alloc, values)
     } else {
         Err(UsageFault::Line)
     }

@@ -4,7 +4,7 @@ use Rattle.ds_outside.specs.Held.{Held}
 use Rattle.ds_design.specs.Circuit.{Circuit}
 use Rattle.ds_design.specs.Rows.{Rows}
 use Rattle.ds_app.specs.Stage.{OfFile, then_stage}
-use Rattle.ds_app.specs.Stages.{clusters_stage, netlist_stage, report_stage, trace_stage, vectors_stage}
+use Rattle.ds_app.specs.Stages.{netlist_stage, report_stage, trace_stage, vectors_stage}
 use Rattle.ds_app.specs.Job.{clock_stage, run_stage, stages_of}
 use Rattle.ds_app.specs.Ends.{Answers, Ends, Never, Output, RoseIn}
 use Rattle.ds_app.specs.declared.stop.Stop.{Stop}

@@ -1,7 +1,7 @@
 use Rattle.std.proofs.Common.{◌≡◌, ℕ, List, subst}
 use Rattle.ds_outside.specs.Held.{Held}
 use Rattle.ds_cmd.specs.declared.job.Job.{Job}
-use Rattle.ds_cmd.specs.declared.job.Job.TheVariants.{Run, Clock, Check}
+use Rattle.ds_cmd.specs.declared.job.Job.TheVariants.{Run, Clock, Check, Graph}
 use Rattle.ds_app.specs.Stage.{OfFile}
 use Rattle.ds_app.specs.Job.{stages_of}
 use Rattle.ds_app.specs.Ends.{Ends, Output, RoseIn}
@@ -9,7 +9,7 @@ use Rattle.ds_app.proofs.job.do_job.Goals as goal
 
 pub returns-in-Run : goal.returns-in-Run
 returns-in-Run g c =
-    let job : Run c.as_str.result.now c.as_str-in-Run.result.now ≡ c.args.job.now = cc in
+    let job : Run c.as_str.result.now c.as_str-in-Run.result.now c.in-Run.clusters ≡ c.args.job.now = cc in
     subst (λ (j : Job). Ends (stages_of (g.F.Files.held c.args.files.now) j) (RoseIn (g.F.Files.faults c.args.files.now) (g.F.Files.faults c.run.new.files))
     (record { old = g.O.Sink.written c.args.out.now; new = g.O.Sink.written c.run.new.out; before = g.O.Sink.faults c.args.out.now; now = g.O.Sink.faults c.run.new.out }) c.run.result) job c.run.ensures
 
@@ -24,3 +24,9 @@ returns-in-Check g c =
     let job : Check c.as_str-in-Check.result.now ≡ c.args.job.now = cc in
     subst (λ (j : Job). Ends (stages_of (g.F.Files.held c.args.files.now) j) (RoseIn (g.F.Files.faults c.args.files.now) (g.F.Files.faults c.check.new.files))
     (record { old = g.O.Sink.written c.args.out.now; new = g.O.Sink.written c.check.new.out; before = g.O.Sink.faults c.args.out.now; now = g.O.Sink.faults c.check.new.out }) c.check.result) job c.check.ensures
+
+pub returns-in-Graph : goal.returns-in-Graph
+returns-in-Graph g c =
+    let job : Graph c.as_str-in-Graph.result.now c.in-Graph.clusters ≡ c.args.job.now = cc in
+    subst (λ (j : Job). Ends (stages_of (g.F.Files.held c.args.files.now) j) (RoseIn (g.F.Files.faults c.args.files.now) (g.F.Files.faults c.graph.new.files))
+    (record { old = g.O.Sink.written c.args.out.now; new = g.O.Sink.written c.graph.new.out; before = g.O.Sink.faults c.args.out.now; now = g.O.Sink.faults c.graph.new.out }) c.graph.result) job c.graph.ensures

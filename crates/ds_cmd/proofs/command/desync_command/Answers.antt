@@ -17,5 +17,7 @@ returns c =
     ∙ ap₂ with_subcommand start c.in_ok-command.ensures in
     let two = c.in_ok-subcommand-2.ensures.shape (third _ _ _ _ (ap (λ (s : Shape). s.is_plain) c.in_ok-command-2.ensures))
     ∙ ap₂ with_subcommand one c.in_ok-command-2.ensures in
-    c.in_ok-top.ensures.shape (third _ _ _ _ (ap (λ (s : Shape). s.is_plain) c.in_ok-command-3.ensures))
-    ∙ ap₂ with_subcommand two c.in_ok-command-3.ensures
+    let three = c.in_ok-subcommand-3.ensures.shape (third _ _ _ _ (ap (λ (s : Shape). s.is_plain) c.in_ok-command-3.ensures))
+    ∙ ap₂ with_subcommand two c.in_ok-command-3.ensures in
+    c.in_ok-top.ensures.shape (third _ _ _ _ (ap (λ (s : Shape). s.is_plain) c.in_ok-command-4.ensures))
+    ∙ ap₂ with_subcommand three c.in_ok-command-4.ensures

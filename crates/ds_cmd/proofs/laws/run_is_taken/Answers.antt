@@ -1,5 +1,8 @@
-use Rattle.ds_cmd.proofs.Taken.{run_taken}
+use Rattle.ds_cmd.proofs.Taken.{run_taken, run_with_mode}
 use Rattle.ds_cmd.proofs.laws.run_is_taken.Goals as goal
 
-pub returns : goal.returns
-returns c = run_taken
+pub returns-clause-each : goal.returns-clause-each
+returns-clause-each c = run_taken
+
+pub returns-clause-clusters : goal.returns-clause-clusters
+returns-clause-clusters c = run_with_mode

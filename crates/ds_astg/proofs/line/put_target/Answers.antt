@@ -1,0 +1,16 @@
+use Rattle.std.proofs.Common.{◌≡◌, ◌∙◌, ap, sym}
+use Rattle.ds_marked.specs.declared.marked.Arc.{Arc}
+use Rattle.ds_astg.specs.Text.{arc_at, text_at}
+use Rattle.ds_rows.proofs.Then.{goes_on, with_text}
+use Rattle.ds_astg.proofs.Texts.{arc_is, target_of_end, target_of_place}
+use Rattle.ds_astg.proofs.line.put_target.Goals as goal
+
+pub returns-then-is_further : goal.returns-then-is_further
+returns-then-is_further g c =
+    with_text (target_of_place c.args.graph.now c.args.arc (sym c.is_further.ensures ∙ c.if-is_further.true)) (goes_on c.put-so_far.ensures c.put_place.ensures)
+
+pub returns : goal.returns
+returns g c =
+    let same = sym c.index-arcs-arc.is ∙ arc_is c.args.graph.now c.arcs-arcs.result.now c.args.arc c.index-arcs-arc.result c.arcs-arcs.ensures.arcs c.requires c.index-arcs-arc.is in
+    with_text (target_of_end c.args.graph.now c.args.arc (sym c.is_further.ensures ∙ c.if-is_further.false))
+    (goes_on c.put-so_far.ensures (with_text (ap (λ (a : Arc). text_at c.args.graph.now a.target) same) c.put_event.ensures))

@@ -1,0 +1,84 @@
+-- The text of a marked graph, in the `.g` form of SIS and petrify.
+use Rattle.std.specs.Prelude.{ℕ, ◌-◌, Bool, true, false, List, [], ◌++◌, length, codes, decimal, ltb, ◌&&◌, ◌==◌, slice_get, slice_index_or, if◌then◌else◌}
+use Rattle.std.specs.Option.{option_map_or}
+use Rattle.ds_marked.specs.Graph.{Graph}
+use Rattle.ds_marked.specs.declared.marked.Arc.{Arc}
+use Rattle.ds_marked.specs.declared.marked.Event.{Event}
+use Rattle.ds_marked.specs.declared.marked.Kind.{Kind}
+use Rattle.ds_marked.specs.declared.marked.Kind.TheVariants.{Rise, Fall, Dummy}
+use Rattle.ds_design.specs.Log.{event_text}
+use Rattle.ds_astg.specs.Pieces.{all_below, line_with}
+
+-- an arc with a number
+abbrev pub arc_at : Graph → ℕ → Arc
+arc_at g k = slice_index_or g.arcs k (record { source = 0; target = 0; tokens = 0 })
+
+-- an event with a number, as it is written
+abbrev pub text_at : Graph → ℕ → List ℕ
+text_at g v = option_map_or event_text (slice_get g.events v) []
+
+-- two arcs have the same ends
+abbrev pub have_same_ends : Arc → Arc → Bool
+have_same_ends a b = (a.source == b.source) && (a.target == b.target)
+
+-- an arc with the same ends stands before this one
+abbrev pub is_further : Graph → ℕ → Bool
+is_further g k = ltb 0 k && have_same_ends (arc_at g (k - 1)) (arc_at g k)
+
+-- the name of the place of such an arc
+abbrev pub place_name : ℕ → List ℕ
+place_name k = codes "p" ++ decimal k
+
+-- a signal that rises, with a blank before it
+abbrev pub rising : Kind → List ℕ → List ℕ
+rising Rise signal = codes " " ++ signal
+rising Fall signal = []
+rising Dummy signal = []
+
+-- the signal of an event that rises
+abbrev pub signal_of : Event → List ℕ
+signal_of e = rising e.kind e.signal
+
+-- the signal of an event with a number, where it rises there
+abbrev pub signal_text : Graph → ℕ → List ℕ
+signal_text g v = option_map_or signal_of (slice_get g.events v) []
+
+-- what stands for an arc on the line of its source: its target, or its place
+abbrev pub target_text : Graph → ℕ → List ℕ
+target_text g k = codes " " ++ (if is_further g k then place_name k else text_at g (arc_at g k).target)
+
+-- the same on the line of an event, where the arc begins there
+abbrev pub arc_text : Graph → ℕ → ℕ → List ℕ
+arc_text g v k = if (arc_at g k).source == v then target_text g k else []
+
+-- an event from which arcs lead: the event, and what stands for them in their order
+abbrev pub event_line : Graph → ℕ → List ℕ
+event_line g v = line_with (text_at g v) (all_below (arc_text g v) (length g.arcs))
+
+-- a place of its own: the place, and the target of its arc
+abbrev pub place_line : Graph → ℕ → List ℕ
+place_line g k =
+    if is_further g k then place_name k ++ codes " " ++ text_at g (arc_at g k).target ++ codes "\n" else []
+
+-- what stands for an arc in the marking: its ends, or its place
+abbrev pub entry_name : Graph → ℕ → List ℕ
+entry_name g k =
+    if is_further g k then place_name k
+    else codes "<" ++ text_at g (arc_at g k).source ++ codes "," ++ text_at g (arc_at g k).target ++ codes ">"
+
+-- two tokens or more as a number, one token without
+abbrev pub tokens_text : ℕ → List ℕ
+tokens_text tokens = if ltb 1 tokens then codes "=" ++ decimal tokens else []
+
+-- the entry of an arc with tokens, with a blank before it
+abbrev pub entry_text : Graph → ℕ → List ℕ
+entry_text g k =
+    if ltb 0 (arc_at g k).tokens then codes " " ++ entry_name g k ++ tokens_text (arc_at g k).tokens else []
+
+-- the whole text: the signals, a line for each event from which arcs lead, a line for each place of its own, the marking
+abbrev pub graph_text : List ℕ → Graph → List ℕ
+graph_text name g =
+    codes ".model " ++ name ++ codes "\n.outputs" ++ all_below (signal_text g) (length g.events)
+    ++ codes "\n.graph\n" ++ all_below (event_line g) (length g.events)
+    ++ all_below (place_line g) (length g.arcs)
+    ++ codes ".marking {" ++ all_below (entry_text g) (length g.arcs) ++ codes " }\n.end\n"

@@ -1,0 +1,8 @@
+use Rattle.ds_cmd.proofs.Taken.{graph_taken, graph_with_mode}
+use Rattle.ds_cmd.proofs.laws.graph_is_taken.Goals as goal
+
+pub returns-clause-each : goal.returns-clause-each
+returns-clause-each c = graph_taken
+
+pub returns-clause-clusters : goal.returns-clause-clusters
+returns-clause-clusters c = graph_with_mode

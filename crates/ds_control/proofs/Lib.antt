@@ -1,0 +1,6 @@
+pub mod Two
+pub mod Permuted
+pub mod Pushed
+pub mod Named
+pub mod Required
+pub mod Listed

@@ -1,0 +1,59 @@
+//! The events of the nodes.
+ghost use Rattle.std.specs.Prelude.{◌≡◌, ◌++◌, ◌∷◌, [], IfOk, OnOk};
+ghost use Rattle.ds_design.specs.Node.{In, Out, Master, Slave};
+ghost use Rattle.ds_design.specs.Plan.{node_events};
+ghost use Rattle.ds_marked.specs.declared.marked.Kind.TheVariants.{Rise, Fall};
+ghost use Rattle.ds_control.specs.Orders.{cluster_events};
+
+use ds_base::{OutOfMemory, Seq};
+use ds_marked::{Event, Kind};
+use itoa::Buffer;
+use std::alloc::Global;
+
+// The events of `IN`, of `OUT`, and of the master and the slave of each cluster.
+pub(crate) fn events(alloc: Global, clusters: usize) -> Result<Seq<Event>, OutOfMemory>
+    ensures { IfOk result (λ e. e ≡ node_events In ++ node_events Out ++ cluster_events clusters) }
+{
+    let mut events = Seq::new(alloc);
+    push_events(alloc, b"IN", b"", &mut events)?;
+    push_events(alloc, b"OUT", b"", &mut events)?;
+    for i in 0..clusters {
+        push_cluster(alloc, i, &mut events)?;
+    }
+    Ok(events)
+}
+
+// The events of the nodes of a cluster.
+fn push_cluster(alloc: Global, i: usize, events: &mut Seq<Event>) -> Result<(), OutOfMemory>
+    ensures { OnOk result
+        (events.new ≡ events.old ++ (node_events (Master i) ++ node_events (Slave i))) }
+{
+    let mut buffer = Buffer::new();
+    let digits = buffer.format(i).as_bytes();
+    push_events(alloc, b"M", digits, events)?;
+    push_events(alloc, b"S", digits, events)
+}
+
+// The events of the node whose name is a letter, or a word, and digits.
+fn push_events(
+    alloc: Global,
+    word: &[u8],
+    digits: &[u8],
+    events: &mut Seq<Event>,
+) -> Result<(), OutOfMemory>
+    ensures { OnOk result (events.new ≡ events.old
+        ++ record { signal = word.now ++ digits.now; kind = Rise }
+        ∷ record { signal = word.now ++ digits.now; kind = Fall } ∷ []) }
+{
+    events.push(event(alloc, word, digits, Kind::Rise)?)?;
+    events.push(event(alloc, word, digits, Kind::Fall)?)
+}
+
+fn event(alloc: Global, word: &[u8], digits: &[u8], kind: Kind) -> Result<Event, OutOfMemory>
+    ensures { IfOk result (λ e. e ≡ record { signal = word.now ++ digits.now; kind = kind }) }
+{
+    let mut name = Vec::from_slice(alloc, word)?;
+    name.extend_from_slice(digits)?;
+    let signal = Seq::of(name);
+    Ok(Event { signal, kind })
+}

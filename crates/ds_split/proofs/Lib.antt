@@ -1,0 +1,11 @@
+pub mod Groups
+pub mod Keys
+pub mod Loops
+pub mod Groupings
+pub mod Pigeons
+pub mod Searching
+pub mod NodeNets
+pub mod Sources
+pub mod Marks
+pub mod DataEdges
+pub mod OneClustering

@@ -1,0 +1,10 @@
+pub mod Bus
+pub mod Keys
+pub mod Cluster
+pub mod Groups
+pub mod Split
+pub mod Nets
+pub mod Search
+pub mod Edges
+pub mod Worked
+pub mod Laws
