@@ -1,0 +1,13 @@
+-- What a pass knows and keeps, then the parts of a fabric, then the record.
+pub mod Views
+pub mod Passes
+pub mod Finds
+pub mod Standing
+pub mod Joins
+pub mod Laying
+pub mod Chains
+pub mod Ranges
+pub mod Spreads
+pub mod Unpacks
+pub mod RowReads
+pub mod Toggles

@@ -1,0 +1,478 @@
+-- What a pass has in memory, beside its view, through loads and firings.
+use Rattle.std.proofs.Common.{◌≡◌, ℕ, suc, ◌+◌, ◌-◌, ◌*◌, ◌<◌, ◌≤◌, ◌≢◌, Bool, true, false, List}
+use Rattle.std.proofs.Common.{[], ◌∷◌, ◌++◌, length}
+use Rattle.std.proofs.Common.{get_or, set, sym, refl, ap, ◌∙◌, subst, arith, le_trans, le_refl}
+use Rattle.std.proofs.Common.{le_of_eq, length-set}
+use Rattle.std.proofs.Common.{get_or-set_other, get_or-set_same, length-append, vec_capacity}
+use Rattle.std.proofs.Common.{⊎_elim}
+use Rattle.std.proofs.Common.{zero, ◌/◌, ◌%◌, ◌⊎◌, inl, inr, take}
+use Rattle.std.proofs.Math.Seq.{take-append_seam}
+use Rattle.std.proofs.Math.Nat.{mul-le-mul_right, mul-div_cancel_left}
+use Rattle.ds_rule.specs.Rows.{row}
+use Rattle.ds_rule.proofs.EventLaws.{next-low, turns-low, opened-low, closing-is}
+use mathlib.Core.Logic.{dite}
+use mathlib.Core.Option.{some}
+use native.Mathlib.Decide.{ℕ_discrete}
+use lib.ListN.{get_elem?}
+use Rattle.atomic_table.proofs.Lists.{at_set, set_else, at_index}
+use Rattle.ds_rule.specs.Run.{Run, events, node_of, next, turns, opens, opening, closing, opened}
+use Rattle.ds_rule.specs.Run.{count, Enabled}
+use Rattle.ds_rule.specs.Words.{width}
+use Rattle.ds_rule.specs.Rows.{supply, rows_to}
+use Rattle.ds_rule.specs.Rule.{holds, tickets, seen}
+use Rattle.ds_rule.specs.Plays.{Sat, after_depart, after_draw, after_publish}
+use Rattle.ds_rule.specs.declared.view.View.{View}
+use Rattle.ds_rule.proofs.Lists.{same_at, set_there, apart_set, at_below, has_below}
+use Rattle.ds_rule.proofs.EventLaws.{node-next, node-closing, turns-next, turns-other, turns_up}
+use Rattle.ds_rule.proofs.EventLaws.{event_below, events_of, closing_apart}
+use Rattle.ds_rule.proofs.EventLaws.{even_opens, next-opens, turns-opening, node-opening}
+use Rattle.ds_rule.proofs.RowLaws.{length-rows, rows-next}
+use Rattle.ds_fabric.specs.declared.history.History.{History}
+use Rattle.ds_fabric.specs.Looks.{LooksOn, Enough}
+use Rattle.ds_fabric.specs.Noted.{HasFired, HasRoomToNote}
+use Rattle.ds_fabric.specs.Flown.{HasOpened}
+use Rattle.ds_fabric.specs.Showing.{HasRoom, Tells, Keeps}
+use Rattle.ds_fabric.specs.Stepped.{Fires, done}
+use Rattle.ds_fabric.proofs.Views.{has_after}
+
+-- the history of a node, beside another view that says the same of the node
+pub tells_moved : (v w : View) (h : History) → Tells v h → w.run ≡ v.run → holds w h.node ≡ true
+    → seen w h.node ≡ seen v h.node
+    → ((e : ℕ) → node_of v.run e ≡ h.node → tickets w e ≡ tickets v e) → Tells w h
+tells_moved v w h t run has same ticks = let l : ℕ = h.node in record {
+  has = has;
+  fired = t.fired ∙ sym same;
+  first = ap (λ (r : Run). tickets w (next r l 0)) run
+      ∙ (ticks (next v.run l 0) (node-next v.run l 0) ∙ t.first);
+  second = λ low. let low' : l < v.run.latches = subst (λ (r : Run). l < r.latches) run low in
+      ticks (closing l) (node-closing v.run l low') ∙ t.second low';
+  rows = t.rows ∙ sym (ap (λ (r : Run). rows_to r l (opened r l (seen w l))) run
+      ∙ ap (λ (s : ℕ). rows_to v.run l (opened v.run l s)) same);
+  room = subst (λ (r : Run). HasRoom r l h) (sym run) t.room;
+}
+
+-- loads keep what a pass has in memory
+pub looks_keep : (me me' : Sat) (nodes : List History) → Keeps me nodes → LooksOn me.0 me'.0
+    → me'.1 ≡ me.1 → Keeps me' nodes
+looks_keep me me' nodes k q slots =
+    let v : View = me.0 in let w : View = me'.0 in
+    let has : (l : ℕ) → holds w l ≡ holds v l = λ l. has_after v w l q in
+    let ticks : (e : ℕ) → tickets w e ≡ tickets v e =
+    λ e. ap (λ (ts : List (List ℕ)). get_or ts e []) q.tickets_same in
+    let P : Run → Type 0 = λ r. (e : ℕ) → holds w (node_of r e) ≡ true
+    → turns r e (seen w (node_of r e)) ≡ length (tickets w e) in record {
+      no_slot = slots ∙ k.no_slot;
+      live = q.live ∙ k.live;
+      rests = q.stage ∙ k.rests;
+      held_long = ap length q.holds_same ∙ (k.held_long ∙ ap (λ (r : Run). r.nodes) (sym q.run));
+      tickets_long = ap length q.tickets_same ∙ (k.tickets_long ∙ ap events (sym q.run));
+      seen_long = q.seen_long ∙ (k.seen_long ∙ ap (λ (r : Run). r.nodes) (sym q.run));
+      among = subst (λ (r : Run). r.latches ≤ r.nodes) (sym q.run) k.among;
+      counts = subst P (sym q.run) (λ e h. let l : ℕ = node_of v.run e in
+          let h' : holds v l ≡ true = sym (has l) ∙ h in
+          ap (turns v.run e) (q.own l h') ∙ (k.counts e h' ∙ ap length (sym (ticks e))));
+      listed = λ i h at. let t = k.listed i h at in
+          tells_moved v w h t q.run (has h.node ∙ t.has) (q.own h.node t.has) (λ e is. ticks e);
+      found = λ l h. k.found l (sym (has l) ∙ h);
+      apart = k.apart;
+    }
+
+abbrev pub landed : View → ℕ → ℕ → View
+landed v l t = after_publish (after_draw (after_depart v l) t)
+
+-- the event that the node fires next
+abbrev coming : View → ℕ → ℕ
+coming v l = next v.run l (seen v l)
+
+pub near-node : (me : Sat) (nodes : List History) (l : ℕ) → Keeps me nodes → holds me.0 l ≡ true
+    → l < me.0.run.nodes
+near-node me nodes l k h = omega (arith, has_below me.0.holds l h, k.held_long)
+
+near-event : (me : Sat) (nodes : List History) (l : ℕ) → Keeps me nodes → holds me.0 l ≡ true
+    → coming me.0 l < length me.0.tickets
+near-event me nodes l k h = omega (
+  arith,
+  k.tickets_long,
+  event_below me.0.run (coming me.0 l) k.among
+      (omega (arith, node-next me.0.run l (seen me.0 l), near-node me nodes l k h)),
+)
+
+tickets-landed : (v : View) (l t e : ℕ) → coming v l < length v.tickets → e ≡ coming v l
+    → tickets (landed v l t) e ≡ tickets v (coming v l) ++ t ∷ []
+tickets-landed v l t e near is = ap (tickets (landed v l t)) is
+    ∙ get_or-set_same v.tickets (coming v l) (tickets v (coming v l) ++ t ∷ []) [] near
+
+tickets-else : (v : View) (l t e : ℕ) → e ≢ coming v l → tickets (landed v l t) e ≡ tickets v e
+tickets-else v l t e n = get_or-set_other v.tickets (coming v l) e (tickets v (coming v l)
+    ++ t ∷ []) [] n
+
+seen-landed : (v : View) (l t x : ℕ) → l < length v.seen → x ≡ l
+    → seen (landed v l t) x ≡ seen v l + 1
+seen-landed v l t x near is = ap (seen (landed v l t)) is
+    ∙ get_or-set_same v.seen l (seen v l + 1) 0 near
+
+seen-else : (v : View) (l t x : ℕ) → x ≢ l → seen (landed v l t) x ≡ seen v x
+seen-else v l t x n = get_or-set_other v.seen l x (seen v l + 1) 0 n
+
+-- a firing keeps what a pass has in memory
+pub fires_keep : (me me' : Sat) (nodes : List History) (i : ℕ) (h h' : History) (t : ℕ)
+    → Keeps me nodes → get_elem? nodes i ≡ some h → me' ≡ (landed me.0 h.node t, me.1)
+    → HasFired me.0.run h h' t → Keeps me' (set nodes i h')
+fires_keep me me' nodes i h h' t k at is f =
+    let v : View = me.0 in let l : ℕ = h.node in let w : View = landed v l t in
+    let R : Run = v.run in let E : ℕ = coming v l in
+    let old = k.listed i h at in
+    let of-l : node_of R E ≡ l = node-next R l (seen v l) in
+    let near-E = near-event me nodes l k old.has in
+    let near-l : l < length v.seen = omega (
+      arith,
+      k.seen_long,
+      near-node me nodes l k old.has,
+    ) in
+    let E-is : next R l h.fired ≡ E = ap (next R l) old.fired in
+    let far : (x e : ℕ) → x ≢ l → node_of R e ≡ x
+    → tickets w e ≡ tickets v e = λ x e n on. tickets-else v l t e
+    (λ z. n (sym on ∙ (ap (node_of R) z ∙ of-l))) in
+    let new : Tells w h' = record {
+      has = ap (holds v) f.node ∙ old.has;
+      fired = f.fired ∙ (ap (λ (x : ℕ). x + 1) old.fired
+          ∙ sym (seen-landed v l t h'.node near-l f.node));
+      first = ap (λ (x : ℕ). tickets w (next R x 0)) f.node ∙ dite (ℕ_discrete E (next R l 0))
+          (λ e. let g = f.first (E-is ∙ e) in tickets-landed v l t (next R l 0) near-E (sym e)
+          ∙ (ap (λ (x : ℕ). tickets v x ++ t ∷ []) e
+          ∙ (ap (λ ts. ts ++ t ∷ []) old.first ∙ sym g.0)))
+          (λ e. let g = f.second (λ z. e (sym E-is ∙ z)) in
+          tickets-else v l t (next R l 0) (λ z. e (sym z)) ∙ (old.first ∙ sym g.1));
+      second = λ low'. let low : l < R.latches = omega (arith, low', f.node) in
+          ap (λ (x : ℕ). tickets w (closing x)) f.node ∙ dite (ℕ_discrete E (next R l 0))
+          (λ e. let g = f.first (E-is ∙ e) in tickets-else v l t (closing l)
+          (λ z. closing_apart R l low (z ∙ e)) ∙ (old.second low ∙ sym g.1))
+          (λ e. let g = f.second (λ z. e (sym E-is ∙ z)) in let c = (events_of R l E of-l e).1 in
+          tickets-landed v l t (closing l) near-E (sym c)
+          ∙ (ap (λ (x : ℕ). tickets v x ++ t ∷ []) c
+          ∙ (ap (λ ts. ts ++ t ∷ []) (old.second low) ∙ sym g.0)));
+      rows = f.rows ∙ (ap (λ (x : ℕ). rows_to R l (opened R l (x + 1))) old.fired
+          ∙ (ap (λ (x : ℕ). rows_to R l (opened R l x)) (sym (seen-landed v l t l near-l refl))
+          ∙ ap (λ (x : ℕ). rows_to R x (opened R x (seen w x))) (sym f.node)));
+      room = subst (λ (x : ℕ). HasRoom R x h') (sym f.node) (record {
+        first = omega (arith, old.room.first, f.first_room);
+        second = λ low. omega (arith, old.room.second low, f.second_room);
+        rows = omega (arith, old.room.rows, f.rows_room);
+        from = λ n. omega (arith, old.room.from n, f.from_room);
+      });
+    } in
+    let P : Sat → Type 0 = λ m. Keeps m (set nodes i h') in
+    subst P (sym is) (record {
+      no_slot = k.no_slot;
+      live = k.live;
+      rests = refl;
+      held_long = k.held_long;
+      tickets_long = length-set v.tickets E (tickets v E ++ t ∷ []) ∙ k.tickets_long;
+      seen_long = length-set v.seen l (seen v l + 1) ∙ k.seen_long;
+      among = k.among;
+      counts = λ e hx. let x : ℕ = node_of R e in dite (ℕ_discrete x l)
+          (λ on. ap (turns R e) (seen-landed v l t x near-l on) ∙ dite (ℕ_discrete e E)
+          (λ z. let c = k.counts E (ap (holds v) of-l ∙ old.has) in
+          let c' : turns R E (seen v l) ≡ length (tickets v E) =
+          ap (λ (y : ℕ). turns R E (seen v y)) (sym of-l) ∙ c in
+          omega (
+            arith,
+            ap (λ (y : ℕ). turns R y (seen v l + 1)) z,
+            turns-next R l (seen v l),
+            c',
+            ap length (tickets-landed v l t e near-E z),
+            length-append (tickets v E) (t ∷ []),
+          ))
+          (λ z. turns-other R e l (seen v l) on z ∙ (ap (λ (y : ℕ). turns R e (seen v y)) (sym on)
+          ∙ (k.counts e hx ∙ ap length (sym (tickets-else v l t e z))))))
+          (λ off. ap (turns R e) (seen-else v l t x off)
+          ∙ (k.counts e hx ∙ ap length (sym (far x e off refl))));
+      listed = λ j g at'. ⊎_elim
+          (λ e. subst (λ (x : History). Tells w x) e.1 new)
+          (λ e. let o = k.listed j g e.1 in let n : g.node ≢ l =
+          λ same. e.0 (k.apart j i g h e.1 at same) in
+          tells_moved v w g o refl o.has (seen-else v l t g.node n) (λ x on. far g.node x n on))
+          (at_set nodes i j h' g at');
+      found = λ x hx. let r = k.found x hx in dite (ℕ_discrete r.0 i)
+          (λ e. (
+            i,
+            h',
+            set_there nodes i h h' at,
+            f.node
+                ∙ (ap (λ (y : History). y.node) (same_at nodes i h r.1 at
+                (subst (λ j. get_elem? nodes j ≡ some r.1) e r.2)) ∙ r.3),
+          ))
+          (λ n. (r.0, r.1, set_else nodes i r.0 h' n ∙ r.2, r.3));
+      apart = λ j j' g g' a a' same. apart_set (λ
+          (x : History). x.node) nodes i h h' at f.node k.apart j j' g g' a a' same;
+    })
+
+-- what a firing after loads says
+pub fires : (run : Run) (me me' : Sat) (nodes : List History) (w : View) (l event turn t : ℕ)
+    → me.0.run ≡ run → Keeps me nodes → holds me.0 l ≡ true → LooksOn me.0 me'.0 → me'.1 ≡ me.1
+    → event ≡ next run l (seen me.0 l) → turn ≡ done run me.0 l + 1 → turn ≤ run.limit
+    → Enough run me'.0 event turn → me'.0.drawn ≤ t → w ≡ landed me'.0 l t
+    → Fires run me.0 w l event turn t
+fires run me me' nodes w l event turn t run_is k has q slots event_is turn_is within enough fresh is =
+    let v : View = me.0 in let u : View = me'.0 in let k' = looks_keep me me' nodes k q slots in
+    let has' : holds u l ≡ true = has_after v u l q ∙ has in
+    let P : View → Type 0 = λ x. Fires run v x l event turn t in
+    let own : seen u l ≡ seen v l = q.own l has in
+    let E-is : coming u l ≡ event = ap (λ (r : Run). next r l (seen u l)) (q.run ∙ run_is)
+    ∙ (ap (next run l) own ∙ sym event_is) in
+    let ticks : (e : ℕ) → tickets u e ≡ tickets v e =
+    λ e. ap (λ (ts : List (List ℕ)). get_or ts e []) q.tickets_same in
+    let near-E = near-event me' nodes l k' has' in
+    let near-l : l < length u.seen = omega (
+      arith,
+      k'.seen_long,
+      near-node me' nodes l k' has',
+    ) in
+    let rises : (x : ℕ) → seen u x ≤ seen (landed u l t) x = λ x. dite (ℕ_discrete x l)
+    (λ e. omega (arith, ap (seen u) e, seen-landed u l t x near-l e))
+    (λ n. le_of_eq (sym (seen-else u l t x n))) in
+    subst P (sym is) (record {
+      event_is = event_is;
+      turn_is = turn_is;
+      within = within;
+      enough = λ n a at into. omega (
+        arith,
+        enough n a at into,
+        turns_up run a.source (seen u (node_of run a.source))
+            (seen (landed u l t) (node_of run a.source)) (rises (node_of run a.source)),
+      );
+      fresh = omega (arith, fresh, q.drawn);
+      drawn = refl;
+      once_more = seen-landed u l t l near-l refl ∙ ap (λ (x : ℕ). x + 1) own;
+      one_more = tickets-landed u l t event near-E (sym E-is)
+          ∙ (ap (λ (x : ℕ). tickets u x ++ t ∷ []) E-is ∙ ap (λ ts. ts ++ t ∷ []) (ticks event));
+      others = λ e n. tickets-else u l t e (λ z. n (z ∙ E-is)) ∙ ticks e;
+      run_same = q.run;
+      holds_same = q.holds_same;
+      seen_up = λ x. le_trans (q.seen_up x) (rises x);
+      looks_up = omega (arith, q.looks_up);
+    })
+
+-- the history that was found, and is read or lent again
+pub record Found (me : Sat) (nodes : List History) (i node : ℕ) (h : History) : Type 0 where
+  pub at : get_elem? nodes i ≡ some h
+  pub node_is : h.node ≡ node
+  pub tells : Tells me.0 h
+  pub has : holds me.0 node ≡ true
+  pub near : node < me.0.run.nodes
+
+pub reads : (me : Sat) (nodes zs : List History) (i node : ℕ) (h : History) → zs ≡ nodes
+    → Keeps me nodes → (x : History) × (get_elem? zs i ≡ some x) × (x.node ≡ node)
+    → h ≡ get_or nodes i h
+    → Found me nodes i node h
+reads me nodes zs i node h e k f is =
+    let there : get_elem? nodes i ≡ some f.0 = subst (λ ys. get_elem? ys i ≡ some f.0) e f.1 in
+    let at : get_elem? nodes i ≡ some h = at_index nodes i h (at_below nodes i f.0 there) is in
+    let same : h.node ≡ node = ap (λ (x : History). x.node) (same_at nodes i h f.0 at there)
+    ∙ f.2 in let o = k.listed i h at in
+    let has : holds me.0 node ≡ true = subst (λ y. holds me.0 y ≡ true) same o.has in record {
+      at = at;
+      node_is = same;
+      tells = o;
+      has = has;
+      near = near-node me nodes node k has;
+    }
+
+-- the next event of a node is enabled at what was seen, where that is enough
+pub is_ready : (run : Run) (u : View) (l event turn : ℕ) → event ≡ next run l (seen u l)
+    → turn ≡ turns run event (seen u l) + 1 → turn ≤ run.limit → Enough run u event turn
+    → Enabled run (seen u) (next run l (seen u l))
+is_ready run u l event turn event_is turn_is within enough =
+    let E : ℕ = next run l (seen u l) in let n : count run (seen u) E ≡ turns run E (seen u l) =
+    ap (λ (x : ℕ). turns run E (seen u x)) (node-next run l (seen u l)) in
+    let same : turns run event (seen u l) ≡ turns run E (seen u l) =
+    ap (λ (x : ℕ). turns run x (seen u l)) event_is in (
+      omega (arith, n, same, turn_is, within),
+      λ k a at into. omega (arith, n, same, turn_is, enough k a at (into ∙ sym event_is)),
+    )
+
+-- there is room for the ticket of the next event
+pub room_first : (me : Sat) (nodes : List History) (h : History) → Keeps me nodes → Tells me.0 h
+    → turns me.0.run (coming me.0 h.node) (seen me.0 h.node) < me.0.run.limit
+    → coming me.0 h.node ≡ next me.0.run h.node 0 → length h.first.items < vec_capacity h.first
+room_first me nodes h k t below e = let v : View = me.0 in let l : ℕ = h.node in
+    let R : Run = v.run in let E : ℕ = coming v l in
+    let n = node-next R l (seen v l) in let c = k.counts E (ap (holds v) n ∙ t.has) in
+    omega (
+      arith,
+      c,
+      ap (λ (x : ℕ). turns R E (seen v x)) n,
+      ap (λ (x : ℕ). length (tickets v x)) e,
+      ap length t.first,
+      t.room.first,
+    )
+
+pub room_second : (me : Sat) (nodes : List History) (h : History) → Keeps me nodes → Tells me.0 h
+    → turns me.0.run (coming me.0 h.node) (seen me.0 h.node) < me.0.run.limit
+    → coming me.0 h.node ≢ next me.0.run h.node 0 → length h.second.items < vec_capacity h.second
+room_second me nodes h k t below e = let v : View = me.0 in let l : ℕ = h.node in
+    let R : Run = v.run in let E : ℕ = coming v l in
+    let n = node-next R l (seen v l) in let c = k.counts E (ap (holds v) n ∙ t.has) in
+    let o = events_of R l E n e in
+    omega (
+      arith,
+      c,
+      ap (λ (x : ℕ). turns R E (seen v x)) n,
+      ap (λ (x : ℕ). length (tickets v x)) o.1,
+      ap length (t.second o.0),
+      t.room.second o.0,
+    )
+
+-- and for the row of the next opening
+pub room_row : (v : View) (h : History) → Tells v h
+    → turns v.run (coming v h.node) (seen v h.node) < v.run.limit
+    → opens v.run (coming v h.node) ≡ true
+    → length h.rows.items + width v.run h.node ≤ vec_capacity h.rows
+room_row v h t below o = let l : ℕ = h.node in let R : Run = v.run in let w : ℕ = width R l in
+    let K : ℕ = opened R l (seen v l) in
+    let e = next-opens R l (seen v l) o in let low = (even_opens R l (seen v l) o).0 in
+    let is : turns R (coming v l) (seen v l) ≡ K = ap (λ (x : ℕ). turns R x (seen v l)) e
+    ∙ turns-opening R l (seen v l) low in
+    omega (
+      arith,
+      ap length t.rows,
+      length-rows R l K,
+      mul-le-mul_right {m = suc K} {n = R.limit} w (omega arith),
+      Rattle.std.proofs.Common.suc-mul K w,
+      t.room.rows,
+    )
+
+-- all that the flight of a node's next event asks
+pub record Armed (run : Run) (u : View) (h : History) : Type 0 where
+  pub held : holds u h.node ≡ true
+  pub near : h.node < run.nodes
+  pub fired : h.fired ≡ seen u h.node
+  pub ready : Enabled run (seen u) (next run h.node h.fired)
+  pub rows : h.rows.items ≡ rows_to run h.node (opened run h.node h.fired)
+  pub room : opens run (next run h.node h.fired) ≡ true
+      → length h.rows.items + width run h.node ≤ vec_capacity h.rows
+  pub from : (k : ℕ) → length (supply run h.node k (length run.edges)) ≤ vec_capacity h.from
+  pub first : next run h.node h.fired ≡ next run h.node 0
+      → length h.first.items < vec_capacity h.first
+  pub second : next run h.node h.fired ≢ next run h.node 0
+      → length h.second.items < vec_capacity h.second
+
+pub armed : (run : Run) (me : Sat) (nodes : List History) (h : History) (event turn : ℕ)
+    → me.0.run ≡ run → Keeps me nodes → Tells me.0 h
+    → event ≡ next run h.node h.fired → turn ≡ turns run event h.fired + 1 → turn ≤ run.limit
+    → Enough run me.0 event turn → Armed run me.0 h
+armed run me nodes h event turn run_is k t e n within enough =
+    let u : View = me.0 in let l : ℕ = h.node in
+    let P : Run → Type 0 = λ r. event ≡ next r l h.fired → turn ≡ turns r event h.fired + 1
+    → turn ≤ r.limit → Enough r u event turn → Armed r u h in
+    subst P run_is (λ e n within enough. let R : Run = u.run in
+    let E-is : next R l h.fired ≡ coming u l = ap (next R l) t.fired in
+    let below : turns R (coming u l) (seen u l) < R.limit =
+    omega (
+      arith,
+      n,
+      within,
+      ap (λ (x : ℕ). turns R x h.fired) (e ∙ E-is),
+      ap (turns R (coming u l)) t.fired,
+    ) in record {
+      held = t.has;
+      near = near-node me nodes l k t.has;
+      fired = t.fired;
+      ready = subst (λ (x : ℕ). Enabled R (seen u) x) (sym E-is)
+          (is_ready R u l event turn (e ∙ E-is) (n ∙ ap
+          (λ (x : ℕ). turns R event x + 1) t.fired) within enough);
+      rows = t.rows ∙ ap (λ (x : ℕ). rows_to R l (opened R l x)) (sym t.fired);
+      room = λ o. room_row u h t below (ap (opens R) (sym E-is) ∙ o);
+      from = t.room.from;
+      first = λ z. room_first me nodes h k t below (sym E-is ∙ z);
+      second = λ z. room_second me nodes h k t below (λ y. z (E-is ∙ y));
+    }) e n within enough
+
+-- the same history, found twice
+pub found_same : (me me' : Sat) (nodes : List History) (i node : ℕ) (g h : History)
+    → Found me nodes i node g → Found me' nodes i node h → g ≡ h
+found_same me me' nodes i node g h f f' = same_at nodes i g h f.at f'.at
+
+-- a latch has opened as often as it closed, or once more; its rows are those of its openings
+pub record Opened (v : View) (h : History) : Type 0 where
+  pub number : ℕ
+  pub rows : h.rows.items ≡ rows_to v.run h.node number
+  pub first : length h.first.items ≡ number
+  pub second : length h.second.items ≡ length (tickets v (closing h.node))
+  pub close : (number ≡ length h.second.items) ⊎ (number ≡ length h.second.items + 1)
+
+pub opened_once : (me : Sat) (nodes : List History) (h : History) → Keeps me nodes → Tells me.0 h
+    → h.node < me.0.run.latches → Opened me.0 h
+opened_once me nodes h k t low = let v : View = me.0 in let l : ℕ = h.node in let R : Run = v.run in
+    let f : ℕ = seen v l in
+    let a = k.counts (next R l 0) (ap (holds v) (node-next R l 0) ∙ t.has) in
+    let b = k.counts (closing l) (ap (holds v) (node-closing R l low) ∙ t.has) in
+    let first : turns R (next R l 0) f ≡ length h.first.items =
+    ap (λ (x : ℕ). turns R (next R l 0) (seen v x)) (sym (node-next R l 0))
+    ∙ (a ∙ ap length t.first) in
+    let second : turns R (closing l) f ≡ length h.second.items =
+    ap (λ (x : ℕ). turns R (closing l) (seen v x)) (sym (node-closing R l low))
+    ∙ (b ∙ ap length (t.second low)) in
+    let n0 = next-low R l 0 low in let n1 = closing-is l in
+    let p = turns-low R (next R l 0) f (omega arith) in
+    let q = turns-low R (closing l) f (omega arith) in let o = opened-low R l f low in
+    let e0 : next R l 0 % 2 ≡ 0 = omega arith in let e1 : closing l % 2 ≡ 1 = omega arith in
+    record {
+      number = opened R l f;
+      rows = t.rows;
+      first = omega arith;
+      second = ap length (sym (t.second low));
+      close = dite (ℕ_discrete (f % 2) 0) (λ even. inl (omega arith)) (λ odd. inr (omega arith));
+    }
+
+-- the rows of all openings but the last
+pub rows_before : (run : Run) (l k : ℕ) (xs : List ℕ) → xs ≡ rows_to run l (k + 1)
+    → take (length xs - length xs / (k + 1)) xs ≡ rows_to run l k
+rows_before run l k xs is = let w : ℕ = width run l in let r : List ℕ = rows_to run l k in
+    let long : length xs ≡ (k + 1) * w = ap length is ∙ length-rows run l (k + 1) in
+    let share : length xs / (k + 1) ≡ w = ap (λ (x : ℕ). x / (k + 1)) long
+    ∙ mul-div_cancel_left w {n = k + 1} (omega arith) in
+    let less : length xs - length xs / (k + 1) ≡ length r = let e : (k + 1) * w ≡ k * w + w =
+    (let s : k + 1 ≡ suc k = omega arith in ap (λ (x : ℕ). x * w) s
+    ∙ omega (arith, Rattle.std.proofs.Common.suc-mul k w)) in
+    omega (arith, length-rows run l k) in
+    ap (λ (n : ℕ). take n xs) less ∙ (ap (take (length r)) (is ∙ rows-next run l k)
+    ∙ take-append_seam r (row run l (k + 1)))
+
+-- there is still room for the ticket after the flight of an opening
+pub room_kept : (run : Run) (g h : History) → HasOpened g h → HasRoomToNote run g
+    → HasRoomToNote run h
+room_kept run g h s r =
+    let e : next run h.node h.fired ≡ next run g.node g.fired =
+    ap (λ (x : ℕ). next run x h.fired) s.node ∙ ap (next run g.node) s.fired in
+    let z : next run h.node 0 ≡ next run g.node 0 = ap (λ (x : ℕ). next run x 0) s.node in record {
+      first = λ a. subst (λ v. Rattle.std.proofs.Common.vec_len v < vec_capacity v) (sym s.first)
+          (r.first (sym e ∙ (a ∙ z)));
+      second = λ a. subst (λ v. Rattle.std.proofs.Common.vec_len v < vec_capacity v) (sym s.second)
+          (r.second (λ b. a (e ∙ (b ∙ sym z))));
+    }
+
+-- an opening that is enabled is one of a latch, and of no turn past the limit
+pub within : (run : Run) (v : View) (l f : ℕ) → f ≡ seen v l → opens run (next run l f) ≡ true
+    → Enabled run (seen v) (next run l f) → (l < run.latches) × (f / 2 + 1 ≤ run.limit)
+within run v l f is o on =
+    let even = even_opens run l f o in let e = next-opens run l f o in
+    let is-count : count run (seen v) (next run l f) ≡ opened run l f =
+    ap (count run (seen v)) e ∙ (ap (λ (m : ℕ). turns run (opening l) (seen v m))
+    (node-opening run l even.0)
+    ∙ (turns-opening run l (seen v l) even.0 ∙ ap (opened run l) (sym is))) in
+    (even.0, omega (arith, on.0, is-count, opened-low run l f even.0, even.1))
+
+-- a history put where it stands
+pub set_same : (nodes : List History) (i : ℕ) (h : History) → get_elem? nodes i ≡ some h
+    → set nodes i h ≡ nodes
+set_same [] i h at = refl
+set_same (x ∷ xs) zero h at = ap (λ (y : History). y ∷ xs)
+    (sym (mathlib.Core.Option.some-injective x h at))
+set_same (x ∷ xs) (suc i) h at = ap (λ ys. x ∷ ys) (set_same xs i h at)
+
+-- the next event of a node is one of the events
+pub next_below : (run : Run) (l f : ℕ) → run.latches ≤ run.nodes → l < run.nodes
+    → next run l f < events run
+next_below run l f among near = event_below run (next run l f) among
+    (omega (arith, node-next run l f))

@@ -1,0 +1,154 @@
+-- What loads change in a view, and what a search for missing tokens tells.
+use Rattle.std.proofs.Common.{◌≡◌, ℕ, ◌+◌, ◌<◌, ◌≤◌, ◌≢◌, Bool, true, false, List, length}
+use Rattle.std.proofs.Common.{get_or, sym, refl, ap, ◌∙◌, subst, arith, le_trans, le_refl}
+use Rattle.std.proofs.Common.{length-set}
+use Rattle.std.proofs.Common.{get_or-set_other, get_or-set_same}
+use mathlib.Core.Logic.{dite}
+use mathlib.Core.Option.{some}
+use native.Mathlib.Decide.{ℕ_discrete}
+use lib.ListN.{get_elem?}
+use Rattle.ds_rule.specs.Run.{Run, node_of, turns, count}
+use Rattle.ds_rule.specs.Rule.{holds, seen}
+use Rattle.ds_rule.specs.Plays.{Sat, after_look}
+use Rattle.ds_marked.specs.declared.marked.Arc.{Arc}
+use Rattle.ds_rule.specs.declared.view.View.{View}
+use Rattle.ds_rule.proofs.EventLaws.{turns_up}
+use Rattle.ds_rule.proofs.Lists.{same_at}
+use Rattle.ds_fabric.specs.Looks.{LooksOn, EnoughBelow, Lacks}
+
+pub looks_none : (v : View) → LooksOn v v
+looks_none v = record {
+  live = refl;
+  run = refl;
+  holds_same = refl;
+  tickets_same = refl;
+  drawn = refl;
+  stage = refl;
+  seen_long = refl;
+  seen_up = λ l. le_refl _;
+  looks_up = le_refl _;
+  own = λ l h. refl;
+}
+
+pub seen-here : (v : View) (l r x : ℕ) → l < length v.seen → x ≡ l → seen (after_look v l r) x ≡ r
+seen-here v l r x near e = ap (seen (after_look v l r)) e ∙ get_or-set_same v.seen l r 0 near
+
+seen-else : (v : View) (l r x : ℕ) → x ≢ l → seen (after_look v l r) x ≡ seen v x
+seen-else v l r x n = get_or-set_other v.seen l x r 0 n
+
+pub seen_rises : (v : View) (l r x : ℕ) → l < length v.seen → seen v l ≤ r
+    → seen v x ≤ seen (after_look v l r) x
+seen_rises v l r x near up = dite (ℕ_discrete x l)
+    (λ e. omega (arith, seen-here v l r x near e, ap (seen v) e))
+    (λ n. omega (arith, seen-else v l r x n))
+
+-- what is held before is held after, and the other way
+pub has_after : (u v : View) (l : ℕ) → LooksOn u v → holds v l ≡ holds u l
+has_after u v l q = ap (λ (hs : List Bool). get_or hs l false) q.holds_same
+
+pub looks_more : (u v : View) (l r : ℕ) → LooksOn u v → l < length v.seen → seen v l ≤ r
+    → (holds v l ≡ true → r ≡ seen v l) → LooksOn u (after_look v l r)
+looks_more u v l r q near up own = record {
+  live = q.live;
+  run = q.run;
+  holds_same = q.holds_same;
+  tickets_same = q.tickets_same;
+  drawn = q.drawn;
+  stage = q.stage;
+  seen_long = length-set v.seen l r ∙ q.seen_long;
+  seen_up = λ x. le_trans (q.seen_up x) (seen_rises v l r x near up);
+  looks_up = omega (arith, q.looks_up);
+  own = λ x h. dite (ℕ_discrete x l)
+      (λ t. seen-here v l r x near t ∙ (own (subst (λ y. holds v y ≡ true) t (has_after u v x q
+      ∙ h)) ∙ (ap (seen v) (sym t) ∙ q.own x h)))
+      (λ n. seen-else v l r x n ∙ q.own x h);
+}
+
+enough_kept : (run : Run) (event turn n : ℕ) (v : View) (l r : ℕ) → l < length v.seen → seen v l ≤ r
+    → EnoughBelow run v event turn n → EnoughBelow run (after_look v l r) event turn n
+enough_kept run event turn n v l r near up enough k a h at into = omega (
+  arith,
+  enough k a h at into,
+  turns_up run a.source (seen v (node_of run a.source))
+      (seen (after_look v l r) (node_of run a.source))
+      (seen_rises v l r (node_of run a.source) near up),
+)
+
+-- one more arc, which enters the event and whose source was loaded
+enough_loaded : (run : Run) (event turn n : ℕ) (v : View) (r : ℕ) (a : Arc)
+    → node_of run a.source < length v.seen → seen v (node_of run a.source) ≤ r
+    → get_elem? run.arcs n ≡ some a
+    → turn ≤ turns run a.source r + a.tokens → EnoughBelow run v event turn n
+    → EnoughBelow run (after_look v (node_of run a.source) r) event turn (n + 1)
+enough_loaded run event turn n v r a near up at here enough k b h at' into = let l : ℕ =
+    node_of run a.source in dite (ℕ_discrete k n)
+    (λ e. let t : a ≡ b = same_at run.arcs n a b at
+    (subst (λ j. get_elem? run.arcs j ≡ some b) e at') in
+    omega (
+      arith,
+      here,
+      ap (turns run a.source) (seen-here v l r l near refl),
+      ap (λ (x : Arc). x.tokens) t,
+      ap (λ (x : Arc). count run
+          (seen (after_look v l r)) x.source) t,
+    ))
+    (λ ne. enough_kept run event turn n v l r near up enough k b (omega arith) at' into)
+
+-- one more arc, which does not enter the event
+pub enough_past : (run : Run) (event turn n : ℕ) (v : View) (a : Arc)
+    → get_elem? run.arcs n ≡ some a → a.target ≢ event → EnoughBelow run v event turn n
+    → EnoughBelow run v event turn (n + 1)
+enough_past run event turn n v a at apart enough k b h at' into = dite (ℕ_discrete k n)
+    (λ e. let t : a ≡ b = same_at run.arcs n a b at
+    (subst (λ j. get_elem? run.arcs j ≡ some b) e at') in
+    absurd (apart (ap (λ (x : Arc). x.target) t ∙ into)))
+    (λ ne. enough k b (omega arith) at' into)
+
+-- the load of a source whose count is enough
+pub goes_on : (run : Run) (event turn n : ℕ) (u : View) (m m' : Sat) (a : Arc) (r c : ℕ)
+    → c ≡ turns run a.source r → m' ≡ (after_look m.0 (node_of run a.source) r, m.1) → LooksOn u m.0
+    → EnoughBelow run m.0 event turn n → length u.seen ≡ run.nodes
+    → node_of run a.source < run.nodes → seen m.0 (node_of run a.source) ≤ r
+    → (holds m.0 (node_of run a.source) ≡ true → r ≡ seen m.0 (node_of run a.source))
+    → get_elem? run.arcs n ≡ some a → turn ≤ c + a.tokens
+    → LooksOn u m'.0 × EnoughBelow run m'.0 event turn (n + 1)
+goes_on run event turn n u m m' a r c gave is q enough long near up own at here =
+    let l : ℕ = node_of run a.source in
+    let inside : l < length m.0.seen = omega (arith, q.seen_long) in
+    let P : Sat → Type 0 = λ x. LooksOn u x.0 × EnoughBelow run x.0 event turn (n + 1) in
+    subst P (sym is) (
+      looks_more u m.0 l r q inside up own,
+      enough_loaded run event turn n m.0 r a inside up at (omega (arith, gave, here)) enough,
+    )
+
+-- the load of a source whose count is too small
+pub gives_up : (run : Run) (event turn n : ℕ) (u : View) (m m' : Sat) (a : Arc) (r c : ℕ)
+    → c ≡ turns run a.source r → m' ≡ (after_look m.0 (node_of run a.source) r, m.1) → LooksOn u m.0
+    → length u.seen ≡ run.nodes → node_of run a.source < run.nodes
+    → seen m.0 (node_of run a.source) ≤ r
+    → (holds m.0 (node_of run a.source) ≡ true → r ≡ seen m.0 (node_of run a.source))
+    → get_elem? run.arcs n ≡ some a → a.target ≡ event → c + a.tokens < turn
+    → LooksOn u m'.0 × Lacks run u m'.0 event turn n c
+gives_up run event turn n u m m' a r c gave is q long near up own at into short =
+    let x : ℕ = node_of run a.source in
+    let inside : x < length m.0.seen = omega (arith, q.seen_long) in
+    let P : Sat → Type 0 = λ y. LooksOn u y.0 × Lacks run u y.0 event turn n c in
+    subst P (sym is) (
+      looks_more u m.0 x r q inside up own,
+      record {
+        a = a;
+        is_arc = at;
+        enters = into;
+        looked = omega (arith, q.looks_up);
+        last = refl;
+        gave = gave;
+        short = short;
+        at_least = omega (
+          arith,
+          gave,
+          turns_up run a.source (seen u x) r
+              (le_trans (q.seen_up x) up),
+        );
+        own = λ h. gave ∙ ap (turns run a.source) (own (has_after u m.0 x q ∙ h) ∙ q.own x h);
+      },
+    )

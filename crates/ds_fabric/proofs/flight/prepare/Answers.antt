@@ -1,0 +1,70 @@
+use Rattle.std.proofs.Common.{rules, ◌≡◌, ◌+◌, ◌/◌, ◌%◌, ◌++◌, ◌∙◌, ℕ, List, ap, arith, sym, subst}
+use Rattle.std.proofs.Common.{refl, true, false}
+use Rattle.std.proofs.lemmas.Bool.{false≢true}
+use Rattle.ds_rule.specs.Run.{Run, next, opens, opened}
+use Rattle.ds_rule.specs.Rows.{row, rows_to}
+use Rattle.ds_rule.specs.Rule.{seen}
+use Rattle.ds_rule.specs.declared.view.View.{View}
+use Rattle.ds_rule.proofs.Lists.{by_bool}
+use Rattle.ds_rule.proofs.EventLaws.{even_opens, opened-low, opened-opens, opened-else}
+use Rattle.ds_rule.proofs.RowLaws.{rows-next}
+use Rattle.ds_fabric.proofs.Passes.{within}
+use Rattle.ds_fabric.proofs.flight.prepare.Goals as goal
+
+-- half the firings are openings, where the next event is one
+half : (run : Run) (l f : ℕ) → opens run (next run l f) ≡ true → f / 2 + 1 ≡ opened run l f + 1
+half run l f h = let o = even_opens run l f h in omega (arith, opened-low run l f o.0, o.1)
+
+pub open_row-requires-clause-flight : goal.open_row-requires-clause-flight
+open_row-requires-clause-flight g c = let run : Run = c.args.graph.now in
+    let v : View = c.args.seat.now.me.0 in let l : ℕ = c.args.history.now.node in
+    let away = c.requires.flight.0 in
+    let fired = c.requires.flight.1 in let h = c.if-opens_next.ensures.0 refl in (
+      record {
+        live = away.live;
+        stage = away.stage;
+        node_is = away.node_is;
+        near = c.requires.flight.2;
+        begins = ap (λ (x : ℕ). opens run (next run x (seen v x))) away.node_is
+            ∙ (ap (λ (f : ℕ). opens run (next run l f)) (sym fired) ∙ h);
+        number = half run l c.args.history.now.fired h ∙ ap (λ (f : ℕ). opened run l f + 1) fired;
+      },
+      away,
+    )
+
+pub open_row-requires-clause-within : goal.open_row-requires-clause-within
+open_row-requires-clause-within g c =
+    within c.args.graph.now c.args.seat.now.me.0 c.args.history.now.node c.args.history.now.fired
+    c.requires.flight.1 (c.if-opens_next.ensures.0 refl) c.requires.ready
+
+pub returns-then-opens_next-clause-rows : goal.returns-then-opens_next-clause-rows
+returns-then-opens_next-clause-rows g c = let run : Run = c.args.graph.now in
+    let l : ℕ = c.args.history.now.node in let f : ℕ = c.args.history.now.fired in
+    let h = c.if-opens_next.ensures.0 refl in let k : ℕ = opened run l f in
+    c.open_row.ensures.value ∙ (ap (λ (xs : List ℕ). xs ++ row run l (f / 2 + 1)) c.requires.rows
+    ∙ (ap (λ (x : ℕ). rows_to run l k ++ row run l x) (half run l f h)
+    ∙ (sym (rows-next run l k) ∙ ap (rows_to run l) (sym (opened-opens run l f h)))))
+
+pub returns-then-opens_next-clause-me : goal.returns-then-opens_next-clause-me
+returns-then-opens_next-clause-me g c = (
+  Rattle.ds_rule.specs.Words.width c.args.graph.now c.args.history.now.node,
+  c.open_row.ensures.me,
+  λ _. Rattle.std.proofs.Common.le_refl _,
+)
+
+pub returns-else-opens_next-clause-me : goal.returns-else-opens_next-clause-me
+returns-else-opens_next-clause-me g c = (
+  0,
+  ap (λ (w : ℕ). (
+    record c.args.seat.now.me.0 { written = w },
+    c.args.seat.now.me.1,
+  )) c.requires.flight.0.written,
+  λ h. absurd (false≢true (c.if-opens_next.ensures.1 h)),
+)
+
+pub returns-else-opens_next-clause-rows : goal.returns-else-opens_next-clause-rows
+returns-else-opens_next-clause-rows g c = let run : Run = c.args.graph.now in
+    let l : ℕ = c.args.history.now.node in let f : ℕ = c.args.history.now.fired in
+    c.requires.rows ∙ ap (rows_to run l) (by_bool (opened run l f ≡ opened run l (f + 1))
+    (opens run (next run l f)) (λ h. absurd (false≢true (c.if-opens_next.ensures.1 h)))
+    (λ h. sym (opened-else run l f h)))

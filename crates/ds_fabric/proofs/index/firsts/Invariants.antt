@@ -1,0 +1,10 @@
+use Rattle.std.proofs.Common.{◌≡◌, ◌<◌, ◌≤◌, ℕ, length, slice_index}
+use Rattle.ds_rule.specs.Sound.{edge_at}
+use Rattle.ds_fabric.specs.Ranged.{IsFrom}
+use Rattle.ds_fabric.proofs.index.firsts.Given as goal
+
+abbrev pub invariant-loop-node : goal.invariant-loop-node
+invariant-loop-node g l = (length l.firsts.items ≡ l.node)
+    × ((x : ℕ) → x < l.node → IsFrom l.fn.graph x (slice_index l.firsts.items x))
+    × (l.at ≤ length l.fn.graph.edges) × ((k : ℕ) → k < l.at
+    → (edge_at l.fn.graph k).consumer < l.node)

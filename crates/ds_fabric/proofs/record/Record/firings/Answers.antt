@@ -1,0 +1,34 @@
+use Rattle.std.proofs.Common.{◌≡◌, ◌∙◌, ◌++◌, ℕ, List, length, take, drop, ap, arith, subst}
+use mathlib.Core.Option.{some}
+use lib.ListN.{get_elem?}
+use Rattle.ds_rule.specs.Rule.{tickets}
+use Rattle.ds_rule.specs.Log.{firings}
+use Rattle.ds_fabric.specs.Showing.{Showing, Recorder, IsFired}
+use Rattle.ds_fabric.specs.Spread.{HasSpread}
+use Rattle.ds_fabric.specs.declared.history.History.{History}
+use Rattle.ds_fabric.proofs.Spreads.{spread_is, written}
+use Rattle.ds_fabric.proofs.record.Record.firings.Goals as goal
+
+pub returns : goal.returns
+returns c = let p : Showing = c.self.inside.shown.value in let q = c.self.invariant in
+    let new : List ℕ = c.spread_all.new.out in
+    let nodes : List History = c.self.inside.nodes.items in
+    let out : List ℕ = c.in_ok-out.out.items in
+    let many : length out ≡ c.self.inside.many = c.in_ok-out.ensures in
+    let long : length new ≡ length out = c.spread_all.ensures.long
+    ∙ ap (λ (xs : List ℕ). length xs) c.as_mut_slice.ensures.value in
+    let same : take c.in_ok-out.out.len (new ++ drop (length new) out) ≡ new =
+    written c.in_ok-out.out.len out new (omega (arith, long)) in
+    let all = subst (λ (hs : List History). (i : ℕ) (h : History) → get_elem? hs i ≡ some h
+    → HasSpread c.self.inside.latches h new) c.as_slice.ensures.value c.spread_all.ensures.filled in
+    let is : new ≡ firings q.recorded.log =
+    spread_is p nodes c.self.inside.places.items c.self.inside.latches c.self.inside.many q new
+    (long ∙ many) all in
+    subst (λ (x : Recorder). IsFired x.shown.view.run (tickets x.shown.view)
+    (take c.in_ok-out.out.len (new ++ drop (length new) out))) c.self.view_is (record {
+      log = q.recorded.log;
+      legal = q.recorded.legal;
+      in_turn = q.recorded.in_turn;
+      all = q.recorded.all;
+      is = same ∙ is;
+    })

@@ -1,0 +1,43 @@
+use Rattle.std.proofs.Common.{◌≡◌, ◌+◌, ◌*◌, ◌%◌, ◌∙◌, ℕ, ap, arith}
+use Rattle.ds_rule.specs.Run.{Run}
+use Rattle.ds_rule.specs.Words.{width}
+use Rattle.ds_rule.proofs.PlaceLaws.{place-turn, row_ends}
+use Rattle.ds_fabric.proofs.rows.place_of.Goals as goal
+
+product : (run : Run) (t s w l : ℕ) → s ≡ run.slack → w ≡ width run l
+    → t % (s + 1) * w ≡ t % (run.slack + 1) * width run l
+product run t s w l p q = ap (λ (x : ℕ). t % (x + 1) * w) p
+    ∙ ap (λ (y : ℕ). t % (run.slack + 1) * y) q
+
+pub overflow_mul-result : goal.overflow_mul-result
+overflow_mul-result g c = let run : Run = c.args.graph.now in let l : ℕ = c.args.node in
+    let t : ℕ = c.args.turn in
+    omega (
+      arith,
+      product run t c.slack.result c.width.result l c.slack.ensures c.width.ensures,
+      place-turn run l t,
+      row_ends run l t c.requires.near,
+      c.requires.sound.0.sized,
+    )
+
+pub overflow_add-result : goal.overflow_add-result
+overflow_add-result g c = let run : Run = c.args.graph.now in let l : ℕ = c.args.node in
+    let t : ℕ = c.args.turn in
+    omega (
+      arith,
+      product run t c.slack.result c.width.result l c.slack.ensures c.width.ensures,
+      place-turn run l t,
+      row_ends run l t c.requires.near,
+      c.requires.sound.0.sized,
+      c.requires.sound.1.1 l c.requires.near,
+    )
+
+pub returns : goal.returns
+returns g c = let run : Run = c.args.graph.now in let l : ℕ = c.args.node in
+    let t : ℕ = c.args.turn in
+    omega (
+      arith,
+      product run t c.slack.result c.width.result l c.slack.ensures c.width.ensures,
+      place-turn run l t,
+      c.requires.sound.1.1 l c.requires.near,
+    )

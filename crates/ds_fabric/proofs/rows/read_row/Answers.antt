@@ -1,0 +1,114 @@
+use Rattle.std.proofs.Common.{◌≡◌, ◌<◌, ◌+◌, ◌-◌, ◌++◌, ◌∷◌, [], ◌∙◌, ℕ, List, ap, arith, sym}
+use Rattle.std.proofs.Common.{subst, refl, length, length-append}
+use Rattle.std.proofs.lemmas.List.{append_assoc}
+use mathlib.Core.Option.{none, some}
+use lib.ListN.{get_elem?}
+use Rattle.atomic_table.specs.Table.{step, Allows}
+use Rattle.ds_rule.specs.Run.{Run, opened}
+use Rattle.ds_rule.specs.Words.{width, place, value}
+use Rattle.ds_rule.specs.Sound.{IsSound}
+use Rattle.ds_rule.specs.Rule.{Lawful, seen}
+use Rattle.ds_rule.specs.Plays.{Sat, read, listed}
+use Rattle.ds_rule.specs.declared.layout.DataEdge.{DataEdge}
+use Rattle.ds_rule.proofs.Values.{reads}
+use Rattle.ds_rule.proofs.Lists.{length-listed}
+use Rattle.ds_rule.proofs.RowLaws.{listed-next, told}
+use Rattle.ds_rule.proofs.PlaceLaws.{place-word, row_ends}
+use Rattle.ds_fabric.proofs.rows.read_row.Goals as goal
+
+-- the producer of an edge is a node
+producer_near : (run : Run) (sound : IsSound run) (e : DataEdge) → (k : ℕ)
+    × (get_elem? run.edges k ≡ some e) × (e.consumer ≡ e.consumer) → e.producer < run.nodes
+producer_near run sound e h = omega (arith, (sound.orders h.0 e h.1).from, sound.among)
+
+pub width-i-end-requires : goal.width-i-end-requires
+width-i-end-requires g c = let q = c.requires.table.1 in let h = c.requires.edge in
+    omega (
+      arith,
+      producer_near c.args.graph.now q.sound c.args.edge (h.0, h.1, refl),
+      q.sound.rows_of_all,
+      c.index.ensures,
+    )
+
+pub overflow_add-at : goal.overflow_add-at
+overflow_add-at g c = let q = c.requires.table.1 in let h = c.requires.edge in
+    let run : Run = c.args.graph.now in
+    omega (
+      arith,
+      row_ends run c.args.edge.producer (c.args.turn - c.args.edge.tokens)
+          (producer_near run q.sound c.args.edge (h.0, h.1, refl)),
+      c.requires.at,
+      q.sound.sized,
+      c.loop-i-test.true,
+      c.loop-i.auto.i-end,
+      (c.width-i-end.ensures
+          ∙ ap (width c.args.graph.now) c.index.ensures),
+    )
+
+pub load-requires : goal.load-requires
+load-requires g c = let q = c.requires.table.1 in let run : Run = c.args.graph.now in
+    let n : ℕ = c.args.board.now.table_id.slots in let j : ℕ = c.args.at + c.loop-i.i in
+    let h = c.requires.edge in let o = c.requires.flight.0 in
+    let P : Run → Sat → Type 0 = λ r m. Allows (Lawful r) n c.loop-i.seat.id m j (λ y. y)
+    (read (step n j 0 0 none) m) in (
+      c.loop-i.invariant.0 ∙ c.requires.table.0,
+      omega (
+        arith,
+        row_ends run c.args.edge.producer (c.args.turn - c.args.edge.tokens)
+            (producer_near run q.sound c.args.edge (h.0, h.1, refl)),
+        c.requires.at,
+        q.sized,
+        c.loop-i-test.true,
+        c.loop-i.auto.i-end,
+        (c.width-i-end.ensures
+            ∙ ap (width c.args.graph.now) c.index.ensures),
+      ),
+      subst (λ r. P r c.loop-i.seat.me) (sym q.keyed) (subst (P run) (sym c.loop-i.invariant.2)
+          (reads run n c.loop-i.seat.id c.args.seat.now.me j o.live
+          (omega (arith, o.stage)) o.begins)),
+    )
+
+pub push_reserved-requires : goal.push_reserved-requires
+push_reserved-requires g c = let inv = c.loop-i.invariant in
+    let f : ℕ → ℕ = value c.args.graph.now c.args.edge.producer
+    (c.args.turn - c.args.edge.tokens) in
+    omega (
+      arith,
+      ap length inv.3,
+      length-append c.args.into.now.items (listed f c.loop-i.i),
+      length-listed f c.loop-i.i,
+      inv.4,
+      c.requires.room,
+      c.loop-i-test.true,
+      c.loop-i.auto.i-end,
+      (c.width-i-end.ensures ∙ ap (width c.args.graph.now) c.index.ensures),
+    )
+
+pub loop-i-preserved : goal.loop-i-preserved
+loop-i-preserved g c = let inv = c.loop-i.invariant in let e = c.load.ensures in
+    let run : Run = c.args.graph.now in let h = c.requires.edge in let o = c.requires.flight.0 in
+    let k : ℕ = c.args.turn - c.args.edge.tokens in
+    let f : ℕ → ℕ = value run c.args.edge.producer k in let i : ℕ = c.loop-i.i in
+    let r : ℕ = c.load.result in let j : ℕ = c.args.at + i in
+    let T : Sat → Type 0 = λ m. (n : ℕ) (e : DataEdge) (i : ℕ) → get_elem? m.0.run.edges n ≡ some e
+    → e.consumer ≡ m.0.node → i < width m.0.run e.producer
+    → j ≡ place m.0.run e.producer (opened m.0.run m.0.node (seen m.0 m.0.node) + 1 - e.tokens) i
+    → r ≡ value m.0.run e.producer (opened m.0.run m.0.node (seen m.0 m.0.node) + 1 - e.tokens) i in
+    let fact : T c.args.seat.now.me = subst T inv.2 e.2.1 in
+    let is : r ≡ f i = told run c.args.seat.now.me.0 c.args.node c.args.turn o c.requires.flight.1 j r fact h.0 c.args.edge i h.1 h.2
+    (omega (
+      arith,
+      c.loop-i-test.true,
+      c.loop-i.auto.i-end,
+      (c.width-i-end.ensures ∙ ap (width c.args.graph.now) c.index.ensures),
+    ))
+    (omega (arith, c.requires.at, place-word run c.args.edge.producer k i)) in (
+      e.0 ∙ inv.0,
+      e.1 ∙ inv.1,
+      e.2.0 ∙ inv.2,
+      c.push_reserved.ensures.items ∙ (ap (λ (xs : List ℕ). xs ++ r ∷ []) inv.3
+          ∙ (append_assoc c.args.into.now.items (listed f i) (r ∷ [])
+          ∙ ap (λ (xs : List ℕ). c.args.into.now.items
+          ++ xs) (ap (λ (x : ℕ). listed f i ++ x ∷ []) is ∙ sym (listed-next f i)))),
+      c.push_reserved.ensures.capacity ∙ inv.4,
+    )

@@ -1,0 +1,37 @@
+-- What a fabric shows, and how its parts fit.
+use Rattle.std.specs.Prelude.{◌≡◌, ℕ, true}
+use Rattle.atomic_table.specs.Seated.{TableId}
+use Rattle.ds_rule.specs.Run.{Run}
+use Rattle.ds_rule.specs.Sound.{IsSound}
+use Rattle.ds_rule.specs.Words.{size}
+use Rattle.ds_rule.specs.Rows.{IsStarts}
+use Rattle.ds_rule.specs.declared.view.View.{View}
+use Rattle.ds_fabric.specs.Ranged.{AreFirsts}
+use Rattle.ds_fabric.specs.declared.index.Index.{Index}
+
+-- a table, its run, and how many values the row has in which a row is computed
+pub record Base : Type 0 where
+  pub table_id : TableId
+  pub run : Run
+  pub nets : ℕ
+
+-- a table is one of this run
+pub record IsOver (id : TableId) (key run : Run) : Type 0 where
+  pub keyed : key ≡ run
+  pub sized : id.words ≡ size run
+  pub sound : IsSound run
+
+-- the table, the run and the index of a fabric fit
+pub record IsBuilt (id : TableId) (key run : Run) (index : Index) : Type 0 where
+  pub over : IsOver id key run
+  pub no_slot : id.slots ≡ 0
+  pub started : IsStarts run index.starts.items
+  pub ranged : AreFirsts run index.firsts.items
+
+-- the pass is live and in flight with the node's next event, and no word of it is written
+pub record IsAway (run : Run) (v : View) (l : ℕ) : Type 0 where
+  pub live : v.live ≡ true
+  pub stage : v.stage ≡ 1
+  pub node_is : v.node ≡ l
+  pub written : v.written ≡ 0
+  pub run_is : v.run ≡ run

@@ -1,0 +1,51 @@
+-- What loads of counts change in a view, and what a search for missing tokens tells.
+use Rattle.std.specs.Prelude.{◌≡◌, ℕ, ◌+◌, ◌<◌, ◌≤◌, length, true}
+use mathlib.Core.Option.{some}
+use lib.ListN.{get_elem?}
+use Rattle.ds_rule.specs.Run.{Run, node_of, turns, count}
+use Rattle.ds_rule.specs.Rule.{holds, seen}
+use Rattle.ds_marked.specs.declared.marked.Arc.{Arc}
+use Rattle.ds_rule.specs.declared.view.View.{View}
+
+-- loads alone: what is seen only rises, and of what is held it stays
+pub record LooksOn (v w : View) : Type 0 where
+  pub live : w.live ≡ v.live
+  pub run : w.run ≡ v.run
+  pub holds_same : w.holds ≡ v.holds
+  pub tickets_same : w.tickets ≡ v.tickets
+  pub drawn : w.drawn ≡ v.drawn
+  pub stage : w.stage ≡ v.stage
+  pub seen_long : length w.seen ≡ length v.seen
+  pub seen_up : (l : ℕ) → seen v l ≤ seen w l
+  pub looks_up : v.looks ≤ w.looks
+  pub own : (l : ℕ) → holds v l ≡ true → seen w l ≡ seen v l
+
+-- what was seen is enough for this turn of the event, on the first n arcs
+abbrev pub EnoughBelow : Run → View → ℕ → ℕ → ℕ → Type 0
+EnoughBelow run w event turn n = (k : ℕ) (a : Arc) → k < n → get_elem? run.arcs k ≡ some a
+    → a.target ≡ event
+    → turn ≤ count run (seen w) a.source + a.tokens
+
+-- and on all
+abbrev pub Enough : Run → View → ℕ → ℕ → Type 0
+Enough run w event turn = (k : ℕ) (a : Arc) → get_elem? run.arcs k ≡ some a → a.target ≡ event
+    → turn ≤ count run (seen w) a.source + a.tokens
+
+-- the arc enters the event, the last load was of its source and gave the count n, and that is not
+-- enough
+pub record Lacks (run : Run) (v w : View) (event turn arc n : ℕ) : Type 0 where
+  pub a : Arc
+  pub is_arc : get_elem? run.arcs arc ≡ some a
+  pub enters : a.target ≡ event
+  pub looked : v.looks < w.looks
+  pub last : w.last_node ≡ node_of run a.source
+  pub gave : n ≡ turns run a.source w.last_seen
+  pub short : n + a.tokens < turn
+  pub at_least : count run (seen v) a.source ≤ n
+  pub own : holds v (node_of run a.source) ≡ true → n ≡ count run (seen v) a.source
+
+-- and on the arcs from number n on
+abbrev pub EnoughFrom : Run → View → ℕ → ℕ → ℕ → Type 0
+EnoughFrom run w event turn n = (k : ℕ) (a : Arc) → n ≤ k → get_elem? run.arcs k ≡ some a
+    → a.target ≡ event
+    → turn ≤ count run (seen w) a.source + a.tokens

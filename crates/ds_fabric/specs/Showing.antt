@@ -1,0 +1,148 @@
+-- What a pass shows, and what it keeps in memory.
+use Rattle.std.specs.Prelude.{◌≡◌, ℕ, ◌+◌, ◌*◌, ◌<◌, ◌≤◌, List, [], length, true, vec_capacity}
+use mathlib.Core.Option.{some}
+use lib.ListN.{get_elem?}
+use Rattle.atomic_table.specs.Table.{Me}
+use Rattle.atomic_table.specs.Seated.{TableId}
+use Rattle.ds_rule.specs.Run.{Run, events, node_of, next, turns, closing, opened}
+use Rattle.ds_rule.specs.Words.{width}
+use Rattle.ds_rule.specs.Sound.{IsSound}
+use Rattle.ds_rule.specs.Log.{places, IsLegalList, InTurn, firings, Recorded}
+use Rattle.ds_rule.specs.Rows.{supply, rows_to}
+use Rattle.ds_rule.specs.Rule.{holds, tickets, seen, first_view}
+use Rattle.ds_rule.specs.Plays.{after_point, without_cut, only_cut}
+use Rattle.ds_rule.specs.declared.view.View.{View}
+use Rattle.ds_fabric.specs.Base.{Base}
+use Rattle.ds_fabric.specs.Indexed.{IsOneEach, IsIndexed}
+use Rattle.ds_fabric.specs.declared.history.History.{History}
+
+-- what a pass shows
+pub record Showing : Type 0 where
+  pub table_id : TableId
+  pub view : View
+  -- how many nodes it holds, and can hold
+  pub many : ℕ
+  pub room : ℕ
+  -- how many values the row has in which a row is computed
+  pub nets : ℕ
+
+-- the pass is one of this fabric
+pub record Belongs (f : Base) (p : Showing) : Type 0 where
+  pub table : p.table_id ≡ f.table_id
+  pub run : p.view.run ≡ f.run
+  pub nets : p.nets ≡ f.nets
+
+-- only what the pass knows is other than before
+pub record Stays (old p : Showing) : Type 0 where
+  pub table : p.table_id ≡ old.table_id
+  pub run : p.view.run ≡ old.view.run
+  pub holds_same : p.view.holds ≡ old.view.holds
+  pub many : p.many ≡ old.many
+  pub room : p.room ≡ old.room
+  pub nets : p.nets ≡ old.nets
+
+-- a fabric of this run, and a pass that holds all nodes, of which none has fired
+pub record IsBegun (run : Run) (f : Base) (p : Showing) : Type 0 where
+  pub run_is : f.run ≡ run
+  pub belongs : Belongs f p
+  pub view : p.view ≡ first_view run
+  pub many : p.many ≡ run.nodes
+  pub room : p.room ≡ run.nodes
+
+-- a new pass that holds the node alone
+pub record IsDealt (old : Showing) (node room : ℕ) (p : Showing) : Type 0 where
+  pub table : p.table_id ≡ old.table_id
+  pub view : p.view ≡ only_cut (after_point old.view node)
+  pub many : p.many ≡ 1
+  pub room_is : p.room ≡ room
+  pub nets : p.nets ≡ old.nets
+
+-- what is left of the old one
+pub record IsLeft (old : Showing) (node : ℕ) (p : Showing) : Type 0 where
+  pub table : p.table_id ≡ old.table_id
+  pub view : p.view ≡ without_cut (after_point old.view node)
+  pub many : p.many + 1 ≡ old.many
+  pub room : p.room ≡ old.room
+  pub nets : p.nets ≡ old.nets
+
+-- the room of the history of a node
+pub record HasRoom (run : Run) (l : ℕ) (h : History) : Type 0 where
+  pub first : run.limit ≤ vec_capacity h.first
+  pub second : l < run.latches → run.limit ≤ vec_capacity h.second
+  pub rows : run.limit * width run l ≤ vec_capacity h.rows
+  pub from : (k : ℕ) → length (supply run l k (length run.edges)) ≤ vec_capacity h.from
+
+-- the history of a node before it fired
+pub record IsBlank (run : Run) (l : ℕ) (h : History) : Type 0 where
+  pub node : h.node ≡ l
+  pub fired : h.fired ≡ 0
+  pub first : h.first.items ≡ []
+  pub second : h.second.items ≡ []
+  pub rows : h.rows.items ≡ []
+  pub room : HasRoom run l h
+
+-- the histories of the first n nodes in order, before they fired
+pub record Blank (run : Run) (n : ℕ) (items : List History) : Type 0 where
+  pub long : length items ≡ n
+  pub each : (i : ℕ) (h : History) → get_elem? items i ≡ some h → IsBlank run i h
+
+-- the history of a node that a pass holds: its firings, the tickets of its events, the rows of its
+-- openings
+pub record Tells (v : View) (h : History) : Type 0 where
+  pub has : holds v h.node ≡ true
+  pub fired : h.fired ≡ seen v h.node
+  pub first : tickets v (next v.run h.node 0) ≡ h.first.items
+  pub second : h.node < v.run.latches → tickets v (closing h.node) ≡ h.second.items
+  pub rows : h.rows.items ≡ rows_to v.run h.node (opened v.run h.node (seen v h.node))
+  pub room : HasRoom v.run h.node h
+
+-- each event that is held has a ticket for each firing
+abbrev pub IsCounted : View → Type 0
+IsCounted v = (e : ℕ) → holds v (node_of v.run e) ≡ true
+    → turns v.run e (seen v (node_of v.run e)) ≡ length (tickets v e)
+
+-- the memory of a pass, beside its view
+pub record Keeps (me : Me ℕ View) (nodes : List History) : Type 0 where
+  pub no_slot : me.1 ≡ []
+  pub live : me.0.live ≡ true
+  pub rests : me.0.stage ≡ 0
+  pub held_long : length me.0.holds ≡ me.0.run.nodes
+  pub tickets_long : length me.0.tickets ≡ events me.0.run
+  pub seen_long : length me.0.seen ≡ me.0.run.nodes
+  pub among : me.0.run.latches ≤ me.0.run.nodes
+  pub counts : IsCounted me.0
+  pub listed : (i : ℕ) (h : History) → get_elem? nodes i ≡ some h → Tells me.0 h
+  pub found : (l : ℕ) → holds me.0 l ≡ true → (i : ℕ) × (h : History)
+      × (get_elem? nodes i ≡ some h) × (h.node ≡ l)
+  pub apart : IsOneEach nodes
+
+-- a pass: its memory, the places of its histories, and its room
+pub record IsPass (me : Me ℕ View) (room capacity : ℕ) (nodes : List History)
+    (places : List ℕ) : Type 0 where
+  pub keeps : Keeps me nodes
+  pub indexed : IsIndexed me.0.run.nodes room (length nodes) nodes places
+  pub roomy : room ≤ capacity
+  pub few : room < 4294967296
+
+-- what a record shows: what its pass showed, and how many firings there were
+pub record Recorder : Type 0 where
+  pub shown : Showing
+  pub many : ℕ
+
+-- a record keeps the histories of all nodes, and its tickets are the places of one legal list
+pub record IsRecord (p : Showing) (nodes : List History) (places : List ℕ)
+    (latches many : ℕ) : Type 0 where
+  pub keeps : Keeps (p.view, []) nodes
+  pub indexed : IsIndexed p.view.run.nodes p.room (length nodes) nodes places
+  pub all : (l : ℕ) → l < p.view.run.nodes → holds p.view l ≡ true
+  pub sound : IsSound p.view.run
+  pub latches_is : latches ≡ p.view.run.latches
+  pub recorded : Recorded p.view.run (tickets p.view) many
+
+-- the events by rising ticket: one legal list of which the tickets are the places
+pub record IsFired (run : Run) (tickets : ℕ → List ℕ) (items : List ℕ) : Type 0 where
+  pub log : List ℕ
+  pub legal : IsLegalList run log
+  pub in_turn : InTurn run log
+  pub all : (e : ℕ) → node_of run e < run.nodes → tickets e ≡ places e log
+  pub is : items ≡ firings log

@@ -1,0 +1,35 @@
+-- What a call of `step` says.
+use Rattle.std.specs.Prelude.{◌≡◌, ◌≢◌, ℕ, ◌+◌, ◌≤◌, [], ◌∷◌, ◌++◌}
+use Rattle.ds_rule.specs.Run.{Run, next, turns}
+use Rattle.ds_rule.specs.Rule.{tickets, seen}
+use Rattle.ds_rule.specs.declared.view.View.{View}
+use Rattle.ds_fabric.specs.declared.step.Step.{Step}
+use Rattle.ds_fabric.specs.declared.step.Step.TheVariants.{Fired, NotYet, Done}
+use Rattle.ds_fabric.specs.Looks.{LooksOn, Enough, Lacks}
+
+-- the count of the event that the node fires next, before it fires
+abbrev pub done : Run → View → ℕ → ℕ
+done run v l = turns run (next run l (seen v l)) (seen v l)
+
+-- the next event of the node fired, and nothing else that is held changed
+pub record Fires (run : Run) (v w : View) (l event turn ticket : ℕ) : Type 0 where
+  pub event_is : event ≡ next run l (seen v l)
+  pub turn_is : turn ≡ done run v l + 1
+  pub within : turn ≤ run.limit
+  pub enough : Enough run w event turn
+  pub fresh : v.drawn ≤ ticket
+  pub drawn : w.drawn ≡ ticket + 1
+  pub once_more : seen w l ≡ seen v l + 1
+  pub one_more : tickets w event ≡ tickets v event ++ ticket ∷ []
+  pub others : (e : ℕ) → e ≢ event → tickets w e ≡ tickets v e
+  pub run_same : w.run ≡ v.run
+  pub holds_same : w.holds ≡ v.holds
+  pub seen_up : (x : ℕ) → seen v x ≤ seen w x
+  pub looks_up : v.looks ≤ w.looks
+
+-- what a call of `step` says of the pass before and after it
+abbrev pub Stepped : Run → View → ℕ → Step → View → Type 0
+Stepped run v l (Fired event turn ticket) w = Fires run v w l event turn ticket
+Stepped run v l (NotYet arc n) w = LooksOn v w
+    × Lacks run v w (next run l (seen v l)) (done run v l + 1) arc n
+Stepped run v l Done w = (w ≡ v) × (run.limit ≤ done run v l)

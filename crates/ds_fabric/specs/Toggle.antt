@@ -1,0 +1,33 @@
+-- A small run, on which the tests stand: a register that turns over each turn, for two turns.
+-- Node 0 is its slave, node 1 its master.
+use Rattle.std.specs.Prelude.{ℕ, List, [], ◌∷◌}
+use Rattle.ds_base.specs.Values.{Row}
+use Rattle.ds_base.specs.declared.value.Value.TheVariants.{Zero, One}
+use Rattle.ds_marked.specs.declared.marked.Arc.{Arc}
+use Rattle.ds_rule.specs.declared.layout.DataEdge.{DataEdge}
+use Rattle.ds_rule.specs.Run.{Run}
+
+-- an arc of its parts
+abbrev pub arc : ℕ → ℕ → ℕ → Arc
+arc source target tokens = record { source = source; target = target; tokens = tokens }
+
+-- a data edge of its parts
+abbrev pub edge : ℕ → ℕ → ℕ → DataEdge
+edge producer consumer tokens = record { producer = producer; consumer = consumer; tokens = tokens }
+
+-- the values of the slave and the master, turn by turn
+abbrev pub turned : List Row
+turned = (Zero ∷ []) ∷ (Zero ∷ []) ∷ (One ∷ []) ∷ (One ∷ []) ∷ (Zero ∷ []) ∷ (Zero ∷ []) ∷ []
+
+-- the run
+abbrev pub toggle : Run
+toggle = record {
+  nodes = 2;
+  latches = 2;
+  arcs = arc 0 1 0 ∷ arc 1 0 1 ∷ arc 2 3 0 ∷ arc 3 2 1 ∷ arc 0 2 1 ∷ arc 3 0 0 ∷ arc 2 0 0 ∷ arc 1 2 1 ∷ [];
+  limit = 2;
+  edges = edge 1 0 0 ∷ edge 0 1 1 ∷ [];
+  lengths = 1 ∷ 1 ∷ [];
+  slack = 0;
+  rows = turned;
+}

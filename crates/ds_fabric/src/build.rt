@@ -1,0 +1,125 @@
+ghost use Rattle.std.specs.Prelude.{ℕ, ◌≡◌, ◌<◌, ◌≤◌, ◌+◌, ◌++◌, length, slice_index, replicate, vec_capacity, IfOk, OnOk};
+ghost use Rattle.ds_rule.specs.Sound.{IsSound, read_words};
+ghost use Rattle.ds_rule.specs.Words.{width};
+ghost use Rattle.ds_rule.specs.Rows.{row};
+ghost use Rattle.ds_fabric.specs.Laid.{LaidBelow};
+ghost use Rattle.ds_fabric.specs.Showing.{Blank, IsBlank};
+
+use crate::compute::Compute;
+use crate::history::History;
+use crate::index::zeros;
+use ds_base::{LatchId, OutOfMemory};
+use ds_rule::{Layout, Rows};
+use std::alloc::Global;
+
+/// The words of the table, and where the rows of each node begin.
+pub fn lay<J: Rows, C: Compute>(
+    alloc: Global,
+    graph: &Layout<J>,
+    cones: &C,
+) -> Result<(Vec<u64>, Vec<usize>), OutOfMemory>
+    requires sound { IsSound graph.now }
+    requires cones { C.run cones.now ≡ graph.now }
+    ensures { IfOk result (λ r. LaidBelow graph.now graph.now.nodes r.0.items r.1.items) }
+{
+    let mut words = zero_words(alloc, graph.nodes() + 1)?;
+    let mut starts = Vec::new(alloc);
+    for node in 0..graph.nodes() {
+        let width = graph.width(node);
+        starts.push(words.len())?;
+        first_row(cones, node, width, &mut words)?;
+        pad(&mut words, graph.slack() * width)?;
+    }
+    Ok((words, starts))
+}
+
+// So many zeros.
+fn zero_words(alloc: Global, count: usize) -> Result<Vec<u64>, OutOfMemory>
+    ensures { IfOk result (λ v. v.items ≡ replicate count 0) }
+{
+    Ok(vec![in alloc; 0u64; count]?)
+}
+
+// The row that a node has before it opens.
+fn first_row<C: Compute>(
+    cones: &C,
+    node: usize,
+    count: usize,
+    words: &mut Vec<u64>,
+) -> Result<(), OutOfMemory>
+    requires near { (node < (C.run cones.now).nodes) × (node < 4294967296) }
+    requires count { count ≡ width (C.run cones.now) node }
+    ensures { OnOk result (words.new.items ≡ words.old.items ++ row (C.run cones.now) node 0) }
+{
+    for i in 0..count {
+        words.push(cones.first(LatchId::new(node as u32), i))?;
+    }
+    Ok(())
+}
+
+// So many zeros more.
+fn pad(words: &mut Vec<u64>, count: usize) -> Result<(), OutOfMemory>
+    ensures { OnOk result (words.new.items ≡ words.old.items ++ replicate count 0) }
+{
+    for i in 0..count {
+        words.push(0)?;
+    }
+    Ok(())
+}
+
+/// The histories of all nodes.
+pub fn histories<J: Rows>(alloc: Global, graph: &Layout<J>) -> Result<Vec<History>, OutOfMemory>
+    requires { IsSound graph.now }
+    ensures blank { IfOk result (λ v. Blank graph.now graph.now.nodes v.items) }
+    ensures room { IfOk result (λ v. graph.now.nodes ≤ vec_capacity v) }
+{
+    let reads = reads(alloc, graph)?;
+    let mut items = Vec::with_capacity(alloc, graph.nodes())?;
+    for node in 0..graph.nodes() {
+        items.push(history_of(alloc, graph, node, reads[node])?)?;
+    }
+    Ok(items)
+}
+
+// How many value words each node reads.
+fn reads<J: Rows>(alloc: Global, graph: &Layout<J>) -> Result<Vec<usize>, OutOfMemory>
+    requires { IsSound graph.now }
+    ensures { IfOk result (λ v. (length v.items ≡ graph.now.nodes) × ((l : ℕ)
+        → l < graph.now.nodes
+        → slice_index v.items l ≡ read_words graph.now l (length graph.now.edges))) }
+{
+    let mut totals = zeros(alloc, graph.nodes())?;
+    let edges = graph.edges();
+    for i in 0..edges.len() {
+        let edge = edges[i];
+        totals[edge.consumer.index()] += graph.width(edge.producer.index());
+    }
+    Ok(totals)
+}
+
+// A history with room for all firings of its node.
+fn history_of<J: Rows>(
+    alloc: Global,
+    graph: &Layout<J>,
+    node: usize,
+    reads: usize,
+) -> Result<History, OutOfMemory>
+    requires sound { IsSound graph.now }
+    requires near { node < graph.now.nodes }
+    requires reads { reads ≡ read_words graph.now node (length graph.now.edges) }
+    ensures { IfOk result (λ h. IsBlank graph.now node h) }
+{
+    let turns = graph.limit() as usize;
+    let first = Vec::with_capacity(alloc, turns)?;
+    let second = Vec::with_capacity(alloc, turns)?;
+    let rows = Vec::with_capacity(alloc, turns * graph.width(node))?;
+    let from = Vec::with_capacity(alloc, reads)?;
+    Ok(History {
+        node,
+        fired: 0,
+        first,
+        second,
+        rows,
+        from,
+    })
+}

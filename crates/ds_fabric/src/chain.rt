@@ -1,0 +1,36 @@
+ghost use Rattle.std.specs.Prelude.{◌≡◌, IfOk, length, replicate};
+ghost use Rattle.ds_rule.specs.Sound.{IsSound};
+ghost use Rattle.ds_fabric.specs.Chained.{AreChained};
+
+use crate::index::zeros;
+use ds_base::OutOfMemory;
+use ds_rule::{Layout, Rows};
+use std::alloc::Global;
+
+/// For each event, the arcs into it. `heads` has the place of the last arc into each event, `links`
+/// from each arc that of the one before; a place is one more than an arc's number, and 0 where there
+/// is none.
+#[derive(Drop)]
+pub struct Chains {
+    pub heads: Vec<usize>,
+    pub links: Vec<usize>,
+}
+
+impl Chains {
+    /// The chains of all arcs.
+    pub fn of<J: Rows>(alloc: Global, graph: &Layout<J>) -> Result<Chains, OutOfMemory>
+        requires { IsSound graph.now }
+        ensures { IfOk result (λ c.
+            AreChained graph.now c) }
+    {
+        let mut heads = zeros(alloc, graph.nodes() + graph.latches())?;
+        let mut links = Vec::new(alloc);
+        let arcs = graph.arcs();
+        for i in 0..arcs.len() {
+            let target = arcs[i].target.index();
+            links.push(heads[target])?;
+            heads[target] = i + 1;
+        }
+        Ok(Chains { heads, links })
+    }
+}

@@ -1,0 +1,81 @@
+ghost use Rattle.std.specs.Prelude.{◌≡◌, ◌↔◌, ◌<◌, ◌≤◌, ◌+◌, true, IsTrue, IfSome, IfNone, length};
+ghost use Rattle.ds_rule.specs.Run.{events};
+ghost use Rattle.ds_rule.specs.Rule.{holds, seen};
+ghost use Rattle.ds_rule.specs.Plays.{after_look};
+ghost use Rattle.ds_fabric.specs.Base.{IsOver};
+ghost use Rattle.ds_fabric.specs.Chained.{AreChained};
+ghost use Rattle.ds_fabric.specs.Looks.{LooksOn, Enough, Lacks};
+
+use crate::chain::Chains;
+use atomic_table::{Seat, Shared};
+use ds_rule::{Layout, Look, Order, Rows, View};
+
+/// The table, as its steps see it.
+pub type Board<J> = Shared<u8, View, Layout<J>, Order>;
+
+/// Loads the count of a node.
+pub fn look<J: Rows>(
+    board: &Board<J>,
+    graph: &Layout<J>,
+    seat: &mut Seat<u8, View>,
+    node: usize,
+) -> u64
+    requires table { (seat.old.table_id ≡ board.now.table_id)
+        × IsOver board.now.table_id board.now.key graph.now }
+    requires near { node < graph.now.nodes }
+    requires rests { (seat.old.me.0.live ≡ true) × (seat.old.me.0.stage ≡ 0) }
+
+    ensures table { seat.new.table_id ≡ seat.old.table_id }
+    ensures me { seat.new.me ≡ (after_look seat.old.me.0 node result, seat.old.me.1) }
+    ensures own { holds seat.old.me.0 node ≡ true → result ≡ seen seat.old.me.0 node }
+    ensures up { seen seat.old.me.0 node ≤ result }
+{
+    board.load::<Look>(seat, node + 1)
+}
+
+/// Loads the counts of the event's sources, from the last arc on, up to the first that is too small.
+pub fn survey<J: Rows>(
+    board: &Board<J>,
+    graph: &Layout<J>,
+    chains: &Chains,
+    seat: &mut Seat<u8, View>,
+    event: usize,
+    turn: u64,
+) -> Option<(usize, u64)>
+    requires table { (seat.old.table_id ≡ board.now.table_id)
+        × IsOver board.now.table_id board.now.key graph.now }
+    requires chains { AreChained graph.now chains.now }
+    requires rests { (seat.old.me.0.live ≡ true) × (seat.old.me.0.stage ≡ 0)
+        × (length seat.old.me.0.seen ≡ graph.now.nodes) }
+    requires few { (turn < 9223372036854775808) × (event < events graph.now) }
+
+    ensures table { (seat.new.table_id ≡ seat.old.table_id) × (seat.new.me.1 ≡ seat.old.me.1) }
+    ensures looks { LooksOn seat.old.me.0 seat.new.me.0 }
+    ensures none { IfNone result (Enough graph.now seat.new.me.0 event turn) }
+    ensures some { IfSome result (λ r.
+        Lacks graph.now seat.old.me.0 seat.new.me.0 event turn r.0 r.1) }
+{
+    let arcs = graph.arcs();
+    let mut at = chains.heads[event];
+    for i in 0..arcs.len() {
+        if at == 0 {
+            return None;
+        }
+        let source = arcs[at - 1].source.index();
+        let fired = look(board, graph, seat, graph.node_of(source));
+        let seen = graph.turns(source, fired);
+        if lacks(seen, arcs[at - 1].tokens, turn) {
+            return Some((at - 1, seen));
+        }
+        at = chains.links[at - 1];
+    }
+    None
+}
+
+// The tokens are too few for this turn.
+fn lacks(seen: u64, tokens: u8, turn: u64) -> bool
+    requires { turn < 9223372036854775808 }
+    ensures { IsTrue result ↔ (seen + tokens < turn) }
+{
+    seen < turn && (tokens as u64) < turn - seen
+}

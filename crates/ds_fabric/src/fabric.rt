@@ -1,0 +1,208 @@
+ghost use Rattle.std.specs.Prelude.{◌≡◌, ◌<◌, ◌≤◌, ◌+◌, true, ℕ, OnOk, OnErr, IfOk};
+ghost use Rattle.ds_rule.specs.Sound.{IsSound};
+ghost use Rattle.ds_rule.specs.Log.{Recorded};
+ghost use Rattle.ds_rule.specs.Rule.{holds, tickets};
+ghost use Rattle.ds_rule.specs.Plays.{both};
+ghost use Rattle.ds_fabric.specs.Stepped.{Stepped};
+ghost use Rattle.ds_fabric.specs.Showing.{Belongs, IsBegun, IsDealt, IsLeft, Stays};
+
+use crate::build::{histories, lay};
+use crate::chain::Chains;
+use crate::compute::Compute;
+use crate::flight::advance;
+use crate::hands::{cut, mend, shut};
+use crate::index::{Index, firsts};
+use crate::pass::Pass;
+use crate::places::{alone, find, note_from, numbered, take_out};
+use crate::record::Record;
+use crate::step::Step;
+use atomic_table::Table;
+use ds_base::{LatchId, OutOfMemory, Row3};
+use ds_rule::{Layout, Order, Rows, View};
+use std::alloc::Global;
+use std::marker::Model;
+use std::snapshot::Snapshot;
+
+/// The shared table of a run.
+#[derive(Drop)]
+pub struct Fabric<'a, J: Rows, C: Compute> {
+    pub(crate) graph: &'a Layout<J>,
+    pub(crate) cones: &'a C,
+    pub(crate) chains: Chains,
+    pub(crate) index: Index,
+    pub(crate) table: Table<u8, View, Layout<J>, Order, Global>,
+}
+
+impl<'a, J: Rows, C: Compute> Model for Fabric<'a, J, C> {
+    ghost use Rattle.std.specs.Prelude.{◌≡◌, length};
+    ghost use Rattle.ds_fabric.specs.Base.{Base, IsBuilt};
+    ghost use Rattle.ds_fabric.specs.Chained.{AreChained};
+
+    ghost Value = { Base };
+
+    ghost view = { λ f. record {
+      table_id = f.table.shared.table_id;
+      run = f.graph.now;
+      nets = C.scratch f.cones.now;
+    } };
+
+    ghost invariant = { λ f. IsBuilt f.table.shared.table_id f.table.shared.key f.graph.now f.index
+        × (C.run f.cones.now ≡ f.graph.now)
+        × AreChained f.graph.now f.chains };
+}
+
+impl<'a, J: Rows, C: Compute> Fabric<'a, J, C> {
+    /// The shared table of a run in which nothing has fired, and the pass that holds all nodes.
+    pub fn build(
+        alloc: Global,
+        graph: &'a Layout<J>,
+        cones: &'a C,
+    ) -> Result<(Fabric<'a, J, C>, Pass), OutOfMemory>
+        requires sound { IsSound graph.now }
+        requires cones { C.run cones.now ≡ graph.now }
+        ensures { IfOk result (λ r. IsBegun graph.now r.0 r.1) }
+    {
+        let (words, starts) = lay(alloc, graph, cones)?;
+        let firsts = firsts(alloc, graph)?;
+        let index = Index { starts, firsts };
+        let chains = Chains::of(alloc, graph)?;
+        let nodes = histories(alloc, graph)?;
+        let places = numbered(alloc, graph.nodes())?;
+        let nets = Row3::with_len(alloc, cones.nets())?;
+        let (table, seat) = Table::of_words(alloc, words.as_slice(), graph)?;
+        let room = graph.nodes() as u32;
+        let fabric = Fabric {
+            graph,
+            cones,
+            chains,
+            index,
+            table,
+        };
+        let pass = Pass {
+            seat,
+            nodes,
+            places,
+            nets,
+            room,
+        };
+        Ok((fabric, pass))
+    }
+
+    /// Fires the next event of the node, if what its sources show is enough. It takes no memory and
+    /// waits for nobody.
+    pub fn step(&self, pass: &mut Pass, node: LatchId) -> Step
+        requires fits { Belongs self.now pass.old }
+        requires held { holds pass.old.view node ≡ true }
+
+        ensures same { Stays pass.old pass.new }
+        ensures step { Stepped self.now.run pass.old.view node result pass.new.view }
+    {
+        let number = node.index();
+        let nodes = pass.nodes.as_slice();
+        let at = find(nodes, pass.places.as_slice(), number);
+        advance(
+            &self.table.shared,
+            self.graph,
+            self.cones,
+            &self.chains,
+            &self.index,
+            &mut pass.seat,
+            &mut pass.nodes[at],
+            &mut pass.nets,
+        )
+    }
+
+    /// The node goes to a new pass, which has seen what the old one had seen.
+    pub fn deal(
+        &self,
+        alloc: Global,
+        pass: &mut Pass,
+        node: LatchId,
+        room: u32,
+    ) -> Result<Pass, OutOfMemory>
+        requires fits { Belongs self.now pass.old }
+        requires held { holds pass.old.view node ≡ true }
+        requires room { 0 < room }
+
+        ensures ok { IfOk result (λ q. IsDealt pass.old node room q) }
+        ensures ok_left { OnOk result (IsLeft pass.old node pass.new) }
+        ensures same { OnErr result (pass.new ≡ pass.old) }
+    {
+        let number = node.index();
+        let held = pass.nodes.as_slice();
+        let at = find(held, pass.places.as_slice(), number);
+        let mut nodes = Vec::with_capacity(alloc, room as usize)?;
+        let places = alone(alloc, self.graph.nodes(), number, room)?;
+        let nets = Row3::with_len(alloc, self.cones.nets())?;
+        let seat = cut(&self.table.shared, self.graph, &mut pass.seat, number);
+        let history = take_out(&mut pass.nodes, &mut pass.places, at);
+        nodes.push_reserved(history);
+        Ok(Pass {
+            seat,
+            nodes,
+            places,
+            nets,
+            room,
+        })
+    }
+
+    /// The first pass takes in the nodes of the second.
+    pub fn gather(&self, pass: &mut Pass, other: Pass)
+        requires fits { Belongs self.now pass.old }
+        requires other { Belongs self.now other }
+        requires room { pass.old.many + other.many ≤ pass.old.room }
+
+        ensures same { (pass.new.table_id ≡ pass.old.table_id) × (pass.new.room ≡ pass.old.room)
+            × (pass.new.nets ≡ pass.old.nets) }
+        ensures many { pass.new.many ≡ pass.old.many + other.many }
+        ensures view { pass.new.view ≡ both pass.old.view other.view }
+    {
+        let Pass {
+            seat,
+            mut nodes,
+            places: _,
+            nets: _,
+            room: _,
+        } = other;
+        mend(&self.table.shared, self.graph, &mut pass.seat, seat);
+        let first = pass.nodes.len();
+        let Ok(()) = pass.nodes.append(&mut nodes) else {
+            unreachable!()
+        };
+        nodes.destroy_empty();
+        note_from(pass.nodes.as_slice(), &mut pass.places, first);
+    }
+
+    /// Ends the run. The pass holds all nodes.
+    pub fn finish(self, pass: Pass) -> Record
+        requires fits { Belongs self pass }
+        requires all { (l : ℕ) → l < self.run.nodes → holds pass.view l ≡ true }
+
+        ensures same { result.shown ≡ pass }
+        ensures legal { Recorded self.entry.run (tickets pass.view) result.many }
+    {
+        let shown = Snapshot::of(&pass);
+        let Fabric {
+            graph,
+            cones: _,
+            chains: _,
+            index: _,
+            table,
+        } = self;
+        let Pass {
+            seat,
+            nodes,
+            places,
+            nets: _,
+            room: _,
+        } = pass;
+        let many = shut(table, graph, seat);
+        Record {
+            nodes,
+            places,
+            latches: graph.latches(),
+            many,
+            shown,
+        }
+    }
+}

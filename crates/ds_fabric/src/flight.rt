@@ -1,0 +1,198 @@
+ghost use Rattle.std.specs.Prelude.{ℕ, List, ◌≡◌, ◌<◌, ◌≤◌, ◌+◌, ◌++◌, true, length, slice_set};
+ghost use mathlib.Core.Option.{some};
+ghost use lib.ListN.{get_elem?};
+ghost use Rattle.ds_rule.specs.Run.{next, opens, opened, Enabled};
+ghost use Rattle.ds_rule.specs.Words.{width};
+ghost use Rattle.ds_rule.specs.Rows.{row, rows_to, IsOpening};
+ghost use Rattle.ds_rule.specs.Rule.{holds, seen};
+ghost use Rattle.ds_rule.specs.Plays.{after_depart, after_draw, after_publish};
+ghost use Rattle.ds_fabric.specs.Base.{IsBuilt, IsAway};
+ghost use Rattle.ds_fabric.specs.Noted.{HasFired, HasRoomToNote};
+ghost use Rattle.ds_fabric.specs.Chained.{AreChained};
+ghost use Rattle.ds_fabric.specs.Showing.{Keeps};
+ghost use Rattle.ds_fabric.specs.Stepped.{Stepped};
+ghost use Rattle.ds_fabric.specs.declared.history.History.{History};
+ghost use Rattle.ds_fabric.specs.Flown.{HasOpened, HasRoomFor};
+
+use crate::chain::Chains;
+use crate::compute::Compute;
+use crate::counts::{Board, survey};
+use crate::history::History;
+use crate::index::Index;
+use crate::rows::{place_of, read_rows, write_row};
+use crate::step::Step;
+use atomic_table::Seat;
+use ds_base::{ArcId, EventId, LatchId, Row3};
+use ds_rule::{Depart, Draw, Layout, Publish, Rows, View};
+
+/// Fires the next event of the history's node, if what its sources show is enough.
+pub fn advance<J: Rows, C: Compute>(
+    board: &Board<J>,
+    graph: &Layout<J>,
+    cones: &C,
+    chains: &Chains,
+    index: &Index,
+    seat: &mut Seat<u8, View>,
+    history: &mut History,
+    nets: &mut Row3,
+) -> Step
+    requires table { (seat.old.table_id ≡ board.now.table_id)
+        × IsBuilt board.now.table_id board.now.key graph.now index.now }
+    requires chains { AreChained graph.now chains.now }
+    requires cones { (C.run cones.now ≡ graph.now) × (length nets.old ≡ C.scratch cones.now) }
+    requires run { seat.old.me.0.run ≡ graph.now }
+    requires keeps { (nodes : List History) × (i : ℕ) × Keeps seat.old.me nodes
+        × (get_elem? nodes i ≡ some history.old) }
+
+    ensures table { seat.new.table_id ≡ seat.old.table_id }
+    ensures step { Stepped graph.now seat.old.me.0 history.old.node result seat.new.me.0 }
+    ensures keeps { (nodes : List History) (i : ℕ) → Keeps seat.old.me nodes
+        → get_elem? nodes i ≡ some history.old → Keeps seat.new.me (slice_set nodes i history.new) }
+    ensures node { history.new.node ≡ history.old.node }
+    ensures same { (seat.new.me.0.run ≡ seat.old.me.0.run)
+        × (seat.new.me.0.holds ≡ seat.old.me.0.holds) × (length nets.new ≡ length nets.old) }
+{
+    let fired = history.fired;
+    let event = graph.next(history.node, fired);
+    let before = graph.turns(event, fired);
+    if before >= graph.limit() {
+        return Step::Done;
+    }
+    let turn = before + 1;
+    if let Some((arc, seen)) = survey(board, graph, chains, seat, event, turn) {
+        let arc = ArcId::new(arc as u32);
+        return Step::NotYet { arc, seen };
+    }
+    let ticket = fire(board, graph, cones, index, seat, history, nets);
+    let event = EventId::new(event as u32);
+    Step::Fired {
+        event,
+        turn,
+        ticket,
+    }
+}
+
+// Fires the next event of the node: what was seen is enough for it.
+fn fire<J: Rows, C: Compute>(
+    board: &Board<J>,
+    graph: &Layout<J>,
+    cones: &C,
+    index: &Index,
+    seat: &mut Seat<u8, View>,
+    history: &mut History,
+    nets: &mut Row3,
+) -> u64
+    requires table { (seat.old.table_id ≡ board.now.table_id)
+        × IsBuilt board.now.table_id board.now.key graph.now index.now }
+    requires cones { (C.run cones.now ≡ graph.now) × (length nets.old ≡ C.scratch cones.now) }
+    requires rests { (seat.old.me.0.live ≡ true) × (seat.old.me.0.stage ≡ 0)
+        × (seat.old.me.0.run ≡ graph.now) }
+    requires held { (holds seat.old.me.0 history.old.node ≡ true)
+        × (history.old.node < graph.now.nodes)
+        × (history.old.fired ≡ seen seat.old.me.0 history.old.node) }
+    requires ready { Enabled graph.now (seen seat.old.me.0) (next graph.now history.old.node history.old.fired) }
+    requires rows { history.old.rows.items
+        ≡ rows_to graph.now history.old.node (opened graph.now history.old.node history.old.fired) }
+    requires room { opens graph.now (next graph.now history.old.node history.old.fired) ≡ true
+        → HasRoomFor graph.now history.old }
+    requires note { HasRoomToNote graph.now history.old }
+
+    ensures table { (seat.new.table_id ≡ seat.old.table_id) × (seat.new.id ≡ seat.old.id) }
+    ensures me { seat.new.me
+        ≡ (
+          after_publish (after_draw (after_depart seat.old.me.0 history.old.node) result),
+          seat.old.me.1,
+        ) }
+    ensures fresh { seat.old.me.0.drawn ≤ result }
+    ensures noted { HasFired graph.now history.old history.new result }
+    ensures nets { length nets.new ≡ length nets.old }
+{
+    let word = history.node + 1;
+    board.load::<Depart>(seat, word);
+    prepare(board, graph, cones, index, seat, history, nets);
+    let ticket = board.fetch_add::<Draw>(seat, 0, 1);
+    board.store::<Publish>(seat, word, history.fired + 1);
+    history.note(graph, ticket);
+    ticket
+}
+
+// Gives the node's next value, where its next event is an opening.
+fn prepare<J: Rows, C: Compute>(
+    board: &Board<J>,
+    graph: &Layout<J>,
+    cones: &C,
+    index: &Index,
+    seat: &mut Seat<u8, View>,
+    history: &mut History,
+    nets: &mut Row3,
+)
+    requires table { (seat.old.table_id ≡ board.now.table_id)
+        × IsBuilt board.now.table_id board.now.key graph.now index.now }
+    requires cones { (C.run cones.now ≡ graph.now) × (length nets.old ≡ C.scratch cones.now) }
+    requires flight { IsAway graph.now seat.old.me.0 history.old.node
+        × (history.old.fired ≡ seen seat.old.me.0 history.old.node)
+        × (history.old.node < graph.now.nodes) }
+    requires ready { Enabled graph.now (seen seat.old.me.0) (next graph.now history.old.node history.old.fired) }
+    requires rows { history.old.rows.items
+        ≡ rows_to graph.now history.old.node (opened graph.now history.old.node history.old.fired) }
+    requires room { opens graph.now (next graph.now history.old.node history.old.fired) ≡ true
+        → HasRoomFor graph.now history.old }
+
+    ensures seat { (seat.new.table_id ≡ seat.old.table_id) × (seat.new.id ≡ seat.old.id) }
+    ensures me { (n : ℕ) × (seat.new.me ≡ (record seat.old.me.0 { written = n }, seat.old.me.1))
+        × (opens graph.now (next graph.now history.old.node history.old.fired) ≡ true
+        → width graph.now history.old.node ≤ n) }
+    ensures rows { history.new.rows.items
+        ≡ rows_to graph.now history.old.node
+        (opened graph.now history.old.node (history.old.fired + 1)) }
+    ensures same { HasOpened history.old history.new }
+    ensures nets { length nets.new ≡ length nets.old }
+{
+    if graph.opens_next(history.node, history.fired) {
+        let turn = history.fired / 2 + 1;
+        open_row(board, graph, cones, index, seat, history, nets, turn);
+    }
+}
+
+// Reads, computes and writes the row of the opening.
+fn open_row<J: Rows, C: Compute>(
+    board: &Board<J>,
+    graph: &Layout<J>,
+    cones: &C,
+    index: &Index,
+    seat: &mut Seat<u8, View>,
+    history: &mut History,
+    nets: &mut Row3,
+    turn: u64,
+)
+    requires table { (seat.old.table_id ≡ board.now.table_id)
+        × IsBuilt board.now.table_id board.now.key graph.now index.now }
+    requires cones { (C.run cones.now ≡ graph.now) × (length nets.old ≡ C.scratch cones.now) }
+    requires flight { IsOpening graph.now seat.old.me.0 history.old.node turn
+        × IsAway graph.now seat.old.me.0 history.old.node }
+    requires within { (history.old.node < graph.now.latches) × (turn ≤ graph.now.limit) }
+    requires room { HasRoomFor graph.now history.old }
+
+    ensures seat { (seat.new.table_id ≡ seat.old.table_id) × (seat.new.id ≡ seat.old.id) }
+    ensures me { seat.new.me
+        ≡ (record seat.old.me.0 { written = width graph.now history.old.node }, seat.old.me.1) }
+    ensures value { history.new.rows.items ≡ history.old.rows.items ++ row graph.now history.old.node turn }
+    ensures same { HasOpened history.old history.new }
+    ensures nets { length nets.new ≡ length nets.old }
+{
+    let node = history.node;
+    history.from.clear();
+    read_rows(board, graph, index, seat, node, turn, &mut history.from);
+    let before = history.rows.len();
+    let from = history.from.as_slice();
+    cones.compute(
+        LatchId::new(node as u32),
+        turn,
+        from,
+        nets,
+        &mut history.rows,
+    );
+    let at = place_of(graph, index.starts.as_slice(), node, turn);
+    let words = &history.rows.as_slice()[before..];
+    write_row(board, graph, seat, at, words, node, turn);
+}

@@ -1,0 +1,55 @@
+ghost use Rattle.std.specs.Prelude.{◌≡◌, ◌<◌, ◌≤◌, ◌+◌, ℕ, List, IfOk, length, replicate};
+ghost use Rattle.ds_rule.specs.Sound.{IsSound, edge_at};
+ghost use Rattle.ds_rule.specs.Rows.{IsStarts};
+ghost use Rattle.ds_fabric.specs.Ranged.{IsFrom, AreFirsts};
+ghost use Rattle.ds_rule.specs.declared.layout.DataEdge.{DataEdge};
+
+use ds_base::OutOfMemory;
+use ds_rule::{DataEdge, Layout, Rows};
+use std::alloc::Global;
+
+/// Where the rows of each node begin among the words, and its edges among the edges, which stand by
+/// consumer. `firsts` has one place more.
+#[derive(Drop)]
+pub struct Index {
+    pub starts: Vec<usize>,
+    pub firsts: Vec<usize>,
+}
+
+/// So many zeros.
+pub fn zeros(alloc: Global, count: usize) -> Result<Vec<usize>, OutOfMemory>
+    ensures { IfOk result (λ v. v.items ≡ replicate count 0) }
+{
+    Ok(vec![in alloc; 0usize; count]?)
+}
+
+/// The first edge of each node.
+pub fn firsts<J: Rows>(alloc: Global, graph: &Layout<J>) -> Result<Vec<usize>, OutOfMemory>
+    requires { IsSound graph.now }
+    ensures { IfOk result (λ v. AreFirsts graph.now v.items) }
+{
+    let edges = graph.edges();
+    let mut firsts = Vec::new(alloc);
+    let mut at = 0;
+    for node in 0..graph.nodes() + 1 {
+        at = skip(graph, edges, at, node);
+        firsts.push(at)?;
+    }
+    Ok(firsts)
+}
+
+// The first edge whose consumer is not below the node; those before `at` are passed.
+fn skip<J: Rows>(graph: &Layout<J>, edges: &[DataEdge], at: usize, node: usize) -> usize
+    requires sound { IsSound graph.now }
+    requires edges { edges.now ≡ graph.now.edges }
+    requires passed { (at ≤ length edges.now) × ((k : ℕ) → k < at
+        → (edge_at graph.now k).consumer < node) }
+    ensures { IsFrom graph.now node result }
+{
+    for i in at..edges.len() {
+        if edges[i].consumer.index() >= node {
+            return i;
+        }
+    }
+    edges.len()
+}

@@ -1,0 +1,66 @@
+ghost use Rattle.std.specs.Prelude.{◌≡◌, ◌↔◌, ◌<◌, ℕ, true, IsTrue};
+ghost use Rattle.ds_rule.specs.Rule.{holds, seen};
+
+use crate::history::History;
+use crate::places::{find, has};
+use atomic_table::Seat;
+use ds_base::{LatchId, Row3};
+use ds_rule::View;
+use std::marker::Model;
+
+/// What one thread knows of a fabric, and the nodes that it holds.
+#[derive(Drop)]
+pub struct Pass {
+    pub(crate) seat: Seat<u8, View>,
+    pub(crate) nodes: Vec<History>,
+    pub(crate) places: Vec<usize>,
+    pub(crate) nets: Row3,
+    pub(crate) room: u32,
+}
+
+impl Model for Pass {
+    ghost use Rattle.std.specs.Prelude.{length, vec_len, vec_capacity};
+    ghost use Rattle.ds_fabric.specs.Showing.{Showing, IsPass};
+
+    ghost Value = { Showing };
+
+    ghost view = { λ p. record {
+      table_id = p.seat.table_id;
+      view = p.seat.me.0;
+      many = vec_len p.nodes;
+      room = p.room;
+      nets = length p.nets;
+    } };
+
+    ghost invariant = { λ p. IsPass p.seat.me p.room (vec_capacity p.nodes) p.nodes.items
+        p.places.items };
+}
+
+impl Pass {
+    /// The pass holds the node.
+    pub fn holds(&self, node: LatchId) -> bool
+        requires { node < self.now.view.run.nodes }
+        ensures { IsTrue result ↔ (holds self.now.view node ≡ true) }
+    {
+        let nodes = self.nodes.as_slice();
+        has(nodes, self.places.as_slice(), node.index())
+    }
+
+    /// The most nodes that it can hold.
+    pub fn room(&self) -> u32
+        ensures { result ≡ self.now.room }
+    {
+        self.room
+    }
+
+    /// How often the node has fired.
+    pub fn fired(&self, node: LatchId) -> u64
+        requires { holds self.now.view node ≡ true }
+        ensures { result ≡ seen self.now.view node }
+    {
+        let number = node.index();
+        let nodes = self.nodes.as_slice();
+        let at = find(nodes, self.places.as_slice(), number);
+        self.nodes[at].fired
+    }
+}

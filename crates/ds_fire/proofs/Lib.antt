@@ -1,0 +1,11 @@
+pub mod Registers
+pub mod Settles
+pub mod Shown
+pub mod Opened
+pub mod Reached
+pub mod Turning
+pub mod Lawful
+pub mod Members
+pub mod Refreshed
+pub mod Fed
+pub mod First

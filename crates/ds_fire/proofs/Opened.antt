@@ -1,0 +1,256 @@
+-- The rows after an opening, as the code puts them.
+use Rattle.std.proofs.Common.{◌≡◌, ◌∙◌, ℕ, suc, ◌+◌, ◌-◌, ◌*◌, ◌/◌, ◌%◌, ◌<◌, List, [], ◌++◌, length, get_or, take, drop, inl, inr, refl, arith, ap, sym, subst, add-zero}
+use Rattle.std.specs.Prelude.{All, not, ◌==◌}
+use Rattle.std.specs.List.{AllWithin, list_any}
+use Rattle.std.proofs.lemmas.List.Elements.{All-map, All-filter}
+use Rattle.std.proofs.Math.ListN.{set}
+use Rattle.std.proofs.Math.Nat.{suc-mul}
+use Rattle.std.proofs.lemmas.Bool.{cases_eq}
+use Rattle.std.proofs.lemmas.List.{get_or-set_same, get_or-set_other, get_or_default, take-append-drop, take-set, drop-set-add, length-map, get_or-map, map-set, set-get_or}
+use Rattle.ds_base.specs.Values.{Row}
+use Rattle.ds_base.specs.declared.value.Value.{Value}
+use Rattle.ds_base.specs.declared.value.Value.TheVariants.{Zero}
+use Rattle.ds_cover.specs.Cover.{value_at, values_at}
+use Rattle.ds_design.specs.Circuit.{columns, control_nets, data_nets, register_nets}
+use Rattle.ds_design.specs.InRange.{IsInRange}
+use Rattle.ds_design.specs.Plan.{IsSplit}
+use Rattle.ds_design.specs.declared.design.Register.{Register}
+use Rattle.ds_design.specs.Run.{row_at}
+use Rattle.ds_design.specs.Node.{Node, In, Out, Master, Slave, Split, IsNode, number_of, nodes, place_of, members, nets_of}
+use Rattle.ds_design.specs.Firing.{opening_read}
+use Rattle.ds_design.proofs.Counts.{number_below, same_node}
+use Rattle.ds_fire.specs.Snapshot.{row_index, rows_of}
+use Rattle.ds_fire.specs.Feed.{IsConsumer, IsHome}
+use Rattle.ds_fire.specs.History.{Stored}
+use Rattle.ds_fire.specs.Turn.{ArePlaces, AreRows, HasSettled, IsClosed, IsOpened, rooms_of, values_of, IsTapped, Opens, tap_index, tap_value}
+use Rattle.ds_fire.specs.declared.feed.Tap.{Tap}
+use Rattle.ds_fire.specs.declared.places.Places.{Places}
+use Rattle.ds_fire.proofs.Settles.{place_low, takes_settled, tap_place, zeroth}
+use Rattle.ds_fire.proofs.Shown.{index_inside}
+
+-- each number is that of a node
+pub node_at : (s : Split) (l : ℕ) → l < nodes s → (n : Node) × IsNode s n × (number_of n ≡ l)
+node_at s l below =
+    elim (cases_eq l 0) [
+      | inl e ↦ (In, tt, sym e)
+      | inr ne ↦ elim (cases_eq l 1) [
+        | inl e ↦ (Out, tt, sym e)
+        | inr other ↦ elim (cases_eq (l % 2) 0) [
+          | inl even ↦ (Master ((l - 2) / 2), (let low : (l - 2) / 2 < length s.clusters = omega arith in low), (let is : 2 * ((l - 2) / 2) + 2 ≡ l = omega arith in is))
+          | inr odd ↦ (Slave ((l - 2) / 2), (let low : (l - 2) / 2 < length s.clusters = omega arith in low), (let is : 2 * ((l - 2) / 2) + 3 ≡ l = omega arith in is))
+        ]
+      ]
+    ]
+
+-- the nets of the node with a number, as they are lent
+pub bits_are : (s : Split) (bits : List (List ℕ)) (number : ℕ) (bit : List ℕ) → number < length bits → bit ≡ get_or bits number bit → ((n : Node) → IsNode s n → get_or bits (number_of n) [] ≡ nets_of s n) → (n : Node) → IsNode s n → number_of n ≡ number → bit ≡ nets_of s n
+bits_are s bits number bit inside is lent n is_node e =
+    is ∙ (get_or_default bits number bit [] inside ∙ (ap (λ (k : ℕ). get_or bits k []) (sym e) ∙ lent n is_node))
+
+-- one tap more has its value
+pub load_more : (places : Places) (rows : List Row) (taps : List Tap) (nets : Row) (i : ℕ) (tap : Tap) (value : Value) → i < length taps → tap ≡ get_or taps i tap → value ≡ tap_value places rows tap → tap.net < length nets
+    → ((f : ℕ → Value) → All (λ tap. tap_value places rows tap ≡ f tap.net) taps → AllWithin (λ tap. value_at nets tap.net ≡ f tap.net) taps 0 i)
+    → (f : ℕ → Value) → All (λ tap. tap_value places rows tap ≡ f tap.net) taps → AllWithin (λ t. value_at (set nets tap.net value) t.net ≡ f t.net) taps 0 (i + 1)
+load_more places rows taps nets i tap value inside is value_is within so_far f all k d low below =
+    let P : Tap → Type 0 = λ t. tap_value places rows t ≡ f t.net in
+    let asked : tap_value places rows tap ≡ f tap.net = subst P (sym is) (all i tap inside) in
+    let here : value ≡ f tap.net = value_is ∙ asked in
+    elim (cases_eq (get_or taps k d).net tap.net) [
+      | inl same ↦
+          ap (λ (n : ℕ). value_at (set nets tap.net value) n) same
+          ∙ (get_or-set_same nets tap.net value Zero within ∙ (here ∙ ap f (sym same)))
+      | inr ne ↦
+          (let before : k < i = elim (cases_eq k i) [
+            | inl e ↦ absurd (ne (ap (λ (t : Tap). t.net) (ap (λ (j : ℕ). get_or taps j d) e ∙ (get_or_default taps i d tap inside ∙ sym is))))
+            | inr other ↦ omega arith
+          ] in
+          get_or-set_other nets tap.net (get_or taps k d).net value Zero ne ∙ so_far f all k d low before)
+    ]
+
+pub copy_is : (rows before rest : List Row) (from to : ℕ) (x : Row) → before ≡ take to rows → rest ≡ drop to rows → x ≡ get_or rows from [] → before ++ set rest 0 x ≡ set rows to (get_or rows from [])
+copy_is rows before rest from to x front back is =
+    let y : Row = get_or rows from [] in
+    let dropped : drop to (set rows to y) ≡ set (drop to rows) 0 y = ap (λ (k : ℕ). drop to (set rows k y)) (sym (add-zero to)) ∙ drop-set-add to rows 0 y in
+    ap (λ (b : List Row). b ++ set rest 0 x) front
+    ∙ (ap (λ (r : List Row). take to rows ++ set r 0 x) back
+    ∙ (ap (λ (v : Row). take to rows ++ set (drop to rows) 0 v) is
+    ∙ (ap (λ (b : List Row). b ++ set (drop to rows) 0 y) (sym (take-set rows to y))
+    ∙ (ap (λ (r : List Row). take to (set rows to y) ++ r) (sym dropped) ∙ take-append-drop to (set rows to y)))))
+
+-- the nets of a node are there
+module _ (s : Split) (split : IsSplit s) (range : IsInRange s.circuit) where
+  abbrev IsNet : ℕ → Type 0
+  IsNet net = net < length s.circuit.nets
+
+  data_within : All (λ net. net < length s.circuit.nets) (data_nets s.circuit)
+  data_within = All-map IsNet (λ (r : Register). r.data_net) s.circuit.registers (λ k d inside. (range.registers k d inside).0)
+
+  outputs_within : All (λ net. net < length s.circuit.nets) (register_nets s.circuit)
+  outputs_within = All-map IsNet (λ (r : Register). r.output) s.circuit.registers (λ k d inside. (range.registers k d inside).1)
+
+  member_low : (i : ℕ) → i < length s.clusters → (k d : ℕ) → k < length (members s i) → get_or (members s i) k d < length s.circuit.registers
+  member_low i is_cluster k d inside = split.within i [] is_cluster k d inside
+
+  pub nets_within : (n : Node) → IsNode s n → All (λ net. net < length s.circuit.nets) (nets_of s n)
+  nets_within In is_node = All-filter (λ net. not (list_any (λ clock. clock == net) (control_nets s.circuit))) IsNet s.circuit.inputs range.inputs
+  nets_within Out is_node = range.outputs
+  nets_within (Master i) is_node =
+      let sizes : length (data_nets s.circuit) ≡ length s.circuit.registers = length-map s.circuit.registers (λ (r : Register). r.data_net) in
+      All-map IsNet (λ r. get_or (data_nets s.circuit) r 0) (members s i) (λ k d inside. data_within (get_or (members s i) k d) 0 (omega (arith, member_low i is_node k d inside)))
+  nets_within (Slave i) is_node =
+      let sizes : length (register_nets s.circuit) ≡ length s.circuit.registers = length-map s.circuit.registers (λ (r : Register). r.output) in
+      All-map IsNet (λ r. get_or (register_nets s.circuit) r 0) (members s i) (λ k d inside. outputs_within (get_or (members s i) k d) 0 (omega (arith, member_low i is_node k d inside)))
+
+-- each tap of a feed has its row, its value in it and its net
+pub tapped : (s : Split) → IsSplit s → IsInRange s.circuit → (rows : List Row) → AreRows s rows → (opened : ℕ) (places : Places) → ArePlaces s opened places → (nets : Row) → length nets ≡ length s.circuit.nets → (tap : Tap) → IsHome s tap.net tap.home → IsTapped places rows nets tap
+tapped s split range rows are opened places at nets long tap (p, source, is_p, (node, inside, is)) =
+    let place : ℕ = place_of s (opening_read p opened) in
+    let index : tap_index places tap ≡ row_index s (number_of p) (place_of s (opening_read p opened)) = tap_place s opened places at tap p source node in
+    let below : row_index s (number_of p) (place_of s (opening_read p opened)) < nodes s * (s.slack + 1) = index_inside s (number_of p) place (number_below s p is_p) (place_low s (opening_read p opened)) in
+    let rows_long : length rows ≡ nodes s * (s.slack + 1) = are.one_each in
+    let wide : length (rows_of s rows p (place_of s (opening_read p opened))) ≡ length (nets_of s p) = are.widths p is_p place (place_low s (opening_read p opened)) in
+    let net : get_or (nets_of s p) tap.home.bit 0 < length s.circuit.nets = nets_within s split range p is_p tap.home.bit 0 inside in
+    record {
+      row = omega arith;
+      bit = subst (λ (k : ℕ). tap.home.bit < length (get_or rows k [])) (sym index) (subst (λ (k : ℕ). tap.home.bit < k) (sym wide) inside);
+      net = omega arith;
+    }
+
+pub opened_in : (s : Split) (vectors rows rows' : List Row) (opened place : ℕ) (row : Row) → place ≡ place_of s (opened + 1) → row ≡ row_at vectors opened → length row ≡ length (columns s.circuit) → rows' ≡ set rows place row → IsOpened s vectors opened In rows rows'
+opened_in s vectors rows rows' opened place row at is wide puts = record {
+  row = row;
+  takes = is;
+  width = wide;
+  puts = puts ∙ ap (λ (k : ℕ). set rows k row) (at ∙ sym (zeroth s (place_of s (opened + 1))));
+}
+
+master_before : (s : Split) (i place : ℕ) → row_index s (number_of (Slave i)) place ≡ row_index s (number_of (Master i)) place + (s.slack + 1)
+master_before s i place =
+    let step : suc (2 * i + 2) * (s.slack + 1) ≡ (2 * i + 2) * (s.slack + 1) + (s.slack + 1) = suc-mul (2 * i + 2) (s.slack + 1) in
+    let number : (2 * i + 3) * (s.slack + 1) ≡ suc (2 * i + 2) * (s.slack + 1) = ap (λ (n : ℕ). n * (s.slack + 1)) (let e : 2 * i + 3 ≡ suc (2 * i + 2) = omega arith in e) in
+    omega arith
+
+pub next_index : (s : Split) (opened : ℕ) (places : Places) → ArePlaces s opened places → (number : ℕ) → number * places.each + places.next ≡ row_index s number (place_of s (opened + 1))
+next_index s opened places are number =
+    ap (λ (w : ℕ). number * w + places.next) are.each ∙ ap (λ (p : ℕ). number * (s.slack + 1) + p) are.next
+
+module _ (s : Split) (vectors rows : List Row) (are : AreRows s rows) (opened : ℕ) (places : Places) (at : ArePlaces s opened places) where
+  module _ (i : ℕ) (is_node : IsNode s (Slave i)) (number : ℕ) (is : number_of (Slave i) ≡ number) where
+    abbrev to : ℕ
+    to = number * places.each + places.next
+
+    pub slave_at : number * places.each + places.next ≡ row_index s (number_of (Slave i)) (place_of s (opened + 1))
+    slave_at = ap (λ (n : ℕ). n * places.each + places.next) (sym is) ∙ next_index s opened places at (number_of (Slave i))
+
+    pub master_at : number * places.each + places.next - places.each ≡ row_index s (number_of (Master i)) (place_of s (opened + 1))
+    master_at =
+        let here : number * places.each + places.next ≡ row_index s (number_of (Slave i)) (place_of s (opened + 1)) = slave_at in
+        let before : row_index s (number_of (Slave i)) (place_of s (opened + 1)) ≡ row_index s (number_of (Master i)) (place_of s (opened + 1)) + (s.slack + 1) = master_before s i (place_of s (opened + 1)) in
+        let each : places.each ≡ s.slack + 1 = at.each in
+        omega arith
+
+    master_wide : length (rows_of s rows (Master i) (place_of s (opened + 1))) ≡ length (nets_of s (Slave i))
+    master_wide =
+        are.widths (Master i) is_node (place_of s (opened + 1)) (place_low s (opened + 1))
+        ∙ (length-map (members s i) (λ r. get_or (data_nets s.circuit) r 0) ∙ sym (length-map (members s i) (λ r. get_or (register_nets s.circuit) r 0)))
+
+    pub same_width : length (get_or rows (number * places.each + places.next - places.each) []) ≡ length (get_or rows (number * places.each + places.next) [])
+    same_width =
+        ap (λ (k : ℕ). length (get_or rows k [])) master_at
+        ∙ (master_wide
+        ∙ (sym (are.widths (Slave i) is_node (place_of s (opened + 1)) (place_low s (opened + 1)))
+        ∙ ap (λ (k : ℕ). length (get_or rows k [])) (sym slave_at)))
+
+    pub slave_inside : number * places.each + places.next < length rows
+    slave_inside =
+        let here : number * places.each + places.next ≡ row_index s (number_of (Slave i)) (place_of s (opened + 1)) = slave_at in
+        let below : row_index s (number_of (Slave i)) (place_of s (opened + 1)) < nodes s * (s.slack + 1) = index_inside s (number_of (Slave i)) (place_of s (opened + 1)) (number_below s (Slave i) is_node) (place_low s (opened + 1)) in
+        let long : length rows ≡ nodes s * (s.slack + 1) = are.one_each in
+        omega arith
+
+    pub opened_slave : (rows' : List Row) → rows' ≡ set rows (number * places.each + places.next) (get_or rows (number * places.each + places.next - places.each) []) → Opens s vectors opened number rows rows'
+    opened_slave rows' puts n is_n e =
+        let row : Row = rows_of s rows (Master i) (place_of s (opened + 1)) in
+        let node : n ≡ Slave i = same_node n (Slave i) (e ∙ sym is) in
+        let here : IsOpened s vectors opened (Slave i) rows rows' = record {
+          row = row;
+          takes = refl;
+          width = master_wide;
+          puts = puts
+              ∙ (ap (λ (k : ℕ). set rows to (get_or rows k [])) master_at
+              ∙ ap (λ (k : ℕ). set rows k (rows_of s rows (Master i) (place_of s (opened + 1)))) slave_at);
+        } in
+        subst (λ (m : Node). IsOpened s vectors opened m rows rows') (sym node) here
+
+  module _ (m : Node) (is_m : IsNode s m) (consumer : IsConsumer m) (number : ℕ) (is : number_of m ≡ number) where
+    consumer_at : number * places.each + places.next ≡ row_index s (number_of m) (place_of s (opened + 1))
+    consumer_at = ap (λ (n : ℕ). n * places.each + places.next) (sym is) ∙ next_index s opened places at (number_of m)
+
+    pub consumer_inside : number * places.each + places.next < length rows
+    consumer_inside =
+        let here : number * places.each + places.next ≡ row_index s (number_of m) (place_of s (opened + 1)) = consumer_at in
+        let below : row_index s (number_of m) (place_of s (opened + 1)) < nodes s * (s.slack + 1) = index_inside s (number_of m) (place_of s (opened + 1)) (number_below s m is_m) (place_low s (opened + 1)) in
+        let long : length rows ≡ nodes s * (s.slack + 1) = are.one_each in
+        omega arith
+
+    pub consumer_wide : length (get_or rows (number * places.each + places.next) []) ≡ length (nets_of s m)
+    consumer_wide = ap (λ (k : ℕ). length (get_or rows k [])) consumer_at ∙ are.widths m is_m (place_of s (opened + 1)) (place_low s (opened + 1))
+
+    pub opened_settled : (rows' : List Row) (nets : Row) (bit : List ℕ) → bit ≡ nets_of s m → HasSettled s opened rows m nets → rows' ≡ set rows (number * places.each + places.next) (values_at nets bit) → Opens s vectors opened number rows rows'
+    opened_settled rows' nets bit bit_is settled puts n is_n e =
+        let node : n ≡ m = same_node n m (e ∙ sym is) in
+        let here : IsOpened s vectors opened m rows rows' = record {
+          row = values_at nets (nets_of s m);
+          takes = takes_settled s vectors rows opened m consumer (values_at nets (nets_of s m)) settled;
+          width = length-map (nets_of s m) (value_at nets);
+          puts = puts
+              ∙ (ap (λ (b : List ℕ). set rows (number * places.each + places.next) (values_at nets b)) bit_is
+              ∙ ap (λ (k : ℕ). set rows k (values_at nets (nets_of s m))) consumer_at);
+        } in
+        subst (λ (x : Node). IsOpened s vectors opened x rows rows') (sym node) here
+
+-- the node with a number stores the row of its next opening
+pub closed_is : (s : Split) (closed number : ℕ) (n : Node) → number_of n ≡ number → (rows : List Row) (stored : List Stored) (h new : Stored) (row : Row) → number < length stored → h ≡ get_or stored number h → row ≡ rows_of s rows n (place_of s (closed + 1)) → new ≡ record { values = h.values ++ row; room = h.room } → IsClosed s closed n rows stored (set stored number new)
+closed_is s closed number n e rows stored h new row inside is row_is new_is =
+    let values : get_or (values_of stored) number [] ≡ h.values = get_or-map (λ (x : Stored). x.values) stored number h [] inside ∙ ap (λ (x : Stored). x.values) (sym is) in
+    let room : get_or (rooms_of stored) number 0 ≡ h.room = get_or-map (λ (x : Stored). x.room) stored number h 0 inside ∙ ap (λ (x : Stored). x.room) (sym is) in
+    record {
+      values =
+          map-set (λ (x : Stored). x.values) stored number new
+          ∙ (ap (λ (x : Stored). set (values_of stored) number x.values) new_is
+          ∙ (ap (λ (v : Row). set (values_of stored) number (v ++ row)) (sym values)
+          ∙ (ap (λ (r : Row). set (values_of stored) number (get_or (values_of stored) number [] ++ r)) row_is
+          ∙ ap (λ (k : ℕ). set (values_of stored) k (get_or (values_of stored) k [] ++ rows_of s rows n (place_of s (closed + 1)))) (sym e))));
+      rooms =
+          map-set (λ (x : Stored). x.room) stored number new
+          ∙ (ap (λ (x : Stored). set (rooms_of stored) number x.room) new_is
+          ∙ (ap (λ (r : ℕ). set (rooms_of stored) number r) (sym room) ∙ set-get_or (rooms_of stored) number 0));
+    }
+
+-- where the row of the next opening is kept
+pub next_row : (s : Split) (rows : List Row) (opened : ℕ) (places : Places) → ArePlaces s opened places → (number : ℕ) (n : Node) → number_of n ≡ number → get_or rows (number * places.each + places.next) [] ≡ rows_of s rows n (place_of s (opened + 1))
+next_row s rows opened places at number n e =
+    ap (λ (k : ℕ). get_or rows k []) (ap (λ (m : ℕ). m * places.each + places.next) (sym e) ∙ next_index s opened places at (number_of n))
+
+pub next_inside : (s : Split) (rows : List Row) → AreRows s rows → (opened : ℕ) (places : Places) → ArePlaces s opened places → (number : ℕ) → number < nodes s → number * places.each + places.next < length rows
+next_inside s rows are opened places at number below =
+    let here : number * places.each + places.next ≡ row_index s number (place_of s (opened + 1)) = next_index s opened places at number in
+    let inside : row_index s number (place_of s (opened + 1)) < nodes s * (s.slack + 1) = index_inside s number (place_of s (opened + 1)) below (place_low s (opened + 1)) in
+    let long : length rows ≡ nodes s * (s.slack + 1) = are.one_each in
+    omega arith
+
+-- where the row of the last opening is kept
+same_index : (s : Split) (opened : ℕ) (places : Places) → ArePlaces s opened places → (number : ℕ) → number * places.each + places.same ≡ row_index s number (place_of s opened)
+same_index s opened places are number =
+    ap (λ (w : ℕ). number * w + places.same) are.each ∙ ap (λ (p : ℕ). number * (s.slack + 1) + p) are.same
+
+pub same_row : (s : Split) (rows : List Row) (opened : ℕ) (places : Places) → ArePlaces s opened places → (number : ℕ) (n : Node) → number_of n ≡ number → get_or rows (number * places.each + places.same) [] ≡ rows_of s rows n (place_of s opened)
+same_row s rows opened places at number n e =
+    ap (λ (k : ℕ). get_or rows k []) (ap (λ (m : ℕ). m * places.each + places.same) (sym e) ∙ same_index s opened places at (number_of n))
+
+pub same_inside : (s : Split) (rows : List Row) → AreRows s rows → (opened : ℕ) (places : Places) → ArePlaces s opened places → (number : ℕ) → number < nodes s → number * places.each + places.same < length rows
+same_inside s rows are opened places at number below =
+    let here : number * places.each + places.same ≡ row_index s number (place_of s opened) = same_index s opened places at number in
+    let inside : row_index s number (place_of s opened) < nodes s * (s.slack + 1) = index_inside s number (place_of s opened) below (place_low s opened) in
+    let long : length rows ≡ nodes s * (s.slack + 1) = are.one_each in
+    omega arith

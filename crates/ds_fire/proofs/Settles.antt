@@ -1,0 +1,117 @@
+-- What is settled in the cone of a consumer is the row that it takes.
+use Rattle.std.proofs.Common.{◌≡◌, ◌∙◌, ℕ, ◌+◌, ◌*◌, ◌<◌, ◌≤◌, List, [], ◌∷◌, length, get_or, map, refl, arith, ap, sym, subst, zero-add}
+use Rattle.std.proofs.Math.Nat.{zero-mul}
+use Rattle.std.specs.Prelude.{All}
+use Rattle.std.proofs.lemmas.List.{get_or-map, length-map}
+use Rattle.std.proofs.lemmas.List.Elements.{All-head, All-tail}
+use Rattle.std.proofs.lemmas.Nat.{mod_below}
+use Rattle.ds_base.proofs.Tests.{test_same, test_other}
+use Rattle.ds_base.specs.Values.{Row}
+use Rattle.ds_base.specs.declared.value.Value.TheVariants.{Zero}
+use Rattle.ds_cover.specs.Cover.{value_at, values_at}
+use Rattle.ds_design.specs.Circuit.{register_nets}
+use Rattle.ds_design.specs.InRange.{IsInRange}
+use Rattle.ds_design.specs.Valuation.{IsValuation}
+use Rattle.ds_design.specs.Node.{Node, In, Out, Master, Slave, Split, IsNode, number_of, place_of, members, nets_of}
+use Rattle.ds_design.specs.Order.{IsSource}
+use Rattle.ds_design.specs.Plan.{IsSplit}
+use Rattle.ds_design.specs.Firing.{AreRegisters, IsSettled, Takes, opening_read, read_rows}
+use Rattle.ds_design.proofs.Exists.{some_valuation}
+use Rattle.ds_design.proofs.Flow.{settles_from_all}
+use Rattle.ds_settle.specs.Cone.{IsPartSettled}
+use Rattle.ds_settle.proofs.Agree.{cone_settles}
+use Rattle.ds_fire.specs.Snapshot.{row_index}
+use Rattle.ds_fire.specs.Feed.{IsConsumer, IsFeed, IsHome}
+use Rattle.ds_fire.specs.Turn.{AreLoaded, ArePlaces, AreRows, state_with, tap_index, tap_value}
+use Rattle.ds_fire.specs.declared.feed.Feed.{Feed}
+use Rattle.ds_fire.specs.declared.feed.Tap.{Tap}
+use Rattle.ds_fire.specs.declared.places.Places.{Places}
+use Rattle.ds_fire.proofs.Registers.{some_registers}
+
+-- reading a list at places, and then a list at what was read
+picked : (nets : Row) (these places : List ℕ) → All (λ r. r < length these) places → values_at nets (map (λ r. get_or these r 0) places) ≡ values_at (values_at nets these) places
+picked nets these [] within = refl
+picked nets these (r ∷ rs) within =
+    ap (λ b. b ∷ values_at nets (map (λ r. get_or these r 0) rs)) (sym (get_or-map (value_at nets) these r 0 Zero (All-head (λ r. r < length these) r rs within)))
+    ∙ ap (λ bs. value_at (values_at nets these) r ∷ bs) (picked nets these rs (All-tail (λ r. r < length these) r rs within))
+
+-- the rows of IN stand first
+pub zeroth : (s : Split) (place : ℕ) → row_index s 0 place ≡ place
+zeroth s place = ap (λ (n : ℕ). n + place) (zero-mul (s.slack + 1)) ∙ zero-add place
+
+pub place_low : (s : Split) (opened : ℕ) → place_of s opened ≤ s.slack
+place_low s opened = (let low : place_of s opened < s.slack + 1 = mod_below opened (s.slack + 1) (omega arith) in omega arith)
+
+-- a tap is kept where its home is read
+pub tap_place : (s : Split) (opened : ℕ) (places : Places) → ArePlaces s opened places → (tap : Tap) (p : Node) → IsSource p → tap.home.node ≡ number_of p → tap_index places tap ≡ row_index s (number_of p) (place_of s (opening_read p opened))
+tap_place s opened places are tap In source is =
+    test_same tap.home.node 0 places.next (tap.home.node * places.each + places.same) is ∙ (are.next ∙ sym (zeroth s (place_of s (opened + 1))))
+tap_place s opened places are tap Out source is = absurd source
+tap_place s opened places are tap (Master i) source is = absurd source
+tap_place s opened places are tap (Slave i) source is =
+    test_other tap.home.node 0 places.next (tap.home.node * places.each + places.same) (λ e. absurd (omega arith))
+    ∙ (ap (λ (n : ℕ). n * places.each + places.same) is
+    ∙ (ap (λ (w : ℕ). number_of (Slave i) * w + places.same) are.each
+    ∙ ap (λ (x : ℕ). number_of (Slave i) * (s.slack + 1) + x) are.same))
+
+-- what a consumer reads that has opened so often
+abbrev pub read : Split → List Row → ℕ → Node → Row
+read s rows opened p = read_rows s (state_with s rows) opened p
+
+pub read_width : (s : Split) (rows : List Row) → AreRows s rows → (opened : ℕ) (p : Node) → IsNode s p → length (read s rows opened p) ≡ length (nets_of s p)
+read_width s rows are opened p is_p = are.widths p is_p (place_of s (opening_read p opened)) (place_low s (opening_read p opened))
+
+module _ (s : Split) (split : IsSplit s) (in_range : IsInRange s.circuit) (rows : List Row) (are : AreRows s rows) (opened : ℕ) where
+  shown : Node → Row
+  shown = read s rows opened
+
+  widths : (i : ℕ) → i < length s.clusters → length (read s rows opened (Slave i)) ≡ length (members s i)
+  widths i is_cluster = read_width s rows are opened (Slave i) is_cluster ∙ length-map (members s i) (λ r. get_or (register_nets s.circuit) r 0)
+
+  -- a valuation for registers that the slaves show has what the sources show at their nets
+  module _ (state nets : Row) (registers : AreRegisters s (read s rows opened) state) (valuation : IsValuation s.circuit state (read s rows opened In) nets) where
+    source_row : (p : Node) → IsSource p → IsNode s p → values_at nets (nets_of s p) ≡ read s rows opened p
+    source_row In source is_p = valuation.column
+    source_row Out source is_p = absurd source
+    source_row (Master i) source is_p = absurd source
+    source_row (Slave i) source is_p =
+        let sizes : length (register_nets s.circuit) ≡ length s.circuit.registers = length-map s.circuit.registers (λ r. r.output) in
+        let within : All (λ r. r < length (register_nets s.circuit)) (members s i) = λ j d inside. (let w : get_or (members s i) j d < length s.circuit.registers = split.within i [] is_p j d inside in omega arith) in
+        picked nets (register_nets s.circuit) (members s i) within ∙ (ap (λ (w : Row). values_at w (members s i)) valuation.register ∙ registers.1 i is_p)
+
+    source_value : (p : Node) → IsSource p → IsNode s p → (bit net : ℕ) → bit < length (nets_of s p) → get_or (nets_of s p) bit 0 ≡ net → value_at (read s rows opened p) bit ≡ value_at nets net
+    source_value p source is_p bit net inside at =
+        ap (λ (row : Row). value_at row bit) (sym (source_row p source is_p))
+        ∙ (get_or-map (value_at nets) (nets_of s p) bit 0 Zero inside ∙ ap (value_at nets) at)
+
+    tap_is : (places : Places) → ArePlaces s opened places → (tap : Tap) → IsHome s tap.net tap.home → tap_value places rows tap ≡ value_at nets tap.net
+    tap_is places at tap (p, source, is_p, (node, inside, is)) =
+        ap (λ (k : ℕ). value_at (get_or rows k []) tap.home.bit) (tap_place s opened places at tap p source node)
+        ∙ source_value p source is_p tap.home.bit tap.net inside is
+
+    module _ (n : Node) (feed : Feed) (is_feed : IsFeed s n feed) (places : Places) (at : ArePlaces s opened places) (loaded part : Row) (are_loaded : AreLoaded places rows feed.taps.items loaded) (is_part : IsPartSettled s.circuit feed.cone loaded part) where
+      sources_agree : All (λ net. value_at loaded net ≡ value_at nets net) feed.cone.sources
+      sources_agree k d inside =
+          let (j, tap, within, is, net) = is_feed.all k d inside in
+          let all : All (λ tap. value_at loaded tap.net ≡ value_at nets tap.net) feed.taps.items = are_loaded (value_at nets) (λ i e low. tap_is places at (get_or feed.taps.items i e) (is_feed.homes i e low)) in
+          let here : value_at loaded (get_or feed.taps.items j tap).net ≡ value_at nets (get_or feed.taps.items j tap).net = all j tap within in
+          let same : (get_or feed.taps.items j tap).net ≡ get_or feed.cone.sources k d = ap (λ (t : Tap). t.net) is ∙ net in
+          subst (λ (net : ℕ). value_at loaded net ≡ value_at nets net) same here
+
+      settles : IsSettled s (read s rows opened) n (values_at part (nets_of s n))
+      settles =
+          subst (IsSettled s (read s rows opened) n)
+          (sym (cone_settles s.circuit split.accepted (nets_of s n) feed.cone is_feed.cone state (read s rows opened In) nets valuation loaded part sources_agree is_part).1)
+          (settles_from_all s (read s rows opened) n state nets registers valuation)
+
+  pub part_settles : (n : Node) (feed : Feed) → IsFeed s n feed → (places : Places) → ArePlaces s opened places → (loaded part : Row) → AreLoaded places rows feed.taps.items loaded → IsPartSettled s.circuit feed.cone loaded part → IsSettled s (read s rows opened) n (values_at part (nets_of s n))
+  part_settles n feed is_feed places at loaded part are_loaded is_part =
+      let (state, registers) = some_registers s split (read s rows opened) widths in
+      let (nets, valuation) = some_valuation s.circuit in_range split.accepted state (read s rows opened In) registers.0 (read_width s rows are opened In tt) in
+      settles state nets registers valuation n feed is_feed places at loaded part are_loaded is_part
+
+pub takes_settled : (s : Split) (vectors rows : List Row) (opened : ℕ) (n : Node) → IsConsumer n → (row : Row) → IsSettled s (read s rows opened) n row → Takes s vectors (state_with s rows) opened n row
+takes_settled s vectors rows opened In consumer row is = absurd consumer
+takes_settled s vectors rows opened Out consumer row is = is
+takes_settled s vectors rows opened (Master i) consumer row is = is
+takes_settled s vectors rows opened (Slave i) consumer row is = absurd consumer

@@ -1,0 +1,153 @@
+-- From what a turn leaves to a firing.
+use Rattle.std.proofs.Common.{◌≡◌, ◌≢◌, ◌∙◌, ℕ, suc, ◌+◌, ◌*◌, ◌<◌, ◌≤◌, List, [], length, get_or, refl, arith, ap, sym, subst, slice_index}
+use Rattle.std.proofs.Math.ListN.{set}
+use Rattle.std.proofs.Math.Nat.{mul-le-mul_right, suc-mul}
+use Rattle.std.proofs.lemmas.List.{get_or-set_other, get_or-map, get_or_default, length-append, length-map}
+use Rattle.ds_base.specs.Values.{Row}
+use Rattle.ds_marked.specs.Graph.{Graph, IsEnabled}
+use Rattle.ds_marked.specs.declared.marked.Arc.{Arc}
+use Rattle.ds_marked.proofs.Progress.{legal_is_consistent}
+use Rattle.ds_design.specs.Node.{Node, Split, IsNode, number_of, nodes, nets_of, closing}
+use Rattle.ds_design.specs.Plan.{split_events}
+use Rattle.ds_design.proofs.Counts.{number_below}
+use Rattle.ds_design.proofs.Events.{IsEvent, is_opening, is_closing, is_extra, event_of}
+use Rattle.ds_design.proofs.Rising.{events_long}
+use Rattle.ds_fire.specs.History.{Stored}
+use Rattle.ds_fire.specs.Snapshot.{Snapshot, split_of, graph_of, limit_of, count_of, stored_values, width_of}
+use Rattle.ds_fire.specs.Fired.{IsFired, IsReached, IsReady, IsSound}
+use Rattle.ds_fire.specs.Ready.{AreReady, AreRightAside, LeadsTo}
+use Rattle.ds_fire.specs.Turn.{AreRows, HasRoom, IsTurned, rooms_of, values_of}
+use Rattle.ds_fire.specs.declared.kept.Kept.{Kept}
+use Rattle.ds_design.specs.Plan.{Planned}
+use Rattle.ds_design.specs.Rows.{Rows}
+use Rattle.ds_fire.specs.Inside.{IsRunning, seen}
+use Rattle.ds_fire.specs.Sized.{IsSized}
+use Rattle.ds_fire.specs.declared.feed.Feed.{Feed}
+use Rattle.ds_fire.specs.declared.ready.Ready.{Ready}
+use Rattle.ds_fire.proofs.Reached.{kept_counts, reached_after}
+use Rattle.ds_fire.proofs.Shown.{Turned, fired, kept_next}
+
+-- what a turn leaves, as lists
+turned : (s : Split) (vectors : List Row) (v count : ℕ) (old new : Kept) → IsTurned s vectors v count old new → Turned s vectors v count old.rows.items new.rows.items (values_of old.stored.items) (values_of new.stored.items)
+turned s vectors v count old new is = record {
+  opened = λ n is_node e. ((is.opens n is_node e).0, ap values_of (is.opens n is_node e).1);
+  closed = λ n is_node e. ((is.closes n is_node e).0, (is.closes n is_node e).1.values);
+  passed = λ e same. ((is.passes e same).0, ap values_of (is.passes e same).1);
+}
+
+pub turn_fires : (old : Snapshot) (kept kept' : Kept) → IsSound old → old.rows ≡ kept.rows.items → old.stored ≡ values_of kept.stored.items → (v : ℕ) → IsReady old v → IsTurned (split_of old) old.vectors v (count_of old v) kept kept' → IsFired old v (kept_next old v kept'.rows.items (values_of kept'.stored.items)) × IsSound (kept_next old v kept'.rows.items (values_of kept'.stored.items))
+turn_fires old kept kept' sound rows stored v ready is =
+    let all : Turned (split_of old) old.vectors v (count_of old v) kept.rows.items kept'.rows.items (values_of kept.stored.items) (values_of kept'.stored.items) = turned (split_of old) old.vectors v (count_of old v) kept kept' is in
+    let here : Turned (split_of old) old.vectors v (count_of old v) old.rows kept'.rows.items old.stored (values_of kept'.stored.items) =
+    subst (λ (rs : List Row). Turned (split_of old) old.vectors v (count_of old v) rs kept'.rows.items old.stored (values_of kept'.stored.items)) (sym rows)
+    (subst (λ (st : List Row). Turned (split_of old) old.vectors v (count_of old v) kept.rows.items kept'.rows.items st (values_of kept'.stored.items)) (sym stored) all) in
+    fired old sound v ready kept'.rows.items (values_of kept'.stored.items) here (event_of (split_of old) v)
+
+pub are_rows : (kept : Snapshot) → IsSound kept → AreRows (split_of kept) kept.rows
+are_rows kept sound = record { one_each = sound.rows; widths = sound.widths }
+
+-- the events of the nodes come first
+pub events_enough : (kept : Snapshot) → IsSound kept → 2 * nodes (split_of kept) ≤ length (graph_of kept).events
+events_enough kept sound =
+    let long : length (split_events (split_of kept)) ≡ 2 * nodes (split_of kept) = events_long (split_of kept) in
+    let events_are : length (graph_of kept).events ≡ length (split_events (split_of kept)) + length sound.plan.extra = ap length sound.plan.events ∙ length-append (split_events (split_of kept)) sound.plan.extra in
+    omega arith
+
+-- no count is above the limit
+pub count_low : (kept : Snapshot) → IsReached kept → (v : ℕ) → v < length (graph_of kept).events → count_of kept v ≤ limit_of kept
+count_low kept (events, legal, (now, all, shows)) v inside =
+    let low = (legal_is_consistent (graph_of kept) (limit_of kept) events legal).within v inside in
+    let same = kept_counts kept events now all shows v in
+    omega arith
+
+rooms_at : (s : Split) (vectors : List Row) (v count : ℕ) (old new : Kept) → IsTurned s vectors v count old new → IsEvent s v → rooms_of new.stored.items ≡ rooms_of old.stored.items
+rooms_at s vectors _ count old new is (is_opening n is_node) = ap rooms_of (is.opens n is_node refl).1
+rooms_at s vectors _ count old new is (is_closing n is_node) = (is.closes n is_node refl).1.rooms
+rooms_at s vectors _ count old new is (is_extra e) = ap rooms_of (is.passes e refl).1
+
+-- rooms stay
+pub rooms_kept : (s : Split) (vectors : List Row) (v count : ℕ) (old new : Kept) → IsTurned s vectors v count old new → rooms_of new.stored.items ≡ rooms_of old.stored.items
+rooms_kept s vectors v count old new is = rooms_at s vectors v count old new is (event_of s v)
+
+-- an event that closes has room for one row more
+pub room_more : (kept : Snapshot) (parts : Kept) → IsSound kept → kept.stored ≡ values_of parts.stored.items → ((n : Node) → IsNode (split_of kept) n → limit_of kept * width_of kept n ≤ get_or (rooms_of parts.stored.items) (number_of n) 0) → (n : Node) → IsNode (split_of kept) n → IsReady kept (closing n) → HasRoom (split_of kept) n parts.stored.items
+room_more kept parts sound stored room n is_node ready d =
+    let inside : number_of n < length parts.stored.items =
+    (let below : number_of n < nodes (split_of kept) = number_below (split_of kept) n is_node in
+    let long : length (values_of parts.stored.items) ≡ length parts.stored.items = length-map parts.stored.items (λ (h : Stored). h.values) in
+    let same : length kept.stored ≡ length (values_of parts.stored.items) = ap length stored in
+    let all : length kept.stored ≡ nodes (split_of kept) = sound.stored in
+    omega arith) in
+    let value : get_or (values_of parts.stored.items) (number_of n) [] ≡ (get_or parts.stored.items (number_of n) d).values = get_or-map (λ (h : Stored). h.values) parts.stored.items (number_of n) d [] inside in
+    let has : get_or (rooms_of parts.stored.items) (number_of n) 0 ≡ (get_or parts.stored.items (number_of n) d).room = get_or-map (λ (h : Stored). h.room) parts.stored.items (number_of n) d 0 inside in
+    let long : length (stored_values kept n) ≡ count_of kept (closing n) * width_of kept n = sound.lengths n is_node in
+    let here : length (get_or parts.stored.items (number_of n) d).values ≡ count_of kept (closing n) * width_of kept n =
+    ap length (sym value) ∙ (ap (λ (rs : List Row). length (get_or rs (number_of n) [])) (sym stored) ∙ long) in
+    let below : count_of kept (closing n) < limit_of kept = ready.below in
+    let step : suc (count_of kept (closing n)) * width_of kept n ≤ limit_of kept * width_of kept n = mul-le-mul_right (width_of kept n) (omega arith) in
+    let more : suc (count_of kept (closing n)) * width_of kept n ≡ count_of kept (closing n) * width_of kept n + width_of kept n = suc-mul (count_of kept (closing n)) (width_of kept n) in
+    let limit : limit_of kept * width_of kept n ≤ get_or (rooms_of parts.stored.items) (number_of n) 0 = room n is_node in
+    omega arith
+
+-- an event may fire at counts that agree with these at it and before each arc into it
+moved : (g : Graph) (limit : ℕ) (count count' : ℕ → ℕ) (u : ℕ) → count u ≡ count' u → ((k : ℕ) (d : Arc) → k < length g.arcs → (get_or g.arcs k d).target ≡ u → count (get_or g.arcs k d).source ≡ count' (get_or g.arcs k d).source) → IsEnabled g limit count u → IsEnabled g limit count' u
+moved g limit count count' u here before is = record {
+  event = is.event;
+  below = (let low : count u < limit = is.below in omega arith);
+  ready = λ k d inside target.
+      let ready : count u + 1 ≤ count (get_or g.arcs k d).source + (get_or g.arcs k d).tokens = is.ready k d inside target in
+      let source : count (get_or g.arcs k d).source ≡ count' (get_or g.arcs k d).source = before k d inside target in
+      omega arith;
+}
+
+-- an event to which no arc leads from the one that fired may fire exactly where it might before
+module _ (g : Graph) (limit : ℕ) (counts : List ℕ) (v : ℕ) (inside : v < length counts) where
+  abbrev next : List ℕ
+  next = set counts v (get_or counts v 0 + 1)
+
+  count_other : (u : ℕ) → u ≢ v → get_or (set counts v (get_or counts v 0 + 1)) u 0 ≡ get_or counts u 0
+  count_other u ne = get_or-set_other counts v u (get_or counts v 0 + 1) 0 ne
+
+  source_other : (u : ℕ) → ¬ LeadsTo g v u → (k : ℕ) (d : Arc) → k < length g.arcs → (get_or g.arcs k d).target ≡ u → (get_or g.arcs k d).source ≢ v
+  source_other u free k d below target e =
+      let arc : Arc = get_or g.arcs k d in
+      free (k, arc, below, get_or_default g.arcs k arc d below, (e, target))
+
+  pub aside : (words : List ℕ) → AreReady g limit (λ u. get_or counts u 0) words → AreRightAside g limit (λ u. get_or (set counts v (get_or counts v 0 + 1)) u 0) v words
+  aside words right u ne free = (
+    λ is. moved g limit (λ u. get_or counts u 0) (λ u. get_or next u 0) u (sym (count_other u ne)) (λ k d below target. sym (count_other (get_or g.arcs k d).source (source_other u free k d below target))) ((right u).0 is),
+    λ is. (right u).1 (moved g limit (λ u. get_or next u 0) (λ u. get_or counts u 0) u (count_other u ne) (λ k d below target. count_other (get_or g.arcs k d).source (source_other u free k d below target)) is),
+  )
+
+pub aside_at : (g g' : Graph) (limit limit' : ℕ) (counts counts' : List ℕ) (v : ℕ) (words : List ℕ) → g' ≡ g → limit' ≡ limit → counts' ≡ set counts v (get_or counts v 0 + 1) → v < length counts → AreReady g limit (slice_index counts) words → AreRightAside g' limit' (slice_index counts') v words
+aside_at g g' limit limit' counts counts' v words same_graph same_limit same_counts inside right =
+    subst (λ (h : Graph). AreRightAside h limit' (slice_index counts') v words) (sym same_graph)
+    (subst (λ (n : ℕ). AreRightAside g n (slice_index counts') v words) (sym same_limit)
+    (subst (λ (cs : List ℕ). AreRightAside g limit (slice_index cs) v words) (sym same_counts) (aside g limit counts v inside words right)))
+
+-- one step, from parts to parts
+pub stepped : (planned : Planned) (vectors : Rows) (counts counts' : List ℕ) (kept kept' : Kept) (feeds : List Feed) (ready ready' : Ready) (v : ℕ)
+    → IsRunning (seen planned vectors counts kept) vectors kept feeds ready → IsReady (seen planned vectors counts kept) v
+    → counts' ≡ set counts v (get_or counts v 0 + 1) → IsTurned planned.split vectors.rows v (get_or counts v 0) kept kept'
+    → AreReady planned.graph (length vectors.rows) (slice_index counts') ready'.words.items → IsSized ready' (length planned.graph.events)
+    → IsFired (seen planned vectors counts kept) v (seen planned vectors counts' kept') × IsRunning (seen planned vectors counts' kept') vectors kept' feeds ready'
+stepped planned vectors counts counts' kept kept' feeds ready ready' v run may is turned right sized =
+    let old : Snapshot = seen planned vectors counts kept in
+    let new : Snapshot = seen planned vectors counts' kept' in
+    let both : IsFired old v new × IsSound new =
+    subst (λ (cs : List ℕ). IsFired old v (seen planned vectors cs kept') × IsSound (seen planned vectors cs kept')) (sym is)
+    (turn_fires old kept kept' run.sound refl refl v may turned) in (
+      both.0,
+      record {
+        sound = both.1;
+        reached = reached_after old new v both.0 run.reached;
+        width = run.width;
+        low = run.low;
+        few = run.few;
+        room = λ n is_node. subst (λ (rooms : List ℕ). length vectors.rows * length (nets_of planned.split n) ≤ get_or rooms (number_of n) 0) (sym (rooms_kept planned.split vectors.rows v (get_or counts v 0) kept kept' turned)) (run.room n is_node);
+        nets = turned.nets ∙ run.nets;
+        fed = run.fed;
+        right = right;
+        sized = sized;
+      },
+    )

@@ -1,0 +1,7 @@
+use Rattle.std.proofs.Common.{◌∙◌, arith}
+use Rattle.ds_cover.specs.Cover.{value_at}
+use Rattle.ds_settle.proofs.ByIndex.{map_by_index}
+use Rattle.ds_fire.proofs.kept.set_initial.Goals as goal
+
+pub returns : goal.returns
+returns c = map_by_index (value_at c.args.values.now) c.args.registers.now c.loop-i.row (c.loop-i.invariant.same ∙ c.requires.one_each) (λ k d inside. c.loop-i.invariant.front k d (omega arith))

@@ -1,0 +1,5 @@
+use Rattle.ds_fire.proofs.Reached.{fired_after}
+use Rattle.ds_fire.proofs.laws.fired_after.Goals as goal
+
+pub returns : goal.returns
+returns c = fired_after

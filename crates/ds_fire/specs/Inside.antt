@@ -1,0 +1,43 @@
+-- What the parts of a state have to do with each other.
+use Rattle.std.specs.Prelude.{◌≡◌, ℕ, ◌*◌, ◌≤◌, List, length, slice_index}
+use Rattle.ds_design.specs.Circuit.{columns}
+use Rattle.ds_design.specs.Node.{Node, IsNode, number_of}
+use Rattle.ds_design.specs.Plan.{Planned}
+use Rattle.ds_design.specs.Rows.{Rows}
+use Rattle.ds_fire.specs.Snapshot.{Snapshot, split_of, graph_of, limit_of, count_of, width_of}
+use Rattle.ds_fire.specs.Fired.{IsReached, IsSound}
+use Rattle.ds_fire.specs.Feed.{AreFeeds}
+use Rattle.ds_fire.specs.Ready.{AreReady}
+use Rattle.ds_fire.specs.Sized.{IsSized}
+use Rattle.ds_fire.specs.Turn.{rooms_of, values_of}
+use Rattle.ds_fire.specs.declared.feed.Feed.{Feed}
+use Rattle.ds_fire.specs.declared.kept.Kept.{Kept}
+use Rattle.ds_fire.specs.declared.ready.Ready.{Ready}
+
+-- what is seen of the parts
+abbrev pub seen : Planned → Rows → List ℕ → Kept → Snapshot
+seen planned vectors counts kept = record {
+  planned = planned;
+  vectors = vectors.rows;
+  counts = counts;
+  rows = kept.rows.items;
+  stored = values_of kept.stored.items;
+}
+
+-- each node has room for as many rows as there are vectors
+abbrev pub HaveRoom : Snapshot → Kept → Type 0
+HaveRoom snapshot kept = (n : Node) → IsNode (split_of snapshot) n
+    → limit_of snapshot * width_of snapshot n ≤ slice_index (rooms_of kept.stored.items) (number_of n)
+
+-- the parts stand for what is seen
+pub record IsRunning (snapshot : Snapshot) (vectors : Rows) (kept : Kept) (feeds : List Feed) (ready : Ready) : Type 0 where
+  pub sound : IsSound snapshot
+  pub reached : IsReached snapshot
+  pub width : vectors.width ≡ length (columns (split_of snapshot).circuit)
+  pub low : (split_of snapshot).slack ≤ 15
+  pub few : limit_of snapshot ≤ 65536
+  pub room : HaveRoom snapshot kept
+  pub nets : length kept.nets ≡ length (split_of snapshot).circuit.nets
+  pub fed : AreFeeds (split_of snapshot) feeds
+  pub right : AreReady (graph_of snapshot) (limit_of snapshot) (count_of snapshot) ready.words.items
+  pub sized : IsSized ready (length (graph_of snapshot).events)

@@ -1,0 +1,11 @@
+-- In the order in which to read.
+pub mod Snapshot
+pub mod Fired
+pub mod Ready
+pub mod Laws
+pub mod Sized
+pub mod History
+pub mod Feed
+pub mod Turn
+pub mod First
+pub mod Inside

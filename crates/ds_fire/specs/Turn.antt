@@ -1,0 +1,103 @@
+-- What one firing leaves of the rows and of what is stored.
+use Rattle.std.specs.Prelude.{◌≡◌, ℕ, ◌+◌, ◌*◌, ◌<◌, ◌≤◌, List, [], ◌++◌, length, map, All, slice_index_or, slice_set, ◌==◌, if◌then◌else◌}
+use Rattle.ds_base.specs.Values.{Row}
+use Rattle.ds_base.specs.declared.value.Value.{Value}
+use Rattle.ds_cover.specs.Cover.{value_at, values_at}
+use Rattle.ds_design.specs.Node.{Node, Split, IsNode, number_of, nodes, nets_of, opening, closing, extra_event, place_of}
+use Rattle.ds_design.specs.Firing.{State, IsSettled, Takes, read_rows}
+use Rattle.ds_fire.specs.Snapshot.{row_index, rows_of}
+use Rattle.ds_fire.specs.History.{Stored}
+use Rattle.ds_fire.specs.declared.feed.Tap.{Tap}
+use Rattle.ds_fire.specs.declared.kept.Kept.{Kept}
+use Rattle.ds_fire.specs.declared.places.Places.{Places}
+
+-- a state that has these rows
+abbrev pub state_with : Split → List Row → State
+state_with s rows = record { count = λ _. 0; rows = rows_of s rows; stored = λ _. [] }
+
+-- there is a row of its node's width for each place
+pub record AreRows (s : Split) (rows : List Row) : Type 0 where
+  pub one_each : length rows ≡ nodes s * (s.slack + 1)
+  pub widths : (n : Node) → IsNode s n → (place : ℕ) → place ≤ s.slack → length (rows_of s rows n place) ≡ length (nets_of s n)
+
+-- places are below how many there are
+pub record AreLow (places : Places) : Type 0 where
+  pub each : places.each ≤ 16
+  pub same : places.same < places.each
+  pub next : places.next < places.each
+
+-- how many places a node has, the place of an opening and that of the one after it
+pub record ArePlaces (s : Split) (opened : ℕ) (places : Places) : Type 0 where
+  pub low : AreLow places
+  pub each : places.each ≡ s.slack + 1
+  pub same : places.same ≡ place_of s opened
+  pub next : places.next ≡ place_of s (opened + 1)
+
+-- where the value of a tap is kept: of IN at the next place, of the others at the same one
+abbrev pub tap_index : Places → Tap → ℕ
+tap_index places tap = if tap.home.node == 0 then places.next else tap.home.node * places.each + places.same
+
+-- the value of a tap
+abbrev pub tap_value : Places → List Row → Tap → Value
+tap_value places rows tap = value_at (slice_index_or rows (tap_index places tap) []) tap.home.bit
+
+-- a tap has a row, a value in it, and a net
+pub record IsTapped (places : Places) (rows : List Row) (nets : Row) (tap : Tap) : Type 0 where
+  pub row : tap_index places tap < length rows
+  pub bit : tap.home.bit < length (slice_index_or rows (tap_index places tap) [])
+  pub net : tap.net < length nets
+
+-- the net of each tap has its value, wherever no two taps ask different values of a net
+abbrev pub AreLoaded : Places → List Row → List Tap → Row → Type 0
+AreLoaded places rows taps nets = (f : ℕ → Value)
+    → All (λ tap. tap_value places rows tap ≡ f tap.net) taps → All (λ tap. value_at nets tap.net ≡ f tap.net) taps
+
+-- the nets of a node are what settles as it opens for what its producers keep
+abbrev pub HasSettled : Split → ℕ → List Row → Node → Row → Type 0
+HasSettled s opened rows n nets = IsSettled s (read_rows s (state_with s rows) opened) n (values_at nets (nets_of s n))
+
+-- a node that has opened so often has taken its row, at its next place
+pub record IsOpened (s : Split) (vectors : List Row) (opened : ℕ) (n : Node) (old new : List Row) : Type 0 where
+  pub row : Row
+  pub takes : Takes s vectors (state_with s old) opened n row
+  pub width : length row ≡ length (nets_of s n)
+  pub puts : new ≡ slice_set old (row_index s (number_of n) (place_of s (opened + 1))) row
+
+-- the node with this number has opened so
+abbrev pub Opens : Split → List Row → ℕ → ℕ → List Row → List Row → Type 0
+Opens s vectors opened number old new =
+    (n : Node) → IsNode s n → number_of n ≡ number → IsOpened s vectors opened n old new
+
+-- what the nodes have stored
+abbrev pub values_of : List Stored → List Row
+values_of stored = map (λ h. h.values) stored
+
+-- for how much each has room
+abbrev pub rooms_of : List Stored → List ℕ
+rooms_of stored = map (λ h. h.room) stored
+
+-- a node that has closed so often has stored the row of its next opening behind the others
+pub record IsClosed (s : Split) (closed : ℕ) (n : Node) (rows : List Row) (old new : List Stored) : Type 0 where
+  pub values : values_of new ≡ slice_set (values_of old) (number_of n)
+      (slice_index_or (values_of old) (number_of n) [] ++ rows_of s rows n (place_of s (closed + 1)))
+  pub rooms : rooms_of new ≡ rooms_of old
+
+-- the node with this number has stored so
+abbrev pub Closes : Split → ℕ → ℕ → List Row → List Stored → List Stored → Type 0
+Closes s closed number rows old new =
+    (n : Node) → IsNode s n → number_of n ≡ number → IsClosed s closed n rows old new
+
+-- a node has room for one row more
+abbrev pub HasRoom : Split → Node → List Stored → Type 0
+HasRoom s n stored = (d : Stored)
+    → length (slice_index_or stored (number_of n) d).values + length (nets_of s n) ≤ (slice_index_or stored (number_of n) d).room
+
+-- what is left of a firing of an event that has fired so often
+pub record IsTurned (s : Split) (vectors : List Row) (v count : ℕ) (old new : Kept) : Type 0 where
+  pub nets : length new.nets ≡ length old.nets
+  pub opens : (n : Node) → IsNode s n → opening n ≡ v
+      → IsOpened s vectors count n old.rows.items new.rows.items × (new.stored.items ≡ old.stored.items)
+  pub closes : (n : Node) → IsNode s n → closing n ≡ v
+      → (new.rows.items ≡ old.rows.items) × IsClosed s count n old.rows.items old.stored.items new.stored.items
+  pub passes : (e : ℕ) → extra_event s e ≡ v
+      → (new.rows.items ≡ old.rows.items) × (new.stored.items ≡ old.stored.items)

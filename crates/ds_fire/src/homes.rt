@@ -1,0 +1,54 @@
+//! Where the values of nets are kept.
+ghost use Rattle.std.specs.Prelude.{◌≡◌, ◌<◌, ◌^◌, ℕ, All, IfOk, length, slice_index_or};
+ghost use Rattle.ds_design.specs.InRange.{IsInRange};
+ghost use Rattle.ds_design.specs.Node.{nodes};
+ghost use Rattle.ds_design.specs.Plan.{IsSplit};
+ghost use Rattle.ds_fire.specs.Feed.{AreHomes, ArePlaced, IsPlacedOrKept, no_home};
+
+use ds_base::{NetId, OutOfMemory};
+use ds_design::Latches;
+use std::alloc::Global;
+
+// A node, and a place in its rows.
+#[derive(Clone, Copy)]
+pub(crate) struct Home {
+    pub(crate) node: u32,
+    pub(crate) bit: usize,
+}
+
+// For each net of IN or of a slave, where its value is kept.
+pub(crate) fn homes_of(alloc: Global, latches: &Latches) -> Result<Vec<Home>, OutOfMemory>
+    requires few { nodes latches.now < 2 ^ 32 }
+    requires design { IsInRange latches.now.circuit × IsSplit latches.now }
+    ensures { IfOk result (λ v. AreHomes latches.now v.items) }
+{
+    let nets = latches.netlist().design().nets().len();
+    let bits = latches.bits();
+    let mut homes = no_homes(alloc, nets)?;
+    place(bits[0].as_slice(), 0, &mut homes);
+    for i in 0..latches.clusters().len() {
+        let number = 2 * i + 3;
+        place(bits[number].as_slice(), number as u32, &mut homes);
+    }
+    Ok(homes)
+}
+
+// For so many nets, before any is placed.
+fn no_homes(alloc: Global, nets: usize) -> Result<Vec<Home>, OutOfMemory>
+    ensures { IfOk result (λ v. length v.items ≡ nets) }
+{
+    Ok(vec![in alloc; Home { node: 0, bit: 0 }; nets]?)
+}
+
+// These nets are those of a node.
+fn place(bits: &[NetId], node: u32, homes: &mut Vec<Home>)
+    requires { All (λ net. net < length homes.old.items) bits.now }
+    ensures same { length homes.new.items ≡ length homes.old.items }
+    ensures placed { ArePlaced bits.now node homes.new.items }
+    ensures kept { (net : ℕ) → IsPlacedOrKept bits.now node net
+        (slice_index_or homes.old.items net no_home) (slice_index_or homes.new.items net no_home) }
+{
+    for (bit, net) in bits.iter().enumerate() {
+        homes[net.index()] = Home { node, bit };
+    }
+}

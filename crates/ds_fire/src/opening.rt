@@ -1,0 +1,159 @@
+//! The rows that nodes take as they open.
+ghost use Rattle.std.specs.Prelude.{◌≡◌, ◌+◌, ◌*◌, ◌<◌, ◌≤◌, ◌^◌, ℕ, List, [], All, length, slice_index_or, slice_set};
+ghost use Rattle.ds_base.specs.Values.{Row};
+ghost use Rattle.ds_design.specs.Circuit.{columns};
+ghost use Rattle.ds_design.specs.InRange.{IsInRange};
+ghost use Rattle.ds_design.specs.Plan.{IsSplit};
+ghost use Rattle.ds_design.specs.Node.{Node, In, Slave, IsNode, number_of, nodes};
+ghost use Rattle.ds_fire.specs.Feed.{AreFeeds, IsConsumer, IsFeed};
+ghost use Rattle.ds_fire.specs.Turn.{AreLoaded, AreLow, AreRows, HasSettled, IsOpened, IsTapped, Opens, tap_index};
+
+use crate::feed::{Feed, Tap};
+use crate::kept::Kept;
+use crate::places::Places;
+use ds_base::Row3;
+use ds_design::{Latches, Vectors};
+use ds_settle::{pick_values, settle_part};
+
+// The node with this number takes its row: IN the next vector, a slave the row of its master, the
+// others what settles.
+pub(crate) fn open(
+    latches: &Latches,
+    vectors: &Vectors,
+    feeds: &[Feed],
+    number: usize,
+    opened: usize,
+    kept: &mut Kept,
+)
+    requires node { number < nodes latches.now }
+    requires few { opened < 2 ^ 32 }
+    requires design { IsInRange latches.now.circuit × IsSplit latches.now }
+    requires vector { opened < length vectors.now.rows }
+    requires width { vectors.now.width ≡ length (columns latches.now.circuit) }
+    requires feeds { AreFeeds latches.now feeds.now }
+    requires rows { AreRows latches.now kept.old.rows.items }
+    requires nets { length kept.old.nets ≡ length latches.now.circuit.nets }
+    ensures opens { Opens latches.now vectors.now.rows opened number
+        kept.old.rows.items kept.new.rows.items }
+    ensures nets { length kept.new.nets ≡ length kept.old.nets }
+    ensures stored { kept.new.stored.items ≡ kept.old.stored.items }
+{
+    if number == 0 {
+        open_in(latches, vectors, opened, kept);
+    } else if number % 2 == 0 {
+        open_settled(latches, &feeds[number / 2], number, opened, kept);
+    } else if number == 1 {
+        open_settled(latches, &feeds[0], number, opened, kept);
+    } else {
+        open_slave(latches, number, opened, kept);
+    }
+}
+
+// IN takes the next vector.
+fn open_in(latches: &Latches, vectors: &Vectors, opened: usize, kept: &mut Kept)
+    requires few { opened < 2 ^ 32 }
+    requires vector { opened < length vectors.now.rows }
+    requires width { vectors.now.width ≡ length (columns latches.now.circuit) }
+    requires rows { AreRows latches.now kept.old.rows.items }
+    ensures opens { IsOpened latches.now vectors.now.rows opened In
+        kept.old.rows.items kept.new.rows.items }
+    ensures nets { length kept.new.nets ≡ length kept.old.nets }
+    ensures stored { kept.new.stored.items ≡ kept.old.stored.items }
+{
+    let places = Places::of(latches, opened);
+    kept.rows[places.next].copy_from(vectors.row(opened));
+}
+
+// The slave with this number takes the row of its master, which stands before it.
+fn open_slave(latches: &Latches, number: usize, opened: usize, kept: &mut Kept)
+    requires few { opened < 2 ^ 32 }
+    requires slave { (i : ℕ) × IsNode latches.now (Slave i) × (number_of (Slave i) ≡ number) }
+    requires rows { AreRows latches.now kept.old.rows.items }
+    ensures opens { (vectors : List Row) → Opens latches.now vectors opened number
+        kept.old.rows.items kept.new.rows.items }
+    ensures nets { length kept.new.nets ≡ length kept.old.nets }
+    ensures stored { kept.new.stored.items ≡ kept.old.stored.items }
+{
+    let places = Places::of(latches, opened);
+    let at = number * places.each + places.next;
+    copy_row(&mut kept.rows, at - places.each, at);
+}
+
+// A consumer takes what its cone settles to, for what its producers keep.
+fn open_settled(latches: &Latches, feed: &Feed, number: usize, opened: usize, kept: &mut Kept)
+    requires few { opened < 2 ^ 32 }
+    requires node { number < nodes latches.now }
+    requires design { IsInRange latches.now.circuit × IsSplit latches.now }
+    requires feed { (n : Node) × IsNode latches.now n × IsConsumer n × (number_of n ≡ number)
+        × IsFeed latches.now n feed.now }
+    requires rows { AreRows latches.now kept.old.rows.items }
+    requires nets { length kept.old.nets ≡ length latches.now.circuit.nets }
+    ensures opens { (vectors : List Row) → Opens latches.now vectors opened number
+        kept.old.rows.items kept.new.rows.items }
+    ensures nets { length kept.new.nets ≡ length kept.old.nets }
+    ensures stored { kept.new.stored.items ≡ kept.old.stored.items }
+{
+    settle_nets(latches, feed, opened, kept.rows.as_slice(), &mut kept.nets);
+    let places = Places::of(latches, opened);
+    let into = number * places.each + places.next;
+    pick_values(
+        &kept.nets,
+        latches.bits()[number].as_slice(),
+        &mut kept.rows[into],
+    );
+}
+
+// Lets the nets of a feed's cone be what they are where its sources have what their homes keep.
+fn settle_nets(latches: &Latches, feed: &Feed, opened: usize, rows: &[Row3], nets: &mut Row3)
+    requires few { opened < 2 ^ 32 }
+    requires design { IsInRange latches.now.circuit × IsSplit latches.now }
+    requires feed { (n : Node) × IsNode latches.now n × IsConsumer n
+        × IsFeed latches.now n feed.now }
+    requires rows { AreRows latches.now rows.now }
+    requires nets { length nets.old ≡ length latches.now.circuit.nets }
+    ensures settled { (n : Node) → IsFeed latches.now n feed.now
+        → HasSettled latches.now opened rows.now n nets.new }
+    ensures same { length nets.new ≡ length nets.old }
+{
+    let places = Places::of(latches, opened);
+    load(feed.taps.as_slice(), rows, places, nets);
+    settle_part(latches.netlist(), &feed.cone, nets);
+}
+
+// Gives each tap's net the value that its home has at these places.
+fn load(taps: &[Tap], rows: &[Row3], places: Places, nets: &mut Row3)
+    requires low { AreLow places }
+    requires tapped { All (IsTapped places rows.now nets.old) taps.now }
+    ensures loaded { AreLoaded places rows.now taps.now nets.new }
+    ensures same { length nets.new ≡ length nets.old }
+{
+    for tap in taps {
+        let value = rows[row_of(tap, places)].value(tap.home.bit);
+        nets.set(tap.net.index(), value);
+    }
+}
+
+// Where the row of a tap is kept.
+fn row_of(tap: &Tap, places: Places) -> usize
+    requires { AreLow places }
+    ensures { result ≡ tap_index places tap.now }
+{
+    let node = tap.home.node as usize;
+    if node == 0 {
+        places.next
+    } else {
+        node * places.each + places.same
+    }
+}
+
+// A row takes the values of one before it.
+fn copy_row(rows: &mut [Row3], from: usize, to: usize)
+    requires order { from < to }
+    requires inside { to < length rows.old }
+    requires width { length (slice_index_or rows.old from [])
+        ≡ length (slice_index_or rows.old to []) }
+    ensures { rows.new ≡ slice_set rows.old to (slice_index_or rows.old from []) }
+{
+    let (before, rest) = rows.split_at_mut(to);
+    rest[0].copy_from(&before[from]);
+}

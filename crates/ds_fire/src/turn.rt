@@ -1,0 +1,64 @@
+//! What one firing does to what the nodes keep.
+ghost use Rattle.std.specs.Prelude.{◌≡◌, ◌<◌, ◌^◌, length};
+ghost use Rattle.ds_design.specs.Circuit.{columns};
+ghost use Rattle.ds_design.specs.InRange.{IsInRange};
+ghost use Rattle.ds_design.specs.Plan.{IsSplit};
+ghost use Rattle.ds_design.specs.Node.{Node, IsNode, number_of, nodes, closing};
+ghost use Rattle.ds_fire.specs.Feed.{AreFeeds};
+ghost use Rattle.ds_fire.specs.Turn.{AreRows, Closes, HasRoom, IsTurned};
+
+use crate::feed::Feed;
+use crate::kept::Kept;
+use crate::opening::open;
+use crate::places::Places;
+use ds_base::EventId;
+use ds_design::{Latches, Vectors};
+
+// Fires an event that has fired so often: an opening puts a row, a closing stores one, and an extra
+// event does neither.
+pub(crate) fn turn(
+    latches: &Latches,
+    vectors: &Vectors,
+    feeds: &[Feed],
+    event: EventId,
+    count: usize,
+    kept: &mut Kept,
+)
+    requires vector { count < length vectors.now.rows }
+    requires few { count < 2 ^ 32 }
+    requires design { IsInRange latches.now.circuit × IsSplit latches.now }
+    requires width { vectors.now.width ≡ length (columns latches.now.circuit) }
+    requires feeds { AreFeeds latches.now feeds.now }
+    requires rows { AreRows latches.now kept.old.rows.items }
+    requires nets { length kept.old.nets ≡ length latches.now.circuit.nets }
+    requires stored { length kept.old.stored.items ≡ nodes latches.now }
+    requires room { (n : Node) → IsNode latches.now n → closing n ≡ event
+        → HasRoom latches.now n kept.old.stored.items }
+    ensures { IsTurned latches.now vectors.now.rows event count kept.old kept.new }
+{
+    let number = event.index() / 2;
+    if number < latches.bits().len() {
+        if event.index() % 2 == 0 {
+            open(latches, vectors, feeds, number, count, kept);
+        } else {
+            close(latches, number, count, kept);
+        }
+    }
+}
+
+// The node with this number stores the row of its opening.
+fn close(latches: &Latches, number: usize, closed: usize, kept: &mut Kept)
+    requires node { number < nodes latches.now }
+    requires few { closed < 2 ^ 32 }
+    requires rows { AreRows latches.now kept.old.rows.items }
+    requires stored { length kept.old.stored.items ≡ nodes latches.now }
+    requires room { (n : Node) → IsNode latches.now n → number_of n ≡ number
+        → HasRoom latches.now n kept.old.stored.items }
+    ensures closes { Closes latches.now closed number kept.old.rows.items kept.old.stored.items kept.new.stored.items }
+    ensures rows { kept.new.rows.items ≡ kept.old.rows.items }
+    ensures nets { length kept.new.nets ≡ length kept.old.nets }
+{
+    let places = Places::of(latches, closed);
+    let row = &kept.rows[number * places.each + places.next];
+    kept.stored[number].append(row);
+}

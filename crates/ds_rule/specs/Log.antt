@@ -1,0 +1,47 @@
+-- Logs: the events that drew tickets, latest first. Ticket t is the entry with t entries behind it.
+use Rattle.std.specs.Prelude.{◌≡◌, ℕ, ◌+◌, ◌<◌, ◌≤◌, List, [], ◌∷◌, ◌++◌, length, cond, ◌==◌}
+use mathlib.Core.Option.{some}
+use lib.ListN.{get_elem?}
+use Rattle.ds_rule.specs.Run.{Run, node_of, next}
+use Rattle.ds_marked.specs.declared.marked.Arc.{Arc}
+
+-- how often an event stands in a log
+abbrev pub times : ℕ → List ℕ → ℕ
+times e [] = 0
+times e (x ∷ xs) = times e xs + cond (x == e) 1 0
+
+-- the tickets of an event
+abbrev pub places : ℕ → List ℕ → List ℕ
+places e [] = []
+places e (x ∷ xs) = cond (x == e) (places e xs ++ length xs ∷ []) (places e xs)
+
+-- how often a node fired in a log
+abbrev pub visits : Run → ℕ → List ℕ → ℕ
+visits run l [] = 0
+visits run l (x ∷ xs) = visits run l xs + cond (node_of run x == l) 1 0
+
+-- each entry was enabled at the counts of those before it
+abbrev pub IsLegalList : Run → List ℕ → Type 0
+IsLegalList run [] = Unit {0}
+IsLegalList run (e ∷ es) = IsLegalList run es × (times e es < run.limit)
+    × ((k : ℕ) (a : Arc) → get_elem? run.arcs k ≡ some a → a.target ≡ e
+    → times e es + 1 ≤ times a.source es + a.tokens)
+
+-- each entry is the next event of its node
+abbrev pub InTurn : Run → List ℕ → Type 0
+InTurn run [] = Unit {0}
+InTurn run (e ∷ es) = InTurn run es × (node_of run e < run.nodes)
+    × (e ≡ next run (node_of run e) (visits run (node_of run e) es))
+
+-- a log, first one first: the events by rising ticket
+abbrev pub firings : List ℕ → List ℕ
+firings [] = []
+firings (x ∷ xs) = firings xs ++ x ∷ []
+
+-- the tickets of the events are the places of one legal list of so many firings
+pub record Recorded (run : Run) (tickets : ℕ → List ℕ) (many : ℕ) : Type 0 where
+  pub log : List ℕ
+  pub long : many ≡ length log
+  pub legal : IsLegalList run log
+  pub in_turn : InTurn run log
+  pub all : (e : ℕ) → node_of run e < run.nodes → tickets e ≡ places e log

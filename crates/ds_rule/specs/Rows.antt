@@ -1,0 +1,39 @@
+-- Rows of value words: of one value, of all producers of a node, and of all values of a node.
+use Rattle.std.specs.Prelude.{◌≡◌, ℕ, ◌+◌, ◌-◌, ◌<◌, List, [], ◌++◌, length, cond, ◌==◌, zero, suc}
+use Rattle.std.specs.Prelude.{slice_index, true}
+use Rattle.ds_rule.specs.Run.{Run, opens, opened}
+use Rattle.ds_rule.specs.Words.{width, place, value}
+use Rattle.ds_rule.specs.Sound.{edge_at}
+use Rattle.ds_rule.specs.Rule.{seen, event}
+use Rattle.ds_rule.specs.Plays.{listed}
+use Rattle.ds_rule.specs.declared.view.View.{View}
+
+-- the words of value number k of a node
+abbrev pub row : Run → ℕ → ℕ → List ℕ
+row run l k = listed (value run l k) (width run l)
+
+-- what opening number k of a node reads along the first n edges: the rows of its producers
+abbrev pub supply : Run → ℕ → ℕ → ℕ → List ℕ
+supply run l k zero = []
+supply run l k (suc n) = supply run l k n
+    ++ cond ((edge_at run n).consumer == l) (row run (edge_at run n).producer
+    (k - (edge_at run n).tokens)) []
+
+-- the rows of the values 1 to k of a node, one after another
+abbrev pub rows_to : Run → ℕ → ℕ → List ℕ
+rows_to run l zero = []
+rows_to run l (suc k) = rows_to run l k ++ row run l (suc k)
+
+-- where the value words of each node begin
+abbrev pub IsStarts : Run → List ℕ → Type 0
+IsStarts run starts = (length starts ≡ run.nodes) × ((l : ℕ) → l < run.nodes
+    → slice_index starts l ≡ place run l 0 0)
+
+-- the pass is in flight with opening number k of the node
+pub record IsOpening (run : Run) (v : View) (l k : ℕ) : Type 0 where
+  pub live : v.live ≡ true
+  pub stage : v.stage ≡ 1
+  pub node_is : v.node ≡ l
+  pub near : l < run.nodes
+  pub begins : opens run (event run v) ≡ true
+  pub number : k ≡ opened run l (seen v l) + 1

@@ -1,0 +1,78 @@
+-- What a run is of: nodes, their events, and the orders between events.
+-- The steps of the rule use these definitions by their laws alone (proofs/EventLaws).
+use Rattle.std.specs.Prelude.{◌≡◌, ℕ, ◌+◌, ◌-◌, ◌*◌, ◌/◌, ◌%◌, ◌<◌, ◌≤◌, Bool, List, cond, ◌==◌}
+use Rattle.std.specs.Prelude.{◌&&◌, nat_lt}
+use mathlib.Core.Option.{some}
+use lib.ListN.{get_elem?}
+use Rattle.ds_base.specs.Values.{Row}
+use Rattle.ds_marked.specs.declared.marked.Arc.{Arc}
+use Rattle.ds_rule.specs.declared.layout.DataEdge.{DataEdge}
+
+-- nodes, their events and their values
+pub record Run : Type 0 where
+  -- how many nodes there are; those below `latches` open and close in turn, the others have one
+  -- event each
+  pub nodes : ℕ
+  pub latches : ℕ
+  -- the orders between events
+  pub arcs : List Arc
+  -- how often each event may fire
+  pub limit : ℕ
+  -- which node reads which
+  pub edges : List DataEdge
+  -- how many values a row of each node has
+  pub lengths : List ℕ
+  -- how many openings a producer may be ahead
+  pub slack : ℕ
+  -- the values of all nodes, by turn
+  pub rows : List Row
+
+-- how many events there are: two of each latch, then one of each other node
+unfoldable pub events : Run → ℕ
+events run = run.nodes + run.latches
+
+-- the node of an event
+unfoldable pub node_of : Run → ℕ → ℕ
+node_of run e = cond (nat_lt e (2 * run.latches)) (e / 2) (e - run.latches)
+
+-- the event that a node fires next, after f firings
+unfoldable pub next : Run → ℕ → ℕ → ℕ
+next run l f = cond (nat_lt l run.latches) (2 * l + f % 2) (l + run.latches)
+
+-- how often an event has fired, after f firings of its node
+unfoldable pub turns : Run → ℕ → ℕ → ℕ
+turns run e f = cond (nat_lt e (2 * run.latches)) ((f + (1 - e % 2)) / 2) f
+
+-- the event is an opening
+unfoldable pub opens : Run → ℕ → Bool
+opens run e = nat_lt e (2 * run.latches) && (e % 2 == 0)
+
+-- a latch opens
+unfoldable pub opening : ℕ → ℕ
+opening l = 2 * l
+
+-- a latch closes
+unfoldable pub closing : ℕ → ℕ
+closing l = 2 * l + 1
+
+-- how often a node has opened, after f firings
+unfoldable pub opened : Run → ℕ → ℕ → ℕ
+opened run l f = cond (nat_lt l run.latches) ((f + 1) / 2) 0
+
+-- the count of an event, where each node has fired so many times
+abbrev pub count : Run → (ℕ → ℕ) → ℕ → ℕ
+count run fired e = turns run e (fired (node_of run e))
+
+-- the event may fire
+abbrev pub Enabled : Run → (ℕ → ℕ) → ℕ → Type 0
+Enabled run fired e =
+    (count run fired e < run.limit)
+    × ((k : ℕ) (a : Arc) → get_elem? run.arcs k ≡ some a → a.target ≡ e
+    → count run fired e + 1 ≤ count run fired a.source + a.tokens)
+
+-- every arc agrees, and no count is above the limit
+abbrev pub Consistent : Run → (ℕ → ℕ) → Type 0
+Consistent run fired =
+    ((k : ℕ) (a : Arc) → get_elem? run.arcs k ≡ some a
+    → count run fired a.target ≤ count run fired a.source + a.tokens)
+    × ((e : ℕ) → node_of run e < run.nodes → count run fired e ≤ run.limit)

@@ -1,0 +1,212 @@
+ghost use Rattle.std.specs.Prelude.{◌≡◌, ◌≢◌, ◌↔◌, ◌<◌, ℕ, List, length, IsTrue, true};
+ghost use Rattle.ds_base.specs.Values.{Row};
+ghost use Rattle.ds_rule.specs.Run.{Run, node_of, next, turns, opens};
+ghost use Rattle.ds_rule.specs.Words.{width};
+
+use ds_base::LatchId;
+use ds_marked::Arc;
+use std::marker::{Model, PhantomData};
+
+/// The values of a run, which no code knows before it has fired. Contracts alone read them.
+pub trait Rows {
+    // value k of node l is row k * nodes + l
+    ghost rows: { List Row };
+}
+
+/// A consumer takes its value from a producer: of the same turn (0 tokens), or of the one before (1
+/// token).
+#[derive(Clone, Copy, Debug)]
+pub struct DataEdge {
+    pub producer: LatchId,
+    pub consumer: LatchId,
+    pub tokens: u8,
+}
+
+/// What a run is of. Contracts see a run: what is kept here, and the values that `J` says.
+///
+/// The first nodes, the latches, have two events each, 2 l (it opens) and 2 l + 1 (it closes). The
+/// events of the other nodes, one each, come behind.
+#[derive(Drop)]
+pub struct Layout<J: Rows> {
+    nodes: usize,
+    latches: usize,
+    arcs: Vec<Arc>,
+    limit: u64,
+    edges: Vec<DataEdge>,
+    lengths: Vec<usize>,
+    slack: usize,
+    rows: PhantomData<J>,
+}
+
+impl<J: Rows> Model for Layout<J> {
+    ghost use Rattle.ds_rule.specs.Run.{Run};
+
+    ghost Value = { Run };
+
+    ghost view = { λ m. record {
+      nodes = m.nodes;
+      latches = m.latches;
+      arcs = m.arcs.items;
+      limit = m.limit;
+      edges = m.edges.items;
+      lengths = m.lengths.items;
+      slack = m.slack;
+      rows = J.rows;
+    } };
+}
+
+impl<J: Rows> Layout<J> {
+    /// Of its parts: how many nodes and latches, the arcs between events, how often each event may
+    /// fire, the data edges, how many values a row of each node has, and how many openings a
+    /// producer may be ahead.
+    pub fn of(
+        nodes: usize,
+        latches: usize,
+        arcs: Vec<Arc>,
+        limit: u64,
+        edges: Vec<DataEdge>,
+        lengths: Vec<usize>,
+        slack: usize,
+    ) -> Self
+        ensures { result ≡ record {
+          nodes = nodes;
+          latches = latches;
+          arcs = arcs.items;
+          limit = limit;
+          edges = edges.items;
+          lengths = lengths.items;
+          slack = slack;
+          rows = J.rows;
+        } }
+    {
+        Layout {
+            nodes,
+            latches,
+            arcs,
+            limit,
+            edges,
+            lengths,
+            slack,
+            rows: PhantomData,
+        }
+    }
+
+    /// How many nodes there are.
+    pub fn nodes(&self) -> usize
+        ensures { result ≡ self.now.nodes }
+    {
+        self.nodes
+    }
+
+    /// How many of them are latches.
+    pub fn latches(&self) -> usize
+        ensures { result ≡ self.now.latches }
+    {
+        self.latches
+    }
+
+    /// How often each event may fire.
+    pub fn limit(&self) -> u64
+        ensures { result ≡ self.now.limit }
+    {
+        self.limit
+    }
+
+    /// How many openings a producer may be ahead.
+    pub fn slack(&self) -> usize
+        ensures { result ≡ self.now.slack }
+    {
+        self.slack
+    }
+
+    /// The arcs between events.
+    pub fn arcs(&self) -> &[Arc]
+        ensures { result.now ≡ self.now.arcs }
+    {
+        &self.arcs
+    }
+
+    /// The data edges.
+    pub fn edges(&self) -> &[DataEdge]
+        ensures { result.now ≡ self.now.edges }
+    {
+        &self.edges
+    }
+
+    /// How many value words a row of the node has.
+    pub fn width(&self, node: usize) -> usize
+        requires { node < length self.now.lengths }
+        ensures { result ≡ width self.now node }
+    {
+        let length = self.lengths[node];
+        if length % 32 == 0 {
+            length / 32
+        } else {
+            length / 32 + 1
+        }
+    }
+}
+
+impl<J: Rows> Layout<J> {
+    /// The node of an event.
+    pub fn node_of(&self, event: usize) -> usize
+        requires { self.now.latches < 4294967296 }
+        ensures { result ≡ node_of self.now event }
+    {
+        if event < 2 * self.latches {
+            event / 2
+        } else {
+            event - self.latches
+        }
+    }
+
+    /// The event that the node fires next, where it has fired so often.
+    pub fn next(&self, node: usize, fired: u64) -> usize
+        requires { (self.now.latches < 4294967296) × (node < 4294967296) }
+        ensures { result ≡ next self.now node fired }
+    {
+        if node < self.latches {
+            2 * node + (fired % 2) as usize
+        } else {
+            node + self.latches
+        }
+    }
+
+    /// The node's next event is an opening.
+    pub fn opens_next(&self, node: usize, fired: u64) -> bool
+        ensures { IsTrue result ↔ (opens self.now (next self.now node fired) ≡ true) }
+    {
+        if node < self.latches {
+            if fired % 2 == 0 { true } else { false }
+        } else {
+            false
+        }
+    }
+
+    /// The node's next event is not its first one, but the closing of a latch.
+    pub fn closes_next(&self, node: usize, fired: u64) -> bool
+        ensures { IsTrue result ↔ (next self.now node fired ≢ next self.now node 0) }
+    {
+        if node < self.latches {
+            if fired % 2 == 0 { false } else { true }
+        } else {
+            false
+        }
+    }
+
+    /// How often the event has fired, where its node has fired so often.
+    pub fn turns(&self, event: usize, fired: u64) -> u64
+        requires { self.now.latches < 4294967296 }
+        ensures { result ≡ turns self.now event fired }
+    {
+        if event < 2 * self.latches {
+            if event % 2 == 0 {
+                fired / 2 + fired % 2
+            } else {
+                fired / 2
+            }
+        } else {
+            fired
+        }
+    }
+}
