@@ -9,8 +9,8 @@ COMPLETIONS = $(DESTDIR)$(PREFIX)/share/bash-completion/completions
 .PHONY: help build run test transcripts install uninstall
 
 help:
-	@echo "make build               prove and build the program, $(PROGRAM)"
-	@echo "make run ARGS='..'       build it where needed, and run it at the top of the repository"
+	@echo "make build               prove and build the program, $(PROGRAM), anew"
+	@echo "make run ARGS='..'       build it where it is not there, and run it; another status than 0 shows as 2"
 	@echo "make test                the whole gate: rt ci"
 	@echo "make transcripts         run what the documents and examples show"
 	@echo "make install             program, manual page and completion, to \$$DESTDIR\$$PREFIX"
