@@ -6,6 +6,7 @@ pub mod Reached
 pub mod Turning
 pub mod Lawful
 pub mod Members
+pub mod Waiting
 pub mod Refreshed
 pub mod Fed
 pub mod First

@@ -1,11 +1,9 @@
 -- From what a turn leaves to a firing.
-use Rattle.std.proofs.Common.{◌≡◌, ◌≢◌, ◌∙◌, ℕ, suc, ◌+◌, ◌*◌, ◌<◌, ◌≤◌, List, [], length, get_or, refl, arith, ap, sym, subst, slice_index}
+use Rattle.std.proofs.Common.{◌≡◌, ◌∙◌, ℕ, suc, ◌+◌, ◌*◌, ◌<◌, ◌≤◌, List, [], length, get_or, refl, arith, ap, sym, subst, slice_index}
 use Rattle.std.proofs.Math.ListN.{set}
 use Rattle.std.proofs.Math.Nat.{mul-le-mul_right, suc-mul}
-use Rattle.std.proofs.lemmas.List.{get_or-set_other, get_or-map, get_or_default, length-append, length-map}
+use Rattle.std.proofs.lemmas.List.{get_or-map, length-append, length-map}
 use Rattle.ds_base.specs.Values.{Row}
-use Rattle.ds_marked.specs.Graph.{Graph, IsEnabled}
-use Rattle.ds_marked.specs.declared.marked.Arc.{Arc}
 use Rattle.ds_marked.proofs.Progress.{legal_is_consistent}
 use Rattle.ds_design.specs.Node.{Node, Split, IsNode, number_of, nodes, nets_of, closing}
 use Rattle.ds_design.specs.Plan.{split_events}
@@ -15,15 +13,14 @@ use Rattle.ds_design.proofs.Rising.{events_long}
 use Rattle.ds_fire.specs.History.{Stored}
 use Rattle.ds_fire.specs.Snapshot.{Snapshot, split_of, graph_of, limit_of, count_of, stored_values, width_of}
 use Rattle.ds_fire.specs.Fired.{IsFired, IsReached, IsReady, IsSound}
-use Rattle.ds_fire.specs.Ready.{AreReady, AreRightAside, LeadsTo}
 use Rattle.ds_fire.specs.Turn.{AreRows, HasRoom, IsTurned, rooms_of, values_of}
 use Rattle.ds_fire.specs.declared.kept.Kept.{Kept}
 use Rattle.ds_design.specs.Plan.{Planned}
 use Rattle.ds_design.specs.Rows.{Rows}
 use Rattle.ds_fire.specs.Inside.{IsRunning, seen}
-use Rattle.ds_fire.specs.Sized.{IsSized}
+use Rattle.ds_fire.specs.Waits.{IsWatching}
 use Rattle.ds_fire.specs.declared.feed.Feed.{Feed}
-use Rattle.ds_fire.specs.declared.ready.Ready.{Ready}
+use Rattle.ds_fire.specs.declared.watch.Watch.{Watch}
 use Rattle.ds_fire.proofs.Reached.{kept_counts, reached_after}
 use Rattle.ds_fire.proofs.Shown.{Turned, fired, kept_next}
 
@@ -89,49 +86,13 @@ room_more kept parts sound stored room n is_node ready d =
     let limit : limit_of kept * width_of kept n ≤ get_or (rooms_of parts.stored.items) (number_of n) 0 = room n is_node in
     omega arith
 
--- an event may fire at counts that agree with these at it and before each arc into it
-moved : (g : Graph) (limit : ℕ) (count count' : ℕ → ℕ) (u : ℕ) → count u ≡ count' u → ((k : ℕ) (d : Arc) → k < length g.arcs → (get_or g.arcs k d).target ≡ u → count (get_or g.arcs k d).source ≡ count' (get_or g.arcs k d).source) → IsEnabled g limit count u → IsEnabled g limit count' u
-moved g limit count count' u here before is = record {
-  event = is.event;
-  below = (let low : count u < limit = is.below in omega arith);
-  ready = λ k d inside target.
-      let ready : count u + 1 ≤ count (get_or g.arcs k d).source + (get_or g.arcs k d).tokens = is.ready k d inside target in
-      let source : count (get_or g.arcs k d).source ≡ count' (get_or g.arcs k d).source = before k d inside target in
-      omega arith;
-}
-
--- an event to which no arc leads from the one that fired may fire exactly where it might before
-module _ (g : Graph) (limit : ℕ) (counts : List ℕ) (v : ℕ) (inside : v < length counts) where
-  abbrev next : List ℕ
-  next = set counts v (get_or counts v 0 + 1)
-
-  count_other : (u : ℕ) → u ≢ v → get_or (set counts v (get_or counts v 0 + 1)) u 0 ≡ get_or counts u 0
-  count_other u ne = get_or-set_other counts v u (get_or counts v 0 + 1) 0 ne
-
-  source_other : (u : ℕ) → ¬ LeadsTo g v u → (k : ℕ) (d : Arc) → k < length g.arcs → (get_or g.arcs k d).target ≡ u → (get_or g.arcs k d).source ≢ v
-  source_other u free k d below target e =
-      let arc : Arc = get_or g.arcs k d in
-      free (k, arc, below, get_or_default g.arcs k arc d below, (e, target))
-
-  pub aside : (words : List ℕ) → AreReady g limit (λ u. get_or counts u 0) words → AreRightAside g limit (λ u. get_or (set counts v (get_or counts v 0 + 1)) u 0) v words
-  aside words right u ne free = (
-    λ is. moved g limit (λ u. get_or counts u 0) (λ u. get_or next u 0) u (sym (count_other u ne)) (λ k d below target. sym (count_other (get_or g.arcs k d).source (source_other u free k d below target))) ((right u).0 is),
-    λ is. (right u).1 (moved g limit (λ u. get_or next u 0) (λ u. get_or counts u 0) u (count_other u ne) (λ k d below target. count_other (get_or g.arcs k d).source (source_other u free k d below target)) is),
-  )
-
-pub aside_at : (g g' : Graph) (limit limit' : ℕ) (counts counts' : List ℕ) (v : ℕ) (words : List ℕ) → g' ≡ g → limit' ≡ limit → counts' ≡ set counts v (get_or counts v 0 + 1) → v < length counts → AreReady g limit (slice_index counts) words → AreRightAside g' limit' (slice_index counts') v words
-aside_at g g' limit limit' counts counts' v words same_graph same_limit same_counts inside right =
-    subst (λ (h : Graph). AreRightAside h limit' (slice_index counts') v words) (sym same_graph)
-    (subst (λ (n : ℕ). AreRightAside g n (slice_index counts') v words) (sym same_limit)
-    (subst (λ (cs : List ℕ). AreRightAside g limit (slice_index cs) v words) (sym same_counts) (aside g limit counts v inside words right)))
-
 -- one step, from parts to parts
-pub stepped : (planned : Planned) (vectors : Rows) (counts counts' : List ℕ) (kept kept' : Kept) (feeds : List Feed) (ready ready' : Ready) (v : ℕ)
-    → IsRunning (seen planned vectors counts kept) vectors kept feeds ready → IsReady (seen planned vectors counts kept) v
+pub stepped : (planned : Planned) (vectors : Rows) (counts counts' : List ℕ) (kept kept' : Kept) (feeds : List Feed) (watch watch' : Watch) (v : ℕ)
+    → IsRunning (seen planned vectors counts kept) vectors kept feeds watch → IsReady (seen planned vectors counts kept) v
     → counts' ≡ set counts v (get_or counts v 0 + 1) → IsTurned planned.split vectors.rows v (get_or counts v 0) kept kept'
-    → AreReady planned.graph (length vectors.rows) (slice_index counts') ready'.words.items → IsSized ready' (length planned.graph.events)
-    → IsFired (seen planned vectors counts kept) v (seen planned vectors counts' kept') × IsRunning (seen planned vectors counts' kept') vectors kept' feeds ready'
-stepped planned vectors counts counts' kept kept' feeds ready ready' v run may is turned right sized =
+    → IsWatching planned.graph (length vectors.rows) (slice_index counts') watch'
+    → IsFired (seen planned vectors counts kept) v (seen planned vectors counts' kept') × IsRunning (seen planned vectors counts' kept') vectors kept' feeds watch'
+stepped planned vectors counts counts' kept kept' feeds watch watch' v run may is turned watching =
     let old : Snapshot = seen planned vectors counts kept in
     let new : Snapshot = seen planned vectors counts' kept' in
     let both : IsFired old v new × IsSound new =
@@ -147,7 +108,6 @@ stepped planned vectors counts counts' kept kept' feeds ready ready' v run may i
         room = λ n is_node. subst (λ (rooms : List ℕ). length vectors.rows * length (nets_of planned.split n) ≤ get_or rooms (number_of n) 0) (sym (rooms_kept planned.split vectors.rows v (get_or counts v 0) kept kept' turned)) (run.room n is_node);
         nets = turned.nets ∙ run.nets;
         fed = run.fed;
-        right = right;
-        sized = sized;
+        watching = watching;
       },
     )

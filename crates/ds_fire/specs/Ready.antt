@@ -1,8 +1,7 @@
 -- The events that may fire, as a set of bits with a bit for each word of it that is not empty.
-use Rattle.std.specs.Prelude.{◌≡◌, ◌↔◌, ℕ, ◌<◌, ◌≤◌, ◌/◌, ◌%◌, List, Option, Any, MatchOption, slice_index, slice_index_or, ◌≢◌}
+use Rattle.std.specs.Prelude.{◌≡◌, ◌↔◌, ℕ, ◌<◌, ◌/◌, ◌%◌, List, Option, MatchOption, slice_index}
 use Rattle.std.specs.Int.{bit_at}
 use Rattle.ds_marked.specs.Graph.{Graph, IsEnabled}
-use Rattle.ds_marked.specs.declared.marked.Arc.{Arc}
 use Rattle.ds_fire.specs.Snapshot.{Snapshot}
 use Rattle.ds_fire.specs.Fired.{IsReady}
 
@@ -31,16 +30,3 @@ IsRight g limit count words u = IsMember words u ↔ IsEnabled g limit count u
 -- the members are the events that may fire
 abbrev pub AreReady : Graph → ℕ → (ℕ → ℕ) → List ℕ → Type 0
 AreReady g limit count words = (v : ℕ) → IsRight g limit count words v
-
--- an arc leads from the one event to the other
-abbrev pub LeadsTo : Graph → ℕ → ℕ → Type 0
-LeadsTo g v u = Any (λ arc. (arc.source ≡ v) × (arc.target ≡ u)) g.arcs
-
--- the events are right but for one and those behind its arcs
-abbrev pub AreRightAside : Graph → ℕ → (ℕ → ℕ) → ℕ → List ℕ → Type 0
-AreRightAside g limit count v words = (u : ℕ) → u ≢ v → ¬ LeadsTo g v u → IsRight g limit count words u
-
--- the events are right but for those that the arcs from one place up to another enter
-abbrev pub AreRightBefore : Graph → ℕ → (ℕ → ℕ) → ℕ → ℕ → List ℕ → Type 0
-AreRightBefore g limit count from to words = (u : ℕ)
-    → ((k : ℕ) (d : Arc) → from ≤ k → k < to → (slice_index_or g.arcs k d).target ≢ u) → IsRight g limit count words u

@@ -4,7 +4,9 @@
 //! and what it has stored, its rows one after the other. `State::new` takes all memory. `fire` fires
 //! an event where it is enabled and does exactly what the definition of a firing says; where it is
 //! not, nothing changes and `Blocked` says why. `next_enabled` gives the least event that may fire,
-//! without a look at the others. An opening settles the cone of its node and no other table.
+//! without a look at the others: an event that lacks a token waits on the least arc that lacks it,
+//! and a firing looks on only for those that waited on an arc from its event. An opening settles the
+//! cone of its node and no other table.
 //! `laws` has what holds whatever is fired: held and stored rows are those of the clocked run,
 //! nothing is enabled exactly at the end, and there the stored rows spell the trace.
 #![tactic(auto)]
@@ -20,6 +22,8 @@ mod ready;
 mod refresh;
 mod state;
 mod turn;
+mod waits;
+mod watch;
 mod widths;
 
 pub use state::State;

@@ -12,9 +12,9 @@ ghost use Rattle.ds_fire.specs.Ready.{IsLeastReady};
 use crate::feed::{Feed, feeds_of};
 use crate::kept::Kept;
 use crate::places::Places;
-use crate::ready::Ready;
-use crate::refresh::{ready_of, refresh};
+use crate::refresh::{refresh, watch_of};
 use crate::turn::turn;
+use crate::watch::Watch;
 use crate::widths::count_rows;
 use ds_base::{EventId, LatchId, OutOfMemory, Row3, Value};
 use ds_design::{Plan, Vectors};
@@ -30,7 +30,7 @@ pub struct State<'a> {
     counts: Counts,
     kept: Kept,
     feeds: Vec<Feed>,
-    ready: Ready,
+    watch: Watch,
 }
 
 impl<'a> Model for State<'a> {
@@ -41,7 +41,7 @@ impl<'a> Model for State<'a> {
 
     ghost view = { λ s. seen s.plan.now s.vectors.now s.counts s.kept };
 
-    ghost invariant = { λ s. IsRunning (seen s.plan.now s.vectors.now s.counts s.kept) s.vectors.now s.kept s.feeds.items s.ready };
+    ghost invariant = { λ s. IsRunning (seen s.plan.now s.vectors.now s.counts s.kept) s.vectors.now s.kept s.feeds.items s.watch };
 }
 
 impl<'a> State<'a> {
@@ -57,14 +57,14 @@ impl<'a> State<'a> {
         let count = count_rows(vectors);
         let kept = Kept::first(alloc, latches, count)?;
         let feeds = feeds_of(alloc, latches)?;
-        let ready = ready_of(alloc, graph, &counts, count as u64)?;
+        let watch = watch_of(alloc, graph, &counts, count as u64)?;
         Ok(State {
             plan,
             vectors,
             counts,
             kept,
             feeds,
-            ready,
+            watch,
         })
     }
 
@@ -143,7 +143,7 @@ impl<'a> State<'a> {
     pub fn next_enabled(&self) -> Option<EventId>
         ensures { IsLeastReady self.now result }
     {
-        match self.ready.least() {
+        match self.watch.ready.least() {
             Some(v) => Some(EventId::new(v as u32)),
             None => None,
         }
@@ -170,7 +170,7 @@ impl<'a> State<'a> {
             &self.counts,
             event,
             limit,
-            &mut self.ready,
+            &mut self.watch,
         );
     }
 }

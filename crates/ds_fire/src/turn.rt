@@ -54,7 +54,8 @@ fn close(latches: &Latches, number: usize, closed: usize, kept: &mut Kept)
     requires stored { length kept.old.stored.items ≡ nodes latches.now }
     requires room { (n : Node) → IsNode latches.now n → number_of n ≡ number
         → HasRoom latches.now n kept.old.stored.items }
-    ensures closes { Closes latches.now closed number kept.old.rows.items kept.old.stored.items kept.new.stored.items }
+    ensures closes { Closes latches.now closed number kept.old.rows.items
+        kept.old.stored.items kept.new.stored.items }
     ensures rows { kept.new.rows.items ≡ kept.old.rows.items }
     ensures nets { length kept.new.nets ≡ length kept.old.nets }
 {

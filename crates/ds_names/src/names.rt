@@ -52,6 +52,17 @@ impl<'a> Names<'a> {
         Ok((place, added))
     }
 
+    /// The word at a place.
+    pub fn name(&self, place: usize) -> &'a [u8]
+        requires { place < length self.now }
+        ensures { result.now ≡ slice_index_or self.now place [] }
+    {
+        match self.set.get_index(place) {
+            Some(word) => *word,
+            None => &[],
+        }
+    }
+
     /// The place of a word, how many words there are where it is not there.
     pub fn place(&self, word: &[u8]) -> usize
         ensures value { result ≡ place_of_name self.now word.now }

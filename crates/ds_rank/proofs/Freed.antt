@@ -1,11 +1,10 @@
 -- The edges of the arcs without tokens are these arcs.
-use Rattle.std.proofs.Common.{◌≡◌, ◌≢◌, ◌∙◌, ◌<◌, ◌≤◌, ◌+◌, ℕ, List, [], ◌∷◌, ◌++◌, length, arith, refl, zero, suc, sym, ap, subst, inl, inr, ◌*◌, ◌^◌}
+use Rattle.std.proofs.Common.{◌≡◌, ◌≢◌, ◌∙◌, ◌<◌, ◌≤◌, ℕ, List, [], ◌∷◌, ◌++◌, length, arith, refl, zero, suc, sym, ap, subst, inl, inr}
 use Rattle.std.specs.List.{All, Any}
-use Rattle.std.proofs.Math.Nat.{mul-le-mul}
 use Rattle.std.proofs.lemmas.Bool.{cases_eq}
 use Rattle.ds_marked.specs.declared.marked.Arc.{Arc}
 use Rattle.ds_order.specs.declared.edge.Edge.{Edge}
-use Rattle.ds_order.specs.Order.{HasEdge, IsWalk, IsCycle, IsRanks, source_at, target_at}
+use Rattle.ds_order.specs.Order.{HasEdge, source_at, target_at}
 use Rattle.ds_order.specs.Search.{AreEnds}
 use Rattle.ds_rank.specs.Free.{edge_of, free_part, with_free}
 

@@ -9,6 +9,7 @@
 mod check;
 mod fault;
 mod find;
+pub mod laws;
 mod ranks;
 #[cfg(test)]
 mod tests;

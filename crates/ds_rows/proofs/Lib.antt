@@ -2,3 +2,5 @@ pub mod Values
 pub mod Then
 pub mod Reading
 pub mod Printed
+pub mod Events
+pub mod Columns

@@ -1,4 +1,5 @@
 -- In the order in which to read.
 pub mod Vector
 pub mod Print
+pub mod Log
 pub mod Worked

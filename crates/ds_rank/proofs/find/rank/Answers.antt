@@ -1,4 +1,4 @@
-use Rattle.std.proofs.Common.{◌≡◌, ◌∙◌, ◌<◌, ◌+◌, ◌^◌, ℕ, List, length, ap, sym, subst, arith, inl, inr, Err}
+use Rattle.std.proofs.Common.{◌≡◌, ◌∙◌, ◌<◌, ◌^◌, ℕ, List, length, ap, sym, subst, arith, inl, inr, Err}
 use Rattle.std.proofs.Math.ListN.{replicate}
 use Rattle.std.specs.List.{slice_index}
 use Rattle.std.proofs.lemmas.List.{take_all, get_or-replicate, length-replicate}
