@@ -1,5 +1,5 @@
 ghost use Rattle.std.specs.Prelude.{◌≡◌, ◌↔◌, ◌<◌, ◌≤◌, ◌+◌, true, IsTrue, IfSome, IfNone, length};
-ghost use Rattle.ds_rule.specs.Run.{events};
+ghost use Rattle.ds_rule.specs.Run.{events, node_of};
 ghost use Rattle.ds_rule.specs.Rule.{holds, seen};
 ghost use Rattle.ds_rule.specs.Plays.{after_look};
 ghost use Rattle.ds_fabric.specs.Base.{IsOver};
@@ -9,6 +9,7 @@ ghost use Rattle.ds_fabric.specs.Looks.{LooksOn, Enough, Lacks};
 use crate::chain::Chains;
 use atomic_table::{Seat, Shared};
 use ds_rule::{Layout, Look, Order, Rows, View};
+use std::hint::spin_loop;
 
 /// The table, as its steps see it.
 pub type Board<J> = Shared<u8, View, Layout<J>, Order>;
@@ -31,6 +32,21 @@ pub fn look<J: Rows>(
     ensures up { seen seat.old.me.0 node ≤ result }
 {
     board.load::<Look>(seat, node + 1)
+}
+
+/// Looks at the count of an event, without a seat, until it is more than `seen` or so many looks
+/// are used up. It tells nothing.
+pub fn watch<J: Rows>(board: &Board<J>, graph: &Layout<J>, event: usize, seen: u64, looks: u32)
+    requires table { IsOver board.now.table_id board.now.key graph.now }
+    requires near { node_of graph.now event < graph.now.nodes }
+{
+    let node = graph.node_of(event);
+    'looking: for _ in 0..looks {
+        if graph.turns(event, board.peek(node + 1)) > seen {
+            break;
+        }
+        spin_loop();
+    }
 }
 
 /// Loads the counts of the event's sources, from the last arc on, up to the first that is too small.

@@ -1,14 +1,15 @@
-ghost use Rattle.std.specs.Prelude.{◌≡◌, ◌<◌, ◌≤◌, ◌+◌, true, ℕ, OnOk, OnErr, IfOk};
+ghost use Rattle.std.specs.Prelude.{◌≡◌, ◌<◌, ◌≤◌, ◌+◌, true, ℕ, OnOk, OnErr, IfOk, length};
 ghost use Rattle.ds_rule.specs.Sound.{IsSound};
 ghost use Rattle.ds_rule.specs.Log.{Recorded};
 ghost use Rattle.ds_rule.specs.Rule.{holds, tickets};
 ghost use Rattle.ds_rule.specs.Plays.{both};
 ghost use Rattle.ds_fabric.specs.Stepped.{Stepped};
-ghost use Rattle.ds_fabric.specs.Showing.{Belongs, IsBegun, IsDealt, IsLeft, Stays};
+ghost use Rattle.ds_fabric.specs.Showing.{Belongs, IsBegun, IsCounted, IsDealt, IsLeft, Stays};
 
 use crate::build::{histories, lay};
 use crate::chain::Chains;
 use crate::compute::Compute;
+use crate::counts::watch;
 use crate::flight::advance;
 use crate::hands::{cut, mend, shut};
 use crate::index::{Index, firsts};
@@ -17,7 +18,7 @@ use crate::places::{alone, find, note_from, numbered, take_out};
 use crate::record::Record;
 use crate::step::Step;
 use atomic_table::Table;
-use ds_base::{LatchId, OutOfMemory, Row3};
+use ds_base::{ArcId, LatchId, OutOfMemory, Row3};
 use ds_rule::{Layout, Order, Rows, View};
 use std::alloc::Global;
 use std::marker::Model;
@@ -112,6 +113,15 @@ impl<'a, J: Rows, C: Compute> Fabric<'a, J, C> {
         )
     }
 
+    /// Looks again and again at the count of an arc's source, until it is more than `seen` or so many
+    /// looks are used up. It tells nothing; a worker that lacks tokens passes its time so.
+    pub fn watch(&self, arc: ArcId, seen: u64, looks: u32)
+        requires { arc < length self.now.run.arcs }
+    {
+        let source = self.graph.arcs()[arc.index()].source.index();
+        watch(&self.table.shared, self.graph, source, seen, looks);
+    }
+
     /// The node goes to a new pass, which has seen what the old one had seen.
     pub fn deal(
         &self,
@@ -180,6 +190,7 @@ impl<'a, J: Rows, C: Compute> Fabric<'a, J, C> {
 
         ensures same { result.shown ≡ pass }
         ensures legal { Recorded self.entry.run (tickets pass.view) result.many }
+        ensures counted { IsCounted pass.view }
     {
         let shown = Snapshot::of(&pass);
         let Fabric {

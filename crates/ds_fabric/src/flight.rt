@@ -90,7 +90,8 @@ fn fire<J: Rows, C: Compute>(
     requires held { (holds seat.old.me.0 history.old.node ≡ true)
         × (history.old.node < graph.now.nodes)
         × (history.old.fired ≡ seen seat.old.me.0 history.old.node) }
-    requires ready { Enabled graph.now (seen seat.old.me.0) (next graph.now history.old.node history.old.fired) }
+    requires ready { Enabled graph.now (seen seat.old.me.0)
+        (next graph.now history.old.node history.old.fired) }
     requires rows { history.old.rows.items
         ≡ rows_to graph.now history.old.node (opened graph.now history.old.node history.old.fired) }
     requires room { opens graph.now (next graph.now history.old.node history.old.fired) ≡ true
@@ -132,7 +133,8 @@ fn prepare<J: Rows, C: Compute>(
     requires flight { IsAway graph.now seat.old.me.0 history.old.node
         × (history.old.fired ≡ seen seat.old.me.0 history.old.node)
         × (history.old.node < graph.now.nodes) }
-    requires ready { Enabled graph.now (seen seat.old.me.0) (next graph.now history.old.node history.old.fired) }
+    requires ready { Enabled graph.now (seen seat.old.me.0)
+        (next graph.now history.old.node history.old.fired) }
     requires rows { history.old.rows.items
         ≡ rows_to graph.now history.old.node (opened graph.now history.old.node history.old.fired) }
     requires room { opens graph.now (next graph.now history.old.node history.old.fired) ≡ true
@@ -176,7 +178,8 @@ fn open_row<J: Rows, C: Compute>(
     ensures seat { (seat.new.table_id ≡ seat.old.table_id) × (seat.new.id ≡ seat.old.id) }
     ensures me { seat.new.me
         ≡ (record seat.old.me.0 { written = width graph.now history.old.node }, seat.old.me.1) }
-    ensures value { history.new.rows.items ≡ history.old.rows.items ++ row graph.now history.old.node turn }
+    ensures value { history.new.rows.items
+        ≡ history.old.rows.items ++ row graph.now history.old.node turn }
     ensures same { HasOpened history.old history.new }
     ensures nets { length nets.new ≡ length nets.old }
 {

@@ -42,7 +42,8 @@ fn read_row<J: Rows>(
 
     ensures seat { (seat.new.table_id ≡ seat.old.table_id) × (seat.new.id ≡ seat.old.id)
         × (seat.new.me ≡ seat.old.me) }
-    ensures value { into.new.items ≡ into.old.items ++ row graph.now edge.producer (turn - edge.tokens) }
+    ensures value { into.new.items
+        ≡ into.old.items ++ row graph.now edge.producer (turn - edge.tokens) }
     ensures room { vec_capacity into.new ≡ vec_capacity into.old }
 {
     for i in 0..graph.width(edge.producer.index()) {

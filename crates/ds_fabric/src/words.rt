@@ -36,7 +36,8 @@ fn set_word(row: &mut Row3, i: usize, word: u64)
     requires { 32 * i < length row.old }
     ensures value { (values : Row) → length values ≡ length row.old → word ≡ word_of values i
         → HasWord values row.new i }
-    ensures same { (k : ℕ) → k < 32 * i → slice_index_or row.new k Zero ≡ slice_index_or row.old k Zero }
+    ensures same { (k : ℕ) → k < 32 * i
+        → slice_index_or row.new k Zero ≡ slice_index_or row.old k Zero }
     ensures length { length row.new ≡ length row.old }
 {
     let mut rest = word;

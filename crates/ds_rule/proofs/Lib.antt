@@ -13,3 +13,4 @@ pub mod Values
 pub mod Hands
 pub mod RowLaws
 pub mod Progress
+pub mod Legal

@@ -7,3 +7,4 @@ pub mod Rule
 pub mod Plays
 pub mod Rows
 pub mod Progress
+pub mod Laws

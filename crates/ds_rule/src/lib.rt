@@ -9,6 +9,7 @@
 //! Nothing is said of time, or of which pass fires what.
 #![tactic(auto)]
 
+pub mod laws;
 mod layout;
 mod plays;
 mod view;

@@ -1,0 +1,3 @@
+-- Lemmas of workers and rounds.
+pub mod Work
+pub mod Ends

@@ -1,0 +1,12 @@
+use Rattle.std.proofs.Common.{◌≤◌, ◌+◌, ℕ, sum_by}
+use Rattle.ds_fabric.specs.Showing.{Belongs}
+use Rattle.ds_runner.specs.Work.{AreWorkers, CoverBelow, CoverWith, many_of}
+use Rattle.ds_runner.proofs.complete.collect.Given as goal
+
+abbrev pub invariant-taking : goal.invariant-taking
+invariant-taking g l = Belongs l.fabric l.pass × AreWorkers l.fabric l.workers.items
+    × (l.pass.many + sum_by many_of l.workers.items ≤ l.pass.room)
+    × ((n : ℕ) → n ≤ l.fabric.run.nodes → CoverBelow l.fn.workers.items n → CoverWith l.pass.view l.workers.items n)
+
+abbrev pub decreases-taking : goal.decreases-taking
+decreases-taking g l = goal.left-taking g l

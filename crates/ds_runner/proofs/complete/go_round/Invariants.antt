@@ -1,0 +1,7 @@
+use Rattle.std.proofs.Common.{◌≤◌}
+use Rattle.ds_runner.specs.Work.{Moved, AdvancesBelow, left}
+use Rattle.ds_runner.proofs.complete.go_round.Given as goal
+
+abbrev pub invariant-nodes : goal.invariant-nodes
+invariant-nodes g l = Moved l.fn.pass l.pass × AdvancesBelow l.graph l.fn.pass.view l.node l.pass.view l.busy
+    × (left l.graph l.pass.view ≤ left l.graph l.fn.pass.view)

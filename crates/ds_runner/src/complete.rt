@@ -1,0 +1,103 @@
+ghost use Rattle.std.specs.Prelude.{◌≡◌, ◌<◌, ◌≤◌, ◌+◌, ℕ, sum_by};
+ghost use Rattle.ds_rule.specs.Run.{node_of, count};
+ghost use Rattle.ds_rule.specs.Rule.{seen};
+ghost use Rattle.ds_rule.specs.Sound.{IsSound};
+ghost use Rattle.ds_rule.specs.Progress.{IsAccepted};
+ghost use Rattle.ds_fabric.specs.Showing.{Belongs};
+ghost use Rattle.ds_runner.specs.Work.{HasFrom, HasBetween, Moved, AreWorkers, CoverBelow, many_of, Advances, AdvancesBelow};
+
+use crate::unit::unit;
+use crate::worker::Worker;
+use ds_fabric::{Compute, Fabric, Pass, Step};
+use ds_outside::Gate;
+use ds_rule::{Layout, Rows};
+
+/// Takes the workers' passes in.
+pub fn collect<J: Rows, C: Compute>(
+    fabric: &Fabric<'_, J, C>,
+    pass: &mut Pass,
+    mut workers: Vec<Worker>,
+)
+    requires fits { Belongs fabric.now pass.old }
+    requires workers { AreWorkers fabric.now workers.items }
+    requires room { pass.old.many + sum_by many_of workers.items ≤ pass.old.room }
+    ensures fits { Belongs fabric.now pass.new }
+    ensures all { (n : ℕ) → n ≤ fabric.now.run.nodes → CoverBelow workers.items n
+        → HasBetween pass.new.view 0 n }
+{
+    'taking: while let Some(worker) = workers.pop() {
+        let Worker {
+            number: _,
+            first: _,
+            end: _,
+            pass: other,
+        } = worker;
+        fabric.gather(pass, other);
+    }
+}
+
+/// Fires each event as often as it may, with a pass that holds all nodes.
+pub fn complete<J: Rows, C: Compute, G: Gate>(
+    fabric: &Fabric<'_, J, C>,
+    graph: &Layout<J>,
+    pass: &mut Pass,
+    number: u32,
+    gate: &G,
+)
+    requires run { (graph.now ≡ fabric.now.run) × IsSound graph.now × IsAccepted graph.now }
+    requires fits { Belongs fabric.now pass.old }
+    requires all { HasFrom pass.old.view 0 }
+    ensures moved { Moved pass.old pass.new }
+    ensures done { (e : ℕ) → node_of graph.now e < graph.now.nodes
+        → graph.now.limit ≤ count graph.now (seen pass.new.view) e }
+{
+    let mut busy = true;
+    'rounds: while busy {
+        busy = go_round(fabric, graph, pass, number, gate);
+    }
+}
+
+// Steps each node once. False: nothing fired, and every node is stuck.
+fn go_round<J: Rows, C: Compute, G: Gate>(
+    fabric: &Fabric<'_, J, C>,
+    graph: &Layout<J>,
+    pass: &mut Pass,
+    number: u32,
+    gate: &G,
+) -> bool
+    requires run { (graph.now ≡ fabric.now.run) × IsSound graph.now }
+    requires fits { Belongs fabric.now pass.old }
+    requires all { HasFrom pass.old.view 0 }
+    ensures moved { Moved pass.old pass.new }
+    ensures told { AdvancesBelow graph.now pass.old.view graph.now.nodes pass.new.view result }
+{
+    let mut busy = false;
+    'nodes: for node in 0..graph.nodes() {
+        if advance(fabric, graph, pass, number, node, gate) {
+            busy = true;
+        }
+    }
+    busy
+}
+
+// Steps a node. False: it is stuck.
+fn advance<J: Rows, C: Compute, G: Gate>(
+    fabric: &Fabric<'_, J, C>,
+    graph: &Layout<J>,
+    pass: &mut Pass,
+    number: u32,
+    node: usize,
+    gate: &G,
+) -> bool
+    requires run { (graph.now ≡ fabric.now.run) × IsSound graph.now }
+    requires fits { Belongs fabric.now pass.old }
+    requires all { HasFrom pass.old.view 0 × (node < graph.now.nodes) }
+    ensures moved { Moved pass.old pass.new }
+    ensures told { Advances graph.now pass.old.view node pass.new.view result }
+{
+    match unit(fabric, graph, pass, number, node, gate) {
+        Step::Fired { .. } => true,
+        Step::NotYet { .. } => false,
+        Step::Done => false,
+    }
+}

@@ -1,0 +1,83 @@
+ghost use Rattle.std.specs.Prelude.{◌≡◌, ◌<◌, ◌≤◌, ◌+◌, ℕ, IfOk, All, length, slice_index_or};
+ghost use Rattle.ds_rule.specs.Sound.{IsSound};
+ghost use Rattle.ds_rule.specs.Progress.{IsAccepted};
+ghost use Rattle.ds_runner.specs.Work.{Drove, IsWorker};
+ghost use Rattle.ds_runner.specs.Whole.{IsWhole};
+ghost use Rattle.ds_runner.specs.declared.worker.Worker.{Worker};
+
+use crate::complete::{collect, complete};
+use crate::drive::drive;
+use crate::hire::hire;
+use crate::worker::Worker;
+use ds_base::OutOfMemory;
+use ds_fabric::{Compute, Fabric, Record};
+use ds_outside::Gate;
+use ds_rule::{Layout, Rows};
+use std::alloc::Global;
+use std::thread;
+use std::thread::Threads;
+
+/// Fires every event of a run as often as it may, with so many workers, from 1 to 64.
+///
+/// A worker calls the gate before each step on a node that is not done, with its number, the event
+/// that the node fires next, and its turn, from 1 on. The caller, which fires what is left in the
+/// end, has the number `jobs`. No fault comes of a thread that cannot be started: its work is done
+/// by another.
+pub fn run<R: Threads + Sync, J: Rows + Sync, C: Compute + Sync, G: Gate>(
+    rt: &R,
+    alloc: Global,
+    graph: &Layout<J>,
+    cones: &C,
+    jobs: u32,
+    gate: &G,
+) -> Result<Record, OutOfMemory>
+    requires sound { IsSound graph.now }
+    requires accepted { IsAccepted graph.now }
+    requires cones { C.run cones.now ≡ graph.now }
+    requires jobs { (0 < jobs) × (jobs ≤ 64) }
+    ensures { IfOk result (IsWhole graph.now) }
+{
+    let (fabric, mut pass) = Fabric::build(alloc, graph, cones)?;
+    let mut workers = hire(alloc, &fabric, graph, &mut pass, jobs)?;
+    let budget = 2 * graph.nodes() as u64 * graph.limit();
+    drive_all(
+        rt,
+        &fabric,
+        graph,
+        workers.as_mut_slice(),
+        jobs,
+        budget,
+        gate,
+    );
+    collect(&fabric, &mut pass, workers);
+    complete(&fabric, graph, &mut pass, jobs, gate);
+    Ok(fabric.finish(pass))
+}
+
+// Each worker drives its share, in a thread of its own.
+fn drive_all<R: Threads + Sync, J: Rows + Sync, C: Compute + Sync, G: Gate>(
+    rt: &R,
+    fabric: &Fabric<'_, J, C>,
+    graph: &Layout<J>,
+    workers: &mut [Worker],
+    jobs: u32,
+    budget: u64,
+    gate: &G,
+)
+    requires run { (graph.now ≡ fabric.now.run) × IsSound graph.now }
+    requires jobs { 0 < jobs }
+    requires workers { All (IsWorker fabric.now) workers.old }
+    ensures { (i : ℕ) (d : Worker) → i < length workers.old
+        → Drove (slice_index_or workers.old i d) (slice_index_or workers.new i d) }
+{
+    thread::for_each_mut(
+        rt,
+        workers,
+        jobs as usize,
+        &|_, worker|
+            requires run { (graph.now ≡ fabric.now.run) × IsSound graph.now }
+            requires worker { IsWorker fabric.now worker.old }
+            ensures { Drove worker.old worker.new }
+        { drive(fabric, graph, worker, budget, gate) },
+    );
+}
