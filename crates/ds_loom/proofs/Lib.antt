@@ -1,0 +1,6 @@
+pub mod Taken
+pub mod Settled
+pub mod Packs
+pub mod Filled
+pub mod Woven
+pub mod Slaves

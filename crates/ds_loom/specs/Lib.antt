@@ -1,0 +1,5 @@
+-- In the order in which to read.
+pub mod Taken
+pub mod Settled
+pub mod Packed
+pub mod Woven

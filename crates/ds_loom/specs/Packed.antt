@@ -1,0 +1,36 @@
+-- Rows of values as words of 32 values, and nets that take their values out of words.
+use Rattle.std.specs.Prelude.{◌≡◌, ◌⊎◌, ℕ, ◌+◌, ◌/◌, ◌<◌, List}
+use Rattle.std.specs.Prelude.{[], ◌∷◌, ◌++◌, length, map, All, Contains, slice_index_or}
+use Rattle.std.specs.List.{range_with_len}
+use Rattle.ds_base.specs.Values.{Row}
+use Rattle.ds_base.specs.Word.{word_of}
+use Rattle.ds_cover.specs.Cover.{value_at, values_at}
+
+-- how many words so many values take
+abbrev pub words_of : ℕ → ℕ
+words_of count = (count + 31) / 32
+
+-- the words of a row
+abbrev pub packed : Row → List ℕ
+packed values = map (word_of values) (range_with_len 0 (words_of (length values)))
+
+-- the words of the rows that some nodes have on known nets, one after another
+abbrev pub packed_rows : Row → List (List ℕ) → List ℕ → List ℕ
+packed_rows known bits [] = []
+packed_rows known bits (node ∷ nodes) =
+    packed (values_at known (slice_index_or bits node [])) ++ packed_rows known bits nodes
+
+-- these nets are as they are known, and so is every net that was so before
+abbrev pub Learns : Row → List ℕ → Row → Row → Type 0
+Learns known these old new = (net : ℕ)
+    → Contains these net ⊎ (value_at old net ≡ value_at known net)
+    → value_at new net ≡ value_at known net
+
+-- the nets of these nodes are as they are known
+abbrev pub AreLearnt : Row → List (List ℕ) → List ℕ → Row → Type 0
+AreLearnt known bits nodes new = (node : ℕ) → Contains nodes node
+    → values_at new (slice_index_or bits node []) ≡ values_at known (slice_index_or bits node [])
+
+-- these nets have places in a row
+abbrev pub AreInside : List ℕ → Row → Type 0
+AreInside these row = All (λ net. net < length row) these
