@@ -1,3 +1,17 @@
 -- In the order in which to read.
 pub mod Pieces
 pub mod Text
+pub mod Word
+pub mod Turn
+pub mod Node
+pub mod Place
+pub mod Keys
+pub mod Links
+pub mod Marking
+pub mod Line
+pub mod Read
+pub mod Sound
+pub mod Steps
+pub mod Written
+pub mod Laws
+pub mod Worked

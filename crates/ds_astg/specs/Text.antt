@@ -1,5 +1,5 @@
 -- The text of a marked graph, in the `.g` form of SIS and petrify.
-use Rattle.std.specs.Prelude.{ℕ, ◌-◌, Bool, true, false, List, [], ◌++◌, length, codes, decimal, ltb, ◌&&◌, ◌==◌, slice_get, slice_index_or, if◌then◌else◌}
+use Rattle.std.specs.Prelude.{ℕ, ◌-◌, Bool, List, [], ◌++◌, length, codes, decimal, ltb, ◌&&◌, ◌==◌, slice_get, slice_index_or, if◌then◌else◌}
 use Rattle.std.specs.Option.{option_map_or}
 use Rattle.ds_marked.specs.Graph.{Graph}
 use Rattle.ds_marked.specs.declared.marked.Arc.{Arc}

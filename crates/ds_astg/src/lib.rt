@@ -1,17 +1,41 @@
-//! The text of a marked graph, in the `.g` form of SIS and petrify.
+//! The text of a marked graph, in the `.g` form of SIS and petrify: read, and written.
 //!
-//! `write` appends the text of a graph: its signals, a line for each event from which arcs lead, and
-//! its marking; `specs/Text` says what it is, to the byte. Of several arcs with the same ends the
-//! first is implicit, and each other one is a place of its own, named by its number. Where a write
-//! fails, a first part of the text is appended. No memory is taken, and time is linear in the events
-//! and arcs up to look-ups; pieces are small, so that a buffer behind `out` pays.
+//! `read` gives exactly the graph for which a list of lines stands, or exactly their first fault,
+//! the line and the kind; want of memory alone is answered freely. `specs/Read` says what lines
+//! stand for: `specs/Line` what a line adds, `specs/Links` the graph part, `specs/Marking` the
+//! marking. `write` appends the text of a graph, which `specs/Text` gives to the byte: of several
+//! arcs with the same ends the first is implicit, and each other one is a place of its own. Where a
+//! write fails, a first part of the text is appended. `laws` says what follows: what is written is
+//! read as the same graph, texts that are worked by hand.
+//!
+//! `write` takes no memory; pieces are small, so that a buffer behind `out` pays.
 #![tactic(auto)]
 
 mod entry;
+mod entry_key;
+mod fault;
+mod graph;
+mod head;
+mod key;
+pub mod laws;
 mod line;
+mod links;
+mod marking;
+mod node;
 mod piece;
+mod place;
+mod places;
+#[cfg(test)]
+mod read_tests;
+mod reader;
+mod signals;
+mod state;
 #[cfg(test)]
 mod tests;
 mod text;
+mod tokens;
+mod word;
 
+pub use fault::{AstgFault, AstgKind, AstgRefusal};
+pub use reader::read;
 pub use text::write;

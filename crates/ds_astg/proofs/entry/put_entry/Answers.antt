@@ -1,4 +1,4 @@
-use Rattle.std.proofs.Common.{◌≡◌, ◌∙◌, ◌<◌, ap, sym, arith}
+use Rattle.std.proofs.Common.{◌∙◌, ◌<◌, ap, sym, arith}
 use Rattle.ds_marked.specs.declared.marked.Arc.{Arc}
 use Rattle.ds_astg.specs.Text.{arc_at, tokens_text}
 use Rattle.ds_rows.proofs.Then.{goes_on, nothing, with_text}

@@ -1,0 +1,11 @@
+pub mod Keys
+pub mod Counted
+pub mod Placed
+pub mod Merged
+pub mod Moved
+pub mod Facts
+pub mod Refused
+pub mod Accepted
+pub mod Sorted
+pub mod OnePlan
+pub mod OneFault

@@ -1,0 +1,189 @@
+-- A graph, and the same with its events in the order of the nodes.
+use Rattle.std.proofs.Common.{◌≡◌, ◌≢◌, inl, inr, ℕ, ◌+◌, ◌<◌, ◌≤◌, List, [], length, get_or, map, refl, sym, ◌∙◌, ap, subst, arith, All, AllPairs, IsPermutation, slice_index}
+use Rattle.std.specs.Prelude.{Any}
+use Rattle.std.proofs.lemmas.Bool.{cases_eq, cases_lt}
+use Rattle.std.proofs.lemmas.List.{get_or-map, get_or_default, length-map, append-nil}
+use Rattle.std.proofs.lemmas.List.Elements.{All-contains, All-map}
+use Rattle.std.proofs.lemmas.List.Sorted.{All-permutation, Contains-permutation, IsPermutation-sym}
+use Rattle.ds_base.proofs.Lists.{get_or-self}
+use Rattle.ds_marked.specs.Graph.{Graph, AreEnds, IsKept, StandsBefore, stay, along}
+use Rattle.ds_marked.specs.declared.marked.Arc.{Arc}
+use Rattle.ds_marked.specs.declared.marked.Event.{Event}
+use Rattle.ds_design.specs.Node.{Split}
+use Rattle.ds_design.specs.Plan.{IsPlan, IsSplit, Reorders, split_events}
+use Rattle.ds_control.specs.Control.{AreOrders}
+use Rattle.ds_rank.specs.Rank.{AreRanks}
+use Rattle.ds_accept.specs.Accept.{AreGiven, AreKnown, AreThere, Gives, IsAcceptable, IsArcWithin, StandsAt}
+use Rattle.ds_accept.specs.Fault.{IsFirstMissing, StandsFirst}
+use Rattle.ds_accept.specs.Steps.{IsFirstUngiven, IsGivenBy, moved}
+use Rattle.ds_accept.proofs.Counted.{no_more, one_place, some_event}
+
+module _ (s : Split) (g to : Graph) (number place : ℕ → ℕ) (kept : IsKept g) (once : AllPairs (λ a b. a ≢ b) (split_events s))
+    (numbered : (p : ℕ) → p < length g.events → StandsAt s g (number p) p)
+    (placed : (v : ℕ) → v < length (split_events s) → StandsAt s g v (place v))
+    (events : to.events ≡ split_events s) (arcs : IsPermutation (map (moved number) g.arcs) to.arcs) where
+  pub known : AreKnown s g
+  known k d inside =
+      let at : StandsAt s g (number k) k = numbered k inside in
+      (number k, at.number, sym (at.event (get_or g.events k d)) ∙ get_or-self g.events k d inside)
+
+  pub there : AreThere s g
+  there v d inside =
+      let at : StandsAt s g v (place v) = placed v inside in
+      (place v, at.inside, at.event (get_or (split_events s) v d) ∙ get_or-self (split_events s) v d inside)
+
+  number_is : (v p : ℕ) → StandsAt s g v p → number p ≡ v
+  number_is v p at =
+      let own : StandsAt s g (number p) p = numbered p at.inside in
+      one_place (split_events s) once (number p) v some_event own.number at.number (sym (own.event some_event) ∙ at.event some_event)
+
+  place_is : (p : ℕ) → p < length g.events → place (number p) ≡ p
+  place_is p inside =
+      let own : StandsAt s g (number p) p = numbered p inside in
+      let back : StandsAt s g (number p) (place (number p)) = placed (number p) own.number in
+      one_place g.events kept.once (place (number p)) p some_event back.inside inside (back.event some_event ∙ sym (own.event some_event))
+
+  -- what the graph gives, an arc of the other gives
+  down : (u v tokens : ℕ) → Gives s g u v tokens → Any (IsArcWithin u v tokens) to.arcs
+  down u v tokens gives =
+      let (k, arc, inside, is, (from, target, few)) = gives.arc in
+      let (j, low, same) = Contains-permutation (map (moved number) g.arcs) to.arcs (moved number arc) arcs
+      (k, rw (length-map g.arcs (moved number)) inside, get_or-map (moved number) g.arcs k arc (moved number arc) inside ∙ ap (moved number) is) in (
+        j,
+        moved number arc,
+        low,
+        same,
+        (
+          ap number from ∙ number_is u gives.from gives.source,
+          ap number target ∙ number_is v gives.to gives.target,
+          few,
+        ),
+      )
+
+  -- and the other way round
+  up : (u v tokens : ℕ) → Any (IsArcWithin u v tokens) to.arcs → Gives s g u v tokens
+  up u v tokens (j, arc, low, is, (source, target, few)) =
+      let (k, below, same) = Contains-permutation to.arcs (map (moved number) g.arcs) arc (IsPermutation-sym (map (moved number) g.arcs) to.arcs arcs) (j, low, is) in
+      let inside : k < length g.arcs = rw (length-map g.arcs (moved number)) at below in
+      let x : Arc = get_or g.arcs k arc in
+      let moved_is : moved number x ≡ arc = sym (get_or-map (moved number) g.arcs k arc arc inside) ∙ same in
+      let ends : (x.source < length g.events) × (x.target < length g.events) = kept.ends k arc inside in
+      let tokens_is : x.tokens ≡ arc.tokens = ap (λ (a : Arc). a.tokens) moved_is in record {
+        from = x.source;
+        to = x.target;
+        source = subst (λ (w : ℕ). StandsAt s g w x.source) (ap (λ (a : Arc). a.source) moved_is ∙ source) (numbered x.source ends.0);
+        target = subst (λ (w : ℕ). StandsAt s g w x.target) (ap (λ (a : Arc). a.target) moved_is ∙ target) (numbered x.target ends.1);
+        arc = (k, x, inside, get_or-self g.arcs k arc inside, (refl, refl, omega (few, tokens_is, arith)));
+      }
+
+  pub acceptable : AreGiven s g → (ranks : List ℕ) → AreRanks g ranks → IsAcceptable s g
+  acceptable given ranks are = record {
+    known = known;
+    there = there;
+    given = given;
+    rank = slice_index ranks;
+    rises = λ k d inside free.
+        let up : slice_index ranks (get_or g.arcs k d).source + 1 ≤ slice_index ranks (get_or g.arcs k d).target
+        = are.above (get_or g.arcs k d).source (get_or g.arcs k d).target (k, get_or g.arcs k d, inside, get_or-self g.arcs k d inside, (refl, refl, free)) in
+        omega (up, arith);
+  }
+
+  same_size : length to.events ≡ length g.events
+  same_size =
+      let most : length g.events ≤ length (split_events s) = no_more g.events (split_events s) kept.once known in
+      let least : length (split_events s) ≤ length g.events = no_more (split_events s) g.events once there in
+      let size : length to.events ≡ length (split_events s) = ap (λ (es : List Event). length es) events in
+      omega (most, least, size, arith)
+
+  pub reorders : Reorders g to
+  reorders = record {
+    place = number;
+    as_many = same_size;
+    events = λ p d inside.
+        let at : StandsAt s g (number p) p = numbered p inside in
+        (rw events at.number, ap (λ (es : List Event). get_or es (number p) d) events ∙ sym (at.event d));
+    arcs = arcs;
+  }
+
+  ends : AreEnds (length to.events) to.arcs
+  ends = All-permutation (λ (arc : Arc). (arc.source < length to.events) × (arc.target < length to.events)) (map (moved number) g.arcs) to.arcs arcs
+      (All-map (λ (arc : Arc). (arc.source < length to.events) × (arc.target < length to.events)) (moved number) g.arcs (λ k d inside.
+      let both : ((get_or g.arcs k d).source < length g.events) × ((get_or g.arcs k d).target < length g.events) = kept.ends k d inside in
+      (rw events (numbered (get_or g.arcs k d).source both.0).number, rw events (numbered (get_or g.arcs k d).target both.1).number)))
+
+  pub plan : IsSplit s → IsAcceptable s g → IsPlan s to
+  plan split acc = record {
+    split = split;
+    extra = [];
+    events = events ∙ sym (append-nil (split_events s));
+    live = record {
+      ends = ends;
+      rank = λ v. acc.rank (place v);
+      rises = All-permutation (λ (arc : Arc). arc.tokens ≡ 0 → acc.rank (place arc.source) < acc.rank (place arc.target)) (map (moved number) g.arcs) to.arcs arcs
+          (All-map (λ (arc : Arc). arc.tokens ≡ 0 → acc.rank (place arc.source) < acc.rank (place arc.target)) (moved number) g.arcs (λ k d inside free.
+          let both : ((get_or g.arcs k d).source < length g.events) × ((get_or g.arcs k d).target < length g.events) = kept.ends k d inside in
+          rw (place_is (get_or g.arcs k d).source both.0, place_is (get_or g.arcs k d).target both.1) (acc.rises k d inside free)));
+    };
+    orders = λ u v tokens required.
+        let (j, arc, low, is, (source, target, few)) = down u v tokens (acc.given u v tokens required) in
+        (0 + arc.tokens, along stay (j, arc, low, is, (source, target, refl)), omega (few, arith));
+  }
+
+  -- an order by the parts of its arc
+  given_at : (arc : Arc) (u v tokens : ℕ) → arc.source ≡ u → arc.target ≡ v → arc.tokens ≡ tokens
+      → IsGivenBy to.arcs arc → Gives s g u v tokens
+  given_at arc u v tokens su tv kt by =
+      subst (λ (u : ℕ). Gives s g u v tokens) su (subst (λ (v : ℕ). Gives s g arc.source v tokens) tv (subst (λ (t : ℕ). Gives s g arc.source arc.target t) kt
+      (up arc.source arc.target arc.tokens by)))
+
+  module _ (required : Graph) (orders : AreOrders s required) (sorted : AllPairs StandsBefore required.arcs)
+      (inside_required : AreEnds (length (split_events s)) required.arcs) where
+    pub given : All (IsGivenBy to.arcs) required.arcs → AreGiven s g
+    given all u v tokens order =
+        let (k, arc, inside, is, (su, tv, kt)) = (orders u v tokens).0 order in
+        given_at arc u v tokens su tv kt (All-contains (IsGivenBy to.arcs) required.arcs arc all (k, inside, is))
+
+    -- what stands before an order has an earlier arc
+    earlier : (k j : ℕ) (order arc : Arc) → k < length required.arcs → get_or required.arcs k order ≡ order → j < length required.arcs
+        → get_or required.arcs j arc ≡ arc → StandsFirst arc.source arc.target order.source order.target → j < k
+    earlier k j order arc inside is low arc_is first = elim (cases_lt j k) [
+      | inl below ↦ below
+      | inr above ↦ absurd (elim (cases_eq k j) [
+        | inl same ↦ (
+            let one : arc ≡ order = sym arc_is ∙ (ap (λ (n : ℕ). get_or required.arcs n arc) (sym same) ∙ (get_or_default required.arcs k arc order inside ∙ is)) in
+            let e : arc.source ≡ order.source = ap (λ (a : Arc). a.source) one in
+            let f : arc.target ≡ order.target = ap (λ (a : Arc). a.target) one in
+            elim first [ inl p ↦ absurd (omega (p, e, arith)) | inr (p, q) ↦ absurd (omega (q, f, arith)) ])
+        | inr differs ↦ (
+            let stands : StandsBefore order arc = subst (λ (x : Arc). StandsBefore x arc) (get_or_default required.arcs k arc order inside ∙ is)
+            (subst (StandsBefore (get_or required.arcs k arc)) arc_is (sorted k j arc (omega arith) low)) in
+            no_turn order arc stands first)
+      ])
+    ]
+      where
+        no_turn : (a b : Arc) → StandsBefore a b → StandsFirst b.source b.target a.source a.target → ⊥
+        no_turn a b (inl p) (inl q) = absurd (omega (p, q, arith))
+        no_turn a b (inl p) (inr (q, r)) = absurd (omega (p, q, arith))
+        no_turn a b (inr (p, more)) (inl q) = absurd (omega (p, q, arith))
+        no_turn a b (inr (p, inl x)) (inr (q, r)) = absurd (omega (x, r, arith))
+        no_turn a b (inr (p, inr (x, t))) (inr (q, r)) = absurd (omega (x, r, arith))
+
+    pub missing : (order : Arc) → IsFirstUngiven required.arcs to.arcs order → IsFirstMissing s g (place order.source) (place order.target) order.tokens
+    missing order first =
+        let k : ℕ = first.place in
+        let inside : k < length required.arcs = first.first.inside in
+        let is : get_or required.arcs k order ≡ order = first.is order in
+        let ends : (order.source < length (split_events s)) × (order.target < length (split_events s))
+        = subst (λ (x : Arc). (x.source < length (split_events s)) × (x.target < length (split_events s))) is (inside_required k order inside) in record {
+          u = order.source;
+          v = order.target;
+          required = (orders order.source order.target order.tokens).1 (k, order, inside, is, (refl, refl, refl));
+          source = placed order.source ends.0;
+          target = placed order.target ends.1;
+          lacks = λ gives. first.first.without order (subst (IsGivenBy to.arcs) (sym is) (down order.source order.target order.tokens gives));
+          before = λ u v tokens other less.
+              let (j, arc, low, arc_is, (su, tv, kt)) = (orders u v tokens).0 other in
+              let less_arc : StandsFirst arc.source arc.target order.source order.target = rw (su, tv) less in
+              let below : j < k = earlier k j order arc inside is low arc_is less_arc in
+              given_at arc u v tokens su tv kt (subst (IsGivenBy to.arcs) arc_is (first.first.before j arc (omega arith) below));
+        }

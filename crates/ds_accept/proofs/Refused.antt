@@ -1,0 +1,48 @@
+-- A graph with a fault is not acceptable.
+use Rattle.std.proofs.Common.{◌≡◌, ℕ, ◌<◌, List, [], ◌∷◌, arith, refl, subst, All}
+use Rattle.ds_order.specs.Order.{IsCycle, IsWalk}
+use Rattle.ds_rank.specs.Rank.{HasFreeArc}
+use Rattle.ds_marked.specs.Graph.{Graph}
+use Rattle.ds_marked.specs.declared.marked.Arc.{Arc}
+use Rattle.ds_design.specs.Node.{Split}
+use Rattle.ds_accept.specs.Accept.{IsAcceptable}
+use Rattle.ds_accept.specs.Fault.{IsAcceptFault}
+use Rattle.ds_accept.specs.declared.fault.AcceptFault.{AcceptFault}
+use Rattle.ds_accept.specs.Laws.{FaultsAreRefused}
+use Rattle.ds_accept.specs.declared.fault.AcceptFault.TheVariants.{UnknownEvent, MissingEvent, MissingOrder, TokenFreeCycle, Memory}
+use Rattle.ds_accept.proofs.Counted.{some_event}
+
+-- a walk rises with what rises at each step
+walk_rises : (R : ℕ → ℕ → Type 0) (rank : ℕ → ℕ) → ((u v : ℕ) → R u v → rank u < rank v)
+    → (a : ℕ) (xs : List ℕ) (b : ℕ) → IsWalk R a xs b → rank a < rank b
+walk_rises R rank rises a [] b step = rises a b step
+walk_rises R rank rises a (x ∷ xs) b (step, more) =
+    let first = rises a x step in
+    let rest = walk_rises R rank rises x xs b more in
+    omega arith
+
+no_cycle : (R : ℕ → ℕ → Type 0) (rank : ℕ → ℕ) → ((u v : ℕ) → R u v → rank u < rank v) → (xs : List ℕ) → ¬ IsCycle R xs
+no_cycle R rank rises [] cycle = cycle
+no_cycle R rank rises (x ∷ xs) cycle = (let up = walk_rises R rank rises x xs x cycle.0 in omega arith)
+
+free_rises : (g : Graph) (rank : ℕ → ℕ) → All (λ arc. arc.tokens ≡ 0 → rank arc.source < rank arc.target) g.arcs
+    → (u v : ℕ) → HasFreeArc g u v → rank u < rank v
+free_rises g rank rises u v (k, arc, inside, is, (source, target, free)) =
+    let up : arc.tokens ≡ 0 → rank arc.source < rank arc.target = subst (λ (a : Arc). a.tokens ≡ 0 → rank a.source < rank a.target) is (rises k arc inside) in
+    rw (← source, ← target) (up free)
+
+pub faults_are_refused_lem : FaultsAreRefused
+faults_are_refused_lem s g (UnknownEvent place) some is acc = is.without some_event (acc.known place some_event is.inside)
+faults_are_refused_lem s g (MissingEvent event) some (known, (k, first, is)) acc = first.without some_event (acc.there k some_event first.inside)
+faults_are_refused_lem s g (MissingOrder from to tokens) some (known, there, first) acc = first.lacks (acc.given first.u first.v tokens first.required)
+faults_are_refused_lem s g (TokenFreeCycle events) some (known, there, given, cycle) acc =
+    no_cycle (HasFreeArc g) acc.rank (free_rises g acc.rank acc.rises) events cycle
+faults_are_refused_lem s g Memory some is acc = some refl
+
+-- an acceptable graph has no fault, but memory may be wanted
+pub memory_alone : (s : Split) (g : Graph) → IsAcceptable s g → (fault : AcceptFault) → IsAcceptFault s g fault → fault ≡ Memory
+memory_alone s g acc (UnknownEvent place) is = absurd (faults_are_refused_lem s g (UnknownEvent place) (λ e. absurd (cc)) is acc)
+memory_alone s g acc (MissingEvent event) is = absurd (faults_are_refused_lem s g (MissingEvent event) (λ e. absurd (cc)) is acc)
+memory_alone s g acc (MissingOrder from to tokens) is = absurd (faults_are_refused_lem s g (MissingOrder from to tokens) (λ e. absurd (cc)) is acc)
+memory_alone s g acc (TokenFreeCycle events) is = absurd (faults_are_refused_lem s g (TokenFreeCycle events) (λ e. absurd (cc)) is acc)
+memory_alone s g acc Memory is = refl

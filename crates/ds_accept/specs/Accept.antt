@@ -1,0 +1,54 @@
+-- The graphs that are accepted for a split design, whose events stand in any order.
+use Rattle.std.specs.Prelude.{◌≡◌, ℕ, ◌<◌, ◌≤◌, length, slice_index_or, All, Any, Contains}
+use Rattle.ds_marked.specs.Graph.{Graph}
+use Rattle.ds_marked.specs.declared.marked.Arc.{Arc}
+use Rattle.ds_marked.specs.declared.marked.Event.{Event}
+use Rattle.ds_design.specs.Node.{Split}
+use Rattle.ds_design.specs.Order.{IsRequired}
+use Rattle.ds_design.specs.Plan.{Planned, Reorders, split_events}
+
+-- the event of the design with this number stands at this place of the graph
+pub record StandsAt (s : Split) (g : Graph) (v place : ℕ) : Type 0 where
+  pub number : v < length (split_events s)
+  pub inside : place < length g.events
+  pub event : (d : Event) → slice_index_or g.events place d ≡ slice_index_or (split_events s) v d
+
+-- an arc leads from one place to another, with at most so many tokens
+abbrev pub IsArcWithin : ℕ → ℕ → ℕ → Arc → Type 0
+IsArcWithin from to tokens arc = (arc.source ≡ from) × (arc.target ≡ to) × (arc.tokens ≤ tokens)
+
+-- the graph gives an order of the design: an arc leads from its source to its target, with at
+-- most its tokens
+pub record Gives (s : Split) (g : Graph) (u v tokens : ℕ) : Type 0 where
+  pub from : ℕ
+  pub to : ℕ
+  pub source : StandsAt s g u from
+  pub target : StandsAt s g v to
+  pub arc : Any (IsArcWithin from to tokens) g.arcs
+
+-- each event of the graph is one of a node
+abbrev pub AreKnown : Split → Graph → Type 0
+AreKnown s g = All (Contains (split_events s)) g.events
+
+-- each event of a node is one of the graph
+abbrev pub AreThere : Split → Graph → Type 0
+AreThere s g = All (Contains g.events) (split_events s)
+
+-- the graph gives each required order
+abbrev pub AreGiven : Split → Graph → Type 0
+AreGiven s g = (u v tokens : ℕ) → IsRequired s u v tokens → Gives s g u v tokens
+
+-- the events are those of the nodes, each required order is given, and some numbering rises along
+-- each arc without tokens
+pub record IsAcceptable (s : Split) (g : Graph) : Type 0 where
+  pub known : AreKnown s g
+  pub there : AreThere s g
+  pub given : AreGiven s g
+  pub rank : ℕ → ℕ
+  pub rises : All (λ arc. arc.tokens ≡ 0 → rank arc.source < rank arc.target) g.arcs
+
+-- a plan has the split design, and the graph with its events in the order of the nodes
+pub record IsPlanOf (s : Split) (g : Graph) (plan : Planned) : Type 0 where
+  pub split : plan.split ≡ s
+  pub events : plan.graph.events ≡ split_events s
+  pub reorders : Reorders g plan.graph

@@ -1,0 +1,51 @@
+-- Why a graph is not accepted.
+use Rattle.std.specs.Prelude.{◌≡◌, ◌⊎◌, ⊤, ℕ, ◌<◌, List, length, Contains}
+use Rattle.std.specs.List.{HoldsAt, AllWithin}
+use Rattle.ds_marked.specs.Graph.{Graph}
+use Rattle.ds_design.specs.Node.{Split}
+use Rattle.ds_design.specs.Order.{IsRequired}
+use Rattle.ds_design.specs.Plan.{split_events}
+use Rattle.ds_order.specs.Order.{IsCycle}
+use Rattle.ds_rank.specs.Rank.{HasFreeArc}
+use Rattle.ds_accept.specs.Accept.{AreKnown, AreThere, AreGiven, Gives, StandsAt}
+use Rattle.ds_accept.specs.declared.fault.AcceptFault.{AcceptFault}
+use Rattle.ds_accept.specs.declared.fault.AcceptFault.TheVariants.{UnknownEvent, MissingEvent}
+use Rattle.ds_accept.specs.declared.fault.AcceptFault.TheVariants.{MissingOrder, TokenFreeCycle}
+use Rattle.ds_accept.specs.declared.fault.AcceptFault.TheVariants.{Memory}
+
+-- the first place of a list that does not have the property
+pub record IsFirstWithout {X : Type 0} (P : X → Type 0) (xs : List X) (k : ℕ) : Type 0 where
+  pub inside : k < length xs
+  pub without : HoldsAt (λ x. ¬ P x) xs k
+  pub before : AllWithin P xs 0 k
+
+-- an order stands before another, by source and then by target
+abbrev pub StandsFirst : ℕ → ℕ → ℕ → ℕ → Type 0
+StandsFirst u v u' v' = (u < u') ⊎ ((u ≡ u') × (v < v'))
+
+-- a required order that the graph does not give, where it gives each one that stands before it
+pub record IsFirstMissing (s : Split) (g : Graph) (from to tokens : ℕ) : Type 0 where
+  pub u : ℕ
+  pub v : ℕ
+  pub required : IsRequired s u v tokens
+  pub source : StandsAt s g u from
+  pub target : StandsAt s g v to
+  pub lacks : ¬ Gives s g u v tokens
+  pub before : (u' v' tokens' : ℕ) → IsRequired s u' v' tokens' → StandsFirst u' v' u v
+      → Gives s g u' v' tokens'
+
+-- an event of a node that the graph lacks, the first one
+abbrev pub IsFirstLacking : Split → Graph → ℕ → Type 0
+IsFirstLacking s g k = IsFirstWithout (Contains g.events) (split_events s) k
+
+-- the fault is what the graph shows, and it shows none of those that come before
+abbrev pub IsAcceptFault : Split → Graph → AcceptFault → Type 0
+IsAcceptFault s g (UnknownEvent place) =
+    IsFirstWithout (Contains (split_events s)) g.events place
+IsAcceptFault s g (MissingEvent event) = AreKnown s g
+    × ((k : ℕ) × IsFirstLacking s g k × HoldsAt (λ e. e ≡ event) (split_events s) k)
+IsAcceptFault s g (MissingOrder from to tokens) = AreKnown s g × AreThere s g
+    × IsFirstMissing s g from to tokens
+IsAcceptFault s g (TokenFreeCycle events) = AreKnown s g × AreThere s g × AreGiven s g
+    × IsCycle (HasFreeArc g) events
+IsAcceptFault s g Memory = ⊤

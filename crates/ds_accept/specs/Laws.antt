@@ -1,0 +1,33 @@
+-- What follows of the definitions alone.
+use Rattle.std.specs.Prelude.{◌≡◌, ◌≢◌, ◌⊎◌, ◌≤◌, ℕ, List, length}
+use Rattle.ds_marked.specs.Graph.{Graph, IsKept}
+use Rattle.ds_design.specs.Node.{Split}
+use Rattle.ds_design.specs.Plan.{IsAcceptedGraph, IsSplit, Planned}
+use Rattle.ds_accept.specs.Accept.{IsAcceptable, IsPlanOf}
+use Rattle.ds_accept.specs.Fault.{IsAcceptFault}
+use Rattle.ds_accept.specs.declared.fault.AcceptFault.{AcceptFault}
+use Rattle.ds_accept.specs.declared.fault.AcceptFault.TheVariants.{Memory, TokenFreeCycle}
+
+-- a graph with a fault is not acceptable
+abbrev pub FaultsAreRefused : Type 0
+FaultsAreRefused = (s : Split) (g : Graph) (fault : AcceptFault) → fault ≢ Memory
+    → IsAcceptFault s g fault → ¬ IsAcceptable s g
+
+-- an acceptable graph is a plan's once its events stand in the order of the nodes
+abbrev pub AcceptableIsAccepted : Type 0
+AcceptableIsAccepted = (s : Split) (g : Graph) → IsSplit s → length s.clusters ≤ 1048576 → IsKept g
+    → IsAcceptable s g → IsAcceptedGraph s g
+
+-- a graph has one plan at most
+abbrev pub OnePlan : Type 0
+OnePlan = (s : Split) (g : Graph) (one other : Planned) → IsKept g → IsKept one.graph → IsKept other.graph
+    → IsPlanOf s g one → IsPlanOf s g other → one ≡ other
+
+-- the fault shows a cycle
+abbrev pub ShowsCycle : AcceptFault → Type 0
+ShowsCycle fault = (events : List ℕ) × (fault ≡ TokenFreeCycle events)
+
+-- two faults of a graph are the same, or both show a cycle
+abbrev pub OneFault : Type 0
+OneFault = (s : Split) (g : Graph) (one other : AcceptFault) → IsKept g → one ≢ Memory → other ≢ Memory
+    → IsAcceptFault s g one → IsAcceptFault s g other → (one ≡ other) ⊎ (ShowsCycle one × ShowsCycle other)

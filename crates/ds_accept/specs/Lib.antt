@@ -1,0 +1,6 @@
+-- In the order in which to read.
+pub mod Accept
+pub mod Fault
+pub mod Laws
+pub mod Codes
+pub mod Steps

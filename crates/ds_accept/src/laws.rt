@@ -1,0 +1,22 @@
+//! Laws of the definitions, each the contract of a function that does nothing.
+ghost use Rattle.ds_accept.specs.Laws.{AcceptableIsAccepted, FaultsAreRefused, OneFault, OnePlan};
+
+/// A graph that has a fault is not acceptable.
+pub fn faults_are_refused()
+    ensures { FaultsAreRefused }
+{}
+
+/// An acceptable graph is accepted once its events stand in the order of the nodes.
+pub fn acceptable_is_accepted()
+    ensures { AcceptableIsAccepted }
+{}
+
+/// A graph has one plan at most.
+pub fn one_plan()
+    ensures { OnePlan }
+{}
+
+/// Two faults of one graph are the same fault, or both are cycles.
+pub fn one_fault()
+    ensures { OneFault }
+{}

@@ -1,0 +1,59 @@
+//! From a graph to a plan, or to its fault.
+ghost use Rattle.std.specs.Prelude.{◌≡◌, IfErr, IfOk, MatchResult};
+ghost use Rattle.ds_marked.specs.Graph.{IsKept};
+ghost use Rattle.ds_accept.specs.Accept.{IsAcceptable, IsPlanOf};
+ghost use Rattle.ds_accept.specs.Fault.{IsAcceptFault};
+ghost use Rattle.ds_accept.specs.Steps.{IsOrdered};
+ghost use Rattle.ds_accept.specs.declared.fault.AcceptFault.TheVariants.{Memory};
+
+use crate::AcceptFault;
+use crate::events::{numbers_of, places_of};
+use crate::orders::{first_missing, missing_order};
+use crate::renumber::ordered;
+use ds_control::controller;
+use ds_design::{Latches, Plan};
+use ds_marked::Marked;
+use ds_rank::{RankFault, rank};
+use std::alloc::Global;
+
+/// Makes a plan of a graph that is accepted. A refusal gives latches and graph back.
+pub fn accept<'a>(
+    alloc: Global,
+    latches: Latches<'a>,
+    graph: Marked,
+) -> Result<Plan<'a>, (Latches<'a>, Marked, AcceptFault)>
+    // An acceptable graph, with its events in the order of the nodes.
+    ensures ok { IfOk result (IsPlanOf latches.entry graph) }
+    ensures ok_kept { IfOk result (λ p. IsKept p.graph) }
+    ensures ok_accepted { IfOk result (λ _. IsAcceptable latches.entry graph) }
+    // Where the graph is acceptable, nothing but want of memory refuses it.
+    ensures ok_exact { IsAcceptable latches.entry graph → IfErr result (λ r. r.2 ≡ Memory) }
+
+    // Latches and graph come back with the first fault, so the graph is not acceptable.
+    ensures back { IfErr result (λ r. (r.0 ≡ latches.entry) × (r.1 ≡ graph)) }
+    ensures fault { IfErr result (λ r. IsAcceptFault latches.entry graph r.2) }
+{
+    match check(alloc, &latches, &graph) {
+        Ok(ordered) => Ok(Plan::of(latches, ordered)),
+        Err(fault) => Err((latches, graph, fault)),
+    }
+}
+
+// The graph with its events in the order of the nodes, or the fault.
+fn check(alloc: Global, latches: &Latches<'_>, graph: &Marked) -> Result<Marked, AcceptFault>
+    ensures checked { MatchResult result (IsOrdered latches.now graph.now)
+        (IsAcceptFault latches.now graph.now) }
+{
+    let required = controller(alloc, latches)?;
+    let numbers = numbers_of(alloc, graph, &required)?;
+    let places = places_of(alloc, &required, graph)?;
+    let other = ordered(alloc, graph, &required, numbers.as_slice())?;
+    if let Some(order) = first_missing(&required, &other) {
+        return Err(missing_order(order, places.as_slice()));
+    }
+    match rank(alloc, graph) {
+        Ok(_) => Ok(other),
+        Err(RankFault::Cycle(events)) => Err(AcceptFault::TokenFreeCycle(events)),
+        Err(RankFault::Memory) => Err(AcceptFault::Memory),
+    }
+}

@@ -1,0 +1,53 @@
+-- Signals that are declared.
+use Rattle.std.proofs.Common.{◌≡◌, ◌≢◌, ℕ, ◌<◌, ◌≤◌, true, false, List, [], ◌∷◌, ◌++◌, length, get_or, refl, sym, ◌∙◌, ap, arith, inl, inr, Ok, Err, AllPairs}
+use Rattle.std.specs.Str.{bytes_eq}
+use Rattle.std.proofs.lemmas.Bool.{cases_Bool, lt-ltb, le-ltb, false≢true, cases_lt}
+use Rattle.std.proofs.lemmas.Slice.Eq.{bytes_eq-Decides}
+use Rattle.std.proofs.lemmas.List.{get_or_append_left, length-append}
+use Rattle.std.proofs.Math.Seq.{get_or-append_seam}
+use Rattle.std.proofs.lemmas.List.Folds.{list_any_at}
+use Rattle.ds_base.specs.declared.number.Limit.TheVariants.{Signals as SignalsLimit}
+use Rattle.ds_names.specs.Names.{has_name, with_name}
+use Rattle.ds_astg.specs.Word.{is_signal}
+use Rattle.ds_astg.specs.Line.{declare}
+use Rattle.ds_astg.specs.declared.fault.AstgKind.TheVariants.{BadWord, TooMany}
+
+module _ (word : List ℕ) (signals : List (List ℕ)) where
+  pub declare-bad : is_signal word ≡ false → declare word signals ≡ Err (BadWord word)
+  declare-bad is = rw is refl
+
+  pub declare-known : is_signal word ≡ true → has_name signals word ≡ true → declare word signals ≡ Ok signals
+  declare-known is has = rw is (rw has refl)
+
+  pub declare-full : is_signal word ≡ true → has_name signals word ≡ false → 65536 ≤ length signals → declare word signals ≡ Err (TooMany SignalsLimit)
+  declare-full is has full = rw is (rw has (rw (le-ltb (length signals) 65536 full) refl))
+
+  pub declare-new : is_signal word ≡ true → has_name signals word ≡ false → length signals < 65536 → declare word signals ≡ Ok (with_name signals word)
+  declare-new is has room = rw is (rw has (rw (lt-ltb (length signals) 65536 room) refl))
+
+  -- signals stay distinct
+  pub distinct : AllPairs (λ a b. a ≢ b) signals → AllPairs (λ a b. a ≢ b) (with_name signals word)
+  distinct all = elim (cases_Bool (has_name signals word)) [
+    | inl has ↦ rw has all
+    | inr new ↦ rw new (apart new)
+  ]
+    where
+      there : (i j : ℕ) (d : List ℕ) → i < j → length signals ≤ j → j ≤ length signals → get_or (signals ++ word ∷ []) i d ≡ get_or (signals ++ word ∷ []) j d → has_name signals word ≡ true
+      there i j d order high low e =
+          let last : j ≡ length signals = omega arith in
+          let at_j : get_or (signals ++ word ∷ []) j d ≡ word = ap (λ (k : ℕ). get_or (signals ++ word ∷ []) k d) last ∙ get_or-append_seam signals word [] d in
+          let at_i : get_or signals i d ≡ word = sym (get_or_append_left signals (word ∷ []) d i (omega arith)) ∙ (e ∙ at_j) in
+          list_any_at (bytes_eq word) signals i d (omega arith) ((bytes_eq-Decides word (get_or signals i d)).1 (sym at_i))
+
+      apart : has_name signals word ≡ false → AllPairs (λ a b. a ≢ b) (signals ++ word ∷ [])
+      apart new i j d order inside = elim (cases_lt j (length signals)) [
+        | inl low ↦ rw (get_or_append_left signals (word ∷ []) d i (omega (arith, low, order)), get_or_append_left signals (word ∷ []) d j low) (all i j d order low)
+        | inr high ↦ λ e. false≢true (sym new ∙ there i j d order high (omega (arith, length-append signals (word ∷ []), inside)) e)
+      ]
+
+-- one signal more at most
+pub length-new : (word : List ℕ) (signals : List (List ℕ)) → length signals < 65536 → length (with_name signals word) ≤ 65536
+length-new word signals room = elim (cases_Bool (has_name signals word)) [
+  | inl has ↦ rw has (omega arith)
+  | inr new ↦ rw (new, length-append signals (word ∷ [])) (omega arith)
+]

@@ -1,0 +1,160 @@
+-- What a line adds to what was read before it.
+use Rattle.std.specs.Prelude.{ℕ, Bool, true, false, not, List, [], ◌∷◌, ◌++◌, length, drop, codes}
+use Rattle.std.specs.Prelude.{Option, None, Some, Result, Ok, Err, ◌==◌, ◌||◌, nat_lt}
+use Rattle.std.specs.Prelude.{if◌then◌else◌}
+use Rattle.std.specs.Str.{bytes_eq}
+use Rattle.ds_base.specs.Limit.{most_of}
+use Rattle.ds_base.specs.declared.number.Limit.TheVariants.{Signals as SignalsLimit}
+use Rattle.ds_names.specs.Names.{has_name}
+use Rattle.ds_lines.specs.Line.{Line}
+use Rattle.ds_astg.specs.Word.{word_at, first_byte, is_signal}
+use Rattle.ds_astg.specs.Place.{Places, no_places}
+use Rattle.ds_astg.specs.Turn.{then_do, all_of}
+use Rattle.ds_astg.specs.Links.{graph_line}
+use Rattle.ds_astg.specs.Marking.{entries_of, mark_all}
+use Rattle.ds_astg.specs.declared.head.Head.{Head}
+use Rattle.ds_astg.specs.declared.head.Head.TheVariants.{Body, Model, Signals, Graph, Marking, End}
+use Rattle.ds_astg.specs.declared.head.Head.TheVariants.{Unknown}
+use Rattle.ds_astg.specs.declared.fault.AstgKind.{AstgKind}
+use Rattle.ds_astg.specs.declared.fault.AstgKind.TheVariants.{Unsupported, BadWord, BadMarking}
+use Rattle.ds_astg.specs.declared.fault.AstgKind.TheVariants.{TooMany}
+
+-- is the model named; is the graph part open; is there a marking; the signals; the places
+pub record State : Type 0 where
+  pub is_named : Bool
+  pub is_open : Bool
+  pub is_marked : Bool
+  pub signals : List (List ℕ)
+  pub places : Places
+
+-- before all lines
+abbrev pub start : State
+start = record {
+  is_named = false;
+  is_open = false;
+  is_marked = false;
+  signals = [];
+  places = no_places;
+}
+
+-- signals are declared by one of these
+unfoldable pub is_declaration : List ℕ → Bool
+is_declaration word = bytes_eq word (codes ".inputs")
+    || (bytes_eq word (codes ".outputs") || bytes_eq word (codes ".internal"))
+
+-- what a line with this first word is
+unfoldable pub head_of : List ℕ → Head
+head_of word =
+    if not (first_byte word == 46) then Body
+    else (if is_declaration word then Signals
+    else (if bytes_eq word (codes ".model") then Model
+    else (if bytes_eq word (codes ".graph") then Graph
+    else (if bytes_eq word (codes ".marking") then Marking
+    else (if bytes_eq word (codes ".end") then End
+    else Unknown)))))
+
+-- the signals, with one that is declared
+abbrev pub declare : List ℕ → List (List ℕ) → Result (List (List ℕ)) AstgKind
+declare word signals =
+    if not (is_signal word) then Err (BadWord word)
+    else (if has_name signals word then Ok signals
+    else (if nat_lt (length signals) (most_of SignalsLimit) then Ok (signals ++ word ∷ [])
+    else Err (TooMany SignalsLimit)))
+
+-- the signals, with those that are declared
+abbrev pub declare_all : List (List ℕ) → List (List ℕ) → Result (List (List ℕ)) AstgKind
+declare_all words signals = all_of declare words signals
+
+-- a line that names the model
+abbrev pub model_line : List (List ℕ) → State → Result State AstgKind
+model_line words state =
+    if state.is_named || not (length words == 2) then Err (BadWord (word_at words 0))
+    else Ok (record {
+      is_named = true;
+      is_open = false;
+      is_marked = state.is_marked;
+      signals = state.signals;
+      places = state.places;
+    })
+
+-- with these signals, the graph part closed
+abbrev pub with_signals : State → List (List ℕ) → State
+with_signals state signals = record {
+  is_named = state.is_named;
+  is_open = false;
+  is_marked = state.is_marked;
+  signals = signals;
+  places = state.places;
+}
+
+-- a line that declares signals
+abbrev pub signals_line : List (List ℕ) → State → Result State AstgKind
+signals_line words state =
+    then_do (declare_all (drop 1 words) state.signals) (λ signals. Ok (with_signals state signals))
+
+-- with the graph part open
+abbrev pub opened : State → State
+opened state = record {
+  is_named = state.is_named;
+  is_open = true;
+  is_marked = state.is_marked;
+  signals = state.signals;
+  places = state.places;
+}
+
+-- with these places
+abbrev pub with_places : State → Places → State
+with_places state places = record {
+  is_named = state.is_named;
+  is_open = state.is_open;
+  is_marked = state.is_marked;
+  signals = state.signals;
+  places = places;
+}
+
+-- with these places and a marking, the graph part closed
+abbrev pub with_marking : State → Places → State
+with_marking state places = record {
+  is_named = state.is_named;
+  is_open = false;
+  is_marked = true;
+  signals = state.signals;
+  places = places;
+}
+
+-- a line of the graph part
+abbrev pub body_line : ℕ → List (List ℕ) → State → Result State AstgKind
+body_line line words state =
+    if state.is_open
+    then then_do (graph_line state.signals line words state.places) (λ places. Ok (with_places state places))
+    else Err (BadWord (word_at words 0))
+
+-- entries of the marking, where the braces are right
+abbrev pub entries_line : List ℕ → Option (List (List ℕ)) → State → Result State AstgKind
+entries_line word None state = Err (BadMarking word)
+entries_line word (Some entries) state =
+    then_do (mark_all state.signals entries state.places) (λ places. Ok (with_marking state places))
+
+-- the marking, of which there is one
+abbrev pub marking_line : List (List ℕ) → State → Result State AstgKind
+marking_line words state =
+    if state.is_marked then Err (BadMarking (word_at words 0))
+    else entries_line (word_at words 0) (entries_of (drop 1 words)) state
+
+-- what was read behind a line of a kind with a number, or the line's fault
+abbrev pub step_by : Head → ℕ → List (List ℕ) → State → Result State AstgKind
+step_by Body line words state = body_line line words state
+step_by Model line words state = model_line words state
+step_by Signals line words state = signals_line words state
+step_by Graph line words state = Ok (opened state)
+step_by Marking line words state = marking_line words state
+step_by End line words state = Ok state
+step_by Unknown line words state = Err (Unsupported (word_at words 0))
+
+-- what was read behind a line of a kind, or the line's fault
+abbrev pub step_line : Head → Line → State → Result State AstgKind
+step_line head line state = step_by head line.number line.words state
+
+-- what was read behind a line, or the line's fault
+abbrev pub step : Line → State → Result State AstgKind
+step line state = step_line (head_of (word_at line.words 0)) line state

@@ -1,0 +1,104 @@
+-- What a list of lines stands for: a marked graph, or its first fault.
+use Rattle.std.specs.Prelude.{ℕ, Bool, true, false, not, List, [], ◌∷◌, Option, None, Some}
+use Rattle.std.specs.Prelude.{Result, Ok, Err, ◌==◌, ◌&&◌, ◌||◌, nat_lt, nat_le, is_some, map}
+use Rattle.std.specs.Prelude.{if◌then◌else◌}
+use Rattle.std.specs.List.{flat_map}
+use Rattle.ds_lines.specs.Line.{Line}
+use Rattle.ds_marked.specs.Graph.{Graph}
+use Rattle.ds_marked.specs.declared.marked.Arc.{Arc}
+use Rattle.ds_marked.specs.declared.marked.Event.{Event}
+use Rattle.ds_marked.specs.declared.marked.Kind.TheVariants.{Rise, Fall}
+use Rattle.ds_astg.specs.Word.{word_at}
+use Rattle.ds_astg.specs.Place.{Places, Key, name_of}
+use Rattle.ds_astg.specs.Line.{State, start, step, head_of}
+use Rattle.ds_astg.specs.declared.head.Head.{Head}
+use Rattle.ds_astg.specs.declared.head.Head.TheVariants.{End}
+use Rattle.ds_astg.specs.declared.place.Place.{Place}
+use Rattle.ds_astg.specs.declared.fault.AstgKind.{AstgKind}
+use Rattle.ds_astg.specs.declared.fault.AstgKind.TheVariants.{NotMarkedGraph}
+use Rattle.ds_astg.specs.declared.fault.AstgFault.{AstgFault}
+
+-- nothing is read behind such a line
+abbrev pub ends : Head → Bool
+ends End = true
+ends head = false
+
+-- both events of a signal
+abbrev pub events_of : List ℕ → List Event
+events_of signal = record { signal = signal; kind = Rise } ∷ record { signal = signal; kind = Fall }
+    ∷ []
+
+-- a number, 0 where there is none
+abbrev pub or_zero : Option ℕ → ℕ
+or_zero None = 0
+or_zero (Some n) = n
+
+-- the arc of a place
+abbrev pub arc_of : Place → Arc
+arc_of place = record {
+  source = or_zero place.source;
+  target = or_zero place.target;
+  tokens = or_zero place.tokens;
+}
+
+-- whether an arc stands before another: by source, then by target, then by tokens
+abbrev pub stands_before : Arc → Arc → Bool
+stands_before a b =
+    nat_lt a.source b.source || ((a.source == b.source) && (nat_lt a.target b.target
+    || ((a.target == b.target) && nat_le a.tokens b.tokens)))
+
+-- arcs in order, with another one
+abbrev pub with_arc : Arc → List Arc → List Arc
+with_arc arc [] = arc ∷ []
+with_arc arc (other ∷ arcs) =
+    if stands_before arc other then arc ∷ other ∷ arcs else other ∷ with_arc arc arcs
+
+-- arcs in order
+abbrev pub in_order : List Arc → List Arc
+in_order [] = []
+in_order (arc ∷ arcs) = with_arc arc (in_order arcs)
+
+-- a place that lacks a source or a target
+abbrev pub lacks : Place → Bool
+lacks place = not (is_some place.source && is_some place.target)
+
+-- the first place that lacks a source or a target, on the line where it first stands
+abbrev pub lacking : List Key → List Place → Option AstgFault
+lacking [] places = None
+lacking (key ∷ keys) [] = None
+lacking (key ∷ keys) (place ∷ places) =
+    if lacks place then Some (record { line = place.line; kind = NotMarkedGraph (name_of key) })
+    else lacking keys places
+
+-- the graph of signals and places
+abbrev pub graph_of_parts : List (List ℕ) → Places → Graph
+graph_of_parts signals ps = record {
+  events = flat_map events_of signals;
+  arcs = in_order (map arc_of ps.places);
+}
+
+-- what was read, unless there is a fault
+abbrev pub unless_fault : Option AstgFault → Graph → Result Graph AstgFault
+unless_fault None graph = Ok graph
+unless_fault (Some fault) graph = Err fault
+
+-- what all lines stand for, if these are all
+abbrev pub end_of : State → Result Graph AstgFault
+end_of state = unless_fault (lacking state.places.keys state.places.places) (graph_of_parts state.signals state.places)
+
+-- goes on behind a line, unless it has a fault
+abbrev pub behind : ℕ → Result State AstgKind → (State → Result Graph AstgFault)
+    → Result Graph AstgFault
+behind line (Ok state) rest = rest state
+behind line (Err kind) rest = Err (record { line = line; kind = kind })
+
+-- what lines stand for, behind others of which this was read
+abbrev pub graph_from : List Line → State → Result Graph AstgFault
+graph_from [] state = end_of state
+graph_from (line ∷ lines) state =
+    if ends (head_of (word_at line.words 0)) then end_of state
+    else behind line.number (step line state) (graph_from lines)
+
+-- what lines stand for
+abbrev pub graph_of : List Line → Result Graph AstgFault
+graph_of lines = graph_from lines start

@@ -1,0 +1,161 @@
+-- Texts worked by hand, against the words of the format.
+use Rattle.std.specs.Prelude.{◌≡◌, ℕ, List, [], ◌∷◌, ◌++◌, codes, Ok, Err}
+use Rattle.ds_lines.specs.Line.{lines_of}
+use Rattle.ds_lines.specs.Worked.{physical}
+use Rattle.ds_marked.specs.Graph.{Graph}
+use Rattle.ds_marked.specs.declared.marked.Arc.{Arc}
+use Rattle.ds_marked.specs.declared.marked.Event.{Event}
+use Rattle.ds_astg.specs.Read.{graph_of, events_of}
+use Rattle.ds_astg.specs.declared.fault.AstgKind.{AstgKind}
+use Rattle.ds_astg.specs.declared.fault.AstgKind.TheVariants.{Unsupported, BadWord, Instance}
+use Rattle.ds_astg.specs.declared.fault.AstgKind.TheVariants.{UnknownSignal, NotMarkedGraph}
+use Rattle.ds_astg.specs.declared.fault.AstgKind.TheVariants.{BadMarking}
+
+-- a text of these physical lines stands for this graph
+abbrev pub Means : List (List ℕ) → Graph → Type 0
+Means text graph = graph_of (lines_of (physical text)) ≡ Ok graph
+
+-- a text of these physical lines has this fault first
+abbrev pub HasFault : List (List ℕ) → ℕ → AstgKind → Type 0
+HasFault text line kind =
+    graph_of (lines_of (physical text)) ≡ Err (record { line = line; kind = kind })
+
+-- an arc
+abbrev pub arc : ℕ → ℕ → ℕ → Arc
+arc source target tokens = record { source = source; target = target; tokens = tokens }
+
+-- the lines of the toggle's graph before its marking
+abbrev pub toggle_head : List (List ℕ)
+toggle_head =
+    codes ".model toggle"
+    ∷ codes ".outputs IN OUT M0 S0"
+    ∷ codes ".graph"
+    ∷ codes "IN+ IN- M0+"
+    ∷ codes "IN- IN+"
+    ∷ codes "OUT+ OUT-"
+    ∷ codes "OUT- OUT+ S0+"
+    ∷ codes "M0+ M0- S0+"
+    ∷ codes "M0- IN+ M0+ S0+"
+    ∷ codes "S0+ OUT+ M0+ S0-"
+    ∷ codes "S0- M0+ S0+"
+    ∷ []
+
+-- the entries of its marking
+abbrev pub toggle_entries : List ℕ
+toggle_entries =
+    codes " <IN-,IN+> <OUT-,OUT+> <M0-,IN+> <M0-,M0+> <S0+,OUT+> <S0+,M0+> <S0-,M0+> <S0-,S0+>"
+
+-- its marking, with another entry
+abbrev pub toggle_marking : List ℕ → List ℕ
+toggle_marking entry = codes ".marking {" ++ toggle_entries ++ entry ++ codes " }"
+
+-- the toggle's graph with these lines before its marking, from line 12 on
+abbrev pub toggle_with : List (List ℕ) → List (List ℕ)
+toggle_with lines = toggle_head ++ lines ++ toggle_marking [] ∷ codes ".end" ∷ []
+
+-- the toggle's graph
+abbrev pub toggle_graph : Graph
+toggle_graph = record {
+  events = events_of (codes "IN") ++ events_of (codes "OUT") ++ events_of (codes "M0")
+      ++ events_of (codes "S0");
+  arcs =
+      arc 0 1 0 ∷ arc 0 4 0 ∷ arc 1 0 1 ∷ arc 2 3 0 ∷ arc 3 2 1 ∷ arc 3 6 0 ∷ arc 4 5 0 ∷ arc 4 6 0
+      ∷ arc 5 0 1 ∷ arc 5 4 1 ∷ arc 5 6 0 ∷ arc 6 2 1 ∷ arc 6 4 1 ∷ arc 6 7 0 ∷ arc 7 4 1
+      ∷ arc 7 6 1 ∷ [];
+}
+
+-- the toggle's graph, as it is written
+abbrev pub ToggleIsWorked : Type 0
+ToggleIsWorked = Means (toggle_with []) toggle_graph
+
+-- the toggle's graph with a line too many, and with an entry too many
+pub record ToggleFaults : Type 0 where
+  pub two_targets : HasFault (toggle_with (codes "M0- p" ∷ codes "p M0+ S0+" ∷ [])) 13
+      (NotMarkedGraph (codes "p"))
+  pub no_target : HasFault (toggle_with (codes "M0- p" ∷ [])) 12 (NotMarkedGraph (codes "p"))
+  pub instance : HasFault (toggle_with (codes "IN+/2 IN-" ∷ [])) 12 (Instance (codes "IN+/2"))
+  pub entry : HasFault (toggle_head ++ toggle_marking (codes " <M0+,IN+>") ∷ []) 12
+      (BadMarking (codes "<M0+,IN+>"))
+
+-- two signals, the graph part open, and these lines from line 3 on
+abbrev pub from_three : List (List ℕ) → List (List ℕ)
+from_three lines = codes ".inputs a b" ∷ codes ".graph" ∷ lines
+
+-- the events of these signals
+abbrev pub two_signals : List Event
+two_signals = events_of (codes "a") ++ events_of (codes "b")
+
+-- these arcs between them
+abbrev pub graph_with : List Arc → Graph
+graph_with arcs = record { events = two_signals; arcs = arcs }
+
+-- declarations that add up, one twice; a graph part that is closed and opened again; words behind
+-- `.graph` and `.end`; places without an entry, one of which has the name of a signal and two of
+-- which have the same ends; numbers of tokens; braces that touch entries; no text
+pub record GraphsAreWorked : Type 0 where
+  pub empty : Means [] (record { events = []; arcs = [] })
+  pub declared : Means (codes ".inputs a" ∷ codes ".outputs b a" ∷ codes ".end" ∷ codes "x" ∷ [])
+      (graph_with [])
+  pub again : Means (from_three (codes "a+ b+" ∷ codes ".internal b" ∷ codes ".graph of m"
+      ∷ codes "a+ a- b+" ∷ codes ".end" ∷ [])) (graph_with (arc 0 1 0 ∷ arc 0 2 0 ∷ []))
+  pub places : Means (from_three (codes "p b+" ∷ codes "a+ p b b+ p" ∷ codes "b b+" ∷ []))
+      (graph_with (arc 0 2 0 ∷ arc 0 2 0 ∷ arc 0 2 0 ∷ []))
+  pub tokens : Means (from_three (codes "a+ a- a+" ∷ codes "a- p" ∷ codes "p a+"
+      ∷ codes ".marking {<a+,a->=001 <a+,a+>=255 p=0}" ∷ []))
+      (graph_with (arc 0 0 255 ∷ arc 0 1 1 ∷ arc 1 0 0 ∷ []))
+  pub later : Means (from_three (codes ".marking {}" ∷ codes ".graph" ∷ codes "a+ p"
+      ∷ codes "p b-" ∷ codes ".end" ∷ codes "p a-" ∷ [])) (graph_with (arc 0 3 0 ∷ []))
+
+-- lines with a word that is none
+pub record FaultsOfWords : Type 0 where
+  pub dummy : HasFault (codes ".dummy e" ∷ []) 1 (Unsupported (codes ".dummy"))
+  pub outside : HasFault (codes "a+ b+" ∷ []) 1 (BadWord (codes "a+"))
+  pub closed : HasFault (from_three (codes ".model m" ∷ codes "a+ b+" ∷ [])) 4
+      (BadWord (codes "a+"))
+  pub lone : HasFault (from_three (codes "a+" ∷ [])) 3 (BadWord (codes "a+"))
+  pub lone_instance : HasFault (from_three (codes "a+/2" ∷ [])) 3 (Instance (codes "a+/2"))
+  pub lone_unknown : HasFault (from_three (codes "c+" ∷ [])) 3 (UnknownSignal (codes "c+"))
+  pub toggled : HasFault (from_three (codes "a+ b~" ∷ [])) 3 (BadWord (codes "b~"))
+  pub unknown : HasFault (from_three (codes "a+ c- d/" ∷ [])) 3 (UnknownSignal (codes "c-"))
+  pub signal : HasFault (codes ".inputs a b+ c=" ∷ []) 1 (BadWord (codes "b+"))
+  pub two_models : HasFault (codes ".model m" ∷ codes ".model m" ∷ []) 2 (BadWord (codes ".model"))
+  pub no_model : HasFault (codes ".model" ∷ []) 1 (BadWord (codes ".model"))
+
+-- places that are none of a marked graph
+pub record FaultsOfPlaces : Type 0 where
+  pub adjacent : HasFault (from_three (codes "p q" ∷ [])) 3 (NotMarkedGraph (codes "p"))
+  pub two_sources : HasFault (from_three (codes "a+ p" ∷ codes "b+ p" ∷ [])) 4
+      (NotMarkedGraph (codes "p"))
+  pub dotted : HasFault (from_three (codes "a+ .p" ∷ codes ".end" ∷ [])) 3
+      (NotMarkedGraph (codes ".p"))
+  pub no_source : HasFault (from_three (codes "a+ q" ∷ codes "p b+" ∷ codes "q b+" ∷ [])) 4
+      (NotMarkedGraph (codes "p"))
+
+-- markings with a bad entry, or without their braces
+pub record FaultsOfMarkings : Type 0 where
+  pub unknown : HasFault (from_three (codes "a+ b+" ∷ codes ".marking { p }" ∷ [])) 4
+      (BadMarking (codes "p"))
+  pub later : HasFault (from_three (codes ".marking { p }" ∷ codes "a+ p" ∷ [])) 3
+      (BadMarking (codes "p"))
+  pub repeated : HasFault (from_three (codes "a+ b+" ∷ codes ".marking { <a+,b+> <a+,b+>=2 }" ∷ []))
+      4 (BadMarking (codes "<a+,b+>=2"))
+  pub number : HasFault (from_three (codes "a+ b+" ∷ codes ".marking { <a+,b+>=256 }" ∷ [])) 4
+      (BadMarking (codes "<a+,b+>=256"))
+  pub long : HasFault (from_three (codes "a+ b+" ∷ codes ".marking { <a+,b+>=0001 }" ∷ [])) 4
+      (BadMarking (codes "<a+,b+>=0001"))
+  pub brace : HasFault (from_three (codes "a+ b+" ∷ codes ".marking {<a+,b+>} }" ∷ [])) 4
+      (BadMarking (codes "<a+,b+>}"))
+  pub parted : HasFault (from_three (codes "a+ b+" ∷ codes ".marking { <a+, b+> }" ∷ [])) 4
+      (BadMarking (codes "<a+,"))
+  pub unopened : HasFault (codes ".marking }" ∷ []) 1 (BadMarking (codes ".marking"))
+  pub unclosed : HasFault (codes ".marking {" ∷ []) 1 (BadMarking (codes ".marking"))
+  pub none : HasFault (codes ".marking" ∷ []) 1 (BadMarking (codes ".marking"))
+  pub two : HasFault (codes ".marking {}" ∷ codes ".marking { p }" ∷ []) 2
+      (BadMarking (codes ".marking"))
+
+-- each kind of fault
+pub record FaultsAreWorked : Type 0 where
+  pub toggle : ToggleFaults
+  pub words : FaultsOfWords
+  pub places : FaultsOfPlaces
+  pub markings : FaultsOfMarkings

@@ -1,0 +1,136 @@
+//! The graph of what was read.
+ghost use Rattle.std.specs.Prelude.{◌≡◌, ◌≢◌, ◌≤◌, ◌*◌, AllPairs, None, IfOk, length, map};
+ghost use Rattle.std.specs.List.{flat_map};
+ghost use Rattle.ds_astg.specs.Read.{arc_of as arc_in, end_of, events_of as events_in, graph_of_parts, or_zero as or_zero_in};
+ghost use Rattle.ds_astg.specs.Read.{lacking as lacking_in, lacks as lacks_in};
+ghost use Rattle.ds_astg.specs.Sound.{ArePlaces, IsSound};
+ghost use Rattle.ds_astg.specs.Steps.{Reads};
+
+use crate::fault::{AstgFault, AstgKind, AstgRefusal};
+use crate::place::Place;
+use crate::places::Places;
+use crate::signals::Signals;
+use crate::state::State;
+use crate::word::name;
+use ds_base::{EventId, OutOfMemory, Seq};
+use ds_marked::{Arc, Event, Kind, Marked};
+use std::alloc::{AllocError, Global};
+
+/// The graph of what was read, where each place has a source and a target.
+pub fn graph_of(alloc: Global, state: &State<'_>) -> Result<Marked, AstgRefusal>
+    requires { IsSound state.now }
+    ensures { Reads result (end_of state.now) }
+{
+    match lacking(alloc, &state.places) {
+        Err(_) => return Err(AstgRefusal::Memory),
+        Ok(Some(fault)) => return Err(AstgRefusal::Fault(fault)),
+        Ok(None) => (),
+    }
+    match marked(alloc, &state.signals, &state.places) {
+        Err(_) => Err(AstgRefusal::Memory),
+        Ok(graph) => Ok(graph),
+    }
+}
+
+// The graph of signals and places.
+fn marked(alloc: Global, signals: &Signals<'_>, places: &Places<'_>) -> Result<Marked, OutOfMemory>
+    requires sound { ArePlaces (2 * length signals.now) places.now }
+    requires whole { lacking_in places.now.keys places.now.places ≡ None }
+    ensures { IfOk result (λ g. g ≡ graph_of_parts signals.now places.now) }
+{
+    let events = events_of(alloc, signals)?;
+    let arcs = arcs_of(alloc, places)?;
+    Marked::new(alloc, events, arcs)
+}
+
+// Both events of each signal.
+fn events_of(alloc: Global, signals: &Signals<'_>) -> Result<Seq<Event>, OutOfMemory>
+    ensures value { IfOk result (λ e. e ≡ flat_map events_in signals.now) }
+    ensures few { length signals.now ≤ 65536 }
+    ensures distinct { AllPairs (λ a b. a ≢ b) signals.now }
+{
+    let mut events = Seq::new(alloc);
+    for i in 0..signals.len() {
+        let signal = signals.name(i);
+        events.push(event(alloc, signal, Kind::Rise)?)?;
+        events.push(event(alloc, signal, Kind::Fall)?)?;
+    }
+    Ok(events)
+}
+
+// An event of a signal.
+fn event(alloc: Global, signal: &[u8], kind: Kind) -> Result<Event, AllocError>
+    ensures { IfOk result (λ e. e ≡ record { signal = signal.now; kind = kind }) }
+{
+    Ok(Event {
+        signal: name(alloc, signal)?,
+        kind,
+    })
+}
+
+// The arcs of the places.
+fn arcs_of(alloc: Global, places: &Places<'_>) -> Result<Vec<Arc>, OutOfMemory>
+    ensures { IfOk result (λ a. a.items ≡ map arc_in places.now.places) }
+{
+    let places = places.places();
+    let mut arcs = Vec::new(alloc);
+    for i in 0..places.len() {
+        arcs.push(arc_of(places[i]))?;
+    }
+    Ok(arcs)
+}
+
+// The arc of a place.
+fn arc_of(place: Place) -> Arc
+    ensures { result ≡ arc_in place }
+{
+    Arc {
+        source: EventId::new(or_zero(place.source)),
+        target: EventId::new(or_zero(place.target)),
+        tokens: tokens_or_zero(place.tokens),
+    }
+}
+
+// A number, 0 where there is none.
+fn or_zero(number: Option<u32>) -> u32
+    ensures { result ≡ or_zero_in number }
+{
+    match number {
+        None => 0,
+        Some(number) => number,
+    }
+}
+
+// A number of tokens, 0 where there is none.
+fn tokens_or_zero(tokens: Option<u8>) -> u8
+    ensures { result ≡ or_zero_in tokens }
+{
+    match tokens {
+        None => 0,
+        Some(tokens) => tokens,
+    }
+}
+
+// The fault of the first place that lacks a source or a target.
+fn lacking(alloc: Global, places: &Places<'_>) -> Result<Option<AstgFault>, AllocError>
+    ensures { IfOk result (λ f. f ≡ lacking_in places.now.keys places.now.places) }
+{
+    for i in 0..places.len() {
+        let place = places.place(i);
+        if lacks(place) {
+            let kind = AstgKind::NotMarkedGraph(name(alloc, places.name(i))?);
+            return Ok(Some(AstgFault {
+                line: place.line,
+                kind,
+            }));
+        }
+    }
+    Ok(None)
+}
+
+// Whether a place lacks a source or a target.
+fn lacks(place: Place) -> bool
+    ensures { result ≡ lacks_in place }
+{
+    !(place.source.is_some() && place.target.is_some())
+}

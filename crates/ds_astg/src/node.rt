@@ -1,0 +1,42 @@
+//! What a word of the graph part stands for.
+ghost use Rattle.std.specs.Prelude.{◌≡◌, Ok, MatchResult};
+ghost use Rattle.ds_astg.specs.Node.{node_of as node_in};
+ghost use Rattle.ds_astg.specs.Keys.{seen};
+ghost use Rattle.ds_astg.specs.Steps.{IsKind};
+
+use crate::fault::{AstgKind, Refusal};
+use crate::signals::Signals;
+use crate::word::{has_reserved, has_slash, is_signed, name};
+use std::alloc::Global;
+
+/// An event, by its number, or a place, by its name.
+#[derive(Clone, Copy)]
+pub enum Node<'a> {
+    Event(u32),
+    Place(&'a [u8]),
+}
+
+/// What a word stands for, or its fault.
+pub fn node_of<'a>(
+    alloc: Global,
+    signals: &Signals<'a>,
+    word: &'a [u8],
+) -> Result<Node<'a>, Refusal>
+    ensures { MatchResult result
+        (λ n. node_in signals.now word.now ≡ Ok (seen n))
+        (λ e. IsKind e (node_in signals.now word.now)) }
+{
+    if has_slash(word) {
+        return Err(Refusal::Because(AstgKind::Instance(name(alloc, word)?)));
+    }
+    if has_reserved(word) {
+        return Err(Refusal::Because(AstgKind::BadWord(name(alloc, word)?)));
+    }
+    if !is_signed(word) {
+        return Ok(Node::Place(word));
+    }
+    match signals.event(word) {
+        Some(event) => Ok(Node::Event(event)),
+        None => Err(Refusal::Because(AstgKind::UnknownSignal(name(alloc, word)?))),
+    }
+}
