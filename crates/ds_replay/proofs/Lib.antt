@@ -1,0 +1,6 @@
+pub mod Words
+pub mod Places
+pub mod Blocking
+pub mod Replaying
+pub mod Lines
+pub mod Logs

@@ -1,0 +1,5 @@
+use Rattle.ds_replay.proofs.Logs.{each_line}
+use Rattle.ds_replay.proofs.laws.fires_each_line.Goals as goal
+
+pub returns : goal.returns
+returns c = each_line

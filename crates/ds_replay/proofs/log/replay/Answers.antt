@@ -1,0 +1,17 @@
+use Rattle.std.proofs.Common.{map, Err, arith, subst, sym}
+use Rattle.ds_replay.specs.Replayed.{Replays}
+use Rattle.ds_replay.specs.declared.fault.ReplayRefusal.{ReplayRefusal}
+use Rattle.ds_replay.proofs.Replaying.{fired_all, refused, steps_more}
+use Rattle.ds_replay.proofs.log.replay.Goals as goal
+
+pub returns : goal.returns
+returns c = fired_all c.args.plan.now c.args.vectors.now.rows c.args.lines.now c.loop-i.i c.loop-i.state (omega arith) c.reached.ensures.sound c.reached.ensures.reached c.loop-i.invariant
+
+pub returns-in-Err : goal.returns-in-Err
+returns-in-Err c =
+    subst (λ (why : ReplayRefusal). Replays c.args.plan.now c.args.vectors.now.rows c.args.lines.now (Err why)) (sym c.refusal.ensures)
+    (refused c.args.plan.now c.args.vectors.now.rows c.args.lines.now c.loop-i.i c.loop-i.state c.step.new.state (map (λ w. w.now) c.line.result.now) c.in-Err.why c.number.result (omega arith) c.line.ensures.value c.number.ensures c.in-Err.ensures c.loop-i.invariant)
+
+pub loop-i-preserved : goal.loop-i-preserved
+loop-i-preserved c =
+    steps_more c.args.plan.now c.args.vectors.now.rows c.args.lines.now c.loop-i.i c.loop-i.state c.step.new.state (map (λ w. w.now) c.line.result.now) (omega arith) c.line.ensures.value c.in-Ok.ensures c.loop-i.invariant

@@ -1,0 +1,8 @@
+-- In the order in which to read.
+pub mod Word
+pub mod Replay
+pub mod Replayed
+pub mod Legal
+pub mod Worked
+pub mod Lookup
+pub mod Step

@@ -1,0 +1,90 @@
+-- Which events the lines of a log fire, or the first fault of the lines.
+use Rattle.std.specs.Prelude.{ℕ, ◌+◌, Bool, not, List, [], ◌∷◌, map, length, drop, codes, Option, None, Some, Result, Ok, Err, nat_lt, ◌==◌, ◌&&◌, if◌then◌else◌}
+use Rattle.std.specs.List.{position_or_len}
+use Rattle.std.specs.Str.{bytes_eq}
+use Rattle.std.specs.Str.Parse.{digits_value}
+use Rattle.ds_names.specs.Names.{place_of_name}
+use Rattle.ds_lines.specs.Line.{Line}
+use Rattle.ds_marked.specs.Graph.{Graph, counted}
+use Rattle.ds_marked.specs.declared.marked.Arc.{Arc}
+use Rattle.ds_design.specs.Log.{event_text}
+use Rattle.ds_replay.specs.Word.{first_word, second_word, is_firing}
+use Rattle.ds_replay.specs.declared.fault.ReplayFault.{ReplayFault}
+use Rattle.ds_replay.specs.declared.fault.ReplayKind.{ReplayKind}
+use Rattle.ds_replay.specs.declared.fault.ReplayKind.TheVariants.{BadWord, UnknownEvent, WrongTurn, OverLimit, NotEnabled}
+
+-- the events, as they are written
+abbrev pub event_texts : Graph → List (List ℕ)
+event_texts g = map event_text g.events
+
+-- the first event that is written so; past the events where none is
+abbrev pub event_of : Graph → List ℕ → ℕ
+event_of g word = place_of_name (event_texts g) word
+
+-- an arc into an event lacks a token
+abbrev pub lacks : (ℕ → ℕ) → ℕ → Arc → Bool
+lacks count v arc = (arc.target == v) && nat_lt (count arc.source + arc.tokens) (count v + 1)
+
+-- the least arc into an event that lacks a token; past the arcs where none does
+abbrev pub least_lacking : Graph → (ℕ → ℕ) → ℕ → ℕ
+least_lacking g count v = position_or_len (lacks count v) g.arcs
+
+-- the first of the kinds that hold
+abbrev pub first_of : List (Option ReplayKind) → Option ReplayKind
+first_of [] = None
+first_of (None ∷ kinds) = first_of kinds
+first_of (Some kind ∷ kinds) = Some kind
+
+-- a kind where a test holds
+abbrev pub where_true : Bool → ReplayKind → Option ReplayKind
+where_true test kind = if test then Some kind else None
+
+-- what keeps an event from firing with this number, at these counts
+abbrev pub event_fault : Graph → ℕ → (ℕ → ℕ) → ℕ → ℕ → Option ReplayKind
+event_fault g limit count v turn = first_of (
+    where_true (not (turn == (count v + 1))) WrongTurn
+    ∷ where_true (not (nat_lt (count v) limit)) OverLimit
+    ∷ where_true (nat_lt (least_lacking g count v) (length g.arcs)) (NotEnabled (least_lacking g count v))
+    ∷ [])
+
+-- what is wrong with a line's words, at these counts
+abbrev pub fault_of : Graph → ℕ → (ℕ → ℕ) → List (List ℕ) → Option ReplayKind
+fault_of g limit count words = first_of (
+    where_true (not (is_firing words)) BadWord
+    ∷ where_true (not (nat_lt (event_of g (first_word words)) (length g.events))) (UnknownEvent (first_word words))
+    ∷ event_fault g limit count (event_of g (first_word words)) (digits_value 10 (second_word words))
+    ∷ [])
+
+-- a fault of the line of this number, else what the lines behind it give
+abbrev pub fault_or : Option ReplayKind → ℕ → Result (List ℕ) ReplayFault → Result (List ℕ) ReplayFault
+fault_or None number rest = rest
+fault_or (Some kind) number rest = Err (record { line = number; kind = kind })
+
+-- an event, and then others
+abbrev pub with_first : ℕ → Result (List ℕ) ReplayFault → Result (List ℕ) ReplayFault
+with_first v (Ok events) = Ok (v ∷ events)
+with_first v (Err fault) = Err fault
+
+-- the events that lines fire one after another from these counts on, or the first fault
+abbrev pub replay_from : Graph → ℕ → (ℕ → ℕ) → List Line → Result (List ℕ) ReplayFault
+replay_from g limit count [] = Ok []
+replay_from g limit count (line ∷ lines) = fault_or (fault_of g limit count line.words) line.number
+    (with_first (event_of g (first_word line.words))
+    (replay_from g limit (counted (event_of g (first_word line.words)) count) lines))
+
+-- the one word `firings`
+abbrev pub is_firings : Line → Bool
+is_firings line = (length line.words == 1) && bytes_eq (first_word line.words) (codes "firings")
+
+-- the place behind the first such line; the first place where there is none
+abbrev pub start_of : List Line → ℕ
+start_of lines = if nat_lt (position_or_len is_firings lines) (length lines) then (position_or_len is_firings lines + 1)
+    else 0
+
+-- the lines of a log that are read
+abbrev pub log_of : List Line → List Line
+log_of lines = drop (start_of lines) lines
+
+-- the events that a log fires, each at most so often, or its first fault
+abbrev pub replay_of : Graph → ℕ → List Line → Result (List ℕ) ReplayFault
+replay_of g limit lines = replay_from g limit (λ _. 0) (log_of lines)

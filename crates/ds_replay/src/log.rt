@@ -1,0 +1,50 @@
+ghost use Rattle.std.specs.Prelude.{◌≡◌, length};
+ghost use Rattle.ds_design.specs.Circuit.{columns};
+ghost use Rattle.ds_replay.specs.Step.{refusal_of};
+ghost use Rattle.ds_replay.specs.Replayed.{Replays};
+
+use crate::fault::Refusal;
+use crate::lookup::Lookup;
+use crate::start::start;
+use crate::step::step;
+use crate::texts::texts_of;
+use crate::{ReplayFault, ReplayRefusal};
+use ds_design::{Plan, Vectors};
+use ds_fire::State;
+use ds_lines::Lines;
+use std::alloc::Global;
+
+/// The state after the firings of a log, each event at most once a vector. Reading begins behind
+/// the first line that is the one word `firings`, at the first line where there is none. Refused
+/// with the first faulty line; on one line in the order of `ReplayKind`.
+pub fn replay<'a>(
+    alloc: Global,
+    plan: &'a Plan<'a>,
+    vectors: &'a Vectors,
+    lines: &Lines<'_>,
+) -> Result<State<'a>, ReplayRefusal>
+    requires { vectors.now.width ≡ length (columns plan.now.split.circuit) }
+    ensures { Replays plan.now vectors.now.rows lines.now result }
+{
+    let texts = texts_of(alloc, plan.graph().events())?;
+    let events = Lookup::of(alloc, texts.as_slice())?;
+    let mut state = State::new(alloc, plan, vectors)?;
+    for i in start(lines)..lines.count() {
+        match step(alloc, lines.line(i), &events, &mut state) {
+            Ok(()) => {}
+            Err(why) => return Err(refusal(lines.number(i), why)),
+        }
+    }
+    state.reached();
+    Ok(state)
+}
+
+// The refusal of a log with such a line.
+fn refusal(line: u64, why: Refusal) -> ReplayRefusal
+    ensures { result ≡ refusal_of line why }
+{
+    match why {
+        Refusal::Memory => ReplayRefusal::Memory,
+        Refusal::Because(kind) => ReplayRefusal::Fault(ReplayFault { line, kind }),
+    }
+}

@@ -1,0 +1,46 @@
+//! One line of a log.
+ghost use Rattle.std.specs.Prelude.{◌≡◌, map, IfOk};
+ghost use Rattle.ds_fire.specs.Snapshot.{graph_of};
+ghost use Rattle.ds_replay.specs.Replay.{event_texts};
+ghost use Rattle.ds_replay.specs.Step.{StepsTo};
+ghost use Rattle.ds_replay.specs.declared.fault.ReplayKind.TheVariants.{UnknownEvent};
+
+use crate::ReplayKind;
+use crate::fault::Refusal;
+use crate::fire::fire;
+use crate::lookup::Lookup;
+use crate::word::{first_of, turn_of};
+use ds_base::Seq;
+use ds_fire::State;
+use std::alloc::{AllocError, Global};
+
+/// Fires the event of a line.
+pub fn step(
+    alloc: Global,
+    words: &[&[u8]],
+    events: &Lookup<'_>,
+    state: &mut State<'_>,
+) -> Result<(), Refusal>
+    requires { events.now ≡ event_texts (graph_of state.old) }
+    ensures { StepsTo state.old (map (λ w. w.now) words.now) state.new result }
+{
+    let Some(turn) = turn_of(words) else {
+        return Err(Refusal::Because(ReplayKind::BadWord));
+    };
+    let name = first_of(words);
+    let Some(event) = events.find(name) else {
+        return Err(Refusal::Because(unknown(alloc, name)?));
+    };
+    match fire(turn, event, state) {
+        Ok(()) => Ok(()),
+        Err(kind) => Err(Refusal::Because(kind)),
+    }
+}
+
+// A word that is no event.
+fn unknown(alloc: Global, word: &[u8]) -> Result<ReplayKind, AllocError>
+    ensures { IfOk result (λ kind. kind ≡ UnknownEvent word.now) }
+{
+    let name = Vec::from_slice(alloc, word)?;
+    Ok(ReplayKind::UnknownEvent(Seq::of(name)))
+}
