@@ -1,5 +1,5 @@
 -- Each way in which a call may end has its status, and no other.
-use Rattle.std.proofs.Common.{◌≡◌, ◌⊎◌, ℕ, ◌≤◌, List, Result, Ok, Err, inl, inr, refl, arith, sym, subst, lit≤}
+use Rattle.std.proofs.Common.{◌≡◌, ◌⊎◌, ℕ, List, Ok, Err, inl, inr, refl, arith, sym, subst}
 use Rattle.std.specs.Prelude.{codes}
 use Rattle.ds_outside.specs.Fault.{Rose}
 use Rattle.ds_outside.specs.Written.{appended, AppendsPart}
@@ -13,7 +13,7 @@ use Rattle.ds_app.specs.declared.stop.Stop.{Stop}
 use Rattle.ds_app.specs.declared.stop.Stop.TheVariants.{Refused, Unread, Unwritten, Memory}
 use Rattle.ds_app.specs.Ends.{Ends, Output, RoseIn}
 use Rattle.ds_app.specs.Job.{stages_of}
-use Rattle.ds_app.specs.Status.{AreTold, Call, IsAnswered, IsNoLine, NoneFailed, Reports, SaysStop, SaysUsage}
+use Rattle.ds_app.specs.Status.{AreTold, Call, IsAnswered, Reports, SaysStop, SaysUsage}
 use Rattle.ds_app.proofs.Exclusive.{job_not_refused}
 use Rattle.ds_app.proofs.Failed.{job_says}
 

@@ -1,15 +1,18 @@
 -- How a job ends that goes through stages.
-use Rattle.std.proofs.Common.{◌≡◌, ℕ, ◌+◌, ◌≤◌, List, length, Result, Ok, Err, inl, inr, arith, subst}
+use Rattle.std.proofs.Common.{◌≡◌, ℕ, ◌≤◌, List, Option, None, Some, Result, Ok, Err, inl, inr, arith, subst}
 use Rattle.ds_outside.specs.Fault.{Rose}
 use Rattle.ds_outside.specs.Held.{Held}
 use Rattle.ds_outside.specs.declared.files.Which.{Which}
 use Rattle.ds_outside.specs.declared.files.Which.TheVariants.{Vectors}
-use Rattle.ds_design.specs.Circuit.{Circuit, columns}
+use Rattle.ds_outside.specs.declared.files.Which.TheVariants as which
+use Rattle.ds_base.specs.declared.number.Mode.{Mode}
+use Rattle.ds_design.specs.Circuit.{Circuit}
 use Rattle.ds_app.specs.declared.stop.Stop.{Stop}
 use Rattle.ds_app.specs.declared.stop.Stop.TheVariants.{Refused, Unread, Unwritten, Memory}
 use Rattle.ds_app.specs.Stage.{OfFile, Stage, then_stage}
-use Rattle.ds_app.specs.Stages.{rows_stage, lines_stage, vectors_stage}
-use Rattle.ds_app.specs.Ends.{Answers, Ends, Never, Output, RoseIn, Stops}
+use Rattle.ds_app.specs.Stages.{vectors_stage}
+use Rattle.ds_app.specs.PlanStage.{planned_stage}
+use Rattle.ds_app.specs.Ends.{Ends, Never, Output, RoseIn, Stops}
 use Rattle.ds_app.proofs.Stages.{IsWider}
 
 -- a stage that stops leaves the output as it is
@@ -45,7 +48,7 @@ pub no_more : {A : Type 0} (stage : Stage A) (more : OfFile) → ((line : List �
 no_more stage more unread = record { means = λ a is. is; refused = λ line is. is; unread = unread }
 
 -- a count that rose since later rose since earlier
-rose_since : (before mid now : ℕ) → before ≤ mid → Rose mid now → Rose before now
+pub rose_since : (before mid now : ℕ) → before ≤ mid → Rose mid now → Rose before now
 rose_since before mid now less rose = omega arith
 
 -- vectors that were read later, of files that hold the same
@@ -62,3 +65,32 @@ vectors_since held later vec c before mid now same less =
         | inr (lines, is, none) ↦ absurd none
       ];
     })
+
+-- a plan that was made later, of files that hold the same
+pub planned_since : (held later : List ℕ → Held) (net : List ℕ) (graph : Option (List ℕ)) (mode : Mode) (c : Circuit) (before mid now : Which → List ℕ → ℕ) → later ≡ held
+    → ((w : Which) (n : List ℕ) → before w n ≤ mid w n)
+    → IsWider (planned_stage later net graph mode c) (planned_stage held net graph mode c) (RoseIn mid now) (RoseIn before now)
+planned_since held later net None mode c before mid now same less =
+    subst (λ (h : List ℕ → Held). IsWider (planned_stage later net None mode c) (planned_stage h net None mode c) (RoseIn mid now) (RoseIn before now)) same
+    (record {
+      means = λ a is. is;
+      refused = λ line is. is;
+      unread = λ line either. elim either [ inl none ↦ absurd none | inr (s, is, none) ↦ absurd none ];
+    })
+planned_since held later net (Some file) mode c before mid now same less =
+    subst (λ (h : List ℕ → Held). IsWider (planned_stage later net (Some file) mode c) (planned_stage h net (Some file) mode c) (RoseIn mid now) (RoseIn before now)) same
+    (record {
+      means = λ a is. is;
+      refused = λ line is. is;
+      unread = λ line either. elim either [
+        | inl none ↦ absurd none
+        | inr (s, is, inl (rose, spelt)) ↦ inr (s, is, inl (rose_since (before which.Graph file) (mid which.Graph file) (now which.Graph file) (less which.Graph file) rose, spelt))
+        | inr (s, is, inr (lines, are, inl none)) ↦ absurd none
+        | inr (s, is, inr (lines, are, inr (g, read, none))) ↦ absurd none
+      ];
+    })
+
+-- counts that never fell, one time after another
+pub never_fell : (before mid now : Which → List ℕ → ℕ) → ((w : Which) (n : List ℕ) → before w n ≤ mid w n) → ((w : Which) (n : List ℕ) → mid w n ≤ now w n)
+    → (w : Which) (n : List ℕ) → before w n ≤ now w n
+never_fell before mid now one other w n = omega (one w n, other w n, arith)

@@ -1,16 +1,15 @@
 -- A job that has a text is not refused, where its files tell what they hold.
-use Rattle.std.proofs.Common.{◌≡◌, ◌≢◌, ℕ, ◌≤◌, ◌<◌, List, length, Option, None, Some, Result, Ok, Err, inl, inr, refl, arith, ap, sym, ◌∙◌, subst}
+use Rattle.std.proofs.Common.{◌≡◌, ◌≢◌, ℕ, ◌≤◌, List, length, Option, None, Some, Result, Ok, Err, inl, inr, refl, arith, ap, sym, ◌∙◌, subst}
 use Rattle.ds_outside.specs.Held.{Held, untold, absent, bytes}
 use Rattle.ds_outside.specs.declared.files.Which.{Which}
-use Rattle.ds_outside.specs.declared.files.Which.TheVariants.{Net, Vectors}
+use Rattle.ds_outside.specs.declared.files.Which.TheVariants.{Net, Vectors, Log}
+use Rattle.ds_outside.specs.declared.files.Which.TheVariants as which
 use Rattle.ds_lines.specs.Line.{Line}
 use Rattle.ds_blif.specs.Text.{read_of}
 use Rattle.ds_flat.specs.Copies.{flat_of}
 use Rattle.ds_design.specs.Circuit.{Circuit, columns}
 use Rattle.ds_design.specs.declared.blif.BlifModel.{BlifModel}
-use Rattle.ds_design.specs.Accepted.{IsAccepted}
 use Rattle.ds_design.specs.Rows.{Rows}
-use Rattle.ds_netlist.specs.Fault.{IsNetFault}
 use Rattle.ds_netlist.specs.Laws.{FaultsAreRefused}
 use Rattle.ds_netlist.specs.declared.fault.NetFault.{NetFault}
 use Rattle.ds_netlist.specs.declared.fault.NetFault.TheVariants as net
@@ -23,14 +22,21 @@ use Rattle.ds_split.specs.Cluster.{HasTooManyClusters}
 use Rattle.ds_split.specs.Split.{HasTooManyOrders, split_of}
 use Rattle.ds_split.specs.Laws.{OneClustering}
 use Rattle.ds_cmd.specs.declared.job.Job.{Job}
-use Rattle.ds_cmd.specs.declared.job.Job.TheVariants.{Run, Clock, Check, Graph}
+use Rattle.ds_cmd.specs.declared.job.Job.TheVariants.{Run, Clock, Check, Graph, Replay, Accept}
 use Rattle.ds_app.specs.FaultText.{IsNetFaultText, net_fault_text}
-use Rattle.ds_app.specs.Stage.{OfFile, Stage, IsExclusive, then_stage}
+use Rattle.ds_app.specs.Stage.{Stage, IsExclusive, then_stage}
 use Rattle.ds_app.specs.Stages.{OfBytes, accepted_stage, design_stage, file_stage, flat_or_line, lines_stage, models_or_line, netlist_stage, report_stage, result_stage, rows_stage, rows_or_line, text_stage, trace_stage, vectors_stage}
 use Rattle.ds_app.specs.SplitStage.{IsInClusters, IsSplitLine, split_stage}
+use Rattle.ds_design.specs.Plan.{Planned}
+use Rattle.ds_astg.specs.Read.{graph_of}
 use Rattle.ds_app.specs.GraphStage.{controller_stage}
-use Rattle.ds_app.specs.Job.{clock_stage, graph_stage, run_stage, stages_of}
-use Rattle.ds_app.specs.Status.{AreTold}
+use Rattle.ds_app.specs.PlanStage.{acceptable_stage, graph_or_line, marked_stage, named_stage, plan_stage, planned_stage}
+use Rattle.ds_app.specs.AcceptStage.{ranks_stage}
+use Rattle.ds_app.specs.Job.{accept_stage, clock_stage, graph_stage, replay_stage, run_stage, stages_of}
+use Rattle.ds_app.specs.ReplayStage.{replayed_stage}
+use Rattle.ds_app.specs.Status.{AreTold, IsToldIn}
+use Rattle.ds_app.proofs.PlanStages.{acceptable_exclusive, own_exclusive}
+use Rattle.ds_app.proofs.LogStages.{replayed_not_refused}
 
 -- stages that are each exclusive are together
 then_exclusive : {A B : Type 0} (first : Stage A) (next : A → Stage B) → IsExclusive first → ((a : A) → IsExclusive (next a)) → IsExclusive (then_stage first next)
@@ -135,11 +141,26 @@ clock_not_refused : (held : List ℕ → Held) (vec : List ℕ) → held vec ≢
 clock_not_refused held vec told c text line means refused =
     then_not_refused (vectors_stage held vec c) (trace_stage c) (vectors_exclusive held vec c told) (λ rows b l is none. none) text line means refused
 
-run_not_refused : OneClustering → (held : List ℕ → Held) (file vec : List ℕ) (mode : Mode) → held vec ≢ untold → (c : Circuit) (text line : List ℕ)
-    → (run_stage held file vec mode c).means text → ¬ (run_stage held file vec mode c).refused line
-run_not_refused law held file vec mode told c text line means refused =
-    then_not_refused (split_stage file mode c) (λ (s : Split). clock_stage held vec c) (split_exclusive law file mode c)
-    (λ s b l is no_more. clock_not_refused held vec told c b l is no_more) text line means refused
+named_exclusive : (held : List ℕ → Held) (file : List ℕ) → held file ≢ untold → (s : Split) → IsExclusive (named_stage held file s)
+named_exclusive held file told s =
+    then_exclusive (lines_stage held which.Graph file) (marked_stage file s) (lines_exclusive held which.Graph file told)
+    (λ lines. then_exclusive (result_stage (graph_or_line file (graph_of lines))) (acceptable_stage file s)
+    (result_exclusive (graph_or_line file (graph_of lines))) (λ g. acceptable_exclusive file s g))
+
+plan_exclusive : (held : List ℕ → Held) (graph : Option (List ℕ)) → IsToldIn held graph → (s : Split) → IsExclusive (plan_stage held graph s)
+plan_exclusive held None told s = own_exclusive s
+plan_exclusive held (Some file) told s = named_exclusive held file told s
+
+planned_exclusive : OneClustering → (held : List ℕ → Held) (net : List ℕ) (graph : Option (List ℕ)) (mode : Mode) → IsToldIn held graph → (c : Circuit)
+    → IsExclusive (planned_stage held net graph mode c)
+planned_exclusive law held net graph mode told c =
+    then_exclusive (split_stage net mode c) (plan_stage held graph) (split_exclusive law net mode c) (plan_exclusive held graph told)
+
+run_not_refused : OneClustering → (held : List ℕ → Held) (file vec : List ℕ) (graph : Option (List ℕ)) (mode : Mode) → held vec ≢ untold → IsToldIn held graph
+    → (c : Circuit) (text line : List ℕ) → (run_stage held file vec graph mode c).means text → ¬ (run_stage held file vec graph mode c).refused line
+run_not_refused law held file vec graph mode told named c text line means refused =
+    then_not_refused (planned_stage held file graph mode c) (λ (p : Planned). clock_stage held vec c) (planned_exclusive law held file graph mode named c)
+    (λ p b l is no_more. clock_not_refused held vec told c b l is no_more) text line means refused
 
 graph_not_refused : OneClustering → (file : List ℕ) (mode : Mode) (c : Circuit) (text line : List ℕ)
     → (graph_stage file mode c).means text → ¬ (graph_stage file mode c).refused line
@@ -147,14 +168,37 @@ graph_not_refused law file mode c text line means refused =
     then_not_refused (split_stage file mode c) controller_stage (split_exclusive law file mode c)
     (λ s b l is none. none) text line means refused
 
+replay_not_refused : OneClustering → (held : List ℕ → Held) (file vec log : List ℕ) (graph : Option (List ℕ)) (mode : Mode)
+    → held vec ≢ untold → held log ≢ untold → IsToldIn held graph → (c : Circuit) (text line : List ℕ)
+    → (replay_stage held file vec log graph mode c).means text → ¬ (replay_stage held file vec log graph mode c).refused line
+replay_not_refused law held file vec log graph mode told logged named c text line means refused =
+    then_not_refused (planned_stage held file graph mode c) (λ (p : Planned). then_stage (vectors_stage held vec c) (λ (vectors : Rows). replayed_stage held log p vectors.rows))
+    (planned_exclusive law held file graph mode named c)
+    (λ p b l is bad. then_not_refused (vectors_stage held vec c) (λ (vectors : Rows). replayed_stage held log p vectors.rows) (vectors_exclusive held vec c told)
+    (λ vectors t k means bad. replayed_not_refused held log (lines_exclusive held Log log logged) p vectors.rows t k means bad) b l is bad)
+    text line means refused
+
+accept_not_refused : OneClustering → (held : List ℕ → Held) (file graph : List ℕ) (mode : Mode) → held graph ≢ untold → (c : Circuit) (text line : List ℕ)
+    → (accept_stage held file graph mode c).means text → ¬ (accept_stage held file graph mode c).refused line
+accept_not_refused law held file graph mode named c text line means refused =
+    then_not_refused (planned_stage held file (Some graph) mode c) ranks_stage (planned_exclusive law held file (Some graph) mode named c)
+    (λ p b l is none. none) text line means refused
+
 -- a job that has a text is not refused
 pub job_not_refused : FaultsAreRefused → OneClustering → (held : List ℕ → Held) (job : Job) → AreTold held job → (text line : List ℕ)
     → (stages_of held job).means text → ¬ (stages_of held job).refused line
-job_not_refused law one held (Run file vec mode) told text line means refused =
-    then_not_refused (netlist_stage held file) (run_stage held file vec mode) (netlist_exclusive law held file told.0) (run_not_refused one held file vec mode told.1) text line means refused
+job_not_refused law one held (Run file vec graph mode) told text line means refused =
+    then_not_refused (netlist_stage held file) (run_stage held file vec graph mode) (netlist_exclusive law held file told.0)
+    (run_not_refused one held file vec graph mode told.1 told.2) text line means refused
 job_not_refused law one held (Clock file vec) told text line means refused =
     then_not_refused (netlist_stage held file) (clock_stage held vec) (netlist_exclusive law held file told.0) (clock_not_refused held vec told.1) text line means refused
 job_not_refused law one held (Check file) told text line means refused =
     then_not_refused (netlist_stage held file) report_stage (netlist_exclusive law held file told) (λ c b l is none. none) text line means refused
 job_not_refused law one held (Graph file mode) told text line means refused =
     then_not_refused (netlist_stage held file) (graph_stage file mode) (netlist_exclusive law held file told) (graph_not_refused one file mode) text line means refused
+job_not_refused law one held (Replay file vec log graph mode) told text line means refused =
+    then_not_refused (netlist_stage held file) (replay_stage held file vec log graph mode) (netlist_exclusive law held file told.0)
+    (replay_not_refused one held file vec log graph mode told.1 told.2 told.3) text line means refused
+job_not_refused law one held (Accept file graph mode) told text line means refused =
+    then_not_refused (netlist_stage held file) (accept_stage held file graph mode) (netlist_exclusive law held file told.0)
+    (accept_not_refused one held file graph mode told.1) text line means refused

@@ -1,20 +1,29 @@
 -- A stage names a file that it did not read only where a read failed.
-use Rattle.std.proofs.Common.{◌≡◌, ℕ, List, length, inl, inr}
+use Rattle.std.proofs.Common.{ℕ, List, Option, None, Some, length, inl, inr}
 use Rattle.ds_outside.specs.Held.{Held}
 use Rattle.ds_outside.specs.declared.files.Which.{Which}
-use Rattle.ds_outside.specs.declared.files.Which.TheVariants.{Net, Vectors}
+use Rattle.ds_outside.specs.declared.files.Which.TheVariants.{Net, Vectors, Log}
+use Rattle.ds_outside.specs.declared.files.Which.TheVariants as which
 use Rattle.ds_lines.specs.Line.{Line}
 use Rattle.ds_blif.specs.Text.{read_of}
 use Rattle.ds_flat.specs.Copies.{flat_of}
 use Rattle.ds_design.specs.Circuit.{Circuit, columns}
 use Rattle.ds_design.specs.declared.blif.BlifModel.{BlifModel}
 use Rattle.ds_cmd.specs.declared.job.Job.{Job}
-use Rattle.ds_cmd.specs.declared.job.Job.TheVariants.{Run, Clock, Check, Graph}
-use Rattle.ds_app.specs.Stage.{OfFile, Stage, then_stage}
+use Rattle.ds_cmd.specs.declared.job.Job.TheVariants.{Run, Clock, Check, Graph, Replay, Accept}
+use Rattle.ds_app.specs.Stage.{OfFile, Stage, giving, then_stage}
 use Rattle.ds_app.specs.Stages.{accepted_stage, design_stage, file_stage, flat_or_line, lines_stage, models_or_line, netlist_stage, report_stage, result_stage, rows_stage, trace_stage, vectors_stage}
 use Rattle.ds_app.specs.SplitStage.{split_stage}
 use Rattle.ds_app.specs.GraphStage.{controller_stage}
-use Rattle.ds_app.specs.Job.{clock_stage, graph_stage, run_stage, stages_of}
+use Rattle.ds_app.specs.PlanStage.{acceptable_stage, graph_or_line, marked_stage, plan_stage, planned_stage}
+use Rattle.ds_app.specs.AcceptStage.{ranks_stage}
+use Rattle.ds_app.specs.ReplayStage.{IsStateText, fired_stage, log_stage, replayed_stage}
+use Rattle.ds_base.specs.Values.{Row}
+use Rattle.ds_astg.specs.Read.{graph_of}
+use Rattle.ds_design.specs.Plan.{Planned}
+use Rattle.ds_design.specs.Rows.{Rows}
+use Rattle.ds_fire.specs.Snapshot.{Snapshot}
+use Rattle.ds_app.specs.Job.{accept_stage, clock_stage, graph_stage, replay_stage, run_stage, stages_of}
 use Rattle.ds_base.specs.declared.number.Mode.{Mode}
 use Rattle.ds_design.specs.Node.{Split}
 
@@ -53,18 +62,46 @@ vectors_say held vec c failed =
 clock_says : (held : List ℕ → Held) (vec : List ℕ) (failed : OfFile) (c : Circuit) → Says (clock_stage held vec c) failed
 clock_says held vec failed c = then_says (vectors_stage held vec c) (trace_stage c) failed (vectors_say held vec c failed) (λ rows line none. absurd none)
 
-run_says : (held : List ℕ → Held) (file vec : List ℕ) (mode : Mode) (failed : OfFile) (c : Circuit) → Says (run_stage held file vec mode c) failed
-run_says held file vec mode failed c =
-    then_says (split_stage file mode c) (λ (s : Split). clock_stage held vec c) failed
-    (λ line none. absurd none) (λ s. clock_says held vec failed c)
+plan_says : (held : List ℕ → Held) (graph : Option (List ℕ)) (failed : OfFile) (s : Split) → Says (plan_stage held graph s) failed
+plan_says held None failed s = λ line none. absurd none
+plan_says held (Some file) failed s =
+    then_says (lines_stage held which.Graph file) (marked_stage file s) failed (lines_say held which.Graph file failed)
+    (λ lines. then_says (result_stage (graph_or_line file (graph_of lines))) (acceptable_stage file s) failed (λ line none. absurd none) (λ g line none. absurd none))
+
+planned_says : (held : List ℕ → Held) (net : List ℕ) (graph : Option (List ℕ)) (mode : Mode) (failed : OfFile) (c : Circuit) → Says (planned_stage held net graph mode c) failed
+planned_says held net graph mode failed c =
+    then_says (split_stage net mode c) (plan_stage held graph) failed (λ line none. absurd none) (plan_says held graph failed)
+
+run_says : (held : List ℕ → Held) (file vec : List ℕ) (graph : Option (List ℕ)) (mode : Mode) (failed : OfFile) (c : Circuit) → Says (run_stage held file vec graph mode c) failed
+run_says held file vec graph mode failed c =
+    then_says (planned_stage held file graph mode c) (λ (p : Planned). clock_stage held vec c) failed
+    (planned_says held file graph mode failed c) (λ p. clock_says held vec failed c)
+
+accept_says : (held : List ℕ → Held) (file graph : List ℕ) (mode : Mode) (failed : OfFile) (c : Circuit) → Says (accept_stage held file graph mode c) failed
+accept_says held file graph mode failed c =
+    then_says (planned_stage held file (Some graph) mode c) ranks_stage failed (planned_says held file (Some graph) mode failed c) (λ p line none. absurd none)
 
 graph_says : (file : List ℕ) (mode : Mode) (failed : OfFile) (c : Circuit) → Says (graph_stage file mode c) failed
 graph_says file mode failed c =
     then_says (split_stage file mode c) controller_stage failed (λ line none. absurd none) (λ s line none. absurd none)
 
+replayed_says : (held : List ℕ → Held) (log : List ℕ) (failed : OfFile) (planned : Planned) (vectors : List Row) → Says (replayed_stage held log planned vectors) failed
+replayed_says held log failed planned vectors =
+    then_says (log_stage held log planned vectors) (λ (after : Snapshot × ℕ). giving (IsStateText after.0 after.1)) failed
+    (then_says (lines_stage held Log log) (fired_stage log planned vectors) failed (lines_say held Log log failed) (λ lines line none. absurd none))
+    (λ after line none. absurd none)
+
+replay_says : (held : List ℕ → Held) (file vec log : List ℕ) (graph : Option (List ℕ)) (mode : Mode) (failed : OfFile) (c : Circuit) → Says (replay_stage held file vec log graph mode c) failed
+replay_says held file vec log graph mode failed c =
+    then_says (planned_stage held file graph mode c) (λ (p : Planned). then_stage (vectors_stage held vec c) (λ (vectors : Rows). replayed_stage held log p vectors.rows)) failed
+    (planned_says held file graph mode failed c)
+    (λ p. then_says (vectors_stage held vec c) (λ (vectors : Rows). replayed_stage held log p vectors.rows) failed (vectors_say held vec c failed) (λ vectors. replayed_says held log failed p vectors.rows))
+
 -- where a job names a file that it did not read, a read failed
 pub job_says : (held : List ℕ → Held) (job : Job) (failed : OfFile) (line : List ℕ) → (stages_of held job).unread failed line → IsFailed failed
-job_says held (Run file vec mode) failed line is = then_says (netlist_stage held file) (run_stage held file vec mode) failed (netlist_says held file failed) (run_says held file vec mode failed) line is
+job_says held (Run file vec graph mode) failed line is = then_says (netlist_stage held file) (run_stage held file vec graph mode) failed (netlist_says held file failed) (run_says held file vec graph mode failed) line is
 job_says held (Clock file vec) failed line is = then_says (netlist_stage held file) (clock_stage held vec) failed (netlist_says held file failed) (clock_says held vec failed) line is
 job_says held (Check file) failed line is = then_says (netlist_stage held file) report_stage failed (netlist_says held file failed) (λ c l none. absurd none) line is
 job_says held (Graph file mode) failed line is = then_says (netlist_stage held file) (graph_stage file mode) failed (netlist_says held file failed) (graph_says file mode failed) line is
+job_says held (Replay file vec log graph mode) failed line is = then_says (netlist_stage held file) (replay_stage held file vec log graph mode) failed (netlist_says held file failed) (replay_says held file vec log graph mode failed) line is
+job_says held (Accept file graph mode) failed line is = then_says (netlist_stage held file) (accept_stage held file graph mode) failed (netlist_says held file failed) (accept_says held file graph mode failed) line is

@@ -4,3 +4,14 @@ pub mod Exclusive
 pub mod Failed
 pub mod Answered
 pub mod SplitStops
+pub mod Interleaved
+pub mod Fired
+pub mod Finished
+pub mod OneGraph
+pub mod PlanStages
+pub mod PlanAccepted
+pub mod LogStages
+pub mod LogTexts
+pub mod ReplayEnds
+pub mod Housed
+pub mod Registers

@@ -1,5 +1,5 @@
 -- How the split of a netlist ends.
-use Rattle.std.proofs.Common.{◌≡◌, ℕ, ◌+◌, ◌*◌, ◌<◌, ◌≤◌, List, length, Result, Ok, Err, inl, inr, refl, arith, subst, ap, sym}
+use Rattle.std.proofs.Common.{◌≡◌, ℕ, ◌+◌, ◌*◌, ◌<◌, ◌≤◌, List, length, inl, inr, refl, arith, subst, ap, sym}
 use Rattle.std.specs.Prelude.{AllPairs, ◌≢◌}
 use Rattle.ds_base.specs.Limit.{most_of}
 use Rattle.ds_base.specs.declared.number.Limit.{Limit}
@@ -9,14 +9,14 @@ use Rattle.ds_design.specs.Circuit.{Circuit}
 use Rattle.ds_design.specs.Node.{Split, nodes}
 use Rattle.ds_design.specs.Latches.{HasEdges}
 use Rattle.ds_design.specs.declared.latches.Edge.{Edge}
-use Rattle.ds_split.specs.Cluster.{HasTooManyClusters, IsClustering}
+use Rattle.ds_split.specs.Cluster.{IsClustering}
 use Rattle.ds_split.specs.Split.{HasTooManyOrders, IsClusterFault, IsSplitFault, split_of}
 use Rattle.ds_split.specs.declared.fault.SplitFault.{SplitFault}
 use Rattle.ds_split.specs.declared.fault.SplitFault.TheVariants.{TooMany}
 use Rattle.ds_split.specs.declared.fault.SplitFault.TheVariants as split
 use Rattle.ds_app.specs.FaultText.{file_line, too_many_text}
 use Rattle.ds_app.specs.Ends.{Never, SaysRefused, SaysSplit, Stops}
-use Rattle.ds_app.specs.SplitStage.{IsInClusters, IsSplitLine, split_stage}
+use Rattle.ds_app.specs.SplitStage.{IsSplitLine, split_stage}
 use Rattle.ds_app.specs.declared.stop.Stop.{Stop}
 use Rattle.ds_app.specs.declared.stop.Stop.TheVariants.{Refused, Unread, Unwritten, Memory}
 

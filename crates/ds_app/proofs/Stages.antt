@@ -1,5 +1,5 @@
 -- One stage after another: how both end.
-use Rattle.std.proofs.Common.{◌≡◌, ℕ, ◌+◌, ◌≤◌, ◌<◌, List, length, take, Result, Ok, Err, inl, inr, ap, sym, ◌∙◌, subst, arith, min}
+use Rattle.std.proofs.Common.{◌≡◌, ℕ, ◌+◌, ◌≤◌, ◌<◌, List, length, take, Result, Ok, Err, inl, inr, ap, ◌∙◌, subst, arith, min}
 use Rattle.std.proofs.lemmas.List.{length-take, take_all}
 use Rattle.ds_outside.specs.Held.{Held, untold, absent, bytes, FrontIsHeld}
 use Rattle.ds_lines.specs.Line.{Line}

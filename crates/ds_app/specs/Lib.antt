@@ -5,7 +5,12 @@ pub mod Report
 pub mod Stages
 pub mod SplitStage
 pub mod GraphStage
+pub mod PlanStage
+pub mod AcceptStage
+pub mod Homes
+pub mod ReplayStage
 pub mod Job
+pub mod Interleavings
 pub mod Status
 pub mod Ends
-pub mod Nodes
+pub mod Stored

@@ -1,12 +1,12 @@
 -- What a call of the program answers, and what it leaves on its outputs.
-use Rattle.std.specs.Prelude.{◌≡◌, ◌≢◌, ◌⊎◌, ℕ, ◌≤◌, List, Option, Ok, Err, codes}
+use Rattle.std.specs.Prelude.{◌≡◌, ◌≢◌, ◌⊎◌, ℕ, ◌≤◌, List, Option, None, Some, Ok, Err, codes}
 use Rattle.ds_outside.specs.Held.{Held, untold}
 use Rattle.ds_outside.specs.Fault.{Rose}
 use Rattle.ds_outside.specs.Written.{appended, AppendsPart}
 use Rattle.ds_outside.specs.declared.files.Which.{Which}
 use Rattle.ds_cmd.specs.Line.{job_of}
 use Rattle.ds_cmd.specs.declared.job.Job.{Job}
-use Rattle.ds_cmd.specs.declared.job.Job.TheVariants.{Run, Clock, Check, Graph}
+use Rattle.ds_cmd.specs.declared.job.Job.TheVariants.{Run, Clock, Check, Graph, Replay, Accept}
 use Rattle.ds_cmd.specs.declared.fault.UsageFault.{UsageFault}
 use Rattle.ds_cmd.specs.declared.fault.UsageFault.TheVariants as usage
 use Rattle.ds_app.specs.declared.stop.Stop.{Stop}
@@ -81,12 +81,20 @@ pub record IsUnwritten (call : Call) : Type 0 where
   pub cause : Rose call.out.before call.out.now
   pub reported : Reports call.err (codes "desync: cannot write\n")
 
+-- a file tells what it holds, where one is named
+abbrev pub IsToldIn : (List ℕ → Held) → Option (List ℕ) → Type 0
+IsToldIn held None = Unit {0}
+IsToldIn held (Some file) = held file ≢ untold
+
 -- the files of a job tell what they hold
 abbrev pub AreTold : (List ℕ → Held) → Job → Type 0
-AreTold held (Run net vec mode) = (held net ≢ untold) × (held vec ≢ untold)
+AreTold held (Run net vec graph mode) = (held net ≢ untold) × (held vec ≢ untold) × IsToldIn held graph
 AreTold held (Clock net vec) = (held net ≢ untold) × (held vec ≢ untold)
 AreTold held (Check net) = held net ≢ untold
 AreTold held (Graph net mode) = held net ≢ untold
+AreTold held (Replay net vec log graph mode) =
+    (held net ≢ untold) × (held vec ≢ untold) × (held log ≢ untold) × IsToldIn held graph
+AreTold held (Accept net graph mode) = (held net ≢ untold) × (held graph ≢ untold)
 
 -- no read failed in the call
 abbrev pub NoneFailed : Call → Type 0

@@ -1,6 +1,7 @@
 //! The top call.
 ghost use Rattle.std.specs.Prelude.{◌≡◌, map};
 ghost use Rattle.ds_app.specs.Ends.{Output};
+ghost use Rattle.ds_app.specs.Interleavings.{Interleavings};
 ghost use Rattle.ds_app.specs.Status.{Call, IsAnswered, Reports, SaysStop, SaysUsage};
 
 use crate::job::do_job;
@@ -52,6 +53,9 @@ pub fn desync_main<R: AllocGlobal, F: Files, O: Sink, E: Sink, G: Gate>(
 
     // Where the words are no command line, nothing is read.
     ensures nothing_read { result ≡ 2 → files.new ≡ files.old }
+
+    // In whatever order latches fire, registers store their clocked values, and firing goes on.
+    ensures interleavings { Interleavings (F.held files.old) (map (λ w. w.now) words.now) }
 {
     let alloc = rt.alloc();
     match parse(alloc, words) {

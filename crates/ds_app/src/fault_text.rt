@@ -51,8 +51,8 @@ pub fn vector_text(alloc: Global, kind: VectorKind) -> Result<Vec<u8>, AllocErro
     }
 }
 
-// A text with a name behind it.
-fn with_name(alloc: Global, text: &[u8], name: &Name) -> Result<Vec<u8>, AllocError>
+/// A text with a name behind it.
+pub fn with_name(alloc: Global, text: &[u8], name: &Name) -> Result<Vec<u8>, AllocError>
     ensures { IfOk result (λ all. all.items ≡ text.now ++ name.now) }
 {
     let mut all = Vec::from_slice(alloc, text)?;

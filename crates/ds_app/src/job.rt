@@ -1,18 +1,22 @@
 //! A job, from its files to its text.
 ghost use Rattle.std.specs.Prelude.{◌≡◌, ◌≤◌, ◌<◌, ℕ, List, length};
-ghost use Rattle.ds_cmd.specs.declared.job.Job.TheVariants.{Check, Clock, Graph, Run};
+ghost use Rattle.ds_cmd.specs.declared.job.Job.TheVariants.{Accept, Check, Clock, Graph, Replay, Run};
 ghost use Rattle.ds_app.specs.Ends.{Ends, Output, RoseIn};
 ghost use Rattle.ds_app.specs.Job.{stages_of};
 
+use crate::accept::write_accepted;
 use crate::clock::write_clocked;
+use crate::fire::write_run;
 use crate::graph::write_graph;
-use crate::nodes::write_run;
+use crate::log::read_log;
+use crate::plan::{plan_named, plan_netlist};
 use crate::report::write_report;
 use crate::source::{read_netlist, read_rows};
 use crate::split::split_netlist;
+use crate::state_text::write_state;
 use crate::stop::Stop;
 use ds_base::Mode;
-use ds_cmd::Job;
+use ds_cmd::{FileName, Job};
 use ds_outside::{Files, Sink};
 use std::alloc::Global;
 
@@ -33,12 +37,38 @@ pub fn do_job<F: Files, O: Sink>(
         }) result }
 {
     match job {
-        Job::Run { net, vec, clusters } => {
-            run(alloc, net.as_str(), vec.as_str(), *clusters, files, out)
-        }
+        Job::Run {
+            net,
+            vec,
+            graph,
+            clusters,
+        } => run(
+            alloc,
+            net.as_str(),
+            vec.as_str(),
+            graph,
+            *clusters,
+            files,
+            out,
+        ),
         Job::Clock { net, vec } => clock(alloc, net.as_str(), vec.as_str(), files, out),
         Job::Check { net } => check(alloc, net.as_str(), files, out),
         Job::Graph { net, clusters } => graph(alloc, net.as_str(), *clusters, files, out),
+        Job::Replay {
+            net,
+            vec,
+            log,
+            graph,
+            clusters,
+        } => {
+            let (net, vec, log) = (net.as_str(), vec.as_str(), log.as_str());
+            replay(alloc, net, vec, log, graph, *clusters, files, out)
+        }
+        Job::Accept {
+            net,
+            graph,
+            clusters,
+        } => accept(alloc, net.as_str(), graph.as_str(), *clusters, files, out),
     }
 }
 
@@ -48,11 +78,12 @@ fn run<F: Files, O: Sink>(
     alloc: Global,
     net: &str,
     vec: &str,
+    graph: &Option<FileName>,
     clusters: Mode,
     files: &mut F,
     out: &mut O,
 ) -> Result<(), Stop>
-    ensures { Ends (stages_of (F.held files.old) (Run net.now vec.now clusters))
+    ensures { Ends (stages_of (F.held files.old) (Run net.now vec.now graph.now clusters))
         (RoseIn (F.faults files.old) (F.faults files.new)) (record {
           old = O.written out.old;
           new = O.written out.new;
@@ -61,9 +92,9 @@ fn run<F: Files, O: Sink>(
         }) result }
 {
     let netlist = read_netlist(alloc, files, net)?;
-    let latches = split_netlist(alloc, net, &netlist, clusters)?;
+    let plan = plan_netlist(alloc, files, net, &netlist, graph, clusters)?;
     let vectors = read_rows(alloc, files, vec, &netlist)?;
-    write_run(alloc, latches.netlist(), &vectors, out)
+    write_run(alloc, &plan, &vectors, out)
 }
 
 // `clock`: the netlist is clocked.
@@ -128,4 +159,55 @@ fn graph<F: Files, O: Sink>(
     let netlist = read_netlist(alloc, files, net)?;
     let latches = split_netlist(alloc, net, &netlist, clusters)?;
     write_graph(alloc, &latches, out)
+}
+
+// `replay`: the firings of a log are fired again.
+#[tactic(none)]
+fn replay<F: Files, O: Sink>(
+    alloc: Global,
+    net: &str,
+    vec: &str,
+    log: &str,
+    graph: &Option<FileName>,
+    clusters: Mode,
+    files: &mut F,
+    out: &mut O,
+) -> Result<(), Stop>
+    ensures { Ends (stages_of (F.held files.old)
+        (Replay net.now vec.now log.now graph.now clusters))
+        (RoseIn (F.faults files.old) (F.faults files.new)) (record {
+          old = O.written out.old;
+          new = O.written out.new;
+          before = O.faults out.old;
+          now = O.faults out.new;
+        }) result }
+{
+    let netlist = read_netlist(alloc, files, net)?;
+    let plan = plan_netlist(alloc, files, net, &netlist, graph, clusters)?;
+    let vectors = read_rows(alloc, files, vec, &netlist)?;
+    let (state, fired) = read_log(alloc, files, log, &plan, &vectors)?;
+    write_state(alloc, &plan, &vectors, &state, fired, out)
+}
+
+// `accept`: the ranks of a graph that is accepted are written.
+#[tactic(none)]
+fn accept<F: Files, O: Sink>(
+    alloc: Global,
+    net: &str,
+    graph: &str,
+    clusters: Mode,
+    files: &mut F,
+    out: &mut O,
+) -> Result<(), Stop>
+    ensures { Ends (stages_of (F.held files.old) (Accept net.now graph.now clusters))
+        (RoseIn (F.faults files.old) (F.faults files.new)) (record {
+          old = O.written out.old;
+          new = O.written out.new;
+          before = O.faults out.old;
+          now = O.faults out.new;
+        }) result }
+{
+    let netlist = read_netlist(alloc, files, net)?;
+    let plan = plan_named(alloc, files, net, &netlist, graph, clusters)?;
+    write_accepted(alloc, &plan, out)
 }

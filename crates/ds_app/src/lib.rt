@@ -6,29 +6,47 @@
 //! at 0 the output has exactly the job's text more, which `specs/Job` defines stage by stage; at 1
 //! the error output has the line of the first fault of the files.
 //!
-//! `run` fires the latches of the netlist in one fixed order, `clock` clocks it, and both texts are
-//! the trace of the one clocked run; `check` reports on the netlist, and `graph` writes the controller
-//! graph. Not promised is that memory is found, and which of several combinational cycles is shown.
+//! `run` fires the events of the netlist's latches until none may fire, `clock` clocks it, and both
+//! texts are the trace of the one clocked run; `check` reports on the netlist, and `graph` writes
+//! the controller graph. `accept` writes the ranks of a graph of the user's that is accepted, and
+//! `run` and `replay` fire over such a graph where one is named. `replay` fires the events of a log
+//! where each may fire, and writes what each register has stored then. In whatever order the latches
+//! fire, each register stores its clocked values: `Interleavings`. Not promised is that memory is
+//! found, and which of several cycles is shown.
 #![tactic(auto)]
 
+mod accept;
+#[cfg(test)]
+mod accept_tests;
 mod app;
 mod clock;
 mod fault_line;
 #[cfg(test)]
 mod fault_tests;
 mod fault_text;
+mod fire;
 mod graph;
 #[cfg(test)]
 mod graph_tests;
+mod graph_text;
+mod homes;
 mod job;
+mod log;
+mod log_text;
 mod net_text;
-mod nodes;
+mod plan;
+#[cfg(test)]
+mod replay_tests;
 mod report;
+#[cfg(test)]
+mod run_tests;
 #[cfg(test)]
 mod settle_tests;
 mod source;
 mod split;
+mod state_text;
 mod stop;
+mod stored;
 #[cfg(test)]
 mod tests;
 #[cfg(test)]

@@ -62,8 +62,8 @@ pub fn read_rows<F: Files>(
     rows_in(alloc, name, &text, netlist.columns().len())
 }
 
-// The first bytes of a file, all of them where it is not too long.
-fn read_text<F: Files>(
+/// The first bytes of a file, all of them where it is not too long.
+pub fn read_text<F: Files>(
     alloc: Global,
     files: &mut F,
     which: Which,
@@ -103,8 +103,8 @@ pub fn refused(alloc: Global, name: &str, text: &[u8]) -> Stop
     }
 }
 
-// The stop of a fault of a line, with the fault's text, where there was memory for it.
-fn refused_at<E: Drop>(alloc: Global, name: &str, number: u64, text: Result<Vec<u8>, E>) -> Stop
+/// The stop of a fault of a line, with the fault's text, where there was memory for it.
+pub fn refused_at<E: Drop>(alloc: Global, name: &str, number: u64, text: Result<Vec<u8>, E>) -> Stop
     ensures { MatchResult text (λ t. SaysRefused (numbered_line_of name.now number t.items) result)
         (λ _. result ≡ Stop.Memory) }
 {
@@ -117,8 +117,8 @@ fn refused_at<E: Drop>(alloc: Global, name: &str, number: u64, text: Result<Vec<
     }
 }
 
-// The lines of a text, unless it is too long.
-fn lines_in<'a>(alloc: Global, name: &str, text: &'a [u8]) -> Result<Lines<'a>, Stop>
+/// The lines of a text, unless it is too long.
+pub fn lines_in<'a>(alloc: Global, name: &str, text: &'a [u8]) -> Result<Lines<'a>, Stop>
     ensures { Answers (text_stage name.now text.now) Never result }
 {
     match lines(alloc, text) {

@@ -11,15 +11,18 @@ fn text(alloc: Global, bytes: &[u8]) -> Result<Name, AllocError> {
 
 /// The files `n` and `v` with these bytes.
 pub fn files(alloc: Global, net: &[u8], vec: &[u8]) -> Result<MemoryFiles, AllocError> {
+    named(alloc, &[("n", net), ("v", vec)])
+}
+
+// Files with these names and bytes.
+fn named(alloc: Global, all: &[(&str, &[u8])]) -> Result<MemoryFiles, AllocError> {
     let mut entries = Vec::new(alloc);
-    entries.push(Entry {
-        name: text(alloc, b"n")?,
-        content: text(alloc, net)?,
-    })?;
-    entries.push(Entry {
-        name: text(alloc, b"v")?,
-        content: text(alloc, vec)?,
-    })?;
+    for (name, bytes) in all {
+        entries.push(Entry {
+            name: text(alloc, name.as_bytes())?,
+            content: text(alloc, bytes)?,
+        })?;
+    }
     Ok(MemoryFiles::of(alloc, entries))
 }
 
@@ -33,8 +36,41 @@ pub struct Wanted<'t> {
 
 /// Whether these words, with `n` and `v` as files, give what is wanted.
 pub fn gives(rt: &HostRuntime, words: &[&str], net: &str, vec: &str, wanted: Wanted<'_>) -> bool {
+    let (net, vec) = (net.as_bytes(), vec.as_bytes());
+    gives_from(rt, words, &[("n", net), ("v", vec)], wanted)
+}
+
+/// Whether `replay`, with `l` as the log, gives what is wanted.
+pub fn replays(rt: &HostRuntime, net: &str, vec: &str, log: &str, wanted: Wanted<'_>) -> bool {
+    let (net, vec, log) = (net.as_bytes(), vec.as_bytes(), log.as_bytes());
+    let words = ["desync", "replay", "n", "v", "l"];
+    gives_from(rt, &words, &[("n", net), ("v", vec), ("l", log)], wanted)
+}
+
+/// Whether these words, with `g` as a graph and `l` as a log, give what is wanted.
+pub fn gives_with(
+    rt: &HostRuntime,
+    words: &[&str],
+    net: &str,
+    vec: &str,
+    graph: &str,
+    log: &str,
+    wanted: Wanted<'_>,
+) -> bool {
+    let (net, vec, graph) = (net.as_bytes(), vec.as_bytes(), graph.as_bytes());
+    let log = log.as_bytes();
+    gives_from(
+        rt,
+        words,
+        &[("n", net), ("v", vec), ("g", graph), ("l", log)],
+        wanted,
+    )
+}
+
+// Whether these words, with these files, give what is wanted.
+fn gives_from(rt: &HostRuntime, words: &[&str], all: &[(&str, &[u8])], wanted: Wanted<'_>) -> bool {
     let alloc = rt.alloc();
-    let Ok(mut files) = files(alloc, net.as_bytes(), vec.as_bytes()) else {
+    let Ok(mut files) = named(alloc, all) else {
         return false;
     };
     let Ok(mut out) = MemorySink::with_room(alloc, 100_000) else {

@@ -1,3 +1,5 @@
 pub mod Meant
 pub mod Taken
+pub mod TakenReplay
 pub mod Refused
+pub mod TakenGraph

@@ -14,28 +14,32 @@ record IsNoCommand (word : Text) : Type 0 where
   clock : bytes_eq (codes "clock") word ≡ false
   check : bytes_eq (codes "check") word ≡ false
   graph : bytes_eq (codes "graph") word ≡ false
+  replay : bytes_eq (codes "replay") word ≡ false
+  accept : bytes_eq (codes "accept") word ≡ false
 
-none_of : (a b c d : Bool) → (a || (b || (c || (d || false)))) ≡ false → (a ≡ false) × (b ≡ false) × (c ≡ false) × (d ≡ false)
-none_of false false false false e = (refl, refl, refl, refl)
-none_of false false false true e = cc
-none_of false false true d e = cc
-none_of false true c d e = cc
-none_of true b c d e = cc
+none_of : (a b c d f h : Bool) → (a || (b || (c || (d || (f || (h || false)))))) ≡ false → (a ≡ false) × (b ≡ false) × (c ≡ false) × (d ≡ false) × (f ≡ false) × (h ≡ false)
+none_of false false false false false false e = (refl, refl, refl, refl, refl, refl)
+none_of false false false false false true e = cc
+none_of false false false false true h e = cc
+none_of false false false true f h e = cc
+none_of false false true d f h e = cc
+none_of false true c d f h e = cc
+none_of true b c d f h e = cc
 
 no_command : (word : Text) → is_command word ≡ false → IsNoCommand word
 no_command word e =
-    let all = none_of (bytes_eq (codes "run") word) (bytes_eq (codes "clock") word) (bytes_eq (codes "check") word) (bytes_eq (codes "graph") word) e in
-    record { run = all.0; clock = all.1; check = all.2; graph = all.3 }
+    let all = none_of (bytes_eq (codes "run") word) (bytes_eq (codes "clock") word) (bytes_eq (codes "check") word) (bytes_eq (codes "graph") word) (bytes_eq (codes "replay") word) (bytes_eq (codes "accept") word) e in
+    record { run = all.0; clock = all.1; check = all.2; graph = all.3; replay = all.4; accept = all.5 }
 
 -- the word `help` asks for help
 help_at : (program name : Text) (words : List Text) → IsNoCommand name → bytes_eq (codes "help") name ≡ true → job_of (program ∷ name ∷ words) ≡ Err Line
 unfolding clap_on_literals
-help_at program name words n h = rw (n.run, n.clock, n.check, n.graph, h) refl
+help_at program name words n h = rw (n.run, n.clock, n.check, n.graph, n.replay, n.accept, h) refl
 
 -- another word is taken by nothing
 stray_at : (program name : Text) (words : List Text) → IsNoCommand name → bytes_eq (codes "help") name ≡ false → IsNoOption name → job_of (program ∷ name ∷ words) ≡ Err Line
 unfolding clap_on_literals
-stray_at program name words n h o = rw (n.run, n.clock, n.check, n.graph, h) (rw (o.dashes, o.long, o.short) refl)
+stray_at program name words n h o = rw (n.run, n.clock, n.check, n.graph, n.replay, n.accept, h) (rw (o.dashes, o.long, o.short) refl)
 
 pub refused_name : (program name : Text) (words : List Text) → is_plain name ≡ true → is_command name ≡ false → job_of (program ∷ name ∷ words) ≡ Err Line
 refused_name program name words plain other = go (bytes_eq (codes "help") name) refl

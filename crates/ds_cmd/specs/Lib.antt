@@ -6,6 +6,8 @@ pub mod Run
 pub mod Clock
 pub mod Check
 pub mod Graph
+pub mod Replay
+pub mod Accept
 pub mod Commands
 pub mod Line
 pub mod Plain

@@ -8,15 +8,16 @@ use Rattle.ds_cmd.specs.declared.job.Job.{Job}
 use Rattle.ds_cmd.specs.declared.job.Job.TheVariants.{Run}
 use Rattle.ds_cmd.specs.declared.fault.UsageFault.{UsageFault}
 
--- `run NET VEC [--clusters MODE]`
+-- `run NET VEC [--graph G] [--clusters MODE]`
 abbrev pub run_shape : Shape
 run_shape = command_shape (codes "run") (
     file_rule (codes "net") ∷
     file_rule (codes "vec") ∷
+    option_rule (codes "graph") ∷
     option_rule (codes "clusters") ∷ [])
 
 -- its job, from the values of its arguments
 abbrev pub run_job : List Row → Result Job UsageFault
 run_job rows = with_value (first_of (codes "net") rows) (λ net.
     with_value (first_of (codes "vec") rows) (λ vec.
-    with_mode (clusters_of rows) (λ clusters. Ok (Run net vec clusters))))
+    with_mode (clusters_of rows) (λ clusters. Ok (Run net vec (first_of (codes "graph") rows) clusters))))

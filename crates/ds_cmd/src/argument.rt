@@ -1,8 +1,10 @@
-ghost use Rattle.std.specs.Prelude.{◌≡◌, false, option_map, MatchResult};
+ghost use Rattle.std.specs.Prelude.{◌≡◌, false, option_map, IfOk};
 ghost use Rattle.clap.specs.Words.{rule_of, found_of, rows_of, first_of};
 ghost use Rattle.ds_cmd.specs.Argument.{file_rule, option_rule};
 
+use crate::FileName;
 use clap::{Arg, ArgMatches};
+use ds_base::OutOfMemory;
 use std::alloc::Global;
 
 /// A word that is required, in its place behind the command's name.
@@ -26,4 +28,18 @@ pub fn text<'a>(values: &ArgMatches<'a>, id: &str) -> Option<&'a str>
     ensures { option_map (λ s. s.now) result ≡ first_of id.now (rows_of (found_of values.now)) }
 {
     values.get_str(id)
+}
+
+/// The name of a file that is the value of an option, where it has one.
+pub fn named(
+    alloc: Global,
+    values: &ArgMatches<'_>,
+    id: &str,
+) -> Result<Option<FileName>, OutOfMemory>
+    ensures { IfOk result (λ name. name ≡ first_of id.now (rows_of (found_of values.now))) }
+{
+    match text(values, id) {
+        Some(word) => Ok(Some(FileName::new(alloc, word)?)),
+        None => Ok(None),
+    }
 }

@@ -9,6 +9,7 @@
 //! `UsageFault` displays.
 #![tactic(auto)]
 
+mod accept;
 mod argument;
 mod check;
 mod clock;
@@ -20,6 +21,7 @@ mod graph;
 mod job;
 mod laws;
 mod line;
+mod replay;
 mod run;
 #[cfg(test)]
 mod tests;
@@ -28,6 +30,7 @@ pub use fault::UsageFault;
 pub use file_name::FileName;
 pub use job::Job;
 pub use laws::{
-    check_is_taken, clock_is_taken, graph_is_taken, other_names_are_refused, run_is_taken,
+    accept_is_taken, check_is_taken, clock_is_taken, graph_is_taken, other_names_are_refused,
+    replay_is_taken, run_is_taken,
 };
 pub use line::parse;

@@ -4,7 +4,7 @@ ghost use Rattle.ds_cmd.specs.Fault.{Gives};
 ghost use Rattle.ds_cmd.specs.Line.{job_in, job_of};
 
 use crate::command::desync_command;
-use crate::{Job, UsageFault, check, clock, graph, run};
+use crate::{Job, UsageFault, accept, check, clock, graph, replay, run};
 use clap::error::ErrorKind;
 use clap::{ArgMatches, Error};
 use std::alloc::Global;
@@ -47,6 +47,10 @@ fn job(alloc: Global, matches: &ArgMatches<'_>) -> Result<Job, UsageFault>
         check::job(alloc, values)
     } else if name == "graph" {
         graph::job(alloc, values)
+    } else if name == "replay" {
+        replay::job(alloc, values)
+    } else if name == "accept" {
+        accept::job(alloc, values)
     } else {
         Err(UsageFault::Line)
     }

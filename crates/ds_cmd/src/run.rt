@@ -3,20 +3,21 @@ ghost use Rattle.clap.specs.Words.{shape_of, found_of, rows_of};
 ghost use Rattle.ds_cmd.specs.Fault.{Gives};
 ghost use Rattle.ds_cmd.specs.Run.{run_job, run_shape};
 
-use crate::argument::{file, option, text};
+use crate::argument::{file, named, option, text};
 use crate::clusters::clusters;
 use crate::{FileName, Job, UsageFault};
 use clap::{ArgMatches, Command};
 use ds_base::OutOfMemory;
 use std::alloc::Global;
 
-/// `run NET VEC [--clusters MODE]`, as a subcommand.
+/// `run NET VEC [--graph G] [--clusters MODE]`, as a subcommand.
 pub fn command<'a>(alloc: Global) -> Result<Command<'a>, OutOfMemory>
     ensures { IfOk result (λ c. shape_of c ≡ run_shape) }
 {
     let command = Command::new(alloc, "run")
         .arg(file(alloc, "net"))?
         .arg(file(alloc, "vec"))?
+        .arg(option(alloc, "graph"))?
         .arg(option(alloc, "clusters"))?;
     Ok(command)
 }
@@ -37,6 +38,7 @@ pub fn job(alloc: Global, values: &ArgMatches<'_>) -> Result<Job, UsageFault>
     Ok(Job::Run {
         net: FileName::new(alloc, net)?,
         vec: FileName::new(alloc, vec)?,
+        graph: named(alloc, values, "graph")?,
         clusters,
     })
 }

@@ -1,7 +1,8 @@
-use Rattle.std.proofs.Common.{◌≡◌, ℕ, List, map, refl, arith}
+use Rattle.std.proofs.Common.{ℕ, List, map, refl, arith}
 use Rattle.std.specs.Borrow.{Bor}
 use Rattle.ds_app.specs.Status.{Call}
 use Rattle.ds_app.proofs.Answered.{answered_done, answered_stop, answered_words, stop_is_not_two}
+use Rattle.ds_app.proofs.Interleaved.{interleavings_lem}
 use Rattle.ds_app.proofs.app.desync_main.Goals as goal
 
 pub returns-in-Ok-do_job-clause-answered : goal.returns-in-Ok-do_job-clause-answered
@@ -19,6 +20,12 @@ returns-in-Ok-do_job-clause-answered g c =
 
 pub returns-in-Ok-do_job-clause-nothing_read : goal.returns-in-Ok-do_job-clause-nothing_read
 returns-in-Ok-do_job-clause-nothing_read g c = λ e. absurd (omega arith)
+
+pub returns-in-Ok-do_job-clause-interleavings : goal.returns-in-Ok-do_job-clause-interleavings
+returns-in-Ok-do_job-clause-interleavings g c = interleavings_lem (g.F.Files.held c.args.files.now) (map (λ (w : Bor (List ℕ)). w.now) c.args.words.now)
+
+pub returns-in-Ok-clause-interleavings : goal.returns-in-Ok-clause-interleavings
+returns-in-Ok-clause-interleavings g c = interleavings_lem (g.F.Files.held c.args.files.now) (map (λ (w : Bor (List ℕ)). w.now) c.args.words.now)
 
 pub returns-in-Ok-clause-answered : goal.returns-in-Ok-clause-answered
 returns-in-Ok-clause-answered g c =
@@ -50,4 +57,5 @@ returns g c =
     record {
       answered = answered_words call c.in-Err.fault c.say_usage.result c.in-Err.ensures refl c.say_usage.ensures;
       nothing_read = λ two. refl;
+      interleavings = interleavings_lem (g.F.Files.held c.args.files.now) (map (λ (w : Bor (List ℕ)). w.now) c.args.words.now);
     }

@@ -1,13 +1,11 @@
-use Rattle.std.proofs.Common.{◌≡◌, ℕ, List, Result, Ok, Err, refl, subst, ap, ◌∙◌}
+use Rattle.std.proofs.Common.{ℕ, List, refl}
 use Rattle.std.proofs.lemmas.Result.{err_from_is_err_and}
 use Rattle.ds_outside.specs.Held.{Held}
 use Rattle.ds_design.specs.Circuit.{Circuit}
 use Rattle.ds_app.specs.Stage.{OfFile, then_stage}
-use Rattle.ds_app.specs.Stages.{netlist_stage, report_stage, trace_stage, vectors_stage}
-use Rattle.ds_app.specs.Job.{clock_stage, run_stage, stages_of}
-use Rattle.ds_app.specs.Ends.{Answers, Ends, Never, Output, RoseIn}
-use Rattle.ds_app.specs.declared.stop.Stop.{Stop}
-use Rattle.ds_app.proofs.Stages.{stopped, passed, widened}
+use Rattle.ds_app.specs.Stages.{netlist_stage, report_stage}
+use Rattle.ds_app.specs.Ends.{Never, Output, RoseIn}
+use Rattle.ds_app.proofs.Stages.{stopped}
 use Rattle.ds_app.proofs.Ends.{ended, ends_after, ends_more}
 use Rattle.ds_app.proofs.job.check.Goals as goal
 

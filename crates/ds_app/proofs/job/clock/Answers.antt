@@ -1,11 +1,11 @@
-use Rattle.std.proofs.Common.{◌≡◌, ℕ, List, Result, Ok, Err, refl, subst, ap, ◌∙◌}
+use Rattle.std.proofs.Common.{ℕ, List, Err, refl}
 use Rattle.std.proofs.lemmas.Result.{err_from_is_err_and}
 use Rattle.ds_outside.specs.Held.{Held}
 use Rattle.ds_design.specs.Circuit.{Circuit}
 use Rattle.ds_design.specs.Rows.{Rows}
 use Rattle.ds_app.specs.Stage.{OfFile, then_stage}
-use Rattle.ds_app.specs.Stages.{netlist_stage, report_stage, trace_stage, vectors_stage}
-use Rattle.ds_app.specs.Job.{clock_stage, run_stage, stages_of}
+use Rattle.ds_app.specs.Stages.{netlist_stage, trace_stage, vectors_stage}
+use Rattle.ds_app.specs.Job.{clock_stage}
 use Rattle.ds_app.specs.Ends.{Answers, Ends, Never, Output, RoseIn}
 use Rattle.ds_app.specs.declared.stop.Stop.{Stop}
 use Rattle.ds_app.proofs.Stages.{stopped, passed, widened}

@@ -1,15 +1,13 @@
-use Rattle.std.proofs.Common.{◌≡◌, ℕ, List, subst}
-use Rattle.ds_outside.specs.Held.{Held}
+use Rattle.std.proofs.Common.{◌≡◌, subst}
 use Rattle.ds_cmd.specs.declared.job.Job.{Job}
-use Rattle.ds_cmd.specs.declared.job.Job.TheVariants.{Run, Clock, Check, Graph}
-use Rattle.ds_app.specs.Stage.{OfFile}
+use Rattle.ds_cmd.specs.declared.job.Job.TheVariants.{Run, Clock, Check, Graph, Replay, Accept}
 use Rattle.ds_app.specs.Job.{stages_of}
-use Rattle.ds_app.specs.Ends.{Ends, Output, RoseIn}
+use Rattle.ds_app.specs.Ends.{Ends, RoseIn}
 use Rattle.ds_app.proofs.job.do_job.Goals as goal
 
 pub returns-in-Run : goal.returns-in-Run
 returns-in-Run g c =
-    let job : Run c.as_str.result.now c.as_str-in-Run.result.now c.in-Run.clusters ≡ c.args.job.now = cc in
+    let job : Run c.as_str.result.now c.as_str-in-Run.result.now c.in-Run.graph c.in-Run.clusters ≡ c.args.job.now = cc in
     subst (λ (j : Job). Ends (stages_of (g.F.Files.held c.args.files.now) j) (RoseIn (g.F.Files.faults c.args.files.now) (g.F.Files.faults c.run.new.files))
     (record { old = g.O.Sink.written c.args.out.now; new = g.O.Sink.written c.run.new.out; before = g.O.Sink.faults c.args.out.now; now = g.O.Sink.faults c.run.new.out }) c.run.result) job c.run.ensures
 
@@ -30,3 +28,15 @@ returns-in-Graph g c =
     let job : Graph c.as_str-in-Graph.result.now c.in-Graph.clusters ≡ c.args.job.now = cc in
     subst (λ (j : Job). Ends (stages_of (g.F.Files.held c.args.files.now) j) (RoseIn (g.F.Files.faults c.args.files.now) (g.F.Files.faults c.graph.new.files))
     (record { old = g.O.Sink.written c.args.out.now; new = g.O.Sink.written c.graph.new.out; before = g.O.Sink.faults c.args.out.now; now = g.O.Sink.faults c.graph.new.out }) c.graph.result) job c.graph.ensures
+
+pub returns-in-Replay : goal.returns-in-Replay
+returns-in-Replay g c =
+    let job : Replay c.as_str-net.result.now c.as_str-vec.result.now c.as_str-log.result.now c.in-Replay.graph c.in-Replay.clusters ≡ c.args.job.now = cc in
+    subst (λ (j : Job). Ends (stages_of (g.F.Files.held c.args.files.now) j) (RoseIn (g.F.Files.faults c.args.files.now) (g.F.Files.faults c.replay.new.files))
+    (record { old = g.O.Sink.written c.args.out.now; new = g.O.Sink.written c.replay.new.out; before = g.O.Sink.faults c.args.out.now; now = g.O.Sink.faults c.replay.new.out }) c.replay.result) job c.replay.ensures
+
+pub returns-in-Accept : goal.returns-in-Accept
+returns-in-Accept g c =
+    let job : Accept c.as_str-in-Accept.result.now c.as_str-in-Accept-2.result.now c.in-Accept.clusters ≡ c.args.job.now = cc in
+    subst (λ (j : Job). Ends (stages_of (g.F.Files.held c.args.files.now) j) (RoseIn (g.F.Files.faults c.args.files.now) (g.F.Files.faults c.accept.new.files))
+    (record { old = g.O.Sink.written c.args.out.now; new = g.O.Sink.written c.accept.new.out; before = g.O.Sink.faults c.args.out.now; now = g.O.Sink.faults c.accept.new.out }) c.accept.result) job c.accept.ensures

@@ -1,4 +1,4 @@
-use Rattle.std.proofs.Common.{◌≡◌, ℕ, List, Result, Ok, Err, refl}
+use Rattle.std.proofs.Common.{ℕ, List, Err, refl}
 use Rattle.std.proofs.lemmas.Result.{err_from_is_err_and}
 use Rattle.ds_base.specs.declared.number.Mode.{Mode}
 use Rattle.ds_outside.specs.Held.{Held}
@@ -8,7 +8,7 @@ use Rattle.ds_app.specs.Stage.{OfFile, then_stage}
 use Rattle.ds_app.specs.Stages.{netlist_stage}
 use Rattle.ds_app.specs.SplitStage.{split_stage}
 use Rattle.ds_app.specs.GraphStage.{controller_stage}
-use Rattle.ds_app.specs.Job.{graph_stage, stages_of}
+use Rattle.ds_app.specs.Job.{graph_stage}
 use Rattle.ds_app.specs.Ends.{Answers, Ends, Never, Output, RoseIn}
 use Rattle.ds_app.specs.declared.stop.Stop.{Stop}
 use Rattle.ds_app.proofs.Stages.{stopped, passed, widened}

@@ -1,11 +1,11 @@
 -- What the text of the file gives is what the file gives.
-use Rattle.std.proofs.Common.{◌≡◌, ℕ, List, Result, Ok, Err, subst, sym}
+use Rattle.std.proofs.Common.{ℕ, List, Ok, Err, subst, sym}
 use Rattle.std.proofs.lemmas.Result.{err_from_is_err_and}
 use Rattle.ds_outside.specs.Held.{FrontIsHeld}
 use Rattle.ds_design.specs.Circuit.{Circuit}
-use Rattle.ds_app.specs.Stage.{OfFile, Stage, then_stage}
+use Rattle.ds_app.specs.Stage.{OfFile, then_stage}
 use Rattle.ds_app.specs.Stages.{accepted_stage, design_stage, file_stage, text_stage}
-use Rattle.ds_app.specs.Ends.{Answers, Never, RoseIn}
+use Rattle.ds_app.specs.Ends.{Never, RoseIn}
 use Rattle.ds_app.specs.declared.stop.Stop.{Stop}
 use Rattle.ds_app.proofs.Stages.{stopped, passed, widened, file_wider}
 use Rattle.ds_app.proofs.source.read_netlist.Goals as goal

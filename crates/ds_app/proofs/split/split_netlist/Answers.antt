@@ -1,5 +1,3 @@
-use Rattle.std.proofs.Common.{◌≡◌, ℕ, List, length}
-use Rattle.ds_split.specs.Split.{split_of}
 use Rattle.ds_app.proofs.SplitStops.{cluster_stops, few_orders, split_stops}
 use Rattle.ds_app.proofs.split.split_netlist.Goals as goal
 

@@ -19,5 +19,9 @@ returns c =
     ∙ ap₂ with_subcommand one c.in_ok-command-2.ensures in
     let three = c.in_ok-subcommand-3.ensures.shape (third _ _ _ _ (ap (λ (s : Shape). s.is_plain) c.in_ok-command-3.ensures))
     ∙ ap₂ with_subcommand two c.in_ok-command-3.ensures in
-    c.in_ok-top.ensures.shape (third _ _ _ _ (ap (λ (s : Shape). s.is_plain) c.in_ok-command-4.ensures))
-    ∙ ap₂ with_subcommand three c.in_ok-command-4.ensures
+    let four = c.in_ok-subcommand-4.ensures.shape (third _ _ _ _ (ap (λ (s : Shape). s.is_plain) c.in_ok-command-4.ensures))
+    ∙ ap₂ with_subcommand three c.in_ok-command-4.ensures in
+    let five = c.in_ok-subcommand-5.ensures.shape (third _ _ _ _ (ap (λ (s : Shape). s.is_plain) c.in_ok-command-5.ensures))
+    ∙ ap₂ with_subcommand four c.in_ok-command-5.ensures in
+    c.in_ok-top.ensures.shape (third _ _ _ _ (ap (λ (s : Shape). s.is_plain) c.in_ok-command-6.ensures))
+    ∙ ap₂ with_subcommand five c.in_ok-command-6.ensures

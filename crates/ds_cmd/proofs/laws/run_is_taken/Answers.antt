@@ -1,4 +1,5 @@
 use Rattle.ds_cmd.proofs.Taken.{run_taken, run_with_mode}
+use Rattle.ds_cmd.proofs.TakenGraph.{run_with_graph}
 use Rattle.ds_cmd.proofs.laws.run_is_taken.Goals as goal
 
 pub returns-clause-each : goal.returns-clause-each
@@ -6,3 +7,6 @@ returns-clause-each c = run_taken
 
 pub returns-clause-clusters : goal.returns-clause-clusters
 returns-clause-clusters c = run_with_mode
+
+pub returns-clause-graph : goal.returns-clause-graph
+returns-clause-graph c = run_with_graph

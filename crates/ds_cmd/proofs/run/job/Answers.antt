@@ -11,3 +11,8 @@ pub returns-in_err-new-2 : goal.returns-in_err-new-2
 returns-in_err-new-2 c =
     let p = err_from_is_err_and c.from_residual-in_err-new-2.result c.from_residual-in_err-new-2.ensures.1 in
     rw (p.1, p.2) (inl refl)
+
+pub returns-in_err-named : goal.returns-in_err-named
+returns-in_err-named c =
+    let p = err_from_is_err_and c.from_residual-in_err-named.result c.from_residual-in_err-named.ensures.1 in
+    rw (p.1, p.2) (inl refl)

@@ -1,0 +1,94 @@
+//! The ranks of a controller graph that is accepted.
+ghost use Rattle.std.specs.Prelude.{◌≡◌, ◌<◌, length};
+ghost use Rattle.ds_outside.specs.Writes.{GoesOn, Writes};
+ghost use Rattle.ds_rows.specs.Log.{firing_text};
+ghost use Rattle.ds_app.specs.Ends.{Ends, Never, Output};
+ghost use Rattle.ds_app.specs.AcceptStage.{rank_lines, ranks_stage, ranks_text};
+ghost use Rattle.ds_rank.specs.Rank.{AreRanks};
+
+use crate::stop::Stop;
+use ds_base::EventId;
+use ds_design::Plan;
+use ds_outside::{Behind, Buffered, Lent, Sink, WriteFault};
+use ds_rank::{Ranks, rank};
+use ds_rows::{firing_line, put};
+use std::alloc::Global;
+use std::marker::Brand;
+
+/// Writes `accepted`, and a line for each event of a plan, in order: the event and its rank.
+pub fn write_accepted<O: Sink>(alloc: Global, plan: &Plan<'_>, out: &mut O) -> Result<(), Stop>
+    ensures { Ends (ranks_stage plan.now) Never (record {
+      old = O.written out.old;
+      new = O.written out.new;
+      before = O.faults out.old;
+      now = O.faults out.new;
+    }) result }
+{
+    // In a graph that is accepted nothing waits for itself, so nothing but memory may lack.
+    let Ok(ranks) = rank(alloc, plan.graph()) else {
+        return Err(Stop::Memory);
+    };
+    let (_, result) = write_behind::<O, Brand>(plan, &ranks, Lent { sink: out });
+    match result {
+        Ok(()) => Ok(()),
+        Err(_) => Err(Stop::Unwritten),
+    }
+}
+
+// Writes the text by way of a buffer.
+fn write_behind<'a, O: Sink, B: Behind>(
+    plan: &Plan<'_>,
+    ranks: &Ranks,
+    behind: Lent<'a, O>,
+) -> (Lent<'a, O>, Result<(), WriteFault>)
+    requires ranks { AreRanks plan.now.graph ranks.now }
+    requires same { behind.sink.ghost_name ≡ B.name }
+    requires before { O.written behind.sink.now ≡ B.before }
+
+    ensures ok { Writes result.1 B.before (O.written result.0.sink.now)
+        (O.faults behind.entry.sink.now) (O.faults result.0.sink.now)
+        (ranks_text plan.now.graph ranks.now) }
+    ensures same { result.0.sink.ghost_name ≡ B.name }
+{
+    let mut buffered: Buffered<'a, O, B> = Buffered::new(behind);
+    let so_far = put(Ok(()), b"accepted\n", &mut buffered);
+    let so_far = put_ranks(so_far, plan, ranks, &mut buffered);
+    buffered.finish(so_far)
+}
+
+// Writes the lines of all events, unless a write has failed.
+fn put_ranks<O: Sink>(
+    so_far: Result<(), WriteFault>,
+    plan: &Plan<'_>,
+    ranks: &Ranks,
+    out: &mut O,
+) -> Result<(), WriteFault>
+    requires { AreRanks plan.now.graph ranks.now }
+    ensures { GoesOn so_far result (O.written out.old) (O.written out.new) (O.faults out.old)
+        (O.faults out.new) (rank_lines plan.now.graph ranks.now (length plan.now.graph.events)) }
+{
+    let mut so_far = so_far;
+    for v in 0..plan.graph().events().len() {
+        let event = EventId::new(v as u32);
+        so_far = put_rank(so_far, plan, event, ranks.at(event), out);
+    }
+    so_far
+}
+
+// Writes the line of an event, unless a write has failed.
+fn put_rank<O: Sink>(
+    so_far: Result<(), WriteFault>,
+    plan: &Plan<'_>,
+    event: EventId,
+    rank: u64,
+    out: &mut O,
+) -> Result<(), WriteFault>
+    requires { event < length plan.now.graph.events }
+    ensures { GoesOn so_far result (O.written out.old) (O.written out.new) (O.faults out.old)
+        (O.faults out.new) (firing_text plan.now.graph event rank) }
+{
+    match so_far {
+        Ok(()) => firing_line(plan, event, rank, out),
+        Err(fault) => Err(fault),
+    }
+}

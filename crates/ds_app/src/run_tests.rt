@@ -1,0 +1,120 @@
+//! Runs over clusters beside clocked ones, and a failed write of a line.
+use crate::desync_main;
+use crate::trial::{RING, Wanted, files, gives};
+use ds_outside::{MemorySink, OpenGate};
+use std::alloc::{AllocError, Global};
+use std::test::Fail;
+
+// A table that reads the input and a register, behind other tables.
+const BACK: &str =
+    ".model back\n.inputs a\n.outputs y\n.names a q u\n11 1\n.names u d\n0 1\n.names d r y\n11 1\n.latch d q 0\n.latch u r 1\n.end\n";
+
+// A table that feeds two clusters, where registers are put together by bus.
+const TWO: &str =
+    ".model two\n.inputs a\n.outputs q[1] r\n.names a r t\n10 1\n01 1\n.latch t q[0] 0\n.latch q[0] q[1] 1\n.latch t r 0\n.end\n";
+
+// A netlist, vectors, and the trace of both.
+const TRACES: [(&str, &str, &str); 2] = [
+    (
+        BACK,
+        "1\n0\n1\n1\n",
+        "0 1 01\n1 0 10\n2 0 10\n3 1 01\nend 10\n",
+    ),
+    (TWO, "1\n1\n0\n", "0 10 010\n1 01 101\n2 10 010\nend 000\n"),
+];
+
+// Whether `clock`, and `run` over the clusters of each mode, print this text.
+fn all_print(rt: &HostRuntime, net: &str, vec: &str, out: &str) -> bool {
+    let wanted = Wanted {
+        status: 0,
+        out,
+        err: "",
+    };
+    let mut all = gives(rt, &["desync", "clock", "n", "v"], net, vec, wanted);
+    for mode in ["each", "one", "bus"] {
+        let words = ["desync", "run", "n", "v", "--clusters", mode];
+        all = all && gives(rt, &words, net, vec, wanted);
+    }
+    all
+}
+
+#[test]
+fn clusters_print_the_clocked_trace(rt: HostRuntime) {
+    for (net, vec, trace) in TRACES {
+        assert!(rt; all_print(&rt, net, vec, trace), "{net}");
+    }
+}
+
+// A hundred registers, each of which takes the one before it.
+fn chain(alloc: Global) -> Result<String, AllocError> {
+    let mut text = String::from_str(
+        alloc,
+        ".model chain\n.inputs clk a\n.outputs q99\n.latch a q0 re clk 0\n",
+    )?;
+    for i in 0..99 {
+        text.push_str(format!(in alloc; ".latch q{i} q{} re clk 0\n", i + 1)?.as_str())?;
+    }
+    Ok(text)
+}
+
+// So many zeros.
+fn push_zeros(text: &mut String, count: usize) -> Result<(), AllocError> {
+    for _ in 0..count {
+        text.push_str("0")?;
+    }
+    Ok(())
+}
+
+// A one that goes along the chain: before turn k it is in register k - 1.
+fn passed_on(alloc: Global) -> Result<String, AllocError> {
+    let mut text = String::from_str(alloc, "0 0 ")?;
+    push_zeros(&mut text, 100)?;
+    for i in 0..100 {
+        let output = if i == 99 { 1 } else { 0 };
+        text.push_str(format!(in alloc; "\n{} {output} ", i + 1)?.as_str())?;
+        push_zeros(&mut text, i)?;
+        text.push_str("1")?;
+        push_zeros(&mut text, 99 - i)?;
+    }
+    text.push_str("\nend ")?;
+    push_zeros(&mut text, 100)?;
+    text.push_str("\n")?;
+    Ok(text)
+}
+
+#[test]
+fn a_one_goes_along_a_hundred_registers(rt: HostRuntime) -> Result<(), AllocError> {
+    let alloc = rt.alloc();
+    let net = chain(alloc)?;
+    let mut vec = String::from_str(alloc, "1\n")?;
+    for _ in 0..100 {
+        vec.push_str("0\n")?;
+    }
+    let trace = passed_on(alloc)?;
+    assert!(rt; all_print(&rt, net.as_str(), vec.as_str(), trace.as_str()));
+    Ok(())
+}
+
+// The status of these words, and whether a first part of a line is left, where the error output takes
+// six bytes a call and its second call fails.
+fn answer(rt: &HostRuntime, words: &[&str], line: &[u8]) -> Result<(u8, bool), Fail> {
+    let alloc = rt.alloc();
+    let mut files = files(alloc, RING.as_bytes(), b"")?;
+    let mut out = MemorySink::with_room(alloc, 100)?;
+    let mut err = MemorySink::with_room(alloc, 100)?;
+    err.at_most(6);
+    let fails = err.fail_at(1).is_ok();
+    let status = desync_main(rt, words, &mut files, &mut out, &mut err, &OpenGate);
+    let part = !err.bytes().is_empty() && line.starts_with(err.bytes()) && err.bytes().len() < 7;
+    Ok((status, fails && part))
+}
+
+#[test]
+fn a_failed_write_of_a_line_leaves_the_status(rt: HostRuntime) -> Result<(), Fail> {
+    let usage = answer(&rt, &["desync", "run", "n"], b"desync: bad command line\n")?;
+    assert_eq!(rt; usage, (2, true));
+    let cycle = b"n: combinational cycle: y z\n";
+    let fault = answer(&rt, &["desync", "run", "n", "v"], cycle)?;
+    assert_eq!(rt; fault, (1, true));
+    Ok(())
+}

@@ -1,0 +1,42 @@
+ghost use Rattle.std.specs.Prelude.{◌≡◌, IfOk};
+ghost use Rattle.clap.specs.Words.{shape_of, found_of, rows_of};
+ghost use Rattle.ds_cmd.specs.Fault.{Gives};
+ghost use Rattle.ds_cmd.specs.Accept.{accept_job, accept_shape};
+
+use crate::argument::{file, option, text};
+use crate::clusters::clusters;
+use crate::{FileName, Job, UsageFault};
+use clap::{ArgMatches, Command};
+use ds_base::OutOfMemory;
+use std::alloc::Global;
+
+/// `accept NET G [--clusters MODE]`, as a subcommand.
+pub fn command<'a>(alloc: Global) -> Result<Command<'a>, OutOfMemory>
+    ensures { IfOk result (λ c. shape_of c ≡ accept_shape) }
+{
+    let command = Command::new(alloc, "accept")
+        .arg(file(alloc, "net"))?
+        .arg(file(alloc, "graph"))?
+        .arg(option(alloc, "clusters"))?;
+    Ok(command)
+}
+
+/// The job of the values behind `accept`.
+pub fn job(alloc: Global, values: &ArgMatches<'_>) -> Result<Job, UsageFault>
+    ensures { Gives (accept_job (rows_of (found_of values.now))) result }
+{
+    let Some(net) = text(values, "net") else {
+        return Err(UsageFault::Line);
+    };
+    let Some(graph) = text(values, "graph") else {
+        return Err(UsageFault::Line);
+    };
+    let Some(clusters) = clusters(values) else {
+        return Err(UsageFault::Mode);
+    };
+    Ok(Job::Accept {
+        net: FileName::new(alloc, net)?,
+        graph: FileName::new(alloc, graph)?,
+        clusters,
+    })
+}

@@ -1,0 +1,49 @@
+ghost use Rattle.std.specs.Prelude.{◌≡◌, IfOk};
+ghost use Rattle.clap.specs.Words.{shape_of, found_of, rows_of};
+ghost use Rattle.ds_cmd.specs.Fault.{Gives};
+ghost use Rattle.ds_cmd.specs.Replay.{replay_job, replay_shape};
+
+use crate::argument::{file, named, option, text};
+use crate::clusters::clusters;
+use crate::{FileName, Job, UsageFault};
+use clap::{ArgMatches, Command};
+use ds_base::OutOfMemory;
+use std::alloc::Global;
+
+/// `replay NET VEC LOG [--graph G] [--clusters MODE]`, as a subcommand.
+pub fn command<'a>(alloc: Global) -> Result<Command<'a>, OutOfMemory>
+    ensures { IfOk result (λ c. shape_of c ≡ replay_shape) }
+{
+    let command = Command::new(alloc, "replay")
+        .arg(file(alloc, "net"))?
+        .arg(file(alloc, "vec"))?
+        .arg(file(alloc, "log"))?
+        .arg(option(alloc, "graph"))?
+        .arg(option(alloc, "clusters"))?;
+    Ok(command)
+}
+
+/// The job of the values behind `replay`.
+pub fn job(alloc: Global, values: &ArgMatches<'_>) -> Result<Job, UsageFault>
+    ensures { Gives (replay_job (rows_of (found_of values.now))) result }
+{
+    let Some(net) = text(values, "net") else {
+        return Err(UsageFault::Line);
+    };
+    let Some(vec) = text(values, "vec") else {
+        return Err(UsageFault::Line);
+    };
+    let Some(log) = text(values, "log") else {
+        return Err(UsageFault::Line);
+    };
+    let Some(clusters) = clusters(values) else {
+        return Err(UsageFault::Mode);
+    };
+    Ok(Job::Replay {
+        net: FileName::new(alloc, net)?,
+        vec: FileName::new(alloc, vec)?,
+        log: FileName::new(alloc, log)?,
+        graph: named(alloc, values, "graph")?,
+        clusters,
+    })
+}
