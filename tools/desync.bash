@@ -5,7 +5,7 @@ _desync() {
     local word=${COMP_WORDS[COMP_CWORD]} command=${COMP_WORDS[1]}
     COMPREPLY=()
     if [ "$COMP_CWORD" -eq 1 ]; then
-        COMPREPLY=($(compgen -W "run clock check graph" -- "$word"))
+        COMPREPLY=($(compgen -W "run clock check graph replay accept" -- "$word"))
         return
     fi
     local last=${COMP_WORDS[COMP_CWORD - 1]}
@@ -18,12 +18,20 @@ _desync() {
         COMPREPLY=($(compgen -W "each one bus" -- "$word"))
         return
     fi
-    if [[ $command:$word == run:-* || $command:$word == graph:-* ]]; then
+    if [[ $word == -* && ( $command == run || $command == replay ) ]]; then
+        COMPREPLY=($(compgen -W "--clusters --graph" -- "$word"))
+        return
+    fi
+    if [[ $word == -* && ( $command == graph || $command == accept ) ]]; then
         COMPREPLY=($(compgen -W "--clusters" -- "$word"))
         return
     fi
-    case $command:$COMP_CWORD in
-        run:2 | clock:2 | check:2 | graph:2 | run:3 | clock:3)
+    local names=$command:$COMP_CWORD
+    if [ "$last" = --graph ]; then
+        names=run:2
+    fi
+    case $names in
+        run:2 | clock:2 | check:2 | graph:2 | replay:2 | accept:2 | run:3 | clock:3 | replay:3 | accept:3 | replay:4)
             compopt -o filenames 2>/dev/null
             local IFS=$'\n'
             COMPREPLY=($(compgen -f -- "$word"))

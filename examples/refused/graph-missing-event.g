@@ -1,0 +1,3 @@
+.outputs IN OUT M0
+.graph
+.end
