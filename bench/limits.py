@@ -1,0 +1,141 @@
+#!/usr/bin/env python3
+"""Times whole jobs at the limits: many copies, deep chains, wide graphs, long logs.
+
+Each job is run some times, and its median processor time is printed beside its greatest memory. The
+exit status is 1 where a job answers another status than the one it is to give.
+"""
+
+import argparse
+import os
+import statistics
+import subprocess
+import sys
+import tempfile
+
+HERE = os.path.dirname(os.path.abspath(__file__))
+PROGRAM = os.path.join(os.path.dirname(HERE), "crates", "desync", "out", "desync")
+
+
+def write(folder, name, lines):
+    """A file of these lines."""
+    path = os.path.join(folder, name)
+    with open(path, "w") as file:
+        file.writelines(line + "\n" for line in lines)
+    return path
+
+
+def copies(count):
+    """As many copies of a small model."""
+    yield from (".model top", ".inputs a")
+    for _ in range(count):
+        yield ".subckt leaf i=a"
+    yield from (".end", ".model leaf", ".inputs i", ".end")
+
+
+def nested(count):
+    """Models each of which uses the next one."""
+    for i in range(count):
+        yield from (".model m%d" % i, ".inputs a", ".subckt m%d a=a" % (i + 1), ".end")
+    yield from (".model m%d" % count, ".inputs a", ".end")
+
+
+def chain(count):
+    """Tables each of which reads the one before."""
+    yield from (".model chain", ".inputs t0", ".outputs t%d" % count)
+    for i in range(count):
+        yield from (".names t%d t%d" % (i, i + 1), "0 1")
+    yield ".end"
+
+
+def registers(count):
+    """Registers in a row."""
+    yield from (".model row", ".inputs clk a", ".outputs q%d" % (count - 1))
+    yield ".latch a q0 re clk 0"
+    for i in range(1, count):
+        yield ".latch q%d q%d re clk 0" % (i - 1, i)
+    yield ".end"
+
+
+def dense(count):
+    """Registers that all read each other, by one table."""
+    names = ["r%d" % i for i in range(count)]
+    yield from (".model dense", ".names %s d" % " ".join(names), "1" * count + " 1")
+    for name in names:
+        yield ".latch d %s 1" % name
+    yield ".end"
+
+
+def toggle():
+    """A register that takes the inverse of its value."""
+    return [".model toggle", ".outputs q", ".names q d", "0 1", ".latch d q 0", ".end"]
+
+
+def log(turns):
+    """The firings of the toggle, node by node."""
+    for turn in range(1, turns + 1):
+        for event in ("IN+", "IN-", "OUT+", "OUT-", "M0+", "M0-", "S0+", "S0-"):
+            yield "%s %d" % (event, turn)
+
+
+def full_graph(count):
+    """A graph of so many signals, each of whose openings waits for all closings."""
+    names = ["s%d" % i for i in range(count)]
+    targets = " ".join(name + "-" for name in names)
+    yield from (".outputs " + " ".join(names), ".graph")
+    for name in names:
+        yield "%s+ %s" % (name, targets)
+    yield ".end"
+
+
+def jobs(folder):
+    """The name of each job, its words, and its status."""
+    net = write(folder, "copies.blif", copies(65536))
+    yield "check: 65,536 copies of a small model", ["check", net], 0
+    net = write(folder, "nested.blif", nested(20000))
+    yield "check: 20,000 models, each with one use of the next", ["check", net], 0
+    net = write(folder, "chain.blif", chain(65000))
+    yield "check: a chain of 65,000 tables", ["check", net], 0
+    net = write(folder, "row.blif", registers(4096))
+    yield "graph: 4,096 registers in a row", ["graph", net], 0
+    net = write(folder, "dense.blif", dense(722))
+    yield "graph: 722 registers, 1,046,904 orders", ["graph", net], 0
+    vec = write(folder, "dense.vec", ["-"] * 20)
+    yield "run: the same, 20 vectors", ["run", net, vec], 0
+    text = os.path.join(folder, "dense.g")
+    with open(text, "wb") as file:
+        subprocess.run([PROGRAM, "graph", net], stdout=file, check=True)
+    yield "accept: the same, by the graph that was written", ["accept", net, text], 0
+    net = write(folder, "toggle.blif", toggle())
+    text = write(folder, "full.g", full_graph(1024))
+    yield "accept: 1,048,576 arcs that are read, and refused", ["accept", net, text], 1
+    vec = write(folder, "toggle.vec", ["-"] * 65536)
+    lines = write(folder, "toggle.log", log(65536))
+    yield "replay: 524,288 firings", ["replay", net, vec, lines], 0
+    yield "run: the same firings", ["run", net, vec], 0
+
+
+def timed(words, status):
+    """The processor time of a run, and its greatest memory in MB."""
+    started = subprocess.Popen(words, stdout=subprocess.DEVNULL, stderr=subprocess.DEVNULL)
+    _, ended, used = os.wait4(started.pid, 0)
+    if os.WEXITSTATUS(ended) != status or os.WIFSIGNALED(ended):
+        sys.exit("%s: ended with %d" % (" ".join(words), ended))
+    return used.ru_utime + used.ru_stime, used.ru_maxrss / 1000
+
+
+def main():
+    parser = argparse.ArgumentParser(description=__doc__.split("\n")[0])
+    parser.add_argument("--times", type=int, default=3, help="runs that a median is of")
+    options = parser.parse_args()
+    if not os.path.exists(PROGRAM):
+        sys.exit("%s is not there: build it first" % PROGRAM)
+    print("| Job | Seconds | MB |\n|---|---|---|")
+    with tempfile.TemporaryDirectory() as folder:
+        for name, words, status in jobs(folder):
+            runs = [timed([PROGRAM] + words, status) for _ in range(options.times)]
+            seconds = statistics.median(seconds for seconds, _ in runs)
+            print("| %s | %.2f | %.0f |" % (name, seconds, max(size for _, size in runs)))
+
+
+if __name__ == "__main__":
+    main()
