@@ -11,3 +11,4 @@ pub mod Spreads
 pub mod Unpacks
 pub mod RowReads
 pub mod Toggles
+pub mod Holdings

@@ -53,15 +53,17 @@ orders zero e at = subst (HasOrders toggle) (some-injective (edge 1 0 0) e at) (
   tokens_few = omega arith;
   from = omega arith;
   into = omega arith;
-  there = (6, arc 2 0 0, refl, refl, refl, omega arith);
-  back = (7, arc 1 2 1, refl, refl, refl, omega arith);
+  apart = λ t. omega (arith, t);
+  there = λ counts agreed. agreed 6 (arc 2 0 0) refl;
+  back = λ counts agreed. agreed 7 (arc 1 2 1) refl;
 })
 orders (suc zero) e at = subst (HasOrders toggle) (some-injective (edge 0 1 1) e at) (record {
   tokens_few = omega arith;
   from = omega arith;
   into = omega arith;
-  there = (4, arc 0 2 1, refl, refl, refl, omega arith);
-  back = (5, arc 3 0 0, refl, refl, refl, omega arith);
+  apart = λ t. omega (arith, t);
+  there = λ counts agreed. agreed 4 (arc 0 2 1) refl;
+  back = λ counts agreed. agreed 5 (arc 3 0 0) refl;
 })
 orders (suc (suc k)) e at = absurd (some-ne-none e (sym at))
 

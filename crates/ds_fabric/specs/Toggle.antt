@@ -1,11 +1,13 @@
 -- A small run, on which the tests stand: a register that turns over each turn, for two turns.
 -- Node 0 is its slave, node 1 its master.
-use Rattle.std.specs.Prelude.{ℕ, List, [], ◌∷◌}
+use Rattle.std.specs.Prelude.{◌≡◌, ℕ, List, [], ◌∷◌, Bool, true, false}
 use Rattle.ds_base.specs.Values.{Row}
 use Rattle.ds_base.specs.declared.value.Value.TheVariants.{Zero, One}
 use Rattle.ds_marked.specs.declared.marked.Arc.{Arc}
 use Rattle.ds_rule.specs.declared.layout.DataEdge.{DataEdge}
 use Rattle.ds_rule.specs.Run.{Run}
+use Rattle.ds_fabric.specs.Base.{Base}
+use Rattle.ds_fabric.specs.Showing.{Showing, Belongs}
 
 -- an arc of its parts
 abbrev pub arc : ℕ → ℕ → ℕ → Arc
@@ -31,3 +33,23 @@ toggle = record {
   slack = 0;
   rows = turned;
 }
+
+-- a pass of a fabric of this run, which holds these nodes, so many, and has such room
+pub record Holding (held : List Bool) (many room : ℕ) (f : Base) (p : Showing) : Type 0 where
+  pub run_is : f.run ≡ toggle
+  pub belongs : Belongs f p
+  pub held_are : p.view.holds ≡ held
+  pub many_are : p.many ≡ many
+  pub room_is : p.room ≡ room
+
+-- it holds both nodes
+abbrev pub HoldsBoth : Base → Showing → Type 0
+HoldsBoth = Holding (true ∷ true ∷ []) 2 2
+
+-- it holds the slave, and has room for both
+abbrev pub HoldsSlave : Base → Showing → Type 0
+HoldsSlave = Holding (true ∷ false ∷ []) 1 2
+
+-- it holds the master, and has room for no other
+abbrev pub HoldsMaster : Base → Showing → Type 0
+HoldsMaster = Holding (false ∷ true ∷ []) 1 1

@@ -15,6 +15,8 @@ mod compute;
 mod counts;
 mod fabric;
 mod flight;
+#[cfg(test)]
+mod hand_tests;
 mod hands;
 mod history;
 mod index;
@@ -26,6 +28,8 @@ mod spread;
 mod step;
 #[cfg(test)]
 mod tests;
+#[cfg(test)]
+mod toggle;
 mod words;
 
 pub use compute::Compute;

@@ -17,7 +17,11 @@ pub fn place_of<J: Rows>(graph: &Layout<J>, starts: &[usize], node: usize, turn:
     requires near { node < graph.now.nodes }
     ensures { result ≡ place graph.now node turn 0 }
 {
-    let turns = graph.slack() as u64 + 1;
+    let slack = graph.slack();
+    if slack == 0 {
+        return starts[node];
+    }
+    let turns = slack as u64 + 1;
     starts[node] + (turn % turns) as usize * graph.width(node)
 }
 

@@ -1,138 +1,157 @@
-ghost use Rattle.std.specs.Prelude.{◌≡◌, ◌<◌, ℕ, true, IfOk};
-ghost use Rattle.ds_rule.specs.Rule.{holds};
-ghost use Rattle.ds_fabric.specs.Showing.{Belongs};
-ghost use Rattle.ds_fabric.specs.Toggle.{arc, edge, turned, toggle};
+//! A run on one pass, and its record.
+ghost use Rattle.std.specs.Prelude.{◌≡◌, ◌<◌, IfSome};
+ghost use Rattle.ds_fabric.specs.Toggle.{toggle, HoldsBoth};
 
-use crate::{Compute, Fabric, Pass, Step, unpack};
-use ds_base::{EventId, LatchId, OutOfMemory, Row3, Value};
-use ds_marked::Arc;
-use ds_rule::{DataEdge, Layout, Rows};
+use crate::toggle::{Toggle, begin, end, fired, has, layout, step};
+use crate::{Fabric, Pass, Record, unpack};
+use ds_base::{EventId, LatchId, Row3, Value};
+use ds_rule::Layout;
 use std::alloc::Global;
 
-// A register that turns over each turn: node 0 is its slave, node 1 its master.
-struct Toggle;
+// In each turn the master opens and closes, then the slave: the master needs the slave's turn
+// before, the slave the master's. An event, and its turn.
+const FIRINGS: [(u32, u64); 8] = [
+    (2, 1),
+    (3, 1),
+    (0, 1),
+    (1, 1),
+    (2, 2),
+    (3, 2),
+    (0, 2),
+    (1, 2),
+];
 
-impl Rows for Toggle {
-    ghost rows = { turned };
-}
-
-impl Compute for Toggle {
-    ghost run = { λ _. toggle };
-
-    ghost scratch = { λ _. 1 };
-
-    fn nets(&self) -> usize {
-        1
-    }
-
-    fn first(&self, node: LatchId, i: usize) -> u64 {
-        0
-    }
-
-    fn compute(
-        &self,
-        node: LatchId,
-        turn: u64,
-        from: &[u64],
-        nets: &mut Row3,
-        into: &mut Vec<u64>,
-    ) {
-        into.push_reserved(turn % 2);
-    }
-}
-
-fn new_arc(source: u32, target: u32, tokens: u8) -> Arc
-    ensures { result ≡ arc source target tokens }
+// So many of these firings, one after another, and no other.
+fn fires(fabric: &Fabric<Toggle, Toggle>, pass: &mut Pass, many: u64) -> bool
+    requires { HoldsBoth fabric.now pass.old }
+    ensures { HoldsBoth fabric.now pass.new }
 {
-    Arc {
-        source: EventId::new(source),
-        target: EventId::new(target),
-        tokens,
+    let mut ticket = 0;
+    for (event, turn) in FIRINGS {
+        if ticket < many {
+            let node = if event < 2 { 0 } else { 1 };
+            if step(fabric, pass, node) != fired(event, turn, ticket) {
+                return false;
+            }
+            ticket += 1;
+        }
+    }
+    true
+}
+
+// The record after so many of these firings; none where memory is lacking or another event fired.
+fn record_of(alloc: Global, graph: &Layout<Toggle>, many: u64) -> Option<Record>
+    requires { graph.now ≡ toggle }
+    ensures { IfSome result (λ r. r.shown.view.run ≡ toggle) }
+{
+    let Ok((fabric, mut pass)) = begin(alloc, graph) else {
+        return None;
+    };
+    if fires(&fabric, &mut pass, many) {
+        Some(end(fabric, pass))
+    } else {
+        None
     }
 }
 
-fn new_edge(producer: u32, consumer: u32, tokens: u8) -> DataEdge
-    ensures { result ≡ edge producer consumer tokens }
-{
-    DataEdge {
-        producer: LatchId::new(producer),
-        consumer: LatchId::new(consumer),
-        tokens,
-    }
-}
-
-fn layout(alloc: Global) -> Result<Layout<Toggle>, OutOfMemory>
-    ensures { IfOk result (λ l. l ≡ toggle) }
-{
-    let arcs = [
-        new_arc(0, 1, 0),
-        new_arc(1, 0, 1),
-        new_arc(2, 3, 0),
-        new_arc(3, 2, 1),
-        new_arc(0, 2, 1),
-        new_arc(3, 0, 0),
-        new_arc(2, 0, 0),
-        new_arc(1, 2, 1),
-    ];
-    let arcs = Vec::from_array(alloc, arcs)?;
-    let edges = Vec::from_array(alloc, [new_edge(1, 0, 0), new_edge(0, 1, 1)])?;
-    let lengths = Vec::from_array(alloc, [1, 1])?;
-    Ok(Layout::of(2, 2, arcs, 2, edges, lengths, 0))
-}
-
-// The next step of the pass fires this. The pass stays one of the fabric, and holds both nodes.
-fn fires(
-    fabric: &Fabric<Toggle, Toggle>,
-    pass: &mut Pass,
-    node: u32,
-    event: u32,
-    turn: u64,
-    ticket: u64,
-) -> bool
-    requires fits { Belongs fabric.now pass.old }
-    requires all { (n : ℕ) → n < 2 → holds pass.old.view n ≡ true }
-    requires node { node < 2 }
-    ensures fits { Belongs fabric.now pass.new }
-    ensures all { (n : ℕ) → n < 2 → holds pass.new.view n ≡ true }
-{
-    let event = EventId::new(event);
-    let did = fabric.step(pass, LatchId::new(node));
-    did == Step::Fired {
-        event,
-        turn,
-        ticket,
-    }
-}
-
-// The master opens and closes, then the slave, in each turn: the master needs the slave's turn
-// before, the slave the master's.
 #[test]
 fn a_register_turns_over(rt: HostRuntime) {
     let Ok(graph) = layout(rt.alloc()) else {
         panic!(rt; "memory");
     };
-    let Ok((fabric, mut pass)) = Fabric::build(rt.alloc(), &graph, &Toggle) else {
-        panic!(rt; "memory");
+    let Some(record) = record_of(rt.alloc(), &graph, 8) else {
+        panic!(rt; "firings");
     };
-    assert!(rt; fires(&fabric, &mut pass, 1, 2, 1, 0));
-    assert!(rt; fires(&fabric, &mut pass, 1, 3, 1, 1));
-    assert!(rt; fires(&fabric, &mut pass, 0, 0, 1, 2));
-    assert!(rt; fires(&fabric, &mut pass, 0, 1, 1, 3));
-    assert!(rt; fires(&fabric, &mut pass, 1, 2, 2, 4));
-    assert!(rt; fires(&fabric, &mut pass, 1, 3, 2, 5));
-    assert!(rt; fires(&fabric, &mut pass, 0, 0, 2, 6));
-    assert!(rt; fires(&fabric, &mut pass, 0, 1, 2, 7));
-    let record = fabric.finish(pass);
     let Ok(firings) = record.firings(rt.alloc()) else {
         panic!(rt; "memory");
     };
     let mut at = 0;
-    for want in [2, 3, 0, 1, 2, 3, 0, 1] {
+    for (want, _) in FIRINGS {
         assert!(rt; at < firings.len());
         assert_eq!(rt; firings[at], EventId::new(want));
         at += 1;
     }
     assert_eq!(rt; at, firings.len());
+}
+
+#[test]
+fn each_event_has_its_tickets(rt: HostRuntime) {
+    let Ok(graph) = layout(rt.alloc()) else {
+        panic!(rt; "memory");
+    };
+    let Some(record) = record_of(rt.alloc(), &graph, 7) else {
+        panic!(rt; "firings");
+    };
+    assert!(rt; has(&record, 0, &[2, 6]));
+    assert!(rt; has(&record, 1, &[3]));
+    assert!(rt; has(&record, 2, &[0, 4]));
+    assert!(rt; has(&record, 3, &[1, 5]));
+}
+
+// The values are one and zero, turn by turn, with the codes 1 and 0. A latch that is open has not
+// stored what it shows.
+#[test]
+fn a_latch_stores_when_it_closes(rt: HostRuntime) {
+    let Ok(graph) = layout(rt.alloc()) else {
+        panic!(rt; "memory");
+    };
+    for (many, slave, master) in [
+        (0, 0, 0),
+        (1, 0, 0),
+        (2, 0, 1),
+        (3, 0, 1),
+        (4, 1, 1),
+        (7, 1, 2),
+        (8, 2, 2),
+    ] {
+        let Some(record) = record_of(rt.alloc(), &graph, many) else {
+            panic!(rt; "firings");
+        };
+        let words = [1, 0];
+        assert_eq!(rt; record.stored(LatchId::new(0)), &words[..slave], "{many}");
+        assert_eq!(rt; record.stored(LatchId::new(1)), &words[..master], "{many}");
+    }
+}
+
+#[test]
+fn a_stored_row_has_its_values(rt: HostRuntime) {
+    let Ok(graph) = layout(rt.alloc()) else {
+        panic!(rt; "memory");
+    };
+    let Some(record) = record_of(rt.alloc(), &graph, 8) else {
+        panic!(rt; "firings");
+    };
+    for node in 0..2u32 {
+        assert_eq!(rt;
+            value_of(rt.alloc(), &record, node, 0),
+            Some(Value::One),
+            "{node}"
+        );
+        assert_eq!(rt;
+            value_of(rt.alloc(), &record, node, 1),
+            Some(Value::Zero),
+            "{node}"
+        );
+    }
+}
+
+// The value of a stored row; none where it is not stored, or memory is lacking.
+fn value_of(alloc: Global, from: &Record, node: u32, k: u64) -> Option<Value>
+    requires run { from.now.shown.view.run ≡ toggle }
+    requires node { node < 2 }
+{
+    let Ok(mut row) = Row3::with_len(alloc, 1) else {
+        return None;
+    };
+    if from.count(EventId::new(2 * node + 1)) <= k {
+        return None;
+    }
+    from.row(LatchId::new(node), k as usize, &mut row);
+    if row.len() == 1 {
+        Some(row.value(0))
+    } else {
+        None
+    }
 }
 
 // Codes are 0, 1 and 2, two bits each, the first value the lowest: 36 is zero, one, unknown.

@@ -1,13 +1,12 @@
 -- A log is a legal list of firings.
-use Rattle.std.proofs.Common.{◌≡◌, ℕ, ◌+◌, ◌<◌, ◌≤◌, ◌≢◌, List, [], ◌∷◌, ◌++◌, length, sym, refl, ap, ◌∙◌, subst, arith}
-use Rattle.std.proofs.Common.{All, get_or, eqb, cond, eq-eqb, ne_eqb}
+use Rattle.std.proofs.Common.{◌≡◌, ℕ, ◌+◌, ◌<◌, ◌≤◌, List, [], ◌∷◌, ◌++◌, length, sym, refl, ap, ◌∙◌, subst, arith}
+use Rattle.std.proofs.Common.{All, get_or, cond, eq-eqb, ne_eqb}
 use mathlib.Core.Logic.{dite}
 use native.Mathlib.Decide.{ℕ_discrete}
-use Rattle.ds_marked.specs.Graph.{Graph, IsEnabled, IsLegal, IsLegalFrom, counted, counts_after}
+use Rattle.ds_marked.specs.Graph.{Graph, IsEnabled, IsLegalFrom, counted, counts_after}
 use Rattle.ds_marked.specs.declared.marked.Arc.{Arc}
-use Rattle.ds_rule.specs.Run.{Run, events, node_of}
-use Rattle.ds_rule.specs.Log.{times, IsLegalList, InTurn, firings}
-use Rattle.ds_rule.specs.Laws.{IsGraphOf, LogsAreLegal}
+use Rattle.ds_rule.specs.Log.{times, firings}
+use Rattle.ds_rule.specs.Laws.{LogsAreLegal}
 use Rattle.ds_rule.proofs.EventLaws.{event_below}
 use Rattle.ds_rule.proofs.Lists.{at_or}
 use Rattle.ds_rule.proofs.Logs.{times-here, times-else}

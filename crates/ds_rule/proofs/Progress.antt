@@ -1,48 +1,97 @@
 -- Until every event has fired as often as it may, some event is enabled.
 use Rattle.std.proofs.Common.{◌≡◌, ℕ, zero, suc, ◌+◌, ◌-◌, ◌*◌, ◌/◌, ◌%◌, ◌<◌, ◌≤◌, ◌≢◌, ◌⊎◌}
-use Rattle.std.proofs.Common.{⊎_elim, sym, ap, ◌∙◌, subst, arith}
+use Rattle.std.proofs.Common.{⊎_elim, sym, refl, ap, ◌∙◌, subst, arith, nat_lt, eqb, cond}
+use Rattle.std.proofs.Common.{eq-eqb, ne_eqb, lt-ltb, le-ltb}
 use mathlib.Core.Logic.{dite}
 use native.Mathlib.Decide.{ℕ_discrete, dec_lt}
 use Rattle.ds_rule.specs.Run.{Run, node_of, next, turns, opening, closing, count, Enabled}
-use Rattle.ds_rule.specs.Sound.{IsSound}
+use Rattle.ds_rule.specs.Sound.{IsSound, Agreed}
 use Rattle.ds_rule.specs.Progress.{IsAccepted, Stuck}
 use Rattle.ds_rule.proofs.EventLaws.{node-low, node-high, next-low, next-high, turns-low}
 use Rattle.ds_rule.proofs.EventLaws.{opening-is, closing-is, node-opening, node-closing}
 
--- an enabled event is the next of its node
-own_turn : (run : Run) (ok : IsAccepted run) (fired : ℕ → ℕ) (e : ℕ) → Enabled run fired e
+-- 1 for each event below the closing of a latch in the numbering, and for the closing
+abbrev mark : (ℕ → ℕ) → ℕ → ℕ → ℕ
+mark rank l x = cond (nat_lt (rank x) (rank (closing l))) 1 (cond (eqb x (closing l)) 1 0)
+
+mark-low : (rank : ℕ → ℕ) (l x : ℕ) → rank x < rank (closing l) → mark rank l x ≡ 1
+mark-low rank l x h = ap {B = ℕ} (λ b. cond b 1 (cond (eqb x (closing l)) 1 0))
+    (lt-ltb (rank x) (rank (closing l)) h)
+
+mark-high : (rank : ℕ → ℕ) (l x : ℕ) → rank (closing l) ≤ rank x
+    → mark rank l x ≡ cond (eqb x (closing l)) 1 0
+mark-high rank l x h = ap {B = ℕ} (λ b. cond b 1 (cond (eqb x (closing l)) 1 0))
+    (le-ltb (rank x) (rank (closing l)) h)
+
+mark_few : (rank : ℕ → ℕ) (l x : ℕ) → mark rank l x ≤ 1
+mark_few rank l x = dite (dec_lt (rank x) (rank (closing l)))
+    (λ low. omega (arith, mark-low rank l x low))
+    (λ high. dite (ℕ_discrete x (closing l))
+    (λ is. omega (
+      arith,
+      mark-high rank l x (omega arith),
+      ap {B = ℕ} (λ b. cond b 1 0) (eq-eqb x (closing l) is),
+    ))
+    (λ far. omega (
+      arith,
+      mark-high rank l x (omega arith),
+      ap {B = ℕ} (λ b. cond b 1 0) (ne_eqb x (closing l) far),
+    )))
+
+-- they agree with each arc, since the numbering rises along arcs without tokens
+mark_agrees : (run : Run) (ok : IsAccepted run) (l : ℕ) → Agreed run (mark ok.rank l)
+mark_agrees run ok l k a at = let R : ℕ = ok.rank (closing l) in
+    dite (dec_lt (ok.rank a.source) R)
+    (λ low. omega (arith, mark-low ok.rank l a.source low, mark_few ok.rank l a.target))
+    (λ high. dite (ℕ_discrete a.tokens 0)
+    (λ none. let up = ok.rises k a at none in
+    omega (
+      arith,
+      mark-high ok.rank l a.target (omega arith),
+      ap {B = ℕ} (λ b. cond b 1 0)
+          (ne_eqb a.target (closing l) (λ t. omega (arith, ap ok.rank t))),
+    ))
+    (λ some-token. omega (arith, mark_few ok.rank l a.target)))
+
+-- a latch opens before it closes in the numbering
+opens_first : (run : Run) (ok : IsAccepted run) (l : ℕ) → l < run.latches
+    → ok.rank (opening l) < ok.rank (closing l)
+opens_first run ok l low = dite (dec_lt (ok.rank (opening l)) (ok.rank (closing l))) (λ h. h)
+    (λ high. absurd (omega (
+      arith,
+      ok.closes l low (mark ok.rank l) (mark_agrees run ok l),
+      mark-high ok.rank l (closing l) (Rattle.std.proofs.Common.le_refl (ok.rank (closing l))),
+      ap {B = ℕ} (λ b. cond b 1 0) (eq-eqb (closing l) (closing l) refl),
+      mark-high ok.rank l (opening l) (omega arith),
+      ap {B = ℕ} (λ b. cond b 1 0) (ne_eqb (opening l) (closing l)
+          (λ t. omega (arith, t, opening-is l, closing-is l))),
+    )))
+
+-- an event is the next of its node where the node closed no less often, and if it is the closing
+-- opened once more
+own_turn : (run : Run) (fired : ℕ → ℕ) (e : ℕ)
+    → (node_of run e < run.latches → count run fired e ≤ count run fired (closing (node_of run e)))
+    → (node_of run e < run.latches → e ≡ closing (node_of run e)
+    → count run fired e + 1 ≤ count run fired (opening (node_of run e)))
     → e ≡ next run (node_of run e) (fired (node_of run e))
-own_turn run ok fired e on = let l : ℕ = node_of run e in let f : ℕ = fired l in
+own_turn run fired e closed opened = let l : ℕ = node_of run e in let f : ℕ = fired l in
     dite (dec_lt e (2 * run.latches))
     (λ low. let h = node-low run e low in let low-l : l < run.latches = omega arith in
     let n = next-low run l f low-l in
-    dite (ℕ_discrete e (next run l f)) (λ same. same) (λ other. dite (ℕ_discrete (e % 2) 0)
-    (λ even. let a = ok.opens l low-l in let is : e ≡ opening l = omega (arith, opening-is l) in
-    let need = on.1 a.0 a.1 a.2 (a.4 ∙ sym is) in
-    let source : count run fired a.1.source ≡ turns run (closing l) f = ap (count run fired) a.3
-    ∙ ap (λ (x : ℕ). turns run (closing l) (fired x)) (node-closing run l low-l) in
-    absurd (omega (
+    let had-o : count run fired (opening l) ≡ turns run (opening l) f =
+    ap (λ (x : ℕ). turns run (opening l) (fired x)) (node-opening run l low-l) in
+    let had-c : count run fired (closing l) ≡ turns run (closing l) f =
+    ap (λ (x : ℕ). turns run (closing l) (fired x)) (node-closing run l low-l) in
+    let turns-o = turns-low run (opening l) f (omega (arith, opening-is l)) in
+    let turns-c = turns-low run (closing l) f (omega (arith, closing-is l)) in
+    let turns-e = turns-low run e f low in
+    dite (ℕ_discrete (e % 2) 0)
+    (λ even. omega (arith, closed low-l, closing-is l))
+    (λ odd. omega (
       arith,
-      need,
-      source,
-      a.5,
-      turns-low run e f low,
-      closing-is l,
-      turns-low run (closing l) f (omega (arith, closing-is l)),
-    )))
-    (λ odd. let a = ok.closes l low-l in let is : e ≡ closing l = omega (arith, closing-is l) in
-    let need = on.1 a.0 a.1 a.2 (a.4 ∙ sym is) in
-    let source : count run fired a.1.source ≡ turns run (opening l) f = ap (count run fired) a.3
-    ∙ ap (λ (x : ℕ). turns run (opening l) (fired x)) (node-opening run l low-l) in
-    absurd (omega (
-      arith,
-      need,
-      source,
-      a.5,
-      turns-low run e f low,
+      opened low-l (omega (arith, closing-is l)),
       opening-is l,
-      turns-low run (opening l) f (omega (arith, opening-is l)),
-    )))))
+    )))
     (λ high. let h = node-high run e (omega arith) in
     omega (arith, next-high run l f (omega arith)))
 
@@ -67,7 +116,15 @@ by_rank run sound ok fired m below stuck all (suc r) e near low =
           ))
           (λ some-token. omega (arith, all a.source (sound.named k a at).0))),
     ) in
-    let l : ℕ = node_of run e in let same = own_turn run ok fired e on in
+    let l : ℕ = node_of run e in
+    let same : e ≡ next run l (fired l) = own_turn run fired e
+    (λ low-l. omega (arith, all (closing l) (omega (arith, node-closing run l low-l))))
+    (λ low-l closes. omega (
+      arith,
+      by_rank run sound ok fired m below stuck all r (opening l)
+          (omega (arith, node-opening run l low-l))
+          (omega (arith, opens_first run ok l low-l, ap ok.rank closes)),
+    )) in
     ⊎_elim (λ off. absurd (off (subst (Enabled run fired) same on)))
     (λ done. absurd (omega (arith, done, ap (λ (x : ℕ). turns run x (fired l)) same)))
     (stuck l near))

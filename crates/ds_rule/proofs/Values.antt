@@ -1,5 +1,6 @@
 -- The two steps on value words. No word that is being read is being written.
-use Rattle.std.proofs.Common.{◌≡◌, ℕ, ◌+◌, ◌-◌, ◌<◌, ◌≤◌, true, List, length, get_or, set}
+use Rattle.std.proofs.Common.{◌≡◌, ◌≢◌, ℕ, ◌+◌, ◌-◌, ◌<◌, ◌≤◌, true, List, length, get_or, set}
+use Rattle.std.proofs.Common.{eqb, cond, eq-eqb, ne_eqb}
 use Rattle.std.proofs.Common.{sym, refl, ap, ◌∙◌, subst, arith, le_refl, le_of_eq, length-set}
 use Rattle.std.proofs.Common.{get_or-set_other, get_or-set_same}
 use mathlib.Core.Logic.{dite}
@@ -9,13 +10,14 @@ use lib.ListN.{get_elem?}
 use Rattle.atomic_table.specs.Table.{step, keeps, Allows}
 use Rattle.ds_rule.specs.Run.{Run, node_of, turns, opens, opening, closing, opened, count}
 use Rattle.ds_rule.specs.Words.{width, place, value}
+use Rattle.ds_rule.specs.Sound.{Agreed, HasOrder}
 use Rattle.ds_rule.specs.Rule.{shown, seen, event, version, Fits, Lawful}
 use Rattle.ds_rule.specs.Plays.{Sat, read, wrote, after_write}
-use Rattle.ds_marked.specs.declared.marked.Arc.{Arc}
 use Rattle.ds_rule.specs.declared.layout.DataEdge.{DataEdge}
 use Rattle.ds_rule.specs.declared.view.View.{View}
-use Rattle.ds_rule.proofs.EventLaws.{turns_up, next-opens, node-opening, node-closing}
-use Rattle.ds_rule.proofs.EventLaws.{turns-opening, turns-closing}
+use Rattle.ds_rule.proofs.EventLaws.{node-next, turns_up, next-opens, node-opening}
+use Rattle.ds_rule.proofs.EventLaws.{node-closing, turns-opening, turns-closing, opening-is}
+use Rattle.ds_rule.proofs.EventLaws.{closing-is}
 use Rattle.ds_rule.proofs.PlaceLaws.{place_behind, place_inside, places_apart}
 use Rattle.ds_rule.proofs.Views.{St, inside, version-old, version-new}
 use Rattle.ds_rule.proofs.Keeps.{unmoved, renewed, later}
@@ -32,12 +34,56 @@ count-closing : (run : Run) (fired : ℕ → ℕ) (e l : ℕ) → e ≡ closing 
 count-closing run fired e l is low = ap (count run fired) is
     ∙ ap (λ (m : ℕ). turns run (closing l) (fired m)) (node-closing run l low)
 
-opened_up : (run : Run) (l f g : ℕ) → l < run.latches → f ≤ g → opened run l f ≤ opened run l g
-opened_up run l f g low h = omega (
+-- the counts that the words show, and one more of the event in flight
+abbrev and_flight : Run → List ℕ → View → ℕ → ℕ
+and_flight run words v x = count run (shown words) x + cond (eqb x (event run v)) 1 0
+
+flight-other : (run : Run) (words : List ℕ) (v : View) (x : ℕ) → x ≢ event run v
+    → and_flight run words v x ≡ count run (shown words) x
+flight-other run words v x far = ap {B = ℕ} (λ b. count run (shown words) x + cond b 1 0)
+    (ne_eqb x (event run v) far) ∙ omega arith
+
+flight-here : (run : Run) (words : List ℕ) (v : View) (x : ℕ) → x ≡ event run v
+    → and_flight run words v x ≡ count run (shown words) x + 1
+flight-here run words v x is = ap {B = ℕ} (λ b. count run (shown words) x + cond b 1 0)
+    (eq-eqb x (event run v) is)
+
+-- what is in flight is counted once more, and the counts still agree with each arc
+in_flight_agrees : (run : Run) (s : St) (o : Lawful run s) (id : ℕ) (v : View)
+    → get_elem? s.views id ≡ some v → v.live ≡ true → 0 < v.stage
+    → Agreed run (and_flight run s.words v)
+in_flight_agrees run s o id v me live flying k a at =
+    let f = o.views id v me live in let up = f.flies flying in let E : ℕ = event run v in
+    let more : count run (shown s.words) a.source ≤ and_flight run s.words v a.source =
+    omega arith in
+    dite (ℕ_discrete a.target E)
+    (λ into. let of-node : node_of run E ≡ v.node = node-next run v.node (seen v v.node) in
+    let here : count run (shown s.words) a.target ≡ count run (seen v) E =
+    ap (count run (shown s.words)) into
+    ∙ ap (turns run E) (ap (shown s.words) of-node
+    ∙ (f.counted v.node up.0 ∙ ap (seen v) (sym of-node))) in
+    omega (
+      arith,
+      flight-here run s.words v a.target into,
+      here,
+      up.2.1 k a at into,
+      turns_up run a.source (seen v (node_of run a.source)) (shown s.words (node_of run a.source))
+          (f.known (node_of run a.source) (o.sound.named k a at).0),
+      more,
+    ))
+    (λ far. omega (arith, flight-other run s.words v a.target far, o.consistent.0 k a at, more))
+
+-- so an order into the event in flight is met with one firing to spare
+flight_meets : (run : Run) (s : St) (o : Lawful run s) (id : ℕ) (v : View)
+    → get_elem? s.views id ≡ some v → v.live ≡ true → 0 < v.stage
+    → (source target tokens : ℕ) → HasOrder run source target tokens → target ≡ event run v
+    → source ≢ event run v
+    → count run (shown s.words) target + 1 ≤ count run (shown s.words) source + tokens
+flight_meets run s o id v me live flying source target tokens order is far = omega (
   arith,
-  turns-opening run l f low,
-  turns-opening run l g low,
-  turns_up run (opening l) f g h,
+  order (and_flight run s.words v) (in_flight_agrees run s o id v me live flying),
+  flight-here run s.words v target is,
+  flight-other run s.words v source far,
 )
 
 -- the heart of the rule: what stands in a producer's words while its consumer is in flight with an
@@ -50,64 +96,52 @@ pub stands : (run : Run) (s : St) (o : Lawful run s) (id : ℕ) (v : View)
     ≡ value run e.producer (opened run v.node (seen v v.node) + 1 - e.tokens) i
 stands run s o id v me live flying begins k e i at consumer near =
     let c : ℕ = v.node in let p : ℕ = e.producer in let f = o.views id v me live in
-    let up = f.flies flying in
-    let d = o.sound.orders k e at in let there = d.there in let back = d.back in
+    let up = f.flies flying in let d = o.sound.orders k e at in
     let low-p : p < run.latches = d.from in let low-c : c < run.latches =
     omega (arith, d.into, consumer) in
     let near-p : p < run.nodes = omega (arith, o.sound.among) in
     let h = o.held p near-p in let u : View = h.0 in let g = o.views (o.owner p) u h.1 h.2 in
     let C : ℕ = opened run c (seen v c) in let P : ℕ = opened run p (seen u p) in
-    let n : ℕ = C + 1 - e.tokens in
-    let shown-p : shown s.words p ≡ seen u p = g.counted p h.3 in
-    let shown-c : shown s.words c ≡ seen v c = f.counted c up.0 in
-    let a : Arc = there.1 in let b : Arc = back.1 in
-    let event-is : event run v ≡ opening c = next-opens run c (seen v c) begins in
-    let target-a : a.target ≡ event run v = there.4 ∙ (ap opening consumer ∙ sym event-is) in
-    let source-b : b.source ≡ closing c = back.3 ∙ ap closing consumer in
-    -- the consumer saw enough of the producer
-    let saw = up.2.1 there.0 a there.2 target-a in
+    let n : ℕ = C + 1 - e.tokens in let counts : ℕ → ℕ = count run (shown s.words) in
+    let opens-c : counts (opening e.consumer) ≡ C =
+    count-opening run (shown s.words) (opening e.consumer) c (ap opening consumer) low-c
+    ∙ ap (opened run c) (f.counted c up.0) in
+    let opens-p : counts (opening p) ≡ P =
+    count-opening run (shown s.words) (opening p) p refl low-p
+    ∙ ap (opened run p) (g.counted p h.3) in
+    let closes-c : counts (closing e.consumer) ≡ C =
+    count-closing run (shown s.words) (closing e.consumer) c (ap closing consumer) low-c
+    ∙ (ap (turns run (closing c)) (f.counted c up.0)
+    ∙ turns-closing run c (seen v c) low-c begins) in
+    let event-c : event run v ≡ opening c = next-opens run c (seen v c) begins in
+    -- the producer has opened often enough
     let ready : n ≤ P = omega (
       arith,
-      saw,
-      count-opening run (seen v) (event run v) c event-is low-c,
-      count-opening run (seen v) a.source p there.3 low-p,
-      opened_up run p (seen v p) (seen u p) low-p (omega (arith, f.known p near-p, shown-p)),
-      there.5,
+      flight_meets run s o id v me live flying (opening p) (opening e.consumer) e.tokens d.there
+          (ap opening consumer ∙ sym event-c)
+          (λ t. d.apart (omega (arith, t, event-c, opening-is p, opening-is c, consumer))),
+      opens-c,
+      opens-p,
     ) in
     -- the order back agrees
-    let closed : turns run (closing c) (seen v c) ≡ C =
-    turns-closing run c (seen v c) low-c begins in
-    let agrees : P ≤ n + run.slack = omega (
-      arith,
-      o.consistent.0 back.0 b back.2,
-      count-opening run (shown s.words) b.target p back.4 low-p,
-      ap (opened run p) shown-p,
-      count-closing run (shown s.words) b.source c source-b low-c,
-      ap (turns run (closing c)) shown-c,
-      closed,
-      back.5,
-      d.tokens_few,
-    ) in
+    let agrees : P ≤ n + run.slack =
+    omega (arith, d.back counts o.consistent.0, opens-p, closes-c, d.tokens_few) in
     -- and so it does where the producer is in flight with its next opening
     let bounds : (n ≤ version run u p i) × (version run u p i ≤ n + run.slack) =
     dite (ℕ_discrete u.node p)
     (λ is. dite (dec_lt i u.written)
     (λ written. let now = version-new run u p i is written in
-    let flying' = (g.writes (omega arith)).0 in let up' = g.flies flying' in
-    let event-p : event run u ≡ opening p = next-opens run u.node (seen u u.node)
-    (g.writes (omega arith)).1 ∙ ap opening is in
-    let saw' = up'.2.1 back.0 b back.2 (back.4 ∙ sym event-p) in
-    let less = turns_up run (closing c) (seen u c) (seen v c)
-    (omega (arith, g.known c (omega (arith, o.sound.among)), shown-c)) in (
+    let aloft = g.writes (omega arith) in
+    let event-p : event run u ≡ opening p = next-opens run u.node (seen u u.node) aloft.1
+    ∙ ap opening is in (
       omega arith,
       omega (
         arith,
-        saw',
-        count-opening run (seen u) (event run u) p event-p low-p,
-        count-closing run (seen u) b.source c source-b low-c,
-        less,
-        closed,
-        back.5,
+        flight_meets run s o (o.owner p) u h.1 h.2 aloft.0 (closing e.consumer) (opening p)
+            (1 - e.tokens + run.slack) d.back (sym event-p)
+            (λ t. omega (arith, t, event-p, opening-is p, closing-is e.consumer)),
+        opens-p,
+        closes-c,
         d.tokens_few,
       ),
     ))

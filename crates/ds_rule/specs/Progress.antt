@@ -6,10 +6,9 @@ use Rattle.ds_rule.specs.Run.{Run, next, turns, opening, closing, Enabled}
 use Rattle.ds_rule.specs.Sound.{HasOrder}
 use Rattle.ds_marked.specs.declared.marked.Arc.{Arc}
 
--- the orders of each latch are there, and some numbering rises along each arc without tokens
+-- a latch closes after it opens, and some numbering rises along each arc without tokens
 pub record IsAccepted (run : Run) : Type 0 where
   pub closes : (l : ℕ) → l < run.latches → HasOrder run (opening l) (closing l) 0
-  pub opens : (l : ℕ) → l < run.latches → HasOrder run (closing l) (opening l) 1
   pub rank : ℕ → ℕ
   pub rises : (k : ℕ) (a : Arc) → get_elem? run.arcs k ≡ some a → a.tokens ≡ 0
       → rank a.source < rank a.target

@@ -1,5 +1,5 @@
 -- What a run must meet.
-use Rattle.std.specs.Prelude.{◌≡◌, ℕ, ◌+◌, ◌-◌, ◌*◌, ◌<◌, ◌≤◌, length, cond, ◌==◌, zero, suc}
+use Rattle.std.specs.Prelude.{◌≡◌, ◌≢◌, ℕ, ◌+◌, ◌-◌, ◌*◌, ◌<◌, ◌≤◌, length, cond, ◌==◌, zero, suc}
 use Rattle.std.specs.Prelude.{slice_index, slice_index_or}
 use mathlib.Core.Option.{some}
 use lib.ListN.{get_elem?}
@@ -18,17 +18,23 @@ read_words run l zero = 0
 read_words run l (suc n) =
     read_words run l n + cond ((edge_at run n).consumer == l) (width run (edge_at run n).producer) 0
 
--- an arc with these ends and at most these tokens
-abbrev pub HasOrder : Run → ℕ → ℕ → ℕ → Type 0
-HasOrder run source target tokens = (k : ℕ) × (a : Arc) × (get_elem? run.arcs k ≡ some a)
-    × (a.source ≡ source) × (a.target ≡ target) × (a.tokens ≤ tokens)
+-- counts of events that agree with each arc
+abbrev pub Agreed : Run → (ℕ → ℕ) → Type 0
+Agreed run counts = (k : ℕ) (a : Arc) → get_elem? run.arcs k ≡ some a
+    → counts a.target ≤ counts a.source + a.tokens
 
--- the orders of a data edge: the consumer opens after the producer, and the producer opens again
--- after the consumer closed
+-- counts that agree with each arc meet the order between two events
+abbrev pub HasOrder : Run → ℕ → ℕ → ℕ → Type 0
+HasOrder run source target tokens =
+    (counts : ℕ → ℕ) → Agreed run counts → counts target ≤ counts source + tokens
+
+-- the orders of a data edge, whose ends are two nodes: the consumer opens after the producer, and
+-- the producer opens again after the consumer closed
 pub record HasOrders (run : Run) (e : DataEdge) : Type 0 where
   pub tokens_few : e.tokens ≤ 1
   pub from : e.producer < run.latches
   pub into : e.consumer < run.latches
+  pub apart : e.producer ≢ e.consumer
   pub there : HasOrder run (opening e.producer) (opening e.consumer) e.tokens
   pub back : HasOrder run (closing e.consumer) (opening e.producer) (1 - e.tokens + run.slack)
 

@@ -5,12 +5,12 @@ ghost use Rattle.ds_rule.specs.Words.{width};
 
 use ds_base::LatchId;
 use ds_marked::Arc;
-use std::marker::{Model, PhantomData};
+use std::marker::Model;
 
 /// The values of a run, which no code knows before it has fired. Contracts alone read them.
 pub trait Rows {
     // value k of node l is row k * nodes + l
-    ghost rows: { List Row };
+    ghost rows: { Self → List Row };
 }
 
 /// A consumer takes its value from a producer: of the same turn (0 tokens), or of the one before (1
@@ -22,7 +22,7 @@ pub struct DataEdge {
     pub tokens: u8,
 }
 
-/// What a run is of. Contracts see a run: what is kept here, and the values that `J` says.
+/// What a run is of. Contracts see a run: what is kept here, and the values that `rows` stands for.
 ///
 /// The first nodes, the latches, have two events each, 2 l (it opens) and 2 l + 1 (it closes). The
 /// events of the other nodes, one each, come behind.
@@ -35,7 +35,7 @@ pub struct Layout<J: Rows> {
     edges: Vec<DataEdge>,
     lengths: Vec<usize>,
     slack: usize,
-    rows: PhantomData<J>,
+    rows: J,
 }
 
 impl<J: Rows> Model for Layout<J> {
@@ -51,14 +51,14 @@ impl<J: Rows> Model for Layout<J> {
       edges = m.edges.items;
       lengths = m.lengths.items;
       slack = m.slack;
-      rows = J.rows;
+      rows = J.rows m.rows;
     } };
 }
 
 impl<J: Rows> Layout<J> {
     /// Of its parts: how many nodes and latches, the arcs between events, how often each event may
-    /// fire, the data edges, how many values a row of each node has, and how many openings a
-    /// producer may be ahead.
+    /// fire, the data edges, how many values a row of each node has, how many openings a producer
+    /// may be ahead, and what stands for the values.
     pub fn of(
         nodes: usize,
         latches: usize,
@@ -67,6 +67,7 @@ impl<J: Rows> Layout<J> {
         edges: Vec<DataEdge>,
         lengths: Vec<usize>,
         slack: usize,
+        rows: J,
     ) -> Self
         ensures { result ≡ record {
           nodes = nodes;
@@ -76,7 +77,7 @@ impl<J: Rows> Layout<J> {
           edges = edges.items;
           lengths = lengths.items;
           slack = slack;
-          rows = J.rows;
+          rows = J.rows rows;
         } }
     {
         Layout {
@@ -87,7 +88,7 @@ impl<J: Rows> Layout<J> {
             edges,
             lengths,
             slack,
-            rows: PhantomData,
+            rows,
         }
     }
 

@@ -1,4 +1,4 @@
-use Rattle.std.proofs.Common.{◌≡◌, ◌+◌, ◌*◌, ◌%◌, ◌∙◌, ℕ, ap, arith}
+use Rattle.std.proofs.Common.{◌≡◌, ◌+◌, ◌*◌, ◌%◌, ◌∙◌, ℕ, ap, arith, zero-mul}
 use Rattle.ds_rule.specs.Run.{Run}
 use Rattle.ds_rule.specs.Words.{width}
 use Rattle.ds_rule.proofs.PlaceLaws.{place-turn, row_ends}
@@ -9,12 +9,28 @@ product : (run : Run) (t s w l : ℕ) → s ≡ run.slack → w ≡ width run l
 product run t s w l p q = ap (λ (x : ℕ). t % (x + 1) * w) p
     ∙ ap (λ (y : ℕ). t % (run.slack + 1) * y) q
 
+-- with no slack, one row of a node is kept
+one_alone : (t s w : ℕ) → s ≡ 0 → t % (s + 1) * w ≡ 0
+one_alone t s w none = let rest : t % (s + 1) ≡ 0 =
+    ap (λ (x : ℕ). t % (x + 1)) none ∙ omega arith in
+    ap (λ (x : ℕ). x * w) rest ∙ zero-mul w
+
+pub returns-then-slack-eq0 : goal.returns-then-slack-eq0
+returns-then-slack-eq0 g c = let run : Run = c.args.graph.now in let l : ℕ = c.args.node in
+    omega (
+      arith,
+      one_alone c.args.turn run.slack (width run l)
+          (omega (arith, c.if-slack-eq0.true, c.slack-slack.ensures)),
+      place-turn run l c.args.turn,
+      c.requires.sound.1.1 l c.requires.near,
+    )
+
 pub overflow_mul-result : goal.overflow_mul-result
 overflow_mul-result g c = let run : Run = c.args.graph.now in let l : ℕ = c.args.node in
     let t : ℕ = c.args.turn in
     omega (
       arith,
-      product run t c.slack.result c.width.result l c.slack.ensures c.width.ensures,
+      product run t c.slack-slack.result c.width.result l c.slack-slack.ensures c.width.ensures,
       place-turn run l t,
       row_ends run l t c.requires.near,
       c.requires.sound.0.sized,
@@ -25,7 +41,7 @@ overflow_add-result g c = let run : Run = c.args.graph.now in let l : ℕ = c.ar
     let t : ℕ = c.args.turn in
     omega (
       arith,
-      product run t c.slack.result c.width.result l c.slack.ensures c.width.ensures,
+      product run t c.slack-slack.result c.width.result l c.slack-slack.ensures c.width.ensures,
       place-turn run l t,
       row_ends run l t c.requires.near,
       c.requires.sound.0.sized,
@@ -37,7 +53,7 @@ returns g c = let run : Run = c.args.graph.now in let l : ℕ = c.args.node in
     let t : ℕ = c.args.turn in
     omega (
       arith,
-      product run t c.slack.result c.width.result l c.slack.ensures c.width.ensures,
+      product run t c.slack-slack.result c.width.result l c.slack-slack.ensures c.width.ensures,
       place-turn run l t,
       c.requires.sound.1.1 l c.requires.near,
     )

@@ -1,0 +1,114 @@
+-- Passes of the fabric of the tests: which nodes they hold after each call.
+use Rattle.std.proofs.Common.{◌≡◌, ◌<◌, ◌+◌, ◌||◌, ℕ, zero, suc, List, Bool, true, false}
+use Rattle.std.proofs.Common.{length, get_or, set, replicate, [], ◌∷◌, sym, refl, ap, ◌∙◌, subst}
+use Rattle.std.proofs.Common.{arith}
+use Rattle.ds_rule.specs.Run.{Run, events}
+use Rattle.ds_rule.proofs.EventLaws.{events-is}
+use Rattle.ds_rule.specs.Rule.{holds}
+use Rattle.ds_rule.specs.Plays.{listed, both}
+use Rattle.ds_rule.specs.declared.view.View.{View}
+use Rattle.ds_fabric.specs.Base.{Base}
+use Rattle.ds_fabric.specs.Showing.{Showing, IsBegun, IsDealt, IsLeft, Stays}
+use Rattle.ds_fabric.specs.Toggle.{toggle, Holding, HoldsBoth, HoldsSlave, HoldsMaster}
+
+-- a node that is held
+pub held : (held : List Bool) (many room : ℕ) (f : Base) (p : Showing)
+    → Holding held many room f p → (l : ℕ) → get_or held l false ≡ true → holds p.view l ≡ true
+held hs many room f p h l is = ap (λ (xs : List Bool). get_or xs l false) h.held_are ∙ is
+
+pub held_both : (f : Base) (p : Showing) → HoldsBoth f p → (l : ℕ) → l < 2
+    → holds p.view l ≡ true
+held_both f p h zero near = held (true ∷ true ∷ []) 2 2 f p h 0 refl
+held_both f p h (suc zero) near = held (true ∷ true ∷ []) 2 2 f p h 1 refl
+held_both f p h (suc (suc l)) near = absurd (omega arith)
+
+-- the first pass
+pub begun : (run : Run) (f : Base) (p : Showing) → run ≡ toggle → IsBegun run f p → HoldsBoth f p
+begun run f p is b = record {
+  run_is = b.run_is ∙ is;
+  belongs = b.belongs;
+  held_are = ap (λ (v : View). v.holds) b.view ∙ ap (λ (r : Run). replicate r.nodes true) is;
+  many_are = b.many ∙ ap (λ (r : Run). r.nodes) is;
+  room_is = b.room ∙ ap (λ (r : Run). r.nodes) is;
+}
+
+-- a step
+pub stays : (held : List Bool) (many room : ℕ) (f : Base) (old p : Showing)
+    → Holding held many room f old → Stays old p → Holding held many room f p
+stays held many room f old p h s = record {
+  run_is = h.run_is;
+  belongs = record {
+    table = s.table ∙ h.belongs.table;
+    run = s.run ∙ h.belongs.run;
+    nets = s.nets ∙ h.belongs.nets;
+  };
+  held_are = s.holds_same ∙ h.held_are;
+  many_are = s.many ∙ h.many_are;
+  room_is = s.room ∙ h.room_is;
+}
+
+-- a deal of the master
+pub dealt : (f : Base) (old p : Showing) → HoldsBoth f old → IsDealt old 1 1 p → HoldsMaster f p
+dealt f old p h d = record {
+  run_is = h.run_is;
+  belongs = record {
+    table = d.table ∙ h.belongs.table;
+    run = ap (λ (v : View). v.run) d.view ∙ h.belongs.run;
+    nets = d.nets ∙ h.belongs.nets;
+  };
+  held_are = ap (λ (v : View). v.holds) d.view
+      ∙ ap (λ (xs : List Bool). set (replicate (length xs) false) 1 true) h.held_are;
+  many_are = d.many;
+  room_is = d.room_is;
+}
+
+pub left : (f : Base) (old p : Showing) → HoldsBoth f old → IsLeft old 1 p → HoldsSlave f p
+left f old p h d = record {
+  run_is = h.run_is;
+  belongs = record {
+    table = d.table ∙ h.belongs.table;
+    run = ap (λ (v : View). v.run) d.view ∙ h.belongs.run;
+    nets = d.nets ∙ h.belongs.nets;
+  };
+  held_are = ap (λ (v : View). v.holds) d.view
+      ∙ ap (λ (xs : List Bool). set xs 1 false) h.held_are;
+  many_are = omega (arith, d.many, h.many_are);
+  room_is = d.room ∙ h.room_is;
+}
+
+-- the slave's pass with the master's
+pub united : (f : Base) (old other p : Showing) → HoldsSlave f old → HoldsMaster f other
+    → p.table_id ≡ old.table_id → p.room ≡ old.room → p.nets ≡ old.nets
+    → p.many ≡ old.many + other.many → p.view ≡ both old.view other.view → HoldsBoth f p
+united f old other p a b table room nets many view =
+    let v : View = old.view in let w : View = other.view in record {
+      run_is = a.run_is;
+      belongs = record {
+        table = table ∙ a.belongs.table;
+        run = ap (λ (x : View). x.run) view ∙ a.belongs.run;
+        nets = nets ∙ a.belongs.nets;
+      };
+      held_are = ap (λ (x : View). x.holds) view
+          ∙ (ap (λ (r : Run). listed (λ l. holds v l || holds w l) r.nodes)
+          (a.belongs.run ∙ a.run_is)
+          ∙ (ap (λ (xs : List Bool). listed (λ l. get_or xs l false || holds w l) 2) a.held_are
+          ∙ ap (λ (xs : List Bool). listed
+          (λ l. get_or (true ∷ false ∷ []) l false || get_or xs l false) 2) b.held_are));
+      many_are = omega (arith, many, a.many_are, b.many_are);
+      room_is = room ∙ a.room_is;
+    }
+
+-- the events and the rows of the run
+pub few_events : (run : Run) (e : ℕ) → run ≡ toggle → e < 4 → e < events run
+few_events run e is h = omega (arith, ap events is, events-is toggle)
+
+pub few_latches : (run : Run) (l : ℕ) → run ≡ toggle → l < 2 → l < run.latches
+few_latches run l is h = subst (λ (r : Run). l < r.latches) (sym is) h
+
+pub few_nodes : (run : Run) (l : ℕ) → run ≡ toggle → l < 2 → l < run.nodes
+few_nodes run l is h = subst (λ (r : Run). l < r.nodes) (sym is) h
+
+pub one_value : (run : Run) (l : ℕ) → run ≡ toggle → l < 2 → get_or run.lengths l 0 ≡ 1
+one_value run zero is h = ap (λ (r : Run). get_or r.lengths 0 0) is
+one_value run (suc zero) is h = ap (λ (r : Run). get_or r.lengths 1 0) is
+one_value run (suc (suc l)) is h = absurd (omega arith)

@@ -1,0 +1,11 @@
+use Rattle.std.proofs.Common.{arith}
+use Rattle.ds_fabric.proofs.Holdings.{few_events}
+use Rattle.ds_fabric.proofs.toggle.has.Goals as goal
+
+pub tickets-requires : goal.tickets-requires
+tickets-requires c = few_events c.args.from.now.shown.view.run c.new-event.result c.requires.run
+    (omega (arith, c.new-event.ensures, c.requires.event))
+
+pub count-requires : goal.count-requires
+count-requires c = few_events c.args.from.now.shown.view.run c.new-event.result c.requires.run
+    (omega (arith, c.new-event.ensures, c.requires.event))
