@@ -4,3 +4,6 @@ pub mod Packs
 pub mod Filled
 pub mod Woven
 pub mod Slaves
+pub mod Given
+pub mod Foreseen
+pub mod ForeseenRows

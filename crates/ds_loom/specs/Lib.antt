@@ -3,3 +3,4 @@ pub mod Taken
 pub mod Settled
 pub mod Packed
 pub mod Woven
+pub mod Foreseen

@@ -1,4 +1,5 @@
 //! Laws of the definitions, each the contract of a function that does nothing.
+ghost use Rattle.ds_loom.specs.Foreseen.{ForeseesRows, ForeseesRun};
 ghost use Rattle.ds_loom.specs.Settled.{SettlesNextValue};
 ghost use Rattle.ds_loom.specs.Taken.{TakesNextValue};
 
@@ -10,4 +11,14 @@ pub fn takes_next_value()
 /// What the cone of a node settles to over its producers' values is its next value.
 pub fn settles_next_value()
     ensures { SettlesNextValue }
+{}
+
+/// The states and nets that are computed by an order of the tables are the clocked run.
+pub fn foresees_run()
+    ensures { ForeseesRun }
+{}
+
+/// Each row of the list of all values stands in its place.
+pub fn foresees_rows()
+    ensures { ForeseesRows }
 {}

@@ -1,0 +1,4 @@
+-- In the order in which to read.
+pub mod Layout
+pub mod Tokened
+pub mod Laws

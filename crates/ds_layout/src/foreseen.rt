@@ -1,0 +1,19 @@
+use ds_design::{Latches, Vectors};
+use ds_rule::Rows;
+
+/// The values of the clocked run of a split design on vectors, for so many nodes. Contracts alone
+/// read them.
+#[derive(Clone, Copy)]
+pub struct Foreseen<'a, 'n> {
+    pub latches: &'a Latches<'n>,
+    pub vectors: &'a Vectors,
+    // The places of the tables, each behind those that it reads.
+    pub order: &'a [u32],
+    pub count: usize,
+}
+
+impl<'a, 'n> Rows for Foreseen<'a, 'n> {
+    ghost use Rattle.ds_loom.specs.Foreseen.{foreseen_rows};
+
+    ghost rows = { λ f. foreseen_rows f.latches.now f.count f.order.now f.vectors.now.rows };
+}
