@@ -1,0 +1,65 @@
+use Rattle.std.proofs.Common.{◌≡◌, ◌∙◌, ◌<◌, ◌+◌, ℕ, List, [], length, get_or, ap, arith}
+use Rattle.std.proofs.lemmas.List.{get_or_default, get_or-set_same}
+use Rattle.ds_design.specs.Node.{Slave, Split, members, number_of}
+use Rattle.ds_rule.specs.Run.{Run}
+use Rattle.ds_rule.specs.Words.{values_at as stored_at}
+use Rattle.ds_trace.proofs.Gathered.{gathered_all, one_cluster, slaves_set}
+use Rattle.ds_trace.proofs.line.gather.Goals as goal
+
+pub row-requires-clause-stored : goal.row-requires-clause-stored
+row-requires-clause-stored c =
+    let low : c.loop-i.i < length c.args.latches.now.clusters =
+    omega (arith, ap length c.clusters-clusters.ensures.clusters) in
+    let stored = c.requires.rows.stored c.loop-i.i low c.args.k (omega arith) in
+    rw c.new-slave.ensures stored
+
+pub loop-i-preserved : goal.loop-i-preserved
+loop-i-preserved c =
+    let s : Split = c.args.latches.now in
+    let run : Run = c.args.fired.now.shown.view.run in
+    let i : ℕ = c.loop-i.i in
+    let k : ℕ = c.args.k in
+    let cluster : List ℕ = c.index-clusters-i.result in
+    let low : c.loop-i.i < length c.args.latches.now.clusters =
+    omega (arith, ap length c.clusters-clusters.ensures.clusters) in
+    let these : List ℕ = c.as_slice.result.now in
+    let are : c.as_slice.result.now ≡ members c.args.latches.now c.loop-i.i =
+    c.as_slice.ensures
+    ∙ (c.index-clusters-i.is
+    ∙ (ap (λ (cs : List (List ℕ)). get_or cs i cluster) c.clusters-clusters.ensures.clusters
+    ∙ get_or_default s.clusters i cluster [] low)) in
+    let row : c.row.new.into ≡ stored_at c.args.fired.now.shown.view.run
+    (number_of (Slave c.loop-i.i)) (c.args.k + 1) =
+    c.row.ensures ∙ ap (λ (n : ℕ). stored_at run n (k + 1)) c.new-slave.ensures in
+    let long : length c.row.new.into ≡ length (members c.args.latches.now c.loop-i.i) =
+    ap length row ∙ c.requires.rows.full i low k (omega arith) in
+    let wide : c.loop-i.i < length c.loop-i.line.slaves.items =
+    omega (arith, c.loop-i.invariant.line.slaves.one_each) in
+    let part : c.index.result.now
+    ≡ stored_at c.args.fired.now.shown.view.run (number_of (Slave c.loop-i.i)) (c.args.k + 1) =
+    c.index.ensures ∙ (get_or-set_same c.loop-i.line.slaves.items i c.row.new.into
+    c.index.result.now wide ∙ row) in
+    record {
+      line = record {
+        outputs = c.loop-i.invariant.line.outputs;
+        registers = c.spread.ensures.0 ∙ c.loop-i.invariant.line.registers;
+        slaves = slaves_set s (length s.clusters) c.loop-i.line.slaves.items i c.row.new.into
+            c.loop-i.invariant.line.slaves low long;
+      };
+      outputs = c.loop-i.invariant.outputs;
+      right = λ other shows.
+          one_cluster s run k i low these are c.index.result.now part c.loop-i.line.registers
+          c.spread.new.registers c.spread.ensures other shows
+          (c.loop-i.invariant.right other shows);
+    }
+
+pub returns-clause-gathered : goal.returns-clause-gathered
+returns-clause-gathered c =
+    let long : length c.loop-i.line.registers ≡ length c.args.latches.now.circuit.registers =
+    c.loop-i.invariant.line.registers in
+    let all : length c.clusters-clusters.result.now ≡ length c.args.latches.now.clusters =
+    ap length c.clusters-clusters.ensures.clusters in
+    λ other shows.
+    gathered_all c.args.latches.now c.clusters-clusters.ensures.split c.loop-i.line.registers other
+    long
+    shows.0 (λ i inside. c.loop-i.invariant.right other shows i (omega arith))

@@ -1,0 +1,17 @@
+use Rattle.std.proofs.Common.{◌∙◌, List, ap, length, replicate}
+use Rattle.ds_marked.specs.Graph.{Graph}
+use Rattle.ds_marked.specs.declared.marked.Event.{Event}
+use Rattle.ds_trace.proofs.log.Log.of.Goals as goal
+
+pub returns : goal.returns
+returns c =
+    let (legal, all) = c.firings_are_legal.ensures c.args.plan.now c.args.vectors.now.rows
+    c.args.fired.now c.requires.played.accepted c.requires.played.planned c.requires.played.whole
+    c.in_ok-firings.field-0.items c.in_ok-firings.ensures in
+    record {
+      legal = legal;
+      all = all;
+      none_yet = c.in_ok-zero.ensures
+          ∙ (ap (λ (es : List Event). replicate (length es) 0) c.events.ensures.events
+          ∙ ap (λ (g : Graph). replicate (length g.events) 0) c.graph.ensures.graph);
+    }

@@ -1,0 +1,16 @@
+use Rattle.std.proofs.Common.{◌≡◌, ◌<◌, ℕ, length, take}
+use Rattle.std.specs.Prelude.{slice_index}
+use Rattle.ds_marked.specs.Graph.{counts_after}
+use Rattle.ds_trace.specs.Logged.{WritesLog}
+use Rattle.ds_trace.proofs.log.write_log.Given as goal
+
+abbrev pub invariant-loop-i : goal.invariant-loop-i
+invariant-loop-i g l = record {
+  events : l.log.events.items ≡ l.initial.log.events.items;
+  one_each : length l.log.counts ≡ length l.plan.graph.events;
+  counts : (v : ℕ) → v < length l.plan.graph.events
+      → slice_index l.log.counts v ≡ counts_after (λ _. 0) (take l.i l.log.events.items) v;
+  written : WritesLog l.plan.graph (take l.i l.log.events.items) l.initial.so_far l.so_far
+      (g.O.Sink.written l.initial.out) (g.O.Sink.written l.out) (g.O.Sink.faults l.initial.out)
+      (g.O.Sink.faults l.out);
+}

@@ -1,0 +1,15 @@
+use Rattle.std.proofs.Common.{◌≡◌}
+use Rattle.ds_clocked.specs.Loop.{IsWrittenTo}
+use Rattle.ds_layout.specs.Layout.{AreValues}
+use Rattle.ds_trace.specs.Line.{HasLine}
+use Rattle.ds_trace.proofs.trace.write_turns.Given as goal
+
+abbrev pub invariant-loop-k : goal.invariant-loop-k
+invariant-loop-k g l = record {
+  line : HasLine l.plan.split l.line;
+  registers : (values : AreValues l.plan.split l.vectors.rows l.fired.shown.view.run)
+      → l.line.registers ≡ values.state l.k;
+  written : IsWrittenTo l.plan.split.circuit 0 l.plan.split.initial l.vectors.rows l.k
+      l.line.registers l.initial.so_far l.so_far (g.O.Sink.written l.initial.out)
+      (g.O.Sink.written l.out) (g.O.Sink.faults l.initial.out) (g.O.Sink.faults l.out);
+}

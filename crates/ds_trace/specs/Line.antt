@@ -1,0 +1,34 @@
+-- The rows that a line of a trace is written from.
+use Rattle.std.specs.Prelude.{◌≡◌, ◌⊎◌, ℕ, ◌+◌, ◌<◌, List, [], length, Contains, slice_index_or}
+use Rattle.ds_base.specs.Values.{Row}
+use Rattle.ds_cover.specs.Cover.{value_at, values_at}
+use Rattle.ds_design.specs.Node.{Split, members, number_of}
+use Rattle.ds_design.specs.Firing.{AreRegisters}
+use Rattle.ds_rule.specs.Run.{Run}
+use Rattle.ds_rule.specs.Words.{values_at as stored_at}
+use Rattle.ds_trace.specs.declared.line.Line.{Line}
+
+-- so many rows, each as long as the cluster with its number
+pub record AreSlaves (s : Split) (count : ℕ) (rows : List Row) : Type 0 where
+  pub one_each : length rows ≡ count
+  pub wide : (i : ℕ) → i < count → length (slice_index_or rows i []) ≡ length (members s i)
+
+-- each row of a line has its length
+pub record HasLine (s : Split) (line : Line) : Type 0 where
+  pub outputs : length line.outputs ≡ length s.circuit.outputs
+  pub registers : length line.registers ≡ length s.circuit.registers
+  pub slaves : AreSlaves s (length s.clusters) line.slaves.items
+
+-- values went to these registers: of each row that has them there, what was right is right, and so
+-- are these registers
+abbrev pub AreSpread : List ℕ → Row → Row → Row → Type 0
+AreSpread these values old new =
+    (length new ≡ length old)
+    × ((row : Row) → values_at row these ≡ values
+    → (r : ℕ) → Contains these r ⊎ (value_at old r ≡ value_at row r)
+    → value_at new r ≡ value_at row r)
+
+-- the row shows what the slaves have stored in a turn, as no other one does
+abbrev pub IsGathered : Split → Run → ℕ → Row → Type 0
+IsGathered s run k row =
+    (other : Row) → AreRegisters s (λ n. stored_at run (number_of n) (k + 1)) other → row ≡ other

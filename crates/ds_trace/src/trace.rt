@@ -1,0 +1,90 @@
+//! The trace of what the nodes of a plan have stored.
+ghost use Rattle.std.specs.Prelude.{◌≡◌};
+ghost use Rattle.ds_design.specs.Circuit.{initial_row};
+ghost use Rattle.ds_design.specs.Trace.{trace_line as trace_text, end_line as end_text};
+ghost use Rattle.ds_outside.specs.Writes.{GoesOn};
+ghost use Rattle.ds_clocked.specs.Appends.{WritesLines, WritesTrace};
+ghost use Rattle.ds_trace.specs.Line.{HasLine};
+ghost use Rattle.ds_trace.specs.Played.{IsPlayed};
+
+use crate::line::{Line, gather};
+use ds_base::{LatchId, Row3};
+use ds_design::{Plan, Vectors};
+use ds_fabric::Record;
+use ds_outside::{Sink, WriteFault};
+use ds_rows::{end_line, trace_line};
+
+/// Writes the whole trace.
+pub fn write_trace<O: Sink>(
+    plan: &Plan<'_>,
+    vectors: &Vectors,
+    fired: &Record,
+    line: &mut Line,
+    out: &mut O,
+) -> Result<(), WriteFault>
+    requires played { IsPlayed plan.now vectors.now.rows fired.now }
+    requires start { plan.now.split.initial ≡ initial_row plan.now.split.circuit }
+    requires line { HasLine plan.now.split line.old }
+    requires registers { line.old.registers ≡ plan.now.split.initial }
+    ensures { WritesTrace result plan.now.split.circuit vectors.now.rows
+        (O.written out.old) (O.written out.new) (O.faults out.old) (O.faults out.new) }
+{
+    let so_far = write_turns(plan, vectors, fired, line, out);
+    put_end(so_far, &line.registers, out)
+}
+
+// Writes the lines of all turns, and leaves the registers after the last one.
+fn write_turns<O: Sink>(
+    plan: &Plan<'_>,
+    vectors: &Vectors,
+    fired: &Record,
+    line: &mut Line,
+    out: &mut O,
+) -> Result<(), WriteFault>
+    requires played { IsPlayed plan.now vectors.now.rows fired.now }
+    requires line { HasLine plan.now.split line.old }
+    requires registers { line.old.registers ≡ plan.now.split.initial }
+    ensures { WritesLines result plan.now.split.circuit 0 plan.now.split.initial vectors.now.rows
+        line.new.registers (O.written out.old) (O.written out.new)
+        (O.faults out.old) (O.faults out.new) }
+{
+    let mut so_far = Ok(());
+    for k in 0..vectors.count() {
+        fired.row(LatchId::new(1), k, &mut line.outputs);
+        so_far = put_line(so_far, k as u64, line, out);
+        gather(plan.latches(), fired, k, line);
+    }
+    so_far
+}
+
+// The line of a turn, unless a write has failed.
+fn put_line<O: Sink>(
+    so_far: Result<(), WriteFault>,
+    turn: u64,
+    line: &Line,
+    out: &mut O,
+) -> Result<(), WriteFault>
+    ensures { GoesOn so_far result (O.written out.old) (O.written out.new)
+        (O.faults out.old) (O.faults out.new)
+        (trace_text turn line.now.outputs line.now.registers) }
+{
+    match so_far {
+        Ok(()) => trace_line(turn, &line.outputs, &line.registers, out),
+        Err(fault) => Err(fault),
+    }
+}
+
+// The last line, unless a write has failed.
+fn put_end<O: Sink>(
+    so_far: Result<(), WriteFault>,
+    registers: &Row3,
+    out: &mut O,
+) -> Result<(), WriteFault>
+    ensures { GoesOn so_far result (O.written out.old) (O.written out.new)
+        (O.faults out.old) (O.faults out.new) (end_text registers.now) }
+{
+    match so_far {
+        Ok(()) => end_line(registers, out),
+        Err(fault) => Err(fault),
+    }
+}

@@ -1,0 +1,166 @@
+ghost use Rattle.std.specs.Prelude.{◌≡◌, ◌<◌, ◌≤◌, length, true, false, Ok, Err, OnOk};
+ghost use Rattle.ds_outside.specs.Fault.{Rose};
+ghost use Rattle.ds_design.specs.Circuit.{columns, initial_row};
+ghost use Rattle.ds_trace.specs.Appends.{AppendsRun, AppendsRunPart, EndsRun, WritesRun};
+ghost use Rattle.ds_trace.specs.Line.{HasLine};
+ghost use Rattle.ds_trace.specs.Logged.{HasLog};
+ghost use Rattle.ds_trace.specs.Played.{IsPlayed};
+
+use crate::fault::RunFault;
+use crate::line::Line;
+use crate::log::{Log, write_log};
+use crate::play::play;
+use crate::trace::write_trace;
+use ds_design::{Plan, Vectors};
+use ds_fabric::Record;
+use ds_outside::{Behind, Buffered, Gate, Lent, Sink, WriteFault};
+use ds_rows::put;
+use std::alloc::Global;
+use std::marker::Brand;
+use std::thread::Threads;
+
+/// Runs a plan with so many workers, from 1 to 64, and writes its trace, and behind it the line
+/// `firings` and the log where one is wanted. The gate is called before each step of a worker, as
+/// `ds_runner::run` says. After `Memory` nothing is written, after `Write` a first part.
+pub fn write_run<R: Threads + Sync, G: Gate, O: Sink>(
+    rt: &R,
+    alloc: Global,
+    plan: &Plan<'_>,
+    vectors: &Vectors,
+    jobs: u32,
+    log: bool,
+    gate: &G,
+    out: &mut O,
+) -> Result<(), RunFault>
+    requires width { vectors.now.width ≡ length (columns plan.now.split.circuit) }
+    requires start { plan.now.split.initial ≡ initial_row plan.now.split.circuit }
+    requires jobs { (0 < jobs) × (jobs ≤ 64) }
+
+    ensures ok { OnOk result
+        (AppendsRun log plan.now vectors.now.rows (O.written out.old) (O.written out.new)) }
+
+    // After a fault.
+    ensures part { result ≡ Err RunFault.Write
+        → AppendsRunPart log plan.now vectors.now.rows (O.written out.old) (O.written out.new) }
+    ensures same { result ≡ Err RunFault.Memory → O.written out.new ≡ O.written out.old }
+
+    // When a write failed.
+    ensures never_falls { O.faults out.old ≤ O.faults out.new }
+    ensures cause { result ≡ Err RunFault.Write → Rose (O.faults out.old) (O.faults out.new) }
+{
+    let Ok(mut line) = Line::of(alloc, plan.latches()) else {
+        return Err(RunFault::Memory);
+    };
+    let Ok(fired) = play(rt, alloc, plan, vectors, jobs, gate) else {
+        return Err(RunFault::Memory);
+    };
+    if log {
+        with_log(alloc, plan, vectors, &fired, &mut line, out)
+    } else {
+        without_log(plan, vectors, &fired, &mut line, out)
+    }
+}
+
+// Writes the trace alone.
+fn without_log<O: Sink>(
+    plan: &Plan<'_>,
+    vectors: &Vectors,
+    fired: &Record,
+    line: &mut Line,
+    out: &mut O,
+) -> Result<(), RunFault>
+    requires played { IsPlayed plan.now vectors.now.rows fired.now }
+    requires start { plan.now.split.initial ≡ initial_row plan.now.split.circuit }
+    requires line { HasLine plan.now.split line.old }
+    requires registers { line.old.registers ≡ plan.now.split.initial }
+    ensures { EndsRun false plan.now vectors.now.rows result
+        (O.written out.old) (O.written out.new) (O.faults out.old) (O.faults out.new) }
+{
+    let lent = Lent { sink: out };
+    let (_, result) = trace_behind::<O, Brand>(plan, vectors, fired, line, lent);
+    match result {
+        Ok(()) => Ok(()),
+        Err(_) => Err(RunFault::Write),
+    }
+}
+
+// Writes the trace and the log.
+fn with_log<O: Sink>(
+    alloc: Global,
+    plan: &Plan<'_>,
+    vectors: &Vectors,
+    fired: &Record,
+    line: &mut Line,
+    out: &mut O,
+) -> Result<(), RunFault>
+    requires played { IsPlayed plan.now vectors.now.rows fired.now }
+    requires start { plan.now.split.initial ≡ initial_row plan.now.split.circuit }
+    requires line { HasLine plan.now.split line.old }
+    requires registers { line.old.registers ≡ plan.now.split.initial }
+    ensures { EndsRun true plan.now vectors.now.rows result
+        (O.written out.old) (O.written out.new) (O.faults out.old) (O.faults out.new) }
+{
+    let Ok(mut log) = Log::of(alloc, plan, vectors, fired) else {
+        return Err(RunFault::Memory);
+    };
+    let lent = Lent { sink: out };
+    let (_, result) = all_behind::<O, Brand>(plan, vectors, fired, line, &mut log, lent);
+    match result {
+        Ok(()) => Ok(()),
+        Err(_) => Err(RunFault::Write),
+    }
+}
+
+// Writes the trace by way of a buffer.
+fn trace_behind<'a, O: Sink, B: Behind>(
+    plan: &Plan<'_>,
+    vectors: &Vectors,
+    fired: &Record,
+    line: &mut Line,
+    behind: Lent<'a, O>,
+) -> (Lent<'a, O>, Result<(), WriteFault>)
+    requires played { IsPlayed plan.now vectors.now.rows fired.now }
+    requires start { plan.now.split.initial ≡ initial_row plan.now.split.circuit }
+    requires line { HasLine plan.now.split line.old }
+    requires registers { line.old.registers ≡ plan.now.split.initial }
+    requires same { behind.sink.ghost_name ≡ B.name }
+    requires before { O.written behind.sink.now ≡ B.before }
+
+    ensures ok { WritesRun result.1 false plan.now vectors.now.rows
+        B.before (O.written result.0.sink.now)
+        (O.faults behind.entry.sink.now) (O.faults result.0.sink.now) }
+    ensures same { result.0.sink.ghost_name ≡ B.name }
+{
+    let mut buffered: Buffered<'a, O, B> = Buffered::new(behind);
+    let so_far = write_trace(plan, vectors, fired, line, &mut buffered);
+    buffered.finish(so_far)
+}
+
+// Writes the trace and the log by way of a buffer.
+fn all_behind<'a, O: Sink, B: Behind>(
+    plan: &Plan<'_>,
+    vectors: &Vectors,
+    fired: &Record,
+    line: &mut Line,
+    log: &mut Log,
+    behind: Lent<'a, O>,
+) -> (Lent<'a, O>, Result<(), WriteFault>)
+    requires played { IsPlayed plan.now vectors.now.rows fired.now }
+    requires start { plan.now.split.initial ≡ initial_row plan.now.split.circuit }
+    requires line { HasLine plan.now.split line.old }
+    requires registers { line.old.registers ≡ plan.now.split.initial }
+    requires log { HasLog plan.now (length vectors.now.rows) log.old }
+    requires same { behind.sink.ghost_name ≡ B.name }
+    requires before { O.written behind.sink.now ≡ B.before }
+
+    ensures ok { WritesRun result.1 true plan.now vectors.now.rows
+        B.before (O.written result.0.sink.now)
+        (O.faults behind.entry.sink.now) (O.faults result.0.sink.now) }
+    ensures same { result.0.sink.ghost_name ≡ B.name }
+{
+    let mut buffered: Buffered<'a, O, B> = Buffered::new(behind);
+    let so_far = write_trace(plan, vectors, fired, line, &mut buffered);
+    let so_far = put(so_far, b"firings\n", &mut buffered);
+    let so_far = write_log(so_far, plan, log, &mut buffered);
+    buffered.finish(so_far)
+}
