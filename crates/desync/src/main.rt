@@ -7,29 +7,39 @@
 
 use ds_app::desync_main;
 use ds_outside::{HostFiles, HostOut, OpenGate};
-use std::alloc::AllocError;
+use std::alloc::{AllocError, Global};
 use std::env;
 use std::process::ExitCode;
 
 fn main(rt: HostRuntime) -> ExitCode {
-    ExitCode::from(run(&rt).unwrap_or(4))
-}
-
-// Does what the words say, and answers the status. Words that are not text are no command line.
-fn run(rt: &HostRuntime) -> Result<u8, AllocError> {
-    let mut files = HostFiles::new(rt);
+    let Ok(words) = words_given(&rt) else {
+        return ExitCode::from(4);
+    };
+    let Ok(texts) = texts_of(rt.alloc(), &words) else {
+        return ExitCode::from(4);
+    };
+    let mut files = HostFiles::new(&rt);
     let mut out = HostOut::new(rt.stdout());
     let mut err = HostOut::new(rt.stderr());
+    ExitCode::from(desync_main(&rt, &texts, &mut files, &mut out, &mut err, &OpenGate))
+}
+
+// The words of the command line: none where some are not text, which is no command line.
+fn words_given(rt: &HostRuntime) -> Result<Vec<String>, AllocError> {
     let mut words = Vec::new(rt.alloc());
-    let given = env::args(rt);
-    if let Ok(given) = given {
+    if let Ok(given) = env::args(rt) {
         for word in given {
             words.push(word)?;
         }
     }
-    let mut texts: Vec<&str> = Vec::new(rt.alloc());
-    for word in &words {
+    Ok(words)
+}
+
+// The same, as they stand in memory.
+fn texts_of(alloc: Global, words: &[String]) -> Result<Vec<&str>, AllocError> {
+    let mut texts = Vec::with_capacity(alloc, words.len())?;
+    for word in words {
         texts.push(word.as_str())?;
     }
-    Ok(desync_main(rt, &texts, &mut files, &mut out, &mut err, &OpenGate))
+    Ok(texts)
 }

@@ -9,7 +9,7 @@ use Rattle.ds_base.specs.declared.number.Mode.{Mode}
 use Rattle.ds_design.specs.Circuit.{Circuit}
 use Rattle.ds_app.specs.declared.stop.Stop.{Stop}
 use Rattle.ds_app.specs.declared.stop.Stop.TheVariants.{Refused, Unread, Unwritten, Memory}
-use Rattle.ds_app.specs.Stage.{OfFile, Stage, then_stage}
+use Rattle.ds_app.specs.Stage.{OfFile, Stage, giving, then_stage}
 use Rattle.ds_app.specs.Stages.{vectors_stage}
 use Rattle.ds_app.specs.PlanStage.{planned_stage}
 use Rattle.ds_app.specs.Ends.{Ends, Never, Output, RoseIn, Stops}
@@ -41,6 +41,15 @@ ends_more stage failed more out unread (Err (Refused line)) is = is
 ends_more stage failed more out unread (Err (Unread line)) (is, same) = (unread line is, same)
 ends_more stage failed more out unread (Err Unwritten) is = is
 ends_more stage failed more out unread (Err Memory) is = is
+
+-- a last stage ends as one that gives less, whatever failed
+pub gives_more : {A : Type 0} (P Q : List ℕ → Type 0) (more : OfFile) (out : Output) → ((text : List ℕ) → P text → Q text)
+    → (result : Result A Stop) → Ends (giving P) Never out result → Ends (giving Q) more out result
+gives_more P Q more out gives (Ok x) (text, is, written) = (text, gives text is, written)
+gives_more P Q more out gives (Err (Refused line)) (none, same) = absurd none
+gives_more P Q more out gives (Err (Unread line)) (none, same) = absurd none
+gives_more P Q more out gives (Err Unwritten) (text, is, part, cause) = (text, gives text is, part, cause)
+gives_more P Q more out gives (Err Memory) same = same
 
 -- the parts of a job behind the split need not know what failed
 pub no_more : {A : Type 0} (stage : Stage A) (more : OfFile) → ((line : List ℕ) → stage.unread Never line → stage.unread more line)

@@ -1,5 +1,5 @@
 -- A job that has a text is not refused, where its files tell what they hold.
-use Rattle.std.proofs.Common.{◌≡◌, ◌≢◌, ℕ, ◌≤◌, List, length, Option, None, Some, Result, Ok, Err, inl, inr, refl, arith, ap, sym, ◌∙◌, subst}
+use Rattle.std.proofs.Common.{◌≡◌, ◌≢◌, ℕ, ◌≤◌, Bool, List, length, Option, None, Some, Result, Ok, Err, inl, inr, refl, arith, ap, sym, ◌∙◌, subst}
 use Rattle.ds_outside.specs.Held.{Held, untold, absent, bytes}
 use Rattle.ds_outside.specs.declared.files.Which.{Which}
 use Rattle.ds_outside.specs.declared.files.Which.TheVariants.{Net, Vectors, Log}
@@ -22,7 +22,7 @@ use Rattle.ds_split.specs.Cluster.{HasTooManyClusters}
 use Rattle.ds_split.specs.Split.{HasTooManyOrders, split_of}
 use Rattle.ds_split.specs.Laws.{OneClustering}
 use Rattle.ds_cmd.specs.declared.job.Job.{Job}
-use Rattle.ds_cmd.specs.declared.job.Job.TheVariants.{Run, Clock, Check, Graph, Replay, Accept}
+use Rattle.ds_cmd.specs.declared.job.Job.TheVariants.{Run, Clock, Check, Graph, Replay, Accept, Demo}
 use Rattle.ds_app.specs.FaultText.{IsNetFaultText, net_fault_text}
 use Rattle.ds_app.specs.Stage.{Stage, IsExclusive, then_stage}
 use Rattle.ds_app.specs.Stages.{OfBytes, accepted_stage, design_stage, file_stage, flat_or_line, lines_stage, models_or_line, netlist_stage, report_stage, result_stage, rows_stage, rows_or_line, text_stage, trace_stage, vectors_stage}
@@ -32,6 +32,7 @@ use Rattle.ds_astg.specs.Read.{graph_of}
 use Rattle.ds_app.specs.GraphStage.{controller_stage}
 use Rattle.ds_app.specs.PlanStage.{acceptable_stage, graph_or_line, marked_stage, named_stage, plan_stage, planned_stage}
 use Rattle.ds_app.specs.AcceptStage.{ranks_stage}
+use Rattle.ds_app.specs.RunStage.{traced_stage}
 use Rattle.ds_app.specs.Job.{accept_stage, clock_stage, graph_stage, replay_stage, run_stage, stages_of}
 use Rattle.ds_app.specs.ReplayStage.{replayed_stage}
 use Rattle.ds_app.specs.Status.{AreTold, IsToldIn}
@@ -156,11 +157,11 @@ planned_exclusive : OneClustering → (held : List ℕ → Held) (net : List ℕ
 planned_exclusive law held net graph mode told c =
     then_exclusive (split_stage net mode c) (plan_stage held graph) (split_exclusive law net mode c) (plan_exclusive held graph told)
 
-run_not_refused : OneClustering → (held : List ℕ → Held) (file vec : List ℕ) (graph : Option (List ℕ)) (mode : Mode) → held vec ≢ untold → IsToldIn held graph
-    → (c : Circuit) (text line : List ℕ) → (run_stage held file vec graph mode c).means text → ¬ (run_stage held file vec graph mode c).refused line
-run_not_refused law held file vec graph mode told named c text line means refused =
-    then_not_refused (planned_stage held file graph mode c) (λ (p : Planned). clock_stage held vec c) (planned_exclusive law held file graph mode named c)
-    (λ p b l is no_more. clock_not_refused held vec told c b l is no_more) text line means refused
+run_not_refused : OneClustering → (held : List ℕ → Held) (file vec : List ℕ) (graph : Option (List ℕ)) (mode : Mode) (log : Bool) → held vec ≢ untold → IsToldIn held graph
+    → (c : Circuit) (text line : List ℕ) → (run_stage held file vec graph mode log c).means text → ¬ (run_stage held file vec graph mode log c).refused line
+run_not_refused law held file vec graph mode log told named c text line means refused =
+    then_not_refused (planned_stage held file graph mode c) (λ (p : Planned). then_stage (vectors_stage held vec c) (traced_stage log c p)) (planned_exclusive law held file graph mode named c)
+    (λ p b l is no_more. then_not_refused (vectors_stage held vec c) (traced_stage log c p) (vectors_exclusive held vec c told) (λ rows t k means none. none) b l is no_more) text line means refused
 
 graph_not_refused : OneClustering → (file : List ℕ) (mode : Mode) (c : Circuit) (text line : List ℕ)
     → (graph_stage file mode c).means text → ¬ (graph_stage file mode c).refused line
@@ -187,9 +188,9 @@ accept_not_refused law held file graph mode named c text line means refused =
 -- a job that has a text is not refused
 pub job_not_refused : FaultsAreRefused → OneClustering → (held : List ℕ → Held) (job : Job) → AreTold held job → (text line : List ℕ)
     → (stages_of held job).means text → ¬ (stages_of held job).refused line
-job_not_refused law one held (Run file vec graph mode) told text line means refused =
-    then_not_refused (netlist_stage held file) (run_stage held file vec graph mode) (netlist_exclusive law held file told.0)
-    (run_not_refused one held file vec graph mode told.1 told.2) text line means refused
+job_not_refused law one held (Run file vec graph mode jobs log) told text line means refused =
+    then_not_refused (netlist_stage held file) (run_stage held file vec graph mode log) (netlist_exclusive law held file told.0)
+    (run_not_refused one held file vec graph mode log told.1 told.2) text line means refused
 job_not_refused law one held (Clock file vec) told text line means refused =
     then_not_refused (netlist_stage held file) (clock_stage held vec) (netlist_exclusive law held file told.0) (clock_not_refused held vec told.1) text line means refused
 job_not_refused law one held (Check file) told text line means refused =
@@ -202,3 +203,4 @@ job_not_refused law one held (Replay file vec log graph mode) told text line mea
 job_not_refused law one held (Accept file graph mode) told text line means refused =
     then_not_refused (netlist_stage held file) (accept_stage held file graph mode) (netlist_exclusive law held file told.0)
     (accept_not_refused one held file graph mode told.1) text line means refused
+job_not_refused law one held (Demo seed registers turns jobs) told text line means none = absurd none

@@ -1,5 +1,5 @@
 -- A stage names a file that it did not read only where a read failed.
-use Rattle.std.proofs.Common.{ℕ, List, Option, None, Some, length, inl, inr}
+use Rattle.std.proofs.Common.{ℕ, Bool, List, Option, None, Some, length, inl, inr}
 use Rattle.ds_outside.specs.Held.{Held}
 use Rattle.ds_outside.specs.declared.files.Which.{Which}
 use Rattle.ds_outside.specs.declared.files.Which.TheVariants.{Net, Vectors, Log}
@@ -10,7 +10,7 @@ use Rattle.ds_flat.specs.Copies.{flat_of}
 use Rattle.ds_design.specs.Circuit.{Circuit, columns}
 use Rattle.ds_design.specs.declared.blif.BlifModel.{BlifModel}
 use Rattle.ds_cmd.specs.declared.job.Job.{Job}
-use Rattle.ds_cmd.specs.declared.job.Job.TheVariants.{Run, Clock, Check, Graph, Replay, Accept}
+use Rattle.ds_cmd.specs.declared.job.Job.TheVariants.{Run, Clock, Check, Graph, Replay, Accept, Demo}
 use Rattle.ds_app.specs.Stage.{OfFile, Stage, giving, then_stage}
 use Rattle.ds_app.specs.Stages.{accepted_stage, design_stage, file_stage, flat_or_line, lines_stage, models_or_line, netlist_stage, report_stage, result_stage, rows_stage, trace_stage, vectors_stage}
 use Rattle.ds_app.specs.SplitStage.{split_stage}
@@ -23,6 +23,7 @@ use Rattle.ds_astg.specs.Read.{graph_of}
 use Rattle.ds_design.specs.Plan.{Planned}
 use Rattle.ds_design.specs.Rows.{Rows}
 use Rattle.ds_fire.specs.Snapshot.{Snapshot}
+use Rattle.ds_app.specs.RunStage.{traced_stage}
 use Rattle.ds_app.specs.Job.{accept_stage, clock_stage, graph_stage, replay_stage, run_stage, stages_of}
 use Rattle.ds_base.specs.declared.number.Mode.{Mode}
 use Rattle.ds_design.specs.Node.{Split}
@@ -72,10 +73,11 @@ planned_says : (held : List ℕ → Held) (net : List ℕ) (graph : Option (List
 planned_says held net graph mode failed c =
     then_says (split_stage net mode c) (plan_stage held graph) failed (λ line none. absurd none) (plan_says held graph failed)
 
-run_says : (held : List ℕ → Held) (file vec : List ℕ) (graph : Option (List ℕ)) (mode : Mode) (failed : OfFile) (c : Circuit) → Says (run_stage held file vec graph mode c) failed
-run_says held file vec graph mode failed c =
-    then_says (planned_stage held file graph mode c) (λ (p : Planned). clock_stage held vec c) failed
-    (planned_says held file graph mode failed c) (λ p. clock_says held vec failed c)
+run_says : (held : List ℕ → Held) (file vec : List ℕ) (graph : Option (List ℕ)) (mode : Mode) (log : Bool) (failed : OfFile) (c : Circuit) → Says (run_stage held file vec graph mode log c) failed
+run_says held file vec graph mode log failed c =
+    then_says (planned_stage held file graph mode c) (λ (p : Planned). then_stage (vectors_stage held vec c) (traced_stage log c p)) failed
+    (planned_says held file graph mode failed c)
+    (λ p. then_says (vectors_stage held vec c) (traced_stage log c p) failed (vectors_say held vec c failed) (λ rows line none. absurd none))
 
 accept_says : (held : List ℕ → Held) (file graph : List ℕ) (mode : Mode) (failed : OfFile) (c : Circuit) → Says (accept_stage held file graph mode c) failed
 accept_says held file graph mode failed c =
@@ -99,9 +101,10 @@ replay_says held file vec log graph mode failed c =
 
 -- where a job names a file that it did not read, a read failed
 pub job_says : (held : List ℕ → Held) (job : Job) (failed : OfFile) (line : List ℕ) → (stages_of held job).unread failed line → IsFailed failed
-job_says held (Run file vec graph mode) failed line is = then_says (netlist_stage held file) (run_stage held file vec graph mode) failed (netlist_says held file failed) (run_says held file vec graph mode failed) line is
+job_says held (Run file vec graph mode jobs log) failed line is = then_says (netlist_stage held file) (run_stage held file vec graph mode log) failed (netlist_says held file failed) (run_says held file vec graph mode log failed) line is
 job_says held (Clock file vec) failed line is = then_says (netlist_stage held file) (clock_stage held vec) failed (netlist_says held file failed) (clock_says held vec failed) line is
 job_says held (Check file) failed line is = then_says (netlist_stage held file) report_stage failed (netlist_says held file failed) (λ c l none. absurd none) line is
 job_says held (Graph file mode) failed line is = then_says (netlist_stage held file) (graph_stage file mode) failed (netlist_says held file failed) (graph_says file mode failed) line is
 job_says held (Replay file vec log graph mode) failed line is = then_says (netlist_stage held file) (replay_stage held file vec log graph mode) failed (netlist_says held file failed) (replay_says held file vec log graph mode failed) line is
 job_says held (Accept file graph mode) failed line is = then_says (netlist_stage held file) (accept_stage held file graph mode) failed (netlist_says held file failed) (accept_says held file graph mode failed) line is
+job_says held (Demo seed registers turns jobs) failed line none = absurd none

@@ -75,7 +75,7 @@ stored_begins s vectors state nets now step turns within register cluster place 
     )
 
 pub interleavings_lem : (held : List ℕ → Held) (words : List (List ℕ)) → Interleavings held words
-interleavings_lem held words net vec graph mode is_job c (flat, is_flat, (is, accepted)) p planned vectors means events legal =
+interleavings_lem held words net vec graph mode jobs log is_job c (flat, is_flat, (is, accepted)) p planned vectors means events legal =
     let accepted' : IsAccepted c = subst (λ (d : Circuit). IsAccepted d) (sym is) accepted in
     let plan : IsPlan p.split p.graph = planned_is_plan held net graph mode c p accepted' planned in
     let controller : IsController p.split p.graph = accepted_controls p.split p.graph plan in

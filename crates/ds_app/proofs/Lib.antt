@@ -5,8 +5,6 @@ pub mod Failed
 pub mod Answered
 pub mod SplitStops
 pub mod Interleaved
-pub mod Fired
-pub mod Finished
 pub mod OneGraph
 pub mod PlanStages
 pub mod PlanAccepted
@@ -15,3 +13,4 @@ pub mod LogTexts
 pub mod ReplayEnds
 pub mod Housed
 pub mod Registers
+pub mod Summaries

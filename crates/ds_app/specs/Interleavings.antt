@@ -1,5 +1,5 @@
 -- In whatever order the latches of a `run` command fire, each register stores its clocked values, one after another.
-use Rattle.std.specs.Prelude.{◌≡◌, ◌⊎◌, ℕ, ◌<◌, List, ◌++◌, Option, Ok, length, map, slice_index}
+use Rattle.std.specs.Prelude.{◌≡◌, ◌⊎◌, ℕ, ◌<◌, Bool, List, ◌++◌, Option, Ok, length, map, slice_index}
 use Rattle.std.specs.List.{range_with_len}
 use Rattle.ds_base.specs.Values.{Row}
 use Rattle.ds_base.specs.declared.number.Mode.{Mode}
@@ -58,7 +58,8 @@ pub record Interleaves (s : Split) (g : Graph) (vectors : List Row) (events : Li
 -- for the words of a `run` command, and the netlist, plan and vectors that the bytes held mean, with a graph of the
 -- user's where one is named: after every legal list
 abbrev pub Interleavings : (List ℕ → Held) → List (List ℕ) → Type 0
-Interleavings held words = (net vec : List ℕ) (graph : Option (List ℕ)) (mode : Mode) → job_of words ≡ Ok (Run net vec graph mode)
+Interleavings held words = (net vec : List ℕ) (graph : Option (List ℕ)) (mode : Mode) (jobs : ℕ) (log : Bool)
+    → job_of words ≡ Ok (Run net vec graph mode jobs log)
     → (c : Circuit) → (netlist_stage held net).means c
     → (p : Planned) → (planned_stage held net graph mode c).means p
     → (vectors : Rows) → (vectors_stage held vec c).means vectors

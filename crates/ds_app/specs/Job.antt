@@ -1,15 +1,17 @@
 -- The text that a job gives, and what stands in its way.
-use Rattle.std.specs.Prelude.{ℕ, List, Option, Some}
+use Rattle.std.specs.Prelude.{ℕ, Bool, List, Option, Some}
 use Rattle.ds_base.specs.declared.number.Mode.{Mode}
 use Rattle.ds_outside.specs.Held.{Held}
 use Rattle.ds_design.specs.Circuit.{Circuit}
 use Rattle.ds_cmd.specs.declared.job.Job.{Job}
-use Rattle.ds_cmd.specs.declared.job.Job.TheVariants.{Run, Clock, Check, Graph, Replay, Accept}
+use Rattle.ds_cmd.specs.declared.job.Job.TheVariants.{Run, Clock, Check, Graph, Replay, Accept, Demo}
 use Rattle.ds_app.specs.Stage.{Stage, then_stage}
 use Rattle.ds_app.specs.Stages.{netlist_stage, vectors_stage, trace_stage, report_stage}
 use Rattle.ds_app.specs.SplitStage.{split_stage}
 use Rattle.ds_app.specs.GraphStage.{controller_stage}
 use Rattle.ds_app.specs.PlanStage.{planned_stage}
+use Rattle.ds_app.specs.RunStage.{traced_stage}
+use Rattle.ds_app.specs.DemoStage.{demo_stage}
 use Rattle.ds_app.specs.AcceptStage.{ranks_stage}
 use Rattle.ds_app.specs.ReplayStage.{replayed_stage}
 
@@ -18,9 +20,9 @@ abbrev pub clock_stage : (List ℕ → Held) → List ℕ → Circuit → Stage 
 clock_stage held vec c = then_stage (vectors_stage held vec c) (trace_stage c)
 
 -- `run`, once the netlist is read
-abbrev pub run_stage : (List ℕ → Held) → List ℕ → List ℕ → Option (List ℕ) → Mode → Circuit → Stage (List ℕ)
-run_stage held net vec graph mode c =
-    then_stage (planned_stage held net graph mode c) (λ p. clock_stage held vec c)
+abbrev pub run_stage : (List ℕ → Held) → List ℕ → List ℕ → Option (List ℕ) → Mode → Bool → Circuit → Stage (List ℕ)
+run_stage held net vec graph mode log c = then_stage (planned_stage held net graph mode c) (λ p.
+    then_stage (vectors_stage held vec c) (traced_stage log c p))
 
 -- `graph`, once the netlist is read
 abbrev pub graph_stage : List ℕ → Mode → Circuit → Stage (List ℕ)
@@ -37,9 +39,10 @@ accept_stage held net graph mode c = then_stage (planned_stage held net (Some gr
 
 -- the stages of a job, on what its files hold
 abbrev pub stages_of : (List ℕ → Held) → Job → Stage (List ℕ)
-stages_of held (Run net vec graph mode) = then_stage (netlist_stage held net) (run_stage held net vec graph mode)
+stages_of held (Run net vec graph mode jobs log) = then_stage (netlist_stage held net) (run_stage held net vec graph mode log)
 stages_of held (Clock net vec) = then_stage (netlist_stage held net) (clock_stage held vec)
 stages_of held (Check net) = then_stage (netlist_stage held net) report_stage
 stages_of held (Graph net mode) = then_stage (netlist_stage held net) (graph_stage net mode)
 stages_of held (Replay net vec log graph mode) = then_stage (netlist_stage held net) (replay_stage held net vec log graph mode)
 stages_of held (Accept net graph mode) = then_stage (netlist_stage held net) (accept_stage held net graph mode)
+stages_of held (Demo seed registers turns jobs) = demo_stage seed registers turns

@@ -7,10 +7,11 @@ pub mod SplitStage
 pub mod GraphStage
 pub mod PlanStage
 pub mod AcceptStage
+pub mod RunStage
+pub mod DemoStage
 pub mod Homes
 pub mod ReplayStage
 pub mod Job
 pub mod Interleavings
 pub mod Status
 pub mod Ends
-pub mod Stored

@@ -6,7 +6,7 @@ use Rattle.ds_outside.specs.Written.{appended, AppendsPart}
 use Rattle.ds_outside.specs.declared.files.Which.{Which}
 use Rattle.ds_cmd.specs.Line.{job_of}
 use Rattle.ds_cmd.specs.declared.job.Job.{Job}
-use Rattle.ds_cmd.specs.declared.job.Job.TheVariants.{Run, Clock, Check, Graph, Replay, Accept}
+use Rattle.ds_cmd.specs.declared.job.Job.TheVariants.{Run, Clock, Check, Graph, Replay, Accept, Demo}
 use Rattle.ds_cmd.specs.declared.fault.UsageFault.{UsageFault}
 use Rattle.ds_cmd.specs.declared.fault.UsageFault.TheVariants as usage
 use Rattle.ds_app.specs.declared.stop.Stop.{Stop}
@@ -88,13 +88,14 @@ IsToldIn held (Some file) = held file ≢ untold
 
 -- the files of a job tell what they hold
 abbrev pub AreTold : (List ℕ → Held) → Job → Type 0
-AreTold held (Run net vec graph mode) = (held net ≢ untold) × (held vec ≢ untold) × IsToldIn held graph
+AreTold held (Run net vec graph mode jobs log) = (held net ≢ untold) × (held vec ≢ untold) × IsToldIn held graph
 AreTold held (Clock net vec) = (held net ≢ untold) × (held vec ≢ untold)
 AreTold held (Check net) = held net ≢ untold
 AreTold held (Graph net mode) = held net ≢ untold
 AreTold held (Replay net vec log graph mode) =
     (held net ≢ untold) × (held vec ≢ untold) × (held log ≢ untold) × IsToldIn held graph
 AreTold held (Accept net graph mode) = (held net ≢ untold) × (held graph ≢ untold)
+AreTold held (Demo seed registers turns jobs) = Unit {0}
 
 -- no read failed in the call
 abbrev pub NoneFailed : Call → Type 0

@@ -1,6 +1,7 @@
 //! Controller graphs of the user's, accepted and refused.
 use crate::trial::{TOGGLE, Wanted, gives_with};
 use std::alloc::{AllocError, Global};
+use std::thread::Threads;
 
 // The controller graph of the toggle, line by line.
 const LINES: [&str; 13] = [
@@ -34,7 +35,12 @@ fn edited(alloc: Global, place: usize, text: &str) -> Result<String, AllocError>
 }
 
 // Whether these words, with the toggle, this graph and a log of two lines, give what is wanted.
-fn accepts(rt: &HostRuntime, words: &[&str], graph: &str, wanted: Wanted<'_>) -> bool {
+fn accepts<R: AllocGlobal + Threads + Sync>(
+    rt: &R,
+    words: &[&str],
+    graph: &str,
+    wanted: Wanted<'_>,
+) -> bool {
     let log = "IN+ 1\nM0+ 1\n";
     gives_with(rt, words, TOGGLE, "1\n0\n1\n", graph, log, wanted)
 }
@@ -103,7 +109,7 @@ fn logs_are_fired_over_the_named_graph(rt: HostRuntime) -> Result<(), AllocError
 }
 
 // A place, a text for it, and the line of the graph's first fault.
-const FAULTS: [(usize, &str, &str); 7] = [
+const FAULTS: [(usize, &str, &str); 11] = [
     (
         8,
         "M0- IN+ M0+",
@@ -131,6 +137,22 @@ const FAULTS: [(usize, &str, &str); 7] = [
         "g: missing event S0+\n",
     ),
     (10, "S0- M0+ S0+\nIN+/2 IN-", "g:12: instance IN+/2\n"),
+    (
+        10,
+        "S0- M0+ S0+\nM0- p\np M0+ S0+",
+        "g:13: not a marked graph: p\n",
+    ),
+    (10, "S0- M0+ S0+\nM0- p", "g:12: not a marked graph: p\n"),
+    (
+        11,
+        ".marking { <IN-,IN+> <OUT-,OUT+> <M0-,IN+> <M0-,M0+> <S0+,OUT+> <S0+,M0+> <S0-,M0+> <S0-,S0+> <M0+,IN+> }",
+        "g:12: bad marking <M0+,IN+>\n",
+    ),
+    (
+        11,
+        ".marking { <IN-,IN+> <OUT-,OUT+> <M0-,IN+> <M0-,M0+> <S0+,OUT+> <S0+,M0+> <S0-,M0+> <S0-,S0+> <M0-,S0+> }",
+        "g: missing order M0- to S0+ with 0 tokens\n",
+    ),
 ];
 
 #[test]

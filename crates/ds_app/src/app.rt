@@ -8,6 +8,7 @@ use crate::job::do_job;
 use crate::stop::Stop;
 use ds_cmd::{UsageFault, parse};
 use ds_outside::{Files, Gate, Sink, write_all};
+use std::thread::Threads;
 
 /// Does all that the program does, and answers its status.
 ///
@@ -23,13 +24,13 @@ use ds_outside::{Files, Gate, Sink, write_all};
 /// | 4 | memory was wanted and not found |
 /// | 5 | `out` could not be written |
 #[tactic(none)]
-pub fn desync_main<R: AllocGlobal, F: Files, O: Sink, E: Sink, G: Gate>(
+pub fn desync_main<R: AllocGlobal + Threads + Sync, F: Files, O: Sink, E: Sink, G: Gate>(
     rt: &R,
     words: &[&str],
     files: &mut F,
     out: &mut O,
     err: &mut E,
-    _gate: &G,
+    gate: &G,
 ) -> u8
     // Each status has its cause, and each cause its status.
     ensures answered { IsAnswered (record {
@@ -59,7 +60,7 @@ pub fn desync_main<R: AllocGlobal, F: Files, O: Sink, E: Sink, G: Gate>(
 {
     let alloc = rt.alloc();
     match parse(alloc, words) {
-        Ok(job) => match do_job(alloc, &job, files, out) {
+        Ok(job) => match do_job(rt, alloc, &job, gate, files, out) {
             Ok(()) => 0,
             Err(stop) => say_stop(&stop, err),
         },

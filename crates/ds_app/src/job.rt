@@ -1,33 +1,39 @@
 //! A job, from its files to its text.
 ghost use Rattle.std.specs.Prelude.{◌≡◌, ◌≤◌, ◌<◌, ℕ, List, length};
-ghost use Rattle.ds_cmd.specs.declared.job.Job.TheVariants.{Accept, Check, Clock, Graph, Replay, Run};
+ghost use Rattle.ds_cmd.specs.declared.job.Job.TheVariants.{Accept, Check, Clock, Demo, Graph, Replay, Run};
+ghost use Rattle.ds_cmd.specs.Allowed.{AreAllowed};
 ghost use Rattle.ds_app.specs.Ends.{Ends, Output, RoseIn};
 ghost use Rattle.ds_app.specs.Job.{stages_of};
 
 use crate::accept::write_accepted;
 use crate::clock::write_clocked;
-use crate::fire::write_run;
+use crate::demo::write_demo;
 use crate::graph::write_graph;
 use crate::log::read_log;
 use crate::plan::{plan_named, plan_netlist};
 use crate::report::write_report;
+use crate::run::write_traced;
 use crate::source::{read_netlist, read_rows};
 use crate::split::split_netlist;
 use crate::state_text::write_state;
 use crate::stop::Stop;
 use ds_base::Mode;
 use ds_cmd::{FileName, Job};
-use ds_outside::{Files, Sink};
+use ds_outside::{Files, Gate, Sink};
 use std::alloc::Global;
+use std::thread::Threads;
 
 /// Does a job: reads its files and writes its text.
 #[tactic(none)]
-pub fn do_job<F: Files, O: Sink>(
+pub fn do_job<R: Threads + Sync, G: Gate, F: Files, O: Sink>(
+    rt: &R,
     alloc: Global,
     job: &Job,
+    gate: &G,
     files: &mut F,
     out: &mut O,
 ) -> Result<(), Stop>
+    requires { AreAllowed job.now }
     ensures { Ends (stages_of (F.held files.old) job.now)
         (RoseIn (F.faults files.old) (F.faults files.new)) (record {
           old = O.written out.old;
@@ -42,15 +48,14 @@ pub fn do_job<F: Files, O: Sink>(
             vec,
             graph,
             clusters,
-        } => run(
-            alloc,
-            net.as_str(),
-            vec.as_str(),
-            graph,
-            *clusters,
-            files,
-            out,
-        ),
+            jobs,
+            log,
+        } => {
+            let (net, vec) = (net.as_str(), vec.as_str());
+            run(
+                rt, alloc, net, vec, graph, *clusters, *jobs, *log, gate, files, out,
+            )
+        }
         Job::Clock { net, vec } => clock(alloc, net.as_str(), vec.as_str(), files, out),
         Job::Check { net } => check(alloc, net.as_str(), files, out),
         Job::Graph { net, clusters } => graph(alloc, net.as_str(), *clusters, files, out),
@@ -69,21 +74,32 @@ pub fn do_job<F: Files, O: Sink>(
             graph,
             clusters,
         } => accept(alloc, net.as_str(), graph.as_str(), *clusters, files, out),
+        Job::Demo {
+            seed,
+            registers,
+            turns,
+            jobs,
+        } => write_demo(rt, alloc, *seed, *registers, *turns, *jobs, gate, out),
     }
 }
 
-// `run`: the latches of the netlist are fired.
+// `run`: workers run the plan of the netlist.
 #[tactic(none)]
-fn run<F: Files, O: Sink>(
+fn run<R: Threads + Sync, G: Gate, F: Files, O: Sink>(
+    rt: &R,
     alloc: Global,
     net: &str,
     vec: &str,
     graph: &Option<FileName>,
     clusters: Mode,
+    jobs: u32,
+    log: bool,
+    gate: &G,
     files: &mut F,
     out: &mut O,
 ) -> Result<(), Stop>
-    ensures { Ends (stages_of (F.held files.old) (Run net.now vec.now graph.now clusters))
+    requires { (0 < jobs) × (jobs ≤ 64) }
+    ensures { Ends (stages_of (F.held files.old) (Run net.now vec.now graph.now clusters jobs log))
         (RoseIn (F.faults files.old) (F.faults files.new)) (record {
           old = O.written out.old;
           new = O.written out.new;
@@ -94,7 +110,7 @@ fn run<F: Files, O: Sink>(
     let netlist = read_netlist(alloc, files, net)?;
     let plan = plan_netlist(alloc, files, net, &netlist, graph, clusters)?;
     let vectors = read_rows(alloc, files, vec, &netlist)?;
-    write_run(alloc, &plan, &vectors, out)
+    write_traced(rt, alloc, &plan, &vectors, jobs, log, gate, out)
 }
 
 // `clock`: the netlist is clocked.

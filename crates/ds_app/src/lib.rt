@@ -6,11 +6,13 @@
 //! at 0 the output has exactly the job's text more, which `specs/Job` defines stage by stage; at 1
 //! the error output has the line of the first fault of the files.
 //!
-//! `run` fires the events of the netlist's latches until none may fire, `clock` clocks it, and both
-//! texts are the trace of the one clocked run; `check` reports on the netlist, and `graph` writes
-//! the controller graph. `accept` writes the ranks of a graph of the user's that is accepted, and
+//! `run` has workers fire the events of the netlist's latches on a shared table, `clock` clocks it,
+//! and both texts are the trace of the one clocked run, for any number of workers; with a log, what
+//! the workers fired stands behind it, a legal list that has each event once a vector. `check`
+//! reports on the netlist, and `graph` writes the controller graph. `accept` writes the ranks of a graph of the user's that is accepted, and
 //! `run` and `replay` fire over such a graph where one is named. `replay` fires the events of a log
-//! where each may fire, and writes what each register has stored then. In whatever order the latches
+//! where each may fire, and writes what each register has stored then. `demo` makes a design from a
+//! number, runs it, and sums its trace up. In whatever order the latches
 //! fire, each register stores its clocked values: `Interleavings`. Not promised is that memory is
 //! found, and which of several cycles is shown.
 #![tactic(auto)]
@@ -20,17 +22,23 @@ mod accept;
 mod accept_tests;
 mod app;
 mod clock;
+mod demo;
+#[cfg(test)]
+mod demo_tests;
 mod fault_line;
 #[cfg(test)]
 mod fault_tests;
 mod fault_text;
-mod fire;
+#[cfg(test)]
+mod gate_tests;
 mod graph;
 #[cfg(test)]
 mod graph_tests;
 mod graph_text;
 mod homes;
 mod job;
+#[cfg(test)]
+mod jobs_tests;
 mod log;
 mod log_text;
 mod net_text;
@@ -38,6 +46,7 @@ mod plan;
 #[cfg(test)]
 mod replay_tests;
 mod report;
+mod run;
 #[cfg(test)]
 mod run_tests;
 #[cfg(test)]
@@ -46,7 +55,6 @@ mod source;
 mod split;
 mod state_text;
 mod stop;
-mod stored;
 #[cfg(test)]
 mod tests;
 #[cfg(test)]

@@ -62,8 +62,8 @@ fn plan_of<'a, F: Files>(
     }
 }
 
-// The plan of the required orders.
-fn own_plan<'a>(alloc: Global, latches: Latches<'a>) -> Result<Plan<'a>, OutOfMemory>
+/// The plan of the required orders.
+pub fn own_plan<'a>(alloc: Global, latches: Latches<'a>) -> Result<Plan<'a>, OutOfMemory>
     ensures { IfOk result (IsOwnPlan latches.entry) }
 {
     let graph = controller(alloc, &latches)?;

@@ -1,8 +1,5 @@
 //! Logs of firings, fired again.
-use crate::trial::{TOGGLE, Wanted, replays};
-
-const SHIFT: &str =
-    ".model shift\n.inputs a\n.outputs q1\n.latch a q0 re clk 0\n.latch q0 q1 re clk 0\n.end\n";
+use crate::trial::{SHIFT, TOGGLE, Wanted, replays};
 
 // A register in a copy, which toggles.
 const COPY: &str =

@@ -28,8 +28,8 @@ pub fn write_report<O: Sink>(netlist: &Netlist, out: &mut O) -> Result<(), Stop>
     }
 }
 
-// A line with a name and a number, unless a write has failed.
-fn put_count<O: Sink>(
+/// A line with a name and a number, unless a write has failed.
+pub fn put_count<O: Sink>(
     so_far: Result<(), WriteFault>,
     name: &[u8],
     count: u64,

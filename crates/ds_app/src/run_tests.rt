@@ -4,6 +4,7 @@ use crate::trial::{RING, Wanted, files, gives};
 use ds_outside::{MemorySink, OpenGate};
 use std::alloc::{AllocError, Global};
 use std::test::Fail;
+use std::thread::Threads;
 
 // A table that reads the input and a register, behind other tables.
 const BACK: &str =
@@ -24,7 +25,7 @@ const TRACES: [(&str, &str, &str); 2] = [
 ];
 
 // Whether `clock`, and `run` over the clusters of each mode, print this text.
-fn all_print(rt: &HostRuntime, net: &str, vec: &str, out: &str) -> bool {
+fn all_print<R: AllocGlobal + Threads + Sync>(rt: &R, net: &str, vec: &str, out: &str) -> bool {
     let wanted = Wanted {
         status: 0,
         out,
@@ -32,8 +33,19 @@ fn all_print(rt: &HostRuntime, net: &str, vec: &str, out: &str) -> bool {
     };
     let mut all = gives(rt, &["desync", "clock", "n", "v"], net, vec, wanted);
     for mode in ["each", "one", "bus"] {
-        let words = ["desync", "run", "n", "v", "--clusters", mode];
-        all = all && gives(rt, &words, net, vec, wanted);
+        for jobs in ["1", "4"] {
+            let words = [
+                "desync",
+                "run",
+                "n",
+                "v",
+                "--clusters",
+                mode,
+                "--jobs",
+                jobs,
+            ];
+            all = all && gives(rt, &words, net, vec, wanted);
+        }
     }
     all
 }
@@ -97,7 +109,11 @@ fn a_one_goes_along_a_hundred_registers(rt: HostRuntime) -> Result<(), AllocErro
 
 // The status of these words, and whether a first part of a line is left, where the error output takes
 // six bytes a call and its second call fails.
-fn answer(rt: &HostRuntime, words: &[&str], line: &[u8]) -> Result<(u8, bool), Fail> {
+fn answer<R: AllocGlobal + Threads + Sync>(
+    rt: &R,
+    words: &[&str],
+    line: &[u8],
+) -> Result<(u8, bool), Fail> {
     let alloc = rt.alloc();
     let mut files = files(alloc, RING.as_bytes(), b"")?;
     let mut out = MemorySink::with_room(alloc, 100)?;

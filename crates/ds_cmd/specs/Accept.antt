@@ -1,7 +1,7 @@
 -- The command `accept`.
 use Rattle.std.specs.Prelude.{List, [], ◌∷◌, Result, Ok, codes}
 use Rattle.clap.specs.Words.{Row, Shape, first_of}
-use Rattle.ds_cmd.specs.Argument.{command_shape, file_rule, option_rule}
+use Rattle.ds_cmd.specs.Argument.{command_shape, word_rule, option_rule}
 use Rattle.ds_cmd.specs.Clusters.{clusters_of}
 use Rattle.ds_cmd.specs.Fault.{with_mode, with_value}
 use Rattle.ds_cmd.specs.declared.job.Job.{Job}
@@ -11,8 +11,8 @@ use Rattle.ds_cmd.specs.declared.fault.UsageFault.{UsageFault}
 -- `accept NET G [--clusters MODE]`
 abbrev pub accept_shape : Shape
 accept_shape = command_shape (codes "accept") (
-    file_rule (codes "net") ∷
-    file_rule (codes "graph") ∷
+    word_rule (codes "net") ∷
+    word_rule (codes "graph") ∷
     option_rule (codes "clusters") ∷ [])
 
 -- its job, from the values of its arguments

@@ -1,15 +1,30 @@
 -- The parts of a command, in the words of `clap`.
-use Rattle.std.specs.Prelude.{List, Some, true}
-use Rattle.clap.specs.Words.{Rule, Shape, Text, new_rule}
+use Rattle.std.specs.Prelude.{Bool, List, Option, Some, None, true, false, codes}
+use Rattle.std.specs.Str.{bytes_eq}
+use Rattle.clap.specs.Words.{Row, Rule, Shape, Text, first_of, new_rule}
 use Rattle.clap.specs.Simple.{new_shape}
+use Rattle.clap.specs.declared.builder.action.ArgAction.TheVariants.{SetTrue}
 
--- the name of a file: a word that is required
-abbrev pub file_rule : Text → Rule
-file_rule id = record (new_rule id) { required = true }
+-- a word that is required, as the name of a file
+abbrev pub word_rule : Text → Rule
+word_rule id = record (new_rule id) { required = true }
 
 -- an option with a value: `--id VALUE`
 abbrev pub option_rule : Text → Rule
 option_rule id = record (new_rule id) { long = Some id }
+
+-- an option without a value: `--id`
+abbrev pub flag_rule : Text → Rule
+flag_rule id = record (new_rule id) { long = Some id; action = Some SetTrue }
+
+-- the value of an option without one: `true` where it stands among the words
+abbrev pub is_true : Option Text → Bool
+is_true None = false
+is_true (Some word) = bytes_eq word (codes "true")
+
+-- whether the option stands among the words, by the values of a command's arguments
+abbrev pub is_set : Text → List Row → Bool
+is_set id rows = is_true (first_of id rows)
 
 -- a subcommand with these arguments
 abbrev pub command_shape : Text → List Rule → Shape

@@ -1,7 +1,7 @@
 -- The command `graph`.
 use Rattle.std.specs.Prelude.{List, [], ◌∷◌, Result, Ok, codes}
 use Rattle.clap.specs.Words.{Row, Shape, first_of}
-use Rattle.ds_cmd.specs.Argument.{command_shape, file_rule, option_rule}
+use Rattle.ds_cmd.specs.Argument.{command_shape, word_rule, option_rule}
 use Rattle.ds_cmd.specs.Clusters.{clusters_of}
 use Rattle.ds_cmd.specs.Fault.{with_mode, with_value}
 use Rattle.ds_cmd.specs.declared.job.Job.{Job}
@@ -11,7 +11,7 @@ use Rattle.ds_cmd.specs.declared.fault.UsageFault.{UsageFault}
 -- `graph NET [--clusters MODE]`
 abbrev pub graph_shape : Shape
 graph_shape =
-    command_shape (codes "graph") (file_rule (codes "net") ∷ option_rule (codes "clusters") ∷ [])
+    command_shape (codes "graph") (word_rule (codes "net") ∷ option_rule (codes "clusters") ∷ [])
 
 -- its job, from the values of its arguments
 abbrev pub graph_job : List Row → Result Job UsageFault

@@ -1,7 +1,7 @@
 -- The command `replay`.
 use Rattle.std.specs.Prelude.{List, [], ◌∷◌, Result, Ok, codes}
 use Rattle.clap.specs.Words.{Row, Shape, first_of}
-use Rattle.ds_cmd.specs.Argument.{command_shape, file_rule, option_rule}
+use Rattle.ds_cmd.specs.Argument.{command_shape, word_rule, option_rule}
 use Rattle.ds_cmd.specs.Clusters.{clusters_of}
 use Rattle.ds_cmd.specs.Fault.{with_mode, with_value}
 use Rattle.ds_cmd.specs.declared.job.Job.{Job}
@@ -11,9 +11,9 @@ use Rattle.ds_cmd.specs.declared.fault.UsageFault.{UsageFault}
 -- `replay NET VEC LOG [--graph G] [--clusters MODE]`
 abbrev pub replay_shape : Shape
 replay_shape = command_shape (codes "replay") (
-    file_rule (codes "net") ∷
-    file_rule (codes "vec") ∷
-    file_rule (codes "log") ∷
+    word_rule (codes "net") ∷
+    word_rule (codes "vec") ∷
+    word_rule (codes "log") ∷
     option_rule (codes "graph") ∷
     option_rule (codes "clusters") ∷ [])
 

@@ -3,7 +3,7 @@ ghost use Rattle.clap.specs.Words.{shape_of, found_of, rows_of};
 ghost use Rattle.ds_cmd.specs.Fault.{Gives};
 ghost use Rattle.ds_cmd.specs.Accept.{accept_job, accept_shape};
 
-use crate::argument::{file, option, text};
+use crate::argument::{option, text, word};
 use crate::clusters::clusters;
 use crate::{FileName, Job, UsageFault};
 use clap::{ArgMatches, Command};
@@ -15,8 +15,8 @@ pub fn command<'a>(alloc: Global) -> Result<Command<'a>, OutOfMemory>
     ensures { IfOk result (λ c. shape_of c ≡ accept_shape) }
 {
     let command = Command::new(alloc, "accept")
-        .arg(file(alloc, "net"))?
-        .arg(file(alloc, "graph"))?
+        .arg(word(alloc, "net"))?
+        .arg(word(alloc, "graph"))?
         .arg(option(alloc, "clusters"))?;
     Ok(command)
 }

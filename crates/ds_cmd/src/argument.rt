@@ -1,15 +1,15 @@
 ghost use Rattle.std.specs.Prelude.{◌≡◌, false, option_map, IfOk};
 ghost use Rattle.clap.specs.Words.{rule_of, found_of, rows_of, first_of};
-ghost use Rattle.ds_cmd.specs.Argument.{file_rule, option_rule};
+ghost use Rattle.ds_cmd.specs.Argument.{flag_rule, is_set as is_set_in, option_rule, word_rule};
 
 use crate::FileName;
-use clap::{Arg, ArgMatches};
+use clap::{Arg, ArgAction, ArgMatches};
 use ds_base::OutOfMemory;
 use std::alloc::Global;
 
 /// A word that is required, in its place behind the command's name.
-pub fn file<'a>(alloc: Global, id: &'a str) -> Arg<'a>
-    ensures rule { rule_of result ≡ file_rule id.entry.now }
+pub fn word<'a>(alloc: Global, id: &'a str) -> Arg<'a>
+    ensures rule { rule_of result ≡ word_rule id.entry.now }
     ensures local { result.global ≡ false }
 {
     Arg::new(alloc, id).required(true)
@@ -21,6 +21,14 @@ pub fn option<'a>(alloc: Global, id: &'a str) -> Arg<'a>
     ensures local { result.global ≡ false }
 {
     Arg::new(alloc, id).long(id)
+}
+
+/// An option without a value: `--id`.
+pub fn flag<'a>(alloc: Global, id: &'a str) -> Arg<'a>
+    ensures rule { rule_of result ≡ flag_rule id.entry.now }
+    ensures local { result.global ≡ false }
+{
+    Arg::new(alloc, id).long(id).action(ArgAction::SetTrue)
 }
 
 /// The value of an argument, where it has one.
@@ -41,5 +49,15 @@ pub fn named(
     match text(values, id) {
         Some(word) => Ok(Some(FileName::new(alloc, word)?)),
         None => Ok(None),
+    }
+}
+
+/// Whether an option without a value stands among the words.
+pub fn is_set(values: &ArgMatches<'_>, id: &str) -> bool
+    ensures { result ≡ is_set_in id.now (rows_of (found_of values.now)) }
+{
+    match text(values, id) {
+        Some(word) => word == "true",
+        None => false,
     }
 }

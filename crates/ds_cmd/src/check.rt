@@ -3,7 +3,7 @@ ghost use Rattle.clap.specs.Words.{shape_of, found_of, rows_of};
 ghost use Rattle.ds_cmd.specs.Fault.{Gives};
 ghost use Rattle.ds_cmd.specs.Check.{check_job, check_shape};
 
-use crate::argument::{file, text};
+use crate::argument::{text, word};
 use crate::{FileName, Job, UsageFault};
 use clap::{ArgMatches, Command};
 use ds_base::OutOfMemory;
@@ -13,7 +13,7 @@ use std::alloc::Global;
 pub fn command<'a>(alloc: Global) -> Result<Command<'a>, OutOfMemory>
     ensures { IfOk result (λ c. shape_of c ≡ check_shape) }
 {
-    let command = Command::new(alloc, "check").arg(file(alloc, "net"))?;
+    let command = Command::new(alloc, "check").arg(word(alloc, "net"))?;
     Ok(command)
 }
 

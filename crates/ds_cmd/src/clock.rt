@@ -3,7 +3,7 @@ ghost use Rattle.clap.specs.Words.{shape_of, found_of, rows_of};
 ghost use Rattle.ds_cmd.specs.Fault.{Gives};
 ghost use Rattle.ds_cmd.specs.Clock.{clock_job, clock_shape};
 
-use crate::argument::{file, text};
+use crate::argument::{text, word};
 use crate::{FileName, Job, UsageFault};
 use clap::{ArgMatches, Command};
 use ds_base::OutOfMemory;
@@ -14,8 +14,8 @@ pub fn command<'a>(alloc: Global) -> Result<Command<'a>, OutOfMemory>
     ensures { IfOk result (λ c. shape_of c ≡ clock_shape) }
 {
     let command = Command::new(alloc, "clock")
-        .arg(file(alloc, "net"))?
-        .arg(file(alloc, "vec"))?;
+        .arg(word(alloc, "net"))?
+        .arg(word(alloc, "vec"))?;
     Ok(command)
 }
 

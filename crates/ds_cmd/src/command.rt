@@ -2,7 +2,7 @@ ghost use Rattle.std.specs.Prelude.{◌≡◌, IfOk};
 ghost use Rattle.clap.specs.Words.{app_of};
 ghost use Rattle.ds_cmd.specs.Commands.{desync};
 
-use crate::{accept, check, clock, graph, replay, run};
+use crate::{accept, check, clock, demo, graph, replay, run};
 use clap::Command;
 use ds_base::OutOfMemory;
 use std::alloc::Global;
@@ -18,6 +18,7 @@ pub fn desync_command<'a>(alloc: Global) -> Result<Command<'a>, OutOfMemory>
         .subcommand(check::command(alloc)?)?
         .subcommand(graph::command(alloc)?)?
         .subcommand(replay::command(alloc)?)?
-        .subcommand(accept::command(alloc)?)?;
+        .subcommand(accept::command(alloc)?)?
+        .subcommand(demo::command(alloc)?)?;
     Ok(top)
 }

@@ -2,16 +2,18 @@ use crate::FileName;
 use ds_base::Mode;
 
 /// What a command line asks for. `net` is the file of the netlist, `vec` that of the vectors,
-/// `graph` that of a controller graph, where one is named, `log` that of the firings, and `clusters`
-/// says how the registers are put into clusters.
+/// `graph` that of a controller graph, where one is named, `clusters` says how the registers are
+/// put into clusters, and `jobs`, 1 to 64, how many threads are wanted.
 #[derive(Drop)]
 pub enum Job {
-    /// The trace of a desynchronized run.
+    /// The trace of a desynchronized run, or with `log` the log of its firings.
     Run {
         net: FileName,
         vec: FileName,
         graph: Option<FileName>,
         clusters: Mode,
+        jobs: u32,
+        log: bool,
     },
     /// The trace of a clocked run.
     Clock {
@@ -27,7 +29,7 @@ pub enum Job {
         net: FileName,
         clusters: Mode,
     },
-    /// What the registers have stored after the firings of a log.
+    /// What the registers have stored after the firings of the file `log`.
     Replay {
         net: FileName,
         vec: FileName,
@@ -40,5 +42,13 @@ pub enum Job {
         net: FileName,
         graph: FileName,
         clusters: Mode,
+    },
+    /// A demonstration: a netlist of so many registers, 1 to 4,096, and vectors of so many turns,
+    /// up to 65,536, made of a seed.
+    Demo {
+        seed: u64,
+        registers: u32,
+        turns: u32,
+        jobs: u32,
     },
 }

@@ -1,7 +1,10 @@
-ghost use Rattle.std.specs.Prelude.{◌≡◌, ℕ, List, [], ◌∷◌, Ok, Err, Some, None, true, false, codes};
+ghost use Rattle.std.specs.Prelude.{◌≡◌, ◌<◌, ◌≤◌, ◌^◌, ℕ, List, [], ◌∷◌, Ok, Err};
+ghost use Rattle.std.specs.Prelude.{Some, None, true, false, codes};
+ghost use Rattle.std.specs.Fmt.{decimal};
 ghost use Rattle.ds_cmd.specs.Line.{job_of};
 ghost use Rattle.ds_cmd.specs.Plain.{is_command, is_plain};
-ghost use Rattle.ds_cmd.specs.declared.job.Job.TheVariants.{Run, Clock, Check, Graph, Replay, Accept};
+ghost use Rattle.ds_cmd.specs.declared.job.Job.TheVariants.{Run, Clock, Check, Graph};
+ghost use Rattle.ds_cmd.specs.declared.job.Job.TheVariants.{Replay, Accept, Demo};
 ghost use Rattle.ds_base.specs.declared.number.Mode.TheVariants.{Each};
 ghost use Rattle.ds_base.specs.declared.number.Mode.{Mode};
 ghost use Rattle.ds_cmd.specs.Clusters.{mode_word};
@@ -9,18 +12,26 @@ ghost use Rattle.ds_cmd.specs.declared.fault.UsageFault.TheVariants.{Line};
 
 /// `run` with two names of files is taken, whatever the program's name is; each register is then a
 /// cluster of its own, unless the word behind `--clusters` says otherwise, and no controller graph
-/// is named, unless `--graph` does.
+/// is named, unless `--graph` does; one thread is wanted, unless `--jobs` says otherwise, and no
+/// log, unless `--log` stands there.
 pub fn run_is_taken()
     ensures each { (program net vec : List ℕ) → is_plain net ≡ true → is_plain vec ≡ true
-        → job_of (program ∷ codes "run" ∷ net ∷ vec ∷ []) ≡ Ok (Run net vec None Each) }
+        → job_of (program ∷ codes "run" ∷ net ∷ vec ∷ []) ≡ Ok (Run net vec None Each 1 false) }
     ensures clusters { (program net vec : List ℕ) (mode : Mode) → is_plain net ≡ true
         → is_plain vec ≡ true
         → job_of (program ∷ codes "run" ∷ net ∷ vec ∷ codes "--clusters" ∷ mode_word mode ∷ [])
-        ≡ Ok (Run net vec None mode) }
+        ≡ Ok (Run net vec None mode 1 false) }
     ensures graph { (program net vec graph : List ℕ) → is_plain net ≡ true → is_plain vec ≡ true
         → is_plain graph ≡ true
         → job_of (program ∷ codes "run" ∷ net ∷ vec ∷ codes "--graph" ∷ graph ∷ [])
-        ≡ Ok (Run net vec (Some graph) Each) }
+        ≡ Ok (Run net vec (Some graph) Each 1 false) }
+    ensures jobs { (program net vec : List ℕ) (jobs : ℕ) → is_plain net ≡ true → is_plain vec ≡ true
+        → 1 ≤ jobs → jobs ≤ 64
+        → job_of (program ∷ codes "run" ∷ net ∷ vec ∷ codes "--jobs" ∷ decimal jobs ∷ [])
+        ≡ Ok (Run net vec None Each jobs false) }
+    ensures log { (program net vec : List ℕ) → is_plain net ≡ true → is_plain vec ≡ true
+        → job_of (program ∷ codes "run" ∷ net ∷ vec ∷ codes "--log" ∷ [])
+        ≡ Ok (Run net vec None Each 1 true) }
 {}
 
 /// `clock` with two names of files is taken.
@@ -55,6 +66,19 @@ pub fn replay_is_taken()
 pub fn accept_is_taken()
     ensures { (program net graph : List ℕ) → is_plain net ≡ true → is_plain graph ≡ true
         → job_of (program ∷ codes "accept" ∷ net ∷ graph ∷ []) ≡ Ok (Accept net graph Each) }
+{}
+
+/// `demo` with three numbers in decimal is taken, where they are in range; one thread is then
+/// wanted, unless `--jobs` says otherwise.
+pub fn demo_is_taken()
+    ensures one { (program : List ℕ) (seed registers turns : ℕ) → seed < 2 ^ 64
+        → 1 ≤ registers → registers ≤ 4096 → turns ≤ 65536
+        → job_of (program ∷ codes "demo" ∷ decimal seed ∷ decimal registers ∷ decimal turns ∷ [])
+        ≡ Ok (Demo seed registers turns 1) }
+    ensures jobs { (program : List ℕ) (seed registers turns jobs : ℕ) → seed < 2 ^ 64
+        → 1 ≤ registers → registers ≤ 4096 → turns ≤ 65536 → 1 ≤ jobs → jobs ≤ 64
+        → job_of (program ∷ codes "demo" ∷ decimal seed ∷ decimal registers ∷ decimal turns
+        ∷ codes "--jobs" ∷ decimal jobs ∷ []) ≡ Ok (Demo seed registers turns jobs) }
 {}
 
 /// A line that begins with another name than that of a command is refused, whatever follows.

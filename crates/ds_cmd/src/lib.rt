@@ -1,12 +1,14 @@
 //! The words of a command line, read as the job that they ask for.
 //!
-//! A caller sees a word as its bytes, and a `Job` as one of the commands with its files' names.
+//! A caller sees a word as its bytes, and a `Job` as one of the commands with its files' names and
+//! its numbers.
 //! `parse` gives exactly the job that the words ask for, or exactly why they are no command line.
 //! What `clap` takes decides: its definition for simple commands, over the table of commands in
 //! `specs/Commands.antt`, where a command joins by an entry. The laws say without `clap` which
-//! lines are taken: the name of a command, its files, and the option behind them; and that no other
-//! name is. A request for help or for the version is no command line. No clause says what a
-//! `UsageFault` displays.
+//! lines are taken: the name of a command, its files or its numbers in decimal, and the option
+//! behind them; and that no other name is. Of several faults a bad line comes first, then a bad
+//! number, then a bad mode. A request for help or for the version is no command line. No clause
+//! says what a `UsageFault` displays.
 #![tactic(auto)]
 
 mod accept;
@@ -15,12 +17,14 @@ mod check;
 mod clock;
 mod clusters;
 mod command;
+mod demo;
 mod fault;
 mod file_name;
 mod graph;
 mod job;
 mod laws;
 mod line;
+mod number;
 mod replay;
 mod run;
 #[cfg(test)]
@@ -30,7 +34,7 @@ pub use fault::UsageFault;
 pub use file_name::FileName;
 pub use job::Job;
 pub use laws::{
-    accept_is_taken, check_is_taken, clock_is_taken, graph_is_taken, other_names_are_refused,
-    replay_is_taken, run_is_taken,
+    accept_is_taken, check_is_taken, clock_is_taken, demo_is_taken, graph_is_taken,
+    other_names_are_refused, replay_is_taken, run_is_taken,
 };
 pub use line::parse;

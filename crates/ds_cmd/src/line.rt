@@ -1,10 +1,11 @@
-ghost use Rattle.std.specs.Prelude.{◌≡◌, ◌⊎◌, map};
+ghost use Rattle.std.specs.Prelude.{◌≡◌, ◌⊎◌, map, IfOk};
 ghost use Rattle.clap.specs.Words.{kind_of, subcommand_rows_of};
+ghost use Rattle.ds_cmd.specs.Allowed.{AreAllowed};
 ghost use Rattle.ds_cmd.specs.Fault.{Gives};
 ghost use Rattle.ds_cmd.specs.Line.{job_in, job_of};
 
 use crate::command::desync_command;
-use crate::{Job, UsageFault, accept, check, clock, graph, replay, run};
+use crate::{Job, UsageFault, accept, check, clock, demo, graph, replay, run};
 use clap::error::ErrorKind;
 use clap::{ArgMatches, Error};
 use std::alloc::Global;
@@ -12,7 +13,8 @@ use std::alloc::Global;
 /// The job that the words ask for. The first word is the program's name, which nothing looks at.
 /// `Line` comes where `clap` does not take the words, or takes them for a request for help.
 pub fn parse(alloc: Global, words: &[&str]) -> Result<Job, UsageFault>
-    ensures { Gives (job_of (map (λ w. w.now) words.now)) result }
+    ensures value { Gives (job_of (map (λ w. w.now) words.now)) result }
+    ensures numbers { IfOk result AreAllowed }
 {
     let command = desync_command(alloc)?;
     match command.try_get_matches_from(words) {
@@ -51,6 +53,8 @@ fn job(alloc: Global, matches: &ArgMatches<'_>) -> Result<Job, UsageFault>
         replay::job(alloc, values)
     } else if name == "accept" {
         accept::job(alloc, values)
+    } else if name == "demo" {
+        demo::job(values)
     } else {
         Err(UsageFault::Line)
     }

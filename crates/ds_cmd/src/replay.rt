@@ -3,7 +3,7 @@ ghost use Rattle.clap.specs.Words.{shape_of, found_of, rows_of};
 ghost use Rattle.ds_cmd.specs.Fault.{Gives};
 ghost use Rattle.ds_cmd.specs.Replay.{replay_job, replay_shape};
 
-use crate::argument::{file, named, option, text};
+use crate::argument::{named, option, text, word};
 use crate::clusters::clusters;
 use crate::{FileName, Job, UsageFault};
 use clap::{ArgMatches, Command};
@@ -15,9 +15,9 @@ pub fn command<'a>(alloc: Global) -> Result<Command<'a>, OutOfMemory>
     ensures { IfOk result (λ c. shape_of c ≡ replay_shape) }
 {
     let command = Command::new(alloc, "replay")
-        .arg(file(alloc, "net"))?
-        .arg(file(alloc, "vec"))?
-        .arg(file(alloc, "log"))?
+        .arg(word(alloc, "net"))?
+        .arg(word(alloc, "vec"))?
+        .arg(word(alloc, "log"))?
         .arg(option(alloc, "graph"))?
         .arg(option(alloc, "clusters"))?;
     Ok(command)

@@ -3,22 +3,25 @@ ghost use Rattle.clap.specs.Words.{shape_of, found_of, rows_of};
 ghost use Rattle.ds_cmd.specs.Fault.{Gives};
 ghost use Rattle.ds_cmd.specs.Run.{run_job, run_shape};
 
-use crate::argument::{file, named, option, text};
+use crate::argument::{flag, is_set, named, option, text, word};
 use crate::clusters::clusters;
+use crate::number::jobs;
 use crate::{FileName, Job, UsageFault};
 use clap::{ArgMatches, Command};
 use ds_base::OutOfMemory;
 use std::alloc::Global;
 
-/// `run NET VEC [--graph G] [--clusters MODE]`, as a subcommand.
+/// `run NET VEC [--graph G] [--clusters MODE] [--jobs N] [--log]`, as a subcommand.
 pub fn command<'a>(alloc: Global) -> Result<Command<'a>, OutOfMemory>
     ensures { IfOk result (λ c. shape_of c ≡ run_shape) }
 {
     let command = Command::new(alloc, "run")
-        .arg(file(alloc, "net"))?
-        .arg(file(alloc, "vec"))?
+        .arg(word(alloc, "net"))?
+        .arg(word(alloc, "vec"))?
         .arg(option(alloc, "graph"))?
-        .arg(option(alloc, "clusters"))?;
+        .arg(option(alloc, "clusters"))?
+        .arg(option(alloc, "jobs"))?
+        .arg(flag(alloc, "log"))?;
     Ok(command)
 }
 
@@ -32,6 +35,9 @@ pub fn job(alloc: Global, values: &ArgMatches<'_>) -> Result<Job, UsageFault>
     let Some(vec) = text(values, "vec") else {
         return Err(UsageFault::Line);
     };
+    let Some(jobs) = jobs(values) else {
+        return Err(UsageFault::Number);
+    };
     let Some(clusters) = clusters(values) else {
         return Err(UsageFault::Mode);
     };
@@ -40,5 +46,7 @@ pub fn job(alloc: Global, values: &ArgMatches<'_>) -> Result<Job, UsageFault>
         vec: FileName::new(alloc, vec)?,
         graph: named(alloc, values, "graph")?,
         clusters,
+        jobs,
+        log: is_set(values, "log"),
     })
 }

@@ -4,5 +4,5 @@ use Rattle.ds_cmd.proofs.check.command.Goals as goal
 
 pub returns : goal.returns
 returns c =
-    let one = c.in_ok-command.ensures.shape c.file.ensures.local ∙ ap₂ with_rule c.new.ensures.app c.file.ensures.rule in
+    let one = c.in_ok-command.ensures.shape c.word.ensures.local ∙ ap₂ with_rule c.new.ensures.app c.word.ensures.rule in
     ap (λ (a : App). a.top) one

@@ -23,5 +23,7 @@ returns c =
     ∙ ap₂ with_subcommand three c.in_ok-command-4.ensures in
     let five = c.in_ok-subcommand-5.ensures.shape (third _ _ _ _ (ap (λ (s : Shape). s.is_plain) c.in_ok-command-5.ensures))
     ∙ ap₂ with_subcommand four c.in_ok-command-5.ensures in
-    c.in_ok-top.ensures.shape (third _ _ _ _ (ap (λ (s : Shape). s.is_plain) c.in_ok-command-6.ensures))
-    ∙ ap₂ with_subcommand five c.in_ok-command-6.ensures
+    let six = c.in_ok-subcommand-6.ensures.shape (third _ _ _ _ (ap (λ (s : Shape). s.is_plain) c.in_ok-command-6.ensures))
+    ∙ ap₂ with_subcommand five c.in_ok-command-6.ensures in
+    c.in_ok-top.ensures.shape (third _ _ _ _ (ap (λ (s : Shape). s.is_plain) c.in_ok-command-7.ensures))
+    ∙ ap₂ with_subcommand six c.in_ok-command-7.ensures

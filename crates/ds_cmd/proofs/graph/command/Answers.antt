@@ -4,6 +4,6 @@ use Rattle.ds_cmd.proofs.graph.command.Goals as goal
 
 pub returns : goal.returns
 returns c =
-    let one = c.in_ok-arg.ensures.shape c.file.ensures.local ∙ ap₂ with_rule c.new.ensures.app c.file.ensures.rule in
+    let one = c.in_ok-arg.ensures.shape c.word.ensures.local ∙ ap₂ with_rule c.new.ensures.app c.word.ensures.rule in
     let two = c.in_ok-command.ensures.shape c.option.ensures.local ∙ ap₂ with_rule one c.option.ensures.rule in
     ap (λ (a : App). a.top) two

@@ -1,5 +1,6 @@
 use Rattle.ds_cmd.proofs.Taken.{run_taken, run_with_mode}
 use Rattle.ds_cmd.proofs.TakenGraph.{run_with_graph}
+use Rattle.ds_cmd.proofs.TakenNumbers.{run_with_jobs, run_with_log}
 use Rattle.ds_cmd.proofs.laws.run_is_taken.Goals as goal
 
 pub returns-clause-each : goal.returns-clause-each
@@ -10,3 +11,9 @@ returns-clause-clusters c = run_with_mode
 
 pub returns-clause-graph : goal.returns-clause-graph
 returns-clause-graph c = run_with_graph
+
+pub returns-clause-jobs : goal.returns-clause-jobs
+returns-clause-jobs c = run_with_jobs
+
+pub returns-clause-log : goal.returns-clause-log
+returns-clause-log c = run_with_log

@@ -1,0 +1,30 @@
+-- The numbers among the words.
+use Rattle.std.specs.Prelude.{ℕ, Bool, ◌&&◌, List, length, nat_lt, nat_le, Option, Some, None}
+use Rattle.std.specs.Prelude.{codes, if◌then◌else◌}
+use Rattle.std.specs.Char.{is_ascii_digit}
+use Rattle.std.specs.List.{list_all}
+use Rattle.std.specs.Str.Parse.{digits_value}
+use Rattle.clap.specs.Words.{Row, Text, first_of}
+
+-- one to twenty decimal digits
+abbrev pub is_numeral : Text → Bool
+is_numeral word = nat_lt 0 (length word)
+    && (nat_lt (length word) 21 && list_all is_ascii_digit word)
+
+-- from least to most
+abbrev pub is_between : ℕ → ℕ → ℕ → Bool
+is_between least most value = nat_le least value && nat_le value most
+
+-- the number that the word writes, where it is one from least to most
+unfoldable pub number_of : ℕ → ℕ → Text → Option ℕ
+number_of least most word = if is_numeral word && is_between least most (digits_value 10 word)
+    then Some (digits_value 10 word) else None
+
+-- the number of the option's value, from 1 to 64, and 1 without the option
+abbrev pub number_or_one : Option Text → Option ℕ
+number_or_one None = Some 1
+number_or_one (Some word) = number_of 1 64 word
+
+-- how many threads are wanted, by the values of a command's arguments
+abbrev pub jobs_of : List Row → Option ℕ
+jobs_of rows = number_or_one (first_of (codes "jobs") rows)

@@ -1,0 +1,67 @@
+ghost use Rattle.std.specs.Prelude.{◌≡◌, IfOk};
+ghost use Rattle.clap.specs.Words.{shape_of, found_of, rows_of};
+ghost use Rattle.ds_cmd.specs.Demo.{demo_job, demo_of, demo_shape};
+
+use crate::argument::{option, text, word};
+use crate::number::{jobs, number, small_number};
+use crate::{Job, UsageFault};
+use clap::{ArgMatches, Command};
+use ds_base::{Limit, OutOfMemory};
+use std::alloc::Global;
+
+/// `demo SEED REGISTERS TURNS [--jobs N]`, as a subcommand.
+pub fn command<'a>(alloc: Global) -> Result<Command<'a>, OutOfMemory>
+    ensures { IfOk result (λ c. shape_of c ≡ demo_shape) }
+{
+    let command = Command::new(alloc, "demo")
+        .arg(word(alloc, "seed"))?
+        .arg(word(alloc, "registers"))?
+        .arg(word(alloc, "turns"))?
+        .arg(option(alloc, "jobs"))?;
+    Ok(command)
+}
+
+/// The job of the values behind `demo`.
+pub fn job(values: &ArgMatches<'_>) -> Result<Job, UsageFault>
+    ensures { result ≡ demo_job (rows_of (found_of values.now)) }
+{
+    let Some(seed) = text(values, "seed") else {
+        return Err(UsageFault::Line);
+    };
+    let Some(registers) = text(values, "registers") else {
+        return Err(UsageFault::Line);
+    };
+    let Some(turns) = text(values, "turns") else {
+        return Err(UsageFault::Line);
+    };
+    job_of(seed, registers, turns, values)
+}
+
+// The job of the three words, with the options beside them.
+fn job_of(
+    seed: &str,
+    registers: &str,
+    turns: &str,
+    values: &ArgMatches<'_>,
+) -> Result<Job, UsageFault>
+    ensures { result ≡ demo_of seed.now registers.now turns.now (rows_of (found_of values.now)) }
+{
+    let Some(seed) = number(seed, 0, u64::MAX) else {
+        return Err(UsageFault::Number);
+    };
+    let Some(registers) = small_number(registers, 1, Limit::Clusters.most() as u32) else {
+        return Err(UsageFault::Number);
+    };
+    let Some(turns) = small_number(turns, 0, Limit::Vectors.most() as u32) else {
+        return Err(UsageFault::Number);
+    };
+    let Some(jobs) = jobs(values) else {
+        return Err(UsageFault::Number);
+    };
+    Ok(Job::Demo {
+        seed,
+        registers,
+        turns,
+        jobs,
+    })
+}
