@@ -5,7 +5,7 @@ _desync() {
     local word=${COMP_WORDS[COMP_CWORD]} command=${COMP_WORDS[1]}
     COMPREPLY=()
     if [ "$COMP_CWORD" -eq 1 ]; then
-        COMPREPLY=($(compgen -W "run clock check graph replay accept" -- "$word"))
+        COMPREPLY=($(compgen -W "run clock check graph replay accept demo" -- "$word"))
         return
     fi
     local last=${COMP_WORDS[COMP_CWORD - 1]}
@@ -18,8 +18,16 @@ _desync() {
         COMPREPLY=($(compgen -W "each one bus" -- "$word"))
         return
     fi
-    if [[ $word == -* && ( $command == run || $command == replay ) ]]; then
+    if [[ $word == -* && $command == run ]]; then
+        COMPREPLY=($(compgen -W "--clusters --graph --jobs --log" -- "$word"))
+        return
+    fi
+    if [[ $word == -* && $command == replay ]]; then
         COMPREPLY=($(compgen -W "--clusters --graph" -- "$word"))
+        return
+    fi
+    if [[ $word == -* && $command == demo ]]; then
+        COMPREPLY=($(compgen -W "--jobs" -- "$word"))
         return
     fi
     if [[ $word == -* && ( $command == graph || $command == accept ) ]]; then
