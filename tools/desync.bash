@@ -14,7 +14,7 @@ _desync() {
     elif [ "$last$word" = --clusters= ]; then
         last=--clusters word=
     fi
-    if [ "$last" = --clusters ]; then
+    if [ "$last" = --clusters ] && [ "$command" != demo ]; then
         COMPREPLY=($(compgen -W "each one bus" -- "$word"))
         return
     fi

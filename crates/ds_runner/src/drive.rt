@@ -12,7 +12,7 @@ use ds_outside::Gate;
 use ds_rule::{Layout, Rows};
 
 // How many looks a worker takes at a count that it waits for.
-const LOOKS: u32 = 4000;
+const LOOKS: u32 = 100;
 
 /// What a worker got of a round over its nodes.
 #[derive(Clone, Copy)]
