@@ -18,12 +18,29 @@ use Rattle.ds_rule.specs.Rule.{holds, seen}
 use Rattle.ds_marked.specs.declared.marked.Arc.{Arc}
 use Rattle.ds_rule.specs.declared.view.View.{View}
 use Rattle.ds_rule.proofs.EventLaws.{event_below, turns_up}
-use Rattle.ds_rule.proofs.Lists.{at_or, at_below, same_at, get-first, get-second, replicate-default}
+use Rattle.ds_rule.proofs.Lists.{at_or, at_get, at_below, same_at, get-first, get-second, replicate-default}
 use Rattle.ds_fabric.specs.Chained.{arc_at, IsLast, IsChained}
 
 pub arc-there : (run : Run) (n : ℕ) → n < length run.arcs
     → get_elem? run.arcs n ≡ some (arc_at run n)
 arc-there run n h = at_or run.arcs n (record { source = 0; target = 0; tokens = 0 }) h
+
+-- an arc of the run, out of a list that is its arcs
+pub same-arc : (run : Run) (arcs : List Arc) (i : ℕ) (d : Arc) → arcs ≡ run.arcs → i < length run.arcs
+    → get_or arcs i d ≡ arc_at run i
+same-arc run arcs i d is near =
+    ap (λ (xs : List Arc). get_or xs i d) is ∙ at_get run.arcs i (arc_at run i) d
+    (arc-there run i near)
+
+pub source_near : (run : Run) (arcs : List Arc) (i : ℕ) (d : Arc) (source node : ℕ) → IsSound run → arcs ≡ run.arcs
+    → i < length run.arcs → source ≡ (get_or arcs i d).source → node ≡ node_of run source → node < run.nodes
+source_near run arcs i d source node sound is near from of = omega (
+  arith,
+  of,
+  ap (node_of run) from,
+  ap (λ (x : Arc). node_of run x.source) (same-arc run arcs i d is near),
+  (sound.named i (arc_at run i) (arc-there run i near)).0,
+)
 
 pub target_near : (run : Run) (n : ℕ) → IsSound run → n < length run.arcs
     → (arc_at run n).target < events run

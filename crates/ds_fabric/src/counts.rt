@@ -9,7 +9,6 @@ ghost use Rattle.ds_fabric.specs.Looks.{LooksOn, Enough, Lacks};
 use crate::chain::Chains;
 use atomic_table::{Seat, Shared};
 use ds_rule::{Layout, Look, Order, Rows, View};
-use std::hint::spin_loop;
 
 /// The table, as its steps see it.
 pub type Board<J> = Shared<u8, View, Layout<J>, Order>;
@@ -34,19 +33,33 @@ pub fn look<J: Rows>(
     board.load::<Look>(seat, node + 1)
 }
 
-/// Looks at the count of an event, without a seat, until it is more than `seen` or so many looks
-/// are used up. It tells nothing.
-pub fn watch<J: Rows>(board: &Board<J>, graph: &Layout<J>, event: usize, seen: u64, looks: u32)
+/// Plain looks at the counts, without a seat, show enough on each arc into the event, which has fired
+/// so often. A hint: it tells nothing, as the counts may have risen since.
+pub fn seems_enough<J: Rows>(
+    board: &Board<J>,
+    graph: &Layout<J>,
+    chains: &Chains,
+    event: usize,
+    before: u64,
+) -> bool
     requires table { IsOver board.now.table_id board.now.key graph.now }
-    requires near { node_of graph.now event < graph.now.nodes }
+    requires chains { AreChained graph.now chains.now }
+    requires near { event < events graph.now }
 {
-    let node = graph.node_of(event);
-    'looking: for _ in 0..looks {
-        if graph.turns(event, board.peek(node + 1)) > seen {
-            break;
+    let arcs = graph.arcs();
+    let mut at = chains.heads[event];
+    for i in 0..arcs.len() {
+        if at == 0 {
+            return true;
         }
-        spin_loop();
+        let source = arcs[at - 1].source.index();
+        let seen = graph.turns(source, board.peek(graph.node_of(source) + 1));
+        if seen <= before && arcs[at - 1].tokens as u64 <= before - seen {
+            return false;
+        }
+        at = chains.links[at - 1];
     }
+    true
 }
 
 /// Loads the counts of the event's sources, from the last arc on, up to the first that is too small.

@@ -9,7 +9,7 @@ ghost use Rattle.ds_fabric.specs.Showing.{Belongs, IsBegun, IsCounted, IsDealt, 
 use crate::build::{histories, lay};
 use crate::chain::Chains;
 use crate::compute::Compute;
-use crate::counts::watch;
+use crate::counts::seems_enough;
 use crate::flight::advance;
 use crate::hands::{cut, mend, shut};
 use crate::index::{Index, firsts};
@@ -18,7 +18,7 @@ use crate::places::{alone, find, note_from, numbered, take_out};
 use crate::record::Record;
 use crate::step::Step;
 use atomic_table::Table;
-use ds_base::{ArcId, LatchId, OutOfMemory, Row3};
+use ds_base::{LatchId, OutOfMemory, Row3};
 use ds_rule::{Layout, Order, Rows, View};
 use std::alloc::Global;
 use std::marker::Model;
@@ -113,13 +113,23 @@ impl<'a, J: Rows, C: Compute> Fabric<'a, J, C> {
         )
     }
 
-    /// Looks again and again at the count of an arc's source, until it is more than `seen` or so many
-    /// looks are used up. It tells nothing; a worker that lacks tokens passes its time so.
-    pub fn watch(&self, arc: ArcId, seen: u64, looks: u32)
-        requires { arc < length self.now.run.arcs }
+    /// Plain looks at the counts show enough for the next event of the node, which is not done. A hint:
+    /// it tells nothing, and a step alone says what may fire. A worker that lacks tokens passes its time
+    /// so.
+    pub fn seems_ready(&self, pass: &Pass, node: LatchId) -> bool
+        requires fits { Belongs self.now pass.now }
+        requires held { holds pass.now.view node ≡ true }
     {
-        let source = self.graph.arcs()[arc.index()].source.index();
-        watch(&self.table.shared, self.graph, source, seen, looks);
+        let number = node.index();
+        let nodes = pass.nodes.as_slice();
+        let at = find(nodes, pass.places.as_slice(), number);
+        let fired = pass.nodes[at].fired;
+        let event = self.graph.next(number, fired);
+        let before = self.graph.turns(event, fired);
+        if before >= self.graph.limit() {
+            return false;
+        }
+        seems_enough(&self.table.shared, self.graph, &self.chains, event, before)
     }
 
     /// The node goes to a new pass, which has seen what the old one had seen.

@@ -3,7 +3,7 @@ ghost use Rattle.std.specs.Prelude.{◌≡◌};
 ghost use Rattle.ds_fabric.specs.Toggle.{HoldsMaster, HoldsSlave};
 
 use crate::toggle::{
-    Toggle, begin, end, fired, has, layout, master, part, slave, step, unite, watch,
+    Toggle, begin, end, fired, has, layout, master, part, slave, slave_seems_ready, step, unite,
 };
 use crate::{Fabric, Pass, Step};
 use ds_base::{ArcId, LatchId};
@@ -36,10 +36,10 @@ fn two_passes_fire_in_turn(rt: HostRuntime) {
 
     assert_eq!(rt; master(&fabric, &mut other), fired(2, 1, 0));
     // the slave opens once the master closed
+    assert!(rt; !slave_seems_ready(&fabric, &pass));
     assert_eq!(rt; slave(&fabric, &mut pass), not_yet(5, 0));
     assert_eq!(rt; master(&fabric, &mut other), fired(3, 1, 1));
-    // enough at once: else it would look for minutes
-    watch(&fabric, 5, 0);
+    assert!(rt; slave_seems_ready(&fabric, &pass));
     assert_eq!(rt; slave(&fabric, &mut pass), fired(0, 1, 2));
     // the master opens again once the slave closed
     assert_eq!(rt; master(&fabric, &mut other), not_yet(7, 0));

@@ -140,12 +140,11 @@ pub fn step(fabric: &Fabric<Toggle, Toggle>, pass: &mut Pass, node: u32) -> Step
     fabric.step(pass, LatchId::new(node))
 }
 
-/// Looks until the count of the arc's source is more than `seen`.
-pub fn watch(fabric: &Fabric<Toggle, Toggle>, arc: u32, seen: u64)
-    requires run { fabric.now.run ≡ toggle }
-    requires arc { arc < 8 }
+/// The slave seems ready.
+pub fn slave_seems_ready(fabric: &Fabric<Toggle, Toggle>, pass: &Pass) -> bool
+    requires { HoldsSlave fabric.now pass.now }
 {
-    fabric.watch(ArcId::new(arc), seen, u32::MAX);
+    fabric.seems_ready(pass, LatchId::new(0))
 }
 
 /// The end of the run.

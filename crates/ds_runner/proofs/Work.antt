@@ -70,6 +70,14 @@ step_moves run p q l r s st = record {
   up = steps_up run p.view l r q.view st;
 }
 
+pub drove_further : (w x y : Worker) → Drove w x → Drove x y → Drove w y
+drove_further w x y d e = record {
+  moved = moved_on w.pass x.pass y.pass d.moved e.moved;
+  number = e.number ∙ d.number;
+  first = e.first ∙ d.first;
+  end_ = e.end_ ∙ d.end_;
+}
+
 pub still_belongs : (b : Base) (p q : Showing) → Belongs b p → Moved p q → Belongs b q
 still_belongs b p q h m = record { table = m.table ∙ h.table; run = m.run ∙ h.run; nets = m.nets ∙ h.nets }
 

@@ -1,5 +1,5 @@
 -- What the workers keep, and what a step of the caller does.
-use Rattle.std.specs.Prelude.{◌≡◌, ℕ, ◌<◌, ◌≤◌, ◌+◌, ◌-◌, ◌*◌, zero, suc, true, false, Bool, List, length, sum_by, ◌⊎◌}
+use Rattle.std.specs.Prelude.{◌≡◌, ℕ, ◌<◌, ◌≤◌, ◌+◌, ◌-◌, ◌*◌, zero, suc, true, false, Bool, List, sum_by, ◌⊎◌}
 use mathlib.Core.Option.{some}
 use lib.ListN.{get_elem?}
 use Rattle.ds_rule.specs.Run.{Run}
@@ -79,11 +79,11 @@ abbrev pub CoverWith : View → List Worker → ℕ → Type 0
 CoverWith v ws n = (l : ℕ) → l < n
     → (holds v l ≡ true) ⊎ ((k : ℕ) × (w : Worker) × (get_elem? ws k ≡ some w) × (holds w.pass.view l ≡ true))
 
--- an arc that lacked tokens is an arc of the run
-abbrev pub IsRound : Run → Round → Type 0
-IsRound run Done = Unit {0}
-IsRound run Busy = Unit {0}
-IsRound run (Idle arc n) = arc < length run.arcs
+-- what a round takes of a budget: nothing, unless there was a step
+abbrev pub Kept : ℕ → ℕ → Round → Type 0
+Kept old new Busy = new < old
+Kept old new Done = new ≡ old
+Kept old new Idle = new ≡ old
 
 -- the sum of f over the numbers below n
 abbrev pub sum_below : (ℕ → ℕ) → ℕ → ℕ

@@ -1,36 +1,35 @@
-ghost use Rattle.std.specs.Prelude.{◌≡◌, ◌≢◌, ◌<◌, ◌≤◌, ℕ, length};
+ghost use Rattle.std.specs.Prelude.{◌≡◌, ◌<◌, ◌≤◌, ℕ};
 ghost use Rattle.ds_rule.specs.Sound.{IsSound};
 ghost use Rattle.ds_fabric.specs.Showing.{Belongs};
-ghost use Rattle.ds_runner.specs.Work.{HasBetween, Moved, Drove, IsRound};
-ghost use Rattle.ds_runner.specs.declared.drive.Round.TheVariants.{Done as AllDone};
+ghost use Rattle.ds_runner.specs.Work.{HasBetween, Drove, Kept};
 
-use crate::unit::unit;
+use crate::unit::pause;
 use crate::worker::Worker;
-use ds_base::ArcId;
-use ds_fabric::{Compute, Fabric, Step};
+use ds_base::LatchId;
+use ds_fabric::{Compute, Fabric};
 use ds_outside::Gate;
 use ds_rule::{Layout, Rows};
+use std::hint::spin_loop;
 
-// How many looks a worker takes at a count that it waits for.
-const LOOKS: u32 = 100;
-
-/// What a worker got of a round over its nodes.
+/// What a worker got of a round over its nodes, or of one of them.
 #[derive(Clone, Copy)]
 pub enum Round {
-    /// Each node is done.
+    /// All is done.
     Done,
-    /// Something fired.
+    /// There was a step.
     Busy,
-    /// Nothing fired; the arc lacked tokens as `seen` was the count of its source.
-    Idle { arc: ArcId, seen: u64 },
+    /// Nothing is ready.
+    Idle,
 }
 
-/// Goes through the nodes of a share again and again, for so many steps at most.
+/// Goes through the nodes of a share again and again, for so many steps at most. After a round
+/// without a step it looks on for so many rounds more, and all of them count as one step.
 pub fn drive<J: Rows, C: Compute, G: Gate>(
     fabric: &Fabric<'_, J, C>,
     graph: &Layout<J>,
     worker: &mut Worker,
     budget: u64,
+    looks: usize,
     gate: &G,
 )
     requires run { (graph.now ≡ fabric.now.run) × IsSound graph.now }
@@ -44,7 +43,10 @@ pub fn drive<J: Rows, C: Compute, G: Gate>(
         match go_round(fabric, graph, worker, &mut left, gate) {
             Round::Done => return,
             Round::Busy => {}
-            Round::Idle { arc, seen } => fabric.watch(arc, seen, LOOKS),
+            Round::Idle => {
+                left -= 1;
+                look_on(fabric, worker, looks);
+            }
         }
     }
 }
@@ -64,37 +66,88 @@ fn go_round<J: Rows, C: Compute, G: Gate>(
     requires left { 0 < left.old }
 
     ensures drove { Drove worker.old worker.new }
-    ensures round { IsRound fabric.now.run result }
-    ensures less { result ≢ AllDone → left.new < left.old }
+    ensures left { Kept left.old left.new result }
 {
     let mut round = Round::Done;
     'nodes: for node in worker.first..worker.end {
         if *left == 0 {
             break;
         }
-        let step = unit(fabric, graph, &mut worker.pass, worker.number, node, gate);
-        match step {
-            Step::Done => {}
-            Step::Fired { .. } => {
+        match visit(fabric, graph, worker, node, gate) {
+            Round::Done => {}
+            Round::Busy => {
                 *left -= 1;
                 round = Round::Busy;
             }
-            Step::NotYet { arc, seen } => {
-                *left -= 1;
-                round = lacked(round, arc, seen);
-            }
+            Round::Idle => round = idle(round),
         }
     }
     round
 }
 
-// The round, once an arc lacked tokens.
-fn lacked(round: Round, arc: ArcId, seen: u64) -> Round
-    ensures never_done { result ≢ AllDone }
-    ensures round { (r : _) → IsRound r round → arc < length r.arcs → IsRound r result }
+// The round, once a node was not ready.
+fn idle(round: Round) -> Round
+    ensures { (old new : ℕ) → Kept old new round → Kept old new result }
 {
     match round {
         Round::Busy => Round::Busy,
-        Round::Done | Round::Idle { .. } => Round::Idle { arc, seen },
+        Round::Done | Round::Idle => Round::Idle,
     }
+}
+
+// Steps a node of the share if it seems ready.
+fn visit<J: Rows, C: Compute, G: Gate>(
+    fabric: &Fabric<'_, J, C>,
+    graph: &Layout<J>,
+    worker: &mut Worker,
+    node: usize,
+    gate: &G,
+) -> Round
+    requires run { (graph.now ≡ fabric.now.run) × IsSound graph.now }
+    requires fits { Belongs fabric.now worker.old.pass }
+    requires share { HasBetween worker.old.pass.view worker.old.first worker.old.end }
+    requires among { (worker.old.first ≤ node) × (node < worker.old.end) }
+    requires near { worker.old.end ≤ graph.now.nodes }
+    ensures { Drove worker.old worker.new }
+{
+    if !pause(graph, &worker.pass, worker.number, node, gate) {
+        return Round::Done;
+    }
+    let latch = LatchId::new(node as u32);
+    if fabric.seems_ready(&worker.pass, latch) {
+        fabric.step(&mut worker.pass, latch);
+        Round::Busy
+    } else {
+        Round::Idle
+    }
+}
+
+// Looks at the nodes of the share until one seems ready, for so many rounds at most.
+fn look_on<J: Rows, C: Compute>(fabric: &Fabric<'_, J, C>, worker: &Worker, looks: usize)
+    requires fits { Belongs fabric.now worker.now.pass }
+    requires share { HasBetween worker.now.pass.view worker.now.first worker.now.end }
+    requires near { worker.now.end ≤ fabric.now.run.nodes }
+    requires few { fabric.now.run.nodes < 4294967296 }
+{
+    'looking: for _ in 0..looks {
+        if has_ready(fabric, worker) {
+            break;
+        }
+        spin_loop();
+    }
+}
+
+// Some node of the share seems ready.
+fn has_ready<J: Rows, C: Compute>(fabric: &Fabric<'_, J, C>, worker: &Worker) -> bool
+    requires fits { Belongs fabric.now worker.now.pass }
+    requires share { HasBetween worker.now.pass.view worker.now.first worker.now.end }
+    requires near { worker.now.end ≤ fabric.now.run.nodes }
+    requires few { fabric.now.run.nodes < 4294967296 }
+{
+    'nodes: for node in worker.first..worker.end {
+        if fabric.seems_ready(&worker.pass, LatchId::new(node as u32)) {
+            return true;
+        }
+    }
+    false
 }

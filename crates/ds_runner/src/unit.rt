@@ -1,8 +1,9 @@
-ghost use Rattle.std.specs.Prelude.{◌≡◌, ◌<◌, ℕ, true};
-ghost use Rattle.ds_rule.specs.Rule.{holds};
+ghost use Rattle.std.specs.Prelude.{◌≡◌, ◌<◌, ◌≤◌, ℕ, true, false};
+ghost use Rattle.ds_rule.specs.Run.{next, turns};
+ghost use Rattle.ds_rule.specs.Rule.{holds, seen};
 ghost use Rattle.ds_rule.specs.Sound.{IsSound};
 ghost use Rattle.ds_fabric.specs.Showing.{Belongs, Stays};
-ghost use Rattle.ds_fabric.specs.Stepped.{Stepped};
+ghost use Rattle.ds_fabric.specs.Stepped.{Stepped, done};
 
 use ds_base::LatchId;
 use ds_fabric::{Compute, Fabric, Pass, Step};
@@ -25,13 +26,31 @@ pub fn unit<J: Rows, C: Compute, G: Gate>(
     ensures same { Stays pass.old pass.new }
     ensures step { Stepped fabric.now.run pass.old.view node result pass.new.view }
 {
-    let latch = LatchId::new(node as u32);
-    let fired = pass.fired(latch);
+    if pause(graph, pass, number, node, gate) {
+        fabric.step(pass, LatchId::new(node as u32))
+    } else {
+        Step::Done
+    }
+}
+
+/// Pauses at the gate, unless the node is done. False: it is done.
+pub fn pause<J: Rows, G: Gate>(
+    graph: &Layout<J>,
+    pass: &Pass,
+    number: u32,
+    node: usize,
+    gate: &G,
+) -> bool
+    requires sound { IsSound graph.now }
+    requires held { (holds pass.now.view node ≡ true) × (node < graph.now.nodes) }
+    ensures { result ≡ false → graph.now.limit ≤ done graph.now pass.now.view node }
+{
+    let fired = pass.fired(LatchId::new(node as u32));
     let event = graph.next(node, fired);
     let turns = graph.turns(event, fired);
     if turns >= graph.limit() {
-        return Step::Done;
+        return false;
     }
     gate.pause(number, event as u32, turns + 1);
-    fabric.step(pass, latch)
+    true
 }

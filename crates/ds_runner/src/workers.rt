@@ -19,10 +19,10 @@ use std::thread::Threads;
 
 /// Fires every event of a run as often as it may, with so many workers, from 1 to 64.
 ///
-/// A worker calls the gate before each step on a node that is not done, with its number, the event
-/// that the node fires next, and its turn, from 1 on. The caller, which fires what is left in the
-/// end, has the number `jobs`. No fault comes of a thread that cannot be started: its work is done
-/// by another.
+/// A worker calls the gate before it comes to a node that is not done, to step it or to see that it
+/// is not ready, with its number, the event that the node fires next, and its turn, from 1 on. The
+/// caller, which fires what is left in the end, has the number `jobs`. No fault comes of a thread
+/// that cannot be started: its work is done by another.
 pub fn run<R: Threads + Sync, J: Rows + Sync, C: Compute + Sync, G: Gate>(
     rt: &R,
     alloc: Global,
@@ -40,6 +40,7 @@ pub fn run<R: Threads + Sync, J: Rows + Sync, C: Compute + Sync, G: Gate>(
     let (fabric, mut pass) = Fabric::build(alloc, graph, cones)?;
     let mut workers = hire(alloc, &fabric, graph, &mut pass, jobs)?;
     let budget = 2 * graph.nodes() as u64 * graph.limit();
+    let looks = looks(cones.nets(), graph.nodes());
     drive_all(
         rt,
         &fabric,
@@ -47,6 +48,7 @@ pub fn run<R: Threads + Sync, J: Rows + Sync, C: Compute + Sync, G: Gate>(
         workers.as_mut_slice(),
         jobs,
         budget,
+        looks,
         gate,
     );
     collect(&fabric, &mut pass, workers);
@@ -62,6 +64,7 @@ fn drive_all<R: Threads + Sync, J: Rows + Sync, C: Compute + Sync, G: Gate>(
     workers: &mut [Worker],
     jobs: u32,
     budget: u64,
+    looks: usize,
     gate: &G,
 )
     requires run { (graph.now ≡ fabric.now.run) × IsSound graph.now }
@@ -78,6 +81,12 @@ fn drive_all<R: Threads + Sync, J: Rows + Sync, C: Compute + Sync, G: Gate>(
             requires run { (graph.now ≡ fabric.now.run) × IsSound graph.now }
             requires worker { IsWorker fabric.now worker.old }
             ensures { Drove worker.old worker.new }
-        { drive(fabric, graph, worker, budget, gate) },
+        { drive(fabric, graph, worker, budget, looks, gate) },
     );
+}
+
+// How many rounds a worker looks on for a step of its budget: as many as take some firings' time,
+// which goes with the nets that a node has to compute.
+fn looks(nets: usize, nodes: usize) -> usize {
+    8 + nets / 32 / nodes.max(1)
 }

@@ -10,16 +10,9 @@ use Rattle.ds_rule.proofs.Lists.{at_get}
 use Rattle.ds_fabric.specs.Chained.{arc_at, IsLast}
 use Rattle.ds_fabric.specs.Looks.{LooksOn, EnoughFrom, Lacks}
 use Rattle.ds_fabric.proofs.Views.{looks_none, gives_up}
-use Rattle.ds_fabric.proofs.Chains.{arc-there, enough_behind, goes_back}
+use Rattle.ds_fabric.proofs.Chains.{arc-there, same-arc, source_near, enough_behind, goes_back}
 use Rattle.ds_fabric.proofs.counts.survey.Given.{Over}
 use Rattle.ds_fabric.proofs.counts.survey.Goals as goal
-
--- the arc at a place, in the run
-same-arc : (run : Run) (arcs : List Arc) (i : ℕ) (d : Arc) → arcs ≡ run.arcs → i < length run.arcs
-    → get_or arcs i d ≡ arc_at run i
-same-arc run arcs i d is near =
-    ap (λ (xs : List Arc). get_or xs i d) is ∙ at_get run.arcs i (arc_at run i) d
-    (arc-there run i near)
 
 -- a place that was read off a list
 read-off : (xs : List ℕ) (i r : ℕ) → i < length xs → r ≡ slice_index_or xs i r → get_or xs i 0 ≡ r
@@ -40,19 +33,11 @@ loop-i-init g c = let run : Run = c.args.graph.now in let q = c.requires.chains 
       last.hit,
     )
 
--- the arc before a place is there, and its source is a node
 pub look-fired-requires-clause-near : goal.look-fired-requires-clause-near
-look-fired-requires-clause-near g c = let run : Run = c.args.graph.now in
-    let n : ℕ = c.loop-i.at - 1 in let inv = c.loop-i.invariant in
-    let below : n < length run.arcs = omega (arith, inv.4, c.if-at-eq0.false) in
-    omega (
-      arith,
-      c.node_of.ensures,
-      ap (node_of run) c.index-source.ensures,
-      ap (λ (x : Arc). node_of run x.source)
-          (same-arc run c.arcs-arcs.result.now n c.index-arcs-at.result c.arcs-arcs.ensures below),
-      (c.requires.table.1.sound.named n (arc_at run n) (arc-there run n below)).0,
-    )
+look-fired-requires-clause-near g c =
+    source_near c.args.graph.now c.arcs-arcs.result.now (c.loop-i.at - 1) c.index-arcs-at.result c.index-source.result
+    c.node_of.result c.requires.table.1.sound c.arcs-arcs.ensures
+    (omega (arith, c.loop-i.invariant.4, c.if-at-eq0.false)) c.index-source.ensures c.node_of.ensures
 
 abbrev Gives : (g : Over) (c : goal.Then-lacks g) → Type 0
 Gives g c = LooksOn c.args.seat.now.me.0 c.look-fired.new.seat.me.0

@@ -1,46 +1,33 @@
-use Rattle.std.proofs.Common.{◌≢◌, ◌<◌, ◌≤◌, ℕ, sym, refl, arith, subst}
-use Rattle.ds_rule.specs.Run.{Run}
-use Rattle.ds_rule.proofs.Lists.{at_below}
-use Rattle.ds_fabric.specs.Showing.{Showing}
-use Rattle.ds_runner.specs.Work.{IsRound}
+use Rattle.std.proofs.Common.{◌≤◌, ℕ, sym, refl, le_of_eq, arith, subst}
+use Rattle.ds_runner.specs.Work.{Kept}
 use Rattle.ds_runner.specs.declared.drive.Round.{Round}
-use Rattle.ds_runner.specs.declared.drive.Round.TheVariants.{Done}
-use Rattle.ds_runner.proofs.Work.{step_moves, moved_on}
+use Rattle.ds_runner.specs.declared.drive.Round.TheVariants.{Done, Busy, Idle}
+use Rattle.ds_runner.proofs.Work.{drove_further}
 use Rattle.ds_runner.proofs.drive.go_round.Given
 use Rattle.ds_runner.proofs.drive.go_round.Goals as goal
-use Rattle.ds_runner.proofs.drive.go_round.Goals.{in-Done, in-Fired, in-NotYet}
+use Rattle.ds_runner.proofs.drive.go_round.Goals.{in-Done, in-Busy, in-Idle}
 
--- the round and what is left of the budget
-abbrev Goes : Run → ℕ → ℕ → Round → Type 0
-Goes run old left round = IsRound run round × (left ≤ old) × (round ≢ Done → left < old)
+-- a round never adds to a budget
+at_most : (old new : ℕ) (round : Round) → Kept old new round → new ≤ old
+at_most old new Busy k = omega (arith, k)
+at_most old new Done k = le_of_eq k
+at_most old new Idle k = le_of_eq k
 
-goes : (g : Given.Over) (c : goal.Joined-step g) → Goes c.args.fabric.now.run c.args.left.now c.match-step.left c.match-step.round
-goes g c = let run : Run = c.args.fabric.now.run in let old : ℕ = c.args.left.now in let i = c.nodes.invariant in
-    elim c.match-step.branch [
-      | in-Done w ↦ subst (λ (r : Round). Goes run old c.match-step.left r) (sym w.round-is)
-          (subst (λ (n : ℕ). Goes run old n c.nodes.round) (sym w.left-is) (i.1, i.2, i.3))
-      | in-Fired w ↦ subst (λ (r : Round). Goes run old c.match-step.left r) (sym w.round-is)
-          (tt, omega (arith, w.left-is, i.2), λ _. omega (arith, w.left-is, i.2, c.if-left-eq0.false))
-      | in-NotYet w ↦ subst (λ (r : Round). Goes run old c.match-step.left r) (sym w.round-is) (
-        w.lacked-round.ensures.round run i.1 (at_below run.arcs _ w.in-NotYet.ensures.step.1.a w.in-NotYet.ensures.step.1.is_arc),
-        omega (arith, w.left-is, i.2),
-        λ _. omega (arith, w.left-is, i.2, c.if-left-eq0.false),
-      )
+kept : (g : Given.Over) (c : goal.Joined-visit g) → Kept c.args.left.now c.match-visit.left c.match-visit.round
+kept g c = let old : ℕ = c.args.left.now in let i = c.nodes.invariant in
+    elim c.match-visit.branch [
+      | in-Done w ↦ subst (λ (r : Round). Kept old c.match-visit.left r) (sym w.round-is)
+          (subst (λ (n : ℕ). Kept old n c.nodes.round) (sym w.left-is) i.1)
+      | in-Busy w ↦ subst (λ (r : Round). Kept old c.match-visit.left r) (sym w.round-is)
+          (omega (arith, w.left-is, at_most old c.nodes.left c.nodes.round i.1, c.if-left-eq0.false))
+      | in-Idle w ↦ subst (λ (r : Round). Kept old c.match-visit.left r) (sym w.round-is)
+          (subst (λ (n : ℕ). Kept old n w.idle-round.result) (sym w.left-is) (w.idle-round.ensures old c.nodes.left i.1))
     ]
 
 pub nodes-preserved : goal.nodes-preserved
-nodes-preserved g c = let i = c.nodes.invariant in let new : Showing = c.unit-step.new.pass in
-    let u = c.unit-step.ensures in let r = goes g c in (
-      record {
-        moved = moved_on c.args.worker.now.pass c.nodes.worker.pass new i.0.moved
-            (step_moves c.args.fabric.now.run c.nodes.worker.pass new c.nodes.node c.unit-step.result u.same u.step);
-        number = i.0.number;
-        first = i.0.first;
-        end_ = i.0.end_;
-      },
-      r.0,
-      r.1,
-      r.2,
-      refl,
-      omega (arith, i.5),
-    )
+nodes-preserved g c = let i = c.nodes.invariant in (
+  drove_further c.args.worker.now c.nodes.worker c.visit.new.worker i.0 c.visit.ensures,
+  kept g c,
+  refl,
+  omega (arith, i.3),
+)

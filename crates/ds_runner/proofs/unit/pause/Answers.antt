@@ -1,10 +1,10 @@
 use Rattle.std.proofs.Common.{arith}
 use Rattle.ds_runner.proofs.Work.{event_small}
-use Rattle.ds_runner.proofs.unit.unit.Goals as goal
+use Rattle.ds_runner.proofs.unit.pause.Goals as goal
 
 pub overflow_cast-event : goal.overflow_cast-event
 overflow_cast-event g c = omega (
   arith,
   c.next-event.ensures,
-  event_small c.args.graph.now c.args.node c.fired-fired.result c.requires.run.1 c.requires.held.1,
+  event_small c.args.graph.now c.args.node c.fired-fired.result c.requires.sound c.requires.held.1,
 )
