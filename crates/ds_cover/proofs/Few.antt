@@ -13,7 +13,7 @@ use Rattle.ds_base.specs.declared.value.Value.{Value}
 use Rattle.ds_base.specs.declared.value.Value.TheVariants.{Zero, One, Unknown}
 use Rattle.ds_cover.specs.Cover.{signed, value_at, values_at}
 use Rattle.ds_cover.specs.Packed.{bits_by, contradicted, doubted, mask_value, masks_value, one_bit, unknown_bit, verdict, words_of, zero_bit}
-use Rattle.ds_cover.specs.Kept.{AreKnown, IsQuick, IsSingle, IsTruth, bit_value, place_value, singles_value, six_nets}
+use Rattle.ds_cover.specs.Kept.{AreKnown, AreThree, IsQuick, IsSingle, IsTruth, bit_value, place_value, singles_value, six_nets}
 use Rattle.ds_cover.specs.declared.entry.Quick.{Quick}
 use Rattle.ds_cover.specs.declared.mask.Mask.{Mask}
 use Rattle.ds_cover.specs.declared.word.Word.{Word}
@@ -143,11 +143,20 @@ six_within inputs n some within =
     let at : (i : ℕ) → get_or inputs (min (length inputs - 1) i) 0 < n = λ i. within (min (length inputs - 1) i) 0 (omega arith) in
     all_six n _ _ _ _ _ _ (at 0) (at 1) (at 2) (at 3) (at 4) (at 5)
 
+-- of three inputs at most, all from the third on are the last one
+six_three : (inputs : List ℕ) → length inputs ≤ 3 → AreThree (six_nets inputs)
+six_three [] few = (refl, refl, refl)
+six_three (a ∷ []) few = (refl, refl, refl)
+six_three (a ∷ b ∷ []) few = (refl, refl, refl)
+six_three (a ∷ b ∷ c ∷ []) few = (refl, refl, refl)
+six_three (a ∷ b ∷ c ∷ d ∷ rest) few = absurd (omega arith)
+
 -- a table of one to six inputs by its word
 pub quick_is : (inputs : List ℕ) (masks : List Mask) (on : Bool) (quick : Quick) → 0 < length inputs → length inputs ≤ 6 → All IsSingle masks
+    → (quick.three ≡ true → length inputs ≤ 3)
     → ((values : Row) → masks_value values One masks ≡ masks_value (take (length inputs) values) One masks)
     → IsTruth masks on quick.truth → quick.nets ≡ six_nets inputs → IsQuick quick (record { inputs = inputs; masks = masks; on = on })
-quick_is inputs masks on quick some few single reads truth is = record {
+quick_is inputs masks on quick some few single small reads truth is = record {
   within = λ nets within. subst (λ (ns : List ℕ). All (λ net. net < length nets) ns) (sym is) (six_within inputs (length nets) some within);
   truth = λ nets known.
       let values = values_at nets quick.nets in
@@ -156,6 +165,7 @@ quick_is inputs masks on quick some few single reads truth is = record {
       ∙ ap (map (value_at nets)) (ap (take (length inputs)) is ∙ six_take inputs some few) in
       truth values six known
       ∙ ap (signed on) (sym (singles_are masks values single (omega arith)) ∙ (reads values ∙ ap (λ (r : Row). masks_value r One masks) own));
+  three = λ yes. subst AreThree (sym is) (six_three inputs (small yes));
 }
 
 pub place_few : (masks : List Mask) (on : Bool) (i : ℕ) → 0 < i → i ≤ 64 → bits_by (place_bit masks on) (range_with_len i (64 - i)) < 2 ^ 63

@@ -32,12 +32,17 @@ driven_in inputs masks span = record {
   output = span.output;
 }
 
+-- the nets from the third on are the same
+abbrev pub AreThree : List ℕ → Type 0
+AreThree nets = (slice_index nets 3 ≡ slice_index nets 2) × (slice_index nets 4 ≡ slice_index nets 2) × (slice_index nets 5 ≡ slice_index nets 2)
+
 -- the six nets are inputs of the table, and where they are known, the word has its value at the bit
 -- that they number
 pub record IsQuick (quick : Quick) (cover : PackedCover) : Type 0 where
   pub within : (nets : Row) → All (λ net. net < length nets) cover.inputs → All (λ net. net < length nets) quick.nets
   pub truth : (nets : Row) → AreKnown (values_at nets quick.nets)
       → bit_value (bit_at quick.truth (bits_by one_bit (values_at nets quick.nets))) ≡ packed_value cover nets
+  pub three : quick.three ≡ true → AreThree quick.nets
 
 -- a table that is kept
 pub record IsKept (inputs : List ℕ) (masks : List Mask) (span : Span) (quick : Quick) : Type 0 where

@@ -29,4 +29,6 @@ pub struct Quick {
     pub output: NetId,
     /// Whether there are one to six inputs; where not, the rest has no meaning.
     pub few: bool,
+    /// Whether there are three at most, so that all nets from the third on are the same.
+    pub three: bool,
 }

@@ -1,8 +1,8 @@
 //! The value of a table that a bank keeps.
-ghost use Rattle.std.specs.Prelude.{◌≡◌, ◌<◌, ◌≤◌, All, IfSome, drop, length, take};
+ghost use Rattle.std.specs.Prelude.{◌≡◌, ◌<◌, ◌≤◌, true, All, IfSome, drop, length, take};
 ghost use Rattle.ds_base.specs.Word.{code_of};
 ghost use Rattle.ds_cover.specs.Cover.{values_at};
-ghost use Rattle.ds_cover.specs.Kept.{AreKnown, IsKept, bit_value, driven_in, quick_bit};
+ghost use Rattle.ds_cover.specs.Kept.{AreKnown, AreThree, IsKept, bit_value, driven_in, quick_bit};
 ghost use Rattle.ds_cover.specs.Packed.{mask_value, masks_value, packed_value, words_of};
 ghost use Rattle.ds_base.specs.declared.value.Value.TheVariants.{One};
 
@@ -37,6 +37,37 @@ pub(crate) fn entry_value(
 
 // The value by the word, where no input is unknown.
 fn quick_value(quick: &Quick, nets: &Row3) -> Option<Value>
+    requires within { All (λ net. net < length nets.now) quick.now.nets }
+    requires three { quick.now.three ≡ true → AreThree quick.now.nets }
+    ensures known { IfSome result (λ _. AreKnown (values_at nets.now quick.now.nets)) }
+    ensures value { IfSome result (λ value. value ≡ quick_bit quick.now nets.now) }
+{
+    if quick.three {
+        three_value(quick, nets)
+    } else {
+        six_value(quick, nets)
+    }
+}
+
+// The same for one to three inputs.
+fn three_value(quick: &Quick, nets: &Row3) -> Option<Value>
+    requires within { All (λ net. net < length nets.now) quick.now.nets }
+    requires three { AreThree quick.now.nets }
+    ensures known { IfSome result (λ _. AreKnown (values_at nets.now quick.now.nets)) }
+    ensures value { IfSome result (λ value. value ≡ quick_bit quick.now nets.now) }
+{
+    let a = code(nets.value(quick.nets[0].index()));
+    let b = code(nets.value(quick.nets[1].index()));
+    let c = code(nets.value(quick.nets[2].index()));
+    if a | b | c > 1 {
+        return None;
+    }
+    let place = a + 2 * b + 60 * c;
+    Some(value_of_bit((quick.truth >> place) & 1))
+}
+
+// The same for one to six inputs.
+fn six_value(quick: &Quick, nets: &Row3) -> Option<Value>
     requires { All (λ net. net < length nets.now) quick.now.nets }
     ensures known { IfSome result (λ _. AreKnown (values_at nets.now quick.now.nets)) }
     ensures value { IfSome result (λ value. value ≡ quick_bit quick.now nets.now) }

@@ -26,6 +26,17 @@ fn nets(alloc: Global, text: &str, width: usize) -> Result<Row3, OutOfMemory> {
     Ok(Row3::of(values))
 }
 
+// The same with an unknown net behind.
+fn nets_and_one(alloc: Global, text: &str, width: usize) -> Result<Row3, OutOfMemory> {
+    let front = nets(alloc, text, width)?;
+    let mut values = Vec::new(alloc);
+    for i in 0..front.len() {
+        values.push(front.value(i))?;
+    }
+    values.push(Value::Unknown)?;
+    Ok(Row3::of(values))
+}
+
 // A table of the first nets, with these rows, a blank between two; no rows for a point.
 fn table(alloc: Global, width: u32, rows: &str, on: bool) -> Result<Option<Table>, OutOfMemory> {
     let mut inputs = Vec::new(alloc);
@@ -66,7 +77,7 @@ fn values(
 
 // Of each table how many inputs it has, its rows, whether they list the ones, the inputs' values,
 // and its value.
-const CASES: [(u32, &str, bool, &str, Value); 19] = [
+const CASES: [(u32, &str, bool, &str, Value); 27] = [
     (0, "", true, "", Value::One),
     (0, "", false, "", Value::Zero),
     (0, ".", true, "", Value::Zero),
@@ -78,6 +89,14 @@ const CASES: [(u32, &str, bool, &str, Value); 19] = [
     (2, "11 00", false, "10", Value::One),
     (2, "11 00", false, "00", Value::Zero),
     (2, "?", true, "10", Value::Zero),
+    (1, "0", true, "0", Value::One),
+    (1, "0", true, "x", Value::Unknown),
+    (3, "011", true, "011", Value::One),
+    (3, "011", true, "110", Value::Zero),
+    (3, "1-0 -10", false, "0x1", Value::One),
+    (3, "1-0 -10", true, "0x0", Value::Unknown),
+    (4, "0001", true, "0001", Value::One),
+    (4, "0110", true, "0111", Value::Zero),
     (6, "-0", true, "x0", Value::One),
     (6, "1 01", true, "01", Value::One),
     (7, "1", true, "1x", Value::Unknown),
@@ -122,4 +141,46 @@ fn a_bank_counts_its_tables(rt: HostRuntime) {
         panic!(rt; "memory");
     };
     assert_eq!(rt; bank.len(), 2);
+}
+
+// What stands at the last net once a bank of this table alone, which drives it, has set it: by its
+// number, and among all tables.
+fn set_last(
+    alloc: Global,
+    table: &Table,
+    nets: &mut Row3,
+    others: &mut Row3,
+) -> Result<Option<(Value, Value)>, OutOfMemory> {
+    let count = nets.len();
+    if count == 0 || count > 4096 || others.len() != count {
+        return Ok(None);
+    }
+    let last = NetId::new(count as u32 - 1);
+    let bank = Bank::new(alloc).with(table, last)?;
+    if table.inputs().iter().all(|net| net.index() < count) {
+        bank.set(0, nets);
+        bank.set_all(&[0], others);
+        Ok(Some((nets.value(count - 1), others.value(count - 1))))
+    } else {
+        Ok(None)
+    }
+}
+
+// The table drives a net behind its inputs.
+#[test]
+fn a_bank_sets_what_its_table_drives(rt: HostRuntime) {
+    for (width, rows, on, text, want) in CASES {
+        let alloc = rt.alloc();
+        let (Ok(Some(table)), Ok(mut row), Ok(mut other)) = (
+            table(alloc, width, rows, on),
+            nets_and_one(alloc, text, width as usize),
+            nets_and_one(alloc, text, width as usize),
+        ) else {
+            panic!(rt; "memory");
+        };
+        let Ok(got) = set_last(alloc, &table, &mut row, &mut other) else {
+            panic!(rt; "memory");
+        };
+        assert_eq!(rt; got, Some((want, want)), "{width} {rows} {on} {text}");
+    }
 }
