@@ -1,50 +1,53 @@
-# Completion of desync for bash: the command, names of files, the option. Source it, or let
+# Completion of desync for bash: the command, names of files, the options. Source it, or let
 # `make install` put it where bash-completion looks.
 
+# Completes the names of files.
+_desync_files() {
+    compopt -o filenames 2>/dev/null
+    local IFS=$'\n'
+    COMPREPLY=($(compgen -f -- "$1"))
+}
+
 _desync() {
-    local word=${COMP_WORDS[COMP_CWORD]} command=${COMP_WORDS[1]}
+    local word=${COMP_WORDS[COMP_CWORD]} command=${COMP_WORDS[1]} option= names=0 i
     COMPREPLY=()
     if [ "$COMP_CWORD" -eq 1 ]; then
         COMPREPLY=($(compgen -W "run clock check graph replay accept demo" -- "$word"))
         return
     fi
-    local last=${COMP_WORDS[COMP_CWORD - 1]}
-    if [ "$last" = = ] && [ "${COMP_WORDS[COMP_CWORD - 2]}" = --clusters ]; then
-        last=--clusters
-    elif [ "$last$word" = --clusters= ]; then
-        last=--clusters word=
+    # the option that waits for its value, and how many names stand in front
+    for ((i = 2; i < COMP_CWORD; i++)); do
+        case ${COMP_WORDS[i]} in
+            --clusters | --graph | --jobs) option=${COMP_WORDS[i]} ;;
+            = | --*) ;;
+            *) if [ "$option" ]; then option=; else names=$((names + 1)); fi ;;
+        esac
+    done
+    if [ "$word" = = ]; then
+        word=
     fi
-    if [ "$last" = --clusters ] && [ "$command" != demo ]; then
-        COMPREPLY=($(compgen -W "each one bus" -- "$word"))
-        return
-    fi
-    if [[ $word == -* && $command == run ]]; then
-        COMPREPLY=($(compgen -W "--clusters --graph --jobs --log" -- "$word"))
-        return
-    fi
-    if [[ $word == -* && $command == replay ]]; then
-        COMPREPLY=($(compgen -W "--clusters --graph" -- "$word"))
-        return
-    fi
-    if [[ $word == -* && $command == demo ]]; then
-        COMPREPLY=($(compgen -W "--jobs" -- "$word"))
-        return
-    fi
-    if [[ $word == -* && ( $command == graph || $command == accept ) ]]; then
-        COMPREPLY=($(compgen -W "--clusters" -- "$word"))
-        return
-    fi
-    local names=$command:$COMP_CWORD
-    if [ "$last" = --graph ]; then
-        names=run:2
-    fi
-    case $names in
-        run:2 | clock:2 | check:2 | graph:2 | replay:2 | accept:2 | run:3 | clock:3 | replay:3 | accept:3 | replay:4)
-            compopt -o filenames 2>/dev/null
-            local IFS=$'\n'
-            COMPREPLY=($(compgen -f -- "$word"))
-            ;;
+    case $option in
+        --clusters) COMPREPLY=($(compgen -W "each one bus" -- "$word")) ;;
+        --graph) _desync_files "$word" ;;
     esac
+    if [ "$option" ]; then
+        return
+    fi
+    local options= most=0
+    case $command in
+        run) options="--clusters --graph --jobs --log" most=2 ;;
+        clock) most=2 ;;
+        check) most=1 ;;
+        graph) options=--clusters most=1 ;;
+        replay) options="--clusters --graph" most=3 ;;
+        accept) options=--clusters most=2 ;;
+        demo) options=--jobs ;;
+    esac
+    if [[ $word == -* ]]; then
+        COMPREPLY=($(compgen -W "$options" -- "$word"))
+    elif [ "$names" -lt "$most" ]; then
+        _desync_files "$word"
+    fi
 }
 
 complete -F _desync desync
