@@ -3,6 +3,7 @@ ghost use Rattle.ds_rule.specs.Sound.{IsSound};
 ghost use Rattle.ds_fabric.specs.Showing.{Belongs};
 ghost use Rattle.ds_runner.specs.Work.{HasBetween, Drove, Kept};
 
+use crate::budget::Budget;
 use crate::unit::pause;
 use crate::worker::Worker;
 use ds_base::LatchId;
@@ -22,14 +23,13 @@ pub enum Round {
     Idle,
 }
 
-/// Goes through the nodes of a share again and again, for so many steps at most. After a round
-/// without a step it looks on for so many rounds more, and all of them count as one step.
+/// Goes through the nodes of a share again and again, for so many steps at most, and for so many
+/// looks in rounds without a step.
 pub fn drive<J: Rows, C: Compute, G: Gate>(
     fabric: &Fabric<'_, J, C>,
     graph: &Layout<J>,
     worker: &mut Worker,
-    budget: u64,
-    looks: usize,
+    budget: Budget,
     gate: &G,
 )
     requires run { (graph.now ≡ fabric.now.run) × IsSound graph.now }
@@ -38,14 +38,19 @@ pub fn drive<J: Rows, C: Compute, G: Gate>(
     requires near { worker.old.end ≤ graph.now.nodes }
     ensures { Drove worker.old worker.new }
 {
-    let mut left = budget;
+    let mut left = budget.steps;
+    let mut looks = budget.looks;
     'rounds: while left > 0 {
         match go_round(fabric, graph, worker, &mut left, gate) {
             Round::Done => return,
             Round::Busy => {}
             Round::Idle => {
-                left -= 1;
-                look_on(fabric, worker, looks);
+                let taken = worker.end.saturating_sub(worker.first) as u64;
+                if looks <= taken {
+                    return;
+                }
+                looks -= taken + 1;
+                spin_loop();
             }
         }
     }
@@ -120,34 +125,4 @@ fn visit<J: Rows, C: Compute, G: Gate>(
     } else {
         Round::Idle
     }
-}
-
-// Looks at the nodes of the share until one seems ready, for so many rounds at most.
-fn look_on<J: Rows, C: Compute>(fabric: &Fabric<'_, J, C>, worker: &Worker, looks: usize)
-    requires fits { Belongs fabric.now worker.now.pass }
-    requires share { HasBetween worker.now.pass.view worker.now.first worker.now.end }
-    requires near { worker.now.end ≤ fabric.now.run.nodes }
-    requires few { fabric.now.run.nodes < 4294967296 }
-{
-    'looking: for _ in 0..looks {
-        if has_ready(fabric, worker) {
-            break;
-        }
-        spin_loop();
-    }
-}
-
-// Some node of the share seems ready.
-fn has_ready<J: Rows, C: Compute>(fabric: &Fabric<'_, J, C>, worker: &Worker) -> bool
-    requires fits { Belongs fabric.now worker.now.pass }
-    requires share { HasBetween worker.now.pass.view worker.now.first worker.now.end }
-    requires near { worker.now.end ≤ fabric.now.run.nodes }
-    requires few { fabric.now.run.nodes < 4294967296 }
-{
-    'nodes: for node in worker.first..worker.end {
-        if fabric.seems_ready(&worker.pass, LatchId::new(node as u32)) {
-            return true;
-        }
-    }
-    false
 }

@@ -5,6 +5,7 @@ ghost use Rattle.ds_runner.specs.Work.{Drove, IsWorker};
 ghost use Rattle.ds_runner.specs.Whole.{IsWhole};
 ghost use Rattle.ds_runner.specs.declared.worker.Worker.{Worker};
 
+use crate::budget::Budget;
 use crate::complete::{collect, complete};
 use crate::drive::drive;
 use crate::hire::hire;
@@ -39,8 +40,7 @@ pub fn run<R: Threads + Sync, J: Rows + Sync, C: Compute + Sync, G: Gate>(
 {
     let (fabric, mut pass) = Fabric::build(alloc, graph, cones)?;
     let mut workers = hire(alloc, &fabric, graph, &mut pass, jobs)?;
-    let budget = 2 * graph.nodes() as u64 * graph.limit();
-    let looks = looks(cones.nets(), graph.nodes());
+    let budget = budget(graph, cones);
     drive_all(
         rt,
         &fabric,
@@ -48,7 +48,6 @@ pub fn run<R: Threads + Sync, J: Rows + Sync, C: Compute + Sync, G: Gate>(
         workers.as_mut_slice(),
         jobs,
         budget,
-        looks,
         gate,
     );
     collect(&fabric, &mut pass, workers);
@@ -63,8 +62,7 @@ fn drive_all<R: Threads + Sync, J: Rows + Sync, C: Compute + Sync, G: Gate>(
     graph: &Layout<J>,
     workers: &mut [Worker],
     jobs: u32,
-    budget: u64,
-    looks: usize,
+    budget: Budget,
     gate: &G,
 )
     requires run { (graph.now ≡ fabric.now.run) × IsSound graph.now }
@@ -81,12 +79,22 @@ fn drive_all<R: Threads + Sync, J: Rows + Sync, C: Compute + Sync, G: Gate>(
             requires run { (graph.now ≡ fabric.now.run) × IsSound graph.now }
             requires worker { IsWorker fabric.now worker.old }
             ensures { Drove worker.old worker.new }
-        { drive(fabric, graph, worker, budget, looks, gate) },
+        { drive(fabric, graph, worker, budget, gate) },
     );
 }
 
-// How many rounds a worker looks on for a step of its budget: as many as take some firings' time,
-// which goes with the nets that a node has to compute.
-fn looks(nets: usize, nodes: usize) -> usize {
-    8 + nets / 32 / nodes.max(1)
+// Twice the nodes times the vectors are the firings of the whole run, and looks take a worker about
+// as long as these: as many for each as take the time of one, which goes with the nets that a node
+// has to compute. So also where workers wait for processors, the run takes a few times as long as by
+// one of them, and no more.
+fn budget<J: Rows, C: Compute>(graph: &Layout<J>, cones: &C) -> Budget
+    requires { IsSound graph.now }
+{
+    let nodes = graph.nodes();
+    let steps = 2 * nodes as u64 * graph.limit();
+    let each = 16 + cones.nets() / 3 / nodes.max(1);
+    Budget {
+        steps,
+        looks: steps.saturating_mul(each as u64),
+    }
 }
