@@ -25,6 +25,7 @@ SIZES = [
     ("random 1000", 2000, ["random", "1000"]),
     ("random 4000", 1000, ["random", "4000"]),
     ("pipeline 16x8x4", 10000, ["pipeline", "16", "8", "4"]),
+    ("pipeline 20x25x20", 10000, ["pipeline", "20", "25", "20"]),
     ("pipeline 64x32x8", 1000, ["pipeline", "64", "32", "8"]),
     ("pipeline 64x60x16", 200, ["pipeline", "64", "60", "16"]),
 ]
@@ -296,6 +297,7 @@ def main():
     parser.add_argument("--times", type=int, default=5, help="how many runs a median is of")
     parser.add_argument("--turns", type=int, help="as many vectors for each netlist")
     parser.add_argument("--few", action="store_true", help="the smallest netlists alone")
+    parser.add_argument("--only", metavar="NAME", help="one netlist alone")
     asked = parser.parse_args()
     program = os.path.abspath(asked.program)
     if not os.access(program, os.X_OK):
@@ -305,7 +307,7 @@ def main():
     print("|%s" % ("---|" * len(head)))
     equal = []
     for name, turns, words in SIZES:
-        if name in SMALLEST or not asked.few:
+        if asked.only in (None, name) and (name in SMALLEST or not asked.few):
             equal.append(measure(name, asked.turns or turns, words, program, asked.times))
     sys.exit(0 if all(equal) else 1)
 

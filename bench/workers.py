@@ -28,6 +28,15 @@ def buses(path):
         file.write(re.sub(r"\bs(\d+)_(\d+)\b", r"s\1[\2]", text))
 
 
+def made(folder, name, turns):
+    """A pipeline of 40 stages of 25 registers, 10 levels of tables each, and its vectors."""
+    prefix = os.path.join(folder, name)
+    make = [os.path.join(HERE, "make_netlist.py"), "--turns", str(turns), prefix]
+    subprocess.run([sys.executable] + make + ["pipeline", "25", "40", "10"], check=True)
+    buses(prefix + ".blif")
+    return [prefix + ".blif", prefix + ".vec"]
+
+
 def timed(words, times):
     """The bytes that a command writes, and the median of its times."""
     taken = []
@@ -53,25 +62,22 @@ def line(name, words, jobs, times):
 def main():
     parser = argparse.ArgumentParser(description=__doc__.split("\n")[0])
     parser.add_argument("--times", type=int, default=5, help="runs of each command")
-    parser.add_argument("--turns", type=int, default=2000, help="vectors")
+    parser.add_argument("--turns", type=int, default=10000, help="vectors of wide clusters")
     parser.add_argument("--jobs", type=int, nargs="+", default=[1, 2, 4], help="workers")
     given = parser.parse_args()
-    turns = str(given.turns)
+    few = given.turns // 10
+    print("%-34s %s" % ("workers", " ".join("%8d" % count for count in given.jobs)))
+    same = True
     with tempfile.TemporaryDirectory() as folder:
-        prefix = os.path.join(folder, "p")
-        make = [os.path.join(HERE, "make_netlist.py"), "--turns", turns, prefix]
-        subprocess.run([sys.executable] + make + ["pipeline", "20", "25", "20"], check=True)
-        buses(prefix + ".blif")
-        files = [prefix + ".blif", prefix + ".vec"]
-        print("%-34s %s" % ("workers", " ".join("%8d" % count for count in given.jobs)))
+        files = made(folder, "wide", given.turns)
         _, seconds = timed(["clock"] + files, given.times)
         print("%-34s %8.3f" % ("clock, 10,000 tables", seconds))
-        same = line("run, the same, 25 clusters", ["run"] + files + ["--clusters", "bus"],
-                    given.jobs, given.times)
-        same = line("run, the same, 500 clusters", ["run"] + files, given.jobs, given.times) and same
-        half = str(given.turns // 2)
-        same = line("demo 1 4096 " + half, ["demo", "1", "4096", half], given.jobs,
-                    given.times) and same
+        for name, words in (
+            ("run, the same, 40 clusters", ["run"] + files + ["--clusters", "bus"]),
+            ("run, 1,000 clusters, %d vectors" % few, ["run"] + made(folder, "each", few)),
+            ("demo 1 4096 %d" % few, ["demo", "1", "4096", str(few)]),
+        ):
+            same = line(name, words, given.jobs, given.times) and same
     sys.exit(0 if same else 1)
 
 
