@@ -153,7 +153,7 @@ six_three (a ∷ b ∷ c ∷ d ∷ rest) few = absurd (omega arith)
 
 -- a table of one to six inputs by its word
 pub quick_is : (inputs : List ℕ) (masks : List Mask) (on : Bool) (quick : Quick) → 0 < length inputs → length inputs ≤ 6 → All IsSingle masks
-    → (quick.three ≡ true → length inputs ≤ 3)
+    → (quick.at_most_three ≡ true → length inputs ≤ 3)
     → ((values : Row) → masks_value values One masks ≡ masks_value (take (length inputs) values) One masks)
     → IsTruth masks on quick.truth → quick.nets ≡ six_nets inputs → IsQuick quick (record { inputs = inputs; masks = masks; on = on })
 quick_is inputs masks on quick some few single small reads truth is = record {

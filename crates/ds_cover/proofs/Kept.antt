@@ -71,7 +71,7 @@ maps_agree f g (x ∷ xs) same = ap (λ y. y ∷ map f xs) (All-head (λ x. f x 
 
 -- some quick entry
 abbrev no_quick : Quick
-no_quick = record { truth = 0; nets = []; output = 0; few = false; three = false }
+no_quick = record { truth = 0; nets = []; output = 0; few = false; at_most_three = false }
 
 module _ (inputs : List ℕ) (masks : List Mask) (spans : List Span) (quicks : List Quick) (are : AreKept inputs masks spans quicks)
     (cover : Cover) (output : ℕ) (inputs' : List ℕ) (masks' : List Mask) (span : Span) (quick : Quick) (added : IsAdded inputs masks cover output inputs' masks' span quick) where

@@ -42,7 +42,7 @@ pub record IsQuick (quick : Quick) (cover : PackedCover) : Type 0 where
   pub within : (nets : Row) → All (λ net. net < length nets) cover.inputs → All (λ net. net < length nets) quick.nets
   pub truth : (nets : Row) → AreKnown (values_at nets quick.nets)
       → bit_value (bit_at quick.truth (bits_by one_bit (values_at nets quick.nets))) ≡ packed_value cover nets
-  pub three : quick.three ≡ true → AreThree quick.nets
+  pub three : quick.at_most_three ≡ true → AreThree quick.nets
 
 -- a table that is kept
 pub record IsKept (inputs : List ℕ) (masks : List Mask) (span : Span) (quick : Quick) : Type 0 where

@@ -38,11 +38,11 @@ pub(crate) fn entry_value(
 // The value by the word, where no input is unknown.
 fn quick_value(quick: &Quick, nets: &Row3) -> Option<Value>
     requires within { All (λ net. net < length nets.now) quick.now.nets }
-    requires three { quick.now.three ≡ true → AreThree quick.now.nets }
+    requires three { quick.now.at_most_three ≡ true → AreThree quick.now.nets }
     ensures known { IfSome result (λ _. AreKnown (values_at nets.now quick.now.nets)) }
     ensures value { IfSome result (λ value. value ≡ quick_bit quick.now nets.now) }
 {
-    if quick.three {
+    if quick.at_most_three {
         three_value(quick, nets)
     } else {
         six_value(quick, nets)

@@ -30,7 +30,7 @@ pub(crate) fn quick_of(inputs: &[NetId], masks: &[Mask], on: bool, output: NetId
         nets: six_of(inputs),
         output,
         few: true,
-        three: inputs.len() <= 3,
+        at_most_three: inputs.len() <= 3,
     }
 }
 
@@ -44,7 +44,7 @@ fn no_word(output: NetId) -> Quick
         nets: [output; 6],
         output,
         few: false,
-        three: false,
+        at_most_three: false,
     }
 }
 
