@@ -80,10 +80,10 @@ CoverWith v ws n = (l : ℕ) → l < n
     → (holds v l ≡ true) ⊎ ((k : ℕ) × (w : Worker) × (get_elem? ws k ≡ some w) × (holds w.pass.view l ≡ true))
 
 -- what a round takes of a budget: nothing, unless there was a step
-abbrev pub Kept : ℕ → ℕ → Round → Type 0
-Kept old new Busy = new < old
-Kept old new Done = new ≡ old
-Kept old new Idle = new ≡ old
+abbrev pub Spent : ℕ → ℕ → Round → Type 0
+Spent old new Busy = new < old
+Spent old new Done = new ≡ old
+Spent old new Idle = new ≡ old
 
 -- the sum of f over the numbers below n
 abbrev pub sum_below : (ℕ → ℕ) → ℕ → ℕ

@@ -1,10 +1,10 @@
 ghost use Rattle.std.specs.Prelude.{◌≡◌, ◌<◌, ◌≤◌, ℕ};
 ghost use Rattle.ds_rule.specs.Sound.{IsSound};
 ghost use Rattle.ds_fabric.specs.Showing.{Belongs};
-ghost use Rattle.ds_runner.specs.Work.{HasBetween, Drove, Kept};
+ghost use Rattle.ds_runner.specs.Work.{HasBetween, Drove, Spent};
 
 use crate::budget::Budget;
-use crate::unit::pause;
+use crate::unit::arrive;
 use crate::worker::Worker;
 use ds_base::LatchId;
 use ds_fabric::{Compute, Fabric};
@@ -71,7 +71,7 @@ fn go_round<J: Rows, C: Compute, G: Gate>(
     requires left { 0 < left.old }
 
     ensures drove { Drove worker.old worker.new }
-    ensures left { Kept left.old left.new result }
+    ensures left { Spent left.old left.new result }
 {
     let mut round = Round::Done;
     'nodes: for node in worker.first..worker.end {
@@ -92,7 +92,7 @@ fn go_round<J: Rows, C: Compute, G: Gate>(
 
 // The round, once a node was not ready.
 fn idle(round: Round) -> Round
-    ensures { (old new : ℕ) → Kept old new round → Kept old new result }
+    ensures { (old new : ℕ) → Spent old new round → Spent old new result }
 {
     match round {
         Round::Busy => Round::Busy,
@@ -115,7 +115,7 @@ fn visit<J: Rows, C: Compute, G: Gate>(
     requires near { worker.old.end ≤ graph.now.nodes }
     ensures { Drove worker.old worker.new }
 {
-    if !pause(graph, &worker.pass, worker.number, node, gate) {
+    if !arrive(graph, &worker.pass, worker.number, node, gate) {
         return Round::Done;
     }
     let latch = LatchId::new(node as u32);

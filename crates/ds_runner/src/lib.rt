@@ -3,9 +3,10 @@
 //! `run` deals the nodes in equal shares to so many workers, each with a pass of its own, and lets
 //! them fire in threads of their own. A worker goes through its nodes again and again: it calls the
 //! gate, looks whether the node seems ready, and steps it if so. It ends once its nodes are done or
-//! its budget is used up, of steps or of looks in rounds without a step. Then the caller takes all passes in and fires what is left. The record at the end
-//! is that of one legal list in which each event stands as often as it may fire, whatever the gate
-//! does and however threads are timed. Nothing is promised of time, or of which worker fires what.
+//! its budget is used up, of steps or of looks in rounds without a step. Then the caller takes all
+//! passes in and fires what is left. The record at the end is that of one legal list in which each
+//! event stands as often as it may fire, whatever the gate does and however threads are timed.
+//! Nothing is promised of time, or of which worker fires what.
 #![tactic(auto)]
 
 mod budget;

@@ -26,15 +26,15 @@ pub fn unit<J: Rows, C: Compute, G: Gate>(
     ensures same { Stays pass.old pass.new }
     ensures step { Stepped fabric.now.run pass.old.view node result pass.new.view }
 {
-    if pause(graph, pass, number, node, gate) {
+    if arrive(graph, pass, number, node, gate) {
         fabric.step(pass, LatchId::new(node as u32))
     } else {
         Step::Done
     }
 }
 
-/// Pauses at the gate, unless the node is done. False: it is done.
-pub fn pause<J: Rows, G: Gate>(
+/// Comes to a node: pauses at the gate, unless the node is done. False: it is done.
+pub fn arrive<J: Rows, G: Gate>(
     graph: &Layout<J>,
     pass: &Pass,
     number: u32,

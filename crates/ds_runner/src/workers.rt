@@ -40,7 +40,7 @@ pub fn run<R: Threads + Sync, J: Rows + Sync, C: Compute + Sync, G: Gate>(
 {
     let (fabric, mut pass) = Fabric::build(alloc, graph, cones)?;
     let mut workers = hire(alloc, &fabric, graph, &mut pass, jobs)?;
-    let budget = budget(graph, cones);
+    let budget = budget(graph, cones, workers.len());
     drive_all(
         rt,
         &fabric,
@@ -83,18 +83,21 @@ fn drive_all<R: Threads + Sync, J: Rows + Sync, C: Compute + Sync, G: Gate>(
     );
 }
 
-// Twice the nodes times the vectors are the firings of the whole run, and looks take a worker about
-// as long as these: as many for each as take the time of one, which goes with the nets that a node
-// has to compute. So also where workers wait for processors, the run takes a few times as long as by
-// one of them, and no more.
-fn budget<J: Rows, C: Compute>(graph: &Layout<J>, cones: &C) -> Budget
+// Twice the nodes times the vectors are the firings of the whole run, and as many steps may each
+// worker take. The looks are shared among the workers: all of them together take some three times as
+// long as all firings, which goes with the nets that a node has to compute. So a worker looks on
+// until a run is done in which each is at work for a quarter of the time, and where workers wait for
+// processors, what they lose does not grow with their number.
+fn budget<J: Rows, C: Compute>(graph: &Layout<J>, cones: &C, workers: usize) -> Budget
     requires { IsSound graph.now }
 {
     let nodes = graph.nodes();
     let steps = 2 * nodes as u64 * graph.limit();
-    let each = 16 + cones.nets() / 3 / nodes.max(1);
+    let nets = cones.nets() / nodes.max(1);
+    let each = 32 + (nets - nets / 3);
+    let looks = steps.saturating_mul(each as u64);
     Budget {
         steps,
-        looks: steps.saturating_mul(each as u64),
+        looks: looks / workers.max(1) as u64,
     }
 }

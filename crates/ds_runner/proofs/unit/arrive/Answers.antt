@@ -1,6 +1,6 @@
 use Rattle.std.proofs.Common.{arith}
 use Rattle.ds_runner.proofs.Work.{event_small}
-use Rattle.ds_runner.proofs.unit.pause.Goals as goal
+use Rattle.ds_runner.proofs.unit.arrive.Goals as goal
 
 pub overflow_cast-event : goal.overflow_cast-event
 overflow_cast-event g c = omega (
