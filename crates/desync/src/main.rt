@@ -5,6 +5,8 @@
 //! what reaches a terminal, no clause says.
 #![tactic(auto)]
 
+ghost use Rattle.std.specs.Prelude.{◌≡◌, IfOk, map, string_bytes};
+
 use ds_app::desync_main;
 use ds_outside::{HostFiles, HostOut, OpenGate};
 use std::alloc::{AllocError, Global};
@@ -36,7 +38,10 @@ fn words_given(rt: &HostRuntime) -> Result<Vec<String>, AllocError> {
 }
 
 // The same, as they stand in memory.
-fn texts_of(alloc: Global, words: &[String]) -> Result<Vec<&str>, AllocError> {
+fn texts_of(alloc: Global, words: &[String]) -> Result<Vec<&str>, AllocError>
+    ensures { IfOk result (λ texts. map (λ t. t.now) texts.items
+        ≡ map (λ w. string_bytes w) words.now) }
+{
     let mut texts = Vec::with_capacity(alloc, words.len())?;
     for word in words {
         texts.push(word.as_str())?;
