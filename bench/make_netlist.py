@@ -75,17 +75,28 @@ def make(prefix, seed, turns, kind, sizes):
             file.writelines(line + "\n" for line in text)
 
 
+def at_least(least):
+    """A reader of numbers that are not less."""
+
+    def number(word):
+        if int(word) < least:
+            raise ValueError
+        return int(word)
+
+    return number
+
+
 def main():
     parser = argparse.ArgumentParser(prog="make_netlist.py", description=__doc__)
     parser.add_argument("prefix", help="the files are PREFIX.blif and PREFIX.vec")
     parser.add_argument("--seed", type=int, default=1)
-    parser.add_argument("--turns", type=int, default=1000, help="how many vectors")
+    parser.add_argument("--turns", type=at_least(0), default=1000, help="how many vectors")
     kinds = parser.add_subparsers(dest="kind", required=True)
     one = kinds.add_parser("random")
-    one.add_argument("registers", type=int)
+    one.add_argument("registers", type=at_least(1))
     two = kinds.add_parser("pipeline")
     for name in PIPELINE:
-        two.add_argument(name, type=int)
+        two.add_argument(name, type=at_least(0 if name == "levels" else 1))
     asked = parser.parse_args()
     names = ("registers",) if asked.kind == "random" else PIPELINE
     sizes = [getattr(asked, name) for name in names]

@@ -302,6 +302,9 @@ def main():
     program = os.path.abspath(asked.program)
     if not os.access(program, os.X_OK):
         sys.exit("run.py: there is no program %s" % program)
+    names = [name for name, _, _ in SIZES]
+    if asked.only not in [None] + names:
+        sys.exit("run.py: --only takes one of: %s" % ", ".join(names))
     head = ["netlist", "turns"] + NAMES
     print("| %s |" % " | ".join(head))
     print("|%s" % ("---|" * len(head)))

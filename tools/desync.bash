@@ -9,7 +9,7 @@ _desync_files() {
 }
 
 _desync() {
-    local word=${COMP_WORDS[COMP_CWORD]} command=${COMP_WORDS[1]} option= names=0 i
+    local word=${COMP_WORDS[COMP_CWORD]} command=${COMP_WORDS[1]} option= names=0 given= plain= i
     COMPREPLY=()
     if [ "$COMP_CWORD" -eq 1 ]; then
         COMPREPLY=($(compgen -W "run clock check graph replay accept demo" -- "$word"))
@@ -17,9 +17,15 @@ _desync() {
     fi
     # the option that waits for its value, and how many names stand in front
     for ((i = 2; i < COMP_CWORD; i++)); do
+        if [ "$plain" ]; then
+            names=$((names + 1))
+            continue
+        fi
         case ${COMP_WORDS[i]} in
-            --clusters | --graph | --jobs) option=${COMP_WORDS[i]} ;;
-            = | --*) ;;
+            --) plain=1 ;;
+            --clusters | --graph | --jobs) option=${COMP_WORDS[i]} given+=" $option" ;;
+            --*) given+=" ${COMP_WORDS[i]}" ;;
+            =) ;;
             *) if [ "$option" ]; then option=; else names=$((names + 1)); fi ;;
         esac
     done
@@ -43,8 +49,12 @@ _desync() {
         accept) options=--clusters most=2 ;;
         demo) options=--jobs ;;
     esac
-    if [[ $word == -* ]]; then
-        COMPREPLY=($(compgen -W "$options" -- "$word"))
+    if [[ $word == -* && -z $plain ]]; then
+        local left= it
+        for it in $options; do
+            [[ " $given " == *" $it "* ]] || left+=" $it"
+        done
+        COMPREPLY=($(compgen -W "$left" -- "$word"))
     elif [ "$names" -lt "$most" ]; then
         _desync_files "$word"
     fi

@@ -4,7 +4,8 @@ Used by the other tools. Of a netlist that is refused it may give anything, or `
 """
 
 MOST_COPIES = 65536
-COMMANDS = (".inputs", ".outputs", ".clock", ".names", ".latch", ".subckt")
+COMMANDS = (".latch", ".subckt")
+TOP_COMMANDS = (".inputs", ".outputs", ".clock") + COMMANDS
 
 
 class NotAccepted(Exception):
@@ -25,12 +26,15 @@ def logical_lines(text):
 
 
 def models_of(text):
-    """The models in order, each a name and its commands as lists of words."""
+    """The models in order, each a name and its commands as lists of words.
+
+    Of all but the first model only registers and uses matter.
+    """
     models = []
     for words in logical_lines(text):
         if words and words[0] == ".model":
             models.append((words[1], []))
-        elif words and words[0] in COMMANDS:
+        elif words and words[0] in (TOP_COMMANDS if len(models) == 1 else COMMANDS):
             models[-1][1].append(words)
     return models
 

@@ -1,11 +1,22 @@
-"""Prints what the other tools make."""
+"""What the other tools read from the standard input, and how they print what they make."""
 
 import os
 import sys
 
 
-def put(name, lines):
+def given(name, encoding):
+    """The standard input. Where it is closed, it says so in the name of a tool, and ends with 1."""
+    if sys.stdin is None:
+        sys.exit("%s: the standard input is closed" % name)
+    sys.stdin.reconfigure(encoding=encoding)
+    return sys.stdin
+
+
+def put(name, encoding, lines):
     """Prints some lines. Where that fails, it says so in the name of a tool, and ends with 1."""
+    if sys.stdout is None:
+        sys.exit("%s: the standard output is closed" % name)
+    sys.stdout.reconfigure(encoding=encoding)
     try:
         for line in lines:
             print(line)
