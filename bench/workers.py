@@ -1,14 +1,17 @@
 #!/usr/bin/env python3
-"""Times `desync run` and `desync demo` with one and with several workers, and compares their bytes.
+"""Times `desync run` and `desync demo` by numbers of workers, and compares their bytes.
 
-The netlist is a pipeline of make_netlist.py whose registers are named as buses, so that
-`--clusters bus` gives a cluster for each stage. Each time is the median of some runs by the clock,
-in seconds, from the start of the process to its end. The exit status is 1 where two numbers of
-workers write different bytes.
+The netlists are pipelines of make_netlist.py whose registers are named as buses, so that
+`--clusters bus` gives a cluster for each stage, and two registers in a row. The numbers of workers
+take turns, so that what else the machine does meets all of them. For each number there are the
+least and the median of the seconds by the clock, from the start of a process to its end, and the
+median of its processor time. The exit status is 1 where two numbers of workers write different
+bytes.
 """
 
 import argparse
 import os
+import random
 import re
 import statistics
 import subprocess
@@ -18,6 +21,13 @@ import time
 
 HERE = os.path.dirname(os.path.abspath(__file__))
 PROGRAM = os.path.join(os.path.dirname(HERE), "crates", "desync", "out", "desync")
+TWO = """.model two
+.inputs clk a
+.outputs q
+.latch a p re clk 0
+.latch p q re clk 0
+.end
+"""
 
 
 def buses(path):
@@ -28,34 +38,65 @@ def buses(path):
         file.write(re.sub(r"\bs(\d+)_(\d+)\b", r"s\1[\2]", text))
 
 
-def made(folder, name, turns):
-    """A pipeline of 40 stages of 25 registers, 10 levels of tables each, and its vectors."""
-    prefix = os.path.join(folder, name)
-    make = [os.path.join(HERE, "make_netlist.py"), "--turns", str(turns), prefix]
-    subprocess.run([sys.executable] + make + ["pipeline", "25", "40", "10"], check=True)
+def pipeline(folder, turns, *sizes):
+    """The files of a pipeline: the width, the stages, and the levels of tables in each."""
+    prefix = os.path.join(folder, "x".join(map(str, sizes + (turns,))))
+    make = [os.path.join(HERE, "make_netlist.py"), "--turns", str(turns), prefix, "pipeline"]
+    subprocess.run([sys.executable] + make + [str(size) for size in sizes], check=True)
     buses(prefix + ".blif")
     return [prefix + ".blif", prefix + ".vec"]
 
 
-def timed(words, times):
-    """The bytes that a command writes, and the median of its times."""
-    taken = []
-    for _ in range(times):
-        begin = time.monotonic()
-        done = subprocess.run([PROGRAM] + words, stdout=subprocess.PIPE, check=True)
-        taken.append(time.monotonic() - begin)
-    return done.stdout, statistics.median(taken)
+def two_registers(folder, turns):
+    """The files of two registers in a row."""
+    draw = random.Random(1)
+    texts = {"two.blif": TWO, "two.vec": "".join(draw.choice("01") + "\n" for _ in range(turns))}
+    for name, text in texts.items():
+        with open(os.path.join(folder, name), "w") as file:
+            file.write(text)
+    return [os.path.join(folder, name) for name in texts]
+
+
+def jobs_of(folder, turns):
+    """The jobs: a name, and the words in front of the number of workers."""
+    few = turns // 10
+    wide = pipeline(folder, turns, 25, 40, 10)
+    yield "40 clusters, 10,000 tables", ["run"] + wide + ["--clusters", "bus"]
+    short = pipeline(folder, turns // 5, 25, 40, 10)
+    yield "the same, a fifth of the vectors", ["run"] + short + ["--clusters", "bus"]
+    deep = pipeline(folder, turns, 20, 25, 20)
+    yield "25 clusters, 10,000 tables", ["run"] + deep + ["--clusters", "bus"]
+    yield "1,000 clusters, %d vectors" % few, ["run"] + pipeline(folder, few, 25, 40, 10)
+    yield "demo 1 4096 %d" % few, ["demo", "1", "4096", str(few)]
+    yield "demo 1 1024 %d" % (turns // 16), ["demo", "1", "1024", str(turns // 16)]
+    yield "demo 1 256 %d" % (turns // 4), ["demo", "1", "256", str(turns // 4)]
+    yield "demo 1 64 %d" % turns, ["demo", "1", "64", str(turns)]
+    yield "two registers, 16,384 vectors", ["run"] + two_registers(folder, 16384)
+
+
+def once(words):
+    """The bytes that a command writes, its seconds by the clock, and its processor time."""
+    before, begin = os.times(), time.monotonic()
+    done = subprocess.run([PROGRAM] + words, stdout=subprocess.PIPE, check=True)
+    seconds, after = time.monotonic() - begin, os.times()
+    used = after.children_user + after.children_system - before.children_user - before.children_system
+    return done.stdout, seconds, used
 
 
 def line(name, words, jobs, times):
-    """Prints the times of a command by numbers of workers; whether all bytes are the same."""
-    first, same, shown = None, True, []
+    """Prints a job's line; whether all numbers of workers write the same bytes."""
+    first, same, taken = None, True, {count: [] for count in jobs}
+    for _ in range(times):
+        for count in jobs:
+            text, seconds, used = once(words + (["--jobs", str(count)] if count else []))
+            first = text if first is None else first
+            same = same and text == first
+            taken[count].append((seconds, used))
+    cells = []
     for count in jobs:
-        text, seconds = timed(words + ["--jobs", str(count)], times)
-        first = text if first is None else first
-        same = same and text == first
-        shown.append("%8.3f" % seconds)
-    print("%-34s %s%s" % (name, " ".join(shown), "" if same else "  DIFFERENT BYTES"))
+        seconds, used = zip(*taken[count])
+        cells.append("%6.3f %6.3f %6.2f" % (min(seconds), statistics.median(seconds), statistics.median(used)))
+    print("%-34s %s%s" % (name, " | ".join(cells), "" if same else "  DIFFERENT BYTES"), flush=True)
     return same
 
 
@@ -63,21 +104,22 @@ def main():
     parser = argparse.ArgumentParser(description=__doc__.split("\n")[0])
     parser.add_argument("--times", type=int, default=5, help="runs of each command")
     parser.add_argument("--turns", type=int, default=10000, help="vectors of wide clusters")
-    parser.add_argument("--jobs", type=int, nargs="+", default=[1, 2, 4], help="workers")
+    parser.add_argument("--jobs", type=int, nargs="+", default=[1, 2, 4, 8, 64], help="workers")
+    parser.add_argument("--beside", type=int, default=0, help="other processes that never wait")
     given = parser.parse_args()
-    few = given.turns // 10
-    print("%-34s %s" % ("workers", " ".join("%8d" % count for count in given.jobs)))
+    head = ["%3d workers" % count for count in given.jobs]
+    print("%-34s %s" % ("least, median, processor time", " | ".join("%-20s" % it for it in head)))
     same = True
-    with tempfile.TemporaryDirectory() as folder:
-        files = made(folder, "wide", given.turns)
-        _, seconds = timed(["clock"] + files, given.times)
-        print("%-34s %8.3f" % ("clock, 10,000 tables", seconds))
-        for name, words in (
-            ("run, the same, 40 clusters", ["run"] + files + ["--clusters", "bus"]),
-            ("run, 1,000 clusters, %d vectors" % few, ["run"] + made(folder, "each", few)),
-            ("demo 1 4096 %d" % few, ["demo", "1", "4096", str(few)]),
-        ):
-            same = line(name, words, given.jobs, given.times) and same
+    busy = [subprocess.Popen([sys.executable, "-c", "while True: pass"]) for _ in range(given.beside)]
+    try:
+        with tempfile.TemporaryDirectory() as folder:
+            for name, words in jobs_of(folder, given.turns):
+                if "bus" in words:
+                    line("clock, " + name, ["clock"] + words[1:3], [0], given.times)
+                same = line(name, words, given.jobs, given.times) and same
+    finally:
+        for process in busy:
+            process.kill()
     sys.exit(0 if same else 1)
 
 

@@ -1,4 +1,4 @@
-"""What the other tools read from the standard input, and how they print what they make."""
+"""The standard input and output of the other tools."""
 
 import os
 import sys
