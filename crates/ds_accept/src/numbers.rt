@@ -16,9 +16,14 @@ pub struct Key<'a> {
 }
 
 /// The events of a list. Contracts see their codes, in order.
-#[derive(Drop)]
 pub struct Numbers<'a> {
     keys: IndexSet<Key<'a>>,
+}
+
+impl Drop for Numbers<'_> {
+    fn drop(self) {
+        let Numbers { keys: _ } = self;
+    }
 }
 
 impl<'a> Model for Numbers<'a> {

@@ -13,10 +13,15 @@ use std::alloc::Global;
 use std::marker::Model;
 
 /// Places in the order in which they first stand, and what tells each from the others.
-#[derive(Drop)]
 pub struct Places<'a> {
     keys: IndexSet<Key<'a>>,
     places: Vec<Place>,
+}
+
+impl Drop for Places<'_> {
+    fn drop(self) {
+        let Places { keys: _, places: _ } = self;
+    }
 }
 
 impl<'a> Model for Places<'a> {

@@ -14,9 +14,14 @@ use std::alloc::Global;
 use std::marker::Model;
 
 /// Declared signals in the order of their declaration, each once.
-#[derive(Drop)]
 pub struct Signals<'a> {
     names: Names<'a>,
+}
+
+impl Drop for Signals<'_> {
+    fn drop(self) {
+        let Signals { names: _ } = self;
+    }
 }
 
 impl<'a> Model for Signals<'a> {

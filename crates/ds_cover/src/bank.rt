@@ -15,12 +15,22 @@ use std::marker::Model;
 
 /// Packed tables, each with the net that it drives, by their numbers from 0. Contracts see the list
 /// of them.
-#[derive(Drop)]
 pub struct Bank {
     quicks: Vec<Quick>,
     spans: Vec<Span>,
     inputs: Vec<NetId>,
     masks: Vec<Mask>,
+}
+
+impl Drop for Bank {
+    fn drop(self) {
+        let Bank {
+            quicks: _,
+            spans: _,
+            inputs: _,
+            masks: _,
+        } = self;
+    }
 }
 
 impl Model for Bank {
@@ -52,10 +62,12 @@ impl Bank {
     pub fn with(self, table: &Table, output: NetId) -> Result<Self, OutOfMemory>
         ensures { IfOk result (IsMore self table.now output) }
     {
-        let mut quicks = self.quicks;
-        let mut spans = self.spans;
-        let mut inputs = self.inputs;
-        let mut masks = self.masks;
+        let Bank {
+            mut quicks,
+            mut spans,
+            mut inputs,
+            mut masks,
+        } = self;
         let (span, quick) = add(&mut inputs, &mut masks, table, output)?;
         spans.push(span)?;
         quicks.push(quick)?;

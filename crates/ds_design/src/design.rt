@@ -53,7 +53,6 @@ impl Register {
 }
 
 /// A flat design.
-#[derive(Drop)]
 pub struct Design {
     name: Name,
     nets: Seq<Net>,
@@ -62,6 +61,20 @@ pub struct Design {
     clocks: Seq<NetId>,
     tables: Seq<Gate>,
     registers: Seq<Register>,
+}
+
+impl Drop for Design {
+    fn drop(self) {
+        let Design {
+            name: _,
+            nets: _,
+            inputs: _,
+            outputs: _,
+            clocks: _,
+            tables: _,
+            registers: _,
+        } = self;
+    }
 }
 
 impl Model for Design {

@@ -16,13 +16,24 @@ use std::marker::Model;
 /// A design that is accepted, with its columns, the level of each net, its tables by level, and its
 /// tables packed.
 /// Contracts see the design.
-#[derive(Drop)]
 pub struct Netlist {
     design: Design,
     column_nets: Seq<NetId>,
     net_levels: Seq<u64>,
     order: Seq<u32>,
     bank: Bank,
+}
+
+impl Drop for Netlist {
+    fn drop(self) {
+        let Netlist {
+            design: _,
+            column_nets: _,
+            net_levels: _,
+            order: _,
+            bank: _,
+        } = self;
+    }
 }
 
 impl Model for Netlist {

@@ -23,7 +23,6 @@ use std::alloc::Global;
 use std::marker::Model;
 
 /// What each node of a plan keeps and has stored, as its events fire, each at most once a vector.
-#[derive(Drop)]
 pub struct State<'a> {
     plan: &'a Plan<'a>,
     vectors: &'a Vectors,
@@ -31,6 +30,19 @@ pub struct State<'a> {
     kept: Kept,
     feeds: Vec<Feed>,
     watch: Watch,
+}
+
+impl Drop for State<'_> {
+    fn drop(self) {
+        let State {
+            plan: _,
+            vectors: _,
+            counts: _,
+            kept: _,
+            feeds: _,
+            watch: _,
+        } = self;
+    }
 }
 
 impl<'a> Model for State<'a> {

@@ -9,6 +9,7 @@ ghost use Rattle.ds_flat.specs.Copies.{empty_design, passed_limit as limit_of};
 ghost use Rattle.ds_flat.specs.Keys.{IsStop};
 
 use crate::fault::Stop;
+use crate::head::Head;
 use crate::nets::NetList;
 use crate::numbers::{number, numbers};
 use crate::ports::Ports;
@@ -61,6 +62,28 @@ impl<'m> Draft<'m> {
             tables: Vec::new(alloc),
             registers: Vec::new(alloc),
         }
+    }
+
+    /// The name, the nets and the interface.
+    pub fn head(&self, alloc: Global) -> Result<Head, OutOfMemory>
+        ensures name { IfOk result (λ h. h.name ≡ self.now.name) }
+        ensures nets { IfOk result (λ h. h.nets ≡ self.now.nets) }
+        ensures inputs { IfOk result (λ h. h.inputs ≡ self.now.inputs) }
+        ensures outputs { IfOk result (λ h. h.outputs ≡ self.now.outputs) }
+        ensures clocks { IfOk result (λ h. h.clocks ≡ self.now.clocks) }
+    {
+        let name = self.name.to_vec(alloc)?;
+        let nets = self.nets.to_nets(alloc)?;
+        let inputs = self.inputs.to_ids(alloc)?;
+        let outputs = self.outputs.to_ids(alloc)?;
+        let clocks = self.clocks.to_ids(alloc)?;
+        Ok(Head {
+            name: Seq::of(name),
+            nets,
+            inputs,
+            outputs,
+            clocks,
+        })
     }
 
     /// The first limit that it passes.

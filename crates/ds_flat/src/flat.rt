@@ -11,6 +11,7 @@ use crate::advance::advance;
 use crate::draft::Draft;
 use crate::fault::FlatRefusal;
 use crate::frame::Open;
+use crate::head::Head;
 use crate::library::Library;
 use crate::scope::Scope;
 use crate::stack::Stack;
@@ -107,18 +108,21 @@ fn finish(alloc: Global, draft: Draft<'_>) -> Result<Design, OutOfMemory>
     requires { IsInRange draft }
     ensures { IfOk result (λ d. d ≡ draft.entry) }
 {
-    let name = draft.name.to_vec(alloc)?;
-    let nets = draft.nets.to_nets(alloc)?;
-    let inputs = draft.inputs.to_ids(alloc)?;
-    let outputs = draft.outputs.to_ids(alloc)?;
-    let clocks = draft.clocks.to_ids(alloc)?;
+    let head = draft.head(alloc)?;
     let Draft {
         tables,
         registers,
         ..
     } = draft;
+    let Head {
+        name,
+        nets,
+        inputs,
+        outputs,
+        clocks,
+    } = head;
     Ok(Design::of(
-        Seq::of(name),
+        name,
         nets,
         inputs,
         outputs,

@@ -16,6 +16,7 @@ mod draft;
 mod fault;
 mod flat;
 mod frame;
+mod head;
 mod library;
 mod nets;
 mod numbers;

@@ -20,9 +20,14 @@ pub struct NetKey<'m> {
 }
 
 /// Nets in the order of their first appearance, each once, not more than there may be.
-#[derive(Drop)]
 pub struct NetList<'m> {
     set: IndexSet<NetKey<'m>>,
+}
+
+impl Drop for NetList<'_> {
+    fn drop(self) {
+        let NetList { set: _ } = self;
+    }
 }
 
 impl<'m> Model for NetList<'m> {

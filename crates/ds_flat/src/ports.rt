@@ -8,9 +8,14 @@ use std::alloc::Global;
 use std::marker::Model;
 
 /// Numbers of nets, each once, in the order of their first appearance.
-#[derive(Drop)]
 pub struct Ports {
     numbers: IndexSet<u32>,
+}
+
+impl Drop for Ports {
+    fn drop(self) {
+        let Ports { numbers: _ } = self;
+    }
 }
 
 impl Model for Ports {

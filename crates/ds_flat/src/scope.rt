@@ -10,10 +10,15 @@ use std::alloc::Global;
 use std::marker::Model;
 
 /// A copy: its number, and its connected formals, each with the net that stands for it.
-#[derive(Drop)]
 pub struct Scope<'m> {
     copy: u32,
     bound: IndexMap<&'m [u8], NetKey<'m>>,
+}
+
+impl Drop for Scope<'_> {
+    fn drop(self) {
+        let Scope { copy: _, bound: _ } = self;
+    }
 }
 
 impl<'m> Model for Scope<'m> {

@@ -11,9 +11,14 @@ use std::alloc::Global;
 use std::marker::Model;
 
 /// Words in the order of their first appearance, each once.
-#[derive(Drop)]
 pub struct Names<'a> {
     set: IndexSet<&'a [u8]>,
+}
+
+impl Drop for Names<'_> {
+    fn drop(self) {
+        let Names { set: _ } = self;
+    }
 }
 
 impl<'a> Model for Names<'a> {

@@ -8,11 +8,20 @@ use std::alloc::Global;
 use std::marker::Model;
 
 /// Texts, found by their hash: each with its first place.
-#[derive(Drop)]
 pub struct Lookup<'a> {
     texts: &'a [Name],
     names: Names<'a>,
     firsts: Vec<EventId>,
+}
+
+impl Drop for Lookup<'_> {
+    fn drop(self) {
+        let Lookup {
+            texts: _,
+            names: _,
+            firsts: _,
+        } = self;
+    }
 }
 
 impl<'a> Model for Lookup<'a> {

@@ -9,9 +9,14 @@ use std::alloc::Global;
 use std::marker::Model;
 
 /// Buses in the order of their first appearance, each once.
-#[derive(Drop)]
 pub struct Buses<'a> {
     set: IndexSet<Bus<'a>>,
+}
+
+impl Drop for Buses<'_> {
+    fn drop(self) {
+        let Buses { set: _ } = self;
+    }
 }
 
 impl<'a> Model for Buses<'a> {

@@ -1,8 +1,11 @@
 use Rattle.std.proofs.Common.{map, Err, arith, subst, sym}
 use Rattle.ds_replay.specs.Replayed.{Replays}
 use Rattle.ds_replay.specs.declared.fault.ReplayRefusal.{ReplayRefusal}
-use Rattle.ds_replay.proofs.Replaying.{fired_all, refused, steps_more}
+use Rattle.ds_replay.proofs.Replaying.{fired_all, fired_none, refused, steps_more}
 use Rattle.ds_replay.proofs.log.replay.Goals as goal
+
+pub loop-i-init : goal.loop-i-init
+loop-i-init c = fired_none c.args.plan.now c.args.vectors.now.rows c.args.lines.now c.start-i.result c.in_ok-state.state c.start-i.ensures.value c.in_ok-state.ensures
 
 pub returns : goal.returns
 returns c = fired_all c.args.plan.now c.args.vectors.now.rows c.args.lines.now c.loop-i.i c.loop-i.state (omega arith) c.reached.ensures.sound c.reached.ensures.reached c.loop-i.invariant
