@@ -46,6 +46,8 @@ impl Register {
     {
         if self.initial == 1 {
             Value::One
+        } else if self.initial == 3 {
+            Value::Unknown
         } else {
             Value::Zero
         }

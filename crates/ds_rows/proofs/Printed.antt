@@ -15,7 +15,7 @@ use Rattle.ds_design.specs.Trace.{value_text, values_text}
 use Rattle.ds_lines.specs.Line.{is_blank, is_end, is_hash, is_newline, lines_of}
 use Rattle.ds_lines.specs.Print.{IsPlain, numbered, text_of}
 use Rattle.ds_lines.proofs.Printed.{lines_of-text_of}
-use Rattle.ds_rows.specs.Print.{IsKnown, row_words}
+use Rattle.ds_rows.specs.Print.{row_words}
 use Rattle.ds_rows.specs.Vector.{fault_of, first_fault, has_bits, has_width, is_bit, row_of, rows_of, value_of, vectors_of}
 use Rattle.ds_rows.proofs.Values.{value_chars}
 
@@ -72,18 +72,18 @@ all_plain : (rows : List Row) → AllByRecursion IsPlain (row_words rows)
 all_plain [] = tt
 all_plain (row ∷ rows) = (plain row, all_plain rows)
 
--- a known value is printed as a bit, and this bit is the value
-known_bit : (v : Value) → v ≢ Unknown → (is_bit (value_text v) ≡ true) × (value_of (value_text v) ≡ v)
-known_bit Zero known = (refl, refl)
-known_bit One known = (refl, refl)
-known_bit Unknown known = absurd (known refl)
+-- a value is printed as a character of a vector, and this character is the value
+printed_value : (v : Value) → (is_bit (value_text v) ≡ true) × (value_of (value_text v) ≡ v)
+printed_value Zero = (refl, refl)
+printed_value One = (refl, refl)
+printed_value Unknown = (refl, refl)
 
-known_bits : (row : Row) → IsKnown row → (list_all is_bit (value_chars row) ≡ true) × (map value_of (value_chars row) ≡ row)
-known_bits [] known = (refl, refl)
-known_bits (value ∷ row) known =
-    let bit = known_bit value (All-head (λ v. v ≢ Unknown) value row known) in
-    let rest = known_bits row (All-tail (λ v. v ≢ Unknown) value row known) in
-    (rw (bit.0) rest.0, ap₂ (λ (v : Value) (r : Row). v ∷ r) bit.1 rest.1)
+printed_values : (row : Row) → (list_all is_bit (value_chars row) ≡ true) × (map value_of (value_chars row) ≡ row)
+printed_values [] = (refl, refl)
+printed_values (value ∷ row) =
+    let first = printed_value value in
+    let rest = printed_values row in
+    (rw (first.0) rest.0, ap₂ (λ (v : Value) (r : Row). v ∷ r) first.1 rest.1)
 
 -- the line of a row stands for it
 record Stands (row : Row) : Type 0 where
@@ -91,12 +91,12 @@ record Stands (row : Row) : Type 0 where
   bits : has_bits (length row) (values_text row ∷ []) ≡ true
   same : row_of (length row) (values_text row ∷ []) ≡ row
 
-stands : (row : Row) → IsKnown row → Stands row
+stands : (row : Row) → Stands row
 unfolding has_width has_bits row_of
-stands [] known = record { wide = refl; bits = refl; same = refl }
-stands (value ∷ row) known =
+stands [] = record { wide = refl; bits = refl; same = refl }
+stands (value ∷ row) =
     let some : (suc (length row) == 0) ≡ false = grind arith in
-    let bits = known_bits (value ∷ row) known in
+    let bits = printed_values (value ∷ row) in
     record {
       wide = rw some (eq-eqb _ _ (length-map (value ∷ row) value_text));
       bits = rw some bits.0;
@@ -108,27 +108,27 @@ clean : (width seen : ℕ) (words : List (List ℕ)) → seen < 65536 → has_wi
 clean width seen words few wide bits = let below : nat_lt seen 65536 ≡ true = lt-ltb seen 65536 few in rw (below, wide, bits) refl
 
 -- the lines of rows, numbered from n, have no fault
-none_faulty : (width n seen : ℕ) (rows : List Row) → seen + length rows ≤ 65536 → All (λ row. length row ≡ width) rows → All IsKnown rows
+none_faulty : (width n seen : ℕ) (rows : List Row) → seen + length rows ≤ 65536 → All (λ row. length row ≡ width) rows
     → first_fault width seen (numbered n (row_words rows)) ≡ None
-none_faulty width n seen [] few wide known = refl
-none_faulty width n seen (row ∷ rows) few wide known =
+none_faulty width n seen [] few wide = refl
+none_faulty width n seen (row ∷ rows) few wide =
     let same : length row ≡ width = All-head (λ row. length row ≡ width) row rows wide in
-    let line = stands row (All-head IsKnown row rows known) in
+    let line = stands row in
     let is_clean : fault_of width seen (values_text row ∷ []) ≡ None =
     subst (λ (w : ℕ). fault_of w seen (values_text row ∷ []) ≡ None) same (clean (length row) seen (values_text row ∷ []) (omega arith) line.wide line.bits) in
-    rw is_clean (none_faulty width (n + 1) (seen + 1) rows (omega arith) (All-tail (λ row. length row ≡ width) row rows wide) (All-tail IsKnown row rows known))
+    rw is_clean (none_faulty width (n + 1) (seen + 1) rows (omega arith) (All-tail (λ row. length row ≡ width) row rows wide))
 
 -- and stand for these rows
-same_rows : (width n : ℕ) (rows : List Row) → All (λ row. length row ≡ width) rows → All IsKnown rows → rows_of width (numbered n (row_words rows)) ≡ rows
-same_rows width n [] wide known = refl
-same_rows width n (row ∷ rows) wide known =
+same_rows : (width n : ℕ) (rows : List Row) → All (λ row. length row ≡ width) rows → rows_of width (numbered n (row_words rows)) ≡ rows
+same_rows width n [] wide = refl
+same_rows width n (row ∷ rows) wide =
     let same : length row ≡ width = All-head (λ row. length row ≡ width) row rows wide in
-    let line = stands row (All-head IsKnown row rows known) in
+    let line = stands row in
     let is_row : row_of width (values_text row ∷ []) ≡ row = subst (λ (w : ℕ). row_of w (values_text row ∷ []) ≡ row) same line.same in
-    ap₂ (λ (r : Row) (rs : List Row). r ∷ rs) is_row (same_rows width (n + 1) rows (All-tail (λ row. length row ≡ width) row rows wide) (All-tail IsKnown row rows known))
+    ap₂ (λ (r : Row) (rs : List Row). r ∷ rs) is_row (same_rows width (n + 1) rows (All-tail (λ row. length row ≡ width) row rows wide))
 
-pub printed : (vectors : Rows) → AreVectors vectors → All IsKnown vectors.rows → vectors_of vectors.width (lines_of (text_of (row_words vectors.rows))) ≡ Ok vectors
-printed vectors are known =
+pub printed : (vectors : Rows) → AreVectors vectors → vectors_of vectors.width (lines_of (text_of (row_words vectors.rows))) ≡ Ok vectors
+printed vectors are =
     rw (lines_of-text_of (row_words vectors.rows) (all_plain vectors.rows))
-    (rw (none_faulty vectors.width 1 0 vectors.rows (omega (arith, are.few)) are.one_width known)
-    (rw (same_rows vectors.width 1 vectors.rows are.one_width known) refl))
+    (rw (none_faulty vectors.width 1 0 vectors.rows (omega (arith, are.few)) are.one_width)
+    (rw (same_rows vectors.width 1 vectors.rows are.one_width) refl))

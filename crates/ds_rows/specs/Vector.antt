@@ -8,7 +8,7 @@ use Rattle.ds_base.specs.Limit.{most_of}
 use Rattle.ds_base.specs.Values.{Row}
 use Rattle.ds_base.specs.declared.number.Limit.TheVariants.{Vectors as VectorLimit}
 use Rattle.ds_base.specs.declared.value.Value.{Value}
-use Rattle.ds_base.specs.declared.value.Value.TheVariants.{Zero, One}
+use Rattle.ds_base.specs.declared.value.Value.TheVariants.{Zero, One, Unknown}
 use Rattle.ds_design.specs.Rows.{Rows}
 use Rattle.ds_lines.specs.Line.{Line}
 use Rattle.ds_rows.specs.declared.fault.VectorKind.{VectorKind}
@@ -21,13 +21,13 @@ use Rattle.ds_rows.specs.declared.fault.VectorRefusal.TheVariants.{Memory, Fault
 abbrev pub first_word : List (List ℕ) → List ℕ
 first_word words = slice_index_or words 0 []
 
--- `0` or `1`
+-- `0`, `1` or `x`
 abbrev pub is_bit : ℕ → Bool
-is_bit byte = (byte == 48) || (byte == 49)
+is_bit byte = (byte == 48) || ((byte == 49) || (byte == 120))
 
 -- the value of such a character
 abbrev pub value_of : ℕ → Value
-value_of byte = if byte == 49 then One else Zero
+value_of byte = if byte == 49 then One else (if byte == 120 then Unknown else Zero)
 
 -- one word of so many characters; for width 0 the word `-`
 unfoldable pub has_width : ℕ → List (List ℕ) → Bool

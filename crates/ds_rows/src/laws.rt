@@ -5,13 +5,13 @@ ghost use Rattle.ds_base.specs.declared.number.Limit.TheVariants.{Vectors as Vec
 ghost use Rattle.ds_lines.specs.Line.{lines_of};
 ghost use Rattle.ds_lines.specs.Print.{text_of};
 ghost use Rattle.ds_design.specs.Rows.{AreVectors, Rows};
-ghost use Rattle.ds_rows.specs.Print.{IsKnown, row_words};
+ghost use Rattle.ds_rows.specs.Print.{row_words};
 ghost use Rattle.ds_rows.specs.Vector.{vectors_of};
 ghost use Rattle.ds_rows.specs.Worked.{AreWorked};
 
-/// The text that prints vectors of known values stands for these vectors.
+/// The text that prints vectors stands for these vectors.
 pub fn printed_is_read()
-    ensures { (vectors : Rows) → AreVectors vectors → All IsKnown vectors.rows
+    ensures { (vectors : Rows) → AreVectors vectors
         → vectors_of vectors.width (lines_of (text_of (row_words vectors.rows))) ≡ Ok vectors }
 {}
 

@@ -66,7 +66,7 @@ fn has_bits(width: usize, words: &[&[u8]]) -> bool
 fn are_bits(word: &[u8]) -> bool
     ensures { result ≡ list_all is_bit word.now }
 {
-    word.iter().all(|byte| *byte == b'0' || *byte == b'1')
+    word.iter().all(|byte| *byte == b'0' || *byte == b'1' || *byte == b'x')
 }
 
 // The values of bits.
@@ -83,6 +83,8 @@ fn value_of(byte: u8) -> Value
 {
     if byte == b'1' {
         Value::One
+    } else if byte == b'x' {
+        Value::Unknown
     } else {
         Value::Zero
     }
