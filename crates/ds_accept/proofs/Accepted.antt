@@ -4,8 +4,8 @@ use Rattle.std.proofs.lemmas.Bool.{cases_lt}
 use Rattle.std.proofs.lemmas.List.{get_or_default}
 use Rattle.std.proofs.lemmas.List.Sorted.{IsPermutation-refl}
 use Rattle.ds_marked.specs.Graph.{Graph}
-use Rattle.ds_design.specs.Node.{Split}
-use Rattle.ds_design.specs.Plan.{split_events}
+use Rattle.ds_latch.specs.Node.{Split}
+use Rattle.ds_latch.specs.Plan.{split_events}
 use Rattle.ds_control.proofs.Named.{events_once}
 use Rattle.ds_accept.specs.Accept.{AreKnown, AreThere, StandsAt}
 use Rattle.ds_accept.specs.Laws.{AcceptableIsAccepted}

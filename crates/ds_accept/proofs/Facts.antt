@@ -8,8 +8,8 @@ use Rattle.ds_rank.specs.Rank.{AreRanks, HasFreeArc}
 use Rattle.ds_marked.specs.Graph.{Graph, AreEnds, IsKept}
 use Rattle.ds_marked.specs.declared.marked.Arc.{Arc}
 use Rattle.ds_marked.specs.declared.marked.Event.{Event}
-use Rattle.ds_design.specs.Node.{Split}
-use Rattle.ds_design.specs.Plan.{IsPlan, split_events}
+use Rattle.ds_latch.specs.Node.{Split}
+use Rattle.ds_latch.specs.Plan.{IsPlan, split_events}
 use Rattle.ds_control.specs.Control.{AreOrders}
 use Rattle.ds_accept.specs.Accept.{AreGiven, AreKnown, StandsAt}
 use Rattle.ds_accept.specs.Fault.{IsAcceptFault, IsFirstWithout}

@@ -9,8 +9,8 @@ use Rattle.ds_base.proofs.Lists.{get_or-self}
 use Rattle.ds_marked.specs.Graph.{Graph, AreEnds, IsKept, StandsBefore, stay, along}
 use Rattle.ds_marked.specs.declared.marked.Arc.{Arc}
 use Rattle.ds_marked.specs.declared.marked.Event.{Event}
-use Rattle.ds_design.specs.Node.{Split}
-use Rattle.ds_design.specs.Plan.{IsPlan, IsSplit, Reorders, split_events}
+use Rattle.ds_latch.specs.Node.{Split}
+use Rattle.ds_latch.specs.Plan.{IsPlan, IsSplit, Reorders, split_events}
 use Rattle.ds_control.specs.Control.{AreOrders}
 use Rattle.ds_rank.specs.Rank.{AreRanks}
 use Rattle.ds_accept.specs.Accept.{AreGiven, AreKnown, AreThere, Gives, IsAcceptable, IsArcWithin, StandsAt}

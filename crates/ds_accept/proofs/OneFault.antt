@@ -5,10 +5,10 @@ use Rattle.std.specs.List.{HoldsAt}
 use Rattle.std.proofs.lemmas.Bool.{cases_lt}
 use Rattle.ds_marked.specs.Graph.{Graph, IsKept}
 use Rattle.ds_marked.specs.declared.marked.Event.{Event}
-use Rattle.ds_design.specs.Node.{Split}
-use Rattle.ds_design.specs.Order.{IsRequired, opens_first, closes_before_next, after_producer, before_reuse, open_tokens, close_tokens}
-use Rattle.ds_design.specs.Plan.{split_events}
-use Rattle.ds_design.proofs.Counts.{edge_differs, same_node}
+use Rattle.ds_latch.specs.Node.{Split}
+use Rattle.ds_latch.specs.Order.{IsRequired, opens_first, closes_before_next, after_producer, before_reuse, open_tokens, close_tokens}
+use Rattle.ds_latch.specs.Plan.{split_events}
+use Rattle.ds_latch.proofs.Counts.{edge_differs, same_node}
 use Rattle.ds_accept.specs.Accept.{StandsAt}
 use Rattle.ds_accept.specs.Fault.{IsFirstMissing, IsFirstWithout, StandsFirst}
 use Rattle.ds_accept.specs.Laws.{OneFault}

@@ -5,8 +5,8 @@ use Rattle.std.proofs.lemmas.List.{get_or-map, length-map, same_lists}
 use Rattle.ds_marked.specs.Graph.{Graph, IsKept, StandsBefore}
 use Rattle.ds_marked.specs.declared.marked.Arc.{Arc}
 use Rattle.ds_marked.specs.declared.marked.Event.{Event}
-use Rattle.ds_design.specs.Node.{Split}
-use Rattle.ds_design.specs.Plan.{Planned, Reorders}
+use Rattle.ds_latch.specs.Node.{Split}
+use Rattle.ds_latch.specs.Plan.{Planned, Reorders}
 use Rattle.ds_accept.specs.Laws.{OnePlan}
 use Rattle.ds_accept.specs.Steps.{moved}
 use Rattle.ds_accept.proofs.Counted.{one_place, some_event}

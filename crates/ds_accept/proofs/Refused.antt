@@ -4,7 +4,7 @@ use Rattle.ds_order.specs.Order.{IsCycle, IsWalk}
 use Rattle.ds_rank.specs.Rank.{HasFreeArc}
 use Rattle.ds_marked.specs.Graph.{Graph}
 use Rattle.ds_marked.specs.declared.marked.Arc.{Arc}
-use Rattle.ds_design.specs.Node.{Split}
+use Rattle.ds_latch.specs.Node.{Split}
 use Rattle.ds_accept.specs.Accept.{IsAcceptable}
 use Rattle.ds_accept.specs.Fault.{IsAcceptFault}
 use Rattle.ds_accept.specs.declared.fault.AcceptFault.{AcceptFault}

@@ -3,9 +3,9 @@ use Rattle.std.specs.Prelude.{◌≡◌, ℕ, ◌<◌, ◌≤◌, length, slice_
 use Rattle.ds_marked.specs.Graph.{Graph}
 use Rattle.ds_marked.specs.declared.marked.Arc.{Arc}
 use Rattle.ds_marked.specs.declared.marked.Event.{Event}
-use Rattle.ds_design.specs.Node.{Split}
-use Rattle.ds_design.specs.Order.{IsRequired}
-use Rattle.ds_design.specs.Plan.{Planned, Reorders, split_events}
+use Rattle.ds_latch.specs.Node.{Split}
+use Rattle.ds_latch.specs.Order.{IsRequired}
+use Rattle.ds_latch.specs.Plan.{Planned, Reorders, split_events}
 
 -- the event of the design with this number stands at this place of the graph
 pub record StandsAt (s : Split) (g : Graph) (v place : ℕ) : Type 0 where

@@ -2,9 +2,9 @@
 use Rattle.std.specs.Prelude.{◌≡◌, ◌⊎◌, ⊤, ℕ, ◌<◌, List, length, Contains}
 use Rattle.std.specs.List.{HoldsAt, AllWithin}
 use Rattle.ds_marked.specs.Graph.{Graph}
-use Rattle.ds_design.specs.Node.{Split}
-use Rattle.ds_design.specs.Order.{IsRequired}
-use Rattle.ds_design.specs.Plan.{split_events}
+use Rattle.ds_latch.specs.Node.{Split}
+use Rattle.ds_latch.specs.Order.{IsRequired}
+use Rattle.ds_latch.specs.Plan.{split_events}
 use Rattle.ds_order.specs.Order.{IsCycle}
 use Rattle.ds_rank.specs.Rank.{HasFreeArc}
 use Rattle.ds_accept.specs.Accept.{AreKnown, AreThere, AreGiven, Gives, StandsAt}

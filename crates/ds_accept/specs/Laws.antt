@@ -1,8 +1,8 @@
 -- What follows of the definitions alone.
 use Rattle.std.specs.Prelude.{◌≡◌, ◌≢◌, ◌⊎◌, ◌≤◌, ℕ, List, length}
 use Rattle.ds_marked.specs.Graph.{Graph, IsKept}
-use Rattle.ds_design.specs.Node.{Split}
-use Rattle.ds_design.specs.Plan.{IsAcceptedGraph, IsSplit, Planned}
+use Rattle.ds_latch.specs.Node.{Split}
+use Rattle.ds_latch.specs.Plan.{IsAcceptedGraph, IsSplit, Planned}
 use Rattle.ds_accept.specs.Accept.{IsAcceptable, IsPlanOf}
 use Rattle.ds_accept.specs.Fault.{IsAcceptFault}
 use Rattle.ds_accept.specs.declared.fault.AcceptFault.{AcceptFault}

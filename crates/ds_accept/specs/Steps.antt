@@ -6,8 +6,8 @@ use Rattle.ds_marked.specs.Graph.{Graph}
 use Rattle.ds_marked.specs.declared.marked.Arc.{Arc}
 use Rattle.ds_marked.specs.declared.marked.Event.{Event}
 use Rattle.ds_marked.specs.Graph.{IsKept}
-use Rattle.ds_design.specs.Node.{Split}
-use Rattle.ds_design.specs.Plan.{IsPlan, Reorders, split_events}
+use Rattle.ds_latch.specs.Node.{Split}
+use Rattle.ds_latch.specs.Plan.{IsPlan, Reorders, split_events}
 use Rattle.ds_accept.specs.Accept.{IsAcceptable, IsArcWithin}
 use Rattle.ds_accept.specs.Fault.{IsFirstWithout}
 use Rattle.ds_accept.specs.declared.fault.AcceptFault.{AcceptFault}

@@ -11,7 +11,7 @@ use crate::events::{numbers_of, places_of};
 use crate::orders::{first_missing, missing_order};
 use crate::renumber::ordered;
 use ds_control::controller;
-use ds_design::{Latches, Plan};
+use ds_latch::{Latches, Plan};
 use ds_marked::Marked;
 use ds_rank::{RankFault, rank};
 use std::alloc::Global;

@@ -17,7 +17,7 @@ use Rattle.ds_rows.specs.Vector.{vectors_of}
 use Rattle.ds_base.specs.Limit.{most_of}
 use Rattle.ds_base.specs.declared.number.Limit.TheVariants.{Clusters}
 use Rattle.ds_base.specs.declared.number.Mode.{Mode}
-use Rattle.ds_design.specs.Node.{Split}
+use Rattle.ds_latch.specs.Node.{Split}
 use Rattle.ds_split.specs.Cluster.{HasTooManyClusters}
 use Rattle.ds_split.specs.Split.{HasTooManyOrders, split_of}
 use Rattle.ds_split.specs.Laws.{OneClustering}
@@ -27,7 +27,7 @@ use Rattle.ds_app.specs.FaultText.{IsNetFaultText, net_fault_text}
 use Rattle.ds_app.specs.Stage.{Stage, IsExclusive, then_stage}
 use Rattle.ds_app.specs.Stages.{OfBytes, accepted_stage, design_stage, file_stage, flat_or_line, lines_stage, models_or_line, netlist_stage, report_stage, result_stage, rows_stage, rows_or_line, text_stage, trace_stage, vectors_stage}
 use Rattle.ds_app.specs.SplitStage.{IsInClusters, IsSplitLine, split_stage}
-use Rattle.ds_design.specs.Plan.{Planned}
+use Rattle.ds_latch.specs.Plan.{Planned}
 use Rattle.ds_astg.specs.Read.{graph_of}
 use Rattle.ds_app.specs.GraphStage.{controller_stage}
 use Rattle.ds_app.specs.PlanStage.{acceptable_stage, graph_or_line, marked_stage, named_stage, plan_stage, planned_stage}

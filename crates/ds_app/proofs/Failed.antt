@@ -20,13 +20,13 @@ use Rattle.ds_app.specs.AcceptStage.{ranks_stage}
 use Rattle.ds_app.specs.ReplayStage.{IsStateText, fired_stage, log_stage, replayed_stage}
 use Rattle.ds_base.specs.Values.{Row}
 use Rattle.ds_astg.specs.Read.{graph_of}
-use Rattle.ds_design.specs.Plan.{Planned}
+use Rattle.ds_latch.specs.Plan.{Planned}
 use Rattle.ds_design.specs.Rows.{Rows}
 use Rattle.ds_fire.specs.Snapshot.{Snapshot}
 use Rattle.ds_app.specs.RunStage.{traced_stage}
 use Rattle.ds_app.specs.Job.{accept_stage, clock_stage, graph_stage, replay_stage, run_stage, stages_of}
 use Rattle.ds_base.specs.declared.number.Mode.{Mode}
-use Rattle.ds_design.specs.Node.{Split}
+use Rattle.ds_latch.specs.Node.{Split}
 
 -- a read of some file failed
 pub record IsFailed (failed : OfFile) : Type 0 where

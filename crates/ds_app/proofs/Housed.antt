@@ -3,8 +3,8 @@ use Rattle.std.proofs.Common.{◌≡◌, ◌∙◌, ℕ, ◌+◌, ◌<◌, List,
 use Rattle.std.specs.Prelude.{All}
 use Rattle.std.proofs.lemmas.Bool.{cases_eq}
 use Rattle.std.proofs.lemmas.List.{get_or_default}
-use Rattle.ds_design.specs.Node.{Split, members}
-use Rattle.ds_design.specs.Plan.{IsSplit}
+use Rattle.ds_latch.specs.Node.{Split, members}
+use Rattle.ds_latch.specs.Plan.{IsSplit}
 use Rattle.ds_app.specs.Homes.{AreHomes, AreHoused, ArePlaced, IsHome, IsIn, IsPlacedOrKept, no_home}
 use Rattle.ds_app.specs.declared.homes.Home.{Home}
 

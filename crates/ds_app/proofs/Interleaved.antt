@@ -16,13 +16,13 @@ use Rattle.ds_marked.specs.Graph.{Graph, IsConsistent, IsLegal, IsLive, counts_a
 use Rattle.ds_marked.proofs.Progress.{legal_is_consistent, progress}
 use Rattle.ds_design.specs.Accepted.{IsAccepted}
 use Rattle.ds_design.specs.Circuit.{Circuit}
-use Rattle.ds_design.specs.Node.{Slave, Split, closing, members}
-use Rattle.ds_design.specs.Plan.{IsController, IsPlan}
-use Rattle.ds_design.specs.Numbered.{numbered}
-use Rattle.ds_design.specs.Firing.{State}
-use Rattle.ds_design.specs.Flow.{IsInStep}
-use Rattle.ds_design.proofs.Counts.{accepted_controls}
-use Rattle.ds_design.proofs.Flow.{InStep, steps_kept, some_firing}
+use Rattle.ds_latch.specs.Node.{Slave, Split, closing, members}
+use Rattle.ds_latch.specs.Plan.{IsController, IsPlan}
+use Rattle.ds_latch.specs.Numbered.{numbered}
+use Rattle.ds_latch.specs.Firing.{State}
+use Rattle.ds_latch.specs.Flow.{IsInStep}
+use Rattle.ds_latch.proofs.Counts.{accepted_controls}
+use Rattle.ds_latch.proofs.Flow.{InStep, steps_kept, some_firing}
 use Rattle.ds_app.proofs.PlanAccepted.{planned_is_plan}
 use Rattle.ds_app.specs.Interleavings.{BeginsWith, HasFiredAll, HasNext, Interleavings, StandsAt, values_clocked, values_stored}
 

@@ -4,7 +4,7 @@ use Rattle.ds_base.specs.Values.{Row}
 use Rattle.ds_outside.specs.Held.{Held, FrontIsHeld}
 use Rattle.ds_outside.specs.declared.files.Which.TheVariants.{Log}
 use Rattle.ds_lines.specs.Line.{Line}
-use Rattle.ds_design.specs.Plan.{Planned}
+use Rattle.ds_latch.specs.Plan.{Planned}
 use Rattle.ds_fire.specs.Snapshot.{Snapshot}
 use Rattle.ds_replay.specs.declared.fault.ReplayFault.{ReplayFault}
 use Rattle.ds_app.specs.Stage.{OfFile, Stage, IsExclusive, giving, then_stage}

@@ -5,7 +5,7 @@ use Rattle.ds_marked.specs.Graph.{Graph, IsArc, StandsBefore}
 use Rattle.ds_marked.specs.declared.marked.Arc.{Arc}
 use Rattle.ds_marked.specs.declared.marked.Event.{Event}
 use Rattle.ds_control.specs.Control.{EndsDiffer}
-use Rattle.ds_design.specs.Node.{Split}
+use Rattle.ds_latch.specs.Node.{Split}
 use Rattle.ds_app.specs.GraphStage.{IsGraphOf}
 
 -- some arc

@@ -9,9 +9,9 @@ use Rattle.ds_marked.specs.declared.marked.Event.{Event}
 use Rattle.ds_design.specs.Accepted.{IsAccepted}
 use Rattle.ds_design.specs.Circuit.{Circuit, initial_value}
 use Rattle.ds_design.specs.declared.design.Register.{Register}
-use Rattle.ds_design.specs.Node.{Split}
-use Rattle.ds_design.specs.Plan.{IsPlan, IsSplit, Planned, Reorders, split_events}
-use Rattle.ds_design.proofs.Rising.{orders_are_accepted}
+use Rattle.ds_latch.specs.Node.{Split}
+use Rattle.ds_latch.specs.Plan.{IsPlan, IsSplit, Planned, Reorders, split_events}
+use Rattle.ds_latch.proofs.Rising.{orders_are_accepted}
 use Rattle.ds_accept.specs.Accept.{AreThere, StandsAt}
 use Rattle.ds_accept.proofs.Counted.{some_event}
 use Rattle.ds_accept.proofs.Moved.{plan}

@@ -3,8 +3,8 @@ use Rattle.std.proofs.Common.{◌≡◌, ◌≢◌, ◌∙◌, ℕ, List, Some, 
 use Rattle.ds_outside.specs.Held.{Held, FrontIsHeld}
 use Rattle.ds_outside.specs.declared.files.Which.TheVariants as which
 use Rattle.ds_marked.specs.Graph.{Graph}
-use Rattle.ds_design.specs.Node.{Split}
-use Rattle.ds_design.specs.Plan.{Planned}
+use Rattle.ds_latch.specs.Node.{Split}
+use Rattle.ds_latch.specs.Plan.{Planned}
 use Rattle.ds_accept.proofs.OnePlan.{one_plan_lem}
 use Rattle.ds_accept.proofs.Refused.{faults_are_refused_lem}
 use Rattle.ds_accept.specs.declared.fault.AcceptFault.{AcceptFault}

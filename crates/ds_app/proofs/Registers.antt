@@ -3,7 +3,7 @@ use Rattle.std.proofs.Common.{◌≡◌, ◌∙◌, ℕ, ◌*◌, ◌<◌, ◌++
 use Rattle.std.specs.List.{flat_map, range_with_len}
 use Rattle.ds_base.specs.Values.{Row}
 use Rattle.ds_design.specs.Circuit.{Circuit}
-use Rattle.ds_design.specs.Node.{Slave, Split, members}
+use Rattle.ds_latch.specs.Node.{Slave, Split, members}
 use Rattle.ds_fire.specs.Snapshot.{Snapshot, graph_of, limit_of, split_of, stored_values}
 use Rattle.ds_rows.specs.Log.{column, stored_text}
 use Rattle.ds_app.specs.FaultText.{register_of}

@@ -6,9 +6,9 @@ use Rattle.ds_base.specs.declared.number.Limit.{Limit}
 use Rattle.ds_base.specs.declared.number.Limit.TheVariants.{Arcs, Clusters}
 use Rattle.ds_base.specs.declared.number.Mode.{Mode}
 use Rattle.ds_design.specs.Circuit.{Circuit}
-use Rattle.ds_design.specs.Node.{Split, nodes}
-use Rattle.ds_design.specs.Latches.{HasEdges}
-use Rattle.ds_design.specs.declared.latches.Edge.{Edge}
+use Rattle.ds_latch.specs.Node.{Split, nodes}
+use Rattle.ds_latch.specs.Latches.{HasEdges}
+use Rattle.ds_latch.specs.declared.latches.Edge.{Edge}
 use Rattle.ds_split.specs.Cluster.{IsClustering}
 use Rattle.ds_split.specs.Split.{HasTooManyOrders, IsClusterFault, IsSplitFault, split_of}
 use Rattle.ds_split.specs.declared.fault.SplitFault.{SplitFault}

@@ -2,7 +2,7 @@
 use Rattle.std.specs.Prelude.{◌≡◌, ℕ, List, ◌++◌, codes, length, slice_index}
 use Rattle.std.specs.List.{flat_map, range_with_len}
 use Rattle.ds_marked.specs.Graph.{Graph}
-use Rattle.ds_design.specs.Plan.{Planned}
+use Rattle.ds_latch.specs.Plan.{Planned}
 use Rattle.ds_rank.specs.Rank.{AreRanks}
 use Rattle.ds_rows.specs.Log.{firing_text}
 use Rattle.ds_app.specs.Stage.{Stage, giving}

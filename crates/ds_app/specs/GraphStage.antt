@@ -1,8 +1,8 @@
 -- The text of the controller graph of a split design.
 use Rattle.std.specs.Prelude.{◌≡◌, ℕ, List}
 use Rattle.ds_marked.specs.Graph.{Graph, IsKept}
-use Rattle.ds_design.specs.Node.{Split}
-use Rattle.ds_design.specs.Plan.{split_events}
+use Rattle.ds_latch.specs.Node.{Split}
+use Rattle.ds_latch.specs.Plan.{split_events}
 use Rattle.ds_control.specs.Control.{AreOrders, IsSimple}
 use Rattle.ds_astg.specs.Text.{graph_text}
 use Rattle.ds_app.specs.Stage.{Stage, giving}

@@ -1,6 +1,6 @@
 -- Where registers stand.
 use Rattle.std.specs.Prelude.{◌≡◌, ◌⊎◌, ℕ, ◌<◌, List, length, All, slice_index, slice_index_or}
-use Rattle.ds_design.specs.Node.{Split, members}
+use Rattle.ds_latch.specs.Node.{Split, members}
 use Rattle.ds_app.specs.declared.homes.Home.{Home}
 
 -- a register stands at this place of this cluster

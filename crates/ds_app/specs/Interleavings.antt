@@ -10,9 +10,9 @@ use Rattle.ds_marked.specs.Graph.{Graph, IsEnabled, IsLegal, counts_after}
 use Rattle.ds_design.specs.Circuit.{Circuit}
 use Rattle.ds_design.specs.Rows.{Rows}
 use Rattle.ds_design.specs.Run.{IsRun}
-use Rattle.ds_design.specs.Node.{Slave, Split, members}
-use Rattle.ds_design.specs.Plan.{Planned}
-use Rattle.ds_design.specs.Firing.{State, first_state, FiresAll}
+use Rattle.ds_latch.specs.Node.{Slave, Split, members}
+use Rattle.ds_latch.specs.Plan.{Planned}
+use Rattle.ds_latch.specs.Firing.{State, first_state, FiresAll}
 use Rattle.ds_cmd.specs.Line.{job_of}
 use Rattle.ds_cmd.specs.declared.job.Job.TheVariants.{Run}
 use Rattle.ds_app.specs.Stages.{netlist_stage, vectors_stage}

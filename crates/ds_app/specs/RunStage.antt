@@ -1,7 +1,7 @@
 -- The text of a run: the trace of the netlist, and where a log is wanted the firings behind it.
 use Rattle.std.specs.Prelude.{◌≡◌, Bool, List, ℕ}
 use Rattle.ds_design.specs.Circuit.{Circuit}
-use Rattle.ds_design.specs.Plan.{Planned}
+use Rattle.ds_latch.specs.Plan.{Planned}
 use Rattle.ds_design.specs.Rows.{Rows}
 use Rattle.ds_trace.specs.RunText.{IsRunText}
 use Rattle.ds_app.specs.Stage.{Stage, giving}

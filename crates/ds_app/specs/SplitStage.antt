@@ -4,7 +4,7 @@ use Rattle.ds_base.specs.Limit.{most_of}
 use Rattle.ds_base.specs.declared.number.Limit.TheVariants.{Arcs, Clusters}
 use Rattle.ds_base.specs.declared.number.Mode.{Mode}
 use Rattle.ds_design.specs.Circuit.{Circuit}
-use Rattle.ds_design.specs.Node.{Split}
+use Rattle.ds_latch.specs.Node.{Split}
 use Rattle.ds_split.specs.Cluster.{HasTooManyClusters, IsClustering}
 use Rattle.ds_split.specs.Split.{HasTooManyOrders, split_of}
 use Rattle.ds_app.specs.FaultText.{file_line, too_many_text}

@@ -8,7 +8,7 @@ ghost use Rattle.ds_rank.specs.Rank.{AreRanks};
 
 use crate::stop::Stop;
 use ds_base::EventId;
-use ds_design::Plan;
+use ds_latch::Plan;
 use ds_outside::{Behind, Buffered, Lent, Sink, WriteFault};
 use ds_rank::{Ranks, rank};
 use ds_rows::{firing_line, put};

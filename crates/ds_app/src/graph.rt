@@ -8,7 +8,7 @@ ghost use Rattle.ds_app.specs.GraphStage.{controller_stage};
 use crate::stop::Stop;
 use ds_astg::write;
 use ds_control::controller;
-use ds_design::Latches;
+use ds_latch::Latches;
 use ds_marked::Marked;
 use ds_outside::{Behind, Buffered, Lent, Sink, WriteFault};
 use std::alloc::Global;

@@ -1,6 +1,6 @@
 //! The texts of faults of a graph.
 ghost use Rattle.std.specs.Prelude.{◌≡◌, ◌++◌, ℕ, IfOk, codes, decimal, map};
-ghost use Rattle.ds_design.specs.Log.{event_text};
+ghost use Rattle.ds_marked.specs.Log.{event_text};
 ghost use Rattle.ds_rows.specs.Log.{text_of_event};
 ghost use Rattle.ds_app.specs.FaultText.{listed};
 ghost use Rattle.ds_app.specs.PlanStage.{IsAcceptText, astg_text as astg_text_of};

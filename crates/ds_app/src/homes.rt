@@ -3,7 +3,7 @@ ghost use Rattle.std.specs.Prelude.{◌≡◌, ◌<◌, ℕ, All, IfOk, length, 
 ghost use Rattle.ds_app.specs.Homes.{AreHomes, ArePlaced, IsPlacedOrKept, no_home};
 
 use ds_base::RegId;
-use ds_design::Latches;
+use ds_latch::Latches;
 use std::alloc::{AllocError, Global};
 
 /// A cluster, and a place among its registers.

@@ -2,7 +2,7 @@
 ghost use Rattle.std.specs.Prelude.{◌≡◌, ◌++◌, [], IfOk, slice_get};
 ghost use Rattle.std.specs.Option.{option_map_or};
 ghost use Rattle.ds_rows.specs.Log.{text_of_event};
-ghost use Rattle.ds_design.specs.Log.{sign as sign_of};
+ghost use Rattle.ds_marked.specs.Log.{sign as sign_of};
 ghost use Rattle.ds_app.specs.ReplayStage.{ends_text, log_text as log_text_of};
 
 use ds_base::{ArcId, EventId};

@@ -6,7 +6,8 @@ ghost use Rattle.ds_app.specs.Ends.{Ends, Never, Output};
 ghost use Rattle.ds_app.specs.Stage.{giving};
 
 use crate::stop::Stop;
-use ds_design::{Plan, Vectors};
+use ds_design::Vectors;
+use ds_latch::Plan;
 use ds_outside::{Gate, Sink};
 use ds_trace::{RunFault, write_run};
 use std::alloc::Global;

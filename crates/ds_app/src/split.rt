@@ -7,7 +7,8 @@ use crate::fault_line::too_many;
 use crate::source::refused;
 use crate::stop::Stop;
 use ds_base::Mode;
-use ds_design::{Latches, Netlist};
+use ds_design::Netlist;
+use ds_latch::Latches;
 use ds_split::{SplitFault, cluster, split};
 use std::alloc::Global;
 

@@ -12,7 +12,7 @@ use Rattle.ds_marked.specs.Graph.{Graph, StandsBefore, IsKept}
 use Rattle.ds_marked.specs.declared.marked.Arc.{Arc}
 use Rattle.ds_marked.specs.declared.marked.Event.{Event}
 use Rattle.ds_marked.specs.declared.marked.Kind.TheVariants.{Rise, Fall}
-use Rattle.ds_design.specs.Log.{event_text}
+use Rattle.ds_marked.specs.Log.{event_text}
 use Rattle.ds_astg.specs.Node.{node_of}
 use Rattle.ds_astg.specs.Node.Node.{Event as EventNode}
 use Rattle.ds_astg.specs.Place.{Key, key_eq}

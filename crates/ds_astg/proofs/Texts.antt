@@ -8,7 +8,7 @@ use Rattle.ds_base.proofs.Tests.{test_same, test_other}
 use Rattle.ds_marked.specs.Graph.{Graph, IsRangeFrom}
 use Rattle.ds_marked.specs.declared.marked.Arc.{Arc}
 use Rattle.ds_marked.specs.declared.marked.Event.{Event}
-use Rattle.ds_design.specs.Log.{event_text}
+use Rattle.ds_marked.specs.Log.{event_text}
 use Rattle.ds_astg.specs.Pieces.{all_below, line_with}
 use Rattle.ds_astg.specs.Text.{arc_at, arc_text, entry_name, entry_text, event_line, is_further, place_line, place_name, signal_of, signal_text, target_text, text_at, tokens_text}
 use Rattle.ds_astg.proofs.Pieces.{IsSome, silent_to}

@@ -6,7 +6,7 @@ use Rattle.ds_marked.specs.declared.marked.Arc.{Arc}
 use Rattle.ds_marked.specs.declared.marked.Event.{Event}
 use Rattle.ds_marked.specs.declared.marked.Kind.{Kind}
 use Rattle.ds_marked.specs.declared.marked.Kind.TheVariants.{Rise, Fall, Dummy}
-use Rattle.ds_design.specs.Log.{event_text}
+use Rattle.ds_marked.specs.Log.{event_text}
 use Rattle.ds_astg.specs.Pieces.{all_below, line_with}
 
 -- an arc with a number

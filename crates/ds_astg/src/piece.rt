@@ -2,7 +2,7 @@
 ghost use Rattle.std.specs.Prelude.{◌≡◌, ◌<◌, length};
 ghost use Rattle.ds_outside.specs.Writes.{GoesOn};
 ghost use Rattle.ds_marked.specs.Graph.{Graph};
-ghost use Rattle.ds_design.specs.Log.{event_text, sign as sign_of};
+ghost use Rattle.ds_marked.specs.Log.{event_text, sign as sign_of};
 ghost use Rattle.ds_astg.specs.Text.{have_same_ends, is_further as is_further_in, place_name, text_at};
 
 use ds_base::EventId;

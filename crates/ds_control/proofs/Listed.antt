@@ -6,10 +6,10 @@ use Rattle.std.proofs.lemmas.List.Sorted.{Contains-permutation, IsPermutation-sy
 use Rattle.ds_base.proofs.Lists.{get_or-self}
 use Rattle.ds_marked.specs.Graph.{Graph, AreEnds}
 use Rattle.ds_marked.specs.declared.marked.Arc.{Arc}
-use Rattle.ds_design.specs.Node.{Split, nodes}
-use Rattle.ds_design.specs.Order.{IsRequired}
-use Rattle.ds_design.specs.declared.latches.Edge.{Edge}
-use Rattle.ds_design.proofs.Rising.{required_inside}
+use Rattle.ds_latch.specs.Node.{Split, nodes}
+use Rattle.ds_latch.specs.Order.{IsRequired}
+use Rattle.ds_latch.specs.declared.latches.Edge.{Edge}
+use Rattle.ds_latch.proofs.Rising.{required_inside}
 use Rattle.ds_control.specs.Control.{AreOrders, EndsDiffer, IsSimple}
 use Rattle.ds_control.specs.Orders.{AreListed, closing_arc, opening_arc, reading_arc, freeing_arc, node_arcs, edge_arcs, required_arcs}
 use Rattle.ds_control.proofs.Permuted.{pairs_permuted}

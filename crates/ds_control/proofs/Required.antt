@@ -4,12 +4,12 @@ use Rattle.std.specs.List.{range_with_len}
 use Rattle.std.proofs.lemmas.Nat.{mod-mul-add}
 use Rattle.std.proofs.lemmas.List.Elements.{Contains-append_left, Contains-append_right, Contains-append_cases}
 use Rattle.ds_marked.specs.declared.marked.Arc.{Arc}
-use Rattle.ds_design.specs.Node.{Node, In, Out, Master, Slave, Split, IsNode, number_of, nodes, opening, closing}
-use Rattle.ds_design.specs.Order.{IsDataEdge, IsRequired, opens_first, closes_before_next, after_producer, before_reuse, open_tokens, close_tokens}
-use Rattle.ds_design.specs.Latches.{HasEdges}
-use Rattle.ds_design.specs.declared.latches.Edge.{Edge}
-use Rattle.ds_design.proofs.Counts.{edge_differs, edge_tokens, number_below}
-use Rattle.ds_design.proofs.Rising.{edge_nodes}
+use Rattle.ds_latch.specs.Node.{Node, In, Out, Master, Slave, Split, IsNode, number_of, nodes, opening, closing}
+use Rattle.ds_latch.specs.Order.{IsDataEdge, IsRequired, opens_first, closes_before_next, after_producer, before_reuse, open_tokens, close_tokens}
+use Rattle.ds_latch.specs.Latches.{HasEdges}
+use Rattle.ds_latch.specs.declared.latches.Edge.{Edge}
+use Rattle.ds_latch.proofs.Counts.{edge_differs, edge_tokens, number_below}
+use Rattle.ds_latch.proofs.Rising.{edge_nodes}
 use Rattle.ds_control.specs.Orders.{closing_arc, opening_arc, reading_arc, freeing_arc, tokens_after, node_arcs, edge_arcs, required_arcs}
 use Rattle.ds_control.proofs.Two.{in_first, in_second, from_two, in_range, range_below}
 

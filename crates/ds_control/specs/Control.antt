@@ -2,8 +2,8 @@
 use Rattle.std.specs.Prelude.{◌≡◌, ◌↔◌, ℕ, AllPairs}
 use Rattle.ds_marked.specs.Graph.{Graph, IsArc}
 use Rattle.ds_marked.specs.declared.marked.Arc.{Arc}
-use Rattle.ds_design.specs.Node.{Split}
-use Rattle.ds_design.specs.Order.{IsRequired}
+use Rattle.ds_latch.specs.Node.{Split}
+use Rattle.ds_latch.specs.Order.{IsRequired}
 
 -- the arcs are exactly the required orders
 abbrev pub AreOrders : Split → Graph → Type 0

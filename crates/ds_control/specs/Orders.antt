@@ -3,10 +3,10 @@ use Rattle.std.specs.Prelude.{◌≡◌, ◌≢◌, ◌≤◌, ℕ, ◌+◌, ◌
 use Rattle.std.specs.List.{flat_map, range_with_len}
 use Rattle.ds_marked.specs.declared.marked.Arc.{Arc}
 use Rattle.ds_marked.specs.declared.marked.Event.{Event}
-use Rattle.ds_design.specs.Node.{Master, Slave, Split, nodes}
-use Rattle.ds_design.specs.Latches.{HasEdges}
-use Rattle.ds_design.specs.Plan.{node_events}
-use Rattle.ds_design.specs.declared.latches.Edge.{Edge}
+use Rattle.ds_latch.specs.Node.{Master, Slave, Split, nodes}
+use Rattle.ds_latch.specs.Latches.{HasEdges}
+use Rattle.ds_latch.specs.Plan.{node_events}
+use Rattle.ds_latch.specs.declared.latches.Edge.{Edge}
 
 -- a node closes after it opened
 abbrev pub closing_arc : ℕ → Arc

@@ -4,7 +4,7 @@ ghost use Rattle.ds_control.specs.Orders.{AreListed, edge_arcs, freeing_arc, nod
 ghost use Rattle.ds_control.specs.Orders.{reading_arc, tokens_after as tokens_of};
 
 use ds_base::{EventId, LatchId};
-use ds_design::{DataEdge, Latches};
+use ds_latch::{DataEdge, Latches};
 use ds_marked::Arc;
 use std::alloc::{AllocError, Global};
 

@@ -1,7 +1,7 @@
 //! The events of the nodes.
 ghost use Rattle.std.specs.Prelude.{◌≡◌, ◌++◌, ◌∷◌, [], IfOk, OnOk};
-ghost use Rattle.ds_design.specs.Node.{In, Out, Master, Slave};
-ghost use Rattle.ds_design.specs.Plan.{node_events};
+ghost use Rattle.ds_latch.specs.Node.{In, Out, Master, Slave};
+ghost use Rattle.ds_latch.specs.Plan.{node_events};
 ghost use Rattle.ds_marked.specs.declared.marked.Kind.TheVariants.{Rise, Fall};
 ghost use Rattle.ds_control.specs.Orders.{cluster_events};
 

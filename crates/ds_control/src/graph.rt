@@ -1,11 +1,11 @@
 ghost use Rattle.std.specs.Prelude.{◌≡◌, IfOk};
-ghost use Rattle.ds_design.specs.Plan.{IsPlan, split_events};
+ghost use Rattle.ds_latch.specs.Plan.{IsPlan, split_events};
 ghost use Rattle.ds_control.specs.Control.{AreOrders, IsSimple};
 
 use crate::arcs::arcs;
 use crate::events::events;
 use ds_base::OutOfMemory;
-use ds_design::Latches;
+use ds_latch::Latches;
 use ds_marked::Marked;
 use std::alloc::Global;
 

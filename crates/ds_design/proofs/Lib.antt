@@ -1,15 +1,7 @@
 pub mod Controlled
 pub mod Settled
 pub mod Runs
-pub mod Counts
-pub mod Flow
 pub mod Exists
-pub mod Spelt
-pub mod Stable
 pub mod Monotone
-pub mod Events
 pub mod Windows
-pub mod Remade
-pub mod Rising
-pub mod Transparent
 pub mod Banked

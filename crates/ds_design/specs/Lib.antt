@@ -10,17 +10,5 @@ pub mod Reach
 pub mod Rows
 pub mod Run
 pub mod Trace
-pub mod Node
-pub mod Order
-pub mod Latches
-pub mod Plan
-pub mod Numbered
-pub mod Firing
-pub mod Flow
-pub mod Controls
 pub mod Windows
-pub mod Transparent
 pub mod Laws
-pub mod Log
-pub mod Record
-pub mod Worked

@@ -7,9 +7,9 @@ use Rattle.std.proofs.lemmas.Bool.{cases_eq}
 use Rattle.std.proofs.lemmas.List.Elements.{All-contains, All-map, Contains-append_cases, Contains-append_left, Contains-append_right, Contains-get_or}
 use Rattle.ds_base.proofs.Lists.{Contains-map}
 use Rattle.ds_design.specs.Circuit.{columns, data_nets, register_nets, used}
-use Rattle.ds_design.specs.Node.{Node, In, Out, Master, Slave, Split, IsNode, number_of, members, nets_of}
-use Rattle.ds_design.specs.Order.{IsSource}
-use Rattle.ds_design.specs.Plan.{IsSplit}
+use Rattle.ds_latch.specs.Node.{Node, In, Out, Master, Slave, Split, IsNode, number_of, members, nets_of}
+use Rattle.ds_latch.specs.Order.{IsSource}
+use Rattle.ds_latch.specs.Plan.{IsSplit}
 use Rattle.ds_design.specs.declared.design.Register.{Register}
 use Rattle.ds_settle.specs.Cone.{IsCone}
 use Rattle.ds_settle.proofs.Agree.{sources_known}

@@ -10,13 +10,13 @@ use Rattle.ds_base.specs.declared.value.Value.TheVariants.{Zero}
 use Rattle.ds_cover.specs.Cover.{value_at}
 use Rattle.ds_design.specs.Circuit.{columns, register_nets}
 use Rattle.ds_design.specs.InRange.{IsInRange}
-use Rattle.ds_design.specs.Node.{Node, In, Out, Master, Slave, Split, IsNode, number_of, nodes, closing, members, nets_of, zeros}
-use Rattle.ds_design.specs.Plan.{IsPlan, Planned, split_events}
-use Rattle.ds_design.proofs.Rising.{events_long}
+use Rattle.ds_latch.specs.Node.{Node, In, Out, Master, Slave, Split, IsNode, number_of, nodes, closing, members, nets_of, zeros}
+use Rattle.ds_latch.specs.Plan.{IsPlan, Planned, split_events}
+use Rattle.ds_latch.proofs.Rising.{events_long}
 use Rattle.ds_marked.specs.Graph.{Graph}
 use Rattle.ds_design.specs.Rows.{AreVectors, Rows}
-use Rattle.ds_design.specs.Firing.{first_row, first_state}
-use Rattle.ds_design.proofs.Counts.{number_below}
+use Rattle.ds_latch.specs.Firing.{first_row, first_state}
+use Rattle.ds_latch.proofs.Counts.{number_below}
 use Rattle.ds_fire.specs.First.{AreEmpty, AreFirstRows, HasFirstRow}
 use Rattle.ds_fire.specs.Fired.{IsReached, IsSound}
 use Rattle.ds_fire.specs.History.{Stored}

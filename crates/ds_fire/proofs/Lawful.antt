@@ -13,14 +13,14 @@ use Rattle.ds_marked.proofs.Progress.{legal_is_consistent, progress}
 use Rattle.ds_design.specs.Circuit.{register_nets}
 use Rattle.ds_design.specs.Run.{row_at}
 use Rattle.ds_design.specs.Trace.{trace_line, trace_lines}
-use Rattle.ds_design.specs.Node.{Node, Out, Slave, Split, IsNode, number_of, nodes, opening, closing, place_of, members, nets_of}
-use Rattle.ds_design.specs.Plan.{IsController, split_events}
-use Rattle.ds_design.specs.Firing.{State, first_state, FiresAll, AreRegisters}
-use Rattle.ds_design.specs.Flow.{IsInStep}
-use Rattle.ds_design.proofs.Counts.{accepted_controls, number_below}
-use Rattle.ds_design.proofs.Flow.{flow_equivalence}
-use Rattle.ds_design.proofs.Rising.{events_long}
-use Rattle.ds_design.proofs.Spelt.{stored_rows_spell_trace}
+use Rattle.ds_latch.specs.Node.{Node, Out, Slave, Split, IsNode, number_of, nodes, opening, closing, place_of, members, nets_of}
+use Rattle.ds_latch.specs.Plan.{IsController, split_events}
+use Rattle.ds_latch.specs.Firing.{State, first_state, FiresAll, AreRegisters}
+use Rattle.ds_latch.specs.Flow.{IsInStep}
+use Rattle.ds_latch.proofs.Counts.{accepted_controls, number_below}
+use Rattle.ds_latch.proofs.Flow.{flow_equivalence}
+use Rattle.ds_latch.proofs.Rising.{events_long}
+use Rattle.ds_latch.proofs.Spelt.{stored_rows_spell_trace}
 use Rattle.ds_fire.specs.Snapshot.{Snapshot, Shows, split_of, graph_of, limit_of, count_of, held_row, stored_values, stored_row, width_of}
 use Rattle.ds_fire.specs.Fired.{IsReady, IsReached, IsSound}
 use Rattle.ds_fire.specs.Laws.{IsDone, IsInRun, IsRunOf, run_value}

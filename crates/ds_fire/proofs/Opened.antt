@@ -13,12 +13,12 @@ use Rattle.ds_base.specs.declared.value.Value.TheVariants.{Zero}
 use Rattle.ds_cover.specs.Cover.{value_at, values_at}
 use Rattle.ds_design.specs.Circuit.{columns, control_nets, data_nets, register_nets}
 use Rattle.ds_design.specs.InRange.{IsInRange}
-use Rattle.ds_design.specs.Plan.{IsSplit}
+use Rattle.ds_latch.specs.Plan.{IsSplit}
 use Rattle.ds_design.specs.declared.design.Register.{Register}
 use Rattle.ds_design.specs.Run.{row_at}
-use Rattle.ds_design.specs.Node.{Node, In, Out, Master, Slave, Split, IsNode, number_of, nodes, place_of, members, nets_of}
-use Rattle.ds_design.specs.Firing.{opening_read}
-use Rattle.ds_design.proofs.Counts.{number_below, same_node}
+use Rattle.ds_latch.specs.Node.{Node, In, Out, Master, Slave, Split, IsNode, number_of, nodes, place_of, members, nets_of}
+use Rattle.ds_latch.specs.Firing.{opening_read}
+use Rattle.ds_latch.proofs.Counts.{number_below, same_node}
 use Rattle.ds_fire.specs.Snapshot.{row_index, rows_of}
 use Rattle.ds_fire.specs.Feed.{IsConsumer, IsHome}
 use Rattle.ds_fire.specs.History.{Stored}

@@ -3,10 +3,10 @@ use Rattle.std.proofs.Common.{◌≡◌, ◌∙◌, ℕ, ◌+◌, ◌<◌, ◌�
 use Rattle.ds_base.specs.Values.{Row}
 use Rattle.ds_marked.specs.Graph.{Graph, IsEnabled, IsLegal, IsLegalFrom, counted, counts_after}
 use Rattle.ds_marked.specs.declared.marked.Arc.{Arc}
-use Rattle.ds_design.specs.Node.{Split}
-use Rattle.ds_design.specs.Plan.{Planned}
-use Rattle.ds_design.specs.Firing.{State, first_state, Fires, FiresAll}
-use Rattle.ds_design.proofs.Flow.{fires_count}
+use Rattle.ds_latch.specs.Node.{Split}
+use Rattle.ds_latch.specs.Plan.{Planned}
+use Rattle.ds_latch.specs.Firing.{State, first_state, Fires, FiresAll}
+use Rattle.ds_latch.proofs.Flow.{fires_count}
 use Rattle.ds_fire.specs.Snapshot.{Snapshot, Shows, split_of, graph_of, limit_of, count_of}
 use Rattle.ds_fire.specs.Fired.{IsFired, IsAfter, IsReached}
 

@@ -11,9 +11,9 @@ use Rattle.ds_base.specs.Values.{Row}
 use Rattle.ds_base.specs.declared.value.Value.{Value}
 use Rattle.ds_base.specs.declared.value.Value.TheVariants.{Zero}
 use Rattle.ds_cover.specs.Cover.{value_at, values_at}
-use Rattle.ds_design.specs.Node.{Node, Slave, Split, members}
-use Rattle.ds_design.specs.Plan.{IsSplit}
-use Rattle.ds_design.specs.Firing.{AreRegisters}
+use Rattle.ds_latch.specs.Node.{Node, Slave, Split, members}
+use Rattle.ds_latch.specs.Plan.{IsSplit}
+use Rattle.ds_latch.specs.Firing.{AreRegisters}
 
 -- all of these lists, one after the other
 abbrev flat : List (List ℕ) → List ℕ

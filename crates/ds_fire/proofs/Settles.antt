@@ -12,12 +12,12 @@ use Rattle.ds_cover.specs.Cover.{value_at, values_at}
 use Rattle.ds_design.specs.Circuit.{register_nets}
 use Rattle.ds_design.specs.InRange.{IsInRange}
 use Rattle.ds_design.specs.Valuation.{IsValuation}
-use Rattle.ds_design.specs.Node.{Node, In, Out, Master, Slave, Split, IsNode, number_of, place_of, members, nets_of}
-use Rattle.ds_design.specs.Order.{IsSource}
-use Rattle.ds_design.specs.Plan.{IsSplit}
-use Rattle.ds_design.specs.Firing.{AreRegisters, IsSettled, Takes, opening_read, read_rows}
+use Rattle.ds_latch.specs.Node.{Node, In, Out, Master, Slave, Split, IsNode, number_of, place_of, members, nets_of}
+use Rattle.ds_latch.specs.Order.{IsSource}
+use Rattle.ds_latch.specs.Plan.{IsSplit}
+use Rattle.ds_latch.specs.Firing.{AreRegisters, IsSettled, Takes, opening_read, read_rows}
 use Rattle.ds_design.proofs.Exists.{some_valuation}
-use Rattle.ds_design.proofs.Flow.{settles_from_all}
+use Rattle.ds_latch.proofs.Flow.{settles_from_all}
 use Rattle.ds_settle.specs.Cone.{IsPartSettled}
 use Rattle.ds_settle.proofs.Agree.{cone_settles}
 use Rattle.ds_fire.specs.Snapshot.{row_index}

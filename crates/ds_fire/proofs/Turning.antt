@@ -5,17 +5,17 @@ use Rattle.std.proofs.Math.Nat.{mul-le-mul_right, suc-mul}
 use Rattle.std.proofs.lemmas.List.{get_or-map, length-append, length-map}
 use Rattle.ds_base.specs.Values.{Row}
 use Rattle.ds_marked.proofs.Progress.{legal_is_consistent}
-use Rattle.ds_design.specs.Node.{Node, Split, IsNode, number_of, nodes, nets_of, closing}
-use Rattle.ds_design.specs.Plan.{split_events}
-use Rattle.ds_design.proofs.Counts.{number_below}
-use Rattle.ds_design.proofs.Events.{IsEvent, is_opening, is_closing, is_extra, event_of}
-use Rattle.ds_design.proofs.Rising.{events_long}
+use Rattle.ds_latch.specs.Node.{Node, Split, IsNode, number_of, nodes, nets_of, closing}
+use Rattle.ds_latch.specs.Plan.{split_events}
+use Rattle.ds_latch.proofs.Counts.{number_below}
+use Rattle.ds_latch.proofs.Events.{IsEvent, is_opening, is_closing, is_extra, event_of}
+use Rattle.ds_latch.proofs.Rising.{events_long}
 use Rattle.ds_fire.specs.History.{Stored}
 use Rattle.ds_fire.specs.Snapshot.{Snapshot, split_of, graph_of, limit_of, count_of, stored_values, width_of}
 use Rattle.ds_fire.specs.Fired.{IsFired, IsReached, IsReady, IsSound}
 use Rattle.ds_fire.specs.Turn.{AreRows, HasRoom, IsTurned, rooms_of, values_of}
 use Rattle.ds_fire.specs.declared.kept.Kept.{Kept}
-use Rattle.ds_design.specs.Plan.{Planned}
+use Rattle.ds_latch.specs.Plan.{Planned}
 use Rattle.ds_design.specs.Rows.{Rows}
 use Rattle.ds_fire.specs.Inside.{IsRunning, seen}
 use Rattle.ds_fire.specs.Waits.{IsWatching}

@@ -1,8 +1,8 @@
 -- What the opening of a consumer settles.
 use Rattle.std.specs.Prelude.{◌≡◌, ◌⊎◌, ℕ, ◌+◌, ◌<◌, ⊤, List, length, All, Any, slice_index, slice_index_or}
 use Rattle.ds_settle.specs.Cone.{IsCone}
-use Rattle.ds_design.specs.Node.{Node, In, Out, Master, Slave, Split, IsNode, number_of, nets_of}
-use Rattle.ds_design.specs.Order.{IsSource}
+use Rattle.ds_latch.specs.Node.{Node, In, Out, Master, Slave, Split, IsNode, number_of, nets_of}
+use Rattle.ds_latch.specs.Order.{IsSource}
 use Rattle.ds_fire.specs.declared.feed.Feed.{Feed}
 use Rattle.ds_fire.specs.declared.feed.Tap.{Tap}
 use Rattle.ds_fire.specs.declared.homes.Home.{Home}

@@ -4,9 +4,9 @@ use Rattle.std.specs.List.{flat_map, range_with_len}
 use Rattle.ds_base.specs.Values.{Row}
 use Rattle.ds_design.specs.Run.{IsRun}
 use Rattle.ds_design.specs.Trace.{trace_line, trace_lines}
-use Rattle.ds_design.specs.Node.{Node, Out, IsNode, opening, closing}
-use Rattle.ds_design.specs.Numbered.{numbered}
-use Rattle.ds_design.specs.Firing.{AreRegisters}
+use Rattle.ds_latch.specs.Node.{Node, Out, IsNode, opening, closing}
+use Rattle.ds_latch.specs.Numbered.{numbered}
+use Rattle.ds_latch.specs.Firing.{AreRegisters}
 use Rattle.ds_fire.specs.Snapshot.{Snapshot, split_of, graph_of, limit_of, count_of, held_row, stored_values, stored_row}
 use Rattle.ds_fire.specs.Fired.{IsReady, IsFired, IsAfter, IsReached, IsSound}
 

@@ -3,9 +3,9 @@ use Rattle.std.specs.Prelude.{◌≡◌, ℕ, ◌+◌, ◌*◌, ◌≤◌, List,
 use Rattle.std.specs.List.{flat_map}
 use Rattle.ds_base.specs.Values.{Row}
 use Rattle.ds_marked.specs.Graph.{Graph}
-use Rattle.ds_design.specs.Node.{Node, Split, IsNode, number_of, place_of, nets_of, opening}
-use Rattle.ds_design.specs.Plan.{Planned}
-use Rattle.ds_design.specs.Firing.{State, first_state}
+use Rattle.ds_latch.specs.Node.{Node, Split, IsNode, number_of, place_of, nets_of, opening}
+use Rattle.ds_latch.specs.Plan.{Planned}
+use Rattle.ds_latch.specs.Firing.{State, first_state}
 
 -- the plan and the vectors, a count for each event, the rows of each node, place by place, and what each node has stored,
 -- its rows one after the other

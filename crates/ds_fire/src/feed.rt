@@ -1,13 +1,13 @@
 //! What the openings of consumers settle.
 ghost use Rattle.std.specs.Prelude.{◌≡◌, ◌<◌, ◌^◌, IfOk, All, length, map};
-ghost use Rattle.ds_design.specs.Node.{Node, IsNode, nodes, number_of};
+ghost use Rattle.ds_latch.specs.Node.{Node, IsNode, nodes, number_of};
 ghost use Rattle.ds_design.specs.InRange.{IsInRange};
-ghost use Rattle.ds_design.specs.Plan.{IsSplit};
+ghost use Rattle.ds_latch.specs.Plan.{IsSplit};
 ghost use Rattle.ds_fire.specs.Feed.{AreFeeds, AreHomes, IsConsumer, IsFeedOf, tap_of};
 
 use crate::homes::{Home, homes_of};
 use ds_base::{NetId, OutOfMemory};
-use ds_design::Latches;
+use ds_latch::Latches;
 use ds_settle::{Cone, Finder};
 use std::alloc::Global;
 

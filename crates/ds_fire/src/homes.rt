@@ -1,12 +1,12 @@
 //! Where the values of nets are kept.
 ghost use Rattle.std.specs.Prelude.{◌≡◌, ◌<◌, ◌^◌, ℕ, All, IfOk, length, slice_index_or};
 ghost use Rattle.ds_design.specs.InRange.{IsInRange};
-ghost use Rattle.ds_design.specs.Node.{nodes};
-ghost use Rattle.ds_design.specs.Plan.{IsSplit};
+ghost use Rattle.ds_latch.specs.Node.{nodes};
+ghost use Rattle.ds_latch.specs.Plan.{IsSplit};
 ghost use Rattle.ds_fire.specs.Feed.{AreHomes, ArePlaced, IsPlacedOrKept, no_home};
 
 use ds_base::{NetId, OutOfMemory};
-use ds_design::Latches;
+use ds_latch::Latches;
 use std::alloc::Global;
 
 // A node, and a place in its rows.

@@ -1,12 +1,12 @@
 //! What the nodes keep.
 ghost use Rattle.std.specs.Prelude.{◌≡◌, ◌<◌, ◌^◌, IfOk, All, length};
 ghost use Rattle.ds_cover.specs.Cover.{values_at};
-ghost use Rattle.ds_design.specs.Node.{nodes};
+ghost use Rattle.ds_latch.specs.Node.{nodes};
 ghost use Rattle.ds_fire.specs.First.{AreEmpty, AreFirstRows, AreZeros, HasFirstRow, IsFirstRow};
 
 use crate::history::History;
 use ds_base::{OutOfMemory, RegId, Row3};
-use ds_design::Latches;
+use ds_latch::Latches;
 use std::alloc::Global;
 
 // The rows of the nodes, place by place, what they have stored, and a row of all nets to settle in.

@@ -3,8 +3,8 @@ ghost use Rattle.std.specs.Prelude.{◌≡◌, ◌+◌, ◌*◌, ◌<◌, ◌≤
 ghost use Rattle.ds_base.specs.Values.{Row};
 ghost use Rattle.ds_design.specs.Circuit.{columns};
 ghost use Rattle.ds_design.specs.InRange.{IsInRange};
-ghost use Rattle.ds_design.specs.Plan.{IsSplit};
-ghost use Rattle.ds_design.specs.Node.{Node, In, Slave, IsNode, number_of, nodes};
+ghost use Rattle.ds_latch.specs.Plan.{IsSplit};
+ghost use Rattle.ds_latch.specs.Node.{Node, In, Slave, IsNode, number_of, nodes};
 ghost use Rattle.ds_fire.specs.Feed.{AreFeeds, IsConsumer, IsFeed};
 ghost use Rattle.ds_fire.specs.Turn.{AreLoaded, AreLow, AreRows, HasSettled, IsOpened, IsTapped, Opens, tap_index};
 
@@ -12,7 +12,8 @@ use crate::feed::{Feed, Tap};
 use crate::kept::Kept;
 use crate::places::Places;
 use ds_base::Row3;
-use ds_design::{Latches, Vectors};
+use ds_design::Vectors;
+use ds_latch::Latches;
 use ds_settle::{pick_values, settle_part};
 
 // The node with this number takes its row: IN the next vector, a slave the row of its master, the

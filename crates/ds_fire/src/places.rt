@@ -2,7 +2,7 @@
 ghost use Rattle.std.specs.Prelude.{◌≡◌, ◌+◌, ◌<◌, ◌≤◌, ◌^◌};
 ghost use Rattle.ds_fire.specs.Turn.{ArePlaces};
 
-use ds_design::Latches;
+use ds_latch::Latches;
 
 // How many places a node has, the place of an opening, and that of the one after it.
 #[derive(Clone, Copy)]

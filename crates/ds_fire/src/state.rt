@@ -1,8 +1,8 @@
 //! The state of a plan as its events fire.
 ghost use Rattle.std.specs.Prelude.{◌≡◌, ◌↔◌, ◌<◌, ℕ, IfOk, IsOk, OnOk, OnErr, length};
 ghost use Rattle.ds_design.specs.Circuit.{columns};
-ghost use Rattle.ds_design.specs.Node.{Node, IsNode, number_of, nodes};
-ghost use Rattle.ds_design.specs.Firing.{State as DefinedState, held};
+ghost use Rattle.ds_latch.specs.Node.{Node, IsNode, number_of, nodes};
+ghost use Rattle.ds_latch.specs.Firing.{State as DefinedState, held};
 ghost use Rattle.ds_marked.specs.Blocked.{IsBlocked};
 ghost use Rattle.ds_marked.specs.declared.blocked.Blocked.{Blocked};
 ghost use Rattle.ds_fire.specs.Snapshot.{IsFirst, Shows, split_of, graph_of, limit_of, count_of, held_row, stored_values};
@@ -17,7 +17,8 @@ use crate::turn::turn;
 use crate::watch::Watch;
 use crate::widths::count_rows;
 use ds_base::{EventId, LatchId, OutOfMemory, Row3, Value};
-use ds_design::{Plan, Vectors};
+use ds_design::Vectors;
+use ds_latch::Plan;
 use ds_marked::{Blocked, Counts};
 use std::alloc::Global;
 use std::marker::Model;

@@ -2,8 +2,8 @@
 ghost use Rattle.std.specs.Prelude.{◌≡◌, ◌<◌, ◌^◌, length};
 ghost use Rattle.ds_design.specs.Circuit.{columns};
 ghost use Rattle.ds_design.specs.InRange.{IsInRange};
-ghost use Rattle.ds_design.specs.Plan.{IsSplit};
-ghost use Rattle.ds_design.specs.Node.{Node, IsNode, number_of, nodes, closing};
+ghost use Rattle.ds_latch.specs.Plan.{IsSplit};
+ghost use Rattle.ds_latch.specs.Node.{Node, IsNode, number_of, nodes, closing};
 ghost use Rattle.ds_fire.specs.Feed.{AreFeeds};
 ghost use Rattle.ds_fire.specs.Turn.{AreRows, Closes, HasRoom, IsTurned};
 
@@ -12,7 +12,8 @@ use crate::kept::Kept;
 use crate::opening::open;
 use crate::places::Places;
 use ds_base::EventId;
-use ds_design::{Latches, Vectors};
+use ds_design::Vectors;
+use ds_latch::Latches;
 
 // Fires an event that has fired so often: an opening puts a row, a closing stores one, and an extra
 // event does neither.

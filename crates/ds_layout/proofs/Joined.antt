@@ -12,10 +12,10 @@ use Rattle.std.proofs.lemmas.List.{get_or-map, length-map}
 use Rattle.std.proofs.lemmas.List.Sorted.{Contains-permutation, IsPermutation-map}
 use Rattle.std.proofs.lemmas.List.Sorted.{IsPermutation-sym}
 use Rattle.ds_base.proofs.Lists.{get_or-self}
-use Rattle.ds_design.specs.Node.{Node, In, Out, Master, Slave, Split, IsNode, number_of, nodes}
-use Rattle.ds_design.specs.Order.{IsDataEdge, open_tokens}
-use Rattle.ds_design.specs.Latches.{HasEdges}
-use Rattle.ds_design.specs.declared.latches.Edge.{Edge}
+use Rattle.ds_latch.specs.Node.{Node, In, Out, Master, Slave, Split, IsNode, number_of, nodes}
+use Rattle.ds_latch.specs.Order.{IsDataEdge, open_tokens}
+use Rattle.ds_latch.specs.Latches.{HasEdges}
+use Rattle.ds_latch.specs.declared.latches.Edge.{Edge}
 use Rattle.ds_rule.specs.declared.layout.DataEdge.{DataEdge}
 use Rattle.ds_layout.specs.Layout.{AreEdges, Joins}
 use Rattle.ds_layout.specs.Tokened.{tokened, tokens_of}

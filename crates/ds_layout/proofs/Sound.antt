@@ -13,15 +13,15 @@ use Rattle.ds_marked.specs.declared.marked.Arc.{Arc}
 use Rattle.ds_marked.specs.declared.marked.Event.{Event}
 use Rattle.ds_cover.specs.Cover.{value_at}
 use Rattle.ds_design.specs.Circuit.{columns, data_nets, register_nets}
-use Rattle.ds_design.specs.Node.{Node, In, Out, Master, Slave, Split, IsNode, number_of, nodes}
-use Rattle.ds_design.specs.Node.{members, nets_of}
-use Rattle.ds_design.specs.Node.{opening as node_opening, closing as node_closing}
-use Rattle.ds_design.specs.Order.{IsDataEdge, IsRequired, opens_first, after_producer, before_reuse}
-use Rattle.ds_design.specs.Order.{open_tokens, close_tokens}
-use Rattle.ds_design.specs.Plan.{IsController, IsPlan, Planned, split_events}
-use Rattle.ds_design.specs.Numbered.{numbered}
-use Rattle.ds_design.proofs.Counts.{accepted_controls, edge_differs, edge_tokens, number_below}
-use Rattle.ds_design.proofs.Rising.{edge_nodes, events_long}
+use Rattle.ds_latch.specs.Node.{Node, In, Out, Master, Slave, Split, IsNode, number_of, nodes}
+use Rattle.ds_latch.specs.Node.{members, nets_of}
+use Rattle.ds_latch.specs.Node.{opening as node_opening, closing as node_closing}
+use Rattle.ds_latch.specs.Order.{IsDataEdge, IsRequired, opens_first, after_producer, before_reuse}
+use Rattle.ds_latch.specs.Order.{open_tokens, close_tokens}
+use Rattle.ds_latch.specs.Plan.{IsController, IsPlan, Planned, split_events}
+use Rattle.ds_latch.specs.Numbered.{numbered}
+use Rattle.ds_latch.proofs.Counts.{accepted_controls, edge_differs, edge_tokens, number_below}
+use Rattle.ds_latch.proofs.Rising.{edge_nodes, events_long}
 use Rattle.ds_rule.specs.Run.{Run, events, node_of, opening, closing}
 use Rattle.ds_rule.specs.Words.{width, size}
 use Rattle.ds_rule.specs.Words.{values_at as run_values}

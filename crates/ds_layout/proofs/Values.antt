@@ -5,14 +5,14 @@ use Rattle.ds_base.specs.Values.{Row}
 use Rattle.ds_design.specs.Circuit.{columns}
 use Rattle.ds_design.specs.InRange.{IsInRange}
 use Rattle.ds_design.specs.Levels.{IsTableOrder}
-use Rattle.ds_design.specs.Node.{Node, Split, number_of, nodes}
-use Rattle.ds_design.specs.Plan.{IsSplit}
-use Rattle.ds_design.proofs.Counts.{number_below}
+use Rattle.ds_latch.specs.Node.{Node, Split, number_of, nodes}
+use Rattle.ds_latch.specs.Plan.{IsSplit}
+use Rattle.ds_latch.proofs.Counts.{number_below}
 use Rattle.ds_rule.specs.Run.{Run}
 use Rattle.ds_rule.specs.Words.{values_at}
-use Rattle.ds_loom.specs.Foreseen.{foreseen, foreseen_rows, node_at, nets_in, state_before}
-use Rattle.ds_loom.proofs.Foreseen.{foresees_run_lem}
-use Rattle.ds_loom.proofs.ForeseenRows.{foresees_rows_lem}
+use Rattle.ds_opening.specs.Foreseen.{foreseen, foreseen_rows, node_at, nets_in, state_before}
+use Rattle.ds_opening.proofs.Foreseen.{foresees_run_lem}
+use Rattle.ds_opening.proofs.ForeseenRows.{foresees_rows_lem}
 use Rattle.ds_layout.specs.Layout.{AreValues}
 
 pub values_are : (s : Split) (order : List ℕ) (vectors : List Row) (run : Run) → IsSplit s

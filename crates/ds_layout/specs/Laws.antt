@@ -2,8 +2,8 @@
 use Rattle.std.specs.Prelude.{◌≡◌, ◌+◌, ◌*◌, ◌^◌, ◌<◌, ◌≤◌, List, length, All}
 use Rattle.ds_base.specs.Values.{Row}
 use Rattle.ds_design.specs.Circuit.{columns}
-use Rattle.ds_design.specs.Node.{nodes}
-use Rattle.ds_design.specs.Plan.{IsPlan, Planned}
+use Rattle.ds_latch.specs.Node.{nodes}
+use Rattle.ds_latch.specs.Plan.{IsPlan, Planned}
 use Rattle.ds_rule.specs.Run.{Run}
 use Rattle.ds_rule.specs.Sound.{IsSound}
 use Rattle.ds_rule.specs.Progress.{IsAccepted}

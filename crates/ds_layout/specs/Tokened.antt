@@ -1,6 +1,6 @@
 -- The data edges with their tokens.
 use Rattle.std.specs.Prelude.{ℕ, ◌%◌, ◌==◌, ◌&&◌, nat_lt, if◌then◌else◌}
-use Rattle.ds_design.specs.declared.latches.Edge.{Edge}
+use Rattle.ds_latch.specs.declared.latches.Edge.{Edge}
 use Rattle.ds_rule.specs.declared.layout.DataEdge.{DataEdge}
 
 -- how many tokens the edges from the node with a number have: the slaves have the odd numbers

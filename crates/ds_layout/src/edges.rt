@@ -1,12 +1,12 @@
 //! The data edges, each with the tokens of its orders.
 ghost use Rattle.std.specs.Prelude.{◌≡◌, ◌+◌, ◌*◌, ◌≤◌, length, map, IfOk, OnOk};
 ghost use Rattle.std.specs.List.Sorted.{IsNonDecreasingBy, IsPermutation};
-ghost use Rattle.ds_design.specs.Node.{nodes};
+ghost use Rattle.ds_latch.specs.Node.{nodes};
 ghost use Rattle.ds_layout.specs.Layout.{AreEdges};
 ghost use Rattle.ds_layout.specs.Tokened.{tokened, tokens_of};
 
 use ds_base::{LatchId, OutOfMemory};
-use ds_design::{DataEdge as Edge, Latches};
+use ds_latch::{DataEdge as Edge, Latches};
 use ds_rule::DataEdge;
 use std::alloc::{AllocError, Global};
 

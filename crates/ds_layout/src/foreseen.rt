@@ -1,4 +1,5 @@
-use ds_design::{Latches, Vectors};
+use ds_design::Vectors;
+use ds_latch::Latches;
 use ds_rule::Rows;
 
 /// The values of the clocked run of a split design on vectors, for so many nodes. Contracts alone
@@ -13,7 +14,7 @@ pub struct Foreseen<'a, 'n> {
 }
 
 impl<'a, 'n> Rows for Foreseen<'a, 'n> {
-    ghost use Rattle.ds_loom.specs.Foreseen.{foreseen_rows};
+    ghost use Rattle.ds_opening.specs.Foreseen.{foreseen_rows};
 
     ghost rows = { λ f. foreseen_rows f.latches.now f.count f.order.now f.vectors.now.rows };
 }

@@ -10,7 +10,8 @@ use crate::edges::edges_of;
 use crate::foreseen::Foreseen;
 use crate::lengths::lengths_of;
 use ds_base::OutOfMemory;
-use ds_design::{Plan, Vectors};
+use ds_design::Vectors;
+use ds_latch::Plan;
 use ds_rule::Layout;
 use std::alloc::Global;
 

@@ -1,10 +1,10 @@
 //! How many values the rows of the nodes have.
 ghost use Rattle.std.specs.Prelude.{◌≡◌, ◌^◌, ◌<◌, ◌≤◌, length, IfOk};
-ghost use Rattle.ds_design.specs.Node.{nodes};
+ghost use Rattle.ds_latch.specs.Node.{nodes};
 ghost use Rattle.ds_layout.specs.Layout.{AreLengths};
 
 use ds_base::{NetId, OutOfMemory, Seq};
-use ds_design::Latches;
+use ds_latch::Latches;
 use std::alloc::Global;
 
 // For so many nodes: those of the split design, and behind them nodes with rows of no values.

@@ -6,7 +6,7 @@ use Rattle.std.proofs.lemmas.Bool.Decides.{eqb_tells}
 use Rattle.std.proofs.lemmas.List.Sums.{position_or_len_is}
 use Rattle.std.proofs.lemmas.List.{length-map}
 use Rattle.ds_names.specs.Names.{place_of_name}
-use Rattle.ds_design.specs.Log.{event_text}
+use Rattle.ds_marked.specs.Log.{event_text}
 use Rattle.ds_marked.specs.Graph.{Graph, IsEnabled}
 use Rattle.ds_marked.specs.Blocked.{IsBlocked, IsFirstLacking, Lacks}
 use Rattle.ds_marked.specs.declared.marked.Arc.{Arc}

@@ -18,7 +18,7 @@ use Rattle.ds_marked.specs.Blocked.{IsFirstLacking}
 use Rattle.ds_marked.specs.declared.marked.Arc.{Arc}
 use Rattle.ds_marked.specs.declared.marked.Event.{Event}
 use Rattle.ds_marked.specs.declared.marked.Kind.TheVariants.{Rise}
-use Rattle.ds_design.specs.Log.{event_text, IsEventText, IsFiringLine, IsTurnWord, LineFault, bad_word, unknown_event, wrong_turn, over_limit, not_enabled}
+use Rattle.ds_marked.specs.Log.{event_text, IsEventText, IsFiringLine, IsTurnWord, LineFault, bad_word, unknown_event, wrong_turn, over_limit, not_enabled}
 use Rattle.ds_replay.specs.Word.{first_word, is_digit, is_firing, is_turn_word, second_word}
 use Rattle.ds_replay.specs.Replay.{event_fault, event_of, event_texts, fault_of, first_of, lacks, least_lacking, where_true}
 use Rattle.ds_replay.specs.Legal.{HasKind, HasOwnTexts}

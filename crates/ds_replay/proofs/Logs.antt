@@ -7,7 +7,7 @@ use Rattle.ds_marked.specs.Graph.{Graph, counted, counts_after}
 use Rattle.ds_marked.specs.declared.marked.Event.{Event}
 use Rattle.ds_marked.specs.declared.marked.Kind.{Kind}
 use Rattle.ds_marked.specs.declared.marked.Kind.TheVariants.{Rise, Fall, Dummy}
-use Rattle.ds_design.specs.Log.{event_text, sign, IsLegalLogFrom, LineFault}
+use Rattle.ds_marked.specs.Log.{event_text, sign, IsLegalLogFrom, LineFault}
 use Rattle.ds_replay.specs.Word.{first_word}
 use Rattle.ds_replay.specs.Replay.{event_of, fault_of, fault_or, log_of, replay_from, replay_of, with_first}
 use Rattle.ds_replay.specs.Legal.{HasKind, HasOwnTexts, HasSigns, IsFirstFault, words_of_lines}

@@ -6,8 +6,8 @@ use Rattle.std.proofs.lemmas.List.{append-nil, append_assoc, drop_all}
 use Rattle.ds_base.specs.Values.{Row}
 use Rattle.ds_lines.specs.Line.{Line, line_or_none}
 use Rattle.ds_marked.specs.Graph.{Graph, IsEnabled, IsLegal, IsLegalFrom, counted, counts_after}
-use Rattle.ds_design.specs.Plan.{Planned}
-use Rattle.ds_design.specs.Firing.{State, first_state}
+use Rattle.ds_latch.specs.Plan.{Planned}
+use Rattle.ds_latch.specs.Firing.{State, first_state}
 use Rattle.ds_fire.specs.Snapshot.{Snapshot, IsFirst, Shows, split_of, graph_of, limit_of, count_of}
 use Rattle.ds_fire.specs.Fired.{IsAfter, IsFired, IsReached, IsSound}
 use Rattle.ds_fire.proofs.Reached.{fired_after, kept_counts}

@@ -4,7 +4,7 @@ use Rattle.ds_lines.specs.Line.{Line}
 use Rattle.ds_marked.specs.Graph.{Graph, counts_after}
 use Rattle.ds_marked.specs.Blocked.{IsFirstLacking}
 use Rattle.ds_marked.specs.declared.marked.Kind.TheVariants.{Dummy}
-use Rattle.ds_design.specs.Log.{event_text, IsLegalLogFrom, LineFault, bad_word, unknown_event, wrong_turn, over_limit, not_enabled}
+use Rattle.ds_marked.specs.Log.{event_text, IsLegalLogFrom, LineFault, bad_word, unknown_event, wrong_turn, over_limit, not_enabled}
 use Rattle.ds_replay.specs.Replay.{log_of, replay_of}
 use Rattle.ds_replay.specs.declared.fault.ReplayFault.{ReplayFault}
 use Rattle.ds_replay.specs.declared.fault.ReplayKind.{ReplayKind}

@@ -7,7 +7,7 @@ use Rattle.ds_names.specs.Names.{place_of_name}
 use Rattle.ds_lines.specs.Line.{Line}
 use Rattle.ds_marked.specs.Graph.{Graph, counted}
 use Rattle.ds_marked.specs.declared.marked.Arc.{Arc}
-use Rattle.ds_design.specs.Log.{event_text}
+use Rattle.ds_marked.specs.Log.{event_text}
 use Rattle.ds_replay.specs.Word.{first_word, second_word, is_firing}
 use Rattle.ds_replay.specs.declared.fault.ReplayFault.{ReplayFault}
 use Rattle.ds_replay.specs.declared.fault.ReplayKind.{ReplayKind}

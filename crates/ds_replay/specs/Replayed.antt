@@ -3,7 +3,7 @@ use Rattle.std.specs.Prelude.{◌≡◌, ℕ, List, length, Result, Ok, Err}
 use Rattle.ds_base.specs.Values.{Row}
 use Rattle.ds_lines.specs.Line.{Line}
 use Rattle.ds_marked.specs.Graph.{IsLegal}
-use Rattle.ds_design.specs.Plan.{Planned}
+use Rattle.ds_latch.specs.Plan.{Planned}
 use Rattle.ds_fire.specs.Snapshot.{Snapshot}
 use Rattle.ds_fire.specs.Fired.{IsAfter, IsReached, IsSound}
 use Rattle.ds_replay.specs.Replay.{replay_of}

@@ -9,8 +9,9 @@ use crate::start::start;
 use crate::step::step;
 use crate::texts::texts_of;
 use crate::{ReplayFault, ReplayRefusal};
-use ds_design::{Plan, Vectors};
+use ds_design::Vectors;
 use ds_fire::State;
+use ds_latch::Plan;
 use ds_lines::Lines;
 use std::alloc::Global;
 

@@ -66,7 +66,8 @@ fn has_bits(width: usize, words: &[&[u8]]) -> bool
 fn are_bits(word: &[u8]) -> bool
     ensures { result ≡ list_all is_bit word.now }
 {
-    word.iter().all(|byte| *byte == b'0' || *byte == b'1' || *byte == b'x')
+    word.iter()
+        .all(|byte| *byte == b'0' || *byte == b'1' || *byte == b'x')
 }
 
 // The values of bits.

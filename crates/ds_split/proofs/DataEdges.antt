@@ -5,12 +5,12 @@ use Rattle.std.proofs.lemmas.Bool.{cases_lt}
 use Rattle.std.proofs.lemmas.List.{length-map, length-replicate, length-set}
 use Rattle.std.proofs.lemmas.List.Elements.{Contains-push_cases, Contains-push, Contains-append_left}
 use Rattle.ds_design.specs.Circuit.{Circuit, initial_value}
-use Rattle.ds_design.specs.Node.{Node, In, Out, Master, Slave, Split, IsNode, number_of, nodes, nets_of}
-use Rattle.ds_design.specs.Order.{IsDataEdge, to_master, to_out, to_slave, IsSource, Supplies}
-use Rattle.ds_design.specs.Latches.{AreParts}
+use Rattle.ds_latch.specs.Node.{Node, In, Out, Master, Slave, Split, IsNode, number_of, nodes, nets_of}
+use Rattle.ds_latch.specs.Order.{IsDataEdge, to_master, to_out, to_slave, IsSource, Supplies}
+use Rattle.ds_latch.specs.Latches.{AreParts}
 use Rattle.ds_design.specs.declared.design.Register.{Register}
-use Rattle.ds_design.specs.declared.latches.Edge.{Edge}
-use Rattle.ds_design.proofs.Counts.{number_below, same_node}
+use Rattle.ds_latch.specs.declared.latches.Edge.{Edge}
+use Rattle.ds_latch.proofs.Counts.{number_below, same_node}
 use Rattle.ds_split.specs.Nets.{AreNodes, AreProducers}
 use Rattle.ds_split.specs.Search.{Found, edge_of, with_edge, HasMet, IsCause}
 use Rattle.ds_split.specs.Edges.{IsFoundBelow, AreEdges}

@@ -5,9 +5,9 @@ use Rattle.std.proofs.lemmas.Bool.{cases_eq}
 use Rattle.std.proofs.lemmas.List.{get_or_default, length-set, length-replicate}
 use Rattle.ds_base.proofs.Lists.{cases_Contains}
 use Rattle.ds_design.specs.Accepted.{IsAccepted}
-use Rattle.ds_design.specs.Node.{Node, In, Out, Master, Slave, Split, IsNode, number_of, nodes, nets_of}
-use Rattle.ds_design.specs.Order.{IsSource}
-use Rattle.ds_design.proofs.Counts.{number_below}
+use Rattle.ds_latch.specs.Node.{Node, In, Out, Master, Slave, Split, IsNode, number_of, nodes, nets_of}
+use Rattle.ds_latch.specs.Order.{IsSource}
+use Rattle.ds_latch.proofs.Counts.{number_below}
 use Rattle.ds_split.specs.Cluster.{HasEachOnce}
 use Rattle.ds_split.specs.Nets.{AreProducersBelow, AreProducers, IsMarked}
 use Rattle.ds_split.proofs.Searching.{IsFirst, seen_set}

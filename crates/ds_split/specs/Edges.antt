@@ -1,9 +1,9 @@
 -- The data edges, as far as they are found.
 use Rattle.std.specs.Prelude.{◌≡◌, ◌≢◌, ℕ, ◌+◌, ◌*◌, ◌<◌, ◌≤◌, List, length, AllPairs, Contains}
-use Rattle.ds_design.specs.Node.{Node, Split, number_of, nodes}
-use Rattle.ds_design.specs.Order.{IsDataEdge}
-use Rattle.ds_design.specs.Latches.{HasEdges}
-use Rattle.ds_design.specs.declared.latches.Edge.{Edge}
+use Rattle.ds_latch.specs.Node.{Node, Split, number_of, nodes}
+use Rattle.ds_latch.specs.Order.{IsDataEdge}
+use Rattle.ds_latch.specs.Latches.{HasEdges}
+use Rattle.ds_latch.specs.declared.latches.Edge.{Edge}
 use Rattle.ds_split.specs.Nets.{AreProducers}
 use Rattle.ds_split.specs.Search.{Found, IsBefore, edge_of}
 

@@ -2,7 +2,7 @@
 use Rattle.std.specs.Prelude.{◌≡◌, ◌≢◌, ◌⊎◌, ℕ, ◌+◌, ◌<◌, ◌≤◌, List, [], ◌∷◌, ◌++◌, length, AllPairs, Contains, slice_index, slice_set}
 use Rattle.ds_design.specs.Circuit.{Circuit}
 use Rattle.ds_design.specs.Levels.{table_nets}
-use Rattle.ds_design.specs.declared.latches.Edge.{Edge}
+use Rattle.ds_latch.specs.declared.latches.Edge.{Edge}
 use Rattle.ds_settle.specs.Cone.{ReachesSome}
 
 -- the producer of each net, one more than its number; for each producer the last consumer that it was met for; and the edges

@@ -8,7 +8,8 @@ use crate::producers::producers_of;
 use crate::search::Search;
 use crate::{Clusters, SplitFault};
 use ds_base::{Limit, NetId, OutOfMemory, Seq};
-use ds_design::{DataEdge, Netlist};
+use ds_design::Netlist;
+use ds_latch::DataEdge;
 use ds_settle::Finder;
 use std::alloc::Global;
 

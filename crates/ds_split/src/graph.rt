@@ -8,7 +8,8 @@ use crate::edges::edges_of;
 use crate::nets::node_nets;
 use crate::{Clusters, SplitFault};
 use ds_base::{Limit, OutOfMemory, RegId, Row3, Seq};
-use ds_design::{Latches, Netlist, Register};
+use ds_design::{Netlist, Register};
+use ds_latch::Latches;
 use ds_settle::set_initial;
 use std::alloc::Global;
 

@@ -3,7 +3,7 @@ ghost use Rattle.std.specs.Prelude.{◌≡◌, ◌<◌, [], length, All, Contain
 ghost use Rattle.ds_split.specs.Search.{IsBefore, IsAt, HasMet, IsCause, with_edge};
 
 use ds_base::{LatchId, NetId, OutOfMemory};
-use ds_design::DataEdge;
+use ds_latch::DataEdge;
 use ds_settle::Finder;
 use std::alloc::Global;
 use std::marker::Model;

@@ -12,9 +12,9 @@ use Rattle.ds_base.specs.Values.{Row}
 use Rattle.ds_base.specs.declared.value.Value.{Value}
 use Rattle.ds_base.specs.declared.value.Value.TheVariants.{Zero}
 use Rattle.ds_cover.specs.Cover.{value_at, values_at}
-use Rattle.ds_design.specs.Node.{Slave, Split, members, number_of}
-use Rattle.ds_design.specs.Plan.{IsSplit}
-use Rattle.ds_design.specs.Firing.{AreRegisters}
+use Rattle.ds_latch.specs.Node.{Slave, Split, members, number_of}
+use Rattle.ds_latch.specs.Plan.{IsSplit}
+use Rattle.ds_latch.specs.Firing.{AreRegisters}
 use Rattle.ds_rule.specs.Run.{Run}
 use Rattle.ds_rule.specs.Words.{values_at as stored_at}
 use Rattle.ds_trace.specs.Line.{AreSlaves, AreSpread}

@@ -6,13 +6,13 @@ use Rattle.std.specs.Prelude.{slice_index, slice_index_or}
 use Rattle.ds_base.specs.Values.{Row}
 use Rattle.ds_cover.specs.Cover.{value_at, values_at}
 use Rattle.ds_design.specs.Circuit.{data_nets, register_nets}
-use Rattle.ds_design.specs.Node.{Node, Out, Slave, IsNode, number_of, nodes}
-use Rattle.ds_design.specs.Node.{members}
-use Rattle.ds_design.specs.Firing.{AreRegisters}
-use Rattle.ds_design.specs.Numbered.{numbered}
-use Rattle.ds_design.specs.Plan.{Planned, split_events}
-use Rattle.ds_design.proofs.Counts.{number_below}
-use Rattle.ds_design.proofs.Rising.{events_long}
+use Rattle.ds_latch.specs.Node.{Node, Out, Slave, IsNode, number_of, nodes}
+use Rattle.ds_latch.specs.Node.{members}
+use Rattle.ds_latch.specs.Firing.{AreRegisters}
+use Rattle.ds_latch.specs.Numbered.{numbered}
+use Rattle.ds_latch.specs.Plan.{Planned, split_events}
+use Rattle.ds_latch.proofs.Counts.{number_below}
+use Rattle.ds_latch.proofs.Rising.{events_long}
 use Rattle.ds_rule.specs.Run.{Run, node_of, closing}
 use Rattle.ds_rule.specs.Rule.{tickets}
 use Rattle.ds_rule.specs.Words.{values_at as stored_at}

@@ -1,7 +1,7 @@
 -- What a run leaves on a sink.
 use Rattle.std.specs.Prelude.{◌≡◌, ℕ, ◌≤◌, Bool, List, Option, Result, Err, OnOk}
 use Rattle.ds_base.specs.Values.{Row}
-use Rattle.ds_design.specs.Plan.{Planned}
+use Rattle.ds_latch.specs.Plan.{Planned}
 use Rattle.ds_outside.specs.Fault.{Rose}
 use Rattle.ds_outside.specs.Written.{appended, AppendsPart}
 use Rattle.ds_outside.specs.Writes.{Writes}

@@ -1,8 +1,8 @@
 -- The firings of a run, and their lines.
 use Rattle.std.specs.Prelude.{◌≡◌, ℕ, ◌<◌, List, Option, Result, length, replicate}
 use Rattle.ds_marked.specs.Graph.{Graph, IsLegal, counts_after}
-use Rattle.ds_design.specs.Plan.{Planned}
-use Rattle.ds_design.specs.Log.{IsLog}
+use Rattle.ds_latch.specs.Plan.{Planned}
+use Rattle.ds_marked.specs.Log.{IsLog}
 use Rattle.ds_outside.specs.Writes.{GoesOn}
 use Rattle.ds_trace.specs.declared.log.Log.{Log}
 

@@ -3,8 +3,8 @@ use Rattle.std.specs.Prelude.{◌≡◌, ℕ, ◌<◌, Bool, true, false, List, 
 use Rattle.ds_base.specs.Values.{Row}
 use Rattle.ds_marked.specs.Graph.{IsLegal, counts_after}
 use Rattle.ds_design.specs.Trace.{IsTrace}
-use Rattle.ds_design.specs.Log.{IsLog}
-use Rattle.ds_design.specs.Plan.{Planned}
+use Rattle.ds_marked.specs.Log.{IsLog}
+use Rattle.ds_latch.specs.Plan.{Planned}
 
 -- the trace, the line `firings`, and the lines of a legal list that has each event once a vector
 pub record IsLoggedTrace (p : Planned) (vectors : List Row) (text : List ℕ) : Type 0 where

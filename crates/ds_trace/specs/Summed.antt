@@ -7,7 +7,7 @@ use Rattle.ds_base.specs.declared.value.Value.{Value}
 use Rattle.ds_base.specs.declared.value.Value.TheVariants.{Zero, One, Unknown}
 use Rattle.ds_cover.specs.Cover.{values_at}
 use Rattle.ds_design.specs.Circuit.{Circuit, initial_row}
-use Rattle.ds_design.specs.Plan.{Planned}
+use Rattle.ds_latch.specs.Plan.{Planned}
 use Rattle.ds_design.specs.Run.{IsRun}
 use Rattle.ds_design.specs.Trace.{AreLines, IsTrace}
 use Rattle.ds_demo.specs.Fold.{Folded, nothing, fold_after, fold_of}

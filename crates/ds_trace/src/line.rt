@@ -4,8 +4,8 @@ ghost use Rattle.ds_trace.specs.Played.{HasSlaves};
 ghost use Rattle.ds_trace.specs.Line.{AreSlaves, AreSpread, HasLine, IsGathered};
 
 use ds_base::{LatchId, OutOfMemory, RegId, Row3};
-use ds_design::Latches;
 use ds_fabric::Record;
+use ds_latch::Latches;
 use std::alloc::Global;
 
 /// The rows of a line, and those of the slaves from which its registers come.

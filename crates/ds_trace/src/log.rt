@@ -9,8 +9,9 @@ ghost use Rattle.ds_trace.specs.Logged.{HasLog, WritesLog};
 ghost use Rattle.ds_trace.specs.Played.{IsPlayed};
 
 use ds_base::{EventId, OutOfMemory};
-use ds_design::{Plan, Vectors};
+use ds_design::Vectors;
 use ds_fabric::Record;
+use ds_latch::Plan;
 use ds_marked::Counts;
 use ds_outside::{Sink, WriteFault};
 use ds_rows::firing_line;

@@ -3,8 +3,9 @@ ghost use Rattle.ds_design.specs.Circuit.{columns};
 ghost use Rattle.ds_trace.specs.Played.{IsPlayed};
 
 use ds_base::OutOfMemory;
-use ds_design::{Plan, Vectors};
+use ds_design::Vectors;
 use ds_fabric::Record;
+use ds_latch::Plan;
 use ds_outside::Gate;
 use std::alloc::Global;
 use std::thread::Threads;

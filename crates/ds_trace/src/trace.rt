@@ -9,8 +9,9 @@ ghost use Rattle.ds_trace.specs.Played.{IsPlayed};
 
 use crate::line::{Line, gather};
 use ds_base::{LatchId, Row3};
-use ds_design::{Plan, Vectors};
+use ds_design::Vectors;
 use ds_fabric::Record;
+use ds_latch::Plan;
 use ds_outside::{Sink, WriteFault};
 use ds_rows::{end_line, trace_line};
 

@@ -10,11 +10,11 @@ use Rattle.ds_base.specs.Word.{code_of, number_of_values, word_of}
 use Rattle.ds_base.specs.declared.value.Value.TheVariants.{Zero}
 use Rattle.ds_cover.specs.Cover.{value_at, values_at}
 use Rattle.ds_design.specs.Circuit.{register_nets}
-use Rattle.ds_design.specs.Node.{Node, In, Out, Master, Slave, Split, IsNode, number_of, nodes}
-use Rattle.ds_design.specs.Node.{members, nets_of}
+use Rattle.ds_latch.specs.Node.{Node, In, Out, Master, Slave, Split, IsNode, number_of, nodes}
+use Rattle.ds_latch.specs.Node.{members, nets_of}
 use Rattle.ds_design.specs.Rows.{Rows}
 use Rattle.ds_settle.specs.Cone.{Parts as Cone}
-use Rattle.ds_loom.specs.Packed.{words_of}
+use Rattle.ds_opening.specs.Packed.{words_of}
 use Rattle.ds_rule.specs.Run.{Run}
 use Rattle.ds_rule.specs.Words.{value, values_at as values_in, width}
 use Rattle.ds_rule.proofs.PlaceLaws.{width-is}

@@ -5,11 +5,11 @@ use Rattle.std.specs.List.{range_with_len}
 use Rattle.std.proofs.lemmas.List.FromFn.{map-range_with_len_more}
 use Rattle.ds_base.specs.Values.{Row}
 use Rattle.ds_base.specs.Word.{word_of}
-use Rattle.ds_design.specs.Node.{Node, IsNode, number_of, nodes}
-use Rattle.ds_design.specs.Numbered.{numbered}
-use Rattle.ds_design.specs.Plan.{Planned}
-use Rattle.ds_design.proofs.Counts.{number_below}
-use Rattle.ds_loom.specs.Packed.{packed, words_of}
+use Rattle.ds_latch.specs.Node.{Node, IsNode, number_of, nodes}
+use Rattle.ds_latch.specs.Numbered.{numbered}
+use Rattle.ds_latch.specs.Plan.{Planned}
+use Rattle.ds_latch.proofs.Counts.{number_below}
+use Rattle.ds_opening.specs.Packed.{packed, words_of}
 use Rattle.ds_rule.specs.Run.{Run}
 use Rattle.ds_rule.specs.Rows.{row}
 use Rattle.ds_rule.specs.Plays.{listed}

@@ -4,13 +4,13 @@ use Rattle.std.proofs.Common.{get_or, refl, arith, ap, sym, subst, inl, inr}
 use Rattle.std.proofs.lemmas.Bool.{cases_eq}
 use Rattle.std.proofs.lemmas.List.{get_or_default}
 use Rattle.ds_base.specs.Values.{Row}
-use Rattle.ds_design.specs.Node.{Node, In, Out, Master, Slave, Split, IsNode, number_of, nodes}
-use Rattle.ds_design.specs.Node.{nets_of}
-use Rattle.ds_design.specs.Order.{IsDataEdge, open_tokens}
+use Rattle.ds_latch.specs.Node.{Node, In, Out, Master, Slave, Split, IsNode, number_of, nodes}
+use Rattle.ds_latch.specs.Node.{nets_of}
+use Rattle.ds_latch.specs.Order.{IsDataEdge, open_tokens}
 use Rattle.ds_design.specs.Rows.{Rows}
 use Rattle.ds_settle.specs.Cone.{Parts as Cone}
-use Rattle.ds_loom.specs.Packed.{packed, words_of}
-use Rattle.ds_loom.specs.Woven.{AreProducers, IsOpening, Turn, read_of, taken}
+use Rattle.ds_opening.specs.Packed.{packed, words_of}
+use Rattle.ds_opening.specs.Woven.{AreProducers, IsOpening, Turn, read_of, taken}
 use Rattle.ds_rule.specs.Run.{Run}
 use Rattle.ds_rule.specs.Rows.{row, supply}
 use Rattle.ds_rule.specs.Words.{width}

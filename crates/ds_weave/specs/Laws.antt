@@ -2,7 +2,7 @@
 use Rattle.std.specs.Prelude.{◌≡◌, ℕ, ◌<◌, List, length}
 use Rattle.ds_base.specs.Values.{Row}
 use Rattle.ds_marked.specs.Graph.{IsLegal, counts_after}
-use Rattle.ds_design.specs.Plan.{IsPlan, Planned}
+use Rattle.ds_latch.specs.Plan.{IsPlan, Planned}
 use Rattle.ds_rule.specs.Rule.{tickets}
 use Rattle.ds_fabric.specs.Showing.{IsFired, Recorder}
 use Rattle.ds_runner.specs.Whole.{IsWhole}

@@ -5,11 +5,11 @@ use Rattle.ds_cover.specs.Cover.{values_at}
 use Rattle.ds_marked.specs.Graph.{Graph}
 use Rattle.ds_design.specs.Circuit.{columns}
 use Rattle.ds_design.specs.InRange.{IsInRange}
-use Rattle.ds_design.specs.Node.{Split, nodes}
-use Rattle.ds_design.specs.Plan.{IsSplit}
+use Rattle.ds_latch.specs.Node.{Split, nodes}
+use Rattle.ds_latch.specs.Plan.{IsSplit}
 use Rattle.ds_design.specs.Rows.{Rows}
 use Rattle.ds_settle.specs.Cone.{Parts as Cone}
-use Rattle.ds_loom.specs.Woven.{AreCones}
+use Rattle.ds_opening.specs.Woven.{AreCones}
 use Rattle.ds_rule.specs.Run.{Run}
 use Rattle.ds_rule.specs.Sound.{IsSound}
 use Rattle.ds_layout.specs.Layout.{IsRunOf}

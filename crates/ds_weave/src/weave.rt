@@ -5,8 +5,9 @@ ghost use Rattle.ds_runner.specs.Whole.{IsWhole};
 
 use crate::weaver::Weaver;
 use ds_base::OutOfMemory;
-use ds_design::{Plan, Vectors};
+use ds_design::Vectors;
 use ds_fabric::Record;
+use ds_latch::Plan;
 use ds_layout::layout_of;
 use ds_outside::Gate;
 use std::alloc::Global;

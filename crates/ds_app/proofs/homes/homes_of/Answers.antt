@@ -1,7 +1,7 @@
 use Rattle.std.proofs.Common.{◌≡◌, ◌∙◌, ◌<◌, ℕ, List, [], length, get_or, ap, sym, subst, arith}
 use Rattle.std.specs.Prelude.{All}
 use Rattle.std.proofs.lemmas.List.{get_or_default}
-use Rattle.ds_design.specs.Node.{members}
+use Rattle.ds_latch.specs.Node.{members}
 use Rattle.ds_app.specs.Homes.{ArePlaced, IsPlacedOrKept, no_home}
 use Rattle.ds_app.proofs.Housed.{housed_all, housed_more, members_within}
 use Rattle.ds_app.proofs.homes.homes_of.Goals as goal

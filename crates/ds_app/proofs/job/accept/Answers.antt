@@ -4,7 +4,7 @@ use Rattle.ds_base.specs.declared.number.Mode.{Mode}
 use Rattle.ds_outside.specs.Held.{Held}
 use Rattle.ds_outside.specs.declared.files.Which.{Which}
 use Rattle.ds_design.specs.Circuit.{Circuit}
-use Rattle.ds_design.specs.Plan.{Planned}
+use Rattle.ds_latch.specs.Plan.{Planned}
 use Rattle.ds_app.specs.Stage.{OfFile, then_stage}
 use Rattle.ds_app.specs.Stages.{netlist_stage}
 use Rattle.ds_app.specs.PlanStage.{planned_stage}

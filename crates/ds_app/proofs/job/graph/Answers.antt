@@ -3,7 +3,7 @@ use Rattle.std.proofs.lemmas.Result.{err_from_is_err_and}
 use Rattle.ds_base.specs.declared.number.Mode.{Mode}
 use Rattle.ds_outside.specs.Held.{Held}
 use Rattle.ds_design.specs.Circuit.{Circuit}
-use Rattle.ds_design.specs.Node.{Split}
+use Rattle.ds_latch.specs.Node.{Split}
 use Rattle.ds_app.specs.Stage.{OfFile, then_stage}
 use Rattle.ds_app.specs.Stages.{netlist_stage}
 use Rattle.ds_app.specs.SplitStage.{split_stage}

@@ -1,5 +1,5 @@
 use Rattle.std.proofs.Common.{refl, subst, sym}
-use Rattle.ds_design.specs.Plan.{Planned}
+use Rattle.ds_latch.specs.Plan.{Planned}
 use Rattle.ds_app.specs.PlanStage.{IsOwnPlan}
 use Rattle.ds_app.proofs.plan.own_plan.Goals as goal
 

@@ -1,5 +1,5 @@
 use Rattle.std.proofs.Common.{ℕ, List}
-use Rattle.ds_design.specs.Node.{Split}
+use Rattle.ds_latch.specs.Node.{Split}
 use Rattle.ds_astg.specs.Read.{graph_of}
 use Rattle.ds_app.specs.Stages.{result_stage, text_stage}
 use Rattle.ds_app.specs.PlanStage.{acceptable_stage, graph_or_line, marked_stage}

@@ -3,7 +3,7 @@ use Rattle.std.proofs.Common.{ℕ, List, Some, Err}
 use Rattle.std.proofs.lemmas.Result.{err_from_is_err_and}
 use Rattle.ds_base.specs.declared.number.Mode.{Mode}
 use Rattle.ds_design.specs.Circuit.{Circuit}
-use Rattle.ds_design.specs.Node.{Split}
+use Rattle.ds_latch.specs.Node.{Split}
 use Rattle.ds_app.specs.Stage.{OfFile}
 use Rattle.ds_app.specs.SplitStage.{split_stage}
 use Rattle.ds_app.specs.PlanStage.{plan_stage}

@@ -1,6 +1,6 @@
 use Rattle.std.proofs.Common.{◌≡◌, ◌∙◌, ◌<◌, ℕ, List, [], length, get_or, ap, sym, subst, arith}
 use Rattle.std.proofs.lemmas.List.{get_or_default}
-use Rattle.ds_design.specs.Node.{Slave, Split, members}
+use Rattle.ds_latch.specs.Node.{Slave, Split, members}
 use Rattle.ds_fire.specs.Snapshot.{split_of, stored_values}
 use Rattle.ds_rows.proofs.Then.{goes_on, with_text}
 use Rattle.ds_app.specs.Homes.{no_home}

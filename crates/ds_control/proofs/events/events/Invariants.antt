@@ -1,6 +1,6 @@
 use Rattle.std.proofs.Common.{◌≡◌, ◌++◌}
-use Rattle.ds_design.specs.Node.{In, Out}
-use Rattle.ds_design.specs.Plan.{node_events}
+use Rattle.ds_latch.specs.Node.{In, Out}
+use Rattle.ds_latch.specs.Plan.{node_events}
 use Rattle.ds_control.specs.Orders.{cluster_events}
 use Rattle.ds_control.proofs.events.events.Given as goal
 

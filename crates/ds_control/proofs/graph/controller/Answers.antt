@@ -2,9 +2,9 @@ use Rattle.std.proofs.Common.{◌≡◌, ◌≢◌, ◌∙◌, ◌++◌, ℕ, �
 use Rattle.ds_marked.specs.Graph.{Graph}
 use Rattle.ds_marked.specs.declared.marked.Arc.{Arc}
 use Rattle.ds_marked.specs.declared.marked.Event.{Event}
-use Rattle.ds_design.specs.Node.{In, Out, Split, nodes}
-use Rattle.ds_design.specs.Plan.{IsPlan, node_events, split_events}
-use Rattle.ds_design.proofs.Rising.{events_long, orders_are_accepted}
+use Rattle.ds_latch.specs.Node.{In, Out, Split, nodes}
+use Rattle.ds_latch.specs.Plan.{IsPlan, node_events, split_events}
+use Rattle.ds_latch.proofs.Rising.{events_long, orders_are_accepted}
 use Rattle.ds_control.specs.Control.{AreOrders, IsSimple}
 use Rattle.ds_control.specs.Orders.{AreListed, cluster_events}
 use Rattle.ds_control.proofs.Named.{events_once}

@@ -1,8 +1,8 @@
 use Rattle.std.proofs.Common.{◌≡◌, ◌∙◌, ◌<◌, ℕ, List, length, map, ap, sym, subst, arith}
 use Rattle.std.specs.Prelude.{All}
 use Rattle.ds_design.specs.Circuit.{Circuit}
-use Rattle.ds_design.specs.Node.{nets_of}
-use Rattle.ds_design.proofs.Counts.{number_below, same_node}
+use Rattle.ds_latch.specs.Node.{nets_of}
+use Rattle.ds_latch.proofs.Counts.{number_below, same_node}
 use Rattle.ds_settle.specs.Cone.{IsCone}
 use Rattle.ds_fire.specs.Feed.{IsConsumer, tap_of}
 use Rattle.ds_fire.proofs.Fed.{feed_is}

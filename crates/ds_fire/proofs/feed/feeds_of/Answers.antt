@@ -1,5 +1,5 @@
 use Rattle.ds_fire.proofs.feed.feeds_of.Goals as goal
-use Rattle.ds_design.specs.Node.{Node, Master, IsNode}
+use Rattle.ds_latch.specs.Node.{Node, Master, IsNode}
 use Rattle.ds_fire.specs.Feed.{IsConsumer, IsFeed, consumer_index}
 use Rattle.ds_fire.specs.declared.feed.Feed.{Feed}
 use Rattle.std.proofs.lemmas.List.{length_push}

@@ -1,5 +1,5 @@
 use Rattle.std.proofs.Common.{◌≡◌, ◌<◌, ◌+◌, length, get_or}
-use Rattle.ds_design.specs.Node.{Node, IsNode}
+use Rattle.ds_latch.specs.Node.{Node, IsNode}
 use Rattle.ds_fire.specs.Feed.{IsConsumer, IsFeed, consumer_index}
 use Rattle.ds_fire.specs.declared.feed.Feed.{Feed}
 use Rattle.ds_fire.proofs.feed.feeds_of.Given as goal

@@ -2,7 +2,7 @@ use Rattle.std.proofs.Common.{◌≡◌, ◌∙◌, ◌<◌, ◌+◌, ◌*◌, �
 use Rattle.std.specs.Prelude.{All}
 use Rattle.std.proofs.lemmas.Bool.{cases_eq}
 use Rattle.ds_design.specs.Circuit.{Circuit}
-use Rattle.ds_design.specs.Node.{In, Slave, nodes, nets_of}
+use Rattle.ds_latch.specs.Node.{In, Slave, nodes, nets_of}
 use Rattle.ds_fire.specs.Feed.{AreHoused}
 use Rattle.ds_fire.proofs.Fed.{housed_here, housed_kept, homes_from}
 use Rattle.ds_fire.proofs.Opened.{bits_are, nets_within}

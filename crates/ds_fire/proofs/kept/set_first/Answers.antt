@@ -1,6 +1,6 @@
 use Rattle.std.proofs.Common.{◌≡◌, ◌∙◌, ◌<◌, ◌/◌, ◌-◌, ℕ, List, [], length, get_or, ap, arith}
 use Rattle.std.proofs.lemmas.List.{get_or_default}
-use Rattle.ds_design.specs.Node.{members}
+use Rattle.ds_latch.specs.Node.{members}
 use Rattle.ds_fire.proofs.First.{slave_wide}
 use Rattle.ds_fire.proofs.kept.set_first.Goals as goal
 

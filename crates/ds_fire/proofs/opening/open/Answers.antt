@@ -1,5 +1,5 @@
 use Rattle.std.proofs.Common.{◌≡◌, ◌∙◌, ◌<◌, ◌+◌, ◌-◌, ◌*◌, ◌/◌, ℕ, length, get_or, ap, subst, sym, arith}
-use Rattle.ds_design.specs.Node.{Out, Master}
+use Rattle.ds_latch.specs.Node.{Out, Master}
 use Rattle.ds_fire.specs.Feed.{IsFeed}
 use Rattle.ds_fire.specs.declared.feed.Feed.{Feed}
 use Rattle.ds_fire.proofs.opening.open.Goals as goal

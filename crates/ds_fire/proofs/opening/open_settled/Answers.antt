@@ -3,7 +3,7 @@ use Rattle.std.specs.Prelude.{All}
 use Rattle.std.proofs.Math.ListN.{set}
 use Rattle.std.proofs.lemmas.List.{get_or_default}
 use Rattle.ds_base.specs.Values.{Row}
-use Rattle.ds_design.specs.Node.{nets_of}
+use Rattle.ds_latch.specs.Node.{nets_of}
 use Rattle.ds_fire.specs.Turn.{HasSettled}
 use Rattle.ds_fire.proofs.Opened.{bits_are, nets_within, consumer_inside, consumer_wide, opened_settled}
 use Rattle.ds_fire.proofs.opening.open_settled.Goals as goal

@@ -1,7 +1,7 @@
 use Rattle.std.proofs.Common.{◌≡◌, ◌∙◌, ◌<◌, ◌≤◌, ◌+◌, ◌*◌, ℕ, List, [], length, get_or, ap, subst, sym, arith}
 use Rattle.std.proofs.lemmas.List.{get_or_default}
 use Rattle.ds_base.specs.Values.{Row}
-use Rattle.ds_design.specs.Node.{number_of, nets_of, place_of}
+use Rattle.ds_latch.specs.Node.{number_of, nets_of, place_of}
 use Rattle.ds_fire.specs.History.{Stored}
 use Rattle.ds_fire.specs.Snapshot.{rows_of}
 use Rattle.ds_fire.proofs.Settles.{place_low}

@@ -2,7 +2,7 @@ use Rattle.std.proofs.Common.{◌+◌, ◌*◌, ◌≤◌, List, length, map, su
 use Rattle.std.proofs.lemmas.List.{length-map}
 use Rattle.std.proofs.lemmas.List.Sorted.{length_permutation}
 use Rattle.std.specs.List.Sorted.{IsPermutation}
-use Rattle.ds_design.specs.Node.{nodes}
+use Rattle.ds_latch.specs.Node.{nodes}
 use Rattle.ds_rule.specs.declared.layout.DataEdge.{DataEdge}
 use Rattle.ds_layout.specs.Tokened.{tokened}
 use Rattle.ds_layout.proofs.Joined.{are_edges}

@@ -6,9 +6,9 @@ use Rattle.ds_marked.specs.declared.marked.Event.{Event}
 use Rattle.ds_design.specs.Circuit.{Circuit, columns}
 use Rattle.ds_design.specs.InRange.{IsInRange}
 use Rattle.ds_design.specs.Levels.{IsTableOrder}
-use Rattle.ds_design.specs.Node.{Split, nodes}
-use Rattle.ds_design.specs.Plan.{IsSplit}
-use Rattle.ds_loom.specs.Foreseen.{foreseen_rows}
+use Rattle.ds_latch.specs.Node.{Split, nodes}
+use Rattle.ds_latch.specs.Plan.{IsSplit}
+use Rattle.ds_opening.specs.Foreseen.{foreseen_rows}
 use Rattle.ds_rule.specs.Run.{Run}
 use Rattle.ds_layout.specs.Layout.{AreEdges, AreLengths, AreValues, IsRunOf}
 use Rattle.ds_layout.specs.Laws.{IsWithin}

@@ -1,5 +1,5 @@
 use Rattle.std.proofs.Common.{◌≡◌, take, map}
-use Rattle.ds_design.specs.Log.{event_text}
+use Rattle.ds_marked.specs.Log.{event_text}
 use Rattle.ds_replay.proofs.texts.texts_of.Given as goal
 
 abbrev pub invariant-loop-event : goal.invariant-loop-event

@@ -1,7 +1,7 @@
 use Rattle.std.proofs.Common.{◌≡◌, ◌<◌, ℕ, ◌+◌, ◌*◌, List, length, refl, sym, ◌∙◌, subst}
 use Rattle.std.specs.Prelude.{All}
 use Rattle.ds_design.specs.Circuit.{Circuit}
-use Rattle.ds_design.specs.Node.{Master, nets_of}
+use Rattle.ds_latch.specs.Node.{Master, nets_of}
 use Rattle.ds_split.specs.Search.{HasMet, IsCause}
 use Rattle.ds_split.specs.Split.{split_of}
 use Rattle.ds_split.proofs.NodeNets.{node_at}

@@ -1,6 +1,6 @@
 use Rattle.std.proofs.Common.{◌≡◌, ◌<◌, ◌≤◌, ◌+◌, ◌*◌, ℕ, List, length, refl, sym, ◌∙◌, ap, subst, arith}
-use Rattle.ds_design.specs.Node.{nodes}
-use Rattle.ds_design.specs.declared.latches.Edge.{Edge}
+use Rattle.ds_latch.specs.Node.{nodes}
+use Rattle.ds_latch.specs.declared.latches.Edge.{Edge}
 use Rattle.ds_split.specs.Edges.{IsFoundBelow, AreEdges}
 use Rattle.ds_split.specs.Split.{split_of}
 use Rattle.ds_split.proofs.DataEdges.{too_many, found_all}

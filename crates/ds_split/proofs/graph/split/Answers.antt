@@ -1,7 +1,7 @@
 use Rattle.std.proofs.Common.{◌≡◌, ◌<◌, ℕ, List, length, map, sym, ◌∙◌, ap, subst, arith}
 use Rattle.ds_base.specs.Values.{Row}
 use Rattle.ds_design.specs.Circuit.{Circuit, initial_row, initial_value}
-use Rattle.ds_design.specs.Latches.{AreParts}
+use Rattle.ds_latch.specs.Latches.{AreParts}
 use Rattle.ds_design.specs.declared.design.Register.{Register}
 use Rattle.ds_split.specs.Nets.{AreNodes}
 use Rattle.ds_split.proofs.DataEdges.{parts}

@@ -1,7 +1,7 @@
 use Rattle.std.proofs.Common.{◌≡◌, ℕ, List, [], get_or, map, ◌∙◌, ap, arith}
 use Rattle.std.proofs.lemmas.List.{get_or_default}
 use Rattle.ds_design.specs.Circuit.{Circuit}
-use Rattle.ds_design.specs.Node.{members}
+use Rattle.ds_latch.specs.Node.{members}
 use Rattle.ds_design.specs.declared.design.Register.{Register}
 use Rattle.ds_split.specs.Split.{split_of}
 use Rattle.ds_split.proofs.NodeNets.{nets_more}

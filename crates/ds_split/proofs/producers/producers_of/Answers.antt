@@ -1,7 +1,7 @@
 use Rattle.std.proofs.Common.{◌≡◌, ◌<◌, ℕ, ◌+◌, ◌*◌, List, length, replicate, refl, sym, ◌∙◌, ap, subst, arith}
 use Rattle.std.specs.Prelude.{All, Contains}
 use Rattle.ds_design.specs.Circuit.{Circuit}
-use Rattle.ds_design.specs.Node.{In, Slave, nets_of}
+use Rattle.ds_latch.specs.Node.{In, Slave, nets_of}
 use Rattle.ds_split.specs.Nets.{AreProducersBelow, IsMarked}
 use Rattle.ds_split.specs.Split.{split_of}
 use Rattle.ds_split.proofs.NodeNets.{node_at}

@@ -1,6 +1,6 @@
 use Rattle.std.proofs.Common.{◌≡◌, ◌∙◌, ◌<◌, ◌+◌, ℕ, List, [], length, get_or, ap, arith}
 use Rattle.std.proofs.lemmas.List.{get_or_default, get_or-set_same}
-use Rattle.ds_design.specs.Node.{Slave, Split, members, number_of}
+use Rattle.ds_latch.specs.Node.{Slave, Split, members, number_of}
 use Rattle.ds_rule.specs.Run.{Run}
 use Rattle.ds_rule.specs.Words.{values_at as stored_at}
 use Rattle.ds_trace.proofs.Gathered.{gathered_all, one_cluster, slaves_set}

@@ -3,7 +3,7 @@ use Rattle.std.proofs.Common.{ap, sym, subst, arith}
 use Rattle.std.specs.Prelude.{All, slice_index}
 use Rattle.std.proofs.lemmas.List.{get_or-set_same, length-set, length-take-le, take_more}
 use Rattle.ds_marked.specs.Graph.{Graph, counts_after}
-use Rattle.ds_design.specs.Log.{IsLog}
+use Rattle.ds_marked.specs.Log.{IsLog}
 use Rattle.ds_rows.proofs.Then.{goes_on}
 use Rattle.ds_rows.specs.Log.{firing_text}
 use Rattle.ds_trace.proofs.Logged.{counts_room, counts_shown, log_more}

@@ -1,8 +1,8 @@
 use Rattle.std.proofs.Common.{◌≡◌, ◌∙◌, ◌<◌, ◌+◌, ◌^◌, ℕ, List, length, refl, ap, sym}
 use Rattle.std.proofs.Common.{subst, arith}
 use Rattle.ds_base.specs.Values.{Row}
-use Rattle.ds_design.specs.Node.{Split}
-use Rattle.ds_design.specs.Plan.{Planned}
+use Rattle.ds_latch.specs.Node.{Split}
+use Rattle.ds_latch.specs.Plan.{Planned}
 use Rattle.ds_fabric.specs.Showing.{Recorder}
 use Rattle.ds_layout.specs.Layout.{AreValues}
 use Rattle.ds_trace.specs.Line.{HasLine}

@@ -1,7 +1,7 @@
 use Rattle.std.proofs.Common.{◌∙◌, ◌<◌, ◌+◌, ℕ, List, Option, length, sym, subst, arith, Ok}
 use Rattle.ds_base.specs.Values.{Row}
-use Rattle.ds_design.specs.Node.{Split}
-use Rattle.ds_design.specs.Plan.{Planned}
+use Rattle.ds_latch.specs.Node.{Split}
+use Rattle.ds_latch.specs.Plan.{Planned}
 use Rattle.ds_fabric.specs.Showing.{Recorder}
 use Rattle.ds_clocked.specs.Loop.{IsWrittenTo}
 use Rattle.ds_clocked.proofs.Turns.{no_turn, last_turn}

@@ -1,7 +1,7 @@
 use Rattle.std.proofs.Common.{◌≡◌, ◌∙◌, ◌<◌, ◌≤◌, ◌+◌, ◌*◌, ◌^◌, ℕ, List, [], length, get_or, ap, sym, subst, arith}
 use Rattle.std.proofs.lemmas.List.{get_or_default}
 use Rattle.ds_base.specs.Values.{Row}
-use Rattle.ds_design.specs.Node.{Node, Split, number_of, nodes, opening, place_of}
+use Rattle.ds_latch.specs.Node.{Node, Split, number_of, nodes, opening, place_of}
 use Rattle.ds_fire.specs.Inside.{seen}
 use Rattle.ds_fire.specs.Turn.{ArePlaces}
 use Rattle.ds_fire.specs.Snapshot.{Snapshot, split_of, count_of, held_row, rows_of}

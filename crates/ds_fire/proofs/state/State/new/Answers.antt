@@ -1,7 +1,7 @@
 use Rattle.std.proofs.Common.{◌≡◌, ◌∙◌, ◌<◌, ◌≤◌, ◌*◌, ◌^◌, ℕ, length, replicate, slice_index, ap, sym, subst, arith}
 use Rattle.ds_marked.specs.Graph.{Graph}
 use Rattle.ds_design.specs.InRange.{IsInRange}
-use Rattle.ds_design.specs.Node.{Split, nodes}
+use Rattle.ds_latch.specs.Node.{Split, nodes}
 use Rattle.ds_fire.specs.Feed.{AreFeeds}
 use Rattle.ds_fire.specs.First.{AreEmpty, AreFirstRows}
 use Rattle.ds_fire.specs.Waits.{IsWatching}

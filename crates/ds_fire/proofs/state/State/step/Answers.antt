@@ -1,6 +1,6 @@
 use Rattle.std.proofs.Common.{◌≡◌, ℕ, length, get_or, slice_index, sym, subst, arith, refl}
 use Rattle.ds_marked.specs.Graph.{Graph}
-use Rattle.ds_design.specs.Node.{Node, Split, IsNode, closing}
+use Rattle.ds_latch.specs.Node.{Node, Split, IsNode, closing}
 use Rattle.ds_fire.specs.Fired.{IsFired, IsReady}
 use Rattle.ds_fire.specs.Inside.{IsRunning, seen}
 use Rattle.ds_fire.specs.Waits.{IsWatching}

@@ -1,7 +1,7 @@
 use Rattle.std.proofs.Common.{◌≡◌, ◌∙◌, ◌+◌, ◌≤◌, ◌++◌, ℕ, List, ap, arith, length, sym}
 use Rattle.std.specs.Prelude.{vec_capacity, vec_len}
-use Rattle.ds_design.specs.Node.{nets_of}
-use Rattle.ds_loom.specs.Packed.{words_of}
+use Rattle.ds_latch.specs.Node.{nets_of}
+use Rattle.ds_opening.specs.Packed.{words_of}
 use Rattle.ds_rule.specs.Words.{width}
 use Rattle.ds_weave.specs.Weaver.{Loom}
 use Rattle.ds_weave.proofs.Weavers.{gives_row, opens_at, room_at}

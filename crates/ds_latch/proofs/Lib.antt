@@ -1,0 +1,9 @@
+pub mod Counts
+pub mod Flow
+pub mod Spelt
+pub mod Stable
+pub mod Events
+pub mod Windows
+pub mod Remade
+pub mod Rising
+pub mod Transparent

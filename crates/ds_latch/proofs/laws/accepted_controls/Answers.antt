@@ -1,0 +1,5 @@
+use Rattle.ds_latch.proofs.Counts.{accepted_controls}
+use Rattle.ds_latch.proofs.laws.accepted_controls.Goals as goal
+
+pub returns : goal.returns
+returns c = accepted_controls

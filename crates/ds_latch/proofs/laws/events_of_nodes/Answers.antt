@@ -1,0 +1,5 @@
+use Rattle.ds_latch.proofs.Events.{events_of_nodes}
+use Rattle.ds_latch.proofs.laws.events_of_nodes.Goals as goal
+
+pub returns : goal.returns
+returns c = events_of_nodes

@@ -1,0 +1,5 @@
+use Rattle.ds_latch.proofs.Rising.{orders_are_accepted}
+use Rattle.ds_latch.proofs.laws.orders_are_accepted.Goals as goal
+
+pub returns : goal.returns
+returns c = orders_are_accepted

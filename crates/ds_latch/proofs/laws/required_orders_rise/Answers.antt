@@ -1,0 +1,5 @@
+use Rattle.ds_latch.proofs.Rising.{required_orders_rise}
+use Rattle.ds_latch.proofs.laws.required_orders_rise.Goals as goal
+
+pub returns : goal.returns
+returns c = required_orders_rise

@@ -1,0 +1,5 @@
+use Rattle.ds_latch.proofs.Transparent.{transparent_latches}
+use Rattle.ds_latch.proofs.laws.transparent_latches.Goals as goal
+
+pub returns : goal.returns
+returns c = transparent_latches

@@ -1,5 +1,0 @@
-use Rattle.ds_loom.proofs.Foreseen.{foresees_run_lem}
-use Rattle.ds_loom.proofs.laws.foresees_run.Goals as goal
-
-pub returns : goal.returns
-returns c = foresees_run_lem

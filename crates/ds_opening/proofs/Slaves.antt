@@ -1,0 +1,92 @@
+-- What the opening of a slave takes, and the cones of the others.
+use Rattle.std.proofs.Common.{◌≡◌, ◌≢◌, ◌⊎◌, ◌∙◌, ℕ, suc, ◌+◌, ◌-◌, ◌/◌, ◌%◌, ◌<◌, List, [], ◌∷◌, ◌++◌, length, get_or, refl, arith, ap, sym, subst, inl, inr}
+use Rattle.std.specs.Prelude.{All, AllPairs, Contains}
+use Rattle.std.proofs.lemmas.Bool.{cases_eq}
+use Rattle.std.proofs.lemmas.List.{append-nil, get_or_append_left, get_or_push, length-map}
+use Rattle.std.proofs.lemmas.List.Elements.{All-head, All-tail, All-weaker}
+use Rattle.ds_base.specs.Values.{Row}
+use Rattle.ds_cover.specs.Cover.{value_at}
+use Rattle.ds_design.specs.Circuit.{register_nets}
+use Rattle.ds_latch.specs.Node.{Node, In, Out, Master, Slave, Split, IsNode, number_of, members, nets_of}
+use Rattle.ds_latch.specs.Numbered.{numbered}
+use Rattle.ds_latch.specs.Order.{IsDataEdge, to_slave}
+use Rattle.ds_settle.specs.Cone.{IsCone, Parts}
+use Rattle.ds_opening.specs.Packed.{packed, words_of}
+use Rattle.ds_opening.specs.Settled.{IsSettling}
+use Rattle.ds_opening.specs.Woven.{AreCones, IsConeAt, IsFed, IsOpening, Turn, cone_place, read_of, taken, woven}
+use Rattle.ds_opening.proofs.Filled.{length-packed}
+
+-- a slave reads its master alone
+master_only : (s : Split) (p : Node) (i : ℕ) → IsDataEdge s p (Slave i) → p ≡ Master i
+master_only s _ _ (to_slave inside) = refl
+
+only_one : (xs : List Node) (m : Node) → All (λ p. p ≡ m) xs → AllPairs (λ p q. p ≢ q) xs → Contains xs m → xs ≡ m ∷ []
+only_one [] m all once (k, inside, is) = absurd (let h : k < 0 = inside in omega arith)
+only_one (x ∷ []) m all once has = ap (λ y. y ∷ []) (All-head (λ p. p ≡ m) x [] all)
+only_one (x ∷ y ∷ xs) m all once has =
+    absurd (once 0 1 m (omega arith) (omega arith) (All-head (λ p. p ≡ m) x (y ∷ xs) all ∙ sym (All-head (λ p. p ≡ m) y xs (All-tail (λ p. p ≡ m) x (y ∷ xs) all))))
+
+slave_words : (s : Split) (i : ℕ) → IsNode s (Slave i) → (numbers from : List ℕ) (t : Turn) → IsFed s (Slave i) numbers from t → from ≡ packed (taken s t (Slave i))
+slave_words s i is_node numbers from t fed =
+    let masters : All (λ p. p ≡ Master i) fed.producers.nodes = All-weaker (λ p. IsNode s p × IsDataEdge s p (Slave i)) (λ p. p ≡ Master i) (λ p both. master_only s p i both.1) fed.producers.nodes fed.producers.each in
+    let one : fed.producers.nodes ≡ Master i ∷ [] = only_one fed.producers.nodes (Master i) masters fed.producers.once (fed.producers.all (Master i) (to_slave is_node)) in
+    let number : suc t.opened - 0 ≡ suc t.opened = omega arith in
+    fed.words ∙ (ap (woven (read_of s t)) one ∙ (append-nil (packed (read_of s t (Master i)))
+    ∙ ap packed (ap (numbered s t.vectors t.state t.nets (Master i)) number)))
+
+-- a node that is neither IN nor settles is a slave
+is_slave : (n : Node) → number_of n ≢ 0 → ¬ ((number_of n ≡ 1) ⊎ (number_of n % 2 ≡ 0)) → (i : ℕ) × (n ≡ Slave i)
+is_slave In some other = absurd (some refl)
+is_slave Out some other = absurd (other (inl refl))
+is_slave (Master i) some other = absurd (other (inr (omega arith)))
+is_slave (Slave i) some other = (i, refl)
+
+module _ (s : Split) (vectors : List Row) (number opened : ℕ) (some : number ≢ 0) (other : ¬ ((number ≡ 1) ⊎ (number % 2 ≡ 0))) (numbers from : List ℕ)
+    (n : Node) (t : Turn) (o : IsOpening s vectors number opened numbers from n t) where
+  slave_is : (i : ℕ) × (n ≡ Slave i)
+  slave_is = is_slave n (λ e. some (sym o.is ∙ e)) (subst (λ (m : ℕ). ¬ ((m ≡ 1) ⊎ (m % 2 ≡ 0))) (sym o.is) other)
+
+  -- the words that a slave reads are those of the row that it takes
+  pub slave_takes : from ≡ packed (taken s t n)
+  slave_takes =
+      let (i, is) = slave_is in
+      let node : IsNode s (Slave i) = subst (IsNode s) is o.node in
+      let fed : IsFed s (Slave i) numbers from t = subst (λ (m : Node). IsFed s m numbers from t) is o.fed in
+      slave_words s i node numbers from t fed ∙ ap (λ (m : Node). packed (taken s t m)) (sym is)
+
+  pub slave_room : length from ≡ words_of (length (nets_of s n))
+  slave_room =
+      let (i, is) = slave_is in
+      let size : length (taken s t (Slave i)) ≡ length (members s i) = length-map (members s i) (value_at (t.state (suc t.opened))) in
+      let nets : length (nets_of s (Slave i)) ≡ length (members s i) = length-map (members s i) (λ r. get_or (register_nets s.circuit) r 0) in
+      ap (λ (ws : List ℕ). length ws) slave_takes ∙ (length-packed (taken s t n) ∙ (ap (λ (m : Node). words_of (length (taken s t m))) is
+      ∙ (ap words_of (size ∙ sym nets) ∙ ap (λ (m : Node). words_of (length (nets_of s m))) (sym is))))
+
+-- the cone of a node that settles stands at half its number
+place_is : (n : Node) → IsSettling n → cone_place n ≡ number_of n / 2
+place_is In settling = absurd settling
+place_is Out settling = omega arith
+place_is (Master i) settling = omega arith
+place_is (Slave i) settling = absurd settling
+
+pub cone_at : (s : Split) (cones : List Parts) → AreCones s cones → (number : ℕ) (cone : Parts) → cone ≡ get_or cones (number / 2) cone → IsConeAt s number cone
+cone_at s cones are number cone is n at =
+    subst (IsCone s.circuit (nets_of s n)) (ap (λ (k : ℕ). get_or cones k cone) (place_is n at.settling ∙ ap (λ (m : ℕ). m / 2) at.is) ∙ sym is)
+    (are.each n at.node at.settling cone)
+
+-- one cone more
+pub cones_more : (s : Split) (cones : List Parts) (cone : Parts) (i : ℕ) → length cones ≡ i + 1
+    → ((n : Node) → IsNode s n → IsSettling n → cone_place n < i + 1 → (d : Parts) → IsCone s.circuit (nets_of s n) (get_or cones (cone_place n) d))
+    → IsCone s.circuit (nets_of s (Master i)) cone
+    → (n : Node) → IsNode s n → IsSettling n → cone_place n < i + 1 + 1 → (d : Parts) → IsCone s.circuit (nets_of s n) (get_or (cones ++ cone ∷ []) (cone_place n) d)
+cones_more s cones cone i long each here In is_node settling below d = absurd settling
+cones_more s cones cone i long each here Out is_node settling below d =
+    subst (IsCone s.circuit (nets_of s Out)) (sym (get_or_append_left cones (cone ∷ []) d 0 (omega arith))) (each Out is_node settling (omega arith) d)
+cones_more s cones cone i long each here (Master j) is_node settling below d =
+    elim (cases_eq j i) [
+      | inl e ↦
+          subst (λ (k : ℕ). IsCone s.circuit (nets_of s (Master k)) (get_or (cones ++ cone ∷ []) (k + 1) d)) (sym e)
+          (subst (IsCone s.circuit (nets_of s (Master i))) (sym (get_or_push cones cone d (i + 1) long)) here)
+      | inr ne ↦ subst (IsCone s.circuit (nets_of s (Master j))) (sym (get_or_append_left cones (cone ∷ []) d (j + 1) (omega arith))) (each (Master j) is_node settling (omega arith) d)
+    ]
+cones_more s cones cone i long each here (Slave j) is_node settling below d = absurd settling

@@ -1,0 +1,78 @@
+-- What the openings of the nodes compute, turn by turn.
+use Rattle.std.specs.Prelude.{◌≡◌, ◌≢◌, ℕ, suc, ◌+◌, ◌-◌, ◌<◌, slice_index_or}
+use Rattle.std.specs.Prelude.{List, [], ◌∷◌, ◌++◌, length, map, All, AllPairs, Contains}
+use Rattle.ds_base.specs.Values.{Row}
+use Rattle.ds_design.specs.Run.{IsRun}
+use Rattle.ds_latch.specs.Node.{Node, In, Out, Master, Slave, Split, IsNode, number_of, nets_of}
+use Rattle.ds_latch.specs.Order.{IsDataEdge, open_tokens}
+use Rattle.ds_latch.specs.Numbered.{numbered}
+use Rattle.ds_settle.specs.Cone.{IsCone, Parts as Cone}
+use Rattle.ds_opening.specs.Packed.{packed}
+use Rattle.ds_opening.specs.Settled.{IsSettling}
+
+-- the words of the rows of some nodes, one after another
+abbrev pub woven : (Node → Row) → List Node → List ℕ
+woven rows [] = []
+woven rows (p ∷ ps) = packed (rows p) ++ woven rows ps
+
+-- a clocked run, and how often a node has opened in it
+pub record Turn : Type 0 where
+  pub vectors : List Row
+  pub state : ℕ → Row
+  pub nets : ℕ → Row
+  pub opened : ℕ
+
+-- the value that a node reads of a producer, by the orders of their edge
+abbrev pub read_of : Split → Turn → Node → Row
+read_of s t p = numbered s t.vectors t.state t.nets p (suc t.opened - open_tokens p)
+
+-- the value that a node takes
+abbrev pub taken : Split → Turn → Node → Row
+taken s t n = numbered s t.vectors t.state t.nets n (suc t.opened)
+
+-- a node that settles has this number
+pub record IsSettlingAt (s : Split) (n : Node) (number : ℕ) : Type 0 where
+  pub node : IsNode s n
+  pub settling : IsSettling n
+  pub is : number_of n ≡ number
+
+-- these are the numbers of a node's producers, each once
+pub record AreProducers (s : Split) (n : Node) (numbers : List ℕ) : Type 0 where
+  pub nodes : List Node
+  pub are : numbers ≡ map number_of nodes
+  pub each : All (λ p. IsNode s p × IsDataEdge s p n) nodes
+  pub all : (p : Node) → IsDataEdge s p n → Contains nodes p
+  pub once : AllPairs (λ p q. p ≢ q) nodes
+
+-- words that a node reads of its producers in a turn
+pub record IsFed (s : Split) (n : Node) (numbers from : List ℕ) (t : Turn) : Type 0 where
+  pub run : IsRun s.circuit s.initial t.vectors t.state t.nets
+  pub below : t.opened < length t.vectors
+  pub producers : AreProducers s n numbers
+  pub words : from ≡ woven (read_of s t) producers.nodes
+
+-- the cone of the node with this number, where it settles
+abbrev pub IsConeAt : Split → ℕ → Cone → Type 0
+IsConeAt s number cone = (n : Node) → IsSettlingAt s n number → IsCone s.circuit (nets_of s n) cone
+
+-- the opening of the node with this number in a turn of a run on these vectors
+pub record IsOpening (s : Split) (vectors : List Row) (number opened : ℕ) (numbers from : List ℕ)
+    (n : Node) (t : Turn) : Type 0 where
+  pub node : IsNode s n
+  pub is : number_of n ≡ number
+  pub fed : IsFed s n numbers from t
+  pub same : t.vectors ≡ vectors
+  pub turn : t.opened ≡ opened
+
+-- the place of the cone of a node that settles: OUT, M0, M1, ..
+abbrev pub cone_place : Node → ℕ
+cone_place In = 0
+cone_place Out = 0
+cone_place (Master i) = i + 1
+cone_place (Slave i) = 0
+
+-- a cone for each node that settles
+pub record AreCones (s : Split) (cones : List Cone) : Type 0 where
+  pub one_each : length cones ≡ length s.clusters + 1
+  pub each : (n : Node) → IsNode s n → IsSettling n → (d : Cone)
+      → IsCone s.circuit (nets_of s n) (slice_index_or cones (cone_place n) d)
