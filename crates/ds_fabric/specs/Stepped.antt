@@ -1,5 +1,5 @@
 -- What a call of `step` says.
-use Rattle.std.specs.Prelude.{◌≡◌, ◌≢◌, ℕ, ◌+◌, ◌≤◌, [], ◌∷◌, ◌++◌}
+use Rattle.std.specs.Prelude.{◌≡◌, ◌≢◌, ℕ, ◌+◌, ◌<◌, ◌≤◌, [], ◌∷◌, ◌++◌}
 use Rattle.ds_rule.specs.Run.{Run, next, turns}
 use Rattle.ds_rule.specs.Rule.{tickets, seen}
 use Rattle.ds_rule.specs.declared.view.View.{View}
@@ -27,9 +27,11 @@ pub record Fires (run : Run) (v w : View) (l event turn ticket : ℕ) : Type 0 w
   pub seen_up : (x : ℕ) → seen v x ≤ seen w x
   pub looks_up : v.looks ≤ w.looks
 
--- what a call of `step` says of the pass before and after it
+-- what a call of `step` says of the pass before and after it: it has not fired yet where a source
+-- has not fired often enough and the event is below its limit, and all is done where it is not
 abbrev pub Stepped : Run → View → ℕ → Step → View → Type 0
 Stepped run v l (Fired event turn ticket) w = Fires run v w l event turn ticket
 Stepped run v l (NotYet arc n) w = LooksOn v w
     × Lacks run v w (next run l (seen v l)) (done run v l + 1) arc n
+    × (done run v l < run.limit)
 Stepped run v l Done w = (w ≡ v) × (run.limit ≤ done run v l)

@@ -167,10 +167,13 @@ returns-in-Some-clause-step g c =
     ∙ ap (λ (x : ℕ). turns run x (seen v l)) event_is) in
     let u : View = c.survey.new.seat.me.0 in let s = c.in-Some.ensures in
     let P : ℕ → ℕ → ℕ → Type 0 = λ e t x. LooksOn v u
-    × Lacks run v u e (t + 1) x c.in-Some.seen in
+    × Lacks run v u e (t + 1) x c.in-Some.seen × (t < run.limit) in
+    let below : c.turns-before.result < run.limit =
+    omega (arith, c.if-before-limit.false, c.limit.ensures) in
     subst (λ e. P e (done run v l) c.new-arc.result) event_is
     (subst (λ t. P c.next-event.result t c.new-arc.result) before_is
-    (subst (P c.next-event.result c.turns-before.result) (sym c.new-arc.ensures) (s.looks, s.some)))
+    (subst (P c.next-event.result c.turns-before.result) (sym c.new-arc.ensures)
+    (s.looks, s.some, below)))
 
 pub returns-in-Some-clause-keeps : goal.returns-in-Some-clause-keeps
 returns-in-Some-clause-keeps g c =
