@@ -7,3 +7,4 @@ pub mod Windows
 pub mod Remade
 pub mod Rising
 pub mod Transparent
+pub mod Headline

@@ -10,3 +10,4 @@ pub mod Controls
 pub mod Windows
 pub mod Transparent
 pub mod Laws
+pub mod Headline

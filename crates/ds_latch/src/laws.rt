@@ -3,6 +3,7 @@ ghost use Rattle.ds_latch.specs.Flow.{FlowEquivalence, SettlesFromAll, SomeFirin
 ghost use Rattle.ds_latch.specs.Controls.{AcceptedControls, OrdersAreAccepted, RequiredOrdersRise, Stability, StabilityWithoutSlack};
 ghost use Rattle.ds_latch.specs.Transparent.{TransparentLatches};
 ghost use Rattle.ds_latch.specs.Windows.{PlanBegins, StoredInWindows, ValuesInWindows};
+ghost use Rattle.ds_latch.specs.Headline.{Headline};
 ghost use Rattle.ds_latch.specs.Laws.{EventsOfNodes, PlacesDiffer};
 
 /// Each event is one node's.
@@ -83,4 +84,9 @@ pub fn settles_from_all()
 /// The required orders alone are an accepted graph.
 pub fn orders_are_accepted()
     ensures { OrdersAreAccepted }
+{}
+
+/// In whatever order the latches of an accepted graph fire, they do what the clocked circuit does.
+pub fn headline()
+    ensures { Headline }
 {}
