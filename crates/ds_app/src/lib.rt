@@ -59,5 +59,7 @@ mod stop;
 mod tests;
 #[cfg(test)]
 mod trial;
+#[cfg(test)]
+mod unknown_tests;
 
 pub use app::desync_main;

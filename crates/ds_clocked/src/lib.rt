@@ -5,10 +5,12 @@
 //!
 //! `simulate` writes the whole trace, and `simulate_from` the lines of a window, from any row and
 //! turn number on, and gives the row after it. Each answers `Write` only where the sink's faults
-//! rose, and then a first part of the text was appended; on `Memory` nothing was. When memory is
-//! found is not promised.
+//! rose, and then a first part of the text was appended; on `Memory` nothing was. `laws` has what a
+//! reader of traces may rely on where some values are unknown: known ones in their place change no
+//! other character. When memory is found is not promised.
 #![tactic(auto)]
 
+pub mod laws;
 mod run;
 
 pub use run::{SimFault, simulate, simulate_from};

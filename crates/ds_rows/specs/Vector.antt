@@ -35,7 +35,7 @@ has_width width words = (length words == 1)
     && (if width == 0 then bytes_eq (first_word words) (codes "-")
     else (length (first_word words) == width))
 
--- only bits stand in the word
+-- each character of the word is a value
 unfoldable pub has_bits : ℕ → List (List ℕ) → Bool
 has_bits width words = if width == 0 then true else list_all is_bit (first_word words)
 

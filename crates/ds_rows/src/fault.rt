@@ -7,7 +7,7 @@ pub enum VectorKind {
     TooMany(Limit),
     /// It is not one word of the wanted length; for width 0, not the word `-`.
     BadWidth,
-    /// A character is neither `0` nor `1`.
+    /// A character is none of `0`, `1` and `x`.
     BadBit,
 }
 

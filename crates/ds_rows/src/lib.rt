@@ -2,7 +2,7 @@
 //!
 //! A caller sees vectors as a width and a list of rows of values, and a text as bytes.
 //! `read_vectors` gives exactly the rows that the lines stand for, or exactly their first fault;
-//! the characters `0` and `1` are values there, and no other one. `trace_line` and `end_line`
+//! the characters `0`, `1` and `x` are values there, and no other one. `trace_line` and `end_line`
 //! write exactly the line of a turn and the last line, `firing_line` and `stored_line` that of a
 //! firing and of what a register has stored, or a first part of it where a write fails; none of
 //! them takes memory. `put` and `put_column` write pieces of a line, and writers of other crates

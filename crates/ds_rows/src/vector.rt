@@ -53,7 +53,7 @@ fn has_width(width: usize, words: &[&[u8]]) -> bool
     }
 }
 
-// Only bits stand in the word.
+// Each character of the word is a value.
 #[tactic(auto, unfolding(crate::specs::Vector::has_bits))]
 fn has_bits(width: usize, words: &[&[u8]]) -> bool
     requires { 0 < length words.now }
@@ -62,7 +62,7 @@ fn has_bits(width: usize, words: &[&[u8]]) -> bool
     width == 0 || are_bits(words[0])
 }
 
-// Each byte is a bit.
+// Each byte is `0`, `1` or `x`.
 fn are_bits(word: &[u8]) -> bool
     ensures { result ≡ list_all is_bit word.now }
 {
@@ -70,7 +70,7 @@ fn are_bits(word: &[u8]) -> bool
         .all(|byte| *byte == b'0' || *byte == b'1' || *byte == b'x')
 }
 
-// The values of bits.
+// The values of such bytes.
 fn values_of(alloc: Global, word: &[u8]) -> Result<Vec<Value>, AllocError>
     ensures { IfOk result (λ values. values.items ≡ map value_of_byte word.now) }
 {
@@ -78,7 +78,7 @@ fn values_of(alloc: Global, word: &[u8]) -> Result<Vec<Value>, AllocError>
     Ok(values)
 }
 
-// The value of a bit.
+// The value of such a byte.
 fn value_of(byte: u8) -> Value
     ensures { result ≡ value_of_byte byte }
 {
