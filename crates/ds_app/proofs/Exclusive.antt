@@ -23,21 +23,21 @@ use Rattle.ds_split.specs.Split.{HasTooManyOrders, split_of}
 use Rattle.ds_split.specs.Laws.{OneClustering}
 use Rattle.ds_cmd.specs.declared.job.Job.{Job}
 use Rattle.ds_cmd.specs.declared.job.Job.TheVariants.{Run, Clock, Check, Graph, Replay, Accept, Demo}
-use Rattle.ds_app.specs.FaultText.{IsNetFaultText, net_fault_text}
-use Rattle.ds_app.specs.Stage.{Stage, IsExclusive, then_stage}
-use Rattle.ds_app.specs.Stages.{OfBytes, accepted_stage, design_stage, file_stage, flat_or_line, lines_stage, models_or_line, netlist_stage, report_stage, result_stage, rows_stage, rows_or_line, text_stage, trace_stage, vectors_stage}
-use Rattle.ds_app.specs.SplitStage.{IsInClusters, IsSplitLine, split_stage}
+use Rattle.ds_stage.specs.FaultText.{IsNetFaultText, net_fault_text}
+use Rattle.ds_stage.specs.Stage.{Stage, IsExclusive, then_stage}
+use Rattle.ds_stage.specs.Stages.{OfBytes, accepted_stage, design_stage, file_stage, flat_or_line, lines_stage, models_or_line, netlist_stage, report_stage, result_stage, rows_stage, rows_or_line, text_stage, trace_stage, vectors_stage}
+use Rattle.ds_stage.specs.SplitStage.{IsInClusters, IsSplitLine, split_stage}
 use Rattle.ds_latch.specs.Plan.{Planned}
 use Rattle.ds_astg.specs.Read.{graph_of}
-use Rattle.ds_app.specs.GraphStage.{controller_stage}
-use Rattle.ds_app.specs.PlanStage.{acceptable_stage, graph_or_line, marked_stage, named_stage, plan_stage, planned_stage}
-use Rattle.ds_app.specs.AcceptStage.{ranks_stage}
+use Rattle.ds_stage.specs.GraphStage.{controller_stage}
+use Rattle.ds_stage.specs.PlanStage.{acceptable_stage, graph_or_line, marked_stage, named_stage, plan_stage, planned_stage}
+use Rattle.ds_stage.specs.AcceptStage.{ranks_stage}
 use Rattle.ds_app.specs.RunStage.{traced_stage}
 use Rattle.ds_app.specs.Job.{accept_stage, clock_stage, graph_stage, replay_stage, run_stage, stages_of}
-use Rattle.ds_app.specs.ReplayStage.{replayed_stage}
+use Rattle.ds_stage.specs.ReplayStage.{replayed_stage}
 use Rattle.ds_app.specs.Status.{AreTold, IsToldIn}
-use Rattle.ds_app.proofs.PlanStages.{acceptable_exclusive, own_exclusive}
-use Rattle.ds_app.proofs.LogStages.{replayed_not_refused}
+use Rattle.ds_stage.proofs.PlanStages.{acceptable_exclusive, own_exclusive}
+use Rattle.ds_stage.proofs.LogStages.{replayed_not_refused}
 
 -- stages that are each exclusive are together
 then_exclusive : {A B : Type 0} (first : Stage A) (next : A → Stage B) → IsExclusive first → ((a : A) → IsExclusive (next a)) → IsExclusive (then_stage first next)

@@ -11,13 +11,13 @@ use Rattle.ds_design.specs.Circuit.{Circuit, columns}
 use Rattle.ds_design.specs.declared.blif.BlifModel.{BlifModel}
 use Rattle.ds_cmd.specs.declared.job.Job.{Job}
 use Rattle.ds_cmd.specs.declared.job.Job.TheVariants.{Run, Clock, Check, Graph, Replay, Accept, Demo}
-use Rattle.ds_app.specs.Stage.{OfFile, Stage, giving, then_stage}
-use Rattle.ds_app.specs.Stages.{accepted_stage, design_stage, file_stage, flat_or_line, lines_stage, models_or_line, netlist_stage, report_stage, result_stage, rows_stage, trace_stage, vectors_stage}
-use Rattle.ds_app.specs.SplitStage.{split_stage}
-use Rattle.ds_app.specs.GraphStage.{controller_stage}
-use Rattle.ds_app.specs.PlanStage.{acceptable_stage, graph_or_line, marked_stage, plan_stage, planned_stage}
-use Rattle.ds_app.specs.AcceptStage.{ranks_stage}
-use Rattle.ds_app.specs.ReplayStage.{IsStateText, fired_stage, log_stage, replayed_stage}
+use Rattle.ds_stage.specs.Stage.{OfFile, Stage, giving, then_stage}
+use Rattle.ds_stage.specs.Stages.{accepted_stage, design_stage, file_stage, flat_or_line, lines_stage, models_or_line, netlist_stage, report_stage, result_stage, rows_stage, trace_stage, vectors_stage}
+use Rattle.ds_stage.specs.SplitStage.{split_stage}
+use Rattle.ds_stage.specs.GraphStage.{controller_stage}
+use Rattle.ds_stage.specs.PlanStage.{acceptable_stage, graph_or_line, marked_stage, plan_stage, planned_stage}
+use Rattle.ds_stage.specs.AcceptStage.{ranks_stage}
+use Rattle.ds_stage.specs.ReplayStage.{IsStateText, fired_stage, log_stage, replayed_stage}
 use Rattle.ds_base.specs.Values.{Row}
 use Rattle.ds_astg.specs.Read.{graph_of}
 use Rattle.ds_latch.specs.Plan.{Planned}

@@ -2,16 +2,16 @@
 ghost use Rattle.std.specs.Prelude.{◌≡◌, ◌<◌, length};
 ghost use Rattle.ds_outside.specs.Writes.{GoesOn, Writes};
 ghost use Rattle.ds_rows.specs.Log.{firing_text};
-ghost use Rattle.ds_app.specs.Ends.{Ends, Never, Output};
-ghost use Rattle.ds_app.specs.AcceptStage.{rank_lines, ranks_stage, ranks_text};
+ghost use Rattle.ds_stage.specs.Ends.{Ends, Never, Output};
+ghost use Rattle.ds_stage.specs.AcceptStage.{rank_lines, ranks_stage, ranks_text};
 ghost use Rattle.ds_rank.specs.Rank.{AreRanks};
 
-use crate::stop::Stop;
 use ds_base::EventId;
 use ds_latch::Plan;
 use ds_outside::{Behind, Buffered, Lent, Sink, WriteFault};
 use ds_rank::{Ranks, rank};
 use ds_rows::{firing_line, put};
+use ds_stage::Stop;
 use std::alloc::Global;
 use std::marker::Brand;
 

@@ -1,13 +1,13 @@
 //! The top call.
 ghost use Rattle.std.specs.Prelude.{◌≡◌, map};
-ghost use Rattle.ds_app.specs.Ends.{Output};
+ghost use Rattle.ds_stage.specs.Ends.{Output};
 ghost use Rattle.ds_app.specs.Interleavings.{Interleavings};
 ghost use Rattle.ds_app.specs.Status.{Call, IsAnswered, Reports, SaysStop, SaysUsage};
 
 use crate::job::do_job;
-use crate::stop::Stop;
 use ds_cmd::{UsageFault, parse};
 use ds_outside::{Files, Gate, Sink, write_all};
+use ds_stage::Stop;
 use std::thread::Threads;
 
 /// Does all that the program does, and answers its status.

@@ -1,13 +1,13 @@
 //! The clocked run of a netlist.
 ghost use Rattle.std.specs.Prelude.{◌≡◌, length};
 ghost use Rattle.ds_design.specs.Circuit.{columns};
-ghost use Rattle.ds_app.specs.Ends.{Ends, Never, Output};
-ghost use Rattle.ds_app.specs.Stages.{trace_stage};
+ghost use Rattle.ds_stage.specs.Ends.{Ends, Never, Output};
+ghost use Rattle.ds_stage.specs.Stages.{trace_stage};
 
-use crate::stop::Stop;
 use ds_clocked::{SimFault, simulate};
 use ds_design::{Netlist, Vectors};
 use ds_outside::Sink;
+use ds_stage::Stop;
 use std::alloc::Global;
 
 /// Writes the trace of the clocked run.

@@ -5,18 +5,15 @@ ghost use Rattle.ds_base.specs.declared.number.Limit.TheVariants.{Clusters, Vect
 ghost use Rattle.ds_design.specs.Circuit.{initial_row};
 ghost use Rattle.ds_outside.specs.Writes.{Writes};
 ghost use Rattle.ds_app.specs.DemoStage.{AreSums, demo_stage, summary_text};
-ghost use Rattle.ds_app.specs.Ends.{Ends, Never, Output};
+ghost use Rattle.ds_stage.specs.Ends.{Ends, Never, Output};
 
-use crate::plan::own_plan;
-use crate::report::put_count;
-use crate::split::split_netlist;
-use crate::stop::Stop;
 use ds_base::{Mode, OutOfMemory};
 use ds_demo::make;
 use ds_design::{Design, Netlist};
 use ds_latch::Plan;
 use ds_netlist::levelise;
 use ds_outside::{Gate, Sink, WriteFault};
+use ds_stage::{Stop, own_plan, put_count, split_netlist};
 use ds_trace::{Sums, sum_run};
 use std::alloc::Global;
 use std::thread::Threads;

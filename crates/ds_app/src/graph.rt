@@ -2,15 +2,15 @@
 ghost use Rattle.std.specs.Prelude.{◌≡◌};
 ghost use Rattle.ds_outside.specs.Writes.{Writes};
 ghost use Rattle.ds_astg.specs.Text.{graph_text};
-ghost use Rattle.ds_app.specs.Ends.{Ends, Never, Output};
-ghost use Rattle.ds_app.specs.GraphStage.{controller_stage};
+ghost use Rattle.ds_stage.specs.Ends.{Ends, Never, Output};
+ghost use Rattle.ds_stage.specs.GraphStage.{controller_stage};
 
-use crate::stop::Stop;
 use ds_astg::write;
 use ds_control::controller;
 use ds_latch::Latches;
 use ds_marked::Marked;
 use ds_outside::{Behind, Buffered, Lent, Sink, WriteFault};
+use ds_stage::Stop;
 use std::alloc::Global;
 use std::marker::Brand;
 

@@ -2,24 +2,21 @@
 ghost use Rattle.std.specs.Prelude.{◌≡◌, ◌≤◌, ◌<◌, ℕ, List, length};
 ghost use Rattle.ds_cmd.specs.declared.job.Job.TheVariants.{Accept, Check, Clock, Demo, Graph, Replay, Run};
 ghost use Rattle.ds_cmd.specs.Allowed.{AreAllowed};
-ghost use Rattle.ds_app.specs.Ends.{Ends, Output, RoseIn};
+ghost use Rattle.ds_stage.specs.Ends.{Ends, Output, RoseIn};
 ghost use Rattle.ds_app.specs.Job.{stages_of};
 
 use crate::accept::write_accepted;
 use crate::clock::write_clocked;
 use crate::demo::write_demo;
 use crate::graph::write_graph;
-use crate::log::read_log;
-use crate::plan::{plan_named, plan_netlist};
-use crate::report::write_report;
 use crate::run::write_traced;
-use crate::source::{read_netlist, read_rows};
-use crate::split::split_netlist;
-use crate::state_text::write_state;
-use crate::stop::Stop;
 use ds_base::Mode;
 use ds_cmd::{FileName, Job};
 use ds_outside::{Files, Gate, Sink};
+use ds_stage::{
+    Stop, plan_named, plan_netlist, read_log, read_netlist, read_rows, split_netlist, write_report,
+    write_state,
+};
 use std::alloc::Global;
 use std::thread::Threads;
 

@@ -2,13 +2,13 @@
 ghost use Rattle.std.specs.Prelude.{◌≡◌, ◌≤◌, ◌<◌, length};
 ghost use Rattle.ds_design.specs.Circuit.{columns, initial_row};
 ghost use Rattle.ds_trace.specs.RunText.{IsRunText};
-ghost use Rattle.ds_app.specs.Ends.{Ends, Never, Output};
-ghost use Rattle.ds_app.specs.Stage.{giving};
+ghost use Rattle.ds_stage.specs.Ends.{Ends, Never, Output};
+ghost use Rattle.ds_stage.specs.Stage.{giving};
 
-use crate::stop::Stop;
 use ds_design::Vectors;
 use ds_latch::Plan;
 use ds_outside::{Gate, Sink};
+use ds_stage::Stop;
 use ds_trace::{RunFault, write_run};
 use std::alloc::Global;
 use std::thread::Threads;

@@ -5,15 +5,15 @@ use Rattle.ds_outside.specs.Held.{Held}
 use Rattle.ds_outside.specs.declared.files.Which.{Which}
 use Rattle.ds_design.specs.Circuit.{Circuit}
 use Rattle.ds_latch.specs.Plan.{Planned}
-use Rattle.ds_app.specs.Stage.{OfFile, then_stage}
-use Rattle.ds_app.specs.Stages.{netlist_stage}
-use Rattle.ds_app.specs.PlanStage.{planned_stage}
-use Rattle.ds_app.specs.AcceptStage.{ranks_stage}
+use Rattle.ds_stage.specs.Stage.{OfFile, then_stage}
+use Rattle.ds_stage.specs.Stages.{netlist_stage}
+use Rattle.ds_stage.specs.PlanStage.{planned_stage}
+use Rattle.ds_stage.specs.AcceptStage.{ranks_stage}
 use Rattle.ds_app.specs.Job.{accept_stage}
-use Rattle.ds_app.specs.Ends.{Answers, Ends, Never, Output, RoseIn}
-use Rattle.ds_app.specs.declared.stop.Stop.{Stop}
-use Rattle.ds_app.proofs.Stages.{IsWider, passed, stopped, widened}
-use Rattle.ds_app.proofs.Ends.{ended, ends_after, ends_more, planned_since}
+use Rattle.ds_stage.specs.Ends.{Answers, Ends, Never, Output, RoseIn}
+use Rattle.ds_stage.specs.declared.stop.Stop.{Stop}
+use Rattle.ds_stage.proofs.Stages.{IsWider, passed, stopped, widened}
+use Rattle.ds_stage.proofs.Ends.{ended, ends_after, ends_more, planned_since}
 use Rattle.ds_app.proofs.job.accept.Goals as goal
 
 pub returns-in_err-netlist : goal.returns-in_err-netlist

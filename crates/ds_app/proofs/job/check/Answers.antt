@@ -2,11 +2,11 @@ use Rattle.std.proofs.Common.{ℕ, List, refl}
 use Rattle.std.proofs.lemmas.Result.{err_from_is_err_and}
 use Rattle.ds_outside.specs.Held.{Held}
 use Rattle.ds_design.specs.Circuit.{Circuit}
-use Rattle.ds_app.specs.Stage.{OfFile, then_stage}
-use Rattle.ds_app.specs.Stages.{netlist_stage, report_stage}
-use Rattle.ds_app.specs.Ends.{Never, Output, RoseIn}
-use Rattle.ds_app.proofs.Stages.{stopped}
-use Rattle.ds_app.proofs.Ends.{ended, ends_after, ends_more}
+use Rattle.ds_stage.specs.Stage.{OfFile, then_stage}
+use Rattle.ds_stage.specs.Stages.{netlist_stage, report_stage}
+use Rattle.ds_stage.specs.Ends.{Never, Output, RoseIn}
+use Rattle.ds_stage.proofs.Stages.{stopped}
+use Rattle.ds_stage.proofs.Ends.{ended, ends_after, ends_more}
 use Rattle.ds_app.proofs.job.check.Goals as goal
 
 pub returns-in_err-netlist : goal.returns-in_err-netlist

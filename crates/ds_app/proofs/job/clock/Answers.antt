@@ -3,13 +3,13 @@ use Rattle.std.proofs.lemmas.Result.{err_from_is_err_and}
 use Rattle.ds_outside.specs.Held.{Held}
 use Rattle.ds_design.specs.Circuit.{Circuit}
 use Rattle.ds_design.specs.Rows.{Rows}
-use Rattle.ds_app.specs.Stage.{OfFile, then_stage}
-use Rattle.ds_app.specs.Stages.{netlist_stage, trace_stage, vectors_stage}
+use Rattle.ds_stage.specs.Stage.{OfFile, then_stage}
+use Rattle.ds_stage.specs.Stages.{netlist_stage, trace_stage, vectors_stage}
 use Rattle.ds_app.specs.Job.{clock_stage}
-use Rattle.ds_app.specs.Ends.{Answers, Ends, Never, Output, RoseIn}
-use Rattle.ds_app.specs.declared.stop.Stop.{Stop}
-use Rattle.ds_app.proofs.Stages.{stopped, passed, widened}
-use Rattle.ds_app.proofs.Ends.{ended, ends_after, ends_more, vectors_since}
+use Rattle.ds_stage.specs.Ends.{Answers, Ends, Never, Output, RoseIn}
+use Rattle.ds_stage.specs.declared.stop.Stop.{Stop}
+use Rattle.ds_stage.proofs.Stages.{stopped, passed, widened}
+use Rattle.ds_stage.proofs.Ends.{ended, ends_after, ends_more, vectors_since}
 use Rattle.ds_app.proofs.job.clock.Goals as goal
 
 pub returns-in_err-netlist : goal.returns-in_err-netlist

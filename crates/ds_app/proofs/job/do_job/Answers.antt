@@ -3,10 +3,10 @@ use Rattle.ds_cmd.specs.declared.job.Job.{Job}
 use Rattle.ds_cmd.specs.declared.job.Job.TheVariants.{Run, Clock, Check, Graph, Replay, Accept, Demo}
 use Rattle.ds_app.specs.Job.{stages_of}
 use Rattle.ds_cmd.specs.Allowed.{AreAllowed}
-use Rattle.ds_app.specs.Stage.{OfFile}
+use Rattle.ds_stage.specs.Stage.{OfFile}
 use Rattle.ds_app.specs.DemoStage.{IsSummary}
-use Rattle.ds_app.specs.Ends.{Ends, Output, RoseIn}
-use Rattle.ds_app.proofs.Ends.{gives_more}
+use Rattle.ds_stage.specs.Ends.{Ends, Output, RoseIn}
+use Rattle.ds_stage.proofs.Ends.{gives_more}
 use Rattle.ds_app.proofs.job.do_job.Goals as goal
 
 pub returns-in-Run : goal.returns-in-Run

@@ -4,15 +4,15 @@ use Rattle.ds_base.specs.declared.number.Mode.{Mode}
 use Rattle.ds_outside.specs.Held.{Held}
 use Rattle.ds_design.specs.Circuit.{Circuit}
 use Rattle.ds_latch.specs.Node.{Split}
-use Rattle.ds_app.specs.Stage.{OfFile, then_stage}
-use Rattle.ds_app.specs.Stages.{netlist_stage}
-use Rattle.ds_app.specs.SplitStage.{split_stage}
-use Rattle.ds_app.specs.GraphStage.{controller_stage}
+use Rattle.ds_stage.specs.Stage.{OfFile, then_stage}
+use Rattle.ds_stage.specs.Stages.{netlist_stage}
+use Rattle.ds_stage.specs.SplitStage.{split_stage}
+use Rattle.ds_stage.specs.GraphStage.{controller_stage}
 use Rattle.ds_app.specs.Job.{graph_stage}
-use Rattle.ds_app.specs.Ends.{Answers, Ends, Never, Output, RoseIn}
-use Rattle.ds_app.specs.declared.stop.Stop.{Stop}
-use Rattle.ds_app.proofs.Stages.{stopped, passed, widened}
-use Rattle.ds_app.proofs.Ends.{ended, ends_after, ends_more, no_more}
+use Rattle.ds_stage.specs.Ends.{Answers, Ends, Never, Output, RoseIn}
+use Rattle.ds_stage.specs.declared.stop.Stop.{Stop}
+use Rattle.ds_stage.proofs.Stages.{stopped, passed, widened}
+use Rattle.ds_stage.proofs.Ends.{ended, ends_after, ends_more, no_more}
 use Rattle.ds_app.proofs.job.graph.Goals as goal
 
 pub returns-in_err-netlist : goal.returns-in_err-netlist

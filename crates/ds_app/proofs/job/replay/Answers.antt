@@ -7,17 +7,17 @@ use Rattle.ds_design.specs.Circuit.{Circuit, columns}
 use Rattle.ds_latch.specs.Node.{Split}
 use Rattle.ds_latch.specs.Plan.{Planned}
 use Rattle.ds_design.specs.Rows.{Rows}
-use Rattle.ds_app.specs.Stage.{OfFile, then_stage}
-use Rattle.ds_app.specs.Stages.{netlist_stage, vectors_stage}
-use Rattle.ds_app.specs.SplitStage.{IsInClusters}
-use Rattle.ds_app.specs.PlanStage.{planned_stage}
-use Rattle.ds_app.specs.ReplayStage.{log_stage}
+use Rattle.ds_stage.specs.Stage.{OfFile, then_stage}
+use Rattle.ds_stage.specs.Stages.{netlist_stage, vectors_stage}
+use Rattle.ds_stage.specs.SplitStage.{IsInClusters}
+use Rattle.ds_stage.specs.PlanStage.{planned_stage}
+use Rattle.ds_stage.specs.ReplayStage.{log_stage}
 use Rattle.ds_app.specs.Job.{replay_stage}
-use Rattle.ds_app.specs.Ends.{Answers, Output, RoseIn}
-use Rattle.ds_app.specs.declared.stop.Stop.{Stop}
-use Rattle.ds_app.proofs.Stages.{IsWider, stopped, widened}
-use Rattle.ds_app.proofs.Ends.{ended, never_fell, planned_since, vectors_since}
-use Rattle.ds_app.proofs.PlanAccepted.{planned_in_clusters}
+use Rattle.ds_stage.specs.Ends.{Answers, Output, RoseIn}
+use Rattle.ds_stage.specs.declared.stop.Stop.{Stop}
+use Rattle.ds_stage.proofs.Stages.{IsWider, stopped, widened}
+use Rattle.ds_stage.proofs.Ends.{ended, never_fell, planned_since, vectors_since}
+use Rattle.ds_stage.proofs.PlanAccepted.{planned_in_clusters}
 use Rattle.ds_fire.specs.Snapshot.{Snapshot}
 use Rattle.ds_app.proofs.ReplayEnds.{ends_log, log_since, stops_log, stops_plan, stops_vectors}
 use Rattle.ds_app.proofs.job.replay.Goals as goal

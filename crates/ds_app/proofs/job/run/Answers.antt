@@ -8,17 +8,17 @@ use Rattle.ds_latch.specs.Node.{Split}
 use Rattle.ds_latch.specs.Plan.{Planned}
 use Rattle.ds_design.specs.Rows.{Rows}
 use Rattle.ds_trace.specs.RunText.{IsRunText}
-use Rattle.ds_app.specs.Stage.{OfFile, giving, then_stage}
-use Rattle.ds_app.specs.Stages.{netlist_stage, vectors_stage}
-use Rattle.ds_app.specs.SplitStage.{IsInClusters}
-use Rattle.ds_app.specs.PlanStage.{planned_stage}
+use Rattle.ds_stage.specs.Stage.{OfFile, giving, then_stage}
+use Rattle.ds_stage.specs.Stages.{netlist_stage, vectors_stage}
+use Rattle.ds_stage.specs.SplitStage.{IsInClusters}
+use Rattle.ds_stage.specs.PlanStage.{planned_stage}
 use Rattle.ds_app.specs.RunStage.{traced_stage}
 use Rattle.ds_app.specs.Job.{run_stage}
-use Rattle.ds_app.specs.Ends.{Answers, Ends, Never, Output, RoseIn}
-use Rattle.ds_app.specs.declared.stop.Stop.{Stop}
-use Rattle.ds_app.proofs.Stages.{IsWider, passed, stopped, widened}
-use Rattle.ds_app.proofs.Ends.{ended, ends_after, gives_more, never_fell, planned_since, vectors_since}
-use Rattle.ds_app.proofs.PlanAccepted.{planned_in_clusters}
+use Rattle.ds_stage.specs.Ends.{Answers, Ends, Never, Output, RoseIn}
+use Rattle.ds_stage.specs.declared.stop.Stop.{Stop}
+use Rattle.ds_stage.proofs.Stages.{IsWider, passed, stopped, widened}
+use Rattle.ds_stage.proofs.Ends.{ended, ends_after, gives_more, never_fell, planned_since, vectors_since}
+use Rattle.ds_stage.proofs.PlanAccepted.{planned_in_clusters}
 use Rattle.ds_app.proofs.job.run.Goals as goal
 
 pub returns-in_err-netlist : goal.returns-in_err-netlist

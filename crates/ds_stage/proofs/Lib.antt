@@ -1,0 +1,10 @@
+pub mod Stages
+pub mod Ends
+pub mod SplitStops
+pub mod OneGraph
+pub mod PlanStages
+pub mod PlanAccepted
+pub mod LogStages
+pub mod LogTexts
+pub mod Housed
+pub mod Registers
