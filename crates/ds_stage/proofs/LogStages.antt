@@ -1,5 +1,5 @@
 -- The stages of `replay`: what the text of the log gives the file gives, and a log that has a state is not refused.
-use Rattle.std.proofs.Common.{◌≡◌, ℕ, List, Result, Ok, Err, inl, inr, subst}
+use Rattle.std.proofs.Common.{◌≡◌, ℕ, List, Result, Ok, Err, inl, inr}
 use Rattle.ds_base.specs.Values.{Row}
 use Rattle.ds_outside.specs.Held.{Held, FrontIsHeld}
 use Rattle.ds_outside.specs.declared.files.Which.TheVariants.{Log}
@@ -11,6 +11,7 @@ use Rattle.ds_stage.specs.Stage.{OfFile, Stage, IsExclusive, giving, then_stage}
 use Rattle.ds_stage.specs.Stages.{lines_stage, text_stage}
 use Rattle.ds_stage.specs.ReplayStage.{IsStateText, fired_stage, log_stage, replayed_stage}
 use Rattle.ds_stage.specs.Ends.{Never}
+use Rattle.ds_stage.proofs.Exclusive.{then_not_refused}
 use Rattle.ds_stage.proofs.Stages.{IsWider, read_means, read_refused, wider_first}
 
 -- the log of a text that was read is that of the file
@@ -29,14 +30,6 @@ fired_not_refused file planned vectors lines after line is (fault, faulty, spelt
     ok_or_fault : (r : Result (List ℕ) ReplayFault) (events : List ℕ) (fault : ReplayFault) → r ≡ Ok events → r ≡ Err fault → ⊥
     ok_or_fault r events fault is also = cc
 
--- a second stage that is not refused where it gives something is enough, where the first gives one thing
-pub later_not_refused : {A B : Type 0} (first : Stage A) (next : A → Stage B) → IsExclusive first
-    → ((a : A) (b : B) (line : List ℕ) → (next a).means b → ¬ (next a).refused line)
-    → (b : B) (line : List ℕ) → (then_stage first next).means b → ¬ (then_stage first next).refused line
-later_not_refused {A} {B} first next one last b line (a, is, then) (inl refused) = one.not_refused a line is refused
-later_not_refused {A} {B} first next one last b line (a, is, then) (inr (x, also, refused)) =
-    last x b line (subst (λ (y : A). (next y).means b) (one.one a x is also) then) refused
-
 -- a first stage that is not refused where it gives something is enough, where the second only gives
 first_not_refused : {A B : Type 0} (first : Stage A) (next : A → Stage B)
     → ((a : A) (line : List ℕ) → first.means a → ¬ first.refused line) → ((a : A) (line : List ℕ) → ¬ (next a).refused line)
@@ -47,7 +40,7 @@ first_not_refused first next one none b line (a, is, then) (inr (x, also, refuse
 log_not_refused : (held : List ℕ → Held) (log : List ℕ) → IsExclusive (lines_stage held Log log) → (planned : Planned) (vectors : List Row) (after : Snapshot × ℕ) (line : List ℕ)
     → (log_stage held log planned vectors).means after → ¬ (log_stage held log planned vectors).refused line
 log_not_refused held log lines planned vectors after line means refused =
-    later_not_refused (lines_stage held Log log) (fired_stage log planned vectors) lines (fired_not_refused log planned vectors) after line means refused
+    then_not_refused (lines_stage held Log log) (fired_stage log planned vectors) lines (fired_not_refused log planned vectors) after line means refused
 
 -- a log whose text is told is not refused where it has a text
 pub replayed_not_refused : (held : List ℕ → Held) (log : List ℕ) → IsExclusive (lines_stage held Log log) → (planned : Planned) (vectors : List Row) (text line : List ℕ)
