@@ -7,7 +7,7 @@ use Rattle.ds_stage.specs.Stages.{netlist_stage, report_stage}
 use Rattle.ds_stage.specs.Ends.{Never, Output, RoseIn}
 use Rattle.ds_stage.proofs.Stages.{stopped}
 use Rattle.ds_stage.proofs.Ends.{ended, ends_after, ends_more}
-use Rattle.ds_app.proofs.job.check.Goals as goal
+use Rattle.ds_app.proofs.check.check.Goals as goal
 
 pub returns-in_err-netlist : goal.returns-in_err-netlist
 returns-in_err-netlist g c =

@@ -20,18 +20,18 @@ use Rattle.ds_stage.proofs.Ends.{ended, never_fell, planned_since, vectors_since
 use Rattle.ds_stage.proofs.PlanAccepted.{planned_in_clusters}
 use Rattle.ds_fire.specs.Snapshot.{Snapshot}
 use Rattle.ds_app.proofs.ReplayEnds.{ends_log, log_since, stops_log, stops_plan, stops_vectors}
-use Rattle.ds_app.proofs.job.replay.Goals as goal
+use Rattle.ds_app.proofs.replay.replay.Goals as goal
 
 pub returns-in_err-netlist : goal.returns-in_err-netlist
 returns-in_err-netlist g c =
     let held : List ℕ → Held = g.F.Files.held c.args.files.now in
-    let net : List ℕ = c.args.net.now in
-    let graph : Option (List ℕ) = c.args.graph.now in
-    let mode : Mode = c.args.clusters in
+    let net : List ℕ = c.args.job.now.net.now in
+    let graph : Option (List ℕ) = c.args.job.now.graph.now in
+    let mode : Mode = c.args.job.now.clusters in
     let before : Which → List ℕ → ℕ = g.F.Files.faults c.args.files.now in
     let more : OfFile = RoseIn (g.F.Files.faults c.args.files.now) (g.F.Files.faults c.read_netlist.new.files) in
-    let vec : List ℕ = c.args.vec.now in
-    let log : List ℕ = c.args.log.now in
+    let vec : List ℕ = c.args.job.now.vec.now in
+    let log : List ℕ = c.args.job.now.log.now in
     let p = err_from_is_err_and c.from_residual.result c.from_residual.ensures.1 in
     rw (p.1, p.2) (ended (Unit {0}) (then_stage (netlist_stage held net) (replay_stage held net vec log graph mode)) more
     (record { old = g.O.Sink.written c.args.out.now; new = g.O.Sink.written c.args.out.now; before = g.O.Sink.faults c.args.out.now; now = g.O.Sink.faults c.args.out.now }) c.in_err-netlist.field-0.0 refl
@@ -40,13 +40,13 @@ returns-in_err-netlist g c =
 pub returns-in_err-plan : goal.returns-in_err-plan
 returns-in_err-plan g c =
     let held : List ℕ → Held = g.F.Files.held c.args.files.now in
-    let net : List ℕ = c.args.net.now in
-    let graph : Option (List ℕ) = c.args.graph.now in
-    let mode : Mode = c.args.clusters in
+    let net : List ℕ = c.args.job.now.net.now in
+    let graph : Option (List ℕ) = c.args.job.now.graph.now in
+    let mode : Mode = c.args.job.now.clusters in
     let before : Which → List ℕ → ℕ = g.F.Files.faults c.args.files.now in
     let more : OfFile = RoseIn (g.F.Files.faults c.args.files.now) (g.F.Files.faults c.plan_netlist.new.files) in
-    let vec : List ℕ = c.args.vec.now in
-    let log : List ℕ = c.args.log.now in
+    let vec : List ℕ = c.args.job.now.vec.now in
+    let log : List ℕ = c.args.job.now.log.now in
     let circuit : Circuit = c.in_ok-netlist.netlist in
     let wider : IsWider (planned_stage (g.F.Files.held c.read_netlist.new.files) net graph mode circuit) (planned_stage held net graph mode circuit) (RoseIn (g.F.Files.faults c.read_netlist.new.files) (g.F.Files.faults c.plan_netlist.new.files)) (RoseIn before (g.F.Files.faults c.plan_netlist.new.files)) =
     planned_since held (g.F.Files.held c.read_netlist.new.files) net graph mode circuit before (g.F.Files.faults c.read_netlist.new.files) (g.F.Files.faults c.plan_netlist.new.files) c.in_ok-netlist.ensures.same_held c.in_ok-netlist.ensures.never_falls in
@@ -62,13 +62,13 @@ returns-in_err-plan g c =
 pub returns-in_err-vectors : goal.returns-in_err-vectors
 returns-in_err-vectors g c =
     let held : List ℕ → Held = g.F.Files.held c.args.files.now in
-    let net : List ℕ = c.args.net.now in
-    let graph : Option (List ℕ) = c.args.graph.now in
-    let mode : Mode = c.args.clusters in
+    let net : List ℕ = c.args.job.now.net.now in
+    let graph : Option (List ℕ) = c.args.job.now.graph.now in
+    let mode : Mode = c.args.job.now.clusters in
     let before : Which → List ℕ → ℕ = g.F.Files.faults c.args.files.now in
     let more : OfFile = RoseIn (g.F.Files.faults c.args.files.now) (g.F.Files.faults c.read_rows.new.files) in
-    let vec : List ℕ = c.args.vec.now in
-    let log : List ℕ = c.args.log.now in
+    let vec : List ℕ = c.args.job.now.vec.now in
+    let log : List ℕ = c.args.job.now.log.now in
     let circuit : Circuit = c.in_ok-netlist.netlist in
     let wider : IsWider (planned_stage (g.F.Files.held c.read_netlist.new.files) net graph mode circuit) (planned_stage held net graph mode circuit) (RoseIn (g.F.Files.faults c.read_netlist.new.files) (g.F.Files.faults c.plan_netlist.new.files)) (RoseIn before (g.F.Files.faults c.plan_netlist.new.files)) =
     planned_since held (g.F.Files.held c.read_netlist.new.files) net graph mode circuit before (g.F.Files.faults c.read_netlist.new.files) (g.F.Files.faults c.plan_netlist.new.files) c.in_ok-netlist.ensures.same_held c.in_ok-netlist.ensures.never_falls in
@@ -90,20 +90,20 @@ returns-in_err-vectors g c =
 
 pub read_log-requires : goal.read_log-requires
 read_log-requires g c =
-    let clusters : IsInClusters c.args.clusters c.in_ok-netlist.netlist c.in_ok-plan.plan.split = planned_in_clusters (g.F.Files.held c.read_netlist.new.files) c.args.net.now c.args.graph.now c.args.clusters c.in_ok-netlist.netlist c.in_ok-plan.plan c.in_ok-plan.ensures.value in
+    let clusters : IsInClusters c.args.job.now.clusters c.in_ok-netlist.netlist c.in_ok-plan.plan.split = planned_in_clusters (g.F.Files.held c.read_netlist.new.files) c.args.job.now.net.now c.args.job.now.graph.now c.args.job.now.clusters c.in_ok-netlist.netlist c.in_ok-plan.plan c.in_ok-plan.ensures.value in
     let same : c.in_ok-plan.plan.split.circuit ≡ c.in_ok-netlist.netlist = ap (λ (s : Split). s.circuit) clusters.is in
     subst (λ (k : Circuit). c.in_ok-vectors.vectors.width ≡ length (columns k)) (sym same) c.in_ok-vectors.ensures.width
 
 pub returns-in_err-state : goal.returns-in_err-state
 returns-in_err-state g c =
     let held : List ℕ → Held = g.F.Files.held c.args.files.now in
-    let net : List ℕ = c.args.net.now in
-    let graph : Option (List ℕ) = c.args.graph.now in
-    let mode : Mode = c.args.clusters in
+    let net : List ℕ = c.args.job.now.net.now in
+    let graph : Option (List ℕ) = c.args.job.now.graph.now in
+    let mode : Mode = c.args.job.now.clusters in
     let before : Which → List ℕ → ℕ = g.F.Files.faults c.args.files.now in
     let more : OfFile = RoseIn (g.F.Files.faults c.args.files.now) (g.F.Files.faults c.read_log.new.files) in
-    let vec : List ℕ = c.args.vec.now in
-    let log : List ℕ = c.args.log.now in
+    let vec : List ℕ = c.args.job.now.vec.now in
+    let log : List ℕ = c.args.job.now.log.now in
     let circuit : Circuit = c.in_ok-netlist.netlist in
     let wider : IsWider (planned_stage (g.F.Files.held c.read_netlist.new.files) net graph mode circuit) (planned_stage held net graph mode circuit) (RoseIn (g.F.Files.faults c.read_netlist.new.files) (g.F.Files.faults c.plan_netlist.new.files)) (RoseIn before (g.F.Files.faults c.plan_netlist.new.files)) =
     planned_since held (g.F.Files.held c.read_netlist.new.files) net graph mode circuit before (g.F.Files.faults c.read_netlist.new.files) (g.F.Files.faults c.plan_netlist.new.files) c.in_ok-netlist.ensures.same_held c.in_ok-netlist.ensures.never_falls in
@@ -145,13 +145,13 @@ write_state-requires-clause-vectors g c =
 pub returns : goal.returns
 returns g c =
     let held : List ℕ → Held = g.F.Files.held c.args.files.now in
-    let net : List ℕ = c.args.net.now in
-    let graph : Option (List ℕ) = c.args.graph.now in
-    let mode : Mode = c.args.clusters in
+    let net : List ℕ = c.args.job.now.net.now in
+    let graph : Option (List ℕ) = c.args.job.now.graph.now in
+    let mode : Mode = c.args.job.now.clusters in
     let before : Which → List ℕ → ℕ = g.F.Files.faults c.args.files.now in
     let more : OfFile = RoseIn (g.F.Files.faults c.args.files.now) (g.F.Files.faults c.read_log.new.files) in
-    let vec : List ℕ = c.args.vec.now in
-    let log : List ℕ = c.args.log.now in
+    let vec : List ℕ = c.args.job.now.vec.now in
+    let log : List ℕ = c.args.job.now.log.now in
     let circuit : Circuit = c.in_ok-netlist.netlist in
     let wider : IsWider (planned_stage (g.F.Files.held c.read_netlist.new.files) net graph mode circuit) (planned_stage held net graph mode circuit) (RoseIn (g.F.Files.faults c.read_netlist.new.files) (g.F.Files.faults c.plan_netlist.new.files)) (RoseIn before (g.F.Files.faults c.plan_netlist.new.files)) =
     planned_since held (g.F.Files.held c.read_netlist.new.files) net graph mode circuit before (g.F.Files.faults c.read_netlist.new.files) (g.F.Files.faults c.plan_netlist.new.files) c.in_ok-netlist.ensures.same_held c.in_ok-netlist.ensures.never_falls in

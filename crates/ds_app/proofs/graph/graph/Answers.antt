@@ -13,7 +13,7 @@ use Rattle.ds_stage.specs.Ends.{Answers, Ends, Never, Output, RoseIn}
 use Rattle.ds_stage.specs.declared.stop.Stop.{Stop}
 use Rattle.ds_stage.proofs.Stages.{stopped, passed, widened}
 use Rattle.ds_stage.proofs.Ends.{ended, ends_after, ends_more, no_more}
-use Rattle.ds_app.proofs.job.graph.Goals as goal
+use Rattle.ds_app.proofs.graph.graph.Goals as goal
 
 pub returns-in_err-netlist : goal.returns-in_err-netlist
 returns-in_err-netlist g c =
