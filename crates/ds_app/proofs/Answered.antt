@@ -9,9 +9,9 @@ use Rattle.ds_cmd.specs.Line.{job_of}
 use Rattle.ds_cmd.specs.declared.job.Job.{Job}
 use Rattle.ds_cmd.specs.declared.fault.UsageFault.{UsageFault}
 use Rattle.ds_cmd.specs.declared.fault.UsageFault.TheVariants as usage
-use Rattle.ds_app.specs.declared.stop.Stop.{Stop}
-use Rattle.ds_app.specs.declared.stop.Stop.TheVariants.{Refused, Unread, Unwritten, Memory}
-use Rattle.ds_app.specs.Ends.{Ends, Output, RoseIn}
+use Rattle.ds_stage.specs.declared.stop.Stop.{Stop}
+use Rattle.ds_stage.specs.declared.stop.Stop.TheVariants.{Refused, Unread, Unwritten, Memory}
+use Rattle.ds_stage.specs.Ends.{Ends, Output, RoseIn}
 use Rattle.ds_app.specs.Job.{stages_of}
 use Rattle.ds_app.specs.Status.{AreTold, Call, IsAnswered, Reports, SaysStop, SaysUsage}
 use Rattle.ds_app.proofs.Exclusive.{job_not_refused}

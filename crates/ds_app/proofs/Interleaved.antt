@@ -23,7 +23,7 @@ use Rattle.ds_latch.specs.Firing.{State}
 use Rattle.ds_latch.specs.Flow.{IsInStep}
 use Rattle.ds_latch.proofs.Counts.{accepted_controls}
 use Rattle.ds_latch.proofs.Flow.{InStep, steps_kept, some_firing}
-use Rattle.ds_app.proofs.PlanAccepted.{planned_is_plan}
+use Rattle.ds_stage.proofs.PlanAccepted.{planned_is_plan}
 use Rattle.ds_app.specs.Interleavings.{BeginsWith, HasFiredAll, HasNext, Interleavings, StandsAt, values_clocked, values_stored}
 
 -- below a bound each count is the limit, or some count is below it

@@ -1,16 +1,6 @@
-pub mod Stages
-pub mod Ends
 pub mod Exclusive
 pub mod Failed
 pub mod Answered
-pub mod SplitStops
 pub mod Interleaved
-pub mod OneGraph
-pub mod PlanStages
-pub mod PlanAccepted
-pub mod LogStages
-pub mod LogTexts
 pub mod ReplayEnds
-pub mod Housed
-pub mod Registers
 pub mod Summaries

@@ -9,15 +9,15 @@ use Rattle.ds_design.specs.Circuit.{Circuit}
 use Rattle.ds_design.specs.Rows.{Rows}
 use Rattle.ds_latch.specs.Plan.{Planned}
 use Rattle.ds_fire.specs.Snapshot.{Snapshot}
-use Rattle.ds_app.specs.declared.stop.Stop.{Stop}
-use Rattle.ds_app.specs.Stage.{OfFile, Stage, giving, then_stage}
-use Rattle.ds_app.specs.Stages.{netlist_stage, vectors_stage}
-use Rattle.ds_app.specs.PlanStage.{planned_stage}
-use Rattle.ds_app.specs.ReplayStage.{IsStateText, log_stage, replayed_stage}
+use Rattle.ds_stage.specs.declared.stop.Stop.{Stop}
+use Rattle.ds_stage.specs.Stage.{OfFile, Stage, giving, then_stage}
+use Rattle.ds_stage.specs.Stages.{netlist_stage, vectors_stage}
+use Rattle.ds_stage.specs.PlanStage.{planned_stage}
+use Rattle.ds_stage.specs.ReplayStage.{IsStateText, log_stage, replayed_stage}
 use Rattle.ds_app.specs.Job.{replay_stage}
-use Rattle.ds_app.specs.Ends.{Ends, Never, Output, RoseIn, Stops}
-use Rattle.ds_app.proofs.Stages.{IsWider, passed, stopped}
-use Rattle.ds_app.proofs.Ends.{ends_after, ends_more, rose_since}
+use Rattle.ds_stage.specs.Ends.{Ends, Never, Output, RoseIn, Stops}
+use Rattle.ds_stage.proofs.Stages.{IsWider, passed, stopped}
+use Rattle.ds_stage.proofs.Ends.{ends_after, ends_more, rose_since}
 
 -- a log that was read later, of files that hold the same
 pub log_since : (held later : List ℕ → Held) (log : List ℕ) (planned : Planned) (vectors : List Row) (before mid now : Which → List ℕ → ℕ) → later ≡ held

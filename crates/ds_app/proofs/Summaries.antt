@@ -9,7 +9,7 @@ use Rattle.ds_design.specs.Rows.{Rows}
 use Rattle.ds_design.specs.Run.{IsRun}
 use Rattle.ds_design.specs.Trace.{IsTrace}
 use Rattle.ds_demo.specs.Demo.{demo_design, demo_vectors}
-use Rattle.ds_demo.specs.Laws.{FitsColumns, VectorsFit}
+use Rattle.ds_demo.specs.Laws.{VectorsFit}
 use Rattle.ds_trace.specs.Summed.{IsSummed, ones_in}
 use Rattle.ds_trace.specs.declared.sums.Sums.{Sums}
 use Rattle.ds_app.specs.DemoStage.{AreSums}

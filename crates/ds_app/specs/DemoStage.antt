@@ -7,8 +7,8 @@ use Rattle.ds_design.specs.Trace.{IsTrace}
 use Rattle.ds_demo.specs.Demo.{demo_design, demo_vectors}
 use Rattle.ds_demo.specs.Fold.{fold_of}
 use Rattle.ds_trace.specs.Summed.{ones_in}
-use Rattle.ds_app.specs.Report.{count_line}
-use Rattle.ds_app.specs.Stage.{Stage, giving}
+use Rattle.ds_stage.specs.Report.{count_line}
+use Rattle.ds_stage.specs.Stage.{Stage, giving}
 
 -- the ones in all output rows of the clocked run, and the fold of its trace
 pub record AreSums (seed registers turns ones fold : ℕ) : Type 0 where

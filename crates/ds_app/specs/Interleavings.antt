@@ -15,8 +15,8 @@ use Rattle.ds_latch.specs.Plan.{Planned}
 use Rattle.ds_latch.specs.Firing.{State, first_state, FiresAll}
 use Rattle.ds_cmd.specs.Line.{job_of}
 use Rattle.ds_cmd.specs.declared.job.Job.TheVariants.{Run}
-use Rattle.ds_app.specs.Stages.{netlist_stage, vectors_stage}
-use Rattle.ds_app.specs.PlanStage.{planned_stage}
+use Rattle.ds_stage.specs.Stages.{netlist_stage, vectors_stage}
+use Rattle.ds_stage.specs.PlanStage.{planned_stage}
 
 -- a list begins with another
 abbrev pub BeginsWith : List Value → List Value → Type 0

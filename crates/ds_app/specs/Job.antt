@@ -5,15 +5,15 @@ use Rattle.ds_outside.specs.Held.{Held}
 use Rattle.ds_design.specs.Circuit.{Circuit}
 use Rattle.ds_cmd.specs.declared.job.Job.{Job}
 use Rattle.ds_cmd.specs.declared.job.Job.TheVariants.{Run, Clock, Check, Graph, Replay, Accept, Demo}
-use Rattle.ds_app.specs.Stage.{Stage, then_stage}
-use Rattle.ds_app.specs.Stages.{netlist_stage, vectors_stage, trace_stage, report_stage}
-use Rattle.ds_app.specs.SplitStage.{split_stage}
-use Rattle.ds_app.specs.GraphStage.{controller_stage}
-use Rattle.ds_app.specs.PlanStage.{planned_stage}
+use Rattle.ds_stage.specs.Stage.{Stage, then_stage}
+use Rattle.ds_stage.specs.Stages.{netlist_stage, vectors_stage, trace_stage, report_stage}
+use Rattle.ds_stage.specs.SplitStage.{split_stage}
+use Rattle.ds_stage.specs.GraphStage.{controller_stage}
+use Rattle.ds_stage.specs.PlanStage.{planned_stage}
 use Rattle.ds_app.specs.RunStage.{traced_stage}
 use Rattle.ds_app.specs.DemoStage.{demo_stage}
-use Rattle.ds_app.specs.AcceptStage.{ranks_stage}
-use Rattle.ds_app.specs.ReplayStage.{replayed_stage}
+use Rattle.ds_stage.specs.AcceptStage.{ranks_stage}
+use Rattle.ds_stage.specs.ReplayStage.{replayed_stage}
 
 -- `clock`, once the netlist is read
 abbrev pub clock_stage : (List ℕ → Held) → List ℕ → Circuit → Stage (List ℕ)

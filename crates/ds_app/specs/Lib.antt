@@ -1,17 +1,6 @@
 -- In the order in which to read.
-pub mod Stage
-pub mod FaultText
-pub mod Report
-pub mod Stages
-pub mod SplitStage
-pub mod GraphStage
-pub mod PlanStage
-pub mod AcceptStage
 pub mod RunStage
 pub mod DemoStage
-pub mod Homes
-pub mod ReplayStage
 pub mod Job
 pub mod Interleavings
 pub mod Status
-pub mod Ends

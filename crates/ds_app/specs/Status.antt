@@ -9,9 +9,9 @@ use Rattle.ds_cmd.specs.declared.job.Job.{Job}
 use Rattle.ds_cmd.specs.declared.job.Job.TheVariants.{Run, Clock, Check, Graph, Replay, Accept, Demo}
 use Rattle.ds_cmd.specs.declared.fault.UsageFault.{UsageFault}
 use Rattle.ds_cmd.specs.declared.fault.UsageFault.TheVariants as usage
-use Rattle.ds_app.specs.declared.stop.Stop.{Stop}
-use Rattle.ds_app.specs.declared.stop.Stop.TheVariants.{Refused, Unread, Unwritten, Memory}
-use Rattle.ds_app.specs.Ends.{Output, RoseIn}
+use Rattle.ds_stage.specs.declared.stop.Stop.{Stop}
+use Rattle.ds_stage.specs.declared.stop.Stop.TheVariants.{Refused, Unread, Unwritten, Memory}
+use Rattle.ds_stage.specs.Ends.{Output, RoseIn}
 use Rattle.ds_app.specs.Job.{stages_of}
 
 -- a call: its words, what its files hold, their counts of faults before and after, and its outputs

@@ -1,22 +1,55 @@
-//! The ranks of a controller graph that is accepted.
+//! `accept`: the ranks of a graph of the user's that is accepted.
 ghost use Rattle.std.specs.Prelude.{◌≡◌, ◌<◌, length};
 ghost use Rattle.ds_outside.specs.Writes.{GoesOn, Writes};
 ghost use Rattle.ds_rows.specs.Log.{firing_text};
-ghost use Rattle.ds_app.specs.Ends.{Ends, Never, Output};
-ghost use Rattle.ds_app.specs.AcceptStage.{rank_lines, ranks_stage, ranks_text};
 ghost use Rattle.ds_rank.specs.Rank.{AreRanks};
+ghost use Rattle.ds_cmd.specs.declared.job.Job.TheVariants.{Accept};
+ghost use Rattle.ds_stage.specs.Ends.{Ends, Never, Output, RoseIn};
+ghost use Rattle.ds_stage.specs.AcceptStage.{rank_lines, ranks_stage, ranks_text};
+ghost use Rattle.ds_app.specs.Job.{stages_of};
 
-use crate::stop::Stop;
-use ds_base::EventId;
+use ds_base::{EventId, Mode};
 use ds_latch::Plan;
-use ds_outside::{Behind, Buffered, Lent, Sink, WriteFault};
+use ds_outside::{Behind, Buffered, Files, Lent, Sink, WriteFault};
 use ds_rank::{Ranks, rank};
 use ds_rows::{firing_line, put};
+use ds_stage::{Stop, plan_named, read_netlist};
 use std::alloc::Global;
 use std::marker::Brand;
 
-/// Writes `accepted`, and a line for each event of a plan, in order: the event and its rank.
-pub fn write_accepted<O: Sink>(alloc: Global, plan: &Plan<'_>, out: &mut O) -> Result<(), Stop>
+/// What `accept` is to do: the files of the netlist and of the graph, and how registers are put
+/// into clusters.
+#[derive(Clone, Copy)]
+pub struct AcceptJob<'a> {
+    pub net: &'a str,
+    pub graph: &'a str,
+    pub clusters: Mode,
+}
+
+/// Reads a netlist, accepts the graph for it, and writes the ranks of its events.
+#[tactic(none)]
+pub fn accept<F: Files, O: Sink>(
+    alloc: Global,
+    job: &AcceptJob<'_>,
+    files: &mut F,
+    out: &mut O,
+) -> Result<(), Stop>
+    ensures { Ends (stages_of (F.held files.old)
+        (Accept job.now.net.now job.now.graph.now job.now.clusters))
+        (RoseIn (F.faults files.old) (F.faults files.new)) (record {
+          old = O.written out.old;
+          new = O.written out.new;
+          before = O.faults out.old;
+          now = O.faults out.new;
+        }) result }
+{
+    let netlist = read_netlist(alloc, files, job.net)?;
+    let plan = plan_named(alloc, files, job.net, &netlist, job.graph, job.clusters)?;
+    write_accepted(alloc, &plan, out)
+}
+
+// Writes `accepted`, and a line for each event of a plan, in order: the event and its rank.
+fn write_accepted<O: Sink>(alloc: Global, plan: &Plan<'_>, out: &mut O) -> Result<(), Stop>
     ensures { Ends (ranks_stage plan.now) Never (record {
       old = O.written out.old;
       new = O.written out.new;

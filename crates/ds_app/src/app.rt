@@ -1,13 +1,21 @@
-//! The top call.
+//! The top call, and which command does a job.
 ghost use Rattle.std.specs.Prelude.{◌≡◌, map};
-ghost use Rattle.ds_app.specs.Ends.{Output};
+ghost use Rattle.ds_cmd.specs.Allowed.{AreAllowed};
+ghost use Rattle.ds_stage.specs.Ends.{Ends, Output, RoseIn};
 ghost use Rattle.ds_app.specs.Interleavings.{Interleavings};
+ghost use Rattle.ds_app.specs.Job.{stages_of};
 ghost use Rattle.ds_app.specs.Status.{Call, IsAnswered, Reports, SaysStop, SaysUsage};
 
-use crate::job::do_job;
-use crate::stop::Stop;
-use ds_cmd::{UsageFault, parse};
+use crate::accept::{AcceptJob, accept};
+use crate::check::check;
+use crate::clock::clock;
+use crate::demo::{DemoJob, demo};
+use crate::graph::graph;
+use crate::replay::{ReplayJob, replay};
+use crate::run::{RunJob, run};
+use ds_cmd::{Job, UsageFault, parse};
 use ds_outside::{Files, Gate, Sink, write_all};
+use ds_stage::Stop;
 use std::thread::Threads;
 
 /// Does all that the program does, and answers its status.
@@ -58,13 +66,98 @@ pub fn desync_main<R: AllocGlobal + Threads + Sync, F: Files, O: Sink, E: Sink, 
     // In whatever order latches fire, registers store their clocked values, and firing goes on.
     ensures interleavings { Interleavings (F.held files.old) (map (λ w. w.now) words.now) }
 {
-    let alloc = rt.alloc();
-    match parse(alloc, words) {
-        Ok(job) => match do_job(rt, alloc, &job, gate, files, out) {
+    match parse(rt.alloc(), words) {
+        Ok(job) => match do_job(rt, &job, gate, files, out) {
             Ok(()) => 0,
             Err(stop) => say_stop(&stop, err),
         },
         Err(fault) => say_usage(fault, err),
+    }
+}
+
+// Does a job: reads its files and writes its text.
+#[tactic(none)]
+fn do_job<R: AllocGlobal + Threads + Sync, G: Gate, F: Files, O: Sink>(
+    rt: &R,
+    job: &Job,
+    gate: &G,
+    files: &mut F,
+    out: &mut O,
+) -> Result<(), Stop>
+    requires { AreAllowed job.now }
+    ensures { Ends (stages_of (F.held files.old) job.now)
+        (RoseIn (F.faults files.old) (F.faults files.new)) (record {
+          old = O.written out.old;
+          new = O.written out.new;
+          before = O.faults out.old;
+          now = O.faults out.new;
+        }) result }
+{
+    let alloc = rt.alloc();
+    match job {
+        Job::Run {
+            net,
+            vec,
+            graph,
+            clusters,
+            jobs,
+            log,
+        } => {
+            let job = RunJob {
+                net: net.as_str(),
+                vec: vec.as_str(),
+                graph,
+                clusters: *clusters,
+                jobs: *jobs,
+                log: *log,
+            };
+            run(rt, &job, gate, files, out)
+        }
+        Job::Clock { net, vec } => clock(alloc, net.as_str(), vec.as_str(), files, out),
+        Job::Check { net } => check(alloc, net.as_str(), files, out),
+        Job::Graph { net, clusters } => graph(alloc, net.as_str(), *clusters, files, out),
+        Job::Replay {
+            net,
+            vec,
+            log,
+            graph,
+            clusters,
+        } => {
+            let job = ReplayJob {
+                net: net.as_str(),
+                vec: vec.as_str(),
+                log: log.as_str(),
+                graph,
+                clusters: *clusters,
+            };
+            replay(alloc, &job, files, out)
+        }
+        Job::Accept {
+            net,
+            graph,
+            clusters,
+        } => {
+            let job = AcceptJob {
+                net: net.as_str(),
+                graph: graph.as_str(),
+                clusters: *clusters,
+            };
+            accept(alloc, &job, files, out)
+        }
+        Job::Demo {
+            seed,
+            registers,
+            turns,
+            jobs,
+        } => {
+            let job = DemoJob {
+                seed: *seed,
+                registers: *registers,
+                turns: *turns,
+                jobs: *jobs,
+            };
+            demo(rt, &job, gate, out)
+        }
     }
 }
 

@@ -1,52 +1,54 @@
-//! The summary of a run of the design that is made from a number.
+//! `demo`: the summary of a run of the design that is made from a number.
 ghost use Rattle.std.specs.Prelude.{◌≡◌, ◌≤◌, ◌<◌, IfOk};
 ghost use Rattle.ds_base.specs.Limit.{most_of};
 ghost use Rattle.ds_base.specs.declared.number.Limit.TheVariants.{Clusters, Vectors as VectorLimit};
 ghost use Rattle.ds_design.specs.Circuit.{initial_row};
 ghost use Rattle.ds_outside.specs.Writes.{Writes};
 ghost use Rattle.ds_app.specs.DemoStage.{AreSums, demo_stage, summary_text};
-ghost use Rattle.ds_app.specs.Ends.{Ends, Never, Output};
+ghost use Rattle.ds_stage.specs.Ends.{Ends, Never, Output};
 
-use crate::plan::own_plan;
-use crate::report::put_count;
-use crate::split::split_netlist;
-use crate::stop::Stop;
 use ds_base::{Mode, OutOfMemory};
 use ds_demo::make;
 use ds_design::{Design, Netlist};
 use ds_latch::Plan;
 use ds_netlist::levelise;
 use ds_outside::{Gate, Sink, WriteFault};
+use ds_stage::{Stop, own_plan, put_count, split_netlist};
 use ds_trace::{Sums, sum_run};
 use std::alloc::Global;
 use std::thread::Threads;
 
+/// What `demo` is to do: the number that a design is made from, how many registers it is to have,
+/// how many vectors, and how many workers.
+#[derive(Clone, Copy)]
+pub struct DemoJob {
+    pub seed: u64,
+    pub registers: u32,
+    pub turns: u32,
+    pub jobs: u32,
+}
+
 /// Makes a design and vectors from a number, runs them, and writes the summary.
-pub fn write_demo<R: Threads + Sync, G: Gate, O: Sink>(
+pub fn demo<R: AllocGlobal + Threads + Sync, G: Gate, O: Sink>(
     rt: &R,
-    alloc: Global,
-    seed: u64,
-    registers: u32,
-    turns: u32,
-    jobs: u32,
+    job: &DemoJob,
     gate: &G,
     out: &mut O,
 ) -> Result<(), Stop>
-    requires registers { (1 ≤ registers) × (registers ≤ most_of Clusters) }
-    requires turns { turns ≤ most_of VectorLimit }
-    requires jobs { (0 < jobs) × (jobs ≤ 64) }
-    ensures { Ends (demo_stage seed registers turns) Never (record {
+    requires registers { (1 ≤ job.now.registers) × (job.now.registers ≤ most_of Clusters) }
+    requires turns { job.now.turns ≤ most_of VectorLimit }
+    requires jobs { (0 < job.now.jobs) × (job.now.jobs ≤ 64) }
+    ensures { Ends (demo_stage job.now.seed job.now.registers job.now.turns) Never (record {
       old = O.written out.old;
       new = O.written out.new;
       before = O.faults out.old;
       now = O.faults out.new;
     }) result }
 {
-    let sums = match sums_of(rt, alloc, seed, registers, turns, jobs, gate) {
-        Ok(sums) => sums,
-        Err(_) => return Err(Stop::Memory),
+    let Ok(sums) = sums_of(rt, job, gate) else {
+        return Err(Stop::Memory);
     };
-    match put_summary(registers, turns, sums.ones, sums.fold, out) {
+    match put_summary(job.registers, job.turns, sums.ones, sums.fold, out) {
         Ok(()) => Ok(()),
         Err(_) => Err(Stop::Unwritten),
     }
@@ -72,24 +74,22 @@ fn put_summary<O: Sink>(
 }
 
 // What the run of a made design sums up to.
-fn sums_of<R: Threads + Sync, G: Gate>(
+fn sums_of<R: AllocGlobal + Threads + Sync, G: Gate>(
     rt: &R,
-    alloc: Global,
-    seed: u64,
-    registers: u32,
-    turns: u32,
-    jobs: u32,
+    job: &DemoJob,
     gate: &G,
 ) -> Result<Sums, OutOfMemory>
-    requires registers { (1 ≤ registers) × (registers ≤ most_of Clusters) }
-    requires turns { turns ≤ most_of VectorLimit }
-    requires jobs { (0 < jobs) × (jobs ≤ 64) }
-    ensures { IfOk result (λ sums. AreSums seed registers turns sums.ones sums.fold) }
+    requires registers { (1 ≤ job.now.registers) × (job.now.registers ≤ most_of Clusters) }
+    requires turns { job.now.turns ≤ most_of VectorLimit }
+    requires jobs { (0 < job.now.jobs) × (job.now.jobs ≤ 64) }
+    ensures { IfOk result (λ sums. AreSums job.now.seed job.now.registers job.now.turns
+        sums.ones sums.fold) }
 {
-    let (design, vectors) = make(alloc, seed, registers, turns)?;
+    let alloc = rt.alloc();
+    let (design, vectors) = make(alloc, job.seed, job.registers, job.turns)?;
     let netlist = netlist_of(alloc, design)?;
     let plan = plan_for(alloc, &netlist)?;
-    sum_run(rt, alloc, &plan, &vectors, jobs, gate)
+    sum_run(rt, alloc, &plan, &vectors, job.jobs, gate)
 }
 
 // The netlist of a made design, which is accepted: nothing but want of memory refuses it.

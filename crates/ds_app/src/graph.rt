@@ -1,21 +1,47 @@
-//! The controller graph of a netlist.
+//! `graph`: the controller graph of a netlist.
 ghost use Rattle.std.specs.Prelude.{◌≡◌};
 ghost use Rattle.ds_outside.specs.Writes.{Writes};
 ghost use Rattle.ds_astg.specs.Text.{graph_text};
-ghost use Rattle.ds_app.specs.Ends.{Ends, Never, Output};
-ghost use Rattle.ds_app.specs.GraphStage.{controller_stage};
+ghost use Rattle.ds_cmd.specs.declared.job.Job.TheVariants.{Graph};
+ghost use Rattle.ds_stage.specs.Ends.{Ends, Never, Output, RoseIn};
+ghost use Rattle.ds_stage.specs.GraphStage.{controller_stage};
+ghost use Rattle.ds_app.specs.Job.{stages_of};
 
-use crate::stop::Stop;
 use ds_astg::write;
+use ds_base::Mode;
 use ds_control::controller;
 use ds_latch::Latches;
 use ds_marked::Marked;
-use ds_outside::{Behind, Buffered, Lent, Sink, WriteFault};
+use ds_outside::{Behind, Buffered, Files, Lent, Sink, WriteFault};
+use ds_stage::{Stop, read_netlist, split_netlist};
 use std::alloc::Global;
 use std::marker::Brand;
 
-/// Writes the graph of the required orders of a split netlist, under the name of its main model.
-pub fn write_graph<O: Sink>(alloc: Global, latches: &Latches<'_>, out: &mut O) -> Result<(), Stop>
+/// Reads the netlist of the file `net`, and writes its controller graph, its registers in the
+/// clusters of a mode.
+#[tactic(none)]
+pub fn graph<F: Files, O: Sink>(
+    alloc: Global,
+    net: &str,
+    clusters: Mode,
+    files: &mut F,
+    out: &mut O,
+) -> Result<(), Stop>
+    ensures { Ends (stages_of (F.held files.old) (Graph net.now clusters))
+        (RoseIn (F.faults files.old) (F.faults files.new)) (record {
+          old = O.written out.old;
+          new = O.written out.new;
+          before = O.faults out.old;
+          now = O.faults out.new;
+        }) result }
+{
+    let netlist = read_netlist(alloc, files, net)?;
+    let latches = split_netlist(alloc, net, &netlist, clusters)?;
+    write_graph(alloc, &latches, out)
+}
+
+// Writes the graph of the required orders of a split netlist, under the name of its main model.
+fn write_graph<O: Sink>(alloc: Global, latches: &Latches<'_>, out: &mut O) -> Result<(), Stop>
     ensures { Ends (controller_stage latches.now) Never (record {
       old = O.written out.old;
       new = O.written out.new;

@@ -1,60 +1,49 @@
-//! The top call: what the program does, from the words of its command line to its status.
+//! The top call and the commands: what the program does, from the words of its command line to its
+//! status.
 //!
 //! A caller lends files and two outputs, and sees which bytes they hold and how often they have
 //! failed. `desync_main` reads the words, does the job that they ask for, and answers a status from
 //! 0 to 5. The record `IsAnswered` of specs/Status says when each status comes and what it leaves:
-//! at 0 the output has exactly the job's text more, which `specs/Job` defines stage by stage; at 1
-//! the error output has the line of the first fault of the files.
+//! at 0 the output has exactly the job's text more, which `specs/Job` defines by the stages of
+//! `ds_stage`; at 1 the error output has the line of the first fault of the files.
 //!
-//! `run` has workers fire the events of the netlist's latches on a shared table, `clock` clocks it,
-//! and both texts are the trace of the one clocked run, for any number of workers; with a log, what
-//! the workers fired stands behind it, a legal list that has each event once a vector. `check`
-//! reports on the netlist, and `graph` writes the controller graph. `accept` writes the ranks of a graph of the user's that is accepted, and
-//! `run` and `replay` fire over such a graph where one is named. `replay` fires the events of a log
-//! where each may fire, and writes what each register has stored then. `demo` makes a design from a
-//! number, runs it, and sums its trace up. In whatever order the latches
-//! fire, each register stores its clocked values: `Interleavings`. Not promised is that memory is
-//! found, and which of several cycles is shown.
+//! Each command has a file. `run` has workers fire the events of the netlist's latches on a shared
+//! table, `clock` clocks it, and both texts are the trace of the one clocked run, for any number of
+//! workers; with a log, what the workers fired stands behind it, a legal list that has each event
+//! once a vector. `check` reports on the netlist, and `graph` writes the controller graph. `accept`
+//! writes the ranks of a graph of the user's that is accepted, and `run` and `replay` fire over
+//! such a graph where one is named. `replay` fires the events of a log where each may fire, and
+//! writes what each register has stored then. `demo` makes a design from a number, runs it, and
+//! sums its trace up. In whatever order the latches fire, each register stores its clocked values:
+//! `Interleavings`. Not promised is that memory is found, and which of several cycles is shown.
 #![tactic(auto)]
 
 mod accept;
 #[cfg(test)]
 mod accept_tests;
 mod app;
+mod check;
 mod clock;
 mod demo;
 #[cfg(test)]
 mod demo_tests;
-mod fault_line;
 #[cfg(test)]
 mod fault_tests;
-mod fault_text;
 #[cfg(test)]
 mod gate_tests;
 mod graph;
 #[cfg(test)]
 mod graph_tests;
-mod graph_text;
-mod homes;
-mod job;
 #[cfg(test)]
 mod jobs_tests;
-mod log;
-mod log_text;
-mod net_text;
-mod plan;
+mod replay;
 #[cfg(test)]
 mod replay_tests;
-mod report;
 mod run;
 #[cfg(test)]
 mod run_tests;
 #[cfg(test)]
 mod settle_tests;
-mod source;
-mod split;
-mod state_text;
-mod stop;
 #[cfg(test)]
 mod tests;
 #[cfg(test)]

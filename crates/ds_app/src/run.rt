@@ -1,40 +1,81 @@
-//! The run of a plan by workers.
+//! `run`: the run of a plan by workers.
 ghost use Rattle.std.specs.Prelude.{◌≡◌, ◌≤◌, ◌<◌, length};
 ghost use Rattle.ds_design.specs.Circuit.{columns, initial_row};
+ghost use Rattle.ds_cmd.specs.declared.job.Job.TheVariants.{Run};
 ghost use Rattle.ds_trace.specs.RunText.{IsRunText};
-ghost use Rattle.ds_app.specs.Ends.{Ends, Never, Output};
-ghost use Rattle.ds_app.specs.Stage.{giving};
+ghost use Rattle.ds_stage.specs.Ends.{Ends, Never, Output, RoseIn};
+ghost use Rattle.ds_stage.specs.Stage.{giving};
+ghost use Rattle.ds_app.specs.Job.{stages_of};
 
-use crate::stop::Stop;
+use ds_base::Mode;
+use ds_cmd::FileName;
 use ds_design::Vectors;
 use ds_latch::Plan;
-use ds_outside::{Gate, Sink};
+use ds_outside::{Files, Gate, Sink};
+use ds_stage::{Stop, plan_netlist, read_netlist, read_rows};
 use ds_trace::{RunFault, write_run};
-use std::alloc::Global;
 use std::thread::Threads;
 
-/// Runs a plan with so many workers, and writes its trace, and its log where one is wanted.
-pub fn write_traced<R: Threads + Sync, G: Gate, O: Sink>(
+/// What `run` is to do: the files of the netlist, of the vectors and of a graph, where one is
+/// named; how registers are put into clusters; how many workers, and whether a log is wanted.
+#[derive(Clone, Copy)]
+pub struct RunJob<'a> {
+    pub net: &'a str,
+    pub vec: &'a str,
+    pub graph: &'a Option<FileName>,
+    pub clusters: Mode,
+    pub jobs: u32,
+    pub log: bool,
+}
+
+/// Reads a netlist, makes its plan, has workers run it on the vectors, and writes the trace, and
+/// the log where one is wanted.
+#[tactic(none)]
+pub fn run<R: AllocGlobal + Threads + Sync, G: Gate, F: Files, O: Sink>(
     rt: &R,
-    alloc: Global,
+    job: &RunJob<'_>,
+    gate: &G,
+    files: &mut F,
+    out: &mut O,
+) -> Result<(), Stop>
+    requires { (0 < job.now.jobs) × (job.now.jobs ≤ 64) }
+    ensures { Ends (stages_of (F.held files.old) (Run job.now.net.now job.now.vec.now
+        job.now.graph.now job.now.clusters job.now.jobs job.now.log))
+        (RoseIn (F.faults files.old) (F.faults files.new)) (record {
+          old = O.written out.old;
+          new = O.written out.new;
+          before = O.faults out.old;
+          now = O.faults out.new;
+        }) result }
+{
+    let alloc = rt.alloc();
+    let netlist = read_netlist(alloc, files, job.net)?;
+    let plan = plan_netlist(alloc, files, job.net, &netlist, job.graph, job.clusters)?;
+    let vectors = read_rows(alloc, files, job.vec, &netlist)?;
+    write_traced(rt, job, &plan, &vectors, gate, out)
+}
+
+// Runs a plan with so many workers, and writes its trace, and its log where one is wanted.
+fn write_traced<R: AllocGlobal + Threads + Sync, G: Gate, O: Sink>(
+    rt: &R,
+    job: &RunJob<'_>,
     plan: &Plan<'_>,
     vectors: &Vectors,
-    jobs: u32,
-    log: bool,
     gate: &G,
     out: &mut O,
 ) -> Result<(), Stop>
     requires width { vectors.now.width ≡ length (columns plan.now.split.circuit) }
     requires start { plan.now.split.initial ≡ initial_row plan.now.split.circuit }
-    requires jobs { (0 < jobs) × (jobs ≤ 64) }
-    ensures value { Ends (giving (IsRunText log plan.now vectors.now.rows)) Never (record {
-      old = O.written out.old;
-      new = O.written out.new;
-      before = O.faults out.old;
-      now = O.faults out.new;
-    }) result }
+    requires jobs { (0 < job.now.jobs) × (job.now.jobs ≤ 64) }
+    ensures value { Ends (giving (IsRunText job.now.log plan.now vectors.now.rows)) Never
+        (record {
+          old = O.written out.old;
+          new = O.written out.new;
+          before = O.faults out.old;
+          now = O.faults out.new;
+        }) result }
 {
-    match write_run(rt, alloc, plan, vectors, jobs, log, gate, out) {
+    match write_run(rt, rt.alloc(), plan, vectors, job.jobs, job.log, gate, out) {
         Ok(()) => Ok(()),
         Err(RunFault::Write) => Err(Stop::Unwritten),
         Err(RunFault::Memory) => Err(Stop::Memory),

@@ -5,7 +5,7 @@ use Rattle.ds_marked.specs.Graph.{Graph}
 use Rattle.ds_outside.specs.Writes.{GoesOn}
 use Rattle.ds_rows.specs.Log.{firing_text}
 use Rattle.ds_rows.proofs.Then.{goes_on, nothing, with_text}
-use Rattle.ds_app.specs.AcceptStage.{rank_lines}
+use Rattle.ds_stage.specs.AcceptStage.{rank_lines}
 use Rattle.ds_app.proofs.accept.put_ranks.Goals as goal
 
 pub loop-v-init : goal.loop-v-init

@@ -1,5 +1,5 @@
 use Rattle.ds_outside.specs.Writes.{GoesOn}
-use Rattle.ds_app.specs.AcceptStage.{rank_lines}
+use Rattle.ds_stage.specs.AcceptStage.{rank_lines}
 use Rattle.ds_app.proofs.accept.put_ranks.Given as goal
 
 abbrev pub invariant-loop-v : goal.invariant-loop-v

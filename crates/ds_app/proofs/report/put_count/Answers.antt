@@ -1,8 +1,0 @@
-use Rattle.std.proofs.Common.{◌∙◌}
-use Rattle.ds_rows.proofs.Then.{goes_on, with_text}
-use Rattle.ds_app.proofs.report.put_count.Goals as goal
-
-pub returns : goal.returns
-returns g c =
-    goes_on (goes_on (goes_on c.put-so_far.ensures c.put-so_far-2.ensures)
-    (with_text (c.as_bytes.ensures.value ∙ c.format.ensures.text) c.put-so_far-3.ensures)) c.put.ensures

@@ -1,0 +1,29 @@
+//! `check`: the report on a netlist.
+ghost use Rattle.std.specs.Prelude.{◌≡◌};
+ghost use Rattle.ds_cmd.specs.declared.job.Job.TheVariants.{Check};
+ghost use Rattle.ds_stage.specs.Ends.{Ends, Output, RoseIn};
+ghost use Rattle.ds_app.specs.Job.{stages_of};
+
+use ds_outside::{Files, Sink};
+use ds_stage::{Stop, read_netlist, write_report};
+use std::alloc::Global;
+
+/// Reads the netlist of the file `net`, and writes the report on it.
+#[tactic(none)]
+pub fn check<F: Files, O: Sink>(
+    alloc: Global,
+    net: &str,
+    files: &mut F,
+    out: &mut O,
+) -> Result<(), Stop>
+    ensures { Ends (stages_of (F.held files.old) (Check net.now))
+        (RoseIn (F.faults files.old) (F.faults files.new)) (record {
+          old = O.written out.old;
+          new = O.written out.new;
+          before = O.faults out.old;
+          now = O.faults out.new;
+        }) result }
+{
+    let netlist = read_netlist(alloc, files, net)?;
+    write_report(&netlist, out)
+}

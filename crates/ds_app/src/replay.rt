@@ -1,0 +1,47 @@
+//! `replay`: the firings of a log fired again.
+ghost use Rattle.std.specs.Prelude.{◌≡◌};
+ghost use Rattle.ds_cmd.specs.declared.job.Job.TheVariants.{Replay};
+ghost use Rattle.ds_stage.specs.Ends.{Ends, Output, RoseIn};
+ghost use Rattle.ds_app.specs.Job.{stages_of};
+
+use ds_base::Mode;
+use ds_cmd::FileName;
+use ds_outside::{Files, Sink};
+use ds_stage::{Stop, plan_netlist, read_log, read_netlist, read_rows, write_state};
+use std::alloc::Global;
+
+/// What `replay` is to do: the files of the netlist, of the vectors, of the log and of a graph,
+/// where one is named, and how registers are put into clusters.
+#[derive(Clone, Copy)]
+pub struct ReplayJob<'a> {
+    pub net: &'a str,
+    pub vec: &'a str,
+    pub log: &'a str,
+    pub graph: &'a Option<FileName>,
+    pub clusters: Mode,
+}
+
+/// Reads a netlist, makes its plan, fires the events of the log in their order on the vectors, and
+/// writes what each register has stored then.
+#[tactic(none)]
+pub fn replay<F: Files, O: Sink>(
+    alloc: Global,
+    job: &ReplayJob<'_>,
+    files: &mut F,
+    out: &mut O,
+) -> Result<(), Stop>
+    ensures { Ends (stages_of (F.held files.old) (Replay job.now.net.now job.now.vec.now
+        job.now.log.now job.now.graph.now job.now.clusters))
+        (RoseIn (F.faults files.old) (F.faults files.new)) (record {
+          old = O.written out.old;
+          new = O.written out.new;
+          before = O.faults out.old;
+          now = O.faults out.new;
+        }) result }
+{
+    let netlist = read_netlist(alloc, files, job.net)?;
+    let plan = plan_netlist(alloc, files, job.net, &netlist, job.graph, job.clusters)?;
+    let vectors = read_rows(alloc, files, job.vec, &netlist)?;
+    let (state, fired) = read_log(alloc, files, job.log, &plan, &vectors)?;
+    write_state(alloc, &plan, &vectors, &state, fired, out)
+}

@@ -1,0 +1,70 @@
+-- A stage names a file that it did not read only where a read failed.
+use Rattle.std.proofs.Common.{ℕ, List, Option, None, Some, length, inl, inr}
+use Rattle.ds_outside.specs.Held.{Held}
+use Rattle.ds_outside.specs.declared.files.Which.{Which}
+use Rattle.ds_outside.specs.declared.files.Which.TheVariants.{Net, Vectors, Log}
+use Rattle.ds_outside.specs.declared.files.Which.TheVariants as which
+use Rattle.ds_lines.specs.Line.{Line}
+use Rattle.ds_blif.specs.Text.{read_of}
+use Rattle.ds_flat.specs.Copies.{flat_of}
+use Rattle.ds_design.specs.Circuit.{Circuit, columns}
+use Rattle.ds_design.specs.declared.blif.BlifModel.{BlifModel}
+use Rattle.ds_stage.specs.Stage.{OfFile, Stage, giving, then_stage}
+use Rattle.ds_stage.specs.Stages.{accepted_stage, design_stage, file_stage, flat_or_line, lines_stage, models_or_line, netlist_stage, result_stage, rows_stage, vectors_stage}
+use Rattle.ds_stage.specs.SplitStage.{split_stage}
+use Rattle.ds_stage.specs.PlanStage.{acceptable_stage, graph_or_line, marked_stage, plan_stage, planned_stage}
+use Rattle.ds_stage.specs.ReplayStage.{IsStateText, fired_stage, log_stage, replayed_stage}
+use Rattle.ds_base.specs.Values.{Row}
+use Rattle.ds_astg.specs.Read.{graph_of}
+use Rattle.ds_latch.specs.Plan.{Planned}
+use Rattle.ds_fire.specs.Snapshot.{Snapshot}
+use Rattle.ds_base.specs.declared.number.Mode.{Mode}
+use Rattle.ds_latch.specs.Node.{Split}
+
+-- a read of some file failed
+pub record IsFailed (failed : OfFile) : Type 0 where
+  pub which : Which
+  pub name : List ℕ
+  pub is : failed which name
+
+-- a stage that names a file says that a read failed
+abbrev pub Says : {A : Type 0} → Stage A → OfFile → Type 0
+Says stage failed = (line : List ℕ) → stage.unread failed line → IsFailed failed
+
+pub then_says : {A B : Type 0} (first : Stage A) (next : A → Stage B) (failed : OfFile) → Says first failed → ((a : A) → Says (next a) failed) → Says (then_stage first next) failed
+then_says first next failed one all line (inl is) = one line is
+then_says first next failed one all line (inr (a, means, is)) = all a line is
+
+lines_say : (held : List ℕ → Held) (which : Which) (name : List ℕ) (failed : OfFile) → Says (lines_stage held which name) failed
+lines_say held which name failed line (rose, spelt) = record { which = which; name = name; is = rose }
+
+design_says : (file : List ℕ) (failed : OfFile) (lines : List Line) → Says (design_stage file lines) failed
+design_says file failed lines =
+    then_says (result_stage (models_or_line file (read_of lines))) (λ (models : List BlifModel). result_stage (flat_or_line file (flat_of models))) failed
+    (λ line none. absurd none) (λ models line none. absurd none)
+
+pub netlist_says : (held : List ℕ → Held) (file : List ℕ) (failed : OfFile) → Says (netlist_stage held file) failed
+netlist_says held file failed =
+    then_says (file_stage held file) (accepted_stage file) failed
+    (then_says (lines_stage held Net file) (design_stage file) failed (lines_say held Net file failed) (design_says file failed))
+    (λ c line none. absurd none)
+
+pub vectors_say : (held : List ℕ → Held) (vec : List ℕ) (c : Circuit) (failed : OfFile) → Says (vectors_stage held vec c) failed
+vectors_say held vec c failed =
+    then_says (lines_stage held Vectors vec) (rows_stage vec (length (columns c))) failed (lines_say held Vectors vec failed) (λ lines line none. absurd none)
+
+plan_says : (held : List ℕ → Held) (graph : Option (List ℕ)) (failed : OfFile) (s : Split) → Says (plan_stage held graph s) failed
+plan_says held None failed s = λ line none. absurd none
+plan_says held (Some file) failed s =
+    then_says (lines_stage held which.Graph file) (marked_stage file s) failed (lines_say held which.Graph file failed)
+    (λ lines. then_says (result_stage (graph_or_line file (graph_of lines))) (acceptable_stage file s) failed (λ line none. absurd none) (λ g line none. absurd none))
+
+pub planned_says : (held : List ℕ → Held) (net : List ℕ) (graph : Option (List ℕ)) (mode : Mode) (failed : OfFile) (c : Circuit) → Says (planned_stage held net graph mode c) failed
+planned_says held net graph mode failed c =
+    then_says (split_stage net mode c) (plan_stage held graph) failed (λ line none. absurd none) (plan_says held graph failed)
+
+pub replayed_says : (held : List ℕ → Held) (log : List ℕ) (failed : OfFile) (planned : Planned) (vectors : List Row) → Says (replayed_stage held log planned vectors) failed
+replayed_says held log failed planned vectors =
+    then_says (log_stage held log planned vectors) (λ (after : Snapshot × ℕ). giving (IsStateText after.0 after.1)) failed
+    (then_says (lines_stage held Log log) (fired_stage log planned vectors) failed (lines_say held Log log failed) (λ lines line none. absurd none))
+    (λ after line none. absurd none)

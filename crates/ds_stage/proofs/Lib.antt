@@ -1,0 +1,13 @@
+pub mod Stages
+pub mod Ends
+pub mod Exclusive
+pub mod Failed
+pub mod SplitStops
+pub mod OneGraph
+pub mod PlanStages
+pub mod PlanExclusive
+pub mod PlanAccepted
+pub mod LogStages
+pub mod LogTexts
+pub mod Housed
+pub mod Registers

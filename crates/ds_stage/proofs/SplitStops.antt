@@ -1,0 +1,53 @@
+-- How the split of a netlist ends.
+use Rattle.std.proofs.Common.{◌≡◌, ℕ, ◌+◌, ◌*◌, ◌<◌, ◌≤◌, List, length, inl, inr, refl, arith, subst, ap, sym}
+use Rattle.std.specs.Prelude.{AllPairs, ◌≢◌}
+use Rattle.ds_base.specs.Limit.{most_of}
+use Rattle.ds_base.specs.declared.number.Limit.{Limit}
+use Rattle.ds_base.specs.declared.number.Limit.TheVariants.{Arcs, Clusters}
+use Rattle.ds_base.specs.declared.number.Mode.{Mode}
+use Rattle.ds_design.specs.Circuit.{Circuit}
+use Rattle.ds_latch.specs.Node.{Split, nodes}
+use Rattle.ds_latch.specs.Latches.{HasEdges}
+use Rattle.ds_latch.specs.declared.latches.Edge.{Edge}
+use Rattle.ds_split.specs.Cluster.{IsClustering}
+use Rattle.ds_split.specs.Split.{HasTooManyOrders, IsClusterFault, IsSplitFault, split_of}
+use Rattle.ds_split.specs.declared.fault.SplitFault.{SplitFault}
+use Rattle.ds_split.specs.declared.fault.SplitFault.TheVariants.{TooMany}
+use Rattle.ds_split.specs.declared.fault.SplitFault.TheVariants as split
+use Rattle.ds_stage.specs.FaultText.{file_line, too_many_text}
+use Rattle.ds_stage.specs.Ends.{Never, SaysRefused, SaysSplit, Stops}
+use Rattle.ds_stage.specs.SplitStage.{IsSplitLine, split_stage}
+use Rattle.ds_stage.specs.declared.stop.Stop.{Stop}
+use Rattle.ds_stage.specs.declared.stop.Stop.TheVariants.{Refused, Unread, Unwritten, Memory}
+
+-- a line that refuses, by what it is
+refused_by : (file : List ℕ) (mode : Mode) (c : Circuit) (limit : Limit) (stop : Stop)
+    → IsSplitLine file mode c (file_line file (too_many_text limit)) → SaysRefused (file_line file (too_many_text limit)) stop
+    → Stops (split_stage file mode c) Never stop
+refused_by file mode c limit (Refused line) is says = subst (IsSplitLine file mode c) (sym says) is
+refused_by file mode c limit (Unread line) is says = absurd says
+refused_by file mode c limit Unwritten is says = absurd says
+refused_by file mode c limit Memory is says = tt
+
+-- want of memory stops every stage
+memory_stops : (file : List ℕ) (mode : Mode) (c : Circuit) (stop : Stop) → stop ≡ Memory → Stops (split_stage file mode c) Never stop
+memory_stops file mode c stop is = rw is tt
+
+pub cluster_stops : (file : List ℕ) (mode : Mode) (c : Circuit) (fault : SplitFault) (stop : Stop) → IsClusterFault c mode fault → SaysSplit file fault stop
+    → Stops (split_stage file mode c) Never stop
+cluster_stops file mode c (TooMany limit) stop (is, many) says =
+    refused_by file mode c limit stop (inl (many, ap (λ (l : Limit). file_line file (too_many_text l)) is)) says
+cluster_stops file mode c split.Memory stop is says = memory_stops file mode c stop says
+
+pub split_stops : (file : List ℕ) (mode : Mode) (c : Circuit) (clusters : List (List ℕ)) → IsClustering c mode clusters → length clusters ≤ most_of Clusters
+    → (fault : SplitFault) (stop : Stop) → IsSplitFault (split_of c clusters) fault → SaysSplit file fault stop → Stops (split_stage file mode c) Never stop
+split_stops file mode c clusters are few (TooMany limit) stop (is, many) says =
+    refused_by file mode c limit stop
+    (inr (split_of c clusters, record { clusters = clusters; are = are; few = few; is = refl }, many, ap (λ (l : Limit). file_line file (too_many_text l)) is)) says
+split_stops file mode c clusters are few split.Memory stop is says = memory_stops file mode c stop says
+
+-- edges that are few enough are not too many
+pub few_orders : (s : Split) (edges : List Edge) → HasEdges s edges → AllPairs (λ a b. a ≢ b) edges → 2 * nodes s + 2 * length edges ≤ 1048576 → ¬ HasTooManyOrders s
+few_orders s edges has_edges once few many =
+    let over : most_of Arcs < 2 * nodes s + 2 * length edges = many edges has_edges once in
+    omega arith

@@ -1,0 +1,16 @@
+use Rattle.std.proofs.Common.{◌∙◌, length, sym}
+use Rattle.ds_replay.proofs.Logs.{each_line}
+use Rattle.ds_stage.proofs.log.fired_in.Goals as goal
+
+pub returns-in-Ok : goal.returns-in-Ok
+returns-in-Ok c =
+    let (events, replays, state) = c.in-Ok.ensures in (
+      c.in_ok-lines.lines,
+      c.in_ok-lines.ensures,
+      record {
+        events = events;
+        replays = replays;
+        state = state;
+        count = c.firings.ensures ∙ sym (each_line c.args.plan.now.graph (length c.args.vectors.now.rows) c.in_ok-lines.lines events replays);
+      },
+    )

@@ -1,0 +1,67 @@
+-- How a stage of a job ends.
+use Rattle.std.specs.Prelude.{◌≡◌, ℕ, List, Option, Result, Ok, Err}
+use Rattle.ds_outside.specs.Fault.{Rose}
+use Rattle.ds_outside.specs.Written.{appended, AppendsPart}
+use Rattle.ds_outside.specs.declared.files.Which.{Which}
+use Rattle.ds_stage.specs.declared.stop.Stop.{Stop}
+use Rattle.ds_stage.specs.declared.stop.Stop.TheVariants.{Refused, Unread, Unwritten, Memory}
+use Rattle.ds_stage.specs.FaultText.{file_line, too_many_text, unread_line}
+use Rattle.ds_split.specs.declared.fault.SplitFault.{SplitFault}
+use Rattle.ds_split.specs.declared.fault.SplitFault.TheVariants.{TooMany}
+use Rattle.ds_split.specs.declared.fault.SplitFault.TheVariants as split
+use Rattle.ds_stage.specs.Stage.{OfFile, Stage}
+
+-- the files whose count of faults rose
+abbrev pub RoseIn : (Which → List ℕ → ℕ) → (Which → List ℕ → ℕ) → OfFile
+RoseIn before now which name = Rose (before which name) (now which name)
+
+-- a stop is what the stage says; want of memory is free
+abbrev pub Stops : {A : Type 0} → Stage A → OfFile → Stop → Type 0
+Stops stage failed (Refused line) = stage.refused line
+Stops stage failed (Unread line) = stage.unread failed line
+Stops stage failed Unwritten = ⊥
+Stops stage failed Memory = Unit {0}
+
+-- an answer is what the stage says
+abbrev pub Answers : {A : Type 0} → Stage A → OfFile → Result A Stop → Type 0
+Answers stage failed (Ok a) = stage.means a
+Answers stage failed (Err stop) = Stops stage failed stop
+
+-- no file failed
+abbrev pub Never : OfFile
+Never which name = ⊥
+
+-- the line of a file that was not read, or memory was wanted
+abbrev pub SaysUnread : List ℕ → Stop → Type 0
+SaysUnread name (Refused line) = ⊥
+SaysUnread name (Unread line) = line ≡ unread_line name
+SaysUnread name Unwritten = ⊥
+SaysUnread name Memory = Unit {0}
+
+-- a line that refuses, or memory was wanted
+abbrev pub SaysRefused : List ℕ → Stop → Type 0
+SaysRefused text (Refused line) = line ≡ text
+SaysRefused text (Unread line) = ⊥
+SaysRefused text Unwritten = ⊥
+SaysRefused text Memory = Unit {0}
+
+-- the line of a fault of clusters or latches, or memory was wanted
+abbrev pub SaysSplit : List ℕ → SplitFault → Stop → Type 0
+SaysSplit file (TooMany limit) stop = SaysRefused (file_line file (too_many_text limit)) stop
+SaysSplit file split.Memory stop = stop ≡ Memory
+
+-- an output before and after a call: its bytes and its count of faults
+pub record Output : Type 0 where
+  pub old : Option (List ℕ)
+  pub new : Option (List ℕ)
+  pub before : ℕ
+  pub now : ℕ
+
+-- the text of the last stage was written, or a first part of it and a write failed; else nothing was
+abbrev pub Ends : {A : Type 0} → Stage (List ℕ) → OfFile → Output → Result A Stop → Type 0
+Ends stage failed out (Ok x) = (text : List ℕ) × stage.means text × (out.new ≡ appended out.old text)
+Ends stage failed out (Err Unwritten) =
+    (text : List ℕ) × stage.means text × AppendsPart out.old out.new text × Rose out.before out.now
+Ends stage failed out (Err (Refused line)) = stage.refused line × (out.new ≡ out.old)
+Ends stage failed out (Err (Unread line)) = stage.unread failed line × (out.new ≡ out.old)
+Ends stage failed out (Err Memory) = out.new ≡ out.old

@@ -1,0 +1,12 @@
+-- In the order in which to read.
+pub mod Stage
+pub mod FaultText
+pub mod Report
+pub mod Stages
+pub mod SplitStage
+pub mod GraphStage
+pub mod PlanStage
+pub mod AcceptStage
+pub mod Homes
+pub mod ReplayStage
+pub mod Ends

@@ -1,0 +1,93 @@
+-- The plan of a job: that of its controller graph, or that of a graph in a file.
+use Rattle.std.specs.Prelude.{◌≡◌, ℕ, List, ◌++◌, Option, None, Some, Result, Ok, Err, codes, decimal, map}
+use Rattle.ds_base.specs.declared.number.Mode.{Mode}
+use Rattle.ds_outside.specs.Held.{Held}
+use Rattle.ds_outside.specs.declared.files.Which.TheVariants as which
+use Rattle.ds_lines.specs.Line.{Line}
+use Rattle.ds_marked.specs.Graph.{Graph, IsKept}
+use Rattle.ds_design.specs.Circuit.{Circuit}
+use Rattle.ds_marked.specs.Log.{event_text}
+use Rattle.ds_latch.specs.Node.{Split}
+use Rattle.ds_latch.specs.Plan.{Planned}
+use Rattle.ds_rows.specs.Log.{text_of_event}
+use Rattle.ds_astg.specs.Read.{graph_of}
+use Rattle.ds_astg.specs.declared.fault.AstgFault.{AstgFault}
+use Rattle.ds_astg.specs.declared.fault.AstgKind.{AstgKind}
+use Rattle.ds_astg.specs.declared.fault.AstgKind.TheVariants as astg
+use Rattle.ds_accept.specs.Accept.{IsAcceptable, IsPlanOf}
+use Rattle.ds_accept.specs.Fault.{IsAcceptFault}
+use Rattle.ds_accept.specs.declared.fault.AcceptFault.{AcceptFault}
+use Rattle.ds_accept.specs.declared.fault.AcceptFault.TheVariants as accept
+use Rattle.ds_stage.specs.FaultText.{file_line, listed, numbered_line, too_many_text}
+use Rattle.ds_stage.specs.Stage.{Stage, giving, then_stage}
+use Rattle.ds_stage.specs.Stages.{lines_stage, result_stage}
+use Rattle.ds_stage.specs.SplitStage.{split_stage}
+use Rattle.ds_stage.specs.GraphStage.{IsGraphOf}
+
+-- the fault of a line of a graph
+abbrev pub astg_text : AstgKind → List ℕ
+astg_text (astg.Unsupported word) = codes "unsupported command " ++ word
+astg_text (astg.BadWord word) = codes "bad word " ++ word
+astg_text (astg.Instance word) = codes "instance " ++ word
+astg_text (astg.UnknownSignal word) = codes "unknown signal " ++ word
+astg_text (astg.NotMarkedGraph place) = codes "not a marked graph: " ++ place
+astg_text (astg.BadMarking word) = codes "bad marking " ++ word
+astg_text (astg.TooMany limit) = too_many_text limit
+
+-- the fault of a graph that is not accepted, its events as they stand in it; want of memory is none
+abbrev pub accept_text : Graph → AcceptFault → Option (List ℕ)
+accept_text g (accept.UnknownEvent event) = Some (codes "unknown event " ++ text_of_event g event)
+accept_text g (accept.MissingEvent event) = Some (codes "missing event " ++ event_text event)
+accept_text g (accept.MissingOrder from to tokens) =
+    Some (codes "missing order " ++ text_of_event g from ++ codes " to " ++ text_of_event g to
+    ++ codes " with " ++ decimal tokens ++ codes " tokens")
+accept_text g (accept.TokenFreeCycle events) = Some (codes "token-free cycle:" ++ listed (map (text_of_event g) events))
+accept_text g accept.Memory = None
+
+-- this is the text of a fault; want of memory has none
+abbrev pub IsAcceptText : Graph → AcceptFault → List ℕ → Type 0
+IsAcceptText g fault text = accept_text g fault ≡ Some text
+
+-- the graph of lines, or the line of their first fault
+abbrev pub graph_or_line : List ℕ → Result Graph AstgFault → Result Graph (List ℕ)
+graph_or_line file (Ok graph) = Ok graph
+graph_or_line file (Err fault) = Err (numbered_line file fault.line (astg_text fault.kind))
+
+-- a plan that has a split design and its controller graph
+pub record IsOwnPlan (s : Split) (p : Planned) : Type 0 where
+  pub split : p.split ≡ s
+  pub graph : IsGraphOf s p.graph
+
+-- a graph that is acceptable for a split design, and its plan
+pub record IsNamedPlan (s : Split) (g : Graph) (p : Planned) : Type 0 where
+  pub acceptable : IsAcceptable s g
+  pub plan : IsPlanOf s g p
+  pub graph_kept : IsKept g
+  pub plan_kept : IsKept p.graph
+
+-- the plan of a graph that is acceptable, or the line of its first fault; where that is a cycle, of any cycle
+abbrev pub acceptable_stage : List ℕ → Split → Graph → Stage Planned
+acceptable_stage file s g = record {
+  means = λ p. IsNamedPlan s g p;
+  refused = λ line. (fault : AcceptFault) × (text : List ℕ) × IsAcceptFault s g fault
+      × IsAcceptText g fault text × (line ≡ file_line file text);
+  unread = λ _ _. ⊥;
+}
+
+-- the plan of the graph of lines
+abbrev pub marked_stage : List ℕ → Split → List Line → Stage Planned
+marked_stage file s lines =
+    then_stage (result_stage (graph_or_line file (graph_of lines))) (acceptable_stage file s)
+
+-- the plan of the graph of a file
+abbrev pub named_stage : (List ℕ → Held) → List ℕ → Split → Stage Planned
+named_stage held file s = then_stage (lines_stage held which.Graph file) (marked_stage file s)
+
+-- the plan of a split design, with the graph of a file where one is named
+abbrev pub plan_stage : (List ℕ → Held) → Option (List ℕ) → Split → Stage Planned
+plan_stage held None s = giving (IsOwnPlan s)
+plan_stage held (Some file) s = named_stage held file s
+
+-- the plan of a netlist, once it is read
+abbrev pub planned_stage : (List ℕ → Held) → List ℕ → Option (List ℕ) → Mode → Circuit → Stage Planned
+planned_stage held net graph mode c = then_stage (split_stage net mode c) (plan_stage held graph)

@@ -1,0 +1,113 @@
+//! The texts of faults of a graph.
+ghost use Rattle.std.specs.Prelude.{◌≡◌, ◌++◌, ℕ, IfOk, codes, decimal, map};
+ghost use Rattle.ds_marked.specs.Log.{event_text};
+ghost use Rattle.ds_rows.specs.Log.{text_of_event};
+ghost use Rattle.ds_stage.specs.FaultText.{listed};
+ghost use Rattle.ds_stage.specs.PlanStage.{IsAcceptText, astg_text as astg_text_of};
+
+use crate::fault_line::too_many;
+use crate::fault_text::with_name;
+use crate::log_text::{sign, with_event};
+use ds_accept::AcceptFault;
+use ds_astg::AstgKind;
+use ds_base::{EventId, OutOfMemory};
+use ds_marked::{Event, Marked};
+use itoa::Buffer;
+use std::alloc::{AllocError, Global};
+
+/// The text of a fault of a line of a graph.
+pub fn astg_text(alloc: Global, kind: &AstgKind) -> Result<Vec<u8>, AllocError>
+    ensures { IfOk result (λ text. text.items ≡ astg_text_of kind.now) }
+{
+    match kind {
+        AstgKind::Unsupported(word) => with_name(alloc, b"unsupported command ", word),
+        AstgKind::BadWord(word) => with_name(alloc, b"bad word ", word),
+        AstgKind::Instance(word) => with_name(alloc, b"instance ", word),
+        AstgKind::UnknownSignal(word) => with_name(alloc, b"unknown signal ", word),
+        AstgKind::NotMarkedGraph(place) => with_name(alloc, b"not a marked graph: ", place),
+        AstgKind::BadMarking(word) => with_name(alloc, b"bad marking ", word),
+        AstgKind::TooMany(limit) => too_many(alloc, *limit),
+    }
+}
+
+/// The text of a fault of a graph that is not accepted; none of want of memory.
+pub fn accept_text(
+    alloc: Global,
+    graph: &Marked,
+    fault: &AcceptFault,
+) -> Result<Vec<u8>, OutOfMemory>
+    ensures { IfOk result (λ text. IsAcceptText graph.now fault.now text.items) }
+{
+    match fault {
+        AcceptFault::UnknownEvent(event) => unknown(alloc, graph, *event),
+        AcceptFault::MissingEvent(event) => missing(alloc, event),
+        AcceptFault::MissingOrder(source, target, tokens) => {
+            missing_order(alloc, graph, *source, *target, *tokens)
+        }
+        AcceptFault::TokenFreeCycle(events) => cycle(alloc, graph, events.as_slice()),
+        AcceptFault::Memory => Err(OutOfMemory),
+    }
+}
+
+// An event that is no node's.
+fn unknown(alloc: Global, graph: &Marked, event: EventId) -> Result<Vec<u8>, OutOfMemory>
+    ensures { IfOk result (λ text. text.items
+        ≡ codes "unknown event " ++ text_of_event graph.now event) }
+{
+    Ok(with_event(Vec::from_slice(alloc, b"unknown event ")?, graph, event)?)
+}
+
+// A node's event that lacks.
+fn missing(alloc: Global, event: &Event) -> Result<Vec<u8>, OutOfMemory>
+    ensures { IfOk result (λ text. text.items ≡ codes "missing event " ++ event_text event.now) }
+{
+    let mut text = Vec::from_slice(alloc, b"missing event ")?;
+    text.extend_from_slice(event.signal.as_slice())?;
+    text.extend_from_slice(sign(event.kind))?;
+    Ok(text)
+}
+
+// An order that no arc gives.
+fn missing_order(
+    alloc: Global,
+    graph: &Marked,
+    source: EventId,
+    target: EventId,
+    tokens: u8,
+) -> Result<Vec<u8>, OutOfMemory>
+    ensures { IfOk result (λ text. text.items
+        ≡ codes "missing order " ++ text_of_event graph.now source ++ codes " to "
+        ++ text_of_event graph.now target ++ codes " with " ++ decimal tokens
+        ++ codes " tokens") }
+{
+    let mut buffer = Buffer::new();
+    let mut text = with_event(Vec::from_slice(alloc, b"missing order ")?, graph, source)?;
+    text.extend_from_slice(b" to ")?;
+    let mut text = with_event(text, graph, target)?;
+    text.extend_from_slice(b" with ")?;
+    text.extend_from_slice(buffer.format(tokens).as_bytes())?;
+    text.extend_from_slice(b" tokens")?;
+    Ok(text)
+}
+
+// A cycle of arcs without tokens.
+fn cycle(alloc: Global, graph: &Marked, events: &[EventId]) -> Result<Vec<u8>, OutOfMemory>
+    ensures { IfOk result (λ text. text.items
+        ≡ codes "token-free cycle:" ++ listed (map (text_of_event graph.now) events.now)) }
+{
+    let text = Vec::from_slice(alloc, b"token-free cycle:")?;
+    Ok(with_events(text, graph, events)?)
+}
+
+// A text with events behind it, each with a blank before it.
+fn with_events(text: Vec<u8>, graph: &Marked, events: &[EventId]) -> Result<Vec<u8>, AllocError>
+    ensures { IfOk result (λ all. all.items
+        ≡ text.items ++ listed (map (text_of_event graph.now) events.now)) }
+{
+    let mut text = text;
+    for event in events {
+        text.extend_from_slice(b" ")?;
+        text = with_event(text, graph, *event)?;
+    }
+    Ok(text)
+}

@@ -1,0 +1,36 @@
+//! The stages of a job: from its files to netlist, vectors, plan and state, with their texts.
+//!
+//! A stage says three things: what it may give, which lines refuse it, and which line says that a
+//! file was not read (`specs/Stage`). A call here does one stage. It gives what the stage may give,
+//! or a `Stop`, which has the line that the stage says, or says that memory was wanted or that a
+//! write failed (`specs/Ends`). The last stage of a job writes a text: it was appended whole, or a
+//! first part of it and a write failed.
+//!
+//! `read_netlist` and `read_rows` read netlist and vectors (`specs/Stages`), `split_netlist` makes
+//! latches (`specs/SplitStage`), `plan_netlist`, `plan_named` and `own_plan` plans
+//! (`specs/PlanStage`), `read_log` the state after a log, and `write_state` its text
+//! (`specs/ReplayStage`). `write_report` writes the report on a netlist (`specs/Report`). The texts
+//! of faults are those of `specs/FaultText`. When memory is wanted is not promised.
+#![tactic(auto)]
+
+mod fault_line;
+mod fault_text;
+mod graph_text;
+mod homes;
+mod log;
+mod log_text;
+mod net_text;
+mod plan;
+mod report;
+mod source;
+mod split;
+mod state_text;
+mod stop;
+
+pub use log::read_log;
+pub use plan::{own_plan, plan_named, plan_netlist};
+pub use report::{put_count, write_report};
+pub use source::{read_netlist, read_rows};
+pub use split::split_netlist;
+pub use state_text::write_state;
+pub use stop::Stop;

@@ -1,0 +1,67 @@
+//! The texts of faults of a log.
+ghost use Rattle.std.specs.Prelude.{◌≡◌, ◌++◌, [], IfOk, slice_get};
+ghost use Rattle.std.specs.Option.{option_map_or};
+ghost use Rattle.ds_rows.specs.Log.{text_of_event};
+ghost use Rattle.ds_marked.specs.Log.{sign as sign_of};
+ghost use Rattle.ds_stage.specs.ReplayStage.{ends_text, log_text as log_text_of};
+
+use ds_base::{ArcId, EventId};
+use ds_marked::{Kind, Marked};
+use ds_replay::ReplayKind;
+use std::alloc::{AllocError, Global};
+
+/// The text of a fault of a line of a log.
+pub fn log_text(alloc: Global, graph: &Marked, kind: &ReplayKind) -> Result<Vec<u8>, AllocError>
+    ensures { IfOk result (λ text. text.items ≡ log_text_of graph.now kind.now) }
+{
+    match kind {
+        ReplayKind::BadWord => Vec::from_slice(alloc, b"bad word"),
+        ReplayKind::UnknownEvent(word) => {
+            let mut text = Vec::from_slice(alloc, b"unknown event ")?;
+            text.extend_from_slice(word.as_slice())?;
+            Ok(text)
+        }
+        ReplayKind::WrongTurn => Vec::from_slice(alloc, b"wrong turn"),
+        ReplayKind::OverLimit => Vec::from_slice(alloc, b"over limit"),
+        ReplayKind::NotEnabled(arc) => {
+            with_ends(Vec::from_slice(alloc, b"not enabled: ")?, graph, *arc)
+        }
+    }
+}
+
+// A text with the ends of an arc behind it.
+fn with_ends(text: Vec<u8>, graph: &Marked, arc: ArcId) -> Result<Vec<u8>, AllocError>
+    ensures { IfOk result (λ all. all.items
+        ≡ text.items ++ option_map_or (ends_text graph.now) (slice_get graph.now.arcs arc) []) }
+{
+    let Some(arc) = graph.arcs().get(arc.index()) else {
+        return Ok(text);
+    };
+    let mut text = with_event(text, graph, arc.source)?;
+    text.extend_from_slice(b" to ")?;
+    with_event(text, graph, arc.target)
+}
+
+/// A text with an event behind it.
+pub fn with_event(text: Vec<u8>, graph: &Marked, event: EventId) -> Result<Vec<u8>, AllocError>
+    ensures { IfOk result (λ all. all.items ≡ text.items ++ text_of_event graph.now event) }
+{
+    let Some(event) = graph.events().get(event.index()) else {
+        return Ok(text);
+    };
+    let mut text = text;
+    text.extend_from_slice(event.signal.as_slice())?;
+    text.extend_from_slice(sign(event.kind))?;
+    Ok(text)
+}
+
+/// The sign of an event.
+pub fn sign(kind: Kind) -> &'static [u8]
+    ensures { result.now ≡ sign_of kind }
+{
+    match kind {
+        Kind::Rise => b"+",
+        Kind::Fall => b"-",
+        Kind::Dummy => b"",
+    }
+}

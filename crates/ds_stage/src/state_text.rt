@@ -1,0 +1,194 @@
+//! The text of a state: what each register has stored, and how many firings there were.
+ghost use Rattle.std.specs.Prelude.{◌≡◌, ◌<◌, ◌*◌, ◌++◌, ℕ, List, Ok, codes, decimal, length};
+ghost use Rattle.std.specs.List.{flat_map, range_with_len};
+ghost use Rattle.ds_outside.specs.Writes.{GoesOn, Writes};
+ghost use Rattle.ds_fire.specs.Snapshot.{graph_of, limit_of, split_of};
+ghost use Rattle.ds_stage.specs.Ends.{Ends, Never, Output};
+ghost use Rattle.ds_stage.specs.FaultText.{net_text, register_of};
+ghost use Rattle.ds_stage.specs.Homes.{AreHomes};
+ghost use Rattle.ds_stage.specs.ReplayStage.{IsStateText, fired_line, register_line};
+ghost use Rattle.ds_stage.specs.Stage.{giving};
+
+use crate::homes::{Home, homes_of};
+use crate::stop::Stop;
+use ds_base::LatchId;
+use ds_design::{Design, Net, Vectors};
+use ds_fire::State;
+use ds_latch::{Latches, Plan};
+use ds_outside::{Behind, Buffered, Lent, Sink, WriteFault};
+use ds_rows::{put, put_column};
+use itoa::Buffer;
+use std::alloc::Global;
+use std::marker::Brand;
+
+/// Writes a line for each register, and the line of the firings.
+pub fn write_state<O: Sink>(
+    alloc: Global,
+    plan: &Plan<'_>,
+    vectors: &Vectors,
+    state: &State<'_>,
+    fired: u64,
+    out: &mut O,
+) -> Result<(), Stop>
+    requires plan { state.now.planned ≡ plan.now }
+    requires vectors { state.now.vectors ≡ vectors.now.rows }
+    ensures { Ends (giving (IsStateText state.now fired)) Never (record {
+      old = O.written out.old;
+      new = O.written out.new;
+      before = O.faults out.old;
+      now = O.faults out.new;
+    }) result }
+{
+    let latches = plan.latches();
+    let homes = homes_of(alloc, latches)?;
+    let most = most_of(plan, vectors);
+    let lent = Lent { sink: out };
+    let (_, result) = write_behind::<O, Brand>(latches, &homes, state, fired, most, lent);
+    match result {
+        Ok(()) => Ok(()),
+        Err(_) => Err(Stop::Unwritten),
+    }
+}
+
+// How many firings there may be.
+fn most_of(plan: &Plan<'_>, vectors: &Vectors) -> u64
+    ensures { result ≡ length plan.now.graph.events * length vectors.now.rows }
+{
+    plan.graph().events().len() as u64 * vectors.count() as u64
+}
+
+// Writes the text by way of a buffer.
+fn write_behind<'a, O: Sink, B: Behind>(
+    latches: &Latches<'_>,
+    homes: &[Home],
+    state: &State<'_>,
+    fired: u64,
+    most: u64,
+    behind: Lent<'a, O>,
+) -> (Lent<'a, O>, Result<(), WriteFault>)
+    requires split { split_of state.now ≡ latches.now }
+    requires homes { AreHomes latches.now homes.now }
+    requires most { most ≡ length (graph_of state.now).events * limit_of state.now }
+    requires same { behind.sink.ghost_name ≡ B.name }
+    requires before { O.written behind.sink.now ≡ B.before }
+
+    ensures ok { (text : List ℕ) × IsStateText state.now fired text
+        × Writes result.1 B.before (O.written result.0.sink.now)
+        (O.faults behind.entry.sink.now) (O.faults result.0.sink.now) text }
+    ensures same { result.0.sink.ghost_name ≡ B.name }
+{
+    let mut buffered: Buffered<'a, O, B> = Buffered::new(behind);
+    let so_far = put_registers(latches, homes, state, &mut buffered);
+    let so_far = put_fired(so_far, fired, most, &mut buffered);
+    buffered.finish(so_far)
+}
+
+// Writes the lines of all registers.
+fn put_registers<O: Sink>(
+    latches: &Latches<'_>,
+    homes: &[Home],
+    state: &State<'_>,
+    out: &mut O,
+) -> Result<(), WriteFault>
+    requires split { split_of state.now ≡ latches.now }
+    requires homes { AreHomes latches.now homes.now }
+    ensures { GoesOn (Ok tt) result (O.written out.old) (O.written out.new) (O.faults out.old)
+        (O.faults out.new) (flat_map (register_line state.now homes.now)
+        (range_with_len 0 (length homes.now))) }
+{
+    let mut so_far = Ok(());
+    for r in 0..homes.len() {
+        so_far = put_register(so_far, latches, homes, state, r, out);
+    }
+    so_far
+}
+
+// Writes the line of a register.
+fn put_register<O: Sink>(
+    so_far: Result<(), WriteFault>,
+    latches: &Latches<'_>,
+    homes: &[Home],
+    state: &State<'_>,
+    r: usize,
+    out: &mut O,
+) -> Result<(), WriteFault>
+    requires split { split_of state.now ≡ latches.now }
+    requires homes { AreHomes latches.now homes.now }
+    requires inside { r < length homes.now }
+    ensures { GoesOn so_far result (O.written out.old) (O.written out.new) (O.faults out.old)
+        (O.faults out.new) (register_line state.now homes.now r) }
+{
+    let (_edges, clusters) = (latches.edges(), latches.clusters());
+    let home = homes[r];
+    let width = clusters[home.cluster].as_slice().len();
+    let slave = LatchId::new(2 * home.cluster as u32 + 3);
+    let so_far = put_name(so_far, latches.netlist().design(), r, out);
+    let so_far = put(so_far, b": ", out);
+    let so_far = put_column(so_far, state.stored(slave), width, home.place, out);
+    put(so_far, b"\n", out)
+}
+
+// Writes the name of a register.
+fn put_name<O: Sink>(
+    so_far: Result<(), WriteFault>,
+    design: &Design,
+    r: usize,
+    out: &mut O,
+) -> Result<(), WriteFault>
+    requires { r < length design.now.registers }
+    ensures { GoesOn so_far result (O.written out.old) (O.written out.new) (O.faults out.old)
+        (O.faults out.new) (register_of design.now r) }
+{
+    let output = design.registers()[r].output;
+    put_net(so_far, &design.nets()[output.index()], out)
+}
+
+// Writes a net.
+fn put_net<O: Sink>(
+    so_far: Result<(), WriteFault>,
+    net: &Net,
+    out: &mut O,
+) -> Result<(), WriteFault>
+    ensures { GoesOn so_far result (O.written out.old) (O.written out.new) (O.faults out.old)
+        (O.faults out.new) (net_text net.now) }
+{
+    if net.copy == 0 {
+        put(so_far, net.name.as_slice(), out)
+    } else {
+        put_copy(so_far, net, out)
+    }
+}
+
+// Writes a net of a copy, with the number of the copy.
+fn put_copy<O: Sink>(
+    so_far: Result<(), WriteFault>,
+    net: &Net,
+    out: &mut O,
+) -> Result<(), WriteFault>
+    ensures { GoesOn so_far result (O.written out.old) (O.written out.new) (O.faults out.old)
+        (O.faults out.new) (decimal net.now.copy ++ codes "/" ++ net.now.name) }
+{
+    let mut buffer = Buffer::new();
+    let so_far = put(so_far, buffer.format(net.copy).as_bytes(), out);
+    let so_far = put(so_far, b"/", out);
+    put(so_far, net.name.as_slice(), out)
+}
+
+// Writes the line of the firings.
+fn put_fired<O: Sink>(
+    so_far: Result<(), WriteFault>,
+    fired: u64,
+    most: u64,
+    out: &mut O,
+) -> Result<(), WriteFault>
+    ensures { GoesOn so_far result (O.written out.old) (O.written out.new) (O.faults out.old)
+        (O.faults out.new) (fired_line fired most) }
+{
+    let mut of = Buffer::new();
+    let mut buffer = Buffer::new();
+    let so_far = put(so_far, b"fired ", out);
+    let so_far = put(so_far, buffer.format(fired).as_bytes(), out);
+    let so_far = put(so_far, b" of ", out);
+    let so_far = put(so_far, of.format(most).as_bytes(), out);
+    put(so_far, b"\n", out)
+}
