@@ -5,8 +5,5 @@ pub mod Opened
 pub mod Reached
 pub mod Turning
 pub mod Lawful
-pub mod Members
-pub mod Waiting
-pub mod Refreshed
 pub mod Fed
 pub mod First

@@ -1,5 +1,5 @@
 -- From what a turn leaves to a firing.
-use Rattle.std.proofs.Common.{◌≡◌, ◌∙◌, ℕ, suc, ◌+◌, ◌*◌, ◌<◌, ◌≤◌, List, [], length, get_or, refl, arith, ap, sym, subst, slice_index}
+use Rattle.std.proofs.Common.{◌≡◌, ◌∙◌, ℕ, suc, ◌+◌, ◌*◌, ◌<◌, ◌≤◌, List, [], length, get_or, refl, arith, ap, sym, subst}
 use Rattle.std.proofs.Math.ListN.{set}
 use Rattle.std.proofs.Math.Nat.{mul-le-mul_right, suc-mul}
 use Rattle.std.proofs.lemmas.List.{get_or-map, length-append, length-map}
@@ -18,9 +18,7 @@ use Rattle.ds_fire.specs.declared.kept.Kept.{Kept}
 use Rattle.ds_latch.specs.Plan.{Planned}
 use Rattle.ds_design.specs.Rows.{Rows}
 use Rattle.ds_fire.specs.Inside.{IsRunning, seen}
-use Rattle.ds_fire.specs.Waits.{IsWatching}
 use Rattle.ds_fire.specs.declared.feed.Feed.{Feed}
-use Rattle.ds_fire.specs.declared.watch.Watch.{Watch}
 use Rattle.ds_fire.proofs.Reached.{kept_counts, reached_after}
 use Rattle.ds_fire.proofs.Shown.{Turned, fired, kept_next}
 
@@ -87,12 +85,11 @@ room_more kept parts sound stored room n is_node ready d =
     omega arith
 
 -- one step, from parts to parts
-pub stepped : (planned : Planned) (vectors : Rows) (counts counts' : List ℕ) (kept kept' : Kept) (feeds : List Feed) (watch watch' : Watch) (v : ℕ)
-    → IsRunning (seen planned vectors counts kept) vectors kept feeds watch → IsReady (seen planned vectors counts kept) v
+pub stepped : (planned : Planned) (vectors : Rows) (counts counts' : List ℕ) (kept kept' : Kept) (feeds : List Feed) (v : ℕ)
+    → IsRunning (seen planned vectors counts kept) vectors kept feeds → IsReady (seen planned vectors counts kept) v
     → counts' ≡ set counts v (get_or counts v 0 + 1) → IsTurned planned.split vectors.rows v (get_or counts v 0) kept kept'
-    → IsWatching planned.graph (length vectors.rows) (slice_index counts') watch'
-    → IsFired (seen planned vectors counts kept) v (seen planned vectors counts' kept') × IsRunning (seen planned vectors counts' kept') vectors kept' feeds watch'
-stepped planned vectors counts counts' kept kept' feeds watch watch' v run may is turned watching =
+    → IsFired (seen planned vectors counts kept) v (seen planned vectors counts' kept') × IsRunning (seen planned vectors counts' kept') vectors kept' feeds
+stepped planned vectors counts counts' kept kept' feeds v run may is turned =
     let old : Snapshot = seen planned vectors counts kept in
     let new : Snapshot = seen planned vectors counts' kept' in
     let both : IsFired old v new × IsSound new =
@@ -108,6 +105,5 @@ stepped planned vectors counts counts' kept kept' feeds watch watch' v run may i
         room = λ n is_node. subst (λ (rooms : List ℕ). length vectors.rows * length (nets_of planned.split n) ≤ get_or rooms (number_of n) 0) (sym (rooms_kept planned.split vectors.rows v (get_or counts v 0) kept kept' turned)) (run.room n is_node);
         nets = turned.nets ∙ run.nets;
         fed = run.fed;
-        watching = watching;
       },
     )

@@ -4,14 +4,12 @@ use Rattle.ds_design.specs.Circuit.{columns}
 use Rattle.ds_latch.specs.Node.{Node, IsNode, number_of}
 use Rattle.ds_latch.specs.Plan.{Planned}
 use Rattle.ds_design.specs.Rows.{Rows}
-use Rattle.ds_fire.specs.Snapshot.{Snapshot, split_of, graph_of, limit_of, count_of, width_of}
+use Rattle.ds_fire.specs.Snapshot.{Snapshot, split_of, limit_of, width_of}
 use Rattle.ds_fire.specs.Fired.{IsReached, IsSound}
 use Rattle.ds_fire.specs.Feed.{AreFeeds}
-use Rattle.ds_fire.specs.Waits.{IsWatching}
 use Rattle.ds_fire.specs.Turn.{rooms_of, values_of}
 use Rattle.ds_fire.specs.declared.feed.Feed.{Feed}
 use Rattle.ds_fire.specs.declared.kept.Kept.{Kept}
-use Rattle.ds_fire.specs.declared.watch.Watch.{Watch}
 
 -- what is seen of the parts
 abbrev pub seen : Planned → Rows → List ℕ → Kept → Snapshot
@@ -29,7 +27,7 @@ HaveRoom snapshot kept = (n : Node) → IsNode (split_of snapshot) n
     → limit_of snapshot * width_of snapshot n ≤ slice_index (rooms_of kept.stored.items) (number_of n)
 
 -- the parts stand for what is seen
-pub record IsRunning (snapshot : Snapshot) (vectors : Rows) (kept : Kept) (feeds : List Feed) (watch : Watch) : Type 0 where
+pub record IsRunning (snapshot : Snapshot) (vectors : Rows) (kept : Kept) (feeds : List Feed) : Type 0 where
   pub sound : IsSound snapshot
   pub reached : IsReached snapshot
   pub width : vectors.width ≡ length (columns (split_of snapshot).circuit)
@@ -38,4 +36,3 @@ pub record IsRunning (snapshot : Snapshot) (vectors : Rows) (kept : Kept) (feeds
   pub room : HaveRoom snapshot kept
   pub nets : length kept.nets ≡ length (split_of snapshot).circuit.nets
   pub fed : AreFeeds (split_of snapshot) feeds
-  pub watching : IsWatching (graph_of snapshot) (limit_of snapshot) (count_of snapshot) watch

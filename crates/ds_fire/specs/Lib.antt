@@ -3,8 +3,6 @@ pub mod Snapshot
 pub mod Fired
 pub mod Ready
 pub mod Laws
-pub mod Sized
-pub mod Waits
 pub mod History
 pub mod Feed
 pub mod Turn

@@ -3,10 +3,8 @@
 //! A caller sees a `State` as a `Snapshot`: how often each event has fired, the rows of each node,
 //! and what it has stored, its rows one after the other. `State::new` takes all memory. `fire` fires
 //! an event where it is enabled and does exactly what the definition of a firing says; where it is
-//! not, nothing changes and `Blocked` says why. `next_enabled` gives the least event that may fire,
-//! without a look at the others: an event that lacks a token waits on the least arc that lacks it,
-//! and a firing looks on only for those that waited on an arc from its event. An opening settles the
-//! cone of its node and no other table.
+//! not, nothing changes and `Blocked` says why. `next_enabled` gives the least event that may fire: it
+//! looks at one after the other. An opening settles the cone of its node and no other table.
 //! `laws` has what holds whatever is fired: held and stored rows are those of the clocked run,
 //! nothing is enabled exactly at the end, and there the stored rows spell the trace.
 #![tactic(auto)]
@@ -18,12 +16,8 @@ mod kept;
 pub mod laws;
 mod opening;
 mod places;
-mod ready;
-mod refresh;
 mod state;
 mod turn;
-mod waits;
-mod watch;
 mod widths;
 
 pub use state::State;

@@ -12,9 +12,7 @@ ghost use Rattle.ds_fire.specs.Ready.{IsLeastReady};
 use crate::feed::{Feed, feeds_of};
 use crate::kept::Kept;
 use crate::places::Places;
-use crate::refresh::{refresh, watch_of};
 use crate::turn::turn;
-use crate::watch::Watch;
 use crate::widths::count_rows;
 use ds_base::{EventId, LatchId, OutOfMemory, Row3, Value};
 use ds_design::Vectors;
@@ -30,7 +28,6 @@ pub struct State<'a> {
     counts: Counts,
     kept: Kept,
     feeds: Vec<Feed>,
-    watch: Watch,
 }
 
 impl Drop for State<'_> {
@@ -41,7 +38,6 @@ impl Drop for State<'_> {
             counts: _,
             kept: _,
             feeds: _,
-            watch: _,
         } = self;
     }
 }
@@ -54,7 +50,7 @@ impl<'a> Model for State<'a> {
 
     ghost view = { λ s. seen s.plan.now s.vectors.now s.counts s.kept };
 
-    ghost invariant = { λ s. IsRunning (seen s.plan.now s.vectors.now s.counts s.kept) s.vectors.now s.kept s.feeds.items s.watch };
+    ghost invariant = { λ s. IsRunning (seen s.plan.now s.vectors.now s.counts s.kept) s.vectors.now s.kept s.feeds.items };
 }
 
 impl<'a> State<'a> {
@@ -70,14 +66,12 @@ impl<'a> State<'a> {
         let count = count_rows(vectors);
         let kept = Kept::first(alloc, latches, count)?;
         let feeds = feeds_of(alloc, latches)?;
-        let watch = watch_of(alloc, graph, &counts, count as u64)?;
         Ok(State {
             plan,
             vectors,
             counts,
             kept,
             feeds,
-            watch,
         })
     }
 
@@ -156,10 +150,14 @@ impl<'a> State<'a> {
     pub fn next_enabled(&self) -> Option<EventId>
         ensures { IsLeastReady self.now result }
     {
-        match self.watch.ready.least() {
-            Some(v) => Some(EventId::new(v as u32)),
-            None => None,
+        let events = self.plan.graph().events().len();
+        for v in 0..events {
+            let event = EventId::new(v as u32);
+            if self.enabled(event).is_ok() {
+                return Some(event);
+            }
         }
+        None
     }
 
     // Fires an event that may fire.
@@ -168,7 +166,6 @@ impl<'a> State<'a> {
         ensures { IsFired self.old event self.new }
     {
         let count = self.counts.at(event) as usize;
-        let limit = self.vectors.count() as u64;
         turn(
             self.plan.latches(),
             self.vectors,
@@ -178,12 +175,5 @@ impl<'a> State<'a> {
             &mut self.kept,
         );
         self.counts.add_one(event);
-        refresh(
-            self.plan.graph(),
-            &self.counts,
-            event,
-            limit,
-            &mut self.watch,
-        );
     }
 }

@@ -1,10 +1,9 @@
-use Rattle.std.proofs.Common.{◌≡◌, ◌∙◌, ◌<◌, ◌≤◌, ◌*◌, ◌^◌, ℕ, length, replicate, slice_index, ap, sym, subst, arith}
+use Rattle.std.proofs.Common.{◌≡◌, ◌∙◌, ◌<◌, ◌≤◌, ◌*◌, ◌^◌, ℕ, length, replicate, ap, sym, subst, arith}
 use Rattle.ds_marked.specs.Graph.{Graph}
 use Rattle.ds_design.specs.InRange.{IsInRange}
 use Rattle.ds_latch.specs.Node.{Split, nodes}
 use Rattle.ds_fire.specs.Feed.{AreFeeds}
 use Rattle.ds_fire.specs.First.{AreEmpty, AreFirstRows}
-use Rattle.ds_fire.specs.Waits.{IsWatching}
 use Rattle.ds_fire.proofs.First.{first_is, first_reached, first_room, first_sound, plan_events}
 use Rattle.ds_fire.proofs.state.State.new.Goals as goal
 
@@ -36,9 +35,6 @@ invariant_of-result c =
     let stored : AreEmpty c.args.plan.now.split c.count_rows-count.result c.in_ok-kept.kept.stored.items = subst (λ (s : Split). AreEmpty s c.count_rows-count.result c.in_ok-kept.kept.stored.items) same c.in_ok-kept.ensures.stored in
     let fed : AreFeeds c.args.plan.now.split c.in_ok-feeds.feeds.items = subst (λ (s : Split). AreFeeds s c.in_ok-feeds.feeds.items) same c.in_ok-feeds.ensures in
     let nets : length c.in_ok-kept.kept.nets ≡ length c.args.plan.now.split.circuit.nets = c.in_ok-kept.ensures.nets ∙ ap (λ (s : Split). length s.circuit.nets) same in
-    let watching : IsWatching c.args.plan.now.graph (length c.args.vectors.now.rows) (slice_index c.in_ok-counts.counts) c.in_ok-watch.watch =
-    subst (λ (g : Graph). IsWatching g (length c.args.vectors.now.rows) (slice_index c.in_ok-counts.counts) c.in_ok-watch.watch) graph
-    (subst (λ (n : ℕ). IsWatching c.graph-graph.result.now n (slice_index c.in_ok-counts.counts) c.in_ok-watch.watch) c.count_rows-count.ensures.value c.in_ok-watch.ensures) in
     let low : c.args.plan.now.split.slack ≤ 15 = subst (λ (s : Split). s.slack ≤ 15) same c.slack-slack.ensures.low in
     record {
       sound = first_sound c.args.plan.now c.args.vectors.now c.in_ok-counts.counts c.in_ok-kept.kept range c.graph-graph.ensures.accepted few c.count_rows-count.ensures.kept c.requires counts rows c.count_rows-count.result c.count_rows-count.ensures.value stored;
@@ -49,7 +45,6 @@ invariant_of-result c =
       room = first_room c.args.plan.now c.args.vectors.now c.in_ok-counts.counts c.in_ok-kept.kept range c.graph-graph.ensures.accepted few c.count_rows-count.ensures.kept c.requires counts rows c.count_rows-count.result c.count_rows-count.ensures.value stored;
       nets = nets;
       fed = fed;
-      watching = watching;
     }
 
 pub returns : goal.returns
