@@ -111,10 +111,11 @@ def line_of(text, at):
 class Function:
     """A function of a file: where it stands, its parameters, its clauses and its body."""
 
-    def __init__(self, path, code, found, testing):
+    def __init__(self, path, code, found, blocks, testing):
         self.path, self.name, self.is_public = path, found[3], found[2] == "pub "
         self.start, self.line = found.start(), line_of(code, found.start(3))
-        self.indent, self.owner = len(found[1]), owner_of(code, found.start())
+        around = [name for low, high, name in blocks if low <= self.start < high]
+        self.owner = around[-1] if around else None
         self.is_test = any(low <= self.start < high for low, high in testing)
         self.parameters, at = parameters(code, found.end())
         self.clauses, self.body = [], None
@@ -174,16 +175,14 @@ def parameters(code, at):
     return [part for part in parts if part and not receiver.match(part)], end
 
 
-def owner_of(code, at):
-    """The type or trait in whose block a place lies, or nothing."""
-    found = None
-    for block in re.finditer(r"^(?:pub )?(?:unsafe )?(impl|trait)\b([^{;]*)\{", code[:at], re.M):
-        if closing(code, block.end() - 1) > at:
-            found = block
-    if not found:
-        return None
-    head = re.sub(r"<[^<>]*(?:<[^<>]*(?:<[^<>]*>[^<>]*)*>[^<>]*)*>", "", found[2])
-    return re.findall(r"\w+", head.split(" for ")[-1].split(" where ")[0].split(":")[0])[0]
+def owners(code):
+    """(first place, last place, type or trait) of each block of methods."""
+    found = []
+    for block in re.finditer(r"^(?:pub )?(?:unsafe )?(?:impl|trait)\b([^{;]*)\{", code, re.M):
+        head = re.sub(r"<[^<>]*(?:<[^<>]*(?:<[^<>]*>[^<>]*)*>[^<>]*)*>", "", block[1])
+        words = re.findall(r"\w+", head.split(" for ")[-1].split(" where ")[0].split(":")[0])
+        found.append((block.start(), closing(code, block.end() - 1), words[0]))
+    return found
 
 
 def testing_ranges(code):
@@ -215,8 +214,8 @@ class Source:
         self.code = blanked(self.text)
         self.lines = self.text.split("\n")
         self.testing = [(0, len(self.code))] if is_test else testing_ranges(self.code)
-        heads = FUNCTION.finditer(self.code)
-        self.functions = [Function(path, self.code, found, self.testing) for found in heads]
+        heads, blocks = FUNCTION.finditer(self.code), owners(self.code)
+        self.functions = [Function(path, self.code, one, blocks, self.testing) for one in heads]
 
     def is_testing(self, at):
         return any(low <= at < high for low, high in self.testing)
