@@ -3,6 +3,7 @@
 import argparse
 import os
 import re
+import signal
 import subprocess
 import sys
 
@@ -269,6 +270,26 @@ class Parser(argparse.ArgumentParser):
 def parser(name, description):
     form = argparse.RawDescriptionHelpFormatter
     return Parser(prog=name, description=description, formatter_class=form)
+
+
+def start(name, main):
+    """Runs a tool. Where its output is closed or cannot be written, it says so, and ends with 1."""
+    signal.signal(signal.SIGPIPE, signal.SIG_DFL)
+    if sys.stdout is None:
+        sys.exit("%s: the standard output is closed" % name)
+    status = None
+    try:
+        try:
+            main()
+        except SystemExit as ended:
+            status = ended
+        sys.stdout.flush()
+    except OSError as error:
+        sys.stderr.write("%s: %s\n" % (name, error))
+        sys.stderr.flush()
+        os._exit(1)
+    if status is not None:
+        raise status
 
 
 def told(name, why):
