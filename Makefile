@@ -6,13 +6,14 @@ ARGS ?= run examples/toggle.blif examples/toggle.vec
 PROGRAM = crates/desync/out/desync
 COMPLETIONS = $(DESTDIR)$(PREFIX)/share/bash-completion/completions
 
-.PHONY: help build run test transcripts install uninstall
+.PHONY: help build run test transcripts look install uninstall
 
 help:
 	@echo "make build               prove and build the program, $(PROGRAM), anew"
 	@echo "make run ARGS='..'       build it where it is not there, and run it; another status than 0 shows as 2"
 	@echo "make test                the whole gate: rt ci"
 	@echo "make transcripts         run what the documents and examples show"
+	@echo "make look                what the repository looks at itself: names, house rules, edges, memory"
 	@echo "make install             program, manual page and completion, to \$$DESTDIR\$$PREFIX"
 	@echo "make uninstall           take these away"
 
@@ -30,6 +31,12 @@ test:
 
 transcripts: $(PROGRAM)
 	tools/check_transcripts
+
+look:
+	tools/check_docs
+	tools/lint --quiet
+	tools/edges
+	tools/memory_answers
 
 install: $(PROGRAM)
 	install -d "$(DESTDIR)$(PREFIX)/bin" "$(DESTDIR)$(PREFIX)/share/man/man1" "$(COMPLETIONS)"
