@@ -18,46 +18,26 @@
 #![tactic(auto)]
 
 mod accept;
-#[cfg(test)]
-mod accept_tests;
 mod app;
 mod clock;
 mod demo;
-#[cfg(test)]
-mod demo_tests;
 mod fault_line;
-#[cfg(test)]
-mod fault_tests;
 mod fault_text;
-#[cfg(test)]
-mod gate_tests;
 mod graph;
-#[cfg(test)]
-mod graph_tests;
 mod graph_text;
 mod homes;
 mod job;
-#[cfg(test)]
-mod jobs_tests;
 mod log;
 mod log_text;
 mod net_text;
 mod plan;
-#[cfg(test)]
-mod replay_tests;
 mod report;
 mod run;
-#[cfg(test)]
-mod run_tests;
-#[cfg(test)]
-mod settle_tests;
 mod source;
 mod split;
 mod state_text;
 mod stop;
-#[cfg(test)]
-mod tests;
-#[cfg(test)]
-mod trial;
 
 pub use app::desync_main;
+pub use source::{read_netlist, read_rows};
+pub use stop::Stop;
