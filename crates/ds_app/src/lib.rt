@@ -19,36 +19,12 @@
 #![tactic(auto)]
 
 mod accept;
-#[cfg(test)]
-mod accept_tests;
 mod app;
 mod check;
 mod clock;
 mod demo;
-#[cfg(test)]
-mod demo_tests;
-#[cfg(test)]
-mod fault_tests;
-#[cfg(test)]
-mod gate_tests;
 mod graph;
-#[cfg(test)]
-mod graph_tests;
-#[cfg(test)]
-mod jobs_tests;
 mod replay;
-#[cfg(test)]
-mod replay_tests;
 mod run;
-#[cfg(test)]
-mod run_tests;
-#[cfg(test)]
-mod settle_tests;
-#[cfg(test)]
-mod tests;
-#[cfg(test)]
-mod trial;
-#[cfg(test)]
-mod unknown_tests;
 
 pub use app::desync_main;

@@ -1,60 +1,78 @@
 //! Runs over clusters beside clocked ones, and a failed write of a line.
-use crate::desync_main;
+use crate::script::play;
 use crate::trial::{RING, Wanted, files, gives};
+use ds_app::desync_main;
+use ds_base::OutOfMemory;
 use ds_outside::{MemorySink, OpenGate};
 use std::alloc::{AllocError, Global};
 use std::test::Fail;
 use std::thread::Threads;
 
-// A table that reads the input and a register, behind other tables.
-const BACK: &str =
-    ".model back\n.inputs a\n.outputs y\n.names a q u\n11 1\n.names u d\n0 1\n.names d r y\n11 1\n.latch d q 0\n.latch u r 1\n.end\n";
-
-// A table that feeds two clusters, where registers are put together by bus.
-const TWO: &str =
-    ".model two\n.inputs a\n.outputs q[1] r\n.names a r t\n10 1\n01 1\n.latch t q[0] 0\n.latch q[0] q[1] 1\n.latch t r 0\n.end\n";
-
-// A netlist, vectors, and the trace of both.
-const TRACES: [(&str, &str, &str); 2] = [
-    (
-        BACK,
-        "1\n0\n1\n1\n",
-        "0 1 01\n1 0 10\n2 0 10\n3 1 01\nend 10\n",
-    ),
-    (TWO, "1\n1\n0\n", "0 10 010\n1 01 101\n2 10 010\nend 000\n"),
-];
-
-// Whether `clock`, and `run` over the clusters of each mode, print this text.
-fn all_print<R: AllocGlobal + Threads + Sync>(rt: &R, net: &str, vec: &str, out: &str) -> bool {
-    let wanted = Wanted {
-        status: 0,
-        out,
-        err: "",
-    };
-    let mut all = gives(rt, &["desync", "clock", "n", "v"], net, vec, wanted);
-    for mode in ["each", "one", "bus"] {
-        for jobs in ["1", "4"] {
-            let words = [
-                "desync",
-                "run",
-                "n",
-                "v",
-                "--clusters",
-                mode,
-                "--jobs",
-                jobs,
-            ];
-            all = all && gives(rt, &words, net, vec, wanted);
-        }
-    }
-    all
-}
+// A table that reads the input and a register, behind other tables; and a table that feeds two
+// clusters, where registers are put together by bus.
+const TRACES: &str = "%n
+.model back
+.inputs a
+.outputs y
+.names a q u
+11 1
+.names u d
+0 1
+.names d r y
+11 1
+.latch d q 0
+.latch u r 1
+.end
+%v
+1
+0
+1
+1
+%$ desync clock n v
+%$ desync run n v --clusters each --jobs 1
+%$ desync run n v --clusters each --jobs 4
+%$ desync run n v --clusters one --jobs 1
+%$ desync run n v --clusters one --jobs 4
+%$ desync run n v --clusters bus --jobs 1
+%$ desync run n v --clusters bus --jobs 4
+%= 0
+0 1 01
+1 0 10
+2 0 10
+3 1 01
+end 10
+%n
+.model two
+.inputs a
+.outputs q[1] r
+.names a r t
+10 1
+01 1
+.latch t q[0] 0
+.latch q[0] q[1] 1
+.latch t r 0
+.end
+%v
+1
+1
+0
+%$ desync clock n v
+%$ desync run n v --clusters each --jobs 1
+%$ desync run n v --clusters each --jobs 4
+%$ desync run n v --clusters one --jobs 1
+%$ desync run n v --clusters one --jobs 4
+%$ desync run n v --clusters bus --jobs 1
+%$ desync run n v --clusters bus --jobs 4
+%= 0
+0 10 010
+1 01 101
+2 10 010
+end 000
+";
 
 #[test]
-fn clusters_print_the_clocked_trace(rt: HostRuntime) {
-    for (net, vec, trace) in TRACES {
-        assert!(rt; all_print(&rt, net, vec, trace), "{net}");
-    }
+fn clusters_print_the_clocked_trace(rt: HostRuntime) -> Result<(), OutOfMemory> {
+    play(&rt, TRACES, 14)
 }
 
 // A hundred registers, each of which takes the one before it.
@@ -94,8 +112,28 @@ fn passed_on(alloc: Global) -> Result<String, AllocError> {
     Ok(text)
 }
 
+// Whether `clock`, and `run` over the clusters of each mode, print this text.
+fn all_print<R: AllocGlobal + Threads + Sync>(
+    rt: &R,
+    files: &[(&str, &str)],
+    out: &str,
+) -> Result<bool, OutOfMemory> {
+    let wanted = Wanted {
+        status: 0,
+        text: out,
+    };
+    let mut all = gives(rt, files, "desync clock n v", wanted)?;
+    for mode in ["each", "one", "bus"] {
+        for jobs in ["1", "4"] {
+            let line = format!(in rt.alloc(); "desync run n v --clusters {mode} --jobs {jobs}")?;
+            all = all && gives(rt, files, line.as_str(), wanted)?;
+        }
+    }
+    Ok(all)
+}
+
 #[test]
-fn a_one_goes_along_a_hundred_registers(rt: HostRuntime) -> Result<(), AllocError> {
+fn a_one_goes_along_a_hundred_registers(rt: HostRuntime) -> Result<(), Fail> {
     let alloc = rt.alloc();
     let net = chain(alloc)?;
     let mut vec = String::from_str(alloc, "1\n")?;
@@ -103,19 +141,20 @@ fn a_one_goes_along_a_hundred_registers(rt: HostRuntime) -> Result<(), AllocErro
         vec.push_str("0\n")?;
     }
     let trace = passed_on(alloc)?;
-    assert!(rt; all_print(&rt, net.as_str(), vec.as_str(), trace.as_str()));
+    let files = [("n", net.as_str()), ("v", vec.as_str())];
+    assert!(rt; all_print(&rt, &files, trace.as_str())?);
     Ok(())
 }
 
-// The status of these words, and whether a first part of a line is left, where the error output takes
-// six bytes a call and its second call fails.
+// The status of these words, and whether a first part of a line is left, where the error output
+// takes six bytes a call and its second call fails.
 fn answer<R: AllocGlobal + Threads + Sync>(
     rt: &R,
     words: &[&str],
     line: &[u8],
 ) -> Result<(u8, bool), Fail> {
     let alloc = rt.alloc();
-    let mut files = files(alloc, RING.as_bytes(), b"")?;
+    let mut files = files(alloc, &[("n", RING), ("v", "")])?;
     let mut out = MemorySink::with_room(alloc, 100)?;
     let mut err = MemorySink::with_room(alloc, 100)?;
     err.at_most(6);

@@ -1,22 +1,84 @@
 //! The values of nets beside a plain slow way to find them.
-use crate::source::read_netlist;
-use crate::stop::Stop;
 use crate::trial::files;
 use ds_base::{Row3, Value};
 use ds_design::{Gate, Netlist, Register};
 use ds_settle::settle;
+use ds_stage::{Stop, read_netlist};
 use std::alloc::{AllocError, Global};
-use std::test::Fail;
 
 // Tables against the order of the file, an off-set beside an on-set, constants, two registers, and
-// copies in one another.
-const NETLISTS: [&str; 5] = [
-    ".model a\n.inputs a b\n.outputs y\n.names u a y\n1- 1\n-0 1\n.names t b u\n11 0\n.names a b t\n10 1\n01 1\n.end\n",
-    ".model b\n.inputs a\n.outputs y z\n.names k a y\n11 1\n.names k\n1\n.names z\n.names z y w\n00 1\n.end\n",
-    ".model c\n.inputs e\n.outputs q r\n.names q r e d\n1-1 1\n-10 1\n.latch d q 0\n.names d q n\n01 1\n10 1\n.latch n r 1\n.end\n",
-    ".model d\n.inputs a b\n.outputs y\n.subckt x p=a q=b o=t\n.subckt x p=t q=a o=y\n.end\n.model x\n.inputs p q\n.outputs o\n.subckt i i=p o=n\n.names n q o\n11 1\n.end\n.model i\n.inputs i\n.outputs o\n.names i o\n0 1\n.end\n",
-    ".model e\n.inputs a\n.outputs free q\n.names a free u\n1- 1\n.names u v\n1 0\n.names v u2\n1 1\n.names free\n.latch v q 2\n.end\n",
-];
+// copies in one another. A line `%` stands between two netlists.
+const NETLISTS: &str = ".model a
+.inputs a b
+.outputs y
+.names u a y
+1- 1
+-0 1
+.names t b u
+11 0
+.names a b t
+10 1
+01 1
+.end
+%
+.model b
+.inputs a
+.outputs y z
+.names k a y
+11 1
+.names k
+1
+.names z
+.names z y w
+00 1
+.end
+%
+.model c
+.inputs e
+.outputs q r
+.names q r e d
+1-1 1
+-10 1
+.latch d q 0
+.names d q n
+01 1
+10 1
+.latch n r 1
+.end
+%
+.model d
+.inputs a b
+.outputs y
+.subckt x p=a q=b o=t
+.subckt x p=t q=a o=y
+.end
+.model x
+.inputs p q
+.outputs o
+.subckt i i=p o=n
+.names n q o
+11 1
+.end
+.model i
+.inputs i
+.outputs o
+.names i o
+0 1
+.end
+%
+.model e
+.inputs a
+.outputs free q
+.names a free u
+1- 1
+.names u v
+1 0
+.names v u2
+1 1
+.names free
+.latch v q 2
+.end
+";
 
 // So many values: the digits of a number to the base 3, the lowest first, with 2 for unknown.
 fn row_of(alloc: Global, len: usize, number: usize) -> Result<Row3, AllocError> {
@@ -130,7 +192,7 @@ fn same(one: &Row3, other: &Row3) -> bool {
 
 // Whether they agree from each state of two registers, with each vector of two columns.
 fn all_agree(alloc: Global, net: &str) -> Result<bool, Stop> {
-    let mut files = files(alloc, net.as_bytes(), b"")?;
+    let mut files = files(alloc, &[("n", net)])?;
     let netlist = read_netlist(alloc, &mut files, "n")?;
     let registers = netlist.design().registers().len();
     let columns = netlist.columns().len();
@@ -145,7 +207,10 @@ fn all_agree(alloc: Global, net: &str) -> Result<bool, Stop> {
 
 #[test]
 fn settled_nets_are_the_fixed_point(rt: HostRuntime) {
-    for net in NETLISTS {
+    let mut netlists = 0_u64;
+    for net in NETLISTS.split("%\n") {
         assert!(rt; all_agree(rt.alloc(), net).is_ok_and(|all| all), "{net}");
+        netlists = netlists.saturating_add(1);
     }
+    assert_eq!(rt; netlists, 5);
 }

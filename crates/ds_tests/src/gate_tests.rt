@@ -70,7 +70,8 @@ impl Gate for OneIsHeld {
     }
 }
 
-// Worker 0 is held at M0+ until worker 1 pauses at M1-, and worker 1 there until worker 0 has paused.
+// Worker 0 is held at M0+ until worker 1 pauses at M1-, and worker 1 there until worker 0 has
+// paused.
 #[derive(Drop)]
 struct BothAreHeld {
     meeting: Meeting,
@@ -129,8 +130,8 @@ fn stands_before(text: &str, first: &str, second: &str) -> bool {
 
 // The trace and the log that two workers print.
 fn logged<R: AllocGlobal + Threads + Sync, G: Gate>(rt: &R, gate: &G) -> Option<String> {
-    let words = ["desync", "run", "n", "v", "--jobs", "2", "--log"];
-    let text = printed(rt, &words, SHIFT, "1\n0\n1\n", gate)?;
+    let files = [("n", SHIFT), ("v", "1\n0\n1\n")];
+    let text = printed(rt, &files, "desync run n v --jobs 2 --log", gate)?;
     if text
         .as_str()
         .starts_with("0 0 00\n1 0 10\n2 1 01\nend 10\nfirings\n")

@@ -1,0 +1,271 @@
+//! Controller graphs of the user's, accepted and refused.
+use crate::script::play;
+use ds_base::OutOfMemory;
+use std::alloc::{AllocError, Global};
+use std::process::Abort;
+use std::thread::Threads;
+
+// The controller graph of the toggle.
+const GRAPH: &str = ".model toggle
+.outputs IN OUT M0 S0
+.graph
+IN+ IN- M0+
+IN- IN+
+OUT+ OUT-
+OUT- OUT+ S0+
+M0+ M0- S0+
+M0- IN+ M0+ S0+
+S0+ OUT+ M0+ S0-
+S0- M0+ S0+
+.marking { <IN-,IN+> <OUT-,OUT+> <M0-,IN+> <M0-,M0+> <S0+,OUT+> <S0+,M0+> <S0-,M0+> <S0-,S0+> }
+.end
+";
+
+// The text of a table whose cases begin with `%~`: in each the file `g` is the graph with the lines
+// behind `=>` in place of those before it. There are three vectors and a log of two lines.
+fn edited(alloc: Global, table: &str) -> Result<String, AllocError> {
+    let mut text = String::from_str(alloc, "%v\n1\n0\n1\n%l\nIN+ 1\nM0+ 1\n")?;
+    for case in table.split("%~\n") {
+        if let Some((old, rest)) = case.split_once("=>\n") {
+            push_case(&mut text, old, rest)?;
+        }
+    }
+    Ok(text)
+}
+
+// Appends the graph with new lines in place of old ones, and what is told of it. The new lines end
+// at the first `%` of the rest.
+fn push_case(text: &mut String, old: &str, rest: &str) -> Result<(), AllocError> {
+    let Some((before, after)) = GRAPH.split_once(old) else {
+        return Ok(());
+    };
+    let Some((new, runs)) = rest.split_once('%') else {
+        return Ok(());
+    };
+    for piece in ["%g\n", before, new, after, "%", runs] {
+        text.push_str(piece)?;
+    }
+    Ok(())
+}
+
+// Does all runs of a table, which are so many.
+fn play_edits<R: AllocGlobal + Threads + Sync + Abort>(
+    rt: &R,
+    table: &str,
+    runs: usize,
+) -> Result<(), OutOfMemory> {
+    let text = edited(rt.alloc(), table)?;
+    play(rt, text.as_str(), runs)
+}
+
+// Graphs that are accepted, with their ranks.
+const ACCEPTED: &str = "%~
+.model toggle
+=>
+.model toggle
+%$ desync accept toggle g
+%= 0
+accepted
+IN+ 0
+IN- 1
+OUT+ 0
+OUT- 1
+M0+ 1
+M0- 2
+S0+ 3
+S0- 4
+%~
+IN- IN+
+=>
+IN- IN+ M0+
+%$ desync accept toggle g
+%= 0
+accepted
+IN+ 0
+IN- 1
+OUT+ 0
+OUT- 1
+M0+ 2
+M0- 3
+S0+ 4
+S0- 5
+%~
+.outputs IN OUT M0 S0
+=>
+.outputs S0 OUT M0 IN
+%$ desync accept toggle g
+%= 0
+accepted
+IN+ 0
+IN- 1
+OUT+ 0
+OUT- 1
+M0+ 1
+M0- 2
+S0+ 3
+S0- 4
+";
+
+#[test]
+fn accepted_graphs_show_their_ranks(rt: HostRuntime) -> Result<(), OutOfMemory> {
+    play_edits(&rt, ACCEPTED, 3)
+}
+
+// Runs over the same graphs.
+const RUNS: &str = "%~
+.model toggle
+=>
+.model toggle
+%$ desync run toggle v --graph g
+%= 0
+0 0 0
+1 1 1
+2 1 1
+end 0
+%~
+IN- IN+
+=>
+IN- IN+ M0+
+%$ desync run toggle v --graph g
+%= 0
+0 0 0
+1 1 1
+2 1 1
+end 0
+%~
+.outputs IN OUT M0 S0
+=>
+.outputs S0 OUT M0 IN
+%$ desync run toggle v --graph g
+%= 0
+0 0 0
+1 1 1
+2 1 1
+end 0
+";
+
+#[test]
+fn runs_over_accepted_graphs_print_the_clocked_trace(rt: HostRuntime) -> Result<(), OutOfMemory> {
+    play_edits(&rt, RUNS, 3)
+}
+
+// Here M0+ alone waits for more than it must.
+const LOGS: &str = "%~
+IN- IN+
+=>
+IN- IN+ M0+
+%$ desync replay toggle v l --graph g
+%= 1
+l:2: not enabled: IN- to M0+
+";
+
+#[test]
+fn logs_are_fired_over_the_named_graph(rt: HostRuntime) -> Result<(), OutOfMemory> {
+    play_edits(&rt, LOGS, 1)
+}
+
+// Graphs that are refused, with the line of their first fault.
+const FAULTS: &str = "%~
+M0- IN+ M0+ S0+
+=>
+M0- IN+ M0+
+%$ desync accept toggle g
+%$ desync run toggle v --graph g
+%= 1
+g: missing order M0- to S0+ with 0 tokens
+%~
+S0- M0+ S0+
+=>
+S0- M0+ S0+
+M0- p
+p M0+
+%$ desync accept toggle g
+%$ desync run toggle v --graph g
+%= 1
+g: token-free cycle: M0+ M0-
+%~
+<S0+,OUT+> <S0+,M0+> <S0-,M0+> <S0-,S0+> }
+=>
+<S0+,M0+> <S0-,M0+> <S0-,S0+> }
+%$ desync accept toggle g
+%$ desync run toggle v --graph g
+%= 1
+g: token-free cycle: OUT+ OUT- S0+
+%~
+.graph
+=>
+.internal X
+.graph
+%$ desync accept toggle g
+%$ desync run toggle v --graph g
+%= 1
+g: unknown event X+
+%~
+.graph
+=>
+.graph
+.end
+%$ desync accept toggle g
+%$ desync run toggle v --graph g
+%= 1
+g: missing order IN+ to IN- with 0 tokens
+%~
+.outputs IN OUT M0 S0
+=>
+.outputs IN OUT M0
+.graph
+.end
+%$ desync accept toggle g
+%$ desync run toggle v --graph g
+%= 1
+g: missing event S0+
+%~
+S0- M0+ S0+
+=>
+S0- M0+ S0+
+IN+/2 IN-
+%$ desync accept toggle g
+%$ desync run toggle v --graph g
+%= 1
+g:12: instance IN+/2
+%~
+S0- M0+ S0+
+=>
+S0- M0+ S0+
+M0- p
+p M0+ S0+
+%$ desync accept toggle g
+%$ desync run toggle v --graph g
+%= 1
+g:13: not a marked graph: p
+%~
+S0- M0+ S0+
+=>
+S0- M0+ S0+
+M0- p
+%$ desync accept toggle g
+%$ desync run toggle v --graph g
+%= 1
+g:12: not a marked graph: p
+%~
+<S0-,M0+> <S0-,S0+> }
+=>
+<S0-,M0+> <S0-,S0+> <M0+,IN+> }
+%$ desync accept toggle g
+%$ desync run toggle v --graph g
+%= 1
+g:12: bad marking <M0+,IN+>
+%~
+<S0-,M0+> <S0-,S0+> }
+=>
+<S0-,M0+> <S0-,S0+> <M0-,S0+> }
+%$ desync accept toggle g
+%$ desync run toggle v --graph g
+%= 1
+g: missing order M0- to S0+ with 0 tokens
+";
+
+#[test]
+fn faults_of_graphs_are_named(rt: HostRuntime) -> Result<(), OutOfMemory> {
+    play_edits(&rt, FAULTS, 22)
+}

@@ -1,0 +1,61 @@
+//! Runs of designs that are made from a number.
+use crate::script::play;
+use crate::trial::{Wanted, gives, printed};
+use ds_base::OutOfMemory;
+use ds_outside::OpenGate;
+use std::test::Fail;
+
+// Two sizes, each by one, two and eight workers.
+const SUMS: &str = "%$ desync demo 0 2 3 --jobs 1
+%$ desync demo 0 2 3 --jobs 2
+%$ desync demo 0 2 3 --jobs 8
+%= 0
+turns 3
+firings 36
+ones 1
+fold 23695
+%$ desync demo 0 2 0 --jobs 1
+%$ desync demo 0 2 0 --jobs 2
+%$ desync demo 0 2 0 --jobs 8
+%= 0
+turns 0
+firings 0
+ones 0
+fold 1347
+";
+
+#[test]
+fn demonstrations_have_their_summaries(rt: HostRuntime) -> Result<(), OutOfMemory> {
+    play(&rt, SUMS, 6)
+}
+
+#[test]
+fn eight_workers_sum_up_as_one_does(rt: HostRuntime) -> Result<(), Fail> {
+    let Some(text) = printed(&rt, &[], "desync demo 1 64 1000", &OpenGate) else {
+        panic!(rt; "no summary");
+    };
+    assert!(rt;
+        text.as_str()
+            .starts_with("turns 1000\nfirings 260000\nones ")
+    );
+    let wanted = Wanted {
+        status: 0,
+        text: text.as_str(),
+    };
+    assert!(rt; gives(&rt, &[], "desync demo 1 64 1000 --jobs 8", wanted)?);
+    Ok(())
+}
+
+// Sizes past the limits.
+const SIZES: &str = "%$ desync demo 0 0 1
+%$ desync demo 0 4097 1
+%$ desync demo 0 1 65537
+%$ desync demo 18446744073709551616 1 1
+%= 2
+desync: bad command line
+";
+
+#[test]
+fn sizes_past_the_limits_are_no_command_line(rt: HostRuntime) -> Result<(), OutOfMemory> {
+    play(&rt, SIZES, 4)
+}

@@ -1,0 +1,100 @@
+//! Texts that tell runs of the program, and what these are to give.
+//!
+//! Each part of such a text begins with `%`, and its first line says what its further lines are:
+//!
+//! | First line | Further lines |
+//! |---|---|
+//! | `%NAME` | what stands in the file NAME from here on |
+//! | `%$ WORDS` | none: it is a command line, its words parted by one space each |
+//! | `%= STATUS` | what each command line since the last such part writes |
+//!
+//! It is written to the output where the status is 0, else to the error output, and nothing to the
+//! other one. The files `toggle` and `shift` are there from the start.
+use crate::trial::{SHIFT, TOGGLE, Wanted, gives};
+use ds_base::OutOfMemory;
+use std::alloc::Global;
+use std::process::Abort;
+use std::thread::Threads;
+
+// What has been told so far.
+#[derive(Drop)]
+struct Script<'t> {
+    // The newest first.
+    files: Vec<(&'t str, &'t str)>,
+    // Command lines that are yet to be run.
+    lines: Vec<&'t str>,
+    runs: usize,
+}
+
+impl<'t> Script<'t> {
+    fn new(alloc: Global) -> Result<Self, OutOfMemory> {
+        let mut script = Script {
+            files: Vec::new(alloc),
+            lines: Vec::new(alloc),
+            runs: 0,
+        };
+        script.hold("toggle", TOGGLE)?;
+        script.hold("shift", SHIFT)?;
+        Ok(script)
+    }
+
+    // Takes a part, and says whether it is one and its runs gave what they are to give.
+    fn take<R: AllocGlobal + Threads + Sync>(
+        &mut self,
+        rt: &R,
+        part: &'t str,
+    ) -> Result<bool, OutOfMemory> {
+        let Some((first, rest)) = part.split_once('\n') else {
+            return Ok(part.is_empty());
+        };
+        if let Some(line) = first.strip_prefix("$ ") {
+            self.lines.push(line)?;
+            return Ok(rest.is_empty());
+        }
+        match first.strip_prefix("= ") {
+            Some(status) => self.run(rt, status, rest),
+            None => self.hold(first, rest),
+        }
+    }
+
+    // Puts a file before all others.
+    fn hold(&mut self, name: &'t str, text: &'t str) -> Result<bool, OutOfMemory> {
+        self.files.insert(0, (name, text))?;
+        Ok(true)
+    }
+
+    // Whether each command line that is yet to be run gives this, and there is one.
+    fn run<R: AllocGlobal + Threads + Sync>(
+        &mut self,
+        rt: &R,
+        status: &str,
+        text: &str,
+    ) -> Result<bool, OutOfMemory> {
+        let Ok(status) = status.parse::<u8>() else {
+            return Ok(false);
+        };
+        let wanted = Wanted { status, text };
+        let mut all = !self.lines.is_empty();
+        for line in &self.lines {
+            all = all && gives(rt, &self.files, line, wanted)?;
+        }
+        self.runs = self.runs.saturating_add(self.lines.len());
+        self.lines.clear();
+        Ok(all)
+    }
+}
+
+/// Does all runs of a text, which are so many, and each of which gives what the text says.
+pub fn play<R: AllocGlobal + Threads + Sync + Abort>(
+    rt: &R,
+    text: &str,
+    runs: usize,
+) -> Result<(), OutOfMemory> {
+    let mut script = Script::new(rt.alloc())?;
+    for part in text.split('%') {
+        let holds = script.take(rt, part)?;
+        assert!(rt; holds, "{part}");
+    }
+    assert!(rt; script.lines.is_empty() && script.runs == runs);
+    Ok(())
+}

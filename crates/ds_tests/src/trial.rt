@@ -1,0 +1,87 @@
+//! A run of the program over files in memory.
+use ds_app::desync_main;
+use ds_base::{Name, OutOfMemory, Seq};
+use ds_outside::{Entry, Gate, MemoryFiles, MemorySink, OpenGate};
+use std::alloc::{AllocError, Global};
+use std::thread::Threads;
+
+/// A register that toggles where its input is 1.
+pub const TOGGLE: &str = ".model toggle\n.inputs clk e\n.outputs q\n.names e q d\n01 1\n10 1\n\
+     .latch d q re clk 0\n.end\n";
+
+/// Two tables in a ring.
+pub const RING: &str =
+    ".model ring\n.inputs a\n.outputs y\n.names a z y\n11 1\n.names y z\n0 1\n.end\n";
+
+/// Two registers, the second behind the first.
+pub const SHIFT: &str =
+    ".model shift\n.inputs a\n.outputs q1\n.latch a q0 re clk 0\n.latch q0 q1 re clk 0\n.end\n";
+
+// A text as a list of bytes.
+fn bytes(alloc: Global, text: &str) -> Result<Name, AllocError> {
+    Ok(Seq::of(Vec::from_slice(alloc, text.as_bytes())?))
+}
+
+/// Files with these names and texts. Of two with one name the first counts.
+pub fn files(alloc: Global, all: &[(&str, &str)]) -> Result<MemoryFiles, AllocError> {
+    let mut entries = Vec::new(alloc);
+    for (name, text) in all {
+        entries.push(Entry {
+            name: bytes(alloc, name)?,
+            content: bytes(alloc, text)?,
+        })?;
+    }
+    Ok(MemoryFiles::of(alloc, entries))
+}
+
+/// What a run is to give: its status, and a text on its output where that is 0, else on its error
+/// output. The other one stays empty.
+#[derive(Clone, Copy)]
+pub struct Wanted<'t> {
+    pub status: u8,
+    pub text: &'t str,
+}
+
+impl Wanted<'_> {
+    // Whether a run gave this.
+    fn is_given(&self, status: u8, out: &[u8], err: &[u8]) -> bool {
+        let (text, other) = if status == 0 { (out, err) } else { (err, out) };
+        status == self.status && text == self.text.as_bytes() && other.is_empty()
+    }
+}
+
+/// Whether a command line, its words parted by one space each, gives what is wanted of these files.
+pub fn gives<R: AllocGlobal + Threads + Sync>(
+    rt: &R,
+    all: &[(&str, &str)],
+    line: &str,
+    wanted: Wanted<'_>,
+) -> Result<bool, OutOfMemory> {
+    let alloc = rt.alloc();
+    let words: Vec<&str> = line.split(' ').collect(alloc)?;
+    let mut out = MemorySink::with_room(alloc, 100_000)?;
+    let mut err = MemorySink::with_room(alloc, 1_000)?;
+    let mut files = files(alloc, all)?;
+    let status = desync_main(rt, &words, &mut files, &mut out, &mut err, &OpenGate);
+    Ok(wanted.is_given(status, out.bytes(), err.bytes()))
+}
+
+/// What a command line prints over these files, with workers that pause at the gate, where it ends
+/// with status 0.
+pub fn printed<R: AllocGlobal + Threads + Sync, G: Gate>(
+    rt: &R,
+    all: &[(&str, &str)],
+    line: &str,
+    gate: &G,
+) -> Option<String> {
+    let alloc = rt.alloc();
+    let words: Vec<&str> = line.split(' ').collect(alloc).ok()?;
+    let mut out = MemorySink::with_room(alloc, 1_000_000).ok()?;
+    let mut err = MemorySink::with_room(alloc, 1_000).ok()?;
+    let mut files = files(alloc, all).ok()?;
+    if desync_main(rt, &words, &mut files, &mut out, &mut err, gate) != 0 {
+        return None;
+    }
+    let text = str::from_utf8(out.bytes()).ok()?;
+    String::from_str(alloc, text).ok()
+}
