@@ -38,6 +38,25 @@ impl<'t> Script<'t> {
         Ok(script)
     }
 
+    // The first part of a text that is none, or whose runs gave something else.
+    fn first_wrong<R: AllocGlobal + Threads + Sync>(
+        &mut self,
+        rt: &R,
+        text: &'t str,
+    ) -> Result<Option<&'t str>, OutOfMemory> {
+        for part in text.split('%') {
+            if !self.take(rt, part)? {
+                return Ok(Some(part));
+            }
+        }
+        Ok(None)
+    }
+
+    // Whether so many runs were done, and none is left.
+    fn is_over(&self, runs: usize) -> bool {
+        self.lines.is_empty() && self.runs == runs
+    }
+
     // Takes a part, and says whether it is one and its runs gave what they are to give.
     fn take<R: AllocGlobal + Threads + Sync>(
         &mut self,
@@ -91,10 +110,11 @@ pub fn play<R: AllocGlobal + Threads + Sync + Abort>(
     runs: usize,
 ) -> Result<(), OutOfMemory> {
     let mut script = Script::new(rt.alloc())?;
-    for part in text.split('%') {
-        let holds = script.take(rt, part)?;
-        assert!(rt; holds, "{part}");
-    }
-    assert!(rt; script.lines.is_empty() && script.runs == runs);
+    let wrong = script.first_wrong(rt, text)?;
+    assert!(rt;
+        wrong.is_none() && script.is_over(runs),
+        "{}",
+        wrong.unwrap_or("runs")
+    );
     Ok(())
 }
