@@ -1,5 +1,5 @@
--- What prints rows of known values is read as these rows.
-use Rattle.std.proofs.Common.{◌≡◌, ◌≢◌, ◌∙◌, ◌==◌, ℕ, ◌+◌, ◌-◌, ◌<◌, ◌≤◌, Bool, true, false, suc, List, [], ◌∷◌, None, Ok, length, map, get_or, arith, ap₂, refl, subst}
+-- What prints rows of values is read as these rows.
+use Rattle.std.proofs.Common.{◌≡◌, ◌∙◌, ◌==◌, ℕ, ◌+◌, ◌-◌, ◌<◌, ◌≤◌, Bool, true, false, suc, List, [], ◌∷◌, None, Ok, length, map, get_or, arith, ap₂, refl, subst}
 use Rattle.std.specs.Prelude.{nat_lt}
 use Rattle.std.specs.List.{All, AllByRecursion, list_all, list_any, suffix_len}
 use Rattle.std.proofs.lemmas.Bool.{eq-eqb, lt-ltb}
