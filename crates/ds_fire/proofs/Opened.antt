@@ -1,8 +1,6 @@
 -- The rows after an opening, as the code puts them.
 use Rattle.std.proofs.Common.{◌≡◌, ◌∙◌, ℕ, suc, ◌+◌, ◌-◌, ◌*◌, ◌/◌, ◌%◌, ◌<◌, List, [], ◌++◌, length, get_or, take, drop, inl, inr, refl, arith, ap, sym, subst, add-zero}
-use Rattle.std.specs.Prelude.{All, not, ◌==◌}
-use Rattle.std.specs.List.{AllWithin, list_any}
-use Rattle.std.proofs.lemmas.List.Elements.{All-map, All-filter}
+use Rattle.std.specs.List.{AllWithin}
 use Rattle.std.proofs.Math.ListN.{set}
 use Rattle.std.proofs.Math.Nat.{suc-mul}
 use Rattle.std.proofs.lemmas.Bool.{cases_eq}
@@ -11,21 +9,19 @@ use Rattle.ds_base.specs.Values.{Row}
 use Rattle.ds_base.specs.declared.value.Value.{Value}
 use Rattle.ds_base.specs.declared.value.Value.TheVariants.{Zero}
 use Rattle.ds_cover.specs.Cover.{value_at, values_at}
-use Rattle.ds_design.specs.Circuit.{columns, control_nets, data_nets, register_nets}
-use Rattle.ds_design.specs.InRange.{IsInRange}
-use Rattle.ds_latch.specs.Plan.{IsSplit}
-use Rattle.ds_design.specs.declared.design.Register.{Register}
+use Rattle.ds_design.specs.Circuit.{columns, data_nets, register_nets}
 use Rattle.ds_design.specs.Run.{row_at}
 use Rattle.ds_latch.specs.Node.{Node, In, Out, Master, Slave, Split, IsNode, number_of, nodes, place_of, members, nets_of}
-use Rattle.ds_latch.specs.Firing.{opening_read}
+use Rattle.ds_latch.specs.Firing.{IsSettled, opening_read}
 use Rattle.ds_latch.proofs.Counts.{number_below, same_node}
 use Rattle.ds_fire.specs.Snapshot.{row_index, rows_of}
-use Rattle.ds_fire.specs.Feed.{IsConsumer, IsHome}
+use Rattle.ds_opening.specs.Settled.{IsSettling}
+use Rattle.ds_fire.specs.Feeds.{IsHome, home_of, no_home}
 use Rattle.ds_fire.specs.History.{Stored}
-use Rattle.ds_fire.specs.Turn.{ArePlaces, AreRows, HasSettled, IsClosed, IsOpened, rooms_of, values_of, IsTapped, Opens, tap_index, tap_value}
-use Rattle.ds_fire.specs.declared.feed.Tap.{Tap}
+use Rattle.ds_fire.specs.Turn.{ArePlaces, AreRows, IsClosed, IsLoaded, IsOpened, IsThere, Opens, home_index, home_value, rooms_of, values_of}
+use Rattle.ds_fire.specs.declared.homes.Home.{Home}
 use Rattle.ds_fire.specs.declared.places.Places.{Places}
-use Rattle.ds_fire.proofs.Settles.{place_low, takes_settled, tap_place, zeroth}
+use Rattle.ds_fire.proofs.Settles.{home_place, place_low, read, takes_settled, zeroth}
 use Rattle.ds_fire.proofs.Shown.{index_inside}
 
 -- each number is that of a node
@@ -47,24 +43,29 @@ pub bits_are : (s : Split) (bits : List (List ℕ)) (number : ℕ) (bit : List �
 bits_are s bits number bit inside is lent n is_node e =
     is ∙ (get_or_default bits number bit [] inside ∙ (ap (λ (k : ℕ). get_or bits k []) (sym e) ∙ lent n is_node))
 
--- one tap more has its value
-pub load_more : (places : Places) (rows : List Row) (taps : List Tap) (nets : Row) (i : ℕ) (tap : Tap) (value : Value) → i < length taps → tap ≡ get_or taps i tap → value ≡ tap_value places rows tap → tap.net < length nets
-    → ((f : ℕ → Value) → All (λ tap. tap_value places rows tap ≡ f tap.net) taps → AllWithin (λ tap. value_at nets tap.net ≡ f tap.net) taps 0 i)
-    → (f : ℕ → Value) → All (λ tap. tap_value places rows tap ≡ f tap.net) taps → AllWithin (λ t. value_at (set nets tap.net value) t.net ≡ f t.net) taps 0 (i + 1)
-load_more places rows taps nets i tap value inside is value_is within so_far f all k d low below =
-    let P : Tap → Type 0 = λ t. tap_value places rows t ≡ f t.net in
-    let asked : tap_value places rows tap ≡ f tap.net = subst P (sym is) (all i tap inside) in
-    let here : value ≡ f tap.net = value_is ∙ asked in
-    elim (cases_eq (get_or taps k d).net tap.net) [
+-- what is read by way of a home is the value there
+pub read_home : (places : Places) (rows : List Row) (homes : List Home) (k net : ℕ) (d : Home) → k ≡ net → net < length homes → (at : ℕ) → at ≡ home_index places (get_or homes k d) → (row : Row) → row ≡ get_or rows at row → IsThere places rows (home_of homes net) → (value : Value) → value ≡ value_at row (get_or homes k d).bit → value ≡ home_value places rows (home_of homes net)
+read_home places rows homes k net d same inside at at_is row row_is there value value_is =
+    let home : get_or homes k d ≡ home_of homes net = ap (λ (j : ℕ). get_or homes j d) same ∙ get_or_default homes net d no_home inside in
+    let place : at ≡ home_index places (home_of homes net) = at_is ∙ ap (home_index places) home in
+    let here : row ≡ get_or rows (home_index places (home_of homes net)) [] =
+    row_is ∙ (ap (λ (j : ℕ). get_or rows j row) place ∙ get_or_default rows (home_index places (home_of homes net)) row [] there.row) in
+    value_is ∙ (ap (λ (h : Home). value_at row h.bit) home ∙ ap (λ (r : Row). value_at r (home_of homes net).bit) here)
+
+-- one net more has the value at its home
+pub load_more : (places : Places) (rows : List Row) (homes : List Home) (sources : List ℕ) (nets : Row) (i net : ℕ) (value : Value) → i < length sources → net ≡ get_or sources i net → value ≡ home_value places rows (home_of homes net) → net < length nets
+    → AllWithin (IsLoaded places rows homes nets) sources 0 i → AllWithin (IsLoaded places rows homes (set nets net value)) sources 0 (i + 1)
+load_more places rows homes sources nets i net value inside is value_is within so_far k d low below =
+    elim (cases_eq (get_or sources k d) net) [
       | inl same ↦
-          ap (λ (n : ℕ). value_at (set nets tap.net value) n) same
-          ∙ (get_or-set_same nets tap.net value Zero within ∙ (here ∙ ap f (sym same)))
+          ap (value_at (set nets net value)) same
+          ∙ (get_or-set_same nets net value Zero within ∙ (value_is ∙ ap (λ (n : ℕ). home_value places rows (home_of homes n)) (sym same)))
       | inr ne ↦
           (let before : k < i = elim (cases_eq k i) [
-            | inl e ↦ absurd (ne (ap (λ (t : Tap). t.net) (ap (λ (j : ℕ). get_or taps j d) e ∙ (get_or_default taps i d tap inside ∙ sym is))))
+            | inl e ↦ absurd (ne (ap (λ (j : ℕ). get_or sources j d) e ∙ (get_or_default sources i d net inside ∙ sym is)))
             | inr other ↦ omega arith
           ] in
-          get_or-set_other nets tap.net (get_or taps k d).net value Zero ne ∙ so_far f all k d low before)
+          get_or-set_other nets net (get_or sources k d) value Zero ne ∙ so_far k d low before)
     ]
 
 pub copy_is : (rows before rest : List Row) (from to : ℕ) (x : Row) → before ≡ take to rows → rest ≡ drop to rows → x ≡ get_or rows from [] → before ++ set rest 0 x ≡ set rows to (get_or rows from [])
@@ -77,43 +78,17 @@ copy_is rows before rest from to x front back is =
     ∙ (ap (λ (b : List Row). b ++ set (drop to rows) 0 y) (sym (take-set rows to y))
     ∙ (ap (λ (r : List Row). take to (set rows to y) ++ r) (sym dropped) ∙ take-append-drop to (set rows to y)))))
 
--- the nets of a node are there
-module _ (s : Split) (split : IsSplit s) (range : IsInRange s.circuit) where
-  abbrev IsNet : ℕ → Type 0
-  IsNet net = net < length s.circuit.nets
-
-  data_within : All (λ net. net < length s.circuit.nets) (data_nets s.circuit)
-  data_within = All-map IsNet (λ (r : Register). r.data_net) s.circuit.registers (λ k d inside. (range.registers k d inside).0)
-
-  outputs_within : All (λ net. net < length s.circuit.nets) (register_nets s.circuit)
-  outputs_within = All-map IsNet (λ (r : Register). r.output) s.circuit.registers (λ k d inside. (range.registers k d inside).1)
-
-  member_low : (i : ℕ) → i < length s.clusters → (k d : ℕ) → k < length (members s i) → get_or (members s i) k d < length s.circuit.registers
-  member_low i is_cluster k d inside = split.within i [] is_cluster k d inside
-
-  pub nets_within : (n : Node) → IsNode s n → All (λ net. net < length s.circuit.nets) (nets_of s n)
-  nets_within In is_node = All-filter (λ net. not (list_any (λ clock. clock == net) (control_nets s.circuit))) IsNet s.circuit.inputs range.inputs
-  nets_within Out is_node = range.outputs
-  nets_within (Master i) is_node =
-      let sizes : length (data_nets s.circuit) ≡ length s.circuit.registers = length-map s.circuit.registers (λ (r : Register). r.data_net) in
-      All-map IsNet (λ r. get_or (data_nets s.circuit) r 0) (members s i) (λ k d inside. data_within (get_or (members s i) k d) 0 (omega (arith, member_low i is_node k d inside)))
-  nets_within (Slave i) is_node =
-      let sizes : length (register_nets s.circuit) ≡ length s.circuit.registers = length-map s.circuit.registers (λ (r : Register). r.output) in
-      All-map IsNet (λ r. get_or (register_nets s.circuit) r 0) (members s i) (λ k d inside. outputs_within (get_or (members s i) k d) 0 (omega (arith, member_low i is_node k d inside)))
-
--- each tap of a feed has its row, its value in it and its net
-pub tapped : (s : Split) → IsSplit s → IsInRange s.circuit → (rows : List Row) → AreRows s rows → (opened : ℕ) (places : Places) → ArePlaces s opened places → (nets : Row) → length nets ≡ length s.circuit.nets → (tap : Tap) → IsHome s tap.net tap.home → IsTapped places rows nets tap
-tapped s split range rows are opened places at nets long tap (p, source, is_p, (node, inside, is)) =
+-- a home has its row and a value in it
+pub home_there : (s : Split) (rows : List Row) → AreRows s rows → (opened : ℕ) (places : Places) → ArePlaces s opened places → (net : ℕ) (home : Home) → IsHome s net home → IsThere places rows home
+home_there s rows are opened places at net home (p, source, is_p, (node, inside, is)) =
     let place : ℕ = place_of s (opening_read p opened) in
-    let index : tap_index places tap ≡ row_index s (number_of p) (place_of s (opening_read p opened)) = tap_place s opened places at tap p source node in
+    let index : home_index places home ≡ row_index s (number_of p) (place_of s (opening_read p opened)) = home_place s opened places at home p source node in
     let below : row_index s (number_of p) (place_of s (opening_read p opened)) < nodes s * (s.slack + 1) = index_inside s (number_of p) place (number_below s p is_p) (place_low s (opening_read p opened)) in
     let rows_long : length rows ≡ nodes s * (s.slack + 1) = are.one_each in
     let wide : length (rows_of s rows p (place_of s (opening_read p opened))) ≡ length (nets_of s p) = are.widths p is_p place (place_low s (opening_read p opened)) in
-    let net : get_or (nets_of s p) tap.home.bit 0 < length s.circuit.nets = nets_within s split range p is_p tap.home.bit 0 inside in
     record {
       row = omega arith;
-      bit = subst (λ (k : ℕ). tap.home.bit < length (get_or rows k [])) (sym index) (subst (λ (k : ℕ). tap.home.bit < k) (sym wide) inside);
-      net = omega arith;
+      bit = subst (λ (k : ℕ). home.bit < length (get_or rows k [])) (sym index) (subst (λ (k : ℕ). home.bit < k) (sym wide) inside);
     }
 
 pub opened_in : (s : Split) (vectors rows rows' : List Row) (opened place : ℕ) (row : Row) → place ≡ place_of s (opened + 1) → row ≡ row_at vectors opened → length row ≡ length (columns s.circuit) → rows' ≡ set rows place row → IsOpened s vectors opened In rows rows'
@@ -182,30 +157,30 @@ module _ (s : Split) (vectors rows : List Row) (are : AreRows s rows) (opened : 
         } in
         subst (λ (m : Node). IsOpened s vectors opened m rows rows') (sym node) here
 
-  module _ (m : Node) (is_m : IsNode s m) (consumer : IsConsumer m) (number : ℕ) (is : number_of m ≡ number) where
-    consumer_at : number * places.each + places.next ≡ row_index s (number_of m) (place_of s (opened + 1))
-    consumer_at = ap (λ (n : ℕ). n * places.each + places.next) (sym is) ∙ next_index s opened places at (number_of m)
+  module _ (m : Node) (is_m : IsNode s m) (settling : IsSettling m) (number : ℕ) (is : number_of m ≡ number) where
+    settling_at : number * places.each + places.next ≡ row_index s (number_of m) (place_of s (opened + 1))
+    settling_at = ap (λ (n : ℕ). n * places.each + places.next) (sym is) ∙ next_index s opened places at (number_of m)
 
-    pub consumer_inside : number * places.each + places.next < length rows
-    consumer_inside =
-        let here : number * places.each + places.next ≡ row_index s (number_of m) (place_of s (opened + 1)) = consumer_at in
+    pub settling_inside : number * places.each + places.next < length rows
+    settling_inside =
+        let here : number * places.each + places.next ≡ row_index s (number_of m) (place_of s (opened + 1)) = settling_at in
         let below : row_index s (number_of m) (place_of s (opened + 1)) < nodes s * (s.slack + 1) = index_inside s (number_of m) (place_of s (opened + 1)) (number_below s m is_m) (place_low s (opened + 1)) in
         let long : length rows ≡ nodes s * (s.slack + 1) = are.one_each in
         omega arith
 
-    pub consumer_wide : length (get_or rows (number * places.each + places.next) []) ≡ length (nets_of s m)
-    consumer_wide = ap (λ (k : ℕ). length (get_or rows k [])) consumer_at ∙ are.widths m is_m (place_of s (opened + 1)) (place_low s (opened + 1))
+    pub settling_wide : length (get_or rows (number * places.each + places.next) []) ≡ length (nets_of s m)
+    settling_wide = ap (λ (k : ℕ). length (get_or rows k [])) settling_at ∙ are.widths m is_m (place_of s (opened + 1)) (place_low s (opened + 1))
 
-    pub opened_settled : (rows' : List Row) (nets : Row) (bit : List ℕ) → bit ≡ nets_of s m → HasSettled s opened rows m nets → rows' ≡ set rows (number * places.each + places.next) (values_at nets bit) → Opens s vectors opened number rows rows'
+    pub opened_settled : (rows' : List Row) (nets : Row) (bit : List ℕ) → bit ≡ nets_of s m → IsSettled s (read s rows opened) m (values_at nets (nets_of s m)) → rows' ≡ set rows (number * places.each + places.next) (values_at nets bit) → Opens s vectors opened number rows rows'
     opened_settled rows' nets bit bit_is settled puts n is_n e =
         let node : n ≡ m = same_node n m (e ∙ sym is) in
         let here : IsOpened s vectors opened m rows rows' = record {
           row = values_at nets (nets_of s m);
-          takes = takes_settled s vectors rows opened m consumer (values_at nets (nets_of s m)) settled;
+          takes = takes_settled s vectors rows opened m settling (values_at nets (nets_of s m)) settled;
           width = length-map (nets_of s m) (value_at nets);
           puts = puts
               ∙ (ap (λ (b : List ℕ). set rows (number * places.each + places.next) (values_at nets b)) bit_is
-              ∙ ap (λ (k : ℕ). set rows k (values_at nets (nets_of s m))) consumer_at);
+              ∙ ap (λ (k : ℕ). set rows k (values_at nets (nets_of s m))) settling_at);
         } in
         subst (λ (x : Node). IsOpened s vectors opened x rows rows') (sym node) here
 

@@ -1,9 +1,8 @@
--- What is settled in the cone of a consumer is the row that it takes.
-use Rattle.std.proofs.Common.{◌≡◌, ◌∙◌, ℕ, ◌+◌, ◌*◌, ◌<◌, ◌≤◌, List, [], ◌∷◌, length, get_or, map, refl, arith, ap, sym, subst, zero-add}
+-- What is settled in the cone of a node is the row that it takes.
+use Rattle.std.proofs.Common.{◌≡◌, ◌∙◌, ℕ, ◌+◌, ◌*◌, ◌<◌, ◌≤◌, List, [], length, get_or, arith, ap, sym, subst, zero-add}
 use Rattle.std.proofs.Math.Nat.{zero-mul}
 use Rattle.std.specs.Prelude.{All}
 use Rattle.std.proofs.lemmas.List.{get_or-map, length-map}
-use Rattle.std.proofs.lemmas.List.Elements.{All-head, All-tail}
 use Rattle.std.proofs.lemmas.Nat.{mod_below}
 use Rattle.ds_base.proofs.Tests.{test_same, test_other}
 use Rattle.ds_base.specs.Values.{Row}
@@ -18,22 +17,16 @@ use Rattle.ds_latch.specs.Plan.{IsSplit}
 use Rattle.ds_latch.specs.Firing.{AreRegisters, IsSettled, Takes, opening_read, read_rows}
 use Rattle.ds_design.proofs.Exists.{some_valuation}
 use Rattle.ds_latch.proofs.Flow.{settles_from_all}
-use Rattle.ds_settle.specs.Cone.{IsPartSettled}
+use Rattle.ds_settle.specs.Cone.{IsCone, IsPartSettled, Parts}
 use Rattle.ds_settle.proofs.Agree.{cone_settles}
 use Rattle.ds_fire.specs.Snapshot.{row_index}
-use Rattle.ds_fire.specs.Feed.{IsConsumer, IsFeed, IsHome}
-use Rattle.ds_fire.specs.Turn.{AreLoaded, ArePlaces, AreRows, state_with, tap_index, tap_value}
-use Rattle.ds_fire.specs.declared.feed.Feed.{Feed}
-use Rattle.ds_fire.specs.declared.feed.Tap.{Tap}
+use Rattle.ds_opening.specs.Settled.{IsSettling}
+use Rattle.ds_opening.proofs.Taken.{picked}
+use Rattle.ds_fire.specs.Feeds.{IsHome, home_of}
+use Rattle.ds_fire.specs.Turn.{ArePlaces, AreRows, IsLoaded, home_index, home_value, state_with}
+use Rattle.ds_fire.specs.declared.homes.Home.{Home}
 use Rattle.ds_fire.specs.declared.places.Places.{Places}
 use Rattle.ds_fire.proofs.Registers.{some_registers}
-
--- reading a list at places, and then a list at what was read
-picked : (nets : Row) (these places : List ℕ) → All (λ r. r < length these) places → values_at nets (map (λ r. get_or these r 0) places) ≡ values_at (values_at nets these) places
-picked nets these [] within = refl
-picked nets these (r ∷ rs) within =
-    ap (λ b. b ∷ values_at nets (map (λ r. get_or these r 0) rs)) (sym (get_or-map (value_at nets) these r 0 Zero (All-head (λ r. r < length these) r rs within)))
-    ∙ ap (λ bs. value_at (values_at nets these) r ∷ bs) (picked nets these rs (All-tail (λ r. r < length these) r rs within))
 
 -- the rows of IN stand first
 pub zeroth : (s : Split) (place : ℕ) → row_index s 0 place ≡ place
@@ -42,19 +35,19 @@ zeroth s place = ap (λ (n : ℕ). n + place) (zero-mul (s.slack + 1)) ∙ zero-
 pub place_low : (s : Split) (opened : ℕ) → place_of s opened ≤ s.slack
 place_low s opened = (let low : place_of s opened < s.slack + 1 = mod_below opened (s.slack + 1) (omega arith) in omega arith)
 
--- a tap is kept where its home is read
-pub tap_place : (s : Split) (opened : ℕ) (places : Places) → ArePlaces s opened places → (tap : Tap) (p : Node) → IsSource p → tap.home.node ≡ number_of p → tap_index places tap ≡ row_index s (number_of p) (place_of s (opening_read p opened))
-tap_place s opened places are tap In source is =
-    test_same tap.home.node 0 places.next (tap.home.node * places.each + places.same) is ∙ (are.next ∙ sym (zeroth s (place_of s (opened + 1))))
-tap_place s opened places are tap Out source is = absurd source
-tap_place s opened places are tap (Master i) source is = absurd source
-tap_place s opened places are tap (Slave i) source is =
-    test_other tap.home.node 0 places.next (tap.home.node * places.each + places.same) (λ e. absurd (omega arith))
+-- a home is kept where it is read
+pub home_place : (s : Split) (opened : ℕ) (places : Places) → ArePlaces s opened places → (home : Home) (p : Node) → IsSource p → home.node ≡ number_of p → home_index places home ≡ row_index s (number_of p) (place_of s (opening_read p opened))
+home_place s opened places are home In source is =
+    test_same home.node 0 places.next (home.node * places.each + places.same) is ∙ (are.next ∙ sym (zeroth s (place_of s (opened + 1))))
+home_place s opened places are home Out source is = absurd source
+home_place s opened places are home (Master i) source is = absurd source
+home_place s opened places are home (Slave i) source is =
+    test_other home.node 0 places.next (home.node * places.each + places.same) (λ e. absurd (omega arith))
     ∙ (ap (λ (n : ℕ). n * places.each + places.same) is
     ∙ (ap (λ (w : ℕ). number_of (Slave i) * w + places.same) are.each
     ∙ ap (λ (x : ℕ). number_of (Slave i) * (s.slack + 1) + x) are.same))
 
--- what a consumer reads that has opened so often
+-- what a node reads that has opened so often
 abbrev pub read : Split → List Row → ℕ → Node → Row
 read s rows opened p = read_rows s (state_with s rows) opened p
 
@@ -84,34 +77,31 @@ module _ (s : Split) (split : IsSplit s) (in_range : IsInRange s.circuit) (rows 
         ap (λ (row : Row). value_at row bit) (sym (source_row p source is_p))
         ∙ (get_or-map (value_at nets) (nets_of s p) bit 0 Zero inside ∙ ap (value_at nets) at)
 
-    tap_is : (places : Places) → ArePlaces s opened places → (tap : Tap) → IsHome s tap.net tap.home → tap_value places rows tap ≡ value_at nets tap.net
-    tap_is places at tap (p, source, is_p, (node, inside, is)) =
-        ap (λ (k : ℕ). value_at (get_or rows k []) tap.home.bit) (tap_place s opened places at tap p source node)
-        ∙ source_value p source is_p tap.home.bit tap.net inside is
+    home_is : (places : Places) → ArePlaces s opened places → (net : ℕ) (home : Home) → IsHome s net home → home_value places rows home ≡ value_at nets net
+    home_is places at net home (p, source, is_p, (node, inside, is)) =
+        ap (λ (k : ℕ). value_at (get_or rows k []) home.bit) (home_place s opened places at home p source node)
+        ∙ source_value p source is_p home.bit net inside is
 
-    module _ (n : Node) (feed : Feed) (is_feed : IsFeed s n feed) (places : Places) (at : ArePlaces s opened places) (loaded part : Row) (are_loaded : AreLoaded places rows feed.taps.items loaded) (is_part : IsPartSettled s.circuit feed.cone loaded part) where
-      sources_agree : All (λ net. value_at loaded net ≡ value_at nets net) feed.cone.sources
+    module _ (n : Node) (cone : Parts) (is_cone : IsCone s.circuit (nets_of s n) cone) (homes : List Home) (housed : All (λ net. IsHome s net (home_of homes net)) cone.sources) (places : Places) (at : ArePlaces s opened places) (loaded part : Row) (are_loaded : All (IsLoaded places rows homes loaded) cone.sources) (is_part : IsPartSettled s.circuit cone loaded part) where
+      sources_agree : All (λ net. value_at loaded net ≡ value_at nets net) cone.sources
       sources_agree k d inside =
-          let (j, tap, within, is, net) = is_feed.all k d inside in
-          let all : All (λ tap. value_at loaded tap.net ≡ value_at nets tap.net) feed.taps.items = are_loaded (value_at nets) (λ i e low. tap_is places at (get_or feed.taps.items i e) (is_feed.homes i e low)) in
-          let here : value_at loaded (get_or feed.taps.items j tap).net ≡ value_at nets (get_or feed.taps.items j tap).net = all j tap within in
-          let same : (get_or feed.taps.items j tap).net ≡ get_or feed.cone.sources k d = ap (λ (t : Tap). t.net) is ∙ net in
-          subst (λ (net : ℕ). value_at loaded net ≡ value_at nets net) same here
+          let net : ℕ = get_or cone.sources k d in
+          are_loaded k d inside ∙ home_is places at net (home_of homes net) (housed k d inside)
 
       settles : IsSettled s (read s rows opened) n (values_at part (nets_of s n))
       settles =
           subst (IsSettled s (read s rows opened) n)
-          (sym (cone_settles s.circuit split.accepted (nets_of s n) feed.cone is_feed.cone state (read s rows opened In) nets valuation loaded part sources_agree is_part).1)
+          (sym (cone_settles s.circuit split.accepted (nets_of s n) cone is_cone state (read s rows opened In) nets valuation loaded part sources_agree is_part).1)
           (settles_from_all s (read s rows opened) n state nets registers valuation)
 
-  pub part_settles : (n : Node) (feed : Feed) → IsFeed s n feed → (places : Places) → ArePlaces s opened places → (loaded part : Row) → AreLoaded places rows feed.taps.items loaded → IsPartSettled s.circuit feed.cone loaded part → IsSettled s (read s rows opened) n (values_at part (nets_of s n))
-  part_settles n feed is_feed places at loaded part are_loaded is_part =
+  pub part_settles : (n : Node) (cone : Parts) → IsCone s.circuit (nets_of s n) cone → (homes : List Home) → All (λ net. IsHome s net (home_of homes net)) cone.sources → (places : Places) → ArePlaces s opened places → (loaded part : Row) → All (IsLoaded places rows homes loaded) cone.sources → IsPartSettled s.circuit cone loaded part → IsSettled s (read s rows opened) n (values_at part (nets_of s n))
+  part_settles n cone is_cone homes housed places at loaded part are_loaded is_part =
       let (state, registers) = some_registers s split (read s rows opened) widths in
       let (nets, valuation) = some_valuation s.circuit in_range split.accepted state (read s rows opened In) registers.0 (read_width s rows are opened In tt) in
-      settles state nets registers valuation n feed is_feed places at loaded part are_loaded is_part
+      settles state nets registers valuation n cone is_cone homes housed places at loaded part are_loaded is_part
 
-pub takes_settled : (s : Split) (vectors rows : List Row) (opened : ℕ) (n : Node) → IsConsumer n → (row : Row) → IsSettled s (read s rows opened) n row → Takes s vectors (state_with s rows) opened n row
-takes_settled s vectors rows opened In consumer row is = absurd consumer
-takes_settled s vectors rows opened Out consumer row is = is
-takes_settled s vectors rows opened (Master i) consumer row is = is
-takes_settled s vectors rows opened (Slave i) consumer row is = absurd consumer
+pub takes_settled : (s : Split) (vectors rows : List Row) (opened : ℕ) (n : Node) → IsSettling n → (row : Row) → IsSettled s (read s rows opened) n row → Takes s vectors (state_with s rows) opened n row
+takes_settled s vectors rows opened In settling row is = absurd settling
+takes_settled s vectors rows opened Out settling row is = is
+takes_settled s vectors rows opened (Master i) settling row is = is
+takes_settled s vectors rows opened (Slave i) settling row is = absurd settling

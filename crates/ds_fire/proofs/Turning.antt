@@ -18,7 +18,7 @@ use Rattle.ds_fire.specs.declared.kept.Kept.{Kept}
 use Rattle.ds_latch.specs.Plan.{Planned}
 use Rattle.ds_design.specs.Rows.{Rows}
 use Rattle.ds_fire.specs.Inside.{IsRunning, seen}
-use Rattle.ds_fire.specs.declared.feed.Feed.{Feed}
+use Rattle.ds_fire.specs.declared.feeds.Feeds.{Feeds}
 use Rattle.ds_fire.proofs.Reached.{kept_counts, reached_after}
 use Rattle.ds_fire.proofs.Shown.{Turned, fired, kept_next}
 
@@ -85,7 +85,7 @@ room_more kept parts sound stored room n is_node ready d =
     omega arith
 
 -- one step, from parts to parts
-pub stepped : (planned : Planned) (vectors : Rows) (counts counts' : List ℕ) (kept kept' : Kept) (feeds : List Feed) (v : ℕ)
+pub stepped : (planned : Planned) (vectors : Rows) (counts counts' : List ℕ) (kept kept' : Kept) (feeds : Feeds) (v : ℕ)
     → IsRunning (seen planned vectors counts kept) vectors kept feeds → IsReady (seen planned vectors counts kept) v
     → counts' ≡ set counts v (get_or counts v 0 + 1) → IsTurned planned.split vectors.rows v (get_or counts v 0) kept kept'
     → IsFired (seen planned vectors counts kept) v (seen planned vectors counts' kept') × IsRunning (seen planned vectors counts' kept') vectors kept' feeds

@@ -6,9 +6,9 @@ use Rattle.ds_latch.specs.Plan.{Planned}
 use Rattle.ds_design.specs.Rows.{Rows}
 use Rattle.ds_fire.specs.Snapshot.{Snapshot, split_of, limit_of, width_of}
 use Rattle.ds_fire.specs.Fired.{IsReached, IsSound}
-use Rattle.ds_fire.specs.Feed.{AreFeeds}
+use Rattle.ds_fire.specs.Feeds.{AreFeeds}
 use Rattle.ds_fire.specs.Turn.{rooms_of, values_of}
-use Rattle.ds_fire.specs.declared.feed.Feed.{Feed}
+use Rattle.ds_fire.specs.declared.feeds.Feeds.{Feeds}
 use Rattle.ds_fire.specs.declared.kept.Kept.{Kept}
 
 -- what is seen of the parts
@@ -27,7 +27,7 @@ HaveRoom snapshot kept = (n : Node) → IsNode (split_of snapshot) n
     → limit_of snapshot * width_of snapshot n ≤ slice_index (rooms_of kept.stored.items) (number_of n)
 
 -- the parts stand for what is seen
-pub record IsRunning (snapshot : Snapshot) (vectors : Rows) (kept : Kept) (feeds : List Feed) : Type 0 where
+pub record IsRunning (snapshot : Snapshot) (vectors : Rows) (kept : Kept) (feeds : Feeds) : Type 0 where
   pub sound : IsSound snapshot
   pub reached : IsReached snapshot
   pub width : vectors.width ≡ length (columns (split_of snapshot).circuit)

@@ -4,7 +4,7 @@ pub mod Fired
 pub mod Ready
 pub mod Laws
 pub mod History
-pub mod Feed
+pub mod Feeds
 pub mod Turn
 pub mod First
 pub mod Inside

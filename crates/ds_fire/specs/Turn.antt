@@ -1,13 +1,14 @@
 -- What one firing leaves of the rows and of what is stored.
-use Rattle.std.specs.Prelude.{◌≡◌, ℕ, ◌+◌, ◌*◌, ◌<◌, ◌≤◌, List, [], ◌++◌, length, map, All, slice_index_or, slice_set, ◌==◌, if◌then◌else◌}
+use Rattle.std.specs.Prelude.{◌≡◌, ℕ, ◌+◌, ◌*◌, ◌<◌, ◌≤◌, List, [], ◌++◌, length, map, slice_index_or, slice_set, ◌==◌, if◌then◌else◌}
 use Rattle.ds_base.specs.Values.{Row}
 use Rattle.ds_base.specs.declared.value.Value.{Value}
-use Rattle.ds_cover.specs.Cover.{value_at, values_at}
+use Rattle.ds_cover.specs.Cover.{value_at}
 use Rattle.ds_latch.specs.Node.{Node, Split, IsNode, number_of, nodes, nets_of, opening, closing, extra_event, place_of}
-use Rattle.ds_latch.specs.Firing.{State, IsSettled, Takes, read_rows}
+use Rattle.ds_latch.specs.Firing.{State, Takes}
 use Rattle.ds_fire.specs.Snapshot.{row_index, rows_of}
 use Rattle.ds_fire.specs.History.{Stored}
-use Rattle.ds_fire.specs.declared.feed.Tap.{Tap}
+use Rattle.ds_fire.specs.Feeds.{home_of}
+use Rattle.ds_fire.specs.declared.homes.Home.{Home}
 use Rattle.ds_fire.specs.declared.kept.Kept.{Kept}
 use Rattle.ds_fire.specs.declared.places.Places.{Places}
 
@@ -33,28 +34,22 @@ pub record ArePlaces (s : Split) (opened : ℕ) (places : Places) : Type 0 where
   pub same : places.same ≡ place_of s opened
   pub next : places.next ≡ place_of s (opened + 1)
 
--- where the value of a tap is kept: of IN at the next place, of the others at the same one
-abbrev pub tap_index : Places → Tap → ℕ
-tap_index places tap = if tap.home.node == 0 then places.next else tap.home.node * places.each + places.same
+-- where the row of a home is kept: of IN at the next place, of the others at the same one
+abbrev pub home_index : Places → Home → ℕ
+home_index places home = if home.node == 0 then places.next else home.node * places.each + places.same
 
--- the value of a tap
-abbrev pub tap_value : Places → List Row → Tap → Value
-tap_value places rows tap = value_at (slice_index_or rows (tap_index places tap) []) tap.home.bit
+-- the value at a home
+abbrev pub home_value : Places → List Row → Home → Value
+home_value places rows home = value_at (slice_index_or rows (home_index places home) []) home.bit
 
--- a tap has a row, a value in it, and a net
-pub record IsTapped (places : Places) (rows : List Row) (nets : Row) (tap : Tap) : Type 0 where
-  pub row : tap_index places tap < length rows
-  pub bit : tap.home.bit < length (slice_index_or rows (tap_index places tap) [])
-  pub net : tap.net < length nets
+-- a home has a row, and a value in it
+pub record IsThere (places : Places) (rows : List Row) (home : Home) : Type 0 where
+  pub row : home_index places home < length rows
+  pub bit : home.bit < length (slice_index_or rows (home_index places home) [])
 
--- the net of each tap has its value, wherever no two taps ask different values of a net
-abbrev pub AreLoaded : Places → List Row → List Tap → Row → Type 0
-AreLoaded places rows taps nets = (f : ℕ → Value)
-    → All (λ tap. tap_value places rows tap ≡ f tap.net) taps → All (λ tap. value_at nets tap.net ≡ f tap.net) taps
-
--- the nets of a node are what settles as it opens for what its producers keep
-abbrev pub HasSettled : Split → ℕ → List Row → Node → Row → Type 0
-HasSettled s opened rows n nets = IsSettled s (read_rows s (state_with s rows) opened) n (values_at nets (nets_of s n))
+-- a net has the value at its home
+abbrev pub IsLoaded : Places → List Row → List Home → Row → ℕ → Type 0
+IsLoaded places rows homes nets net = value_at nets net ≡ home_value places rows (home_of homes net)
 
 -- a node that has opened so often has taken its row, at its next place
 pub record IsOpened (s : Split) (vectors : List Row) (opened : ℕ) (n : Node) (old new : List Row) : Type 0 where

@@ -1,9 +1,9 @@
 //! Where the values of nets are kept.
-ghost use Rattle.std.specs.Prelude.{◌≡◌, ◌<◌, ◌^◌, ℕ, All, IfOk, length, slice_index_or};
+ghost use Rattle.std.specs.Prelude.{◌≡◌, ◌<◌, ◌^◌, ℕ, All, IfOk, length};
 ghost use Rattle.ds_design.specs.InRange.{IsInRange};
 ghost use Rattle.ds_latch.specs.Node.{nodes};
 ghost use Rattle.ds_latch.specs.Plan.{IsSplit};
-ghost use Rattle.ds_fire.specs.Feed.{AreHomes, ArePlaced, IsPlacedOrKept, no_home};
+ghost use Rattle.ds_fire.specs.Feeds.{AreHomes, ArePlaced, IsPlacedOrKept, home_of};
 
 use ds_base::{NetId, OutOfMemory};
 use ds_latch::Latches;
@@ -46,7 +46,7 @@ fn place(bits: &[NetId], node: u32, homes: &mut Vec<Home>)
     ensures same { length homes.new.items ≡ length homes.old.items }
     ensures placed { ArePlaced bits.now node homes.new.items }
     ensures kept { (net : ℕ) → IsPlacedOrKept bits.now node net
-        (slice_index_or homes.old.items net no_home) (slice_index_or homes.new.items net no_home) }
+        (home_of homes.old.items net) (home_of homes.new.items net) }
 {
     for (bit, net) in bits.iter().enumerate() {
         homes[net.index()] = Home { node, bit };

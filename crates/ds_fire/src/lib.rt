@@ -1,15 +1,16 @@
 //! Events of a plan fired one after another: what each node keeps and has stored.
 //!
 //! A caller sees a `State` as a `Snapshot`: how often each event has fired, the rows of each node,
-//! and what it has stored, its rows one after the other. `State::new` takes all memory. `fire` fires
-//! an event where it is enabled and does exactly what the definition of a firing says; where it is
-//! not, nothing changes and `Blocked` says why. `next_enabled` gives the least event that may fire: it
-//! looks at one after the other. An opening settles the cone of its node and no other table.
+//! and what it has stored, its rows one after the other. `State::new` takes all memory. `fire`
+//! fires an event where it is enabled and does exactly what the definition of a firing says; where
+//! it is not, nothing changes and `Blocked` says why. `next_enabled` gives the least event that may
+//! fire: it looks at one after the other. An opening settles the cone of its node and no other
+//! table.
 //! `laws` has what holds whatever is fired: held and stored rows are those of the clocked run,
 //! nothing is enabled exactly at the end, and there the stored rows spell the trace.
 #![tactic(auto)]
 
-mod feed;
+mod feeds;
 mod history;
 mod homes;
 mod kept;

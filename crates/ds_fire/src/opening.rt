@@ -5,13 +5,16 @@ ghost use Rattle.ds_design.specs.Circuit.{columns};
 ghost use Rattle.ds_design.specs.InRange.{IsInRange};
 ghost use Rattle.ds_latch.specs.Plan.{IsSplit};
 ghost use Rattle.ds_latch.specs.Node.{Node, In, Slave, IsNode, number_of, nodes};
-ghost use Rattle.ds_fire.specs.Feed.{AreFeeds, IsConsumer, IsFeed};
-ghost use Rattle.ds_fire.specs.Turn.{AreLoaded, AreLow, AreRows, HasSettled, IsOpened, IsTapped, Opens, tap_index};
+ghost use Rattle.ds_opening.specs.Woven.{IsSettlingAt};
+ghost use Rattle.ds_fire.specs.Feeds.{AreFeeds, home_of};
+ghost use Rattle.ds_fire.specs.Turn.{AreLow, AreRows, IsLoaded, IsOpened, IsThere};
+ghost use Rattle.ds_fire.specs.Turn.{Opens, home_index};
 
-use crate::feed::{Feed, Tap};
+use crate::feeds::Feeds;
+use crate::homes::Home;
 use crate::kept::Kept;
 use crate::places::Places;
-use ds_base::Row3;
+use ds_base::{NetId, Row3};
 use ds_design::Vectors;
 use ds_latch::Latches;
 use ds_settle::{pick_values, settle_part};
@@ -21,7 +24,7 @@ use ds_settle::{pick_values, settle_part};
 pub(crate) fn open(
     latches: &Latches,
     vectors: &Vectors,
-    feeds: &[Feed],
+    feeds: &Feeds,
     number: usize,
     opened: usize,
     kept: &mut Kept,
@@ -42,9 +45,9 @@ pub(crate) fn open(
     if number == 0 {
         open_in(latches, vectors, opened, kept);
     } else if number % 2 == 0 {
-        open_settled(latches, &feeds[number / 2], number, opened, kept);
+        open_settled(latches, feeds, number, opened, kept);
     } else if number == 1 {
-        open_settled(latches, &feeds[0], number, opened, kept);
+        open_settled(latches, feeds, number, opened, kept);
     } else {
         open_slave(latches, number, opened, kept);
     }
@@ -80,13 +83,12 @@ fn open_slave(latches: &Latches, number: usize, opened: usize, kept: &mut Kept)
     copy_row(&mut kept.rows, at - places.each, at);
 }
 
-// A consumer takes what its cone settles to, for what its producers keep.
-fn open_settled(latches: &Latches, feed: &Feed, number: usize, opened: usize, kept: &mut Kept)
+// A node that settles takes what its cone settles to, for what its producers keep.
+fn open_settled(latches: &Latches, feeds: &Feeds, number: usize, opened: usize, kept: &mut Kept)
     requires few { opened < 2 ^ 32 }
-    requires node { number < nodes latches.now }
+    requires node { (n : Node) × IsSettlingAt latches.now n number }
     requires design { IsInRange latches.now.circuit × IsSplit latches.now }
-    requires feed { (n : Node) × IsNode latches.now n × IsConsumer n × (number_of n ≡ number)
-        × IsFeed latches.now n feed.now }
+    requires feeds { AreFeeds latches.now feeds.now }
     requires rows { AreRows latches.now kept.old.rows.items }
     requires nets { length kept.old.nets ≡ length latches.now.circuit.nets }
     ensures opens { (vectors : List Row) → Opens latches.now vectors opened number
@@ -94,8 +96,16 @@ fn open_settled(latches: &Latches, feed: &Feed, number: usize, opened: usize, ke
     ensures nets { length kept.new.nets ≡ length kept.old.nets }
     ensures stored { kept.new.stored.items ≡ kept.old.stored.items }
 {
-    settle_nets(latches, feed, opened, kept.rows.as_slice(), &mut kept.nets);
     let places = Places::of(latches, opened);
+    let cone = &feeds.cones[number / 2];
+    load(
+        cone.sources(),
+        feeds.homes.as_slice(),
+        kept.rows.as_slice(),
+        places,
+        &mut kept.nets,
+    );
+    settle_part(latches.netlist(), cone, &mut kept.nets);
     let into = number * places.each + places.next;
     pick_values(
         &kept.nets,
@@ -104,42 +114,28 @@ fn open_settled(latches: &Latches, feed: &Feed, number: usize, opened: usize, ke
     );
 }
 
-// Lets the nets of a feed's cone be what they are where its sources have what their homes keep.
-fn settle_nets(latches: &Latches, feed: &Feed, opened: usize, rows: &[Row3], nets: &mut Row3)
-    requires few { opened < 2 ^ 32 }
-    requires design { IsInRange latches.now.circuit × IsSplit latches.now }
-    requires feed { (n : Node) × IsNode latches.now n × IsConsumer n
-        × IsFeed latches.now n feed.now }
-    requires rows { AreRows latches.now rows.now }
-    requires nets { length nets.old ≡ length latches.now.circuit.nets }
-    ensures settled { (n : Node) → IsFeed latches.now n feed.now
-        → HasSettled latches.now opened rows.now n nets.new }
-    ensures same { length nets.new ≡ length nets.old }
-{
-    let places = Places::of(latches, opened);
-    load(feed.taps.as_slice(), rows, places, nets);
-    settle_part(latches.netlist(), &feed.cone, nets);
-}
-
-// Gives each tap's net the value that its home has at these places.
-fn load(taps: &[Tap], rows: &[Row3], places: Places, nets: &mut Row3)
+// Gives each of these nets the value that its home has at these places.
+fn load(sources: &[NetId], homes: &[Home], rows: &[Row3], places: Places, nets: &mut Row3)
     requires low { AreLow places }
-    requires tapped { All (IsTapped places rows.now nets.old) taps.now }
-    ensures loaded { AreLoaded places rows.now taps.now nets.new }
+    requires homes { All (λ net. net < length homes.now) sources.now }
+    requires there { All (λ net. IsThere places rows.now (home_of homes.now net)) sources.now }
+    requires nets { All (λ net. net < length nets.old) sources.now }
+    ensures loaded { All (IsLoaded places rows.now homes.now nets.new) sources.now }
     ensures same { length nets.new ≡ length nets.old }
 {
-    for tap in taps {
-        let value = rows[row_of(tap, places)].value(tap.home.bit);
-        nets.set(tap.net.index(), value);
+    for net in sources {
+        let home = homes[net.index()];
+        let value = rows[row_of(home, places)].value(home.bit);
+        nets.set(net.index(), value);
     }
 }
 
-// Where the row of a tap is kept.
-fn row_of(tap: &Tap, places: Places) -> usize
+// Where the row of a home is kept.
+fn row_of(home: Home, places: Places) -> usize
     requires { AreLow places }
-    ensures { result ≡ tap_index places tap.now }
+    ensures { result ≡ home_index places home }
 {
-    let node = tap.home.node as usize;
+    let node = home.node as usize;
     if node == 0 {
         places.next
     } else {

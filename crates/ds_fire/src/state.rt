@@ -9,7 +9,7 @@ ghost use Rattle.ds_fire.specs.Snapshot.{IsFirst, Shows, split_of, graph_of, lim
 ghost use Rattle.ds_fire.specs.Fired.{IsFired, IsReached, IsReady, IsSound};
 ghost use Rattle.ds_fire.specs.Ready.{IsLeastReady};
 
-use crate::feed::{Feed, feeds_of};
+use crate::feeds::Feeds;
 use crate::kept::Kept;
 use crate::places::Places;
 use crate::turn::turn;
@@ -27,7 +27,7 @@ pub struct State<'a> {
     vectors: &'a Vectors,
     counts: Counts,
     kept: Kept,
-    feeds: Vec<Feed>,
+    feeds: Feeds,
 }
 
 impl Drop for State<'_> {
@@ -50,7 +50,7 @@ impl<'a> Model for State<'a> {
 
     ghost view = { λ s. seen s.plan.now s.vectors.now s.counts s.kept };
 
-    ghost invariant = { λ s. IsRunning (seen s.plan.now s.vectors.now s.counts s.kept) s.vectors.now s.kept s.feeds.items };
+    ghost invariant = { λ s. IsRunning (seen s.plan.now s.vectors.now s.counts s.kept) s.vectors.now s.kept s.feeds };
 }
 
 impl<'a> State<'a> {
@@ -65,7 +65,7 @@ impl<'a> State<'a> {
         let counts = Counts::zero(alloc, graph.events().len())?;
         let count = count_rows(vectors);
         let kept = Kept::first(alloc, latches, count)?;
-        let feeds = feeds_of(alloc, latches)?;
+        let feeds = Feeds::of(alloc, latches)?;
         Ok(State {
             plan,
             vectors,

@@ -4,10 +4,10 @@ ghost use Rattle.ds_design.specs.Circuit.{columns};
 ghost use Rattle.ds_design.specs.InRange.{IsInRange};
 ghost use Rattle.ds_latch.specs.Plan.{IsSplit};
 ghost use Rattle.ds_latch.specs.Node.{Node, IsNode, number_of, nodes, closing};
-ghost use Rattle.ds_fire.specs.Feed.{AreFeeds};
+ghost use Rattle.ds_fire.specs.Feeds.{AreFeeds};
 ghost use Rattle.ds_fire.specs.Turn.{AreRows, Closes, HasRoom, IsTurned};
 
-use crate::feed::Feed;
+use crate::feeds::Feeds;
 use crate::kept::Kept;
 use crate::opening::open;
 use crate::places::Places;
@@ -20,7 +20,7 @@ use ds_latch::Latches;
 pub(crate) fn turn(
     latches: &Latches,
     vectors: &Vectors,
-    feeds: &[Feed],
+    feeds: &Feeds,
     event: EventId,
     count: usize,
     kept: &mut Kept,

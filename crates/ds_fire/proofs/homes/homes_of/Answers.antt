@@ -3,9 +3,10 @@ use Rattle.std.specs.Prelude.{All}
 use Rattle.std.proofs.lemmas.Bool.{cases_eq}
 use Rattle.ds_design.specs.Circuit.{Circuit}
 use Rattle.ds_latch.specs.Node.{In, Slave, nodes, nets_of}
-use Rattle.ds_fire.specs.Feed.{AreHoused}
+use Rattle.ds_fire.specs.Feeds.{AreHoused}
 use Rattle.ds_fire.proofs.Fed.{housed_here, housed_kept, homes_from}
-use Rattle.ds_fire.proofs.Opened.{bits_are, nets_within}
+use Rattle.ds_opening.proofs.Woven.{nets_within}
+use Rattle.ds_fire.proofs.Opened.{bits_are}
 use Rattle.ds_fire.proofs.homes.homes_of.Goals as goal
 
 pub place-requires : goal.place-requires

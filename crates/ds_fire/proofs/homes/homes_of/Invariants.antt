@@ -1,6 +1,6 @@
 use Rattle.std.proofs.Common.{◌≡◌, ◌<◌, ℕ, length}
 use Rattle.ds_latch.specs.Node.{In, Slave}
-use Rattle.ds_fire.specs.Feed.{AreHoused}
+use Rattle.ds_fire.specs.Feeds.{AreHoused}
 use Rattle.ds_fire.proofs.homes.homes_of.Given as goal
 
 abbrev pub invariant-loop-i : goal.invariant-loop-i

@@ -1,38 +1,34 @@
-use Rattle.std.proofs.Common.{◌≡◌, ◌∙◌, ◌<◌, ◌+◌, ℕ, List, [], length, get_or, ap, sym, subst, arith}
-use Rattle.std.specs.Prelude.{All}
+use Rattle.std.proofs.Common.{◌≡◌, ◌∙◌, ◌<◌, ◌+◌, ℕ, List, length, ap, sym, subst}
 use Rattle.std.specs.List.{AllWithin}
 use Rattle.std.proofs.Math.ListN.{set}
-use Rattle.std.proofs.lemmas.List.{length-set, get_or_default}
+use Rattle.std.proofs.lemmas.List.{length-set}
 use Rattle.ds_base.specs.Values.{Row}
 use Rattle.ds_base.specs.declared.value.Value.{Value}
-use Rattle.ds_base.specs.declared.value.Value.TheVariants.{Zero}
-use Rattle.ds_cover.specs.Cover.{value_at}
-use Rattle.ds_fire.specs.Turn.{IsTapped, tap_index, tap_value}
-use Rattle.ds_fire.specs.declared.feed.Tap.{Tap}
-use Rattle.ds_fire.proofs.Opened.{load_more}
+use Rattle.ds_fire.specs.Feeds.{home_of}
+use Rattle.ds_fire.specs.Turn.{IsLoaded, IsThere, home_value}
+use Rattle.ds_fire.specs.declared.homes.Home.{Home}
+use Rattle.ds_fire.proofs.Opened.{load_more, read_home}
 use Rattle.ds_fire.proofs.opening.load.Goals as goal
 
-pub loop-tap-preserved : goal.loop-tap-preserved
-loop-tap-preserved c =
-    let taps : List Tap = c.args.taps.now in
-    let tap : Tap = c.tap-item.result in
-    let i : ℕ = c.loop-tap.tap-index in
+pub loop-net-preserved : goal.loop-net-preserved
+loop-net-preserved c =
+    let i : ℕ = c.loop-net.net-index in
+    let net : ℕ = c.net-item.result in
+    let homes : List Home = c.args.homes.now in
+    let rows : List Row = c.args.rows.now in
     let value : Value = c.value-value.result in
-    let kept : IsTapped c.args.places c.args.rows.now c.args.nets.now tap = subst (IsTapped c.args.places c.args.rows.now c.args.nets.now) (sym c.tap-item.is) (c.requires.tapped i tap c.loop-tap-test.true) in
-    let row : c.index-rows-row_of.result ≡ get_or c.args.rows.now (tap_index c.args.places c.tap-item.result) [] =
-    c.index-rows-row_of.is
-    ∙ (ap (λ (k : ℕ). get_or c.args.rows.now k c.index-rows-row_of.result) c.row_of.ensures ∙ get_or_default c.args.rows.now (tap_index c.args.places tap) c.index-rows-row_of.result [] kept.row) in
-    let value_is : c.value-value.result ≡ tap_value c.args.places c.args.rows.now c.tap-item.result =
-    c.value-value.ensures ∙ ap (λ (r : Row). get_or r tap.home.bit Zero) row in
-    let long : length c.loop-tap.nets ≡ length c.args.nets.now = c.loop-tap.invariant.same in
-    let net : tap.net < length c.loop-tap.nets = subst (λ (n : ℕ). tap.net < n) (sym long) kept.net in
-    let set_is : c.set.new.self ≡ set c.loop-tap.nets c.tap-item.result.net c.value-value.result =
-    c.set.ensures ∙ ap (λ (n : ℕ). set c.loop-tap.nets n value) c.index.ensures in
+    let there : IsThere c.args.places c.args.rows.now (home_of c.args.homes.now c.net-item.result) =
+    subst (λ (n : ℕ). IsThere c.args.places c.args.rows.now (home_of c.args.homes.now n)) (sym c.net-item.is) (c.requires.there i net c.loop-net-test.true) in
+    let housed : c.net-item.result < length c.args.homes.now = subst (λ (n : ℕ). n < length c.args.homes.now) (sym c.net-item.is) (c.requires.homes i net c.loop-net-test.true) in
+    let long : length c.loop-net.nets ≡ length c.args.nets.now = c.loop-net.invariant.same in
+    let within : c.net-item.result < length c.loop-net.nets =
+    subst (λ (n : ℕ). c.net-item.result < n) (sym long) (subst (λ (n : ℕ). n < length c.args.nets.now) (sym c.net-item.is) (c.requires.nets i net c.loop-net-test.true)) in
+    let value_is : c.value-value.result ≡ home_value c.args.places c.args.rows.now (home_of c.args.homes.now c.net-item.result) =
+    read_home c.args.places rows homes c.index.result net _ c.index.ensures housed c.row_of.result c.row_of.ensures c.index-rows-row_of.result c.index-rows-row_of.is there c.value-value.result c.value-value.ensures in
+    let set_is : c.set.new.self ≡ set c.loop-net.nets c.net-item.result c.value-value.result =
+    c.set.ensures ∙ ap (λ (n : ℕ). set c.loop-net.nets n value) c.index-in-loop-net.ensures in
     record {
-      same = ap length set_is ∙ (length-set c.loop-tap.nets tap.net value ∙ long);
-      loaded = subst (λ (nets : Row). (f : ℕ → Value) → All (λ tap. tap_value c.args.places c.args.rows.now tap ≡ f tap.net) taps → AllWithin (λ tap. value_at nets tap.net ≡ f tap.net) taps 0 (i + 1)) (sym set_is)
-          (load_more c.args.places c.args.rows.now taps c.loop-tap.nets i tap value c.loop-tap-test.true c.tap-item.is value_is net c.loop-tap.invariant.loaded);
+      same = ap length set_is ∙ (length-set c.loop-net.nets net value ∙ long);
+      loaded = subst (λ (nets : Row). AllWithin (IsLoaded c.args.places c.args.rows.now c.args.homes.now nets) c.args.sources.now 0 (i + 1)) (sym set_is)
+          (load_more c.args.places rows homes c.args.sources.now c.loop-net.nets i net value c.loop-net-test.true c.net-item.is value_is within c.loop-net.invariant.loaded);
     }
-
-pub returns-clause-loaded : goal.returns-clause-loaded
-returns-clause-loaded c f all k d inside = c.loop-tap.invariant.loaded f all k d (omega arith) (omega arith)

@@ -18,7 +18,7 @@ turn-requires-clause-room c =
 module _ (c : goal.After-add_one) where
   abbrev Both : Type 0
   Both = IsFired (seen c.self.inside.plan.now c.self.inside.vectors.now c.self.inside.counts c.self.inside.kept) c.args.event (seen c.self.inside.plan.now c.self.inside.vectors.now c.add_one.new.self c.turn.new.kept)
-      × IsRunning (seen c.self.inside.plan.now c.self.inside.vectors.now c.add_one.new.self c.turn.new.kept) c.self.inside.vectors.now c.turn.new.kept c.self.inside.feeds.items
+      × IsRunning (seen c.self.inside.plan.now c.self.inside.vectors.now c.add_one.new.self c.turn.new.kept) c.self.inside.vectors.now c.turn.new.kept c.self.inside.feeds
 
   both : Both
   both =
@@ -26,7 +26,7 @@ module _ (c : goal.After-add_one) where
       let turned : IsTurned c.self.inside.plan.now.split c.self.inside.vectors.now.rows c.args.event (get_or c.self.inside.counts c.args.event 0) c.self.inside.kept c.turn.new.kept =
       subst (λ (s : Split). IsTurned s c.self.inside.vectors.now.rows c.args.event (get_or c.self.inside.counts c.args.event 0) c.self.inside.kept c.turn.new.kept) c.latches.ensures
       (subst (λ (n : ℕ). IsTurned c.latches.result.now c.self.inside.vectors.now.rows c.args.event n c.self.inside.kept c.turn.new.kept) c.at-count.ensures c.turn.ensures) in
-      stepped c.self.inside.plan.now c.self.inside.vectors.now c.self.inside.counts c.add_one.new.self c.self.inside.kept c.turn.new.kept c.self.inside.feeds.items c.args.event
+      stepped c.self.inside.plan.now c.self.inside.vectors.now c.self.inside.counts c.add_one.new.self c.self.inside.kept c.turn.new.kept c.self.inside.feeds c.args.event
       c.self.invariant may c.add_one.ensures turned
 
 pub invariant_of-self : goal.invariant_of-self
