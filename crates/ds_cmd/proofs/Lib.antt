@@ -1,3 +1,4 @@
+pub mod Chained
 pub mod Meant
 pub mod Taken
 pub mod TakenReplay

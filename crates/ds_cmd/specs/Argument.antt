@@ -1,9 +1,10 @@
 -- The parts of a command, in the words of `clap`.
-use Rattle.std.specs.Prelude.{Bool, List, Option, Some, None, true, false, codes}
+use Rattle.std.specs.Prelude.{◌≡◌, ⊤, Bool, List, [], ◌∷◌, Option, Some, None, true, false, codes}
 use Rattle.std.specs.Str.{bytes_eq}
 use Rattle.clap.specs.Words.{Row, Rule, Shape, Text, first_of, new_rule}
 use Rattle.clap.specs.Simple.{new_shape}
 use Rattle.clap.specs.declared.builder.action.ArgAction.TheVariants.{SetTrue}
+use Rattle.clap.specs.declared.builder.arg.Arg.{Arg}
 
 -- a word that is required, as the name of a file
 abbrev pub word_rule : Text → Rule
@@ -25,6 +26,11 @@ is_true (Some word) = bytes_eq word (codes "true")
 -- whether the option stands among the words, by the values of a command's arguments
 abbrev pub is_set : Text → List Row → Bool
 is_set id rows = is_true (first_of id rows)
+
+-- none of the arguments is one of all commands
+abbrev pub AreLocal : List Arg → Type 0
+AreLocal [] = ⊤
+AreLocal (arg ∷ args) = (arg.global ≡ false) × AreLocal args
 
 -- a subcommand with these arguments
 abbrev pub command_shape : Text → List Rule → Shape

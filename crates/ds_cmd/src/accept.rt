@@ -5,6 +5,7 @@ ghost use Rattle.ds_cmd.specs.Accept.{accept_job, accept_shape};
 
 use crate::argument::{option, text, word};
 use crate::clusters::clusters;
+use crate::subcommand::subcommand;
 use crate::{FileName, Job, UsageFault};
 use clap::{ArgMatches, Command};
 use ds_base::OutOfMemory;
@@ -14,11 +15,12 @@ use std::alloc::Global;
 pub fn command<'a>(alloc: Global) -> Result<Command<'a>, OutOfMemory>
     ensures { IfOk result (λ c. shape_of c ≡ accept_shape) }
 {
-    let command = Command::new(alloc, "accept")
-        .arg(word(alloc, "net"))?
-        .arg(word(alloc, "graph"))?
-        .arg(option(alloc, "clusters"))?;
-    Ok(command)
+    let args = vec![in alloc;
+        word(alloc, "net"),
+        word(alloc, "graph"),
+        option(alloc, "clusters"),
+    ]?;
+    subcommand(alloc, "accept", args)
 }
 
 /// The job of the values behind `accept`.

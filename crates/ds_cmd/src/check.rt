@@ -4,6 +4,7 @@ ghost use Rattle.ds_cmd.specs.Fault.{Gives};
 ghost use Rattle.ds_cmd.specs.Check.{check_job, check_shape};
 
 use crate::argument::{text, word};
+use crate::subcommand::subcommand;
 use crate::{FileName, Job, UsageFault};
 use clap::{ArgMatches, Command};
 use ds_base::OutOfMemory;
@@ -13,8 +14,8 @@ use std::alloc::Global;
 pub fn command<'a>(alloc: Global) -> Result<Command<'a>, OutOfMemory>
     ensures { IfOk result (λ c. shape_of c ≡ check_shape) }
 {
-    let command = Command::new(alloc, "check").arg(word(alloc, "net"))?;
-    Ok(command)
+    let args = vec![in alloc; word(alloc, "net")]?;
+    subcommand(alloc, "check", args)
 }
 
 /// The job of the values behind `check`.

@@ -4,6 +4,7 @@ ghost use Rattle.ds_cmd.specs.Fault.{Gives};
 ghost use Rattle.ds_cmd.specs.Clock.{clock_job, clock_shape};
 
 use crate::argument::{text, word};
+use crate::subcommand::subcommand;
 use crate::{FileName, Job, UsageFault};
 use clap::{ArgMatches, Command};
 use ds_base::OutOfMemory;
@@ -13,10 +14,8 @@ use std::alloc::Global;
 pub fn command<'a>(alloc: Global) -> Result<Command<'a>, OutOfMemory>
     ensures { IfOk result (λ c. shape_of c ≡ clock_shape) }
 {
-    let command = Command::new(alloc, "clock")
-        .arg(word(alloc, "net"))?
-        .arg(word(alloc, "vec"))?;
-    Ok(command)
+    let args = vec![in alloc; word(alloc, "net"), word(alloc, "vec")]?;
+    subcommand(alloc, "clock", args)
 }
 
 /// The job of the values behind `clock`.

@@ -4,6 +4,7 @@ ghost use Rattle.ds_cmd.specs.Demo.{demo_job, demo_of, demo_shape};
 
 use crate::argument::{option, text, word};
 use crate::number::{jobs, number, small_number};
+use crate::subcommand::subcommand;
 use crate::{Job, UsageFault};
 use clap::{ArgMatches, Command};
 use ds_base::{Limit, OutOfMemory};
@@ -13,12 +14,13 @@ use std::alloc::Global;
 pub fn command<'a>(alloc: Global) -> Result<Command<'a>, OutOfMemory>
     ensures { IfOk result (λ c. shape_of c ≡ demo_shape) }
 {
-    let command = Command::new(alloc, "demo")
-        .arg(word(alloc, "seed"))?
-        .arg(word(alloc, "registers"))?
-        .arg(word(alloc, "turns"))?
-        .arg(option(alloc, "jobs"))?;
-    Ok(command)
+    let args = vec![in alloc;
+        word(alloc, "seed"),
+        word(alloc, "registers"),
+        word(alloc, "turns"),
+        option(alloc, "jobs"),
+    ]?;
+    subcommand(alloc, "demo", args)
 }
 
 /// The job of the values behind `demo`.

@@ -5,6 +5,7 @@ ghost use Rattle.ds_cmd.specs.Graph.{graph_job, graph_shape};
 
 use crate::argument::{option, text, word};
 use crate::clusters::clusters;
+use crate::subcommand::subcommand;
 use crate::{FileName, Job, UsageFault};
 use clap::{ArgMatches, Command};
 use ds_base::OutOfMemory;
@@ -14,10 +15,8 @@ use std::alloc::Global;
 pub fn command<'a>(alloc: Global) -> Result<Command<'a>, OutOfMemory>
     ensures { IfOk result (λ c. shape_of c ≡ graph_shape) }
 {
-    let command = Command::new(alloc, "graph")
-        .arg(word(alloc, "net"))?
-        .arg(option(alloc, "clusters"))?;
-    Ok(command)
+    let args = vec![in alloc; word(alloc, "net"), option(alloc, "clusters")]?;
+    subcommand(alloc, "graph", args)
 }
 
 /// The job of the values behind `graph`.

@@ -27,6 +27,7 @@ mod line;
 mod number;
 mod replay;
 mod run;
+mod subcommand;
 #[cfg(test)]
 mod tests;
 

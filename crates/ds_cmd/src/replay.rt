@@ -5,6 +5,7 @@ ghost use Rattle.ds_cmd.specs.Replay.{replay_job, replay_shape};
 
 use crate::argument::{named, option, text, word};
 use crate::clusters::clusters;
+use crate::subcommand::subcommand;
 use crate::{FileName, Job, UsageFault};
 use clap::{ArgMatches, Command};
 use ds_base::OutOfMemory;
@@ -14,13 +15,14 @@ use std::alloc::Global;
 pub fn command<'a>(alloc: Global) -> Result<Command<'a>, OutOfMemory>
     ensures { IfOk result (λ c. shape_of c ≡ replay_shape) }
 {
-    let command = Command::new(alloc, "replay")
-        .arg(word(alloc, "net"))?
-        .arg(word(alloc, "vec"))?
-        .arg(word(alloc, "log"))?
-        .arg(option(alloc, "graph"))?
-        .arg(option(alloc, "clusters"))?;
-    Ok(command)
+    let args = vec![in alloc;
+        word(alloc, "net"),
+        word(alloc, "vec"),
+        word(alloc, "log"),
+        option(alloc, "graph"),
+        option(alloc, "clusters"),
+    ]?;
+    subcommand(alloc, "replay", args)
 }
 
 /// The job of the values behind `replay`.

@@ -6,6 +6,7 @@ ghost use Rattle.ds_cmd.specs.Run.{run_job, run_shape};
 use crate::argument::{flag, is_set, named, option, text, word};
 use crate::clusters::clusters;
 use crate::number::jobs;
+use crate::subcommand::subcommand;
 use crate::{FileName, Job, UsageFault};
 use clap::{ArgMatches, Command};
 use ds_base::OutOfMemory;
@@ -15,14 +16,15 @@ use std::alloc::Global;
 pub fn command<'a>(alloc: Global) -> Result<Command<'a>, OutOfMemory>
     ensures { IfOk result (λ c. shape_of c ≡ run_shape) }
 {
-    let command = Command::new(alloc, "run")
-        .arg(word(alloc, "net"))?
-        .arg(word(alloc, "vec"))?
-        .arg(option(alloc, "graph"))?
-        .arg(option(alloc, "clusters"))?
-        .arg(option(alloc, "jobs"))?
-        .arg(flag(alloc, "log"))?;
-    Ok(command)
+    let args = vec![in alloc;
+        word(alloc, "net"),
+        word(alloc, "vec"),
+        option(alloc, "graph"),
+        option(alloc, "clusters"),
+        option(alloc, "jobs"),
+        flag(alloc, "log"),
+    ]?;
+    subcommand(alloc, "run", args)
 }
 
 /// The job of the values behind `run`.

@@ -1,15 +1,12 @@
-use Rattle.std.proofs.Common.{ap, ap₂, ◌∙◌}
-use Rattle.clap.specs.Words.{App, with_rule}
+use Rattle.std.proofs.Common.{◌∷◌, ◌∙◌, ap, ap₂, map, refl, subst, sym}
+use Rattle.clap.specs.Words.{rule_of}
+use Rattle.ds_cmd.specs.Argument.{AreLocal}
+use Rattle.ds_cmd.proofs.Chained.{shaped}
 use Rattle.ds_cmd.proofs.demo.command.Goals as goal
 
+pub subcommand-requires : goal.subcommand-requires
+subcommand-requires c = subst AreLocal (sym c.in_ok-args.ensures.items)
+    (c.word.ensures.local, (c.word-2.ensures.local, (c.word-3.ensures.local, (c.option.ensures.local, tt))))
+
 pub returns : goal.returns
-returns c =
-    let one = c.in_ok-arg.ensures.shape c.word.ensures.local
-    ∙ ap₂ with_rule c.new.ensures.app c.word.ensures.rule in
-    let two = c.in_ok-arg-2.ensures.shape c.word-2.ensures.local
-    ∙ ap₂ with_rule one c.word-2.ensures.rule in
-    let three = c.in_ok-arg-3.ensures.shape c.word-3.ensures.local
-    ∙ ap₂ with_rule two c.word-3.ensures.rule in
-    let four = c.in_ok-command.ensures.shape c.option.ensures.local
-    ∙ ap₂ with_rule three c.option.ensures.rule in
-    ap (λ (a : App). a.top) four
+returns c = shaped _ _ _ _ c.subcommand.ensures (ap (map rule_of) c.in_ok-args.ensures.items ∙ (ap₂ ◌∷◌ c.word.ensures.rule (ap₂ ◌∷◌ c.word-2.ensures.rule (ap₂ ◌∷◌ c.word-3.ensures.rule (ap₂ ◌∷◌ c.option.ensures.rule refl)))))
