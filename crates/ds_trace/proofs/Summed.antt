@@ -16,12 +16,12 @@ use Rattle.ds_demo.specs.Fold.{Folded, nothing, fold_after}
 use Rattle.ds_demo.proofs.Sums.{fold_after-append, sum_of_text}
 use Rattle.ds_rule.specs.Words.{values_at as stored_at}
 use Rattle.ds_fabric.specs.Showing.{Recorder}
-use Rattle.ds_layout.specs.Layout.{AreValues}
+use Rattle.ds_run.specs.Layout.{AreValues}
 use Rattle.ds_trace.specs.declared.sums.Sums.{Sums}
 use Rattle.ds_trace.specs.Line.{IsGathered}
-use Rattle.ds_trace.specs.Played.{IsPlayed}
+use Rattle.ds_run.specs.Played.{IsPlayed}
 use Rattle.ds_trace.specs.Summed.{IsSummed, IsSummedTo, ones_in, ones_of}
-use Rattle.ds_trace.proofs.Played.{latches_among, out_near, out_wide}
+use Rattle.ds_run.proofs.Played.{latches_among, out_near, out_wide}
 use Rattle.ds_trace.proofs.Turns.{turn_written}
 
 -- the ones of one turn more

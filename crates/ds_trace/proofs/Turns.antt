@@ -16,11 +16,11 @@ use Rattle.ds_clocked.specs.Loop.{IsWrittenTo}
 use Rattle.ds_clocked.proofs.Turns.{one_turn}
 use Rattle.ds_rule.specs.Words.{values_at as stored_at}
 use Rattle.ds_fabric.specs.Showing.{Recorder}
-use Rattle.ds_layout.specs.Layout.{AreValues}
+use Rattle.ds_run.specs.Layout.{AreValues}
 use Rattle.ds_trace.specs.declared.line.Line.{Line}
 use Rattle.ds_trace.specs.Line.{HasLine, IsGathered}
-use Rattle.ds_trace.specs.Played.{IsPlayed}
-use Rattle.ds_trace.proofs.Played.{outputs_are, registers_are}
+use Rattle.ds_run.specs.Played.{IsPlayed}
+use Rattle.ds_run.proofs.Played.{outputs_are, registers_are}
 
 -- a line with other outputs, of a split design that is known
 line_with : (s t : Split) (line : Line) (outputs : Row) → t ≡ s → HasLine s line

@@ -11,7 +11,6 @@
 mod fault;
 mod line;
 mod log;
-mod play;
 mod sums;
 mod trace;
 mod write;

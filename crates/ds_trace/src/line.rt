@@ -1,6 +1,6 @@
 //! The rows that a line of a trace is written from.
 ghost use Rattle.std.specs.Prelude.{◌≡◌, ◌<◌, ◌+◌, All, length, IfOk};
-ghost use Rattle.ds_trace.specs.Played.{HasSlaves};
+ghost use Rattle.ds_run.specs.Played.{HasSlaves};
 ghost use Rattle.ds_trace.specs.Line.{AreSlaves, AreSpread, HasLine, IsGathered};
 
 use ds_base::{LatchId, OutOfMemory, RegId, Row3};

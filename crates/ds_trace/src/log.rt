@@ -6,7 +6,7 @@ ghost use Rattle.ds_rule.specs.Rule.{tickets};
 ghost use Rattle.ds_rows.specs.Log.{firing_text};
 ghost use Rattle.ds_outside.specs.Writes.{GoesOn};
 ghost use Rattle.ds_trace.specs.Logged.{HasLog, WritesLog};
-ghost use Rattle.ds_trace.specs.Played.{IsPlayed};
+ghost use Rattle.ds_run.specs.Played.{IsPlayed};
 
 use ds_base::{EventId, OutOfMemory};
 use ds_design::Vectors;
@@ -15,7 +15,7 @@ use ds_latch::Plan;
 use ds_marked::Counts;
 use ds_outside::{Sink, WriteFault};
 use ds_rows::firing_line;
-use ds_weave::laws::firings_are_legal;
+use ds_run::laws::firings_are_legal;
 use std::alloc::Global;
 
 /// The firings of a run, the first one first, and how often each event has fired.

@@ -4,11 +4,10 @@ ghost use Rattle.ds_design.specs.Circuit.{columns, initial_row};
 ghost use Rattle.ds_design.specs.Trace.{trace_line as trace_text, end_line as end_text};
 ghost use Rattle.ds_demo.specs.Fold.{nothing, fold_after};
 ghost use Rattle.ds_trace.specs.Line.{HasLine};
-ghost use Rattle.ds_trace.specs.Played.{IsPlayed};
+ghost use Rattle.ds_run.specs.Played.{IsPlayed};
 ghost use Rattle.ds_trace.specs.Summed.{IsSummed, IsSummedTo, ones_of};
 
 use crate::line::{Line, gather};
-use crate::play::play;
 use ds_base::{LatchId, OutOfMemory, Row3, Value};
 use ds_demo::Fold;
 use ds_design::Vectors;
@@ -16,6 +15,7 @@ use ds_fabric::Record;
 use ds_latch::Plan;
 use ds_outside::{Gate, MemorySink};
 use ds_rows::{end_line, trace_line};
+use ds_run::run;
 use std::alloc::Global;
 use std::thread::Threads;
 
@@ -44,7 +44,7 @@ pub fn sum_run<R: Threads + Sync, G: Gate>(
     ensures { IfOk result (IsSummed plan.now vectors.now.rows) }
 {
     let mut line = Line::of(alloc, plan.latches())?;
-    let fired = play(rt, alloc, plan, vectors, jobs, gate)?;
+    let fired = run(rt, alloc, plan, vectors, jobs, gate)?;
     let mut fold = Fold::new();
     let ones = sum_turns(alloc, plan, vectors, &fired, &mut line, &mut fold)?;
     add_end(alloc, &line.registers, &mut fold)?;

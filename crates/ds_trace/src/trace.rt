@@ -5,7 +5,7 @@ ghost use Rattle.ds_design.specs.Trace.{trace_line as trace_text, end_line as en
 ghost use Rattle.ds_outside.specs.Writes.{GoesOn};
 ghost use Rattle.ds_clocked.specs.Appends.{WritesLines, WritesTrace};
 ghost use Rattle.ds_trace.specs.Line.{HasLine};
-ghost use Rattle.ds_trace.specs.Played.{IsPlayed};
+ghost use Rattle.ds_run.specs.Played.{IsPlayed};
 
 use crate::line::{Line, gather};
 use ds_base::{LatchId, Row3};

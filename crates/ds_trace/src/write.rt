@@ -1,21 +1,22 @@
+//! A plan run and written.
 ghost use Rattle.std.specs.Prelude.{◌≡◌, ◌<◌, ◌≤◌, length, true, false, Ok, Err, OnOk};
 ghost use Rattle.ds_outside.specs.Fault.{Rose};
 ghost use Rattle.ds_design.specs.Circuit.{columns, initial_row};
 ghost use Rattle.ds_trace.specs.Appends.{AppendsRun, AppendsRunPart, EndsRun, WritesRun};
 ghost use Rattle.ds_trace.specs.Line.{HasLine};
 ghost use Rattle.ds_trace.specs.Logged.{HasLog};
-ghost use Rattle.ds_trace.specs.Played.{IsPlayed};
+ghost use Rattle.ds_run.specs.Played.{IsPlayed};
 
 use crate::fault::RunFault;
 use crate::line::Line;
 use crate::log::{Log, write_log};
-use crate::play::play;
 use crate::trace::write_trace;
 use ds_design::Vectors;
 use ds_fabric::Record;
 use ds_latch::Plan;
 use ds_outside::{Behind, Buffered, Gate, Lent, Sink, WriteFault};
 use ds_rows::put;
+use ds_run::run;
 use std::alloc::Global;
 use std::marker::Brand;
 use std::thread::Threads;
@@ -52,7 +53,7 @@ pub fn write_run<R: Threads + Sync, G: Gate, O: Sink>(
     let Ok(mut line) = Line::of(alloc, plan.latches()) else {
         return Err(RunFault::Memory);
     };
-    let Ok(fired) = play(rt, alloc, plan, vectors, jobs, gate) else {
+    let Ok(fired) = run(rt, alloc, plan, vectors, jobs, gate) else {
         return Err(RunFault::Memory);
     };
     if log {

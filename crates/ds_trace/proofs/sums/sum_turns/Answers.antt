@@ -4,10 +4,10 @@ use Rattle.ds_base.specs.Values.{Row}
 use Rattle.ds_latch.specs.Node.{Split}
 use Rattle.ds_latch.specs.Plan.{Planned}
 use Rattle.ds_fabric.specs.Showing.{Recorder}
-use Rattle.ds_layout.specs.Layout.{AreValues}
+use Rattle.ds_run.specs.Layout.{AreValues}
 use Rattle.ds_trace.specs.Line.{HasLine}
 use Rattle.ds_trace.specs.Summed.{ones_in, ones_of}
-use Rattle.ds_trace.proofs.Played.{has_slaves, out_stored, out_wide}
+use Rattle.ds_run.proofs.Played.{has_slaves, out_stored, out_wide}
 use Rattle.ds_trace.proofs.Turns.{gathered_is, line_read, outputs_long, outputs_read}
 use Rattle.ds_trace.proofs.Summed.{all_folded, none_folded, ones_more, outputs_few, turn_folded}
 use Rattle.ds_trace.proofs.sums.sum_turns.Goals as goal

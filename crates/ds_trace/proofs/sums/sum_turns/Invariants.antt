@@ -1,5 +1,5 @@
 use Rattle.std.proofs.Common.{◌≡◌, ◌≤◌, ◌*◌}
-use Rattle.ds_layout.specs.Layout.{AreValues}
+use Rattle.ds_run.specs.Layout.{AreValues}
 use Rattle.ds_trace.specs.Line.{HasLine}
 use Rattle.ds_trace.specs.Summed.{ones_in}
 use Rattle.ds_trace.proofs.Summed.{IsFoldedTo}

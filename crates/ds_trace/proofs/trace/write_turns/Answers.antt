@@ -6,7 +6,7 @@ use Rattle.ds_fabric.specs.Showing.{Recorder}
 use Rattle.ds_clocked.specs.Loop.{IsWrittenTo}
 use Rattle.ds_clocked.proofs.Turns.{no_turn, last_turn}
 use Rattle.ds_trace.specs.Line.{HasLine}
-use Rattle.ds_trace.proofs.Played.{has_slaves, out_stored, out_wide}
+use Rattle.ds_run.proofs.Played.{has_slaves, out_stored, out_wide}
 use Rattle.ds_trace.proofs.Turns.{gathered_is, line_read, turn_written}
 use Rattle.ds_trace.proofs.trace.write_turns.Goals as goal
 

@@ -1,6 +1,6 @@
 use Rattle.std.proofs.Common.{◌≡◌}
 use Rattle.ds_clocked.specs.Loop.{IsWrittenTo}
-use Rattle.ds_layout.specs.Layout.{AreValues}
+use Rattle.ds_run.specs.Layout.{AreValues}
 use Rattle.ds_trace.specs.Line.{HasLine}
 use Rattle.ds_trace.proofs.trace.write_turns.Given as goal
 

@@ -1,5 +1,0 @@
-use Rattle.ds_layout.proofs.Sound.{runs_are_sound_lem}
-use Rattle.ds_layout.proofs.laws.runs_are_sound.Goals as goal
-
-pub returns : goal.returns
-returns c = runs_are_sound_lem

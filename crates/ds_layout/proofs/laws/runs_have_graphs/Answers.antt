@@ -1,5 +1,0 @@
-use Rattle.ds_layout.proofs.Sound.{runs_have_graphs_lem}
-use Rattle.ds_layout.proofs.laws.runs_have_graphs.Goals as goal
-
-pub returns : goal.returns
-returns c = runs_have_graphs_lem

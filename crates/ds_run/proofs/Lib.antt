@@ -1,0 +1,12 @@
+-- In the order in which to read.
+pub mod Lists
+pub mod Joined
+pub mod Sizes
+pub mod Sound
+pub mod Values
+pub mod Rows
+pub mod Supplied
+pub mod Weavers
+pub mod Firsts
+pub mod Firings
+pub mod Played

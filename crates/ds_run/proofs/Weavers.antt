@@ -1,0 +1,144 @@
+-- What a weaver computes, in the terms of the run.
+use Rattle.std.proofs.Common.{◌≡◌, ◌∙◌, ℕ, suc, ◌+◌, ◌-◌, ◌*◌, ◌/◌, ◌%◌, ◌<◌, ◌≤◌, List, [], length}
+use Rattle.std.proofs.Common.{get_or, refl, arith, ap, sym, subst, inl, inr}
+use Rattle.std.proofs.lemmas.Bool.{cases_eq}
+use Rattle.std.proofs.lemmas.List.{get_or_default}
+use Rattle.ds_base.specs.Values.{Row}
+use Rattle.ds_latch.specs.Node.{Node, In, Out, Master, Slave, Split, IsNode, number_of, nodes}
+use Rattle.ds_latch.specs.Node.{nets_of}
+use Rattle.ds_latch.specs.Order.{IsDataEdge, open_tokens}
+use Rattle.ds_design.specs.Rows.{Rows}
+use Rattle.ds_settle.specs.Cone.{Parts as Cone}
+use Rattle.ds_opening.specs.Packed.{packed, words_of}
+use Rattle.ds_opening.specs.Woven.{AreProducers, IsOpening, Turn, read_of, taken}
+use Rattle.ds_rule.specs.Run.{Run}
+use Rattle.ds_rule.specs.Rows.{row, supply}
+use Rattle.ds_rule.specs.Words.{width}
+use Rattle.ds_rule.proofs.PlaceLaws.{width-is}
+use Rattle.ds_run.specs.Producers.{producers_in}
+use Rattle.ds_run.specs.Weaver.{IsWeaver}
+use Rattle.ds_run.proofs.Rows.{row-is}
+use Rattle.ds_run.proofs.Supplied.{producers_are, supply-woven}
+
+-- each number is that of a node
+pub node_at : (s : Split) (l : ℕ) → l < nodes s → (n : Node) × IsNode s n × (number_of n ≡ l)
+node_at s l below =
+    let k : ℕ = (l - 2) / 2 in
+    elim (cases_eq l 0) [
+      | inl e ↦ (In, tt, sym e)
+      | inr some ↦ elim (cases_eq l 1) [
+        | inl e ↦ (Out, tt, sym e)
+        | inr more ↦
+            let low : k < length s.clusters = omega arith in
+            elim (cases_eq (l % 2) 0) [
+              | inl even ↦ (Master k, low, (let is : 2 * k + 2 ≡ l = omega arith in is))
+              | inr odd ↦ (Slave k, low, (let is : 2 * k + 3 ≡ l = omega arith in is))
+            ]
+      ]
+    ]
+
+module _ {s : Split} {vectors : Rows} {run : Run} {cones : List Cone}
+    {producers : List (List ℕ)} {starts : List Row}
+    (w : IsWeaver s vectors run cones producers starts) where
+  -- a turn of the clocked run
+  abbrev turn_at : ℕ → Turn
+  turn_at opened = record {
+    vectors = vectors.rows;
+    state = w.planned.values_are.state;
+    nets = w.planned.values_are.nets;
+    opened = opened;
+  }
+
+  -- a row of the node has as many words as the values of its nets fill
+  pub room : (n : Node) → IsNode s n → width run (number_of n) ≡ words_of (length (nets_of s n))
+  room n is_node =
+      width-is run (number_of n) ∙ ap words_of (w.planned.lengths_are.of_node n is_node)
+
+  rows_are : (n : Node) (opened : ℕ) → opened < length vectors.rows
+      → (p : Node) → IsNode s p → IsDataEdge s p n
+      → row run (number_of p) (suc opened - open_tokens p) ≡ packed (read_of s (turn_at opened) p)
+  rows_are n opened low p is_p edge =
+      row-is w.planned w.sound p is_p (suc opened - open_tokens p) (omega arith)
+
+  -- the opening of a node, and what it gives
+  pub record Opens (l opened : ℕ) (numbers from : List ℕ) : Type 0 where
+    pub node : Node
+    pub turn : Turn
+    pub opens : IsOpening s vectors.rows l opened numbers from node turn
+    pub gives : packed (taken s turn node) ≡ row run l (suc opened)
+
+  opens_node : (n : Node) → IsNode s n → (opened : ℕ) → opened < length vectors.rows
+      → (numbers from : List ℕ) → numbers ≡ producers_in run.edges (number_of n)
+      → from ≡ supply run (number_of n) (suc opened) (length run.edges)
+      → Opens (number_of n) opened numbers from
+  opens_node n is_node opened low numbers from numbers_are from_is =
+      let t : Turn = turn_at opened in
+      let edges = w.planned.edges_are in
+      let rows = rows_are n opened low in
+      let found : AreProducers s n (producers_in run.edges (number_of n))
+      = producers_are s run t n rows edges in
+      record {
+        node = n;
+        turn = t;
+        opens = record {
+          node = is_node;
+          is = refl;
+          fed = record {
+            run = w.planned.values_are.clocked;
+            below = low;
+            producers = record {
+              nodes = found.nodes;
+              are = numbers_are ∙ found.are;
+              each = found.each;
+              all = found.all;
+              once = found.once;
+            };
+            words = from_is ∙ supply-woven s run t n rows edges;
+          };
+          same = refl;
+          turn = refl;
+        };
+        gives = sym (row-is w.planned w.sound n is_node (suc opened) (omega arith));
+      }
+
+  -- the opening of the node with a number, as it is asked for
+  module _ {asked : Run} (asked_is : asked ≡ run) {l number turn : ℕ} (number_is : number ≡ l)
+      (some : 0 < turn) where
+    turn_is : suc (turn - 1) ≡ turn
+    turn_is = omega (some, arith)
+
+    pub opens_at : l < asked.latches → turn ≤ asked.limit → (numbers item from : List ℕ)
+        → numbers ≡ item → item ≡ get_or producers number item
+        → from ≡ supply asked l turn (length asked.edges) → Opens number (turn - 1) numbers from
+    opens_at near most numbers item from lent item_is from_is =
+        let latches_are : asked.latches ≡ nodes s
+        = ap (λ (r : Run). r.latches) asked_is ∙ w.planned.latches_are in
+        let limit_is : asked.limit ≡ length vectors.rows
+        = ap (λ (r : Run). r.limit) asked_is ∙ w.planned.limit_is in
+        let low : number < nodes s = omega (near, latches_are, number_is, arith) in
+        let early : turn - 1 < length vectors.rows = omega (some, most, limit_is, arith) in
+        let (n, is_node, is) = node_at s number low in
+        let inside : number < length producers = omega (low, w.producers_are.one_each, arith) in
+        let here : numbers ≡ producers_in run.edges (number_of n)
+        = lent ∙ (item_is ∙ (get_or_default producers number item [] inside
+        ∙ (w.producers_are.each number low ∙ ap (producers_in run.edges) (sym is)))) in
+        let words : from ≡ supply run (number_of n) (suc (turn - 1)) (length run.edges) = from_is
+        ∙ (ap (λ (r : Run). supply r l turn (length r.edges)) asked_is
+        ∙ (ap (λ (m : ℕ). supply run m turn (length run.edges)) (sym number_is ∙ sym is)
+        ∙ ap (λ (k : ℕ). supply run (number_of n) k (length run.edges)) (sym turn_is))) in
+        subst (λ (m : ℕ). Opens m (turn - 1) numbers from) is
+        (opens_node n is_node (turn - 1) early numbers from here words)
+
+    -- what it gives
+    pub gives_row : row run number (suc (turn - 1)) ≡ row asked l turn
+    gives_row =
+        ap (λ (r : Run). row r number (suc (turn - 1))) (sym asked_is)
+        ∙ (ap (λ (m : ℕ). row asked m (suc (turn - 1))) number_is ∙ ap (row asked l) turn_is)
+
+  -- the room that it takes
+  module _ {asked : Run} (asked_is : asked ≡ run) {l number : ℕ} (number_is : number ≡ l) where
+    pub room_at : (n : Node) → IsNode s n → number_of n ≡ number
+        → width asked l ≡ words_of (length (nets_of s n))
+    room_at n is_node is =
+        ap (λ (r : Run). width r l) asked_is
+        ∙ (ap (width run) (sym (is ∙ number_is)) ∙ room n is_node)

@@ -1,0 +1,5 @@
+use Rattle.ds_run.proofs.Firings.{firings_are_legal_lem}
+use Rattle.ds_run.proofs.laws.firings_are_legal.Goals as goal
+
+pub returns : goal.returns
+returns c = firings_are_legal_lem

@@ -1,0 +1,5 @@
+use Rattle.ds_run.proofs.Sound.{runs_are_accepted_lem}
+use Rattle.ds_run.proofs.laws.runs_are_accepted.Goals as goal
+
+pub returns : goal.returns
+returns c = runs_are_accepted_lem

@@ -1,0 +1,36 @@
+use Rattle.std.proofs.Common.{◌≡◌, ◌∙◌, ◌+◌, ◌≤◌, ◌++◌, ℕ, List, ap, arith, length, sym}
+use Rattle.std.specs.Prelude.{vec_capacity, vec_len}
+use Rattle.ds_latch.specs.Node.{nets_of}
+use Rattle.ds_opening.specs.Packed.{words_of}
+use Rattle.ds_rule.specs.Words.{width}
+use Rattle.ds_run.specs.Weaver.{RunWithNets}
+use Rattle.ds_run.proofs.Weavers.{gives_row, opens_at, room_at}
+use Rattle.ds_run.proofs.weaver.WeaverCompute.compute.Goals as goal
+
+pub open-requires-clause-opening : goal.open-requires-clause-opening
+open-requires-clause-opening c =
+    let run_is = ap (λ (m : RunWithNets). m.run) c.self.view_is in
+    let o = opens_at c.self.invariant (sym run_is) c.index-number.ensures c.requires.turn.0
+    c.requires.node c.requires.turn.1 c.as_slice-2.result.now c.index.result.now c.args.from.now
+    c.as_slice-2.ensures c.index.ensures c.requires.from in
+    (o.node, o.turn, o.opens)
+
+pub open-requires-clause-room : goal.open-requires-clause-room
+open-requires-clause-room c n is_node is =
+    let run_is = ap (λ (m : RunWithNets). m.run) c.self.view_is in
+    let nets = nets_of c.self.inside.latches.now n in
+    let wide : width c.args.self.now.run c.args.node ≡ words_of (length nets)
+    = room_at c.self.invariant (sym run_is) c.index-number.ensures n is_node is in
+    let most : vec_len c.args.into.now + width c.args.self.now.run c.args.node
+    ≤ vec_capacity c.args.into.now = c.requires.room in
+    omega (wide, most, arith)
+
+pub returns-clause-value : goal.returns-clause-value
+returns-clause-value c =
+    let run_is = ap (λ (m : RunWithNets). m.run) c.self.view_is in
+    let o = opens_at c.self.invariant (sym run_is) c.index-number.ensures c.requires.turn.0
+    c.requires.node c.requires.turn.1 c.as_slice-2.result.now c.index.result.now c.args.from.now
+    c.as_slice-2.ensures c.index.ensures c.requires.from in
+    let row_is = gives_row c.self.invariant (sym run_is) c.index-number.ensures c.requires.turn.0 in
+    c.open.ensures.value o.node o.turn o.opens
+    ∙ ap (λ (ws : List ℕ). c.args.into.now.items ++ ws) (o.gives ∙ row_is)

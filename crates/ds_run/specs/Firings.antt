@@ -1,0 +1,18 @@
+-- What follows of the firings of a run.
+use Rattle.std.specs.Prelude.{◌≡◌, ℕ, ◌<◌, List, length}
+use Rattle.ds_base.specs.Values.{Row}
+use Rattle.ds_marked.specs.Graph.{IsLegal, counts_after}
+use Rattle.ds_latch.specs.Plan.{IsPlan, Planned}
+use Rattle.ds_rule.specs.Rule.{tickets}
+use Rattle.ds_fabric.specs.Showing.{IsFired, Recorder}
+use Rattle.ds_runner.specs.Whole.{IsWhole}
+use Rattle.ds_run.specs.Layout.{IsRunOf}
+
+-- the firings of a run that went to its end, first one first, are a legal list of the plan's graph
+-- that has each event once a vector
+abbrev pub FiringsAreLegal : Type 0
+FiringsAreLegal = (p : Planned) (vectors : List Row) (r : Recorder)
+    → IsPlan p.split p.graph → IsRunOf p vectors r.shown.view.run → IsWhole r.shown.view.run r
+    → (items : List ℕ) → IsFired r.shown.view.run (tickets r.shown.view) items
+    → IsLegal p.graph (length vectors) items
+    × ((v : ℕ) → v < length p.graph.events → counts_after (λ _. 0) items v ≡ length vectors)

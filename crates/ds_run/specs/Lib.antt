@@ -1,0 +1,8 @@
+-- In the order in which to read.
+pub mod Layout
+pub mod Tokened
+pub mod Laws
+pub mod Producers
+pub mod Weaver
+pub mod Played
+pub mod Firings

@@ -1,0 +1,50 @@
+//! The run of a plan on vectors.
+ghost use Rattle.std.specs.Prelude.{◌≡◌, length, IfOk};
+ghost use Rattle.ds_design.specs.Circuit.{columns};
+ghost use Rattle.ds_rule.specs.Sound.{IsSound};
+ghost use Rattle.ds_rule.specs.Progress.{IsAccepted};
+ghost use Rattle.ds_run.specs.Layout.{IsRunOf};
+
+use crate::counted::count_rows;
+use crate::edges::edges_of;
+use crate::foreseen::Foreseen;
+use crate::lengths::lengths_of;
+use ds_base::OutOfMemory;
+use ds_design::Vectors;
+use ds_latch::Plan;
+use ds_rule::Layout;
+use std::alloc::Global;
+
+/// The run of a plan on vectors.
+pub fn layout_of<'a, 'n>(
+    alloc: Global,
+    plan: &'a Plan<'n>,
+    vectors: &'a Vectors,
+) -> Result<Layout<Foreseen<'a, 'n>>, OutOfMemory>
+    requires width { vectors.now.width ≡ length (columns plan.now.split.circuit) }
+    ensures run { IfOk result (IsRunOf plan.now vectors.now.rows) }
+    ensures sound { IfOk result IsSound }
+    ensures accepted { IfOk result IsAccepted }
+{
+    let (latches, graph) = (plan.latches(), plan.graph());
+    let limit = count_rows(vectors) as u64;
+    let nodes = latches.bits().len();
+    let count = graph.events().len() - nodes;
+    // No graph with so many nodes would find a place in memory.
+    if count >= 2_147_483_648 {
+        return Err(OutOfMemory);
+    }
+    let arcs = graph.arcs().to_vec(alloc)?;
+    let edges = edges_of(alloc, latches)?;
+    let lengths = lengths_of(alloc, latches, count)?;
+    let slack = usize::from(latches.slack());
+    let netlist = latches.netlist();
+    let (_design, order) = (netlist.design(), netlist.order());
+    let rows = Foreseen {
+        latches,
+        vectors,
+        order,
+        count,
+    };
+    Ok(Layout::of(count, nodes, arcs, limit, edges, lengths, slack, rows))
+}

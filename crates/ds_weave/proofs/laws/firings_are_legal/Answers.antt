@@ -1,5 +1,0 @@
-use Rattle.ds_weave.proofs.Firings.{firings_are_legal_lem}
-use Rattle.ds_weave.proofs.laws.firings_are_legal.Goals as goal
-
-pub returns : goal.returns
-returns c = firings_are_legal_lem
