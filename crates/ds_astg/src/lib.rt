@@ -25,13 +25,9 @@ mod node;
 mod piece;
 mod place;
 mod places;
-#[cfg(test)]
-mod read_tests;
 mod reader;
 mod signals;
 mod state;
-#[cfg(test)]
-mod tests;
 mod text;
 mod tokens;
 mod word;

@@ -28,8 +28,6 @@ mod number;
 mod replay;
 mod run;
 mod subcommand;
-#[cfg(test)]
-mod tests;
 
 pub use fault::UsageFault;
 pub use file_name::FileName;

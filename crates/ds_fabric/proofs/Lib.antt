@@ -10,5 +10,3 @@ pub mod Ranges
 pub mod Spreads
 pub mod Unpacks
 pub mod RowReads
-pub mod Toggles
-pub mod Holdings

@@ -11,4 +11,3 @@ pub mod Indexed
 pub mod Showing
 pub mod Spread
 pub mod Unpacked
-pub mod Toggle

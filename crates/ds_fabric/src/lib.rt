@@ -15,8 +15,6 @@ mod compute;
 mod counts;
 mod fabric;
 mod flight;
-#[cfg(test)]
-mod hand_tests;
 mod hands;
 mod history;
 mod index;
@@ -26,10 +24,6 @@ mod record;
 mod rows;
 mod spread;
 mod step;
-#[cfg(test)]
-mod tests;
-#[cfg(test)]
-mod toggle;
 mod words;
 
 pub use compute::Compute;

@@ -1,6 +1,6 @@
 use Rattle.std.proofs.Common.{◌∙◌, ◌++◌, ℕ, List, ap, sym, arith}
-use Rattle.ds_fabric.proofs.Toggles.{row_of, wide_one}
-use Rattle.ds_fabric.proofs.toggle.ToggleCompute.compute.Goals as goal
+use Rattle.ds_fabric_tests.proofs.Toggles.{row_of, wide_one}
+use Rattle.ds_fabric_tests.proofs.toggle.ToggleCompute.compute.Goals as goal
 
 pub push_reserved-requires : goal.push_reserved-requires
 push_reserved-requires c = omega (arith, c.requires.room, wide_one c.args.node c.requires.node)

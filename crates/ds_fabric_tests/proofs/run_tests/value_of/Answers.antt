@@ -2,8 +2,8 @@ use Rattle.std.proofs.Common.{◌≡◌, ℕ, length, ap, arith}
 use Rattle.ds_rule.specs.Run.{closing}
 use Rattle.ds_rule.specs.Rule.{tickets}
 use Rattle.ds_rule.proofs.EventLaws.{closing-is}
-use Rattle.ds_fabric.proofs.Holdings.{few_events}
-use Rattle.ds_fabric.proofs.tests.value_of.Goals as goal
+use Rattle.ds_fabric_tests.proofs.Holdings.{few_events}
+use Rattle.ds_fabric_tests.proofs.run_tests.value_of.Goals as goal
 
 pub count-requires : goal.count-requires
 count-requires c = few_events c.args.from.now.shown.view.run c.new.result c.requires.run

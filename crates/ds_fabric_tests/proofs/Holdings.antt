@@ -9,7 +9,7 @@ use Rattle.ds_rule.specs.Plays.{listed, both}
 use Rattle.ds_rule.specs.declared.view.View.{View}
 use Rattle.ds_fabric.specs.Base.{Base}
 use Rattle.ds_fabric.specs.Showing.{Showing, IsBegun, IsDealt, IsLeft, Stays}
-use Rattle.ds_fabric.specs.Toggle.{toggle, Holding, HoldsBoth, HoldsSlave, HoldsMaster}
+use Rattle.ds_fabric_tests.specs.Toggle.{toggle, Holding, HoldsBoth, HoldsSlave, HoldsMaster}
 
 -- a node that is held
 pub held : (held : List Bool) (many room : ℕ) (f : Base) (p : Showing)

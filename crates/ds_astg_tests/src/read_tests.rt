@@ -1,7 +1,7 @@
 //! Texts that are read.
 ghost use Rattle.std.specs.Prelude.{◌≡◌};
 
-use crate::{AstgKind, AstgRefusal, read};
+use ds_astg::{AstgRefusal, read};
 use ds_lines::{LinesFault, lines};
 use std::alloc::Global;
 use std::test::Fail;

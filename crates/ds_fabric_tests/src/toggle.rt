@@ -1,10 +1,10 @@
 //! A register that turns over each turn, on which the tests stand.
 ghost use Rattle.std.specs.Prelude.{◌≡◌, ◌<◌, ℕ, IfOk, OnOk};
-ghost use Rattle.ds_fabric.specs.Toggle.{arc, edge, turned, toggle};
-ghost use Rattle.ds_fabric.specs.Toggle.{HoldsBoth, HoldsSlave, HoldsMaster};
+ghost use Rattle.ds_fabric_tests.specs.Toggle.{arc, edge, turned, toggle};
+ghost use Rattle.ds_fabric_tests.specs.Toggle.{HoldsBoth, HoldsSlave, HoldsMaster};
 
-use crate::{Compute, Fabric, Pass, Record, Step};
 use ds_base::{ArcId, EventId, LatchId, OutOfMemory, Row3};
+use ds_fabric::{Compute, Fabric, Pass, Record, Step};
 use ds_marked::Arc;
 use ds_rule::{DataEdge, Layout, Rows};
 use std::alloc::Global;

@@ -9,7 +9,7 @@ use Rattle.ds_rule.specs.Run.{node_of, opening, closing}
 use Rattle.ds_rule.specs.Words.{width, size, value, values_at}
 use Rattle.ds_rule.specs.Sound.{IsSound, HasOrders, read_words, edge_at}
 use Rattle.ds_rule.specs.Rows.{row}
-use Rattle.ds_fabric.specs.Toggle.{arc, edge, toggle}
+use Rattle.ds_fabric_tests.specs.Toggle.{arc, edge, toggle}
 
 abbrev Named : Arc → Type 0
 Named a = (node_of toggle a.source < 2) × (node_of toggle a.target < 2)

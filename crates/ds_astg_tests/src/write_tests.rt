@@ -1,7 +1,7 @@
 //! A signal, and two arcs with the same ends.
 ghost use Rattle.std.specs.Prelude.{◌≡◌, IfOk, length};
 
-use crate::write;
+use ds_astg::write;
 use ds_base::{EventId, OutOfMemory, Seq};
 use ds_marked::{Arc, Event, Kind, Marked};
 use ds_outside::MemorySink;

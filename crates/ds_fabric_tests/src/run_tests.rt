@@ -1,10 +1,10 @@
 //! A run on one pass, and its record.
 ghost use Rattle.std.specs.Prelude.{◌≡◌, ◌<◌, IfSome};
-ghost use Rattle.ds_fabric.specs.Toggle.{toggle, HoldsBoth};
+ghost use Rattle.ds_fabric_tests.specs.Toggle.{toggle, HoldsBoth};
 
 use crate::toggle::{Toggle, begin, end, fired, has, layout, step};
-use crate::{Fabric, Pass, Record, unpack};
 use ds_base::{EventId, LatchId, Row3, Value};
+use ds_fabric::{Fabric, Pass, Record, unpack};
 use ds_rule::Layout;
 use std::alloc::Global;
 

@@ -1,6 +1,6 @@
 use Rattle.std.proofs.Common.{arith}
-use Rattle.ds_fabric.proofs.Holdings.{few_events}
-use Rattle.ds_fabric.proofs.toggle.has.Goals as goal
+use Rattle.ds_fabric_tests.proofs.Holdings.{few_events}
+use Rattle.ds_fabric_tests.proofs.toggle.has.Goals as goal
 
 pub tickets-requires : goal.tickets-requires
 tickets-requires c = few_events c.args.from.now.shown.view.run c.new-event.result c.requires.run

@@ -1,12 +1,12 @@
 //! Passes that are dealt and gathered, on one thread and on two.
 ghost use Rattle.std.specs.Prelude.{◌≡◌};
-ghost use Rattle.ds_fabric.specs.Toggle.{HoldsMaster, HoldsSlave};
+ghost use Rattle.ds_fabric_tests.specs.Toggle.{HoldsMaster, HoldsSlave};
 
 use crate::toggle::{
     Toggle, begin, end, fired, has, layout, master, part, slave, slave_seems_ready, step, unite,
 };
-use crate::{Fabric, Pass, Step};
 use ds_base::{ArcId, LatchId};
+use ds_fabric::{Fabric, Pass, Step};
 use std::thread;
 use std::thread::Threads;
 

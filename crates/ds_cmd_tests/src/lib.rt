@@ -1,0 +1,6 @@
+//! Command lines that are taken, each with its job, and others that are refused, each with its
+//! fault: values from outside for `ds_cmd`, whose calls are proved. Nothing stands on this crate.
+#![tactic(auto)]
+
+#[cfg(test)]
+mod tests;

@@ -1,0 +1,318 @@
+use ds_base::Mode;
+use ds_cmd::{FileName, Job, UsageFault, parse};
+use std::alloc::{AllocError, Global};
+use std::test::Fail;
+
+// Words are parted by `|`, the program's name first; so are those of a job, which stands behind
+// ` -> `. A line of these texts that begins with `#` says what follows.
+
+// Each line, and its job.
+const TAKEN: &str = "\
+d|run|n|v -> run|n|v|none|each|1|false
+d|clock|n|v -> clock|n|v
+d|check|n -> check|n
+d|graph|n -> graph|n|each
+d|replay|n|v|l -> replay|n|v|l|none|each
+d|replay|n|--clusters=one|v|- -> replay|n|v|-|none|one
+d|run|n|v|--graph|g -> run|n|v|g|each|1|false
+d|run|--graph=-|n|v|--clusters=bus -> run|n|v|-|bus|1|false
+d|replay|n|v|l|--graph=g -> replay|n|v|l|g|each
+d|accept|n|g -> accept|n|g|each
+d|accept|n|--clusters|one|g -> accept|n|g|one
+# The name of the program says nothing.
+|check|n -> check|n
+run|check|n -> check|n
+# Names of files: empty, `-`, the name of a command.
+d|run||v -> run||v|none|each|1|false
+d|run|-|v -> run|-|v|none|each|1|false
+d|run|run|run -> run|run|run|none|each|1|false
+d|run|help|v -> run|help|v|none|each|1|false
+# The word `--`: what stands behind it is a file.
+d|run|--|-n|v -> run|-n|v|none|each|1|false
+d|run|n|--|v -> run|n|v|none|each|1|false
+d|run|n|v|-- -> run|n|v|none|each|1|false
+d|check|--|-- -> check|--
+# Options stand anywhere behind the command's name.
+d|run|n|v|--clusters|one -> run|n|v|none|one|1|false
+d|run|--clusters=bus|n|v -> run|n|v|none|bus|1|false
+d|graph|n|--clusters|each -> graph|n|each
+d|graph|--clusters|bus|n -> graph|n|bus
+# Behind `--` there are no options.
+d|graph|--|--clusters -> graph|--clusters|each
+d|run|n|--|--log -> run|n|--log|none|each|1|false
+# Threads, 1 to 64, in one to twenty digits; the log.
+d|run|n|v|--jobs|3 -> run|n|v|none|each|3|false
+d|run|n|v|--jobs=1 -> run|n|v|none|each|1|false
+d|run|n|v|--jobs|64 -> run|n|v|none|each|64|false
+d|run|n|v|--jobs|064 -> run|n|v|none|each|64|false
+d|run|n|v|--jobs|00000000000000000007 -> run|n|v|none|each|7|false
+d|run|n|v|--log -> run|n|v|none|each|1|true
+d|run|--log|n|--jobs=2|v|--graph|g|--clusters=one -> run|n|v|g|one|2|true
+# The demonstration, up to its limits.
+d|demo|0|1|0 -> demo|0|1|0|1
+d|demo|7|4096|65536 -> demo|7|4096|65536|1
+d|demo|18446744073709551615|10|9 -> demo|18446744073709551615|10|9|1
+d|demo|01|002|0003|--jobs|4 -> demo|1|2|3|4
+d|demo|--jobs=64|5|6|--|7 -> demo|5|6|7|64
+";
+
+// Lines that are no command line.
+const REFUSED: &str = "\
+# Too few words, too many.
+
+d
+d|
+d|run
+d|run|n
+d|run|n|v|x
+d|check|n|v
+d|replay|n|v
+d|replay|n|v|l|x
+run|n|v
+# An option twice, without its value, before the command's name; options of no command.
+d|graph|n|--clusters|one|--clusters|one
+d|graph|n|--clusters
+d|run|n|v|--graph
+d|graph|n|--graph|g
+d|accept|n
+d|accept|n|g|--graph|g
+d|--clusters=one|graph|n
+d|check|n|--clusters|one
+d|run|-n|v
+d|--jobs=3|run|n|v
+d|--log|run|n|v
+d|run|n|v|--jobs
+d|run|n|v|--jobs|1|--jobs|1
+d|run|n|v|--log|--log
+d|run|n|v|--log=x
+d|run|n|v|--log=true
+d|run|n|v|--jobs|-1
+d|clock|n|v|--jobs|1
+d|replay|n|v|l|--log
+d|demo|1|2
+d|demo|1|2|3|4
+d|demo|1|2|3|--log
+d|demo|1|2|3|--clusters|one
+d|demo|-1|2|3
+# The words come before the numbers and the mode.
+d|run|n|--jobs|0|--clusters|two
+d|run|n|v|x|--jobs|65
+d|demo|x|0
+d|run|n|v|--|-x
+d|--|run|n|v
+# Other commands, shortened names, another case.
+d|ru|n|v
+d|RUN|n|v
+# Help and the version.
+d|help
+d|--help
+d|run|-h
+d|run|n|v|--help
+d|--version
+";
+
+// Lines with a number out of form or range, whatever the mode is.
+const NUMBERS: &str = "\
+# Threads.
+d|run|n|v|--jobs|0
+d|run|n|v|--jobs|65
+d|run|n|v|--jobs|+1
+d|run|n|v|--jobs|
+d|run|n|v|--jobs=
+d|run|n|v|--jobs|1 
+d|run|n|v|--jobs|a
+d|run|n|v|--jobs|000000000000000000001
+d|run|n|v|--jobs|18446744073709551617
+d|run|n|v|--jobs|0|--clusters|two
+d|run|n|v|--clusters|two|--jobs|0
+# The seed.
+d|demo|18446744073709551616|1|0
+d|demo|000000000000000000000|1|0
+d|demo|+1|1|0
+d|demo||1|0
+d|demo|-|1|0
+# The registers.
+d|demo|0|0|0
+d|demo|0|4097|0
+d|demo|0|4294967297|0
+# The turns, and the threads behind them.
+d|demo|0|1|65537
+d|demo|0|1|x
+d|demo|0|1|0|--jobs|65
+";
+
+// Lines with another mode than the three.
+const MODES: &str = "\
+d|run|n|v|--clusters|two
+d|run|n|v|--clusters|two|--jobs|2
+d|graph|n|--clusters=
+d|graph|n|--clusters|EACH
+d|graph|n|--clusters|each,one
+";
+
+// The word of a mode.
+fn word(mode: &Mode) -> &str {
+    match mode {
+        Mode::Each => "each",
+        Mode::One => "one",
+        Mode::Bus => "bus",
+    }
+}
+
+// The name behind an option; `none` where there is none.
+fn name(file: &Option<FileName>) -> &str {
+    match file {
+        Some(name) => name.as_str(),
+        None => "none",
+    }
+}
+
+// These words, with `|` between them.
+fn joined(alloc: Global, words: &[&str]) -> Result<String, AllocError> {
+    let mut text = String::new(alloc);
+    for i in 0..words.len() {
+        if i > 0 {
+            text.push_str("|")?;
+        }
+        text.push_str(words[i])?;
+    }
+    Ok(text)
+}
+
+// A job, with `|` between its words, its numbers and whether a log is wanted.
+fn words_of(alloc: Global, job: &Job) -> Result<String, AllocError> {
+    match job {
+        Job::Run {
+            net,
+            vec,
+            graph,
+            clusters,
+            jobs,
+            log,
+        } => {
+            let words = [
+                "run",
+                net.as_str(),
+                vec.as_str(),
+                name(graph),
+                word(clusters),
+            ];
+            with_jobs(alloc, words, *jobs, *log)
+        }
+        Job::Demo {
+            seed,
+            registers,
+            turns,
+            jobs,
+        } => demo_words(alloc, *seed, [*registers, *turns, *jobs]),
+        _ => named_words(alloc, job),
+    }
+}
+
+// The words of a run, with its threads and whether a log is wanted.
+fn with_jobs(alloc: Global, words: [&str; 5], jobs: u32, log: bool) -> Result<String, AllocError> {
+    let words = joined(alloc, &words)?;
+    format!(in alloc; "{words}|{jobs}|{log}")
+}
+
+// The words of a demonstration.
+fn demo_words(alloc: Global, seed: u64, numbers: [u32; 3]) -> Result<String, AllocError> {
+    let [registers, turns, jobs] = numbers;
+    format!(in alloc; "demo|{seed}|{registers}|{turns}|{jobs}")
+}
+
+// The words of a job without numbers.
+fn named_words(alloc: Global, job: &Job) -> Result<String, AllocError> {
+    match job {
+        Job::Clock { net, vec } => joined(alloc, &["clock", net.as_str(), vec.as_str()]),
+        Job::Check { net } => joined(alloc, &["check", net.as_str()]),
+        Job::Graph { net, clusters } => joined(alloc, &["graph", net.as_str(), word(clusters)]),
+        Job::Replay {
+            net,
+            vec,
+            log,
+            graph,
+            clusters,
+        } => joined(
+            alloc,
+            &[
+                "replay",
+                net.as_str(),
+                vec.as_str(),
+                log.as_str(),
+                name(graph),
+                word(clusters),
+            ],
+        ),
+        Job::Accept {
+            net,
+            graph,
+            clusters,
+        } => joined(
+            alloc,
+            &["accept", net.as_str(), graph.as_str(), word(clusters)],
+        ),
+        _ => joined(alloc, &["a job with numbers"]),
+    }
+}
+
+// The word of a fault.
+fn fault_word(fault: UsageFault) -> &'static str {
+    match fault {
+        UsageFault::Line => "line",
+        UsageFault::Number => "number",
+        UsageFault::Mode => "mode",
+        UsageFault::Memory => "another fault",
+    }
+}
+
+// What is said of the words of a line: the words of its job, or the word of its fault.
+fn answer(alloc: Global, line: &str) -> Result<String, AllocError> {
+    let words: Vec<&str> = line.split('|').collect(alloc)?;
+    match parse(alloc, &words) {
+        Ok(job) => words_of(alloc, &job),
+        Err(fault) => String::from_str(alloc, fault_word(fault)),
+    }
+}
+
+// Whether this is said of the words of a line; `#` begins no line.
+fn says(alloc: Global, line: &str, want: &str) -> Result<bool, AllocError> {
+    if line.starts_with('#') {
+        return Ok(true);
+    }
+    let said = answer(alloc, line)?;
+    Ok(said.as_str() == want)
+}
+
+#[test]
+fn command_lines_are_taken(rt: HostRuntime) -> Result<(), Fail> {
+    for case in TAKEN.lines() {
+        let (line, want) = case.split_once(" -> ").unwrap_or((case, ""));
+        assert!(rt; says(rt.alloc(), line, want)?, "{case}");
+    }
+    Ok(())
+}
+
+#[test]
+fn other_lines_are_refused(rt: HostRuntime) -> Result<(), Fail> {
+    for line in REFUSED.lines() {
+        assert!(rt; says(rt.alloc(), line, "line")?, "{line}");
+    }
+    Ok(())
+}
+
+#[test]
+fn numbers_out_of_form_or_range_are_refused(rt: HostRuntime) -> Result<(), Fail> {
+    for line in NUMBERS.lines() {
+        assert!(rt; says(rt.alloc(), line, "number")?, "{line}");
+    }
+    Ok(())
+}
+
+#[test]
+fn there_are_three_modes(rt: HostRuntime) -> Result<(), Fail> {
+    for line in MODES.lines() {
+        assert!(rt; says(rt.alloc(), line, "mode")?, "{line}");
+    }
+    Ok(())
+}

@@ -1,0 +1,3 @@
+-- The run of the tests, then the passes of its fabric.
+pub mod Toggles
+pub mod Holdings
