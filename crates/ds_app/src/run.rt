@@ -9,6 +9,7 @@ use crate::stop::Stop;
 use ds_design::Vectors;
 use ds_latch::Plan;
 use ds_outside::{Gate, Sink};
+use ds_run::Workers;
 use ds_trace::{RunFault, write_run};
 use std::alloc::Global;
 use std::thread::Threads;
@@ -34,7 +35,12 @@ pub fn write_traced<R: Threads + Sync, G: Gate, O: Sink>(
       now = O.faults out.new;
     }) result }
 {
-    match write_run(rt, alloc, plan, vectors, jobs, log, gate, out) {
+    let workers = Workers {
+        threads: rt,
+        jobs,
+        gate,
+    };
+    match write_run(alloc, plan, vectors, &workers, log, out) {
         Ok(()) => Ok(()),
         Err(RunFault::Write) => Err(Stop::Unwritten),
         Err(RunFault::Memory) => Err(Stop::Memory),
