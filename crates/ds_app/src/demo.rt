@@ -13,6 +13,7 @@ use ds_design::{Design, Netlist};
 use ds_latch::Plan;
 use ds_netlist::levelise;
 use ds_outside::{Gate, Sink, WriteFault};
+use ds_run::Workers;
 use ds_stage::{Stop, own_plan, put_count, split_netlist};
 use ds_trace::{Sums, sum_run};
 use std::alloc::Global;
@@ -89,7 +90,12 @@ fn sums_of<R: AllocGlobal + Threads + Sync, G: Gate>(
     let (design, vectors) = make(alloc, job.seed, job.registers, job.turns)?;
     let netlist = netlist_of(alloc, design)?;
     let plan = plan_for(alloc, &netlist)?;
-    sum_run(rt, alloc, &plan, &vectors, job.jobs, gate)
+    let workers = Workers {
+        threads: rt,
+        jobs: job.jobs,
+        gate,
+    };
+    sum_run(alloc, &plan, &vectors, &workers)
 }
 
 // The netlist of a made design, which is accepted: nothing but want of memory refuses it.

@@ -12,6 +12,7 @@ use ds_cmd::FileName;
 use ds_design::Vectors;
 use ds_latch::Plan;
 use ds_outside::{Files, Gate, Sink};
+use ds_run::Workers;
 use ds_stage::{Stop, plan_netlist, read_netlist, read_rows};
 use ds_trace::{RunFault, write_run};
 use std::thread::Threads;
@@ -75,7 +76,12 @@ fn write_traced<R: AllocGlobal + Threads + Sync, G: Gate, O: Sink>(
           now = O.faults out.new;
         }) result }
 {
-    match write_run(rt, rt.alloc(), plan, vectors, job.jobs, job.log, gate, out) {
+    let workers = Workers {
+        threads: rt,
+        jobs: job.jobs,
+        gate,
+    };
+    match write_run(rt.alloc(), plan, vectors, &workers, job.log, out) {
         Ok(()) => Ok(()),
         Err(RunFault::Write) => Err(Stop::Unwritten),
         Err(RunFault::Memory) => Err(Stop::Memory),

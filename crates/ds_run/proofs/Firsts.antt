@@ -18,9 +18,10 @@ use Rattle.ds_opening.specs.Packed.{words_of}
 use Rattle.ds_rule.specs.Run.{Run}
 use Rattle.ds_rule.specs.Words.{value, values_at as values_in, width}
 use Rattle.ds_rule.proofs.PlaceLaws.{width-is}
-use Rattle.ds_run.specs.Weaver.{IsWeaver}
+use Rattle.ds_run.specs.Openings.{AreOpenings}
 use Rattle.ds_run.proofs.Rows.{value_of_node}
-use Rattle.ds_run.proofs.Weavers.{node_at, room_at}
+use Rattle.ds_run.proofs.Joined.{numbered_inside}
+use Rattle.ds_run.proofs.Opened.{room_at}
 
 -- the number of zeros
 number-zeros : (values : Row) → All (λ v. v ≡ Zero) values → number_of_values values ≡ 0
@@ -53,7 +54,7 @@ IsSlaveNumber number = (3 ≤ number) × (number % 2 ≡ 1)
 
 module _ {s : Split} {vectors : Rows} {run : Run} {cones : List Cone}
     {producers : List (List ℕ)} {starts : List Row}
-    (w : IsWeaver s vectors run cones producers starts) where
+    (w : AreOpenings s vectors run cones producers starts) where
   -- a node that has words is one of the split design
   low : (l i : ℕ) → i < width run l → l < nodes s
   low l i inside =
@@ -91,7 +92,7 @@ module _ {s : Split} {vectors : Rows} {run : Run} {cones : List Cone}
     -- the first word of a node that is no slave
     pub first_zero : ¬ IsSlaveNumber number → 0 ≡ value asked l 0 i
     first_zero other =
-        let (n, is_node, is) = node_at s l near in
+        let (n, is_node, is) = numbered_inside s l near in
         let is_zero : value run (number_of n) 0 i ≡ 0
         = none n is_node (subst (λ (m : ℕ). ¬ IsSlaveNumber m) (number_is ∙ sym is) other) i in
         sym (ap (λ (r : Run). value r l 0 i) asked_is

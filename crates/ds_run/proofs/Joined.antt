@@ -29,7 +29,7 @@ halves (suc l) = let (i, is) = halves l in elim is [
 ]
 
 -- each number is a node's
-pub numbered_node : (l : ℕ) → (n : Node) × (number_of n ≡ l)
+numbered_node : (l : ℕ) → (n : Node) × (number_of n ≡ l)
 numbered_node zero = (In, refl)
 numbered_node (suc zero) = (Out, refl)
 numbered_node (suc (suc l)) = let (i, is) = halves l in elim is [
@@ -38,11 +38,16 @@ numbered_node (suc (suc l)) = let (i, is) = halves l in elim is [
 ]
 
 -- a node whose number is small enough is there
-pub inside_node : (s : Split) (n : Node) → number_of n < nodes s → IsNode s n
+inside_node : (s : Split) (n : Node) → number_of n < nodes s → IsNode s n
 inside_node s In below = tt
 inside_node s Out below = tt
 inside_node s (Master i) below = omega arith
 inside_node s (Slave i) below = omega arith
+
+-- so a small number is that of a node that is there
+pub numbered_inside : (s : Split) (l : ℕ) → l < nodes s
+    → (n : Node) × IsNode s n × (number_of n ≡ l)
+numbered_inside s l below = let (n, at) = numbered_node l in (n, inside_node s n (omega arith), at)
 
 -- an even number is no slave's
 untested : (n : ℕ) → n % 2 ≡ 0 → tokens_of n ≡ 0

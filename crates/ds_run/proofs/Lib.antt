@@ -6,7 +6,7 @@ pub mod Sound
 pub mod Values
 pub mod Rows
 pub mod Supplied
-pub mod Weavers
+pub mod Opened
 pub mod Firsts
 pub mod Firings
 pub mod Played

@@ -13,7 +13,7 @@ use Rattle.ds_marked.specs.declared.marked.Arc.{Arc}
 use Rattle.ds_marked.specs.declared.marked.Event.{Event}
 use Rattle.ds_cover.specs.Cover.{value_at}
 use Rattle.ds_design.specs.Circuit.{columns, data_nets, register_nets}
-use Rattle.ds_latch.specs.Node.{Node, In, Out, Master, Slave, Split, IsNode, number_of, nodes}
+use Rattle.ds_latch.specs.Node.{Node, In, Out, Master, Slave, Split, number_of, nodes}
 use Rattle.ds_latch.specs.Node.{members, nets_of}
 use Rattle.ds_latch.specs.Node.{opening as node_opening, closing as node_closing}
 use Rattle.ds_latch.specs.Order.{IsDataEdge, IsRequired, opens_first, after_producer, before_reuse}
@@ -33,7 +33,7 @@ use Rattle.ds_rule.proofs.EventLaws.{events-is, node_below, opening-is, closing-
 use Rattle.ds_run.specs.Layout.{IsRunOf, Joins}
 use Rattle.ds_run.specs.Laws.{IsWithin, RunsAreAccepted, RunsAreSound, RunsHaveGraphs}
 use Rattle.ds_run.proofs.Lists.{all_at, all_from_at}
-use Rattle.ds_run.proofs.Joined.{inside_node, numbered_node}
+use Rattle.ds_run.proofs.Joined.{numbered_inside}
 use Rattle.ds_run.proofs.Sizes.{read_few, width_few, size_few}
 
 few_tokens : (n : Node) → open_tokens n ≤ 1
@@ -115,13 +115,9 @@ module _ (p : Planned) (vectors : List Row) (run : Run) (is : IsRunOf p vectors 
       let (a, c, edge, joins) = is.edges_are.each k d inside in
       there (get_or run.edges k d) a c edge joins
 
-  -- a node of the run is one of the split design
-  node : (l : ℕ) → l < nodes p.split → (n : Node) × IsNode p.split n × (number_of n ≡ l)
-  node l below = let (n, at) = numbered_node l in (n, inside_node p.split n (omega arith), at)
-
   closes : (l : ℕ) → l < run.latches → HasOrder run (opening l) (closing l) 0
   closes l low counts agrees =
-      let (n, is_node, at) = node l (omega (arith, is.latches_are)) in
+      let (n, is_node, at) = numbered_inside p.split l (omega (arith, is.latches_are)) in
       omega (
         arith,
         order (node_opening n) (node_closing n) 0 (opens_first n is_node) counts agrees,
@@ -182,7 +178,7 @@ module _ (p : Planned) (vectors : List Row) (run : Run) (is : IsRunOf p vectors 
     same_length : (l k : ℕ) → l < run.nodes → k ≤ run.limit
         → length (run_values run l k) ≡ get_or run.lengths l 0
     same_length l k below low = elim (cases_lt l (nodes p.split)) [
-      | inl inside ↦ (let (n, is_node, at) = node l inside in
+      | inl inside ↦ (let (n, is_node, at) = numbered_inside p.split l inside in
           let v = is.values_are in
           subst (λ (m : ℕ). length (run_values run m k) ≡ get_or run.lengths m 0) at
           (ap (λ (r : Row). length r) (v.of_node n is_node k (omega (arith, is.limit_is)))

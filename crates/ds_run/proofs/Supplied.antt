@@ -10,8 +10,9 @@ use Rattle.std.proofs.lemmas.List.{append-nil, get_or-map, length-map, take_all,
 use Rattle.std.proofs.lemmas.List.Elements.{All-cons, All-head, All-nil, All-tail, filter_passes}
 use Rattle.std.proofs.lemmas.List.Kept.{AllPairs-filter}
 use Rattle.ds_latch.specs.Node.{Node, Split, IsNode, number_of, nodes}
-use Rattle.ds_latch.specs.Order.{IsDataEdge, to_master, to_out, to_slave, open_tokens}
+use Rattle.ds_latch.specs.Order.{IsDataEdge, open_tokens}
 use Rattle.ds_latch.proofs.Counts.{number_below, same_node}
+use Rattle.ds_latch.proofs.Rising.{edge_nodes}
 use Rattle.ds_opening.specs.Packed.{packed}
 use Rattle.ds_opening.specs.Woven.{AreProducers, Turn, read_of, woven}
 use Rattle.ds_rule.specs.Run.{Run}
@@ -53,23 +54,12 @@ supply-supplied run l k (suc n) most =
     ∙ (sym (supplied-append run (take n run.edges) (e ∷ []) l k)
     ∙ ap (λ (es : List DataEdge). supplied run es l k) next))
 
--- the ends of an edge are nodes
-producer_node : (s : Split) (p c : Node) → IsDataEdge s p c → IsNode s p
-producer_node s p _ (to_master source is_p inside supplies) = is_p
-producer_node s p _ (to_out source is_p supplies) = is_p
-producer_node s _ _ (to_slave inside) = inside
-
-consumer_node : (s : Split) (p c : Node) → IsDataEdge s p c → IsNode s c
-consumer_node s p _ (to_master source is_p inside supplies) = inside
-consumer_node s p _ (to_out source is_p supplies) = tt
-consumer_node s _ _ (to_slave inside) = inside
-
 -- the consumers are nodes of the split design
 pub consumers_within : (s : Split) (edges : List DataEdge) → AreEdges s edges → (count : ℕ)
     → count ≡ nodes s → All (λ e. e.consumer < count) edges
 consumers_within s edges are count count_is k d inside =
     let (p, c, edge, joins) = are.each k d inside in
-    let low : number_of c < nodes s = number_below s c (consumer_node s p c edge) in
+    let low : number_of c < nodes s = number_below s c (edge_nodes s p c edge).1 in
     omega (low, joins.into, count_is, arith)
 
 Any-split : {X : Type 0} (P : X → Type 0) (x : X) (xs : List X) → Any P (x ∷ xs) → P x ⊎ Any P xs
@@ -112,7 +102,7 @@ module _ (s : Split) (run : Run) (t : Turn) (n : Node)
   one_more : (e : DataEdge) (es : List DataEdge) (p : Node) → IsDataEdge s p n → Joins p n e
       → Reads es → Reads (e ∷ es)
   one_more e es p edge joins rest =
-      let is_p : IsNode s p = producer_node s p n edge in
+      let is_p : IsNode s p = (edge_nodes s p n edge).0 in
       let there : leads e ≡ true = eq-eqb e.consumer (number_of n) joins.into in record {
         nodes = p ∷ rest.nodes;
         are = ap (picked e es) there

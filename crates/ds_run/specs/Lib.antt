@@ -3,6 +3,6 @@ pub mod Layout
 pub mod Tokened
 pub mod Laws
 pub mod Producers
-pub mod Weaver
+pub mod Openings
 pub mod Played
 pub mod Firings

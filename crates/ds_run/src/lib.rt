@@ -2,8 +2,8 @@
 //!
 //! `layout_of` lays a plan out as the rule of the table takes it: its nodes and arcs, the data
 //! edges by consumer, the lengths of the rows, and the values of the clocked run, which no code
-//! knows before it has fired. What it gives is sound and accepted in the sense of the rule. A
-//! `Weaver` computes the row of an opening from those of its producers. `run` hires the workers,
+//! knows before it has fired. What it gives is sound and accepted in the sense of the rule.
+//! `Openings` computes the row of an opening from those of its producers. `run` hires the workers,
 //! and its record tells of every node that it stored the rows of the clocked run, and that the
 //! firings by rising ticket are a legal list of the plan's graph with each event once a vector.
 //! Nothing is promised of time, or of which worker fires what.
@@ -15,12 +15,14 @@ mod foreseen;
 pub mod laws;
 mod layout;
 mod lengths;
+mod openings;
 mod play;
 mod producers;
 mod starts;
-mod weaver;
+mod workers;
 
 pub use foreseen::Foreseen;
 pub use layout::layout_of;
+pub use openings::Openings;
 pub use play::run;
-pub use weaver::Weaver;
+pub use workers::Workers;

@@ -11,6 +11,7 @@
 mod fault;
 mod line;
 mod log;
+mod played;
 mod sums;
 mod trace;
 mod write;

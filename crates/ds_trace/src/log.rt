@@ -8,9 +8,8 @@ ghost use Rattle.ds_outside.specs.Writes.{GoesOn};
 ghost use Rattle.ds_trace.specs.Logged.{HasLog, WritesLog};
 ghost use Rattle.ds_run.specs.Played.{IsPlayed};
 
+use crate::played::Played;
 use ds_base::{EventId, OutOfMemory};
-use ds_design::Vectors;
-use ds_fabric::Record;
 use ds_latch::Plan;
 use ds_marked::Counts;
 use ds_outside::{Sink, WriteFault};
@@ -27,19 +26,15 @@ pub struct Log {
 
 impl Log {
     /// Before the first firing.
-    pub fn of(
-        alloc: Global,
-        plan: &Plan<'_>,
-        vectors: &Vectors,
-        fired: &Record,
-    ) -> Result<Self, OutOfMemory>
-        requires played { IsPlayed plan.now vectors.now.rows fired.now }
-        ensures { IfOk result (HasLog plan.now (length vectors.now.rows)) }
+    pub fn of(alloc: Global, played: &Played<'_, '_>) -> Result<Self, OutOfMemory>
+        requires played { IsPlayed played.now.plan.now played.now.vectors.now.rows
+            played.now.fired.now }
+        ensures { IfOk result (HasLog played.now.plan.now (length played.now.vectors.now.rows)) }
     {
         firings_are_legal();
         Ok(Log {
-            events: fired.firings(alloc)?,
-            counts: Counts::zero(alloc, plan.graph().events().len())?,
+            events: played.fired.firings(alloc)?,
+            counts: Counts::zero(alloc, played.plan.graph().events().len())?,
         })
     }
 }

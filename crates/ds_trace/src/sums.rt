@@ -8,14 +8,14 @@ ghost use Rattle.ds_run.specs.Played.{IsPlayed};
 ghost use Rattle.ds_trace.specs.Summed.{IsSummed, IsSummedTo, ones_of};
 
 use crate::line::{Line, gather};
+use crate::played::Played;
 use ds_base::{LatchId, OutOfMemory, Row3, Value};
 use ds_demo::Fold;
 use ds_design::Vectors;
-use ds_fabric::Record;
 use ds_latch::Plan;
 use ds_outside::{Gate, MemorySink};
 use ds_rows::{end_line, trace_line};
-use ds_run::run;
+use ds_run::{Workers, run};
 use std::alloc::Global;
 use std::thread::Threads;
 
@@ -27,26 +27,28 @@ pub struct Sums {
     pub fold: u64,
 }
 
-/// Runs a plan with so many workers, from 1 to 64, and sums its trace up. One line is kept at a
-/// time. The gate is called before each step of a worker, as `ds_runner::run` says. Want of memory
+/// Runs a plan by these workers and sums its trace up. One line is kept at a time. Want of memory
 /// is the only fault.
 pub fn sum_run<R: Threads + Sync, G: Gate>(
-    rt: &R,
     alloc: Global,
     plan: &Plan<'_>,
     vectors: &Vectors,
-    jobs: u32,
-    gate: &G,
+    workers: &Workers<'_, R, G>,
 ) -> Result<Sums, OutOfMemory>
     requires width { vectors.now.width ≡ length (columns plan.now.split.circuit) }
     requires start { plan.now.split.initial ≡ initial_row plan.now.split.circuit }
-    requires jobs { (0 < jobs) × (jobs ≤ 64) }
+    requires jobs { (0 < workers.now.jobs) × (workers.now.jobs ≤ 64) }
     ensures { IfOk result (IsSummed plan.now vectors.now.rows) }
 {
     let mut line = Line::of(alloc, plan.latches())?;
-    let fired = run(rt, alloc, plan, vectors, jobs, gate)?;
+    let fired = run(alloc, plan, vectors, workers)?;
+    let played = Played {
+        plan,
+        vectors,
+        fired: &fired,
+    };
     let mut fold = Fold::new();
-    let ones = sum_turns(alloc, plan, vectors, &fired, &mut line, &mut fold)?;
+    let ones = sum_turns(alloc, &played, &mut line, &mut fold)?;
     add_end(alloc, &line.registers, &mut fold)?;
     Ok(Sums {
         ones,
@@ -58,25 +60,25 @@ pub fn sum_run<R: Threads + Sync, G: Gate>(
 // ones in the output rows.
 fn sum_turns(
     alloc: Global,
-    plan: &Plan<'_>,
-    vectors: &Vectors,
-    fired: &Record,
+    played: &Played<'_, '_>,
     line: &mut Line,
     fold: &mut Fold,
 ) -> Result<u64, OutOfMemory>
-    requires played { IsPlayed plan.now vectors.now.rows fired.now }
-    requires line { HasLine plan.now.split line.old }
-    requires registers { line.old.registers ≡ plan.now.split.initial }
+    requires played { IsPlayed played.now.plan.now played.now.vectors.now.rows
+        played.now.fired.now }
+    requires line { HasLine played.now.plan.now.split line.old }
+    requires registers { line.old.registers ≡ played.now.plan.now.split.initial }
     requires fold { fold.old ≡ nothing }
     ensures { IfOk result
-        (λ ones. IsSummedTo plan.now vectors.now.rows ones line.new.registers fold.new) }
+        (λ ones. IsSummedTo played.now.plan.now played.now.vectors.now.rows ones
+        line.new.registers fold.new) }
 {
     let mut ones = 0;
-    for k in 0..vectors.count() {
-        fired.row(LatchId::new(1), k, &mut line.outputs);
+    for k in 0..played.vectors.count() {
+        played.fired.row(LatchId::new(1), k, &mut line.outputs);
         ones += count_ones(&line.outputs);
         add_line(alloc, k as u64, line, fold)?;
-        gather(plan.latches(), fired, k, line);
+        gather(played.plan.latches(), played.fired, k, line);
     }
     Ok(ones)
 }

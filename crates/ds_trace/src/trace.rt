@@ -8,52 +8,50 @@ ghost use Rattle.ds_trace.specs.Line.{HasLine};
 ghost use Rattle.ds_run.specs.Played.{IsPlayed};
 
 use crate::line::{Line, gather};
+use crate::played::Played;
 use ds_base::{LatchId, Row3};
-use ds_design::Vectors;
-use ds_fabric::Record;
-use ds_latch::Plan;
 use ds_outside::{Sink, WriteFault};
 use ds_rows::{end_line, trace_line};
 
 /// Writes the whole trace.
 pub fn write_trace<O: Sink>(
-    plan: &Plan<'_>,
-    vectors: &Vectors,
-    fired: &Record,
+    played: &Played<'_, '_>,
     line: &mut Line,
     out: &mut O,
 ) -> Result<(), WriteFault>
-    requires played { IsPlayed plan.now vectors.now.rows fired.now }
-    requires start { plan.now.split.initial ≡ initial_row plan.now.split.circuit }
-    requires line { HasLine plan.now.split line.old }
-    requires registers { line.old.registers ≡ plan.now.split.initial }
-    ensures { WritesTrace result plan.now.split.circuit vectors.now.rows
+    requires played { IsPlayed played.now.plan.now played.now.vectors.now.rows
+        played.now.fired.now }
+    requires start { played.now.plan.now.split.initial
+        ≡ initial_row played.now.plan.now.split.circuit }
+    requires line { HasLine played.now.plan.now.split line.old }
+    requires registers { line.old.registers ≡ played.now.plan.now.split.initial }
+    ensures { WritesTrace result played.now.plan.now.split.circuit played.now.vectors.now.rows
         (O.written out.old) (O.written out.new) (O.faults out.old) (O.faults out.new) }
 {
-    let so_far = write_turns(plan, vectors, fired, line, out);
+    let so_far = write_turns(played, line, out);
     put_end(so_far, &line.registers, out)
 }
 
 // Writes the lines of all turns, and leaves the registers after the last one.
 fn write_turns<O: Sink>(
-    plan: &Plan<'_>,
-    vectors: &Vectors,
-    fired: &Record,
+    played: &Played<'_, '_>,
     line: &mut Line,
     out: &mut O,
 ) -> Result<(), WriteFault>
-    requires played { IsPlayed plan.now vectors.now.rows fired.now }
-    requires line { HasLine plan.now.split line.old }
-    requires registers { line.old.registers ≡ plan.now.split.initial }
-    ensures { WritesLines result plan.now.split.circuit 0 plan.now.split.initial vectors.now.rows
+    requires played { IsPlayed played.now.plan.now played.now.vectors.now.rows
+        played.now.fired.now }
+    requires line { HasLine played.now.plan.now.split line.old }
+    requires registers { line.old.registers ≡ played.now.plan.now.split.initial }
+    ensures { WritesLines result played.now.plan.now.split.circuit 0
+        played.now.plan.now.split.initial played.now.vectors.now.rows
         line.new.registers (O.written out.old) (O.written out.new)
         (O.faults out.old) (O.faults out.new) }
 {
     let mut so_far = Ok(());
-    for k in 0..vectors.count() {
-        fired.row(LatchId::new(1), k, &mut line.outputs);
+    for k in 0..played.vectors.count() {
+        played.fired.row(LatchId::new(1), k, &mut line.outputs);
         so_far = put_line(so_far, k as u64, line, out);
-        gather(plan.latches(), fired, k, line);
+        gather(played.plan.latches(), played.fired, k, line);
     }
     so_far
 }

@@ -10,33 +10,30 @@ ghost use Rattle.ds_run.specs.Played.{IsPlayed};
 use crate::fault::RunFault;
 use crate::line::Line;
 use crate::log::{Log, write_log};
+use crate::played::Played;
 use crate::trace::write_trace;
 use ds_design::Vectors;
-use ds_fabric::Record;
 use ds_latch::Plan;
 use ds_outside::{Behind, Buffered, Gate, Lent, Sink, WriteFault};
 use ds_rows::put;
-use ds_run::run;
+use ds_run::{Workers, run};
 use std::alloc::Global;
 use std::marker::Brand;
 use std::thread::Threads;
 
-/// Runs a plan with so many workers, from 1 to 64, and writes its trace, and behind it the line
-/// `firings` and the log where one is wanted. The gate is called before each step of a worker, as
-/// `ds_runner::run` says. After `Memory` nothing is written, after `Write` a first part.
+/// Runs a plan by these workers and writes its trace, and behind it the line `firings` and the log
+/// where one is wanted. After `Memory` nothing is written, after `Write` a first part.
 pub fn write_run<R: Threads + Sync, G: Gate, O: Sink>(
-    rt: &R,
     alloc: Global,
     plan: &Plan<'_>,
     vectors: &Vectors,
-    jobs: u32,
+    workers: &Workers<'_, R, G>,
     log: bool,
-    gate: &G,
     out: &mut O,
 ) -> Result<(), RunFault>
     requires width { vectors.now.width ≡ length (columns plan.now.split.circuit) }
     requires start { plan.now.split.initial ≡ initial_row plan.now.split.circuit }
-    requires jobs { (0 < jobs) × (jobs ≤ 64) }
+    requires jobs { (0 < workers.now.jobs) × (workers.now.jobs ≤ 64) }
 
     ensures ok { OnOk result
         (AppendsRun log plan.now vectors.now.rows (O.written out.old) (O.written out.new)) }
@@ -53,33 +50,38 @@ pub fn write_run<R: Threads + Sync, G: Gate, O: Sink>(
     let Ok(mut line) = Line::of(alloc, plan.latches()) else {
         return Err(RunFault::Memory);
     };
-    let Ok(fired) = run(rt, alloc, plan, vectors, jobs, gate) else {
+    let Ok(fired) = run(alloc, plan, vectors, workers) else {
         return Err(RunFault::Memory);
     };
+    let played = Played {
+        plan,
+        vectors,
+        fired: &fired,
+    };
     if log {
-        with_log(alloc, plan, vectors, &fired, &mut line, out)
+        with_log(alloc, &played, &mut line, out)
     } else {
-        without_log(plan, vectors, &fired, &mut line, out)
+        without_log(&played, &mut line, out)
     }
 }
 
 // Writes the trace alone.
 fn without_log<O: Sink>(
-    plan: &Plan<'_>,
-    vectors: &Vectors,
-    fired: &Record,
+    played: &Played<'_, '_>,
     line: &mut Line,
     out: &mut O,
 ) -> Result<(), RunFault>
-    requires played { IsPlayed plan.now vectors.now.rows fired.now }
-    requires start { plan.now.split.initial ≡ initial_row plan.now.split.circuit }
-    requires line { HasLine plan.now.split line.old }
-    requires registers { line.old.registers ≡ plan.now.split.initial }
-    ensures { EndsRun false plan.now vectors.now.rows result
+    requires played { IsPlayed played.now.plan.now played.now.vectors.now.rows
+        played.now.fired.now }
+    requires start { played.now.plan.now.split.initial
+        ≡ initial_row played.now.plan.now.split.circuit }
+    requires line { HasLine played.now.plan.now.split line.old }
+    requires registers { line.old.registers ≡ played.now.plan.now.split.initial }
+    ensures { EndsRun false played.now.plan.now played.now.vectors.now.rows result
         (O.written out.old) (O.written out.new) (O.faults out.old) (O.faults out.new) }
 {
     let lent = Lent { sink: out };
-    let (_, result) = trace_behind::<O, Brand>(plan, vectors, fired, line, lent);
+    let (_, result) = trace_behind::<O, Brand>(played, line, lent);
     match result {
         Ok(()) => Ok(()),
         Err(_) => Err(RunFault::Write),
@@ -89,24 +91,24 @@ fn without_log<O: Sink>(
 // Writes the trace and the log.
 fn with_log<O: Sink>(
     alloc: Global,
-    plan: &Plan<'_>,
-    vectors: &Vectors,
-    fired: &Record,
+    played: &Played<'_, '_>,
     line: &mut Line,
     out: &mut O,
 ) -> Result<(), RunFault>
-    requires played { IsPlayed plan.now vectors.now.rows fired.now }
-    requires start { plan.now.split.initial ≡ initial_row plan.now.split.circuit }
-    requires line { HasLine plan.now.split line.old }
-    requires registers { line.old.registers ≡ plan.now.split.initial }
-    ensures { EndsRun true plan.now vectors.now.rows result
+    requires played { IsPlayed played.now.plan.now played.now.vectors.now.rows
+        played.now.fired.now }
+    requires start { played.now.plan.now.split.initial
+        ≡ initial_row played.now.plan.now.split.circuit }
+    requires line { HasLine played.now.plan.now.split line.old }
+    requires registers { line.old.registers ≡ played.now.plan.now.split.initial }
+    ensures { EndsRun true played.now.plan.now played.now.vectors.now.rows result
         (O.written out.old) (O.written out.new) (O.faults out.old) (O.faults out.new) }
 {
-    let Ok(mut log) = Log::of(alloc, plan, vectors, fired) else {
+    let Ok(mut log) = Log::of(alloc, played) else {
         return Err(RunFault::Memory);
     };
     let lent = Lent { sink: out };
-    let (_, result) = all_behind::<O, Brand>(plan, vectors, fired, line, &mut log, lent);
+    let (_, result) = all_behind::<O, Brand>(played, line, &mut log, lent);
     match result {
         Ok(()) => Ok(()),
         Err(_) => Err(RunFault::Write),
@@ -115,54 +117,54 @@ fn with_log<O: Sink>(
 
 // Writes the trace by way of a buffer.
 fn trace_behind<'a, O: Sink, B: Behind>(
-    plan: &Plan<'_>,
-    vectors: &Vectors,
-    fired: &Record,
+    played: &Played<'_, '_>,
     line: &mut Line,
     behind: Lent<'a, O>,
 ) -> (Lent<'a, O>, Result<(), WriteFault>)
-    requires played { IsPlayed plan.now vectors.now.rows fired.now }
-    requires start { plan.now.split.initial ≡ initial_row plan.now.split.circuit }
-    requires line { HasLine plan.now.split line.old }
-    requires registers { line.old.registers ≡ plan.now.split.initial }
+    requires played { IsPlayed played.now.plan.now played.now.vectors.now.rows
+        played.now.fired.now }
+    requires start { played.now.plan.now.split.initial
+        ≡ initial_row played.now.plan.now.split.circuit }
+    requires line { HasLine played.now.plan.now.split line.old }
+    requires registers { line.old.registers ≡ played.now.plan.now.split.initial }
     requires same { behind.sink.ghost_name ≡ B.name }
     requires before { O.written behind.sink.now ≡ B.before }
 
-    ensures ok { WritesRun result.1 false plan.now vectors.now.rows
+    ensures ok { WritesRun result.1 false played.now.plan.now played.now.vectors.now.rows
         B.before (O.written result.0.sink.now)
         (O.faults behind.entry.sink.now) (O.faults result.0.sink.now) }
     ensures same { result.0.sink.ghost_name ≡ B.name }
 {
     let mut buffered: Buffered<'a, O, B> = Buffered::new(behind);
-    let so_far = write_trace(plan, vectors, fired, line, &mut buffered);
+    let so_far = write_trace(played, line, &mut buffered);
     buffered.finish(so_far)
 }
 
 // Writes the trace and the log by way of a buffer.
 fn all_behind<'a, O: Sink, B: Behind>(
-    plan: &Plan<'_>,
-    vectors: &Vectors,
-    fired: &Record,
+    played: &Played<'_, '_>,
     line: &mut Line,
     log: &mut Log,
     behind: Lent<'a, O>,
 ) -> (Lent<'a, O>, Result<(), WriteFault>)
-    requires played { IsPlayed plan.now vectors.now.rows fired.now }
-    requires start { plan.now.split.initial ≡ initial_row plan.now.split.circuit }
-    requires line { HasLine plan.now.split line.old }
-    requires registers { line.old.registers ≡ plan.now.split.initial }
-    requires log { HasLog plan.now (length vectors.now.rows) log.old }
+    requires played { IsPlayed played.now.plan.now played.now.vectors.now.rows
+        played.now.fired.now }
+    requires start { played.now.plan.now.split.initial
+        ≡ initial_row played.now.plan.now.split.circuit }
+    requires line { HasLine played.now.plan.now.split line.old }
+    requires registers { line.old.registers ≡ played.now.plan.now.split.initial }
+    requires log { HasLog played.now.plan.now (length played.now.vectors.now.rows) log.old }
     requires same { behind.sink.ghost_name ≡ B.name }
     requires before { O.written behind.sink.now ≡ B.before }
 
-    ensures ok { WritesRun result.1 true plan.now vectors.now.rows
+    ensures ok { WritesRun result.1 true played.now.plan.now played.now.vectors.now.rows
         B.before (O.written result.0.sink.now)
         (O.faults behind.entry.sink.now) (O.faults result.0.sink.now) }
     ensures same { result.0.sink.ghost_name ≡ B.name }
 {
     let mut buffered: Buffered<'a, O, B> = Buffered::new(behind);
-    let so_far = write_trace(plan, vectors, fired, line, &mut buffered);
+    let so_far = write_trace(played, line, &mut buffered);
     let so_far = put(so_far, b"firings\n", &mut buffered);
-    let so_far = write_log(so_far, plan, log, &mut buffered);
+    let so_far = write_log(so_far, played.plan, log, &mut buffered);
     buffered.finish(so_far)
 }

@@ -8,8 +8,9 @@ pub returns : goal.returns
 returns g c =
     let (lines, are, writes) = c.write_turns-so_far.ensures in (
       lines ++ end_line c.write_turns-so_far.new.line.registers,
-      whole_trace c.args.plan.now.split.circuit c.args.plan.now.split.initial
-          c.args.vectors.now.rows lines c.write_turns-so_far.new.line.registers c.requires.start
+      whole_trace c.args.played.now.plan.now.split.circuit c.args.played.now.plan.now.split.initial
+          c.args.played.now.vectors.now.rows lines c.write_turns-so_far.new.line.registers
+          c.requires.start
           are,
       (goes_on (after_ok writes) c.put_end.ensures).on_ok,
     )

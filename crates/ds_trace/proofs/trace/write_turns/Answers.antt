@@ -12,8 +12,8 @@ use Rattle.ds_trace.proofs.trace.write_turns.Goals as goal
 
 pub loop-k-init : goal.loop-k-init
 loop-k-init g c =
-    let s : Split = c.args.plan.now.split in
-    let vectors : List Row = c.args.vectors.now.rows in
+    let s : Split = c.args.played.now.plan.now.split in
+    let vectors : List Row = c.args.played.now.vectors.now.rows in
     let old : Option (List ℕ) = g.O.Sink.written c.args.out.now in
     let before : ℕ = g.O.Sink.faults c.args.out.now in
     record {
@@ -27,36 +27,40 @@ loop-k-init g c =
 
 pub row-requires-clause-stored : goal.row-requires-clause-stored
 row-requires-clause-stored g c =
-    let stored = out_stored c.args.plan.now c.args.vectors.now.rows c.args.fired.now
+    let stored = out_stored c.args.played.now.plan.now c.args.played.now.vectors.now.rows
+    c.args.played.now.fired.now
     c.requires.played c.loop-k.k (omega arith) in
     rw c.new.ensures stored
 
 pub row-requires-clause-length : goal.row-requires-clause-length
 row-requires-clause-length g c =
-    let wide = out_wide c.args.plan.now c.args.vectors.now.rows c.args.fired.now
+    let wide = out_wide c.args.played.now.plan.now c.args.played.now.vectors.now.rows
+    c.args.played.now.fired.now
     c.requires.played in
     rw c.new.ensures (c.loop-k.invariant.line.outputs ∙ sym wide)
 
 pub gather-requires-clause-rows : goal.gather-requires-clause-rows
 gather-requires-clause-rows g c =
-    let slaves = has_slaves c.args.plan.now c.args.vectors.now.rows c.args.fired.now
+    let slaves = has_slaves c.args.played.now.plan.now c.args.played.now.vectors.now.rows
+    c.args.played.now.fired.now
     c.requires.played (c.loop-k.k + 1) (omega arith) in
     rw c.latches.ensures slaves
 
 pub gather-requires-clause-line : goal.gather-requires-clause-line
 gather-requires-clause-line g c =
-    line_read c.args.plan.now c.args.vectors.now.rows c.args.fired.now c.requires.played c.loop-k.k
+    line_read c.args.played.now.plan.now c.args.played.now.vectors.now.rows
+    c.args.played.now.fired.now c.requires.played c.loop-k.k
     (omega arith) c.latches.result.now c.loop-k.line c.new.result c.row.new.into c.latches.ensures
     c.loop-k.invariant.line c.new.ensures c.row.ensures
 
 pub loop-k-preserved : goal.loop-k-preserved
 loop-k-preserved g c =
-    let p : Planned = c.args.plan.now in
-    let vectors : List Row = c.args.vectors.now.rows in
-    let r : Recorder = c.args.fired.now in
+    let p : Planned = c.args.played.now.plan.now in
+    let vectors : List Row = c.args.played.now.vectors.now.rows in
+    let r : Recorder = c.args.played.now.fired.now in
     let k : ℕ = c.loop-k.k in
     let t : Split = c.latches.result.now in
-    let below : c.loop-k.k < length c.args.vectors.now.rows = omega arith in
+    let below : c.loop-k.k < length c.args.played.now.vectors.now.rows = omega arith in
     record {
       line = subst (λ (q : Split). HasLine q c.gather.new.line) c.latches.ensures
           c.gather.ensures.line;
@@ -74,8 +78,9 @@ loop-k-preserved g c =
 
 pub returns : goal.returns
 returns g c =
-    let s : Split = c.args.plan.now.split in
-    let (lines, are, goes) = last_turn s.circuit 0 s.initial c.args.vectors.now.rows c.loop-k.k
+    let s : Split = c.args.played.now.plan.now.split in
+    let (lines, are, goes) = last_turn s.circuit 0 s.initial c.args.played.now.vectors.now.rows
+    c.loop-k.k
     c.loop-k.line.registers (Ok tt) c.loop-k.so_far (g.O.Sink.written c.args.out.now)
     (g.O.Sink.written c.loop-k.out) (g.O.Sink.faults c.args.out.now)
     (g.O.Sink.faults c.loop-k.out) (omega arith) c.loop-k.invariant.written in

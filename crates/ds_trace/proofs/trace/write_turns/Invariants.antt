@@ -6,10 +6,13 @@ use Rattle.ds_trace.proofs.trace.write_turns.Given as goal
 
 abbrev pub invariant-loop-k : goal.invariant-loop-k
 invariant-loop-k g l = record {
-  line : HasLine l.plan.split l.line;
-  registers : (values : AreValues l.plan.split l.vectors.rows l.fired.shown.view.run)
+  line : HasLine l.played.plan.now.split l.line;
+  registers :
+      (values : AreValues l.played.plan.now.split l.played.vectors.now.rows
+      l.played.fired.now.shown.view.run)
       → l.line.registers ≡ values.state l.k;
-  written : IsWrittenTo l.plan.split.circuit 0 l.plan.split.initial l.vectors.rows l.k
+  written : IsWrittenTo l.played.plan.now.split.circuit 0 l.played.plan.now.split.initial
+      l.played.vectors.now.rows l.k
       l.line.registers l.initial.so_far l.so_far (g.O.Sink.written l.initial.out)
       (g.O.Sink.written l.out) (g.O.Sink.faults l.initial.out) (g.O.Sink.faults l.out);
 }

@@ -7,7 +7,8 @@ use Rattle.ds_trace.proofs.write.all_behind.Goals as goal
 
 pub write_log-so_far-requires-clause-log : goal.write_log-so_far-requires-clause-log
 write_log-so_far-requires-clause-log g c =
-    legal_events c.args.plan.now.graph (length c.args.vectors.now.rows) (λ _. 0)
+    legal_events c.args.played.now.plan.now.graph (length c.args.played.now.vectors.now.rows)
+    (λ _. 0)
     c.args.log.now.events.items c.requires.log.legal
 
 pub returns-clause-ok : goal.returns-clause-ok

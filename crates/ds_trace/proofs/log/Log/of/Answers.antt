@@ -5,8 +5,10 @@ use Rattle.ds_trace.proofs.log.Log.of.Goals as goal
 
 pub returns : goal.returns
 returns c =
-    let (legal, all) = c.firings_are_legal.ensures c.args.plan.now c.args.vectors.now.rows
-    c.args.fired.now c.requires.played.accepted c.requires.played.planned c.requires.played.whole
+    let (legal, all) = c.firings_are_legal.ensures c.args.played.now.plan.now
+    c.args.played.now.vectors.now.rows
+    c.args.played.now.fired.now c.requires.played.accepted c.requires.played.planned
+    c.requires.played.whole
     c.in_ok-firings.field-0.items c.in_ok-firings.ensures in
     record {
       legal = legal;

@@ -3,9 +3,9 @@ use Rattle.std.specs.Prelude.{vec_capacity, vec_len}
 use Rattle.ds_latch.specs.Node.{nets_of}
 use Rattle.ds_opening.specs.Packed.{words_of}
 use Rattle.ds_rule.specs.Words.{width}
-use Rattle.ds_run.specs.Weaver.{RunWithNets}
-use Rattle.ds_run.proofs.Weavers.{gives_row, opens_at, room_at}
-use Rattle.ds_run.proofs.weaver.WeaverCompute.compute.Goals as goal
+use Rattle.ds_run.specs.Openings.{RunWithNets}
+use Rattle.ds_run.proofs.Opened.{gives_row, opens_at, room_at}
+use Rattle.ds_run.proofs.openings.OpeningsCompute.compute.Goals as goal
 
 pub open-requires-clause-opening : goal.open-requires-clause-opening
 open-requires-clause-opening c =

@@ -19,8 +19,8 @@ use std::marker::Model;
 
 /// Computes the rows of a run from its plan: the cones of the nodes that settle, the nodes that
 /// each node reads, and the rows that the slaves start with.
-pub struct Weaver<'a, 'n> {
-    layout: &'a Layout<Foreseen<'a, 'n>>,
+pub struct Openings<'a, 'n> {
+    run: &'a Layout<Foreseen<'a, 'n>>,
     latches: &'a Latches<'n>,
     vectors: &'a Vectors,
     cones: Vec<Cone>,
@@ -28,10 +28,10 @@ pub struct Weaver<'a, 'n> {
     starts: Vec<Row3>,
 }
 
-impl<'a, 'n> Drop for Weaver<'a, 'n> {
+impl<'a, 'n> Drop for Openings<'a, 'n> {
     fn drop(self) {
-        let Weaver {
-            layout: _,
+        let Openings {
+            run: _,
             latches: _,
             vectors: _,
             cones: _,
@@ -41,44 +41,44 @@ impl<'a, 'n> Drop for Weaver<'a, 'n> {
     }
 }
 
-impl<'a, 'n> Model for Weaver<'a, 'n> {
+impl<'a, 'n> Model for Openings<'a, 'n> {
     ghost use Rattle.std.specs.Prelude.{length};
-    ghost use Rattle.ds_run.specs.Weaver.{IsWeaver, RunWithNets};
+    ghost use Rattle.ds_run.specs.Openings.{AreOpenings, RunWithNets};
 
     ghost Value = { RunWithNets };
 
     ghost view = { λ w. record {
-      run = w.layout.now;
+      run = w.run.now;
       nets = length w.latches.now.circuit.nets;
     } };
 
-    ghost invariant = { λ w. IsWeaver w.latches.now w.vectors.now w.layout.now w.cones.items
+    ghost invariant = { λ w. AreOpenings w.latches.now w.vectors.now w.run.now w.cones.items
         w.producers.items w.starts.items };
 }
 
-impl<'a, 'n> Weaver<'a, 'n> {
+impl<'a, 'n> Openings<'a, 'n> {
     /// Of a plan, its vectors, and its run on them.
     pub fn of(
         alloc: Global,
         plan: &'a Plan<'n>,
         vectors: &'a Vectors,
-        layout: &'a Layout<Foreseen<'a, 'n>>,
+        run: &'a Layout<Foreseen<'a, 'n>>,
     ) -> Result<Self, OutOfMemory>
         requires width { vectors.now.width ≡ length (columns plan.now.split.circuit) }
-        requires run { IsRunOf plan.now vectors.now.rows layout.now }
-        requires sound { IsSound layout.now }
+        requires run { IsRunOf plan.now vectors.now.rows run.now }
+        requires sound { IsSound run.now }
         ensures ok { IfOk result (λ w. w ≡ record {
-          run = layout.now;
+          run = run.now;
           nets = length plan.now.split.circuit.nets;
         }) }
     {
         let latches = plan.latches();
         let _design = latches.netlist().design();
         let cones = cones_of(alloc, latches)?;
-        let producers = producers_of(alloc, layout.edges(), layout.latches())?;
+        let producers = producers_of(alloc, run.edges(), run.latches())?;
         let starts = starts_of(alloc, latches.initial(), latches.clusters())?;
-        Ok(Weaver {
-            layout,
+        Ok(Openings {
+            run,
             latches,
             vectors,
             cones,
@@ -88,7 +88,7 @@ impl<'a, 'n> Weaver<'a, 'n> {
     }
 }
 
-impl<'a, 'n> Compute for Weaver<'a, 'n> {
+impl<'a, 'n> Compute for Openings<'a, 'n> {
     ghost run = { λ w. w.run };
 
     ghost scratch = { λ w. w.nets };

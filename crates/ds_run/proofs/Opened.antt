@@ -1,10 +1,9 @@
--- What a weaver computes, in the terms of the run.
-use Rattle.std.proofs.Common.{◌≡◌, ◌∙◌, ℕ, suc, ◌+◌, ◌-◌, ◌*◌, ◌/◌, ◌%◌, ◌<◌, ◌≤◌, List, [], length}
-use Rattle.std.proofs.Common.{get_or, refl, arith, ap, sym, subst, inl, inr}
-use Rattle.std.proofs.lemmas.Bool.{cases_eq}
+-- What openings compute, in the terms of the run.
+use Rattle.std.proofs.Common.{◌≡◌, ◌∙◌, ℕ, suc, ◌-◌, ◌<◌, ◌≤◌, List, [], length}
+use Rattle.std.proofs.Common.{get_or, refl, arith, ap, sym, subst}
 use Rattle.std.proofs.lemmas.List.{get_or_default}
 use Rattle.ds_base.specs.Values.{Row}
-use Rattle.ds_latch.specs.Node.{Node, In, Out, Master, Slave, Split, IsNode, number_of, nodes}
+use Rattle.ds_latch.specs.Node.{Node, Split, IsNode, number_of, nodes}
 use Rattle.ds_latch.specs.Node.{nets_of}
 use Rattle.ds_latch.specs.Order.{IsDataEdge, open_tokens}
 use Rattle.ds_design.specs.Rows.{Rows}
@@ -16,30 +15,14 @@ use Rattle.ds_rule.specs.Rows.{row, supply}
 use Rattle.ds_rule.specs.Words.{width}
 use Rattle.ds_rule.proofs.PlaceLaws.{width-is}
 use Rattle.ds_run.specs.Producers.{producers_in}
-use Rattle.ds_run.specs.Weaver.{IsWeaver}
+use Rattle.ds_run.specs.Openings.{AreOpenings}
 use Rattle.ds_run.proofs.Rows.{row-is}
+use Rattle.ds_run.proofs.Joined.{numbered_inside}
 use Rattle.ds_run.proofs.Supplied.{producers_are, supply-woven}
-
--- each number is that of a node
-pub node_at : (s : Split) (l : ℕ) → l < nodes s → (n : Node) × IsNode s n × (number_of n ≡ l)
-node_at s l below =
-    let k : ℕ = (l - 2) / 2 in
-    elim (cases_eq l 0) [
-      | inl e ↦ (In, tt, sym e)
-      | inr some ↦ elim (cases_eq l 1) [
-        | inl e ↦ (Out, tt, sym e)
-        | inr more ↦
-            let low : k < length s.clusters = omega arith in
-            elim (cases_eq (l % 2) 0) [
-              | inl even ↦ (Master k, low, (let is : 2 * k + 2 ≡ l = omega arith in is))
-              | inr odd ↦ (Slave k, low, (let is : 2 * k + 3 ≡ l = omega arith in is))
-            ]
-      ]
-    ]
 
 module _ {s : Split} {vectors : Rows} {run : Run} {cones : List Cone}
     {producers : List (List ℕ)} {starts : List Row}
-    (w : IsWeaver s vectors run cones producers starts) where
+    (w : AreOpenings s vectors run cones producers starts) where
   -- a turn of the clocked run
   abbrev turn_at : ℕ → Turn
   turn_at opened = record {
@@ -117,7 +100,7 @@ module _ {s : Split} {vectors : Rows} {run : Run} {cones : List Cone}
         = ap (λ (r : Run). r.limit) asked_is ∙ w.planned.limit_is in
         let low : number < nodes s = omega (near, latches_are, number_is, arith) in
         let early : turn - 1 < length vectors.rows = omega (some, most, limit_is, arith) in
-        let (n, is_node, is) = node_at s number low in
+        let (n, is_node, is) = numbered_inside s number low in
         let inside : number < length producers = omega (low, w.producers_are.one_each, arith) in
         let here : numbers ≡ producers_in run.edges (number_of n)
         = lent ∙ (item_is ∙ (get_or_default producers number item [] inside

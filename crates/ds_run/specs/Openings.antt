@@ -22,7 +22,7 @@ pub record RunWithNets : Type 0 where
 
 -- cones, producers and the first rows of the slaves belong to a run of this split design on these
 -- vectors
-pub record IsWeaver (s : Split) (vectors : Rows) (run : Run) (cones : List Cone)
+pub record AreOpenings (s : Split) (vectors : Rows) (run : Run) (cones : List Cone)
     (producers : List (List ℕ)) (starts : List Row) : Type 0 where
   pub range : IsInRange s.circuit
   pub split : IsSplit s

@@ -1,8 +1,8 @@
 use Rattle.std.proofs.Common.{◌≡◌, ◌<◌, ◌∙◌, Bool, false, ap, arith, length, sym}
 use Rattle.std.specs.Prelude.{IsTrue}
-use Rattle.ds_run.specs.Weaver.{RunWithNets}
+use Rattle.ds_run.specs.Openings.{RunWithNets}
 use Rattle.ds_run.proofs.Firsts.{cluster_at, first_start, first_zero, start_inside, start_wide}
-use Rattle.ds_run.proofs.weaver.WeaverCompute.first.Goals as goal
+use Rattle.ds_run.proofs.openings.OpeningsCompute.first.Goals as goal
 
 -- what is false is not true
 not_true : (b : Bool) → b ≡ false → ¬ IsTrue b
