@@ -2,3 +2,4 @@ pub mod Limit
 pub mod Greatest
 pub mod Values
 pub mod Word
+pub mod Lent

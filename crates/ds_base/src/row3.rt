@@ -1,6 +1,8 @@
-ghost use Rattle.std.specs.Prelude.{◌≡◌, ◌*◌, ◌<◌, ◌≤◌, length, replicate, slice_index_or, slice_set, IfOk};
+ghost use Rattle.std.specs.Prelude.{◌≡◌, ◌↔◌, ◌*◌, ◌<◌, ◌≤◌, IsTrue, length, replicate, slice_index_or, slice_set, IfOk};
 ghost use Rattle.ds_base.specs.Word.{number_of_values, word_of, code_of};
-ghost use Rattle.ds_base.specs.Values.{Row};
+ghost use Rattle.std.specs.Borrow.{sem};
+ghost use Rattle.ds_base.specs.Lent.{LendsValues};
+ghost use Rattle.ds_base.specs.Values.{AreKnown, Row};
 ghost use Rattle.ds_base.specs.declared.value.Value.TheVariants.{Zero};
 
 use crate::{OutOfMemory, Value};
@@ -14,6 +16,8 @@ pub struct Row3 {
 }
 
 impl Model for Row3 {
+    ghost use Rattle.ds_base.specs.Values.{Row};
+
     ghost Value = { Row };
 
     ghost view = { λ row. row.values.items };
@@ -49,6 +53,33 @@ impl Row3 {
         ensures { result ≡ slice_index_or self.now i Zero }
     {
         self.values[i]
+    }
+
+    /// Whether each value is known.
+    pub fn all_known(&self) -> bool
+        ensures { IsTrue result ↔ AreKnown self.now }
+    {
+        for value in self.values.as_slice() {
+            if let Value::Unknown = value {
+                return false;
+            }
+        }
+        true
+    }
+
+    /// The values.
+    pub fn values(&self) -> &[Value]
+        ensures { result.now ≡ self.now }
+    {
+        self.values.as_slice()
+    }
+
+    /// The values, to be changed.
+    pub fn values_mut(&mut self) -> &mut [Value]
+        ensures* lends { sem 𝓛 (LendsValues self.entry result) }
+        ensures value { result.now ≡ self.old }
+    {
+        self.values.as_mut_slice()
     }
 
     /// Another value at a place.
@@ -149,7 +180,9 @@ mod tests {
         };
         assert!(rt; zeros.len() == 3 && other.len() == 3);
         assert_eq!(rt; zeros.value(1), Value::Zero);
+        assert!(rt; zeros.all_known());
         zeros.set(1, Value::Unknown);
+        assert!(rt; !zeros.all_known());
         assert_eq!(rt; zeros.word(0), 8);
         zeros.copy_from(&other);
         assert_eq!(rt; zeros.word(0), 6);

@@ -8,12 +8,12 @@ use Rattle.std.proofs.lemmas.List.{take_all, length-map, take-map}
 use Rattle.std.proofs.lemmas.List.FromFn.{length-range_with_len, get_or-range_with_len}
 use Rattle.std.proofs.lemmas.List.Elements.{All-cons, All-head, All-tail}
 use Rattle.std.proofs.lemmas.Nat.{and_le_r}
-use Rattle.ds_base.specs.Values.{Row, either}
+use Rattle.ds_base.specs.Values.{AreKnown, Row, either}
 use Rattle.ds_base.specs.declared.value.Value.{Value}
 use Rattle.ds_base.specs.declared.value.Value.TheVariants.{Zero, One, Unknown}
 use Rattle.ds_cover.specs.Cover.{signed, value_at, values_at}
 use Rattle.ds_cover.specs.Packed.{bits_by, contradicted, doubted, mask_value, masks_value, one_bit, unknown_bit, verdict, words_of, zero_bit}
-use Rattle.ds_cover.specs.Kept.{AreKnown, AreThree, IsQuick, IsSingle, IsTruth, bit_value, place_value, singles_value, six_nets}
+use Rattle.ds_cover.specs.Kept.{AreThree, IsQuick, IsSingle, IsTruth, bit_value, place_value, singles_value, six_nets}
 use Rattle.ds_cover.specs.declared.entry.Quick.{Quick}
 use Rattle.ds_cover.specs.declared.mask.Mask.{Mask}
 use Rattle.ds_cover.specs.declared.word.Word.{Word}
@@ -34,12 +34,12 @@ bit_back Zero known = refl
 bit_back One known = refl
 bit_back Unknown known = absurd (known refl)
 
-either_known : (a b : Value) → Known a → Known b → Known (either a b)
+pub either_known : (a b : Value) → Known a → Known b → Known (either a b)
 either_known Zero b p q = q
 either_known One b p q = one_known
 either_known Unknown b p q = absurd (p refl)
 
-signed_known : (on : Bool) (a : Value) → Known a → Known (signed on a)
+pub signed_known : (on : Bool) (a : Value) → Known a → Known (signed on a)
 signed_known true a p = p
 signed_known false Zero p = one_known
 signed_known false One p = zero_known
@@ -49,7 +49,7 @@ sure_verdict : (c : Bool) → Known (if c then One else Zero)
 sure_verdict true = one_known
 sure_verdict false = zero_known
 
-mask_known : (mask : Mask) (word : Word) → word.unknown ≡ 0 → Known (mask_value mask word)
+pub mask_known : (mask : Mask) (word : Word) → word.unknown ≡ 0 → Known (mask_value mask word)
 mask_known mask word none =
     let sure : doubted mask word ≡ 0 = (let e = ap (bit_and (bit_or mask.needs_one mask.needs_zero)) none in let l = and_le_r (bit_or mask.needs_one mask.needs_zero) 0 in omega arith) in
     subst (λ (n : ℕ). Known (verdict (contradicted mask word) n)) (sym sure) (sure_verdict (contradicted mask word == 0))
@@ -58,7 +58,7 @@ singles_known : (masks : List Mask) (word : Word) → word.unknown ≡ 0 → Kno
 singles_known [] word none = zero_known
 singles_known (mask ∷ masks) word none = either_known (mask_value mask word) (singles_value masks word) (mask_known mask word none) (singles_known masks word none)
 
-no_unknowns : (values : Row) → AreKnown values → bits_by unknown_bit values ≡ 0
+pub no_unknowns : (values : Row) → AreKnown values → bits_by unknown_bit values ≡ 0
 no_unknowns [] known = refl
 no_unknowns (Zero ∷ values) known = (let e = no_unknowns values (All-tail Known Zero values known) in omega arith)
 no_unknowns (One ∷ values) known = (let e = no_unknowns values (All-tail Known One values known) in omega arith)
@@ -166,6 +166,11 @@ quick_is inputs masks on quick some few single small reads truth is = record {
       truth values six known
       ∙ ap (signed on) (sym (singles_are masks values single (omega arith)) ∙ (reads values ∙ ap (λ (r : Row). masks_value r One masks) own));
   three = λ yes. subst AreThree (sym is) (six_three inputs (small yes));
+  nets_are = is;
+  some = some;
+  most = few;
+  single = single;
+  reads = reads;
 }
 
 pub place_few : (masks : List Mask) (on : Bool) (i : ℕ) → 0 < i → i ≤ 64 → bits_by (place_bit masks on) (range_with_len i (64 - i)) < 2 ^ 63

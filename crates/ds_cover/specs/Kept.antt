@@ -1,10 +1,10 @@
 -- How a bank keeps its tables: all inputs in one list, all masks in another, and of each table
 -- where its own ones stand; of a table of few inputs also its values as one word.
-use Rattle.std.specs.Prelude.{◌≡◌, ◌≢◌, ◌⊎◌, ℕ, ◌+◌, ◌<◌, ◌≤◌, ◌==◌, Bool, true, List, [], ◌∷◌, ◌++◌, All, length, map, take, drop, if◌then◌else◌, slice_index, slice_index_or, min, ◌-◌}
+use Rattle.std.specs.Prelude.{◌≡◌, ◌⊎◌, ℕ, ◌+◌, ◌<◌, ◌≤◌, ◌==◌, Bool, true, List, [], ◌∷◌, ◌++◌, All, length, map, take, drop, if◌then◌else◌, slice_index, slice_index_or, min, ◌-◌}
 use Rattle.std.specs.Int.{bit_at}
-use Rattle.ds_base.specs.Values.{Row, either}
+use Rattle.ds_base.specs.Values.{AreKnown, Row, either}
 use Rattle.ds_base.specs.declared.value.Value.{Value}
-use Rattle.ds_base.specs.declared.value.Value.TheVariants.{Zero, One, Unknown}
+use Rattle.ds_base.specs.declared.value.Value.TheVariants.{Zero, One}
 use Rattle.ds_cover.specs.Cover.{Cover, matches, signed, some_match, values_at}
 use Rattle.ds_cover.specs.Packed.{PackedCover, bits_by, mask_value, masks_value, one_bit, packed_value, words_of}
 use Rattle.ds_cover.specs.Bank.{Driven, IsDriven}
@@ -12,10 +12,6 @@ use Rattle.ds_cover.specs.declared.mask.Mask.{Mask}
 use Rattle.ds_cover.specs.declared.word.Word.{Word}
 use Rattle.ds_cover.specs.declared.entry.Quick.{Quick}
 use Rattle.ds_cover.specs.declared.entry.Span.{Span}
-
--- no value is unknown
-abbrev pub AreKnown : Row → Type 0
-AreKnown values = All (λ value. value ≢ Unknown) values
 
 -- the value of a bit
 abbrev pub bit_value : ℕ → Value
@@ -36,6 +32,15 @@ driven_in inputs masks span = record {
 abbrev pub AreThree : List ℕ → Type 0
 AreThree nets = (slice_index nets 3 ≡ slice_index nets 2) × (slice_index nets 4 ≡ slice_index nets 2) × (slice_index nets 5 ≡ slice_index nets 2)
 
+-- a row of one mask
+pub record IsSingle (mask : Mask) : Type 0 where
+  pub starts : mask.first ≡ 0
+  pub ends : mask.last ≡ true
+
+-- the inputs, the last one repeated up to six
+abbrev pub six_nets : List ℕ → List ℕ
+six_nets inputs = map (λ i. slice_index inputs (min (length inputs - 1) i)) (0 ∷ 1 ∷ 2 ∷ 3 ∷ 4 ∷ 5 ∷ [])
+
 -- the six nets are inputs of the table, and where they are known, the word has its value at the bit
 -- that they number
 pub record IsQuick (quick : Quick) (cover : PackedCover) : Type 0 where
@@ -43,6 +48,11 @@ pub record IsQuick (quick : Quick) (cover : PackedCover) : Type 0 where
   pub truth : (nets : Row) → AreKnown (values_at nets quick.nets)
       → bit_value (bit_at quick.truth (bits_by one_bit (values_at nets quick.nets))) ≡ packed_value cover nets
   pub three : quick.at_most_three ≡ true → AreThree quick.nets
+  pub nets_are : quick.nets ≡ six_nets cover.inputs
+  pub some : 0 < length cover.inputs
+  pub most : length cover.inputs ≤ 6
+  pub single : All IsSingle cover.masks
+  pub reads : (values : Row) → masks_value values One cover.masks ≡ masks_value (take (length cover.inputs) values) One cover.masks
 
 -- a table that is kept
 pub record IsKept (inputs : List ℕ) (masks : List Mask) (span : Span) (quick : Quick) : Type 0 where
@@ -56,11 +66,6 @@ pub record IsKept (inputs : List ℕ) (masks : List Mask) (span : Span) (quick :
 pub record AreKept (inputs : List ℕ) (masks : List Mask) (spans : List Span) (quicks : List Quick) : Type 0 where
   pub one_each : length quicks ≡ length spans
   pub kept : (k : ℕ) (d : Span) (e : Quick) → k < length spans → IsKept inputs masks (slice_index_or spans k d) (slice_index_or quicks k e)
-
--- a row of one mask
-pub record IsSingle (mask : Mask) : Type 0 where
-  pub starts : mask.first ≡ 0
-  pub ends : mask.last ≡ true
 
 -- masks of rows of this many characters
 abbrev pub AreFit : ℕ → List Mask → Type 0
@@ -100,10 +105,6 @@ pub record IsAdded (inputs : List ℕ) (masks : List Mask) (cover : Cover) (outp
   pub masks_are : masks' ≡ masks ++ more_masks
   pub kept : IsKept inputs' masks' span quick
   pub stands : IsDriven (driven_in inputs' masks' span) cover output
-
--- the inputs, the last one repeated up to six
-abbrev pub six_nets : List ℕ → List ℕ
-six_nets inputs = map (λ i. slice_index inputs (min (length inputs - 1) i)) (0 ∷ 1 ∷ 2 ∷ 3 ∷ 4 ∷ 5 ∷ [])
 
 -- the value of a table of single masks where the ones of six known values are the bits of a number
 abbrev pub place_value : List Mask → Bool → ℕ → Value

@@ -1,6 +1,6 @@
 //! All tables of a design, packed.
-ghost use Rattle.std.specs.Prelude.{◌≡◌, ◌<◌, [], length, All, IfOk};
-ghost use Rattle.ds_cover.specs.Kept.{IsAdded};
+ghost use Rattle.std.specs.Prelude.{◌≡◌, ◌+◌, ◌<◌, ◌≤◌, [], true, length, drop, take, All, IfOk};
+ghost use Rattle.ds_cover.specs.Kept.{IsAdded, IsQuick};
 ghost use Rattle.ds_cover.specs.Packed.{packed_value};
 ghost use Rattle.ds_cover.specs.Bank.{IsMore, IsWithin, after_table, after_tables, driven_at};
 
@@ -104,6 +104,39 @@ impl Bank {
         )
     }
 
+    // A table of few inputs as one word.
+    pub(crate) fn quick(&self, table: usize) -> &Quick
+        requires { table < length self.now }
+        ensures drives { result.now.output ≡ (driven_at self.now table).output }
+        ensures quick { result.now.few ≡ true → IsQuick result.now (driven_at self.now table).cover }
+    {
+        &self.quicks[table]
+    }
+
+    // The masks of the rows of a table.
+    pub(crate) fn masks(&self, table: usize) -> &[Mask]
+        requires { table < length self.now }
+        ensures { result.now ≡ (driven_at self.now table).cover.masks }
+    {
+        masks_of(self.masks.as_slice(), &self.spans[table])
+    }
+
+    // The inputs of a table.
+    pub(crate) fn inputs(&self, table: usize) -> &[NetId]
+        requires { table < length self.now }
+        ensures { result.now ≡ (driven_at self.now table).cover.inputs }
+    {
+        inputs_of(self.inputs.as_slice(), &self.spans[table])
+    }
+
+    // Whether the rows of a table list where its output is 1.
+    pub(crate) fn is_on(&self, table: usize) -> bool
+        requires { table < length self.now }
+        ensures { result ≡ (driven_at self.now table).cover.on }
+    {
+        self.spans[table].on
+    }
+
     /// Gives the net that a table drives the value of the table.
     pub fn set(&self, table: usize, nets: &mut Row3)
         requires place { table < length self.now }
@@ -124,6 +157,22 @@ impl Bank {
             self.set(*k as usize, nets);
         }
     }
+}
+
+// The inputs of a table that stands there.
+fn inputs_of<'a>(inputs: &'a [NetId], span: &Span) -> &'a [NetId]
+    requires { span.now.first_input + span.now.inputs ≤ length inputs.now }
+    ensures { result.now ≡ take span.now.inputs (drop span.now.first_input inputs.now) }
+{
+    &inputs[span.first_input..span.first_input + span.inputs]
+}
+
+// The masks of a table that stands there.
+fn masks_of<'a>(masks: &'a [Mask], span: &Span) -> &'a [Mask]
+    requires { span.now.first_mask + span.now.masks ≤ length masks.now }
+    ensures { result.now ≡ take span.now.masks (drop span.now.first_mask masks.now) }
+{
+    &masks[span.first_mask..span.first_mask + span.masks]
 }
 
 // Adds the inputs and the masks of a table, and says where they stand.

@@ -2,7 +2,8 @@
 ghost use Rattle.std.specs.Prelude.{◌≡◌, ◌<◌, ◌≤◌, true, All, IfSome, drop, length, take};
 ghost use Rattle.ds_base.specs.Word.{code_of};
 ghost use Rattle.ds_cover.specs.Cover.{values_at};
-ghost use Rattle.ds_cover.specs.Kept.{AreKnown, AreThree, IsKept, bit_value, driven_in, quick_bit};
+ghost use Rattle.ds_cover.specs.Kept.{AreThree, IsKept, bit_value, driven_in, quick_bit};
+ghost use Rattle.ds_base.specs.Values.{AreKnown};
 ghost use Rattle.ds_cover.specs.Packed.{mask_value, masks_value, packed_value, words_of};
 ghost use Rattle.ds_base.specs.declared.value.Value.TheVariants.{One};
 
@@ -86,14 +87,14 @@ fn six_value(quick: &Quick, nets: &Row3) -> Option<Value>
 }
 
 // 0 is zero, and another bit one.
-fn value_of_bit(bit: u64) -> Value
+pub(crate) fn value_of_bit(bit: u64) -> Value
     ensures { result ≡ bit_value bit }
 {
     if bit == 0 { Value::Zero } else { Value::One }
 }
 
 // The number of a value: 2 where it is not known.
-fn code(value: Value) -> u64
+pub(crate) fn code(value: Value) -> u64
     ensures code { result ≡ code_of value }
     ensures few { result ≤ 2 }
 {

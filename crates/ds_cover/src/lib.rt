@@ -8,7 +8,9 @@
 //! `Packed` is the same function of the nets, its rows as words of bits: `Packed::value` reads up to
 //! 64 inputs at once, and a table of up to six inputs that are all known has its value in one word.
 //! A `Bank` keeps many of them by their numbers, with the nets that they drive; `set` and `set_all`
-//! give these nets their values.
+//! give these nets their values. A `Series` keeps a bank and the order in which its tables are set,
+//! those of up to four inputs in lists by kind: `set_all` reads words that are exact for unknown
+//! values too, `set_all_known`, where each table finds its inputs known, shorter ones.
 //!
 //! `laws` has what follows from that meaning alone. That the characters of a row are `0`, `1` or `-`
 //! is not asked: another one matches no known value.
@@ -18,8 +20,12 @@ mod bank;
 mod entry;
 mod entry_value;
 pub mod laws;
+mod lists;
 mod mask;
 mod packed;
+mod run;
+mod series;
+mod small;
 mod table;
 #[cfg(test)]
 mod tests;
@@ -28,4 +34,5 @@ mod word;
 
 pub use bank::Bank;
 pub use packed::Packed;
+pub use series::Series;
 pub use table::Table;

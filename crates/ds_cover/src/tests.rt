@@ -1,4 +1,4 @@
-use crate::{Bank, Packed, Table};
+use crate::{Bank, Packed, Series, Table};
 use ds_base::{NetId, OutOfMemory, Row3, Seq, Value};
 use std::alloc::Global;
 
@@ -182,5 +182,41 @@ fn a_bank_sets_what_its_table_drives(rt: HostRuntime) {
             panic!(rt; "memory");
         };
         assert_eq!(rt; got, Some((want, want)), "{width} {rows} {on} {text}");
+    }
+}
+
+// What stands at the last net once a series of this table alone, which drives it, has set it.
+fn set_series(alloc: Global, table: &Table, nets: &mut Row3) -> Result<Option<Value>, OutOfMemory> {
+    let count = nets.len();
+    if count == 0 || count > 4096 {
+        return Ok(None);
+    }
+    let bank = Bank::new(alloc).with(table, NetId::new(count as u32 - 1))?;
+    let mut order = Vec::new(alloc);
+    order.push(0)?;
+    let series = Series::of(alloc, bank, order)?;
+    if table.inputs().iter().all(|net| net.index() < count) {
+        series.set_all(nets);
+        Ok(Some(nets.value(count - 1)))
+    } else {
+        Ok(None)
+    }
+}
+
+// The table drives a net behind its inputs.
+#[test]
+fn a_series_sets_what_its_table_drives(rt: HostRuntime) {
+    for (width, rows, on, text, want) in CASES {
+        let alloc = rt.alloc();
+        let (Ok(Some(table)), Ok(mut row)) = (
+            table(alloc, width, rows, on),
+            nets_and_one(alloc, text, width as usize),
+        ) else {
+            panic!(rt; "memory");
+        };
+        let Ok(got) = set_series(alloc, &table, &mut row) else {
+            panic!(rt; "memory");
+        };
+        assert_eq!(rt; got, Some(want), "{width} {rows} {on} {text}");
     }
 }

@@ -10,18 +10,17 @@ ghost use Rattle.ds_design.specs.Levels.{AreLevels, IsDepth, IsTableOrder, net_c
 
 use crate::{Design, Register};
 use ds_base::{NetId, Seq};
-use ds_cover::Bank;
+use ds_cover::{Bank, Series};
 use std::marker::Model;
 
-/// A design that is accepted, with its columns, the level of each net, its tables by level, and its
-/// tables packed.
+/// A design that is accepted, with its columns, the level of each net, and its tables packed, by
+/// level.
 /// Contracts see the design.
 pub struct Netlist {
     design: Design,
     column_nets: Seq<NetId>,
     net_levels: Seq<u64>,
-    order: Seq<u32>,
-    bank: Bank,
+    series: Series,
 }
 
 impl Drop for Netlist {
@@ -30,8 +29,7 @@ impl Drop for Netlist {
             design: _,
             column_nets: _,
             net_levels: _,
-            order: _,
-            bank: _,
+            series: _,
         } = self;
     }
 }
@@ -50,32 +48,25 @@ impl Model for Netlist {
 
     ghost invariant = { λ n. IsInRange n.design × IsAccepted n.design
         × (n.column_nets ≡ columns n.design) × AreLevels n.design n.net_levels
-        × IsTableOrder n.design n.order × IsBankOf n.design.tables n.bank };
+        × IsTableOrder n.design n.series.order × IsBankOf n.design.tables n.series.tables };
 }
 
 impl Netlist {
     /// Of a design that is accepted.
-    pub fn of(
-        design: Design,
-        column_nets: Seq<NetId>,
-        net_levels: Seq<u64>,
-        order: Seq<u32>,
-        bank: Bank,
-    ) -> Self
+    pub fn of(design: Design, column_nets: Seq<NetId>, net_levels: Seq<u64>, series: Series) -> Self
         requires in_range { IsInRange design }
         requires accepted { IsAccepted design }
         requires columns { column_nets ≡ columns design }
         requires levels { AreLevels design net_levels }
-        requires order { IsTableOrder design order }
-        requires bank { IsBankOf design.tables bank }
+        requires order { IsTableOrder design series.order }
+        requires bank { IsBankOf design.tables series.tables }
         ensures value { result ≡ design }
     {
         Netlist {
             design,
             column_nets,
             net_levels,
-            order,
-            bank,
+            series,
         }
     }
 
@@ -100,14 +91,22 @@ impl Netlist {
     pub fn order(&self) -> &[u32]
         ensures { IsTableOrder self.now result.now }
     {
-        self.order.as_slice()
+        self.series.order()
     }
 
     /// The tables packed, by their places in the file.
     pub fn bank(&self) -> &Bank
         ensures { IsBankOf self.now.tables result.now }
     {
-        &self.bank
+        self.series.bank()
+    }
+
+    /// The tables packed, in the order in which they are set.
+    pub fn series(&self) -> &Series
+        ensures order { IsTableOrder self.now result.now.order }
+        ensures bank { IsBankOf self.now.tables result.now.tables }
+    {
+        &self.series
     }
 
     /// The level of each net: 0 where no table drives it, else one more than the greatest level

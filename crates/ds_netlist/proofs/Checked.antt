@@ -1,10 +1,10 @@
 -- Each check finds nothing exactly where a circuit is as an accepted one, and a fault of it names
 -- what is there.
-use Rattle.std.proofs.Common.{◌≡◌, ◌≢◌, ◌⊎◌, ◌∙◌, ℕ, zero, suc, ◌+◌, ◌<◌, ◌≤◌, Bool, true, false, List, [], ◌∷◌, ◌++◌, length, get_or, map, refl, subst, sym, ap, arith, inl, inr, not, Some, None, ◌==◌, ◌&&◌}
+use Rattle.std.proofs.Common.{◌≡◌, ◌≢◌, ◌⊎◌, ◌∙◌, ℕ, suc, ◌<◌, Bool, true, false, List, [], ◌∷◌, ◌++◌, length, get_or, map, refl, subst, sym, ap, arith, inl, inr, not, Some, None, ◌==◌, ◌&&◌}
 use Rattle.std.specs.Prelude.{All, AllPairs, Any, Contains, Option}
 use Rattle.std.specs.List.{find, flat_map, list_any, position, range_with_len}
 use Rattle.std.specs.Option.{option_map}
-use Rattle.std.proofs.lemmas.Bool.{cases_eq, cases_lt, eq-eqb}
+use Rattle.std.proofs.lemmas.Bool.{cases_lt, eq-eqb}
 use Rattle.std.proofs.lemmas.Bool.Decides.{eqb_tells}
 use Rattle.std.proofs.lemmas.List.{get_or_default, map-append, map-id}
 use Rattle.std.proofs.lemmas.Simd.{map-map}
@@ -14,14 +14,13 @@ use Rattle.std.proofs.lemmas.List.Quantifiers.{position-Some}
 use Rattle.ds_base.proofs.Lists.{Any-from_map, cases_Contains, Contains-head, Contains-tail, Contains-split}
 use Rattle.ds_design.specs.Circuit.{Circuit, columns, control_nets, data_nets, register_nets, drivers, used}
 use Rattle.ds_design.specs.InRange.{IsInRange}
-use Rattle.ds_design.specs.Accepted.{IsAccepted}
 use Rattle.ds_design.specs.Levels.{table_nets}
 use Rattle.ds_design.specs.declared.design.Edge.{Edge}
 use Rattle.ds_design.specs.declared.design.Edge.TheVariants.{Rising, Falling}
 use Rattle.ds_design.specs.declared.design.Gate.{Gate}
 use Rattle.ds_design.specs.declared.design.Register.{Register}
 use Rattle.ds_design.proofs.Controlled.{among_yes, among_no, control_in}
-use Rattle.ds_netlist.specs.Drivers.{all_drivers, drivers_in, drivers_of}
+use Rattle.ds_netlist.specs.Drivers.{all_drivers, drivers_of}
 use Rattle.ds_netlist.specs.Fault.{is_in, several_clocks, is_rising, is_falling, both_edges, mixed_edges, driven_clock, clock_as_data, twice_driven, multiply_driven, undriven}
 use Rattle.ds_netlist.specs.Steps.{times}
 use Rattle.ds_netlist.specs.Named.{IsNamed}
@@ -30,7 +29,7 @@ use Rattle.ds_netlist.specs.declared.fault.Driver.TheVariants.{Input, Table, Lat
 use Rattle.ds_netlist.specs.declared.fault.NetFault.{NetFault}
 use Rattle.ds_netlist.specs.declared.fault.NetFault.TheVariants.{SeveralClocks, MixedEdges, DrivenClock, ClockAsData, MultiplyDriven, Undriven, CombinationalCycle, Memory}
 use Rattle.ds_netlist.proofs.Firsts.{cases_Bool, map_none, map_some, find_none, none_found, find_some, fails_in, none_in, some_in, first_none, none_first, some_first, position_none}
-use Rattle.ds_netlist.proofs.Counted.{present, absent, counted_in, once_differ, differ_once, length_drivers}
+use Rattle.ds_netlist.proofs.Counted.{absent, once_differ, differ_once, length_drivers}
 
 -- a fault that a check finds: not a cycle, and not want of memory
 abbrev pub IsPlain : NetFault → Type 0

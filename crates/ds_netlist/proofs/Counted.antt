@@ -1,14 +1,13 @@
 -- How often a net stands in a list.
-use Rattle.std.proofs.Common.{◌≡◌, ◌≢◌, ◌⊎◌, ◌∙◌, ℕ, zero, suc, ◌+◌, ◌<◌, ◌≤◌, List, [], ◌∷◌, length, get_or, refl, sym, ap, arith, inl, inr, ◌==◌, cond, map, take, length-take, length-set, get_or-set_same, get_or-set_other}
-use Rattle.std.specs.Prelude.{All, AllPairs, Contains, count_by}
-use Rattle.std.specs.List.{filter}
+use Rattle.std.proofs.Common.{◌≡◌, ◌≢◌, ◌∙◌, ℕ, suc, ◌+◌, ◌<◌, ◌≤◌, List, [], ◌∷◌, length, get_or, refl, sym, ap, arith, inl, inr, ◌==◌, cond, map, take, length-take, length-set, get_or-set_same, get_or-set_other}
+use Rattle.std.specs.Prelude.{All, AllPairs, Contains}
 use Rattle.std.proofs.lemmas.Bool.{cases_eq}
 use Rattle.std.proofs.lemmas.Bool.Decides.{eqb_tells}
 use Rattle.std.proofs.lemmas.List.Kept.{AllPairs-cons}
 use Rattle.std.proofs.lemmas.List.Sums.{count_by-le-length, sum_by-append, sum_by-cons}
 use Rattle.std.proofs.lemmas.List.{get_or_default, take_more}
 use Rattle.std.proofs.Math.ListN.{set}
-use Rattle.ds_base.proofs.Lists.{cases_Contains, Contains-head, Contains-tail, Contains-split}
+use Rattle.ds_base.proofs.Lists.{cases_Contains, Contains-tail, Contains-split}
 use Rattle.ds_netlist.specs.Steps.{AreTimes, times}
 use Rattle.ds_netlist.specs.Drivers.{drivers_in}
 use Rattle.ds_netlist.specs.declared.fault.Driver.{Driver}

@@ -1,6 +1,6 @@
 -- The edges of the tables lead from their inputs to their outputs.
-use Rattle.std.proofs.Common.{◌≡◌, ◌≢◌, ◌⊎◌, ◌∙◌, ◌<◌, ◌≤◌, ◌+◌, ℕ, List, [], ◌∷◌, ◌++◌, length, arith, refl, zero, suc, sym, subst, inl, inr, map}
-use Rattle.std.specs.List.{All, Any, Contains}
+use Rattle.std.proofs.Common.{◌≡◌, ◌⊎◌, ◌<◌, ℕ, List, [], ◌∷◌, ◌++◌, arith, refl, zero, suc, sym, subst, inl, inr}
+use Rattle.std.specs.List.{All, Contains}
 use Rattle.std.proofs.lemmas.List.Elements.{All-contains}
 use Rattle.ds_design.specs.declared.design.Gate.{Gate}
 use Rattle.ds_order.specs.declared.edge.Edge.{Edge}

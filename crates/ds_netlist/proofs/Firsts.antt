@@ -1,5 +1,5 @@
 -- The first of some, and the first number of a range that passes a test.
-use Rattle.std.proofs.Common.{◌≡◌, ◌≢◌, ◌⊎◌, ◌∙◌, ℕ, zero, suc, ◌+◌, ◌<◌, ◌≤◌, Bool, true, false, List, [], ◌∷◌, length, get_or, map, refl, sym, ap, arith, inl, inr, Some, None}
+use Rattle.std.proofs.Common.{◌≡◌, ◌⊎◌, ℕ, zero, suc, ◌+◌, ◌<◌, ◌≤◌, Bool, true, false, List, [], ◌∷◌, length, map, refl, arith, inl, inr, Some, None}
 use Rattle.std.specs.Prelude.{All, Contains, Option}
 use Rattle.std.specs.List.{find, position, position_or_len, range_with_len}
 use Rattle.std.specs.Option.{option_map, option_or}

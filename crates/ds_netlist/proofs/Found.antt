@@ -1,11 +1,11 @@
 -- What the counts and lists tell of the faults.
-use Rattle.std.proofs.Common.{◌≡◌, ◌≢◌, ◌⊎◌, ◌∙◌, ℕ, zero, suc, ◌+◌, ◌^◌, ◌<◌, ◌≤◌, Bool, true, false, List, [], ◌∷◌, ◌++◌, length, get_or, map, refl, sym, ap, arith, inl, inr, subst, append_assoc, not, ◌&&◌, ◌==◌, ◌||◌, Some, None, if◌then◌else◌, eq-eqb}
-use Rattle.std.specs.Prelude.{All, AllPairs, Contains, Option}
-use Rattle.std.specs.List.{filter, find, range_with_len}
+use Rattle.std.proofs.Common.{◌≡◌, ◌∙◌, ℕ, suc, ◌<◌, ◌≤◌, Bool, true, false, List, [], ◌∷◌, ◌++◌, length, get_or, refl, sym, ap, arith, inl, inr, append_assoc, not, ◌&&◌, Some, None}
+use Rattle.std.specs.Prelude.{All, Contains, Option}
+use Rattle.std.specs.List.{filter, find}
 use Rattle.std.specs.Option.{option_map, option_or}
 use Rattle.std.proofs.lemmas.Bool.Decides.{eqb_tells}
 use Rattle.std.proofs.lemmas.List.{get_or_default}
-use Rattle.ds_base.proofs.Lists.{Contains-head, Contains-tail, Contains-split}
+use Rattle.ds_base.proofs.Lists.{Contains-head, Contains-tail}
 use Rattle.ds_design.specs.Circuit.{Circuit, columns, control_nets, register_nets, drivers, used}
 use Rattle.ds_design.specs.InRange.{IsInRange}
 use Rattle.ds_design.specs.Levels.{table_nets}

@@ -1,24 +1,22 @@
 -- Where no net is driven twice, the ranks of the nets are their levels; and a circuit without a fault
 -- and with ranks is accepted.
-use Rattle.std.proofs.Common.{◌≡◌, ◌≢◌, ◌⊎◌, ◌∙◌, ℕ, zero, suc, ◌+◌, ◌-◌, ◌<◌, ◌≤◌, true, false, List, [], ◌∷◌, ◌++◌, length, get_or, map, refl, sym, ap, arith, inl, inr, subst, ◌==◌, ◌||◌, if◌then◌else◌, Some, None}
+use Rattle.std.proofs.Common.{◌≡◌, ◌≢◌, ◌∙◌, ℕ, suc, ◌+◌, ◌-◌, ◌<◌, ◌≤◌, true, false, List, [], ◌∷◌, ◌++◌, length, get_or, map, refl, sym, ap, arith, inl, inr, subst, ◌==◌, ◌||◌, if◌then◌else◌, None}
 use Rattle.std.specs.Prelude.{All, AllPairs, Contains}
 use Rattle.std.specs.List.{list_any}
 use Rattle.std.proofs.lemmas.Bool.{cases_lt}
 use Rattle.std.proofs.lemmas.List.{get_or_default, get_or-map, get_or_past, length-map}
-use Rattle.std.proofs.lemmas.List.Elements.{All-head, All-tail}
 use Rattle.ds_base.specs.Greatest.{greatest}
 use Rattle.ds_base.proofs.Lists.{Contains-split}
 use Rattle.ds_base.proofs.Pairs.{pairs-left, pairs-right}
 use Rattle.ds_design.specs.Circuit.{Circuit, columns, control_nets, register_nets, drivers, used}
 use Rattle.ds_design.specs.InRange.{IsInRange}
 use Rattle.ds_design.specs.Accepted.{IsAccepted}
-use Rattle.ds_design.specs.Levels.{AreLevels, IsTableOrder, level_of_table, table_nets}
-use Rattle.ds_design.specs.Reach.{Feeds}
+use Rattle.ds_design.specs.Levels.{AreLevels, IsTableOrder, table_nets}
 use Rattle.ds_design.specs.declared.design.Gate.{Gate}
 use Rattle.ds_design.proofs.Controlled.{among_yes, among_no}
 use Rattle.ds_netlist.specs.Edges.{AreNetRanks, floor_in}
 use Rattle.ds_netlist.specs.Fault.{fault_of, is_in, several_clocks, mixed_edges, driven_clock, clock_as_data, multiply_driven, undriven}
-use Rattle.ds_cover.specs.Bank.{Driven}
+use Rattle.ds_cover.specs.Series.{Ordered}
 use Rattle.ds_design.specs.Banked.{IsBankOf}
 use Rattle.ds_netlist.specs.Verdict.{AreParts}
 use Rattle.ds_netlist.specs.Placed.{IsSortedOrder, level_in}
@@ -166,11 +164,15 @@ accepts c in_range none levels h =
           omega arith);
     }
 
+-- the places of an order are those of tables
+pub places_of : (tables : List Gate) (levels order : List ℕ) → IsSortedOrder tables levels order → (gates : List Gate) → gates ≡ tables → All (λ k. k < length gates) order
+places_of tables levels order sorted gates same = subst (λ (ts : List Gate). All (λ k. k < length ts) order) (sym same) (places_lem tables levels order sorted)
+
 -- the parts of the netlist
 pub are_parts : (c : Circuit) → IsInRange c → fault_of c ≡ None → (cols levels order : List ℕ) → cols ≡ columns c → AreNetRanks c levels
     → (tables : List Gate) (lent : List ℕ) → tables ≡ c.tables → lent ≡ levels → IsSortedOrder tables lent order
-    → (gates : List Gate) (bank : List Driven) → gates ≡ c.tables → IsBankOf gates bank → AreParts c cols levels order bank
-are_parts c in_range none cols levels order e h tables lent a b sorted gates bank here banked =
+    → (gates : List Gate) (series : Ordered) → gates ≡ c.tables → series.order ≡ order → IsBankOf gates series.tables → AreParts c cols levels series.order series.tables
+are_parts c in_range none cols levels order e h tables lent a b sorted gates series here kept banked =
     let accepted = accepts c in_range none levels h in
     let own = subst (λ (ts : List Gate). IsSortedOrder ts levels order) a (subst (λ (ls : List ℕ). IsSortedOrder tables ls order) b sorted) in
     record {
@@ -178,6 +180,6 @@ are_parts c in_range none cols levels order e h tables lent a b sorted gates ban
       accepted = accepted;
       columns_are = e;
       are_levels = are_levels c in_range accepted.one_driver levels h;
-      is_order = is_table_order c in_range accepted.one_driver levels h order own;
-      is_bank = subst (λ (ts : List Gate). IsBankOf ts bank) here banked;
+      is_order = subst (λ (o : List ℕ). IsTableOrder c o) (sym kept) (is_table_order c in_range accepted.one_driver levels h order own);
+      is_bank = subst (λ (ts : List Gate). IsBankOf ts series.tables) here banked;
     }

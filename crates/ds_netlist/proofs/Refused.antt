@@ -1,23 +1,20 @@
 -- A circuit with a fault is not accepted, and has no other.
-use Rattle.std.proofs.Common.{◌≡◌, ◌≢◌, ◌⊎◌, ◌∙◌, ℕ, zero, suc, ◌<◌, ◌≤◌, List, [], ◌∷◌, length, get_or, refl, sym, ap, arith, inl, inr, subst, Some, None, Ok, Err}
+use Rattle.std.proofs.Common.{◌≡◌, ◌≢◌, ◌⊎◌, ◌∙◌, ℕ, ◌<◌, List, [], ◌∷◌, length, get_or, refl, ap, arith, inl, inr, Some, None, Ok, Err}
 use Rattle.std.specs.Prelude.{All, IsErrAnd, MatchResult, Result}
 use Rattle.std.specs.Option.{option_or}
 use Rattle.std.proofs.lemmas.List.Elements.{All-cons, All-contains}
 use Rattle.ds_order.specs.Order.{IsCycle, IsWalk}
-use Rattle.ds_design.specs.Circuit.{Circuit, control_nets, register_nets, drivers, used}
+use Rattle.ds_design.specs.Circuit.{Circuit, control_nets, used}
 use Rattle.ds_design.specs.InRange.{IsInRange}
 use Rattle.ds_design.specs.Accepted.{IsAccepted}
-use Rattle.ds_design.specs.Levels.{table_nets}
 use Rattle.ds_design.specs.Reach.{Feeds}
-use Rattle.ds_design.specs.declared.design.Gate.{Gate}
 use Rattle.ds_netlist.specs.Fault.{IsNetFault, fault_of, several_clocks, mixed_edges, driven_clock, clock_as_data, multiply_driven, undriven}
-use Rattle.ds_netlist.specs.Laws.{FaultsAreInRange, FaultsAreRefused, OneFault, ShowsCycle}
+use Rattle.ds_netlist.specs.Laws.{FaultsAreInRange, FaultsAreRefused, OneFault}
 use Rattle.ds_netlist.specs.Edges.{IsCycleOnly}
 use Rattle.ds_netlist.specs.Verdict.{IsRefusal}
-use Rattle.ds_netlist.specs.Named.{IsNamed}
 use Rattle.ds_netlist.specs.declared.fault.NetFault.{NetFault}
 use Rattle.ds_netlist.specs.declared.fault.NetFault.TheVariants.{SeveralClocks, MixedEdges, DrivenClock, ClockAsData, MultiplyDriven, Undriven, CombinationalCycle, Memory}
-use Rattle.ds_netlist.proofs.Firsts.{or_none, or_some}
+use Rattle.ds_netlist.proofs.Firsts.{or_some}
 use Rattle.ds_netlist.proofs.Checked.{IsFound, IsPlain, apart_clock, clocks_found, data_found, driven_found, edges_found, multiply_found, no_mixed, no_multiply, no_other, no_undriven, undriven_found}
 
 -- an accepted circuit shows nothing

@@ -1,5 +1,5 @@
 -- Tables with the level of what they drive.
-use Rattle.std.specs.Prelude.{◌≡◌, ℕ, List, ◌<◌, length, map, slice_index}
+use Rattle.std.specs.Prelude.{◌≡◌, ℕ, List, length, map, slice_index}
 use Rattle.std.specs.List.{range_with_len}
 use Rattle.std.specs.List.Sorted.{IsNonDecreasingBy, IsPermutation}
 use Rattle.ds_design.specs.declared.design.Gate.{Gate}

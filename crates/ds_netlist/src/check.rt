@@ -10,9 +10,9 @@ use crate::faults::later_fault;
 use crate::levels::level_nets;
 use crate::lists::{column_nets, control_names};
 use crate::order::by_level;
-use crate::packed::bank_of;
+use crate::packed::series_of;
 use ds_base::{NetId, Seq};
-use ds_cover::Bank;
+use ds_cover::Series;
 use ds_design::{Design, Netlist};
 use std::alloc::Global;
 
@@ -30,8 +30,7 @@ pub fn levelise(alloc: Global, design: Design) -> Result<Netlist, (Design, NetFa
             design,
             Seq::of(parts.columns),
             Seq::of(parts.levels),
-            Seq::of(parts.order),
-            parts.bank,
+            parts.series,
         )),
         Err(fault) => Err((design, fault)),
     }
@@ -42,14 +41,13 @@ pub fn levelise(alloc: Global, design: Design) -> Result<Netlist, (Design, NetFa
 struct Parts {
     columns: Vec<NetId>,
     levels: Vec<u64>,
-    order: Vec<u32>,
-    bank: Bank,
+    series: Series,
 }
 
 // The parts of the netlist, or the fault.
 fn check(alloc: Global, design: &Design) -> Result<Parts, NetFault>
     ensures checked { MatchResult result
-        (λ p. AreParts design.now p.columns.items p.levels.items p.order.items p.bank)
+        (λ p. AreParts design.now p.columns.items p.levels.items p.series.order p.series.tables)
         (λ fault. IsRefusal design.now fault) }
 {
     let inputs = design.inputs();
@@ -63,11 +61,10 @@ fn check(alloc: Global, design: &Design) -> Result<Parts, NetFault>
     }
     let levels = level_nets(alloc, design)?;
     let order = by_level(alloc, design.tables(), levels.as_slice())?;
-    let bank = bank_of(alloc, design.tables())?;
+    let series = series_of(alloc, design.tables(), order)?;
     Ok(Parts {
         columns,
         levels,
-        order,
-        bank,
+        series,
     })
 }

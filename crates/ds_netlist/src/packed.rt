@@ -1,14 +1,28 @@
 //! The tables packed.
-ghost use Rattle.std.specs.Prelude.{IfOk};
+ghost use Rattle.std.specs.Prelude.{◌≡◌, ◌<◌, length, All, IfOk};
 ghost use Rattle.ds_design.specs.Banked.{IsBankOf};
 
 use ds_base::OutOfMemory;
-use ds_cover::Bank;
+use ds_cover::{Bank, Series};
 use ds_design::Gate;
 use std::alloc::Global;
 
+// The tables packed, in this order.
+pub(crate) fn series_of(
+    alloc: Global,
+    tables: &[Gate],
+    order: Vec<u32>,
+) -> Result<Series, OutOfMemory>
+    requires { All (λ k. k < length tables.now) order.items }
+    ensures order { IfOk result (λ series. series.order ≡ order.items) }
+    ensures bank { IfOk result (λ series. IsBankOf tables.now series.tables) }
+{
+    let bank = bank_of(alloc, tables)?;
+    Series::of(alloc, bank, order)
+}
+
 // The tables packed, by their places.
-pub(crate) fn bank_of(alloc: Global, tables: &[Gate]) -> Result<Bank, OutOfMemory>
+fn bank_of(alloc: Global, tables: &[Gate]) -> Result<Bank, OutOfMemory>
     ensures ok { IfOk result (λ bank. IsBankOf tables.now bank) }
 {
     let mut bank = Bank::new(alloc);

@@ -1,4 +1,5 @@
-ghost use Rattle.std.specs.Prelude.{◌≡◌, ◌≢◌, ◌<◌, ℕ, [], length, map, All, AllPairs};
+ghost use Rattle.std.specs.Prelude.{◌≡◌, ◌≢◌, ◌↔◌, ◌<◌, ℕ, IsTrue, [], length, map, All, AllPairs};
+ghost use Rattle.ds_base.specs.Values.{AreKnown};
 ghost use Rattle.ds_cover.specs.Cover.{value_at, values_at};
 ghost use Rattle.ds_design.specs.Circuit.{columns, register_nets, drivers};
 ghost use Rattle.ds_design.specs.Valuation.{IsValuation};
@@ -18,10 +19,20 @@ pub fn settle(netlist: &Netlist, state: &Row3, vector: &Row3, nets: &mut Row3)
     ensures { IsValuation netlist.now state.now vector.now nets.new }
 {
     set_sources(netlist, state, vector, nets);
-    let bank = netlist.bank();
-    let order = netlist.order();
+    let series = netlist.series();
     let _design = netlist.design();
-    bank.set_all(order, nets);
+    if are_known(state, vector) {
+        series.set_all_known(nets);
+    } else {
+        series.set_all(nets);
+    }
+}
+
+// Whether no value of both is unknown.
+fn are_known(state: &Row3, vector: &Row3) -> bool
+    ensures { IsTrue result ↔ AreKnown state.now × AreKnown vector.now }
+{
+    state.all_known() && vector.all_known()
 }
 
 // Sets the columns and the registers, and all other nets to 0.
@@ -29,7 +40,8 @@ fn set_sources(netlist: &Netlist, state: &Row3, vector: &Row3, nets: &mut Row3)
     requires state { length state.now ≡ length netlist.now.registers }
     requires vector { length vector.now ≡ length (columns netlist.now) }
     requires nets { length nets.old ≡ length netlist.now.nets }
-    ensures { IsSettledTo netlist.now state.now vector.now nets.new [] 0 }
+    ensures sources { IsSettledTo netlist.now state.now vector.now nets.new [] 0 }
+    ensures known { AreKnown state.now → AreKnown vector.now → AreKnown nets.new }
 {
     let registers = netlist.design().registers();
     clear(nets);
@@ -55,6 +67,7 @@ fn set_bits(nets: &mut Row3, these: &[NetId], bits: &Row3)
     ensures same { length nets.new ≡ length nets.old }
     ensures set { values_at nets.new these.now ≡ bits.now }
     ensures others { LeavesOthers these.now nets.old nets.new }
+    ensures known { AreKnown bits.now → AreKnown nets.old → AreKnown nets.new }
 {
     for (i, net) in these.iter().enumerate() {
         nets.set(net.index(), bits.value(i));
@@ -69,6 +82,7 @@ fn set_registers(nets: &mut Row3, registers: &[Register], bits: &Row3)
     ensures same { length nets.new ≡ length nets.old }
     ensures set { values_at nets.new (map (λ r. r.output) registers.now) ≡ bits.now }
     ensures others { LeavesOthers (map (λ r. r.output) registers.now) nets.old nets.new }
+    ensures known { AreKnown bits.now → AreKnown nets.old → AreKnown nets.new }
 {
     for (i, register) in registers.iter().enumerate() {
         nets.set(register.output.index(), bits.value(i));

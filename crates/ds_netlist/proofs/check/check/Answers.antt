@@ -2,7 +2,7 @@ use Rattle.std.proofs.Common.{◌∙◌, None, Some, subst, sym}
 use Rattle.ds_netlist.specs.Verdict.{IsRefusal}
 use Rattle.ds_netlist.specs.declared.fault.NetFault.{NetFault}
 use Rattle.ds_netlist.proofs.Found.{all_clocks, fault_first, fault_later, lent_columns}
-use Rattle.ds_netlist.proofs.Leveled.{are_parts}
+use Rattle.ds_netlist.proofs.Leveled.{are_parts, places_of}
 use Rattle.ds_netlist.proofs.Refused.{cycle_refusal, matched, refusal}
 use Rattle.ds_netlist.proofs.check.check.Goals as goal
 
@@ -35,6 +35,10 @@ returns-in_err-levels c =
           (λ e is. subst (λ (fault : NetFault). IsRefusal d fault) (sym is) (cycle_refusal d c.inputs-inputs.ensures.in_range none c.in_err-levels.field-0.0 c.in_err-levels.ensures.fault));
     }
 
+pub series_of-requires : goal.series_of-requires
+series_of-requires c =
+    places_of c.tables.result.now c.as_slice-5.result.now c.in_ok-order.order.items c.in_ok-order.ensures.ok c.tables-2.result.now (c.tables-2.ensures.tables ∙ sym c.tables.ensures.tables)
+
 pub returns : goal.returns
 returns c =
     let d = c.args.design.now in
@@ -45,5 +49,5 @@ returns c =
     record {
       checked = are_parts d c.inputs-inputs.ensures.in_range none c.in_ok-columns.columns.items c.in_ok-levels.levels.items c.in_ok-order.order.items cols c.in_ok-levels.ensures.ok
           c.tables.result.now c.as_slice-5.result.now c.tables.ensures.tables c.as_slice-5.ensures.value c.in_ok-order.ensures.ok
-          c.tables-2.result.now c.in_ok-bank.bank c.tables-2.ensures.tables c.in_ok-bank.ensures.ok;
+          c.tables-2.result.now c.in_ok-series.series c.tables-2.ensures.tables c.in_ok-series.ensures.order c.in_ok-series.ensures.bank;
     }

@@ -1,10 +1,9 @@
-use Rattle.std.proofs.Common.{◌≡◌, ◌⊎◌, ◌∙◌, ◌<◌, ◌≤◌, ◌+◌, ◌*◌, ℕ, List, length, get_or, ap, sym, subst, arith, refl, inl, inr, Err}
+use Rattle.std.proofs.Common.{◌≡◌, ◌∙◌, ℕ, List, length, ap, sym, subst, arith, inl, inr, Err}
 use Rattle.std.specs.List.{slice_index}
 use Rattle.ds_design.specs.declared.design.Gate.{Gate}
 use Rattle.ds_design.specs.declared.design.Net.{Net}
 use Rattle.ds_order.specs.declared.edge.Edge.{Edge}
-use Rattle.ds_order.specs.Order.{HasEdge, IsCycle, IsRanks}
-use Rattle.ds_order.specs.Search.{AreEnds}
+use Rattle.ds_order.specs.Order.{HasEdge, IsCycle}
 use Rattle.ds_order.proofs.By.{cycle_by, ranks_by}
 use Rattle.ds_netlist.specs.Edges.{IsCycleOnly, edges_of, floor_in}
 use Rattle.ds_design.specs.Reach.{Feeds}

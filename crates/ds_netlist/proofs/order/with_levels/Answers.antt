@@ -1,5 +1,4 @@
-use Rattle.std.proofs.Common.{◌≡◌, ◌∙◌, ◌++◌, [], ◌∷◌, List, ap, refl, arith, get_or}
-use Rattle.std.proofs.lemmas.List.{get_or_default}
+use Rattle.std.proofs.Common.{◌≡◌, ◌∙◌, ◌++◌, [], ◌∷◌, List, ap, get_or}
 use Rattle.ds_netlist.specs.declared.order.Placed.{Placed}
 use Rattle.ds_netlist.proofs.Ordered.{placed_more}
 use Rattle.ds_netlist.proofs.order.with_levels.Goals as goal
