@@ -251,7 +251,7 @@ pub known_characters_stand : (c other : Circuit) → IsAccepted c → DifferInSt
     → (text text' : List ℕ) → IsTrace c vectors text → IsTrace other vectors' text'
     → TextStands text text'
 known_characters_stand c other accepted differ starts vectors vectors' long rows text text'
-  one two =
+    one two =
     let state : ℕ → Row = two.is_trace.state in
     let nets : ℕ → Row = two.is_trace.nets in
     let both =
