@@ -27,8 +27,6 @@ mod run;
 mod series;
 mod small;
 mod table;
-#[cfg(test)]
-mod tests;
 mod truth;
 mod word;
 

@@ -222,7 +222,7 @@ advances run v w l (Fired event turn ticket) sound run-is all near s =
     falls_at (λ x. 2 * run.limit - seen v x) (λ x. 2 * run.limit - seen w x) run.nodes l near
     (λ x. omega (arith, s.seen_up x)) (omega (arith, s.once_more, most))
 advances run v w l (NotYet arc n) sound run-is all near s =
-    let lacks = s.1.0 in let a = lacks.a in
+    let lacks = s.1 in let a = lacks.a in
     let source : node_of run a.source < run.nodes = (sound.named arc a lacks.is_arc).0 in
     let own = lacks.own (all (node_of run a.source) (omega arith)
     (omega (arith, source, ap (λ (r : Run). r.nodes) run-is))) in (
