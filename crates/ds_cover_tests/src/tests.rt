@@ -40,6 +40,7 @@ const CASES: &str = "0 on _ 1 _
 ";
 
 // A case, as its line tells it.
+#[derive(Clone, Copy)]
 struct Case<'t> {
     width: u32,
     on: bool,
@@ -49,7 +50,7 @@ struct Case<'t> {
 }
 
 // The case of a line, where it tells one.
-fn case(line: &str) -> Option<Case<'_>> {
+fn case_of(line: &str) -> Option<Case<'_>> {
     let (width, rest) = line.split_once(' ')?;
     let (kind, rest) = rest.split_once(' ')?;
     let (nets, rest) = rest.split_once(' ')?;
@@ -174,7 +175,7 @@ fn set_last(
 
 // Whether the table of a line has its value.
 fn is_had(alloc: Global, line: &str) -> Result<bool, OutOfMemory> {
-    let Some(case) = case(line) else {
+    let Some(case) = case_of(line) else {
         return Ok(false);
     };
     let Some(table) = table(alloc, case.width, case.rows, case.on)? else {
@@ -186,7 +187,7 @@ fn is_had(alloc: Global, line: &str) -> Result<bool, OutOfMemory> {
 
 // Whether a bank of the table of a line sets the net behind the inputs to its value.
 fn is_set(alloc: Global, line: &str) -> Result<bool, OutOfMemory> {
-    let Some(case) = case(line) else {
+    let Some(case) = case_of(line) else {
         return Ok(false);
     };
     let Some(table) = table(alloc, case.width, case.rows, case.on)? else {
