@@ -3,12 +3,14 @@
 Used by the other tools. Of a netlist that is refused it may give anything, or `NotAccepted`.
 """
 
+from streams import BadText
+
 MOST_COPIES = 65536
 COMMANDS = (".latch", ".subckt")
 TOP_COMMANDS = (".inputs", ".outputs", ".clock") + COMMANDS
 
 
-class NotAccepted(Exception):
+class NotAccepted(BadText):
     """The netlist is one that `desync check` refuses."""
 
 
