@@ -3,9 +3,9 @@
 PREFIX ?= /usr/local
 DESTDIR ?=
 ARGS ?= run examples/toggle.blif examples/toggle.vec
-PROGRAM ?= crates/desync/out/desync
-RT ?= rt
-OUT ?= out
+PROGRAM = crates/desync/out/desync
+RT = rt
+OUT = out
 VERSION := $(shell cat VERSION)
 NAME = desync-$(VERSION)-x86_64-linux
 TOOLS = g2dot latches ports table testbench trace2vcd vectors

@@ -41,7 +41,7 @@ class Graph:
                 self.join(words[0], target)
 
     def join(self, source, target):
-        """Notes what stands on one line: two events with a place between them, or one and a place."""
+        """Notes what stands on one line: two events with a place between, or one and a place."""
         if self.is_event(source) and self.is_event(target):
             place = (source, target)
             self.sources[place], self.targets[place] = source, target

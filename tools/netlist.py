@@ -41,7 +41,7 @@ def models_of(text, has_tables):
         elif words and words[0] == ".names" and has_tables:
             rows = []
             models[-1][1].append([".names", rows] + words[1:])
-        elif words and words[0][0] != ".":
+        elif words and words[0][0] != "." and has_tables:
             rows.append(words)
         elif words and words[0] in (TOP_COMMANDS if len(models) == 1 else COMMANDS):
             models[-1][1].append(words)
