@@ -1,14 +1,17 @@
-"""Reads a netlist that `desync check` accepts: its columns, outputs and registers by name.
+"""Reads a netlist that `desync check` accepts: columns, outputs, registers and tables by name.
 
 Used by the other tools. Of a netlist that is refused it may give anything, or `NotAccepted`.
 """
 
+from streams import BadText
+
 MOST_COPIES = 65536
 COMMANDS = (".latch", ".subckt")
+STARTS = {"0": "0", "1": "1", "2": "0"}
 TOP_COMMANDS = (".inputs", ".outputs", ".clock") + COMMANDS
 
 
-class NotAccepted(Exception):
+class NotAccepted(BadText):
     """The netlist is one that `desync check` refuses."""
 
 
@@ -25,28 +28,39 @@ def logical_lines(text):
     yield [word for word in words if word]
 
 
-def models_of(text):
+def models_of(text, has_tables):
     """The models in order, each a name and its commands as lists of words.
 
-    Of all but the first model only registers and uses matter.
+    Of all but the first model only registers, uses and tables matter. A table is `.names`, its rows
+    and its nets, where tables are asked for.
     """
-    models = []
+    models, rows = [], []
     for words in logical_lines(text):
         if words and words[0] == ".model":
             models.append((words[1], []))
+        elif words and words[0] == ".names" and has_tables:
+            rows = []
+            models[-1][1].append([".names", rows] + words[1:])
+        elif words and words[0][0] != "." and has_tables:
+            rows.append(words)
         elif words and words[0] in (TOP_COMMANDS if len(models) == 1 else COMMANDS):
             models[-1][1].append(words)
     return models
 
 
 class Netlist:
-    """The interface of a flat design. A net is a number of a copy and a name."""
+    """A flat design. A net is a number of a copy and a name.
 
-    def __init__(self, text):
-        self.name = ""
+    Beside the registers stand their data nets and their first values. A table is its rows, its
+    inputs and its output.
+    """
+
+    def __init__(self, text, has_tables=False):
+        self.name, self.edge = "", "re"
         self.inputs, self.outputs, self.controls, self.registers = [], [], [], []
+        self.data, self.starts, self.tables = [], [], []
         try:
-            models = models_of(text)
+            models = models_of(text, has_tables)
             self.name = models[0][0]
             self._take_all(dict(models))
         except (IndexError, KeyError):
@@ -73,9 +87,17 @@ class Netlist:
                 self._take(words, copy, bound)
 
     def _take(self, words, copy, bound):
+        if words[0] == ".names":
+            nets = [bound.get(word, (copy, word)) for word in words[2:]]
+            self.tables.append((words[1], nets[:-1], nets[-1]))
+            return
         nets = [bound.get(word, (copy, word)) for word in words[1:]]
         if words[0] == ".latch":
+            self.data.append(nets[0])
             self.registers.append(nets[1])
+            self.starts.append(STARTS.get(words[-1], "x") if len(words) in (4, 6) else "x")
+            if len(words) > 4:
+                self.edge = words[3]
             if len(words) > 4 and words[4] != "NIL":
                 self.controls.append(nets[3])
         lists = {".inputs": self.inputs, ".outputs": self.outputs, ".clock": self.controls}
@@ -90,7 +112,7 @@ def printed(net):
     return name if copy == 0 else "%d/%s" % (copy, name)
 
 
-def read_netlist(path):
+def read_netlist(path, has_tables=False):
     """The netlist of a file. Names are bytes, which is what latin-1 keeps."""
     with open(path, encoding="latin-1", newline="") as file:
-        return Netlist(file.read())
+        return Netlist(file.read(), has_tables)
