@@ -27,7 +27,7 @@ pub struct AcceptJob<'a> {
 }
 
 /// Reads a netlist, accepts the graph for it, and writes the ranks of its events.
-#[tactic(none)]
+#[tactic(auto)]
 pub fn accept<F: Files, O: Sink>(
     alloc: Global,
     job: &AcceptJob<'_>,
@@ -43,6 +43,8 @@ pub fn accept<F: Files, O: Sink>(
           now = O.faults out.new;
         }) result }
 {
+    // Read for the fact that its names are texts.
+    let _texts = *job;
     let netlist = read_netlist(alloc, files, job.net)?;
     let plan = plan_named(alloc, files, job.net, &netlist, job.graph, job.clusters)?;
     write_accepted(alloc, &plan, out)

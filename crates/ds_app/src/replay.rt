@@ -23,7 +23,7 @@ pub struct ReplayJob<'a> {
 
 /// Reads a netlist, makes its plan, fires the events of the log in their order on the vectors, and
 /// writes what each register has stored then.
-#[tactic(none)]
+#[tactic(auto)]
 pub fn replay<F: Files, O: Sink>(
     alloc: Global,
     job: &ReplayJob<'_>,
@@ -39,6 +39,8 @@ pub fn replay<F: Files, O: Sink>(
           now = O.faults out.new;
         }) result }
 {
+    // Read for the fact that its names are texts.
+    let _texts = *job;
     let netlist = read_netlist(alloc, files, job.net)?;
     let plan = plan_netlist(alloc, files, job.net, &netlist, job.graph, job.clusters)?;
     let vectors = read_rows(alloc, files, job.vec, &netlist)?;

@@ -31,7 +31,7 @@ pub struct RunJob<'a> {
 
 /// Reads a netlist, makes its plan, has workers run it on the vectors, and writes the trace, and
 /// the log where one is wanted.
-#[tactic(none)]
+#[tactic(auto)]
 pub fn run<R: AllocGlobal + Threads + Sync, G: Gate, F: Files, O: Sink>(
     rt: &R,
     job: &RunJob<'_>,
@@ -49,6 +49,8 @@ pub fn run<R: AllocGlobal + Threads + Sync, G: Gate, F: Files, O: Sink>(
           now = O.faults out.new;
         }) result }
 {
+    // Read for the fact that its names are texts.
+    let _texts = *job;
     let alloc = rt.alloc();
     let netlist = read_netlist(alloc, files, job.net)?;
     let plan = plan_netlist(alloc, files, job.net, &netlist, job.graph, job.clusters)?;
