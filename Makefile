@@ -1,12 +1,20 @@
-# Builds, tests and installs Desync. Without a target: what there is.
+# Builds, tests, installs and packs Desync. Without a target: what there is.
 
 PREFIX ?= /usr/local
 DESTDIR ?=
 ARGS ?= run examples/toggle.blif examples/toggle.vec
-PROGRAM = crates/desync/out/desync
-COMPLETIONS = $(DESTDIR)$(PREFIX)/share/bash-completion/completions
+PROGRAM ?= crates/desync/out/desync
+RT ?= rt
+OUT ?= out
+VERSION := $(shell cat VERSION)
+NAME = desync-$(VERSION)-x86_64-linux
+TOOLS = g2dot ports table testbench trace2vcd vectors
+MODULES = buses.py clusters.py graphs.py netlist.py streams.py traces.py
+TO = $(DESTDIR)$(PREFIX)
+COMPLETIONS = $(TO)/share/bash-completion/completions
+DOCUMENTS = $(TO)/share/doc/desync
 
-.PHONY: help build run test transcripts look install uninstall
+.PHONY: help build run test transcripts look install uninstall dist deb
 
 help:
 	@echo "make build               prove and build the program, $(PROGRAM), anew"
@@ -14,23 +22,26 @@ help:
 	@echo "make test                the whole gate: rt ci"
 	@echo "make transcripts         run what the documents and examples show"
 	@echo "make look                what the repository looks at itself: names, house rules, edges, memory"
-	@echo "make install             program, manual page and completion, to \$$DESTDIR\$$PREFIX"
+	@echo "make install             program, tools, pages of the manual, completion, documents and examples, to \$$DESTDIR\$$PREFIX"
 	@echo "make uninstall           take these away"
+	@echo "make dist                out/$(NAME).tar.gz, with the same"
+	@echo "make deb                 out/desync_$(VERSION)_amd64.deb, with the same, by dpkg-deb"
 
 $(PROGRAM):
-	cd crates/desync && rt run -- run data/toggle.blif data/toggle.vec
+	@command -v $(RT) >/dev/null || { echo "there is no $@ and no rt to build it: README names the kit that has rt; a release has the program" >&2; exit 1; }
+	cd crates/desync && $(RT) run -- run data/toggle.blif data/toggle.vec
 
 build:
-	cd crates/desync && rt run -- run data/toggle.blif data/toggle.vec
+	cd crates/desync && $(RT) run -- run data/toggle.blif data/toggle.vec
 
 run: $(PROGRAM)
 	@$(PROGRAM) $(ARGS)
 
 test:
-	rt ci
+	$(RT) ci
 
 transcripts: $(PROGRAM)
-	tools/check_transcripts
+	tools/check_transcripts $(PROGRAM)
 
 look:
 	tools/check_docs
@@ -39,11 +50,41 @@ look:
 	tools/memory_answers
 
 install: $(PROGRAM)
-	install -d "$(DESTDIR)$(PREFIX)/bin" "$(DESTDIR)$(PREFIX)/share/man/man1" "$(COMPLETIONS)"
-	install -m 755 $(PROGRAM) "$(DESTDIR)$(PREFIX)/bin/desync"
-	install -m 644 docs/desync.1 "$(DESTDIR)$(PREFIX)/share/man/man1/desync.1"
+	install -d "$(TO)/bin" "$(TO)/share/man/man1" "$(TO)/share/desync/tools" "$(COMPLETIONS)"
+	install -d "$(DOCUMENTS)/docs" "$(DOCUMENTS)/examples/graphs" "$(DOCUMENTS)/examples/refused"
+	install -m 755 $(PROGRAM) "$(TO)/bin/desync"
+	install -m 644 docs/desync.1 "$(TO)/share/man/man1/desync.1"
 	install -m 644 tools/desync.bash "$(COMPLETIONS)/desync"
+	install -m 755 $(TOOLS:%=tools/%) "$(TO)/share/desync/tools"
+	install -m 644 $(MODULES:%=tools/%) "$(TO)/share/desync/tools"
+	for tool in $(TOOLS); do \
+	    ln -sf "../share/desync/tools/$$tool" "$(TO)/bin/desync-$$tool" || exit 1; \
+	    tools/manual $$tool > "$(TO)/share/man/man1/desync-$$tool.1" || exit 1; \
+	done
+	install -m 644 VERSION README.md CHANGELOG.md CONTRIBUTING.md "$(DOCUMENTS)"
+	install -m 644 $(wildcard docs/*.md docs/*.svg) "$(DOCUMENTS)/docs"
+	install -m 644 $(wildcard examples/*.*) "$(DOCUMENTS)/examples"
+	install -m 644 $(wildcard examples/graphs/*) "$(DOCUMENTS)/examples/graphs"
+	install -m 644 $(wildcard examples/refused/*) "$(DOCUMENTS)/examples/refused"
 
 uninstall:
-	rm -f "$(DESTDIR)$(PREFIX)/bin/desync" "$(DESTDIR)$(PREFIX)/share/man/man1/desync.1"
-	rm -f "$(COMPLETIONS)/desync"
+	rm -f "$(TO)/bin/desync" "$(TO)/share/man/man1/desync.1" "$(COMPLETIONS)/desync"
+	rm -f $(TOOLS:%="$(TO)/bin/desync-%") $(TOOLS:%="$(TO)/share/man/man1/desync-%.1")
+	rm -rf "$(TO)/share/desync" "$(DOCUMENTS)"
+
+dist: $(PROGRAM)
+	@rm -rf "$(OUT)/$(NAME)"
+	@$(MAKE) -s install PROGRAM="$(PROGRAM)" DESTDIR="$(OUT)/$(NAME)" PREFIX=
+	@cd "$(OUT)/$(NAME)" && find . -type f ! -name SHA256SUMS | sort | xargs -d '\n' sha256sum > SHA256SUMS
+	@tar -C "$(OUT)" --sort=name --owner=0 --group=0 --numeric-owner -czf "$(OUT)/$(NAME).tar.gz" "$(NAME)"
+	@rm -rf "$(OUT)/$(NAME)"
+	@echo "$(OUT)/$(NAME).tar.gz"
+
+deb: $(PROGRAM)
+	@rm -rf "$(OUT)/deb"
+	@$(MAKE) -s install PROGRAM="$(PROGRAM)" DESTDIR="$(OUT)/deb" PREFIX=/usr
+	@install -d "$(OUT)/deb/DEBIAN"
+	@sed 's/^Version:.*/Version: $(VERSION)/' tools/deb.control > "$(OUT)/deb/DEBIAN/control"
+	@dpkg-deb --root-owner-group --build "$(OUT)/deb" "$(OUT)/desync_$(VERSION)_amd64.deb" >/dev/null
+	@rm -rf "$(OUT)/deb"
+	@echo "$(OUT)/desync_$(VERSION)_amd64.deb"

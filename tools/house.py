@@ -1,11 +1,12 @@
 """What the tools that look at the repository share: files, crates, functions, definitions."""
 
-import argparse
 import os
 import re
 import signal
 import subprocess
 import sys
+
+from streams import Parser, parser  # noqa: F401, for the tools
 
 ROOT = os.path.dirname(os.path.dirname(os.path.abspath(__file__)))
 PLACED = re.compile(r"crates/(\w+)/(src|specs|proofs)/(.+)\.(rt|antt)$")
@@ -258,18 +259,6 @@ def imports(text):
             name, _, new = part.partition(" as ")
             found[new or name] = (path, name)
     return found
-
-
-class Parser(argparse.ArgumentParser):
-    """Words of a command line, with refusals of one line."""
-
-    def error(self, message):
-        self.exit(2, "%s: %s\n" % (self.prog, message))
-
-
-def parser(name, description):
-    form = argparse.RawDescriptionHelpFormatter
-    return Parser(prog=name, description=description, formatter_class=form)
 
 
 def start(name, main):

@@ -3,12 +3,14 @@
 Used by the other tools. Of a netlist that is refused it may give anything, or `NotAccepted`.
 """
 
+from streams import BadText
+
 MOST_COPIES = 65536
 COMMANDS = (".latch", ".subckt")
 TOP_COMMANDS = (".inputs", ".outputs", ".clock") + COMMANDS
 
 
-class NotAccepted(Exception):
+class NotAccepted(BadText):
     """The netlist is one that `desync check` refuses."""
 
 
@@ -43,7 +45,7 @@ class Netlist:
     """The interface of a flat design. A net is a number of a copy and a name."""
 
     def __init__(self, text):
-        self.name = ""
+        self.name, self.edge = "", "re"
         self.inputs, self.outputs, self.controls, self.registers = [], [], [], []
         try:
             models = models_of(text)
@@ -76,6 +78,8 @@ class Netlist:
         nets = [bound.get(word, (copy, word)) for word in words[1:]]
         if words[0] == ".latch":
             self.registers.append(nets[1])
+            if len(words) > 4:
+                self.edge = words[3]
             if len(words) > 4 and words[4] != "NIL":
                 self.controls.append(nets[3])
         lists = {".inputs": self.inputs, ".outputs": self.outputs, ".clock": self.controls}

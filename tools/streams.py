@@ -1,7 +1,25 @@
-"""The standard input and output of the other tools."""
+"""What the tools that a user calls share: words, the standard input and output, files."""
 
+import argparse
 import os
+import signal
 import sys
+
+
+class BadText(Exception):
+    """A text that is none of the kind that it is read as."""
+
+
+class Parser(argparse.ArgumentParser):
+    """Words of a command line, with refusals of one line."""
+
+    def error(self, message):
+        self.exit(2, "%s: %s\n" % (self.prog, message))
+
+
+def parser(name, description):
+    form = argparse.RawDescriptionHelpFormatter
+    return Parser(prog=name, description=description, formatter_class=form)
 
 
 def given(name, encoding):
@@ -12,6 +30,14 @@ def given(name, encoding):
     return sys.stdin
 
 
+def text_of(name, path):
+    """The text of a file or, where none is named, of the standard input."""
+    if not path:
+        return given(name, "latin-1").read()
+    with open(path, encoding="latin-1", newline="") as file:
+        return file.read()
+
+
 def put(name, encoding, lines):
     """Prints some lines. Where that fails, it says so in the name of a tool, and ends with 1."""
     if sys.stdout is None:
@@ -19,9 +45,18 @@ def put(name, encoding, lines):
     sys.stdout.reconfigure(encoding=encoding)
     try:
         for line in lines:
-            print(line)
+            sys.stdout.write(line + "\n")
         sys.stdout.flush()
     except OSError as error:
         sys.stderr.write("%s: %s\n" % (name, error))
         sys.stderr.flush()
         os._exit(1)
+
+
+def start(name, main):
+    """Runs a tool. What it cannot read it says in one line, and ends with 1."""
+    signal.signal(signal.SIGPIPE, signal.SIG_DFL)
+    try:
+        main()
+    except (OSError, BadText) as error:
+        sys.exit("%s: %s" % (name, error))

@@ -1,0 +1,50 @@
+"""Puts the registers of a netlist into clusters, as `--clusters` does."""
+
+import re
+
+from netlist import printed
+
+MODES = ("each", "one", "bus")
+BIT = re.compile(r"\[[0-9]+\]$")
+
+
+class Cluster:
+    """Some registers: the name that they share, and their places among all."""
+
+    def __init__(self, name):
+        self.name, self.places = name, []
+
+    def title(self):
+        """The name, and the width where that is not 1."""
+        width = len(self.places)
+        return self.name if width == 1 else "%s (%d)" % (self.name, width)
+
+
+def bus_of(net):
+    """What the registers of a bus share."""
+    copy, name = net
+    return copy, BIT.sub("", name)
+
+
+def key_of(net, mode):
+    return {"each": net, "one": "all", "bus": bus_of(net)}[mode]
+
+
+def clusters(netlist, mode):
+    """The clusters, numbered by their first registers."""
+    found = {}
+    for place, net in enumerate(netlist.registers):
+        key = key_of(net, mode)
+        if key not in found:
+            found[key] = Cluster(key if mode == "one" else printed(key))
+        found[key].places.append(place)
+    for cluster in found.values():
+        if len(cluster.places) == 1:
+            cluster.name = printed(netlist.registers[cluster.places[0]])
+    return list(found.values())
+
+
+def take_mode(words):
+    """Adds the option to the words of a tool."""
+    says = "how registers share latches: each (as left out), one or bus"
+    words.add_argument("--clusters", choices=MODES, default="each", help=says)

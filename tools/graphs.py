@@ -1,0 +1,87 @@
+"""Reads the text of a controller graph, as `desync graph` writes it."""
+
+import re
+
+from streams import BadText
+
+EVENT = re.compile(r"^(.+)([+-])$")
+ENTRY = re.compile(r"^(?:<([^,<>]+),([^,<>]+)>|([^<>=]+))(?:=(\d+))?$")
+
+
+class Graph:
+    """The nodes of a graph, its places by their names, and the tokens of each."""
+
+    def __init__(self, lines):
+        self.name, self.nodes = "graph", []
+        self.sources, self.targets, self.tokens = {}, {}, {}
+        for number, line in enumerate(lines, 1):
+            words = line.split("#")[0].split()
+            if words and words[0] == ".end":
+                break
+            try:
+                self.read(words)
+            except BadText as error:
+                raise BadText("line %d: %s" % (number, error)) from None
+        if not self.nodes:
+            raise BadText("the text has no nodes")
+
+    def read(self, words):
+        if not words or words[0] == ".graph":
+            return
+        if words[0] == ".model":
+            self.name = " ".join(words[1:])
+        elif words[0] in (".inputs", ".outputs", ".internal"):
+            self.nodes += [word for word in words[1:] if word not in self.nodes]
+        elif words[0] == ".marking":
+            self.mark(" ".join(words[1:]).strip("{} ").split())
+        elif words[0].startswith("."):
+            raise BadText("unknown command %s" % words[0])
+        else:
+            for target in words[1:]:
+                self.join(words[0], target)
+
+    def join(self, source, target):
+        """Notes what stands on one line: two events with a place between them, or one and a place."""
+        if self.is_event(source) and self.is_event(target):
+            place = (source, target)
+            self.sources[place], self.targets[place] = source, target
+        elif self.is_event(source):
+            self.sources[target] = source
+        elif self.is_event(target):
+            self.targets[source] = target
+        else:
+            raise BadText("%s leads to %s, and neither is an event" % (source, target))
+
+    def is_event(self, word):
+        parts = EVENT.match(word)
+        return parts is not None and parts.group(1) in self.nodes
+
+    def mark(self, entries):
+        for entry in entries:
+            parts = ENTRY.match(entry)
+            if not parts:
+                raise BadText("bad marking %s" % entry)
+            source, target, place, count = parts.groups()
+            self.tokens[place or (source, target)] = int(count or 1)
+
+    def arcs(self):
+        """The source, the target and the tokens of each place."""
+        for place, source in self.sources.items():
+            if place in self.targets:
+                yield source, self.targets[place], self.tokens.get(place, 0)
+
+    def data_edges(self):
+        """The pairs of nodes with both orders of a data edge: P+ to C+, and C- to P+."""
+        arcs = {(source, target) for source, target, _ in self.arcs()}
+        for source, target in arcs:
+            first, second = source[:-1], target[:-1]
+            if source[-1] == target[-1] == "+" and (second + "-", source) in arcs:
+                if carries(first, second):
+                    yield first, second
+
+
+def carries(first, second):
+    """Whether data may go from a node to another: from a master to its own slave alone."""
+    if first[0] == "M" or second[0] == "S":
+        return first[0] == "M" and second == "S" + first[1:]
+    return second != "IN" and first != "OUT"
