@@ -131,46 +131,40 @@ class Watch {
     this.wrong = new Map();
     this.first = null;
     this.from = new Map(nodes.map(node => [node, []]));
-    this.to = new Map(nodes.map(node => [node, []]));
-    for (const edge of edges) {
-      this.from.get(edge[1]).push(edge);
-      this.to.get(edge[0]).push(edge);
-    }
+    for (const edge of edges) this.from.get(edge[1]).push(edge);
   }
 
   fire(event) {
     const node = event.slice(0, -1);
-    if (event.endsWith("-")) {
-      add(this.closed, node);
-      return;
-    }
-    add(this.opened, node);
-    this.judge(node);
-    const waiting = this.to.get(node).map(edge => edge[1]);
-    while (waiting.length > 0) {
-      const one = waiting.pop(), old = this.wrong.get(one);
-      if (!this.isOpen(one)) continue;
-      this.judge(one);
-      if (old !== this.wrong.get(one)) waiting.push(...this.to.get(one).map(edge => edge[1]));
-    }
+    add(event.endsWith("+") ? this.opened : this.closed, node);
+    if (event.endsWith("+")) this.settle();
   }
 
-  isOpen(node) {
-    return this.opened.get(node) > this.closed.get(node);
+  // What is open has what its producers have now: first who came too early or too late, and then,
+  // until nothing is new, who takes from such a one.
+  settle() {
+    const open = [...this.opened.keys()].filter(node => this.opened.get(node) > this.closed.get(node));
+    for (const node of open) this.wrong.set(node, this.mistimed(node));
+    let isNew = true;
+    while (isNew) {
+      isNew = false;
+      for (const node of open.filter(one => !this.wrong.get(one))) {
+        const edge = this.from.get(node).find(one => this.wrong.get(one[0]));
+        if (edge) this.wrong.set(node, `${node} took the value of ${edge[0]}`);
+        isNew = isNew || Boolean(edge);
+      }
+    }
+    this.first = this.first || open.map(node => this.mistimed(node)).find(Boolean) || null;
   }
 
-  // An open node has what its producers have now, which is to be their value of its own turn.
-  judge(node) {
-    let why = null;
+  // Why the value of a producer is not that of a node's own turn.
+  mistimed(node) {
     for (const [producer, , ahead] of this.from.get(node)) {
       const is = this.opened.get(producer) + ahead, wanted = this.opened.get(node);
-      if (is > wanted) why = `${producer} opened again before ${node} had stored what it gave: that value is overwritten`;
-      if (is < wanted) why = `${node} opened before ${producer} had its next value: it has an old one`;
-      if (!why && this.wrong.get(producer)) why = `${node} took the value of ${producer}`;
-      if (why) break;
+      if (is > wanted) return `${producer} opened again before ${node} had stored what it gave: that value is overwritten`;
+      if (is < wanted) return `${node} opened before ${producer} had its next value: it has an old one`;
     }
-    this.first = this.first || why;
-    this.wrong.set(node, why);
+    return null;
   }
 }
 
