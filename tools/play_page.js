@@ -39,7 +39,7 @@ function valueOf(node, openings) {
 
 function state() {
   const counts = page.rule.counts(page.log, page.at);
-  const watch = new Watch(told.nodes, told.edges.map(edge => [...edge, ahead(edge)]));
+  const watch = newWatch();
   if (page.out) for (const event of page.log.slice(0, page.at)) watch.fire(event);
   return {counts, watch};
 }
@@ -188,8 +188,7 @@ function showTurns(svg, first, last, across, tall) {
 function wave(svg, node, row, first, last, across) {
   const low = RAIL * row + 24, title = told.titles[isRegister(node) ? node.slice(1) : node];
   put(svg, "text", {x: 6, y: low - 3, class: "left"}, `${node} ${title}`.slice(0, 24));
-  const marks = [];
-  page.log.forEach((event, place) => { if (event.slice(0, -1) === node) marks.push([place + 1, event.endsWith("+")]); });
+  const {marks, bad} = known().get(node);
   put(svg, "path", {class: "rail", d: `M${across(first)},${low}H${across(last)}`});
   if (node[0] === "S" && first === 0 && (marks[0] || [last])[0] * UNIT > 16) {
     put(svg, "text", {x: NAMES + 3, y: low - 4, class: "value left"}, shortened(valueOf(node, 0)));
@@ -202,9 +201,29 @@ function wave(svg, node, row, first, last, across) {
     if (next < first || place > last) return;
     const from = Math.max(first, place), to = Math.min(last, Math.max(shut, from));
     if (shut > first) put(svg, "rect", {class: "up", x: across(from), y: low - 16, width: across(to) - across(from), height: 16});
-    const value = shortened(valueOf(node, openings)), space = (Math.min(next, last) - from) * UNIT;
+    const value = bad.has(openings) ? "?" : shortened(valueOf(node, openings)), space = (Math.min(next, last) - from) * UNIT;
     if (place >= first && value.length * 7 < space + 7) put(svg, "text", {x: across(from) + 3, y: low - 4, class: "value left"}, value);
   });
+}
+
+// Where each node fires in the log, and at which openings its value need not be that of the trace;
+// worked out once for a log.
+function known() {
+  if (page.known && page.known.log === page.log && page.known.out === page.out) return page.known.nodes;
+  const nodes = new Map(told.nodes.map(node => [node, {marks: [], bad: new Set()}]));
+  const watch = newWatch();
+  page.log.forEach((event, place) => {
+    nodes.get(event.slice(0, -1)).marks.push([place + 1, event.endsWith("+")]);
+    if (!page.out) return;
+    watch.fire(event);
+    for (const [node, why] of watch.wrong) if (why) nodes.get(node).bad.add(watch.opened.get(node));
+  });
+  page.known = {log: page.log, out: page.out, nodes};
+  return nodes;
+}
+
+function newWatch() {
+  return new Watch(told.nodes, told.edges.map(edge => [...edge, ahead(edge)]));
 }
 
 // ---- The log
@@ -314,7 +333,7 @@ function leaveOut() {
 
 // Where from a place on a node first has another value than that of its turn.
 function harmed(place) {
-  const watch = new Watch(told.nodes, told.edges.map(edge => [...edge, ahead(edge)]));
+  const watch = newWatch();
   for (let at = 0; at < page.log.length; at++) {
     watch.fire(page.log[at]);
     if (watch.first) return at + 1;
