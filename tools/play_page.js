@@ -380,7 +380,7 @@ function begin() {
   find("save").onclick = save;
   document.onkeydown = key => pressed(key);
   window.onhashchange = () => go(Number(location.hash.slice(1)) || 0);
-  window.onresize = show;
+  window.onresize = () => { showWaves(); showLog(); };
   picture();
   go(Number(location.hash.slice(1)) || 0);
 }
