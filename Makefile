@@ -8,8 +8,8 @@ RT = rt
 OUT = out
 VERSION := $(shell cat VERSION)
 NAME = desync-$(VERSION)-x86_64-linux
-TOOLS = g2dot latches ports table testbench trace2vcd vectors
-MODULES = buses.py clusters.py graphs.py netlist.py streams.py traces.py
+TOOLS = g2dot latches play ports table testbench trace2vcd vectors
+MODULES = buses.py clusters.py graphs.py layers.py netlist.py play.html play_page.js play_rule.js streams.py traces.py
 TO = $(DESTDIR)$(PREFIX)
 COMPLETIONS = $(TO)/share/bash-completion/completions
 DOCUMENTS = $(TO)/share/doc/desync
@@ -62,7 +62,7 @@ install: $(PROGRAM)
 	    tools/manual $$tool > "$(TO)/share/man/man1/desync-$$tool.1" || exit 1; \
 	done
 	install -m 644 VERSION README.md CHANGELOG.md CONTRIBUTING.md "$(DOCUMENTS)"
-	install -m 644 $(wildcard docs/*.md docs/*.svg) "$(DOCUMENTS)/docs"
+	install -m 644 $(wildcard docs/*.md docs/*.svg docs/*.html) "$(DOCUMENTS)/docs"
 	install -m 644 $(wildcard examples/*.*) "$(DOCUMENTS)/examples"
 	install -m 644 $(wildcard examples/graphs/*) "$(DOCUMENTS)/examples/graphs"
 	install -m 644 $(wildcard examples/refused/*) "$(DOCUMENTS)/examples/refused"
