@@ -13,7 +13,9 @@ fn is_fired_again<R: AllocGlobal + Threads + Sync>(
     jobs: &str,
 ) -> Result<bool, OutOfMemory> {
     let line = format!(in rt.alloc(); "desync run n v --log --jobs {jobs}")?;
-    let files = [("n", TOGGLE), ("v", "1\n")];
+    let net = String::from_str(rt.alloc(), TOGGLE)?;
+    let (net, vec) = (net.as_str(), "1\n");
+    let files = [("n", net), ("v", vec)];
     let Some(log) = printed(rt, &files, line.as_str(), &OpenGate) else {
         return Ok(false);
     };
@@ -21,7 +23,7 @@ fn is_fired_again<R: AllocGlobal + Threads + Sync>(
         status: 0,
         text: "q: 1\nfired 8 of 8\n",
     };
-    let files = [("n", TOGGLE), ("v", "1\n"), ("l", log.as_str())];
+    let files = [("n", net), ("v", vec), ("l", log.as_str())];
     gives(rt, &files, "desync replay n v l", wanted)
 }
 
