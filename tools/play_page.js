@@ -1,13 +1,15 @@
 "use strict";
-// Draws the run and answers the reader. `told` is what tools/play found in the files.
+// Draws the run and answers the reader. `told` is what tools/play found in the files. What holds for
+// a whole log is worked out once, when it is another one; of the picture, the waves and the log only
+// what is in view is drawn, when the reader moves there.
 
 const find = name => document.getElementById(name);
 const isRegister = node => node !== "IN" && node !== "OUT";
 const ahead = edge => Number(edge[0][0] === "S");
-const HALF = 42, TALL = 19, UNIT = 18, RAIL = 26, NAMES = 150, LINE = 18;
+const HALF = 42, TALL = 19, UNIT = 18, RAIL = 26, NAMES = 150, LINE = 18, BESIDE = 120;
 
 const page = {
-  log: told.log, at: 0, timer: null, out: null,
+  log: told.log, at: 0, timer: null, out: null, known: null, address: null,
   rule: new Rule(told.nodes, told.arcs, told.turns),
 };
 
@@ -37,11 +39,59 @@ function valueOf(node, openings) {
   return openings > 0 || node[0] === "S" ? rows[openings] : "";
 }
 
-function state() {
-  const counts = page.rule.counts(page.log, page.at);
+// ---- What is known of a log
+
+// How many places of a rising list are at most some place.
+function upTo(places, place) {
+  let low = 0, high = places.length;
+  while (low < high) {
+    const middle = (low + high) >> 1;
+    if (places[middle] <= place) low = middle + 1; else high = middle;
+  }
+  return low;
+}
+
+// For each node the places where it has opened and closed, where its value becomes another than that
+// of the trace, or that again, with the reason, and the openings with such values; and the first of
+// them. Without an order left out there are none.
+function known() {
+  if (page.known && page.known.log === page.log && page.known.out === page.out) return page.known;
+  const nodes = new Map(told.nodes.map(node => [node, {"+": [], "-": [], from: [], why: [], bad: new Set()}]));
   const watch = newWatch();
-  if (page.out) for (const event of page.log.slice(0, page.at)) watch.fire(event);
-  return {counts, watch};
+  let first = null;
+  page.log.forEach((event, place) => {
+    nodes.get(event.slice(0, -1))[event.slice(-1)].push(place + 1);
+    if (!page.out) return;
+    for (const node of watch.fire(event)) noted(nodes.get(node), place + 1, watch.wrong.get(node), watch.opened.get(node));
+    if (watch.first && !first) first = {place: place + 1, why: watch.first};
+  });
+  page.known = {log: page.log, out: page.out, nodes, first};
+  return page.known;
+}
+
+function noted(one, place, why, opening) {
+  if (why) one.bad.add(opening);
+  if (!why && one.why.length === 0) return;
+  one.from.push(place);
+  one.why.push(why);
+}
+
+function newWatch() {
+  return new Watch(told.nodes, told.edges.map(edge => [...edge, ahead(edge)]));
+}
+
+function counts() {
+  const {nodes} = known(), found = new Map();
+  for (const [node, one] of nodes) {
+    for (const sign of "+-") found.set(node + sign, upTo(one[sign], page.at));
+  }
+  return found;
+}
+
+// Why the value of a node need not be that of the trace at present.
+function wrong(node) {
+  const one = known().nodes.get(node);
+  return one.why[upTo(one.from, page.at) - 1] || null;
 }
 
 // ---- The picture
@@ -57,22 +107,56 @@ function put(into, name, attributes, text) {
   return into.appendChild(drawn(name, attributes, text));
 }
 
-// A line from the right of one box to the left of another, below the boxes where it leads back.
+// A line from the right of one box to the left of another, below the boxes where it leads back: the
+// level stretch of it, the bent pieces, and the middle, where its dots are.
 function route(from, to, lift) {
   const [x1, y1] = [from[0] + HALF, from[1]], [x2, y2] = [to[0] - HALF - 2, to[1]];
   if (x1 < x2) {
-    const bend = Math.min(60, (x2 - x1) / 2);
-    return {
-      path: `M${x1},${y1}C${x1 + bend},${y1} ${x2 - bend},${y2} ${x2},${y2}`,
-      middle: [(x1 + x2) / 2, (y1 + y2) / 2],
-    };
+    const bend = Math.min(60, (x2 - x1) / 2), middle = [(x1 + x2) / 2, (y1 + y2) / 2];
+    if (y1 === y2) return {level: [y1, x1, x2 - 8], bent: [[`M${x2 - 9},${y2}H${x2}`, x2]], middle};
+    const path = `M${x1},${y1}C${x1 + bend},${y1} ${x2 - bend},${y2} ${x2},${y2}`;
+    return {bent: [[path, x2, x1]], middle};
   }
   const low = Math.max(y1, y2) + 34 + lift;
   return {
-    path: `M${x1},${y1 + 8}C${x1 + 34},${low} ${x1},${low} ${x1 - 20},${low}` +
-      `H${x2 + 20}C${x2},${low} ${x2 - 34},${low} ${x2},${y2 + 8}`,
+    level: [low, x2 + 20, x1 - 20],
+    bent: [[`M${x1 - 20},${low}C${x1},${low} ${x1 + 34},${low} ${x1},${y1 + 8}`, null, x1],
+      [`M${x2 + 20},${low}C${x2},${low} ${x2 - 34},${low} ${x2},${y2 + 8}`, x2]],
     middle: [(x1 + x2) / 2, low],
   };
+}
+
+// One path along a whole route.
+function whole(way) {
+  const [y, left, right] = way.level || [];
+  return way.bent.map(piece => piece[0]).join("") + (way.level ? `M${left},${y}H${right}` : "");
+}
+
+// The pieces of all edges, each once, with its ends from left to right: where a thousand edges run
+// along one line, it is one piece.
+function pieces(ways) {
+  const bent = new Map(), levels = new Map();
+  for (const way of ways) {
+    for (const [path, tip, start] of way.bent) {
+      const ends = [start, tip].filter(x => x !== null && x !== undefined);
+      bent.set(path, {path, isTip: tip !== null, left: Math.min(...ends), right: Math.max(...ends)});
+    }
+    if (!way.level) continue;
+    if (!levels.has(way.level[0])) levels.set(way.level[0], []);
+    levels.get(way.level[0]).push(way.level.slice(1));
+  }
+  return [...bent.values(), ...[...levels].flatMap(([y, some]) => stretches(y, some))];
+}
+
+// The stretches on one level that lie apart.
+function stretches(y, some) {
+  const found = [];
+  for (const [left, right] of some.sort((one, other) => one[0] - other[0])) {
+    const last = found[found.length - 1];
+    if (last && left <= last.right) last.right = Math.max(last.right, right);
+    else found.push({left, right});
+  }
+  return found.map(({left, right}) => ({path: `M${left},${y}H${right}`, isTip: false, left, right}));
 }
 
 function marker(svg) {
@@ -84,7 +168,12 @@ function marker(svg) {
 function picture() {
   const svg = drawn("svg", {width: told.size[0], height: told.size[1]});
   marker(svg);
-  page.edges = told.edges.map((edge, number) => edgeDrawn(svg, edge, number));
+  page.edges = told.edges.map((edge, number) => {
+    return {edge, way: route(told.places[edge[0]], told.places[edge[1]], number % 3 * 5)};
+  });
+  page.pieces = pieces(page.edges.map(one => one.way));
+  page.lines = put(svg, "g", {});
+  page.missing = put(svg, "g", {});
   extraOrders().forEach(arc => extraDrawn(svg, arc));
   page.dots = put(svg, "g", {});
   page.boxes = new Map(told.nodes.map(node => [node, boxDrawn(svg, node)]));
@@ -92,9 +181,28 @@ function picture() {
   find("net").replaceChildren(svg);
 }
 
-function edgeDrawn(svg, edge, number) {
-  const way = route(told.places[edge[0]], told.places[edge[1]], number % 3 * 5);
-  return {way, edge, line: put(svg, "path", {d: way.path, class: "edge", "marker-end": "url(#tip)"})};
+// What of the picture stands in view, and a little beside it.
+function inView() {
+  const left = find("net").scrollLeft - BESIDE, right = left + find("net").clientWidth + 2 * BESIDE;
+  return one => one.left <= right && left <= one.right;
+}
+
+// The lines in view, and the edges whose middle is.
+function showLines() {
+  const isSeen = inView(), attributes = {class: "edge"};
+  page.lines.replaceChildren();
+  for (const piece of page.pieces.filter(isSeen)) {
+    put(page.lines, "path", {d: piece.path, ...attributes, ...piece.isTip && {"marker-end": "url(#tip)"}});
+  }
+  page.near = page.edges.filter(({way}) => isSeen({left: way.middle[0], right: way.middle[0]}));
+}
+
+// The edge one of whose orders is left out.
+function showMissing() {
+  const order = page.out && page.out.slice(0, 2).join(" ");
+  const some = page.edges.filter(({edge: [from, to]}) => [`${from}+ ${to}+`, `${to}- ${from}+`].includes(order));
+  page.missing.replaceChildren(...some.flatMap(({way}) => ["edge under", "edge out"].map(
+    kind => drawn("path", {d: whole(way), class: kind}))));
 }
 
 // The orders that are neither a node's own nor those of a data edge.
@@ -109,7 +217,7 @@ function extraOrders() {
 
 function extraDrawn(svg, arc) {
   const ends = arc.slice(0, 2).map(event => told.places[event.slice(0, -1)]);
-  const line = put(svg, "path", {d: route(ends[0], ends[1], -8).path, class: "order", "marker-end": "url(#tip)"});
+  const line = put(svg, "path", {d: whole(route(ends[0], ends[1], -8)), class: "order"});
   put(line, "title", {}, `${arc[0]} to ${arc[1]}, ${arc[2]} tokens`);
 }
 
@@ -121,6 +229,7 @@ function boxDrawn(svg, node) {
   const head = put(group, "text", {x, y: y - 5});
   const value = put(group, "text", {x, y: y + 11, class: "value"});
   group.onclick = () => clicked(node);
+  group.onpointerenter = () => tipShown(node);
   group.onkeydown = key => { if (key.key === "Enter") clicked(node); };
   return {group, tip, box, head, value};
 }
@@ -133,48 +242,68 @@ function titleDrawn(svg, node) {
   put(svg, "text", {x: across, y: y - TALL - 7, class: "title"}, text);
 }
 
-function showBoxes(counts, watch) {
+// Boxes that look as before are left alone; a tip is written where the reader asks for it.
+function showBoxes(counts) {
   for (const [node, box] of page.boxes) {
     const openings = counts.get(node + "+"), isOpen = openings > counts.get(node + "-");
     const event = node + (isOpen ? "-" : "+"), may = page.rule.mayFire(event, counts);
-    const isBad = Boolean(watch.wrong.get(node)), value = valueOf(node, openings);
-    box.group.setAttribute("class", ["node", isOpen && "open", may && "may", isBad && "bad"].filter(Boolean).join(" "));
+    const why = wrong(node), value = valueOf(node, openings);
+    const key = [openings, isOpen, may, why].join();
+    if (box.key === key) continue;
+    box.key = key;
+    box.group.setAttribute("class", ["node", isOpen && "open", may && "may", why && "bad"].filter(Boolean).join(" "));
     box.box.setAttribute("rx", isOpen ? 14 : 2);
     box.head.textContent = node + (openings ? ` turn ${openings}` : "");
-    box.value.textContent = isBad ? "?" : shortened(value) || "\u00b7";
-    const says = `${node} ${isOpen ? "open" : "closed"}, ${isBad ? watch.wrong.get(node) : value || "no value yet"}`;
-    box.group.setAttribute("aria-label", says);
-    box.tip.textContent = `${says}; ${may ? event + " may fire" : waiting(event, counts)}`;
+    box.value.textContent = why ? "?" : shortened(value) || "\u00b7";
+    box.says = `${node} ${isOpen ? "open" : "closed"}, ${why || value || "no value yet"}`;
+    box.group.setAttribute("aria-label", box.says);
   }
+}
+
+function tipShown(node) {
+  const box = page.boxes.get(node), now = counts(), event = nextEvent(node, now);
+  const may = page.rule.mayFire(event, now);
+  box.tip.textContent = `${box.says}; ${may ? event + " may fire" : waiting(event, now)}`;
+}
+
+function nextEvent(node, counts) {
+  return node + (counts.get(node + "+") > counts.get(node + "-") ? "-" : "+");
 }
 
 function showDots(counts) {
-  page.dots.replaceChildren();
-  for (const {way, edge, line} of page.edges) {
+  const seen = new Set(), dots = [];
+  for (const {way, edge} of page.near) {
     const [from, to] = edge;
-    const full = counts.get(from + "+") + ahead(edge) - counts.get(to + "+");
-    const room = counts.get(to + "-") + 1 - ahead(edge) - counts.get(from + "+");
-    const dots = [...Array(Math.max(0, full)).fill("full"), ...Array(Math.max(0, room)).fill("room")];
-    dots.forEach((kind, place) => put(page.dots, "circle",
-      {cx: way.middle[0] + 9 * (place - (dots.length - 1) / 2), cy: way.middle[1], r: 4, class: kind}));
-    const isOut = page.out && [`${from}+ ${to}+`, `${to}- ${from}+`].includes(page.out.slice(0, 2).join(" "));
-    line.setAttribute("class", isOut ? "edge out" : "edge");
+    const full = Math.max(0, counts.get(from + "+") + ahead(edge) - counts.get(to + "+"));
+    const room = Math.max(0, counts.get(to + "-") + 1 - ahead(edge) - counts.get(from + "+"));
+    const key = [...way.middle, full, room].join();
+    if (seen.has(key)) continue;
+    seen.add(key);
+    for (let place = 0; place < full + room; place++) {
+      const cx = way.middle[0] + 9 * (place - (full + room - 1) / 2);
+      dots.push(drawn("circle", {cx, cy: way.middle[1], r: 4, class: place < full ? "full" : "room"}));
+    }
   }
+  page.dots.replaceChildren(...dots);
 }
 
-// ---- The waves, as many firings as fit, with the present among them
+// ---- The waves, as many firings as fit, with the present among them, of the nodes in view
 
 function showWaves() {
   const room = Math.max(10, Math.floor((find("wave").clientWidth - NAMES - 20) / UNIT));
   const first = Math.max(0, Math.min(page.at - (room >> 1), page.log.length - room));
   const last = Math.min(page.log.length, first + room);
-  const tall = RAIL * told.nodes.length + 20;
-  const svg = drawn("svg", {width: NAMES + UNIT * room + 20, height: tall});
+  const tall = RAIL * told.nodes.length + 20, svg = page.waves;
+  svg.replaceChildren();
+  svg.setAttribute("width", NAMES + UNIT * room + 20);
+  svg.setAttribute("height", tall);
   const across = place => NAMES + UNIT * (place - first);
   if (find("order").value === "clocked") showTurns(svg, first, last, across, tall);
-  told.nodes.forEach((node, row) => wave(svg, node, row, first, last, across));
+  const top = Math.floor(find("wave").scrollTop / RAIL) - 2, rows = find("wave").clientHeight / RAIL + 4;
+  told.nodes.forEach((node, row) => {
+    if (top <= row && row <= top + rows) wave(svg, node, row, first, last, across);
+  });
   put(svg, "line", {x1: across(page.at), x2: across(page.at), y1: 0, y2: tall, class: "present"});
-  find("wave").replaceChildren(svg);
 }
 
 function showTurns(svg, first, last, across, tall) {
@@ -188,42 +317,18 @@ function showTurns(svg, first, last, across, tall) {
 function wave(svg, node, row, first, last, across) {
   const low = RAIL * row + 24, title = told.titles[isRegister(node) ? node.slice(1) : node];
   put(svg, "text", {x: 6, y: low - 3, class: "left"}, `${node} ${title}`.slice(0, 24));
-  const {marks, bad} = known().get(node);
+  const {"+": opens, "-": shuts, bad} = known().nodes.get(node);
   put(svg, "path", {class: "rail", d: `M${across(first)},${low}H${across(last)}`});
-  if (node[0] === "S" && first === 0 && (marks[0] || [last])[0] * UNIT > 16) {
+  if (node[0] === "S" && first === 0 && (opens.length > 0 ? opens[0] : last) * UNIT > 16) {
     put(svg, "text", {x: NAMES + 3, y: low - 4, class: "value left"}, shortened(valueOf(node, 0)));
   }
-  let openings = 0;
-  marks.forEach(([place, isOpening], number) => {
-    if (!isOpening) return;
-    openings += 1;
-    const shut = (marks[number + 1] || [last])[0], next = (marks[number + 2] || [last])[0];
-    if (next < first || place > last) return;
-    const from = Math.max(first, place), to = Math.min(last, Math.max(shut, from));
+  for (let k = Math.max(0, upTo(opens, first - 1) - 1); k < opens.length && opens[k] <= last; k++) {
+    const shut = k < shuts.length ? shuts[k] : last, next = k + 1 < opens.length ? opens[k + 1] : last;
+    const from = Math.max(first, opens[k]), to = Math.min(last, Math.max(shut, from));
     if (shut > first) put(svg, "rect", {class: "up", x: across(from), y: low - 16, width: across(to) - across(from), height: 16});
-    const value = bad.has(openings) ? "?" : shortened(valueOf(node, openings)), space = (Math.min(next, last) - from) * UNIT;
-    if (place >= first && value.length * 7 < space + 7) put(svg, "text", {x: across(from) + 3, y: low - 4, class: "value left"}, value);
-  });
-}
-
-// Where each node fires in the log, and at which openings its value need not be that of the trace;
-// worked out once for a log.
-function known() {
-  if (page.known && page.known.log === page.log && page.known.out === page.out) return page.known.nodes;
-  const nodes = new Map(told.nodes.map(node => [node, {marks: [], bad: new Set()}]));
-  const watch = newWatch();
-  page.log.forEach((event, place) => {
-    nodes.get(event.slice(0, -1)).marks.push([place + 1, event.endsWith("+")]);
-    if (!page.out) return;
-    watch.fire(event);
-    for (const [node, why] of watch.wrong) if (why) nodes.get(node).bad.add(watch.opened.get(node));
-  });
-  page.known = {log: page.log, out: page.out, nodes};
-  return nodes;
-}
-
-function newWatch() {
-  return new Watch(told.nodes, told.edges.map(edge => [...edge, ahead(edge)]));
+    const value = bad.has(k + 1) ? "?" : shortened(valueOf(node, k + 1)), space = (Math.min(next, last) - from) * UNIT;
+    if (opens[k] >= first && value.length * 7 < space + 7) put(svg, "text", {x: across(from) + 3, y: low - 4, class: "value left"}, value);
+  }
 }
 
 // ---- The log
@@ -231,11 +336,11 @@ function newWatch() {
 function showLog() {
   const room = Math.max(5, Math.floor(find("log").clientHeight / LINE) - 1);
   const first = Math.max(0, Math.min(page.at - (room >> 1), page.log.length - room));
-  const counts = page.rule.counts(page.log, first);
+  const {nodes} = known();
   const lines = page.log.slice(first, first + room).map((event, place) => {
-    add(counts, event);
     const line = document.createElement("div"), number = first + place + 1;
-    line.textContent = `${String(number).padStart(4)} ${event} ${counts.get(event)}`;
+    const turn = upTo(nodes.get(event.slice(0, -1))[event.slice(-1)], number);
+    line.textContent = `${String(number).padStart(4)} ${event} ${turn}`;
     line.className = number === page.at ? "now" : number > page.at ? "later" : "";
     line.onclick = () => go(number);
     return line;
@@ -246,16 +351,30 @@ function showLog() {
 // ---- What the reader does
 
 function show() {
-  const {counts, watch} = state();
-  showBoxes(counts, watch);
-  showDots(counts);
+  const now = counts(), {first} = known();
+  showBoxes(now);
+  showDots(now);
   showWaves();
   showLog();
   find("at").max = page.log.length;
   find("at").value = page.at;
   find("count").textContent = `${page.at} of ${2 * told.nodes.length * told.turns} firings`;
-  history.replaceState(null, "", "#" + page.at);
-  if (watch.first) say(watch.first, true);
+  clearTimeout(page.address);
+  page.address = setTimeout(() => history.replaceState(null, "", "#" + page.at), 250);
+  if (first && first.place <= page.at) say(first.why, true);
+}
+
+// Calls a function once before the next drawing, however often it is asked for.
+function once(redraw) {
+  let isDue = false;
+  return () => {
+    if (isDue) return;
+    isDue = true;
+    requestAnimationFrame(() => {
+      isDue = false;
+      redraw();
+    });
+  };
 }
 
 function say(text, isBad) {
@@ -277,9 +396,8 @@ function waiting(event, counts) {
 
 function clicked(node) {
   stop();
-  const counts = page.rule.counts(page.log, page.at);
-  const event = node + (counts.get(node + "+") > counts.get(node + "-") ? "-" : "+");
-  if (!page.rule.mayFire(event, counts)) return say(waiting(event, counts), true);
+  const now = counts(), event = nextEvent(node, now);
+  if (!page.rule.mayFire(event, now)) return say(waiting(event, now), true);
   page.log = page.rule.brought(page.log, page.at, event);
   go(page.at + 1);
 }
@@ -319,6 +437,7 @@ function leaveOut() {
   page.out = arc;
   page.rule = new Rule(told.nodes, told.arcs.filter(one => one !== arc), told.turns);
   page.log = told.log;
+  showMissing();
   find("order").value = "log";
   find("slow").value = "";
   const made = arc && page.rule.runAhead(arc[0], arc[1], arc[2]);
@@ -328,24 +447,15 @@ function leaveOut() {
     return;
   }
   page.log = page.rule.delayed(made, made.length, () => 1);
-  go(harmed(made.length));
-}
-
-// Where from a place on a node first has another value than that of its turn.
-function harmed(place) {
-  const watch = newWatch();
-  for (let at = 0; at < page.log.length; at++) {
-    watch.fire(page.log[at]);
-    if (watch.first) return at + 1;
-  }
-  return place;
+  const {first} = known();
+  go(first ? first.place : made.length);
 }
 
 function save() {
-  const counts = page.rule.counts([], 0);
+  const fired = page.rule.counts([], 0);
   const lines = page.log.slice(0, page.at).map(event => {
-    add(counts, event);
-    return `${event} ${counts.get(event)}\n`;
+    add(fired, event);
+    return `${event} ${fired.get(event)}\n`;
   });
   const link = document.createElement("a");
   link.href = URL.createObjectURL(new Blob(lines, {type: "text/plain"}));
@@ -360,15 +470,21 @@ function option(select, value, text) {
   find(select).appendChild(one);
 }
 
+// The orders of data edges, of which there may be twenty thousand: listed where the reader asks.
+function listOrders() {
+  find("out").onfocus = find("out").onpointerdown = null;
+  const kept = new Set(told.edges.flatMap(([from, to]) => [`${from}+ ${to}+`, `${to}- ${from}+`]));
+  told.arcs.forEach((arc, number) => {
+    if (kept.has(`${arc[0]} ${arc[1]}`)) option("out", number, `${arc[0]} to ${arc[1]}`);
+  });
+}
+
 function begin() {
   find("head").textContent = `${told.name}: ${told.nodes.length} nodes, ${told.turns} vectors`;
   for (const speed of [1, 2, 5, 20, 100]) option("speed", speed, `${speed} a second`);
   find("speed").value = 2;
   for (const node of told.nodes) option("slow", node, node);
-  const kept = new Set(told.edges.flatMap(([from, to]) => [`${from}+ ${to}+`, `${to}- ${from}+`]));
-  told.arcs.forEach((arc, number) => {
-    if (kept.has(`${arc[0]} ${arc[1]}`)) option("out", number, `${arc[0]} to ${arc[1]}`);
-  });
+  find("out").onfocus = find("out").onpointerdown = listOrders;
   const buttons = {first: () => go(0), back: () => go(page.at - 1), step: () => go(page.at + 1)};
   for (const name in buttons) find(name).onclick = () => { stop(); buttons[name](); };
   find("play").onclick = play;
@@ -380,8 +496,13 @@ function begin() {
   find("save").onclick = save;
   document.onkeydown = key => pressed(key);
   window.onhashchange = () => go(Number(location.hash.slice(1)) || 0);
-  window.onresize = () => { showWaves(); showLog(); };
+  find("net").onscroll = once(() => { showLines(); showDots(counts()); });
+  find("wave").onscroll = once(showWaves);
+  window.onresize = once(() => { showLines(); showDots(counts()); showWaves(); showLog(); });
+  page.waves = drawn("svg", {});
+  find("wave").replaceChildren(page.waves);
   picture();
+  showLines();
   go(Number(location.hash.slice(1)) || 0);
 }
 

@@ -81,20 +81,20 @@ class Rule {
 
   // A log from its first lines on, where each node takes its delay once it may fire.
   delayed(log, at, delayOf) {
-    const counts = this.counts(log, at), made = log.slice(0, at), due = new Map();
+    const front = new Front(this, this.counts(log, at)), made = log.slice(0, at), due = new Map();
     let now = 0;
     const look = event => {
-      if (!due.has(event) && this.mayFire(event, counts)) {
+      if (!due.has(event) && front.mayFire(event)) {
         due.set(event, now + delayOf(event.slice(0, -1)));
       }
     };
     this.events.forEach(look);
     while (due.size > 0) {
-      let first = null;
-      for (const event of due.keys()) if (first === null || due.get(event) < due.get(first)) first = event;
-      now = due.get(first);
+      let first = null, least = Infinity;
+      for (const [event, time] of due) if (time < least) [first, least] = [event, time];
+      now = least;
       due.delete(first);
-      add(counts, first);
+      front.fire(first);
       made.push(first);
       look(first);
       for (const arc of this.behind.get(first)) look(arc[1]);
@@ -122,6 +122,33 @@ class Rule {
   }
 }
 
+// How many arcs lack a token for the next firing of each event, kept up while events fire: a firing
+// looks at the arcs of its event alone.
+class Front {
+  constructor(rule, counts) {
+    this.rule = rule;
+    this.counts = counts;
+    this.lacks = new Map(rule.events.map(event => [event, rule.lacking(event, counts).length]));
+  }
+
+  mayFire(event) {
+    return this.lacks.get(event) === 0 && !this.rule.isOver(event, this.counts);
+  }
+
+  // An arc from an event to itself is neither gained nor lost.
+  fire(event) {
+    add(this.counts, event);
+    const number = this.counts.get(event);
+    for (const [source, , tokens] of this.rule.into.get(event)) {
+      if (source !== event && this.counts.get(source) + tokens === number) add(this.lacks, event);
+    }
+    for (const [, target, tokens] of this.rule.behind.get(event)) {
+      const is = target !== event && number + tokens === this.counts.get(target) + 1;
+      if (is) add(this.lacks, target, -1);
+    }
+  }
+}
+
 // The nodes whose value need not be that of the trace after some firings, with the reason, where an
 // order may be missing. An edge is [producer, consumer, how far the producer begins ahead].
 class Watch {
@@ -131,20 +158,40 @@ class Watch {
     this.wrong = new Map();
     this.first = null;
     this.from = new Map(nodes.map(node => [node, []]));
-    for (const edge of edges) this.from.get(edge[1]).push(edge);
+    this.to = new Map(nodes.map(node => [node, []]));
+    for (const edge of edges) {
+      this.from.get(edge[1]).push(edge);
+      this.to.get(edge[0]).push(edge[1]);
+    }
   }
 
+  // Fires an event, and gives the nodes whose value may be another then.
   fire(event) {
-    const node = event.slice(0, -1);
-    add(event.endsWith("+") ? this.opened : this.closed, node);
-    if (event.endsWith("+")) this.settle();
+    const node = event.slice(0, -1), isOpening = event.endsWith("+");
+    add(isOpening ? this.opened : this.closed, node);
+    const open = isOpening ? this.reached(node) : [];
+    this.settle(open);
+    return open;
+  }
+
+  isOpen(node) {
+    return this.opened.get(node) > this.closed.get(node);
+  }
+
+  // The open nodes that see what a node has: itself, and through open ones what follows it.
+  reached(node) {
+    const found = new Set([node]);
+    for (const one of found) {
+      for (const next of this.to.get(one)) if (this.isOpen(next)) found.add(next);
+    }
+    return [...this.opened.keys()].filter(one => found.has(one) && this.isOpen(one));
   }
 
   // What is open has what its producers have now: first who came too early or too late, and then,
   // until nothing is new, who takes from such a one.
-  settle() {
-    const open = [...this.opened.keys()].filter(node => this.opened.get(node) > this.closed.get(node));
+  settle(open) {
     for (const node of open) this.wrong.set(node, this.mistimed(node));
+    this.first = this.first || open.map(node => this.wrong.get(node)).find(Boolean) || null;
     let isNew = true;
     while (isNew) {
       isNew = false;
@@ -154,7 +201,6 @@ class Watch {
         isNew = isNew || Boolean(edge);
       }
     }
-    this.first = this.first || open.map(node => this.mistimed(node)).find(Boolean) || null;
   }
 
   // Why the value of a producer is not that of a node's own turn.
