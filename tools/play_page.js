@@ -6,7 +6,7 @@
 const find = name => document.getElementById(name);
 const isRegister = node => node !== "IN" && node !== "OUT";
 const ahead = edge => Number(edge[0][0] === "S");
-const HALF = 42, TALL = 19, UNIT = 18, RAIL = 26, NAMES = 150, LINE = 18, BESIDE = 120;
+const HALF = 42, TALL = 19, UNIT = 18, RAIL = 26, NAMES = 150, LINE = 18, BESIDE = 120, MANY = 2000;
 
 const page = {
   log: told.log, at: 0, timer: null, out: null, known: null, address: null,
@@ -470,7 +470,7 @@ function option(select, value, text) {
   find(select).appendChild(one);
 }
 
-// The orders of data edges, of which there may be twenty thousand: listed where the reader asks.
+// The orders of data edges; where there are many, up to twenty thousand, once the reader asks.
 function listOrders() {
   find("out").onfocus = find("out").onpointerdown = null;
   const kept = new Set(told.edges.flatMap(([from, to]) => [`${from}+ ${to}+`, `${to}- ${from}+`]));
@@ -484,7 +484,8 @@ function begin() {
   for (const speed of [1, 2, 5, 20, 100]) option("speed", speed, `${speed} a second`);
   find("speed").value = 2;
   for (const node of told.nodes) option("slow", node, node);
-  find("out").onfocus = find("out").onpointerdown = listOrders;
+  if (told.arcs.length <= MANY) listOrders();
+  else find("out").onfocus = find("out").onpointerdown = listOrders;
   const buttons = {first: () => go(0), back: () => go(page.at - 1), step: () => go(page.at + 1)};
   for (const name in buttons) find(name).onclick = () => { stop(); buttons[name](); };
   find("play").onclick = play;
