@@ -319,16 +319,20 @@ function wave(svg, node, row, first, last, across) {
   put(svg, "text", {x: 6, y: low - 3, class: "left"}, `${node} ${title}`.slice(0, 24));
   const {"+": opens, "-": shuts, bad} = known().nodes.get(node);
   put(svg, "path", {class: "rail", d: `M${across(first)},${low}H${across(last)}`});
-  if (node[0] === "S" && first === 0 && (opens.length > 0 ? opens[0] : last) * UNIT > 16) {
-    put(svg, "text", {x: NAMES + 3, y: low - 4, class: "value left"}, shortened(valueOf(node, 0)));
-  }
-  for (let k = Math.max(0, upTo(opens, first - 1) - 1); k < opens.length && opens[k] <= last; k++) {
+  const begun = upTo(opens, first - 1);
+  if (node[0] === "S" && begun === 0) written(svg, valueOf(node, 0), first, opens.length > 0 ? opens[0] : last, low, across);
+  for (let k = Math.max(0, begun - 1); k < opens.length && opens[k] <= last; k++) {
     const shut = k < shuts.length ? shuts[k] : last, next = k + 1 < opens.length ? opens[k + 1] : last;
     const from = Math.max(first, opens[k]), to = Math.min(last, Math.max(shut, from));
     if (shut > first) put(svg, "rect", {class: "up", x: across(from), y: low - 16, width: across(to) - across(from), height: 16});
-    const value = bad.has(k + 1) ? "?" : shortened(valueOf(node, k + 1)), space = (Math.min(next, last) - from) * UNIT;
-    if (opens[k] >= first && value.length * 7 < space + 7) put(svg, "text", {x: across(from) + 3, y: low - 4, class: "value left"}, value);
+    written(svg, bad.has(k + 1) ? "?" : valueOf(node, k + 1), from, Math.min(next, last), low, across);
   }
+}
+
+// A value from one place on, where there is room up to another.
+function written(svg, value, from, to, low, across) {
+  const text = shortened(value);
+  if (text.length * 7 < (to - from) * UNIT + 7) put(svg, "text", {x: across(from) + 3, y: low - 4, class: "value left"}, text);
 }
 
 // ---- The log
