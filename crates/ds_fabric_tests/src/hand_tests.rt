@@ -1,12 +1,13 @@
 //! Passes that are dealt and gathered, on one thread and on two.
-ghost use Rattle.std.specs.Prelude.{◌≡◌};
-ghost use Rattle.ds_fabric_tests.specs.Toggle.{HoldsMaster, HoldsSlave};
+ghost use Rattle.std.specs.Prelude.{◌≡◌, IfSome};
+ghost use Rattle.ds_fabric_tests.specs.Toggle.{toggle, HoldsBoth, HoldsMaster, HoldsSlave};
 
 use crate::toggle::{
     Toggle, begin, end, fired, has, layout, master, part, slave, slave_seems_ready, step, unite,
 };
 use ds_base::{ArcId, LatchId};
-use ds_fabric::{Fabric, Pass, Step};
+use ds_fabric::{Fabric, Pass, Record, Step};
+use ds_rule::Layout;
 use std::thread;
 use std::thread::Threads;
 
@@ -16,6 +17,60 @@ fn not_yet(arc: u32, seen: u64) -> Step {
         arc: ArcId::new(arc),
         seen,
     }
+}
+
+// The nodes that two passes hold, and the room that each has.
+fn are_apart(fabric: &Fabric<Toggle, Toggle>, pass: &Pass, other: &Pass) -> bool
+    requires slave { HoldsSlave fabric.now pass.now }
+    requires master { HoldsMaster fabric.now other.now }
+{
+    let slave = pass.holds(LatchId::new(0)) && !pass.holds(LatchId::new(1));
+    let master = !other.holds(LatchId::new(0)) && other.holds(LatchId::new(1));
+    slave && master && pass.room() == 2 && other.room() == 1
+}
+
+// The slave opens once the master closed.
+fn waits_for_the_master(fabric: &Fabric<Toggle, Toggle>, pass: &mut Pass, other: &mut Pass) -> bool
+    requires slave { HoldsSlave fabric.now pass.old }
+    requires master { HoldsMaster fabric.now other.old }
+    ensures slave { HoldsSlave fabric.now pass.new }
+    ensures master { HoldsMaster fabric.now other.new }
+{
+    let opened = master(fabric, other) == fired(2, 1, 0);
+    let early = slave_seems_ready(fabric, pass) || slave(fabric, pass) != not_yet(5, 0);
+    let closed = master(fabric, other) == fired(3, 1, 1);
+    opened && !early && closed && slave_seems_ready(fabric, pass)
+}
+
+// The master opens again once the slave closed.
+fn waits_for_the_slave(fabric: &Fabric<Toggle, Toggle>, pass: &mut Pass, other: &mut Pass) -> bool
+    requires slave { HoldsSlave fabric.now pass.old }
+    requires master { HoldsMaster fabric.now other.old }
+    ensures slave { HoldsSlave fabric.now pass.new }
+    ensures master { HoldsMaster fabric.now other.new }
+{
+    let opened = slave(fabric, pass) == fired(0, 1, 2);
+    let early = master(fabric, other) != not_yet(7, 0);
+    let closed = slave(fabric, pass) == fired(1, 1, 3);
+    let again = master(fabric, other) == fired(2, 2, 4);
+    let waits = slave(fabric, pass) == not_yet(5, 1);
+    let counts = (pass.fired(LatchId::new(0)), other.fired(LatchId::new(1))) == (2, 3);
+    opened && !early && closed && again && waits && counts
+}
+
+// What is left is fired by a pass of both.
+fn is_completed(fabric: &Fabric<Toggle, Toggle>, pass: &mut Pass) -> bool
+    requires { HoldsBoth fabric.now pass.old }
+    ensures { HoldsBoth fabric.now pass.new }
+{
+    let both = pass.holds(LatchId::new(0)) && pass.holds(LatchId::new(1));
+    let closed = step(fabric, pass, 1) == fired(3, 2, 5);
+    let opened = step(fabric, pass, 0) == fired(0, 2, 6);
+    let last = step(fabric, pass, 0) == fired(1, 2, 7);
+    let slave = step(fabric, pass, 0) == Step::Done;
+    let master = step(fabric, pass, 1) == Step::Done;
+    let counts = (pass.fired(LatchId::new(0)), pass.fired(LatchId::new(1))) == (4, 4);
+    both && closed && opened && last && slave && master && counts
 }
 
 #[test]
@@ -29,35 +84,12 @@ fn two_passes_fire_in_turn(rt: HostRuntime) {
     let Ok(mut other) = part(rt.alloc(), &fabric, &mut pass) else {
         panic!(rt; "memory");
     };
-    assert!(rt; pass.holds(LatchId::new(0)) && !pass.holds(LatchId::new(1)));
-    assert!(rt; !other.holds(LatchId::new(0)) && other.holds(LatchId::new(1)));
-    assert_eq!(rt; pass.room(), 2);
-    assert_eq!(rt; other.room(), 1);
-
-    assert_eq!(rt; master(&fabric, &mut other), fired(2, 1, 0));
-    // the slave opens once the master closed
-    assert!(rt; !slave_seems_ready(&fabric, &pass));
-    assert_eq!(rt; slave(&fabric, &mut pass), not_yet(5, 0));
-    assert_eq!(rt; master(&fabric, &mut other), fired(3, 1, 1));
-    assert!(rt; slave_seems_ready(&fabric, &pass));
-    assert_eq!(rt; slave(&fabric, &mut pass), fired(0, 1, 2));
-    // the master opens again once the slave closed
-    assert_eq!(rt; master(&fabric, &mut other), not_yet(7, 0));
-    assert_eq!(rt; slave(&fabric, &mut pass), fired(1, 1, 3));
-    assert_eq!(rt; master(&fabric, &mut other), fired(2, 2, 4));
-    assert_eq!(rt; slave(&fabric, &mut pass), not_yet(5, 1));
-    assert_eq!(rt; pass.fired(LatchId::new(0)), 2);
-    assert_eq!(rt; other.fired(LatchId::new(1)), 3);
-
+    let apart = are_apart(&fabric, &pass, &other);
+    let first = waits_for_the_master(&fabric, &mut pass, &mut other);
+    let second = waits_for_the_slave(&fabric, &mut pass, &mut other);
     unite(&fabric, &mut pass, other);
-    assert!(rt; pass.holds(LatchId::new(0)) && pass.holds(LatchId::new(1)));
-    assert_eq!(rt; step(&fabric, &mut pass, 1), fired(3, 2, 5));
-    assert_eq!(rt; step(&fabric, &mut pass, 0), fired(0, 2, 6));
-    assert_eq!(rt; step(&fabric, &mut pass, 0), fired(1, 2, 7));
-    assert_eq!(rt; step(&fabric, &mut pass, 0), Step::Done);
-    assert_eq!(rt; step(&fabric, &mut pass, 1), Step::Done);
-    assert_eq!(rt; pass.fired(LatchId::new(0)), 4);
-    assert_eq!(rt; pass.fired(LatchId::new(1)), 4);
+    let third = is_completed(&fabric, &mut pass);
+    assert_eq!(rt; (apart, first, second, third), (true, true, true, true));
 }
 
 // The master opens and closes.
@@ -90,32 +122,51 @@ fn both_at_once(
     )
 }
 
+// What is left once the slave has tried to open, which it did if the master had closed by then.
+fn goes_on(fabric: &Fabric<Toggle, Toggle>, pass: &mut Pass, tried: Step) -> bool
+    requires { HoldsBoth fabric.now pass.old }
+    ensures { HoldsBoth fabric.now pass.new }
+{
+    let opened = if pass.fired(LatchId::new(0)) == 0 {
+        step(fabric, pass, 0)
+    } else {
+        tried
+    };
+    let closed = step(fabric, pass, 0) == fired(1, 1, 3);
+    let again = step(fabric, pass, 1) == fired(2, 2, 4);
+    opened == fired(0, 1, 2) && closed && again
+}
+
+// The record of a run on two threads up to the master's second opening; none where memory is
+// lacking or another event fired.
+fn record_of<R: AllocGlobal + Threads>(rt: &R, graph: &Layout<Toggle>) -> Option<Record>
+    requires { graph.now ≡ toggle }
+    ensures { IfSome result (λ r. r.shown.view.run ≡ toggle) }
+{
+    let Ok((fabric, mut pass)) = begin(rt.alloc(), graph) else {
+        return None;
+    };
+    let Ok(mut other) = part(rt.alloc(), &fabric, &mut pass) else {
+        return None;
+    };
+    let (both, tried) = both_at_once(rt, &fabric, &mut pass, &mut other);
+    unite(&fabric, &mut pass, other);
+    if both && goes_on(&fabric, &mut pass, tried) {
+        Some(end(fabric, pass))
+    } else {
+        None
+    }
+}
+
 #[test]
 fn read_back(rt: HostRuntime) {
     let Ok(graph) = layout(rt.alloc()) else {
         panic!(rt; "memory");
     };
     for _ in 0..100u32 {
-        let Ok((fabric, mut pass)) = begin(rt.alloc(), &graph) else {
-            panic!(rt; "memory");
+        let Some(record) = record_of(&rt, &graph) else {
+            panic!(rt; "firings");
         };
-        let Ok(mut other) = part(rt.alloc(), &fabric, &mut pass) else {
-            panic!(rt; "memory");
-        };
-        let (both, tried) = both_at_once(&rt, &fabric, &mut pass, &mut other);
-        assert!(rt; both);
-        unite(&fabric, &mut pass, other);
-        // the slave needs that the master closed
-        let opened = if pass.fired(LatchId::new(0)) == 0 {
-            step(&fabric, &mut pass, 0)
-        } else {
-            tried
-        };
-        assert_eq!(rt; opened, fired(0, 1, 2));
-        assert_eq!(rt; step(&fabric, &mut pass, 0), fired(1, 1, 3));
-        assert_eq!(rt; step(&fabric, &mut pass, 1), fired(2, 2, 4));
-        let record = end(fabric, pass);
-        assert!(rt; has(&record, 0, &[2]));
-        assert!(rt; has(&record, 2, &[0, 4]));
+        assert!(rt; has(&record, 0, &[2]) && has(&record, 2, &[0, 4]));
     }
 }
