@@ -9,8 +9,8 @@ use Rattle.std.proofs.lemmas.List.Kept.{AllPairs-cons}
 use Rattle.ds_lines.specs.Line.{Line}
 use Rattle.ds_marked.specs.Graph.{Graph}
 use Rattle.ds_period.specs.Word.{has_delay, written_delay}
-use Rattle.ds_period.specs.Read.{Given, HasOneEach, after_line, arc_named, delays_from, delays_of, is_given, none_given, repeated_order, then_lines, unknown_order, with_delay}
-use Rattle.ds_period.specs.Written.{AreWritten, DelaysAreWritten, GivesDelay}
+use Rattle.ds_period.specs.Read.{Given, HasOneEach, after_line, arc_named, delays_from, is_given, none_given, repeated_order, then_lines, unknown_order, with_delay}
+use Rattle.ds_period.specs.Written.{DelaysAreWritten, GivesDelay}
 use Rattle.ds_period.specs.declared.fault.DelayFault.{DelayFault}
 use Rattle.ds_period.specs.declared.fault.DelayKind.{DelayKind}
 use Rattle.ds_period.specs.declared.fault.DelayKind.TheVariants.{BadWord}
