@@ -3,7 +3,8 @@
 
 It makes netlists by make_netlist.py in a folder of its own, and runs each simulator on the same
 netlist and the same vectors. A simulator that is not installed is left out: Icarus Verilog
-(iverilog, vvp), Verilator, Yosys by its C++ simulation (yosys, g++), and interpreter.cpp (g++).
+(iverilog, vvp), Verilator, Yosys by its C++ simulation (yosys, g++), and interpreter.cpp and
+bytes.cpp (g++).
 Each time is the median of some runs from the start of the process to its end, in seconds, with
 reading and printing; compiling a netlist for a simulator is not counted. The exit status is 1
 where two traces differ.
@@ -204,7 +205,7 @@ def prepare(folder, turns):
     ready = {}
     for name, (programs, commands, run) in builds().items():
         if are_there(*programs) and all(built(name, folder, command) for command in commands):
-            ready[name] = (run, "input.txt" if name == "C++ rows" else None)
+            ready[name] = (run, "input.txt" if name.startswith("C++") else None)
     return ready
 
 
@@ -217,6 +218,11 @@ def builds():
             ["g++"],
             [["g++", "-O2", "-o", "rows", os.path.join(HERE, "interpreter.cpp")]],
             ["./rows"],
+        ),
+        "C++ bytes": (
+            ["g++"],
+            [["g++", "-O2", "-o", "bytes", os.path.join(HERE, "bytes.cpp")]],
+            ["./bytes"],
         ),
         "iverilog": (
             ["iverilog", "vvp"],
@@ -288,7 +294,7 @@ def measure(name, turns, words, program, times):
         return not other
 
 
-NAMES = ["clock", "run", "C++ rows", "iverilog", "verilator", "yosys"]
+NAMES = ["clock", "run", "C++ rows", "C++ bytes", "iverilog", "verilator", "yosys"]
 
 
 def main():

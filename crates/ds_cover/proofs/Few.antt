@@ -1,23 +1,19 @@
 -- The word of a table of few inputs.
-use Rattle.std.proofs.Common.{◌≡◌, ◌≢◌, ℕ, zero, suc, ◌+◌, ◌-◌, ◌*◌, ◌^◌, ◌<◌, ◌≤◌, ◌==◌, Bool, true, false, if◌then◌else◌, min, List, [], ◌∷◌, length, take, drop, get_or, map, refl, ap, arith, sym, ◌∙◌, subst}
+use Rattle.std.proofs.Common.{◌≡◌, ◌≢◌, ℕ, ◌-◌, ◌<◌, ◌≤◌, ◌==◌, Bool, true, false, if◌then◌else◌, min, List, [], ◌∷◌, length, take, drop, get_or, map, refl, ap, arith, sym, ◌∙◌, subst}
 use Rattle.std.specs.Prelude.{All}
-use Rattle.std.specs.Int.{bit_at}
 use Rattle.std.specs.Int.RustNames.{bit_and, bit_or}
-use Rattle.std.specs.List.{range_with_len}
 use Rattle.std.proofs.lemmas.List.{take_all, length-map, take-map}
-use Rattle.std.proofs.lemmas.List.FromFn.{length-range_with_len, get_or-range_with_len}
 use Rattle.std.proofs.lemmas.List.Elements.{All-cons, All-head, All-tail}
 use Rattle.std.proofs.lemmas.Nat.{and_le_r}
 use Rattle.ds_base.specs.Values.{AreKnown, Row, either}
 use Rattle.ds_base.specs.declared.value.Value.{Value}
 use Rattle.ds_base.specs.declared.value.Value.TheVariants.{Zero, One, Unknown}
 use Rattle.ds_cover.specs.Cover.{signed, value_at, values_at}
-use Rattle.ds_cover.specs.Packed.{bits_by, contradicted, doubted, mask_value, masks_value, one_bit, unknown_bit, verdict, words_of, zero_bit}
-use Rattle.ds_cover.specs.Kept.{AreThree, IsQuick, IsSingle, IsTruth, bit_value, place_value, singles_value, six_nets}
+use Rattle.ds_cover.specs.Packed.{bits_by, contradicted, doubted, mask_value, masks_value, one_bit, unknown_bit, verdict, words_of}
+use Rattle.ds_cover.specs.Kept.{AreThree, IsQuick, IsSingle, IsTruth, bit_value, singles_value, six_nets}
 use Rattle.ds_cover.specs.declared.entry.Quick.{Quick}
 use Rattle.ds_cover.specs.declared.mask.Mask.{Mask}
 use Rattle.ds_cover.specs.declared.word.Word.{Word}
-use Rattle.ds_cover.proofs.Bits.{bit_at-bits_by, bits_by-within, one_bit-few}
 
 -- a value that is zero or one
 abbrev Known : Value → Type 0
@@ -54,7 +50,7 @@ mask_known mask word none =
     let sure : doubted mask word ≡ 0 = (let e = ap (bit_and (bit_or mask.needs_one mask.needs_zero)) none in let l = and_le_r (bit_or mask.needs_one mask.needs_zero) 0 in omega arith) in
     subst (λ (n : ℕ). Known (verdict (contradicted mask word) n)) (sym sure) (sure_verdict (contradicted mask word == 0))
 
-singles_known : (masks : List Mask) (word : Word) → word.unknown ≡ 0 → Known (singles_value masks word)
+pub singles_known : (masks : List Mask) (word : Word) → word.unknown ≡ 0 → Known (singles_value masks word)
 singles_known [] word none = zero_known
 singles_known (mask ∷ masks) word none = either_known (mask_value mask word) (singles_value masks word) (mask_known mask word none) (singles_known masks word none)
 
@@ -63,54 +59,6 @@ no_unknowns [] known = refl
 no_unknowns (Zero ∷ values) known = (let e = no_unknowns values (All-tail Known Zero values known) in omega arith)
 no_unknowns (One ∷ values) known = (let e = no_unknowns values (All-tail Known One values known) in omega arith)
 no_unknowns (Unknown ∷ values) known = absurd (All-head Known Unknown values known refl)
-
--- of known values each is a zero or a one
-complement : (values : Row) → AreKnown values → bits_by one_bit values + bits_by zero_bit values + 1 ≡ 2 ^ length values
-complement [] known = refl
-complement (Zero ∷ values) known = (let e = complement values (All-tail Known Zero values known) in grind arith)
-complement (One ∷ values) known = (let e = complement values (All-tail Known One values known) in grind arith)
-complement (Unknown ∷ values) known = absurd (All-head Known Unknown values known refl)
-
--- the words of six known values
-six_words : (values : Row) → length values ≡ 6 → AreKnown values → words_of values ≡ record { ones = bits_by one_bit values; zeros = 63 - bits_by one_bit values; unknown = 0 }
-six_words values six known =
-    let all : bits_by one_bit values + bits_by zero_bit values + 1 ≡ 2 ^ 6 = complement values known ∙ ap (λ (n : ℕ). 2 ^ n) six in
-    let zeros : bits_by zero_bit values ≡ 63 - bits_by one_bit values = omega arith in
-    ap (λ (n : ℕ). record { ones = bits_by one_bit values; zeros = n; unknown = bits_by unknown_bit values }) zeros
-    ∙ ap (λ (n : ℕ). record { ones = bits_by one_bit values; zeros = 63 - bits_by one_bit values; unknown = n }) (no_unknowns values known)
-
--- the bit of a place
-abbrev pub place_bit : List Mask → Bool → ℕ → ℕ
-place_bit masks on place = one_bit (place_value masks on place)
-
--- the word from its bits
-pub truth_is : (masks : List Mask) (on : Bool) (truth : ℕ) → truth ≡ bits_by (place_bit masks on) (range_with_len 0 64) → IsTruth masks on truth
-truth_is masks on truth is values six known =
-    let place = bits_by one_bit values in
-    let few : place < 64 = bits_by-within one_bit one_bit-few values 6 (omega arith) in
-    let long : length (range_with_len 0 64) ≡ 64 = length-range_with_len 0 64 in
-    let at : get_or (range_with_len 0 64) place 0 ≡ place = get_or-range_with_len 0 64 place 0 few ∙ omega arith in
-    let bit : bit_at truth place ≡ place_bit masks on place = ap (λ (n : ℕ). bit_at n place) is
-    ∙ (bit_at-bits_by (place_bit masks on) (λ p. one_bit-few (place_value masks on p)) (range_with_len 0 64) place 0 (omega arith) ∙ ap (place_bit masks on) at) in
-    let word = six_words values six known in
-    ap bit_value bit
-    ∙ (bit_back (place_value masks on place) (signed_known on (singles_value masks (record { ones = place; zeros = 63 - place; unknown = 0 })) (singles_known masks (record { ones = place; zeros = 63 - place; unknown = 0 }) refl))
-    ∙ ap (λ (w : Word). signed on (singles_value masks w)) (sym word))
-
--- one bit more in front
-pub truth_more : (f : ℕ → ℕ) (i old new : ℕ) → 0 < i → i ≤ 64 → old ≡ bits_by f (range_with_len i (64 - i)) → new ≡ f (i - 1) + 2 * old → new ≡ bits_by f (range_with_len (i - 1) (64 - (i - 1)))
-truth_more f zero old new some inside before after = absurd (omega arith)
-truth_more f (suc i) old new some inside before after =
-    let e : suc i - 1 ≡ i = omega arith in
-    let n : 64 - i ≡ suc (64 - suc i) = omega arith in
-    let next : suc i ≡ i + 1 = omega arith in
-    let here : new ≡ f i + 2 * bits_by f (range_with_len (suc i) (64 - suc i)) = after ∙ (ap (λ (m : ℕ). f (suc i - 1) + 2 * m) before ∙ ap (λ (m : ℕ). f m + 2 * bits_by f (range_with_len (suc i) (64 - suc i))) e) in
-    let there : new ≡ bits_by f (range_with_len i (64 - i)) =
-    here ∙ (ap (λ (m : ℕ). f i + 2 * bits_by f (range_with_len m (64 - suc i))) next ∙ ap (λ (m : ℕ). bits_by f (range_with_len i m)) (sym n)) in
-    there ∙ ap (λ (m : ℕ). bits_by f (range_with_len m (64 - m))) (sym e)
-
-pub truth_room : (f : ℕ → ℕ) → ((n : ℕ) → f n ≤ 1) → (i : ℕ) → 0 < i → i ≤ 64 → bits_by f (range_with_len i (64 - i)) < 2 ^ 63
-truth_room f few i some inside = bits_by-within f few (range_with_len i (64 - i)) 63 (let l = length-range_with_len i (64 - i) in omega arith)
 
 -- rows of one mask each, over few values
 pub singles_are : (masks : List Mask) (values : Row) → All IsSingle masks → length values ≤ 64 → masks_value values One masks ≡ singles_value masks (words_of values)
@@ -172,6 +120,3 @@ quick_is inputs masks on quick some few single small reads truth is = record {
   single = single;
   reads = reads;
 }
-
-pub place_few : (masks : List Mask) (on : Bool) (i : ℕ) → 0 < i → i ≤ 64 → bits_by (place_bit masks on) (range_with_len i (64 - i)) < 2 ^ 63
-place_few masks on = truth_room (place_bit masks on) (λ p. one_bit-few (place_value masks on p))

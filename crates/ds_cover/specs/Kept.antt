@@ -106,10 +106,6 @@ pub record IsAdded (inputs : List ℕ) (masks : List Mask) (cover : Cover) (outp
   pub kept : IsKept inputs' masks' span quick
   pub stands : IsDriven (driven_in inputs' masks' span) cover output
 
--- the value of a table of single masks where the ones of six known values are the bits of a number
-abbrev pub place_value : List Mask → Bool → ℕ → Value
-place_value masks on place = signed on (singles_value masks (record { ones = place; zeros = 63 - place; unknown = 0 }))
-
 -- the value by the word
 abbrev pub quick_bit : Quick → Row → Value
 quick_bit quick nets = bit_value (bit_at quick.truth (bits_by one_bit (values_at nets quick.nets)))

@@ -2,12 +2,14 @@
 ghost use Rattle.std.specs.Prelude.{◌≡◌, ◌+◌, ◌<◌, ◌≤◌, [], true, length, drop, take, All, IfOk};
 ghost use Rattle.ds_cover.specs.Kept.{IsAdded, IsQuick};
 ghost use Rattle.ds_cover.specs.Packed.{packed_value};
+ghost use Rattle.ds_cover.specs.Ternary.{IsWordOf};
 ghost use Rattle.ds_cover.specs.Bank.{IsMore, IsWithin, after_table, after_tables, driven_at};
 
 use crate::Table;
 use crate::entry::{Quick, Span};
 use crate::entry_value::entry_value;
 use crate::mask::{Mask, push_rows};
+use crate::ternary::word_of;
 use crate::truth::quick_of;
 use ds_base::{NetId, OutOfMemory, Row3, Value};
 use std::alloc::{AllocError, Global};
@@ -104,8 +106,8 @@ impl Bank {
         )
     }
 
-    // A table of few inputs as one word.
-    pub(crate) fn quick(&self, table: usize) -> &Quick
+    /// A table of one to six inputs as one word, where it has so many.
+    pub fn quick(&self, table: usize) -> &Quick
         requires { table < length self.now }
         ensures drives { result.now.output ≡ (driven_at self.now table).output }
         ensures quick { result.now.few ≡ true → IsQuick result.now (driven_at self.now table).cover }
@@ -114,15 +116,15 @@ impl Bank {
     }
 
     // The masks of the rows of a table.
-    pub(crate) fn masks(&self, table: usize) -> &[Mask]
+    fn masks(&self, table: usize) -> &[Mask]
         requires { table < length self.now }
         ensures { result.now ≡ (driven_at self.now table).cover.masks }
     {
         masks_of(self.masks.as_slice(), &self.spans[table])
     }
 
-    // The inputs of a table.
-    pub(crate) fn inputs(&self, table: usize) -> &[NetId]
+    /// The inputs of a table.
+    pub fn inputs(&self, table: usize) -> &[NetId]
         requires { table < length self.now }
         ensures { result.now ≡ (driven_at self.now table).cover.inputs }
     {
@@ -130,11 +132,21 @@ impl Bank {
     }
 
     // Whether the rows of a table list where its output is 1.
-    pub(crate) fn is_on(&self, table: usize) -> bool
+    fn is_on(&self, table: usize) -> bool
         requires { table < length self.now }
         ensures { result ≡ (driven_at self.now table).cover.on }
     {
         self.spans[table].on
+    }
+
+    /// The values of a table of up to three inputs, each a row of one mask, two bits for each of 27
+    /// rows of values.
+    pub fn word(&self, table: usize) -> u64
+        requires { table < length self.now }
+        ensures { IsWordOf (driven_at self.now table).cover.masks
+            (driven_at self.now table).cover.on result }
+    {
+        word_of(self.masks(table), self.is_on(table))
     }
 
     /// Gives the net that a table drives the value of the table.

@@ -86,15 +86,15 @@ fn six_value(quick: &Quick, nets: &Row3) -> Option<Value>
     Some(value_of_bit((quick.truth >> place) & 1))
 }
 
-// 0 is zero, and another bit one.
-pub(crate) fn value_of_bit(bit: u64) -> Value
+/// Zero for 0, else one.
+pub fn value_of_bit(bit: u64) -> Value
     ensures { result ≡ bit_value bit }
 {
     if bit == 0 { Value::Zero } else { Value::One }
 }
 
-// The number of a value: 2 where it is not known.
-pub(crate) fn code(value: Value) -> u64
+/// The number of a value: 2 where it is not known.
+pub fn code(value: Value) -> u64
     ensures code { result ≡ code_of value }
     ensures few { result ≤ 2 }
 {

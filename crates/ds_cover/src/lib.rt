@@ -8,9 +8,8 @@
 //! `Packed` is the same function of the nets, its rows as words of bits: `Packed::value` reads up to
 //! 64 inputs at once, and a table of up to six inputs that are all known has its value in one word.
 //! A `Bank` keeps many of them by their numbers, with the nets that they drive; `set` and `set_all`
-//! give these nets their values. A `Series` keeps a bank and the order in which its tables are set,
-//! those of up to four inputs in lists by kind: `set_all` reads words that are exact for unknown
-//! values too, `set_all_known`, where each table finds its inputs known, shorter ones.
+//! give these nets their values. `Bank::quick` lends the word of a table, and `Bank::word` gives
+//! that of 27 rows of three values, which is exact for unknown values too.
 //!
 //! `laws` has what follows from that meaning alone. That the characters of a row are `0`, `1` or `-`
 //! is not asked: another one matches no known value.
@@ -20,17 +19,16 @@ mod bank;
 mod entry;
 mod entry_value;
 pub mod laws;
-mod lists;
 mod mask;
 mod packed;
-mod run;
-mod series;
-mod small;
+mod rows;
 mod table;
+mod ternary;
 mod truth;
 mod word;
 
 pub use bank::Bank;
+pub use entry::Quick;
+pub use entry_value::{code, value_of_bit};
 pub use packed::Packed;
-pub use series::Series;
 pub use table::Table;

@@ -1,0 +1,15 @@
+use Rattle.std.proofs.Common.{◌∙◌, ap, refl, sym}
+use Rattle.ds_series.specs.Series.{in_order, parts_of}
+use Rattle.ds_series.proofs.Ended.{far_end}
+use Rattle.ds_series.proofs.Runs.{far_more}
+use Rattle.ds_series.proofs.series.Series.set_all.Goals as goal
+
+pub loop-run-preserved : goal.loop-run-preserved
+loop-run-preserved c =
+    far_more (parts_of c.self.inside.lists) (in_order c.self.inside.bank c.as_slice-order.result.now) (in_order c.self.inside.bank c.as_slice-order.result.now) c.args.nets.now c.loop-run.nets
+    c.as_slice-runs.result.now c.loop-run.run-index _ c.loop-run-test.true refl c.loop-run.invariant c.set_run.new.nets c.set_run.ensures
+
+pub returns : goal.returns
+returns c =
+    far_end (parts_of c.self.inside.lists) c.self.inside.bank c.as_slice-order.result.now c.args.nets.now c.loop-run.nets c.as_slice-runs.result.now c.loop-run.run-index c.args.self.now
+    c.loop-run-test.false (sym c.self.view_is ∙ ap (λ o. record { tables = c.self.inside.bank; order = o }) (sym c.as_slice-order.ensures.value)) c.loop-run.invariant

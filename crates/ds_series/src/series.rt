@@ -1,0 +1,115 @@
+//! The tables of a bank in the order in which they are set, those of up to four inputs by kinds.
+ghost use Rattle.std.specs.Prelude.{◌≡◌, ◌<◌, length, All, IfOk};
+ghost use Rattle.ds_cover.specs.Bank.{IsWithin, after_tables};
+ghost use Rattle.ds_series.specs.Series.{FindsKnown, IsSeries, in_order, parts_of};
+
+use crate::lists::Lists;
+use crate::run::{Run, push_run, set_known, set_run};
+use ds_base::{OutOfMemory, Row3};
+use ds_cover::Bank;
+use std::alloc::{AllocError, Global};
+use std::marker::Model;
+
+/// The tables of a bank, and the order in which they are set. Contracts see both.
+pub struct Series {
+    bank: Bank,
+    order: Vec<u32>,
+    lists: Lists,
+    runs: Vec<Run>,
+}
+
+impl Drop for Series {
+    fn drop(self) {
+        let Series {
+            bank: _,
+            order: _,
+            lists: _,
+            runs: _,
+        } = self;
+    }
+}
+
+impl Model for Series {
+    ghost use Rattle.std.specs.Prelude.{◌<◌, length, All};
+    ghost use Rattle.ds_series.specs.Series.{IsSeries, Ordered, in_order, parts_of};
+
+    ghost Value = { Ordered };
+
+    ghost view = { λ s. record { tables = s.bank; order = s.order.items } };
+
+    ghost invariant = { λ s. All (λ k. k < length s.bank) s.order.items
+        × IsSeries (parts_of s.lists) (in_order s.bank s.order.items) s.runs.items };
+}
+
+impl Series {
+    /// The tables of this bank, in this order.
+    pub fn of(alloc: Global, bank: Bank, order: Vec<u32>) -> Result<Self, OutOfMemory>
+        requires { All (λ k. k < length bank) order.items }
+        ensures { IfOk result (λ s. s ≡ record { tables = bank; order = order.items }) }
+    {
+        let (lists, runs) = lists_of(alloc, &bank, order.as_slice())?;
+        Ok(Series {
+            bank,
+            order,
+            lists,
+            runs,
+        })
+    }
+
+    /// The tables by their numbers.
+    pub fn bank(&self) -> &Bank
+        ensures { result.now ≡ self.now.tables }
+    {
+        &self.bank
+    }
+
+    /// The numbers of the tables, in the order in which they are set.
+    pub fn order(&self) -> &[u32]
+        ensures { result.now ≡ self.now.order }
+    {
+        self.order.as_slice()
+    }
+
+    /// Sets what the tables of the order drive, one after another.
+    pub fn set_all(&self, nets: &mut Row3)
+        requires within { All (λ t. IsWithin t nets.old) self.now.tables }
+        ensures { nets.new ≡ after_tables self.now.tables nets.old self.now.order }
+    {
+        let (bank, lists) = (&self.bank, &self.lists);
+        let order = self.order.as_slice();
+        let runs = self.runs.as_slice();
+        for run in runs {
+            set_run(run, lists, bank, order, nets);
+        }
+    }
+
+    /// The same where each table finds its inputs known. It reads shorter words.
+    pub fn set_all_known(&self, nets: &mut Row3)
+        requires within { All (λ t. IsWithin t nets.old) self.now.tables }
+        requires known { FindsKnown (in_order self.now.tables self.now.order) nets.old }
+        ensures { nets.new ≡ after_tables self.now.tables nets.old self.now.order }
+    {
+        let (bank, lists) = (&self.bank, &self.lists);
+        let order = self.order.as_slice();
+        let runs = self.runs.as_slice();
+        for run in runs {
+            set_known(run, lists, bank, order, nets);
+        }
+    }
+}
+
+// The lists and runs of the tables of a bank in this order.
+fn lists_of(alloc: Global, bank: &Bank, order: &[u32]) -> Result<(Lists, Vec<Run>), AllocError>
+    requires { All (λ k. k < length bank.now) order.now }
+    ensures { IfOk result (λ made. IsSeries (parts_of made.0) (in_order bank.now order.now)
+        made.1.items) }
+{
+    let mut lists = Lists::new(alloc);
+    let mut runs = Vec::new(alloc);
+    for (at, number) in order.iter().enumerate() {
+        let table = *number as usize;
+        let run = lists.add(bank.quick(table), bank, table, at)?;
+        push_run(&mut runs, run)?;
+    }
+    Ok((lists, runs))
+}

@@ -1,0 +1,220 @@
+//! Tables of up to four inputs by one word of known values, and of up to three by a word of 27
+//! values, two bits each, which is exact for unknown values too.
+ghost use Rattle.std.specs.Prelude.{◌≡◌, ◌<◌, ◌≤◌, All, length, map};
+ghost use Rattle.ds_series.specs.Small.{
+  IsFolded,
+  IsSmallWithin,
+  after_smalls,
+  small_four,
+  small_three,
+  small_two,
+  small_value,
+  after_worded,
+  paired,
+  worded_value,
+};
+ghost use Rattle.ds_cover.specs.Ternary.{code_value};
+
+use ds_base::{NetId, Row3, Value};
+use ds_cover::{Quick, code, value_of_bit};
+
+/// A table of one or two inputs.
+#[derive(Clone, Copy)]
+pub struct Two {
+    /// The values, that of zeros at the lowest bit.
+    pub truth: u32,
+    /// The inputs, the last one repeated.
+    pub nets: [NetId; 2],
+    /// The net that the table drives.
+    pub output: NetId,
+}
+
+/// A table of three inputs.
+#[derive(Clone, Copy)]
+pub struct Three {
+    /// The values, that of zeros at the lowest bit.
+    pub truth: u32,
+    /// The inputs.
+    pub nets: [NetId; 3],
+    /// The net that the table drives.
+    pub output: NetId,
+}
+
+/// A table of four inputs.
+#[derive(Clone, Copy)]
+pub struct Four {
+    /// The values, that of zeros at the lowest bit.
+    pub truth: u32,
+    /// The inputs.
+    pub nets: [NetId; 4],
+    /// The net that the table drives.
+    pub output: NetId,
+}
+
+impl Two {
+    // The table of this word.
+    pub(crate) fn of(quick: &Quick) -> Self
+        ensures { IsFolded 2 quick.now (small_two result) }
+    {
+        Two {
+            truth: (quick.truth % 4 + 4 * (quick.truth / 0x4000_0000_0000_0000)) as u32,
+            nets: [quick.nets[0], quick.nets[1]],
+            output: quick.output,
+        }
+    }
+
+    // The value where the inputs are known.
+    fn value(&self, nets: &Row3) -> Value
+        requires { All (λ net. net < length nets.now) self.now.nets }
+        ensures { result ≡ small_value (small_two self.now) nets.now }
+    {
+        let a = code(nets.value(self.nets[0].index()));
+        let b = code(nets.value(self.nets[1].index()));
+        let place = a + 2 * b;
+        value_of_bit((u64::from(self.truth) >> place) & 1)
+    }
+
+    // The value by the word of all rows of values.
+    fn worded(&self, word: u64, nets: &Row3) -> Value
+        requires { All (λ net. net < length nets.now) self.now.nets }
+        ensures { result ≡ worded_value (record { small = small_two self.now; word = word }) nets.now }
+    {
+        let a = code(nets.value(self.nets[0].index()));
+        let b = code(nets.value(self.nets[1].index()));
+        let place = a + 12 * b;
+        value_of_code((word >> (2 * place)) % 4)
+    }
+}
+
+impl Three {
+    // The table of this word.
+    pub(crate) fn of(quick: &Quick) -> Self
+        ensures { IsFolded 3 quick.now (small_three result) }
+    {
+        Three {
+            truth: (quick.truth % 16 + 16 * (quick.truth / 0x1000_0000_0000_0000)) as u32,
+            nets: [quick.nets[0], quick.nets[1], quick.nets[2]],
+            output: quick.output,
+        }
+    }
+
+    // The value where the inputs are known.
+    fn value(&self, nets: &Row3) -> Value
+        requires { All (λ net. net < length nets.now) self.now.nets }
+        ensures { result ≡ small_value (small_three self.now) nets.now }
+    {
+        let a = code(nets.value(self.nets[0].index()));
+        let b = code(nets.value(self.nets[1].index()));
+        let c = code(nets.value(self.nets[2].index()));
+        let place = a + 2 * (b + 2 * c);
+        value_of_bit((u64::from(self.truth) >> place) & 1)
+    }
+
+    // The value by the word of all rows of values.
+    fn worded(&self, word: u64, nets: &Row3) -> Value
+        requires { All (λ net. net < length nets.now) self.now.nets }
+        ensures { result ≡ worded_value (record { small = small_three self.now; word = word }) nets.now }
+    {
+        let a = code(nets.value(self.nets[0].index()));
+        let b = code(nets.value(self.nets[1].index()));
+        let c = code(nets.value(self.nets[2].index()));
+        let place = a + 3 * b + 9 * c;
+        value_of_code((word >> (2 * place)) % 4)
+    }
+}
+
+impl Four {
+    // The table of this word.
+    pub(crate) fn of(quick: &Quick) -> Self
+        ensures { IsFolded 4 quick.now (small_four result) }
+    {
+        Four {
+            truth: (quick.truth % 256 + 256 * (quick.truth / 0x0100_0000_0000_0000)) as u32,
+            nets: [quick.nets[0], quick.nets[1], quick.nets[2], quick.nets[3]],
+            output: quick.output,
+        }
+    }
+
+    // The value where the inputs are known.
+    fn value(&self, nets: &Row3) -> Value
+        requires { All (λ net. net < length nets.now) self.now.nets }
+        ensures { result ≡ small_value (small_four self.now) nets.now }
+    {
+        let a = code(nets.value(self.nets[0].index()));
+        let b = code(nets.value(self.nets[1].index()));
+        let c = code(nets.value(self.nets[2].index()));
+        let d = code(nets.value(self.nets[3].index()));
+        let place = a + 2 * (b + 2 * (c + 2 * d));
+        value_of_bit((u64::from(self.truth) >> place) & 1)
+    }
+}
+
+// Sets what these tables drive, one after another.
+pub(crate) fn set_twos(tables: &[Two], nets: &mut Row3)
+    requires { All (λ t. IsSmallWithin (small_two t) nets.old) tables.now }
+    ensures { nets.new ≡ after_smalls (map small_two tables.now) nets.old }
+{
+    for table in tables {
+        let value = table.value(nets);
+        nets.set(table.output.index(), value);
+    }
+}
+
+// The same of three inputs.
+pub(crate) fn set_threes(tables: &[Three], nets: &mut Row3)
+    requires { All (λ t. IsSmallWithin (small_three t) nets.old) tables.now }
+    ensures { nets.new ≡ after_smalls (map small_three tables.now) nets.old }
+{
+    for table in tables {
+        let value = table.value(nets);
+        nets.set(table.output.index(), value);
+    }
+}
+
+// The same of four inputs.
+pub(crate) fn set_fours(tables: &[Four], nets: &mut Row3)
+    requires { All (λ t. IsSmallWithin (small_four t) nets.old) tables.now }
+    ensures { nets.new ≡ after_smalls (map small_four tables.now) nets.old }
+{
+    for table in tables {
+        let value = table.value(nets);
+        nets.set(table.output.index(), value);
+    }
+}
+
+// Sets what these tables drive by their words, one after another.
+pub(crate) fn set_worded_twos(tables: &[Two], words: &[u64], nets: &mut Row3)
+    requires one_each { length words.now ≡ length tables.now }
+    requires within { All (λ t. IsSmallWithin (small_two t) nets.old) tables.now }
+    ensures { nets.new ≡ after_worded (paired small_two tables.now words.now) nets.old }
+{
+    for i in 0..tables.len() {
+        let value = tables[i].worded(words[i], nets);
+        nets.set(tables[i].output.index(), value);
+    }
+}
+
+// The same of three inputs.
+pub(crate) fn set_worded_threes(tables: &[Three], words: &[u64], nets: &mut Row3)
+    requires one_each { length words.now ≡ length tables.now }
+    requires within { All (λ t. IsSmallWithin (small_three t) nets.old) tables.now }
+    ensures { nets.new ≡ after_worded (paired small_three tables.now words.now) nets.old }
+{
+    for i in 0..tables.len() {
+        let value = tables[i].worded(words[i], nets);
+        nets.set(tables[i].output.index(), value);
+    }
+}
+
+// The value of a code.
+fn value_of_code(code: u64) -> Value
+    ensures { result ≡ code_value code }
+{
+    if code == 0 {
+        Value::Zero
+    } else if code == 1 {
+        Value::One
+    } else {
+        Value::Unknown
+    }
+}
