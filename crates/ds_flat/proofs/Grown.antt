@@ -83,7 +83,7 @@ none_passed c is = elim (cases_Bool (nat_lt 65536 (length c.nets))) [
   ]
 ]
 
-passed_by : {A : Type 0} (limit : Option Limit) (line : ℕ) (value given : A)
+pub passed_by : {A : Type 0} (limit : Option Limit) (line : ℕ) (value given : A)
     → unless_passed limit line value ≡ Ok given → (limit ≡ None) × (given ≡ value)
 passed_by None line value given is = (refl, (cc))
 passed_by (Some limit) line value given is = absurd (cc)

@@ -7,7 +7,7 @@ use Rattle.ds_flat.specs.declared.frame.Open.{Open}
 use Rattle.ds_flat.specs.declared.step.Turn.{Turn}
 use Rattle.ds_flat.specs.declared.step.Turn.TheVariants.{Next, Done}
 use Rattle.ds_flat.specs.Stack.{Stacked}
-use Rattle.ds_flat.specs.Run.{Rest, run, IsKept}
+use Rattle.ds_flat.specs.Run.{Rest, IsKept}
 use Rattle.ds_flat.specs.Turn.{most_turns, Leaves, GivesTurn, GoesOn}
 use Rattle.ds_flat.proofs.Kept.{rest_of, kept_below}
 use Rattle.ds_flat.proofs.Taken.{turn_left, run-empty}

@@ -1,16 +1,16 @@
 -- How many turns are left.
 use Rattle.std.proofs.Common.{◌≡◌, ℕ, suc, ◌+◌, ◌-◌, ◌*◌, ◌<◌, ◌≤◌, List, [], ◌∷◌, length, Some}
-use Rattle.std.proofs.Common.{refl, sym, ap, ◌∙◌, subst, inl, inr, arith}
+use Rattle.std.proofs.Common.{sym, ap, ◌∙◌, subst, inl, inr, arith}
 use Rattle.std.specs.Str.{bytes_eq}
 use Rattle.std.proofs.lemmas.Bool.{cases_Bool}
 use Rattle.ds_design.specs.declared.blif.BlifModel.{BlifModel}
 use Rattle.ds_design.specs.declared.blif.Command.{Command}
 use Rattle.ds_design.specs.Circuit.{Circuit}
 use Rattle.ds_flat.specs.declared.frame.Open.{Open}
-use Rattle.ds_flat.specs.Copies.{Flat, Frame, model_named}
+use Rattle.ds_flat.specs.Copies.{model_named}
 use Rattle.ds_flat.specs.Stack.{Stacked, put_on}
-use Rattle.ds_flat.specs.Run.{Rest, IsCopyOf}
-use Rattle.ds_flat.specs.Turn.{commands_of, turns_of, most_turns}
+use Rattle.ds_flat.specs.Run.{IsCopyOf}
+use Rattle.ds_flat.specs.Turn.{commands_of, most_turns}
 use Rattle.ds_flat.proofs.Kept.{rest_of}
 
 -- the model of a name has no more commands than all models

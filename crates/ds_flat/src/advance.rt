@@ -11,11 +11,11 @@ use crate::step::{State, Turn, take};
 use std::alloc::Global;
 
 /// The next command is taken, or a copy without commands is left.
-pub fn advance<'m>(
+pub fn advance<'b, 'm>(
     alloc: Global,
-    library: &Library<'m>,
-    state: State<'m>,
-) -> Result<Turn<'m>, FlatRefusal>
+    library: &Library<'b, 'm>,
+    state: State<'b, 'm>,
+) -> Result<Turn<'b, 'm>, FlatRefusal>
     requires kept { IsKept library.now state }
     requires parts { HaveParts library.now }
     ensures { MatchResult result (λ turn. GivesTurn library.now turn state.entry)
@@ -35,7 +35,7 @@ pub fn advance<'m>(
                 copies,
                 draft,
             };
-            match take(alloc, library, behind, command) {
+            match take(alloc, library, behind, command.get()) {
                 Ok(next) => Ok(Turn::Next(next)),
                 Err(refusal) => Err(refusal),
             }
@@ -45,7 +45,7 @@ pub fn advance<'m>(
 }
 
 // A copy without commands is left.
-fn left<'m>(below: Stack<'m>, copies: u32, draft: Draft<'m>) -> Turn<'m>
+fn left<'b, 'm>(below: Stack<'b, 'm>, copies: u32, draft: Draft<'m>) -> Turn<'b, 'm>
     ensures { Leaves result below.entry copies draft.entry }
 {
     match below.popped() {

@@ -8,6 +8,7 @@ ghost use Rattle.ds_flat.specs.Turn.{ComesTo};
 ghost use Rattle.ds_flat.specs.Text.{Flattens};
 
 use crate::advance::advance;
+use crate::bare::{Bare, bare_models};
 use crate::draft::Draft;
 use crate::fault::FlatRefusal;
 use crate::frame::Open;
@@ -17,7 +18,7 @@ use crate::scope::Scope;
 use crate::stack::Stack;
 use crate::step::{State, Turn};
 use ds_base::{OutOfMemory, Seq};
-use ds_design::{Blif, BlifModel, Design};
+use ds_design::{Blif, Design};
 use std::alloc::Global;
 
 /// The flat design of the main model, the first of the text: each use of a model is replaced by
@@ -25,7 +26,17 @@ use std::alloc::Global;
 pub fn flatten(alloc: Global, blif: &Blif) -> Result<Design, FlatRefusal>
     ensures { Flattens result (flat_of blif.now) }
 {
-    let models = blif.models();
+    match bare_models(alloc, blif.models()) {
+        Ok(models) => flattened(alloc, models.as_slice()),
+        Err(_) => Err(FlatRefusal::Memory),
+    }
+}
+
+// The flat design of models without the commands that add nothing.
+fn flattened(alloc: Global, models: &[Bare<'_>]) -> Result<Design, FlatRefusal>
+    requires { IsBlif models.now }
+    ensures { Flattens result (flat_of models.now) }
+{
     match all_copies(alloc, models) {
         Ok(draft) => {
             let design = finish(alloc, draft)?;
@@ -36,7 +47,7 @@ pub fn flatten(alloc: Global, blif: &Blif) -> Result<Design, FlatRefusal>
 }
 
 // All copies of the main model are taken.
-fn all_copies<'m>(alloc: Global, models: &'m [BlifModel]) -> Result<Draft<'m>, FlatRefusal>
+fn all_copies<'m>(alloc: Global, models: &[Bare<'m>]) -> Result<Draft<'m>, FlatRefusal>
     requires { IsBlif models.now }
     ensures { MatchResult result
         (λ d. (flat_of models.entry.now ≡ Ok d) × IsInRange d)
@@ -52,11 +63,11 @@ fn all_copies<'m>(alloc: Global, models: &'m [BlifModel]) -> Result<Draft<'m>, F
 }
 
 // The main model's copy is taken, with those in it.
-fn from_first<'m>(
+fn from_first<'b, 'm>(
     alloc: Global,
-    library: &Library<'m>,
-    main: &'m BlifModel,
-    below: Stack<'m>,
+    library: &Library<'b, 'm>,
+    main: &'b Bare<'m>,
+    below: Stack<'b, 'm>,
 ) -> Result<Draft<'m>, FlatRefusal>
     requires blif { IsBlif library.now }
     requires main { main.now ≡ slice_index_or library.now 0 main.now }
@@ -66,15 +77,15 @@ fn from_first<'m>(
 {
     let first = Open {
         model: 0,
-        name: main.name.as_slice(),
+        name: main.name(),
         scope: Scope::new(alloc, 0),
-        commands: main.commands.as_slice(),
+        commands: main.commands(),
     };
     let state = State {
         top: first,
         below,
         copies: 0,
-        draft: Draft::new(alloc, main.name.as_slice()),
+        draft: Draft::new(alloc, main.name()),
     };
     match all_taken(alloc, library, state) {
         Ok(draft) => Ok(draft),
@@ -83,10 +94,10 @@ fn from_first<'m>(
 }
 
 // What is left is taken, turn by turn.
-fn all_taken<'m>(
+fn all_taken<'b, 'm>(
     alloc: Global,
-    library: &Library<'m>,
-    state: State<'m>,
+    library: &Library<'b, 'm>,
+    state: State<'b, 'm>,
 ) -> Result<Draft<'m>, FlatRefusal>
     requires kept { IsKept library.now state }
     requires parts { HaveParts library.now }

@@ -1,22 +1,22 @@
 //! A copy that is being taken.
 ghost use Rattle.std.specs.Prelude.{◌≡◌};
 
+use crate::lent::Lent;
 use crate::scope::Scope;
-use ds_design::Command;
 
 /// A copy whose commands are being taken: the place of its model, the model's name, and the
 /// commands that are left.
 #[derive(Drop)]
-pub struct Open<'m> {
+pub struct Open<'b, 'm> {
     pub model: usize,
     pub name: &'m [u8],
     pub scope: Scope<'m>,
-    pub commands: &'m [Command],
+    pub commands: &'b [Lent<'m>],
 }
 
-impl<'m> Open<'m> {
+impl<'b, 'm> Open<'b, 'm> {
     /// The same copy with these commands left.
-    pub fn with(self, commands: &'m [Command]) -> Self
+    pub fn with(self, commands: &'b [Lent<'m>]) -> Self
         ensures { result ≡ record self.entry { commands = commands.entry } }
     {
         let Open {

@@ -11,12 +11,14 @@
 #![tactic(auto)]
 
 mod advance;
+mod bare;
 mod connect;
 mod draft;
 mod fault;
 mod flat;
 mod frame;
 mod head;
+mod lent;
 mod library;
 mod nets;
 mod numbers;

@@ -5,21 +5,23 @@ ghost use Rattle.ds_flat.specs.Copies.{model_named, unknown_formal as unknown_fo
 ghost use Rattle.ds_flat.specs.Copies.{ports_in as ports_in_part};
 ghost use Rattle.ds_flat.specs.Interface.{with_ports_of, with_names as names_with, Finds};
 
+use crate::bare::Bare;
+use crate::lent::Lent;
 use ds_base::{Name, OutOfMemory};
-use ds_design::{BlifModel, Command, Pair, Part};
+use ds_design::{Pair, Part};
 use ds_names::Names;
 use std::alloc::Global;
 use std::marker::Model;
 
 /// Models, their names, and the names of each one's interface.
 #[derive(Drop)]
-pub struct Library<'m> {
-    models: &'m [BlifModel],
+pub struct Library<'b, 'm> {
+    models: &'b [Bare<'m>],
     names: Names<'m>,
     ports: Vec<Names<'m>>,
 }
 
-impl<'m> Model for Library<'m> {
+impl<'b, 'm> Model for Library<'b, 'm> {
     ghost use Rattle.std.specs.Prelude.{List};
     ghost use Rattle.ds_design.specs.declared.blif.BlifModel.{BlifModel};
     ghost use Rattle.ds_flat.specs.Interface.{IsLibrary};
@@ -33,23 +35,23 @@ impl<'m> Model for Library<'m> {
 
 /// A model, its place, and the names of its interface, each once.
 #[derive(Clone, Copy)]
-pub struct Found<'l, 'm> {
+pub struct Found<'l, 'b, 'm> {
     pub place: usize,
-    pub model: &'m BlifModel,
+    pub model: &'b Bare<'m>,
     pub ports: &'l Names<'m>,
 }
 
-impl<'m> Library<'m> {
+impl<'b, 'm> Library<'b, 'm> {
     /// The models of a text, whose names differ.
-    pub fn of(alloc: Global, models: &'m [BlifModel]) -> Result<Self, OutOfMemory>
+    pub fn of(alloc: Global, models: &'b [Bare<'m>]) -> Result<Self, OutOfMemory>
         requires { AllPairs (λ one other. one.name ≢ other.name) models.now }
         ensures { IfOk result (λ l. l ≡ models.entry.now) }
     {
         let mut names: Names<'m> = Names::new(alloc);
         let mut ports = Vec::with_capacity(alloc, models.len())?;
         for model in models {
-            names.insert(model.name.as_slice())?;
-            ports.push(ports_in(alloc, model.commands.as_slice())?)?;
+            names.insert(model.name())?;
+            ports.push(ports_in(alloc, model.commands())?)?;
         }
         Ok(Library {
             models,
@@ -66,7 +68,7 @@ impl<'m> Library<'m> {
     }
 
     /// The model of a name.
-    pub fn find(&self, name: &[u8]) -> Option<Found<'_, 'm>>
+    pub fn find(&self, name: &[u8]) -> Option<Found<'_, 'b, 'm>>
         ensures { MatchOption result (model_named self.now name.now ≡ None)
             (λ f. Finds self.now name.now f.place f.model.now f.ports.now) }
     {
@@ -97,12 +99,12 @@ pub fn unknown_formal<'p>(ports: &Names<'_>, pairs: &'p [Pair]) -> Option<&'p Na
 }
 
 // The names of an interface, each once.
-fn ports_in<'m>(alloc: Global, commands: &'m [Command]) -> Result<Names<'m>, OutOfMemory>
+fn ports_in<'m>(alloc: Global, commands: &[Lent<'m>]) -> Result<Names<'m>, OutOfMemory>
     ensures { IfOk result (λ n. n ≡ with_ports_of [] commands.entry.now) }
 {
     let mut ports: Names<'m> = Names::new(alloc);
     for command in commands {
-        add_ports(&mut ports, &command.part)?;
+        add_ports(&mut ports, &command.get().part)?;
     }
     Ok(ports)
 }

@@ -18,7 +18,7 @@ use crate::frame::Open;
 use crate::library::{Found, Library, unknown_formal};
 use crate::stack::{Stack, extended};
 use ds_base::{Limit, Name, OutOfMemory, Seq};
-use ds_design::{BlifModel, UseText};
+use ds_design::UseText;
 use std::alloc::Global;
 
 /// A name of its own.
@@ -79,8 +79,8 @@ pub fn stopped(line: u64, stop: Stop) -> FlatRefusal
 fn path_names(
     alloc: Global,
     name: &Name,
-    top: &Open<'_>,
-    below: &Stack<'_>,
+    top: &Open<'_, '_>,
+    below: &Stack<'_, '_>,
 ) -> Result<Vec<Name>, OutOfMemory>
     ensures { IfOk result (λ p. p.items
         ≡ path_from_of name.now (top.now.name.now ∷ path_of below.now.frames)) }
@@ -94,8 +94,8 @@ fn recursive(
     alloc: Global,
     line: u64,
     name: &Name,
-    top: &Open<'_>,
-    below: &Stack<'_>,
+    top: &Open<'_, '_>,
+    below: &Stack<'_, '_>,
 ) -> FlatRefusal
     ensures { IsRefusal result (record {
       line = line;
@@ -112,7 +112,7 @@ fn recursive(
 }
 
 // Whether a model is among those that are being copied.
-fn is_open(place: usize, top: &Open<'_>, below: &Stack<'_>) -> bool
+fn is_open(place: usize, top: &Open<'_, '_>, below: &Stack<'_, '_>) -> bool
     requires { place < below.now.models }
     ensures { result ≡ list_any (λ other. other == place) (top.now.model ∷ below.now.places) }
 {
@@ -120,15 +120,15 @@ fn is_open(place: usize, top: &Open<'_>, below: &Stack<'_>) -> bool
 }
 
 /// The model that a use copies, or why there is none.
-pub fn checked<'l, 'm>(
+pub fn checked<'l, 'b, 'm>(
     alloc: Global,
-    library: &'l Library<'m>,
-    top: &Open<'m>,
-    below: &Stack<'m>,
+    library: &'l Library<'b, 'm>,
+    top: &Open<'b, 'm>,
+    below: &Stack<'b, 'm>,
     copies: u32,
     line: u64,
     call: &'m UseText,
-) -> Result<Found<'l, 'm>, FlatRefusal>
+) -> Result<Found<'l, 'b, 'm>, FlatRefusal>
     requires known { top.now.model ∷ below.now.places ≡ map
         (place_of_name (names_of_models library.now))
         (top.now.name.now ∷ path_of below.now.frames) }
@@ -161,15 +161,15 @@ pub fn checked<'l, 'm>(
 }
 
 /// The copy that a use opens, over the design with the nets of the use, or why there is none.
-pub fn open<'m>(
+pub fn open<'b, 'm>(
     alloc: Global,
-    top: &Open<'m>,
-    found: Found<'_, 'm>,
+    top: &Open<'b, 'm>,
+    found: Found<'_, 'b, 'm>,
     copies: u32,
     draft: Draft<'m>,
     line: u64,
     call: &'m UseText,
-) -> Result<(Open<'m>, Draft<'m>), FlatRefusal>
+) -> Result<(Open<'b, 'm>, Draft<'m>), FlatRefusal>
     requires call { IsUseText call.now }
     requires few { copies < 65536 }
     ensures value { MatchResult result
@@ -192,9 +192,9 @@ pub fn open<'m>(
             None => Ok((
                 Open {
                     model: found.place,
-                    name: found.model.name.as_slice(),
+                    name: found.model.name(),
                     scope,
-                    commands: found.model.commands.as_slice(),
+                    commands: found.model.commands(),
                 },
                 draft,
             )),

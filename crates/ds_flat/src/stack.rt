@@ -12,12 +12,12 @@ use std::marker::Model;
 
 /// Copies that wait for one in them, and for each model how many of its copies they are.
 #[derive(Drop)]
-pub struct Stack<'m> {
-    frames: Vec<Open<'m>>,
+pub struct Stack<'b, 'm> {
+    frames: Vec<Open<'b, 'm>>,
     counts: Vec<usize>,
 }
 
-impl<'m> Model for Stack<'m> {
+impl<'b, 'm> Model for Stack<'b, 'm> {
     ghost use Rattle.std.specs.Prelude.{reverse, map, length};
     ghost use Rattle.ds_flat.specs.Stack.{Stacked, frames_of, AreCounts};
 
@@ -33,7 +33,7 @@ impl<'m> Model for Stack<'m> {
         (map (λ f. f.model) (reverse s.frames.items)) };
 }
 
-impl<'m> Stack<'m> {
+impl<'b, 'm> Stack<'b, 'm> {
     /// Without copies, for so many models.
     pub fn new(alloc: Global, models: usize) -> Result<Self, OutOfMemory>
         ensures { IfOk result (λ s. s ≡ record { frames = []; places = []; models = models }) }
@@ -49,7 +49,7 @@ impl<'m> Stack<'m> {
     }
 
     /// With a copy on top.
-    pub fn pushed(self, top: Open<'m>) -> Result<Self, OutOfMemory>
+    pub fn pushed(self, top: Open<'b, 'm>) -> Result<Self, OutOfMemory>
         requires known { top.model < self.models }
         requires few { length self.places < 2 ^ 32 }
         ensures { IfOk result (λ s. s ≡ put_on top.entry self.entry) }
@@ -65,7 +65,7 @@ impl<'m> Stack<'m> {
     }
 
     /// The copy on top and the others, where there is one.
-    pub fn popped(self) -> Option<(Open<'m>, Self)>
+    pub fn popped(self) -> Option<(Open<'b, 'm>, Self)>
         ensures some { IfSome result (λ r. self.entry ≡ put_on r.0 r.1) }
         ensures none { IfNone result (self.entry.frames ≡ []) }
     {
@@ -98,7 +98,7 @@ impl<'m> Stack<'m> {
     }
 }
 
-fn path_in(alloc: Global, frames: &[Open<'_>], name: &[u8]) -> Result<Vec<Name>, OutOfMemory>
+fn path_in(alloc: Global, frames: &[Open<'_, '_>], name: &[u8]) -> Result<Vec<Name>, OutOfMemory>
     ensures { IfOk result (λ p. p.items ≡ path_from_of name.now (names_of (reverse frames.now))) }
 {
     let mut path = Vec::new(alloc);

@@ -20,14 +20,14 @@ use std::marker::Model;
 
 /// The innermost copy, those that wait for it, the number of the last copy, and the design so far.
 #[derive(Drop)]
-pub struct State<'m> {
-    pub top: Open<'m>,
-    pub below: Stack<'m>,
+pub struct State<'b, 'm> {
+    pub top: Open<'b, 'm>,
+    pub below: Stack<'b, 'm>,
     pub copies: u32,
     pub draft: Draft<'m>,
 }
 
-impl<'m> Model for State<'m> {
+impl<'b, 'm> Model for State<'b, 'm> {
     ghost use Rattle.std.specs.Prelude.{◌∷◌};
     ghost use Rattle.ds_flat.specs.Stack.{frame_on, path_of};
     ghost use Rattle.ds_flat.specs.Run.{Rest};
@@ -44,8 +44,8 @@ impl<'m> Model for State<'m> {
 
 /// What a turn gives: what is left to take, or the design.
 #[derive(Drop)]
-pub enum Turn<'m> {
-    Next(State<'m>),
+pub enum Turn<'b, 'm> {
+    Next(State<'b, 'm>),
     Done(Draft<'m>),
 }
 
@@ -85,13 +85,13 @@ fn take_part<'m>(
 }
 
 // A use puts its copy on top.
-fn take_use<'m>(
+fn take_use<'b, 'm>(
     alloc: Global,
-    library: &Library<'m>,
-    state: State<'m>,
+    library: &Library<'b, 'm>,
+    state: State<'b, 'm>,
     line: u64,
     call: &'m UseText,
-) -> Result<State<'m>, FlatRefusal>
+) -> Result<State<'b, 'm>, FlatRefusal>
     requires kept { IsKept library.now state }
     requires parts { HaveParts library.now }
     requires call { IsUseText call.now }
@@ -128,12 +128,12 @@ fn take_use<'m>(
 }
 
 /// A command of the innermost copy is taken: a use puts its copy on top.
-pub fn take<'m>(
+pub fn take<'b, 'm>(
     alloc: Global,
-    library: &Library<'m>,
-    state: State<'m>,
+    library: &Library<'b, 'm>,
+    state: State<'b, 'm>,
     command: &'m Command,
-) -> Result<State<'m>, FlatRefusal>
+) -> Result<State<'b, 'm>, FlatRefusal>
     requires kept { IsKept library.now state }
     requires parts { HaveParts library.now }
     requires part { IsPart command.now.part }

@@ -11,17 +11,17 @@ all_taken-requires-clause-parts c = c.requires.blif.parts
 pub all_taken-requires-clause-kept : goal.all_taken-requires-clause-kept
 all_taken-requires-clause-kept c =
     first_kept c.args.library.now c.args.main.now c.args.below
-    (record { model = 0; name = c.as_slice.result; scope = c.new.result; commands = c.as_slice-2.result })
-    c.new-2.result c.requires.blif c.requires.main c.requires.below refl c.as_slice.ensures
-    c.as_slice-2.ensures (c.new-2.ensures ∙ ap empty_design c.as_slice-3.ensures)
+    (record { model = 0; name = c.name.result; scope = c.new.result; commands = c.commands.result })
+    c.new-2.result c.requires.blif c.requires.main c.requires.below refl c.name.ensures
+    c.commands.ensures (c.new-2.ensures ∙ ap empty_design c.name-2.ensures)
 
 pub returns-in-Ok : goal.returns-in-Ok
 returns-in-Ok c = (
   sym (run-first c.args.library.now c.args.main.now c.args.below
-      (record { model = 0; name = c.as_slice.result; scope = c.new.result; commands = c.as_slice-2.result })
+      (record { model = 0; name = c.name.result; scope = c.new.result; commands = c.commands.result })
       c.new-2.result c.requires.blif.some c.requires.main (ap (λ (s : Stacked). s.frames) c.requires.below)
-      c.as_slice.ensures c.as_slice-2.ensures c.new.ensures
-      (c.new-2.ensures ∙ ap empty_design c.as_slice-3.ensures))
+      c.name.ensures c.commands.ensures c.new.ensures
+      (c.new-2.ensures ∙ ap empty_design c.name-2.ensures))
       ∙ c.in-Ok.ensures.same,
   c.in-Ok.ensures.in_range,
 )
@@ -29,8 +29,8 @@ returns-in-Ok c = (
 pub returns-in-Err : goal.returns-in-Err
 returns-in-Err c =
     fault_same c.in-Err.refusal _ _ (run-first c.args.library.now c.args.main.now c.args.below
-    (record { model = 0; name = c.as_slice.result; scope = c.new.result; commands = c.as_slice-2.result })
+    (record { model = 0; name = c.name.result; scope = c.new.result; commands = c.commands.result })
     c.new-2.result c.requires.blif.some c.requires.main (ap (λ (s : Stacked). s.frames) c.requires.below)
-    c.as_slice.ensures c.as_slice-2.ensures c.new.ensures
-    (c.new-2.ensures ∙ ap empty_design c.as_slice-3.ensures))
+    c.name.ensures c.commands.ensures c.new.ensures
+    (c.new-2.ensures ∙ ap empty_design c.name-2.ensures))
     (fault_bind c.in-Err.refusal _ (λ (flat : Flat). Ok flat.design) c.in-Err.ensures)
