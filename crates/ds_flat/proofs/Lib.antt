@@ -15,3 +15,4 @@ pub mod Turns
 pub mod First
 pub mod Opens
 pub mod Left
+pub mod FlatRange
