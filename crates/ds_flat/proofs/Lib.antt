@@ -16,3 +16,4 @@ pub mod First
 pub mod Opens
 pub mod Left
 pub mod Needed
+pub mod FlatRange

@@ -11,3 +11,4 @@ pub mod Run
 pub mod Use
 pub mod Turn
 pub mod Worked
+pub mod Laws

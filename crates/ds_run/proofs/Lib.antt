@@ -10,3 +10,4 @@ pub mod Opened
 pub mod Firsts
 pub mod Firings
 pub mod Played
+pub mod Fired

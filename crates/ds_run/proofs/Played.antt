@@ -30,13 +30,13 @@ latches_among p vectors r played =
     ap length played.accepted.events ∙ length-append (split_events p.split) played.accepted.extra in
     omega (arith, played.planned.nodes_are, played.planned.latches_are)
 
-node_near : (p : Planned) (vectors : List Row) (r : Recorder) → IsPlayed p vectors r → (n : Node)
+pub node_near : (p : Planned) (vectors : List Row) (r : Recorder) → IsPlayed p vectors r → (n : Node)
     → IsNode p.split n → number_of n < r.shown.view.run.latches
 node_near p vectors r played n is_node =
     subst (λ (m : ℕ). number_of n < m) (sym played.planned.latches_are)
     (number_below p.split n is_node)
 
-node_stored : (p : Planned) (vectors : List Row) (r : Recorder) → IsPlayed p vectors r → (n : Node)
+pub node_stored : (p : Planned) (vectors : List Row) (r : Recorder) → IsPlayed p vectors r → (n : Node)
     → IsNode p.split n
     → length (tickets r.shown.view (closing (number_of n))) ≡ length vectors
 node_stored p vectors r played n is_node =

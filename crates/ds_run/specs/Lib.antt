@@ -6,3 +6,4 @@ pub mod Producers
 pub mod Openings
 pub mod Played
 pub mod Firings
+pub mod Stored

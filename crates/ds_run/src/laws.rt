@@ -1,6 +1,7 @@
 //! Laws of the definitions, each the contract of a function that does nothing.
 ghost use Rattle.ds_run.specs.Firings.{FiringsAreLegal};
 ghost use Rattle.ds_run.specs.Laws.{RunsAreAccepted, RunsAreSound, RunsHaveGraphs};
+ghost use Rattle.ds_run.specs.Stored.{FabricsShowFirst, StoresAsFired};
 
 /// The run of a plan is sound.
 pub fn runs_are_sound()
@@ -20,4 +21,15 @@ pub fn runs_have_graphs()
 /// The firings of a run that went to its end are a legal list that has each event once a vector.
 pub fn firings_are_legal()
     ensures { FiringsAreLegal }
+{}
+
+/// Firing reaches, by the firings of a run that went to its end, a state that has stored of each
+/// node what the record tells.
+pub fn stores_as_fired()
+    ensures { StoresAsFired }
+{}
+
+/// The fabric of a run, as it is built, shows the first state of firing.
+pub fn fabrics_show_first()
+    ensures { FabricsShowFirst }
 {}

@@ -15,7 +15,6 @@ use Rattle.ds_split.specs.Nets.{AreNodes, AreProducers}
 use Rattle.ds_split.specs.Search.{Found, edge_of, with_edge, HasMet, IsCause}
 use Rattle.ds_split.specs.Edges.{IsFoundBelow, AreEdges}
 use Rattle.ds_split.specs.Split.{split_of, HasTooManyOrders}
-use Rattle.ds_split.proofs.Pigeons.{few_different}
 use Rattle.ds_split.proofs.Searching.{ends_at, linked}
 use Rattle.ds_split.proofs.Sources.{no_table}
 use Rattle.ds_split.proofs.Marks.{zeros-at}
@@ -39,7 +38,7 @@ consumer_there s p _ (to_out source node supplies) = tt
 consumer_there s _ _ (to_slave inside) = inside
 
 -- edges with the same numbers
-same_edge : (e : Edge) (m n : ℕ) → e.producer ≡ m → e.consumer ≡ n → e ≡ edge_of m n
+pub same_edge : (e : Edge) (m n : ℕ) → e.producer ≡ m → e.consumer ≡ n → e ≡ edge_of m n
 same_edge e m n producer consumer = ap (λ x. edge_of x e.consumer) producer ∙ ap (λ x. edge_of m x) consumer
 
 -- a search that has found nothing
@@ -101,12 +100,12 @@ module _ (s : Split) where
 
   -- those that are found are too many already
   pub too_many : (k : ℕ) (f : Found) → IsFoundBelow s k f → 1048576 < 2 * nodes s + 2 * length f.edges → HasTooManyOrders s
-  too_many k f found many edges has once =
-      let less : length f.edges ≤ length edges = few_different f.edges edges found.edges.once (λ e is.
-      let (p, c, edge, at) = found.edges.sound e is in
-      let (j, x, inside, same, (producer, consumer)) = (has p c).0 edge in
-      subst (λ (y : Edge). Contains edges y) (same_edge x (number_of p) (number_of c) producer consumer ∙ sym at) (j, inside, same)) in
-      omega arith
+  too_many k f found many = record {
+    edges = f.edges;
+    data_edges = found.edges.sound;
+    once = found.edges.once;
+    many = many;
+  }
 
 module _ (s : Split) (nets : List (List ℕ)) (are : AreNodes s.circuit s.clusters nets) where
   -- the edges into one consumer more

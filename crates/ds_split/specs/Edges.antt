@@ -6,10 +6,7 @@ use Rattle.ds_latch.specs.Latches.{HasEdges}
 use Rattle.ds_latch.specs.declared.latches.Edge.{Edge}
 use Rattle.ds_split.specs.Nets.{AreProducers}
 use Rattle.ds_split.specs.Search.{Found, IsBefore, edge_of}
-
--- an edge is a data edge
-abbrev pub IsEdgeOf : Split → Edge → Type 0
-IsEdgeOf s e = (p c : Node) × IsDataEdge s p c × (e ≡ edge_of (number_of p) (number_of c))
+use Rattle.ds_split.specs.Split.{IsEdgeOf}
 
 -- the data edges into the nodes below a number, each once
 pub record AreEdgesBelow (s : Split) (most : ℕ) (edges : List Edge) : Type 0 where

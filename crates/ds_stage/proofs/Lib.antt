@@ -11,3 +11,4 @@ pub mod LogStages
 pub mod LogTexts
 pub mod Housed
 pub mod Registers
+pub mod Meant

@@ -1,12 +1,12 @@
 -- How the split of a netlist ends.
-use Rattle.std.proofs.Common.{◌≡◌, ℕ, ◌+◌, ◌*◌, ◌<◌, ◌≤◌, List, length, inl, inr, refl, arith, subst, ap, sym}
-use Rattle.std.specs.Prelude.{AllPairs, ◌≢◌}
+use Rattle.std.proofs.Common.{◌≡◌, ℕ, ◌+◌, ◌*◌, ◌<◌, ◌≤◌, List, length, inl, inr, refl, arith, subst, ap, sym, ◌∙◌}
+use Rattle.std.specs.Prelude.{AllPairs, Contains, ◌≢◌}
 use Rattle.ds_base.specs.Limit.{most_of}
 use Rattle.ds_base.specs.declared.number.Limit.{Limit}
 use Rattle.ds_base.specs.declared.number.Limit.TheVariants.{Arcs, Clusters}
 use Rattle.ds_base.specs.declared.number.Mode.{Mode}
 use Rattle.ds_design.specs.Circuit.{Circuit}
-use Rattle.ds_latch.specs.Node.{Split, nodes}
+use Rattle.ds_latch.specs.Node.{Split, nodes, number_of}
 use Rattle.ds_latch.specs.Latches.{HasEdges}
 use Rattle.ds_latch.specs.declared.latches.Edge.{Edge}
 use Rattle.ds_split.specs.Cluster.{IsClustering}
@@ -14,6 +14,8 @@ use Rattle.ds_split.specs.Split.{HasTooManyOrders, IsClusterFault, IsSplitFault,
 use Rattle.ds_split.specs.declared.fault.SplitFault.{SplitFault}
 use Rattle.ds_split.specs.declared.fault.SplitFault.TheVariants.{TooMany}
 use Rattle.ds_split.specs.declared.fault.SplitFault.TheVariants as split
+use Rattle.ds_split.proofs.DataEdges.{same_edge}
+use Rattle.ds_split.proofs.Pigeons.{few_different}
 use Rattle.ds_stage.specs.FaultText.{file_line, too_many_text}
 use Rattle.ds_stage.specs.Ends.{Never, SaysRefused, SaysSplit, Stops}
 use Rattle.ds_stage.specs.SplitStage.{IsSplitLine, split_stage}
@@ -49,5 +51,9 @@ split_stops file mode c clusters are few split.Memory stop is says = memory_stop
 -- edges that are few enough are not too many
 pub few_orders : (s : Split) (edges : List Edge) → HasEdges s edges → AllPairs (λ a b. a ≢ b) edges → 2 * nodes s + 2 * length edges ≤ 1048576 → ¬ HasTooManyOrders s
 few_orders s edges has_edges once few many =
-    let over : most_of Arcs < 2 * nodes s + 2 * length edges = many edges has_edges once in
+    let less : length many.edges ≤ length edges = few_different many.edges edges many.once (λ e is.
+    let (p, c, edge, at) = many.data_edges e is in
+    let (j, x, inside, same, (producer, consumer)) = (has_edges p c).0 edge in
+    subst (λ (y : Edge). Contains edges y) (same_edge x (number_of p) (number_of c) producer consumer ∙ sym at) (j, inside, same)) in
+    let over : most_of Arcs < 2 * nodes s + 2 * length many.edges = many.many in
     omega arith

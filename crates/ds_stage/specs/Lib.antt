@@ -10,3 +10,4 @@ pub mod AcceptStage
 pub mod Homes
 pub mod ReplayStage
 pub mod Ends
+pub mod Laws

@@ -17,6 +17,7 @@ mod fault_line;
 mod fault_text;
 mod graph_text;
 mod homes;
+pub mod laws;
 mod log;
 mod log_text;
 mod net_text;

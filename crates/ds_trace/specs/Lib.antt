@@ -4,3 +4,4 @@ pub mod Appends
 pub mod Line
 pub mod Logged
 pub mod Summed
+pub mod Refused

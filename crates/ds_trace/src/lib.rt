@@ -10,6 +10,7 @@
 
 mod fault;
 mod line;
+mod line_text;
 mod log;
 mod played;
 mod sums;

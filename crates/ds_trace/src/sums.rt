@@ -8,12 +8,13 @@ ghost use Rattle.ds_run.specs.Played.{IsPlayed};
 ghost use Rattle.ds_trace.specs.Summed.{IsSummed, IsSummedTo, ones_of};
 
 use crate::line::{Line, gather};
+use crate::line_text::LineText;
 use crate::played::Played;
 use ds_base::{LatchId, OutOfMemory, Row3, Value};
 use ds_demo::Fold;
 use ds_design::Vectors;
 use ds_latch::Plan;
-use ds_outside::{Gate, MemorySink};
+use ds_outside::Gate;
 use ds_rows::{end_line, trace_line};
 use ds_run::{Workers, run};
 use std::alloc::Global;
@@ -103,24 +104,28 @@ fn add_line(alloc: Global, turn: u64, line: &Line, fold: &mut Fold) -> Result<()
         (fold.new ≡ fold_after fold.old (trace_text turn line.now.outputs line.now.registers)) }
 {
     let room = room_for(line.outputs.len()).saturating_add(room_for(line.registers.len()));
-    let mut sink = MemorySink::with_room(alloc, room)?;
-    if trace_line(turn, &line.outputs, &line.registers, &mut sink).is_err() {
-        return Err(OutOfMemory);
+    let mut text = LineText::with_room(alloc, room)?;
+    match trace_line(turn, &line.outputs, &line.registers, &mut text) {
+        Ok(()) => {
+            fold.add(text.bytes());
+            Ok(())
+        }
+        Err(_) => Err(text.refusal()),
     }
-    fold.add(sink.bytes());
-    Ok(())
 }
 
 // Adds the last line.
 fn add_end(alloc: Global, registers: &Row3, fold: &mut Fold) -> Result<(), OutOfMemory>
     ensures { OnOk result (fold.new ≡ fold_after fold.old (end_text registers.now)) }
 {
-    let mut sink = MemorySink::with_room(alloc, room_for(registers.len()))?;
-    if end_line(registers, &mut sink).is_err() {
-        return Err(OutOfMemory);
+    let mut text = LineText::with_room(alloc, room_for(registers.len()))?;
+    match end_line(registers, &mut text) {
+        Ok(()) => {
+            fold.add(text.bytes());
+            Ok(())
+        }
+        Err(_) => Err(text.refusal()),
     }
-    fold.add(sink.bytes());
-    Ok(())
 }
 
 // Room for so many values and what else a line has.

@@ -1,0 +1,95 @@
+-- Firing stores what the record of a run tells.
+use Rattle.std.proofs.Common.{◌≡◌, ◌∙◌, ℕ, ◌+◌, ◌<◌, ◌≤◌, zero, suc, List, [], ◌∷◌, length, map, get_or, refl, ap, sym, subst, arith, replicate}
+use Rattle.std.specs.List.{range_with_len}
+use Rattle.std.proofs.lemmas.List.FromFn.{get_or-range_with_len, length-range_with_len}
+use Rattle.ds_base.proofs.Lists.{map_agree}
+use Rattle.ds_base.specs.Values.{Row}
+use Rattle.ds_marked.specs.Graph.{counts_after}
+use Rattle.ds_latch.specs.Firing.{State, FiresAll, first_row, first_state, held}
+use Rattle.ds_latch.specs.Flow.{IsInStep}
+use Rattle.ds_latch.specs.Node.{Node, In, Out, Master, Slave, Split, IsNode, closing, number_of, place_of}
+use Rattle.ds_latch.specs.Numbered.{numbered}
+use Rattle.ds_latch.specs.Plan.{IsController, Planned}
+use Rattle.ds_latch.proofs.Counts.{accepted_controls}
+use Rattle.ds_latch.proofs.Flow.{fires_count, flow_equivalence, some_firing}
+use Rattle.ds_rule.specs.Run.{Run, events as events_in}
+use Rattle.ds_rule.specs.Rule.{first_view}
+use Rattle.ds_rule.specs.Words.{values_at}
+use Rattle.ds_run.specs.Layout.{AreValues}
+use Rattle.ds_run.specs.Stored.{FabricsShowFirst, ShowsFirst, StoresAsFired}
+use Rattle.ds_run.proofs.Firings.{firings_are_legal_lem}
+use Rattle.ds_run.proofs.Played.{latches_among, node_near, node_stored}
+
+-- firings count as their list does
+counts_fired : (s : Split) (vectors : List Row) (old now : State) (events : List ℕ) → FiresAll s vectors old events now
+    → now.count ≡ counts_after old.count events
+counts_fired s vectors old now [] same = ap (λ (t : State). t.count) same
+counts_fired s vectors old now (v ∷ events) (next, fires, rest) =
+    counts_fired s vectors next now events rest
+    ∙ ap (λ (count : ℕ → ℕ). counts_after count events) (fires_count s vectors old v next fires)
+
+-- the values of a node that a run has are those of the clocked run
+told_is : (p : Planned) (vectors : List Row) (run : Run) (values : AreValues p.split vectors run) (n : Node) → IsNode p.split n
+    → (turns : ℕ) → turns ≤ length vectors
+    → map (values_at run (number_of n)) (range_with_len 1 turns)
+    ≡ map (numbered p.split vectors values.state values.nets n) (range_with_len 1 turns)
+told_is p vectors run values n is_node turns few =
+    map_agree (values_at run (number_of n)) (numbered p.split vectors values.state values.nets n) (range_with_len 1 turns) (λ i d inside.
+    let long : length (range_with_len 1 turns) ≡ turns = length-range_with_len 1 turns in
+    let at : get_or (range_with_len 1 turns) i d ≡ 1 + i = get_or-range_with_len 1 turns i d (omega arith) in
+    values.of_node n is_node (get_or (range_with_len 1 turns) i d) (omega arith))
+
+pub stores_as_fired_lem : StoresAsFired
+stores_as_fired_lem p vectors r played events fired =
+    let s : Split = p.split in
+    let run : Run = r.shown.view.run in
+    let values : AreValues s vectors run = played.planned.values_are in
+    let controls : IsController s p.graph = accepted_controls s p.graph played.accepted in
+    let (legal, full) = firings_are_legal_lem p vectors r played.accepted played.planned played.whole events fired in
+    let (now, all) = some_firing s p.graph controls vectors values.state values.nets values.clocked events legal in
+    let step : IsInStep s vectors values.state values.nets now =
+    flow_equivalence s p.graph controls vectors values.state values.nets values.clocked events legal now all in (
+      now,
+      record {
+        fires = all;
+        stores = λ n is_node.
+            let near : number_of n < run.latches = node_near p vectors r played n is_node in
+            let among : run.latches ≤ run.nodes = latches_among p vectors r played in
+            let event : closing n < length p.graph.events = omega (arith, played.planned.nodes_are) in
+            let count : now.count (closing n) ≡ length vectors =
+            ap (λ (count : ℕ → ℕ). count (closing n)) (counts_fired s vectors (first_state s) now events all) ∙ full (closing n) event in
+            step.stored n is_node
+            ∙ (ap (λ (k : ℕ). map (numbered s vectors values.state values.nets n) (range_with_len 1 k)) (count ∙ sym (node_stored p vectors r played n is_node))
+            ∙ sym (told_is p vectors run values n is_node _ (omega (arith, node_stored p vectors r played n is_node))));
+      },
+    )
+
+-- no event of the first view has a ticket
+none_drawn : (count e : ℕ) → get_or (replicate {A = List ℕ} count []) e [] ≡ []
+none_drawn zero e = refl
+none_drawn (suc count) zero = refl
+none_drawn (suc count) (suc e) = none_drawn count e
+
+-- at first a node holds its first row
+first_held : (s : Split) (n : Node) → held s (first_state s) n ≡ first_row s n
+first_held s n =
+    let at : place_of s 0 ≡ 0 = grind arith in
+    rw at refl
+
+-- value 0 of a node is its first row
+first_value : (p : Planned) (vectors : List Row) (run : Run) (values : AreValues p.split vectors run) (n : Node) → IsNode p.split n
+    → numbered p.split vectors values.state values.nets n 0 ≡ first_row p.split n
+first_value p vectors run values In is_node = refl
+first_value p vectors run values Out is_node = refl
+first_value p vectors run values (Master i) is_node = refl
+first_value p vectors run values (Slave i) is_node = rw values.clocked.starts refl
+
+shows_first : (p : Planned) (vectors : List Row) (run : Run) → AreValues p.split vectors run → ShowsFirst p.split (first_view run)
+shows_first p vectors run values = record {
+  none = λ e. none_drawn (events_in run) e;
+  rows = λ n is_node. values.of_node n is_node 0 (omega arith) ∙ (first_value p vectors run values n is_node ∙ sym (first_held p.split n));
+}
+
+pub fabrics_show_first_lem : FabricsShowFirst
+fabrics_show_first_lem p vectors run is f pass begun =
+    subst (ShowsFirst p.split) (sym begun.view) (shows_first p vectors run is.values_are)

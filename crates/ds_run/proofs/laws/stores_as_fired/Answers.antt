@@ -1,0 +1,5 @@
+use Rattle.ds_run.proofs.Fired.{stores_as_fired_lem}
+use Rattle.ds_run.proofs.laws.stores_as_fired.Goals as goal
+
+pub returns : goal.returns
+returns c = stores_as_fired_lem

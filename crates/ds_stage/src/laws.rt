@@ -1,0 +1,12 @@
+//! Laws of the definitions, each the contract of a function that does nothing.
+ghost use Rattle.ds_stage.specs.Laws.{NetlistsAreInRange, VectorsHaveColumns};
+
+/// Each number in the netlist of a file names what is there.
+pub fn netlists_are_in_range()
+    ensures { NetlistsAreInRange }
+{}
+
+/// The vectors of a file are as wide as the columns of the netlist.
+pub fn vectors_have_columns()
+    ensures { VectorsHaveColumns }
+{}
