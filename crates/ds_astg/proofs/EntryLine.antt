@@ -12,7 +12,8 @@ use Rattle.ds_astg.specs.Node.Node.{Event as EventNode, Place as PlaceNode}
 use Rattle.ds_astg.specs.Place.{Places, Key, number_of, has_place, place_at, with_place_at}
 use Rattle.ds_astg.specs.Place.Key.{Named, Between}
 use Rattle.ds_astg.specs.Marking.{key_in, place_text, mark, mark_key, with_tokens}
-use Rattle.ds_astg.specs.Text.{arc_at, text_at, is_further, place_name, entry_name, tokens_text}
+use Rattle.ds_marked.specs.Log.{text_of_event}
+use Rattle.ds_astg.specs.Text.{arc_at, is_further, place_name, entry_name, tokens_text}
 use Rattle.ds_astg.specs.Written.{IsReadable, lists_below, entry_words}
 use Rattle.ds_astg.specs.declared.fault.AstgKind.{AstgKind}
 use Rattle.ds_astg.specs.declared.fault.AstgKind.TheVariants.{Instance, BadWord}
@@ -75,22 +76,22 @@ module _ (signals : List (List ℕ)) (g : Graph) (readable : IsReadable signals 
         let v = (arc_at g k).target in
         let none : Arc = record { source = 0; target = 0; tokens = 0 } in
         let ends = readable.kept.ends k none inside in
-        let source = node_event signals (text_at g u) u (texts_read signals g readable u ends.0) in
-        let target = node_event signals (text_at g v) v (texts_read signals g readable v ends.1) in
-        let name_is : entry_name g k ≡ codes "<" ++ text_at g u ++ codes "," ++ text_at g v ++ codes ">" = rw first refl in
+        let source = node_event signals (text_of_event g u) u (texts_read signals g readable u ends.0) in
+        let target = node_event signals (text_of_event g v) v (texts_read signals g readable v ends.1) in
+        let name_is : entry_name g k ≡ codes "<" ++ text_of_event g u ++ codes "," ++ text_of_event g v ++ codes ">" = rw first refl in
         let key_is : key_at g k ≡ Between u v = rw first refl in (
-          ap (key_in signals) name_is ∙ (ends_are_read signals (text_at g u) (text_at g v) u v source.1 target.1 (without 44 refl (text_at g u) source.0)
+          ap (key_in signals) name_is ∙ (ends_are_read signals (text_of_event g u) (text_of_event g v) u v source.1 target.1 (without 44 refl (text_of_event g u) source.0)
               ∙ ap (λ (key : Key). Some key) (sym key_is)),
-          ap (list_any (is_byte 61)) name_is ∙ both_without (is_byte 61) (codes "<" ++ text_at g u ++ codes "," ++ text_at g v) (codes ">")
-              (both_without (is_byte 61) (codes "<" ++ text_at g u ++ codes ",") (text_at g v)
-              (both_without (is_byte 61) (codes "<" ++ text_at g u) (codes ",") (without 61 refl (text_at g u) source.0) refl) (without 61 refl (text_at g v) target.0)) refl,
+          ap (list_any (is_byte 61)) name_is ∙ both_without (is_byte 61) (codes "<" ++ text_of_event g u ++ codes "," ++ text_of_event g v) (codes ">")
+              (both_without (is_byte 61) (codes "<" ++ text_of_event g u ++ codes ",") (text_of_event g v)
+              (both_without (is_byte 61) (codes "<" ++ text_of_event g u) (codes ",") (without 61 refl (text_of_event g u) source.0) refl) (without 61 refl (text_of_event g v) target.0)) refl,
         ))
   ]
 
   entry_some : (k : ℕ) (more : List ℕ) → (length (entry_name g k ++ more) == 0) ≡ false
   entry_some k more = elim (cases_Bool (is_further g k)) [
     | inl further ↦ (let e : length (entry_name g k ++ more) ≡ suc (length (decimal k ++ more)) = rw further refl in differs _ e)
-    | inr first ↦ (let e : length (entry_name g k ++ more) ≡ suc (length (((text_at g (arc_at g k).source ++ codes ",") ++ text_at g (arc_at g k).target ++ codes ">") ++ more)) = rw first refl in differs _ e)
+    | inr first ↦ (let e : length (entry_name g k ++ more) ≡ suc (length (((text_of_event g (arc_at g k).source ++ codes ",") ++ text_of_event g (arc_at g k).target ++ codes ">") ++ more)) = rw first refl in differs _ e)
   ]
     where
       differs : {m : ℕ} (n : ℕ) → n ≡ suc m → (n == 0) ≡ false

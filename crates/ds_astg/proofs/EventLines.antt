@@ -12,7 +12,8 @@ use Rattle.ds_astg.specs.Node.Node.{Event as EventNode, Place as PlaceNode}
 use Rattle.ds_astg.specs.Place.{Places, Key, key_eq, named, between, number_of, place_at, with_place_at, with_new, with_place}
 use Rattle.ds_astg.specs.Place.Key.{Named, Between}
 use Rattle.ds_astg.specs.Links.{link_word, into_place, with_source, from_event}
-use Rattle.ds_astg.specs.Text.{arc_at, text_at, is_further, place_name}
+use Rattle.ds_marked.specs.Log.{text_of_event}
+use Rattle.ds_astg.specs.Text.{arc_at, is_further, place_name}
 use Rattle.ds_astg.specs.Written.{IsReadable, target_word, arc_words, lists_below}
 use Rattle.ds_astg.specs.declared.place.Place.{Place}
 use Rattle.ds_astg.specs.declared.fault.AstgKind.{AstgKind}
@@ -73,9 +74,9 @@ module _ (signals : List (List ℕ)) (g : Graph) (readable : IsReadable signals 
             ))
         | inr first ↦ (
             let key_is : key_at g k ≡ Between s t = rw first refl in
-            let word_is : target_word g k ≡ text_at g t = rw first refl in
+            let word_is : target_word g k ≡ text_of_event g t = rw first refl in
             let place = between line s t in
-            let read : node_of signals (text_at g t) ≡ Ok (EventNode t) = texts_read signals g readable t ends.1 in
+            let read : node_of signals (text_of_event g t) ≡ Ok (EventNode t) = texts_read signals g readable t ends.1 in
             let add : with_place (Between s t) place ps ≡ Ok (with_new ps (key_at g k) place) =
             subst (λ (key : Key). with_place key place ps ≡ Ok (with_new ps (key_at g k) place)) key_is
             (added_next signals g readable (first_target g) no_tokens k ps built next place) in (

@@ -9,7 +9,8 @@ use Rattle.ds_lines.proofs.Printed.{lines_of-text_of}
 use Rattle.ds_marked.specs.Graph.{Graph}
 use Rattle.ds_marked.specs.declared.marked.Event.{Event}
 use Rattle.ds_astg.specs.Pieces.{all_below, line_with}
-use Rattle.ds_astg.specs.Text.{arc_at, text_at, is_further, place_name, entry_name, tokens_text, arc_text, event_line, place_line, entry_text, signal_text, signal_of, graph_text}
+use Rattle.ds_marked.specs.Log.{text_of_event}
+use Rattle.ds_astg.specs.Text.{arc_at, is_further, place_name, entry_name, tokens_text, arc_text, event_line, place_line, entry_text, signal_text, signal_of, graph_text}
 use Rattle.ds_astg.specs.Read.{graph_of, events_of}
 use Rattle.ds_astg.specs.Written.{IsReadable, WrittenTextIsRead, graph_words, body_lines, marking_words, lists_below, target_word, arc_words, line_behind, event_lines, place_lines, entry_words}
 use Rattle.ds_astg.proofs.Whole.{written_is_read}
@@ -63,11 +64,11 @@ behind_is word [] = refl
 behind_is word (next ∷ words) = ap (λ (t : List ℕ). t ++ 10 ∷ []) (sym (line_is word (next ∷ words)))
 
 event_is : (g : Graph) (v : ℕ) → event_line g v ≡ text_of (event_lines g v)
-event_is g v = ap (line_with (text_at g v)) (pieces_words (arc_text g v) (arc_words g v) (arc_is g v) (length g.arcs)) ∙ behind_is (text_at g v) (lists_below (arc_words g v) (length g.arcs))
+event_is g v = ap (line_with (text_of_event g v)) (pieces_words (arc_text g v) (arc_words g v) (arc_is g v) (length g.arcs)) ∙ behind_is (text_of_event g v) (lists_below (arc_words g v) (length g.arcs))
 
 place_is : (g : Graph) (k : ℕ) → place_line g k ≡ text_of (place_lines g k)
 place_is g k = elim (cases_Bool (is_further g k)) [
-  | inl e ↦ rw e (ap (λ (t : List ℕ). t ++ 10 ∷ []) (append_assoc (place_name k) (32 ∷ []) (text_at g (arc_at g k).target)))
+  | inl e ↦ rw e (ap (λ (t : List ℕ). t ++ 10 ∷ []) (append_assoc (place_name k) (32 ∷ []) (text_of_event g (arc_at g k).target)))
   | inr e ↦ rw e refl
 ]
 

@@ -12,7 +12,7 @@ use Rattle.ds_marked.specs.Graph.{Graph, StandsBefore, IsKept}
 use Rattle.ds_marked.specs.declared.marked.Arc.{Arc}
 use Rattle.ds_marked.specs.declared.marked.Event.{Event}
 use Rattle.ds_marked.specs.declared.marked.Kind.TheVariants.{Rise, Fall}
-use Rattle.ds_marked.specs.Log.{event_text}
+use Rattle.ds_marked.specs.Log.{event_text, text_of_event}
 use Rattle.ds_astg.specs.Node.{node_of}
 use Rattle.ds_astg.specs.Node.Node.{Event as EventNode}
 use Rattle.ds_astg.specs.Place.{Key, key_eq}
@@ -22,7 +22,7 @@ use Rattle.ds_astg.specs.Word.{first_byte}
 use Rattle.ds_astg.specs.Line.{head_of}
 use Rattle.ds_astg.specs.declared.head.Head.TheVariants.{Body}
 use Rattle.ds_astg.specs.Marking.{value_from}
-use Rattle.ds_astg.specs.Text.{arc_at, text_at, is_further, place_name}
+use Rattle.ds_astg.specs.Text.{arc_at, is_further, place_name}
 use Rattle.ds_astg.specs.Written.{IsReadable}
 use Rattle.ds_astg.proofs.Entries.{value_digits}
 use Rattle.ds_astg.proofs.Written.{events_are_read}
@@ -63,14 +63,14 @@ event_at (signal ∷ signals) (suc (suc v)) d inside =
       ],
     )
 
-text_is : (g : Graph) (events : List Event) (v : ℕ) (e : Event) → g.events ≡ events → v < length events → get_or events v e ≡ e → text_at g v ≡ event_text e
+text_is : (g : Graph) (events : List Event) (v : ℕ) (e : Event) → g.events ≡ events → v < length events → get_or events v e ≡ e → text_of_event g v ≡ event_text e
 text_is g events v e same inside is =
     ap (λ (es : List Event). option_map_or event_text (slice_get es v) []) same
     ∙ ap (λ (o : Option Event). option_map_or event_text o []) (slice_get_read events (length events) v e refl inside (sym is))
 
 -- the text of an event of signals
 pub texts_read : (signals : List (List ℕ)) (g : Graph) → IsReadable signals g → (v : ℕ) → v < length g.events
-    → node_of signals (text_at g v) ≡ Ok (EventNode v)
+    → node_of signals (text_of_event g v) ≡ Ok (EventNode v)
 texts_read signals g readable v inside =
     let within : v < length (flat_map events_of signals) = subst (λ (es : List Event). v < length es) readable.events inside in
     let d : Event = record { signal = []; kind = Rise } in
@@ -161,7 +161,7 @@ first_of : (word more : List ℕ) → 0 < length word → first_byte (word ++ mo
 first_of [] more some = absurd (omega arith)
 first_of (byte ∷ word) more some = refl
 
-pub dotless : (signals : List (List ℕ)) (g : Graph) → IsReadable signals g → (v : ℕ) → v < length g.events → head_of (text_at g v) ≡ Body
+pub dotless : (signals : List (List ℕ)) (g : Graph) → IsReadable signals g → (v : ℕ) → v < length g.events → head_of (text_of_event g v) ≡ Body
 dotless signals g readable v inside =
     let within : v < length (flat_map events_of signals) = subst (λ (es : List Event). v < length es) readable.events inside in
     let d : Event = record { signal = []; kind = Rise } in

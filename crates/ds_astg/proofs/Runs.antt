@@ -10,7 +10,8 @@ use Rattle.ds_astg.specs.Place.{Places, no_places}
 use Rattle.ds_astg.specs.Links.{link_word, graph_line}
 use Rattle.ds_astg.specs.Line.{head_of}
 use Rattle.ds_astg.specs.declared.head.Head.TheVariants.{Body}
-use Rattle.ds_astg.specs.Text.{arc_at, text_at}
+use Rattle.ds_marked.specs.Log.{text_of_event}
+use Rattle.ds_astg.specs.Text.{arc_at}
 use Rattle.ds_astg.specs.Written.{IsReadable, arc_words, lists_below, line_behind, event_lines}
 use Rattle.ds_astg.proofs.Names.{texts_read, dotless}
 use Rattle.ds_astg.proofs.Soundness.{one_value}
@@ -74,7 +75,7 @@ events_run signals g readable n (suc v) most =
     let line = n + length (lists_below (event_lines g) v) in
     let inside : v < length g.events = omega (arith, most) in
     let (k, qs, targets, all, before) = targets_read signals g readable line v m ps built (moved line v 0 m prefix) (length g.arcs) (omega arith) in
-    let here : Runs signals line (event_lines g v) ps qs = line_run signals line v (text_at g v) (lists_below (arc_words g v) (length g.arcs)) ps qs
+    let here : Runs signals line (event_lines g v) ps qs = line_run signals line v (text_of_event g v) (lists_below (arc_words g v) (length g.arcs)) ps qs
     (dotless signals g readable v inside) (texts_read signals g readable v inside) targets in (
       k,
       qs,

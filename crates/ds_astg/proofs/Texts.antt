@@ -8,17 +8,14 @@ use Rattle.ds_base.proofs.Tests.{test_same, test_other}
 use Rattle.ds_marked.specs.Graph.{Graph, IsRangeFrom}
 use Rattle.ds_marked.specs.declared.marked.Arc.{Arc}
 use Rattle.ds_marked.specs.declared.marked.Event.{Event}
-use Rattle.ds_marked.specs.Log.{event_text}
+use Rattle.ds_marked.specs.Log.{event_text, text_of_event}
 use Rattle.ds_astg.specs.Pieces.{all_below, line_with}
-use Rattle.ds_astg.specs.Text.{arc_at, arc_text, entry_name, entry_text, event_line, is_further, place_line, place_name, signal_of, signal_text, target_text, text_at, tokens_text}
+use Rattle.ds_astg.specs.Text.{arc_at, arc_text, entry_name, entry_text, event_line, is_further, place_line, place_name, signal_of, signal_text, target_text, tokens_text}
 use Rattle.ds_astg.proofs.Pieces.{IsSome, silent_to}
 
 -- what a list has at a place
 found : {X : Type 0} (xs ys : List X) (k : ℕ) (x : X) → xs ≡ ys → k < length ys → x ≡ get_or xs k x → slice_get ys k ≡ Some x
 found xs ys k x same inside is = slice_get_read ys (length ys) k x refl inside (subst (λ zs. x ≡ get_or zs k x) same is)
-
-pub event_is : (g : Graph) (es : List Event) (v : ℕ) (e : Event) → es ≡ g.events → v < length g.events → e ≡ get_or es v e → event_text e ≡ text_at g v
-event_is g es v e same inside is = sym (ap (λ (o : Option Event). option_map_or event_text o []) (found es g.events v e same inside is))
 
 pub signal_is : (g : Graph) (es : List Event) (v : ℕ) (e : Event) → es ≡ g.events → v < length g.events → e ≡ get_or es v e → signal_of e ≡ signal_text g v
 signal_is g es v e same inside is = sym (ap (λ (o : Option Event). option_map_or signal_of o []) (found es g.events v e same inside is))
@@ -48,22 +45,22 @@ pub one_entry : (g : Graph) (k : ℕ) → 0 < (arc_at g k).tokens → codes " " 
 one_entry g k some = chosen (ltb 0 (arc_at g k).tokens) (codes " " ++ entry_name g k ++ tokens_text (arc_at g k).tokens) [] (lt-ltb 0 (arc_at g k).tokens some)
 
 pub name_of_place : (g : Graph) (k : ℕ) → is_further g k ≡ true → place_name k ≡ entry_name g k
-name_of_place g k e = chosen (is_further g k) (place_name k) (codes "<" ++ text_at g (arc_at g k).source ++ codes "," ++ text_at g (arc_at g k).target ++ codes ">") e
+name_of_place g k e = chosen (is_further g k) (place_name k) (codes "<" ++ text_of_event g (arc_at g k).source ++ codes "," ++ text_of_event g (arc_at g k).target ++ codes ">") e
 
-pub name_of_ends : (g : Graph) (k : ℕ) → is_further g k ≡ false → codes "<" ++ text_at g (arc_at g k).source ++ codes "," ++ text_at g (arc_at g k).target ++ codes ">" ≡ entry_name g k
-name_of_ends g k e = other (is_further g k) (place_name k) (codes "<" ++ text_at g (arc_at g k).source ++ codes "," ++ text_at g (arc_at g k).target ++ codes ">") e
+pub name_of_ends : (g : Graph) (k : ℕ) → is_further g k ≡ false → codes "<" ++ text_of_event g (arc_at g k).source ++ codes "," ++ text_of_event g (arc_at g k).target ++ codes ">" ≡ entry_name g k
+name_of_ends g k e = other (is_further g k) (place_name k) (codes "<" ++ text_of_event g (arc_at g k).source ++ codes "," ++ text_of_event g (arc_at g k).target ++ codes ">") e
 
 pub target_of_place : (g : Graph) (k : ℕ) → is_further g k ≡ true → codes " " ++ place_name k ≡ target_text g k
-target_of_place g k e = ap (λ (t : List ℕ). codes " " ++ t) (chosen (is_further g k) (place_name k) (text_at g (arc_at g k).target) e)
+target_of_place g k e = ap (λ (t : List ℕ). codes " " ++ t) (chosen (is_further g k) (place_name k) (text_of_event g (arc_at g k).target) e)
 
-pub target_of_end : (g : Graph) (k : ℕ) → is_further g k ≡ false → codes " " ++ text_at g (arc_at g k).target ≡ target_text g k
-target_of_end g k e = ap (λ (t : List ℕ). codes " " ++ t) (other (is_further g k) (place_name k) (text_at g (arc_at g k).target) e)
+pub target_of_end : (g : Graph) (k : ℕ) → is_further g k ≡ false → codes " " ++ text_of_event g (arc_at g k).target ≡ target_text g k
+target_of_end g k e = ap (λ (t : List ℕ). codes " " ++ t) (other (is_further g k) (place_name k) (text_of_event g (arc_at g k).target) e)
 
 pub no_place : (g : Graph) (k : ℕ) → is_further g k ≡ false → [] ≡ place_line g k
-no_place g k e = other (is_further g k) (place_name k ++ codes " " ++ text_at g (arc_at g k).target ++ codes "\n") [] e
+no_place g k e = other (is_further g k) (place_name k ++ codes " " ++ text_of_event g (arc_at g k).target ++ codes "\n") [] e
 
-pub one_place : (g : Graph) (k : ℕ) → is_further g k ≡ true → place_name k ++ codes " " ++ text_at g (arc_at g k).target ++ codes "\n" ≡ place_line g k
-one_place g k e = chosen (is_further g k) (place_name k ++ codes " " ++ text_at g (arc_at g k).target ++ codes "\n") [] e
+pub one_place : (g : Graph) (k : ℕ) → is_further g k ≡ true → place_name k ++ codes " " ++ text_of_event g (arc_at g k).target ++ codes "\n" ≡ place_line g k
+one_place g k e = chosen (is_further g k) (place_name k ++ codes " " ++ text_of_event g (arc_at g k).target ++ codes "\n") [] e
 
 -- the arcs of a range, and those of other events
 pub leads : (g : Graph) (v low high k : ℕ) → IsRangeFrom g.arcs v low high → low ≤ k → k < high → target_text g k ≡ arc_text g v k
@@ -84,8 +81,8 @@ none_behind g v low high range = silent_to (arc_text g v) high (length g.arcs) r
 pub no_line : (g : Graph) (v low high : ℕ) → IsRangeFrom g.arcs v low high → low ≡ high → [] ≡ event_line g v
 no_line g v low high range e =
     let none : all_below (arc_text g v) (length g.arcs) ≡ [] = none_behind g v low high range ∙ (ap (all_below (arc_text g v)) (sym e) ∙ none_before g v low high range) in
-    sym (ap (line_with (text_at g v)) none)
+    sym (ap (line_with (text_of_event g v)) none)
 
 -- what stands for an arc is not empty
 pub some_target : (g : Graph) (v low high k : ℕ) → IsRangeFrom g.arcs v low high → low ≤ k → k < high → IsSome (arc_text g v k)
-some_target g v low high k range above below = subst IsSome (leads g v low high k range above below) (32, (if is_further g k then place_name k else text_at g (arc_at g k).target), refl)
+some_target g v low high k range above below = subst IsSome (leads g v low high k range above below) (32, (if is_further g k then place_name k else text_of_event g (arc_at g k).target), refl)

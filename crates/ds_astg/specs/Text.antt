@@ -6,16 +6,12 @@ use Rattle.ds_marked.specs.declared.marked.Arc.{Arc}
 use Rattle.ds_marked.specs.declared.marked.Event.{Event}
 use Rattle.ds_marked.specs.declared.marked.Kind.{Kind}
 use Rattle.ds_marked.specs.declared.marked.Kind.TheVariants.{Rise, Fall, Dummy}
-use Rattle.ds_marked.specs.Log.{event_text}
+use Rattle.ds_marked.specs.Log.{text_of_event}
 use Rattle.ds_astg.specs.Pieces.{all_below, line_with}
 
 -- an arc with a number
 abbrev pub arc_at : Graph → ℕ → Arc
 arc_at g k = slice_index_or g.arcs k (record { source = 0; target = 0; tokens = 0 })
-
--- an event with a number, as it is written
-abbrev pub text_at : Graph → ℕ → List ℕ
-text_at g v = option_map_or event_text (slice_get g.events v) []
 
 -- two arcs have the same ends
 abbrev pub have_same_ends : Arc → Arc → Bool
@@ -45,7 +41,7 @@ signal_text g v = option_map_or signal_of (slice_get g.events v) []
 
 -- what stands for an arc on the line of its source: its target, or its place
 abbrev pub target_text : Graph → ℕ → List ℕ
-target_text g k = codes " " ++ (if is_further g k then place_name k else text_at g (arc_at g k).target)
+target_text g k = codes " " ++ (if is_further g k then place_name k else text_of_event g (arc_at g k).target)
 
 -- the same on the line of an event, where the arc begins there
 abbrev pub arc_text : Graph → ℕ → ℕ → List ℕ
@@ -53,18 +49,18 @@ arc_text g v k = if (arc_at g k).source == v then target_text g k else []
 
 -- an event from which arcs lead: the event, and what stands for them in their order
 abbrev pub event_line : Graph → ℕ → List ℕ
-event_line g v = line_with (text_at g v) (all_below (arc_text g v) (length g.arcs))
+event_line g v = line_with (text_of_event g v) (all_below (arc_text g v) (length g.arcs))
 
 -- a place of its own: the place, and the target of its arc
 abbrev pub place_line : Graph → ℕ → List ℕ
 place_line g k =
-    if is_further g k then place_name k ++ codes " " ++ text_at g (arc_at g k).target ++ codes "\n" else []
+    if is_further g k then place_name k ++ codes " " ++ text_of_event g (arc_at g k).target ++ codes "\n" else []
 
 -- what stands for an arc in the marking: its ends, or its place
 abbrev pub entry_name : Graph → ℕ → List ℕ
 entry_name g k =
     if is_further g k then place_name k
-    else codes "<" ++ text_at g (arc_at g k).source ++ codes "," ++ text_at g (arc_at g k).target ++ codes ">"
+    else codes "<" ++ text_of_event g (arc_at g k).source ++ codes "," ++ text_of_event g (arc_at g k).target ++ codes ">"
 
 -- two tokens or more as a number, one token without
 abbrev pub tokens_text : ℕ → List ℕ

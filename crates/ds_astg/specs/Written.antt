@@ -5,7 +5,8 @@ use Rattle.ds_lines.specs.Line.{lines_of}
 use Rattle.ds_lines.specs.Print.{numbered, IsPlain}
 use Rattle.ds_marked.specs.Graph.{Graph, IsKept}
 use Rattle.ds_astg.specs.Word.{first_byte, is_signal}
-use Rattle.ds_astg.specs.Text.{arc_at, text_at, is_further, place_name, entry_name, tokens_text, graph_text}
+use Rattle.ds_marked.specs.Log.{text_of_event}
+use Rattle.ds_astg.specs.Text.{arc_at, is_further, place_name, entry_name, tokens_text, graph_text}
 use Rattle.ds_astg.specs.Read.{events_of, graph_of}
 
 -- the lists of the numbers below a count, one after another
@@ -15,7 +16,7 @@ lists_below piece (suc n) = lists_below piece n ++ piece n
 
 -- the word of an arc on the line of its source
 abbrev pub target_word : Graph → ℕ → List ℕ
-target_word g k = if is_further g k then place_name k else text_at g (arc_at g k).target
+target_word g k = if is_further g k then place_name k else text_of_event g (arc_at g k).target
 
 -- the same where an event is its source
 abbrev pub arc_words : Graph → ℕ → ℕ → List (List ℕ)
@@ -28,11 +29,11 @@ line_behind word (next ∷ words) = (word ∷ next ∷ words) ∷ []
 
 -- the line of an event
 abbrev pub event_lines : Graph → ℕ → List (List (List ℕ))
-event_lines g v = line_behind (text_at g v) (lists_below (arc_words g v) (length g.arcs))
+event_lines g v = line_behind (text_of_event g v) (lists_below (arc_words g v) (length g.arcs))
 
 -- the line of a place of its own
 abbrev pub place_lines : Graph → ℕ → List (List (List ℕ))
-place_lines g k = if is_further g k then (place_name k ∷ text_at g (arc_at g k).target ∷ []) ∷ [] else []
+place_lines g k = if is_further g k then (place_name k ∷ text_of_event g (arc_at g k).target ∷ []) ∷ [] else []
 
 -- the entry of an arc with tokens
 abbrev pub entry_words : Graph → ℕ → List (List ℕ)

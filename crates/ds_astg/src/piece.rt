@@ -2,11 +2,11 @@
 ghost use Rattle.std.specs.Prelude.{◌≡◌, ◌<◌, length};
 ghost use Rattle.ds_outside.specs.Writes.{GoesOn};
 ghost use Rattle.ds_marked.specs.Graph.{Graph};
-ghost use Rattle.ds_marked.specs.Log.{event_text, sign as sign_of};
-ghost use Rattle.ds_astg.specs.Text.{have_same_ends, is_further as is_further_in, place_name, text_at};
+ghost use Rattle.ds_marked.specs.Log.{text_of_event};
+ghost use Rattle.ds_astg.specs.Text.{have_same_ends, is_further as is_further_in, place_name};
 
 use ds_base::EventId;
-use ds_marked::{Arc, Event, Kind, Marked};
+use ds_marked::{Arc, Marked};
 use ds_outside::{Sink, WriteFault, write_all};
 use itoa::Buffer;
 
@@ -34,22 +34,11 @@ pub fn put_event<O: Sink>(
 ) -> Result<(), WriteFault>
     requires { event < length graph.now.events }
     ensures { GoesOn so_far result (O.written out.old) (O.written out.new) (O.faults out.old)
-        (O.faults out.new) (text_at graph.now event) }
+        (O.faults out.new) (text_of_event graph.now event) }
 {
-    let event = &graph.events()[event.index()];
-    let so_far = put(so_far, event.signal.as_slice(), out);
-    put(so_far, sign(event.kind), out)
-}
-
-// The sign of an event.
-fn sign(kind: Kind) -> &'static [u8]
-    ensures { result.now ≡ sign_of kind }
-{
-    match kind {
-        Kind::Rise => b"+",
-        Kind::Fall => b"-",
-        Kind::Dummy => b"",
-    }
+    let text = graph.text(event);
+    let so_far = put(so_far, text.name, out);
+    put(so_far, text.sign, out)
 }
 
 /// Writes the name of an arc's own place.

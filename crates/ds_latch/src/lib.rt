@@ -12,6 +12,8 @@
 mod latches;
 pub mod laws;
 mod plan;
+mod text;
 
 pub use latches::{Edge as DataEdge, Latches};
 pub use plan::Plan;
+pub use text::event_text;

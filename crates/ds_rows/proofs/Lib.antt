@@ -2,5 +2,4 @@ pub mod Values
 pub mod Then
 pub mod Reading
 pub mod Printed
-pub mod Events
 pub mod Columns

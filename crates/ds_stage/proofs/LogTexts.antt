@@ -6,7 +6,7 @@ use Rattle.std.proofs.lemmas.List.{append_assoc}
 use Rattle.std.proofs.lemmas.Option.{slice_get_read}
 use Rattle.ds_marked.specs.Graph.{Graph}
 use Rattle.ds_marked.specs.declared.marked.Arc.{Arc}
-use Rattle.ds_rows.specs.Log.{text_of_event}
+use Rattle.ds_marked.specs.Log.{text_of_event}
 use Rattle.ds_stage.specs.ReplayStage.{ends_text}
 
 -- what follows from what an answer gives

@@ -6,10 +6,9 @@ use Rattle.ds_outside.specs.declared.files.Which.TheVariants as which
 use Rattle.ds_lines.specs.Line.{Line}
 use Rattle.ds_marked.specs.Graph.{Graph, IsKept}
 use Rattle.ds_design.specs.Circuit.{Circuit}
-use Rattle.ds_marked.specs.Log.{event_text}
+use Rattle.ds_marked.specs.Log.{event_text, text_of_event}
 use Rattle.ds_latch.specs.Node.{Split}
 use Rattle.ds_latch.specs.Plan.{Planned}
-use Rattle.ds_rows.specs.Log.{text_of_event}
 use Rattle.ds_astg.specs.Read.{graph_of}
 use Rattle.ds_astg.specs.declared.fault.AstgFault.{AstgFault}
 use Rattle.ds_astg.specs.declared.fault.AstgKind.{AstgKind}

@@ -11,7 +11,8 @@ use Rattle.ds_marked.specs.declared.marked.Arc.{Arc}
 use Rattle.ds_latch.specs.Node.{Slave, members}
 use Rattle.ds_latch.specs.Plan.{Planned}
 use Rattle.ds_fire.specs.Snapshot.{Snapshot, graph_of, limit_of, split_of, stored_values}
-use Rattle.ds_rows.specs.Log.{column, stored_text, text_of_event}
+use Rattle.ds_marked.specs.Log.{text_of_event}
+use Rattle.ds_rows.specs.Log.{column, stored_text}
 use Rattle.ds_replay.specs.Replay.{replay_of}
 use Rattle.ds_replay.specs.Replayed.{IsReplayed}
 use Rattle.ds_replay.specs.declared.fault.ReplayFault.{ReplayFault}

@@ -1,13 +1,12 @@
 //! The texts of faults of a graph.
 ghost use Rattle.std.specs.Prelude.{◌≡◌, ◌++◌, ℕ, IfOk, codes, decimal, map};
-ghost use Rattle.ds_marked.specs.Log.{event_text};
-ghost use Rattle.ds_rows.specs.Log.{text_of_event};
+ghost use Rattle.ds_marked.specs.Log.{event_text, text_of_event};
 ghost use Rattle.ds_stage.specs.FaultText.{listed};
 ghost use Rattle.ds_stage.specs.PlanStage.{IsAcceptText, astg_text as astg_text_of};
 
 use crate::fault_line::too_many;
 use crate::fault_text::with_name;
-use crate::log_text::{sign, with_event};
+use crate::log_text::with_event;
 use ds_accept::AcceptFault;
 use ds_astg::AstgKind;
 use ds_base::{EventId, OutOfMemory};
@@ -62,8 +61,9 @@ fn missing(alloc: Global, event: &Event) -> Result<Vec<u8>, OutOfMemory>
     ensures { IfOk result (λ text. text.items ≡ codes "missing event " ++ event_text event.now) }
 {
     let mut text = Vec::from_slice(alloc, b"missing event ")?;
-    text.extend_from_slice(event.signal.as_slice())?;
-    text.extend_from_slice(sign(event.kind))?;
+    let pieces = event.text();
+    text.extend_from_slice(pieces.name)?;
+    text.extend_from_slice(pieces.sign)?;
     Ok(text)
 }
 

@@ -1,12 +1,11 @@
 //! The texts of faults of a log.
 ghost use Rattle.std.specs.Prelude.{◌≡◌, ◌++◌, [], IfOk, slice_get};
 ghost use Rattle.std.specs.Option.{option_map_or};
-ghost use Rattle.ds_rows.specs.Log.{text_of_event};
-ghost use Rattle.ds_marked.specs.Log.{sign as sign_of};
+ghost use Rattle.ds_marked.specs.Log.{text_of_event};
 ghost use Rattle.ds_stage.specs.ReplayStage.{ends_text, log_text as log_text_of};
 
 use ds_base::{ArcId, EventId};
-use ds_marked::{Kind, Marked};
+use ds_marked::Marked;
 use ds_replay::ReplayKind;
 use std::alloc::{AllocError, Global};
 
@@ -50,18 +49,8 @@ pub fn with_event(text: Vec<u8>, graph: &Marked, event: EventId) -> Result<Vec<u
         return Ok(text);
     };
     let mut text = text;
-    text.extend_from_slice(event.signal.as_slice())?;
-    text.extend_from_slice(sign(event.kind))?;
+    let pieces = event.text();
+    text.extend_from_slice(pieces.name)?;
+    text.extend_from_slice(pieces.sign)?;
     Ok(text)
-}
-
-/// The sign of an event.
-pub fn sign(kind: Kind) -> &'static [u8]
-    ensures { result.now ≡ sign_of kind }
-{
-    match kind {
-        Kind::Rise => b"+",
-        Kind::Fall => b"-",
-        Kind::Dummy => b"",
-    }
 }

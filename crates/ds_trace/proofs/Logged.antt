@@ -14,9 +14,9 @@ use Rattle.ds_marked.specs.Graph.{Graph, IsLegalFrom, counted, counts_after}
 use Rattle.ds_marked.specs.declared.marked.Event.{Event}
 use Rattle.ds_marked.specs.declared.marked.Kind.TheVariants.{Dummy}
 use Rattle.ds_marked.proofs.Firings.{counted-same, counted-other}
-use Rattle.ds_marked.specs.Log.{IsEventText, IsLog, IsLogFrom, event_text}
+use Rattle.ds_marked.specs.Log.{IsEventText, IsLog, IsLogFrom, event_text, text_of_event}
 use Rattle.ds_marked.proofs.Logs.{logs_in_windows}
-use Rattle.ds_rows.specs.Log.{firing_text, text_of_event}
+use Rattle.ds_rows.specs.Log.{firing_text}
 
 -- each event of a legal list is one of the graph
 pub legal_events : (g : Graph) (limit : ℕ) (count : ℕ → ℕ) (events : List ℕ)

@@ -1,6 +1,6 @@
 use Rattle.std.proofs.Common.{◌∙◌, ap, sym}
 use Rattle.ds_marked.specs.declared.marked.Arc.{Arc}
-use Rattle.ds_astg.specs.Text.{text_at}
+use Rattle.ds_marked.specs.Log.{text_of_event}
 use Rattle.ds_rows.proofs.Then.{goes_on, with_text}
 use Rattle.ds_astg.proofs.Texts.{arc_is, name_of_ends, name_of_place}
 use Rattle.ds_astg.proofs.entry.put_name.Goals as goal
@@ -13,5 +13,5 @@ returns g c =
     let source = sym c.index-arcs-arc.is ∙ arc_is c.args.graph.now c.arcs-arcs.result.now c.args.arc c.index-arcs-arc.result c.arcs-arcs.ensures.arcs c.requires c.index-arcs-arc.is in
     let target = sym c.index-arcs-arc-2.is ∙ arc_is c.args.graph.now c.arcs-arcs.result.now c.args.arc c.index-arcs-arc-2.result c.arcs-arcs.ensures.arcs c.requires c.index-arcs-arc-2.is in
     with_text (name_of_ends c.args.graph.now c.args.arc (sym c.is_further.ensures ∙ c.if-is_further.false))
-    (goes_on (goes_on (goes_on (goes_on c.put-so_far.ensures (with_text (ap (λ (a : Arc). text_at c.args.graph.now a.source) source) c.put_event-so_far.ensures)) c.put-so_far-2.ensures)
-    (with_text (ap (λ (a : Arc). text_at c.args.graph.now a.target) target) c.put_event-so_far-2.ensures)) c.put.ensures)
+    (goes_on (goes_on (goes_on (goes_on c.put-so_far.ensures (with_text (ap (λ (a : Arc). text_of_event c.args.graph.now a.source) source) c.put_event-so_far.ensures)) c.put-so_far-2.ensures)
+    (with_text (ap (λ (a : Arc). text_of_event c.args.graph.now a.target) target) c.put_event-so_far-2.ensures)) c.put.ensures)

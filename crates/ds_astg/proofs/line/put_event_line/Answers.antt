@@ -2,7 +2,8 @@ use Rattle.std.proofs.Common.{arith, sym, ◌<◌}
 use Rattle.std.specs.Prelude.{length}
 use Rattle.ds_rows.proofs.Then.{goes_on, nothing, with_text}
 use Rattle.ds_astg.specs.Pieces.{all_below}
-use Rattle.ds_astg.specs.Text.{arc_text, text_at}
+use Rattle.ds_marked.specs.Log.{text_of_event}
+use Rattle.ds_astg.specs.Text.{arc_text}
 use Rattle.ds_astg.proofs.Pieces.{line_some, some_piece}
 use Rattle.ds_astg.proofs.Texts.{no_line, some_target}
 use Rattle.ds_astg.proofs.line.put_event_line.Goals as goal
@@ -16,7 +17,7 @@ returns g c =
     let range = c.arcs_from-range.ensures in
     let some : c.arcs_from-range.result.start < c.arcs_from-range.result.end = (let apart = c.if-range.false in let order = range.order in omega arith) in
     let text = arc_text c.args.graph.now c.args.event in
-    with_text (sym (line_some (text_at c.args.graph.now c.args.event) (all_below (arc_text c.args.graph.now c.args.event) (length c.args.graph.now.arcs))
+    with_text (sym (line_some (text_of_event c.args.graph.now c.args.event) (all_below (arc_text c.args.graph.now c.args.event) (length c.args.graph.now.arcs))
     (some_piece (arc_text c.args.graph.now c.args.event) (length c.args.graph.now.arcs) c.arcs_from-range.result.start (let size = range.size in omega arith)
     (some_target c.args.graph.now c.args.event c.arcs_from-range.result.start c.arcs_from-range.result.end c.arcs_from-range.result.start range (omega arith) some))))
     (goes_on (goes_on c.put_event-so_far.ensures c.put_targets-so_far.ensures) c.put.ensures)

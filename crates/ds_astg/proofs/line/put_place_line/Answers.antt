@@ -1,6 +1,6 @@
 use Rattle.std.proofs.Common.{◌∙◌, ap, sym}
 use Rattle.ds_marked.specs.declared.marked.Arc.{Arc}
-use Rattle.ds_astg.specs.Text.{text_at}
+use Rattle.ds_marked.specs.Log.{text_of_event}
 use Rattle.ds_rows.proofs.Then.{goes_on, nothing, with_text}
 use Rattle.ds_astg.proofs.Texts.{arc_is, no_place, one_place}
 use Rattle.ds_astg.proofs.line.put_place_line.Goals as goal
@@ -13,4 +13,4 @@ pub returns : goal.returns
 returns g c =
     let same = sym c.index-arcs-arc.is ∙ arc_is c.args.graph.now c.arcs-arcs.result.now c.args.arc c.index-arcs-arc.result c.arcs-arcs.ensures.arcs c.requires c.index-arcs-arc.is in
     with_text (one_place c.args.graph.now c.args.arc (sym c.is_further.ensures ∙ c.if-not-is_further.false))
-    (goes_on (goes_on (goes_on c.put_place-so_far.ensures c.put-so_far.ensures) (with_text (ap (λ (a : Arc). text_at c.args.graph.now a.target) same) c.put_event-so_far.ensures)) c.put.ensures)
+    (goes_on (goes_on (goes_on c.put_place-so_far.ensures c.put-so_far.ensures) (with_text (ap (λ (a : Arc). text_of_event c.args.graph.now a.target) same) c.put_event-so_far.ensures)) c.put.ensures)

@@ -1,5 +1,5 @@
 use Rattle.std.proofs.Common.{◌≡◌, ◌++◌, drop, map}
-use Rattle.ds_rows.specs.Log.{text_of_event}
+use Rattle.ds_marked.specs.Log.{text_of_event}
 use Rattle.ds_stage.specs.FaultText.{listed}
 use Rattle.ds_stage.proofs.graph_text.with_events.Given as goal
 

@@ -1,6 +1,6 @@
 use Rattle.std.proofs.Common.{◌≡◌, ◌++◌, ℕ, [], Vec, Global, slice_get}
 use Rattle.std.specs.Option.{option_map_or}
-use Rattle.ds_rows.specs.Log.{text_of_event}
+use Rattle.ds_marked.specs.Log.{text_of_event}
 use Rattle.ds_stage.specs.ReplayStage.{ends_text}
 use Rattle.ds_stage.proofs.LogTexts.{ends_are, if_ok}
 use Rattle.ds_stage.proofs.log_text.with_ends.Goals as goal
