@@ -8,8 +8,9 @@ use Rattle.ds_names.specs.Names.{place_of_name}
 use Rattle.ds_marked.specs.Log.{event_text}
 use Rattle.ds_lines.specs.Line.{Line, line_or_none}
 use Rattle.ds_marked.specs.Graph.{Graph}
+use Rattle.ds_events.specs.Texts.{event_by_text, event_texts}
 use Rattle.ds_period.specs.Word.{delay_on, has_delay, written_delay, word_on}
-use Rattle.ds_period.specs.Read.{Given, HasOneEach, IsRead, arc_by_texts, arc_named, event_by_text, written_events, delays_from, delays_of, is_given, after_line, none_given, then_lines, with_delay}
+use Rattle.ds_period.specs.Read.{Given, HasOneEach, IsRead, arc_by_texts, arc_named, delays_from, delays_of, is_given, after_line, none_given, then_lines, with_delay}
 use Rattle.ds_period.specs.Step.{IsTaken, line_refusal}
 use Rattle.ds_period.specs.declared.fault.Refusal.{Refusal}
 use Rattle.ds_period.specs.declared.fault.Refusal.TheVariants as refusal
@@ -91,7 +92,7 @@ taken_at g so_far new words delay arc a b has source target at inside fresh is =
     not_true false e = refl
 
 -- a word that no event is written as
-pub no_event : (g : Graph) (texts : List (List ℕ)) (word : List ℕ) → texts ≡ written_events g
+pub no_event : (g : Graph) (texts : List (List ℕ)) (word : List ℕ) → texts ≡ event_texts g
     → length texts ≤ place_of_name texts word → length g.events ≤ event_by_text g word
 no_event g texts word are past =
     let same : place_of_name texts word ≡ event_by_text g word = ap (λ (ts : List (List ℕ)). place_of_name ts word) are in
@@ -99,7 +100,7 @@ no_event g texts word are past =
     omega arith
 
 -- a word that an event is written as
-pub event_is : (g : Graph) (texts : List (List ℕ)) (word : List ℕ) (v : ℕ) → texts ≡ written_events g → v ≡ place_of_name texts word
+pub event_is : (g : Graph) (texts : List (List ℕ)) (word : List ℕ) (v : ℕ) → texts ≡ event_texts g → v ≡ place_of_name texts word
     → v ≡ event_by_text g word
 event_is g texts word v are at = at ∙ ap (λ (ts : List (List ℕ)). place_of_name ts word) are
 

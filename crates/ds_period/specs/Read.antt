@@ -1,13 +1,12 @@
 -- The delays that lines give the arcs of a graph, or the first fault of the lines.
-use Rattle.std.specs.Prelude.{◌≡◌, ⊤, ℕ, Bool, true, false, not, List, [], ◌∷◌, map, length}
+use Rattle.std.specs.Prelude.{◌≡◌, ⊤, ℕ, Bool, true, false, not, List, [], ◌∷◌, length}
 use Rattle.std.specs.Prelude.{replicate, slice_index_or, slice_set, Result, Ok, Err, nat_lt, ◌==◌}
 use Rattle.std.specs.Prelude.{◌&&◌, if◌then◌else◌}
 use Rattle.std.specs.List.{position_or_len}
-use Rattle.ds_names.specs.Names.{place_of_name}
 use Rattle.ds_lines.specs.Line.{Line}
 use Rattle.ds_marked.specs.Graph.{Graph}
 use Rattle.ds_marked.specs.declared.marked.Arc.{Arc}
-use Rattle.ds_marked.specs.Log.{event_text}
+use Rattle.ds_events.specs.Texts.{event_by_text}
 use Rattle.ds_period.specs.Word.{has_delay, written_delay, word_on}
 use Rattle.ds_period.specs.declared.fault.DelayFault.{DelayFault}
 use Rattle.ds_period.specs.declared.fault.DelayKind.{DelayKind}
@@ -15,14 +14,6 @@ use Rattle.ds_period.specs.declared.fault.DelayKind.TheVariants.{BadWord, Unknow
 use Rattle.ds_period.specs.declared.fault.DelayKind.TheVariants.{RepeatedOrder}
 use Rattle.ds_period.specs.declared.fault.DelayRefusal.{DelayRefusal}
 use Rattle.ds_period.specs.declared.fault.DelayRefusal.TheVariants.{Memory, Fault}
-
--- the events, as they are written
-abbrev pub written_events : Graph → List (List ℕ)
-written_events g = map event_text g.events
-
--- the first event that is written so; past the events where none is
-abbrev pub event_by_text : Graph → List ℕ → ℕ
-event_by_text g word = place_of_name (written_events g) word
 
 -- an arc leads from u to v
 abbrev pub is_from_to : ℕ → ℕ → Arc → Bool

@@ -13,12 +13,14 @@ use Rattle.ds_marked.specs.declared.marked.Arc.{Arc}
 use Rattle.ds_marked.specs.declared.blocked.Blocked.{Blocked}
 use Rattle.ds_marked.specs.declared.blocked.Blocked.TheVariants as blocked
 use Rattle.std.specs.Str.Parse.{digits_value}
+use Rattle.ds_events.proofs.Numbers.{both}
+use Rattle.ds_events.specs.Texts.{event_by_text, event_texts}
 use Rattle.ds_replay.specs.Word.{first_word, second_word, turn_of}
-use Rattle.ds_replay.specs.Replay.{event_fault, event_of, event_texts, fault_of, first_of, lacks, least_lacking}
+use Rattle.ds_replay.specs.Replay.{event_fault, fault_of, first_of, lacks, least_lacking}
 use Rattle.ds_replay.specs.Step.{kind_of}
 use Rattle.ds_replay.specs.declared.fault.ReplayKind.{ReplayKind}
 use Rattle.ds_replay.specs.declared.fault.ReplayKind.TheVariants.{WrongTurn}
-use Rattle.ds_replay.proofs.Words.{both, number_is}
+use Rattle.ds_replay.proofs.Words.{number_is}
 
 -- some arc
 abbrev any : Arc
@@ -71,18 +73,18 @@ alone None = refl
 alone (Some kind) = refl
 
 -- what is wrong with a line of two words and a known event is what is wrong with the event
-pub line_is : (g : Graph) (limit : ℕ) (count : ℕ → ℕ) (words : List (List ℕ)) (turn v : ℕ) (o : Option ReplayKind) → turn_of words ≡ Some turn → v ≡ event_of g (first_word words) → v < length g.events
+pub line_is : (g : Graph) (limit : ℕ) (count : ℕ → ℕ) (words : List (List ℕ)) (turn v : ℕ) (o : Option ReplayKind) → turn_of words ≡ Some turn → v ≡ event_by_text g (first_word words) → v < length g.events
     → event_fault g limit count v turn ≡ o → fault_of g limit count words ≡ o
 line_is g limit count words turn v o is at inside event =
     let (firing, number) = number_is words turn is in
-    let known : nat_lt (event_of g (first_word words)) (length g.events) ≡ true = lt-ltb (event_of g (first_word words)) (length g.events) (omega (arith, at, inside)) in
-    let here : event_fault g limit count (event_of g (first_word words)) (digits_value 10 (second_word words)) ≡ o =
-    ap (λ (n : ℕ). event_fault g limit count (event_of g (first_word words)) n) number ∙ (ap (λ (u : ℕ). event_fault g limit count u turn) (sym at) ∙ event) in
-    rw (firing, known) (alone (event_fault g limit count (event_of g (first_word words)) (digits_value 10 (second_word words))) ∙ here)
+    let known : nat_lt (event_by_text g (first_word words)) (length g.events) ≡ true = lt-ltb (event_by_text g (first_word words)) (length g.events) (omega (arith, at, inside)) in
+    let here : event_fault g limit count (event_by_text g (first_word words)) (digits_value 10 (second_word words)) ≡ o =
+    ap (λ (n : ℕ). event_fault g limit count (event_by_text g (first_word words)) n) number ∙ (ap (λ (u : ℕ). event_fault g limit count u turn) (sym at) ∙ event) in
+    rw (firing, known) (alone (event_fault g limit count (event_by_text g (first_word words)) (digits_value 10 (second_word words))) ∙ here)
 
 -- an event that is found among the texts
 pub found_event : (g : Graph) (texts : List (List ℕ)) (words : List (List ℕ)) (name : List ℕ) (v : ℕ) → texts ≡ event_texts g → name ≡ first_word words
-    → (v ≡ place_of_name texts name) × (v < length texts) → (v ≡ event_of g (first_word words)) × (v < length g.events)
+    → (v ≡ place_of_name texts name) × (v < length texts) → (v ≡ event_by_text g (first_word words)) × (v < length g.events)
 found_event g texts words name v are first (at, inside) =
     let long : length texts ≡ length g.events = ap length are ∙ length-map g.events event_text in
-    (at ∙ (ap (λ (ts : List (List ℕ)). place_of_name ts name) are ∙ ap (event_of g) first), omega (arith, long, inside))
+    (at ∙ (ap (λ (ts : List (List ℕ)). place_of_name ts name) are ∙ ap (event_by_text g) first), omega (arith, long, inside))

@@ -19,14 +19,16 @@ use Rattle.ds_marked.specs.declared.marked.Arc.{Arc}
 use Rattle.ds_marked.specs.declared.marked.Event.{Event}
 use Rattle.ds_marked.specs.declared.marked.Kind.TheVariants.{Rise}
 use Rattle.ds_marked.specs.Log.{event_text, IsEventText, IsFiringLine, IsTurnWord, LineFault, bad_word, unknown_event, wrong_turn, over_limit, not_enabled}
-use Rattle.ds_replay.specs.Word.{first_word, is_digit, is_firing, is_turn_word, second_word}
-use Rattle.ds_replay.specs.Replay.{event_fault, event_of, event_texts, fault_of, first_of, lacks, least_lacking, where_true}
+use Rattle.ds_events.proofs.Numbers.{all_digits, both}
+use Rattle.ds_events.proofs.Places.{place_some}
+use Rattle.ds_events.specs.Number.{is_decimal, is_short_number}
+use Rattle.ds_events.specs.Texts.{event_by_text, event_texts}
+use Rattle.ds_replay.specs.Word.{first_word, is_firing, second_word}
+use Rattle.ds_replay.specs.Replay.{event_fault, fault_of, first_of, lacks, least_lacking, where_true}
 use Rattle.ds_replay.specs.Legal.{HasKind, HasOwnTexts}
 use Rattle.ds_replay.specs.declared.fault.ReplayKind.{ReplayKind}
 use Rattle.ds_replay.specs.declared.fault.ReplayKind.TheVariants.{BadWord, UnknownEvent, WrongTurn, OverLimit, NotEnabled}
-use Rattle.ds_replay.proofs.Words.{all_digits, both}
 use Rattle.ds_replay.proofs.Blocking.{enabled_is, lacks_is, lacks_true}
-use Rattle.ds_replay.proofs.Places.{place_some}
 
 -- some event, and some arc
 abbrev any_event : Event
@@ -36,21 +38,21 @@ abbrev any_arc : Arc
 any_arc = record { source = 0; target = 0; tokens = 0 }
 
 -- digits, as tests and as facts
-digit_is : (byte : ℕ) → digit_value byte < 10 → is_digit byte ≡ true
+digit_is : (byte : ℕ) → digit_value byte < 10 → is_decimal byte ≡ true
 digit_is byte low =
     let (from, to) = digit_from_value byte low in
     let not_below : nat_lt byte 48 ≡ false = le-ltb byte 48 from in
     let below : nat_lt byte 58 ≡ true = lt-ltb byte 58 (omega (arith, to)) in
     rw (not_below, below) refl
 
-digits_are : (word : List ℕ) → AllDigits 10 word → list_all is_digit word ≡ true
+digits_are : (word : List ℕ) → AllDigits 10 word → list_all is_decimal word ≡ true
 digits_are [] all = refl
 digits_are (byte ∷ word) (low, all) = rw (digit_is byte low, digits_are word all) refl
 
-turn_word_is : (word : List ℕ) → IsTurnWord word → is_turn_word word ≡ true
+turn_word_is : (word : List ℕ) → IsTurnWord word → is_short_number word ≡ true
 turn_word_is word (some, few, all) = rw (lt-ltb 0 (length word) (omega (arith, some)), lt-ltb (length word) 11 (omega (arith, few)), digits_are word all) refl
 
-is_turn : (word : List ℕ) → is_turn_word word ≡ true → IsTurnWord word
+is_turn : (word : List ℕ) → is_short_number word ≡ true → IsTurnWord word
 is_turn word is =
     let (some, rest) = both _ _ is in
     let (few, digits) = both _ _ rest in
@@ -100,9 +102,9 @@ text_at g v inside = get_or-map event_text g.events v any_event [] inside
 
 module _ (g : Graph) where
   -- the number that a text is found at
-  found : (name : List ℕ) → event_of g name < length g.events → IsEventText g (event_of g name) name
+  found : (name : List ℕ) → event_by_text g name < length g.events → IsEventText g (event_by_text g name) name
   found name inside =
-      let v : ℕ = event_of g name in
+      let v : ℕ = event_by_text g name in
       let long : length (event_texts g) ≡ length g.events = length-map g.events event_text in
       let here : bytes_eq name (get_or (event_texts g) v []) ≡ true = passes_at_first (bytes_eq name) (event_texts g) [] (omega (arith, long, inside)) in
       let same : name ≡ event_text (get_or g.events v any_event) = (bytes_eq-Decides name (get_or (event_texts g) v [])).0 here ∙ text_at g v inside in
@@ -118,16 +120,16 @@ module _ (g : Graph) where
   event_is v name is = subst (λ (o : Option Event). IsSomeAnd o (λ e. name ≡ event_text e)) (slice_get-get_or g.events v any_event (event_within v name is)) is
 
   -- a text that is not found is none of an event
-  missing : (name : List ℕ) → length g.events ≤ event_of g name → (v : ℕ) → ¬ IsEventText g v name
+  missing : (name : List ℕ) → length g.events ≤ event_by_text g name → (v : ℕ) → ¬ IsEventText g v name
   missing name past v is =
       let inside : v < length g.events = event_within v name is in
       let long : length (event_texts g) ≡ length g.events = length-map g.events event_text in
       let here : bytes_eq name (get_or (event_texts g) v []) ≡ true = (bytes_eq-Decides name (get_or (event_texts g) v [])).1 (event_is v name is ∙ sym (text_at g v inside)) in
-      let low : event_of g name < length (event_texts g) = place_some (bytes_eq name) (event_texts g) (list_any_at (bytes_eq name) (event_texts g) v [] (omega arith) here) in
+      let low : event_by_text g name < length (event_texts g) = place_some (bytes_eq name) (event_texts g) (list_any_at (bytes_eq name) (event_texts g) v [] (omega arith) here) in
       omega arith
 
   -- where no two events are written alike, a text is found at its event
-  found_at : HasOwnTexts g → (v : ℕ) (name : List ℕ) → IsEventText g v name → event_of g name ≡ v
+  found_at : HasOwnTexts g → (v : ℕ) (name : List ℕ) → IsEventText g v name → event_by_text g name ≡ v
   found_at own v name is =
       let inside : v < length g.events = event_within v name is in
       let long : length (event_texts g) ≡ length g.events = length-map g.events event_text in
@@ -150,14 +152,14 @@ module _ (g : Graph) where
     }
 
     -- a line without a fault
-    pub clean : fault_of g limit count words ≡ None → IsFiringLine g limit count words (event_of g (first_word words))
+    pub clean : fault_of g limit count words ≡ None → IsFiringLine g limit count words (event_by_text g (first_word words))
     clean none =
-        let v : ℕ = event_of g (first_word words) in
+        let v : ℕ = event_by_text g (first_word words) in
         let turn : ℕ = digits_value 10 (second_word words) in
         let (firing, known, free) = passed _ _ _ _ _ none in
         let (pair, number) = both _ _ firing in
         let (right, below, ready) = passed_event _ _ _ _ _ _ free in
-        let inside : event_of g (first_word words) < length g.events = ltb-true (event_of g (first_word words)) (length g.events) known in
+        let inside : event_by_text g (first_word words) < length g.events = ltb-true (event_by_text g (first_word words)) (length g.events) known in
         record {
           name = first_word words;
           turn = second_word words;
@@ -179,13 +181,13 @@ module _ (g : Graph) where
         }
 
     -- and the other way round
-    pub clean_is : HasOwnTexts g → (v : ℕ) → IsFiringLine g limit count words v → (fault_of g limit count words ≡ None) × (event_of g (first_word words) ≡ v)
+    pub clean_is : HasOwnTexts g → (v : ℕ) → IsFiringLine g limit count words v → (fault_of g limit count words ≡ None) × (event_by_text g (first_word words) ≡ v)
     clean_is own v is =
         let first : first_word words ≡ is.name = ap first_word is.two_words in
         let second : second_word words ≡ is.turn = ap second_word is.two_words in
         let pair : (length words == 2) ≡ true = eq-eqb (length words) 2 (ap length is.two_words) in
-        let number : is_turn_word (second_word words) ≡ true = ap is_turn_word second ∙ turn_word_is is.turn is.is_number in
-        let at : event_of g (first_word words) ≡ v = ap (event_of g) first ∙ found_at own v is.name is.is_event in
+        let number : is_short_number (second_word words) ≡ true = ap is_short_number second ∙ turn_word_is is.turn is.is_number in
+        let at : event_by_text g (first_word words) ≡ v = ap (event_by_text g) first ∙ found_at own v is.name is.is_event in
         let known : nat_lt v (length g.events) ≡ true = lt-ltb v (length g.events) (event_within v is.name is.is_event) in
         let next : digits_value 10 (second_word words) ≡ count v + 1 = ap (digits_value 10) second ∙ is.next in
         let free : event_fault g limit count v (digits_value 10 (second_word words)) ≡ None = enabled_is g limit count v (digits_value 10 (second_word words)) next is.enabled in
@@ -200,26 +202,26 @@ faulty_word : (g : Graph) (limit : ℕ) (count : ℕ → ℕ) (words : List (Lis
 faulty_word g limit count words not_so = (bad_word (λ name turn e is. false≢true (sym not_so ∙ (ap is_firing e ∙ turn_word_is turn is))), refl)
 
 module _ (g : Graph) (limit : ℕ) (count : ℕ → ℕ) (name turn : List ℕ) (number : IsTurnWord turn) where
-  faulty_event : length g.events ≤ event_of g name → Faulty g limit count (name ∷ turn ∷ []) (UnknownEvent name)
+  faulty_event : length g.events ≤ event_by_text g name → Faulty g limit count (name ∷ turn ∷ []) (UnknownEvent name)
   faulty_event past = (unknown_event number (missing g name past), refl)
 
-  module _ (inside : event_of g name < length g.events) where
+  module _ (inside : event_by_text g name < length g.events) where
     abbrev V : ℕ
-    V = event_of g name
+    V = event_by_text g name
 
-    is_event : IsEventText g (event_of g name) name
+    is_event : IsEventText g (event_by_text g name) name
     is_event = found g name inside
 
-    faulty_turn : digits_value 10 turn ≢ count (event_of g name) + 1 → Faulty g limit count (name ∷ turn ∷ []) WrongTurn
-    faulty_turn other = (wrong_turn (event_of g name) number is_event other, refl)
+    faulty_turn : digits_value 10 turn ≢ count (event_by_text g name) + 1 → Faulty g limit count (name ∷ turn ∷ []) WrongTurn
+    faulty_turn other = (wrong_turn (event_by_text g name) number is_event other, refl)
 
-    module _ (next : digits_value 10 turn ≡ count (event_of g name) + 1) where
-      faulty_limit : limit ≤ count (event_of g name) → Faulty g limit count (name ∷ turn ∷ []) OverLimit
-      faulty_limit past = (over_limit (event_of g name) number is_event next past, refl)
+    module _ (next : digits_value 10 turn ≡ count (event_by_text g name) + 1) where
+      faulty_limit : limit ≤ count (event_by_text g name) → Faulty g limit count (name ∷ turn ∷ []) OverLimit
+      faulty_limit past = (over_limit (event_by_text g name) number is_event next past, refl)
 
-      faulty_arc : count (event_of g name) < limit → least_lacking g count (event_of g name) < length g.arcs → Faulty g limit count (name ∷ turn ∷ []) (NotEnabled (least_lacking g count (event_of g name)))
+      faulty_arc : count (event_by_text g name) < limit → least_lacking g count (event_by_text g name) < length g.arcs → Faulty g limit count (name ∷ turn ∷ []) (NotEnabled (least_lacking g count (event_by_text g name)))
       faulty_arc below first =
-          let v : ℕ = event_of g name in
+          let v : ℕ = event_by_text g name in
           let a : ℕ = least_lacking g count v in
           let is : IsFirstLacking count v g.arcs a = lacking g limit count [] v first in (
             not_enabled v number is_event next below (λ enabled.
@@ -235,7 +237,7 @@ faulty g limit count words kind e =
     let fault : Option ReplayKind = fault_of g limit count words in
     let name : List ℕ = first_word words in
     let turn : List ℕ = second_word words in
-    let v : ℕ = event_of g (first_word words) in
+    let v : ℕ = event_by_text g (first_word words) in
     elim (cases_Bool (is_firing words)) [
       | inr not_so ↦ (let is : fault_of g limit count words ≡ Some BadWord = rw not_so refl in subst (Faulty g limit count words) (some_same fault BadWord kind is e) (faulty_word g limit count words not_so))
       | inl firing ↦
@@ -244,26 +246,26 @@ faulty g limit count words kind e =
           let number : IsTurnWord (second_word words) = is_turn (second_word words) digits in
           let back : (k : ReplayKind) → fault_of g limit count words ≡ Some k → Faulty g limit count (first_word words ∷ second_word words ∷ []) k → Faulty g limit count words kind = λ k is why.
           subst (Faulty g limit count words) (some_same fault k kind is e) (subst (λ (ws : List (List ℕ)). Faulty g limit count ws k) (sym both_words) why) in
-          elim (cases_lt (event_of g (first_word words)) (length g.events)) [
+          elim (cases_lt (event_by_text g (first_word words)) (length g.events)) [
             | inr past ↦
-                (let unknown : nat_lt (event_of g (first_word words)) (length g.events) ≡ false = le-ltb (event_of g (first_word words)) (length g.events) past in
+                (let unknown : nat_lt (event_by_text g (first_word words)) (length g.events) ≡ false = le-ltb (event_by_text g (first_word words)) (length g.events) past in
                 back (UnknownEvent (first_word words)) (rw (firing, unknown) refl) (faulty_event g limit count (first_word words) (second_word words) number past))
             | inl inside ↦
-                (let known : nat_lt (event_of g (first_word words)) (length g.events) ≡ true = lt-ltb (event_of g (first_word words)) (length g.events) inside in
-                elim (eqb_tells (digits_value 10 (second_word words)) (count (event_of g (first_word words)) + 1)) [
+                (let known : nat_lt (event_by_text g (first_word words)) (length g.events) ≡ true = lt-ltb (event_by_text g (first_word words)) (length g.events) inside in
+                elim (eqb_tells (digits_value 10 (second_word words)) (count (event_by_text g (first_word words)) + 1)) [
                   | inr (is, other) ↦ back WrongTurn (rw (firing, known, is) refl) (faulty_turn g limit count (first_word words) (second_word words) number inside other)
-                  | inl (is, next) ↦ elim (cases_lt (count (event_of g (first_word words))) limit) [
+                  | inl (is, next) ↦ elim (cases_lt (count (event_by_text g (first_word words))) limit) [
                     | inr past ↦
-                        (let full : nat_lt (count (event_of g (first_word words))) limit ≡ false = le-ltb (count (event_of g (first_word words))) limit past in
+                        (let full : nat_lt (count (event_by_text g (first_word words))) limit ≡ false = le-ltb (count (event_by_text g (first_word words))) limit past in
                         back OverLimit (rw (firing, known, is, full) refl) (faulty_limit g limit count (first_word words) (second_word words) number inside next past))
                     | inl below ↦
-                        (let low : nat_lt (count (event_of g (first_word words))) limit ≡ true = lt-ltb (count (event_of g (first_word words))) limit below in
-                        elim (cases_lt (least_lacking g count (event_of g (first_word words))) (length g.arcs)) [
+                        (let low : nat_lt (count (event_by_text g (first_word words))) limit ≡ true = lt-ltb (count (event_by_text g (first_word words))) limit below in
+                        elim (cases_lt (least_lacking g count (event_by_text g (first_word words))) (length g.arcs)) [
                           | inl first ↦
-                              (let lacking_one : nat_lt (least_lacking g count (event_of g (first_word words))) (length g.arcs) ≡ true = lt-ltb (least_lacking g count (event_of g (first_word words))) (length g.arcs) first in
-                              back (NotEnabled (least_lacking g count (event_of g (first_word words)))) (rw (firing, known, is, low, lacking_one) refl) (faulty_arc g limit count (first_word words) (second_word words) number inside next below first))
+                              (let lacking_one : nat_lt (least_lacking g count (event_by_text g (first_word words))) (length g.arcs) ≡ true = lt-ltb (least_lacking g count (event_by_text g (first_word words))) (length g.arcs) first in
+                              back (NotEnabled (least_lacking g count (event_by_text g (first_word words)))) (rw (firing, known, is, low, lacking_one) refl) (faulty_arc g limit count (first_word words) (second_word words) number inside next below first))
                           | inr none ↦
-                              (let ready : nat_lt (least_lacking g count (event_of g (first_word words))) (length g.arcs) ≡ false = le-ltb (least_lacking g count (event_of g (first_word words))) (length g.arcs) none in
+                              (let ready : nat_lt (least_lacking g count (event_by_text g (first_word words))) (length g.arcs) ≡ false = le-ltb (least_lacking g count (event_by_text g (first_word words))) (length g.arcs) none in
                               let no_fault : fault_of g limit count words ≡ None = rw (firing, known, is, low, ready) refl in
                               absurd (none_some fault kind no_fault e))
                         ])

@@ -11,12 +11,13 @@ use Rattle.ds_latch.specs.Firing.{State, first_state}
 use Rattle.ds_fire.specs.Snapshot.{Snapshot, IsFirst, Shows, split_of, graph_of, limit_of, count_of}
 use Rattle.ds_fire.specs.Fired.{IsAfter, IsFired, IsReached, IsSound}
 use Rattle.ds_fire.proofs.Reached.{fired_after, kept_counts}
+use Rattle.ds_events.specs.Texts.{event_by_text}
 use Rattle.ds_replay.specs.Word.{first_word}
 use Rattle.ds_replay.specs.Replayed.{IsReplayed, Replays}
 use Rattle.ds_replay.specs.Step.{StepsTo, refusal_of}
 use Rattle.ds_replay.specs.declared.fault.Refusal.{Refusal}
 use Rattle.ds_replay.specs.declared.fault.Refusal.TheVariants as refusal
-use Rattle.ds_replay.specs.Replay.{event_of, fault_of, fault_or, replay_from, replay_of, start_of, with_first}
+use Rattle.ds_replay.specs.Replay.{fault_of, fault_or, replay_from, replay_of, start_of, with_first}
 use Rattle.ds_replay.specs.declared.fault.ReplayFault.{ReplayFault}
 use Rattle.ds_replay.specs.declared.fault.ReplayKind.{ReplayKind}
 
@@ -75,10 +76,10 @@ fired_none planned vectors lines i kept at first =
 rest_more : (g : Graph) (limit : ℕ) (count : ℕ → ℕ) (lines : List Line) (i : ℕ) (events : List ℕ) (all : Result (List ℕ) ReplayFault) → i < length lines
     → fault_of g limit count (line_or_none lines i).words ≡ None
     → all ≡ onto events (replay_from g limit count (drop i lines))
-    → all ≡ onto (events ++ event_of g (first_word (line_or_none lines i).words) ∷ []) (replay_from g limit (counted (event_of g (first_word (line_or_none lines i).words)) count) (drop (i + 1) lines))
+    → all ≡ onto (events ++ event_by_text g (first_word (line_or_none lines i).words) ∷ []) (replay_from g limit (counted (event_by_text g (first_word (line_or_none lines i).words)) count) (drop (i + 1) lines))
 rest_more g limit count lines i events all inside clean is =
     let line : Line = line_or_none lines i in
-    let v : ℕ = event_of g (first_word line.words) in
+    let v : ℕ = event_by_text g (first_word line.words) in
     let rest : Result (List ℕ) ReplayFault = replay_from g limit (counted v count) (drop (i + 1) lines) in
     is
     ∙ (ap (λ (ls : List Line). onto events (replay_from g limit count ls)) (drop-cons lines i (line_or_none [] 0) inside ∙ ap (λ (n : ℕ). line ∷ drop n lines) (sym (add-one i)))
@@ -87,10 +88,10 @@ rest_more g limit count lines i events all inside clean is =
 
 pub fired_more : (planned : Planned) (vectors : List Row) (lines : List Line) (i : ℕ) (old new : Snapshot) → i < length lines
     → fault_of (graph_of old) (limit_of old) (count_of old) (line_or_none lines i).words ≡ None
-    → IsFired old (event_of (graph_of old) (first_word (line_or_none lines i).words)) new
+    → IsFired old (event_by_text (graph_of old) (first_word (line_or_none lines i).words)) new
     → IsFiredTo planned vectors lines i old → IsFiredTo planned vectors lines (i + 1) new
 fired_more planned vectors lines i old new inside clean fired before =
-    let v : ℕ = event_of (graph_of old) (first_word (line_or_none lines i).words) in
+    let v : ℕ = event_by_text (graph_of old) (first_word (line_or_none lines i).words) in
     let events : List ℕ = before.events ++ v ∷ [] in
     let old_counts : counts_after (λ _. 0) before.events ≡ count_of old = counts_are old before.events before.after in
     let enabled : IsEnabled (graph_of old) (limit_of old) (counts_after (λ _. 0) before.events) v =
@@ -141,7 +142,7 @@ pub fired_not : (planned : Planned) (vectors : List Row) (lines : List Line) (i 
     → replay_of planned.graph (length vectors) lines ≡ Err (record { line = line; kind = kind })
 fired_not planned vectors lines i kept kind line inside is number fired =
     let here : Line = line_or_none lines i in
-    let v : ℕ = event_of (graph_of kept) (first_word here.words) in
+    let v : ℕ = event_by_text (graph_of kept) (first_word here.words) in
     let rest : replay_of (graph_of kept) (limit_of kept) lines ≡ Err (record { line = line; kind = kind }) =
     fired.rest
     ∙ (ap (λ (ls : List Line). onto fired.events (replay_from (graph_of kept) (limit_of kept) (count_of kept) ls)) (drop-cons lines i (line_or_none [] 0) inside)
@@ -152,12 +153,12 @@ fired_not planned vectors lines i kept kind line inside is number fired =
 
 -- what a line's answer gives
 pub steps_more : (planned : Planned) (vectors : List Row) (lines : List Line) (i : ℕ) (old new : Snapshot) (words : List (List ℕ)) → i < length lines → words ≡ (line_or_none lines i).words
-    → (fault_of (graph_of old) (limit_of old) (count_of old) words ≡ None) × IsFired old (event_of (graph_of old) (first_word words)) new
+    → (fault_of (graph_of old) (limit_of old) (count_of old) words ≡ None) × IsFired old (event_by_text (graph_of old) (first_word words)) new
     → IsFiredTo planned vectors lines i old → IsFiredTo planned vectors lines (i + 1) new
 steps_more planned vectors lines i old new words inside are (clean, fired) before =
     fired_more planned vectors lines i old new inside
     (subst (λ (ws : List (List ℕ)). fault_of (graph_of old) (limit_of old) (count_of old) ws ≡ None) are clean)
-    (subst (λ (ws : List (List ℕ)). IsFired old (event_of (graph_of old) (first_word ws)) new) are fired)
+    (subst (λ (ws : List (List ℕ)). IsFired old (event_by_text (graph_of old) (first_word ws)) new) are fired)
     before
 
 pub refused : (planned : Planned) (vectors : List Row) (lines : List Line) (i : ℕ) (old new : Snapshot) (words : List (List ℕ)) (why : Refusal) (line : ℕ) → i < length lines → words ≡ (line_or_none lines i).words

@@ -4,5 +4,4 @@ pub mod Replay
 pub mod Replayed
 pub mod Legal
 pub mod Worked
-pub mod Lookup
 pub mod Step

@@ -1,25 +1,16 @@
 -- Which events the lines of a log fire, or the first fault of the lines.
-use Rattle.std.specs.Prelude.{ℕ, ◌+◌, Bool, not, List, [], ◌∷◌, map, length, drop, codes, Option, None, Some, Result, Ok, Err, nat_lt, ◌==◌, ◌&&◌, if◌then◌else◌}
+use Rattle.std.specs.Prelude.{ℕ, ◌+◌, Bool, not, List, [], ◌∷◌, length, drop, codes, Option, None, Some, Result, Ok, Err, nat_lt, ◌==◌, ◌&&◌, if◌then◌else◌}
 use Rattle.std.specs.List.{position_or_len}
 use Rattle.std.specs.Str.{bytes_eq}
 use Rattle.std.specs.Str.Parse.{digits_value}
-use Rattle.ds_names.specs.Names.{place_of_name}
 use Rattle.ds_lines.specs.Line.{Line}
 use Rattle.ds_marked.specs.Graph.{Graph, counted}
 use Rattle.ds_marked.specs.declared.marked.Arc.{Arc}
-use Rattle.ds_marked.specs.Log.{event_text}
+use Rattle.ds_events.specs.Texts.{event_by_text}
 use Rattle.ds_replay.specs.Word.{first_word, second_word, is_firing}
 use Rattle.ds_replay.specs.declared.fault.ReplayFault.{ReplayFault}
 use Rattle.ds_replay.specs.declared.fault.ReplayKind.{ReplayKind}
 use Rattle.ds_replay.specs.declared.fault.ReplayKind.TheVariants.{BadWord, UnknownEvent, WrongTurn, OverLimit, NotEnabled}
-
--- the events, as they are written
-abbrev pub event_texts : Graph → List (List ℕ)
-event_texts g = map event_text g.events
-
--- the first event that is written so; past the events where none is
-abbrev pub event_of : Graph → List ℕ → ℕ
-event_of g word = place_of_name (event_texts g) word
 
 -- an arc into an event lacks a token
 abbrev pub lacks : (ℕ → ℕ) → ℕ → Arc → Bool
@@ -51,8 +42,8 @@ event_fault g limit count v turn = first_of (
 abbrev pub fault_of : Graph → ℕ → (ℕ → ℕ) → List (List ℕ) → Option ReplayKind
 fault_of g limit count words = first_of (
     where_true (not (is_firing words)) BadWord
-    ∷ where_true (not (nat_lt (event_of g (first_word words)) (length g.events))) (UnknownEvent (first_word words))
-    ∷ event_fault g limit count (event_of g (first_word words)) (digits_value 10 (second_word words))
+    ∷ where_true (not (nat_lt (event_by_text g (first_word words)) (length g.events))) (UnknownEvent (first_word words))
+    ∷ event_fault g limit count (event_by_text g (first_word words)) (digits_value 10 (second_word words))
     ∷ [])
 
 -- a fault of the line of this number, else what the lines behind it give
@@ -69,8 +60,8 @@ with_first v (Err fault) = Err fault
 abbrev pub replay_from : Graph → ℕ → (ℕ → ℕ) → List Line → Result (List ℕ) ReplayFault
 replay_from g limit count [] = Ok []
 replay_from g limit count (line ∷ lines) = fault_or (fault_of g limit count line.words) line.number
-    (with_first (event_of g (first_word line.words))
-    (replay_from g limit (counted (event_of g (first_word line.words)) count) lines))
+    (with_first (event_by_text g (first_word line.words))
+    (replay_from g limit (counted (event_by_text g (first_word line.words)) count) lines))
 
 -- the one word `firings`
 abbrev pub is_firings : Line → Bool

@@ -4,8 +4,9 @@ use Rattle.ds_marked.specs.declared.blocked.Blocked.{Blocked}
 use Rattle.ds_marked.specs.declared.blocked.Blocked.TheVariants as blocked
 use Rattle.ds_fire.specs.Snapshot.{Snapshot, graph_of, limit_of, count_of}
 use Rattle.ds_fire.specs.Fired.{IsFired}
+use Rattle.ds_events.specs.Texts.{event_by_text}
 use Rattle.ds_replay.specs.Word.{first_word}
-use Rattle.ds_replay.specs.Replay.{event_fault, event_of, fault_of}
+use Rattle.ds_replay.specs.Replay.{event_fault, fault_of}
 use Rattle.ds_replay.specs.declared.fault.Refusal.{Refusal}
 use Rattle.ds_replay.specs.declared.fault.Refusal.TheVariants as refusal
 use Rattle.ds_replay.specs.declared.fault.ReplayKind.{ReplayKind}
@@ -28,7 +29,7 @@ FiresTo old v turn new (Err kind) = event_fault (graph_of old) (limit_of old) (c
 abbrev pub StepsTo : Snapshot → List (List ℕ) → Snapshot → Result (Unit {0}) Refusal → Type 0
 StepsTo old words new (Ok done) =
     (fault_of (graph_of old) (limit_of old) (count_of old) words ≡ None)
-    × IsFired old (event_of (graph_of old) (first_word words)) new
+    × IsFired old (event_by_text (graph_of old) (first_word words)) new
 StepsTo old words new (Err refusal.Memory) = Unit {0}
 StepsTo old words new (Err (refusal.Because kind)) =
     fault_of (graph_of old) (limit_of old) (count_of old) words ≡ Some kind

@@ -15,10 +15,8 @@ mod fault;
 mod fire;
 pub mod laws;
 mod log;
-mod lookup;
 mod start;
 mod step;
-mod texts;
 mod word;
 
 pub use fault::{ReplayFault, ReplayKind, ReplayRefusal};

@@ -4,12 +4,11 @@ ghost use Rattle.ds_replay.specs.Step.{refusal_of};
 ghost use Rattle.ds_replay.specs.Replayed.{Replays};
 
 use crate::fault::Refusal;
-use crate::lookup::Lookup;
 use crate::start::start;
 use crate::step::step;
-use crate::texts::texts_of;
 use crate::{ReplayFault, ReplayRefusal};
 use ds_design::Vectors;
+use ds_events::{Lookup, texts_of};
 use ds_fire::State;
 use ds_latch::Plan;
 use ds_lines::Lines;

@@ -1,16 +1,16 @@
 //! One line of a log.
 ghost use Rattle.std.specs.Prelude.{◌≡◌, map, IfOk};
 ghost use Rattle.ds_fire.specs.Snapshot.{graph_of};
-ghost use Rattle.ds_replay.specs.Replay.{event_texts};
+ghost use Rattle.ds_events.specs.Texts.{event_texts};
 ghost use Rattle.ds_replay.specs.Step.{StepsTo};
 ghost use Rattle.ds_replay.specs.declared.fault.ReplayKind.TheVariants.{UnknownEvent};
 
 use crate::ReplayKind;
 use crate::fault::Refusal;
 use crate::fire::fire;
-use crate::lookup::Lookup;
 use crate::word::{first_of, turn_of};
 use ds_base::Seq;
+use ds_events::Lookup;
 use ds_fire::State;
 use std::alloc::{AllocError, Global};
 

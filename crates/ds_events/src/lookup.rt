@@ -26,7 +26,7 @@ impl Drop for Lookup<'_> {
 
 impl<'a> Model for Lookup<'a> {
     ghost use Rattle.std.specs.Prelude.{List, ℕ};
-    ghost use Rattle.ds_replay.specs.Lookup.{AreFirsts};
+    ghost use Rattle.ds_events.specs.Lookup.{AreFirsts};
 
     ghost Value = { List (List ℕ) };
 

@@ -1,6 +1,6 @@
 use Rattle.std.proofs.Common.{◌-◌, ◌*◌, ◌+◌, ◌<◌, get_or, refl, arith}
-use Rattle.ds_replay.proofs.Words.{digit_more}
-use Rattle.ds_replay.proofs.word.number.Goals as goal
+use Rattle.ds_events.proofs.Numbers.{digit_more}
+use Rattle.ds_events.proofs.number.short_value.Goals as goal
 
 pub overflow_mul-value : goal.overflow_mul-value
 overflow_mul-value c =
