@@ -4,7 +4,7 @@ ghost use Rattle.std.specs.Prelude.{◌≡◌};
 use ds_base::{NetId, OutOfMemory, RegId, Seq};
 use std::alloc::AllocError;
 
-/// What drives a net: the vectors, or the table or the latch at a line of the file.
+/// What drives a net: the vectors, or the table or the register (`.latch`) at a line of the file.
 #[derive(Clone, Copy, Debug, PartialEq, Eq)]
 pub enum Driver {
     Input,
