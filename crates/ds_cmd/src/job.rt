@@ -6,7 +6,7 @@ use ds_base::Mode;
 /// put into clusters, and `jobs`, 1 to 64, how many threads are wanted.
 #[derive(Drop)]
 pub enum Job {
-    /// The trace of a desynchronized run, or with `log` the log of its firings.
+    /// The trace of a desynchronized run, with `log` also the log of its firings behind it.
     Run {
         net: FileName,
         vec: FileName,

@@ -16,7 +16,7 @@ pub struct TableText {
     pub on: bool,
 }
 
-/// A latch: its edge and control where they are written, and its initial value, 0 to 3.
+/// A register, a `.latch`: edge and control where they are written, and the initial value, 0 to 3.
 #[derive(Drop)]
 pub struct LatchText {
     pub data_net: Name,

@@ -15,8 +15,7 @@ use ds_series::Series;
 use std::marker::Model;
 
 /// A design that is accepted, with its columns, the level of each net, and its tables packed, by
-/// level.
-/// Contracts see the design.
+/// level. Contracts see the design.
 pub struct Netlist {
     design: Design,
     column_nets: Seq<NetId>,

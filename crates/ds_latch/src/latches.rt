@@ -7,7 +7,7 @@ use ds_base::{LatchId, NetId, RegId, Row3, Seq};
 use ds_design::Netlist;
 use std::marker::Model;
 
-/// A producer and a consumer.
+/// A data edge: a producer and a consumer.
 #[derive(Clone, Copy, Debug)]
 pub struct Edge {
     pub producer: LatchId,

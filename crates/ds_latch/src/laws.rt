@@ -61,7 +61,7 @@ pub fn some_firing()
     ensures { SomeFiring }
 {}
 
-/// The required orders alone are accepted.
+/// Some numbering rises along the required orders without tokens.
 pub fn required_orders_rise()
     ensures { RequiredOrdersRise }
 {}

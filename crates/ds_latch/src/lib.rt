@@ -5,8 +5,8 @@
 //! definitions say which orders between openings and closings are required, which graphs are
 //! accepted, what a node takes as it opens, and what it has stored. `laws` has what follows of them
 //! alone: after every legal list each node keeps its value in the clocked run (flow equivalence),
-//! the stored rows spell the trace, and no producer of an open latch opens (stability). How a graph
-//! is made or read is promised by the crates above.
+//! the stored rows spell the trace, and no producer of an open latch writes the row that it reads
+//! (stability). How a graph is made or read is promised by the crates above.
 #![tactic(auto)]
 
 mod latches;

@@ -4,7 +4,7 @@ ghost use Rattle.std.specs.Prelude.{◌≡◌};
 use ds_base::{NetId, OutOfMemory, RegId, Seq};
 use std::alloc::AllocError;
 
-/// What drives a net: the vectors, or the table or the latch at a line of the file.
+/// What drives a net: the vectors, or the table or the register (`.latch`) at a line of the file.
 #[derive(Clone, Copy, Debug, PartialEq, Eq)]
 pub enum Driver {
     Input,
@@ -17,15 +17,15 @@ pub enum Driver {
 #[derive(Drop)]
 pub enum NetFault {
     /// The first control name, and the first other one. The control names are the `.clock` nets,
-    /// then the controls of the latches.
+    /// then the controls of the registers.
     SeveralClocks(NetId, NetId),
     /// The first register with a rising edge, and the first with a falling one.
     MixedEdges(RegId, RegId),
-    /// The clock, which a table or a latch drives.
+    /// The clock, which a table or a register drives.
     DrivenClock(NetId),
-    /// The clock, which is an input of a table or a latch, or an output of the design.
+    /// The clock, which is an input of a table or a register, or an output of the design.
     ClockAsData(NetId),
-    /// A net, and its first two drivers: the column, then tables, then latches, as they stand.
+    /// A net, and its first two drivers: the column, then tables, then registers, as they stand.
     MultiplyDriven(NetId, Driver, Driver),
     /// A net that is used and that nothing drives.
     Undriven(NetId),

@@ -31,8 +31,7 @@ abbrev pub all_driven : List Gate → List ℕ → Row → Row
 all_driven tables [] nets = nets
 all_driven tables (k ∷ order) nets = all_driven tables order (driven (slice_get tables k) nets)
 
--- the values of all nets for a state and a vector, where each table comes behind those that it
--- reads
+-- all nets for a state and a vector: columns and registers are given, tables drive in this order
 abbrev pub settled_by : Circuit → List ℕ → Row → Row → Row
 settled_by c order state vector = all_driven c.tables order
     (given (register_nets c) state (given (columns c) vector (replicate (length c.nets) Zero)))
@@ -74,8 +73,7 @@ ForeseesRun = (c : Circuit) (order : List ℕ) → IsInRange c → IsAccepted c 
     → All (λ vector. length vector ≡ length (columns c)) vectors
     → IsRun c start vectors (state_before c order start vectors) (nets_in c order start vectors)
 
--- each row stands in its place, a node has its number, and a number behind the nodes has rows of no
--- values
+-- each row stands in its place, a node has its number, and an extra event has rows of no values
 abbrev pub ForeseesRows : Type 0
 ForeseesRows = (s : Split) (order : List ℕ) (vectors : List Row)
     → ((count l k : ℕ) → l < count → k ≤ length vectors

@@ -23,8 +23,7 @@ abbrev pub ShowsProducers : Split → (Node → ℕ → Row) → ℕ → (Node �
 ShowsProducers s value opened shown n = (p : Node) → IsNode s p → IsDataEdge s p n
     → shown p ≡ value p (suc opened - open_tokens p)
 
--- in the clocked run of a split design, what a node takes from its producers' values is its next
--- value
+-- in the clocked run, what a node takes from its producers' values is its own next value
 abbrev pub TakesNextValue : Type 0
 TakesNextValue = (s : Split) → IsSplit s
     → (vectors : List Row) (state nets : ℕ → Row) → IsRun s.circuit s.initial vectors state nets

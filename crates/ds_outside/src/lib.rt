@@ -7,7 +7,8 @@
 //! `read_whole` gives the first bytes that are held, and `write_all` appends a piece, or a first
 //! part of it and a fault. `Buffered` keeps bytes back before a sink, so that small pieces cost few
 //! writes. `MemoryFiles`, `SureFiles` and `MemorySink` tell their bytes; `HostFiles` and `HostOut`,
-//! over the system's files and writers, tell none, so that nothing is promised of these bytes.
+//! over the system's files and writers, tell none, so that nothing is promised of these bytes. A
+//! `Gate` is where a test may hold a worker back.
 #![tactic(auto)]
 
 mod buffered;

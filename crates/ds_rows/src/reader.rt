@@ -8,8 +8,8 @@ use ds_design::Vectors;
 use ds_lines::Lines;
 use std::alloc::Global;
 
-/// The vectors of a text: each line is one word with a character, `0` or `1`, for each column in
-/// order, and the word `-` where there is no column. Refused with the first faulty line; on one
+/// The vectors of a text: each line is one word with a character, `0`, `1` or `x`, for each column
+/// in order, and the word `-` where there is no column. Refused with the first faulty line; on one
 /// line too many vectors come first, then its width, then its characters.
 pub fn read_vectors(
     alloc: Global,

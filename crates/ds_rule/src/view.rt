@@ -28,7 +28,7 @@ pub struct View {
     pub ghost ticket: { ℕ },
     // In the flight of an opening, how many value words are written.
     pub ghost written: { ℕ },
-    // Which nodes a pass had, and one that it took in too: none, which a load after the join tells.
+    // Which nodes a pass and one that it took in both held: none, as a load after the join tells.
     pub ghost clash: { List Bool },
     // The node that is to be dealt.
     pub ghost cut: { ℕ },

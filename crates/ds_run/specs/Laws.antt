@@ -10,8 +10,7 @@ use Rattle.ds_rule.specs.Progress.{IsAccepted}
 use Rattle.ds_rule.specs.Laws.{IsGraphOf}
 use Rattle.ds_run.specs.Layout.{IsRunOf}
 
--- the numbers of a run of a plan: each vector has a value a column, and the limits of latches, of
--- vectors and of a graph
+-- the numbers of a run of a plan: each vector has a value a column, and nothing is past its limit
 pub record IsWithin (p : Planned) (vectors : List Row) (run : Run) : Type 0 where
   pub one_width : All (λ vector. length vector ≡ length (columns p.split.circuit)) vectors
   pub few_vectors : length vectors ≤ 65536

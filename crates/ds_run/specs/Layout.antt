@@ -24,8 +24,7 @@ pub record AreEdges (s : Split) (edges : List DataEdge) : Type 0 where
   pub once : AllPairs (λ a b. (a.producer ≢ b.producer) ⊎ (a.consumer ≢ b.consumer)) edges
   pub by_consumer : AllPairs (λ a b. a.consumer ≤ b.consumer) edges
 
--- how many values a row of each node has: those of its nets, and none of a node behind those of
--- the split design
+-- how many values a row of each node has: one for each of its nets, none for an extra event
 pub record AreLengths (s : Split) (count : ℕ) (lengths : List ℕ) : Type 0 where
   pub one_each : length lengths ≡ count
   pub of_node : (n : Node) → IsNode s n → slice_index lengths (number_of n) ≡ length (nets_of s n)

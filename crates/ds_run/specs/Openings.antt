@@ -20,8 +20,7 @@ pub record RunWithNets : Type 0 where
   pub run : Run
   pub nets : ℕ
 
--- cones, producers and the first rows of the slaves belong to a run of this split design on these
--- vectors
+-- cones, producers and first rows of slaves belong to a run of this split design on these vectors
 pub record AreOpenings (s : Split) (vectors : Rows) (run : Run) (cones : List Cone)
     (producers : List (List ℕ)) (starts : List Row) : Type 0 where
   pub range : IsInRange s.circuit

@@ -16,8 +16,7 @@ pub record IsPlayed (p : Planned) (vectors : List Row) (r : Recorder) : Type 0 w
   pub planned : IsRunOf p vectors r.shown.view.run
   pub whole : IsWhole r.shown.view.run r
 
--- the record has what each slave has stored in so many turns, as many values as its cluster has
--- registers
+-- the record has what each slave has stored in so many turns, a value a register of its cluster
 pub record HasSlaves (s : Split) (turns : ℕ) (r : Recorder) : Type 0 where
   pub near : (i : ℕ) → i < length s.clusters → number_of (Slave i) < r.shown.view.run.latches
   pub stored : (i : ℕ) → i < length s.clusters → (k : ℕ) → k < turns

@@ -3,8 +3,8 @@ use ds_design::Vectors;
 use ds_latch::Latches;
 use ds_rule::Rows;
 
-/// The values of the clocked run of a split design on vectors, for so many nodes. Contracts alone
-/// read them.
+/// What stands for the values of the clocked run of a split design on vectors, for so many nodes.
+/// Contracts alone read these values.
 #[derive(Clone, Copy)]
 pub struct Foreseen<'a, 'n> {
     pub latches: &'a Latches<'n>,

@@ -28,6 +28,7 @@ pub fn layout_of<'a, 'n>(
 {
     let (latches, graph) = (plan.latches(), plan.graph());
     let limit = count_rows(vectors) as u64;
+    // A node of the design has two events; an extra event is a node of its own, behind them.
     let nodes = latches.bits().len();
     let count = graph.events().len() - nodes;
     // No graph with so many nodes would find a place in memory.
@@ -39,6 +40,7 @@ pub fn layout_of<'a, 'n>(
     let lengths = lengths_of(alloc, latches, count)?;
     let slack = usize::from(latches.slack());
     let netlist = latches.netlist();
+    // The design is read for the facts that it is accepted and its numbers name what is there.
     let (_design, order) = (netlist.design(), netlist.order());
     let rows = Foreseen {
         latches,

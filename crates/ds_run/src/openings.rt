@@ -73,6 +73,7 @@ impl<'a, 'n> Openings<'a, 'n> {
         }) }
     {
         let latches = plan.latches();
+        // Read for the fact that its numbers name what is there.
         let _design = latches.netlist().design();
         let cones = cones_of(alloc, latches)?;
         let producers = producers_of(alloc, run.edges(), run.latches())?;

@@ -25,6 +25,7 @@ pub fn run<R: Threads + Sync, G: Gate>(
     requires jobs { (0 < workers.now.jobs) × (workers.now.jobs ≤ 64) }
     ensures ok { IfOk result (IsPlayed plan.now vectors.now.rows) }
 {
+    // Read for the fact that it is accepted for the latches.
     let _accepted = plan.graph();
     let run = layout_of(alloc, plan, vectors)?;
     let openings = Openings::of(alloc, plan, vectors, &run)?;

@@ -19,8 +19,8 @@ pub record HasLine (s : Split) (line : Line) : Type 0 where
   pub registers : length line.registers ≡ length s.circuit.registers
   pub slaves : AreSlaves s (length s.clusters) line.slaves.items
 
--- values went to these registers: of each row that has them there, what was right is right, and so
--- are these registers
+-- these registers got these values: beside any row that has the values there, each of them agrees
+-- with that row, and so does each register that agreed before
 abbrev pub AreSpread : List ℕ → Row → Row → Row → Type 0
 AreSpread these values old new =
     (length new ≡ length old)

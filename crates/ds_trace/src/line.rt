@@ -57,6 +57,7 @@ pub fn gather(latches: &Latches<'_>, fired: &Record, k: usize, line: &mut Line)
     ensures line { HasLine latches.now line.new }
     ensures same { line.new.outputs ≡ line.old.outputs }
 {
+    // The edges are read for the fact that nodes are few, so that a number of one fits.
     let (_edges, clusters) = (latches.edges(), latches.clusters());
     for i in 0..clusters.len() {
         let slave = LatchId::new(2 * i as u32 + 3);
