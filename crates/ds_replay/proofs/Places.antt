@@ -1,18 +1,10 @@
--- Where the firings of a log begin, and the first places of texts.
-use Rattle.std.proofs.Common.{◌≡◌, ◌≢◌, ◌∙◌, ◌||◌, ℕ, ◌+◌, ◌<◌, ◌≤◌, Bool, true, false, List, [], ◌∷◌, ◌++◌, length, take, get_or, not, inl, inr, refl, arith, ap, sym, subst, if◌then◌else◌, length-append}
+-- Where the firings of a log begin.
+use Rattle.std.proofs.Common.{◌≡◌, ℕ, ◌+◌, ◌<◌, ◌≤◌, Bool, true, false, List, [], ◌∷◌, length, refl, arith, if◌then◌else◌}
 use Rattle.std.specs.Prelude.{nat_lt}
-use Rattle.std.specs.List.{list_any, position_or_len}
-use Rattle.std.specs.Str.{bytes_eq}
-use Rattle.std.proofs.lemmas.Bool.{cases_Bool, cases_lt, lt-ltb, le-ltb, false≢true}
-use Rattle.std.proofs.lemmas.Bool.Decides.{eqb_tells}
-use Rattle.std.proofs.lemmas.List.Folds.{position_or_len_push}
-use Rattle.std.proofs.lemmas.List.{get_or_push, length-take-le, take_more}
-use Rattle.std.proofs.Math.ListN.{get_or-append}
+use Rattle.std.specs.List.{position_or_len}
+use Rattle.std.proofs.lemmas.Bool.{lt-ltb, le-ltb}
 use Rattle.std.proofs.lemmas.List.Sums.{position_or_len_is}
-use Rattle.std.proofs.lemmas.Slice.Eq.{bytes_eq-Decides}
 use Rattle.ds_lines.specs.Line.{Line, line_or_none}
-use Rattle.ds_names.specs.Names.{has_name, place_of_name, with_name}
-use Rattle.ds_replay.specs.Lookup.{AreFirsts}
 use Rattle.ds_replay.specs.Replay.{is_firings, start_of}
 
 -- the first line with the one word
