@@ -1,5 +1,5 @@
 -- The tables sorted by level are an order of the tables.
-use Rattle.std.proofs.Common.{◌≡◌, ◌≢◌, ◌∙◌, ℕ, ◌+◌, ◌<◌, List, [], ◌∷◌, ◌++◌, length, get_or, map, refl, sym, ap, arith, ◌==◌, cond}
+use Rattle.std.proofs.Common.{◌≡◌, ◌≢◌, ◌∙◌, ℕ, ◌+◌, ◌<◌, List, [], ◌∷◌, ◌++◌, length, get_or, map, refl, sym, ap, arith, ◌==◌, cond, min}
 use Rattle.std.specs.Prelude.{All, AllPairs, Contains, sum_by}
 use Rattle.std.specs.List.{range_with_len}
 use Rattle.std.specs.List.Sorted.{IsNonDecreasingBy}
@@ -10,17 +10,21 @@ use Rattle.std.proofs.lemmas.List.Sums.{sum_by-cons}
 use Rattle.std.proofs.lemmas.List.Sorted.{Contains-permutation, IsPermutation-sym, sum_by-IsPermutation}
 use Rattle.ds_design.specs.declared.design.Gate.{Gate}
 use Rattle.ds_netlist.specs.Steps.{times}
-use Rattle.ds_netlist.specs.Placed.{IsSortedOrder, level_in, placed, placed_at}
+use Rattle.ds_netlist.specs.Placed.{IsSortedOrder, level_in, placed, placed_at, width_in}
 use Rattle.ds_netlist.specs.declared.order.Placed.{Placed}
 use Rattle.ds_netlist.proofs.Counted.{differ_once, once_differ}
 
 -- one more table
-pub placed_more : (tables : List Gate) (levels : List ℕ) (i : ℕ) (t : Gate) (level : ℕ) → i < length tables → t ≡ get_or tables i t
-    → level ≡ get_or levels t.output 0 → placed tables levels i ++ record { level = level; place = i } ∷ [] ≡ placed tables levels (i + 1)
-placed_more tables levels i t level inside is same =
+pub placed_more : (tables : List Gate) (levels : List ℕ) (i : ℕ) (t : Gate) (level width : ℕ) → i < length tables → t ≡ get_or tables i t
+    → level ≡ get_or levels t.output 0 → width ≡ min (length t.table.inputs) 7
+    → placed tables levels i ++ record { level = level; place = i; width = width } ∷ [] ≡ placed tables levels (i + 1)
+placed_more tables levels i t level width inside is same wide =
     let out : get_or (map (λ t. t.output) tables) i 0 ≡ t.output = get_or-map (λ t. t.output) tables i t 0 inside ∙ ap (λ (x : Gate). x.output) (sym is) in
     let here : level ≡ level_in tables levels i = same ∙ ap (λ n. get_or levels n 0) (sym out) in
-    let last : placed_at tables levels i ≡ record { level = level; place = i } = ap (λ n. record { level = n; place = i }) (sym here) in
+    let there : width ≡ width_in tables i =
+    wide ∙ sym (get_or-map (λ (t : Gate). min (length t.table.inputs) 7) tables i t 0 inside ∙ ap (λ (x : Gate). min (length x.table.inputs) 7) (sym is)) in
+    let last : placed_at tables levels i ≡ record { level = level; place = i; width = width } =
+    ap (λ n. record { level = n; place = i; width = width_in tables i }) (sym here) ∙ ap (λ n. record { level = level; place = i; width = n }) (sym there) in
     ap (λ (p : Placed). placed tables levels i ++ p ∷ []) (sym last) ∙ sym (map-range_with_len_more (placed_at tables levels) 0 i i (omega arith))
 
 -- how often a place stands among the places
@@ -53,11 +57,11 @@ module _ (tables : List Gate) (levels order : List ℕ) (h : IsSortedOrder table
   pub at_order : (i d : ℕ) → i < length order → (get_or order i d < length tables)
       × ((e : Placed) × (get_or h.sorted i e ≡ e) × (e.place ≡ get_or order i d) × (e.level ≡ level_in tables levels (get_or order i d)))
   at_order i d inside =
-      let first : Placed = record { level = 0; place = 0 } in
+      let first : Placed = record { level = 0; place = 0; width = 0 } in
       let within : i < length h.sorted = omega (arith, order_long) in
-      let (k, low, is) = entry i (record { level = 0; place = 0 }) within in
+      let (k, low, is) = entry i (record { level = 0; place = 0; width = 0 }) within in
       let place : get_or order i d ≡ k = ap (λ (xs : List ℕ). get_or xs i d) (sym h.is)
-      ∙ (get_or-map (λ (p : Placed). p.place) h.sorted i (record { level = 0; place = 0 }) d within ∙ ap (λ (p : Placed). p.place) is) in
+      ∙ (get_or-map (λ (p : Placed). p.place) h.sorted i (record { level = 0; place = 0; width = 0 }) d within ∙ ap (λ (p : Placed). p.place) is) in
       (rw place low, (placed_at tables levels k, get_or_default h.sorted i _ _ within ∙ is, sym place, ap (λ n. level_in tables levels n) (sym place)))
 
   pub places_lem : All (λ k. k < length tables) order

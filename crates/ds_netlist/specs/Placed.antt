@@ -1,5 +1,5 @@
--- Tables with the level of what they drive.
-use Rattle.std.specs.Prelude.{◌≡◌, ℕ, List, length, map, slice_index}
+-- Tables with the level of what they drive, and how many inputs they have.
+use Rattle.std.specs.Prelude.{◌≡◌, ℕ, List, length, map, min, slice_index}
 use Rattle.std.specs.List.{range_with_len}
 use Rattle.std.specs.List.Sorted.{IsNonDecreasingBy, IsPermutation}
 use Rattle.ds_design.specs.declared.design.Gate.{Gate}
@@ -9,11 +9,15 @@ use Rattle.ds_netlist.specs.declared.order.Placed.{Placed}
 abbrev pub level_in : List Gate → List ℕ → ℕ → ℕ
 level_in tables levels k = slice_index levels (slice_index (map (λ t. t.output) tables) k)
 
--- table k with its level
-abbrev pub placed_at : List Gate → List ℕ → ℕ → Placed
-placed_at tables levels k = record { level = level_in tables levels k; place = k }
+-- how many inputs table k has, 7 where more
+abbrev pub width_in : List Gate → ℕ → ℕ
+width_in tables k = slice_index (map (λ t. min (length t.table.inputs) 7) tables) k
 
--- the first tables, each with its level
+-- table k with its level and width
+abbrev pub placed_at : List Gate → List ℕ → ℕ → Placed
+placed_at tables levels k = record { level = level_in tables levels k; place = k; width = width_in tables k }
+
+-- the first tables, each with its level and width
 abbrev pub placed : List Gate → List ℕ → ℕ → List Placed
 placed tables levels count = map (placed_at tables levels) (range_with_len 0 count)
 

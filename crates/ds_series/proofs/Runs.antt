@@ -2,8 +2,10 @@
 use Rattle.std.proofs.Common.{◌≡◌, ℕ, zero, suc, ◌+◌, ◌-◌, ◌<◌, ◌≤◌, List, [], ◌∷◌, ◌++◌, length, take, drop, map, get_or, set, refl, ap, arith, sym, ◌∙◌, subst}
 use Rattle.std.specs.Prelude.{All}
 use Rattle.std.proofs.Math.Seq.{drop-cons}
-use Rattle.std.proofs.lemmas.List.{drop-map, get_or-map, length-map, take-append-drop, take-map}
+use Rattle.std.proofs.Common.{append-nil}
+use Rattle.std.proofs.lemmas.List.{drop-map, get_or-map, length-map, take-append-drop, take-map, take_all}
 use Rattle.std.proofs.lemmas.List.Elements.{All-head, All-tail, All-cons}
+use Rattle.ds_base.specs.Lent.{with_values}
 use Rattle.ds_base.specs.Values.{Row}
 use Rattle.ds_base.specs.declared.value.Value.{Value}
 use Rattle.ds_cover.specs.Packed.{packed_value}
@@ -259,3 +261,19 @@ pub paired-short : {A : Type 0} (f : A → Small) (xs : List A) (ws : List ℕ) 
 paired-short f [] ws = omega arith
 paired-short f (x ∷ xs) [] = omega arith
 paired-short f (x ∷ xs) (w ∷ ws) = (let s = paired-short f xs ws in omega arith)
+
+-- as many values as before
+pub length-after_smalls : (smalls : List Small) (nets : Row) → length (after_smalls smalls nets) ≡ length nets
+length-after_smalls [] nets = refl
+length-after_smalls (s ∷ smalls) nets = length-after_smalls smalls (set nets s.output (small_value s nets)) ∙ length-set nets s.output (small_value s nets)
+
+pub length-after_worded : (items : List Worded) (nets : Row) → length (after_worded items nets) ≡ length nets
+length-after_worded [] nets = refl
+length-after_worded (s ∷ items) nets = length-after_worded items (set nets s.small.output (worded_value s nets)) ∙ length-set nets s.small.output (worded_value s nets)
+
+-- a row whose values were all lent has what they are at the end
+pub with-all : (row values : Row) → length values ≡ length row → with_values row values ≡ values
+with-all row values same =
+    let none : drop (length values) row ≡ [] = ap (λ n. drop n row) same ∙ drop-all row in
+    ap (λ rest. take (length row) (values ++ rest)) none
+    ∙ (ap (take (length row)) (append-nil values) ∙ take_all (length row) values (omega arith))

@@ -64,23 +64,23 @@ impl Two {
     }
 
     // The value where the inputs are known.
-    fn value(&self, nets: &Row3) -> Value
+    fn value(&self, nets: &[Value]) -> Value
         requires { All (λ net. net < length nets.now) self.now.nets }
         ensures { result ≡ small_value (small_two self.now) nets.now }
     {
-        let a = code(nets.value(self.nets[0].index()));
-        let b = code(nets.value(self.nets[1].index()));
+        let a = code(nets[self.nets[0].index()]);
+        let b = code(nets[self.nets[1].index()]);
         let place = a + 2 * b;
         value_of_bit((u64::from(self.truth) >> place) & 1)
     }
 
     // The value by the word of all rows of values.
-    fn worded(&self, word: u64, nets: &Row3) -> Value
+    fn worded(&self, word: u64, nets: &[Value]) -> Value
         requires { All (λ net. net < length nets.now) self.now.nets }
         ensures { result ≡ worded_value (record { small = small_two self.now; word = word }) nets.now }
     {
-        let a = code(nets.value(self.nets[0].index()));
-        let b = code(nets.value(self.nets[1].index()));
+        let a = code(nets[self.nets[0].index()]);
+        let b = code(nets[self.nets[1].index()]);
         let place = a + 12 * b;
         value_of_code((word >> (2 * place)) % 4)
     }
@@ -99,25 +99,25 @@ impl Three {
     }
 
     // The value where the inputs are known.
-    fn value(&self, nets: &Row3) -> Value
+    fn value(&self, nets: &[Value]) -> Value
         requires { All (λ net. net < length nets.now) self.now.nets }
         ensures { result ≡ small_value (small_three self.now) nets.now }
     {
-        let a = code(nets.value(self.nets[0].index()));
-        let b = code(nets.value(self.nets[1].index()));
-        let c = code(nets.value(self.nets[2].index()));
+        let a = code(nets[self.nets[0].index()]);
+        let b = code(nets[self.nets[1].index()]);
+        let c = code(nets[self.nets[2].index()]);
         let place = a + 2 * (b + 2 * c);
         value_of_bit((u64::from(self.truth) >> place) & 1)
     }
 
     // The value by the word of all rows of values.
-    fn worded(&self, word: u64, nets: &Row3) -> Value
+    fn worded(&self, word: u64, nets: &[Value]) -> Value
         requires { All (λ net. net < length nets.now) self.now.nets }
         ensures { result ≡ worded_value (record { small = small_three self.now; word = word }) nets.now }
     {
-        let a = code(nets.value(self.nets[0].index()));
-        let b = code(nets.value(self.nets[1].index()));
-        let c = code(nets.value(self.nets[2].index()));
+        let a = code(nets[self.nets[0].index()]);
+        let b = code(nets[self.nets[1].index()]);
+        let c = code(nets[self.nets[2].index()]);
         let place = a + 3 * b + 9 * c;
         value_of_code((word >> (2 * place)) % 4)
     }
@@ -136,14 +136,14 @@ impl Four {
     }
 
     // The value where the inputs are known.
-    fn value(&self, nets: &Row3) -> Value
+    fn value(&self, nets: &[Value]) -> Value
         requires { All (λ net. net < length nets.now) self.now.nets }
         ensures { result ≡ small_value (small_four self.now) nets.now }
     {
-        let a = code(nets.value(self.nets[0].index()));
-        let b = code(nets.value(self.nets[1].index()));
-        let c = code(nets.value(self.nets[2].index()));
-        let d = code(nets.value(self.nets[3].index()));
+        let a = code(nets[self.nets[0].index()]);
+        let b = code(nets[self.nets[1].index()]);
+        let c = code(nets[self.nets[2].index()]);
+        let d = code(nets[self.nets[3].index()]);
         let place = a + 2 * (b + 2 * (c + 2 * d));
         value_of_bit((u64::from(self.truth) >> place) & 1)
     }
@@ -154,10 +154,7 @@ pub(crate) fn set_twos(tables: &[Two], nets: &mut Row3)
     requires { All (λ t. IsSmallWithin (small_two t) nets.old) tables.now }
     ensures { nets.new ≡ after_smalls (map small_two tables.now) nets.old }
 {
-    for table in tables {
-        let value = table.value(nets);
-        nets.set(table.output.index(), value);
-    }
+    put_twos(tables, nets.values_mut());
 }
 
 // The same of three inputs.
@@ -165,10 +162,7 @@ pub(crate) fn set_threes(tables: &[Three], nets: &mut Row3)
     requires { All (λ t. IsSmallWithin (small_three t) nets.old) tables.now }
     ensures { nets.new ≡ after_smalls (map small_three tables.now) nets.old }
 {
-    for table in tables {
-        let value = table.value(nets);
-        nets.set(table.output.index(), value);
-    }
+    put_threes(tables, nets.values_mut());
 }
 
 // The same of four inputs.
@@ -176,10 +170,7 @@ pub(crate) fn set_fours(tables: &[Four], nets: &mut Row3)
     requires { All (λ t. IsSmallWithin (small_four t) nets.old) tables.now }
     ensures { nets.new ≡ after_smalls (map small_four tables.now) nets.old }
 {
-    for table in tables {
-        let value = table.value(nets);
-        nets.set(table.output.index(), value);
-    }
+    put_fours(tables, nets.values_mut());
 }
 
 // Sets what these tables drive by their words, one after another.
@@ -188,10 +179,7 @@ pub(crate) fn set_worded_twos(tables: &[Two], words: &[u64], nets: &mut Row3)
     requires within { All (λ t. IsSmallWithin (small_two t) nets.old) tables.now }
     ensures { nets.new ≡ after_worded (paired small_two tables.now words.now) nets.old }
 {
-    for i in 0..tables.len() {
-        let value = tables[i].worded(words[i], nets);
-        nets.set(tables[i].output.index(), value);
-    }
+    put_worded_twos(tables, words, nets.values_mut());
 }
 
 // The same of three inputs.
@@ -200,9 +188,63 @@ pub(crate) fn set_worded_threes(tables: &[Three], words: &[u64], nets: &mut Row3
     requires within { All (λ t. IsSmallWithin (small_three t) nets.old) tables.now }
     ensures { nets.new ≡ after_worded (paired small_three tables.now words.now) nets.old }
 {
+    put_worded_threes(tables, words, nets.values_mut());
+}
+
+// The same on the values that a row lends.
+fn put_twos(tables: &[Two], nets: &mut [Value])
+    requires { All (λ t. IsSmallWithin (small_two t) nets.old) tables.now }
+    ensures { nets.new ≡ after_smalls (map small_two tables.now) nets.old }
+{
+    for table in tables {
+        let value = table.value(nets);
+        nets[table.output.index()] = value;
+    }
+}
+
+// The same of three inputs.
+fn put_threes(tables: &[Three], nets: &mut [Value])
+    requires { All (λ t. IsSmallWithin (small_three t) nets.old) tables.now }
+    ensures { nets.new ≡ after_smalls (map small_three tables.now) nets.old }
+{
+    for table in tables {
+        let value = table.value(nets);
+        nets[table.output.index()] = value;
+    }
+}
+
+// The same of four inputs.
+fn put_fours(tables: &[Four], nets: &mut [Value])
+    requires { All (λ t. IsSmallWithin (small_four t) nets.old) tables.now }
+    ensures { nets.new ≡ after_smalls (map small_four tables.now) nets.old }
+{
+    for table in tables {
+        let value = table.value(nets);
+        nets[table.output.index()] = value;
+    }
+}
+
+// By their words.
+fn put_worded_twos(tables: &[Two], words: &[u64], nets: &mut [Value])
+    requires one_each { length words.now ≡ length tables.now }
+    requires within { All (λ t. IsSmallWithin (small_two t) nets.old) tables.now }
+    ensures { nets.new ≡ after_worded (paired small_two tables.now words.now) nets.old }
+{
     for i in 0..tables.len() {
         let value = tables[i].worded(words[i], nets);
-        nets.set(tables[i].output.index(), value);
+        nets[tables[i].output.index()] = value;
+    }
+}
+
+// The same of three inputs.
+fn put_worded_threes(tables: &[Three], words: &[u64], nets: &mut [Value])
+    requires one_each { length words.now ≡ length tables.now }
+    requires within { All (λ t. IsSmallWithin (small_three t) nets.old) tables.now }
+    ensures { nets.new ≡ after_worded (paired small_three tables.now words.now) nets.old }
+{
+    for i in 0..tables.len() {
+        let value = tables[i].worded(words[i], nets);
+        nets[tables[i].output.index()] = value;
     }
 }
 

@@ -1,20 +1,11 @@
-use Rattle.std.proofs.Common.{◌≡◌, ◌+◌, ◌∙◌, ap, length, sym, set, drop}
-use Rattle.ds_series.specs.Small.{after_worded, paired, small_three, worded_value}
-use Rattle.std.proofs.lemmas.List.{get_or_default}
-use Rattle.ds_series.proofs.Runs.{length-set}
-use Rattle.ds_series.proofs.Trits.{paired-step}
+use Rattle.std.proofs.Common.{◌≡◌, ◌∙◌, ap, length}
+use Rattle.ds_series.specs.Small.{after_worded, paired, small_three}
+use Rattle.ds_series.proofs.Runs.{length-after_worded, with-all}
 use Rattle.ds_series.proofs.small.set_worded_threes.Goals as goal
 
-pub loop-i-preserved : goal.loop-i-preserved
-loop-i-preserved c =
-    let tables = c.args.tables.now in
-    let words = c.args.words.now in
-    let i = c.loop-i.i in
-    let same : c.index.result ≡ (small_three c.index-tables-i.result).output = c.index.ensures ∙ ap (λ x. x.output) (get_or_default tables i c.index-tables-i-in-loop-i.result c.index-tables-i.result c.loop-i-test.true ∙ sym c.index-tables-i.is) in
-    let is : c.set.new.self ≡ set c.loop-i.nets (small_three c.index-tables-i.result).output (worded_value (record { small = small_three c.index-tables-i.result; word = Rattle.std.proofs.Common.get_or words i 0 }) c.loop-i.nets) =
-    c.set.ensures ∙ (ap (λ n. set c.loop-i.nets n c.worded-value.result) same ∙ ap (set c.loop-i.nets (small_three c.index-tables-i.result).output) c.worded-value.ensures) in
-    record {
-      same = ap length c.set.ensures ∙ (length-set c.loop-i.nets c.index.result c.worded-value.result ∙ c.loop-i.invariant.same);
-      rest = c.loop-i.invariant.rest ∙ (paired-step small_three tables words i c.index-tables-i.result (Rattle.std.proofs.Common.get_or words i 0) c.loop-i.nets c.loop-i-test.true c.requires.one_each c.index-tables-i.is Rattle.std.proofs.Common.refl
-          ∙ ap (after_worded (paired small_three (drop (i + 1) tables) (drop (i + 1) words))) (sym is));
-    }
+pub returns : goal.returns
+returns c =
+    let items = paired small_three c.args.tables.now c.args.words.now in
+    let is : c.put_worded_threes.new.nets ≡ after_worded (paired small_three c.args.tables.now c.args.words.now) c.args.nets.now =
+    c.put_worded_threes.ensures ∙ ap (after_worded items) c.values_mut.ensures.value in
+    with-all c.args.nets.now c.put_worded_threes.new.nets (ap length is ∙ length-after_worded items c.args.nets.now) ∙ is

@@ -1,6 +1,6 @@
 use Rattle.std.proofs.Common.{◌≡◌, drop, length}
 use Rattle.ds_series.specs.Small.{after_worded, paired, small_two}
-use Rattle.ds_series.proofs.small.set_worded_twos.Given as goal
+use Rattle.ds_series.proofs.small.put_worded_twos.Given as goal
 
 abbrev pub invariant-loop-i : goal.invariant-loop-i
 invariant-loop-i l = record {

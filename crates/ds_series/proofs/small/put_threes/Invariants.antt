@@ -1,6 +1,6 @@
 use Rattle.std.proofs.Common.{◌≡◌, drop, length, map}
 use Rattle.ds_series.specs.Small.{after_smalls, small_three}
-use Rattle.ds_series.proofs.small.set_threes.Given as goal
+use Rattle.ds_series.proofs.small.put_threes.Given as goal
 
 abbrev pub invariant-loop-table : goal.invariant-loop-table
 invariant-loop-table l = record {

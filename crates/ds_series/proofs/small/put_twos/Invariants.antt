@@ -1,6 +1,6 @@
 use Rattle.std.proofs.Common.{◌≡◌, drop, length, map}
 use Rattle.ds_series.specs.Small.{after_smalls, small_two}
-use Rattle.ds_series.proofs.small.set_twos.Given as goal
+use Rattle.ds_series.proofs.small.put_twos.Given as goal
 
 abbrev pub invariant-loop-table : goal.invariant-loop-table
 invariant-loop-table l = record {

@@ -1,6 +1,6 @@
 use Rattle.std.proofs.Common.{◌≡◌, drop, length, map}
 use Rattle.ds_series.specs.Small.{after_smalls, small_four}
-use Rattle.ds_series.proofs.small.set_fours.Given as goal
+use Rattle.ds_series.proofs.small.put_fours.Given as goal
 
 abbrev pub invariant-loop-table : goal.invariant-loop-table
 invariant-loop-table l = record {

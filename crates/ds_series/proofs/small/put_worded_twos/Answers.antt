@@ -1,0 +1,20 @@
+use Rattle.std.proofs.Common.{◌≡◌, ◌+◌, ◌∙◌, ap, sym, set, drop}
+use Rattle.ds_series.specs.Small.{after_worded, paired, small_two, worded_value}
+use Rattle.std.proofs.lemmas.List.{get_or_default}
+use Rattle.ds_series.proofs.Runs.{length-set}
+use Rattle.ds_series.proofs.Trits.{paired-step}
+use Rattle.ds_series.proofs.small.put_worded_twos.Goals as goal
+
+pub loop-i-preserved : goal.loop-i-preserved
+loop-i-preserved c =
+    let tables = c.args.tables.now in
+    let words = c.args.words.now in
+    let i = c.loop-i.i in
+    let same : c.index.result ≡ (small_two c.index-tables-i.result).output = c.index.ensures ∙ ap (λ x. x.output) (get_or_default tables i c.index-tables-i-in-loop-i.result c.index-tables-i.result c.loop-i-test.true ∙ sym c.index-tables-i.is) in
+    let is : set c.loop-i.nets c.index.result c.worded-value.result ≡ set c.loop-i.nets (small_two c.index-tables-i.result).output (worded_value (record { small = small_two c.index-tables-i.result; word = Rattle.std.proofs.Common.get_or words i 0 }) c.loop-i.nets) =
+    (ap (λ n. set c.loop-i.nets n c.worded-value.result) same ∙ ap (set c.loop-i.nets (small_two c.index-tables-i.result).output) c.worded-value.ensures) in
+    record {
+      same = length-set c.loop-i.nets c.index.result c.worded-value.result ∙ c.loop-i.invariant.same;
+      rest = c.loop-i.invariant.rest ∙ (paired-step small_two tables words i c.index-tables-i.result (Rattle.std.proofs.Common.get_or words i 0) c.loop-i.nets c.loop-i-test.true c.requires.one_each c.index-tables-i.is Rattle.std.proofs.Common.refl
+          ∙ ap (after_worded (paired small_two (drop (i + 1) tables) (drop (i + 1) words))) (sym is));
+    }
