@@ -95,15 +95,7 @@ impl Bank {
             (driven_at self.now table).cover.inputs }
         ensures { result ≡ packed_value (driven_at self.now table).cover nets.now }
     {
-        let quick = &self.quicks[table];
-        let span = &self.spans[table];
-        entry_value(
-            quick,
-            span,
-            self.inputs.as_slice(),
-            self.masks.as_slice(),
-            nets,
-        )
+        self.value_on(table, nets.values())
     }
 
     /// A table of one to six inputs as one word, where it has so many.
@@ -155,8 +147,7 @@ impl Bank {
         requires within { IsWithin (driven_at self.now table) nets.old }
         ensures { nets.new ≡ after_table self.now nets.old table }
     {
-        let value = self.value(table, nets);
-        nets.set(self.quicks[table].output.index(), value);
+        self.put(table, nets.values_mut());
     }
 
     /// Sets what these tables drive, one after another.
@@ -165,9 +156,46 @@ impl Bank {
         requires within { All (λ t. IsWithin t nets.old) self.now }
         ensures { nets.new ≡ after_tables self.now nets.old tables.now }
     {
+        self.put_all(tables, nets.values_mut());
+    }
+
+    // The same on the values that a row lends.
+    fn put_all(&self, tables: &[u32], nets: &mut [Value])
+        requires places { All (λ k. k < length self.now) tables.now }
+        requires within { All (λ t. IsWithin t nets.old) self.now }
+        ensures { nets.new ≡ after_tables self.now nets.old tables.now }
+    {
         for k in tables {
-            self.set(*k as usize, nets);
+            self.put(*k as usize, nets);
         }
+    }
+
+    // The same of one table.
+    fn put(&self, table: usize, nets: &mut [Value])
+        requires place { table < length self.now }
+        requires within { IsWithin (driven_at self.now table) nets.old }
+        ensures { nets.new ≡ after_table self.now nets.old table }
+    {
+        let value = self.value_on(table, nets);
+        nets[self.quicks[table].output.index()] = value;
+    }
+
+    // The value of a table on these.
+    fn value_on(&self, table: usize, nets: &[Value]) -> Value
+        requires place { table < length self.now }
+        requires within { All (λ net. net < length nets.now)
+            (driven_at self.now table).cover.inputs }
+        ensures { result ≡ packed_value (driven_at self.now table).cover nets.now }
+    {
+        let quick = &self.quicks[table];
+        let span = &self.spans[table];
+        entry_value(
+            quick,
+            span,
+            self.inputs.as_slice(),
+            self.masks.as_slice(),
+            nets,
+        )
     }
 }
 

@@ -9,8 +9,8 @@ ghost use Rattle.ds_base.specs.declared.value.Value.TheVariants.{One};
 
 use crate::entry::{Quick, Span};
 use crate::mask::Mask;
-use crate::word::{Word, word_at};
-use ds_base::{NetId, Row3, Value};
+use crate::word::{Word, value_in, word_at};
+use ds_base::{NetId, Value};
 
 // The value of a table: that of its word where it has one and all its inputs are known, else that
 // of its rows.
@@ -19,7 +19,7 @@ pub(crate) fn entry_value(
     span: &Span,
     inputs: &[NetId],
     masks: &[Mask],
-    nets: &Row3,
+    nets: &[Value],
 ) -> Value
     requires kept { IsKept inputs.now masks.now span.now quick.now }
     requires within { All (λ net. net < length nets.now)
@@ -37,7 +37,7 @@ pub(crate) fn entry_value(
 }
 
 // The value by the word, where no input is unknown.
-fn quick_value(quick: &Quick, nets: &Row3) -> Option<Value>
+fn quick_value(quick: &Quick, nets: &[Value]) -> Option<Value>
     requires within { All (λ net. net < length nets.now) quick.now.nets }
     requires three { quick.now.at_most_three ≡ true → AreThree quick.now.nets }
     ensures known { IfSome result (λ _. AreKnown (values_at nets.now quick.now.nets)) }
@@ -51,15 +51,15 @@ fn quick_value(quick: &Quick, nets: &Row3) -> Option<Value>
 }
 
 // The same for one to three inputs.
-fn three_value(quick: &Quick, nets: &Row3) -> Option<Value>
+fn three_value(quick: &Quick, nets: &[Value]) -> Option<Value>
     requires within { All (λ net. net < length nets.now) quick.now.nets }
     requires three { AreThree quick.now.nets }
     ensures known { IfSome result (λ _. AreKnown (values_at nets.now quick.now.nets)) }
     ensures value { IfSome result (λ value. value ≡ quick_bit quick.now nets.now) }
 {
-    let a = code(nets.value(quick.nets[0].index()));
-    let b = code(nets.value(quick.nets[1].index()));
-    let c = code(nets.value(quick.nets[2].index()));
+    let a = code(value_in(nets, quick.nets[0].index()));
+    let b = code(value_in(nets, quick.nets[1].index()));
+    let c = code(value_in(nets, quick.nets[2].index()));
     if a | b | c > 1 {
         return None;
     }
@@ -68,17 +68,17 @@ fn three_value(quick: &Quick, nets: &Row3) -> Option<Value>
 }
 
 // The same for one to six inputs.
-fn six_value(quick: &Quick, nets: &Row3) -> Option<Value>
+fn six_value(quick: &Quick, nets: &[Value]) -> Option<Value>
     requires { All (λ net. net < length nets.now) quick.now.nets }
     ensures known { IfSome result (λ _. AreKnown (values_at nets.now quick.now.nets)) }
     ensures value { IfSome result (λ value. value ≡ quick_bit quick.now nets.now) }
 {
-    let a = code(nets.value(quick.nets[0].index()));
-    let b = code(nets.value(quick.nets[1].index()));
-    let c = code(nets.value(quick.nets[2].index()));
-    let d = code(nets.value(quick.nets[3].index()));
-    let e = code(nets.value(quick.nets[4].index()));
-    let f = code(nets.value(quick.nets[5].index()));
+    let a = code(value_in(nets, quick.nets[0].index()));
+    let b = code(value_in(nets, quick.nets[1].index()));
+    let c = code(value_in(nets, quick.nets[2].index()));
+    let d = code(value_in(nets, quick.nets[3].index()));
+    let e = code(value_in(nets, quick.nets[4].index()));
+    let f = code(value_in(nets, quick.nets[5].index()));
     if a | b | c | d | e | f > 1 {
         return None;
     }
@@ -106,7 +106,7 @@ pub fn code(value: Value) -> u64
 }
 
 // The value by the masks of the rows.
-fn rows_value(inputs: &[NetId], masks: &[Mask], on: bool, nets: &Row3) -> Value
+fn rows_value(inputs: &[NetId], masks: &[Mask], on: bool, nets: &[Value]) -> Value
     requires fit { All (λ mask. mask.first ≤ length inputs.now) masks.now }
     requires within { All (λ net. net < length nets.now) inputs.now }
     ensures { result ≡ packed_value
@@ -117,7 +117,7 @@ fn rows_value(inputs: &[NetId], masks: &[Mask], on: bool, nets: &Row3) -> Value
 }
 
 // Whether some row matches.
-fn some_row(inputs: &[NetId], masks: &[Mask], nets: &Row3) -> Value
+fn some_row(inputs: &[NetId], masks: &[Mask], nets: &[Value]) -> Value
     requires fit { All (λ mask. mask.first ≤ length inputs.now) masks.now }
     requires within { All (λ net. net < length nets.now) inputs.now }
     ensures { result ≡ masks_value (values_at nets.now inputs.now) One masks.now }
@@ -139,7 +139,7 @@ fn some_row(inputs: &[NetId], masks: &[Mask], nets: &Row3) -> Value
 }
 
 // Whether the inputs are as a mask asks. The front is the word of the first inputs.
-fn part_value(inputs: &[NetId], mask: &Mask, front: &Word, nets: &Row3) -> Value
+fn part_value(inputs: &[NetId], mask: &Mask, front: &Word, nets: &[Value]) -> Value
     requires fit { mask.now.first ≤ length inputs.now }
     requires within { All (λ net. net < length nets.now) inputs.now }
     requires front { front.now ≡ words_of (take 64 (drop 0 (values_at nets.now inputs.now))) }

@@ -11,7 +11,8 @@ use Rattle.ds_cover.specs.Bank.{Driven, IsWithin, after_tables, driven_at}
 use Rattle.ds_series.specs.Series.{FindsKnown, after_each, in_order}
 use Rattle.ds_cover.specs.declared.mask.Mask.{Mask}
 use Rattle.ds_cover.proofs.Few.{either_known, mask_known, no_unknowns, signed_known}
-use Rattle.ds_series.proofs.Runs.{All-drop, All-take, length-set}
+use Rattle.ds_cover.proofs.Lent.{length-set}
+use Rattle.ds_series.proofs.Runs.{All-drop, All-take}
 
 both_known : (a b : Value) → a ≢ Unknown → b ≢ Unknown → both a b ≢ Unknown
 both_known Zero b p q = p

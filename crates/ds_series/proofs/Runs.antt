@@ -2,10 +2,8 @@
 use Rattle.std.proofs.Common.{◌≡◌, ℕ, zero, suc, ◌+◌, ◌-◌, ◌<◌, ◌≤◌, List, [], ◌∷◌, ◌++◌, length, take, drop, map, get_or, set, refl, ap, arith, sym, ◌∙◌, subst}
 use Rattle.std.specs.Prelude.{All}
 use Rattle.std.proofs.Math.Seq.{drop-cons}
-use Rattle.std.proofs.Common.{append-nil}
-use Rattle.std.proofs.lemmas.List.{drop-map, get_or-map, length-map, take-append-drop, take-map, take_all}
+use Rattle.std.proofs.lemmas.List.{drop-map, get_or-map, length-map, take-append-drop, take-map}
 use Rattle.std.proofs.lemmas.List.Elements.{All-head, All-tail, All-cons}
-use Rattle.ds_base.specs.Lent.{with_values}
 use Rattle.ds_base.specs.Values.{Row}
 use Rattle.ds_base.specs.declared.value.Value.{Value}
 use Rattle.ds_cover.specs.Packed.{packed_value}
@@ -13,11 +11,7 @@ use Rattle.ds_cover.specs.Bank.{Driven, IsWithin, driven_at}
 use Rattle.ds_series.specs.Small.{IsSmallWithin, Small, StandsFor, Worded, WordsFor, after_smalls, after_worded, paired, small_value, worded_value}
 use Rattle.ds_series.specs.Series.{AreFor, AreRuns, FindsKnown, IsPart, IsRun, Parts, after_each, in_order, own_tables, part_of}
 use Rattle.ds_series.specs.declared.run.Run.{Run}
-
-pub length-set : (nets : Row) (i : ℕ) (value : Value) → length (set nets i value) ≡ length nets
-length-set [] i value = refl
-length-set (v ∷ nets) zero value = refl
-length-set (v ∷ nets) (suc i) value = ap suc (length-set nets i value)
+use Rattle.ds_cover.proofs.Lent.{length-set}
 
 pub length-after_each : (tables : List Driven) (nets : Row) → length (after_each tables nets) ≡ length nets
 length-after_each [] nets = refl
@@ -270,10 +264,3 @@ length-after_smalls (s ∷ smalls) nets = length-after_smalls smalls (set nets s
 pub length-after_worded : (items : List Worded) (nets : Row) → length (after_worded items nets) ≡ length nets
 length-after_worded [] nets = refl
 length-after_worded (s ∷ items) nets = length-after_worded items (set nets s.small.output (worded_value s nets)) ∙ length-set nets s.small.output (worded_value s nets)
-
--- a row whose values were all lent has what they are at the end
-pub with-all : (row values : Row) → length values ≡ length row → with_values row values ≡ values
-with-all row values same =
-    let none : drop (length values) row ≡ [] = ap (λ n. drop n row) same ∙ drop-all row in
-    ap (λ rest. take (length row) (values ++ rest)) none
-    ∙ (ap (take (length row)) (append-nil values) ∙ take_all (length row) values (omega arith))

@@ -1,7 +1,7 @@
 use Rattle.std.proofs.Common.{◌≡◌, ◌+◌, ◌∙◌, ap, sym, set, drop}
 use Rattle.ds_series.specs.Small.{after_worded, paired, small_two, worded_value}
 use Rattle.std.proofs.lemmas.List.{get_or_default}
-use Rattle.ds_series.proofs.Runs.{length-set}
+use Rattle.ds_cover.proofs.Lent.{length-set}
 use Rattle.ds_series.proofs.Trits.{paired-step}
 use Rattle.ds_series.proofs.small.put_worded_twos.Goals as goal
 

@@ -1,6 +1,7 @@
 use Rattle.std.proofs.Common.{◌≡◌, ◌∙◌, ap, length, map}
 use Rattle.ds_series.specs.Small.{after_smalls, small_two}
-use Rattle.ds_series.proofs.Runs.{length-after_smalls, with-all}
+use Rattle.ds_cover.proofs.Lent.{with-all}
+use Rattle.ds_series.proofs.Runs.{length-after_smalls}
 use Rattle.ds_series.proofs.small.set_twos.Goals as goal
 
 pub returns : goal.returns

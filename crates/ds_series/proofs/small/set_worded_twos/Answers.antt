@@ -1,6 +1,7 @@
 use Rattle.std.proofs.Common.{◌≡◌, ◌∙◌, ap, length}
 use Rattle.ds_series.specs.Small.{after_worded, paired, small_two}
-use Rattle.ds_series.proofs.Runs.{length-after_worded, with-all}
+use Rattle.ds_cover.proofs.Lent.{with-all}
+use Rattle.ds_series.proofs.Runs.{length-after_worded}
 use Rattle.ds_series.proofs.small.set_worded_twos.Goals as goal
 
 pub returns : goal.returns
