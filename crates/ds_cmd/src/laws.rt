@@ -88,8 +88,8 @@ pub fn period_is_taken()
         → job_of (program ∷ codes "period" ∷ net ∷ delays ∷ []) ≡ Ok (Period net delays Each) }
     ensures clusters { (program net delays : List ℕ) (mode : Mode) → is_plain net ≡ true
         → is_plain delays ≡ true
-        → job_of (program ∷ codes "period" ∷ net ∷ delays ∷ codes "--clusters" ∷ mode_word mode ∷ [])
-        ≡ Ok (Period net delays mode) }
+        → job_of (program ∷ codes "period" ∷ net ∷ delays ∷ codes "--clusters" ∷ mode_word mode
+        ∷ []) ≡ Ok (Period net delays mode) }
 {}
 
 /// A line that begins with another name than that of a command is refused, whatever follows.

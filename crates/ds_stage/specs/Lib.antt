@@ -9,4 +9,5 @@ pub mod PlanStage
 pub mod AcceptStage
 pub mod Homes
 pub mod ReplayStage
+pub mod PeriodStage
 pub mod Ends

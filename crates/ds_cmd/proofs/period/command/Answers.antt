@@ -9,4 +9,6 @@ subcommand-requires c = subst AreLocal (sym c.in_ok-args.ensures.items)
     (c.word.ensures.local, (c.word-2.ensures.local, (c.option.ensures.local, tt)))
 
 pub returns : goal.returns
-returns c = shaped _ _ _ _ c.subcommand.ensures (ap (map rule_of) c.in_ok-args.ensures.items ∙ (ap₂ ◌∷◌ c.word.ensures.rule (ap₂ ◌∷◌ c.word-2.ensures.rule (ap₂ ◌∷◌ c.option.ensures.rule refl))))
+returns c = shaped _ _ _ _ c.subcommand.ensures (ap (map rule_of) c.in_ok-args.ensures.items
+    ∙ (ap₂ ◌∷◌ c.word.ensures.rule (ap₂ ◌∷◌ c.word-2.ensures.rule
+    (ap₂ ◌∷◌ c.option.ensures.rule refl))))

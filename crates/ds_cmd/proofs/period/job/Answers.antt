@@ -9,5 +9,6 @@ returns-in_err-new c =
 
 pub returns-in_err-new-2 : goal.returns-in_err-new-2
 returns-in_err-new-2 c =
-    let p = err_from_is_err_and c.from_residual-in_err-new-2.result c.from_residual-in_err-new-2.ensures.1 in
+    let p = err_from_is_err_and c.from_residual-in_err-new-2.result
+    c.from_residual-in_err-new-2.ensures.1 in
     rw (p.1, p.2) (inl refl)
