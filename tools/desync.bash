@@ -12,7 +12,7 @@ _desync() {
     local word=${COMP_WORDS[COMP_CWORD]} command=${COMP_WORDS[1]} option= names=0 given= plain= i
     COMPREPLY=()
     if [ "$COMP_CWORD" -eq 1 ]; then
-        COMPREPLY=($(compgen -W "run clock check graph replay accept demo" -- "$word"))
+        COMPREPLY=($(compgen -W "run clock check graph replay accept demo period" -- "$word"))
         return
     fi
     # the option that waits for its value, and how many names stand in front
@@ -46,7 +46,7 @@ _desync() {
         check) most=1 ;;
         graph) options=--clusters most=1 ;;
         replay) options="--clusters --graph" most=3 ;;
-        accept) options=--clusters most=2 ;;
+        accept | period) options=--clusters most=2 ;;
         demo) options=--jobs ;;
     esac
     if [[ $word == -* && -z $plain ]]; then

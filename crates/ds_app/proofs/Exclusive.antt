@@ -8,7 +8,8 @@ use Rattle.ds_netlist.specs.Laws.{FaultsAreRefused}
 use Rattle.ds_base.specs.declared.number.Mode.{Mode}
 use Rattle.ds_split.specs.Laws.{OneClustering}
 use Rattle.ds_cmd.specs.declared.job.Job.{Job}
-use Rattle.ds_cmd.specs.declared.job.Job.TheVariants.{Run, Clock, Check, Graph, Replay, Accept, Demo}
+use Rattle.ds_cmd.specs.declared.job.Job.TheVariants.{Run, Clock, Check, Graph, Replay, Accept}
+use Rattle.ds_cmd.specs.declared.job.Job.TheVariants.{Demo, Period}
 use Rattle.ds_stage.specs.Stage.{then_stage}
 use Rattle.ds_stage.specs.Stages.{netlist_stage, report_stage, trace_stage, vectors_stage}
 use Rattle.ds_stage.specs.SplitStage.{split_stage}
@@ -17,10 +18,13 @@ use Rattle.ds_stage.specs.GraphStage.{controller_stage}
 use Rattle.ds_stage.specs.PlanStage.{planned_stage}
 use Rattle.ds_stage.specs.AcceptStage.{ranks_stage}
 use Rattle.ds_app.specs.RunStage.{traced_stage}
-use Rattle.ds_app.specs.Job.{accept_stage, clock_stage, graph_stage, replay_stage, run_stage, stages_of}
+use Rattle.ds_app.specs.Job.{accept_stage, clock_stage, graph_stage, period_stage}
+use Rattle.ds_app.specs.Job.{replay_stage, run_stage, stages_of}
 use Rattle.ds_stage.specs.ReplayStage.{replayed_stage}
+use Rattle.ds_stage.specs.PeriodStage.{measured_stage}
 use Rattle.ds_app.specs.Status.{AreTold, IsToldIn}
 use Rattle.ds_stage.proofs.LogStages.{replayed_not_refused}
+use Rattle.ds_stage.proofs.PeriodStages.{measured_not_refused}
 use Rattle.ds_stage.proofs.Exclusive.{lines_exclusive, netlist_exclusive, then_not_refused, vectors_exclusive}
 use Rattle.ds_stage.proofs.PlanExclusive.{planned_exclusive, split_exclusive}
 
@@ -62,6 +66,15 @@ accept_not_refused law held file graph mode named c text line means refused =
     then_not_refused (planned_stage held file (Some graph) mode c) ranks_stage (planned_exclusive law held file (Some graph) mode (told_file held (Some graph) named) c)
     (λ p b l is none. none) text line means refused
 
+period_not_refused : OneClustering → (held : List ℕ → Held) (file delays : List ℕ) (mode : Mode)
+    → held delays ≢ untold → (c : Circuit) (text line : List ℕ)
+    → (period_stage held file delays mode c).means text
+    → ¬ (period_stage held file delays mode c).refused line
+period_not_refused law held file delays mode told c text line means refused =
+    then_not_refused (split_stage file mode c) (measured_stage held delays)
+    (split_exclusive law file mode c)
+    (measured_not_refused held delays told) text line means refused
+
 -- a job that has a text is not refused
 pub job_not_refused : FaultsAreRefused → OneClustering → (held : List ℕ → Held) (job : Job) → AreTold held job → (text line : List ℕ)
     → (stages_of held job).means text → ¬ (stages_of held job).refused line
@@ -81,3 +94,7 @@ job_not_refused law one held (Accept file graph mode) told text line means refus
     then_not_refused (netlist_stage held file) (accept_stage held file graph mode) (netlist_exclusive law held file told.0)
     (accept_not_refused one held file graph mode told.1) text line means refused
 job_not_refused law one held (Demo seed registers turns jobs) told text line means none = absurd none
+job_not_refused law one held (Period file delays mode) told text line means refused =
+    then_not_refused (netlist_stage held file) (period_stage held file delays mode)
+    (netlist_exclusive law held file told.0)
+    (period_not_refused one held file delays mode told.1) text line means refused

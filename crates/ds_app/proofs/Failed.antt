@@ -3,7 +3,8 @@ use Rattle.std.proofs.Common.{ℕ, Bool, List, Option, Some}
 use Rattle.ds_outside.specs.Held.{Held}
 use Rattle.ds_design.specs.Circuit.{Circuit}
 use Rattle.ds_cmd.specs.declared.job.Job.{Job}
-use Rattle.ds_cmd.specs.declared.job.Job.TheVariants.{Run, Clock, Check, Graph, Replay, Accept, Demo}
+use Rattle.ds_cmd.specs.declared.job.Job.TheVariants.{Run, Clock, Check, Graph, Replay, Accept}
+use Rattle.ds_cmd.specs.declared.job.Job.TheVariants.{Demo, Period}
 use Rattle.ds_stage.specs.Stage.{OfFile, then_stage}
 use Rattle.ds_stage.specs.Stages.{netlist_stage, report_stage, trace_stage, vectors_stage}
 use Rattle.ds_stage.specs.SplitStage.{split_stage}
@@ -11,11 +12,14 @@ use Rattle.ds_stage.specs.GraphStage.{controller_stage}
 use Rattle.ds_stage.specs.PlanStage.{planned_stage}
 use Rattle.ds_stage.specs.AcceptStage.{ranks_stage}
 use Rattle.ds_stage.specs.ReplayStage.{replayed_stage}
+use Rattle.ds_stage.specs.PeriodStage.{measured_stage}
 use Rattle.ds_latch.specs.Plan.{Planned}
 use Rattle.ds_design.specs.Rows.{Rows}
 use Rattle.ds_app.specs.RunStage.{traced_stage}
-use Rattle.ds_app.specs.Job.{accept_stage, clock_stage, graph_stage, replay_stage, run_stage, stages_of}
+use Rattle.ds_app.specs.Job.{accept_stage, clock_stage, graph_stage, period_stage}
+use Rattle.ds_app.specs.Job.{replay_stage, run_stage, stages_of}
 use Rattle.ds_base.specs.declared.number.Mode.{Mode}
+use Rattle.ds_stage.proofs.PeriodStages.{measured_says}
 use Rattle.ds_stage.proofs.Failed.{IsFailed, Says, netlist_says, planned_says, replayed_says, then_says, vectors_say}
 
 clock_says : (held : List ℕ → Held) (vec : List ℕ) (failed : OfFile) (c : Circuit) → Says (clock_stage held vec c) failed
@@ -41,6 +45,13 @@ replay_says held file vec log graph mode failed c =
     (planned_says held file graph mode failed c)
     (λ p. then_says (vectors_stage held vec c) (λ (vectors : Rows). replayed_stage held log p vectors.rows) failed (vectors_say held vec c failed) (λ vectors. replayed_says held log failed p vectors.rows))
 
+period_says : (held : List ℕ → Held) (file delays : List ℕ) (mode : Mode) (failed : OfFile)
+    → (c : Circuit) → Says (period_stage held file delays mode c) failed
+period_says held file delays mode failed c =
+    then_says (split_stage file mode c) (measured_stage held delays) failed
+    (λ line none. absurd none)
+    (measured_says held delays failed)
+
 -- where a job names a file that it did not read, a read failed
 pub job_says : (held : List ℕ → Held) (job : Job) (failed : OfFile) (line : List ℕ) → (stages_of held job).unread failed line → IsFailed failed
 job_says held (Run file vec graph mode jobs log) failed line is = then_says (netlist_stage held file) (run_stage held file vec graph mode log) failed (netlist_says held file failed) (run_says held file vec graph mode log failed) line is
@@ -50,3 +61,6 @@ job_says held (Graph file mode) failed line is = then_says (netlist_stage held f
 job_says held (Replay file vec log graph mode) failed line is = then_says (netlist_stage held file) (replay_stage held file vec log graph mode) failed (netlist_says held file failed) (replay_says held file vec log graph mode failed) line is
 job_says held (Accept file graph mode) failed line is = then_says (netlist_stage held file) (accept_stage held file graph mode) failed (netlist_says held file failed) (accept_says held file graph mode failed) line is
 job_says held (Demo seed registers turns jobs) failed line none = absurd none
+job_says held (Period file delays mode) failed line is =
+    then_says (netlist_stage held file) (period_stage held file delays mode) failed
+    (netlist_says held file failed) (period_says held file delays mode failed) line is

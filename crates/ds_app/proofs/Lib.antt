@@ -4,3 +4,5 @@ pub mod Answered
 pub mod Interleaved
 pub mod ReplayEnds
 pub mod Summaries
+pub mod PeriodEnds
+pub mod PeriodTexts

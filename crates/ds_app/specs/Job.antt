@@ -4,7 +4,8 @@ use Rattle.ds_base.specs.declared.number.Mode.{Mode}
 use Rattle.ds_outside.specs.Held.{Held}
 use Rattle.ds_design.specs.Circuit.{Circuit}
 use Rattle.ds_cmd.specs.declared.job.Job.{Job}
-use Rattle.ds_cmd.specs.declared.job.Job.TheVariants.{Run, Clock, Check, Graph, Replay, Accept, Demo}
+use Rattle.ds_cmd.specs.declared.job.Job.TheVariants.{Run, Clock, Check, Graph, Replay, Accept}
+use Rattle.ds_cmd.specs.declared.job.Job.TheVariants.{Demo, Period}
 use Rattle.ds_stage.specs.Stage.{Stage, then_stage}
 use Rattle.ds_stage.specs.Stages.{netlist_stage, vectors_stage, trace_stage, report_stage}
 use Rattle.ds_stage.specs.SplitStage.{split_stage}
@@ -14,6 +15,7 @@ use Rattle.ds_app.specs.RunStage.{traced_stage}
 use Rattle.ds_app.specs.DemoStage.{demo_stage}
 use Rattle.ds_stage.specs.AcceptStage.{ranks_stage}
 use Rattle.ds_stage.specs.ReplayStage.{replayed_stage}
+use Rattle.ds_stage.specs.PeriodStage.{measured_stage}
 
 -- `clock`, once the netlist is read
 abbrev pub clock_stage : (List ℕ → Held) → List ℕ → Circuit → Stage (List ℕ)
@@ -37,6 +39,11 @@ replay_stage held net vec log graph mode c = then_stage (planned_stage held net 
 abbrev pub accept_stage : (List ℕ → Held) → List ℕ → List ℕ → Mode → Circuit → Stage (List ℕ)
 accept_stage held net graph mode c = then_stage (planned_stage held net (Some graph) mode c) ranks_stage
 
+-- `period`, once the netlist is read
+abbrev pub period_stage : (List ℕ → Held) → List ℕ → List ℕ → Mode → Circuit → Stage (List ℕ)
+period_stage held net delays mode c =
+    then_stage (split_stage net mode c) (measured_stage held delays)
+
 -- the stages of a job, on what its files hold
 abbrev pub stages_of : (List ℕ → Held) → Job → Stage (List ℕ)
 stages_of held (Run net vec graph mode jobs log) = then_stage (netlist_stage held net) (run_stage held net vec graph mode log)
@@ -46,3 +53,5 @@ stages_of held (Graph net mode) = then_stage (netlist_stage held net) (graph_sta
 stages_of held (Replay net vec log graph mode) = then_stage (netlist_stage held net) (replay_stage held net vec log graph mode)
 stages_of held (Accept net graph mode) = then_stage (netlist_stage held net) (accept_stage held net graph mode)
 stages_of held (Demo seed registers turns jobs) = demo_stage seed registers turns
+stages_of held (Period net delays mode) =
+    then_stage (netlist_stage held net) (period_stage held net delays mode)

@@ -6,7 +6,8 @@ use Rattle.ds_outside.specs.Written.{appended, AppendsPart}
 use Rattle.ds_outside.specs.declared.files.Which.{Which}
 use Rattle.ds_cmd.specs.Line.{job_of}
 use Rattle.ds_cmd.specs.declared.job.Job.{Job}
-use Rattle.ds_cmd.specs.declared.job.Job.TheVariants.{Run, Clock, Check, Graph, Replay, Accept, Demo}
+use Rattle.ds_cmd.specs.declared.job.Job.TheVariants.{Run, Clock, Check, Graph, Replay, Accept}
+use Rattle.ds_cmd.specs.declared.job.Job.TheVariants.{Demo, Period}
 use Rattle.ds_cmd.specs.declared.fault.UsageFault.{UsageFault}
 use Rattle.ds_cmd.specs.declared.fault.UsageFault.TheVariants as usage
 use Rattle.ds_stage.specs.declared.stop.Stop.{Stop}
@@ -96,6 +97,7 @@ AreTold held (Replay net vec log graph mode) =
     (held net ≢ untold) × (held vec ≢ untold) × (held log ≢ untold) × IsToldIn held graph
 AreTold held (Accept net graph mode) = (held net ≢ untold) × (held graph ≢ untold)
 AreTold held (Demo seed registers turns jobs) = Unit {0}
+AreTold held (Period net delays mode) = (held net ≢ untold) × (held delays ≢ untold)
 
 -- no read failed in the call
 abbrev pub NoneFailed : Call → Type 0

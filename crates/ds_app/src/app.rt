@@ -11,6 +11,7 @@ use crate::check::check;
 use crate::clock::clock;
 use crate::demo::{DemoJob, demo};
 use crate::graph::graph;
+use crate::period::{PeriodJob, period};
 use crate::replay::{ReplayJob, replay};
 use crate::run::{RunJob, run};
 use ds_cmd::{Job, UsageFault, parse};
@@ -157,6 +158,18 @@ fn do_job<R: AllocGlobal + Threads + Sync, G: Gate, F: Files, O: Sink>(
                 jobs: *jobs,
             };
             demo(rt, &job, gate, out)
+        }
+        Job::Period {
+            net,
+            delays,
+            clusters,
+        } => {
+            let job = PeriodJob {
+                net: net.as_str(),
+                delays: delays.as_str(),
+                clusters: *clusters,
+            };
+            period(alloc, &job, files, out)
         }
     }
 }

@@ -14,8 +14,10 @@
 //! writes the ranks of a graph of the user's that is accepted, and `run` and `replay` fire over
 //! such a graph where one is named. `replay` fires the events of a log where each may fire, and
 //! writes what each register has stored then. `demo` makes a design from a number, runs it, and
-//! sums its trace up. In whatever order the latches fire, each register stores its clocked values:
-//! `Interleavings`. Not promised is that memory is found, and which of several cycles is shown.
+//! sums its trace up. `period` writes the exact period of the controller graph, a cycle that has
+//! it, and potentials that show it. In whatever order the latches fire, each register stores its
+//! clocked values: `Interleavings`. Not promised is that memory is found, and which of several
+//! cycles is shown.
 #![tactic(auto)]
 
 mod accept;
@@ -24,6 +26,8 @@ mod check;
 mod clock;
 mod demo;
 mod graph;
+mod period;
+mod period_text;
 mod replay;
 mod run;
 

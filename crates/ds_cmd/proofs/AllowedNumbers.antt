@@ -20,6 +20,7 @@ use Rattle.ds_cmd.specs.Graph.{graph_job}
 use Rattle.ds_cmd.specs.Replay.{replay_job}
 use Rattle.ds_cmd.specs.Accept.{accept_job}
 use Rattle.ds_cmd.specs.Demo.{demo_job}
+use Rattle.ds_cmd.specs.Period.{period_job}
 use Rattle.ds_cmd.specs.Commands.{commands, desync}
 use Rattle.ds_cmd.specs.Line.{is_none, job_in, job_of, named_job}
 use Rattle.ds_cmd.specs.Allowed.{AreAllowed, AreWorkers}
@@ -111,6 +112,11 @@ demo_yields rows = valued (first_of (codes "seed") rows) _ (λ seed. valued (fir
       one_or_more (first_of (codes "jobs") rows) jobs is,
     ))))))))
 
+period_yields : (rows : List Row) → Yields (period_job rows)
+period_yields rows = valued (first_of (codes "net") rows) _ (λ net.
+    valued (first_of (codes "delays") rows) _ (λ delays.
+    moded (clusters_of rows) _ (λ mode. ok_yields _ tt)))
+
 named_yields : (name : Text) (rows : List Row) → Yields (named_job name rows commands)
 named_yields name rows =
     chosen (bytes_eq name (codes "run")) _ _ (run_yields rows)
@@ -119,7 +125,8 @@ named_yields name rows =
     (chosen (bytes_eq name (codes "graph")) _ _ (graph_yields rows)
     (chosen (bytes_eq name (codes "replay")) _ _ (replay_yields rows)
     (chosen (bytes_eq name (codes "accept")) _ _ (accept_yields rows)
-    (chosen (bytes_eq name (codes "demo")) _ _ (demo_yields rows) (fault_yields _)))))))
+    (chosen (bytes_eq name (codes "demo")) _ _ (demo_yields rows)
+    (chosen (bytes_eq name (codes "period")) _ _ (period_yields rows) (fault_yields _))))))))
 
 in_yields : (named : Option (Text × List Row)) → Yields (job_in named)
 in_yields None = fault_yields _

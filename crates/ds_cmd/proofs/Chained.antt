@@ -3,7 +3,7 @@ use Rattle.std.proofs.Common.{◌≡◌, ◌++◌, ◌&&◌, ◌∙◌, List, []
 use Rattle.std.proofs.Common.{ap, refl, subst, IfOk, Result}
 use Rattle.std.specs.Prelude.{⊤}
 use Rattle.std.proofs.lemmas.List.{append_assoc, append-nil}
-use Rattle.clap.specs.Words.{App, Rule, Shape, Text, app_of, rule_of, shape_of, with_rule, with_subcommand}
+use Rattle.clap.specs.Words.{App, Rule, Shape, Text, app_of, rule_of, shape_of, with_subcommand}
 use Rattle.clap.specs.Built.{AddsArg, AddsInTurn, AddsSubcommand}
 use Rattle.clap.specs.declared.builder.arg.Arg.{Arg}
 use Rattle.clap.specs.declared.builder.command.Command.{Command}
@@ -50,7 +50,7 @@ subcommands_in_turn old new (sub ∷ subs) (mid, step, rest) (here, plain) =
     ∙ ap (λ (a : App). with_all a (map shape_of subs)) (step.shape (third _ _ _ _ here))
 
 pub all_plain : ArePlain (map (λ entry. entry.shape) commands)
-all_plain = (refl, (refl, (refl, (refl, (refl, (refl, (refl, tt)))))))
+all_plain = (refl, (refl, (refl, (refl, (refl, (refl, (refl, (refl, tt))))))))
 
 pub shaped : (made : Result Command OutOfMemory) (name : Text) (rules wanted : List Rule)
     → IfOk made (λ c. shape_of c ≡ command_shape name rules) → rules ≡ wanted

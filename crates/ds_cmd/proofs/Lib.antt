@@ -4,6 +4,7 @@ pub mod Taken
 pub mod TakenReplay
 pub mod Refused
 pub mod TakenGraph
+pub mod TakenPeriod
 pub mod NumberLemmas
 pub mod TakenNumbers
 pub mod AllowedNumbers

@@ -4,7 +4,7 @@ use Rattle.ds_base.specs.Limit.{most_of}
 use Rattle.ds_base.specs.declared.number.Limit.TheVariants.{Clusters, Vectors}
 use Rattle.ds_cmd.specs.declared.job.Job.{Job}
 use Rattle.ds_cmd.specs.declared.job.Job.TheVariants.{Run, Clock, Check, Graph}
-use Rattle.ds_cmd.specs.declared.job.Job.TheVariants.{Replay, Accept, Demo}
+use Rattle.ds_cmd.specs.declared.job.Job.TheVariants.{Replay, Accept, Demo, Period}
 
 -- so many workers may be wanted
 abbrev pub AreWorkers : ℕ → Type 0
@@ -20,3 +20,4 @@ AreAllowed (Replay net vec log graph mode) = ⊤
 AreAllowed (Accept net graph mode) = ⊤
 AreAllowed (Demo seed registers turns jobs) = (1 ≤ registers) × (registers ≤ most_of Clusters)
     × (turns ≤ most_of Vectors) × AreWorkers jobs
+AreAllowed (Period net delays mode) = ⊤

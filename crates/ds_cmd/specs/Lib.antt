@@ -10,6 +10,7 @@ pub mod Graph
 pub mod Replay
 pub mod Accept
 pub mod Demo
+pub mod Period
 pub mod Commands
 pub mod Line
 pub mod Plain

@@ -2,7 +2,7 @@ ghost use Rattle.std.specs.Prelude.{◌≡◌, ◌++◌, ◌∷◌, List, [], ma
 ghost use Rattle.clap.specs.Words.{Shape, app_of, shape_of};
 ghost use Rattle.ds_cmd.specs.Commands.{commands as commands_of, desync};
 
-use crate::{accept, check, clock, demo, graph, replay, run};
+use crate::{accept, check, clock, demo, graph, period, replay, run};
 use clap::Command;
 use ds_base::OutOfMemory;
 use std::alloc::Global;
@@ -29,7 +29,8 @@ fn commands<'a>(alloc: Global) -> Result<Vec<Command<'a>>, OutOfMemory>
     let commands = with(commands, graph::command(alloc));
     let commands = with(commands, replay::command(alloc));
     let commands = with(commands, accept::command(alloc));
-    with(commands, demo::command(alloc))
+    let commands = with(commands, demo::command(alloc));
+    with(commands, period::command(alloc))
 }
 
 // One command more. Results go in, so that the caller has no way out between two commands.

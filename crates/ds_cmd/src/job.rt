@@ -51,4 +51,11 @@ pub enum Job {
         turns: u32,
         jobs: u32,
     },
+    /// The exact period of the controller graph, where its orders have the delays of the file
+    /// `delays`.
+    Period {
+        net: FileName,
+        delays: FileName,
+        clusters: Mode,
+    },
 }

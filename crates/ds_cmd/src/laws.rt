@@ -4,7 +4,7 @@ ghost use Rattle.std.specs.Fmt.{decimal};
 ghost use Rattle.ds_cmd.specs.Line.{job_of};
 ghost use Rattle.ds_cmd.specs.Plain.{is_command, is_plain};
 ghost use Rattle.ds_cmd.specs.declared.job.Job.TheVariants.{Run, Clock, Check, Graph};
-ghost use Rattle.ds_cmd.specs.declared.job.Job.TheVariants.{Replay, Accept, Demo};
+ghost use Rattle.ds_cmd.specs.declared.job.Job.TheVariants.{Replay, Accept, Demo, Period};
 ghost use Rattle.ds_base.specs.declared.number.Mode.TheVariants.{Each};
 ghost use Rattle.ds_base.specs.declared.number.Mode.{Mode};
 ghost use Rattle.ds_cmd.specs.Clusters.{mode_word};
@@ -79,6 +79,17 @@ pub fn demo_is_taken()
         → 1 ≤ registers → registers ≤ 4096 → turns ≤ 65536 → 1 ≤ jobs → jobs ≤ 64
         → job_of (program ∷ codes "demo" ∷ decimal seed ∷ decimal registers ∷ decimal turns
         ∷ codes "--jobs" ∷ decimal jobs ∷ []) ≡ Ok (Demo seed registers turns jobs) }
+{}
+
+/// `period` with two names of files is taken; each register is then a cluster of its own, unless
+/// the word behind `--clusters` says otherwise.
+pub fn period_is_taken()
+    ensures each { (program net delays : List ℕ) → is_plain net ≡ true → is_plain delays ≡ true
+        → job_of (program ∷ codes "period" ∷ net ∷ delays ∷ []) ≡ Ok (Period net delays Each) }
+    ensures clusters { (program net delays : List ℕ) (mode : Mode) → is_plain net ≡ true
+        → is_plain delays ≡ true
+        → job_of (program ∷ codes "period" ∷ net ∷ delays ∷ codes "--clusters" ∷ mode_word mode
+        ∷ []) ≡ Ok (Period net delays mode) }
 {}
 
 /// A line that begins with another name than that of a command is refused, whatever follows.

@@ -25,6 +25,7 @@ mod job;
 mod laws;
 mod line;
 mod number;
+mod period;
 mod replay;
 mod run;
 mod subcommand;
@@ -34,6 +35,6 @@ pub use file_name::FileName;
 pub use job::Job;
 pub use laws::{
     accept_is_taken, check_is_taken, clock_is_taken, demo_is_taken, graph_is_taken,
-    other_names_are_refused, replay_is_taken, run_is_taken,
+    other_names_are_refused, period_is_taken, replay_is_taken, run_is_taken,
 };
 pub use line::parse;

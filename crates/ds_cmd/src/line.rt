@@ -5,7 +5,7 @@ ghost use Rattle.ds_cmd.specs.Fault.{Gives};
 ghost use Rattle.ds_cmd.specs.Line.{job_in, job_of};
 
 use crate::command::desync_command;
-use crate::{Job, UsageFault, accept, check, clock, demo, graph, replay, run};
+use crate::{Job, UsageFault, accept, check, clock, demo, graph, period, replay, run};
 use clap::error::ErrorKind;
 use clap::{ArgMatches, Error};
 use std::alloc::Global;
@@ -55,6 +55,8 @@ fn job(alloc: Global, matches: &ArgMatches<'_>) -> Result<Job, UsageFault>
         accept::job(alloc, values)
     } else if name == "demo" {
         demo::job(values)
+    } else if name == "period" {
+        period::job(alloc, values)
     } else {
         Err(UsageFault::Line)
     }

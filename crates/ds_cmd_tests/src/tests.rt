@@ -19,6 +19,8 @@ d|run|--graph=-|n|v|--clusters=bus -> run|n|v|-|bus|1|false
 d|replay|n|v|l|--graph=g -> replay|n|v|l|g|each
 d|accept|n|g -> accept|n|g|each
 d|accept|n|--clusters|one|g -> accept|n|g|one
+d|period|n|d -> period|n|d|each
+d|period|--clusters=bus|n|- -> period|n|-|bus
 # The name of the program says nothing.
 |check|n -> check|n
 run|check|n -> check|n
@@ -76,6 +78,9 @@ d|run|n|v|--graph
 d|graph|n|--graph|g
 d|accept|n
 d|accept|n|g|--graph|g
+d|period|n
+d|period|n|d|x
+d|period|n|d|--graph|g
 d|--clusters=one|graph|n
 d|check|n|--clusters|one
 d|run|-n|v
@@ -147,6 +152,7 @@ d|run|n|v|--clusters|two
 d|run|n|v|--clusters|two|--jobs|2
 d|graph|n|--clusters=
 d|graph|n|--clusters|EACH
+d|period|n|d|--clusters|two
 d|graph|n|--clusters|each,one
 ";
 
@@ -251,6 +257,14 @@ fn named_words(alloc: Global, job: &Job) -> Result<String, AllocError> {
         } => joined(
             alloc,
             &["accept", net.as_str(), graph.as_str(), word(clusters)],
+        ),
+        Job::Period {
+            net,
+            delays,
+            clusters,
+        } => joined(
+            alloc,
+            &["period", net.as_str(), delays.as_str(), word(clusters)],
         ),
         _ => joined(alloc, &["a job with numbers"]),
     }

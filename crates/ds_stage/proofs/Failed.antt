@@ -35,7 +35,7 @@ pub then_says : {A B : Type 0} (first : Stage A) (next : A → Stage B) (failed 
 then_says first next failed one all line (inl is) = one line is
 then_says first next failed one all line (inr (a, means, is)) = all a line is
 
-lines_say : (held : List ℕ → Held) (which : Which) (name : List ℕ) (failed : OfFile) → Says (lines_stage held which name) failed
+pub lines_say : (held : List ℕ → Held) (which : Which) (name : List ℕ) (failed : OfFile) → Says (lines_stage held which name) failed
 lines_say held which name failed line (rose, spelt) = record { which = which; name = name; is = rose }
 
 design_says : (file : List ℕ) (failed : OfFile) (lines : List Line) → Says (design_stage file lines) failed

@@ -9,6 +9,7 @@ pub mod PlanExclusive
 pub mod PlanAccepted
 pub mod LogStages
 pub mod LogTexts
+pub mod PeriodStages
 pub mod Housed
 pub mod Registers
 pub mod Meant

@@ -9,5 +9,6 @@ pub mod PlanStage
 pub mod AcceptStage
 pub mod Homes
 pub mod ReplayStage
+pub mod PeriodStage
 pub mod Ends
 pub mod Laws

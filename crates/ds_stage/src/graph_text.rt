@@ -99,8 +99,8 @@ fn cycle(alloc: Global, graph: &Marked, events: &[EventId]) -> Result<Vec<u8>, O
     Ok(with_events(text, graph, events)?)
 }
 
-// A text with events behind it, each with a blank before it.
-fn with_events(text: Vec<u8>, graph: &Marked, events: &[EventId]) -> Result<Vec<u8>, AllocError>
+/// A text with events behind it, each with a blank before it.
+pub fn with_events(text: Vec<u8>, graph: &Marked, events: &[EventId]) -> Result<Vec<u8>, AllocError>
     ensures { IfOk result (λ all. all.items
         ≡ text.items ++ listed (map (text_of_event graph.now) events.now)) }
 {

@@ -9,10 +9,13 @@
 //! `read_netlist` and `read_rows` read netlist and vectors (`specs/Stages`), `split_netlist` makes
 //! latches (`specs/SplitStage`), `plan_netlist`, `plan_named` and `own_plan` plans
 //! (`specs/PlanStage`), `read_log` the state after a log, and `write_state` its text
-//! (`specs/ReplayStage`). `write_report` writes the report on a netlist (`specs/Report`). The texts
-//! of faults are those of `specs/FaultText`. When memory is wanted is not promised.
+//! (`specs/ReplayStage`). `read_timing` reads the delays of `own_graph` (`specs/PeriodStage`), and
+//! `with_event` and `with_events` put events behind a text. `write_report` writes the report on a
+//! netlist (`specs/Report`). The texts of faults are those of `specs/FaultText`. When memory is
+//! wanted is not promised.
 #![tactic(auto)]
 
+mod delays;
 mod fault_line;
 mod fault_text;
 mod graph_text;
@@ -28,7 +31,10 @@ mod split;
 mod state_text;
 mod stop;
 
+pub use delays::{own_graph, read_timing};
+pub use graph_text::with_events;
 pub use log::read_log;
+pub use log_text::with_event;
 pub use plan::{own_plan, plan_named, plan_netlist};
 pub use report::{put_count, write_report};
 pub use source::{read_netlist, read_rows};

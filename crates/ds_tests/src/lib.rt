@@ -10,6 +10,8 @@
 #[cfg(test)]
 mod accept_tests;
 #[cfg(test)]
+mod cycle_tests;
+#[cfg(test)]
 mod demo_tests;
 #[cfg(test)]
 mod fault_tests;
@@ -19,6 +21,8 @@ mod gate_tests;
 mod graph_tests;
 #[cfg(test)]
 mod jobs_tests;
+#[cfg(test)]
+mod period_tests;
 #[cfg(test)]
 mod replay_tests;
 #[cfg(test)]

@@ -1,6 +1,8 @@
 use Rattle.std.proofs.Common.{◌≡◌, ℕ, List, sym, subst}
 use Rattle.ds_cmd.specs.declared.job.Job.{Job}
-use Rattle.ds_cmd.specs.declared.job.Job.TheVariants.{Run, Clock, Check, Graph, Replay, Accept, Demo}
+use Rattle.ds_cmd.specs.declared.job.Job.TheVariants.{Run, Clock, Check, Graph, Replay, Accept}
+use Rattle.ds_cmd.specs.declared.job.Job.TheVariants.{Demo, Period}
+use Rattle.ds_outside.specs.declared.files.Which.{Which}
 use Rattle.ds_app.specs.Job.{stages_of}
 use Rattle.ds_cmd.specs.Allowed.{AreAllowed}
 use Rattle.ds_stage.specs.Stage.{OfFile}
@@ -44,6 +46,20 @@ returns-in-Accept g c =
     let job : Accept c.as_str-in-Accept.result.now c.as_str-in-Accept-2.result.now c.in-Accept.clusters ≡ c.args.job.now = cc in
     subst (λ (j : Job). Ends (stages_of (g.F.Files.held c.args.files.now) j) (RoseIn (g.F.Files.faults c.args.files.now) (g.F.Files.faults c.accept.new.files))
     (record { old = g.O.Sink.written c.args.out.now; new = g.O.Sink.written c.accept.new.out; before = g.O.Sink.faults c.args.out.now; now = g.O.Sink.faults c.accept.new.out }) c.accept.result) job c.accept.ensures
+
+pub returns-in-Period : goal.returns-in-Period
+returns-in-Period g c =
+    let job : Period c.as_str-in-Period.result.now c.as_str-in-Period-2.result.now
+    c.in-Period.clusters ≡ c.args.job.now = cc in
+    let out : Output = (record {
+      old = g.O.Sink.written c.args.out.now;
+      new = g.O.Sink.written c.period.new.out;
+      before = g.O.Sink.faults c.args.out.now;
+      now = g.O.Sink.faults c.period.new.out;
+    }) in
+    let now : Which → List ℕ → ℕ = g.F.Files.faults c.period.new.files in
+    subst (λ (j : Job). Ends (stages_of (g.F.Files.held c.args.files.now) j)
+    (RoseIn (g.F.Files.faults c.args.files.now) now) out c.period.result) job c.period.ensures
 
 pub run-requires-after_bounds : goal.run-requires-after_bounds
 run-requires-after_bounds g c _ _ =

@@ -11,4 +11,5 @@ returns c =
     let four = c.with-commands-4.ensures _ _ three c.command-4.ensures in
     let five = c.with-commands-5.ensures _ _ four c.command-5.ensures in
     let six = c.with-commands-6.ensures _ _ five c.command-6.ensures in
-    c.with.ensures _ _ six c.command-7.ensures
+    let seven = c.with-commands-7.ensures _ _ six c.command-7.ensures in
+    c.with.ensures _ _ seven c.command-8.ensures

@@ -1,0 +1,45 @@
+//! The command `period`.
+ghost use Rattle.std.specs.Prelude.{◌≡◌, IfOk};
+ghost use Rattle.clap.specs.Words.{shape_of, found_of, rows_of};
+ghost use Rattle.ds_cmd.specs.Fault.{Gives};
+ghost use Rattle.ds_cmd.specs.Period.{period_job, period_shape};
+
+use crate::argument::{option, text, word};
+use crate::clusters::clusters;
+use crate::subcommand::subcommand;
+use crate::{FileName, Job, UsageFault};
+use clap::{ArgMatches, Command};
+use ds_base::OutOfMemory;
+use std::alloc::Global;
+
+/// `period NET D [--clusters MODE]`, as a subcommand.
+pub fn command<'a>(alloc: Global) -> Result<Command<'a>, OutOfMemory>
+    ensures { IfOk result (λ c. shape_of c ≡ period_shape) }
+{
+    let args = vec![in alloc;
+        word(alloc, "net"),
+        word(alloc, "delays"),
+        option(alloc, "clusters"),
+    ]?;
+    subcommand(alloc, "period", args)
+}
+
+/// The job of the values behind `period`.
+pub fn job(alloc: Global, values: &ArgMatches<'_>) -> Result<Job, UsageFault>
+    ensures { Gives (period_job (rows_of (found_of values.now))) result }
+{
+    let Some(net) = text(values, "net") else {
+        return Err(UsageFault::Line);
+    };
+    let Some(delays) = text(values, "delays") else {
+        return Err(UsageFault::Line);
+    };
+    let Some(clusters) = clusters(values) else {
+        return Err(UsageFault::Mode);
+    };
+    Ok(Job::Period {
+        net: FileName::new(alloc, net)?,
+        delays: FileName::new(alloc, delays)?,
+        clusters,
+    })
+}

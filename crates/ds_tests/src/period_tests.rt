@@ -1,0 +1,181 @@
+//! The exact period of a controller graph, and the faults of delays.
+use crate::script::play;
+use crate::trial::{TOGGLE, Wanted, gives, printed};
+use ds_base::OutOfMemory;
+use ds_outside::OpenGate;
+use std::alloc::{AllocError, Global};
+use std::test::Fail;
+
+// Two registers in a ring, and a toggle, each with delays; a comment and a joined line among them.
+const PERIODS: &str = "%rr
+.model rr
+.outputs q1
+.latch q1 q0 re clk 0
+.latch q0 q1 re clk 1
+.end
+%d
+M0+ S0+ 4
+S0+ M1+ 7
+M1+ S1+ 5
+S1+ M0+ 5
+%$ desync period rr d
+%$ desync period rr d --clusters each
+%= 0
+period 21/2
+cycle M0+ S0+ M1+ S1+
+potential IN+ 0
+potential IN- 0
+potential OUT+ 0
+potential OUT- 0
+potential M0+ 0
+potential M0- 0
+potential S0+ 8
+potential S0- 8
+potential M1+ 1
+potential M1- 1
+potential S1+ 11
+potential S1- 11
+%d
+# The first order.
+M0+ S0+ 3
+
+S0+ \\
+M0+ 0000000004
+M0+ M0- 2 # the third
+%$ desync period toggle d
+%= 0
+period 7/1
+cycle M0+ S0+
+potential IN+ 0
+potential IN- 0
+potential OUT+ 0
+potential OUT- 0
+potential M0+ 0
+potential M0- 2
+potential S0+ 3
+potential S0- 3
+%d
+IN+ IN- 4294967295
+IN- IN+ 4294967295
+%$ desync period toggle d
+%= 0
+period 8589934590/1
+cycle IN+ IN-
+potential IN+ 0
+potential IN- 4294967295
+potential OUT+ 0
+potential OUT- 0
+potential M0+ 0
+potential M0- 0
+potential S0+ 0
+potential S0- 0
+";
+
+#[test]
+fn periods_are_exact(rt: HostRuntime) -> Result<(), OutOfMemory> {
+    play(&rt, PERIODS, 4)
+}
+
+// Lines that give no delays, with the text of the first fault. Each is the second line of the file.
+const FAULTS: &str = "M0+ S0+|bad word
+M0+ S0+ 4 5|bad word
+M0+ S0+ 4294967296|bad word
+M0+ S0+ 00000000001|bad word
+M0+ S0+ +1|bad word
+M0+ S0+ x|bad word
+M0+ S1+ x|bad word
+M0+ S1+ 4|unknown order M0+ to S1+
+X+ S0+ 1|unknown order X+ to S0+
+M0+ M0+ 1|unknown order M0+ to M0+
+S0+ S0 1|unknown order S0+ to S0
+IN+ IN- 2|repeated order IN+ to IN-
+IN+ IN- 4294967296|bad word
+";
+
+#[test]
+fn faults_of_delays_are_named(rt: HostRuntime) -> Result<(), Fail> {
+    for case in FAULTS.lines() {
+        let (line, want) = case.split_once("|").unwrap_or((case, ""));
+        let delays = format!(in rt.alloc(); "IN+ IN- 1\n{line}\nX\n")?;
+        let text = format!(in rt.alloc(); "d:2: {want}\n")?;
+        let wanted = Wanted {
+            status: 1,
+            text: text.as_str(),
+        };
+        let all = [("n", TOGGLE), ("d", delays.as_str())];
+        assert!(rt; gives(&rt, &all, "desync period n d", wanted)?, "{case}");
+    }
+    Ok(())
+}
+
+// What comes before the delays, and words that are no command line.
+const OTHERS: &str = "%d
+x
+%n
+.model n
+.names y
+.names y
+.end
+%$ desync period n d
+%= 1
+n: net y driven twice: table at 2 and table at 3
+%n
+.model n
+.latch y y re clk
+.outputs y z
+.end
+%$ desync period n d
+%= 1
+n: undriven net z
+%$ desync period toggle none
+%= 3
+desync: cannot read none
+%$ desync period toggle
+%$ desync period toggle d d
+%$ desync period toggle d --graph d
+%$ desync period toggle d --clusters two
+%= 2
+desync: bad command line
+";
+
+#[test]
+fn what_comes_before_the_delays_is_named_first(rt: HostRuntime) -> Result<(), OutOfMemory> {
+    play(&rt, OTHERS, 7)
+}
+
+// So many bytes of a comment.
+fn comment(alloc: Global, bytes: usize) -> Result<String, AllocError> {
+    let mut text = String::from_str(alloc, "#")?;
+    for _ in 1..bytes {
+        text.push_str(".")?;
+    }
+    Ok(text)
+}
+
+#[test]
+fn delays_are_too_long_past_their_limit(rt: HostRuntime) -> Result<(), Fail> {
+    let text = comment(rt.alloc(), 16_777_217)?;
+    let wanted = Wanted {
+        status: 1,
+        text: "d: too long (limit 16777216)\n",
+    };
+    let all = [("n", TOGGLE), ("d", text.as_str())];
+    assert!(rt; gives(&rt, &all, "desync period n d", wanted)?);
+    Ok(())
+}
+
+// Delays that are none, or all 0: which cycle is shown is free.
+#[test]
+fn without_delays_the_period_is_0(rt: HostRuntime) -> Result<(), Fail> {
+    for delays in ["", "IN+ IN- 0\n"] {
+        let all = [("n", TOGGLE), ("d", delays)];
+        let text = printed(&rt, &all, "desync period n d", &OpenGate);
+        let text = text.as_ref().map_or("", |text| text.as_str());
+        let zeros = text.lines().filter(|line| line.ends_with(" 0")).count();
+        assert!(rt;
+            text.starts_with("period 0/1\ncycle ") && zeros == 8,
+            "{text}"
+        );
+    }
+    Ok(())
+}
