@@ -15,20 +15,20 @@ use std::alloc::Global;
 /// The words of the table, and where the rows of each node begin.
 pub fn lay<J: Rows, C: Compute>(
     alloc: Global,
-    graph: &Layout<J>,
-    cones: &C,
+    run: &Layout<J>,
+    openings: &C,
 ) -> Result<(Vec<u64>, Vec<usize>), OutOfMemory>
-    requires sound { IsSound graph.now }
-    requires cones { C.run cones.now ≡ graph.now }
-    ensures { IfOk result (λ r. LaidBelow graph.now graph.now.nodes r.0.items r.1.items) }
+    requires sound { IsSound run.now }
+    requires openings { C.run openings.now ≡ run.now }
+    ensures { IfOk result (λ r. LaidBelow run.now run.now.nodes r.0.items r.1.items) }
 {
-    let mut words = zero_words(alloc, graph.nodes() + 1)?;
+    let mut words = zero_words(alloc, run.nodes() + 1)?;
     let mut starts = Vec::new(alloc);
-    for node in 0..graph.nodes() {
-        let width = graph.width(node);
+    for node in 0..run.nodes() {
+        let width = run.width(node);
         starts.push(words.len())?;
-        first_row(cones, node, width, &mut words)?;
-        pad(&mut words, graph.slack() * width)?;
+        first_row(openings, node, width, &mut words)?;
+        pad(&mut words, run.slack() * width)?;
     }
     Ok((words, starts))
 }
@@ -42,17 +42,17 @@ fn zero_words(alloc: Global, count: usize) -> Result<Vec<u64>, OutOfMemory>
 
 // The row that a node has before it opens.
 fn first_row<C: Compute>(
-    cones: &C,
+    openings: &C,
     node: usize,
     count: usize,
     words: &mut Vec<u64>,
 ) -> Result<(), OutOfMemory>
-    requires near { (node < (C.run cones.now).nodes) × (node < 4294967296) }
-    requires count { count ≡ width (C.run cones.now) node }
-    ensures { OnOk result (words.new.items ≡ words.old.items ++ row (C.run cones.now) node 0) }
+    requires near { (node < (C.run openings.now).nodes) × (node < 4294967296) }
+    requires count { count ≡ width (C.run openings.now) node }
+    ensures { OnOk result (words.new.items ≡ words.old.items ++ row (C.run openings.now) node 0) }
 {
     for i in 0..count {
-        words.push(cones.first(LatchId::new(node as u32), i))?;
+        words.push(openings.first(LatchId::new(node as u32), i))?;
     }
     Ok(())
 }
@@ -68,31 +68,31 @@ fn pad(words: &mut Vec<u64>, count: usize) -> Result<(), OutOfMemory>
 }
 
 /// The histories of all nodes.
-pub fn histories<J: Rows>(alloc: Global, graph: &Layout<J>) -> Result<Vec<History>, OutOfMemory>
-    requires { IsSound graph.now }
-    ensures blank { IfOk result (λ v. Blank graph.now graph.now.nodes v.items) }
-    ensures room { IfOk result (λ v. graph.now.nodes ≤ vec_capacity v) }
+pub fn histories<J: Rows>(alloc: Global, run: &Layout<J>) -> Result<Vec<History>, OutOfMemory>
+    requires { IsSound run.now }
+    ensures blank { IfOk result (λ v. Blank run.now run.now.nodes v.items) }
+    ensures room { IfOk result (λ v. run.now.nodes ≤ vec_capacity v) }
 {
-    let reads = reads(alloc, graph)?;
-    let mut items = Vec::with_capacity(alloc, graph.nodes())?;
-    for node in 0..graph.nodes() {
-        items.push(history_of(alloc, graph, node, reads[node])?)?;
+    let reads = reads(alloc, run)?;
+    let mut items = Vec::with_capacity(alloc, run.nodes())?;
+    for node in 0..run.nodes() {
+        items.push(history_of(alloc, run, node, reads[node])?)?;
     }
     Ok(items)
 }
 
 // How many value words each node reads.
-fn reads<J: Rows>(alloc: Global, graph: &Layout<J>) -> Result<Vec<usize>, OutOfMemory>
-    requires { IsSound graph.now }
-    ensures { IfOk result (λ v. (length v.items ≡ graph.now.nodes) × ((l : ℕ)
-        → l < graph.now.nodes
-        → slice_index v.items l ≡ read_words graph.now l (length graph.now.edges))) }
+fn reads<J: Rows>(alloc: Global, run: &Layout<J>) -> Result<Vec<usize>, OutOfMemory>
+    requires { IsSound run.now }
+    ensures { IfOk result (λ v. (length v.items ≡ run.now.nodes) × ((l : ℕ)
+        → l < run.now.nodes
+        → slice_index v.items l ≡ read_words run.now l (length run.now.edges))) }
 {
-    let mut totals = zeros(alloc, graph.nodes())?;
-    let edges = graph.edges();
+    let mut totals = zeros(alloc, run.nodes())?;
+    let edges = run.edges();
     for i in 0..edges.len() {
         let edge = edges[i];
-        totals[edge.consumer.index()] += graph.width(edge.producer.index());
+        totals[edge.consumer.index()] += run.width(edge.producer.index());
     }
     Ok(totals)
 }
@@ -100,19 +100,19 @@ fn reads<J: Rows>(alloc: Global, graph: &Layout<J>) -> Result<Vec<usize>, OutOfM
 // A history with room for all firings of its node.
 fn history_of<J: Rows>(
     alloc: Global,
-    graph: &Layout<J>,
+    run: &Layout<J>,
     node: usize,
     reads: usize,
 ) -> Result<History, OutOfMemory>
-    requires sound { IsSound graph.now }
-    requires near { node < graph.now.nodes }
-    requires reads { reads ≡ read_words graph.now node (length graph.now.edges) }
-    ensures { IfOk result (λ h. IsBlank graph.now node h) }
+    requires sound { IsSound run.now }
+    requires near { node < run.now.nodes }
+    requires reads { reads ≡ read_words run.now node (length run.now.edges) }
+    ensures { IfOk result (λ h. IsBlank run.now node h) }
 {
-    let turns = graph.limit() as usize;
+    let turns = run.limit() as usize;
     let first = Vec::with_capacity(alloc, turns)?;
     let second = Vec::with_capacity(alloc, turns)?;
-    let rows = Vec::with_capacity(alloc, turns * graph.width(node))?;
+    let rows = Vec::with_capacity(alloc, turns * run.width(node))?;
     let from = Vec::with_capacity(alloc, reads)?;
     Ok(History {
         node,

@@ -18,14 +18,14 @@ pub struct Chains {
 
 impl Chains {
     /// The chains of all arcs.
-    pub fn of<J: Rows>(alloc: Global, graph: &Layout<J>) -> Result<Chains, OutOfMemory>
-        requires { IsSound graph.now }
+    pub fn of<J: Rows>(alloc: Global, run: &Layout<J>) -> Result<Chains, OutOfMemory>
+        requires { IsSound run.now }
         ensures { IfOk result (λ c.
-            AreChained graph.now c) }
+            AreChained run.now c) }
     {
-        let mut heads = zeros(alloc, graph.nodes() + graph.latches())?;
+        let mut heads = zeros(alloc, run.nodes() + run.latches())?;
         let mut links = Vec::new(alloc);
-        let arcs = graph.arcs();
+        let arcs = run.arcs();
         for i in 0..arcs.len() {
             let target = arcs[i].target.index();
             links.push(heads[target])?;

@@ -16,13 +16,13 @@ pub type Board<J> = Shared<u8, View, Layout<J>, Order>;
 /// Loads the count of a node.
 pub fn look<J: Rows>(
     board: &Board<J>,
-    graph: &Layout<J>,
+    run: &Layout<J>,
     seat: &mut Seat<u8, View>,
     node: usize,
 ) -> u64
     requires table { (seat.old.table_id ≡ board.now.table_id)
-        × IsOver board.now.table_id board.now.key graph.now }
-    requires near { node < graph.now.nodes }
+        × IsOver board.now.table_id board.now.key run.now }
+    requires near { node < run.now.nodes }
     requires rests { (seat.old.me.0.live ≡ true) × (seat.old.me.0.stage ≡ 0) }
 
     ensures table { seat.new.table_id ≡ seat.old.table_id }
@@ -37,23 +37,23 @@ pub fn look<J: Rows>(
 /// so often. A hint: it tells nothing, as the counts may have risen since.
 pub fn seems_enough<J: Rows>(
     board: &Board<J>,
-    graph: &Layout<J>,
+    run: &Layout<J>,
     chains: &Chains,
     event: usize,
     before: u64,
 ) -> bool
-    requires table { IsOver board.now.table_id board.now.key graph.now }
-    requires chains { AreChained graph.now chains.now }
-    requires near { event < events graph.now }
+    requires table { IsOver board.now.table_id board.now.key run.now }
+    requires chains { AreChained run.now chains.now }
+    requires near { event < events run.now }
 {
-    let arcs = graph.arcs();
+    let arcs = run.arcs();
     let mut at = chains.heads[event];
     for i in 0..arcs.len() {
         if at == 0 {
             return true;
         }
         let source = arcs[at - 1].source.index();
-        let seen = graph.turns(source, board.peek(graph.node_of(source) + 1));
+        let seen = run.turns(source, board.peek(run.node_of(source) + 1));
         if seen <= before && arcs[at - 1].tokens as u64 <= before - seen {
             return false;
         }
@@ -65,34 +65,34 @@ pub fn seems_enough<J: Rows>(
 /// Loads the counts of the event's sources, from the last arc on, up to the first that is too small.
 pub fn survey<J: Rows>(
     board: &Board<J>,
-    graph: &Layout<J>,
+    run: &Layout<J>,
     chains: &Chains,
     seat: &mut Seat<u8, View>,
     event: usize,
     turn: u64,
 ) -> Option<(usize, u64)>
     requires table { (seat.old.table_id ≡ board.now.table_id)
-        × IsOver board.now.table_id board.now.key graph.now }
-    requires chains { AreChained graph.now chains.now }
+        × IsOver board.now.table_id board.now.key run.now }
+    requires chains { AreChained run.now chains.now }
     requires rests { (seat.old.me.0.live ≡ true) × (seat.old.me.0.stage ≡ 0)
-        × (length seat.old.me.0.seen ≡ graph.now.nodes) }
-    requires few { (turn < 9223372036854775808) × (event < events graph.now) }
+        × (length seat.old.me.0.seen ≡ run.now.nodes) }
+    requires few { (turn < 9223372036854775808) × (event < events run.now) }
 
     ensures table { (seat.new.table_id ≡ seat.old.table_id) × (seat.new.me.1 ≡ seat.old.me.1) }
     ensures looks { LooksOn seat.old.me.0 seat.new.me.0 }
-    ensures none { IfNone result (Enough graph.now seat.new.me.0 event turn) }
+    ensures none { IfNone result (Enough run.now seat.new.me.0 event turn) }
     ensures some { IfSome result (λ r.
-        Lacks graph.now seat.old.me.0 seat.new.me.0 event turn r.0 r.1) }
+        Lacks run.now seat.old.me.0 seat.new.me.0 event turn r.0 r.1) }
 {
-    let arcs = graph.arcs();
+    let arcs = run.arcs();
     let mut at = chains.heads[event];
     for i in 0..arcs.len() {
         if at == 0 {
             return None;
         }
         let source = arcs[at - 1].source.index();
-        let fired = look(board, graph, seat, graph.node_of(source));
-        let seen = graph.turns(source, fired);
+        let fired = look(board, run, seat, run.node_of(source));
+        let seen = run.turns(source, fired);
         if lacks(seen, arcs[at - 1].tokens, turn) {
             return Some((at - 1, seen));
         }

@@ -27,8 +27,8 @@ use std::snapshot::Snapshot;
 /// The shared table of a run.
 #[derive(Drop)]
 pub struct Fabric<'a, J: Rows, C: Compute> {
-    pub(crate) graph: &'a Layout<J>,
-    pub(crate) cones: &'a C,
+    pub(crate) run: &'a Layout<J>,
+    pub(crate) openings: &'a C,
     pub(crate) chains: Chains,
     pub(crate) index: Index,
     pub(crate) table: Table<u8, View, Layout<J>, Order, Global>,
@@ -43,38 +43,38 @@ impl<'a, J: Rows, C: Compute> Model for Fabric<'a, J, C> {
 
     ghost view = { λ f. record {
       table_id = f.table.shared.table_id;
-      run = f.graph.now;
-      nets = C.scratch f.cones.now;
+      run = f.run.now;
+      nets = C.scratch f.openings.now;
     } };
 
-    ghost invariant = { λ f. IsBuilt f.table.shared.table_id f.table.shared.key f.graph.now f.index
-        × (C.run f.cones.now ≡ f.graph.now)
-        × AreChained f.graph.now f.chains };
+    ghost invariant = { λ f. IsBuilt f.table.shared.table_id f.table.shared.key f.run.now f.index
+        × (C.run f.openings.now ≡ f.run.now)
+        × AreChained f.run.now f.chains };
 }
 
 impl<'a, J: Rows, C: Compute> Fabric<'a, J, C> {
     /// The shared table of a run in which nothing has fired, and the pass that holds all nodes.
     pub fn build(
         alloc: Global,
-        graph: &'a Layout<J>,
-        cones: &'a C,
+        run: &'a Layout<J>,
+        openings: &'a C,
     ) -> Result<(Fabric<'a, J, C>, Pass), OutOfMemory>
-        requires sound { IsSound graph.now }
-        requires cones { C.run cones.now ≡ graph.now }
-        ensures { IfOk result (λ r. IsBegun graph.now r.0 r.1) }
+        requires sound { IsSound run.now }
+        requires openings { C.run openings.now ≡ run.now }
+        ensures { IfOk result (λ r. IsBegun run.now r.0 r.1) }
     {
-        let (words, starts) = lay(alloc, graph, cones)?;
-        let firsts = firsts(alloc, graph)?;
+        let (words, starts) = lay(alloc, run, openings)?;
+        let firsts = firsts(alloc, run)?;
         let index = Index { starts, firsts };
-        let chains = Chains::of(alloc, graph)?;
-        let nodes = histories(alloc, graph)?;
-        let places = numbered(alloc, graph.nodes())?;
-        let nets = Row3::with_len(alloc, cones.nets())?;
-        let (table, seat) = Table::of_words(alloc, words.as_slice(), graph)?;
-        let room = graph.nodes() as u32;
+        let chains = Chains::of(alloc, run)?;
+        let nodes = histories(alloc, run)?;
+        let places = numbered(alloc, run.nodes())?;
+        let nets = Row3::with_len(alloc, openings.nets())?;
+        let (table, seat) = Table::of_words(alloc, words.as_slice(), run)?;
+        let room = run.nodes() as u32;
         let fabric = Fabric {
-            graph,
-            cones,
+            run,
+            openings,
             chains,
             index,
             table,
@@ -103,8 +103,8 @@ impl<'a, J: Rows, C: Compute> Fabric<'a, J, C> {
         let at = find(nodes, pass.places.as_slice(), number);
         advance(
             &self.table.shared,
-            self.graph,
-            self.cones,
+            self.run,
+            self.openings,
             &self.chains,
             &self.index,
             &mut pass.seat,
@@ -124,12 +124,12 @@ impl<'a, J: Rows, C: Compute> Fabric<'a, J, C> {
         let nodes = pass.nodes.as_slice();
         let at = find(nodes, pass.places.as_slice(), number);
         let fired = pass.nodes[at].fired;
-        let event = self.graph.next(number, fired);
-        let before = self.graph.turns(event, fired);
-        if before >= self.graph.limit() {
+        let event = self.run.next(number, fired);
+        let before = self.run.turns(event, fired);
+        if before >= self.run.limit() {
             return false;
         }
-        seems_enough(&self.table.shared, self.graph, &self.chains, event, before)
+        seems_enough(&self.table.shared, self.run, &self.chains, event, before)
     }
 
     /// The node goes to a new pass, which has seen what the old one had seen.
@@ -152,9 +152,9 @@ impl<'a, J: Rows, C: Compute> Fabric<'a, J, C> {
         let held = pass.nodes.as_slice();
         let at = find(held, pass.places.as_slice(), number);
         let mut nodes = Vec::with_capacity(alloc, room as usize)?;
-        let places = alone(alloc, self.graph.nodes(), number, room)?;
-        let nets = Row3::with_len(alloc, self.cones.nets())?;
-        let seat = cut(&self.table.shared, self.graph, &mut pass.seat, number);
+        let places = alone(alloc, self.run.nodes(), number, room)?;
+        let nets = Row3::with_len(alloc, self.openings.nets())?;
+        let seat = cut(&self.table.shared, self.run, &mut pass.seat, number);
         let history = take_out(&mut pass.nodes, &mut pass.places, at);
         nodes.push_reserved(history);
         Ok(Pass {
@@ -184,7 +184,7 @@ impl<'a, J: Rows, C: Compute> Fabric<'a, J, C> {
             nets: _,
             room: _,
         } = other;
-        mend(&self.table.shared, self.graph, &mut pass.seat, seat);
+        mend(&self.table.shared, self.run, &mut pass.seat, seat);
         let first = pass.nodes.len();
         let Ok(()) = pass.nodes.append(&mut nodes) else {
             unreachable!()
@@ -204,8 +204,8 @@ impl<'a, J: Rows, C: Compute> Fabric<'a, J, C> {
     {
         let shown = Snapshot::of(&pass);
         let Fabric {
-            graph,
-            cones: _,
+            run,
+            openings: _,
             chains: _,
             index: _,
             table,
@@ -217,11 +217,11 @@ impl<'a, J: Rows, C: Compute> Fabric<'a, J, C> {
             nets: _,
             room: _,
         } = pass;
-        let many = shut(table, graph, seat);
+        let many = shut(table, run, seat);
         Record {
             nodes,
             places,
-            latches: graph.latches(),
+            latches: run.latches(),
             many,
             shown,
         }

@@ -28,8 +28,8 @@ use ds_rule::{Depart, Draw, Layout, Publish, Rows, View};
 /// Fires the next event of the history's node, if what its sources show is enough.
 pub fn advance<J: Rows, C: Compute>(
     board: &Board<J>,
-    graph: &Layout<J>,
-    cones: &C,
+    run: &Layout<J>,
+    openings: &C,
     chains: &Chains,
     index: &Index,
     seat: &mut Seat<u8, View>,
@@ -37,15 +37,15 @@ pub fn advance<J: Rows, C: Compute>(
     nets: &mut Row3,
 ) -> Step
     requires table { (seat.old.table_id ≡ board.now.table_id)
-        × IsBuilt board.now.table_id board.now.key graph.now index.now }
-    requires chains { AreChained graph.now chains.now }
-    requires cones { (C.run cones.now ≡ graph.now) × (length nets.old ≡ C.scratch cones.now) }
-    requires run { seat.old.me.0.run ≡ graph.now }
+        × IsBuilt board.now.table_id board.now.key run.now index.now }
+    requires chains { AreChained run.now chains.now }
+    requires openings { (C.run openings.now ≡ run.now) × (length nets.old ≡ C.scratch openings.now) }
+    requires run { seat.old.me.0.run ≡ run.now }
     requires keeps { (nodes : List History) × (i : ℕ) × Keeps seat.old.me nodes
         × (get_elem? nodes i ≡ some history.old) }
 
     ensures table { seat.new.table_id ≡ seat.old.table_id }
-    ensures step { Stepped graph.now seat.old.me.0 history.old.node result seat.new.me.0 }
+    ensures step { Stepped run.now seat.old.me.0 history.old.node result seat.new.me.0 }
     ensures keeps { (nodes : List History) (i : ℕ) → Keeps seat.old.me nodes
         → get_elem? nodes i ≡ some history.old → Keeps seat.new.me (slice_set nodes i history.new) }
     ensures node { history.new.node ≡ history.old.node }
@@ -53,17 +53,17 @@ pub fn advance<J: Rows, C: Compute>(
         × (seat.new.me.0.holds ≡ seat.old.me.0.holds) × (length nets.new ≡ length nets.old) }
 {
     let fired = history.fired;
-    let event = graph.next(history.node, fired);
-    let before = graph.turns(event, fired);
-    if before >= graph.limit() {
+    let event = run.next(history.node, fired);
+    let before = run.turns(event, fired);
+    if before >= run.limit() {
         return Step::Done;
     }
     let turn = before + 1;
-    if let Some((arc, seen)) = survey(board, graph, chains, seat, event, turn) {
+    if let Some((arc, seen)) = survey(board, run, chains, seat, event, turn) {
         let arc = ArcId::new(arc as u32);
         return Step::NotYet { arc, seen };
     }
-    let ticket = fire(board, graph, cones, index, seat, history, nets);
+    let ticket = fire(board, run, openings, index, seat, history, nets);
     let event = EventId::new(event as u32);
     Step::Fired {
         event,
@@ -75,28 +75,28 @@ pub fn advance<J: Rows, C: Compute>(
 // Fires the next event of the node: what was seen is enough for it.
 fn fire<J: Rows, C: Compute>(
     board: &Board<J>,
-    graph: &Layout<J>,
-    cones: &C,
+    run: &Layout<J>,
+    openings: &C,
     index: &Index,
     seat: &mut Seat<u8, View>,
     history: &mut History,
     nets: &mut Row3,
 ) -> u64
     requires table { (seat.old.table_id ≡ board.now.table_id)
-        × IsBuilt board.now.table_id board.now.key graph.now index.now }
-    requires cones { (C.run cones.now ≡ graph.now) × (length nets.old ≡ C.scratch cones.now) }
+        × IsBuilt board.now.table_id board.now.key run.now index.now }
+    requires openings { (C.run openings.now ≡ run.now) × (length nets.old ≡ C.scratch openings.now) }
     requires rests { (seat.old.me.0.live ≡ true) × (seat.old.me.0.stage ≡ 0)
-        × (seat.old.me.0.run ≡ graph.now) }
+        × (seat.old.me.0.run ≡ run.now) }
     requires held { (holds seat.old.me.0 history.old.node ≡ true)
-        × (history.old.node < graph.now.nodes)
+        × (history.old.node < run.now.nodes)
         × (history.old.fired ≡ seen seat.old.me.0 history.old.node) }
-    requires ready { Enabled graph.now (seen seat.old.me.0)
-        (next graph.now history.old.node history.old.fired) }
+    requires ready { Enabled run.now (seen seat.old.me.0)
+        (next run.now history.old.node history.old.fired) }
     requires rows { history.old.rows.items
-        ≡ rows_to graph.now history.old.node (opened graph.now history.old.node history.old.fired) }
-    requires room { opens graph.now (next graph.now history.old.node history.old.fired) ≡ true
-        → HasRoomFor graph.now history.old }
-    requires note { HasRoomToNote graph.now history.old }
+        ≡ rows_to run.now history.old.node (opened run.now history.old.node history.old.fired) }
+    requires room { opens run.now (next run.now history.old.node history.old.fired) ≡ true
+        → HasRoomFor run.now history.old }
+    requires note { HasRoomToNote run.now history.old }
 
     ensures table { (seat.new.table_id ≡ seat.old.table_id) × (seat.new.id ≡ seat.old.id) }
     ensures me { seat.new.me
@@ -105,62 +105,62 @@ fn fire<J: Rows, C: Compute>(
           seat.old.me.1,
         ) }
     ensures fresh { seat.old.me.0.drawn ≤ result }
-    ensures noted { HasFired graph.now history.old history.new result }
+    ensures noted { HasFired run.now history.old history.new result }
     ensures nets { length nets.new ≡ length nets.old }
 {
     let word = history.node + 1;
     board.load::<Depart>(seat, word);
-    prepare(board, graph, cones, index, seat, history, nets);
+    prepare(board, run, openings, index, seat, history, nets);
     let ticket = board.fetch_add::<Draw>(seat, 0, 1);
     board.store::<Publish>(seat, word, history.fired + 1);
-    history.note(graph, ticket);
+    history.note(run, ticket);
     ticket
 }
 
 // Gives the node's next value, where its next event is an opening.
 fn prepare<J: Rows, C: Compute>(
     board: &Board<J>,
-    graph: &Layout<J>,
-    cones: &C,
+    run: &Layout<J>,
+    openings: &C,
     index: &Index,
     seat: &mut Seat<u8, View>,
     history: &mut History,
     nets: &mut Row3,
 )
     requires table { (seat.old.table_id ≡ board.now.table_id)
-        × IsBuilt board.now.table_id board.now.key graph.now index.now }
-    requires cones { (C.run cones.now ≡ graph.now) × (length nets.old ≡ C.scratch cones.now) }
-    requires flight { IsAway graph.now seat.old.me.0 history.old.node
+        × IsBuilt board.now.table_id board.now.key run.now index.now }
+    requires openings { (C.run openings.now ≡ run.now) × (length nets.old ≡ C.scratch openings.now) }
+    requires flight { IsAway run.now seat.old.me.0 history.old.node
         × (history.old.fired ≡ seen seat.old.me.0 history.old.node)
-        × (history.old.node < graph.now.nodes) }
-    requires ready { Enabled graph.now (seen seat.old.me.0)
-        (next graph.now history.old.node history.old.fired) }
+        × (history.old.node < run.now.nodes) }
+    requires ready { Enabled run.now (seen seat.old.me.0)
+        (next run.now history.old.node history.old.fired) }
     requires rows { history.old.rows.items
-        ≡ rows_to graph.now history.old.node (opened graph.now history.old.node history.old.fired) }
-    requires room { opens graph.now (next graph.now history.old.node history.old.fired) ≡ true
-        → HasRoomFor graph.now history.old }
+        ≡ rows_to run.now history.old.node (opened run.now history.old.node history.old.fired) }
+    requires room { opens run.now (next run.now history.old.node history.old.fired) ≡ true
+        → HasRoomFor run.now history.old }
 
     ensures seat { (seat.new.table_id ≡ seat.old.table_id) × (seat.new.id ≡ seat.old.id) }
     ensures me { (n : ℕ) × (seat.new.me ≡ (record seat.old.me.0 { written = n }, seat.old.me.1))
-        × (opens graph.now (next graph.now history.old.node history.old.fired) ≡ true
-        → width graph.now history.old.node ≤ n) }
+        × (opens run.now (next run.now history.old.node history.old.fired) ≡ true
+        → width run.now history.old.node ≤ n) }
     ensures rows { history.new.rows.items
-        ≡ rows_to graph.now history.old.node
-        (opened graph.now history.old.node (history.old.fired + 1)) }
+        ≡ rows_to run.now history.old.node
+        (opened run.now history.old.node (history.old.fired + 1)) }
     ensures same { HasOpened history.old history.new }
     ensures nets { length nets.new ≡ length nets.old }
 {
-    if graph.opens_next(history.node, history.fired) {
+    if run.opens_next(history.node, history.fired) {
         let turn = history.fired / 2 + 1;
-        open_row(board, graph, cones, index, seat, history, nets, turn);
+        open_row(board, run, openings, index, seat, history, nets, turn);
     }
 }
 
 // Reads, computes and writes the row of the opening.
 fn open_row<J: Rows, C: Compute>(
     board: &Board<J>,
-    graph: &Layout<J>,
-    cones: &C,
+    run: &Layout<J>,
+    openings: &C,
     index: &Index,
     seat: &mut Seat<u8, View>,
     history: &mut History,
@@ -168,34 +168,34 @@ fn open_row<J: Rows, C: Compute>(
     turn: u64,
 )
     requires table { (seat.old.table_id ≡ board.now.table_id)
-        × IsBuilt board.now.table_id board.now.key graph.now index.now }
-    requires cones { (C.run cones.now ≡ graph.now) × (length nets.old ≡ C.scratch cones.now) }
-    requires flight { IsOpening graph.now seat.old.me.0 history.old.node turn
-        × IsAway graph.now seat.old.me.0 history.old.node }
-    requires within { (history.old.node < graph.now.latches) × (turn ≤ graph.now.limit) }
-    requires room { HasRoomFor graph.now history.old }
+        × IsBuilt board.now.table_id board.now.key run.now index.now }
+    requires openings { (C.run openings.now ≡ run.now) × (length nets.old ≡ C.scratch openings.now) }
+    requires flight { IsOpening run.now seat.old.me.0 history.old.node turn
+        × IsAway run.now seat.old.me.0 history.old.node }
+    requires within { (history.old.node < run.now.latches) × (turn ≤ run.now.limit) }
+    requires room { HasRoomFor run.now history.old }
 
     ensures seat { (seat.new.table_id ≡ seat.old.table_id) × (seat.new.id ≡ seat.old.id) }
     ensures me { seat.new.me
-        ≡ (record seat.old.me.0 { written = width graph.now history.old.node }, seat.old.me.1) }
+        ≡ (record seat.old.me.0 { written = width run.now history.old.node }, seat.old.me.1) }
     ensures value { history.new.rows.items
-        ≡ history.old.rows.items ++ row graph.now history.old.node turn }
+        ≡ history.old.rows.items ++ row run.now history.old.node turn }
     ensures same { HasOpened history.old history.new }
     ensures nets { length nets.new ≡ length nets.old }
 {
     let node = history.node;
     history.from.clear();
-    read_rows(board, graph, index, seat, node, turn, &mut history.from);
+    read_rows(board, run, index, seat, node, turn, &mut history.from);
     let before = history.rows.len();
     let from = history.from.as_slice();
-    cones.compute(
+    openings.compute(
         LatchId::new(node as u32),
         turn,
         from,
         nets,
         &mut history.rows,
     );
-    let at = place_of(graph, index.starts.as_slice(), node, turn);
+    let at = place_of(run, index.starts.as_slice(), node, turn);
     let words = &history.rows.as_slice()[before..];
-    write_row(board, graph, seat, at, words, node, turn);
+    write_row(board, run, seat, at, words, node, turn);
 }

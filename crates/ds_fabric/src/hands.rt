@@ -14,12 +14,12 @@ use std::alloc::Global;
 /// Cuts the node off the seat.
 pub fn cut<J: Rows>(
     board: &Board<J>,
-    graph: &Layout<J>,
+    run: &Layout<J>,
     seat: &mut Seat<u8, View>,
     node: usize,
 ) -> Seat<u8, View>
     requires table { (seat.old.table_id ≡ board.now.table_id)
-        × IsOver board.now.table_id board.now.key graph.now }
+        × IsOver board.now.table_id board.now.key run.now }
     requires rests { (seat.old.me.0.live ≡ true) × (seat.old.me.0.stage ≡ 0) }
     requires held { holds seat.old.me.0 node ≡ true }
 
@@ -35,13 +35,13 @@ pub fn cut<J: Rows>(
 /// Puts two seats together.
 pub fn mend<J: Rows>(
     board: &Board<J>,
-    graph: &Layout<J>,
+    run: &Layout<J>,
     seat: &mut Seat<u8, View>,
     other: Seat<u8, View>,
 )
     requires table { (seat.old.table_id ≡ board.now.table_id)
         × (other.table_id ≡ board.now.table_id)
-        × IsOver board.now.table_id board.now.key graph.now }
+        × IsOver board.now.table_id board.now.key run.now }
     requires live { (seat.old.me.0.live ≡ true) × (other.me.0.live ≡ true) × (other.me.1 ≡ []) }
     requires rests { (seat.old.me.0.stage ≡ 0) × (other.me.0.stage ≡ 0) }
 
@@ -58,14 +58,14 @@ pub fn mend<J: Rows>(
 /// Ends the table, and answers how many tickets were drawn.
 pub fn shut<J: Rows>(
     table: Table<u8, View, Layout<J>, Order, Global>,
-    graph: &Layout<J>,
+    run: &Layout<J>,
     seat: Seat<u8, View>,
 ) -> u64
     requires table { (seat.table_id ≡ table.shared.table_id) × (table.shared.table_id.slots ≡ 0)
-        × IsOver table.shared.table_id table.shared.key graph.now }
+        × IsOver table.shared.table_id table.shared.key run.now }
     requires rests { (seat.me.0.live ≡ true) × (seat.me.0.stage ≡ 0) }
-    requires all { (l : ℕ) → l < graph.now.nodes → holds seat.me.0 l ≡ true }
-    ensures { Recorded graph.now (tickets seat.me.0) result }
+    requires all { (l : ℕ) → l < run.now.nodes → holds seat.me.0 l ≡ true }
+    ensures { Recorded run.now (tickets seat.me.0) result }
 {
     let closed = table.close_with(seat);
     let many = closed.word(0);

@@ -19,12 +19,12 @@ pub struct History {
 
 impl History {
     /// Keeps the ticket of the node's next event.
-    pub fn note<J: Rows>(&mut self, graph: &Layout<J>, ticket: u64)
+    pub fn note<J: Rows>(&mut self, run: &Layout<J>, ticket: u64)
         requires few { self.old.fired + 1 < 18446744073709551616 }
-        requires room { HasRoomToNote graph.now self.old }
-        ensures { HasNoted graph.now self.old self.new ticket }
+        requires room { HasRoomToNote run.now self.old }
+        ensures { HasNoted run.now self.old self.new ticket }
     {
-        if graph.closes_next(self.node, self.fired) {
+        if run.closes_next(self.node, self.fired) {
             self.second.push_reserved(ticket);
         } else {
             self.first.push_reserved(ticket);

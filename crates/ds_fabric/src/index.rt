@@ -24,27 +24,27 @@ pub fn zeros(alloc: Global, count: usize) -> Result<Vec<usize>, OutOfMemory>
 }
 
 /// The first edge of each node.
-pub fn firsts<J: Rows>(alloc: Global, graph: &Layout<J>) -> Result<Vec<usize>, OutOfMemory>
-    requires { IsSound graph.now }
-    ensures { IfOk result (λ v. AreFirsts graph.now v.items) }
+pub fn firsts<J: Rows>(alloc: Global, run: &Layout<J>) -> Result<Vec<usize>, OutOfMemory>
+    requires { IsSound run.now }
+    ensures { IfOk result (λ v. AreFirsts run.now v.items) }
 {
-    let edges = graph.edges();
+    let edges = run.edges();
     let mut firsts = Vec::new(alloc);
     let mut at = 0;
-    for node in 0..graph.nodes() + 1 {
-        at = skip(graph, edges, at, node);
+    for node in 0..run.nodes() + 1 {
+        at = skip(run, edges, at, node);
         firsts.push(at)?;
     }
     Ok(firsts)
 }
 
 // The first edge whose consumer is not below the node; those before `at` are passed.
-fn skip<J: Rows>(graph: &Layout<J>, edges: &[DataEdge], at: usize, node: usize) -> usize
-    requires sound { IsSound graph.now }
-    requires edges { edges.now ≡ graph.now.edges }
+fn skip<J: Rows>(run: &Layout<J>, edges: &[DataEdge], at: usize, node: usize) -> usize
+    requires sound { IsSound run.now }
+    requires edges { edges.now ≡ run.now.edges }
     requires passed { (at ≤ length edges.now) × ((k : ℕ) → k < at
-        → (edge_at graph.now k).consumer < node) }
-    ensures { IsFrom graph.now node result }
+        → (edge_at run.now k).consumer < node) }
+    ensures { IsFrom run.now node result }
 {
     for i in at..edges.len() {
         if edges[i].consumer.index() >= node {

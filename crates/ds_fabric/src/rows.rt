@@ -12,23 +12,23 @@ use atomic_table::Seat;
 use ds_rule::{DataEdge, Layout, Read, Rows, View, Write};
 
 /// Where the row of an opening stands.
-pub fn place_of<J: Rows>(graph: &Layout<J>, starts: &[usize], node: usize, turn: u64) -> usize
-    requires sound { IsSound graph.now × IsStarts graph.now starts.now }
-    requires near { node < graph.now.nodes }
-    ensures { result ≡ place graph.now node turn 0 }
+pub fn place_of<J: Rows>(run: &Layout<J>, starts: &[usize], node: usize, turn: u64) -> usize
+    requires sound { IsSound run.now × IsStarts run.now starts.now }
+    requires near { node < run.now.nodes }
+    ensures { result ≡ place run.now node turn 0 }
 {
-    let slack = graph.slack();
+    let slack = run.slack();
     if slack == 0 {
         return starts[node];
     }
     let turns = slack as u64 + 1;
-    starts[node] + (turn % turns) as usize * graph.width(node)
+    starts[node] + (turn % turns) as usize * run.width(node)
 }
 
 // Loads the row of a producer.
 fn read_row<J: Rows>(
     board: &Board<J>,
-    graph: &Layout<J>,
+    run: &Layout<J>,
     seat: &mut Seat<u8, View>,
     edge: DataEdge,
     at: usize,
@@ -37,20 +37,20 @@ fn read_row<J: Rows>(
     turn: u64,
 )
     requires table { (seat.old.table_id ≡ board.now.table_id)
-        × IsOver board.now.table_id board.now.key graph.now }
-    requires flight { IsOpening graph.now seat.old.me.0 node turn
-        × (seat.old.me.0.run ≡ graph.now) }
-    requires edge { (k : ℕ) × (get_elem? graph.now.edges k ≡ some edge) × (edge.consumer ≡ node) }
-    requires at { at ≡ place graph.now edge.producer (turn - edge.tokens) 0 }
-    requires room { vec_len into.old + width graph.now edge.producer ≤ vec_capacity into.old }
+        × IsOver board.now.table_id board.now.key run.now }
+    requires flight { IsOpening run.now seat.old.me.0 node turn
+        × (seat.old.me.0.run ≡ run.now) }
+    requires edge { (k : ℕ) × (get_elem? run.now.edges k ≡ some edge) × (edge.consumer ≡ node) }
+    requires at { at ≡ place run.now edge.producer (turn - edge.tokens) 0 }
+    requires room { vec_len into.old + width run.now edge.producer ≤ vec_capacity into.old }
 
     ensures seat { (seat.new.table_id ≡ seat.old.table_id) × (seat.new.id ≡ seat.old.id)
         × (seat.new.me ≡ seat.old.me) }
     ensures value { into.new.items
-        ≡ into.old.items ++ row graph.now edge.producer (turn - edge.tokens) }
+        ≡ into.old.items ++ row run.now edge.producer (turn - edge.tokens) }
     ensures room { vec_capacity into.new ≡ vec_capacity into.old }
 {
-    for i in 0..graph.width(edge.producer.index()) {
+    for i in 0..run.width(edge.producer.index()) {
         into.push_reserved(board.load::<Read>(seat, at + i));
     }
 }
@@ -58,7 +58,7 @@ fn read_row<J: Rows>(
 /// Loads the rows of the node's producers, edge by edge.
 pub fn read_rows<J: Rows>(
     board: &Board<J>,
-    graph: &Layout<J>,
+    run: &Layout<J>,
     index: &Index,
     seat: &mut Seat<u8, View>,
     node: usize,
@@ -66,37 +66,32 @@ pub fn read_rows<J: Rows>(
     into: &mut Vec<u64>,
 )
     requires table { (seat.old.table_id ≡ board.now.table_id)
-        × IsBuilt board.now.table_id board.now.key graph.now index.now }
-    requires flight { IsOpening graph.now seat.old.me.0 node turn
-        × (seat.old.me.0.run ≡ graph.now) }
+        × IsBuilt board.now.table_id board.now.key run.now index.now }
+    requires flight { IsOpening run.now seat.old.me.0 node turn
+        × (seat.old.me.0.run ≡ run.now) }
     requires room { (into.old.items ≡ [])
-        × (length (supply graph.now node turn (length graph.now.edges)) ≤ vec_capacity into.old) }
+        × (length (supply run.now node turn (length run.now.edges)) ≤ vec_capacity into.old) }
 
     ensures seat { (seat.new.table_id ≡ seat.old.table_id) × (seat.new.id ≡ seat.old.id)
         × (seat.new.me ≡ seat.old.me) }
-    ensures value { into.new.items ≡ supply graph.now node turn (length graph.now.edges) }
+    ensures value { into.new.items ≡ supply run.now node turn (length run.now.edges) }
     ensures room { vec_capacity into.new ≡ vec_capacity into.old }
 {
-    let edges = graph.edges();
+    let edges = run.edges();
     let first = index.firsts[node];
     let end = index.firsts[node + 1];
     for i in first..end {
         let edge = edges[i];
         let before = turn - edge.tokens as u64;
-        let at = place_of(
-            graph,
-            index.starts.as_slice(),
-            edge.producer.index(),
-            before,
-        );
-        read_row(board, graph, seat, edge, at, into, node, turn);
+        let at = place_of(run, index.starts.as_slice(), edge.producer.index(), before);
+        read_row(board, run, seat, edge, at, into, node, turn);
     }
 }
 
 /// Stores the words of the node's next value.
 pub fn write_row<J: Rows>(
     board: &Board<J>,
-    graph: &Layout<J>,
+    run: &Layout<J>,
     seat: &mut Seat<u8, View>,
     at: usize,
     words: &[u64],
@@ -104,14 +99,14 @@ pub fn write_row<J: Rows>(
     turn: u64,
 )
     requires table { (seat.old.table_id ≡ board.now.table_id)
-        × IsOver board.now.table_id board.now.key graph.now }
-    requires flight { IsOpening graph.now seat.old.me.0 node turn × (seat.old.me.0.written ≡ 0) }
-    requires at { at ≡ place graph.now node turn 0 }
-    requires words { words.now ≡ row graph.now node turn }
+        × IsOver board.now.table_id board.now.key run.now }
+    requires flight { IsOpening run.now seat.old.me.0 node turn × (seat.old.me.0.written ≡ 0) }
+    requires at { at ≡ place run.now node turn 0 }
+    requires words { words.now ≡ row run.now node turn }
 
     ensures seat { (seat.new.table_id ≡ seat.old.table_id) × (seat.new.id ≡ seat.old.id) }
     ensures me { seat.new.me
-        ≡ (record seat.old.me.0 { written = width graph.now node }, seat.old.me.1) }
+        ≡ (record seat.old.me.0 { written = width run.now node }, seat.old.me.1) }
 {
     for i in 0..words.len() {
         board.store::<Write>(seat, at + i, words[i]);

@@ -75,10 +75,10 @@ fn is_completed(fabric: &Fabric<Toggle, Toggle>, pass: &mut Pass) -> bool
 
 #[test]
 fn two_passes_fire_in_turn(rt: HostRuntime) {
-    let Ok(graph) = layout(rt.alloc()) else {
+    let Ok(run) = layout(rt.alloc()) else {
         panic!(rt; "memory");
     };
-    let Ok((fabric, mut pass)) = begin(rt.alloc(), &graph) else {
+    let Ok((fabric, mut pass)) = begin(rt.alloc(), &run) else {
         panic!(rt; "memory");
     };
     let Ok(mut other) = part(rt.alloc(), &fabric, &mut pass) else {
@@ -139,11 +139,11 @@ fn goes_on(fabric: &Fabric<Toggle, Toggle>, pass: &mut Pass, tried: Step) -> boo
 
 // The record of a run on two threads up to the master's second opening; none where memory is
 // lacking or another event fired.
-fn record_of<R: AllocGlobal + Threads>(rt: &R, graph: &Layout<Toggle>) -> Option<Record>
-    requires { graph.now ≡ toggle }
+fn record_of<R: AllocGlobal + Threads>(rt: &R, run: &Layout<Toggle>) -> Option<Record>
+    requires { run.now ≡ toggle }
     ensures { IfSome result (λ r. r.shown.view.run ≡ toggle) }
 {
-    let Ok((fabric, mut pass)) = begin(rt.alloc(), graph) else {
+    let Ok((fabric, mut pass)) = begin(rt.alloc(), run) else {
         return None;
     };
     let Ok(mut other) = part(rt.alloc(), &fabric, &mut pass) else {
@@ -160,11 +160,11 @@ fn record_of<R: AllocGlobal + Threads>(rt: &R, graph: &Layout<Toggle>) -> Option
 
 #[test]
 fn read_back(rt: HostRuntime) {
-    let Ok(graph) = layout(rt.alloc()) else {
+    let Ok(run) = layout(rt.alloc()) else {
         panic!(rt; "memory");
     };
     for _ in 0..100u32 {
-        let Some(record) = record_of(&rt, &graph) else {
+        let Some(record) = record_of(&rt, &run) else {
             panic!(rt; "firings");
         };
         assert!(rt; has(&record, 0, &[2]) && has(&record, 2, &[0, 4]));

@@ -40,11 +40,11 @@ fn fires(fabric: &Fabric<Toggle, Toggle>, pass: &mut Pass, many: u64) -> bool
 }
 
 // The record after so many of these firings; none where memory is lacking or another event fired.
-fn record_of(alloc: Global, graph: &Layout<Toggle>, many: u64) -> Option<Record>
-    requires { graph.now ≡ toggle }
+fn record_of(alloc: Global, run: &Layout<Toggle>, many: u64) -> Option<Record>
+    requires { run.now ≡ toggle }
     ensures { IfSome result (λ r. r.shown.view.run ≡ toggle) }
 {
-    let Ok((fabric, mut pass)) = begin(alloc, graph) else {
+    let Ok((fabric, mut pass)) = begin(alloc, run) else {
         return None;
     };
     if fires(&fabric, &mut pass, many) {
@@ -56,10 +56,10 @@ fn record_of(alloc: Global, graph: &Layout<Toggle>, many: u64) -> Option<Record>
 
 #[test]
 fn a_register_turns_over(rt: HostRuntime) {
-    let Ok(graph) = layout(rt.alloc()) else {
+    let Ok(run) = layout(rt.alloc()) else {
         panic!(rt; "memory");
     };
-    let Some(record) = record_of(rt.alloc(), &graph, 8) else {
+    let Some(record) = record_of(rt.alloc(), &run, 8) else {
         panic!(rt; "firings");
     };
     let Ok(firings) = record.firings(rt.alloc()) else {
@@ -76,10 +76,10 @@ fn a_register_turns_over(rt: HostRuntime) {
 
 #[test]
 fn each_event_has_its_tickets(rt: HostRuntime) {
-    let Ok(graph) = layout(rt.alloc()) else {
+    let Ok(run) = layout(rt.alloc()) else {
         panic!(rt; "memory");
     };
-    let Some(record) = record_of(rt.alloc(), &graph, 7) else {
+    let Some(record) = record_of(rt.alloc(), &run, 7) else {
         panic!(rt; "firings");
     };
     assert!(rt; has(&record, 0, &[2, 6]));
@@ -92,7 +92,7 @@ fn each_event_has_its_tickets(rt: HostRuntime) {
 // stored what it shows.
 #[test]
 fn a_latch_stores_when_it_closes(rt: HostRuntime) {
-    let Ok(graph) = layout(rt.alloc()) else {
+    let Ok(run) = layout(rt.alloc()) else {
         panic!(rt; "memory");
     };
     for (many, slave, master) in [
@@ -104,7 +104,7 @@ fn a_latch_stores_when_it_closes(rt: HostRuntime) {
         (7, 1, 2),
         (8, 2, 2),
     ] {
-        let Some(record) = record_of(rt.alloc(), &graph, many) else {
+        let Some(record) = record_of(rt.alloc(), &run, many) else {
             panic!(rt; "firings");
         };
         let words = [1, 0];
@@ -115,10 +115,10 @@ fn a_latch_stores_when_it_closes(rt: HostRuntime) {
 
 #[test]
 fn a_stored_row_has_its_values(rt: HostRuntime) {
-    let Ok(graph) = layout(rt.alloc()) else {
+    let Ok(run) = layout(rt.alloc()) else {
         panic!(rt; "memory");
     };
-    let Some(record) = record_of(rt.alloc(), &graph, 8) else {
+    let Some(record) = record_of(rt.alloc(), &run, 8) else {
         panic!(rt; "firings");
     };
     for node in 0..2u32 {

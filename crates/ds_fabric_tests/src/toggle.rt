@@ -85,12 +85,12 @@ pub fn layout(alloc: Global) -> Result<Layout<Toggle>, OutOfMemory>
 /// The table in which nothing has fired, and the pass of both nodes.
 pub fn begin(
     alloc: Global,
-    graph: &Layout<Toggle>,
+    run: &Layout<Toggle>,
 ) -> Result<(Fabric<'_, Toggle, Toggle>, Pass), OutOfMemory>
-    requires { graph.now ≡ toggle }
+    requires { run.now ≡ toggle }
     ensures { IfOk result (λ r. HoldsBoth r.0 r.1) }
 {
-    Fabric::build(alloc, graph, &Toggle)
+    Fabric::build(alloc, run, &Toggle)
 }
 
 /// The master goes to a pass of its own; the slave stays.

@@ -26,27 +26,27 @@ pub fn layout_of<'a, 'n>(
     ensures sound { IfOk result IsSound }
     ensures accepted { IfOk result IsAccepted }
 {
-    let (latches, graph) = (plan.latches(), plan.graph());
+    let (split, graph) = (plan.latches(), plan.graph());
     let limit = count_rows(vectors) as u64;
     // A node of the design has two events; an extra event is a node of its own, behind them.
-    let nodes = latches.bits().len();
-    let count = graph.events().len() - nodes;
+    let latches = split.bits().len();
+    let nodes = graph.events().len() - latches;
     // No graph with so many nodes would find a place in memory.
-    if count >= 2_147_483_648 {
+    if nodes >= 2_147_483_648 {
         return Err(OutOfMemory);
     }
     let arcs = graph.arcs().to_vec(alloc)?;
-    let edges = edges_of(alloc, latches)?;
-    let lengths = lengths_of(alloc, latches, count)?;
-    let slack = usize::from(latches.slack());
-    let netlist = latches.netlist();
+    let edges = edges_of(alloc, split)?;
+    let lengths = lengths_of(alloc, split, nodes)?;
+    let slack = usize::from(split.slack());
+    let netlist = split.netlist();
     // The design is read for the facts that it is accepted and its numbers name what is there.
     let (_design, order) = (netlist.design(), netlist.order());
     let rows = Foreseen {
-        latches,
+        latches: split,
         vectors,
         order,
-        count,
+        count: nodes,
     };
-    Ok(Layout::of(count, nodes, arcs, limit, edges, lengths, slack, rows))
+    Ok(Layout::of(nodes, latches, arcs, limit, edges, lengths, slack, rows))
 }

@@ -39,41 +39,41 @@ pub fn collect<J: Rows, C: Compute>(
 /// Fires each event as often as it may, with a pass that holds all nodes.
 pub fn complete<J: Rows, C: Compute, G: Gate>(
     fabric: &Fabric<'_, J, C>,
-    graph: &Layout<J>,
+    run: &Layout<J>,
     pass: &mut Pass,
     number: u32,
     gate: &G,
 )
-    requires run { (graph.now ≡ fabric.now.run) × IsSound graph.now × IsAccepted graph.now }
+    requires run { (run.now ≡ fabric.now.run) × IsSound run.now × IsAccepted run.now }
     requires fits { Belongs fabric.now pass.old }
     requires all { HasFrom pass.old.view 0 }
     ensures moved { Moved pass.old pass.new }
-    ensures done { (e : ℕ) → node_of graph.now e < graph.now.nodes
-        → graph.now.limit ≤ count graph.now (seen pass.new.view) e }
+    ensures done { (e : ℕ) → node_of run.now e < run.now.nodes
+        → run.now.limit ≤ count run.now (seen pass.new.view) e }
 {
     let mut busy = true;
     'rounds: while busy {
-        busy = go_round(fabric, graph, pass, number, gate);
+        busy = go_round(fabric, run, pass, number, gate);
     }
 }
 
 // Steps each node once. False: nothing fired, and every node is stuck.
 fn go_round<J: Rows, C: Compute, G: Gate>(
     fabric: &Fabric<'_, J, C>,
-    graph: &Layout<J>,
+    run: &Layout<J>,
     pass: &mut Pass,
     number: u32,
     gate: &G,
 ) -> bool
-    requires run { (graph.now ≡ fabric.now.run) × IsSound graph.now }
+    requires run { (run.now ≡ fabric.now.run) × IsSound run.now }
     requires fits { Belongs fabric.now pass.old }
     requires all { HasFrom pass.old.view 0 }
     ensures moved { Moved pass.old pass.new }
-    ensures told { AdvancesBelow graph.now pass.old.view graph.now.nodes pass.new.view result }
+    ensures told { AdvancesBelow run.now pass.old.view run.now.nodes pass.new.view result }
 {
     let mut busy = false;
-    'nodes: for node in 0..graph.nodes() {
-        if advance(fabric, graph, pass, number, node, gate) {
+    'nodes: for node in 0..run.nodes() {
+        if advance(fabric, run, pass, number, node, gate) {
             busy = true;
         }
     }
@@ -83,19 +83,19 @@ fn go_round<J: Rows, C: Compute, G: Gate>(
 // Steps a node. False: it is stuck.
 fn advance<J: Rows, C: Compute, G: Gate>(
     fabric: &Fabric<'_, J, C>,
-    graph: &Layout<J>,
+    run: &Layout<J>,
     pass: &mut Pass,
     number: u32,
     node: usize,
     gate: &G,
 ) -> bool
-    requires run { (graph.now ≡ fabric.now.run) × IsSound graph.now }
+    requires run { (run.now ≡ fabric.now.run) × IsSound run.now }
     requires fits { Belongs fabric.now pass.old }
-    requires all { HasFrom pass.old.view 0 × (node < graph.now.nodes) }
+    requires all { HasFrom pass.old.view 0 × (node < run.now.nodes) }
     ensures moved { Moved pass.old pass.new }
-    ensures told { Advances graph.now pass.old.view node pass.new.view result }
+    ensures told { Advances run.now pass.old.view node pass.new.view result }
 {
-    match unit(fabric, graph, pass, number, node, gate) {
+    match unit(fabric, run, pass, number, node, gate) {
         Step::Fired { .. } => true,
         Step::NotYet { .. } => false,
         Step::Done => false,

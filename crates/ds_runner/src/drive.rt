@@ -27,21 +27,21 @@ pub enum Round {
 /// looks in rounds without a step.
 pub fn drive<J: Rows, C: Compute, G: Gate>(
     fabric: &Fabric<'_, J, C>,
-    graph: &Layout<J>,
+    run: &Layout<J>,
     worker: &mut Worker,
     budget: Budget,
     gate: &G,
 )
-    requires run { (graph.now ≡ fabric.now.run) × IsSound graph.now }
+    requires run { (run.now ≡ fabric.now.run) × IsSound run.now }
     requires fits { Belongs fabric.now worker.old.pass }
     requires share { HasBetween worker.old.pass.view worker.old.first worker.old.end }
-    requires near { worker.old.end ≤ graph.now.nodes }
+    requires near { worker.old.end ≤ run.now.nodes }
     ensures { Drove worker.old worker.new }
 {
     let mut left = budget.steps;
     let mut looks = budget.looks;
     'rounds: while left > 0 {
-        match go_round(fabric, graph, worker, &mut left, gate) {
+        match go_round(fabric, run, worker, &mut left, gate) {
             Round::Done => return,
             Round::Busy => {}
             Round::Idle => {
@@ -59,15 +59,15 @@ pub fn drive<J: Rows, C: Compute, G: Gate>(
 // Goes through the nodes of a share once.
 fn go_round<J: Rows, C: Compute, G: Gate>(
     fabric: &Fabric<'_, J, C>,
-    graph: &Layout<J>,
+    run: &Layout<J>,
     worker: &mut Worker,
     left: &mut u64,
     gate: &G,
 ) -> Round
-    requires run { (graph.now ≡ fabric.now.run) × IsSound graph.now }
+    requires run { (run.now ≡ fabric.now.run) × IsSound run.now }
     requires fits { Belongs fabric.now worker.old.pass }
     requires share { HasBetween worker.old.pass.view worker.old.first worker.old.end }
-    requires near { worker.old.end ≤ graph.now.nodes }
+    requires near { worker.old.end ≤ run.now.nodes }
     requires left { 0 < left.old }
 
     ensures drove { Drove worker.old worker.new }
@@ -78,7 +78,7 @@ fn go_round<J: Rows, C: Compute, G: Gate>(
         if *left == 0 {
             break;
         }
-        match visit(fabric, graph, worker, node, gate) {
+        match visit(fabric, run, worker, node, gate) {
             Round::Done => {}
             Round::Busy => {
                 *left -= 1;
@@ -103,19 +103,19 @@ fn idle(round: Round) -> Round
 // Steps a node of the share if it seems ready.
 fn visit<J: Rows, C: Compute, G: Gate>(
     fabric: &Fabric<'_, J, C>,
-    graph: &Layout<J>,
+    run: &Layout<J>,
     worker: &mut Worker,
     node: usize,
     gate: &G,
 ) -> Round
-    requires run { (graph.now ≡ fabric.now.run) × IsSound graph.now }
+    requires run { (run.now ≡ fabric.now.run) × IsSound run.now }
     requires fits { Belongs fabric.now worker.old.pass }
     requires share { HasBetween worker.old.pass.view worker.old.first worker.old.end }
     requires among { (worker.old.first ≤ node) × (node < worker.old.end) }
-    requires near { worker.old.end ≤ graph.now.nodes }
+    requires near { worker.old.end ≤ run.now.nodes }
     ensures { Drove worker.old worker.new }
 {
-    if !arrive(graph, &worker.pass, worker.number, node, gate) {
+    if !arrive(run, &worker.pass, worker.number, node, gate) {
         return Round::Done;
     }
     let latch = LatchId::new(node as u32);

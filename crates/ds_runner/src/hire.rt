@@ -13,25 +13,25 @@ use std::alloc::Global;
 pub fn hire<J: Rows, C: Compute>(
     alloc: Global,
     fabric: &Fabric<'_, J, C>,
-    graph: &Layout<J>,
+    run: &Layout<J>,
     pass: &mut Pass,
     jobs: u32,
 ) -> Result<Vec<Worker>, OutOfMemory>
-    requires run { (graph.now ≡ fabric.now.run) × IsSound graph.now }
+    requires run { (run.now ≡ fabric.now.run) × IsSound run.now }
     requires fits { Belongs fabric.now pass.old }
     requires jobs { (0 < jobs) × (jobs ≤ 64) }
     requires has { HasFrom pass.old.view 0 }
 
-    ensures ok { IfOk result (λ workers. AreHired fabric.now workers.items graph.now.nodes) }
-    ensures ok_lent { OnOk result (IsLent fabric.now pass.old 0 graph.now.nodes pass.new) }
+    ensures ok { IfOk result (λ workers. AreHired fabric.now workers.items run.now.nodes) }
+    ensures ok_lent { OnOk result (IsLent fabric.now pass.old 0 run.now.nodes pass.new) }
 {
-    let nodes = graph.nodes();
+    let nodes = run.nodes();
     let mut workers = Vec::with_capacity(alloc, jobs as usize)?;
     let mut first = 0;
     'hiring: for number in 0..jobs {
         let end = border(nodes, number + 1, jobs);
         if first < end {
-            let own = share(alloc, fabric, graph, pass, first, end)?;
+            let own = share(alloc, fabric, run, pass, first, end)?;
             workers.push(Worker {
                 number,
                 first,
@@ -60,14 +60,14 @@ fn border(nodes: usize, count: u32, jobs: u32) -> usize
 fn share<J: Rows, C: Compute>(
     alloc: Global,
     fabric: &Fabric<'_, J, C>,
-    graph: &Layout<J>,
+    run: &Layout<J>,
     pass: &mut Pass,
     first: usize,
     end: usize,
 ) -> Result<Pass, OutOfMemory>
-    requires run { (graph.now ≡ fabric.now.run) × IsSound graph.now }
+    requires run { (run.now ≡ fabric.now.run) × IsSound run.now }
     requires fits { Belongs fabric.now pass.old }
-    requires share { (first < end) × (end ≤ graph.now.nodes) }
+    requires share { (first < end) × (end ≤ run.now.nodes) }
     requires has { HasFrom pass.old.view first }
 
     ensures ok { IfOk result (IsShared fabric.now first end) }

@@ -13,20 +13,20 @@ use ds_rule::{Layout, Rows};
 /// Steps a node once, unless it is done, and pauses at the gate before it.
 pub fn unit<J: Rows, C: Compute, G: Gate>(
     fabric: &Fabric<'_, J, C>,
-    graph: &Layout<J>,
+    run: &Layout<J>,
     pass: &mut Pass,
     number: u32,
     node: usize,
     gate: &G,
 ) -> Step
-    requires run { (graph.now ≡ fabric.now.run) × IsSound graph.now }
+    requires run { (run.now ≡ fabric.now.run) × IsSound run.now }
     requires fits { Belongs fabric.now pass.old }
-    requires held { (holds pass.old.view node ≡ true) × (node < graph.now.nodes) }
+    requires held { (holds pass.old.view node ≡ true) × (node < run.now.nodes) }
 
     ensures same { Stays pass.old pass.new }
     ensures step { Stepped fabric.now.run pass.old.view node result pass.new.view }
 {
-    if arrive(graph, pass, number, node, gate) {
+    if arrive(run, pass, number, node, gate) {
         fabric.step(pass, LatchId::new(node as u32))
     } else {
         Step::Done
@@ -35,20 +35,20 @@ pub fn unit<J: Rows, C: Compute, G: Gate>(
 
 /// Comes to a node: pauses at the gate, unless the node is done. False: it is done.
 pub fn arrive<J: Rows, G: Gate>(
-    graph: &Layout<J>,
+    run: &Layout<J>,
     pass: &Pass,
     number: u32,
     node: usize,
     gate: &G,
 ) -> bool
-    requires sound { IsSound graph.now }
-    requires held { (holds pass.now.view node ≡ true) × (node < graph.now.nodes) }
-    ensures { result ≡ false → graph.now.limit ≤ done graph.now pass.now.view node }
+    requires sound { IsSound run.now }
+    requires held { (holds pass.now.view node ≡ true) × (node < run.now.nodes) }
+    ensures { result ≡ false → run.now.limit ≤ done run.now pass.now.view node }
 {
     let fired = pass.fired(LatchId::new(node as u32));
-    let event = graph.next(node, fired);
-    let turns = graph.turns(event, fired);
-    if turns >= graph.limit() {
+    let event = run.next(node, fired);
+    let turns = run.turns(event, fired);
+    if turns >= run.limit() {
         return false;
     }
     gate.pause(number, event as u32, turns + 1);

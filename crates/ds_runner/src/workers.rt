@@ -27,31 +27,23 @@ use std::thread::Threads;
 pub fn run<R: Threads + Sync, J: Rows + Sync, C: Compute + Sync, G: Gate>(
     rt: &R,
     alloc: Global,
-    graph: &Layout<J>,
-    cones: &C,
+    run: &Layout<J>,
+    openings: &C,
     jobs: u32,
     gate: &G,
 ) -> Result<Record, OutOfMemory>
-    requires sound { IsSound graph.now }
-    requires accepted { IsAccepted graph.now }
-    requires cones { C.run cones.now ≡ graph.now }
+    requires sound { IsSound run.now }
+    requires accepted { IsAccepted run.now }
+    requires openings { C.run openings.now ≡ run.now }
     requires jobs { (0 < jobs) × (jobs ≤ 64) }
-    ensures { IfOk result (IsWhole graph.now) }
+    ensures { IfOk result (IsWhole run.now) }
 {
-    let (fabric, mut pass) = Fabric::build(alloc, graph, cones)?;
-    let mut workers = hire(alloc, &fabric, graph, &mut pass, jobs)?;
-    let budget = budget(graph, cones, workers.len());
-    drive_all(
-        rt,
-        &fabric,
-        graph,
-        workers.as_mut_slice(),
-        jobs,
-        budget,
-        gate,
-    );
+    let (fabric, mut pass) = Fabric::build(alloc, run, openings)?;
+    let mut workers = hire(alloc, &fabric, run, &mut pass, jobs)?;
+    let budget = budget(run, openings, workers.len());
+    drive_all(rt, &fabric, run, workers.as_mut_slice(), jobs, budget, gate);
     collect(&fabric, &mut pass, workers);
-    complete(&fabric, graph, &mut pass, jobs, gate);
+    complete(&fabric, run, &mut pass, jobs, gate);
     Ok(fabric.finish(pass))
 }
 
@@ -59,13 +51,13 @@ pub fn run<R: Threads + Sync, J: Rows + Sync, C: Compute + Sync, G: Gate>(
 fn drive_all<R: Threads + Sync, J: Rows + Sync, C: Compute + Sync, G: Gate>(
     rt: &R,
     fabric: &Fabric<'_, J, C>,
-    graph: &Layout<J>,
+    run: &Layout<J>,
     workers: &mut [Worker],
     jobs: u32,
     budget: Budget,
     gate: &G,
 )
-    requires run { (graph.now ≡ fabric.now.run) × IsSound graph.now }
+    requires run { (run.now ≡ fabric.now.run) × IsSound run.now }
     requires jobs { 0 < jobs }
     requires workers { All (IsWorker fabric.now) workers.old }
     ensures { (i : ℕ) (d : Worker) → i < length workers.old
@@ -76,10 +68,10 @@ fn drive_all<R: Threads + Sync, J: Rows + Sync, C: Compute + Sync, G: Gate>(
         workers,
         jobs as usize,
         &|_, worker|
-            requires run { (graph.now ≡ fabric.now.run) × IsSound graph.now }
+            requires run { (run.now ≡ fabric.now.run) × IsSound run.now }
             requires worker { IsWorker fabric.now worker.old }
             ensures { Drove worker.old worker.new }
-        { drive(fabric, graph, worker, budget, gate) },
+        { drive(fabric, run, worker, budget, gate) },
     );
 }
 
@@ -88,12 +80,12 @@ fn drive_all<R: Threads + Sync, J: Rows + Sync, C: Compute + Sync, G: Gate>(
 // long as all firings, which goes with the nets that a node has to compute. So a worker looks on
 // until a run is done in which each is at work for a quarter of the time, and where workers wait for
 // processors, what they lose does not grow with their number.
-fn budget<J: Rows, C: Compute>(graph: &Layout<J>, cones: &C, workers: usize) -> Budget
-    requires { IsSound graph.now }
+fn budget<J: Rows, C: Compute>(run: &Layout<J>, openings: &C, workers: usize) -> Budget
+    requires { IsSound run.now }
 {
-    let nodes = graph.nodes();
-    let steps = 2 * nodes as u64 * graph.limit();
-    let nets = cones.nets() / nodes.max(1);
+    let nodes = run.nodes();
+    let steps = 2 * nodes as u64 * run.limit();
+    let nets = openings.nets() / nodes.max(1);
     let each = 32 + (nets - nets / 3);
     let looks = steps.saturating_mul(each as u64);
     Budget {

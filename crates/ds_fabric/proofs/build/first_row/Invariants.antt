@@ -5,4 +5,4 @@ use Rattle.ds_fabric.proofs.build.first_row.Given as goal
 
 abbrev pub invariant-loop-i : goal.invariant-loop-i
 invariant-loop-i g l = l.words.items ≡ l.fn.words.items
-    ++ listed (value (g.C.Compute.run l.fn.cones) l.fn.node 0) l.i
+    ++ listed (value (g.C.Compute.run l.fn.openings) l.fn.node 0) l.i

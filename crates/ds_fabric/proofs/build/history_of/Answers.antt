@@ -5,7 +5,7 @@ use Rattle.ds_rule.proofs.RowLaws.{length-supply}
 use Rattle.ds_fabric.proofs.build.history_of.Goals as goal
 
 pub returns : goal.returns
-returns g c = let run : Run = c.args.graph.now in let w : ℕ = width run c.args.node in
+returns g c = let run : Run = c.args.run.now in let w : ℕ = width run c.args.node in
     let size : c.limit-turns.result * c.width.result ≡ run.limit * w =
     ap (λ (x : ℕ). x * c.width.result) c.limit-turns.ensures
     ∙ ap (λ (x : ℕ). run.limit * x) c.width.ensures in record {

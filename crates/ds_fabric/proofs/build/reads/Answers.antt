@@ -34,7 +34,7 @@ grown run sound i k ts was w h long old k-is near at wide =
     )
 
 pub width-requires : goal.width-requires
-width-requires g c = let run : Run = c.args.graph.now in let i : ℕ = c.loop-i.i in
+width-requires g c = let run : Run = c.args.run.now in let i : ℕ = c.loop-i.i in
     let e : DataEdge = c.index-edges-i.result in
     let r = edge_read run c.edges-edges.result.now i e c.edges-edges.ensures c.loop-i-test.true c.index-edges-i.is in
     let d = c.requires.orders i e r.0 in let inv = c.loop-i.invariant in
@@ -46,7 +46,7 @@ width-requires g c = let run : Run = c.args.graph.now in let i : ℕ = c.loop-i.
     omega (arith, d.from, c.requires.among, c.requires.rows_of_all, c.index.ensures)
 
 pub index_mut-requires : goal.index_mut-requires
-index_mut-requires g c = let run : Run = c.args.graph.now in let i : ℕ = c.loop-i.i in
+index_mut-requires g c = let run : Run = c.args.run.now in let i : ℕ = c.loop-i.i in
     let e : DataEdge = c.index-edges-i.result in
     let r = edge_read run c.edges-edges.result.now i e c.edges-edges.ensures c.loop-i-test.true c.index-edges-i.is in
     let d = c.requires.orders i e r.0 in let inv = c.loop-i.invariant in
@@ -58,7 +58,7 @@ index_mut-requires g c = let run : Run = c.args.graph.now in let i : ℕ = c.loo
     omega (arith, d.into, c.requires.among, inv.0, c.index-in-loop-i.ensures)
 
 pub overflow_add-index_mut : goal.overflow_add-index_mut
-overflow_add-index_mut g c = let run : Run = c.args.graph.now in let i : ℕ = c.loop-i.i in
+overflow_add-index_mut g c = let run : Run = c.args.run.now in let i : ℕ = c.loop-i.i in
     let e : DataEdge = c.index-edges-i.result in
     let r = edge_read run c.edges-edges.result.now i e c.edges-edges.ensures c.loop-i-test.true c.index-edges-i.is in
     let d = c.requires.orders i e r.0 in let inv = c.loop-i.invariant in
@@ -84,7 +84,7 @@ overflow_add-index_mut g c = let run : Run = c.args.graph.now in let i : ℕ = c
     )
 
 pub loop-i-preserved : goal.loop-i-preserved
-loop-i-preserved g c = let run : Run = c.args.graph.now in let i : ℕ = c.loop-i.i in
+loop-i-preserved g c = let run : Run = c.args.run.now in let i : ℕ = c.loop-i.i in
     let e : DataEdge = c.index-edges-i.result in
     let r = edge_read run c.edges-edges.result.now i e c.edges-edges.ensures c.loop-i-test.true c.index-edges-i.is in
     let d = c.requires.orders i e r.0 in let inv = c.loop-i.invariant in

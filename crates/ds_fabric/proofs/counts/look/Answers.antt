@@ -9,7 +9,7 @@ use Rattle.ds_rule.proofs.PlaceLaws.{counts_inside}
 use Rattle.ds_fabric.proofs.counts.look.Goals as goal
 
 pub load-requires : goal.load-requires
-load-requires g c = let q = c.requires.table.1 in let run : Run = c.args.graph.now in
+load-requires g c = let q = c.requires.table.1 in let run : Run = c.args.run.now in
     let P : Run → Type 0 =
     λ r. Allows (Lawful r) c.args.board.now.table_id.slots c.args.seat.now.id c.args.seat.now.me
     (c.args.node + 1) (λ y. y) (looked (step c.args.board.now.table_id.slots

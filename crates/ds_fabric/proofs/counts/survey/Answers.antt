@@ -19,7 +19,7 @@ read-off : (xs : List ℕ) (i r : ℕ) → i < length xs → r ≡ slice_index_o
 read-off xs i r h is = at_get xs i r 0 (at_index xs i r h is)
 
 pub loop-i-init : goal.loop-i-init
-loop-i-init g c = let run : Run = c.args.graph.now in let q = c.requires.chains in
+loop-i-init g c = let run : Run = c.args.run.now in let q = c.requires.chains in
     let is = read-off c.args.chains.now.heads.items c.args.event c.index-at.result.now
     (omega (arith, q.heads_long, c.requires.few.1)) c.index-at.ensures in
     let last : IsLast run c.args.event (length run.arcs) c.index-at.result.now =
@@ -35,16 +35,16 @@ loop-i-init g c = let run : Run = c.args.graph.now in let q = c.requires.chains 
 
 pub look-fired-requires-clause-near : goal.look-fired-requires-clause-near
 look-fired-requires-clause-near g c =
-    source_near c.args.graph.now c.arcs-arcs.result.now (c.loop-i.at - 1) c.index-arcs-at.result c.index-source.result
+    source_near c.args.run.now c.arcs-arcs.result.now (c.loop-i.at - 1) c.index-arcs-at.result c.index-source.result
     c.node_of.result c.requires.table.1.sound c.arcs-arcs.ensures
     (omega (arith, c.loop-i.invariant.4, c.if-at-eq0.false)) c.index-source.ensures c.node_of.ensures
 
 abbrev Gives : (g : Over) (c : goal.Then-lacks g) → Type 0
 Gives g c = LooksOn c.args.seat.now.me.0 c.look-fired.new.seat.me.0
-    × Lacks c.args.graph.now c.args.seat.now.me.0 c.look-fired.new.seat.me.0 c.args.event c.args.turn (c.loop-i.at - 1) c.turns-seen.result
+    × Lacks c.args.run.now c.args.seat.now.me.0 c.look-fired.new.seat.me.0 c.args.event c.args.turn (c.loop-i.at - 1) c.turns-seen.result
 
 gives : (g : Over) (c : goal.Then-lacks g) → Gives g c
-gives g c = let run : Run = c.args.graph.now in let n : ℕ = c.loop-i.at - 1 in
+gives g c = let run : Run = c.args.run.now in let n : ℕ = c.loop-i.at - 1 in
     let inv = c.loop-i.invariant in let r : ℕ = c.look-fired.result in
     let m : Sat = c.loop-i.seat.me in
     let a : Arc = arc_at run n in
@@ -72,7 +72,7 @@ not-less : (a b : ℕ) → (a < b → ⊥) → b ≤ a
 not-less a b h = omega arith
 
 pub loop-i-preserved : goal.loop-i-preserved
-loop-i-preserved g c = let run : Run = c.args.graph.now in let n : ℕ = c.loop-i.at - 1 in
+loop-i-preserved g c = let run : Run = c.args.run.now in let n : ℕ = c.loop-i.at - 1 in
     let inv = c.loop-i.invariant in let r : ℕ = c.look-fired.result in
     let m : Sat = c.loop-i.seat.me in
     let a : Arc = arc_at run n in let q = c.requires.chains in

@@ -16,7 +16,7 @@ use Rattle.ds_fabric.proofs.flight.advance.Goals as goal
 
 pub next-event-requires : goal.next-event-requires
 next-event-requires g c =
-    let run : Run = c.args.graph.now in let me : Sat = c.args.seat.now.me in let v : View = me.0 in
+    let run : Run = c.args.run.now in let me : Sat = c.args.seat.now.me in let v : View = me.0 in
     let h : History = c.args.history.now in let l : ℕ = h.node in
     let nodes : List History = c.requires.keeps.0 in let i : ℕ = c.requires.keeps.1 in
     let k = c.requires.keeps.2 in let at = c.requires.keeps.3 in
@@ -30,7 +30,7 @@ next-event-requires g c =
 
 pub turns-before-requires : goal.turns-before-requires
 turns-before-requires g c =
-    let run : Run = c.args.graph.now in let me : Sat = c.args.seat.now.me in let v : View = me.0 in
+    let run : Run = c.args.run.now in let me : Sat = c.args.seat.now.me in let v : View = me.0 in
     let h : History = c.args.history.now in let l : ℕ = h.node in
     let nodes : List History = c.requires.keeps.0 in let i : ℕ = c.requires.keeps.1 in
     let k = c.requires.keeps.2 in let at = c.requires.keeps.3 in
@@ -44,7 +44,7 @@ turns-before-requires g c =
 
 pub returns-then-before-limit-clause-step : goal.returns-then-before-limit-clause-step
 returns-then-before-limit-clause-step g c =
-    let run : Run = c.args.graph.now in let me : Sat = c.args.seat.now.me in let v : View = me.0 in
+    let run : Run = c.args.run.now in let me : Sat = c.args.seat.now.me in let v : View = me.0 in
     let h : History = c.args.history.now in let l : ℕ = h.node in
     let nodes : List History = c.requires.keeps.0 in let i : ℕ = c.requires.keeps.1 in
     let k = c.requires.keeps.2 in let at = c.requires.keeps.3 in
@@ -63,7 +63,7 @@ returns-then-before-limit-clause-step g c =
 
 pub returns-then-before-limit-clause-keeps : goal.returns-then-before-limit-clause-keeps
 returns-then-before-limit-clause-keeps g c =
-    let run : Run = c.args.graph.now in let me : Sat = c.args.seat.now.me in let v : View = me.0 in
+    let run : Run = c.args.run.now in let me : Sat = c.args.seat.now.me in let v : View = me.0 in
     let h : History = c.args.history.now in let l : ℕ = h.node in
     let nodes : List History = c.requires.keeps.0 in let i : ℕ = c.requires.keeps.1 in
     let k = c.requires.keeps.2 in let at = c.requires.keeps.3 in
@@ -77,7 +77,7 @@ returns-then-before-limit-clause-keeps g c =
 
 pub survey-requires-clause-rests : goal.survey-requires-clause-rests
 survey-requires-clause-rests g c =
-    let run : Run = c.args.graph.now in let me : Sat = c.args.seat.now.me in let v : View = me.0 in
+    let run : Run = c.args.run.now in let me : Sat = c.args.seat.now.me in let v : View = me.0 in
     let h : History = c.args.history.now in let l : ℕ = h.node in
     let nodes : List History = c.requires.keeps.0 in let i : ℕ = c.requires.keeps.1 in
     let k = c.requires.keeps.2 in let at = c.requires.keeps.3 in
@@ -91,7 +91,7 @@ survey-requires-clause-rests g c =
 
 pub survey-requires-clause-few : goal.survey-requires-clause-few
 survey-requires-clause-few g c =
-    let run : Run = c.args.graph.now in let me : Sat = c.args.seat.now.me in let v : View = me.0 in
+    let run : Run = c.args.run.now in let me : Sat = c.args.seat.now.me in let v : View = me.0 in
     let h : History = c.args.history.now in let l : ℕ = h.node in
     let nodes : List History = c.requires.keeps.0 in let i : ℕ = c.requires.keeps.1 in
     let k = c.requires.keeps.2 in let at = c.requires.keeps.3 in
@@ -113,7 +113,7 @@ survey-requires-clause-few g c =
 
 pub overflow_cast-arc : goal.overflow_cast-arc
 overflow_cast-arc g c =
-    let run : Run = c.args.graph.now in let me : Sat = c.args.seat.now.me in let v : View = me.0 in
+    let run : Run = c.args.run.now in let me : Sat = c.args.seat.now.me in let v : View = me.0 in
     let h : History = c.args.history.now in let l : ℕ = h.node in
     let nodes : List History = c.requires.keeps.0 in let i : ℕ = c.requires.keeps.1 in
     let k = c.requires.keeps.2 in let at = c.requires.keeps.3 in
@@ -128,7 +128,7 @@ overflow_cast-arc g c =
 
 pub overflow_cast-event : goal.overflow_cast-event
 overflow_cast-event g c =
-    let run : Run = c.args.graph.now in let me : Sat = c.args.seat.now.me in let v : View = me.0 in
+    let run : Run = c.args.run.now in let me : Sat = c.args.seat.now.me in let v : View = me.0 in
     let h : History = c.args.history.now in let l : ℕ = h.node in
     let nodes : List History = c.requires.keeps.0 in let i : ℕ = c.requires.keeps.1 in
     let k = c.requires.keeps.2 in let at = c.requires.keeps.3 in
@@ -150,7 +150,7 @@ overflow_cast-event g c =
 
 pub returns-in-Some-clause-step : goal.returns-in-Some-clause-step
 returns-in-Some-clause-step g c =
-    let run : Run = c.args.graph.now in let me : Sat = c.args.seat.now.me in let v : View = me.0 in
+    let run : Run = c.args.run.now in let me : Sat = c.args.seat.now.me in let v : View = me.0 in
     let h : History = c.args.history.now in let l : ℕ = h.node in
     let nodes : List History = c.requires.keeps.0 in let i : ℕ = c.requires.keeps.1 in
     let k = c.requires.keeps.2 in let at = c.requires.keeps.3 in
@@ -177,7 +177,7 @@ returns-in-Some-clause-step g c =
 
 pub returns-in-Some-clause-keeps : goal.returns-in-Some-clause-keeps
 returns-in-Some-clause-keeps g c =
-    let run : Run = c.args.graph.now in let me : Sat = c.args.seat.now.me in let v : View = me.0 in
+    let run : Run = c.args.run.now in let me : Sat = c.args.seat.now.me in let v : View = me.0 in
     let h : History = c.args.history.now in let l : ℕ = h.node in
     let nodes : List History = c.requires.keeps.0 in let i : ℕ = c.requires.keeps.1 in
     let k = c.requires.keeps.2 in let at = c.requires.keeps.3 in
@@ -193,7 +193,7 @@ returns-in-Some-clause-keeps g c =
 
 pub fire-ticket-requires-clause-rests : goal.fire-ticket-requires-clause-rests
 fire-ticket-requires-clause-rests g c =
-    let run : Run = c.args.graph.now in let me : Sat = c.args.seat.now.me in let v : View = me.0 in
+    let run : Run = c.args.run.now in let me : Sat = c.args.seat.now.me in let v : View = me.0 in
     let h : History = c.args.history.now in let l : ℕ = h.node in
     let nodes : List History = c.requires.keeps.0 in let i : ℕ = c.requires.keeps.1 in
     let k = c.requires.keeps.2 in let at = c.requires.keeps.3 in
@@ -214,7 +214,7 @@ fire-ticket-requires-clause-rests g c =
 
 pub fire-ticket-requires-clause-held : goal.fire-ticket-requires-clause-held
 fire-ticket-requires-clause-held g c =
-    let run : Run = c.args.graph.now in let me : Sat = c.args.seat.now.me in let v : View = me.0 in
+    let run : Run = c.args.run.now in let me : Sat = c.args.seat.now.me in let v : View = me.0 in
     let h : History = c.args.history.now in let l : ℕ = h.node in
     let nodes : List History = c.requires.keeps.0 in let i : ℕ = c.requires.keeps.1 in
     let k = c.requires.keeps.2 in let at = c.requires.keeps.3 in
@@ -235,7 +235,7 @@ fire-ticket-requires-clause-held g c =
 
 pub fire-ticket-requires-clause-ready : goal.fire-ticket-requires-clause-ready
 fire-ticket-requires-clause-ready g c =
-    let run : Run = c.args.graph.now in let me : Sat = c.args.seat.now.me in let v : View = me.0 in
+    let run : Run = c.args.run.now in let me : Sat = c.args.seat.now.me in let v : View = me.0 in
     let h : History = c.args.history.now in let l : ℕ = h.node in
     let nodes : List History = c.requires.keeps.0 in let i : ℕ = c.requires.keeps.1 in
     let k = c.requires.keeps.2 in let at = c.requires.keeps.3 in
@@ -256,7 +256,7 @@ fire-ticket-requires-clause-ready g c =
 
 pub fire-ticket-requires-clause-rows : goal.fire-ticket-requires-clause-rows
 fire-ticket-requires-clause-rows g c =
-    let run : Run = c.args.graph.now in let me : Sat = c.args.seat.now.me in let v : View = me.0 in
+    let run : Run = c.args.run.now in let me : Sat = c.args.seat.now.me in let v : View = me.0 in
     let h : History = c.args.history.now in let l : ℕ = h.node in
     let nodes : List History = c.requires.keeps.0 in let i : ℕ = c.requires.keeps.1 in
     let k = c.requires.keeps.2 in let at = c.requires.keeps.3 in
@@ -277,7 +277,7 @@ fire-ticket-requires-clause-rows g c =
 
 pub fire-ticket-requires-clause-room : goal.fire-ticket-requires-clause-room
 fire-ticket-requires-clause-room g c =
-    let run : Run = c.args.graph.now in let me : Sat = c.args.seat.now.me in let v : View = me.0 in
+    let run : Run = c.args.run.now in let me : Sat = c.args.seat.now.me in let v : View = me.0 in
     let h : History = c.args.history.now in let l : ℕ = h.node in
     let nodes : List History = c.requires.keeps.0 in let i : ℕ = c.requires.keeps.1 in
     let k = c.requires.keeps.2 in let at = c.requires.keeps.3 in
@@ -298,7 +298,7 @@ fire-ticket-requires-clause-room g c =
 
 pub fire-ticket-requires-clause-note : goal.fire-ticket-requires-clause-note
 fire-ticket-requires-clause-note g c =
-    let run : Run = c.args.graph.now in let me : Sat = c.args.seat.now.me in let v : View = me.0 in
+    let run : Run = c.args.run.now in let me : Sat = c.args.seat.now.me in let v : View = me.0 in
     let h : History = c.args.history.now in let l : ℕ = h.node in
     let nodes : List History = c.requires.keeps.0 in let i : ℕ = c.requires.keeps.1 in
     let k = c.requires.keeps.2 in let at = c.requires.keeps.3 in
@@ -319,7 +319,7 @@ fire-ticket-requires-clause-note g c =
 
 pub returns-clause-step : goal.returns-clause-step
 returns-clause-step g c =
-    let run : Run = c.args.graph.now in let me : Sat = c.args.seat.now.me in let v : View = me.0 in
+    let run : Run = c.args.run.now in let me : Sat = c.args.seat.now.me in let v : View = me.0 in
     let h : History = c.args.history.now in let l : ℕ = h.node in
     let nodes : List History = c.requires.keeps.0 in let i : ℕ = c.requires.keeps.1 in
     let k = c.requires.keeps.2 in let at = c.requires.keeps.3 in
@@ -354,7 +354,7 @@ returns-clause-step g c =
 
 pub returns-clause-keeps : goal.returns-clause-keeps
 returns-clause-keeps g c =
-    let run : Run = c.args.graph.now in let me : Sat = c.args.seat.now.me in let v : View = me.0 in
+    let run : Run = c.args.run.now in let me : Sat = c.args.seat.now.me in let v : View = me.0 in
     let h : History = c.args.history.now in let l : ℕ = h.node in
     let nodes : List History = c.requires.keeps.0 in let i : ℕ = c.requires.keeps.1 in
     let k = c.requires.keeps.2 in let at = c.requires.keeps.3 in

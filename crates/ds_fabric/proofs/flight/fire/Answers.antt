@@ -28,7 +28,7 @@ few run v l f short is on = let n = node-next run l f in
     omega (arith, fired_most run l f run.limit below)
 
 pub load-requires : goal.load-requires
-load-requires g c = let q = c.requires.table.1.over in let run : Run = c.args.graph.now in
+load-requires g c = let q = c.requires.table.1.over in let run : Run = c.args.run.now in
     let n : ℕ = c.args.board.now.table_id.slots in let l : ℕ = c.args.history.now.node in
     let h = c.requires.held in
     let P : Run → Type 0 = λ r. Allows (Lawful r) n c.args.seat.now.id c.args.seat.now.me (l + 1)
@@ -47,7 +47,7 @@ same l = omega arith
 
 pub prepare-requires-clause-flight : goal.prepare-requires-clause-flight
 prepare-requires-clause-flight g c = let l : ℕ = c.args.history.now.node in
-    let m : Sat = c.args.seat.now.me in let run : Run = c.args.graph.now in
+    let m : Sat = c.args.seat.now.me in let run : Run = c.args.run.now in
     let left : c.load.new.seat.me ≡ (after_depart m.0 l, m.1) = c.load.ensures.2
     ∙ ap (λ (x : ℕ). (after_depart m.0 x, m.1)) (same l) in
     let P : Sat → Type 0 = λ x. IsAway run x.0 l × (c.args.history.now.fired ≡ seen x.0 l)
@@ -67,7 +67,7 @@ prepare-requires-clause-flight g c = let l : ℕ = c.args.history.now.node in
 pub fetch_add-ticket-requires : goal.fetch_add-ticket-requires
 fetch_add-ticket-requires g c = let q = c.requires.table.1.over in
     let l : ℕ = c.args.history.now.node in let m : Sat = c.args.seat.now.me in
-    let run : Run = c.args.graph.now in let n : ℕ = c.args.board.now.table_id.slots in
+    let run : Run = c.args.run.now in let n : ℕ = c.args.board.now.table_id.slots in
     let left : c.load.new.seat.me ≡ (after_depart m.0 l, m.1) = c.load.ensures.2
     ∙ ap (λ (x : ℕ). (after_depart m.0 x, m.1)) (same l) in
     let p = c.prepare.ensures.me in let k : ℕ = p.0 in
@@ -85,7 +85,7 @@ fetch_add-ticket-requires g c = let q = c.requires.table.1.over in
     )
 
 pub overflow_add-history : goal.overflow_add-history
-overflow_add-history g c = let run : Run = c.args.graph.now in
+overflow_add-history g c = let run : Run = c.args.run.now in
     let l : ℕ = c.args.history.now.node in
     omega (
       arith,
@@ -95,7 +95,7 @@ overflow_add-history g c = let run : Run = c.args.graph.now in
 
 pub store-requires : goal.store-requires
 store-requires g c = let q = c.requires.table.1.over in let l : ℕ = c.args.history.now.node in
-    let m : Sat = c.args.seat.now.me in let run : Run = c.args.graph.now in
+    let m : Sat = c.args.seat.now.me in let run : Run = c.args.run.now in
     let n : ℕ = c.args.board.now.table_id.slots in
     let left : c.load.new.seat.me ≡ (after_depart m.0 l, m.1) = c.load.ensures.2
     ∙ ap (λ (x : ℕ). (after_depart m.0 x, m.1)) (same l) in
@@ -119,7 +119,7 @@ store-requires g c = let q = c.requires.table.1.over in let l : ℕ = c.args.his
     )
 
 pub note-requires-clause-few : goal.note-requires-clause-few
-note-requires-clause-few g c = let run : Run = c.args.graph.now in
+note-requires-clause-few g c = let run : Run = c.args.run.now in
     let l : ℕ = c.args.history.now.node in
     omega (
       arith,
@@ -129,7 +129,7 @@ note-requires-clause-few g c = let run : Run = c.args.graph.now in
 
 pub prepare-requires-clause-ready : goal.prepare-requires-clause-ready
 prepare-requires-clause-ready g c = let l : ℕ = c.args.history.now.node in
-    let m : Sat = c.args.seat.now.me in let run : Run = c.args.graph.now in
+    let m : Sat = c.args.seat.now.me in let run : Run = c.args.run.now in
     let left : c.load.new.seat.me ≡ (after_depart m.0 l, m.1) = c.load.ensures.2
     ∙ ap (λ (x : ℕ). (after_depart m.0 x, m.1)) (same l) in
     subst (λ (x : Sat). Enabled run (seen x.0) (next run l c.args.history.now.fired))
@@ -137,4 +137,4 @@ prepare-requires-clause-ready g c = let l : ℕ = c.args.history.now.node in
 
 pub note-requires-clause-room : goal.note-requires-clause-room
 note-requires-clause-room g c =
-    room_kept c.args.graph.now c.args.history.now c.prepare.new.history c.prepare.ensures.same c.requires.note
+    room_kept c.args.run.now c.args.history.now c.prepare.new.history c.prepare.ensures.same c.requires.note

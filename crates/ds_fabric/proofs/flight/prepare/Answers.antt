@@ -16,7 +16,7 @@ half : (run : Run) (l f : ℕ) → opens run (next run l f) ≡ true → f / 2 +
 half run l f h = let o = even_opens run l f h in omega (arith, opened-low run l f o.0, o.1)
 
 pub open_row-requires-clause-flight : goal.open_row-requires-clause-flight
-open_row-requires-clause-flight g c = let run : Run = c.args.graph.now in
+open_row-requires-clause-flight g c = let run : Run = c.args.run.now in
     let v : View = c.args.seat.now.me.0 in let l : ℕ = c.args.history.now.node in
     let away = c.requires.flight.0 in
     let fired = c.requires.flight.1 in let h = c.if-opens_next.ensures.0 refl in (
@@ -34,11 +34,11 @@ open_row-requires-clause-flight g c = let run : Run = c.args.graph.now in
 
 pub open_row-requires-clause-within : goal.open_row-requires-clause-within
 open_row-requires-clause-within g c =
-    within c.args.graph.now c.args.seat.now.me.0 c.args.history.now.node c.args.history.now.fired
+    within c.args.run.now c.args.seat.now.me.0 c.args.history.now.node c.args.history.now.fired
     c.requires.flight.1 (c.if-opens_next.ensures.0 refl) c.requires.ready
 
 pub returns-then-opens_next-clause-rows : goal.returns-then-opens_next-clause-rows
-returns-then-opens_next-clause-rows g c = let run : Run = c.args.graph.now in
+returns-then-opens_next-clause-rows g c = let run : Run = c.args.run.now in
     let l : ℕ = c.args.history.now.node in let f : ℕ = c.args.history.now.fired in
     let h = c.if-opens_next.ensures.0 refl in let k : ℕ = opened run l f in
     c.open_row.ensures.value ∙ (ap (λ (xs : List ℕ). xs ++ row run l (f / 2 + 1)) c.requires.rows
@@ -47,7 +47,7 @@ returns-then-opens_next-clause-rows g c = let run : Run = c.args.graph.now in
 
 pub returns-then-opens_next-clause-me : goal.returns-then-opens_next-clause-me
 returns-then-opens_next-clause-me g c = (
-  Rattle.ds_rule.specs.Words.width c.args.graph.now c.args.history.now.node,
+  Rattle.ds_rule.specs.Words.width c.args.run.now c.args.history.now.node,
   c.open_row.ensures.me,
   λ _. Rattle.std.proofs.Common.le_refl _,
 )
@@ -63,7 +63,7 @@ returns-else-opens_next-clause-me g c = (
 )
 
 pub returns-else-opens_next-clause-rows : goal.returns-else-opens_next-clause-rows
-returns-else-opens_next-clause-rows g c = let run : Run = c.args.graph.now in
+returns-else-opens_next-clause-rows g c = let run : Run = c.args.run.now in
     let l : ℕ = c.args.history.now.node in let f : ℕ = c.args.history.now.fired in
     c.requires.rows ∙ ap (rows_to run l) (by_bool (opened run l f ≡ opened run l (f + 1))
     (opens run (next run l f)) (λ h. absurd (false≢true (c.if-opens_next.ensures.1 h)))

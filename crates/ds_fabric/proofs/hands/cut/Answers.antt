@@ -11,7 +11,7 @@ use Rattle.ds_rule.proofs.PlaceLaws.{counts_inside}
 use Rattle.ds_fabric.proofs.hands.cut.Goals as goal
 
 pub compare_exchange-requires : goal.compare_exchange-requires
-compare_exchange-requires g c = let q = c.requires.table.1 in let run : Run = c.args.graph.now in
+compare_exchange-requires g c = let q = c.requires.table.1 in let run : Run = c.args.run.now in
     let n : ℕ = c.args.board.now.table_id.slots in let l : ℕ = c.args.node in
     let P : Run → Type 0 = λ r. Allows (Lawful r) n c.args.seat.now.id c.args.seat.now.me 0
     (λ x. either (x == l) l x) (pointed (step n 0 l l none) c.args.seat.now.me) in (
@@ -22,7 +22,7 @@ compare_exchange-requires g c = let q = c.requires.table.1 in let run : Run = c.
     )
 
 pub split_seat-requires : goal.split_seat-requires
-split_seat-requires g c = let q = c.requires.table.1 in let run : Run = c.args.graph.now in
+split_seat-requires g c = let q = c.requires.table.1 in let run : Run = c.args.run.now in
     let e = c.compare_exchange.ensures.2 in let v : View = c.args.seat.now.me.0 in
     let P : Run → Sat → Type 0 = λ r m. Splits (Lawful r) c.compare_exchange.new.seat.id m.0
     (without_cut m.0) (only_cut m.0) in (

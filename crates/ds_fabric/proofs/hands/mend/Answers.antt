@@ -13,7 +13,7 @@ use Rattle.ds_rule.proofs.PlaceLaws.{counts_inside}
 use Rattle.ds_fabric.proofs.hands.mend.Goals as goal
 
 pub join_seat-requires : goal.join_seat-requires
-join_seat-requires g c = let q = c.requires.table.2 in let run : Run = c.args.graph.now in
+join_seat-requires g c = let q = c.requires.table.2 in let run : Run = c.args.run.now in
     let v : View = c.args.seat.now.me.0 in let w : View = c.args.other.me.0 in (
       c.requires.table.0,
       c.requires.table.1,
@@ -24,7 +24,7 @@ join_seat-requires g c = let q = c.requires.table.2 in let run : Run = c.args.gr
     )
 
 pub load-requires : goal.load-requires
-load-requires g c = let q = c.requires.table.2 in let run : Run = c.args.graph.now in
+load-requires g c = let q = c.requires.table.2 in let run : Run = c.args.run.now in
     let n : ℕ = c.args.board.now.table_id.slots in let j = c.join_seat.ensures in
     let P : Run → Type 0 =
     λ r. Allows (Lawful r) n c.join_seat.new.seat.id c.join_seat.new.seat.me 0 (λ y. y)

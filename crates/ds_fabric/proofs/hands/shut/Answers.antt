@@ -14,14 +14,14 @@ word-many-requires g c = let q = c.requires.table.2 in (
     arith,
     c.close_with-closed.ensures.counts.0,
     q.sized,
-    counts_inside c.args.graph.now 0 (omega arith),
+    counts_inside c.args.run.now 0 (omega arith),
   ),
   c.close_with-closed.ensures.values.0,
 )
 
 pub returns : goal.returns
 returns g c = let f = c.close_with-closed.ensures.values.2 in let q = c.requires.table.2 in
-    let run : Run = c.args.graph.now in let s : St = f.0 in
+    let run : Run = c.args.run.now in let s : St = f.0 in
     let o : Lawful run s = subst (λ (r : Run). Lawful r s) q.keyed f.1.0 in
     let r = ends run s o c.args.seat.id c.args.seat.me.0 f.1.1 c.requires.rests.0 c.requires.rests.1 c.requires.all in
     let is : get_or s.words 0 0 ≡ c.word-many.result = ap (λ (ws : List ℕ). get_or ws 0 0) f.2

@@ -5,6 +5,6 @@ use Rattle.ds_fabric.proofs.index.firsts.Given as goal
 
 abbrev pub invariant-loop-node : goal.invariant-loop-node
 invariant-loop-node g l = (length l.firsts.items ≡ l.node)
-    × ((x : ℕ) → x < l.node → IsFrom l.fn.graph x (slice_index l.firsts.items x))
-    × (l.at ≤ length l.fn.graph.edges) × ((k : ℕ) → k < l.at
-    → (edge_at l.fn.graph k).consumer < l.node)
+    × ((x : ℕ) → x < l.node → IsFrom l.fn.run x (slice_index l.firsts.items x))
+    × (l.at ≤ length l.fn.run.edges) × ((k : ℕ) → k < l.at
+    → (edge_at l.fn.run k).consumer < l.node)

@@ -5,7 +5,7 @@ use Rattle.ds_fabric.proofs.Ranges.{stops, edge_same}
 use Rattle.ds_fabric.proofs.index.skip.Goals as goal
 
 pub returns-then-index-node : goal.returns-then-index-node
-returns-then-index-node g c = let run : Run = c.args.graph.now in let i : ℕ = c.loop-i.i in
+returns-then-index-node g c = let run : Run = c.args.run.now in let i : ℕ = c.loop-i.i in
     stops run c.args.node i c.requires.sound
     (omega (
       arith,

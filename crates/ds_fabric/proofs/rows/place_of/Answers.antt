@@ -16,7 +16,7 @@ one_alone t s w none = let rest : t % (s + 1) ≡ 0 =
     ap (λ (x : ℕ). x * w) rest ∙ zero-mul w
 
 pub returns-then-slack-eq0 : goal.returns-then-slack-eq0
-returns-then-slack-eq0 g c = let run : Run = c.args.graph.now in let l : ℕ = c.args.node in
+returns-then-slack-eq0 g c = let run : Run = c.args.run.now in let l : ℕ = c.args.node in
     omega (
       arith,
       one_alone c.args.turn run.slack (width run l)
@@ -26,7 +26,7 @@ returns-then-slack-eq0 g c = let run : Run = c.args.graph.now in let l : ℕ = c
     )
 
 pub overflow_mul-result : goal.overflow_mul-result
-overflow_mul-result g c = let run : Run = c.args.graph.now in let l : ℕ = c.args.node in
+overflow_mul-result g c = let run : Run = c.args.run.now in let l : ℕ = c.args.node in
     let t : ℕ = c.args.turn in
     omega (
       arith,
@@ -37,7 +37,7 @@ overflow_mul-result g c = let run : Run = c.args.graph.now in let l : ℕ = c.ar
     )
 
 pub overflow_add-result : goal.overflow_add-result
-overflow_add-result g c = let run : Run = c.args.graph.now in let l : ℕ = c.args.node in
+overflow_add-result g c = let run : Run = c.args.run.now in let l : ℕ = c.args.node in
     let t : ℕ = c.args.turn in
     omega (
       arith,
@@ -49,7 +49,7 @@ overflow_add-result g c = let run : Run = c.args.graph.now in let l : ℕ = c.ar
     )
 
 pub returns : goal.returns
-returns g c = let run : Run = c.args.graph.now in let l : ℕ = c.args.node in
+returns g c = let run : Run = c.args.run.now in let l : ℕ = c.args.node in
     let t : ℕ = c.args.turn in
     omega (
       arith,

@@ -25,14 +25,14 @@ pub width-i-end-requires : goal.width-i-end-requires
 width-i-end-requires g c = let q = c.requires.table.1 in let h = c.requires.edge in
     omega (
       arith,
-      producer_near c.args.graph.now q.sound c.args.edge (h.0, h.1, refl),
+      producer_near c.args.run.now q.sound c.args.edge (h.0, h.1, refl),
       q.sound.rows_of_all,
       c.index.ensures,
     )
 
 pub overflow_add-at : goal.overflow_add-at
 overflow_add-at g c = let q = c.requires.table.1 in let h = c.requires.edge in
-    let run : Run = c.args.graph.now in
+    let run : Run = c.args.run.now in
     omega (
       arith,
       row_ends run c.args.edge.producer (c.args.turn - c.args.edge.tokens)
@@ -42,11 +42,11 @@ overflow_add-at g c = let q = c.requires.table.1 in let h = c.requires.edge in
       c.loop-i-test.true,
       c.loop-i.auto.i-end,
       (c.width-i-end.ensures
-          ∙ ap (width c.args.graph.now) c.index.ensures),
+          ∙ ap (width c.args.run.now) c.index.ensures),
     )
 
 pub load-requires : goal.load-requires
-load-requires g c = let q = c.requires.table.1 in let run : Run = c.args.graph.now in
+load-requires g c = let q = c.requires.table.1 in let run : Run = c.args.run.now in
     let n : ℕ = c.args.board.now.table_id.slots in let j : ℕ = c.args.at + c.loop-i.i in
     let h = c.requires.edge in let o = c.requires.flight.0 in
     let P : Run → Sat → Type 0 = λ r m. Allows (Lawful r) n c.loop-i.seat.id m j (λ y. y)
@@ -61,7 +61,7 @@ load-requires g c = let q = c.requires.table.1 in let run : Run = c.args.graph.n
         c.loop-i-test.true,
         c.loop-i.auto.i-end,
         (c.width-i-end.ensures
-            ∙ ap (width c.args.graph.now) c.index.ensures),
+            ∙ ap (width c.args.run.now) c.index.ensures),
       ),
       subst (λ r. P r c.loop-i.seat.me) (sym q.keyed) (subst (P run) (sym c.loop-i.invariant.2)
           (reads run n c.loop-i.seat.id c.args.seat.now.me j o.live
@@ -70,7 +70,7 @@ load-requires g c = let q = c.requires.table.1 in let run : Run = c.args.graph.n
 
 pub push_reserved-requires : goal.push_reserved-requires
 push_reserved-requires g c = let inv = c.loop-i.invariant in
-    let f : ℕ → ℕ = value c.args.graph.now c.args.edge.producer
+    let f : ℕ → ℕ = value c.args.run.now c.args.edge.producer
     (c.args.turn - c.args.edge.tokens) in
     omega (
       arith,
@@ -81,12 +81,12 @@ push_reserved-requires g c = let inv = c.loop-i.invariant in
       c.requires.room,
       c.loop-i-test.true,
       c.loop-i.auto.i-end,
-      (c.width-i-end.ensures ∙ ap (width c.args.graph.now) c.index.ensures),
+      (c.width-i-end.ensures ∙ ap (width c.args.run.now) c.index.ensures),
     )
 
 pub loop-i-preserved : goal.loop-i-preserved
 loop-i-preserved g c = let inv = c.loop-i.invariant in let e = c.load.ensures in
-    let run : Run = c.args.graph.now in let h = c.requires.edge in let o = c.requires.flight.0 in
+    let run : Run = c.args.run.now in let h = c.requires.edge in let o = c.requires.flight.0 in
     let k : ℕ = c.args.turn - c.args.edge.tokens in
     let f : ℕ → ℕ = value run c.args.edge.producer k in let i : ℕ = c.loop-i.i in
     let r : ℕ = c.load.result in let j : ℕ = c.args.at + i in
@@ -100,7 +100,7 @@ loop-i-preserved g c = let inv = c.loop-i.invariant in let e = c.load.ensures in
       arith,
       c.loop-i-test.true,
       c.loop-i.auto.i-end,
-      (c.width-i-end.ensures ∙ ap (width c.args.graph.now) c.index.ensures),
+      (c.width-i-end.ensures ∙ ap (width c.args.run.now) c.index.ensures),
     ))
     (omega (arith, c.requires.at, place-word run c.args.edge.producer k i)) in (
       e.0 ∙ inv.0,

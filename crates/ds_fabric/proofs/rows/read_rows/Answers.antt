@@ -19,7 +19,7 @@ index-end-requires g c = let q = c.requires.table.1.ranged in
     omega (arith, q.long, c.requires.flight.0.near)
 
 pub loop-i-init : goal.loop-i-init
-loop-i-init g c = let run : Run = c.args.graph.now in let q = c.requires.table.1 in
+loop-i-init g c = let run : Run = c.args.run.now in let q = c.requires.table.1 in
     let o = c.requires.flight.0 in
     let p = from_read run c.args.index.now.firsts.items c.args.node c.index-first.result.now q.ranged (omega (arith, o.near)) c.index-first.ensures in (
       refl,
@@ -32,7 +32,7 @@ loop-i-init g c = let run : Run = c.args.graph.now in let q = c.requires.table.1
     )
 
 pub overflow_sub-before : goal.overflow_sub-before
-overflow_sub-before g c = let run : Run = c.args.graph.now in let q = c.requires.table.1 in
+overflow_sub-before g c = let run : Run = c.args.run.now in let q = c.requires.table.1 in
     let o = c.requires.flight.0 in let inv = c.loop-i.invariant in
     let l : ℕ = c.args.node in let k : ℕ = c.args.turn in let i : ℕ = c.loop-i.i in
     let e : DataEdge = c.index-edges-i.result in
@@ -44,7 +44,7 @@ overflow_sub-before g c = let run : Run = c.args.graph.now in let q = c.requires
     let d = q.over.sound.orders i e h.at in omega (arith, d.tokens_few, o.number)
 
 pub place_of-at-requires-clause-near : goal.place_of-at-requires-clause-near
-place_of-at-requires-clause-near g c = let run : Run = c.args.graph.now in
+place_of-at-requires-clause-near g c = let run : Run = c.args.run.now in
     let q = c.requires.table.1 in let o = c.requires.flight.0 in let inv = c.loop-i.invariant in
     let l : ℕ = c.args.node in let k : ℕ = c.args.turn in let i : ℕ = c.loop-i.i in
     let e : DataEdge = c.index-edges-i.result in
@@ -61,7 +61,7 @@ place_of-at-requires-clause-near g c = let run : Run = c.args.graph.now in
     )
 
 pub read_row-requires-clause-edge : goal.read_row-requires-clause-edge
-read_row-requires-clause-edge g c = let run : Run = c.args.graph.now in
+read_row-requires-clause-edge g c = let run : Run = c.args.run.now in
     let q = c.requires.table.1 in let o = c.requires.flight.0 in let inv = c.loop-i.invariant in
     let l : ℕ = c.args.node in let k : ℕ = c.args.turn in let i : ℕ = c.loop-i.i in
     let e : DataEdge = c.index-edges-i.result in
@@ -73,7 +73,7 @@ read_row-requires-clause-edge g c = let run : Run = c.args.graph.now in
     (i, h.at, h.into)
 
 pub read_row-requires-clause-room : goal.read_row-requires-clause-room
-read_row-requires-clause-room g c = let run : Run = c.args.graph.now in
+read_row-requires-clause-room g c = let run : Run = c.args.run.now in
     let q = c.requires.table.1 in let o = c.requires.flight.0 in let inv = c.loop-i.invariant in
     let l : ℕ = c.args.node in let k : ℕ = c.args.turn in let i : ℕ = c.loop-i.i in
     let e : DataEdge = c.index-edges-i.result in
@@ -94,7 +94,7 @@ read_row-requires-clause-room g c = let run : Run = c.args.graph.now in
     )
 
 pub loop-i-preserved : goal.loop-i-preserved
-loop-i-preserved g c = let run : Run = c.args.graph.now in let q = c.requires.table.1 in
+loop-i-preserved g c = let run : Run = c.args.run.now in let q = c.requires.table.1 in
     let o = c.requires.flight.0 in let inv = c.loop-i.invariant in
     let l : ℕ = c.args.node in let k : ℕ = c.args.turn in let i : ℕ = c.loop-i.i in
     let e : DataEdge = c.index-edges-i.result in
@@ -114,7 +114,7 @@ loop-i-preserved g c = let run : Run = c.args.graph.now in let q = c.requires.ta
     )
 
 pub returns-clause-value : goal.returns-clause-value
-returns-clause-value g c = let run : Run = c.args.graph.now in let q = c.requires.table.1 in
+returns-clause-value g c = let run : Run = c.args.run.now in let q = c.requires.table.1 in
     let o = c.requires.flight.0 in
     let l : ℕ = c.args.node in
     let from = from_read run c.args.index.now.firsts.items l c.index-first.result.now q.ranged

@@ -5,5 +5,5 @@ use Rattle.ds_fabric.proofs.rows.read_rows.Given as goal
 abbrev pub invariant-loop-i : goal.invariant-loop-i
 invariant-loop-i g l = (l.seat.table_id ≡ l.fn.seat.table_id) × (l.seat.id ≡ l.fn.seat.id)
     × (l.seat.me ≡ l.fn.seat.me)
-    × (l.into.items ≡ supply l.fn.graph l.fn.node l.fn.turn l.i)
+    × (l.into.items ≡ supply l.fn.run l.fn.node l.fn.turn l.i)
     × (vec_capacity l.into ≡ vec_capacity l.fn.into) × (l.initial.i ≤ l.i)

@@ -29,7 +29,7 @@ loop-i-init g c = (
 
 pub overflow_add-at : goal.overflow_add-at
 overflow_add-at g c = let q = c.requires.table.1 in let o = c.requires.flight.0 in
-    let run : Run = c.args.graph.now in
+    let run : Run = c.args.run.now in
     omega (
       arith,
       row_ends run c.args.node c.args.turn o.near,
@@ -41,7 +41,7 @@ overflow_add-at g c = let q = c.requires.table.1 in let o = c.requires.flight.0 
 
 pub store-requires : goal.store-requires
 store-requires g c = let q = c.requires.table.1 in let o = c.requires.flight.0 in
-    let run : Run = c.args.graph.now in let n : ℕ = c.args.board.now.table_id.slots in
+    let run : Run = c.args.run.now in let n : ℕ = c.args.board.now.table_id.slots in
     let i : ℕ = c.loop-i.i in let j : ℕ = c.args.at + i in
     let new : ℕ = slice_index c.args.words.now i in let v : View = c.args.seat.now.me.0 in
     let wide = many run c.args.node c.args.turn c.args.words.now c.requires.words in
@@ -74,8 +74,8 @@ loop-i-preserved g c = let inv = c.loop-i.invariant in let e = c.store.ensures i
 
 pub returns-clause-me : goal.returns-clause-me
 returns-clause-me g c = let wide =
-    many c.args.graph.now c.args.node c.args.turn c.args.words.now c.requires.words in
-    let e : c.loop-i.i ≡ width c.args.graph.now c.args.node =
+    many c.args.run.now c.args.node c.args.turn c.args.words.now c.requires.words in
+    let e : c.loop-i.i ≡ width c.args.run.now c.args.node =
     omega (arith, c.loop-i-test.false, c.loop-i.auto.i-end) in
     c.loop-i.invariant.2 ∙ ap (λ (w : ℕ). (
       record c.args.seat.now.me.0 { written = w },

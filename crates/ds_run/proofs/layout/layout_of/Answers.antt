@@ -19,32 +19,32 @@ use Rattle.ds_run.proofs.layout.layout_of.Goals.{After-events, After-of}
 
 -- two events of each node, and the extra ones
 room_there : (c : After-events)
-    → 2 * nodes c.latches-latches.result.now ≤ length c.events.result.now
+    → 2 * nodes c.latches-split.result.now ≤ length c.events.result.now
 room_there c = omega (
   arith,
   room c.args.plan.now.split c.args.plan.now.graph c.graph-graph.ensures.accepted,
-  ap (λ (s : Split). nodes s) c.latches-latches.ensures,
+  ap (λ (s : Split). nodes s) c.latches-split.ensures,
   ap (λ (g : Graph). length g.events) c.graph-graph.ensures.graph,
   ap (λ (es : List Event). length es) c.events.ensures.events,
 )
 
-pub overflow_sub-count : goal.overflow_sub-count
-overflow_sub-count c = omega (
+pub overflow_sub-nodes : goal.overflow_sub-nodes
+overflow_sub-nodes c = omega (
   arith,
-  room_there (goal.at.overflow_sub-count c).After-events,
-  c.bits-nodes.ensures.one_each,
+  room_there (goal.at.overflow_sub-nodes c).After-events,
+  c.bits-latches.ensures.one_each,
 )
 
 pub lengths_of-requires : goal.lengths_of-requires
 lengths_of-requires c = omega (
   arith,
   room_there (goal.at.lengths_of-requires c).After-events,
-  c.bits-nodes.ensures.one_each,
+  c.bits-latches.ensures.one_each,
 )
 
 -- how many nodes the run has
 abbrev count_of : After-of → ℕ
-count_of c = length c.events.result.now - length c.bits-nodes.result.now
+count_of c = length c.events.result.now - length c.bits-latches.result.now
 
 -- the values of so many nodes of a split design
 abbrev rows_of : After-of → Split → ℕ → List Row
@@ -52,22 +52,22 @@ rows_of c s n = foreseen_rows s n c.order-order.result.now c.args.vectors.now.ro
 
 of_is : (c : After-of) → c.of.result ≡ record {
   nodes = count_of c;
-  latches = length c.bits-nodes.result.now;
+  latches = length c.bits-latches.result.now;
   arcs = c.in_ok-arcs.arcs.items;
   limit = c.count_rows-limit.result;
   edges = c.in_ok-edges.edges.items;
   lengths = c.in_ok-lengths.lengths.items;
   slack = c.from-slack.result;
-  rows = rows_of c c.latches-latches.result.now (count_of c);
+  rows = rows_of c c.latches-split.result.now (count_of c);
 }
 of_is c = c.of.ensures
 
-split_is : (c : After-of) → c.latches-latches.result.now ≡ c.args.plan.now.split
-split_is c = c.latches-latches.ensures
+split_is : (c : After-of) → c.latches-split.result.now ≡ c.args.plan.now.split
+split_is c = c.latches-split.ensures
 
 latches_are : (c : After-of) → c.of.result.latches ≡ nodes c.args.plan.now.split
 latches_are c = ap (λ (r : Run). r.latches) (of_is c)
-    ∙ (c.bits-nodes.ensures.one_each ∙ ap (λ (s : Split). nodes s) (split_is c))
+    ∙ (c.bits-latches.ensures.one_each ∙ ap (λ (s : Split). nodes s) (split_is c))
 
 nodes_are : (c : After-of)
     → c.of.result.nodes + c.of.result.latches ≡ length c.args.plan.now.graph.events
@@ -76,7 +76,7 @@ nodes_are c = omega (
   ap (λ (r : Run). r.nodes) (of_is c),
   ap (λ (r : Run). r.latches) (of_is c),
   room c.args.plan.now.split c.args.plan.now.graph c.graph-graph.ensures.accepted,
-  c.bits-nodes.ensures.one_each,
+  c.bits-latches.ensures.one_each,
   ap (λ (s : Split). nodes s) (split_is c),
   ap (λ (g : Graph). length g.events) c.graph-graph.ensures.graph,
   ap (λ (es : List Event). length es) c.events.ensures.events,
@@ -89,14 +89,14 @@ arcs_are c = ap (λ (r : Run). r.arcs) (of_is c)
 
 edges_are : (c : After-of) → AreEdges c.args.plan.now.split c.of.result.edges
 edges_are c = subst (λ (s : Split). AreEdges s c.of.result.edges) (split_is c)
-    (subst (AreEdges c.latches-latches.result.now) (sym (ap (λ (r : Run). r.edges) (of_is c)))
+    (subst (AreEdges c.latches-split.result.now) (sym (ap (λ (r : Run). r.edges) (of_is c)))
     c.in_ok-edges.ensures.ok)
 
 lengths_are : (c : After-of)
     → AreLengths c.args.plan.now.split c.of.result.nodes c.of.result.lengths
 lengths_are c =
     subst (λ (s : Split). AreLengths s c.of.result.nodes c.of.result.lengths) (split_is c)
-    (subst (λ (r : Run). AreLengths c.latches-latches.result.now r.nodes r.lengths) (sym (of_is c))
+    (subst (λ (r : Run). AreLengths c.latches-split.result.now r.nodes r.lengths) (sym (of_is c))
     c.in_ok-lengths.ensures)
 
 slack_is : (c : After-of) → c.of.result.slack ≡ c.args.plan.now.split.slack
@@ -152,7 +152,7 @@ within c = record {
     ap (λ (r : Run). length r.edges) (of_is c),
   );
   low = omega (arith, c.slack.ensures.low, ap (λ (s : Split). s.slack) (split_is c));
-  few_nodes = omega (arith, c.if-count-ge2147483648.false, ap (λ (r : Run). r.nodes) (of_is c));
+  few_nodes = omega (arith, c.if-nodes-ge2147483648.false, ap (λ (r : Run). r.nodes) (of_is c));
   few_arcs = omega (
     arith,
     c.arcs.ensures.kept.few_arcs,

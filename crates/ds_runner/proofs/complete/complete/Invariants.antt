@@ -5,8 +5,8 @@ use Rattle.ds_runner.specs.Work.{Moved, left}
 use Rattle.ds_runner.proofs.complete.complete.Given as goal
 
 abbrev pub invariant-rounds : goal.invariant-rounds
-invariant-rounds g l = Moved l.fn.pass l.pass × (l.busy ≡ false → (e : ℕ) → node_of l.graph e < l.graph.nodes
-    → l.graph.limit ≤ count l.graph (seen l.pass.view) e)
+invariant-rounds g l = Moved l.fn.pass l.pass × (l.busy ≡ false → (e : ℕ) → node_of l.run e < l.run.nodes
+    → l.run.limit ≤ count l.run (seen l.pass.view) e)
 
 abbrev pub decreases-rounds : goal.decreases-rounds
-decreases-rounds g l = 2 * left l.graph l.pass.view + cond l.busy 1 0
+decreases-rounds g l = 2 * left l.run l.pass.view + cond l.busy 1 0

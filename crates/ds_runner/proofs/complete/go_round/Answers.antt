@@ -7,7 +7,7 @@ use Rattle.ds_runner.proofs.complete.go_round.Goals as goal
 use Rattle.ds_runner.proofs.complete.go_round.Goals.{then-advance, else-advance}
 
 pub nodes-preserved : goal.nodes-preserved
-nodes-preserved g c = let i = c.nodes.invariant in let run : Run = c.args.graph.now in
+nodes-preserved g c = let i = c.nodes.invariant in let run : Run = c.args.run.now in
     let v : View = c.args.pass.now.view in let w : View = c.advance.new.pass.view in
     let both = one_more_node run v c.nodes.pass.view w c.nodes.node c.nodes.busy c.advance.result c.requires.run.1
     (omega arith) (i.1, i.2) c.advance.ensures.told in

@@ -3,5 +3,5 @@ use Rattle.ds_runner.specs.Work.{Moved, AdvancesBelow, left}
 use Rattle.ds_runner.proofs.complete.go_round.Given as goal
 
 abbrev pub invariant-nodes : goal.invariant-nodes
-invariant-nodes g l = Moved l.fn.pass l.pass × AdvancesBelow l.graph l.fn.pass.view l.node l.pass.view l.busy
-    × (left l.graph l.pass.view ≤ left l.graph l.fn.pass.view)
+invariant-nodes g l = Moved l.fn.pass l.pass × AdvancesBelow l.run l.fn.pass.view l.node l.pass.view l.busy
+    × (left l.run l.pass.view ≤ left l.run l.fn.pass.view)

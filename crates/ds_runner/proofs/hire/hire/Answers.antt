@@ -57,6 +57,6 @@ hiring-preserved g c = let h = hired g c in (c.border-end.ensures.value, c.borde
 pub returns-clause-ok : goal.returns-clause-ok
 returns-clause-ok g c = let i = c.hiring.invariant in let jobs : ℕ = c.args.jobs in let nodes : ℕ = c.nodes-nodes.result in
     let all : c.hiring.number ≡ jobs = omega (arith, c.hiring-test.false, c.hiring.auto.number-end) in
-    let is : c.hiring.first ≡ c.args.graph.now.nodes = i.0 ∙ (ap (λ (n : ℕ). n * nodes / jobs) all
+    let is : c.hiring.first ≡ c.args.run.now.nodes = i.0 ∙ (ap (λ (n : ℕ). n * nodes / jobs) all
     ∙ (mul-div_cancel_left nodes (omega (arith, c.requires.jobs.0)) ∙ c.nodes-nodes.ensures)) in
     subst (AreHired c.args.fabric.now c.hiring.workers.items) is i.2

@@ -6,5 +6,5 @@ pub overflow_cast-event : goal.overflow_cast-event
 overflow_cast-event g c = omega (
   arith,
   c.next-event.ensures,
-  event_small c.args.graph.now c.args.node c.fired-fired.result c.requires.sound c.requires.held.1,
+  event_small c.args.run.now c.args.node c.fired-fired.result c.requires.sound c.requires.held.1,
 )

@@ -11,7 +11,7 @@ use Rattle.ds_fabric.proofs.Chains.{arc-there, target_near, chained_none, chaine
 use Rattle.ds_fabric.proofs.chain.Chains.of.Goals as goal
 
 pub loop-i-init : goal.loop-i-init
-loop-i-init g c = let run : Run = c.args.graph.now in
+loop-i-init g c = let run : Run = c.args.run.now in
     let n : ℕ = c.nodes.result + c.latches.result in
     subst (IsChained run 0 c.in_ok-heads.heads.items) (sym c.new-links.ensures.items)
     (chained_none run c.in_ok-heads.heads.items n c.in_ok-heads.ensures
@@ -29,19 +29,19 @@ near run sound arcs i d t is h read = let low : i < length run.arcs =
     (same, omega (arith, same, target_near run i sound low))
 
 pub index-requires : goal.index-requires
-index-requires g c = let run : Run = c.args.graph.now in let i : ℕ = c.loop-i.i in
+index-requires g c = let run : Run = c.args.run.now in let i : ℕ = c.loop-i.i in
     let t : ℕ = c.index-target.result in let hs : List ℕ = c.loop-i.heads.items in
     let n = near run c.requires c.arcs-arcs.result.now i c.index-arcs-i.result t c.arcs-arcs.ensures c.loop-i-test.true c.index-target.ensures in
     omega (arith, n.1, c.loop-i.invariant.heads_long)
 
 pub index_mut-requires : goal.index_mut-requires
-index_mut-requires g c = let run : Run = c.args.graph.now in let i : ℕ = c.loop-i.i in
+index_mut-requires g c = let run : Run = c.args.run.now in let i : ℕ = c.loop-i.i in
     let t : ℕ = c.index-target.result in let hs : List ℕ = c.loop-i.heads.items in
     let n = near run c.requires c.arcs-arcs.result.now i c.index-arcs-i.result t c.arcs-arcs.ensures c.loop-i-test.true c.index-target.ensures in
     omega (arith, n.1, c.loop-i.invariant.heads_long)
 
 pub loop-i-preserved : goal.loop-i-preserved
-loop-i-preserved g c = let run : Run = c.args.graph.now in let i : ℕ = c.loop-i.i in
+loop-i-preserved g c = let run : Run = c.args.run.now in let i : ℕ = c.loop-i.i in
     let t : ℕ = c.index-target.result in let hs : List ℕ = c.loop-i.heads.items in
     let n = near run c.requires c.arcs-arcs.result.now i c.index-arcs-i.result t c.arcs-arcs.ensures c.loop-i-test.true c.index-target.ensures in
     let was : c.index.result.now ≡ get_or hs t 0 =

@@ -25,10 +25,10 @@ lawful run words starts' ws sound b is = subst
 
 pub of_words-requires : goal.of_words-requires
 of_words-requires g c =
-    lawful c.args.graph.now c.in_ok-words.words.items c.in_ok-words.starts.items c.as_slice.result.now c.requires.sound c.in_ok-words.ensures c.as_slice.ensures.value
+    lawful c.args.run.now c.in_ok-words.words.items c.in_ok-words.starts.items c.as_slice.result.now c.requires.sound c.in_ok-words.ensures c.as_slice.ensures.value
 
 pub invariant_of-fabric : goal.invariant_of-fabric
-invariant_of-fabric g c = let run : Run = c.args.graph.now in let b = c.in_ok-words.ensures in
+invariant_of-fabric g c = let run : Run = c.args.run.now in let b = c.in_ok-words.ensures in
     let t = c.in_ok-table.ensures in (
       record {
         over = record {
@@ -41,7 +41,7 @@ invariant_of-fabric g c = let run : Run = c.args.graph.now in let b = c.in_ok-wo
         started = (b.starts_long, b.started);
         ranged = c.in_ok-firsts.ensures;
       },
-      c.requires.cones,
+      c.requires.openings,
       c.in_ok-chains.ensures,
     )
 
@@ -62,6 +62,6 @@ begun run me room capacity n nodes ps sound is blank room-is roomy n-is long eac
 
 pub invariant_of-pass : goal.invariant_of-pass
 invariant_of-pass g c =
-    begun c.args.graph.now c.in_ok-table.seat.me c.nodes-room.result _ c.nodes.result c.in_ok-nodes.nodes.items
+    begun c.args.run.now c.in_ok-table.seat.me c.nodes-room.result _ c.nodes.result c.in_ok-nodes.nodes.items
     c.in_ok-places.places.items c.requires.sound c.in_ok-table.ensures.4 c.in_ok-nodes.ensures.blank c.nodes-room.ensures
     c.in_ok-nodes.ensures.room c.nodes.ensures c.in_ok-places.ensures.0 c.in_ok-places.ensures.1

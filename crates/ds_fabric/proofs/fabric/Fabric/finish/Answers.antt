@@ -17,7 +17,7 @@ invariant_of-result g c =
     ∙ sym c.of-shown.ensures) in
     let slots : me ≡ (p.view, []) = ap (λ s. (me.0, s)) c.pass.invariant.keeps.no_slot
     ∙ ap (λ (v : View). (v, [])) view in
-    let run : c.self.inside.graph.now ≡ p.view.run =
+    let run : c.self.inside.run.now ≡ p.view.run =
     ap (λ (x : Base). x.run) c.self.view_is ∙ (sym c.requires.fits.run
     ∙ ap (λ (x : Showing). x.view.run) (sym c.of-shown.ensures)) in record {
       keeps = subst (λ (m : Sat). Keeps m c.pass.inside.nodes.items) slots c.pass.invariant.keeps;

@@ -31,7 +31,7 @@ index-requires g c =
 
 pub seems_enough-requires-clause-near : goal.seems_enough-requires-clause-near
 seems_enough-requires-clause-near g c =
-    let run : Run = c.self.inside.graph.now in
+    let run : Run = c.self.inside.run.now in
     let held : holds c.pass.inside.seat.me.0 c.args.node ≡ true = subst (λ (x : Showing). holds x.view c.args.node ≡ true)
     (sym c.pass.view_is) c.requires.held in
     let is : c.pass.inside.seat.me.0.run ≡ run = ap (λ (x : Showing). x.view.run) c.pass.view_is
