@@ -9,8 +9,9 @@
 //! `read_netlist` and `read_rows` read netlist and vectors (`specs/Stages`), `split_netlist` makes
 //! latches (`specs/SplitStage`), `plan_netlist`, `plan_named` and `own_plan` plans
 //! (`specs/PlanStage`), `read_log` the state after a log, and `write_state` its text
-//! (`specs/ReplayStage`). `write_report` writes the report on a netlist (`specs/Report`). The texts
-//! of faults are those of `specs/FaultText`. When memory is wanted is not promised.
+//! (`specs/ReplayStage`, and `specs/Kept` for what is kept between them). `write_report` writes the
+//! report on a netlist (`specs/Report`). The texts of faults are those of `specs/FaultText`. When
+//! memory is wanted is not promised.
 #![tactic(auto)]
 
 mod fault_line;
