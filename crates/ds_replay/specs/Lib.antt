@@ -3,6 +3,7 @@ pub mod Word
 pub mod Replay
 pub mod Replayed
 pub mod Legal
+pub mod Printed
 pub mod Worked
 pub mod Lookup
 pub mod Step
