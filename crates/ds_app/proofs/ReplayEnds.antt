@@ -10,29 +10,42 @@ use Rattle.ds_design.specs.Rows.{Rows}
 use Rattle.ds_latch.specs.Plan.{Planned}
 use Rattle.ds_fire.specs.Snapshot.{Snapshot}
 use Rattle.ds_stage.specs.declared.stop.Stop.{Stop}
+use Rattle.ds_stage.specs.declared.stop.Stop.TheVariants.{Refused, Unread, Unwritten, Memory}
 use Rattle.ds_stage.specs.Stage.{OfFile, Stage, giving, then_stage}
 use Rattle.ds_stage.specs.Stages.{netlist_stage, vectors_stage}
 use Rattle.ds_stage.specs.PlanStage.{planned_stage}
 use Rattle.ds_stage.specs.ReplayStage.{IsStateText, log_stage, replayed_stage}
+use Rattle.ds_stage.specs.Kept.{IsAfterLog, IsKeptText, kept_stage}
 use Rattle.ds_app.specs.Job.{replay_stage}
 use Rattle.ds_stage.specs.Ends.{Ends, Never, Output, RoseIn, Stops}
 use Rattle.ds_stage.proofs.Stages.{IsWider, passed, stopped}
-use Rattle.ds_stage.proofs.Ends.{ends_after, ends_more, rose_since}
+use Rattle.ds_stage.proofs.Ends.{ends_after, gives_more, rose_since}
 
--- a log that was read later, of files that hold the same
+-- what is kept of a log that was read later, of files that hold the same
 pub log_since : (held later : List ℕ → Held) (log : List ℕ) (planned : Planned) (vectors : List Row) (before mid now : Which → List ℕ → ℕ) → later ≡ held
     → ((w : Which) (n : List ℕ) → before w n ≤ mid w n)
-    → IsWider (log_stage later log planned vectors) (log_stage held log planned vectors) (RoseIn mid now) (RoseIn before now)
+    → IsWider (kept_stage later log planned vectors) (kept_stage held log planned vectors) (RoseIn mid now) (RoseIn before now)
 log_since held later log planned vectors before mid now same less =
-    subst (λ (h : List ℕ → Held). IsWider (log_stage later log planned vectors) (log_stage h log planned vectors) (RoseIn mid now) (RoseIn before now)) same
+    subst (λ (h : List ℕ → Held). IsWider (kept_stage later log planned vectors) (kept_stage h log planned vectors) (RoseIn mid now) (RoseIn before now)) same
     (record {
       means = λ a is. is;
       refused = λ line is. is;
       unread = λ line either. elim either [
-        | inl (rose, spelt) ↦ inl (rose_since (before Log log) (mid Log log) (now Log log) (less Log log) rose, spelt)
-        | inr (lines, is, none) ↦ absurd none
+        | inl read ↦ elim read [
+          | inl (rose, spelt) ↦ inl (inl (rose_since (before Log log) (mid Log log) (now Log log) (less Log log) rose, spelt))
+          | inr (lines, is, none) ↦ absurd none
+        ]
+        | inr (events, is, none) ↦ absurd none
       ];
     })
+
+-- what is kept of a log stops where its log does
+pub log_stops : (held : List ℕ → Held) (log : List ℕ) (planned : Planned) (vectors : List Row) (more : OfFile) (stop : Stop)
+    → Stops (kept_stage held log planned vectors) more stop → Stops (log_stage held log planned vectors) more stop
+log_stops held log planned vectors more (Refused line) is = elim is [ inl here ↦ here | inr (events, means, none) ↦ absurd none ]
+log_stops held log planned vectors more (Unread line) is = elim is [ inl here ↦ here | inr (events, means, none) ↦ absurd none ]
+log_stops held log planned vectors more Unwritten is = is
+log_stops held log planned vectors more Memory is = tt
 
 module _ (held : List ℕ → Held) (net vec log : List ℕ) (graph : Option (List ℕ)) (mode : Mode) (more : OfFile) (c : Circuit) (accepted : (netlist_stage held net).means c) where
   -- what stands behind the netlist
@@ -49,8 +62,8 @@ module _ (held : List ℕ → Held) (net vec log : List ℕ) (graph : Option (Li
         (stopped (vectors_stage held vec c) (λ (vectors : Rows). replayed_stage held log p vectors.rows) more stop is))
 
     module _ (rows : Rows) (are : (vectors_stage held vec c).means rows) where
-      abbrev Last : Snapshot × ℕ → Stage (List ℕ)
-      Last after = giving (IsStateText after.0 after.1)
+      abbrev Last : List ℕ → Stage (List ℕ)
+      Last events = giving (IsStateText p rows.rows events)
 
       pub stops_log : (stop : Stop) → Stops (log_stage held log p rows.rows) more stop → Stops (then_stage (netlist_stage held net) (replay_stage held net vec log graph mode)) more stop
       stops_log stop is =
@@ -59,11 +72,12 @@ module _ (held : List ℕ → Held) (net vec log : List ℕ) (graph : Option (Li
           (passed {B = List ℕ} (vectors_stage held vec c) (λ (vectors : Rows). replayed_stage held log p vectors.rows) more rows are (Err stop)
           (stopped (log_stage held log p rows.rows) Last more stop is)))
 
-      pub ends_log : (after : Snapshot × ℕ) → (log_stage held log p rows.rows).means after → (out : Output) (result : Result (Unit {0}) Stop)
-          → Ends {A = Unit {0}} (giving (IsStateText after.0 after.1)) Never out result → Ends {A = Unit {0}} (then_stage (netlist_stage held net) (replay_stage held net vec log graph mode)) more out result
-      ends_log after means out result is =
+      pub ends_log : (events : List ℕ) → (log_stage held log p rows.rows).means events → (out : Output) (result : Result (Unit {0}) Stop)
+          → (kept : Snapshot) (fired : ℕ) → IsAfterLog p rows.rows events kept fired
+          → Ends {A = Unit {0}} (giving (IsKeptText kept fired)) Never out result → Ends {A = Unit {0}} (then_stage (netlist_stage held net) (replay_stage held net vec log graph mode)) more out result
+      ends_log events means out result kept fired after is =
           ends_after (netlist_stage held net) (replay_stage held net vec log graph mode) more out c accepted result
           (ends_after (planned_stage held net graph mode c) (λ (q : Planned). then_stage (vectors_stage held vec c) (λ (vectors : Rows). replayed_stage held log q vectors.rows)) more out p is_plan result
           (ends_after (vectors_stage held vec c) (λ (vectors : Rows). replayed_stage held log p vectors.rows) more out rows are result
-          (ends_after (log_stage held log p rows.rows) Last more out after means result
-          (ends_more {A = Unit {0}} (Last after) Never more out (λ line none. absurd none) result is))))
+          (ends_after (log_stage held log p rows.rows) Last more out events means result
+          (gives_more {A = Unit {0}} (IsKeptText kept fired) (IsStateText p rows.rows events) more out (λ text of. of.is p rows.rows events after) result is))))

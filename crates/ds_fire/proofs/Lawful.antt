@@ -12,6 +12,7 @@ use Rattle.ds_marked.specs.Graph.{IsLegal, IsConsistent, counts_after}
 use Rattle.ds_marked.proofs.Progress.{legal_is_consistent, progress}
 use Rattle.ds_design.specs.Circuit.{register_nets}
 use Rattle.ds_design.specs.Run.{row_at}
+use Rattle.ds_design.proofs.Runs.{some_run}
 use Rattle.ds_design.specs.Trace.{trace_line, trace_lines}
 use Rattle.ds_latch.specs.Node.{Node, Out, Slave, Split, IsNode, number_of, nodes, opening, closing, place_of, members, nets_of}
 use Rattle.ds_latch.specs.Plan.{IsController, split_events}
@@ -31,14 +32,14 @@ flat_of_map : (f : ℕ → Row) (xs : List ℕ) → flat_map (λ (row : Row). ro
 flat_of_map f [] = refl
 flat_of_map f (x ∷ xs) = ap (λ (ys : Row). f x ++ ys) (flat_of_map f xs)
 
-range_agree : {X : Type 0} (f g : ℕ → List X) (a n : ℕ) → ((k : ℕ) → k < a + n → f k ≡ g k) → flat_map f (range_with_len a n) ≡ flat_map g (range_with_len a n)
+pub range_agree : {X : Type 0} (f g : ℕ → List X) (a n : ℕ) → ((k : ℕ) → k < a + n → f k ≡ g k) → flat_map f (range_with_len a n) ≡ flat_map g (range_with_len a n)
 range_agree f g a zero same = refl
 range_agree f g a (suc n) same =
     ap (λ xs. xs ++ flat_map f (range_with_len (a + 1) n)) (same a (omega arith))
     ∙ ap (λ xs. g a ++ xs) (range_agree f g (a + 1) n (λ k below. same k (omega arith)))
 
 -- of rows of one width, one after the other, each can be taken back
-chunk : (rows : List Row) (w k a : ℕ) → ((j : ℕ) → j < length rows → length (get_or rows j []) ≡ w) → k < length rows → a ≡ k * w → take w (drop a (flat_map (λ (row : Row). row) rows)) ≡ get_or rows k []
+pub chunk : (rows : List Row) (w k a : ℕ) → ((j : ℕ) → j < length rows → length (get_or rows j []) ≡ w) → k < length rows → a ≡ k * w → take w (drop a (flat_map (λ (row : Row). row) rows)) ≡ get_or rows k []
 chunk [] w k a widths inside at = absurd (omega arith)
 chunk (r ∷ rs) w zero a widths inside at =
     ap (λ (n : ℕ). take w (drop n (r ++ flat_map (λ (row : Row). row) rs))) (at ∙ zero-mul w)
@@ -98,6 +99,14 @@ module _ (kept : Snapshot) (sound : IsSound kept) (events : List ℕ) (legal : I
         ∙ (flat_of_map (run_value kept state nets n) (range_with_len 1 (now.count (closing n)))
         ∙ ap (λ (k : ℕ). flat_map (run_value kept state nets n) (range_with_len 1 k)) (shows.counts (closing n))))
 
+    stored_wide : (i : ℕ) → i < length S.clusters → (j : ℕ) → j < length (now.stored (Slave i)) → length (get_or (now.stored (Slave i)) j []) ≡ length (members S i)
+    stored_wide i is_node j inside =
+        let rows : now.stored (Slave i) ≡ map (run_value kept state nets (Slave i)) (range_with_len 1 (now.count (closing (Slave i)))) = step.stored (Slave i) is_node in
+        let long : length (now.stored (Slave i)) ≡ now.count (closing (Slave i)) = ap length rows ∙ length-map-range_with_len (run_value kept state nets (Slave i)) 1 (now.count (closing (Slave i))) in
+        ap (λ (rs : List Row). length (get_or rs j [])) rows
+        ∙ (ap length (get_or-map-range_with_len (run_value kept state nets (Slave i)) 1 (now.count (closing (Slave i))) j (suc j) [] (omega arith) (omega arith))
+        ∙ length-map (members S i) (value_at (state (suc j))))
+
     in_run : IsInRun kept state nets
     in_run = record { held = held_is; stored = stored_is }
 
@@ -154,3 +163,10 @@ fired_to_the_end kept sound (events, legal, (now, all, shows)) = to_the_end kept
 
 pub stored_spell_trace : (kept : Snapshot) → IsSound kept → IsReached kept → IsDone kept → (first : ℕ) → (state nets : ℕ → Row) → IsRunOf kept state nets → (rows : ℕ → Row) → rows 0 ≡ (split_of kept).initial → ((k : ℕ) → k < limit_of kept → AreRegisters (split_of kept) (λ n. stored_row kept n k) (rows (k + 1))) → (flat_map (λ k. trace_line (first + k) (stored_row kept Out k) (rows k)) (range_with_len 0 (limit_of kept)) ≡ trace_lines (split_of kept).circuit first (limit_of kept) state nets) × (rows (limit_of kept) ≡ state (limit_of kept))
 stored_spell_trace kept sound (events, legal, (now, all, shows)) done first state nets run rows start after = spells kept sound events legal now all shows state nets run done first rows start after
+
+-- the rows that a slave has stored are as wide as its cluster
+pub slave_wide : (kept : Snapshot) → IsSound kept → (events : List ℕ) → IsLegal (graph_of kept) (limit_of kept) events → (now : State) → FiresAll (split_of kept) kept.vectors (first_state (split_of kept)) events now → Shows kept now
+    → (i : ℕ) → i < length (split_of kept).clusters → (j : ℕ) → j < length (now.stored (Slave i)) → length (get_or (now.stored (Slave i)) j []) ≡ length (members (split_of kept) i)
+slave_wide kept sound events legal now all shows i inside j low =
+    let (state, nets, run) = some_run (split_of kept).circuit sound.in_range sound.plan.split.accepted (split_of kept).initial kept.vectors sound.plan.split.one_value_each sound.vectors in
+    stored_wide kept sound events legal now all shows state nets run i inside j low

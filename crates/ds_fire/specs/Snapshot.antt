@@ -56,12 +56,16 @@ width_of kept n = length (nets_of (split_of kept) n)
 abbrev pub stored_row : Snapshot → Node → ℕ → Row
 stored_row kept n k = slice_range (stored_values kept n) (k * width_of kept n) (k * width_of kept n + width_of kept n)
 
+-- rows, one after the other
+abbrev pub rows_joined : List Row → Row
+rows_joined rows = flat_map (λ row. row) rows
+
 -- what is kept shows a state: its counts, its rows at the nodes that are there and at their places, and what they have stored
 pub record Shows (kept : Snapshot) (now : State) : Type 0 where
   pub counts : (v : ℕ) → now.count v ≡ count_of kept v
   pub rows : (n : Node) → IsNode (split_of kept) n → (place : ℕ) → place ≤ (split_of kept).slack
       → now.rows n place ≡ rows_of (split_of kept) kept.rows n place
-  pub stored : (n : Node) → IsNode (split_of kept) n → flat_map (λ row. row) (now.stored n) ≡ stored_values kept n
+  pub stored : (n : Node) → IsNode (split_of kept) n → rows_joined (now.stored n) ≡ stored_values kept n
 
 -- a new state of a plan and vectors: nothing has fired
 pub record IsFirst (planned : Planned) (vectors : List Row) (kept : Snapshot) : Type 0 where

@@ -5,7 +5,8 @@ ghost use Rattle.ds_latch.specs.Node.{Node, IsNode, number_of, nodes};
 ghost use Rattle.ds_latch.specs.Firing.{State as DefinedState, held};
 ghost use Rattle.ds_marked.specs.Blocked.{IsBlocked};
 ghost use Rattle.ds_marked.specs.declared.blocked.Blocked.{Blocked};
-ghost use Rattle.ds_fire.specs.Snapshot.{IsFirst, Shows, split_of, graph_of, limit_of, count_of, held_row, stored_values};
+ghost use Rattle.ds_fire.specs.Snapshot.{IsFirst, Shows, split_of, graph_of, limit_of, count_of};
+ghost use Rattle.ds_fire.specs.Snapshot.{held_row, rows_joined, stored_values};
 ghost use Rattle.ds_fire.specs.Fired.{IsFired, IsReached, IsReady, IsSound};
 ghost use Rattle.ds_fire.specs.Ready.{IsLeastReady};
 
@@ -107,8 +108,10 @@ impl<'a> State<'a> {
     /// The rows that a node has stored, one a closing, one after the other.
     pub fn stored(&self, latch: LatchId) -> &[Value]
         requires { latch < nodes (split_of self.now) }
-        ensures { (n : Node) → IsNode (split_of self.now) n → number_of n ≡ latch
+        ensures value { (n : Node) → IsNode (split_of self.now) n → number_of n ≡ latch
             → result.now ≡ stored_values self.now n }
+        ensures shown { (n : Node) → IsNode (split_of self.now) n → number_of n ≡ latch
+            → (now : DefinedState) → Shows self.now now → result.now ≡ rows_joined (now.stored n) }
     {
         self.kept.stored[latch.index()].values()
     }

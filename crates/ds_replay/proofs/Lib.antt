@@ -4,3 +4,5 @@ pub mod Blocking
 pub mod Replaying
 pub mod Lines
 pub mod Logs
+pub mod Printed
+pub mod Named

@@ -31,7 +31,7 @@ use Rattle.ds_replay.specs.declared.fault.ReplayKind.TheVariants.{BadWord, Unkno
 use Rattle.ds_replay.proofs.Blocking.{enabled_is, lacks_is, lacks_true}
 
 -- some event, and some arc
-abbrev any_event : Event
+abbrev pub any_event : Event
 any_event = record { signal = []; kind = Rise }
 
 abbrev any_arc : Arc
@@ -110,13 +110,13 @@ module _ (g : Graph) where
       let same : name ≡ event_text (get_or g.events v any_event) = (bytes_eq-Decides name (get_or (event_texts g) v [])).0 here ∙ text_at g v inside in
       subst (λ (o : Option Event). IsSomeAnd o (λ e. name ≡ event_text e)) (sym (slice_get-get_or g.events v any_event inside)) same
 
-  event_within : (v : ℕ) (name : List ℕ) → IsEventText g v name → v < length g.events
+  pub event_within : (v : ℕ) (name : List ℕ) → IsEventText g v name → v < length g.events
   event_within v name is = elim (cases_lt v (length g.events)) [
     | inl inside ↦ inside
     | inr past ↦ absurd (subst (λ (o : Option Event). IsSomeAnd o (λ e. name ≡ event_text e)) (slice_get_past g.events v past) is)
   ]
 
-  event_is : (v : ℕ) (name : List ℕ) → IsEventText g v name → name ≡ event_text (get_or g.events v any_event)
+  pub event_is : (v : ℕ) (name : List ℕ) → IsEventText g v name → name ≡ event_text (get_or g.events v any_event)
   event_is v name is = subst (λ (o : Option Event). IsSomeAnd o (λ e. name ≡ event_text e)) (slice_get-get_or g.events v any_event (event_within v name is)) is
 
   -- a text that is not found is none of an event

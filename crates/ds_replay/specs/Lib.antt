@@ -3,5 +3,6 @@ pub mod Word
 pub mod Replay
 pub mod Replayed
 pub mod Legal
+pub mod Printed
 pub mod Worked
 pub mod Step

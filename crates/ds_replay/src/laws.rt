@@ -1,5 +1,7 @@
 //! What a replay has to do with legal logs.
 ghost use Rattle.ds_replay.specs.Legal.{FiresEachLine, FiresLegalLogs, RefusesFirstFaults, SignedHaveOwnTexts};
+ghost use Rattle.ds_replay.specs.Printed.{NodesHaveOwnWords, PrintedBehindIsFired};
+ghost use Rattle.ds_replay.specs.Printed.{PrintedIsFired, TraceIsFront};
 ghost use Rattle.ds_replay.specs.Worked.{AreWorked};
 
 /// Where no two events are written alike, a log fires events exactly where it is a legal log of
@@ -21,6 +23,26 @@ pub fn refuses_first_faults()
 /// Events with signs, of which none is there twice, are written each in its own way.
 pub fn signed_have_own_texts()
     ensures { SignedHaveOwnTexts }
+{}
+
+/// The events of the nodes are written as words, each in its own way.
+pub fn nodes_have_own_words()
+    ensures { NodesHaveOwnWords }
+{}
+
+/// The log of a legal list is fired to the list's end.
+pub fn printed_is_fired()
+    ensures { PrintedIsFired }
+{}
+
+/// So it is behind other lines and the line `firings`.
+pub fn printed_behind_is_fired()
+    ensures { PrintedBehindIsFired }
+{}
+
+/// A trace is lines behind which a log may stand.
+pub fn trace_is_front()
+    ensures { TraceIsFront }
 {}
 
 /// Short logs fire what they should.

@@ -17,7 +17,6 @@ use Rattle.ds_stage.specs.ReplayStage.{IsStateText, fired_stage, log_stage, repl
 use Rattle.ds_base.specs.Values.{Row}
 use Rattle.ds_astg.specs.Read.{graph_of}
 use Rattle.ds_latch.specs.Plan.{Planned}
-use Rattle.ds_fire.specs.Snapshot.{Snapshot}
 use Rattle.ds_base.specs.declared.number.Mode.{Mode}
 use Rattle.ds_latch.specs.Node.{Split}
 
@@ -65,6 +64,6 @@ planned_says held net graph mode failed c =
 
 pub replayed_says : (held : List ℕ → Held) (log : List ℕ) (failed : OfFile) (planned : Planned) (vectors : List Row) → Says (replayed_stage held log planned vectors) failed
 replayed_says held log failed planned vectors =
-    then_says (log_stage held log planned vectors) (λ (after : Snapshot × ℕ). giving (IsStateText after.0 after.1)) failed
+    then_says (log_stage held log planned vectors) (λ (events : List ℕ). giving (IsStateText planned vectors events)) failed
     (then_says (lines_stage held Log log) (fired_stage log planned vectors) failed (lines_say held Log log failed) (λ lines line none. absurd none))
-    (λ after line none. absurd none)
+    (λ events line none. absurd none)

@@ -4,6 +4,7 @@ use Rattle.std.specs.Prelude.{All}
 use Rattle.std.proofs.lemmas.Bool.{cases_eq}
 use Rattle.std.proofs.lemmas.List.{get_or_default}
 use Rattle.ds_latch.specs.Node.{Split, members}
+use Rattle.ds_latch.specs.Headline.{StandsAt}
 use Rattle.ds_latch.specs.Plan.{IsSplit}
 use Rattle.ds_stage.specs.Homes.{AreHomes, AreHoused, ArePlaced, IsHome, IsIn, IsPlacedOrKept, no_home}
 use Rattle.ds_stage.specs.declared.homes.Home.{Home}
@@ -15,7 +16,7 @@ members_within s split i inside = split.within i [] inside
 -- a register that is placed in its cluster has its home
 placed_home : (s : Split) (i r : ℕ) (home : Home) → i < length s.clusters → IsIn (members s i) i r home → IsHome s r home
 placed_home s i r home inside (at, low, is) =
-    subst (λ (k : ℕ). (k < length s.clusters) × (home.place < length (members s k)) × (get_or (members s k) home.place 0 ≡ r)) (sym at) (inside, low, is)
+    subst (λ (k : ℕ). StandsAt s r k home.place) (sym at) (record { is_cluster = inside; inside = low; here = is })
 
 -- one cluster more
 pub housed_more : (s : Split) (i : ℕ) (old new : List Home) → i < length s.clusters → ArePlaced (members s i) i new

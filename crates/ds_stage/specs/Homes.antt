@@ -1,11 +1,8 @@
 -- Where registers stand.
 use Rattle.std.specs.Prelude.{◌≡◌, ◌⊎◌, ℕ, ◌<◌, List, length, All, slice_index, slice_index_or}
 use Rattle.ds_latch.specs.Node.{Split, members}
+use Rattle.ds_latch.specs.Headline.{StandsAt}
 use Rattle.ds_stage.specs.declared.homes.Home.{Home}
-
--- a register stands at this place of this cluster
-abbrev pub StandsAt : Split → ℕ → ℕ → ℕ → Type 0
-StandsAt s r i p = (i < length s.clusters) × (p < length (members s i)) × (slice_index (members s i) p ≡ r)
 
 -- the home of a register is where it stands
 abbrev pub IsHome : Split → ℕ → Home → Type 0

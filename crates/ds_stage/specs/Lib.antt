@@ -7,8 +7,9 @@ pub mod SplitStage
 pub mod GraphStage
 pub mod PlanStage
 pub mod AcceptStage
-pub mod Homes
 pub mod ReplayStage
+pub mod Homes
+pub mod Kept
 pub mod PeriodStage
 pub mod Ends
 pub mod Laws

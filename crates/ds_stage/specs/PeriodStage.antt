@@ -7,7 +7,7 @@ use Rattle.ds_outside.specs.declared.files.Which.TheVariants.{Delays}
 use Rattle.ds_lines.specs.Line.{Line}
 use Rattle.ds_marked.specs.Graph.{Graph}
 use Rattle.ds_latch.specs.Node.{Split}
-use Rattle.ds_rows.specs.Log.{text_of_event}
+use Rattle.ds_marked.specs.Log.{text_of_event}
 use Rattle.ds_period.specs.Period.{IsPeriod}
 use Rattle.ds_period.specs.Read.{delays_of}
 use Rattle.ds_period.specs.Timing.{timed_arcs}

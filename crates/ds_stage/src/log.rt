@@ -4,7 +4,8 @@ ghost use Rattle.ds_design.specs.Circuit.{columns};
 ghost use Rattle.ds_stage.specs.Ends.{Answers, Never, RoseIn};
 ghost use Rattle.ds_stage.specs.Stage.{then_stage};
 ghost use Rattle.ds_stage.specs.Stages.{text_stage};
-ghost use Rattle.ds_stage.specs.ReplayStage.{fired_stage, log_stage};
+ghost use Rattle.ds_stage.specs.ReplayStage.{fired_stage};
+ghost use Rattle.ds_stage.specs.Kept.{kept_after, kept_stage};
 
 use crate::log_text::log_text;
 use crate::source::{lines_in, read_text, refused_at};
@@ -25,7 +26,7 @@ pub fn read_log<'a, F: Files>(
     vectors: &'a Vectors,
 ) -> Result<(State<'a>, u64), Stop>
     requires { vectors.now.width ≡ length (columns plan.now.split.circuit) }
-    ensures value { Answers (log_stage (F.held files.old) name.now plan.now vectors.now.rows)
+    ensures value { Answers (kept_stage (F.held files.old) name.now plan.now vectors.now.rows)
         (RoseIn (F.faults files.old) (F.faults files.new)) result }
 
     ensures same_held { F.held files.new ≡ F.held files.old }
@@ -44,8 +45,9 @@ fn fired_in<'a>(
     vectors: &'a Vectors,
 ) -> Result<(State<'a>, u64), Stop>
     requires { vectors.now.width ≡ length (columns plan.now.split.circuit) }
-    ensures { Answers (then_stage (text_stage name.now text.now)
-        (fired_stage name.now plan.now vectors.now.rows)) Never result }
+    ensures { Answers (then_stage (then_stage (text_stage name.now text.now)
+        (fired_stage name.now plan.now vectors.now.rows))
+        (kept_after plan.now vectors.now.rows)) Never result }
 {
     let lines = lines_in(alloc, name, text)?;
     match replay(alloc, plan, vectors, &lines) {

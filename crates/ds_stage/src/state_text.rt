@@ -6,7 +6,8 @@ ghost use Rattle.ds_fire.specs.Snapshot.{graph_of, limit_of, split_of};
 ghost use Rattle.ds_stage.specs.Ends.{Ends, Never, Output};
 ghost use Rattle.ds_stage.specs.FaultText.{net_text, register_of};
 ghost use Rattle.ds_stage.specs.Homes.{AreHomes};
-ghost use Rattle.ds_stage.specs.ReplayStage.{IsStateText, fired_line, register_line};
+ghost use Rattle.ds_stage.specs.ReplayStage.{fired_line};
+ghost use Rattle.ds_stage.specs.Kept.{IsKeptText, register_line};
 ghost use Rattle.ds_stage.specs.Stage.{giving};
 
 use crate::homes::{Home, homes_of};
@@ -21,7 +22,7 @@ use itoa::Buffer;
 use std::alloc::Global;
 use std::marker::Brand;
 
-/// Writes a line for each register, and the line of the firings.
+/// Writes a line for each register, and the line of the firings, once a log has been fired.
 pub fn write_state<O: Sink>(
     alloc: Global,
     plan: &Plan<'_>,
@@ -32,7 +33,7 @@ pub fn write_state<O: Sink>(
 ) -> Result<(), Stop>
     requires plan { state.now.planned ≡ plan.now }
     requires vectors { state.now.vectors ≡ vectors.now.rows }
-    ensures { Ends (giving (IsStateText state.now fired)) Never (record {
+    ensures { Ends (giving (IsKeptText state.now fired)) Never (record {
       old = O.written out.old;
       new = O.written out.new;
       before = O.faults out.old;
@@ -72,7 +73,7 @@ fn write_behind<'a, O: Sink, B: Behind>(
     requires same { behind.sink.ghost_name ≡ B.name }
     requires before { O.written behind.sink.now ≡ B.before }
 
-    ensures ok { (text : List ℕ) × IsStateText state.now fired text
+    ensures ok { (text : List ℕ) × IsKeptText state.now fired text
         × Writes result.1 B.before (O.written result.0.sink.now)
         (O.faults behind.entry.sink.now) (O.faults result.0.sink.now) text }
     ensures same { result.0.sink.ghost_name ≡ B.name }

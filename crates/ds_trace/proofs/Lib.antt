@@ -3,3 +3,4 @@ pub mod Gathered
 pub mod Turns
 pub mod Logged
 pub mod Summed
+pub mod Fired

@@ -11,7 +11,7 @@ use Rattle.ds_stage.specs.Stage.{OfFile, then_stage}
 use Rattle.ds_stage.specs.Stages.{netlist_stage, vectors_stage}
 use Rattle.ds_stage.specs.SplitStage.{IsInClusters}
 use Rattle.ds_stage.specs.PlanStage.{planned_stage}
-use Rattle.ds_stage.specs.ReplayStage.{log_stage}
+use Rattle.ds_stage.specs.Kept.{kept_stage}
 use Rattle.ds_app.specs.Job.{replay_stage}
 use Rattle.ds_stage.specs.Ends.{Answers, Output, RoseIn}
 use Rattle.ds_stage.specs.declared.stop.Stop.{Stop}
@@ -19,7 +19,7 @@ use Rattle.ds_stage.proofs.Stages.{IsWider, stopped, widened}
 use Rattle.ds_stage.proofs.Ends.{ended, never_fell, planned_since, vectors_since}
 use Rattle.ds_stage.proofs.PlanAccepted.{planned_in_clusters}
 use Rattle.ds_fire.specs.Snapshot.{Snapshot}
-use Rattle.ds_app.proofs.ReplayEnds.{ends_log, log_since, stops_log, stops_plan, stops_vectors}
+use Rattle.ds_app.proofs.ReplayEnds.{ends_log, log_since, log_stops, stops_log, stops_plan, stops_vectors}
 use Rattle.ds_app.proofs.replay.replay.Goals as goal
 
 pub returns-in_err-netlist : goal.returns-in_err-netlist
@@ -117,7 +117,7 @@ returns-in_err-state g c =
     let rows : Rows = c.in_ok-vectors.vectors in
     let given : (vectors_stage held vec circuit).means rows = since.means rows c.in_ok-vectors.ensures.value in
     let after_rows : List ℕ → Held = g.F.Files.held c.read_rows.new.files in
-    let logged : IsWider (log_stage after_rows log plan rows.rows) (log_stage held log plan rows.rows) (RoseIn (g.F.Files.faults c.read_rows.new.files) (g.F.Files.faults c.read_log.new.files)) (RoseIn before (g.F.Files.faults c.read_log.new.files)) =
+    let logged : IsWider (kept_stage after_rows log plan rows.rows) (kept_stage held log plan rows.rows) (RoseIn (g.F.Files.faults c.read_rows.new.files) (g.F.Files.faults c.read_log.new.files)) (RoseIn before (g.F.Files.faults c.read_log.new.files)) =
     log_since held after_rows log plan rows.rows before (g.F.Files.faults c.read_rows.new.files) (g.F.Files.faults c.read_log.new.files)
     (c.in_ok-vectors.ensures.same_held ∙ (c.in_ok-plan.ensures.same_held ∙ c.in_ok-netlist.ensures.same_held))
     (never_fell before (g.F.Files.faults c.plan_netlist.new.files) (g.F.Files.faults c.read_rows.new.files)
@@ -125,21 +125,21 @@ returns-in_err-state g c =
     c.in_ok-vectors.ensures.never_falls) in
     let stop : Stop = c.in_err-state.field-0.0 in
     let p = err_from_is_err_and c.from_residual-in_err-state.result c.from_residual-in_err-state.ensures.1 in
-    let unread : Answers {A = Snapshot × ℕ} (log_stage held log plan rows.rows) more (Err stop) =
-    widened {A = Snapshot × ℕ} (log_stage after_rows log plan rows.rows) (log_stage held log plan rows.rows)
+    let unread : Answers {A = Snapshot × ℕ} (kept_stage held log plan rows.rows) more (Err stop) =
+    widened {A = Snapshot × ℕ} (kept_stage after_rows log plan rows.rows) (kept_stage held log plan rows.rows)
     (RoseIn (g.F.Files.faults c.read_rows.new.files) (g.F.Files.faults c.read_log.new.files)) more logged (Err stop) c.in_err-state.ensures.value in
     rw (p.1, p.2) (ended (Unit {0}) (then_stage (netlist_stage held net) (replay_stage held net vec log graph mode)) more
     (record { old = g.O.Sink.written c.args.out.now; new = g.O.Sink.written c.args.out.now; before = g.O.Sink.faults c.args.out.now; now = g.O.Sink.faults c.args.out.now }) stop refl
-    (stops_log held net vec log graph mode more circuit c.in_ok-netlist.ensures.value plan planned rows given stop unread))
+    (stops_log held net vec log graph mode more circuit c.in_ok-netlist.ensures.value plan planned rows given stop (log_stops held log plan rows.rows more stop unread)))
 
 pub write_state-requires-clause-plan : goal.write_state-requires-clause-plan
 write_state-requires-clause-plan g c =
-    let (lines, are, after) = c.in_ok-state.ensures.value in
+    let (events, fired, after) = c.in_ok-state.ensures.value in
     after.state.planned_is
 
 pub write_state-requires-clause-vectors : goal.write_state-requires-clause-vectors
 write_state-requires-clause-vectors g c =
-    let (lines, are, after) = c.in_ok-state.ensures.value in
+    let (events, fired, after) = c.in_ok-state.ensures.value in
     after.state.vectors_are
 
 pub returns : goal.returns
@@ -165,13 +165,12 @@ returns g c =
     let rows : Rows = c.in_ok-vectors.vectors in
     let given : (vectors_stage held vec circuit).means rows = since.means rows c.in_ok-vectors.ensures.value in
     let after_rows : List ℕ → Held = g.F.Files.held c.read_rows.new.files in
-    let logged : IsWider (log_stage after_rows log plan rows.rows) (log_stage held log plan rows.rows) (RoseIn (g.F.Files.faults c.read_rows.new.files) (g.F.Files.faults c.read_log.new.files)) (RoseIn before (g.F.Files.faults c.read_log.new.files)) =
+    let logged : IsWider (kept_stage after_rows log plan rows.rows) (kept_stage held log plan rows.rows) (RoseIn (g.F.Files.faults c.read_rows.new.files) (g.F.Files.faults c.read_log.new.files)) (RoseIn before (g.F.Files.faults c.read_log.new.files)) =
     log_since held after_rows log plan rows.rows before (g.F.Files.faults c.read_rows.new.files) (g.F.Files.faults c.read_log.new.files)
     (c.in_ok-vectors.ensures.same_held ∙ (c.in_ok-plan.ensures.same_held ∙ c.in_ok-netlist.ensures.same_held))
     (never_fell before (g.F.Files.faults c.plan_netlist.new.files) (g.F.Files.faults c.read_rows.new.files)
     (never_fell before (g.F.Files.faults c.read_netlist.new.files) (g.F.Files.faults c.plan_netlist.new.files) c.in_ok-netlist.ensures.never_falls c.in_ok-plan.ensures.never_falls)
     c.in_ok-vectors.ensures.never_falls) in
-    let after : Snapshot × ℕ = (c.in_ok-state.state, c.in_ok-state.fired) in
     let out : Output = (record { old = g.O.Sink.written c.args.out.now; new = g.O.Sink.written c.write_state.new.out; before = g.O.Sink.faults c.args.out.now; now = g.O.Sink.faults c.write_state.new.out }) in
-    let fired : (log_stage held log plan rows.rows).means (c.in_ok-state.state, c.in_ok-state.fired) = logged.means (c.in_ok-state.state, c.in_ok-state.fired) c.in_ok-state.ensures.value in
-    ends_log held net vec log graph mode more circuit c.in_ok-netlist.ensures.value plan planned rows given after fired out c.write_state.result c.write_state.ensures
+    let (events, fired, after) = logged.means (c.in_ok-state.state, c.in_ok-state.fired) c.in_ok-state.ensures.value in
+    ends_log held net vec log graph mode more circuit c.in_ok-netlist.ensures.value plan planned rows given events fired out c.write_state.result c.in_ok-state.state c.in_ok-state.fired after c.write_state.ensures

@@ -3,7 +3,7 @@ use Rattle.std.specs.List.{flat_map, range_with_len}
 use Rattle.ds_control.proofs.Two.{flat_map_next}
 use Rattle.ds_outside.specs.Writes.{GoesOn}
 use Rattle.ds_rows.proofs.Then.{goes_on, nothing, with_text}
-use Rattle.ds_stage.specs.ReplayStage.{register_line}
+use Rattle.ds_stage.specs.Kept.{register_line}
 use Rattle.ds_stage.proofs.state_text.put_registers.Goals as goal
 
 pub loop-r-init : goal.loop-r-init

@@ -1,6 +1,6 @@
 use Rattle.std.specs.List.{flat_map, range_with_len}
 use Rattle.ds_outside.specs.Writes.{GoesOn}
-use Rattle.ds_stage.specs.ReplayStage.{register_line}
+use Rattle.ds_stage.specs.Kept.{register_line}
 use Rattle.ds_stage.proofs.state_text.put_registers.Given as goal
 
 abbrev pub invariant-loop-r : goal.invariant-loop-r

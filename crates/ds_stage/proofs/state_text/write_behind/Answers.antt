@@ -1,7 +1,7 @@
 use Rattle.ds_outside.proofs.Handing.{handed_on}
 use Rattle.ds_clocked.proofs.Behind.{begun}
 use Rattle.ds_rows.proofs.Then.{goes_on}
-use Rattle.ds_stage.specs.ReplayStage.{state_text}
+use Rattle.ds_stage.specs.Kept.{state_text}
 use Rattle.ds_stage.proofs.Registers.{text_is}
 use Rattle.ds_stage.proofs.state_text.write_behind.Goals as goal
 

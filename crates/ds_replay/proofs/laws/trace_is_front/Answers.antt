@@ -1,0 +1,5 @@
+use Rattle.ds_replay.proofs.Printed.{trace_is_front}
+use Rattle.ds_replay.proofs.laws.trace_is_front.Goals as goal
+
+pub returns : goal.returns
+returns c = trace_is_front

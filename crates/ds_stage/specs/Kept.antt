@@ -1,0 +1,48 @@
+-- What a call keeps of a log, and the text that it writes of that.
+use Rattle.std.specs.Prelude.{◌≡◌, ℕ, List, ◌++◌, length, slice_index_or}
+use Rattle.std.specs.List.{flat_map, range_with_len}
+use Rattle.ds_base.specs.Values.{Row}
+use Rattle.ds_outside.specs.Held.{Held}
+use Rattle.ds_latch.specs.Node.{Slave, members}
+use Rattle.ds_latch.specs.Plan.{Planned}
+use Rattle.ds_fire.specs.Snapshot.{Snapshot, split_of, stored_values}
+use Rattle.ds_rows.specs.Log.{column, stored_text}
+use Rattle.ds_replay.specs.Replayed.{IsReplayed}
+use Rattle.ds_stage.specs.FaultText.{register_of}
+use Rattle.ds_stage.specs.Stage.{Stage, giving, then_stage}
+use Rattle.ds_stage.specs.ReplayStage.{IsStateText, fired_line, log_stage}
+use Rattle.ds_stage.specs.Homes.{no_home}
+use Rattle.ds_stage.specs.declared.homes.Home.{Home}
+
+-- these firings lead to what is kept, and so many they are
+pub record IsAfterLog (planned : Planned) (vectors : List Row) (events : List ℕ) (kept : Snapshot)
+    (fired : ℕ) : Type 0 where
+  pub state : IsReplayed planned vectors events kept
+  pub count : fired ≡ length events
+
+-- whatever log led to what is kept, this is its text
+pub record IsKeptText (kept : Snapshot) (fired : ℕ) (text : List ℕ) : Type 0 where
+  pub is : (planned : Planned) (vectors : List Row) (events : List ℕ)
+      → IsAfterLog planned vectors events kept fired → IsStateText planned vectors events text
+
+-- what is kept of a log that fires these events
+abbrev pub kept_after : Planned → List Row → List ℕ → Stage (Snapshot × ℕ)
+kept_after planned vectors events =
+    giving (λ after. IsAfterLog planned vectors events after.0 after.1)
+
+-- what is kept of the log of a file
+abbrev pub kept_stage : (List ℕ → Held) → List ℕ → Planned → List Row → Stage (Snapshot × ℕ)
+kept_stage held log planned vectors =
+    then_stage (log_stage held log planned vectors) (kept_after planned vectors)
+
+-- the line of a register, by where the registers stand
+abbrev pub register_line : Snapshot → List Home → ℕ → List ℕ
+register_line kept homes r = stored_text (register_of (split_of kept).circuit r)
+    (column (length (members (split_of kept) (slice_index_or homes r no_home).cluster))
+    (slice_index_or homes r no_home).place
+    (stored_values kept (Slave (slice_index_or homes r no_home).cluster)))
+
+-- the lines of all registers, by where they stand, and the line of the firings
+abbrev pub state_text : Snapshot → List Home → ℕ → ℕ → List ℕ
+state_text kept homes fired most =
+    flat_map (register_line kept homes) (range_with_len 0 (length homes)) ++ fired_line fired most
