@@ -15,7 +15,8 @@ width_in tables k = slice_index (map (λ t. min (length t.table.inputs) 7) table
 
 -- table k with its level and width
 abbrev pub placed_at : List Gate → List ℕ → ℕ → Placed
-placed_at tables levels k = record { level = level_in tables levels k; place = k; width = width_in tables k }
+placed_at tables levels k =
+    record { level = level_in tables levels k; place = k; width = width_in tables k }
 
 -- the first tables, each with its level and width
 abbrev pub placed : List Gate → List ℕ → ℕ → List Placed

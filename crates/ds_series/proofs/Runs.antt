@@ -5,7 +5,6 @@ use Rattle.std.proofs.Math.Seq.{drop-cons}
 use Rattle.std.proofs.lemmas.List.{drop-map, get_or-map, length-map, take-append-drop, take-map}
 use Rattle.std.proofs.lemmas.List.Elements.{All-head, All-tail, All-cons}
 use Rattle.ds_base.specs.Values.{Row}
-use Rattle.ds_base.specs.declared.value.Value.{Value}
 use Rattle.ds_cover.specs.Packed.{packed_value}
 use Rattle.ds_cover.specs.Bank.{Driven, IsWithin, driven_at}
 use Rattle.ds_series.specs.Small.{IsSmallWithin, Small, StandsFor, Worded, WordsFor, after_smalls, after_worded, paired, small_value, worded_value}
