@@ -24,6 +24,7 @@ mod check;
 mod clock;
 mod demo;
 mod graph;
+pub mod laws;
 mod replay;
 mod run;
 
