@@ -4,3 +4,4 @@ pub mod DemoStage
 pub mod Job
 pub mod Interleavings
 pub mod Status
+pub mod Laws

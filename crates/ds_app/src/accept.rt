@@ -1,5 +1,5 @@
 //! `accept`: the ranks of a graph of the user's that is accepted.
-ghost use Rattle.std.specs.Prelude.{◌≡◌, ◌<◌, length};
+ghost use Rattle.std.specs.Prelude.{◌≡◌, ◌<◌, IfOk, length};
 ghost use Rattle.ds_outside.specs.Writes.{GoesOn, Writes};
 ghost use Rattle.ds_rows.specs.Log.{firing_text};
 ghost use Rattle.ds_rank.specs.Rank.{AreRanks};
@@ -8,10 +8,10 @@ ghost use Rattle.ds_stage.specs.Ends.{Ends, Never, Output, RoseIn};
 ghost use Rattle.ds_stage.specs.AcceptStage.{rank_lines, ranks_stage, ranks_text};
 ghost use Rattle.ds_app.specs.Job.{stages_of};
 
-use ds_base::{EventId, Mode};
+use ds_base::{EventId, Mode, OutOfMemory};
 use ds_latch::Plan;
 use ds_outside::{Behind, Buffered, Files, Lent, Sink, WriteFault};
-use ds_rank::{Ranks, rank};
+use ds_rank::{RankFault, Ranks, rank};
 use ds_rows::{firing_line, put};
 use ds_stage::{Stop, plan_named, read_netlist};
 use std::alloc::Global;
@@ -34,7 +34,7 @@ pub fn accept<F: Files, O: Sink>(
     files: &mut F,
     out: &mut O,
 ) -> Result<(), Stop>
-    ensures { Ends (stages_of (F.held files.old)
+    ensures value { Ends (stages_of (F.held files.old)
         (Accept job.now.net.now job.now.graph.now job.now.clusters))
         (RoseIn (F.faults files.old) (F.faults files.new)) (record {
           old = O.written out.old;
@@ -42,6 +42,8 @@ pub fn accept<F: Files, O: Sink>(
           before = O.faults out.old;
           now = O.faults out.new;
         }) result }
+
+    ensures same_held { F.held files.new ≡ F.held files.old }
 {
     // Read for the fact that its names are texts.
     let _texts = *job;
@@ -59,14 +61,22 @@ fn write_accepted<O: Sink>(alloc: Global, plan: &Plan<'_>, out: &mut O) -> Resul
       now = O.faults out.new;
     }) result }
 {
-    // In a graph that is accepted nothing waits for itself, so nothing but memory may lack.
-    let Ok(ranks) = rank(alloc, plan.graph()) else {
-        return Err(Stop::Memory);
-    };
+    let ranks = ranks_of(alloc, plan)?;
     let (_, result) = write_behind::<O, Brand>(plan, &ranks, Lent { sink: out });
     match result {
         Ok(()) => Ok(()),
         Err(_) => Err(Stop::Unwritten),
+    }
+}
+
+// The ranks of a plan's events. In a graph that is accepted nothing waits for itself.
+fn ranks_of(alloc: Global, plan: &Plan<'_>) -> Result<Ranks, OutOfMemory>
+    ensures { IfOk result (λ ranks. AreRanks plan.now.graph ranks) }
+{
+    match rank(alloc, plan.graph()) {
+        Ok(ranks) => Ok(ranks),
+        Err(RankFault::Memory) => Err(OutOfMemory),
+        Err(RankFault::Cycle(_)) => unreachable!(),
     }
 }
 

@@ -64,6 +64,9 @@ pub fn desync_main<R: AllocGlobal + Threads + Sync, F: Files, O: Sink, E: Sink, 
     // Where the words are no command line, nothing is read.
     ensures nothing_read { result ≡ 2 → files.new ≡ files.old }
 
+    // What the files hold is as it was.
+    ensures same_held { F.held files.new ≡ F.held files.old }
+
     // In whatever order latches fire, registers store their clocked values, and firing goes on.
     ensures interleavings { Interleavings (F.held files.old) (map (λ w. w.now) words.now) }
 {
@@ -86,13 +89,15 @@ fn do_job<R: AllocGlobal + Threads + Sync, G: Gate, F: Files, O: Sink>(
     out: &mut O,
 ) -> Result<(), Stop>
     requires { AreAllowed job.now }
-    ensures { Ends (stages_of (F.held files.old) job.now)
+    ensures value { Ends (stages_of (F.held files.old) job.now)
         (RoseIn (F.faults files.old) (F.faults files.new)) (record {
           old = O.written out.old;
           new = O.written out.new;
           before = O.faults out.old;
           now = O.faults out.new;
         }) result }
+
+    ensures same_held { F.held files.new ≡ F.held files.old }
 {
     let alloc = rt.alloc();
     match job {

@@ -16,13 +16,15 @@ pub fn check<F: Files, O: Sink>(
     files: &mut F,
     out: &mut O,
 ) -> Result<(), Stop>
-    ensures { Ends (stages_of (F.held files.old) (Check net.now))
+    ensures value { Ends (stages_of (F.held files.old) (Check net.now))
         (RoseIn (F.faults files.old) (F.faults files.new)) (record {
           old = O.written out.old;
           new = O.written out.new;
           before = O.faults out.old;
           now = O.faults out.new;
         }) result }
+
+    ensures same_held { F.held files.new ≡ F.held files.old }
 {
     let netlist = read_netlist(alloc, files, net)?;
     write_report(&netlist, out)

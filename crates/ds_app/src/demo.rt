@@ -1,17 +1,21 @@
 //! `demo`: the summary of a run of the design that is made from a number.
-ghost use Rattle.std.specs.Prelude.{◌≡◌, ◌≤◌, ◌<◌, IfOk};
+ghost use Rattle.std.specs.Prelude.{◌≡◌, ◌≤◌, ◌<◌, ℕ, List, [], IfOk};
 ghost use Rattle.ds_base.specs.Limit.{most_of};
 ghost use Rattle.ds_base.specs.declared.number.Limit.TheVariants.{Clusters, Vectors as VectorLimit};
+ghost use Rattle.ds_base.specs.declared.number.Mode.TheVariants.{Each};
+ghost use Rattle.ds_design.specs.Accepted.{IsAccepted};
 ghost use Rattle.ds_design.specs.Circuit.{initial_row};
 ghost use Rattle.ds_outside.specs.Writes.{Writes};
+ghost use Rattle.ds_netlist.specs.declared.fault.NetFault.TheVariants.{Memory};
 ghost use Rattle.ds_app.specs.DemoStage.{AreSums, demo_stage, summary_text};
 ghost use Rattle.ds_stage.specs.Ends.{Ends, Never, Output};
+ghost use Rattle.ds_stage.specs.SplitStage.{split_stage};
 
 use ds_base::{Mode, OutOfMemory};
 use ds_demo::make;
 use ds_design::{Design, Netlist};
 use ds_latch::Plan;
-use ds_netlist::levelise;
+use ds_netlist::{NetFault, levelise};
 use ds_outside::{Gate, Sink, WriteFault};
 use ds_run::Workers;
 use ds_stage::{Stop, own_plan, put_count, split_netlist};
@@ -98,24 +102,44 @@ fn sums_of<R: AllocGlobal + Threads + Sync, G: Gate>(
     sum_run(alloc, &plan, &vectors, &workers)
 }
 
-// The netlist of a made design, which is accepted: nothing but want of memory refuses it.
+// The netlist of a design that is accepted.
 fn netlist_of(alloc: Global, design: Design) -> Result<Netlist, OutOfMemory>
+    requires { IsAccepted design }
     ensures { IfOk result (λ netlist. netlist ≡ design) }
 {
     match levelise(alloc, design) {
         Ok(netlist) => Ok(netlist),
-        Err(_) => Err(OutOfMemory),
+        Err(refusal) => Err(memory_in(&refusal.1)),
     }
 }
 
-// Its plan, each register in a cluster of its own. So few nodes, of which a master reads three at
-// most, are not refused.
+// The want of memory that a fault is.
+fn memory_in(fault: &NetFault) -> OutOfMemory
+    requires { fault.now ≡ Memory }
+{
+    match fault {
+        NetFault::Memory => OutOfMemory,
+        NetFault::SeveralClocks(_, _) => unreachable!(),
+        NetFault::MixedEdges(_, _) => unreachable!(),
+        NetFault::DrivenClock(_) => unreachable!(),
+        NetFault::ClockAsData(_) => unreachable!(),
+        NetFault::MultiplyDriven(_, _, _) => unreachable!(),
+        NetFault::Undriven(_) => unreachable!(),
+        NetFault::CombinationalCycle(_) => unreachable!(),
+    }
+}
+
+// Its plan, each register in a cluster of its own, where no line refuses its split.
 fn plan_for<'a>(alloc: Global, netlist: &'a Netlist) -> Result<Plan<'a>, OutOfMemory>
+    requires { (line : List ℕ) → ¬ (split_stage [] Each netlist.now).refused line }
     ensures netlist { IfOk result (λ plan. plan.split.circuit ≡ netlist.entry.now) }
     ensures start { IfOk result (λ plan. plan.split.initial ≡ initial_row netlist.entry.now) }
 {
     match split_netlist(alloc, "", netlist, Mode::Each) {
         Ok(latches) => own_plan(alloc, latches),
-        Err(_) => Err(OutOfMemory),
+        Err(Stop::Memory) => Err(OutOfMemory),
+        Err(Stop::Refused(_)) => unreachable!(),
+        Err(Stop::Unread(_)) => unreachable!(),
+        Err(Stop::Unwritten) => unreachable!(),
     }
 }

@@ -26,6 +26,7 @@ mod check;
 mod clock;
 mod demo;
 mod graph;
+pub mod laws;
 mod period;
 mod period_text;
 mod replay;

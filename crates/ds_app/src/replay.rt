@@ -30,7 +30,7 @@ pub fn replay<F: Files, O: Sink>(
     files: &mut F,
     out: &mut O,
 ) -> Result<(), Stop>
-    ensures { Ends (stages_of (F.held files.old) (Replay job.now.net.now job.now.vec.now
+    ensures value { Ends (stages_of (F.held files.old) (Replay job.now.net.now job.now.vec.now
         job.now.log.now job.now.graph.now job.now.clusters))
         (RoseIn (F.faults files.old) (F.faults files.new)) (record {
           old = O.written out.old;
@@ -38,6 +38,8 @@ pub fn replay<F: Files, O: Sink>(
           before = O.faults out.old;
           now = O.faults out.new;
         }) result }
+
+    ensures same_held { F.held files.new ≡ F.held files.old }
 {
     // Read for the fact that its names are texts.
     let _texts = *job;

@@ -40,7 +40,7 @@ pub fn run<R: AllocGlobal + Threads + Sync, G: Gate, F: Files, O: Sink>(
     out: &mut O,
 ) -> Result<(), Stop>
     requires { (0 < job.now.jobs) × (job.now.jobs ≤ 64) }
-    ensures { Ends (stages_of (F.held files.old) (Run job.now.net.now job.now.vec.now
+    ensures value { Ends (stages_of (F.held files.old) (Run job.now.net.now job.now.vec.now
         job.now.graph.now job.now.clusters job.now.jobs job.now.log))
         (RoseIn (F.faults files.old) (F.faults files.new)) (record {
           old = O.written out.old;
@@ -48,6 +48,8 @@ pub fn run<R: AllocGlobal + Threads + Sync, G: Gate, F: Files, O: Sink>(
           before = O.faults out.old;
           now = O.faults out.new;
         }) result }
+
+    ensures same_held { F.held files.new ≡ F.held files.old }
 {
     // Read for the fact that its names are texts.
     let _texts = *job;

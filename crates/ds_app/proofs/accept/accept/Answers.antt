@@ -16,8 +16,8 @@ use Rattle.ds_stage.proofs.Stages.{IsWider, passed, stopped, widened}
 use Rattle.ds_stage.proofs.Ends.{ended, ends_after, ends_more, planned_since}
 use Rattle.ds_app.proofs.accept.accept.Goals as goal
 
-pub returns-in_err-netlist : goal.returns-in_err-netlist
-returns-in_err-netlist g c =
+pub returns-in_err-netlist-clause-value : goal.returns-in_err-netlist-clause-value
+returns-in_err-netlist-clause-value g c =
     let held : List ℕ → Held = g.F.Files.held c.args.files.now in
     let net : List ℕ = c.args.job.now.net.now in
     let graph : Option (List ℕ) = (Some c.args.job.now.graph.now) in
@@ -29,8 +29,8 @@ returns-in_err-netlist g c =
     (record { old = g.O.Sink.written c.args.out.now; new = g.O.Sink.written c.args.out.now; before = g.O.Sink.faults c.args.out.now; now = g.O.Sink.faults c.args.out.now }) c.in_err-netlist.field-0.0 refl
     (stopped (netlist_stage held net) (accept_stage held net c.args.job.now.graph.now mode) more c.in_err-netlist.field-0.0 c.in_err-netlist.ensures.value))
 
-pub returns-in_err-plan : goal.returns-in_err-plan
-returns-in_err-plan g c =
+pub returns-in_err-plan-clause-value : goal.returns-in_err-plan-clause-value
+returns-in_err-plan-clause-value g c =
     let held : List ℕ → Held = g.F.Files.held c.args.files.now in
     let net : List ℕ = c.args.job.now.net.now in
     let graph : Option (List ℕ) = (Some c.args.job.now.graph.now) in
@@ -50,8 +50,8 @@ returns-in_err-plan g c =
     (passed {B = List ℕ} (netlist_stage held net) (accept_stage held net c.args.job.now.graph.now mode) more circuit c.in_ok-netlist.ensures.value (Err stop)
     (stopped (planned_stage held net graph mode circuit) ranks_stage more stop few)))
 
-pub returns : goal.returns
-returns g c =
+pub returns-clause-value : goal.returns-clause-value
+returns-clause-value g c =
     let held : List ℕ → Held = g.F.Files.held c.args.files.now in
     let net : List ℕ = c.args.job.now.net.now in
     let graph : Option (List ℕ) = (Some c.args.job.now.graph.now) in

@@ -15,7 +15,7 @@ returns-in-Ok-do_job-clause-answered g c =
       out = record { old = g.O.Sink.written c.args.out.now; new = g.O.Sink.written c.do_job.new.out; before = g.O.Sink.faults c.args.out.now; now = g.O.Sink.faults c.do_job.new.out };
       err = record { old = g.E.Sink.written c.args.err.now; new = g.E.Sink.written c.args.err.now; before = g.E.Sink.faults c.args.err.now; now = g.E.Sink.faults c.args.err.now };
     } in
-    let (text, means, written) = c.in-Ok-do_job.ensures in
+    let (text, means, written) = c.in-Ok-do_job.ensures.value in
     answered_done call c.in-Ok.job text c.in-Ok.ensures.value means written refl
 
 pub returns-in-Ok-do_job-clause-nothing_read : goal.returns-in-Ok-do_job-clause-nothing_read
@@ -37,7 +37,7 @@ returns-in-Ok-clause-answered g c =
       out = record { old = g.O.Sink.written c.args.out.now; new = g.O.Sink.written c.do_job.new.out; before = g.O.Sink.faults c.args.out.now; now = g.O.Sink.faults c.do_job.new.out };
       err = record { old = g.E.Sink.written c.args.err.now; new = g.E.Sink.written c.say_stop.new.err; before = g.E.Sink.faults c.args.err.now; now = g.E.Sink.faults c.say_stop.new.err };
     } in
-    answered_stop (Unit {0}) call c.in-Ok.job c.in-Err-do_job.stop c.say_stop.result c.in-Ok.ensures.value c.in-Err-do_job.ensures c.say_stop.ensures
+    answered_stop (Unit {0}) call c.in-Ok.job c.in-Err-do_job.stop c.say_stop.result c.in-Ok.ensures.value c.in-Err-do_job.ensures.value c.say_stop.ensures
 
 pub returns-in-Ok-clause-nothing_read : goal.returns-in-Ok-clause-nothing_read
 returns-in-Ok-clause-nothing_read g c = λ two. absurd (stop_is_not_two c.in-Err-do_job.stop
@@ -57,8 +57,15 @@ returns g c =
     record {
       answered = answered_words call c.in-Err.fault c.say_usage.result c.in-Err.ensures.value refl c.say_usage.ensures;
       nothing_read = λ two. refl;
+      same_held = refl;
       interleavings = interleavings_lem (g.F.Files.held c.args.files.now) (map (λ (w : Bor (List ℕ)). w.now) c.args.words.now);
     }
 
 pub do_job-requires-after_bounds : goal.do_job-requires-after_bounds
 do_job-requires-after_bounds g c _ _ = c.in-Ok.ensures.numbers
+
+pub returns-in-Ok-do_job-clause-same_held : goal.returns-in-Ok-do_job-clause-same_held
+returns-in-Ok-do_job-clause-same_held g c = c.in-Ok-do_job.ensures.same_held
+
+pub returns-in-Ok-clause-same_held : goal.returns-in-Ok-clause-same_held
+returns-in-Ok-clause-same_held g c = c.in-Err-do_job.ensures.same_held

@@ -1,4 +1,4 @@
-use Rattle.std.proofs.Common.{◌≡◌, ℕ, List, sym, subst}
+use Rattle.std.proofs.Common.{◌≡◌, ℕ, List, sym, subst, refl}
 use Rattle.ds_cmd.specs.declared.job.Job.{Job}
 use Rattle.ds_cmd.specs.declared.job.Job.TheVariants.{Run, Clock, Check, Graph, Replay, Accept}
 use Rattle.ds_cmd.specs.declared.job.Job.TheVariants.{Demo, Period}
@@ -11,41 +11,41 @@ use Rattle.ds_stage.specs.Ends.{Ends, Output, RoseIn}
 use Rattle.ds_stage.proofs.Ends.{gives_more}
 use Rattle.ds_app.proofs.app.do_job.Goals as goal
 
-pub returns-in-Run : goal.returns-in-Run
-returns-in-Run g c =
+pub returns-in-Run-clause-value : goal.returns-in-Run-clause-value
+returns-in-Run-clause-value g c =
     let job : Run c.as_str.result.now c.as_str-in-Run.result.now c.in-Run.graph c.in-Run.clusters c.in-Run.jobs c.in-Run.log ≡ c.args.job.now = cc in
     subst (λ (j : Job). Ends (stages_of (g.F.Files.held c.args.files.now) j) (RoseIn (g.F.Files.faults c.args.files.now) (g.F.Files.faults c.run.new.files))
-    (record { old = g.O.Sink.written c.args.out.now; new = g.O.Sink.written c.run.new.out; before = g.O.Sink.faults c.args.out.now; now = g.O.Sink.faults c.run.new.out }) c.run.result) job c.run.ensures
+    (record { old = g.O.Sink.written c.args.out.now; new = g.O.Sink.written c.run.new.out; before = g.O.Sink.faults c.args.out.now; now = g.O.Sink.faults c.run.new.out }) c.run.result) job c.run.ensures.value
 
-pub returns-in-Clock : goal.returns-in-Clock
-returns-in-Clock g c =
+pub returns-in-Clock-clause-value : goal.returns-in-Clock-clause-value
+returns-in-Clock-clause-value g c =
     let job : Clock c.as_str-in-Clock.result.now c.as_str-in-Clock-2.result.now ≡ c.args.job.now = cc in
     subst (λ (j : Job). Ends (stages_of (g.F.Files.held c.args.files.now) j) (RoseIn (g.F.Files.faults c.args.files.now) (g.F.Files.faults c.clock.new.files))
-    (record { old = g.O.Sink.written c.args.out.now; new = g.O.Sink.written c.clock.new.out; before = g.O.Sink.faults c.args.out.now; now = g.O.Sink.faults c.clock.new.out }) c.clock.result) job c.clock.ensures
+    (record { old = g.O.Sink.written c.args.out.now; new = g.O.Sink.written c.clock.new.out; before = g.O.Sink.faults c.args.out.now; now = g.O.Sink.faults c.clock.new.out }) c.clock.result) job c.clock.ensures.value
 
-pub returns-in-Check : goal.returns-in-Check
-returns-in-Check g c =
+pub returns-in-Check-clause-value : goal.returns-in-Check-clause-value
+returns-in-Check-clause-value g c =
     let job : Check c.as_str-in-Check.result.now ≡ c.args.job.now = cc in
     subst (λ (j : Job). Ends (stages_of (g.F.Files.held c.args.files.now) j) (RoseIn (g.F.Files.faults c.args.files.now) (g.F.Files.faults c.check.new.files))
-    (record { old = g.O.Sink.written c.args.out.now; new = g.O.Sink.written c.check.new.out; before = g.O.Sink.faults c.args.out.now; now = g.O.Sink.faults c.check.new.out }) c.check.result) job c.check.ensures
+    (record { old = g.O.Sink.written c.args.out.now; new = g.O.Sink.written c.check.new.out; before = g.O.Sink.faults c.args.out.now; now = g.O.Sink.faults c.check.new.out }) c.check.result) job c.check.ensures.value
 
-pub returns-in-Graph : goal.returns-in-Graph
-returns-in-Graph g c =
+pub returns-in-Graph-clause-value : goal.returns-in-Graph-clause-value
+returns-in-Graph-clause-value g c =
     let job : Graph c.as_str-in-Graph.result.now c.in-Graph.clusters ≡ c.args.job.now = cc in
     subst (λ (j : Job). Ends (stages_of (g.F.Files.held c.args.files.now) j) (RoseIn (g.F.Files.faults c.args.files.now) (g.F.Files.faults c.graph.new.files))
-    (record { old = g.O.Sink.written c.args.out.now; new = g.O.Sink.written c.graph.new.out; before = g.O.Sink.faults c.args.out.now; now = g.O.Sink.faults c.graph.new.out }) c.graph.result) job c.graph.ensures
+    (record { old = g.O.Sink.written c.args.out.now; new = g.O.Sink.written c.graph.new.out; before = g.O.Sink.faults c.args.out.now; now = g.O.Sink.faults c.graph.new.out }) c.graph.result) job c.graph.ensures.value
 
-pub returns-in-Replay : goal.returns-in-Replay
-returns-in-Replay g c =
+pub returns-in-Replay-clause-value : goal.returns-in-Replay-clause-value
+returns-in-Replay-clause-value g c =
     let job : Replay c.as_str-in-Replay.result.now c.as_str-in-Replay-2.result.now c.as_str-in-Replay-3.result.now c.in-Replay.graph c.in-Replay.clusters ≡ c.args.job.now = cc in
     subst (λ (j : Job). Ends (stages_of (g.F.Files.held c.args.files.now) j) (RoseIn (g.F.Files.faults c.args.files.now) (g.F.Files.faults c.replay.new.files))
-    (record { old = g.O.Sink.written c.args.out.now; new = g.O.Sink.written c.replay.new.out; before = g.O.Sink.faults c.args.out.now; now = g.O.Sink.faults c.replay.new.out }) c.replay.result) job c.replay.ensures
+    (record { old = g.O.Sink.written c.args.out.now; new = g.O.Sink.written c.replay.new.out; before = g.O.Sink.faults c.args.out.now; now = g.O.Sink.faults c.replay.new.out }) c.replay.result) job c.replay.ensures.value
 
-pub returns-in-Accept : goal.returns-in-Accept
-returns-in-Accept g c =
+pub returns-in-Accept-clause-value : goal.returns-in-Accept-clause-value
+returns-in-Accept-clause-value g c =
     let job : Accept c.as_str-in-Accept.result.now c.as_str-in-Accept-2.result.now c.in-Accept.clusters ≡ c.args.job.now = cc in
     subst (λ (j : Job). Ends (stages_of (g.F.Files.held c.args.files.now) j) (RoseIn (g.F.Files.faults c.args.files.now) (g.F.Files.faults c.accept.new.files))
-    (record { old = g.O.Sink.written c.args.out.now; new = g.O.Sink.written c.accept.new.out; before = g.O.Sink.faults c.args.out.now; now = g.O.Sink.faults c.accept.new.out }) c.accept.result) job c.accept.ensures
+    (record { old = g.O.Sink.written c.args.out.now; new = g.O.Sink.written c.accept.new.out; before = g.O.Sink.faults c.args.out.now; now = g.O.Sink.faults c.accept.new.out }) c.accept.result) job c.accept.ensures.value
 
 pub returns-in-Period : goal.returns-in-Period
 returns-in-Period g c =
@@ -84,11 +84,32 @@ demo-requires-clause-jobs g c _ _ =
     let allowed : AreAllowed (Demo c.in-Demo.seed c.in-Demo.registers c.in-Demo.turns c.in-Demo.jobs) = subst AreAllowed (sym job) c.requires in
     let (some, few, short, workers) = allowed in workers
 
-pub returns-in-Demo : goal.returns-in-Demo
-returns-in-Demo g c =
+pub returns-in-Demo-clause-value : goal.returns-in-Demo-clause-value
+returns-in-Demo-clause-value g c =
     let job : Demo c.in-Demo.seed c.in-Demo.registers c.in-Demo.turns c.in-Demo.jobs ≡ c.args.job.now = cc in
     let more : OfFile = RoseIn (g.F.Files.faults c.args.files.now) (g.F.Files.faults c.args.files.now) in
     let out : Output = (record { old = g.O.Sink.written c.args.out.now; new = g.O.Sink.written c.demo.new.out; before = g.O.Sink.faults c.args.out.now; now = g.O.Sink.faults c.demo.new.out }) in
     let summary : List ℕ → Type 0 = IsSummary c.in-Demo.seed c.in-Demo.registers c.in-Demo.turns in
     subst (λ (j : Job). Ends (stages_of (g.F.Files.held c.args.files.now) j) more out c.demo.result) job
     (gives_more summary summary more out (λ text is. is) c.demo.result c.demo.ensures)
+
+pub returns-in-Run-clause-same_held : goal.returns-in-Run-clause-same_held
+returns-in-Run-clause-same_held g c = c.run.ensures.same_held
+
+pub returns-in-Clock-clause-same_held : goal.returns-in-Clock-clause-same_held
+returns-in-Clock-clause-same_held g c = c.clock.ensures.same_held
+
+pub returns-in-Check-clause-same_held : goal.returns-in-Check-clause-same_held
+returns-in-Check-clause-same_held g c = c.check.ensures.same_held
+
+pub returns-in-Graph-clause-same_held : goal.returns-in-Graph-clause-same_held
+returns-in-Graph-clause-same_held g c = c.graph.ensures.same_held
+
+pub returns-in-Replay-clause-same_held : goal.returns-in-Replay-clause-same_held
+returns-in-Replay-clause-same_held g c = c.replay.ensures.same_held
+
+pub returns-in-Accept-clause-same_held : goal.returns-in-Accept-clause-same_held
+returns-in-Accept-clause-same_held g c = c.accept.ensures.same_held
+
+pub returns-in-Demo-clause-same_held : goal.returns-in-Demo-clause-same_held
+returns-in-Demo-clause-same_held g c = refl

@@ -9,8 +9,8 @@ use Rattle.ds_stage.proofs.Stages.{stopped}
 use Rattle.ds_stage.proofs.Ends.{ended, ends_after, ends_more}
 use Rattle.ds_app.proofs.check.check.Goals as goal
 
-pub returns-in_err-netlist : goal.returns-in_err-netlist
-returns-in_err-netlist g c =
+pub returns-in_err-netlist-clause-value : goal.returns-in_err-netlist-clause-value
+returns-in_err-netlist-clause-value g c =
     let held : List ℕ → Held = g.F.Files.held c.args.files.now in
     let net : List ℕ = c.args.net.now in
     let more : OfFile = RoseIn (g.F.Files.faults c.args.files.now) (g.F.Files.faults c.read_netlist.new.files) in
@@ -19,8 +19,8 @@ returns-in_err-netlist g c =
     (record { old = g.O.Sink.written c.args.out.now; new = g.O.Sink.written c.args.out.now; before = g.O.Sink.faults c.args.out.now; now = g.O.Sink.faults c.args.out.now }) c.in_err-netlist.field-0.0 refl
     (stopped (netlist_stage held net) report_stage more c.in_err-netlist.field-0.0 c.in_err-netlist.ensures.value))
 
-pub returns : goal.returns
-returns g c =
+pub returns-clause-value : goal.returns-clause-value
+returns-clause-value g c =
     let held : List ℕ → Held = g.F.Files.held c.args.files.now in
     let net : List ℕ = c.args.net.now in
     let more : OfFile = RoseIn (g.F.Files.faults c.args.files.now) (g.F.Files.faults c.read_netlist.new.files) in
@@ -28,3 +28,9 @@ returns g c =
     let out : Output = (record { old = g.O.Sink.written c.args.out.now; new = g.O.Sink.written c.write_report.new.out; before = g.O.Sink.faults c.args.out.now; now = g.O.Sink.faults c.write_report.new.out }) in
     ends_after (netlist_stage held net) report_stage more out circuit c.in_ok-netlist.ensures.value c.write_report.result
     (ends_more (report_stage circuit) Never more out (λ line none. absurd none) c.write_report.result c.write_report.ensures)
+
+pub returns-in_err-netlist-clause-same_held : goal.returns-in_err-netlist-clause-same_held
+returns-in_err-netlist-clause-same_held g c = c.in_err-netlist.ensures.same_held
+
+pub returns-clause-same_held : goal.returns-clause-same_held
+returns-clause-same_held g c = c.in_ok-netlist.ensures.same_held

@@ -1,4 +1,4 @@
-use Rattle.std.proofs.Common.{ℕ, List, Err, refl}
+use Rattle.std.proofs.Common.{ℕ, List, Err, refl, ◌∙◌}
 use Rattle.std.proofs.lemmas.Result.{err_from_is_err_and}
 use Rattle.ds_outside.specs.Held.{Held}
 use Rattle.ds_design.specs.Circuit.{Circuit}
@@ -12,8 +12,8 @@ use Rattle.ds_stage.proofs.Stages.{stopped, passed, widened}
 use Rattle.ds_stage.proofs.Ends.{ended, ends_after, ends_more, vectors_since}
 use Rattle.ds_app.proofs.clock.clock.Goals as goal
 
-pub returns-in_err-netlist : goal.returns-in_err-netlist
-returns-in_err-netlist g c =
+pub returns-in_err-netlist-clause-value : goal.returns-in_err-netlist-clause-value
+returns-in_err-netlist-clause-value g c =
     let held : List ℕ → Held = g.F.Files.held c.args.files.now in
     let net : List ℕ = c.args.net.now in
     let vec : List ℕ = c.args.vec.now in
@@ -23,8 +23,8 @@ returns-in_err-netlist g c =
     (record { old = g.O.Sink.written c.args.out.now; new = g.O.Sink.written c.args.out.now; before = g.O.Sink.faults c.args.out.now; now = g.O.Sink.faults c.args.out.now }) c.in_err-netlist.field-0.0 refl
     (stopped (netlist_stage held net) (clock_stage held vec) more c.in_err-netlist.field-0.0 c.in_err-netlist.ensures.value))
 
-pub returns-in_err-vectors : goal.returns-in_err-vectors
-returns-in_err-vectors g c =
+pub returns-in_err-vectors-clause-value : goal.returns-in_err-vectors-clause-value
+returns-in_err-vectors-clause-value g c =
     let held : List ℕ → Held = g.F.Files.held c.args.files.now in
     let net : List ℕ = c.args.net.now in
     let vec : List ℕ = c.args.vec.now in
@@ -45,8 +45,8 @@ returns-in_err-vectors g c =
 pub write_clocked-requires : goal.write_clocked-requires
 write_clocked-requires g c = c.in_ok-vectors.ensures.width
 
-pub returns : goal.returns
-returns g c =
+pub returns-clause-value : goal.returns-clause-value
+returns-clause-value g c =
     let held : List ℕ → Held = g.F.Files.held c.args.files.now in
     let net : List ℕ = c.args.net.now in
     let vec : List ℕ = c.args.vec.now in
@@ -60,3 +60,12 @@ returns g c =
     ends_more (trace_stage circuit rows) Never more out (λ line none. absurd none) c.write_clocked.result c.write_clocked.ensures in
     ends_after (netlist_stage held net) (clock_stage held vec) more out circuit c.in_ok-netlist.ensures.value c.write_clocked.result
     (ends_after (vectors_stage held vec circuit) (trace_stage circuit) more out rows given c.write_clocked.result last)
+
+pub returns-in_err-netlist-clause-same_held : goal.returns-in_err-netlist-clause-same_held
+returns-in_err-netlist-clause-same_held g c = c.in_err-netlist.ensures.same_held
+
+pub returns-in_err-vectors-clause-same_held : goal.returns-in_err-vectors-clause-same_held
+returns-in_err-vectors-clause-same_held g c = c.in_err-vectors.ensures.same_held ∙ c.in_ok-netlist.ensures.same_held
+
+pub returns-clause-same_held : goal.returns-clause-same_held
+returns-clause-same_held g c = c.in_ok-vectors.ensures.same_held ∙ c.in_ok-netlist.ensures.same_held

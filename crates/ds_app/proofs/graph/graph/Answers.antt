@@ -15,8 +15,8 @@ use Rattle.ds_stage.proofs.Stages.{stopped, passed, widened}
 use Rattle.ds_stage.proofs.Ends.{ended, ends_after, ends_more, no_more}
 use Rattle.ds_app.proofs.graph.graph.Goals as goal
 
-pub returns-in_err-netlist : goal.returns-in_err-netlist
-returns-in_err-netlist g c =
+pub returns-in_err-netlist-clause-value : goal.returns-in_err-netlist-clause-value
+returns-in_err-netlist-clause-value g c =
     let held : List ℕ → Held = g.F.Files.held c.args.files.now in
     let net : List ℕ = c.args.net.now in
     let mode : Mode = c.args.clusters in
@@ -26,8 +26,8 @@ returns-in_err-netlist g c =
     (record { old = g.O.Sink.written c.args.out.now; new = g.O.Sink.written c.args.out.now; before = g.O.Sink.faults c.args.out.now; now = g.O.Sink.faults c.args.out.now }) c.in_err-netlist.field-0.0 refl
     (stopped (netlist_stage held net) (graph_stage net mode) more c.in_err-netlist.field-0.0 c.in_err-netlist.ensures.value))
 
-pub returns-in_err-latches : goal.returns-in_err-latches
-returns-in_err-latches g c =
+pub returns-in_err-latches-clause-value : goal.returns-in_err-latches-clause-value
+returns-in_err-latches-clause-value g c =
     let held : List ℕ → Held = g.F.Files.held c.args.files.now in
     let net : List ℕ = c.args.net.now in
     let mode : Mode = c.args.clusters in
@@ -42,8 +42,8 @@ returns-in_err-latches g c =
     (passed {B = List ℕ} (netlist_stage held net) (graph_stage net mode) more circuit c.in_ok-netlist.ensures.value (Err stop)
     (stopped (split_stage net mode circuit) controller_stage more stop few)))
 
-pub returns : goal.returns
-returns g c =
+pub returns-clause-value : goal.returns-clause-value
+returns-clause-value g c =
     let held : List ℕ → Held = g.F.Files.held c.args.files.now in
     let net : List ℕ = c.args.net.now in
     let mode : Mode = c.args.clusters in
@@ -55,3 +55,12 @@ returns g c =
     ends_more (controller_stage latches) Never more out (λ line none. absurd none) c.write_graph.result c.write_graph.ensures in
     ends_after (netlist_stage held net) (graph_stage net mode) more out circuit c.in_ok-netlist.ensures.value c.write_graph.result
     (ends_after (split_stage net mode circuit) controller_stage more out latches c.in_ok-latches.ensures c.write_graph.result last)
+
+pub returns-in_err-netlist-clause-same_held : goal.returns-in_err-netlist-clause-same_held
+returns-in_err-netlist-clause-same_held g c = c.in_err-netlist.ensures.same_held
+
+pub returns-in_err-latches-clause-same_held : goal.returns-in_err-latches-clause-same_held
+returns-in_err-latches-clause-same_held g c = c.in_ok-netlist.ensures.same_held
+
+pub returns-clause-same_held : goal.returns-clause-same_held
+returns-clause-same_held g c = c.in_ok-netlist.ensures.same_held

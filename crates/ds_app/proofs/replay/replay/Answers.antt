@@ -22,8 +22,8 @@ use Rattle.ds_fire.specs.Snapshot.{Snapshot}
 use Rattle.ds_app.proofs.ReplayEnds.{ends_log, log_since, log_stops, stops_log, stops_plan, stops_vectors}
 use Rattle.ds_app.proofs.replay.replay.Goals as goal
 
-pub returns-in_err-netlist : goal.returns-in_err-netlist
-returns-in_err-netlist g c =
+pub returns-in_err-netlist-clause-value : goal.returns-in_err-netlist-clause-value
+returns-in_err-netlist-clause-value g c =
     let held : List ℕ → Held = g.F.Files.held c.args.files.now in
     let net : List ℕ = c.args.job.now.net.now in
     let graph : Option (List ℕ) = c.args.job.now.graph.now in
@@ -37,8 +37,8 @@ returns-in_err-netlist g c =
     (record { old = g.O.Sink.written c.args.out.now; new = g.O.Sink.written c.args.out.now; before = g.O.Sink.faults c.args.out.now; now = g.O.Sink.faults c.args.out.now }) c.in_err-netlist.field-0.0 refl
     (stopped (netlist_stage held net) (replay_stage held net vec log graph mode) more c.in_err-netlist.field-0.0 c.in_err-netlist.ensures.value))
 
-pub returns-in_err-plan : goal.returns-in_err-plan
-returns-in_err-plan g c =
+pub returns-in_err-plan-clause-value : goal.returns-in_err-plan-clause-value
+returns-in_err-plan-clause-value g c =
     let held : List ℕ → Held = g.F.Files.held c.args.files.now in
     let net : List ℕ = c.args.job.now.net.now in
     let graph : Option (List ℕ) = c.args.job.now.graph.now in
@@ -59,8 +59,8 @@ returns-in_err-plan g c =
     (record { old = g.O.Sink.written c.args.out.now; new = g.O.Sink.written c.args.out.now; before = g.O.Sink.faults c.args.out.now; now = g.O.Sink.faults c.args.out.now }) stop refl
     (stops_plan held net vec log graph mode more circuit c.in_ok-netlist.ensures.value stop few))
 
-pub returns-in_err-vectors : goal.returns-in_err-vectors
-returns-in_err-vectors g c =
+pub returns-in_err-vectors-clause-value : goal.returns-in_err-vectors-clause-value
+returns-in_err-vectors-clause-value g c =
     let held : List ℕ → Held = g.F.Files.held c.args.files.now in
     let net : List ℕ = c.args.job.now.net.now in
     let graph : Option (List ℕ) = c.args.job.now.graph.now in
@@ -94,8 +94,8 @@ read_log-requires g c =
     let same : c.in_ok-plan.plan.split.circuit ≡ c.in_ok-netlist.netlist = ap (λ (s : Split). s.circuit) clusters.is in
     subst (λ (k : Circuit). c.in_ok-vectors.vectors.width ≡ length (columns k)) (sym same) c.in_ok-vectors.ensures.width
 
-pub returns-in_err-state : goal.returns-in_err-state
-returns-in_err-state g c =
+pub returns-in_err-state-clause-value : goal.returns-in_err-state-clause-value
+returns-in_err-state-clause-value g c =
     let held : List ℕ → Held = g.F.Files.held c.args.files.now in
     let net : List ℕ = c.args.job.now.net.now in
     let graph : Option (List ℕ) = c.args.job.now.graph.now in
@@ -142,8 +142,8 @@ write_state-requires-clause-vectors g c =
     let (events, fired, after) = c.in_ok-state.ensures.value in
     after.state.vectors_are
 
-pub returns : goal.returns
-returns g c =
+pub returns-clause-value : goal.returns-clause-value
+returns-clause-value g c =
     let held : List ℕ → Held = g.F.Files.held c.args.files.now in
     let net : List ℕ = c.args.job.now.net.now in
     let graph : Option (List ℕ) = c.args.job.now.graph.now in

@@ -21,8 +21,8 @@ use Rattle.ds_stage.proofs.Ends.{ended, ends_after, gives_more, never_fell, plan
 use Rattle.ds_stage.proofs.PlanAccepted.{planned_in_clusters}
 use Rattle.ds_app.proofs.run.run.Goals as goal
 
-pub returns-in_err-netlist : goal.returns-in_err-netlist
-returns-in_err-netlist g c =
+pub returns-in_err-netlist-clause-value : goal.returns-in_err-netlist-clause-value
+returns-in_err-netlist-clause-value g c =
     let held : List ℕ → Held = g.F.Files.held c.args.files.now in
     let net : List ℕ = c.args.job.now.net.now in
     let graph : Option (List ℕ) = c.args.job.now.graph.now in
@@ -35,8 +35,8 @@ returns-in_err-netlist g c =
     (record { old = g.O.Sink.written c.args.out.now; new = g.O.Sink.written c.args.out.now; before = g.O.Sink.faults c.args.out.now; now = g.O.Sink.faults c.args.out.now }) c.in_err-netlist.field-0.0 refl
     (stopped (netlist_stage held net) (run_stage held net vec graph mode c.args.job.now.log) more c.in_err-netlist.field-0.0 c.in_err-netlist.ensures.value))
 
-pub returns-in_err-plan : goal.returns-in_err-plan
-returns-in_err-plan g c =
+pub returns-in_err-plan-clause-value : goal.returns-in_err-plan-clause-value
+returns-in_err-plan-clause-value g c =
     let held : List ℕ → Held = g.F.Files.held c.args.files.now in
     let net : List ℕ = c.args.job.now.net.now in
     let graph : Option (List ℕ) = c.args.job.now.graph.now in
@@ -57,8 +57,8 @@ returns-in_err-plan g c =
     (passed {B = List ℕ} (netlist_stage held net) (run_stage held net vec graph mode c.args.job.now.log) more circuit c.in_ok-netlist.ensures.value (Err stop)
     (stopped (planned_stage held net graph mode circuit) (λ (p : Planned). then_stage (vectors_stage held vec circuit) (traced_stage c.args.job.now.log circuit p)) more stop few)))
 
-pub returns-in_err-vectors : goal.returns-in_err-vectors
-returns-in_err-vectors g c =
+pub returns-in_err-vectors-clause-value : goal.returns-in_err-vectors-clause-value
+returns-in_err-vectors-clause-value g c =
     let held : List ℕ → Held = g.F.Files.held c.args.files.now in
     let net : List ℕ = c.args.job.now.net.now in
     let graph : Option (List ℕ) = c.args.job.now.graph.now in
@@ -102,8 +102,8 @@ write_traced-requires-clause-start g c _ _ =
 pub write_traced-requires-clause-jobs : goal.write_traced-requires-clause-jobs
 write_traced-requires-clause-jobs g c _ _ = c.requires
 
-pub returns : goal.returns
-returns g c =
+pub returns-clause-value : goal.returns-clause-value
+returns-clause-value g c =
     let held : List ℕ → Held = g.F.Files.held c.args.files.now in
     let net : List ℕ = c.args.job.now.net.now in
     let graph : Option (List ℕ) = c.args.job.now.graph.now in
