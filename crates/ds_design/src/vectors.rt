@@ -43,6 +43,7 @@ impl Vectors {
     pub fn count(&self) -> usize
         ensures value { result ≡ length self.now.rows }
         ensures few { result ≤ most_of VectorLimit }
+        ensures kept { AreVectors self.now }
     {
         self.rows.as_slice().len()
     }

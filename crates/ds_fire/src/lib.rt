@@ -19,6 +19,5 @@ mod opening;
 mod places;
 mod state;
 mod turn;
-mod widths;
 
 pub use state::State;

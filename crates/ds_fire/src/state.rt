@@ -14,7 +14,6 @@ use crate::feeds::Feeds;
 use crate::kept::Kept;
 use crate::places::Places;
 use crate::turn::turn;
-use crate::widths::count_rows;
 use ds_base::{EventId, LatchId, OutOfMemory, Row3, Value};
 use ds_design::Vectors;
 use ds_latch::Plan;
@@ -64,7 +63,7 @@ impl<'a> State<'a> {
         let graph = plan.graph();
         let (_design, _slack) = (latches.netlist().design(), latches.slack());
         let counts = Counts::zero(alloc, graph.events().len())?;
-        let count = count_rows(vectors);
+        let count = vectors.count();
         let kept = Kept::first(alloc, latches, count)?;
         let feeds = Feeds::of(alloc, latches)?;
         Ok(State {

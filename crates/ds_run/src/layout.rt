@@ -5,7 +5,6 @@ ghost use Rattle.ds_rule.specs.Sound.{IsSound};
 ghost use Rattle.ds_rule.specs.Progress.{IsAccepted};
 ghost use Rattle.ds_run.specs.Layout.{IsRunOf};
 
-use crate::counted::count_rows;
 use crate::edges::edges_of;
 use crate::foreseen::Foreseen;
 use crate::lengths::lengths_of;
@@ -27,7 +26,7 @@ pub fn layout_of<'a, 'n>(
     ensures accepted { IfOk result IsAccepted }
 {
     let (split, graph) = (plan.latches(), plan.graph());
-    let limit = count_rows(vectors) as u64;
+    let limit = vectors.count() as u64;
     // A node of the design has two events; an extra event is a node of its own, behind them.
     let latches = split.bits().len();
     let nodes = graph.events().len() - latches;

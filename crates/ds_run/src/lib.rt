@@ -9,7 +9,6 @@
 //! Nothing is promised of time, or of which worker fires what.
 #![tactic(auto)]
 
-mod counted;
 mod edges;
 mod foreseen;
 pub mod laws;

@@ -54,7 +54,7 @@ of_is : (c : After-of) → c.of.result ≡ record {
   nodes = count_of c;
   latches = length c.bits-latches.result.now;
   arcs = c.in_ok-arcs.arcs.items;
-  limit = c.count_rows-limit.result;
+  limit = c.count-limit.result;
   edges = c.in_ok-edges.edges.items;
   lengths = c.in_ok-lengths.lengths.items;
   slack = c.from-slack.result;
@@ -104,12 +104,12 @@ slack_is c = ap (λ (r : Run). r.slack) (of_is c)
     ∙ (c.from-slack.ensures ∙ (c.slack.ensures.slack ∙ ap (λ (s : Split). s.slack) (split_is c)))
 
 limit_is : (c : After-of) → c.of.result.limit ≡ length c.args.vectors.now.rows
-limit_is c = ap (λ (r : Run). r.limit) (of_is c) ∙ c.count_rows-limit.ensures.value
+limit_is c = ap (λ (r : Run). r.limit) (of_is c) ∙ c.count-limit.ensures.value
 
 wide : (c : After-of)
     → All (λ vector. length vector ≡ length (columns c.args.plan.now.split.circuit))
     c.args.vectors.now.rows
-wide c k d inside = c.count_rows-limit.ensures.kept.one_width k d inside ∙ c.requires.width
+wide c k d inside = c.count-limit.ensures.kept.one_width k d inside ∙ c.requires.width
 
 circuit_is : (c : After-of) → c.netlist-netlist.result.now ≡ c.args.plan.now.split.circuit
 circuit_is c = c.netlist-netlist.ensures.netlist ∙ ap (λ (s : Split). s.circuit) (split_is c)
@@ -144,7 +144,7 @@ is_run c = record {
 within : (c : After-of) → IsWithin c.args.plan.now c.args.vectors.now.rows c.of.result
 within c = record {
   one_width = wide c;
-  few_vectors = omega (arith, c.count_rows-limit.ensures.few, c.count_rows-limit.ensures.value);
+  few_vectors = omega (arith, c.count-limit.ensures.few, c.count-limit.ensures.value);
   few_edges = omega (
     arith,
     c.in_ok-edges.ensures.few,

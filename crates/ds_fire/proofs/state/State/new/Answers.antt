@@ -32,17 +32,17 @@ invariant_of-result c =
     let counts : c.in_ok-counts.counts ≡ replicate (length c.args.plan.now.graph.events) 0 =
     c.in_ok-counts.ensures ∙ ap (λ (n : ℕ). replicate n 0) (ap length c.events.ensures.events ∙ ap (λ (g : Graph). length g.events) graph) in
     let rows : AreFirstRows c.args.plan.now.split c.in_ok-kept.kept.rows.items = subst (λ (s : Split). AreFirstRows s c.in_ok-kept.kept.rows.items) same c.in_ok-kept.ensures.rows in
-    let stored : AreEmpty c.args.plan.now.split c.count_rows-count.result c.in_ok-kept.kept.stored.items = subst (λ (s : Split). AreEmpty s c.count_rows-count.result c.in_ok-kept.kept.stored.items) same c.in_ok-kept.ensures.stored in
+    let stored : AreEmpty c.args.plan.now.split c.count-count.result c.in_ok-kept.kept.stored.items = subst (λ (s : Split). AreEmpty s c.count-count.result c.in_ok-kept.kept.stored.items) same c.in_ok-kept.ensures.stored in
     let fed : AreFeeds c.args.plan.now.split c.in_ok-feeds.feeds = subst (λ (s : Split). AreFeeds s c.in_ok-feeds.feeds) same c.in_ok-feeds.ensures in
     let nets : length c.in_ok-kept.kept.nets ≡ length c.args.plan.now.split.circuit.nets = c.in_ok-kept.ensures.nets ∙ ap (λ (s : Split). length s.circuit.nets) same in
     let low : c.args.plan.now.split.slack ≤ 15 = subst (λ (s : Split). s.slack ≤ 15) same c.slack-slack.ensures.low in
     record {
-      sound = first_sound c.args.plan.now c.args.vectors.now c.in_ok-counts.counts c.in_ok-kept.kept range c.graph-graph.ensures.accepted few c.count_rows-count.ensures.kept c.requires counts rows c.count_rows-count.result c.count_rows-count.ensures.value stored;
-      reached = first_reached c.args.plan.now c.args.vectors.now c.in_ok-counts.counts c.in_ok-kept.kept range c.graph-graph.ensures.accepted few c.count_rows-count.ensures.kept c.requires counts rows c.count_rows-count.result c.count_rows-count.ensures.value stored;
+      sound = first_sound c.args.plan.now c.args.vectors.now c.in_ok-counts.counts c.in_ok-kept.kept range c.graph-graph.ensures.accepted few c.count-count.ensures.kept c.requires counts rows c.count-count.result c.count-count.ensures.value stored;
+      reached = first_reached c.args.plan.now c.args.vectors.now c.in_ok-counts.counts c.in_ok-kept.kept range c.graph-graph.ensures.accepted few c.count-count.ensures.kept c.requires counts rows c.count-count.result c.count-count.ensures.value stored;
       width = c.requires;
       low = low;
-      few = (let most : c.count_rows-count.result ≤ 65536 = c.count_rows-count.ensures.few in subst (λ (n : ℕ). n ≤ 65536) c.count_rows-count.ensures.value most);
-      room = first_room c.args.plan.now c.args.vectors.now c.in_ok-counts.counts c.in_ok-kept.kept range c.graph-graph.ensures.accepted few c.count_rows-count.ensures.kept c.requires counts rows c.count_rows-count.result c.count_rows-count.ensures.value stored;
+      few = (let most : c.count-count.result ≤ 65536 = c.count-count.ensures.few in subst (λ (n : ℕ). n ≤ 65536) c.count-count.ensures.value most);
+      room = first_room c.args.plan.now c.args.vectors.now c.in_ok-counts.counts c.in_ok-kept.kept range c.graph-graph.ensures.accepted few c.count-count.ensures.kept c.requires counts rows c.count-count.result c.count-count.ensures.value stored;
       nets = nets;
       fed = fed;
     }
@@ -56,5 +56,5 @@ returns c =
     let counts : c.in_ok-counts.counts ≡ replicate (length c.args.plan.now.graph.events) 0 =
     c.in_ok-counts.ensures ∙ ap (λ (n : ℕ). replicate n 0) (ap length c.events.ensures.events ∙ ap (λ (g : Graph). length g.events) graph) in
     let rows : AreFirstRows c.args.plan.now.split c.in_ok-kept.kept.rows.items = subst (λ (s : Split). AreFirstRows s c.in_ok-kept.kept.rows.items) same c.in_ok-kept.ensures.rows in
-    let stored : AreEmpty c.args.plan.now.split c.count_rows-count.result c.in_ok-kept.kept.stored.items = subst (λ (s : Split). AreEmpty s c.count_rows-count.result c.in_ok-kept.kept.stored.items) same c.in_ok-kept.ensures.stored in
-    first_is c.args.plan.now c.args.vectors.now c.in_ok-counts.counts c.in_ok-kept.kept range c.graph-graph.ensures.accepted few c.count_rows-count.ensures.kept c.requires counts rows c.count_rows-count.result c.count_rows-count.ensures.value stored
+    let stored : AreEmpty c.args.plan.now.split c.count-count.result c.in_ok-kept.kept.stored.items = subst (λ (s : Split). AreEmpty s c.count-count.result c.in_ok-kept.kept.stored.items) same c.in_ok-kept.ensures.stored in
+    first_is c.args.plan.now c.args.vectors.now c.in_ok-counts.counts c.in_ok-kept.kept range c.graph-graph.ensures.accepted few c.count-count.ensures.kept c.requires counts rows c.count-count.result c.count-count.ensures.value stored

@@ -1,6 +1,0 @@
-use Rattle.std.proofs.Common.{◌≡◌, length}
-use Rattle.std.specs.List.{AllWithin}
-use Rattle.ds_fire.proofs.widths.count_rows.Given as goal
-
-abbrev pub invariant-loop-k : goal.invariant-loop-k
-invariant-loop-k l = AllWithin (λ row. length row ≡ l.vectors.width) l.vectors.rows 0 l.k
