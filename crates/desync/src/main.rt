@@ -8,17 +8,19 @@
 ghost use Rattle.std.specs.Prelude.{◌≡◌, IfOk, map, string_bytes};
 
 use ds_app::desync_main;
-use ds_outside::{HostFiles, HostOut, OpenGate};
+use ds_outside::{HostFiles, HostOut, OpenGate, write_all};
 use std::alloc::{AllocError, Global};
 use std::env;
+use std::env::Args;
+use std::io::ErrorKind;
 use std::process::ExitCode;
 
 fn main(rt: HostRuntime) -> ExitCode {
     let Ok(words) = words_given(&rt) else {
-        return ExitCode::from(4);
+        return say_memory(&rt);
     };
     let Ok(texts) = texts_of(rt.alloc(), &words) else {
-        return ExitCode::from(4);
+        return say_memory(&rt);
     };
     let mut files = HostFiles::new(&rt);
     let mut out = HostOut::new(rt.stdout());
@@ -26,13 +28,30 @@ fn main(rt: HostRuntime) -> ExitCode {
     ExitCode::from(desync_main(&rt, &texts, &mut files, &mut out, &mut err, &OpenGate))
 }
 
+// Says that the words found no place in memory, and ends as where a job does not.
+fn say_memory(rt: &HostRuntime) -> ExitCode {
+    let mut err = HostOut::new(rt.stderr());
+    match write_all(&mut err, b"desync: out of memory\n") {
+        Ok(()) | Err(_) => ExitCode::from(4),
+    }
+}
+
 // The words of the command line: none where some are not text, which is no command line.
 fn words_given(rt: &HostRuntime) -> Result<Vec<String>, AllocError> {
-    let mut words = Vec::new(rt.alloc());
-    if let Ok(given) = env::args(rt) {
-        for word in given {
-            words.push(word)?;
-        }
+    match env::args(rt) {
+        Ok(given) => words_in(rt.alloc(), given),
+        Err(fault) => match fault.kind() {
+            ErrorKind::OutOfMemory => Err(AllocError),
+            _ => Ok(Vec::new(rt.alloc())),
+        },
+    }
+}
+
+// The words that the system gave, in their order.
+fn words_in(alloc: Global, given: Args) -> Result<Vec<String>, AllocError> {
+    let mut words = Vec::new(alloc);
+    for word in given {
+        words.push(word)?;
     }
     Ok(words)
 }
