@@ -62,7 +62,8 @@ abbrev pub period_text : Graph → ℕ → ℕ → List ℕ → List ℕ → Lis
 period_text g p q cycle potentials =
     ratio_line p q ++ cycle_line g cycle ++ potential_lines g potentials (length g.events)
 
--- a text of the period of a graph with a delay an arc; which of several slowest cycles it has is free
+-- a text of the period of a graph with a delay an arc; which of several slowest cycles it shows is
+-- free
 pub record IsPeriodText (g : Graph) (delays text : List ℕ) : Type 0 where
   pub p : ℕ
   pub q : ℕ
