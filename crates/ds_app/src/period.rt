@@ -34,7 +34,7 @@ pub fn period<F: Files, O: Sink>(
     files: &mut F,
     out: &mut O,
 ) -> Result<(), Stop>
-    ensures { Ends (stages_of (F.held files.old)
+    ensures value { Ends (stages_of (F.held files.old)
         (Period job.now.net.now job.now.delays.now job.now.clusters))
         (RoseIn (F.faults files.old) (F.faults files.new)) (record {
           old = O.written out.old;
@@ -42,6 +42,8 @@ pub fn period<F: Files, O: Sink>(
           before = O.faults out.old;
           now = O.faults out.new;
         }) result }
+
+    ensures same_held { F.held files.new ≡ F.held files.old }
 {
     // Read for the fact that its names are texts.
     let _texts = *job;
@@ -58,13 +60,15 @@ fn measure<F: Files, O: Sink>(
     files: &mut F,
     out: &mut O,
 ) -> Result<(), Stop>
-    ensures { Ends (measured_stage (F.held files.old) delays.now latches.now)
+    ensures value { Ends (measured_stage (F.held files.old) delays.now latches.now)
         (RoseIn (F.faults files.old) (F.faults files.new)) (record {
           old = O.written out.old;
           new = O.written out.new;
           before = O.faults out.old;
           now = O.faults out.new;
         }) result }
+
+    ensures same_held { F.held files.new ≡ F.held files.old }
 {
     let graph = own_graph(alloc, latches)?;
     let delays = read_timing(alloc, files, delays, &graph)?;

@@ -47,8 +47,8 @@ returns-in-Accept-clause-value g c =
     subst (λ (j : Job). Ends (stages_of (g.F.Files.held c.args.files.now) j) (RoseIn (g.F.Files.faults c.args.files.now) (g.F.Files.faults c.accept.new.files))
     (record { old = g.O.Sink.written c.args.out.now; new = g.O.Sink.written c.accept.new.out; before = g.O.Sink.faults c.args.out.now; now = g.O.Sink.faults c.accept.new.out }) c.accept.result) job c.accept.ensures.value
 
-pub returns-in-Period : goal.returns-in-Period
-returns-in-Period g c =
+pub returns-in-Period-clause-value : goal.returns-in-Period-clause-value
+returns-in-Period-clause-value g c =
     let job : Period c.as_str-in-Period.result.now c.as_str-in-Period-2.result.now
     c.in-Period.clusters ≡ c.args.job.now = cc in
     let out : Output = (record {
@@ -59,7 +59,7 @@ returns-in-Period g c =
     }) in
     let now : Which → List ℕ → ℕ = g.F.Files.faults c.period.new.files in
     subst (λ (j : Job). Ends (stages_of (g.F.Files.held c.args.files.now) j)
-    (RoseIn (g.F.Files.faults c.args.files.now) now) out c.period.result) job c.period.ensures
+    (RoseIn (g.F.Files.faults c.args.files.now) now) out c.period.result) job c.period.ensures.value
 
 pub run-requires-after_bounds : goal.run-requires-after_bounds
 run-requires-after_bounds g c _ _ =
@@ -110,6 +110,9 @@ returns-in-Replay-clause-same_held g c = c.replay.ensures.same_held
 
 pub returns-in-Accept-clause-same_held : goal.returns-in-Accept-clause-same_held
 returns-in-Accept-clause-same_held g c = c.accept.ensures.same_held
+
+pub returns-in-Period-clause-same_held : goal.returns-in-Period-clause-same_held
+returns-in-Period-clause-same_held g c = c.period.ensures.same_held
 
 pub returns-in-Demo-clause-same_held : goal.returns-in-Demo-clause-same_held
 returns-in-Demo-clause-same_held g c = refl

@@ -7,8 +7,8 @@ use Rattle.ds_stage.specs.Ends.{Output, RoseIn}
 use Rattle.ds_app.proofs.PeriodEnds.{ends_text, stops_delays}
 use Rattle.ds_app.proofs.period.measure.Goals as goal
 
-pub returns-in_err-delays : goal.returns-in_err-delays
-returns-in_err-delays g c =
+pub returns-in_err-delays-clause-value : goal.returns-in_err-delays-clause-value
+returns-in_err-delays-clause-value g c =
     let held : List ℕ → Held = g.F.Files.held c.args.files.now in
     let now : Which → List ℕ → ℕ = g.F.Files.faults c.read_timing.new.files in
     let more : OfFile = RoseIn (g.F.Files.faults c.args.files.now) now in
@@ -23,8 +23,8 @@ returns-in_err-delays g c =
     rw (p.1, p.2) (stops_delays held c.args.delays.now more c.args.latches.now c.in_ok-graph.graph
     c.in_ok-graph.ensures.ok out c.in_err-delays.field-0.0 refl c.in_err-delays.ensures.value)
 
-pub returns : goal.returns
-returns g c =
+pub returns-clause-value : goal.returns-clause-value
+returns-clause-value g c =
     let held : List ℕ → Held = g.F.Files.held c.args.files.now in
     let now : Which → List ℕ → ℕ = g.F.Files.faults c.read_timing.new.files in
     let more : OfFile = RoseIn (g.F.Files.faults c.args.files.now) now in

@@ -9,8 +9,8 @@ use Rattle.ds_stage.proofs.PeriodStages.{measured_since}
 use Rattle.ds_app.proofs.PeriodEnds.{ends_measured, stops_netlist, stops_split}
 use Rattle.ds_app.proofs.period.period.Goals as goal
 
-pub returns-in_err-netlist : goal.returns-in_err-netlist
-returns-in_err-netlist g c =
+pub returns-in_err-netlist-clause-value : goal.returns-in_err-netlist-clause-value
+returns-in_err-netlist-clause-value g c =
     let held : List ℕ → Held = g.F.Files.held c.args.files.now in
     let now : Which → List ℕ → ℕ = g.F.Files.faults c.read_netlist.new.files in
     let more : OfFile = RoseIn (g.F.Files.faults c.args.files.now) now in
@@ -24,8 +24,8 @@ returns-in_err-netlist g c =
     rw (p.1, p.2) (stops_netlist held c.args.job.now.delays.now more c.args.job.now.net.now
     c.args.job.now.clusters out c.in_err-netlist.field-0.0 refl c.in_err-netlist.ensures.value)
 
-pub returns-in_err-latches : goal.returns-in_err-latches
-returns-in_err-latches g c =
+pub returns-in_err-latches-clause-value : goal.returns-in_err-latches-clause-value
+returns-in_err-latches-clause-value g c =
     let held : List ℕ → Held = g.F.Files.held c.args.files.now in
     let now : Which → List ℕ → ℕ = g.F.Files.faults c.read_netlist.new.files in
     let more : OfFile = RoseIn (g.F.Files.faults c.args.files.now) now in
@@ -41,8 +41,8 @@ returns-in_err-latches g c =
     c.args.job.now.clusters c.in_ok-netlist.netlist c.in_ok-netlist.ensures.value out
     c.in_err-latches.field-0.0 refl c.in_err-latches.ensures)
 
-pub returns : goal.returns
-returns g c =
+pub returns-clause-value : goal.returns-clause-value
+returns-clause-value g c =
     let held : List ℕ → Held = g.F.Files.held c.args.files.now in
     let later : List ℕ → Held = g.F.Files.held c.read_netlist.new.files in
     let before : Which → List ℕ → ℕ = g.F.Files.faults c.args.files.now in
@@ -60,4 +60,4 @@ returns g c =
     c.in_ok-latches.ensures out c.measure.result
     (measured_since before mid now held later delays c.in_ok-latches.latches
     c.in_ok-netlist.ensures.same_held c.in_ok-netlist.ensures.never_falls out c.measure.result
-    c.measure.ensures)
+    c.measure.ensures.value)
