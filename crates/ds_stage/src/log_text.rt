@@ -49,8 +49,7 @@ pub fn with_event(text: Vec<u8>, graph: &Marked, event: EventId) -> Result<Vec<u
         return Ok(text);
     };
     let mut text = text;
-    let pieces = event.text();
-    text.extend_from_slice(pieces.name)?;
-    text.extend_from_slice(pieces.sign)?;
+    text.extend_from_slice(event.signal.as_slice())?;
+    text.extend_from_slice(event.kind.sign())?;
     Ok(text)
 }
