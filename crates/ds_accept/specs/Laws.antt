@@ -20,7 +20,8 @@ AcceptableIsAccepted = (s : Split) (g : Graph) → IsSplit s → length s.cluste
 
 -- a graph has one plan at most
 abbrev pub OnePlan : Type 0
-OnePlan = (s : Split) (g : Graph) (one other : Planned) → IsKept g → IsKept one.graph → IsKept other.graph
+OnePlan = (s : Split) (g : Graph) (one other : Planned) → IsKept g → IsKept one.graph
+    → IsKept other.graph
     → IsPlanOf s g one → IsPlanOf s g other → one ≡ other
 
 -- the fault shows a cycle
@@ -29,5 +30,7 @@ ShowsCycle fault = (events : List ℕ) × (fault ≡ TokenFreeCycle events)
 
 -- two faults of a graph are the same, or both show a cycle
 abbrev pub OneFault : Type 0
-OneFault = (s : Split) (g : Graph) (one other : AcceptFault) → IsKept g → one ≢ Memory → other ≢ Memory
-    → IsAcceptFault s g one → IsAcceptFault s g other → (one ≡ other) ⊎ (ShowsCycle one × ShowsCycle other)
+OneFault = (s : Split) (g : Graph) (one other : AcceptFault) → IsKept g → one ≢ Memory
+    → other ≢ Memory
+    → IsAcceptFault s g one → IsAcceptFault s g other
+    → (one ≡ other) ⊎ (ShowsCycle one × ShowsCycle other)

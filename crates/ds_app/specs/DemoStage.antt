@@ -14,13 +14,15 @@ use Rattle.ds_stage.specs.Stage.{Stage, giving}
 pub record AreSums (seed registers turns ones fold : ℕ) : Type 0 where
   pub state : ℕ → Row
   pub nets : ℕ → Row
-  pub run : IsRun (demo_design seed registers) (initial_row (demo_design seed registers)) (demo_vectors seed registers turns).rows state nets
+  pub run : IsRun (demo_design seed registers) (initial_row (demo_design seed registers))
+      (demo_vectors seed registers turns).rows state nets
   pub counted : ones ≡ ones_in (demo_design seed registers) nets turns
   pub trace : List ℕ
   pub traced : IsTrace (demo_design seed registers) (demo_vectors seed registers turns).rows trace
   pub folded : fold ≡ fold_of trace
 
--- the turns; the firings of the run, four for each turn and each register and as many for IN and OUT; the ones and the fold
+-- the turns; the firings of the run, four for each turn and each register and as many for IN and
+-- OUT; the ones and the fold
 abbrev pub summary_text : ℕ → ℕ → ℕ → ℕ → List ℕ
 summary_text registers turns ones fold = count_line (codes "turns") turns
     ++ count_line (codes "firings") (4 * turns * (registers + 1))

@@ -1,4 +1,5 @@
--- In whatever order the latches of a `run` command fire, each register stores its clocked values, one after another.
+-- In whatever order the latches of a `run` command fire, each register stores its clocked values,
+-- one after another.
 use Rattle.std.specs.Prelude.{◌≡◌, ℕ, Bool, List, Option, Ok}
 use Rattle.ds_base.specs.declared.number.Mode.{Mode}
 use Rattle.ds_outside.specs.Held.{Held}
@@ -11,10 +12,12 @@ use Rattle.ds_cmd.specs.declared.job.Job.TheVariants.{Run}
 use Rattle.ds_stage.specs.Stages.{netlist_stage, vectors_stage}
 use Rattle.ds_stage.specs.PlanStage.{planned_stage}
 
--- for the words of a `run` command, and the netlist, plan and vectors that the bytes held mean, with a graph of the
--- user's where one is named: the netlist has one clocked run on the vectors, and every legal list does what it does
+-- for the words of a `run` command, and the netlist, plan and vectors that the bytes held mean,
+-- with a graph of the user's where one is named: the netlist has one clocked run on the vectors,
+-- and every legal list does what it does
 abbrev pub Interleavings : (List ℕ → Held) → List (List ℕ) → Type 0
-Interleavings held words = (net vec : List ℕ) (graph : Option (List ℕ)) (mode : Mode) (jobs : ℕ) (log : Bool)
+Interleavings held words =
+    (net vec : List ℕ) (graph : Option (List ℕ)) (mode : Mode) (jobs : ℕ) (log : Bool)
     → job_of words ≡ Ok (Run net vec graph mode jobs log)
     → (c : Circuit) → (netlist_stage held net).means c
     → (p : Planned) → (planned_stage held net graph mode c).means p

@@ -6,6 +6,8 @@ use Rattle.ds_design.specs.Rows.{Rows}
 use Rattle.ds_trace.specs.RunText.{IsRunText}
 use Rattle.ds_stage.specs.Stage.{Stage, giving}
 
--- the trace of a netlist, by a plan for it; with a log, a legal list of the plan that has each event once a vector
+-- the trace of a netlist, by a plan for it; with a log, a legal list of the plan that has each
+-- event once a vector
 abbrev pub traced_stage : Bool → Circuit → Planned → Rows → Stage (List ℕ)
-traced_stage log c p vectors = giving (λ text. (p.split.circuit ≡ c) × IsRunText log p vectors.rows text)
+traced_stage log c p vectors =
+    giving (λ text. (p.split.circuit ≡ c) × IsRunText log p vectors.rows text)

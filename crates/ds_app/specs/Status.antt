@@ -89,7 +89,8 @@ IsToldIn held (Some file) = held file ≢ untold
 
 -- the files of a job tell what they hold
 abbrev pub AreTold : (List ℕ → Held) → Job → Type 0
-AreTold held (Run net vec graph mode jobs log) = (held net ≢ untold) × (held vec ≢ untold) × IsToldIn held graph
+AreTold held (Run net vec graph mode jobs log) = (held net ≢ untold) × (held vec ≢ untold)
+    × IsToldIn held graph
 AreTold held (Clock net vec) = (held net ≢ untold) × (held vec ≢ untold)
 AreTold held (Check net) = held net ≢ untold
 AreTold held (Graph net mode) = held net ≢ untold
@@ -108,12 +109,14 @@ pub record IsAnswered (call : Call) (status : ℕ) : Type 0 where
   pub known : status ≤ 5
   pub done : status ≡ 0 → IsDone call
   pub refused : status ≡ 1 → IsRefused call
-  pub no_line : status ≡ 2 → IsNoLine call.words × Reports call.err (codes "desync: bad command line\n")
+  pub no_line : status ≡ 2 → IsNoLine call.words
+      × Reports call.err (codes "desync: bad command line\n")
   pub unread : status ≡ 3 → IsUnread call
   pub no_memory : status ≡ 4 → Reports call.err (codes "desync: out of memory\n")
   pub unwritten : status ≡ 5 → IsUnwritten call
   pub out_same : 1 ≤ status → status ≤ 4 → call.out.new ≡ call.out.old
-  pub exact_line : (fault : UsageFault) → job_of call.words ≡ Err fault → (status ≡ 2) ⊎ (status ≡ 4)
+  pub exact_line : (fault : UsageFault) → job_of call.words ≡ Err fault
+      → (status ≡ 2) ⊎ (status ≡ 4)
   pub exact_fault : (job : Job) (line : List ℕ) → job_of call.words ≡ Ok job → AreTold call.held job
       → (stages_of call.held job).refused line → NoneFailed call → (status ≡ 1) ⊎ (status ≡ 4)
   pub complete : (job : Job) (text : List ℕ) → job_of call.words ≡ Ok job → AreTold call.held job

@@ -126,7 +126,8 @@ with_marking state places = record {
 abbrev pub body_line : ℕ → List (List ℕ) → State → Result State AstgKind
 body_line line words state =
     if state.is_open
-    then then_do (graph_line state.signals line words state.places) (λ places. Ok (with_places state places))
+    then then_do (graph_line state.signals line words state.places)
+    (λ places. Ok (with_places state places))
     else Err (BadWord (word_at words 0))
 
 -- entries of the marking, where the braces are right

@@ -38,13 +38,15 @@ to_event place event = record {
 -- the place with a number and a name has this source, and no second one
 abbrev pub with_source : ℕ → List ℕ → ℕ → Places → Result Places AstgKind
 with_source k name event ps =
-    if may_be (place_at ps k).source event then Ok (with_place_at ps k (from_event (place_at ps k) event))
+    if may_be (place_at ps k).source event then Ok
+    (with_place_at ps k (from_event (place_at ps k) event))
     else Err (NotMarkedGraph name)
 
 -- the place with a number and a name has this target, and no second one
 abbrev pub with_target : ℕ → List ℕ → ℕ → Places → Result Places AstgKind
 with_target k name event ps =
-    if may_be (place_at ps k).target event then Ok (with_place_at ps k (to_event (place_at ps k) event))
+    if may_be (place_at ps k).target event then Ok
+    (with_place_at ps k (to_event (place_at ps k) event))
     else Err (NotMarkedGraph name)
 
 -- an event is the source of a place

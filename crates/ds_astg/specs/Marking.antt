@@ -74,7 +74,8 @@ is_unmarked ps key = has_place ps key && not (is_some (place_at ps (number_of ps
 abbrev pub mark_key : List ℕ → Key → ℕ → Places → Result Places AstgKind
 mark_key entry key tokens ps =
     if is_unmarked ps key
-    then Ok (with_place_at ps (number_of ps key) (with_tokens (place_at ps (number_of ps key)) tokens))
+    then Ok (with_place_at ps (number_of ps key)
+    (with_tokens (place_at ps (number_of ps key)) tokens))
     else Err (BadMarking entry)
 
 -- an entry, by the place and the tokens for which it stands

@@ -84,7 +84,8 @@ unless_fault (Some fault) graph = Err fault
 
 -- what all lines stand for, if these are all
 abbrev pub end_of : State → Result Graph AstgFault
-end_of state = unless_fault (lacking state.places.keys state.places.places) (graph_of_parts state.signals state.places)
+end_of state = unless_fault (lacking state.places.keys state.places.places)
+    (graph_of_parts state.signals state.places)
 
 -- goes on behind a line, unless it has a fault
 abbrev pub behind : ℕ → Result State AstgKind → (State → Result Graph AstgFault)

@@ -1,5 +1,6 @@
 -- The text of a marked graph, in the `.g` form of SIS and petrify.
-use Rattle.std.specs.Prelude.{ℕ, ◌-◌, Bool, List, [], ◌++◌, length, codes, decimal, ltb, ◌&&◌, ◌==◌, slice_get, slice_index_or, if◌then◌else◌}
+use Rattle.std.specs.Prelude.{ℕ, ◌-◌, Bool, List, [], ◌++◌, length, codes, decimal, ltb, ◌&&◌, ◌==◌}
+use Rattle.std.specs.Prelude.{slice_get, slice_index_or, if◌then◌else◌}
 use Rattle.std.specs.Option.{option_map_or}
 use Rattle.ds_marked.specs.Graph.{Graph}
 use Rattle.ds_marked.specs.declared.marked.Arc.{Arc}
@@ -41,7 +42,8 @@ signal_text g v = option_map_or signal_of (slice_get g.events v) []
 
 -- what stands for an arc on the line of its source: its target, or its place
 abbrev pub target_text : Graph → ℕ → List ℕ
-target_text g k = codes " " ++ (if is_further g k then place_name k else text_of_event g (arc_at g k).target)
+target_text g k = codes " "
+    ++ (if is_further g k then place_name k else text_of_event g (arc_at g k).target)
 
 -- the same on the line of an event, where the arc begins there
 abbrev pub arc_text : Graph → ℕ → ℕ → List ℕ
@@ -54,13 +56,15 @@ event_line g v = line_with (text_of_event g v) (all_below (arc_text g v) (length
 -- a place of its own: the place, and the target of its arc
 abbrev pub place_line : Graph → ℕ → List ℕ
 place_line g k =
-    if is_further g k then place_name k ++ codes " " ++ text_of_event g (arc_at g k).target ++ codes "\n" else []
+    if is_further g k then place_name k ++ codes " " ++ text_of_event g (arc_at g k).target
+    ++ codes "\n" else []
 
 -- what stands for an arc in the marking: its ends, or its place
 abbrev pub entry_name : Graph → ℕ → List ℕ
 entry_name g k =
     if is_further g k then place_name k
-    else codes "<" ++ text_of_event g (arc_at g k).source ++ codes "," ++ text_of_event g (arc_at g k).target ++ codes ">"
+    else codes "<" ++ text_of_event g (arc_at g k).source ++ codes ","
+    ++ text_of_event g (arc_at g k).target ++ codes ">"
 
 -- two tokens or more as a number, one token without
 abbrev pub tokens_text : ℕ → List ℕ
@@ -69,9 +73,11 @@ tokens_text tokens = if ltb 1 tokens then codes "=" ++ decimal tokens else []
 -- the entry of an arc with tokens, with a blank before it
 abbrev pub entry_text : Graph → ℕ → List ℕ
 entry_text g k =
-    if ltb 0 (arc_at g k).tokens then codes " " ++ entry_name g k ++ tokens_text (arc_at g k).tokens else []
+    if ltb 0 (arc_at g k).tokens then codes " " ++ entry_name g k
+    ++ tokens_text (arc_at g k).tokens else []
 
--- the whole text: the signals, a line for each event from which arcs lead, a line for each place of its own, the marking
+-- the whole text: the signals, a line for each event from which arcs lead, a line for each place of
+-- its own, the marking
 abbrev pub graph_text : List ℕ → Graph → List ℕ
 graph_text name g =
     codes ".model " ++ name ++ codes "\n.outputs" ++ all_below (signal_text g) (length g.events)

@@ -1,5 +1,6 @@
 -- The lines that a graph is written as.
-use Rattle.std.specs.Prelude.{◌≡◌, ◌≢◌, ℕ, zero, suc, ◌<◌, ◌≤◌, true, List, [], ◌∷◌, ◌++◌, length, codes, All, AllPairs, Ok, ltb, ◌==◌, if◌then◌else◌}
+use Rattle.std.specs.Prelude.{◌≡◌, ◌≢◌, ℕ, zero, suc, ◌<◌, ◌≤◌, true, List, [], ◌∷◌, ◌++◌, length}
+use Rattle.std.specs.Prelude.{codes, All, AllPairs, Ok, ltb, ◌==◌, if◌then◌else◌}
 use Rattle.std.specs.List.{flat_map, AllByRecursion}
 use Rattle.ds_lines.specs.Line.{lines_of}
 use Rattle.ds_lines.specs.Print.{numbered, IsPlain}
@@ -33,19 +34,23 @@ event_lines g v = line_behind (text_of_event g v) (lists_below (arc_words g v) (
 
 -- the line of a place of its own
 abbrev pub place_lines : Graph → ℕ → List (List (List ℕ))
-place_lines g k = if is_further g k then (place_name k ∷ text_of_event g (arc_at g k).target ∷ []) ∷ [] else []
+place_lines g k = if is_further g k then (place_name k ∷ text_of_event g (arc_at g k).target ∷ [])
+    ∷ [] else []
 
 -- the entry of an arc with tokens
 abbrev pub entry_words : Graph → ℕ → List (List ℕ)
-entry_words g k = if ltb 0 (arc_at g k).tokens then (entry_name g k ++ tokens_text (arc_at g k).tokens) ∷ [] else []
+entry_words g k = if ltb 0 (arc_at g k).tokens then
+    (entry_name g k ++ tokens_text (arc_at g k).tokens) ∷ [] else []
 
 -- the lines of the graph part
 abbrev pub body_lines : Graph → List (List (List ℕ))
-body_lines g = lists_below (event_lines g) (length g.events) ++ lists_below (place_lines g) (length g.arcs)
+body_lines g = lists_below (event_lines g) (length g.events)
+    ++ lists_below (place_lines g) (length g.arcs)
 
 -- the line of the marking
 abbrev pub marking_words : Graph → List (List ℕ)
-marking_words g = codes ".marking" ∷ codes "{" ∷ (lists_below (entry_words g) (length g.arcs) ++ (codes "}" ∷ []))
+marking_words g = codes ".marking" ∷ codes "{"
+    ∷ (lists_below (entry_words g) (length g.arcs) ++ (codes "}" ∷ []))
 
 -- the lines of a graph of these signals
 abbrev pub graph_words : List ℕ → List (List ℕ) → Graph → List (List (List ℕ))

@@ -1,6 +1,7 @@
 //! The place for which an entry of the marking stands.
 ghost use Rattle.std.specs.Prelude.{◌≡◌, drop, option_map};
-ghost use Rattle.ds_astg.specs.Marking.{both_events as both_in, key_between as key_between_in, key_in as key_of_entry};
+ghost use Rattle.ds_astg.specs.Marking.{both_events as both_in, key_between as key_between_in};
+ghost use Rattle.ds_astg.specs.Marking.{key_in as key_of_entry};
 ghost use Rattle.ds_astg.specs.Keys.{key_of};
 
 use crate::key::Key;

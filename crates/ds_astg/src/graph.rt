@@ -1,7 +1,8 @@
 //! The graph of what was read.
 ghost use Rattle.std.specs.Prelude.{◌≡◌, ◌≢◌, ◌≤◌, ◌*◌, AllPairs, None, IfOk, length, map};
 ghost use Rattle.std.specs.List.{flat_map};
-ghost use Rattle.ds_astg.specs.Read.{arc_of as arc_in, end_of, events_of as events_in, graph_of_parts, or_zero as or_zero_in};
+ghost use Rattle.ds_astg.specs.Read.{arc_of as arc_in, end_of, events_of as events_in};
+ghost use Rattle.ds_astg.specs.Read.{graph_of_parts, or_zero as or_zero_in};
 ghost use Rattle.ds_astg.specs.Read.{lacking as lacking_in, lacks as lacks_in};
 ghost use Rattle.ds_astg.specs.Sound.{ArePlaces, IsSound};
 ghost use Rattle.ds_astg.specs.Steps.{Reads};

@@ -1,7 +1,9 @@
 //! A line of the graph part.
 ghost use Rattle.std.specs.Prelude.{◌≡◌, ◌<◌, length, Ok, IfErr, OnOk, drop};
-ghost use Rattle.ds_astg.specs.Links.{link as link_in, link_word as link_word_in, link_words as link_words_in, into_place as into_place_in};
-ghost use Rattle.ds_astg.specs.Links.{with_node as with_node_in, with_source as with_source_in, with_target as with_target_in, graph_line as graph_line_in};
+ghost use Rattle.ds_astg.specs.Links.{link as link_in, link_word as link_word_in};
+ghost use Rattle.ds_astg.specs.Links.{link_words as link_words_in, into_place as into_place_in};
+ghost use Rattle.ds_astg.specs.Links.{with_node as with_node_in, with_source as with_source_in};
+ghost use Rattle.ds_astg.specs.Links.{with_target as with_target_in, graph_line as graph_line_in};
 ghost use Rattle.ds_astg.specs.Keys.{seen};
 ghost use Rattle.ds_astg.specs.Steps.{IsKind, IsRefusal, texts};
 ghost use Rattle.ds_astg.specs.declared.fault.AstgKind.TheVariants.{NotMarkedGraph};

@@ -1,7 +1,9 @@
 //! The marking: entries between braces.
 ghost use Rattle.std.specs.Prelude.{◌≡◌, Ok, IfErr, IfOk, OnOk, drop, option_map};
-ghost use Rattle.ds_astg.specs.Marking.{closed as closed_in, entries_of as entries_in, is_unmarked as is_unmarked_in};
-ghost use Rattle.ds_astg.specs.Marking.{mark as mark_in, mark_all as mark_all_in, mark_key as mark_key_in};
+ghost use Rattle.ds_astg.specs.Marking.{closed as closed_in, entries_of as entries_in};
+ghost use Rattle.ds_astg.specs.Marking.{is_unmarked as is_unmarked_in};
+ghost use Rattle.ds_astg.specs.Marking.{mark as mark_in, mark_all as mark_all_in};
+ghost use Rattle.ds_astg.specs.Marking.{mark_key as mark_key_in};
 ghost use Rattle.ds_astg.specs.Keys.{key_of};
 ghost use Rattle.ds_astg.specs.Steps.{IsKind, IsRefusal, texts};
 ghost use Rattle.ds_astg.specs.declared.fault.AstgKind.TheVariants.{BadMarking};

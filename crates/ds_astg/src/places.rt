@@ -1,7 +1,8 @@
 //! The places of a graph text.
 ghost use Rattle.std.specs.Prelude.{◌≡◌, ◌<◌, ◌≤◌, [], length, Ok, IfErr, IfOk, OnOk};
 ghost use Rattle.ds_astg.specs.Keys.{key_of};
-ghost use Rattle.ds_astg.specs.Place.{Places as Kept, has_place, name_at, no_places, number_of, with_place, place_at, with_place_at};
+ghost use Rattle.ds_astg.specs.Place.{Places as Kept, has_place, name_at, no_places, number_of};
+ghost use Rattle.ds_astg.specs.Place.{with_place, place_at, with_place_at};
 ghost use Rattle.ds_astg.specs.Steps.{IsKind};
 
 use crate::fault::{AstgKind, Refusal};

@@ -1,7 +1,9 @@
 //! What was read of a graph text.
 ghost use Rattle.std.specs.Prelude.{◌≡◌, ◌<◌, length, Ok, IfErr, OnOk};
-ghost use Rattle.ds_astg.specs.Line.{State as Known, start, model_line as model_line_in, signals_line as signals_line_in};
-ghost use Rattle.ds_astg.specs.Line.{body_line as body_line_in, marking_line as marking_line_in, step_by};
+ghost use Rattle.ds_astg.specs.Line.{State as Known, start, model_line as model_line_in};
+ghost use Rattle.ds_astg.specs.Line.{signals_line as signals_line_in};
+ghost use Rattle.ds_astg.specs.Line.{body_line as body_line_in, marking_line as marking_line_in};
+ghost use Rattle.ds_astg.specs.Line.{step_by};
 ghost use Rattle.ds_astg.specs.Steps.{IsKind, IsRefusal, texts};
 ghost use Rattle.ds_astg.specs.declared.fault.AstgKind.TheVariants.{BadWord};
 

@@ -2,7 +2,8 @@
 ghost use Rattle.std.specs.Prelude.{◌≡◌, ◌<◌, length};
 ghost use Rattle.ds_outside.specs.Writes.{GoesOn, Writes};
 ghost use Rattle.ds_astg.specs.Pieces.{all_below};
-ghost use Rattle.ds_astg.specs.Text.{entry_text, event_line, graph_text, place_line, signal_of, signal_text};
+ghost use Rattle.ds_astg.specs.Text.{entry_text, event_line, graph_text, place_line, signal_of};
+ghost use Rattle.ds_astg.specs.Text.{signal_text};
 
 use crate::entry::put_entry;
 use crate::line::{put_event_line, put_place_line};

@@ -1,8 +1,11 @@
 //! Words of a line.
 ghost use Rattle.std.specs.Prelude.{◌≡◌, ◌≤◌, ◌-◌, ◌<◌, length, take, drop, IfOk};
-ghost use Rattle.ds_astg.specs.Word.{first_byte as first_in, last_byte as last_in, without_last as front_of};
-ghost use Rattle.ds_astg.specs.Word.{has_slash as slash_in, has_reserved as reserved_in, is_reserved as is_reserved_byte};
-ghost use Rattle.ds_astg.specs.Word.{is_signed as signed, is_signal as may_be_signal, fall_of as falls};
+ghost use Rattle.ds_astg.specs.Word.{first_byte as first_in, last_byte as last_in};
+ghost use Rattle.ds_astg.specs.Word.{without_last as front_of};
+ghost use Rattle.ds_astg.specs.Word.{has_slash as slash_in, has_reserved as reserved_in};
+ghost use Rattle.ds_astg.specs.Word.{is_reserved as is_reserved_byte};
+ghost use Rattle.ds_astg.specs.Word.{is_signed as signed, is_signal as may_be_signal};
+ghost use Rattle.ds_astg.specs.Word.{fall_of as falls};
 ghost use Rattle.std.specs.List.{before_first, position_or_len};
 ghost use Rattle.ds_astg.specs.Word.{is_byte, word_at};
 ghost use Rattle.ds_astg.specs.Steps.{texts};

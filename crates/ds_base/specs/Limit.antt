@@ -1,7 +1,9 @@
 -- How many there may be of what is limited.
 use Rattle.std.specs.Prelude.{ℕ}
 use Rattle.ds_base.specs.declared.number.Limit.{Limit}
-use Rattle.ds_base.specs.declared.number.Limit.TheVariants.{Bytes, TableInputs, Copies, Nets, Tables, Registers, Clusters, Arcs, Signals, Vectors}
+use Rattle.ds_base.specs.declared.number.Limit.TheVariants.{Bytes, TableInputs, Copies, Nets}
+use Rattle.ds_base.specs.declared.number.Limit.TheVariants.{Tables, Registers, Clusters, Arcs}
+use Rattle.ds_base.specs.declared.number.Limit.TheVariants.{Signals, Vectors}
 
 -- how many there may be
 abbrev pub most_of : Limit → ℕ

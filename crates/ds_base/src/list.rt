@@ -1,4 +1,7 @@
-ghost use Rattle.std.specs.Prelude.{◌≡◌, ◌+◌, ◌<◌, List, [], ◌∷◌, ◌++◌, length, IsOk, OnOk, OnErr, slice_index_or};
+//! A list that grows, for the parts of a value that are lists. All types of the product keep their
+//! lists in it, so that contracts see the items and no capacity.
+ghost use Rattle.std.specs.Prelude.{◌≡◌, ◌+◌, ◌<◌, List, [], ◌∷◌, ◌++◌, length, IsOk, OnOk, OnErr};
+ghost use Rattle.std.specs.Prelude.{slice_index_or};
 
 use crate::OutOfMemory;
 use std::alloc::Global;

@@ -1,4 +1,6 @@
-ghost use Rattle.std.specs.Prelude.{◌≡◌, ◌↔◌, ◌*◌, ◌<◌, ◌≤◌, IsTrue, length, replicate, slice_index_or, slice_set, IfOk};
+//! A row of values: one value a net, register or column, as each turn reads and writes it.
+ghost use Rattle.std.specs.Prelude.{◌≡◌, ◌↔◌, ◌*◌, ◌<◌, ◌≤◌, IsTrue, length, replicate};
+ghost use Rattle.std.specs.Prelude.{slice_index_or, slice_set, IfOk};
 ghost use Rattle.ds_base.specs.Word.{number_of_values, word_of, code_of};
 ghost use Rattle.std.specs.Borrow.{sem};
 ghost use Rattle.ds_base.specs.Lent.{LendsValues};

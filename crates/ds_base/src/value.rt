@@ -1,3 +1,4 @@
+//! Zero, one and unknown, and what a gate makes of them.
 ghost use Rattle.std.specs.Prelude.{◌≡◌};
 ghost use Rattle.ds_base.specs.Values.{both, either, inverse};
 

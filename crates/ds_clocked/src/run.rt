@@ -1,10 +1,14 @@
+//! The clocked run, turn by turn: the nets are settled, the line is written, and each register
+//! takes its data net. The text goes through a buffer, and all memory is taken before the first
+//! byte.
 ghost use Rattle.std.specs.Prelude.{◌≡◌, ◌+◌, ◌^◌, ◌<◌, ◌≤◌, length, map, All, OnOk, IfOk};
 ghost use Rattle.ds_outside.specs.Fault.{Rose};
 ghost use Rattle.ds_cover.specs.Cover.{values_at};
 ghost use Rattle.ds_design.specs.Circuit.{columns, data_nets, initial_row, initial_value};
 ghost use Rattle.ds_design.specs.Trace.{trace_line as trace_text, end_line as end_text};
 ghost use Rattle.ds_outside.specs.Writes.{GoesOn};
-ghost use Rattle.ds_clocked.specs.Appends.{AppendsTrace, AppendsTracePart, AppendsLines, AppendsLinesPart, WritesTrace, WritesLines};
+ghost use Rattle.ds_clocked.specs.Appends.{AppendsTrace, AppendsTracePart, AppendsLines};
+ghost use Rattle.ds_clocked.specs.Appends.{AppendsLinesPart, WritesTrace, WritesLines};
 
 use ds_base::{NetId, OutOfMemory, Row3};
 use ds_design::{Netlist, Register, Vectors};
@@ -55,8 +59,9 @@ pub fn simulate<O: Sink>(
     }
 }
 
-/// Writes the lines of a window of a run, numbered from `first` on and with `start` as the registers
-/// before it, without the line `end`. Gives the registers after its last turn, one value per register.
+/// Writes the lines of a window of a run, numbered from `first` on and with `start` as the
+/// registers before it, without the line `end`. Gives the registers after its last turn, one value
+/// per register.
 pub fn simulate_from<O: Sink>(
     alloc: Global,
     netlist: &Netlist,
@@ -131,7 +136,8 @@ fn trace_behind<'a, O: Sink, B: Behind>(
     requires before { O.written behind.sink.now ≡ B.before }
 
     ensures ok { WritesTrace result.1 netlist.now vectors.now.rows B.before
-        (O.written result.0.sink.now) (O.faults behind.entry.sink.now) (O.faults result.0.sink.now) }
+        (O.written result.0.sink.now) (O.faults behind.entry.sink.now)
+        (O.faults result.0.sink.now) }
     ensures same { result.0.sink.ghost_name ≡ B.name }
 {
     let mut buffered: Buffered<'a, O, B> = Buffered::new(behind);

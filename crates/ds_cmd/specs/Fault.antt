@@ -7,7 +7,8 @@ use Rattle.ds_cmd.specs.declared.fault.UsageFault.TheVariants as usage
 use Rattle.ds_base.specs.declared.number.Mode.{Mode}
 
 -- what follows from a value; without one the words are no command line
-abbrev pub with_value : {A : Type 0} → Option A → (A → Result Job UsageFault) → Result Job UsageFault
+abbrev pub with_value : {A : Type 0} → Option A → (A → Result Job UsageFault)
+    → Result Job UsageFault
 with_value None next = Err Line
 with_value (Some value) next = next value
 

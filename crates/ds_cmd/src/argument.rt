@@ -1,3 +1,5 @@
+//! What the commands are put together of: words, options and flags of `clap`, and how their values
+//! are read back.
 ghost use Rattle.std.specs.Prelude.{◌≡◌, false, option_map, IfOk};
 ghost use Rattle.clap.specs.Words.{rule_of, found_of, rows_of, first_of};
 ghost use Rattle.ds_cmd.specs.Argument.{flag_rule, is_set as is_set_in, option_rule, word_rule};

@@ -1,3 +1,4 @@
+//! The whole command line, as `clap` takes it: the program, and behind it one of the commands.
 ghost use Rattle.std.specs.Prelude.{◌≡◌, ◌++◌, ◌∷◌, List, [], map, IfOk};
 ghost use Rattle.clap.specs.Words.{Shape, app_of, shape_of};
 ghost use Rattle.ds_cmd.specs.Commands.{commands as commands_of, desync};

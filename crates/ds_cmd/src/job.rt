@@ -1,3 +1,5 @@
+//! What a command line asks for, as a value: one variant for each command, with its files and
+//! options.
 use crate::FileName;
 use ds_base::Mode;
 

@@ -1,3 +1,5 @@
+//! Laws: for each command a plain line that is taken, so that what is said of all lines is not said
+//! of none.
 ghost use Rattle.std.specs.Prelude.{◌≡◌, ◌<◌, ◌≤◌, ◌^◌, ℕ, List, [], ◌∷◌, Ok, Err};
 ghost use Rattle.std.specs.Prelude.{Some, None, true, false, codes};
 ghost use Rattle.std.specs.Fmt.{decimal};
@@ -59,7 +61,8 @@ pub fn graph_is_taken()
 pub fn replay_is_taken()
     ensures { (program net vec log : List ℕ) → is_plain net ≡ true → is_plain vec ≡ true
         → is_plain log ≡ true
-        → job_of (program ∷ codes "replay" ∷ net ∷ vec ∷ log ∷ []) ≡ Ok (Replay net vec log None Each) }
+        → job_of (program ∷ codes "replay" ∷ net ∷ vec ∷ log ∷ [])
+        ≡ Ok (Replay net vec log None Each) }
 {}
 
 /// `accept` with two names of files is taken.

@@ -1,3 +1,4 @@
+//! The top call: the words to a job. `clap` splits them, and each command reads its values.
 ghost use Rattle.std.specs.Prelude.{◌≡◌, ◌⊎◌, map, IfOk};
 ghost use Rattle.clap.specs.Words.{kind_of, subcommand_rows_of};
 ghost use Rattle.ds_cmd.specs.Allowed.{AreAllowed};

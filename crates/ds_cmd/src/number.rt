@@ -1,3 +1,4 @@
+//! Numbers on the command line: one to twenty decimal digits, and within a range.
 ghost use Rattle.std.specs.Prelude.{◌≡◌};
 ghost use Rattle.std.specs.Char.{is_ascii_digit};
 ghost use Rattle.std.specs.List.{list_all};

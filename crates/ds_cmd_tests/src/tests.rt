@@ -1,3 +1,4 @@
+//! Command lines with the jobs that they ask for, and lines that are none, as lines of texts.
 use ds_base::Mode;
 use ds_cmd::{FileName, Job, UsageFault, parse};
 use std::alloc::{AllocError, Global};

@@ -18,7 +18,8 @@ asked_word [] needs = all_places
 asked_word (word ∷ words) needs =
     bit_and (asked_word words (needs / 2)) (kept_word needs word)
 
--- the places that a row takes, by the words of the places where an input is one and where it is zero
+-- the places that a row takes, by the words of the places where an input is one and where it is
+-- zero
 abbrev pub row_word : List ℕ → List ℕ → Mask → ℕ
 row_word ones zeros mask =
     bit_and (asked_word ones mask.needs_one) (asked_word zeros mask.needs_zero)

@@ -102,7 +102,8 @@ impl Bank {
     pub fn quick(&self, table: usize) -> &Quick
         requires { table < length self.now }
         ensures drives { result.now.output ≡ (driven_at self.now table).output }
-        ensures quick { result.now.few ≡ true → IsQuick result.now (driven_at self.now table).cover }
+        ensures quick { result.now.few ≡ true
+            → IsQuick result.now (driven_at self.now table).cover }
     {
         &self.quicks[table]
     }

@@ -3,10 +3,10 @@ use ds_base::{NetId, OutOfMemory, Row3, Seq, Value};
 use ds_cover::{Bank, Packed, Table};
 use std::alloc::Global;
 
-// A line for each case: how many inputs, `on` where the rows list the ones and `off` where they list
-// the zeros, the values of the inputs, the value of the table, and its rows, `.` where it has none.
-// Of a text that is shorter than the inputs the first character stands in front as often as it
-// takes; `_` is the empty text.
+// A line for each case: how many inputs, `on` where the rows list the ones and `off` where they
+// list the zeros, the values of the inputs, the value of the table, and its rows, `.` where it has
+// none. Of a text that is shorter than the inputs the first character stands in front as often as
+// it takes; `_` is the empty text.
 const CASES: &str = "0 on _ 1 _
 0 off _ 0 _
 0 on _ 0 .

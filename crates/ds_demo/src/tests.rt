@@ -1,3 +1,5 @@
+//! The design, vectors and sums of the seed 0, worked by hand from the first words of the
+//! generator.
 use super::*;
 use ds_base::{NetId, Row3, Value};
 use ds_cover::Table;

@@ -8,4 +8,5 @@ use Rattle.ds_design.specs.declared.design.Gate.{Gate}
 pub record IsBankOf (tables : List Gate) (bank : List Driven) : Type 0 where
   pub one_each : length bank ≡ length tables
   pub table : (k : ℕ) (d : Gate) → k < length tables
-      → IsDriven (driven_at bank k) (slice_index_or tables k d).table (slice_index_or tables k d).output
+      → IsDriven (driven_at bank k) (slice_index_or tables k d).table
+      (slice_index_or tables k d).output

@@ -1,5 +1,6 @@
 -- The level of each net, and the order of the tables by level.
-use Rattle.std.specs.Prelude.{◌≡◌, ◌≢◌, ℕ, ◌+◌, ◌<◌, ◌≤◌, List, length, map, not, All, AllPairs, Contains, slice_index, slice_index_or, ◌==◌}
+use Rattle.std.specs.Prelude.{◌≡◌, ◌≢◌, ℕ, ◌+◌, ◌<◌, ◌≤◌, List, length, map, not, All, AllPairs}
+use Rattle.std.specs.Prelude.{Contains, slice_index, slice_index_or, ◌==◌}
 use Rattle.std.specs.List.{filter, list_any, range_with_len}
 use Rattle.std.specs.List.Sorted.{IsNonDecreasingBy}
 use Rattle.ds_base.specs.Greatest.{greatest}

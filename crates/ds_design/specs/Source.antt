@@ -4,7 +4,8 @@ use Rattle.ds_design.specs.declared.blif.TableText.{TableText}
 use Rattle.ds_design.specs.declared.blif.LatchText.{LatchText}
 use Rattle.ds_design.specs.declared.blif.UseText.{UseText}
 use Rattle.ds_design.specs.declared.blif.Part.{Part}
-use Rattle.ds_design.specs.declared.blif.Part.TheVariants.{Inputs, Outputs, Clock, Table, Latch, Subckt}
+use Rattle.ds_design.specs.declared.blif.Part.TheVariants.{Inputs, Outputs, Clock, Table, Latch}
+use Rattle.ds_design.specs.declared.blif.Part.TheVariants.{Subckt}
 use Rattle.ds_design.specs.declared.blif.BlifModel.{BlifModel}
 
 -- a character of a row: `-` (45), `0` (48) or `1` (49)

@@ -22,7 +22,8 @@ values_text (value ∷ values) = map value_text (value ∷ values)
 
 -- the line of turn k: its number, the outputs, and the registers before the turn
 abbrev pub trace_line : ℕ → Row → Row → List ℕ
-trace_line k outputs registers = decimal k ++ codes " " ++ values_text outputs ++ codes " " ++ values_text registers ++ codes "\n"
+trace_line k outputs registers = decimal k ++ codes " " ++ values_text outputs ++ codes " "
+    ++ values_text registers ++ codes "\n"
 
 -- the last line: the registers after the last turn
 abbrev pub end_line : Row → List ℕ
@@ -31,10 +32,12 @@ end_line registers = codes "end " ++ values_text registers ++ codes "\n"
 -- the lines of so many turns, numbered from a first one on
 abbrev pub trace_lines : Circuit → ℕ → ℕ → (ℕ → Row) → (ℕ → Row) → List ℕ
 trace_lines c first turns state nets =
-    flat_map (λ k. trace_line (first + k) (values_at (nets k) c.outputs) (state k)) (range_with_len 0 turns)
+    flat_map (λ k. trace_line (first + k) (values_at (nets k) c.outputs) (state k))
+    (range_with_len 0 turns)
 
 -- a run on these vectors, from a start row and a first turn on: its lines, and its last row
-pub record IsTraceFrom (c : Circuit) (first : ℕ) (start : Row) (vectors : List Row) (lines : List ℕ) (last : Row) : Type 0 where
+pub record IsTraceFrom (c : Circuit) (first : ℕ) (start : Row) (vectors : List Row) (lines : List ℕ)
+    (last : Row) : Type 0 where
   pub state : ℕ → Row
   pub nets : ℕ → Row
   pub run : IsRun c start vectors state nets

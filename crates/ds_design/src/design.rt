@@ -1,3 +1,5 @@
+//! A flat design: nets, tables and registers with the lines that they stand on, before it is
+//! checked.
 ghost use Rattle.std.specs.Prelude.{◌≡◌, ◌≢◌, ◌<◌, ◌≤◌, ◌^◌, ℕ, All, AllPairs, length, List};
 ghost use Rattle.ds_design.specs.Circuit.{Circuit, initial_value};
 ghost use Rattle.ds_design.specs.InRange.{IsInRange};
@@ -85,9 +87,26 @@ impl Model for Design {
 
     ghost Value = { Circuit };
 
-    ghost view = { λ d. record { name = d.name; nets = d.nets; inputs = d.inputs; outputs = d.outputs; clocks = d.clocks; tables = d.tables; registers = d.registers } };
+    ghost view = { λ d. record {
+      name = d.name;
+      nets = d.nets;
+      inputs = d.inputs;
+      outputs = d.outputs;
+      clocks = d.clocks;
+      tables = d.tables;
+      registers = d.registers;
+    } };
 
-    ghost invariant = { λ d. IsInRange (record { name = d.name; nets = d.nets; inputs = d.inputs; outputs = d.outputs; clocks = d.clocks; tables = d.tables; registers = d.registers }) };
+    ghost invariant = { λ d. IsInRange
+        (record {
+          name = d.name;
+          nets = d.nets;
+          inputs = d.inputs;
+          outputs = d.outputs;
+          clocks = d.clocks;
+          tables = d.tables;
+          registers = d.registers;
+        }) };
 }
 
 impl Design {

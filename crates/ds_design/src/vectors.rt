@@ -1,3 +1,4 @@
+//! The vectors of a run, all of one width.
 ghost use Rattle.std.specs.Prelude.{◌≡◌, ◌<◌, ◌≤◌, ℕ, All, length, List, slice_index_or, []};
 ghost use Rattle.ds_base.specs.Limit.{most_of};
 ghost use Rattle.ds_base.specs.declared.number.Limit.TheVariants.{Vectors as VectorLimit};

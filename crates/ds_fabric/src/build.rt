@@ -1,4 +1,7 @@
-ghost use Rattle.std.specs.Prelude.{ℕ, ◌≡◌, ◌<◌, ◌≤◌, ◌+◌, ◌++◌, length, slice_index, replicate, vec_capacity, IfOk, OnOk};
+//! How a table begins: its words, each node's first row among them, and a history for each node
+//! with room for all its firings.
+ghost use Rattle.std.specs.Prelude.{ℕ, ◌≡◌, ◌<◌, ◌≤◌, ◌+◌, ◌++◌, length, slice_index, replicate};
+ghost use Rattle.std.specs.Prelude.{vec_capacity, IfOk, OnOk};
 ghost use Rattle.ds_rule.specs.Sound.{IsSound, read_words};
 ghost use Rattle.ds_rule.specs.Words.{width};
 ghost use Rattle.ds_rule.specs.Rows.{row};

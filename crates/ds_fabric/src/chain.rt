@@ -8,8 +8,8 @@ use ds_rule::{Layout, Rows};
 use std::alloc::Global;
 
 /// For each event, the arcs into it. `heads` has the place of the last arc into each event, `links`
-/// from each arc that of the one before; a place is one more than an arc's number, and 0 where there
-/// is none.
+/// from each arc that of the one before; a place is one more than an arc's number, and 0 where
+/// there is none.
 #[derive(Drop)]
 pub struct Chains {
     pub heads: Vec<usize>,

@@ -1,3 +1,5 @@
+//! Looks at the counts of nodes: with a seat, where the rule tells what was seen, and without one,
+//! where nothing is known but a hint.
 ghost use Rattle.std.specs.Prelude.{◌≡◌, ◌↔◌, ◌<◌, ◌≤◌, ◌+◌, true, IsTrue, IfSome, IfNone, length};
 ghost use Rattle.ds_rule.specs.Run.{events, node_of};
 ghost use Rattle.ds_rule.specs.Rule.{holds, seen};
@@ -33,8 +35,8 @@ pub fn look<J: Rows>(
     board.load::<Look>(seat, node + 1)
 }
 
-/// Plain looks at the counts, without a seat, show enough on each arc into the event, which has fired
-/// so often. A hint: it tells nothing, as the counts may have risen since.
+/// Plain looks at the counts, without a seat, show enough on each arc into the event, which has
+/// fired so often. A hint: it tells nothing, as the counts may have risen since.
 pub fn seems_enough<J: Rows>(
     board: &Board<J>,
     run: &Layout<J>,
@@ -62,7 +64,8 @@ pub fn seems_enough<J: Rows>(
     true
 }
 
-/// Loads the counts of the event's sources, from the last arc on, up to the first that is too small.
+/// Loads the counts of the event's sources, from the last arc on, up to the first that is too
+/// small.
 pub fn survey<J: Rows>(
     board: &Board<J>,
     run: &Layout<J>,

@@ -1,3 +1,5 @@
+//! The shared table with its calls: `build` makes it and the pass of all nodes, `step` fires,
+//! `deal` and `gather` hand nodes from pass to pass, `finish` makes the record.
 ghost use Rattle.std.specs.Prelude.{◌≡◌, ◌<◌, ◌≤◌, ◌+◌, true, ℕ, OnOk, OnErr, IfOk, length};
 ghost use Rattle.ds_rule.specs.Sound.{IsSound};
 ghost use Rattle.ds_rule.specs.Log.{Recorded};
@@ -113,9 +115,9 @@ impl<'a, J: Rows, C: Compute> Fabric<'a, J, C> {
         )
     }
 
-    /// Plain looks at the counts show enough for the next event of the node, which is not done. A hint:
-    /// it tells nothing, and a step alone says what may fire. A worker that lacks tokens passes its time
-    /// so.
+    /// Plain looks at the counts show enough for the next event of the node, which is not done. A
+    /// hint: it tells nothing, and a step alone says what may fire. A worker that lacks tokens
+    /// passes its time so.
     pub fn seems_ready(&self, pass: &Pass, node: LatchId) -> bool
         requires fits { Belongs self.now pass.now }
         requires held { holds pass.now.view node ≡ true }

@@ -1,3 +1,5 @@
+//! The firing of one event, which the rule calls a flight: its node departs, its sources are looked
+//! at, rows are read and the new one is written, a ticket is drawn, and the count is published.
 ghost use Rattle.std.specs.Prelude.{ℕ, List, ◌≡◌, ◌<◌, ◌≤◌, ◌+◌, ◌++◌, true, length, slice_set};
 ghost use mathlib.Core.Option.{some};
 ghost use lib.ListN.{get_elem?};
@@ -39,7 +41,8 @@ pub fn advance<J: Rows, C: Compute>(
     requires table { (seat.old.table_id ≡ board.now.table_id)
         × IsBuilt board.now.table_id board.now.key run.now index.now }
     requires chains { AreChained run.now chains.now }
-    requires openings { (C.run openings.now ≡ run.now) × (length nets.old ≡ C.scratch openings.now) }
+    requires openings { (C.run openings.now ≡ run.now)
+        × (length nets.old ≡ C.scratch openings.now) }
     requires run { seat.old.me.0.run ≡ run.now }
     requires keeps { (nodes : List History) × (i : ℕ) × Keeps seat.old.me nodes
         × (get_elem? nodes i ≡ some history.old) }
@@ -84,7 +87,8 @@ fn fire<J: Rows, C: Compute>(
 ) -> u64
     requires table { (seat.old.table_id ≡ board.now.table_id)
         × IsBuilt board.now.table_id board.now.key run.now index.now }
-    requires openings { (C.run openings.now ≡ run.now) × (length nets.old ≡ C.scratch openings.now) }
+    requires openings { (C.run openings.now ≡ run.now)
+        × (length nets.old ≡ C.scratch openings.now) }
     requires rests { (seat.old.me.0.live ≡ true) × (seat.old.me.0.stage ≡ 0)
         × (seat.old.me.0.run ≡ run.now) }
     requires held { (holds seat.old.me.0 history.old.node ≡ true)
@@ -129,7 +133,8 @@ fn prepare<J: Rows, C: Compute>(
 )
     requires table { (seat.old.table_id ≡ board.now.table_id)
         × IsBuilt board.now.table_id board.now.key run.now index.now }
-    requires openings { (C.run openings.now ≡ run.now) × (length nets.old ≡ C.scratch openings.now) }
+    requires openings { (C.run openings.now ≡ run.now)
+        × (length nets.old ≡ C.scratch openings.now) }
     requires flight { IsAway run.now seat.old.me.0 history.old.node
         × (history.old.fired ≡ seen seat.old.me.0 history.old.node)
         × (history.old.node < run.now.nodes) }
@@ -169,7 +174,8 @@ fn open_row<J: Rows, C: Compute>(
 )
     requires table { (seat.old.table_id ≡ board.now.table_id)
         × IsBuilt board.now.table_id board.now.key run.now index.now }
-    requires openings { (C.run openings.now ≡ run.now) × (length nets.old ≡ C.scratch openings.now) }
+    requires openings { (C.run openings.now ≡ run.now)
+        × (length nets.old ≡ C.scratch openings.now) }
     requires flight { IsOpening run.now seat.old.me.0 history.old.node turn
         × IsAway run.now seat.old.me.0 history.old.node }
     requires within { (history.old.node < run.now.latches) × (turn ≤ run.now.limit) }

@@ -1,3 +1,4 @@
+//! Seats at the table: cut in two, put together, and given back at the end.
 ghost use Rattle.std.specs.Prelude.{◌≡◌, ◌<◌, ℕ, [], true, length};
 ghost use Rattle.ds_rule.specs.Run.{node_of, turns};
 ghost use Rattle.ds_rule.specs.Log.{Recorded};

@@ -1,3 +1,4 @@
+//! Where the rows and the edges of each node begin, worked out once.
 ghost use Rattle.std.specs.Prelude.{◌≡◌, ◌<◌, ◌≤◌, ◌+◌, ℕ, List, IfOk, length, replicate};
 ghost use Rattle.ds_rule.specs.Sound.{IsSound, edge_at};
 ghost use Rattle.ds_rule.specs.Rows.{IsStarts};

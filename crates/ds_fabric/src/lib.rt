@@ -1,12 +1,12 @@
 //! The shared table of a run, and the passes with which threads fire its events.
 //!
-//! A `Fabric` is seen as its table and its run, a `Pass` as what it holds and knows. `build` gives a
-//! table in which nothing has fired, and the pass of all nodes; `deal` and `gather` cut and join
-//! passes; `step` fires the next event of a node where the counts that it loads are enough, and says
-//! else which arc lacks tokens; `finish` ends the run. A `Record` has the tickets of each event,
-//! which are the places of one legal list, and the rows of each node. How the row of a node comes
-//! from those of its producers is a `Compute`.
-//! Nothing is promised of time, or of which pass fires what.
+//! A `Fabric` is seen as its table and its run, a `Pass` as what it holds and knows. `build` gives
+//! a table in which nothing has fired, and the pass of all nodes; `deal` and `gather` cut and join
+//! passes; `step` fires the next event of a node where the counts that it loads are enough, and
+//! says else which arc lacks tokens; `finish` ends the run. A `Record` has the tickets of each
+//! event, which are the places of one legal list, and the rows of each node. How the row of a node
+//! comes from those of its producers is a `Compute`. Nothing is promised of time, or of which pass
+//! fires what.
 #![tactic(auto)]
 
 mod build;

@@ -1,3 +1,4 @@
+//! A pass: the nodes that one thread may fire, with their histories.
 ghost use Rattle.std.specs.Prelude.{◌≡◌, ◌↔◌, ◌<◌, ℕ, true, IsTrue};
 ghost use Rattle.ds_rule.specs.Rule.{holds, seen};
 

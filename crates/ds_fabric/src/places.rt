@@ -1,7 +1,11 @@
-ghost use Rattle.std.specs.Prelude.{ℕ, List, ◌≡◌, ◌↔◌, ◌<◌, ◌≤◌, ◌+◌, [], ◌∷◌, true, length, take, slice_index, IfOk, IsTrue, vec_len, vec_capacity};
+//! How a pass finds the history of a node: by a list of places where it has many, and without one
+//! where it has one.
+ghost use Rattle.std.specs.Prelude.{ℕ, List, ◌≡◌, ◌↔◌, ◌<◌, ◌≤◌, ◌+◌, [], ◌∷◌, true, length, take};
+ghost use Rattle.std.specs.Prelude.{slice_index, IfOk, IsTrue, vec_len, vec_capacity};
 ghost use mathlib.Core.Option.{some};
 ghost use lib.ListN.{get_elem?};
-ghost use Rattle.ds_fabric.specs.Indexed.{IsIndexed, IsOneEach, AreBelow, Leaves, Stands, IsWithout};
+ghost use Rattle.ds_fabric.specs.Indexed.{IsIndexed, IsOneEach, AreBelow, Leaves, Stands};
+ghost use Rattle.ds_fabric.specs.Indexed.{IsWithout};
 ghost use Rattle.ds_fabric.specs.declared.history.History.{History};
 
 use crate::history::History;
@@ -10,7 +14,8 @@ use ds_base::OutOfMemory;
 use std::alloc::Global;
 
 /// Where the history of a node stands that is there. A place is one more than the number of a
-/// history, and 0 where there is none; where there is room for one history alone, there are no places.
+/// history, and 0 where there is none; where there is room for one history alone, there are no
+/// places.
 pub fn find(nodes: &[History], places: &[usize], node: usize) -> usize
     requires indexed { (many : ℕ) × (room : ℕ)
         × IsIndexed many room (length nodes.now) nodes.now places.now }

@@ -1,3 +1,5 @@
+//! What a run leaves: the events in the order of their tickets, each event's tickets, and the rows
+//! that each node has stored.
 ghost use Rattle.std.specs.Prelude.{ℕ, ◌≡◌, ◌<◌, ◌≤◌, ◌+◌, IsTrue, IfOk, length, slice_index};
 ghost use Rattle.ds_rule.specs.Run.{Run, node_of, next, closing, events};
 ghost use Rattle.ds_rule.specs.Sound.{IsSound};

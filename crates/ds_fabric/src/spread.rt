@@ -1,3 +1,4 @@
+//! The events of all nodes in one list, each at the place of its ticket.
 ghost use Rattle.std.specs.Prelude.{ℕ, List, ◌≡◌, ◌<◌, IfOk, length, replicate};
 ghost use mathlib.Core.Option.{some};
 ghost use lib.ListN.{get_elem?};

@@ -1,4 +1,6 @@
-ghost use Rattle.std.specs.Prelude.{ℕ, ◌≡◌, ◌<◌, ◌≤◌, ◌+◌, ◌*◌, ◌%◌, ◌/◌, length, slice_index, slice_index_or, min};
+//! Values and words: 32 values a word, two bits each.
+ghost use Rattle.std.specs.Prelude.{ℕ, ◌≡◌, ◌<◌, ◌≤◌, ◌+◌, ◌*◌, ◌%◌, ◌/◌, length, slice_index};
+ghost use Rattle.std.specs.Prelude.{slice_index_or, min};
 ghost use Rattle.ds_base.specs.Values.{Row};
 ghost use Rattle.ds_base.specs.Word.{word_of, code_of};
 ghost use Rattle.ds_base.specs.declared.value.Value.{Value};

@@ -26,7 +26,8 @@ abbrev pub toggle : Run
 toggle = record {
   nodes = 2;
   latches = 2;
-  arcs = arc 0 1 0 ∷ arc 1 0 1 ∷ arc 2 3 0 ∷ arc 3 2 1 ∷ arc 0 2 1 ∷ arc 3 0 0 ∷ arc 2 0 0 ∷ arc 1 2 1 ∷ [];
+  arcs = arc 0 1 0 ∷ arc 1 0 1 ∷ arc 2 3 0 ∷ arc 3 2 1 ∷ arc 0 2 1 ∷ arc 3 0 0 ∷ arc 2 0 0
+      ∷ arc 1 2 1 ∷ [];
   limit = 2;
   edges = edge 1 0 0 ∷ edge 0 1 1 ∷ [];
   lengths = 1 ∷ 1 ∷ [];

@@ -8,7 +8,8 @@ use Rattle.ds_fire.specs.declared.homes.Home.{Home}
 
 -- a net is the one of this node at this place of its row
 abbrev pub IsIn : List ℕ → ℕ → ℕ → Home → Type 0
-IsIn bits node net home = (home.node ≡ node) × (home.bit < length bits) × (slice_index bits home.bit ≡ net)
+IsIn bits node net home = (home.node ≡ node) × (home.bit < length bits)
+    × (slice_index bits home.bit ≡ net)
 
 -- where a net was placed or left
 abbrev pub IsPlacedOrKept : List ℕ → ℕ → ℕ → Home → Home → Type 0

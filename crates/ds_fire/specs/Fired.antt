@@ -6,7 +6,8 @@ use Rattle.ds_design.specs.InRange.{IsInRange}
 use Rattle.ds_latch.specs.Node.{Node, IsNode, nodes, closing}
 use Rattle.ds_latch.specs.Plan.{IsPlan}
 use Rattle.ds_latch.specs.Firing.{State, first_state, Fires, FiresAll}
-use Rattle.ds_fire.specs.Snapshot.{Snapshot, Shows, split_of, graph_of, limit_of, count_of, rows_of, stored_values, width_of}
+use Rattle.ds_fire.specs.Snapshot.{Snapshot, Shows, split_of, graph_of, limit_of, count_of, rows_of}
+use Rattle.ds_fire.specs.Snapshot.{stored_values, width_of}
 
 -- an event may fire
 abbrev pub IsReady : Snapshot → ℕ → Type 0
@@ -24,11 +25,13 @@ pub record IsFired (old : Snapshot) (v : ℕ) (new : Snapshot) : Type 0 where
 -- what is kept shows a state after these firings
 abbrev pub IsAfter : Snapshot → List ℕ → Type 0
 IsAfter kept events =
-    (now : State) × FiresAll (split_of kept) kept.vectors (first_state (split_of kept)) events now × Shows kept now
+    (now : State) × FiresAll (split_of kept) kept.vectors (first_state (split_of kept)) events now
+    × Shows kept now
 
 -- a legal list leads to what is kept
 abbrev pub IsReached : Snapshot → Type 0
-IsReached kept = (events : List ℕ) × IsLegal (graph_of kept) (limit_of kept) events × IsAfter kept events
+IsReached kept = (events : List ℕ) × IsLegal (graph_of kept) (limit_of kept) events
+    × IsAfter kept events
 
 -- the plan is accepted, there is a count for each event, and each list is as long as its node asks
 pub record IsSound (kept : Snapshot) : Type 0 where

@@ -1,5 +1,6 @@
 -- What the nodes keep before the first firing.
-use Rattle.std.specs.Prelude.{◌≡◌, ℕ, ◌*◌, ◌+◌, ◌≤◌, List, [], length, All, slice_index_or, ◌==◌, if◌then◌else◌}
+use Rattle.std.specs.Prelude.{◌≡◌, ℕ, ◌*◌, ◌+◌, ◌≤◌, List, [], length, All, slice_index_or, ◌==◌}
+use Rattle.std.specs.Prelude.{if◌then◌else◌}
 use Rattle.ds_base.specs.Values.{Row}
 use Rattle.ds_latch.specs.Node.{Node, Split, IsNode, number_of, nodes, nets_of, zeros}
 use Rattle.ds_latch.specs.Firing.{first_row}
@@ -29,4 +30,5 @@ pub record AreFirstRows (s : Split) (rows : List Row) : Type 0 where
 pub record AreEmpty (s : Split) (limit : ℕ) (stored : List Stored) : Type 0 where
   pub one_each : length stored ≡ nodes s
   pub none : All (λ h. h.values ≡ []) stored
-  pub room : (n : Node) → IsNode s n → (d : Stored) → (slice_index_or stored (number_of n) d).room ≡ limit * length (nets_of s n)
+  pub room : (n : Node) → IsNode s n → (d : Stored)
+      → (slice_index_or stored (number_of n) d).room ≡ limit * length (nets_of s n)

@@ -24,10 +24,12 @@ seen planned vectors counts kept = record {
 -- each node has room for as many rows as there are vectors
 abbrev pub HaveRoom : Snapshot → Kept → Type 0
 HaveRoom snapshot kept = (n : Node) → IsNode (split_of snapshot) n
-    → limit_of snapshot * width_of snapshot n ≤ slice_index (rooms_of kept.stored.items) (number_of n)
+    → limit_of snapshot * width_of snapshot n ≤ slice_index (rooms_of kept.stored.items)
+    (number_of n)
 
 -- the parts stand for what is seen
-pub record IsRunning (snapshot : Snapshot) (vectors : Rows) (kept : Kept) (feeds : Feeds) : Type 0 where
+pub record IsRunning (snapshot : Snapshot) (vectors : Rows) (kept : Kept)
+    (feeds : Feeds) : Type 0 where
   pub sound : IsSound snapshot
   pub reached : IsReached snapshot
   pub width : vectors.width ≡ length (columns (split_of snapshot).circuit)

@@ -7,12 +7,14 @@ use Rattle.ds_design.specs.Trace.{trace_line, trace_lines}
 use Rattle.ds_latch.specs.Node.{Node, Out, IsNode, opening, closing}
 use Rattle.ds_latch.specs.Numbered.{numbered}
 use Rattle.ds_latch.specs.Firing.{AreRegisters}
-use Rattle.ds_fire.specs.Snapshot.{Snapshot, split_of, graph_of, limit_of, count_of, held_row, stored_values, stored_row}
+use Rattle.ds_fire.specs.Snapshot.{Snapshot, split_of, graph_of, limit_of, count_of, held_row}
+use Rattle.ds_fire.specs.Snapshot.{stored_values, stored_row}
 use Rattle.ds_fire.specs.Fired.{IsReady, IsFired, IsAfter, IsReached, IsSound}
 
 -- a run of the vectors from the plan's initial row
 abbrev pub IsRunOf : Snapshot → (ℕ → Row) → (ℕ → Row) → Type 0
-IsRunOf kept state nets = IsRun (split_of kept).circuit (split_of kept).initial kept.vectors state nets
+IsRunOf kept state nets =
+    IsRun (split_of kept).circuit (split_of kept).initial kept.vectors state nets
 
 -- value k of a node in the run
 abbrev pub run_value : Snapshot → (ℕ → Row) → (ℕ → Row) → Node → ℕ → Row
@@ -36,20 +38,23 @@ IsDone kept = (v : ℕ) → v < length (graph_of kept).events → count_of kept 
 
 -- no event may fire exactly where each has fired as often as it may
 abbrev pub FiredToTheEnd : Type 0
-FiredToTheEnd = (kept : Snapshot) → IsSound kept → IsReached kept → ((v : ℕ) → ¬ IsReady kept v) ↔ IsDone kept
+FiredToTheEnd = (kept : Snapshot) → IsSound kept → IsReached kept
+    → ((v : ℕ) → ¬ IsReady kept v) ↔ IsDone kept
 
 -- a firing more is a list with one event more
 abbrev pub FiredAfter : Type 0
 FiredAfter = (old new : Snapshot) (v : ℕ) (events : List ℕ)
     → IsFired old v new → IsAfter old events → IsAfter new (events ++ v ∷ [])
 
--- at the end the stored rows spell the trace: the outputs are those stored by OUT, and the registers before a turn those
--- stored by the slaves in the turn before, at first the initial ones
+-- at the end the stored rows spell the trace: the outputs are those stored by OUT, and the
+-- registers before a turn those stored by the slaves in the turn before, at first the initial ones
 abbrev pub StoredSpellTrace : Type 0
 StoredSpellTrace = (kept : Snapshot) → IsSound kept → IsReached kept → IsDone kept → (first : ℕ)
     → (state nets : ℕ → Row) → IsRunOf kept state nets
     → (rows : ℕ → Row) → rows 0 ≡ (split_of kept).initial
-    → ((k : ℕ) → k < limit_of kept → AreRegisters (split_of kept) (λ n. stored_row kept n k) (rows (k + 1)))
-    → (flat_map (λ k. trace_line (first + k) (stored_row kept Out k) (rows k)) (range_with_len 0 (limit_of kept))
+    → ((k : ℕ) → k < limit_of kept
+    → AreRegisters (split_of kept) (λ n. stored_row kept n k) (rows (k + 1)))
+    → (flat_map (λ k. trace_line (first + k) (stored_row kept Out k) (rows k))
+    (range_with_len 0 (limit_of kept))
     ≡ trace_lines (split_of kept).circuit first (limit_of kept) state nets)
     × (rows (limit_of kept) ≡ state (limit_of kept))

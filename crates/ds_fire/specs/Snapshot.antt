@@ -1,5 +1,6 @@
 -- What a state keeps, and the states that it shows.
-use Rattle.std.specs.Prelude.{◌≡◌, ℕ, ◌+◌, ◌*◌, ◌≤◌, List, [], length, slice_index, slice_index_or, slice_range}
+use Rattle.std.specs.Prelude.{◌≡◌, ℕ, ◌+◌, ◌*◌, ◌≤◌, List, [], length, slice_index, slice_index_or}
+use Rattle.std.specs.Prelude.{slice_range}
 use Rattle.std.specs.List.{flat_map}
 use Rattle.ds_base.specs.Values.{Row}
 use Rattle.ds_marked.specs.Graph.{Graph}
@@ -7,8 +8,8 @@ use Rattle.ds_latch.specs.Node.{Node, Split, IsNode, number_of, place_of, nets_o
 use Rattle.ds_latch.specs.Plan.{Planned}
 use Rattle.ds_latch.specs.Firing.{State, first_state}
 
--- the plan and the vectors, a count for each event, the rows of each node, place by place, and what each node has stored,
--- its rows one after the other
+-- the plan and the vectors, a count for each event, the rows of each node, place by place, and what
+-- each node has stored, its rows one after the other
 pub record Snapshot : Type 0 where
   pub planned : Planned
   pub vectors : List Row
@@ -42,7 +43,8 @@ rows_of s rows n place = slice_index_or rows (row_index s (number_of n) place) [
 
 -- the row of a node's last opening
 abbrev pub held_row : Snapshot → Node → Row
-held_row kept n = rows_of (split_of kept) kept.rows n (place_of (split_of kept) (count_of kept (opening n)))
+held_row kept n = rows_of (split_of kept) kept.rows n
+    (place_of (split_of kept) (count_of kept (opening n)))
 
 -- what a node has stored, its rows one after the other
 abbrev pub stored_values : Snapshot → Node → Row
@@ -54,18 +56,21 @@ width_of kept n = length (nets_of (split_of kept) n)
 
 -- the row that a node has stored at a closing, from 0 on
 abbrev pub stored_row : Snapshot → Node → ℕ → Row
-stored_row kept n k = slice_range (stored_values kept n) (k * width_of kept n) (k * width_of kept n + width_of kept n)
+stored_row kept n k = slice_range (stored_values kept n) (k * width_of kept n)
+    (k * width_of kept n + width_of kept n)
 
 -- rows, one after the other
 abbrev pub rows_joined : List Row → Row
 rows_joined rows = flat_map (λ row. row) rows
 
--- what is kept shows a state: its counts, its rows at the nodes that are there and at their places, and what they have stored
+-- what is kept shows a state: its counts, its rows at the nodes that are there and at their places,
+-- and what they have stored
 pub record Shows (kept : Snapshot) (now : State) : Type 0 where
   pub counts : (v : ℕ) → now.count v ≡ count_of kept v
   pub rows : (n : Node) → IsNode (split_of kept) n → (place : ℕ) → place ≤ (split_of kept).slack
       → now.rows n place ≡ rows_of (split_of kept) kept.rows n place
-  pub stored : (n : Node) → IsNode (split_of kept) n → rows_joined (now.stored n) ≡ stored_values kept n
+  pub stored : (n : Node) → IsNode (split_of kept) n
+      → rows_joined (now.stored n) ≡ stored_values kept n
 
 -- a new state of a plan and vectors: nothing has fired
 pub record IsFirst (planned : Planned) (vectors : List Row) (kept : Snapshot) : Type 0 where

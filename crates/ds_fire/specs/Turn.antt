@@ -1,9 +1,11 @@
 -- What one firing leaves of the rows and of what is stored.
-use Rattle.std.specs.Prelude.{◌≡◌, ℕ, ◌+◌, ◌*◌, ◌<◌, ◌≤◌, List, [], ◌++◌, length, map, slice_index_or, slice_set, ◌==◌, if◌then◌else◌}
+use Rattle.std.specs.Prelude.{◌≡◌, ℕ, ◌+◌, ◌*◌, ◌<◌, ◌≤◌, List, [], ◌++◌, length, map}
+use Rattle.std.specs.Prelude.{slice_index_or, slice_set, ◌==◌, if◌then◌else◌}
 use Rattle.ds_base.specs.Values.{Row}
 use Rattle.ds_base.specs.declared.value.Value.{Value}
 use Rattle.ds_cover.specs.Cover.{value_at}
-use Rattle.ds_latch.specs.Node.{Node, Split, IsNode, number_of, nodes, nets_of, opening, closing, extra_event, place_of}
+use Rattle.ds_latch.specs.Node.{Node, Split, IsNode, number_of, nodes, nets_of, opening, closing}
+use Rattle.ds_latch.specs.Node.{extra_event, place_of}
 use Rattle.ds_latch.specs.Firing.{State, Takes}
 use Rattle.ds_fire.specs.Snapshot.{row_index, rows_of}
 use Rattle.ds_fire.specs.History.{Stored}
@@ -19,7 +21,8 @@ state_with s rows = record { count = λ _. 0; rows = rows_of s rows; stored = λ
 -- there is a row of its node's width for each place
 pub record AreRows (s : Split) (rows : List Row) : Type 0 where
   pub one_each : length rows ≡ nodes s * (s.slack + 1)
-  pub widths : (n : Node) → IsNode s n → (place : ℕ) → place ≤ s.slack → length (rows_of s rows n place) ≡ length (nets_of s n)
+  pub widths : (n : Node) → IsNode s n → (place : ℕ) → place ≤ s.slack
+      → length (rows_of s rows n place) ≡ length (nets_of s n)
 
 -- places are below how many there are
 pub record AreLow (places : Places) : Type 0 where
@@ -36,7 +39,8 @@ pub record ArePlaces (s : Split) (opened : ℕ) (places : Places) : Type 0 where
 
 -- where the row of a home is kept: of IN at the next place, of the others at the same one
 abbrev pub home_index : Places → Home → ℕ
-home_index places home = if home.node == 0 then places.next else home.node * places.each + places.same
+home_index places home = if home.node == 0 then places.next else home.node * places.each +
+    places.same
 
 -- the value at a home
 abbrev pub home_value : Places → List Row → Home → Value
@@ -52,7 +56,8 @@ abbrev pub IsLoaded : Places → List Row → List Home → Row → ℕ → Type
 IsLoaded places rows homes nets net = value_at nets net ≡ home_value places rows (home_of homes net)
 
 -- a node that has opened so often has taken its row, at its next place
-pub record IsOpened (s : Split) (vectors : List Row) (opened : ℕ) (n : Node) (old new : List Row) : Type 0 where
+pub record IsOpened (s : Split) (vectors : List Row) (opened : ℕ) (n : Node)
+    (old new : List Row) : Type 0 where
   pub row : Row
   pub takes : Takes s vectors (state_with s old) opened n row
   pub width : length row ≡ length (nets_of s n)
@@ -72,9 +77,11 @@ abbrev pub rooms_of : List Stored → List ℕ
 rooms_of stored = map (λ h. h.room) stored
 
 -- a node that has closed so often has stored the row of its next opening behind the others
-pub record IsClosed (s : Split) (closed : ℕ) (n : Node) (rows : List Row) (old new : List Stored) : Type 0 where
+pub record IsClosed (s : Split) (closed : ℕ) (n : Node) (rows : List Row)
+    (old new : List Stored) : Type 0 where
   pub values : values_of new ≡ slice_set (values_of old) (number_of n)
-      (slice_index_or (values_of old) (number_of n) [] ++ rows_of s rows n (place_of s (closed + 1)))
+      (slice_index_or (values_of old) (number_of n) []
+      ++ rows_of s rows n (place_of s (closed + 1)))
   pub rooms : rooms_of new ≡ rooms_of old
 
 -- the node with this number has stored so
@@ -85,14 +92,17 @@ Closes s closed number rows old new =
 -- a node has room for one row more
 abbrev pub HasRoom : Split → Node → List Stored → Type 0
 HasRoom s n stored = (d : Stored)
-    → length (slice_index_or stored (number_of n) d).values + length (nets_of s n) ≤ (slice_index_or stored (number_of n) d).room
+    → length (slice_index_or stored (number_of n) d).values + length (nets_of s n) ≤
+    (slice_index_or stored (number_of n) d).room
 
 -- what is left of a firing of an event that has fired so often
 pub record IsTurned (s : Split) (vectors : List Row) (v count : ℕ) (old new : Kept) : Type 0 where
   pub nets : length new.nets ≡ length old.nets
   pub opens : (n : Node) → IsNode s n → opening n ≡ v
-      → IsOpened s vectors count n old.rows.items new.rows.items × (new.stored.items ≡ old.stored.items)
+      → IsOpened s vectors count n old.rows.items new.rows.items
+      × (new.stored.items ≡ old.stored.items)
   pub closes : (n : Node) → IsNode s n → closing n ≡ v
-      → (new.rows.items ≡ old.rows.items) × IsClosed s count n old.rows.items old.stored.items new.stored.items
+      → (new.rows.items ≡ old.rows.items)
+      × IsClosed s count n old.rows.items old.stored.items new.stored.items
   pub passes : (e : ℕ) → extra_event s e ≡ v
       → (new.rows.items ≡ old.rows.items) × (new.stored.items ≡ old.stored.items)

@@ -1,5 +1,6 @@
 //! The rows that nodes take as they open.
-ghost use Rattle.std.specs.Prelude.{◌≡◌, ◌+◌, ◌*◌, ◌<◌, ◌≤◌, ◌^◌, ℕ, List, [], All, length, slice_index_or, slice_set};
+ghost use Rattle.std.specs.Prelude.{◌≡◌, ◌+◌, ◌*◌, ◌<◌, ◌≤◌, ◌^◌, ℕ, List, [], All, length};
+ghost use Rattle.std.specs.Prelude.{slice_index_or, slice_set};
 ghost use Rattle.ds_base.specs.Values.{Row};
 ghost use Rattle.ds_design.specs.Circuit.{columns};
 ghost use Rattle.ds_design.specs.InRange.{IsInRange};

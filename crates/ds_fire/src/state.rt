@@ -50,7 +50,8 @@ impl<'a> Model for State<'a> {
 
     ghost view = { λ s. seen s.plan.now s.vectors.now s.counts s.kept };
 
-    ghost invariant = { λ s. IsRunning (seen s.plan.now s.vectors.now s.counts s.kept) s.vectors.now s.kept s.feeds };
+    ghost invariant = { λ s. IsRunning
+        (seen s.plan.now s.vectors.now s.counts s.kept) s.vectors.now s.kept s.feeds };
 }
 
 impl<'a> State<'a> {
@@ -91,13 +92,15 @@ impl<'a> State<'a> {
         self.counts.at(event)
     }
 
-    /// The row of a node's last opening; before the first one the initial row of a slave, else zeros.
+    /// The row of a node's last opening; before the first one the initial row of a slave, else
+    /// zeros.
     pub fn held(&self, latch: LatchId) -> &Row3
         requires { latch < nodes (split_of self.now) }
         ensures value { (n : Node) → IsNode (split_of self.now) n → number_of n ≡ latch
             → result.now ≡ held_row self.now n }
         ensures shown { (n : Node) → IsNode (split_of self.now) n → number_of n ≡ latch
-            → (now : DefinedState) → Shows self.now now → result.now ≡ held (split_of self.now) now n }
+            → (now : DefinedState) → Shows self.now now
+            → result.now ≡ held (split_of self.now) now n }
     {
         let opened = self.counts.at(EventId::new(2 * latch.number())) as usize;
         let places = Places::of(self.plan.latches(), opened);
@@ -120,13 +123,15 @@ impl<'a> State<'a> {
         requires { event < length (graph_of self.now).events }
         ensures ok { IsOk result ↔ IsReady self.now event }
         ensures fault { (b : Blocked)
-            → (result ≡ Err b) ↔ IsBlocked (graph_of self.now) (limit_of self.now) (count_of self.now) event b }
+            → (result ≡ Err b) ↔ IsBlocked (graph_of self.now) (limit_of self.now)
+            (count_of self.now) event b }
     {
         let limit = self.vectors.count() as u64;
         self.plan.graph().enabled(&self.counts, event, limit)
     }
 
-    /// Fires an event where it may fire, without memory: an opening takes a row, a closing stores it.
+    /// Fires an event where it may fire, without memory: an opening takes a row, a closing stores
+    /// it.
     pub fn fire(&mut self, event: EventId) -> Result<(), Blocked>
         requires { event < length (graph_of self.old).events }
 
@@ -137,7 +142,8 @@ impl<'a> State<'a> {
         // It may not fire.
         ensures same { OnErr result (self.new ≡ self.old) }
         ensures fault { (b : Blocked)
-            → (result ≡ Err b) ↔ IsBlocked (graph_of self.old) (limit_of self.old) (count_of self.old) event b }
+            → (result ≡ Err b) ↔ IsBlocked (graph_of self.old) (limit_of self.old)
+            (count_of self.old) event b }
     {
         match self.enabled(event) {
             Ok(()) => {

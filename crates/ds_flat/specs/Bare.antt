@@ -1,7 +1,8 @@
 -- Models without the commands that add nothing.
 use Rattle.std.specs.Prelude.{Bool, false, List, [], ◌∷◌, length, ◌==◌, if◌then◌else◌}
 use Rattle.ds_design.specs.declared.blif.Part.{Part}
-use Rattle.ds_design.specs.declared.blif.Part.TheVariants.{Inputs, Outputs, Clock, Table, Latch, Subckt}
+use Rattle.ds_design.specs.declared.blif.Part.TheVariants.{Inputs, Outputs, Clock, Table, Latch}
+use Rattle.ds_design.specs.declared.blif.Part.TheVariants.{Subckt}
 use Rattle.ds_design.specs.declared.blif.Command.{Command}
 use Rattle.ds_design.specs.declared.blif.BlifModel.{BlifModel}
 

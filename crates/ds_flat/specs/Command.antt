@@ -7,7 +7,8 @@ use Rattle.ds_design.specs.declared.design.Net.{Net}
 use Rattle.ds_design.specs.declared.blif.TableText.{TableText}
 use Rattle.ds_design.specs.declared.blif.LatchText.{LatchText}
 use Rattle.ds_design.specs.declared.blif.Part.{Part}
-use Rattle.ds_design.specs.declared.blif.Part.TheVariants.{Inputs, Outputs, Clock, Table, Latch, Subckt}
+use Rattle.ds_design.specs.declared.blif.Part.TheVariants.{Inputs, Outputs, Clock, Table, Latch}
+use Rattle.ds_design.specs.declared.blif.Part.TheVariants.{Subckt}
 use Rattle.ds_design.specs.Circuit.{Circuit}
 use Rattle.ds_flat.specs.Net.{Scope, Numbered, net_of, number_of, with_net, numbered_names}
 

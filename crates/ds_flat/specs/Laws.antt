@@ -8,5 +8,6 @@ use Rattle.ds_flat.specs.Copies.{flat_of}
 
 -- each number in the flat design of well formed models names what is there
 abbrev pub FlatDesignsAreInRange : Type 0
-FlatDesignsAreInRange = (models : List BlifModel) (c : Circuit) → IsBlif models → flat_of models ≡ Ok c
+FlatDesignsAreInRange = (models : List BlifModel) (c : Circuit) → IsBlif models
+    → flat_of models ≡ Ok c
     → IsInRange c

@@ -1,5 +1,6 @@
 -- What is left to take, and what it comes to.
-use Rattle.std.specs.Prelude.{◌≡◌, ◌<◌, ◌≤◌, ◌+◌, ◌-◌, ◌++◌, ℕ, List, [], ◌∷◌, map, length, All, Result, Ok, Err, if◌then◌else◌}
+use Rattle.std.specs.Prelude.{◌≡◌, ◌<◌, ◌≤◌, ◌+◌, ◌-◌, ◌++◌, ℕ, List, [], ◌∷◌, map, length, All}
+use Rattle.std.specs.Prelude.{Result, Ok, Err, if◌then◌else◌}
 use Rattle.std.specs.Str.{bytes_eq}
 use Rattle.ds_base.specs.declared.number.Limit.TheVariants.{Nets}
 use Rattle.ds_names.specs.Names.{place_of_name}
@@ -18,7 +19,8 @@ use Rattle.ds_flat.specs.declared.fault.Stop.{Stop}
 use Rattle.ds_flat.specs.declared.fault.Stop.TheVariants.{TooManyNets, Memory as NoMemory}
 use Rattle.ds_flat.specs.declared.frame.Open.{Open}
 use Rattle.ds_flat.specs.Net.{Scope}
-use Rattle.ds_flat.specs.Copies.{Flat, Frame, Opened, ◌>>=◌, use_in, take_command, take_all, expand, open_use, opened_within, next_copy, bindings_in}
+use Rattle.ds_flat.specs.Copies.{Flat, Frame, Opened, ◌>>=◌, use_in, take_command, take_all, expand}
+use Rattle.ds_flat.specs.Copies.{open_use, opened_within, next_copy, bindings_in}
 use Rattle.ds_flat.specs.Interface.{names_of_models}
 use Rattle.ds_flat.specs.Stack.{frame_on, path_of}
 
@@ -100,7 +102,8 @@ abbrev pub CopiesModel : List BlifModel → List (List ℕ) → Scope → ℕ �
     → Type 0
 CopiesModel models path scope line call copies model = (design : Circuit)
     → open_use models path scope line call (record { copies = copies; design = design })
-    ≡ opened_within line (next_copy path scope call model (record { copies = copies; design = design }))
+    ≡ opened_within line (next_copy path scope call model
+    (record { copies = copies; design = design }))
 
 -- a use is refused, whatever the design so far
 abbrev pub RefusesUse : FlatRefusal → List BlifModel → List (List ℕ) → Scope → ℕ → UseText → ℕ

@@ -1,5 +1,6 @@
 -- Copies that are being taken.
-use Rattle.std.specs.Prelude.{◌≡◌, ◌<◌, ◌==◌, ℕ, List, [], ◌∷◌, map, length, slice_index, All, ◌+◌, if◌then◌else◌}
+use Rattle.std.specs.Prelude.{◌≡◌, ◌<◌, ◌==◌, ℕ, List, [], ◌∷◌, map, length, slice_index, All, ◌+◌}
+use Rattle.std.specs.Prelude.{if◌then◌else◌}
 use Rattle.ds_flat.specs.declared.frame.Open.{Open}
 use Rattle.ds_flat.specs.Copies.{Frame}
 

@@ -7,7 +7,8 @@ use Rattle.ds_design.specs.declared.blif.Command.{Command}
 use Rattle.ds_design.specs.declared.blif.BlifModel.{BlifModel}
 use Rattle.ds_design.specs.declared.design.Net.{Net}
 use Rattle.ds_design.specs.declared.design.Gate.{Gate}
-use Rattle.ds_flat.specs.declared.fault.FlatKind.TheVariants.{UnknownModel, Recursive, UnknownFormal}
+use Rattle.ds_flat.specs.declared.fault.FlatKind.TheVariants.{UnknownModel, Recursive}
+use Rattle.ds_flat.specs.declared.fault.FlatKind.TheVariants.{UnknownFormal}
 use Rattle.ds_flat.specs.Copies.{most_depth, flat_of}
 
 -- a command on a line

@@ -7,8 +7,8 @@
 //! numbered as they first appear.
 //!
 //! A caller sees which design or fault it is by `flat_of` of specs/Copies, which gives one answer
-//! for each list of models; as a law, each number in such a design names what is there. Not promised
-//! is when memory is wanted.
+//! for each list of models; as a law, each number in such a design names what is there. Not
+//! promised is when memory is wanted.
 #![tactic(auto)]
 
 mod advance;

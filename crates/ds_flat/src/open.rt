@@ -1,15 +1,18 @@
 //! The copy that a use opens.
-ghost use Rattle.std.specs.Prelude.{◌≡◌, ◌≤◌, ◌<◌, ◌∷◌, ◌==◌, length, map, All, IfOk, IfErr, MatchResult, List, ℕ, Ok};
+ghost use Rattle.std.specs.Prelude.{◌≡◌, ◌≤◌, ◌<◌, ◌∷◌, ◌==◌, length, map, All, IfOk, IfErr};
+ghost use Rattle.std.specs.Prelude.{MatchResult, List, ℕ, Ok};
 ghost use Rattle.std.specs.List.{list_any};
 ghost use Rattle.ds_names.specs.Names.{place_of_name};
 ghost use Rattle.ds_base.specs.declared.number.Limit.TheVariants.{Copies};
 ghost use Rattle.ds_design.specs.Source.{IsUseText, IsPart};
 ghost use Rattle.ds_flat.specs.declared.fault.FlatFault.{FlatFault as Fault_of};
-ghost use Rattle.ds_flat.specs.declared.fault.FlatKind.TheVariants.{UnknownModel, UnknownFormal, Recursive, TooMany};
+ghost use Rattle.ds_flat.specs.declared.fault.FlatKind.TheVariants.{UnknownModel, UnknownFormal};
+ghost use Rattle.ds_flat.specs.declared.fault.FlatKind.TheVariants.{Recursive, TooMany};
 ghost use Rattle.ds_flat.specs.Copies.{path_from as path_from_of, opened_within, next_copy};
 ghost use Rattle.ds_flat.specs.Interface.{names_of_models, Finds};
 ghost use Rattle.ds_flat.specs.Stack.{path_of};
-ghost use Rattle.ds_flat.specs.Run.{IsFault, IsRefusal, CopiesModel, RefusesUse, opened_on, refusal_of, IsCopyOf};
+ghost use Rattle.ds_flat.specs.Run.{IsFault, IsRefusal, CopiesModel, RefusesUse, opened_on};
+ghost use Rattle.ds_flat.specs.Run.{refusal_of, IsCopyOf};
 
 use crate::connect::connect;
 use crate::draft::Draft;

@@ -1,5 +1,6 @@
 //! The copies that are being taken, below the innermost.
-ghost use Rattle.std.specs.Prelude.{◌≡◌, ◌<◌, ◌^◌, ◌==◌, ◌∷◌, [], length, reverse, IfOk, IfSome, IfNone, MatchOption};
+ghost use Rattle.std.specs.Prelude.{◌≡◌, ◌<◌, ◌^◌, ◌==◌, ◌∷◌, [], length, reverse, IfOk, IfSome};
+ghost use Rattle.std.specs.Prelude.{IfNone, MatchOption};
 ghost use Rattle.std.specs.List.{list_any};
 ghost use Rattle.ds_flat.specs.Stack.{names_of, path_of, put_on};
 ghost use Rattle.ds_flat.specs.Copies.{path_from as path_from_of};

@@ -10,9 +10,11 @@ use Rattle.ds_latch.specs.Plan.{split_events, IsSplit, IsPlan, IsController}
 abbrev pub AcceptedControls : Type 0
 AcceptedControls = (s : Split) (g : Graph) → IsPlan s g → IsController s g
 
--- while a consumer is open, a producer of it that may open writes another place than the one that the consumer read
+-- while a consumer is open, a producer of it that may open writes another place than the one that
+-- the consumer read
 abbrev pub Stability : Type 0
-Stability = (s : Split) (g : Graph) → IsController s g → (limit : ℕ) (count : ℕ → ℕ) → IsConsistent g limit count
+Stability = (s : Split) (g : Graph) → IsController s g → (limit : ℕ) (count : ℕ → ℕ)
+    → IsConsistent g limit count
     → (p c : Node) → IsDataEdge s p c → count (opening c) ≡ count (closing c) + 1
     → IsEnabled g limit count (opening p)
     → place_of s (count (opening p) + 1) ≢ place_of s (opening_read p (count (closing c)))
@@ -21,11 +23,14 @@ Stability = (s : Split) (g : Graph) → IsController s g → (limit : ℕ) (coun
 abbrev pub StabilityWithoutSlack : Type 0
 StabilityWithoutSlack = (s : Split) (g : Graph) → IsController s g → s.slack ≡ 0
     → (limit : ℕ) (count : ℕ → ℕ) → IsConsistent g limit count
-    → (p c : Node) → IsDataEdge s p c → count (opening c) ≡ count (closing c) + 1 → ¬ IsEnabled g limit count (opening p)
+    → (p c : Node) → IsDataEdge s p c → count (opening c) ≡ count (closing c) + 1
+    → ¬ IsEnabled g limit count (opening p)
 
--- some numbering rises along each required order without tokens, so the required orders alone are accepted
+-- some numbering rises along each required order without tokens, so the required orders alone are
+-- accepted
 abbrev pub RequiredOrdersRise : Type 0
-RequiredOrdersRise = (s : Split) → (rank : ℕ → ℕ) × ((u v : ℕ) → IsRequired s u v 0 → rank u < rank v)
+RequiredOrdersRise = (s : Split) → (rank : ℕ → ℕ)
+    × ((u v : ℕ) → IsRequired s u v 0 → rank u < rank v)
 
 -- a graph of the events of the nodes, whose arcs are exactly the required orders, is accepted
 abbrev pub OrdersAreAccepted : Type 0

@@ -4,7 +4,8 @@ use Rattle.ds_cover.specs.Cover.{values_at}
 use Rattle.ds_design.specs.Valuation.{IsValuation}
 use Rattle.ds_design.specs.Run.{row_at}
 use Rattle.ds_marked.specs.Graph.{counted}
-use Rattle.ds_latch.specs.Node.{Node, In, Out, Master, Slave, Split, IsNode, number_of, opening, closing, extra_event, place_of, members, nets_of, zeros}
+use Rattle.ds_latch.specs.Node.{Node, In, Out, Master, Slave, Split, IsNode, number_of, opening}
+use Rattle.ds_latch.specs.Node.{closing, extra_event, place_of, members, nets_of, zeros}
 use Rattle.ds_latch.specs.Order.{IsDataEdge}
 use Rattle.ds_base.specs.Values.{Row}
 
@@ -27,7 +28,11 @@ first_row s Out = zeros s Out
 
 -- at first nothing has fired; what no node holds is zeros
 abbrev pub first_state : Split → State
-first_state s = record { count = λ _. 0; rows = λ n place. if place == 0 then first_row s n else zeros s n; stored = λ _. [] }
+first_state s = record {
+  count = λ _. 0;
+  rows = λ n place. if place == 0 then first_row s n else zeros s n;
+  stored = λ _. [];
+}
 
 -- the same but at one node
 abbrev pub changed : {X : Type 0} → Node → X → (Node → X) → Node → X
@@ -37,7 +42,8 @@ changed n x f m = if number_of m == number_of n then x else f m
 abbrev pub placed : {X : Type 0} → ℕ → X → (ℕ → X) → ℕ → X
 placed place x f other = if other == place then x else f other
 
--- which opening of a producer a consumer reads that has opened so often: of a slave the one before, of others the same one
+-- which opening of a producer a consumer reads that has opened so often: of a slave the one before,
+-- of others the same one
 abbrev pub opening_read : Node → ℕ → ℕ
 opening_read In opened = opened + 1
 opening_read Out opened = opened + 1
@@ -48,7 +54,8 @@ opening_read (Slave i) opened = opened
 abbrev pub read_rows : Split → State → ℕ → Node → Row
 read_rows s now opened p = now.rows p (place_of s (opening_read p opened))
 
--- a row is that of a node's nets in a valuation for what its producers show; of other registers and columns nothing is asked
+-- a row is that of a node's nets in a valuation for what its producers show; of other registers and
+-- columns nothing is asked
 pub record IsSettled (s : Split) (shown : Node → Row) (n : Node) (row : Row) : Type 0 where
   pub state : Row
   pub vector : Row
@@ -58,8 +65,8 @@ pub record IsSettled (s : Split) (shown : Node → Row) (n : Node) (row : Row) :
   pub columns : IsDataEdge s In n → vector ≡ shown In
   pub row_is : row ≡ values_at nets (nets_of s n)
 
--- what a node that has opened so often takes as it opens: IN the next vector, a slave the row of its master, the others
--- what has settled
+-- what a node that has opened so often takes as it opens: IN the next vector, a slave the row of
+-- its master, the others what has settled
 abbrev pub Takes : Split → List Row → State → ℕ → Node → Row → Type 0
 Takes s vectors now opened In row = row ≡ row_at vectors opened
 Takes s vectors now opened Out row = IsSettled s (read_rows s now opened) Out row
@@ -79,7 +86,8 @@ abbrev pub closed_state : Split → State → Node → State
 closed_state s now n = record {
   count = counted (closing n) now.count;
   rows = now.rows;
-  stored = changed n (now.stored n ++ now.rows n (place_of s (now.count (closing n) + 1)) ∷ []) now.stored;
+  stored = changed n (now.stored n ++ now.rows n (place_of s (now.count (closing n) + 1))
+      ∷ []) now.stored;
 }
 
 -- an extra event changes its count alone
@@ -96,7 +104,8 @@ pub data Fires (s : Split) (vectors : List Row) (now : State) : ℕ → State �
 -- the firings of a list, one after another
 abbrev pub FiresAll : Split → List Row → State → List ℕ → State → Type 0
 FiresAll s vectors old [] new = new ≡ old
-FiresAll s vectors old (v ∷ events) new = (next : State) × Fires s vectors old v next × FiresAll s vectors next events new
+FiresAll s vectors old (v ∷ events) new = (next : State) × Fires s vectors old v next
+    × FiresAll s vectors next events new
 
 -- the slaves show these registers
 abbrev pub AreRegisters : Split → (Node → Row) → Row → Type 0

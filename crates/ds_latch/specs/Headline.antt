@@ -1,4 +1,5 @@
--- The headline: in whatever order the latches of an accepted graph fire, they do what the clocked circuit does.
+-- The headline: in whatever order the latches of an accepted graph fire, they do what the clocked
+-- circuit does.
 use Rattle.std.specs.Prelude.{◌≡◌, ◌⊎◌, ℕ, ◌+◌, ◌<◌, ◌≤◌, List, ◌++◌, All, length, map, slice_index}
 use Rattle.std.specs.List.{flat_map, range_with_len}
 use Rattle.ds_base.specs.Values.{Row}
@@ -29,7 +30,8 @@ values_stored now cluster place = map (λ row. value_at row place) (now.stored (
 
 -- the clocked values of a register: those after each of so many turns
 abbrev pub values_clocked : (ℕ → Row) → ℕ → ℕ → List Value
-values_clocked state turns register = map (λ k. value_at (state k) register) (range_with_len 1 turns)
+values_clocked state turns register =
+    map (λ k. value_at (state k) register) (range_with_len 1 turns)
 
 -- every event has fired so often
 abbrev pub HasFiredAll : Graph → ℕ → List ℕ → Type 0
@@ -44,24 +46,29 @@ pub record AreStored (s : Split) (now : State) (turns : ℕ) (rows : ℕ → Row
   pub first : rows 0 ≡ s.initial
   pub later : (k : ℕ) → k < turns → AreRegisters s (λ n. row_at (now.stored n) k) (rows (k + 1))
 
--- the lines of so many turns, numbered from a first one on, by the outputs that OUT has stored and by these registers
+-- the lines of so many turns, numbered from a first one on, by the outputs that OUT has stored and
+-- by these registers
 abbrev pub stored_lines : ℕ → State → ℕ → (ℕ → Row) → List ℕ
 stored_lines first now turns rows =
-    flat_map (λ k. trace_line (first + k) (row_at (now.stored Out) k) (rows k)) (range_with_len 0 turns)
+    flat_map (λ k. trace_line (first + k) (row_at (now.stored Out) k) (rows k))
+    (range_with_len 0 turns)
 
--- what a legal list of firings leaves, beside a clocked run: it can be fired; the stored values of each register are the
--- first of its clocked values; every event has fired once a vector or some event may fire; and where every event has, what
--- is stored spells the trace
-pub record Interleaves (s : Split) (g : Graph) (vectors : List Row) (state : ℕ → Row) (events : List ℕ) : Type 0 where
+-- what a legal list of firings leaves, beside a clocked run: it can be fired; the stored values of
+-- each register are the first of its clocked values; every event has fired once a vector or some
+-- event may fire; and where every event has, what is stored spells the trace
+pub record Interleaves (s : Split) (g : Graph) (vectors : List Row) (state : ℕ → Row)
+    (events : List ℕ) : Type 0 where
   pub fires : (now : State) × FiresAll s vectors (first_state s) events now
   pub stores : (now : State) → FiresAll s vectors (first_state s) events now
       → (register cluster place : ℕ) → StandsAt s register cluster place
-      → BeginsWith (values_clocked state (length vectors) register) (values_stored now cluster place)
+      → BeginsWith (values_clocked state (length vectors) register)
+      (values_stored now cluster place)
   pub goes_on : HasFiredAll g (length vectors) events ⊎ HasNext g (length vectors) events
   pub spells : HasFiredAll g (length vectors) events
       → (now : State) → FiresAll s vectors (first_state s) events now
       → (rows : ℕ → Row) → AreStored s now (length vectors) rows
-      → IsTraceFrom s.circuit 0 s.initial vectors (stored_lines 0 now (length vectors) rows) (rows (length vectors))
+      → IsTraceFrom s.circuit 0 s.initial vectors (stored_lines 0 now (length vectors) rows)
+      (rows (length vectors))
 
 -- a clocked run is there, it is the only one, and every legal list of firings does what it does
 pub record Desynchronizes (s : Split) (g : Graph) (vectors : List Row) : Type 0 where
@@ -70,9 +77,11 @@ pub record Desynchronizes (s : Split) (g : Graph) (vectors : List Row) : Type 0 
   pub run : IsRun s.circuit s.initial vectors state nets
   pub one : (state' nets' : ℕ → Row) → IsRun s.circuit s.initial vectors state' nets'
       → (k : ℕ) → k ≤ length vectors → state' k ≡ state k
-  pub all : (events : List ℕ) → IsLegal g (length vectors) events → Interleaves s g vectors state events
+  pub all : (events : List ℕ) → IsLegal g (length vectors) events
+      → Interleaves s g vectors state events
 
--- so it is for every circuit with its clusters, every graph that is accepted for them, and all vectors as wide as its columns
+-- so it is for every circuit with its clusters, every graph that is accepted for them, and all
+-- vectors as wide as its columns
 abbrev pub Headline : Type 0
 Headline = (s : Split) (g : Graph) → IsPlan s g → IsInRange s.circuit
     → (vectors : List Row) → All (λ vector. length vector ≡ length (columns s.circuit)) vectors

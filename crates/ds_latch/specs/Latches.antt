@@ -1,5 +1,6 @@
 -- The parts that a split design keeps.
-use Rattle.std.specs.Prelude.{◌≡◌, ◌≢◌, ◌↔◌, ℕ, ◌+◌, ◌*◌, ◌≤◌, List, [], length, Any, AllPairs, slice_index_or}
+use Rattle.std.specs.Prelude.{◌≡◌, ◌≢◌, ◌↔◌, ℕ, ◌+◌, ◌*◌, ◌≤◌, List, [], length, Any, AllPairs}
+use Rattle.std.specs.Prelude.{slice_index_or}
 use Rattle.ds_latch.specs.Node.{Node, Split, IsNode, number_of, nodes, nets_of}
 use Rattle.ds_latch.specs.Order.{IsDataEdge}
 use Rattle.ds_latch.specs.Plan.{IsSplit}
@@ -7,10 +8,11 @@ use Rattle.ds_latch.specs.declared.latches.Edge.{Edge}
 
 -- these are the data edges, each by the numbers of its nodes
 abbrev pub HasEdges : Split → List Edge → Type 0
-HasEdges s edges = (p c : Node) → IsDataEdge s p c ↔ Any (λ e. (e.producer ≡ number_of p) × (e.consumer ≡ number_of c)) edges
+HasEdges s edges = (p c : Node) → IsDataEdge s p c
+    ↔ Any (λ e. (e.producer ≡ number_of p) × (e.consumer ≡ number_of c)) edges
 
--- the nets of each node, the data edges, each once, no more required orders than a graph may have arcs, and a slack that is
--- not above 15
+-- the nets of each node, the data edges, each once, no more required orders than a graph may have
+-- arcs, and a slack that is not above 15
 pub record AreParts (s : Split) (bits : List (List ℕ)) (edges : List Edge) : Type 0 where
   pub split : IsSplit s
   pub one_each : length bits ≡ nodes s

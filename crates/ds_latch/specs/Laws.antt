@@ -1,8 +1,10 @@
 -- What follows of the numbers of nodes and events.
 use Rattle.std.specs.Prelude.{◌≡◌, ◌≢◌, ℕ, ◌+◌, ◌<◌, ◌≤◌, [], ◌∷◌, Contains}
-use Rattle.ds_latch.specs.Node.{Node, Split, IsNode, number_of, opening, closing, nodes, extra_event, events_of, place_of}
+use Rattle.ds_latch.specs.Node.{Node, Split, IsNode, number_of, opening, closing, nodes}
+use Rattle.ds_latch.specs.Node.{extra_event, events_of, place_of}
 
--- the events of a node are an opening and a closing, or one extra event, and each event is one node's
+-- the events of a node are an opening and a closing, or one extra event, and each event is one
+-- node's
 abbrev pub EventsOfNodes : Type 0
 EventsOfNodes = (s : Split)
     → ((n : Node) → IsNode s n → events_of s (number_of n) ≡ opening n ∷ closing n ∷ [])

@@ -5,8 +5,8 @@ use Rattle.ds_design.specs.Run.{row_at}
 use Rattle.ds_latch.specs.Node.{Node, In, Out, Master, Slave, Split, members, nets_of, zeros}
 use Rattle.ds_base.specs.Values.{Row}
 
--- value k of a node, for a run's states and nets: of a slave its registers after k turns; of the others, from 1 on,
--- what the k-th turn has, and zeros at 0
+-- value k of a node, for a run's states and nets: of a slave its registers after k turns; of the
+-- others, from 1 on, what the k-th turn has, and zeros at 0
 abbrev pub numbered : Split → List Row → (ℕ → Row) → (ℕ → Row) → Node → ℕ → Row
 numbered s vectors state nets (Slave i) k = values_at (state k) (members s i)
 numbered s vectors state nets (Master i) zero = zeros s (Master i)

@@ -10,7 +10,8 @@ use Rattle.ds_base.specs.Values.{Row}
 
 -- the numbered values of a later window, from 1 on, are those of the whole run
 abbrev pub ValuesInWindows : Type 0
-ValuesInWindows = (s : Split) (row : Row) (one two : List Row) (state nets : ℕ → Row) (n : Node) (k : ℕ)
+ValuesInWindows = (s : Split) (row : Row) (one two : List Row) (state nets : ℕ → Row) (n : Node)
+    (k : ℕ)
     → numbered (begun s row) two (later (length one) state) (later (length one) nets) n (suc k)
     ≡ numbered s (one ++ two) state nets n (length one + suc k)
 
@@ -18,10 +19,12 @@ ValuesInWindows = (s : Split) (row : Row) (one two : List Row) (state nets : ℕ
 abbrev pub StoredInWindows : Type 0
 StoredInWindows = (s : Split) (row : Row) (one two : List Row) (state nets : ℕ → Row) (n : Node)
     → map (numbered s one state nets n) (range_with_len 1 (length one))
-    ++ map (numbered (begun s row) two (later (length one) state) (later (length one) nets) n) (range_with_len 1 (length two))
+    ++ map (numbered (begun s row) two (later (length one) state) (later (length one) nets) n)
+    (range_with_len 1 (length two))
     ≡ map (numbered s (one ++ two) state nets n) (range_with_len 1 (length one + length two))
 
--- a graph that is accepted stays accepted, and one that controls goes on to control, where the design is begun with another row
+-- a graph that is accepted stays accepted, and one that controls goes on to control, where the
+-- design is begun with another row
 abbrev pub PlanBegins : Type 0
 PlanBegins = (s : Split) (g : Graph) (row : Row) → length row ≡ length s.circuit.registers
     → (IsPlan s g → IsPlan (begun s row) g) × (IsController s g → IsController (begun s row) g)

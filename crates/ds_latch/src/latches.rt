@@ -1,5 +1,9 @@
-ghost use Rattle.std.specs.Prelude.{◌≡◌, ◌≢◌, ◌+◌, ◌*◌, ◌<◌, ◌≤◌, ℕ, List, All, AllPairs, length, Contains, slice_index_or, []};
-ghost use Rattle.ds_latch.specs.Node.{Node, Split, IsNode, number_of, nodes, nets_of, begun, slackened};
+//! A split design: the netlist, its clusters of registers, the nets of each node, and the data
+//! edges between nodes.
+ghost use Rattle.std.specs.Prelude.{◌≡◌, ◌≢◌, ◌+◌, ◌*◌, ◌<◌, ◌≤◌, ℕ, List, All, AllPairs, length};
+ghost use Rattle.std.specs.Prelude.{Contains, slice_index_or, []};
+ghost use Rattle.ds_latch.specs.Node.{Node, Split, IsNode, number_of, nodes, nets_of, begun};
+ghost use Rattle.ds_latch.specs.Node.{slackened};
 ghost use Rattle.ds_latch.specs.Latches.{AreParts, HasEdges};
 ghost use Rattle.ds_latch.specs.Plan.{IsSplit};
 
@@ -43,9 +47,20 @@ impl<'a> Model for Latches<'a> {
 
     ghost Value = { Split };
 
-    ghost view = { λ l. record { circuit = l.netlist.now; clusters = l.clusters; initial = l.initial; slack = l.slack } };
+    ghost view = { λ l. record {
+      circuit = l.netlist.now;
+      clusters = l.clusters;
+      initial = l.initial;
+      slack = l.slack;
+    } };
 
-    ghost invariant = { λ l. AreParts (record { circuit = l.netlist.now; clusters = l.clusters; initial = l.initial; slack = l.slack }) l.bits l.edges };
+    ghost invariant = { λ l. AreParts
+        (record {
+          circuit = l.netlist.now;
+          clusters = l.clusters;
+          initial = l.initial;
+          slack = l.slack;
+        }) l.bits l.edges };
 }
 
 impl<'a> Latches<'a> {

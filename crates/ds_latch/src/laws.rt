@@ -1,6 +1,8 @@
 //! Laws of the definitions, each the contract of a function that does nothing.
-ghost use Rattle.ds_latch.specs.Flow.{FlowEquivalence, SettlesFromAll, SomeFiring, StoredRowsSpellTrace, OneRowTaken};
-ghost use Rattle.ds_latch.specs.Controls.{AcceptedControls, OrdersAreAccepted, RequiredOrdersRise, Stability, StabilityWithoutSlack};
+ghost use Rattle.ds_latch.specs.Flow.{FlowEquivalence, SettlesFromAll, SomeFiring};
+ghost use Rattle.ds_latch.specs.Flow.{StoredRowsSpellTrace, OneRowTaken};
+ghost use Rattle.ds_latch.specs.Controls.{AcceptedControls, OrdersAreAccepted, RequiredOrdersRise};
+ghost use Rattle.ds_latch.specs.Controls.{Stability, StabilityWithoutSlack};
 ghost use Rattle.ds_latch.specs.Transparent.{TransparentLatches};
 ghost use Rattle.ds_latch.specs.Windows.{PlanBegins, StoredInWindows, ValuesInWindows};
 ghost use Rattle.ds_latch.specs.Headline.{Headline};

@@ -1,7 +1,7 @@
 //! Latches: a netlist split into masters and slaves, its controller graph, and what firing means.
 //!
-//! `Latches` is a netlist whose registers stand in clusters, each with a master and a slave, seen as
-//! a split design with its data edges; a `Plan` is that with a graph that controls it. The
+//! `Latches` is a netlist whose registers stand in clusters, each with a master and a slave, seen
+//! as a split design with its data edges; a `Plan` is that with a graph that controls it. The
 //! definitions say which orders between openings and closings are required, which graphs are
 //! accepted, what a node takes as it opens, and what it has stored. `laws` has what follows of them
 //! alone: after every legal list each node keeps its value in the clocked run (flow equivalence),

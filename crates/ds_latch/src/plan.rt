@@ -1,3 +1,4 @@
+//! A plan: latches together with a graph that controls them.
 ghost use Rattle.std.specs.Prelude.{◌≡◌, ℕ, List, length};
 ghost use Rattle.ds_latch.specs.Node.{begun};
 ghost use Rattle.ds_latch.specs.Plan.{IsController, IsPlan, Planned};

@@ -1,5 +1,6 @@
 -- The arcs into an event, in rising order.
-use Rattle.std.specs.Prelude.{◌≡◌, ◌≢◌, ℕ, ◌+◌, ◌<◌, ◌≤◌, Option, None, Some, List, length, slice_index}
+use Rattle.std.specs.Prelude.{◌≡◌, ◌≢◌, ℕ, ◌+◌, ◌<◌, ◌≤◌, Option, None, Some, List, length}
+use Rattle.std.specs.Prelude.{slice_index}
 use Rattle.std.specs.List.{HoldsAt, AllWithin}
 use Rattle.ds_marked.specs.declared.marked.Arc.{Arc}
 
@@ -23,9 +24,11 @@ pub record IsNextPlace (arcs : List Arc) (v from k : ℕ) : Type 0 where
   pub enters : k < length arcs → Enters arcs v k
   pub between : NoneEnters arcs v from k
 
--- for each event its least arc from this one on, and from there on for each arc the next one into the same event
+-- for each event its least arc from this one on, and from there on for each arc the next one into
+-- the same event
 pub record AreChains (events : ℕ) (arcs : List Arc) (from : ℕ) (first next : List ℕ) : Type 0 where
   pub one_each : length first ≡ events
   pub one_an_arc : length next ≡ length arcs
   pub firsts : (v : ℕ) → v < events → IsNextPlace arcs v from (slice_index first v)
-  pub nexts : (v k : ℕ) → from ≤ k → Enters arcs v k → IsNextPlace arcs v (k + 1) (slice_index next k)
+  pub nexts : (v k : ℕ) → from ≤ k → Enters arcs v k
+      → IsNextPlace arcs v (k + 1) (slice_index next k)

@@ -1,4 +1,5 @@
--- Definitions that no other contract of this crate cites, by name, so that they are read by the check.
+-- Definitions that no other contract of this crate cites, by name, so that they are read by the
+-- check.
 use Rattle.std.specs.Prelude.{[]}
 use Rattle.ds_marked.specs.Graph.{Graph}
 use Rattle.ds_marked.specs.Log.{IsLog}

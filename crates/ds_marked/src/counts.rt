@@ -1,5 +1,6 @@
 //! How often each event has fired.
-ghost use Rattle.std.specs.Prelude.{◌≡◌, ◌+◌, ◌-◌, ◌<◌, ◌^◌, length, replicate, slice_index, slice_set, IfOk};
+ghost use Rattle.std.specs.Prelude.{◌≡◌, ◌+◌, ◌-◌, ◌<◌, ◌^◌, length, replicate, slice_index};
+ghost use Rattle.std.specs.Prelude.{slice_set, IfOk};
 
 use ds_base::{EventId, OutOfMemory};
 use std::alloc::Global;

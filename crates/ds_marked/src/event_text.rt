@@ -1,5 +1,5 @@
-//! An event as it is written: the name of its signal and its sign, both lent, so that the text of an
-//! event takes no memory.
+//! An event as it is written: the name of its signal and its sign, both lent, so that the text of
+//! an event takes no memory.
 ghost use Rattle.std.specs.Prelude.{◌≡◌, ◌<◌, ◌++◌, length};
 ghost use Rattle.ds_marked.specs.Graph.{Graph};
 ghost use Rattle.ds_marked.specs.Log.{event_text, sign as sign_of, text_of_event};

@@ -7,7 +7,10 @@ use Rattle.ds_design.specs.declared.design.Gate.{Gate}
 use Rattle.ds_order.specs.declared.edge.Edge.{Edge}
 use Rattle.ds_order.specs.Order.{IsCycle, IsRanks}
 use Rattle.ds_netlist.specs.declared.fault.NetFault.{NetFault}
-use Rattle.ds_netlist.specs.declared.fault.NetFault.TheVariants.{SeveralClocks, MixedEdges, DrivenClock, ClockAsData, MultiplyDriven, Undriven, CombinationalCycle, Memory}
+use Rattle.ds_netlist.specs.declared.fault.NetFault.TheVariants.{SeveralClocks, MixedEdges}
+use Rattle.ds_netlist.specs.declared.fault.NetFault.TheVariants.{DrivenClock, ClockAsData}
+use Rattle.ds_netlist.specs.declared.fault.NetFault.TheVariants.{MultiplyDriven, Undriven}
+use Rattle.ds_netlist.specs.declared.fault.NetFault.TheVariants.{CombinationalCycle, Memory}
 
 -- net a is an input of a table that drives net b
 abbrev pub FeedsIn : List Gate → ℕ → ℕ → Type 0

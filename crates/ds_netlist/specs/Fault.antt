@@ -1,5 +1,6 @@
 -- What is wrong with a netlist.
-use Rattle.std.specs.Prelude.{◌≡◌, ℕ, Bool, true, false, List, [], ◌∷◌, ◌++◌, length, map, not, Option, Some, None, ◌==◌, ◌&&◌}
+use Rattle.std.specs.Prelude.{◌≡◌, ℕ, Bool, true, false, List, [], ◌∷◌, ◌++◌, length, map, not}
+use Rattle.std.specs.Prelude.{Option, Some, None, ◌==◌, ◌&&◌}
 use Rattle.std.specs.List.{find, list_any, position, range_with_len}
 use Rattle.std.specs.Option.{option_map, option_or}
 use Rattle.ds_design.specs.Circuit.{Circuit, control_nets, register_nets, drivers, used}
@@ -12,7 +13,10 @@ use Rattle.ds_order.specs.Order.{IsCycle}
 use Rattle.ds_netlist.specs.Drivers.{drivers_of}
 use Rattle.ds_netlist.specs.declared.fault.Driver.{Driver}
 use Rattle.ds_netlist.specs.declared.fault.NetFault.{NetFault}
-use Rattle.ds_netlist.specs.declared.fault.NetFault.TheVariants.{SeveralClocks, MixedEdges, DrivenClock, ClockAsData, MultiplyDriven, Undriven, CombinationalCycle, Memory}
+use Rattle.ds_netlist.specs.declared.fault.NetFault.TheVariants.{SeveralClocks, MixedEdges}
+use Rattle.ds_netlist.specs.declared.fault.NetFault.TheVariants.{DrivenClock, ClockAsData}
+use Rattle.ds_netlist.specs.declared.fault.NetFault.TheVariants.{MultiplyDriven, Undriven}
+use Rattle.ds_netlist.specs.declared.fault.NetFault.TheVariants.{CombinationalCycle, Memory}
 
 -- the first that is there
 abbrev pub first_some : {X : Type 0} → List (Option X) → Option X
@@ -49,11 +53,13 @@ both_edges None other = None
 -- the first register with a rising edge and the first with a falling one, where there are both
 abbrev pub mixed_edges : List Register → Option NetFault
 mixed_edges registers =
-    both_edges (position (λ r. is_rising r.edge) registers) (position (λ r. is_falling r.edge) registers)
+    both_edges (position (λ r. is_rising r.edge) registers)
+    (position (λ r. is_falling r.edge) registers)
 
 -- the first control name that a table or a register drives
 abbrev pub driven_clock : Circuit → Option NetFault
-driven_clock c = option_map (λ clock. DrivenClock clock) (find (is_in (table_nets c ++ register_nets c)) (control_nets c))
+driven_clock c = option_map (λ clock. DrivenClock clock)
+    (find (is_in (table_nets c ++ register_nets c)) (control_nets c))
 
 -- the first control name that is used
 abbrev pub clock_as_data : Circuit → Option NetFault
@@ -73,7 +79,8 @@ multiply_driven c =
 -- the least net that is used and not driven
 abbrev pub undriven : Circuit → Option NetFault
 undriven c = option_map (λ net. Undriven net)
-    (find (λ net. is_in (used c) net && not (is_in (drivers c) net)) (range_with_len 0 (length c.nets)))
+    (find (λ net. is_in (used c) net && not (is_in (drivers c) net))
+    (range_with_len 0 (length c.nets)))
 
 -- the first fault but for cycles
 abbrev pub fault_of : Circuit → Option NetFault

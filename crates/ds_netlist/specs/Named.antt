@@ -2,7 +2,10 @@
 use Rattle.std.specs.Prelude.{◌<◌, All, length}
 use Rattle.ds_design.specs.Circuit.{Circuit}
 use Rattle.ds_netlist.specs.declared.fault.NetFault.{NetFault}
-use Rattle.ds_netlist.specs.declared.fault.NetFault.TheVariants.{SeveralClocks, MixedEdges, DrivenClock, ClockAsData, MultiplyDriven, Undriven, CombinationalCycle, Memory}
+use Rattle.ds_netlist.specs.declared.fault.NetFault.TheVariants.{SeveralClocks, MixedEdges}
+use Rattle.ds_netlist.specs.declared.fault.NetFault.TheVariants.{DrivenClock, ClockAsData}
+use Rattle.ds_netlist.specs.declared.fault.NetFault.TheVariants.{MultiplyDriven, Undriven}
+use Rattle.ds_netlist.specs.declared.fault.NetFault.TheVariants.{CombinationalCycle, Memory}
 
 -- the nets and registers of a fault are nets and registers of the circuit
 abbrev pub IsNamed : Circuit → NetFault → Type 0

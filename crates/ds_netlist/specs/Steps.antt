@@ -1,7 +1,9 @@
 -- What the steps of the checks find.
-use Rattle.std.specs.Prelude.{◌≡◌, ℕ, ◌<◌, ◌≤◌, Bool, false, List, [], ◌∷◌, length, slice_index, count_by, Option, Some, None, ◌==◌, if◌then◌else◌}
+use Rattle.std.specs.Prelude.{◌≡◌, ℕ, ◌<◌, ◌≤◌, Bool, false, List, [], ◌∷◌, length, slice_index}
+use Rattle.std.specs.Prelude.{count_by, Option, Some, None, ◌==◌, if◌then◌else◌}
 use Rattle.ds_design.specs.Circuit.{Circuit}
-use Rattle.ds_netlist.specs.Fault.{first_some, is_in, mixed_edges, driven_clock, clock_as_data, multiply_driven, undriven}
+use Rattle.ds_netlist.specs.Fault.{first_some, is_in, mixed_edges, driven_clock, clock_as_data}
+use Rattle.ds_netlist.specs.Fault.{multiply_driven, undriven}
 use Rattle.ds_netlist.specs.declared.fault.NetFault.{NetFault}
 
 -- the first of some names

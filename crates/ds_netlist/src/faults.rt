@@ -1,11 +1,13 @@
 //! The first fault but for cycles.
 ghost use Rattle.std.specs.Prelude.{◌≡◌, ◌≤◌, ◌++◌, length, IfOk, None, Some};
-ghost use Rattle.ds_design.specs.Circuit.{columns as columns_of, control_nets, register_nets, used as used_of};
+ghost use Rattle.ds_design.specs.Circuit.{columns as columns_of, control_nets, register_nets};
+ghost use Rattle.ds_design.specs.Circuit.{used as used_of};
 ghost use Rattle.ds_design.specs.InRange.{IsInRange};
 ghost use Rattle.ds_design.specs.Levels.{table_nets};
 ghost use Rattle.ds_netlist.specs.Drivers.{drivers_of};
 ghost use Rattle.ds_netlist.specs.Fault.{several_clocks, twice_driven};
-ghost use Rattle.ds_netlist.specs.Steps.{driver_fault as driver_fault_of, later_fault as later_fault_of};
+ghost use Rattle.ds_netlist.specs.Steps.{driver_fault as driver_fault_of};
+ghost use Rattle.ds_netlist.specs.Steps.{later_fault as later_fault_of};
 
 use crate::NetFault;
 use crate::clock::{clock_in, first_name, two_edges};

@@ -1,5 +1,6 @@
 //! Laws of the definitions, each the contract of a function that does nothing.
-ghost use Rattle.ds_netlist.specs.Laws.{FaultsAreRefused, FaultsAreInRange, OneFault, OneLevel, OneDepth};
+ghost use Rattle.ds_netlist.specs.Laws.{FaultsAreRefused, FaultsAreInRange, OneFault, OneLevel};
+ghost use Rattle.ds_netlist.specs.Laws.{OneDepth};
 
 /// A circuit that has a fault is not accepted.
 pub fn faults_are_refused()

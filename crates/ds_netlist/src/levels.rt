@@ -1,5 +1,6 @@
 //! The levels of nets, by the order that the tables ask for.
-ghost use Rattle.std.specs.Prelude.{◌≡◌, ◌⊎◌, ◌<◌, ◌++◌, ℕ, length, slice_index, All, IfOk, IfErr, OnOk};
+ghost use Rattle.std.specs.Prelude.{◌≡◌, ◌⊎◌, ◌<◌, ◌++◌, ℕ, length, slice_index, All, IfOk, IfErr};
+ghost use Rattle.std.specs.Prelude.{OnOk};
 ghost use Rattle.ds_netlist.specs.Edges.{AreNetRanks, IsCycleOnly, edges_into, edges_of, floor_in};
 ghost use Rattle.ds_netlist.specs.declared.fault.NetFault.TheVariants.{CombinationalCycle, Memory};
 

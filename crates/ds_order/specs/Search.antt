@@ -1,5 +1,6 @@
 -- Where a search along the edges stands.
-use Rattle.std.specs.Prelude.{◌≡◌, ◌≢◌, ◌⊎◌, ◌<◌, ◌≤◌, ◌+◌, ◌-◌, ◌^◌, ℕ, List, [], length, slice_index, sum, sum_by, zero, suc}
+use Rattle.std.specs.Prelude.{◌≡◌, ◌≢◌, ◌⊎◌, ◌<◌, ◌≤◌, ◌+◌, ◌-◌, ◌^◌, ℕ, List, [], length}
+use Rattle.std.specs.Prelude.{slice_index, sum, sum_by, zero, suc}
 use Rattle.ds_base.specs.Greatest.{greatest}
 use Rattle.ds_order.specs.declared.edge.Edge.{Edge}
 use Rattle.ds_order.specs.Order.{HasEdge, IsDistinct, source_at, target_at}

@@ -1,5 +1,6 @@
 //! The cycle that an edge closes.
-ghost use Rattle.std.specs.Prelude.{◌≡◌, ◌<◌, ◌≤◌, ◌+◌, ◌-◌, ℕ, List, length, slice_index, IfOk, drop, reverse};
+ghost use Rattle.std.specs.Prelude.{◌≡◌, ◌<◌, ◌≤◌, ◌+◌, ◌-◌, ℕ, List, length, slice_index, IfOk};
+ghost use Rattle.std.specs.Prelude.{drop, reverse};
 ghost use Rattle.ds_order.specs.Order.{HasEdge, IsCycle};
 ghost use Rattle.ds_order.specs.Search.{ClosesAt, IsPath};
 

@@ -1,7 +1,10 @@
 //! A search along the edges into each node.
-ghost use Rattle.std.specs.Prelude.{◌≡◌, ◌<◌, ◌≤◌, ◌^◌, ◌+◌, ◌-◌, ℕ, List, [], ◌∷◌, ◌++◌, Some, None, length, max, sum, take, All, MatchOption, Err, IfOk, IfErr, OnOk, OnErr, slice_index, slice_set};
+ghost use Rattle.std.specs.Prelude.{◌≡◌, ◌<◌, ◌≤◌, ◌^◌, ◌+◌, ◌-◌, ℕ, List, [], ◌∷◌, ◌++◌, Some};
+ghost use Rattle.std.specs.Prelude.{None, length, max, sum, take, All, MatchOption, Err, IfOk};
+ghost use Rattle.std.specs.Prelude.{IfErr, OnOk, OnErr, slice_index, slice_set};
 ghost use Rattle.ds_order.specs.Order.{HasEdge, IsCycle};
-ghost use Rattle.ds_order.specs.Search.{AreEnds, HasRoom, IsBegun, IsLast, IsSearch, IsStep, IsVisit, State};
+ghost use Rattle.ds_order.specs.Search.{AreEnds, HasRoom, IsBegun, IsLast, IsSearch, IsStep};
+ghost use Rattle.ds_order.specs.Search.{IsVisit, State};
 
 use crate::cycle::cycle_through;
 use crate::links::links;

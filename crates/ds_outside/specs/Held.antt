@@ -24,9 +24,10 @@ FrontIsHeld untold most front = Unit {0}
 FrontIsHeld absent most front = ⊥
 FrontIsHeld (bytes held) most front = front ≡ take most held
 
--- of a file that was read up to one byte past a limit: it has more than the limit exactly where more
--- was read, and else what was read is all of it
+-- of a file that was read up to one byte past a limit: it has more than the limit exactly where
+-- more was read, and else what was read is all of it
 abbrev pub IsReadTo : Held → ℕ → List ℕ → Type 0
 IsReadTo untold limit front = Unit {0}
 IsReadTo absent limit front = ⊥
-IsReadTo (bytes held) limit front = (limit < length front ↔ limit < length held) × (length front ≤ limit → front ≡ held)
+IsReadTo (bytes held) limit front = (limit < length front ↔ limit < length held)
+    × (length front ≤ limit → front ≡ held)

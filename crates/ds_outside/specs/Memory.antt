@@ -10,7 +10,8 @@ use Rattle.ds_outside.specs.declared.files.Which.TheVariants.{Net, Graph, Vector
 -- the bytes of the first entry with a name
 abbrev pub held_in : List Entry → List ℕ → Held
 held_in [] name = absent
-held_in (entry ∷ entries) name = if bytes_eq entry.name name then bytes entry.content else held_in entries name
+held_in (entry ∷ entries) name =
+    if bytes_eq entry.name name then bytes entry.content else held_in entries name
 
 -- an empty text where nothing stands
 abbrev pub or_empty : Held → Held

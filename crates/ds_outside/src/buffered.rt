@@ -1,3 +1,5 @@
+//! A buffer before a sink. Proofs know the sink behind it by a name, so that what was written
+//! through the buffer is known of the sink.
 ghost use Rattle.std.specs.Prelude.{◌≡◌, ◌≤◌, ℕ, List, [], Option, None, OnOk, OnErr};
 ghost use Rattle.ds_outside.specs.Fault.{Rose};
 ghost use Rattle.ds_outside.specs.Written.{appended};
@@ -22,8 +24,8 @@ impl Behind for Brand {
     ghost before = { None };
 }
 
-/// A sink that is lent to a buffer, and that `Buffered::finish` gives back. It goes from call to call
-/// by value, so that the name by which proofs know it stays.
+/// A sink that is lent to a buffer, and that `Buffered::finish` gives back. It goes from call to
+/// call by value, so that the name by which proofs know it stays.
 #[derive(Drop)]
 pub struct Lent<'a, O> {
     pub sink: &'a mut O,

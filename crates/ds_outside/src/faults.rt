@@ -1,3 +1,5 @@
+//! Counts of failed reads, one for each kind of file, by which contracts tell which read has
+//! failed.
 ghost use Rattle.std.specs.Prelude.{◌≡◌, ◌≢◌, ◌≤◌};
 
 use crate::Which;

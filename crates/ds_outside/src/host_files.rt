@@ -1,3 +1,4 @@
+//! The files of the system.
 ghost use Rattle.std.specs.Prelude.{◌≡◌, ◌≤◌, length, IfSome, IfNone};
 ghost use Rattle.ds_outside.specs.Held.{untold};
 
@@ -7,8 +8,8 @@ use crate::{Failed, Faults, Files, Which};
 use std::io::{Read, Seek};
 use std::{fs, rt};
 
-/// The files of the system. They tell no bytes. The file that was read last stays open, and one read gives at most
-/// 65,536 bytes.
+/// The files of the system. They tell no bytes. The file that was read last stays open, and one
+/// read gives at most 65,536 bytes.
 #[derive(Drop)]
 pub struct HostFiles<'r, R: rt::Files> {
     rt: &'r R,

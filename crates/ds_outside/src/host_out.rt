@@ -1,3 +1,4 @@
+//! The outputs of the system.
 ghost use Rattle.std.specs.Prelude.{◌≡◌, ◌<◌, ◌≤◌, length, None, IfSome};
 
 use crate::{Sink, WriteFault};

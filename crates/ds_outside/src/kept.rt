@@ -1,4 +1,6 @@
-ghost use Rattle.std.specs.Prelude.{◌≡◌, ◌+◌, ◌<◌, ◌≤◌, ◌++◌, ℕ, List, [], Option, length, take, drop, OnOk, OnErr, IsOk, IsErr, ◌⊎◌};
+//! The bytes that a buffer holds back.
+ghost use Rattle.std.specs.Prelude.{◌≡◌, ◌+◌, ◌<◌, ◌≤◌, ◌++◌, ℕ, List, [], Option, length, take};
+ghost use Rattle.std.specs.Prelude.{drop, OnOk, OnErr, IsOk, IsErr, ◌⊎◌};
 ghost use Rattle.ds_outside.specs.Fault.{Rose};
 ghost use Rattle.ds_outside.specs.Written.{appended};
 ghost use Rattle.ds_outside.specs.Handing.{GrewOn, replaced};

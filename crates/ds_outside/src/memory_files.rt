@@ -1,3 +1,5 @@
+//! A double of the system's files for tests: it can read in small pieces and fail where it is told
+//! to.
 ghost use Rattle.std.specs.Prelude.{◌≡◌, ◌+◌, ◌^◌, ◌<◌, ◌≤◌, ℕ, List, length, take, drop, ◌++◌};
 
 use crate::entry::{copy_from, find};

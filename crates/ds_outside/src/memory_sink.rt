@@ -1,3 +1,5 @@
+//! A double of the system's outputs for tests: it can write in small pieces and fail where it is
+//! told to.
 ghost use Rattle.std.specs.Prelude.{◌≡◌, ◌<◌, ◌≤◌, [], Some, length, take, IfOk};
 
 use crate::{Sink, WriteFault};

@@ -1,3 +1,4 @@
+//! A double of the system's files for tests: reads never fail.
 ghost use Rattle.std.specs.Prelude.{◌≡◌, ℕ, List};
 ghost use Rattle.ds_outside.specs.Memory.{sure_in};
 

@@ -1,4 +1,5 @@
-//! The rank of each event of a marked graph, along the arcs without tokens, or a cycle of such arcs.
+//! The rank of each event of a marked graph, along the arcs without tokens, or a cycle of such
+//! arcs.
 //!
 //! `rank` gives 0 to an event that no arc without tokens enters, and to each other event one more
 //! than the greatest rank among the sources of such arcs; where they lead in a circle it gives one

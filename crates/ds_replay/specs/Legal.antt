@@ -1,14 +1,17 @@
 -- What a replay has to do with legal logs.
-use Rattle.std.specs.Prelude.{◌≡◌, ◌≢◌, ◌↔◌, ℕ, List, ◌∷◌, ◌++◌, map, length, Ok, Err, All, AllPairs}
+use Rattle.std.specs.Prelude.{◌≡◌, ◌≢◌, ◌↔◌, ℕ, List, ◌∷◌, ◌++◌, map, length, Ok, Err, All}
+use Rattle.std.specs.Prelude.{AllPairs}
 use Rattle.ds_lines.specs.Line.{Line}
 use Rattle.ds_marked.specs.Graph.{Graph, counts_after}
 use Rattle.ds_marked.specs.Blocked.{IsFirstLacking}
 use Rattle.ds_marked.specs.declared.marked.Kind.TheVariants.{Dummy}
-use Rattle.ds_marked.specs.Log.{event_text, IsLegalLogFrom, LineFault, bad_word, unknown_event, wrong_turn, over_limit, not_enabled}
+use Rattle.ds_marked.specs.Log.{event_text, IsLegalLogFrom, LineFault, bad_word, unknown_event}
+use Rattle.ds_marked.specs.Log.{wrong_turn, over_limit, not_enabled}
 use Rattle.ds_replay.specs.Replay.{log_of, replay_of}
 use Rattle.ds_replay.specs.declared.fault.ReplayFault.{ReplayFault}
 use Rattle.ds_replay.specs.declared.fault.ReplayKind.{ReplayKind}
-use Rattle.ds_replay.specs.declared.fault.ReplayKind.TheVariants.{BadWord, UnknownEvent, WrongTurn, OverLimit, NotEnabled}
+use Rattle.ds_replay.specs.declared.fault.ReplayKind.TheVariants.{BadWord, UnknownEvent, WrongTurn}
+use Rattle.ds_replay.specs.declared.fault.ReplayKind.TheVariants.{OverLimit, NotEnabled}
 
 -- no two events are written alike
 abbrev pub HasOwnTexts : Graph → Type 0
@@ -26,8 +29,10 @@ words_of_lines lines = map (λ line. line.words) lines
 abbrev pub IsLegalLog : Graph → ℕ → List Line → List ℕ → Type 0
 IsLegalLog g limit lines events = IsLegalLogFrom g limit (λ _. 0) (words_of_lines lines) events
 
--- the kind of a line's fault; where an event is not enabled, it names the least arc that lacks a token
-abbrev pub HasKind : {g : Graph} {limit : ℕ} {count : ℕ → ℕ} {words : List (List ℕ)} → LineFault g limit count words → ReplayKind → Type 0
+-- the kind of a line's fault; where an event is not enabled, it names the least arc that lacks a
+-- token
+abbrev pub HasKind : {g : Graph} {limit : ℕ} {count : ℕ → ℕ} {words : List (List ℕ)}
+    → LineFault g limit count words → ReplayKind → Type 0
 HasKind (bad_word none) kind = kind ≡ BadWord
 HasKind (unknown_event {name} {turn} number none) kind = kind ≡ UnknownEvent name
 HasKind (wrong_turn v number event other) kind = kind ≡ WrongTurn
@@ -36,7 +41,8 @@ HasKind {g} {limit} {count} (not_enabled v number event turn below not_ready) ki
     (arc : ℕ) × (kind ≡ NotEnabled arc) × IsFirstLacking count v g.arcs arc
 
 -- the fault is that of one of these lines, and the lines before it are a legal log
-pub record IsFirstFault (g : Graph) (limit : ℕ) (lines : List Line) (fault : ReplayFault) : Type 0 where
+pub record IsFirstFault (g : Graph) (limit : ℕ) (lines : List Line)
+    (fault : ReplayFault) : Type 0 where
   pub before : List Line
   pub line : Line
   pub behind : List Line

@@ -1,5 +1,6 @@
 -- Which events the lines of a log fire, or the first fault of the lines.
-use Rattle.std.specs.Prelude.{ℕ, ◌+◌, Bool, not, List, [], ◌∷◌, length, drop, codes, Option, None, Some, Result, Ok, Err, nat_lt, ◌==◌, ◌&&◌, if◌then◌else◌}
+use Rattle.std.specs.Prelude.{ℕ, ◌+◌, Bool, not, List, [], ◌∷◌, length, drop, codes, Option, None}
+use Rattle.std.specs.Prelude.{Some, Result, Ok, Err, nat_lt, ◌==◌, ◌&&◌, if◌then◌else◌}
 use Rattle.std.specs.List.{position_or_len}
 use Rattle.std.specs.Str.{bytes_eq}
 use Rattle.std.specs.Str.Parse.{digits_value}
@@ -10,7 +11,8 @@ use Rattle.ds_events.specs.Texts.{event_by_text}
 use Rattle.ds_replay.specs.Word.{first_word, second_word, is_firing}
 use Rattle.ds_replay.specs.declared.fault.ReplayFault.{ReplayFault}
 use Rattle.ds_replay.specs.declared.fault.ReplayKind.{ReplayKind}
-use Rattle.ds_replay.specs.declared.fault.ReplayKind.TheVariants.{BadWord, UnknownEvent, WrongTurn, OverLimit, NotEnabled}
+use Rattle.ds_replay.specs.declared.fault.ReplayKind.TheVariants.{BadWord, UnknownEvent, WrongTurn}
+use Rattle.ds_replay.specs.declared.fault.ReplayKind.TheVariants.{OverLimit, NotEnabled}
 
 -- an arc into an event lacks a token
 abbrev pub lacks : (ℕ → ℕ) → ℕ → Arc → Bool
@@ -35,19 +37,23 @@ abbrev pub event_fault : Graph → ℕ → (ℕ → ℕ) → ℕ → ℕ → Opt
 event_fault g limit count v turn = first_of (
     where_true (not (turn == (count v + 1))) WrongTurn
     ∷ where_true (not (nat_lt (count v) limit)) OverLimit
-    ∷ where_true (nat_lt (least_lacking g count v) (length g.arcs)) (NotEnabled (least_lacking g count v))
+    ∷ where_true (nat_lt (least_lacking g count v) (length g.arcs))
+    (NotEnabled (least_lacking g count v))
     ∷ [])
 
 -- what is wrong with a line's words, at these counts
 abbrev pub fault_of : Graph → ℕ → (ℕ → ℕ) → List (List ℕ) → Option ReplayKind
 fault_of g limit count words = first_of (
     where_true (not (is_firing words)) BadWord
-    ∷ where_true (not (nat_lt (event_by_text g (first_word words)) (length g.events))) (UnknownEvent (first_word words))
-    ∷ event_fault g limit count (event_by_text g (first_word words)) (digits_value 10 (second_word words))
+    ∷ where_true (not (nat_lt (event_by_text g (first_word words)) (length g.events)))
+    (UnknownEvent (first_word words))
+    ∷ event_fault g limit count (event_by_text g (first_word words))
+    (digits_value 10 (second_word words))
     ∷ [])
 
 -- a fault of the line of this number, else what the lines behind it give
-abbrev pub fault_or : Option ReplayKind → ℕ → Result (List ℕ) ReplayFault → Result (List ℕ) ReplayFault
+abbrev pub fault_or : Option ReplayKind → ℕ → Result (List ℕ) ReplayFault
+    → Result (List ℕ) ReplayFault
 fault_or None number rest = rest
 fault_or (Some kind) number rest = Err (record { line = number; kind = kind })
 
@@ -69,7 +75,8 @@ is_firings line = (length line.words == 1) && bytes_eq (first_word line.words) (
 
 -- the place behind the first such line; the first place where there is none
 abbrev pub start_of : List Line → ℕ
-start_of lines = if nat_lt (position_or_len is_firings lines) (length lines) then (position_or_len is_firings lines + 1)
+start_of lines = if nat_lt (position_or_len is_firings lines) (length lines) then
+    (position_or_len is_firings lines + 1)
     else 0
 
 -- the lines of a log that are read

@@ -11,7 +11,8 @@ use Rattle.ds_replay.specs.declared.fault.ReplayRefusal.{ReplayRefusal}
 use Rattle.ds_replay.specs.declared.fault.ReplayRefusal.TheVariants.{Memory, Fault}
 
 -- the state of a plan and vectors after a legal list of firings
-pub record IsReplayed (planned : Planned) (vectors : List Row) (events : List ℕ) (kept : Snapshot) : Type 0 where
+pub record IsReplayed (planned : Planned) (vectors : List Row) (events : List ℕ)
+    (kept : Snapshot) : Type 0 where
   pub planned_is : kept.planned ≡ planned
   pub vectors_are : kept.vectors ≡ vectors
   pub legal : IsLegal planned.graph (length vectors) events
@@ -19,9 +20,12 @@ pub record IsReplayed (planned : Planned) (vectors : List Row) (events : List �
   pub sound : IsSound kept
   pub reached : IsReached kept
 
--- the state after the events of the lines, or the first fault of the lines, unless memory was wanted
+-- the state after the events of the lines, or the first fault of the lines, unless memory was
+-- wanted
 abbrev pub Replays : Planned → List Row → List Line → Result Snapshot ReplayRefusal → Type 0
 Replays planned vectors lines (Ok kept) =
-    (events : List ℕ) × (replay_of planned.graph (length vectors) lines ≡ Ok events) × IsReplayed planned vectors events kept
+    (events : List ℕ) × (replay_of planned.graph (length vectors) lines ≡ Ok events)
+    × IsReplayed planned vectors events kept
 Replays planned vectors lines (Err Memory) = Unit {0}
-Replays planned vectors lines (Err (Fault fault)) = replay_of planned.graph (length vectors) lines ≡ Err fault
+Replays planned vectors lines (Err (Fault fault)) =
+    replay_of planned.graph (length vectors) lines ≡ Err fault

@@ -23,7 +23,8 @@ kind_of (blocked.Arc arc) = NotEnabled arc
 abbrev pub FiresTo : Snapshot → ℕ → ℕ → Snapshot → Result (Unit {0}) ReplayKind → Type 0
 FiresTo old v turn new (Ok done) =
     (event_fault (graph_of old) (limit_of old) (count_of old) v turn ≡ None) × IsFired old v new
-FiresTo old v turn new (Err kind) = event_fault (graph_of old) (limit_of old) (count_of old) v turn ≡ Some kind
+FiresTo old v turn new (Err kind) = event_fault (graph_of old) (limit_of old) (count_of old) v turn
+    ≡ Some kind
 
 -- the event of a line has fired, or this is what is wrong with the line
 abbrev pub StepsTo : Snapshot → List (List ℕ) → Snapshot → Result (Unit {0}) Refusal → Type 0

@@ -1,5 +1,6 @@
 -- The words of a line of a log.
-use Rattle.std.specs.Prelude.{ℕ, Bool, List, [], length, Option, None, Some, slice_index_or, ◌==◌, ◌&&◌, if◌then◌else◌}
+use Rattle.std.specs.Prelude.{ℕ, Bool, List, [], length, Option, None, Some, slice_index_or, ◌==◌}
+use Rattle.std.specs.Prelude.{◌&&◌, if◌then◌else◌}
 use Rattle.std.specs.Str.Parse.{digits_value}
 use Rattle.ds_events.specs.Number.{is_short_number}
 

@@ -5,13 +5,16 @@ use Rattle.ds_marked.specs.Graph.{Graph}
 use Rattle.ds_marked.specs.declared.marked.Kind.TheVariants.{Rise, Fall}
 use Rattle.ds_replay.specs.Replay.{replay_of}
 use Rattle.ds_replay.specs.declared.fault.ReplayFault.{ReplayFault}
-use Rattle.ds_replay.specs.declared.fault.ReplayKind.TheVariants.{BadWord, UnknownEvent, WrongTurn, OverLimit, NotEnabled}
+use Rattle.ds_replay.specs.declared.fault.ReplayKind.TheVariants.{BadWord, UnknownEvent, WrongTurn}
+use Rattle.ds_replay.specs.declared.fault.ReplayKind.TheVariants.{OverLimit, NotEnabled}
 
 -- a signal that rises, and falls after that
 abbrev pub one_signal : Graph
 one_signal = record {
-  events = record { signal = codes "a"; kind = Rise } ∷ record { signal = codes "a"; kind = Fall } ∷ [];
-  arcs = record { source = 0; target = 1; tokens = 0 } ∷ record { source = 1; target = 0; tokens = 1 } ∷ [];
+  events = record { signal = codes "a"; kind = Rise } ∷ record { signal = codes "a"; kind = Fall }
+      ∷ [];
+  arcs = record { source = 0; target = 1; tokens = 0 }
+      ∷ record { source = 1; target = 0; tokens = 1 } ∷ [];
 }
 
 -- what a text fires of it, each event at most twice
@@ -26,9 +29,11 @@ pub record AreWorked : Type 0 where
   pub firings_again : read (codes "firings\nfirings\n") ≡ Err (record { line = 2; kind = BadWord })
   pub three_words : read (codes "a+ 1 1\n") ≡ Err (record { line = 1; kind = BadWord })
   pub long_number : read (codes "a+ 00000000001\n") ≡ Err (record { line = 1; kind = BadWord })
-  pub no_event : read (codes "a+ 1\nb- 1\n") ≡ Err (record { line = 2; kind = UnknownEvent (codes "b-") })
+  pub no_event : read (codes "a+ 1\nb- 1\n")
+      ≡ Err (record { line = 2; kind = UnknownEvent (codes "b-") })
   pub other_turn : read (codes "\na+ 2\n") ≡ Err (record { line = 2; kind = WrongTurn })
-  pub too_often : read (codes "a+ 1\na- 1\na+ 2\na- 2\na+ 3\n") ≡ Err (record { line = 5; kind = OverLimit })
+  pub too_often : read (codes "a+ 1\na- 1\na+ 2\na- 2\na+ 3\n")
+      ≡ Err (record { line = 5; kind = OverLimit })
   pub no_token : read (codes "a+ 1\na+ 2\n") ≡ Err (record { line = 2; kind = NotEnabled 1 })
   pub words_first : read (codes "b+ x\n") ≡ Err (record { line = 1; kind = BadWord })
   pub turn_first : read (codes "a- 2\n") ≡ Err (record { line = 1; kind = WrongTurn })

@@ -1,5 +1,6 @@
 //! What a replay has to do with legal logs.
-ghost use Rattle.ds_replay.specs.Legal.{FiresEachLine, FiresLegalLogs, RefusesFirstFaults, SignedHaveOwnTexts};
+ghost use Rattle.ds_replay.specs.Legal.{FiresEachLine, FiresLegalLogs, RefusesFirstFaults};
+ghost use Rattle.ds_replay.specs.Legal.{SignedHaveOwnTexts};
 ghost use Rattle.ds_replay.specs.Printed.{NodesHaveOwnWords, PrintedBehindIsFired};
 ghost use Rattle.ds_replay.specs.Printed.{PrintedIsFired, TraceIsFront};
 ghost use Rattle.ds_replay.specs.Worked.{AreWorked};

@@ -1,3 +1,4 @@
+//! The top call: the lines of a log are read one after another, and each event fires if it may.
 ghost use Rattle.std.specs.Prelude.{◌≡◌, length};
 ghost use Rattle.ds_design.specs.Circuit.{columns};
 ghost use Rattle.ds_replay.specs.Step.{refusal_of};

@@ -1,3 +1,4 @@
+//! One line of a vector file: its fault, or its row.
 ghost use Rattle.std.specs.Prelude.{◌≡◌, ◌<◌, map, length, IfOk};
 ghost use Rattle.std.specs.List.{list_all};
 ghost use Rattle.ds_rows.specs.Vector.{is_bit, value_of as value_of_byte};

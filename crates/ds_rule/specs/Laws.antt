@@ -10,7 +10,8 @@ pub record IsGraphOf (g : Graph) (run : Run) : Type 0 where
   pub arcs_are : g.arcs ≡ run.arcs
   pub among : run.latches ≤ run.nodes
 
--- a log, first one first, is a legal list of the graph, and counts each event as often as it stands there
+-- a log, first one first, is a legal list of the graph, and counts each event as often as it stands
+-- there
 abbrev pub LogsAreLegal : Type 0
 LogsAreLegal = (g : Graph) (run : Run) → IsGraphOf g run
     → (log : List ℕ) → IsLegalList run log → InTurn run log

@@ -1,3 +1,5 @@
+//! What a run is of: events, arcs and data edges by number, the widths of rows, and how often each
+//! event fires. Of the values proofs know, and code does not.
 ghost use Rattle.std.specs.Prelude.{◌≡◌, ◌≢◌, ◌↔◌, ◌<◌, ℕ, List, length, IsTrue, true};
 ghost use Rattle.ds_base.specs.Values.{Row};
 ghost use Rattle.ds_rule.specs.Run.{Run, node_of, next, turns, opens};

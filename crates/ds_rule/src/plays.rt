@@ -1,3 +1,5 @@
+//! The steps that a seat may take at the table, one type each; `specs` say what each of them asks
+//! and gives.
 ghost use Rattle.ds_rule.specs.Rule.{Lawful, first_view};
 ghost use Rattle.ds_rule.specs.Plays.{looked, departed, read, wrote, drew, published};
 ghost use Rattle.ds_rule.specs.Plays.{learned, pointed, without_cut, only_cut, both, spent};

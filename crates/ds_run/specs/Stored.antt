@@ -20,7 +20,8 @@ rows_told r n = map (values_at r.shown.view.run (number_of n))
     (range_with_len 1 (length (tickets r.shown.view (closing (number_of n)))))
 
 -- a state that firing reaches by a list from the first one, and that has stored what a record tells
-pub record IsRecorded (s : Split) (vectors : List Row) (r : Recorder) (events : List ℕ) (now : State) : Type 0 where
+pub record IsRecorded (s : Split) (vectors : List Row) (r : Recorder) (events : List ℕ)
+    (now : State) : Type 0 where
   pub fires : FiresAll s vectors (first_state s) events now
   pub stores : (n : Node) → IsNode s n → now.stored n ≡ rows_told r n
 
@@ -30,7 +31,8 @@ StoresAsFired = (p : Planned) (vectors : List Row) (r : Recorder) → IsPlayed p
     → (events : List ℕ) → IsFired r.shown.view.run (tickets r.shown.view) events
     → (now : State) × IsRecorded p.split vectors r events now
 
--- a view shows the first state: no event has fired, and value 0 of each node is the row that it holds
+-- a view shows the first state: no event has fired, and value 0 of each node is the row that it
+-- holds
 pub record ShowsFirst (s : Split) (v : View) : Type 0 where
   pub none : (e : ℕ) → tickets v e ≡ []
   pub rows : (n : Node) → IsNode s n → values_at v.run (number_of n) 0 ≡ held s (first_state s) n

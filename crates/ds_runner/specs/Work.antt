@@ -1,5 +1,6 @@
 -- What the workers keep, and what a step of the caller does.
-use Rattle.std.specs.Prelude.{◌≡◌, ℕ, ◌<◌, ◌≤◌, ◌+◌, ◌-◌, ◌*◌, zero, suc, true, false, Bool, List, sum_by, ◌⊎◌}
+use Rattle.std.specs.Prelude.{◌≡◌, ℕ, ◌<◌, ◌≤◌, ◌+◌, ◌-◌, ◌*◌, zero, suc, true, false, Bool, List}
+use Rattle.std.specs.Prelude.{sum_by, ◌⊎◌}
 use mathlib.Core.Option.{some}
 use lib.ListN.{get_elem?}
 use Rattle.ds_rule.specs.Run.{Run}
@@ -53,7 +54,8 @@ many_of w = w.pass.many
 
 -- each node below n is held by some worker
 abbrev pub CoverBelow : List Worker → ℕ → Type 0
-CoverBelow ws n = (l : ℕ) → l < n → (k : ℕ) × (w : Worker) × (get_elem? ws k ≡ some w) × (holds w.pass.view l ≡ true)
+CoverBelow ws n = (l : ℕ) → l < n → (k : ℕ) × (w : Worker) × (get_elem? ws k ≡ some w)
+    × (holds w.pass.view l ≡ true)
 
 -- the workers hold the first n nodes and no other
 pub record AreHired (b : Base) (ws : List Worker) (n : ℕ) : Type 0 where
@@ -77,7 +79,8 @@ pub record IsLent (b : Base) (old : Showing) (first end_ : ℕ) (p : Showing) : 
 -- each node below n is held by the pass or by some worker
 abbrev pub CoverWith : View → List Worker → ℕ → Type 0
 CoverWith v ws n = (l : ℕ) → l < n
-    → (holds v l ≡ true) ⊎ ((k : ℕ) × (w : Worker) × (get_elem? ws k ≡ some w) × (holds w.pass.view l ≡ true))
+    → (holds v l ≡ true) ⊎ ((k : ℕ) × (w : Worker) × (get_elem? ws k ≡ some w)
+    × (holds w.pass.view l ≡ true))
 
 -- what a round takes of a budget: nothing, unless there was a step
 abbrev pub Spent : ℕ → ℕ → Round → Type 0

@@ -1,10 +1,13 @@
+//! What the caller does when the workers are back: it takes their passes in and fires what is left,
+//! alone.
 ghost use Rattle.std.specs.Prelude.{◌≡◌, ◌<◌, ◌≤◌, ◌+◌, ℕ, sum_by};
 ghost use Rattle.ds_rule.specs.Run.{node_of, count};
 ghost use Rattle.ds_rule.specs.Rule.{seen};
 ghost use Rattle.ds_rule.specs.Sound.{IsSound};
 ghost use Rattle.ds_rule.specs.Progress.{IsAccepted};
 ghost use Rattle.ds_fabric.specs.Showing.{Belongs};
-ghost use Rattle.ds_runner.specs.Work.{HasFrom, HasBetween, Moved, AreWorkers, CoverBelow, many_of, Advances, AdvancesBelow};
+ghost use Rattle.ds_runner.specs.Work.{HasFrom, HasBetween, Moved, AreWorkers, CoverBelow, many_of};
+ghost use Rattle.ds_runner.specs.Work.{Advances, AdvancesBelow};
 
 use crate::unit::unit;
 use crate::worker::Worker;

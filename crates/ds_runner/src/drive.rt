@@ -1,3 +1,5 @@
+//! A worker at work: rounds over the nodes of its share, until all are done or its budget is used
+//! up.
 ghost use Rattle.std.specs.Prelude.{◌≡◌, ◌<◌, ◌≤◌, ℕ};
 ghost use Rattle.ds_rule.specs.Sound.{IsSound};
 ghost use Rattle.ds_fabric.specs.Showing.{Belongs};

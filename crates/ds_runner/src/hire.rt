@@ -1,3 +1,4 @@
+//! Workers made: the nodes are dealt in equal shares.
 ghost use Rattle.std.specs.Prelude.{◌≡◌, ◌<◌, ◌≤◌, ◌+◌, ◌*◌, ◌/◌, ℕ, IfOk, OnOk, sum_by};
 ghost use Rattle.ds_rule.specs.Sound.{IsSound};
 ghost use Rattle.ds_fabric.specs.Showing.{Belongs};

@@ -1,4 +1,5 @@
-//! Workers on the shared table of a run: every event is fired as often as it may, by several threads.
+//! Workers on the shared table of a run: every event is fired as often as it may, by several
+//! threads.
 //!
 //! `run` deals the nodes in equal shares to so many workers, each with a pass of its own, and lets
 //! them fire in threads of their own. A worker goes through its nodes again and again: it calls the

@@ -1,3 +1,5 @@
+//! The top call: a run by workers. Threads may fail to start and workers may give up; the caller
+//! completes the run.
 ghost use Rattle.std.specs.Prelude.{◌≡◌, ◌<◌, ◌≤◌, ◌+◌, ℕ, IfOk, All, length, slice_index_or};
 ghost use Rattle.ds_rule.specs.Sound.{IsSound};
 ghost use Rattle.ds_rule.specs.Progress.{IsAccepted};
@@ -76,10 +78,10 @@ fn drive_all<R: Threads + Sync, J: Rows + Sync, C: Compute + Sync, G: Gate>(
 }
 
 // Twice the nodes times the vectors are the firings of the whole run, and as many steps may each
-// worker take. The looks are shared among the workers: all of them together take some three times as
-// long as all firings, which goes with the nets that a node has to compute. So a worker looks on
-// until a run is done in which each is at work for a quarter of the time, and where workers wait for
-// processors, what they lose does not grow with their number.
+// worker take. The looks are shared among the workers: all of them together take some three times
+// as long as all firings, which goes with the nets that a node has to compute. So a worker looks on
+// until a run is done in which each is at work for a quarter of the time, and where workers wait
+// for processors, what they lose does not grow with their number.
 fn budget<J: Rows, C: Compute>(run: &Layout<J>, openings: &C, workers: usize) -> Budget
     requires { IsSound run.now }
 {

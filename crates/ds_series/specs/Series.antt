@@ -1,11 +1,13 @@
 -- Packed tables in the order in which they are set, small ones in lists by kind, and runs of them.
-use Rattle.std.specs.Prelude.{◌≡◌, ℕ, ◌+◌, ◌-◌, ◌≤◌, Bool, true, List, [], ◌∷◌, ◌++◌, length, map, take, drop, slice_set}
+use Rattle.std.specs.Prelude.{◌≡◌, ℕ, ◌+◌, ◌-◌, ◌≤◌, Bool, true, List, [], ◌∷◌, ◌++◌, length, map}
+use Rattle.std.specs.Prelude.{take, drop, slice_set}
 use Rattle.ds_base.specs.Values.{AreKnown, Row}
 use Rattle.ds_cover.specs.Cover.{values_at}
 use Rattle.ds_cover.specs.Packed.{packed_value}
 use Rattle.ds_cover.specs.Bank.{Driven, driven_at}
 use Rattle.ds_cover.specs.Ternary.{IsWordOf}
-use Rattle.ds_series.specs.Small.{IsFolded, StandsFor, WordsFor, paired, small_four, small_three, small_two}
+use Rattle.ds_series.specs.Small.{IsFolded, StandsFor, WordsFor, paired, small_four, small_three}
+use Rattle.ds_series.specs.Small.{small_two}
 use Rattle.ds_cover.specs.declared.entry.Quick.{Quick}
 use Rattle.ds_series.specs.declared.lists.Lists.{Lists}
 use Rattle.ds_cover.specs.declared.mask.Mask.{Mask}
@@ -28,13 +30,15 @@ in_order tables order = map (driven_at tables) order
 -- the nets after tables are set one after another
 abbrev pub after_each : List Driven → Row → Row
 after_each [] nets = nets
-after_each (table ∷ tables) nets = after_each tables (slice_set nets table.output (packed_value table.cover nets))
+after_each (table ∷ tables) nets =
+    after_each tables (slice_set nets table.output (packed_value table.cover nets))
 
 -- each table, when it is set, finds its inputs known
 abbrev pub FindsKnown : List Driven → Row → Type 0
 FindsKnown [] nets = Unit {0}
 FindsKnown (table ∷ tables) nets =
-    AreKnown (values_at nets table.cover.inputs) × FindsKnown tables (slice_set nets table.output (packed_value table.cover nets))
+    AreKnown (values_at nets table.cover.inputs)
+    × FindsKnown tables (slice_set nets table.output (packed_value table.cover nets))
 
 -- the items from one place on, up to another
 abbrev pub part_of : {A : Type 0} → ℕ → ℕ → List A → List A
@@ -70,14 +74,17 @@ abbrev pub own_tables : List Driven → Run → List Driven
 own_tables tables run = take (run.end - run.first) (drop run.at tables)
 
 -- a part of a list stands for the tables of a run
-pub record IsPart {S : Type 0} (IsFor : S → Driven → Type 0) (items : List S) (tables : List Driven) (run : Run) : Type 0 where
+pub record IsPart {S : Type 0} (IsFor : S → Driven → Type 0) (items : List S) (tables : List Driven)
+    (run : Run) : Type 0 where
   pub inside : run.end ≤ length items
   pub stands : AreFor IsFor (part_of run.first run.end items) (own_tables tables run)
 
 -- others stand where their numbers say
 abbrev pub IsOfKind : Parts → List Driven → Run → Kind → Type 0
-IsOfKind parts tables run Twos = IsPart StandsFor (map small_two parts.twos) tables run × IsPart WordsFor (paired small_two parts.twos parts.two_words) tables run
-IsOfKind parts tables run Threes = IsPart StandsFor (map small_three parts.threes) tables run × IsPart WordsFor (paired small_three parts.threes parts.three_words) tables run
+IsOfKind parts tables run Twos = IsPart StandsFor (map small_two parts.twos) tables run
+    × IsPart WordsFor (paired small_two parts.twos parts.two_words) tables run
+IsOfKind parts tables run Threes = IsPart StandsFor (map small_three parts.threes) tables run
+    × IsPart WordsFor (paired small_three parts.threes parts.three_words) tables run
 IsOfKind parts tables run Fours = IsPart StandsFor (map small_four parts.fours) tables run
 IsOfKind parts tables run Others = run.first ≡ run.at
 
@@ -90,7 +97,8 @@ pub record IsRun (parts : Parts) (tables : List Driven) (run : Run) : Type 0 whe
 -- one after another they are all tables from a number on
 abbrev pub AreRuns : Parts → List Driven → ℕ → List Run → Type 0
 AreRuns parts tables at [] = at ≡ length tables
-AreRuns parts tables at (run ∷ runs) = (run.at ≡ at) × IsRun parts tables run × AreRuns parts tables (at + (run.end - run.first)) runs
+AreRuns parts tables at (run ∷ runs) = (run.at ≡ at) × IsRun parts tables run
+    × AreRuns parts tables (at + (run.end - run.first)) runs
 
 -- two runs that follow each other, as one
 abbrev pub joined : Run → Run → Run
@@ -99,7 +107,8 @@ joined last run = record { kind = last.kind; at = last.at; first = last.first; e
 -- a run is added
 pub data IsRunAdded (before : List Run) (run : Run) (after : List Run) : Type 0 where
   alone : after ≡ before ++ run ∷ [] → IsRunAdded before run after
-  joins : (front : List Run) (last : Run) → before ≡ front ++ last ∷ [] → last.kind ≡ run.kind → last.end ≡ run.first
+  joins : (front : List Run) (last : Run) → before ≡ front ++ last ∷ [] → last.kind ≡ run.kind
+      → last.end ≡ run.first
       → after ≡ front ++ joined last run ∷ [] → IsRunAdded before run after
 
 -- all tables, with a word for each of up to three inputs
@@ -111,18 +120,41 @@ pub record IsSeries (parts : Parts) (tables : List Driven) (all : List Run) : Ty
 -- a table is added to the list of its kind
 abbrev pub IsAddedTo : Quick → List Mask → Bool → ℕ → ℕ → Parts → Parts → ℕ → Kind → Type 0
 IsAddedTo quick masks on inputs at before after first Twos =
-    (two : Two) × (word : ℕ) × (quick.few ≡ true) × (inputs ≤ 2) × IsFolded 2 quick (small_two two) × IsWordOf masks on word × (first ≡ length before.twos)
-    × (after ≡ record { twos = before.twos ++ two ∷ []; two_words = before.two_words ++ word ∷ []; threes = before.threes; three_words = before.three_words; fours = before.fours })
+    (two : Two) × (word : ℕ) × (quick.few ≡ true) × (inputs ≤ 2) × IsFolded 2 quick (small_two two)
+    × IsWordOf masks on word × (first ≡ length before.twos)
+    × (after ≡ record {
+      twos = before.twos ++ two ∷ [];
+      two_words = before.two_words ++ word ∷ [];
+      threes = before.threes;
+      three_words = before.three_words;
+      fours = before.fours;
+    })
 IsAddedTo quick masks on inputs at before after first Threes =
-    (three : Three) × (word : ℕ) × (quick.few ≡ true) × (inputs ≡ 3) × IsFolded 3 quick (small_three three) × IsWordOf masks on word × (first ≡ length before.threes)
-    × (after ≡ record { twos = before.twos; two_words = before.two_words; threes = before.threes ++ three ∷ []; three_words = before.three_words ++ word ∷ []; fours = before.fours })
+    (three : Three) × (word : ℕ) × (quick.few ≡ true) × (inputs ≡ 3)
+    × IsFolded 3 quick (small_three three) × IsWordOf masks on word
+    × (first ≡ length before.threes)
+    × (after ≡ record {
+      twos = before.twos;
+      two_words = before.two_words;
+      threes = before.threes ++ three ∷ [];
+      three_words = before.three_words ++ word ∷ [];
+      fours = before.fours;
+    })
 IsAddedTo quick masks on inputs at before after first Fours =
-    (four : Four) × (quick.few ≡ true) × (inputs ≡ 4) × IsFolded 4 quick (small_four four) × (first ≡ length before.fours)
-    × (after ≡ record { twos = before.twos; two_words = before.two_words; threes = before.threes; three_words = before.three_words; fours = before.fours ++ four ∷ [] })
+    (four : Four) × (quick.few ≡ true) × (inputs ≡ 4) × IsFolded 4 quick (small_four four)
+    × (first ≡ length before.fours)
+    × (after ≡ record {
+      twos = before.twos;
+      two_words = before.two_words;
+      threes = before.threes;
+      three_words = before.three_words;
+      fours = before.fours ++ four ∷ [];
+    })
 IsAddedTo quick masks on inputs at before after first Others = (first ≡ at) × (after ≡ before)
 
 -- and this run of one table says where it stands
-pub record IsSmallAdded (quick : Quick) (masks : List Mask) (on : Bool) (inputs at : ℕ) (before after : Parts) (run : Run) : Type 0 where
+pub record IsSmallAdded (quick : Quick) (masks : List Mask) (on : Bool) (inputs at : ℕ)
+    (before after : Parts) (run : Run) : Type 0 where
   pub at_is : run.at ≡ at
   pub one : run.end ≡ run.first + 1
   pub kind : IsAddedTo quick masks on inputs at before after run.first run.kind

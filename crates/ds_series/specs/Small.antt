@@ -1,5 +1,6 @@
 -- Tables of up to four inputs by one word, and nets after some of them are set.
-use Rattle.std.specs.Prelude.{◌≡◌, ℕ, ◌+◌, ◌*◌, ◌-◌, ◌<◌, ◌/◌, ◌%◌, ◌^◌, List, [], ◌∷◌, All, length, take, slice_set}
+use Rattle.std.specs.Prelude.{◌≡◌, ℕ, ◌+◌, ◌*◌, ◌-◌, ◌<◌, ◌/◌, ◌%◌, ◌^◌, List, [], ◌∷◌, All, length}
+use Rattle.std.specs.Prelude.{take, slice_set}
 use Rattle.std.specs.Int.{bit_at}
 use Rattle.ds_base.specs.Values.{AreKnown, Row}
 use Rattle.ds_base.specs.Word.{code_of}
@@ -34,28 +35,34 @@ small_four t = record { nets = t.nets; truth = t.truth; output = t.output }
 
 -- the bit of the word that the values of the inputs number
 abbrev pub small_value : Small → Row → Value
-small_value small nets = bit_value (bit_at small.truth (bits_by code_of (values_at nets small.nets)))
+small_value small nets = bit_value
+    (bit_at small.truth (bits_by code_of (values_at nets small.nets)))
 
 -- the inputs and the output are there
 pub record IsSmallWithin (small : Small) (nets : Row) : Type 0 where
   pub inputs : All (λ net. net < length nets) small.nets
   pub output : small.output < length nets
 
--- the first inputs of a word for six, and the two ends of it, where its last input has one value only
+-- the first inputs of a word for six, and the two ends of it, where its last input has one value
+-- only
 pub record IsFolded (width : ℕ) (quick : Quick) (small : Small) : Type 0 where
   pub nets : small.nets ≡ take width quick.nets
-  pub truth : small.truth ≡ quick.truth % 2 ^ (2 ^ (width - 1)) + 2 ^ (2 ^ (width - 1)) * (quick.truth / 2 ^ (64 - 2 ^ (width - 1)))
+  pub truth : small.truth ≡ quick.truth % 2 ^ (2 ^ (width - 1)) + 2 ^ (2 ^ (width - 1)) *
+      (quick.truth / 2 ^ (64 - 2 ^ (width - 1)))
   pub output : small.output ≡ quick.output
 
 -- the nets after such tables are set one after another
 abbrev pub after_smalls : List Small → Row → Row
 after_smalls [] nets = nets
-after_smalls (small ∷ smalls) nets = after_smalls smalls (slice_set nets small.output (small_value small nets))
+after_smalls (small ∷ smalls) nets =
+    after_smalls smalls (slice_set nets small.output (small_value small nets))
 
 -- it is this table, where the inputs are known
 pub record StandsFor (small : Small) (driven : Driven) : Type 0 where
-  pub within : (count : ℕ) → All (λ net. net < count) driven.cover.inputs → All (λ net. net < count) small.nets
-  pub value : (nets : Row) → AreKnown (values_at nets driven.cover.inputs) → small_value small nets ≡ packed_value driven.cover nets
+  pub within : (count : ℕ) → All (λ net. net < count) driven.cover.inputs
+      → All (λ net. net < count) small.nets
+  pub value : (nets : Row) → AreKnown (values_at nets driven.cover.inputs)
+      → small_value small nets ≡ packed_value driven.cover nets
   pub drives : small.output ≡ driven.output
 
 -- a table by the word of its values for 27 rows of values, two bits each
@@ -72,18 +79,21 @@ place_of (u ∷ v ∷ w ∷ values) = code_of u + 3 * code_of v + 9 * code_of w
 
 -- the two bits of the word that the values of the inputs number
 abbrev pub worded_value : Worded → Row → Value
-worded_value worded nets = code_value (worded.word / 2 ^ (2 * place_of (values_at nets worded.small.nets)) % 4)
+worded_value worded nets =
+    code_value (worded.word / 2 ^ (2 * place_of (values_at nets worded.small.nets)) % 4)
 
 -- tables with their words
 abbrev pub paired : {A : Type 0} → (A → Small) → List A → List ℕ → List Worded
 paired small [] words = []
 paired small (table ∷ tables) [] = []
-paired small (table ∷ tables) (word ∷ words) = record { small = small table; word = word } ∷ paired small tables words
+paired small (table ∷ tables) (word ∷ words) =
+    record { small = small table; word = word } ∷ paired small tables words
 
 -- the nets after such tables are set one after another
 abbrev pub after_worded : List Worded → Row → Row
 after_worded [] nets = nets
-after_worded (worded ∷ rest) nets = after_worded rest (slice_set nets worded.small.output (worded_value worded nets))
+after_worded (worded ∷ rest) nets =
+    after_worded rest (slice_set nets worded.small.output (worded_value worded nets))
 
 -- it is this table, whatever its inputs are
 pub record WordsFor (worded : Worded) (driven : Driven) : Type 0 where

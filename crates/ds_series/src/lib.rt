@@ -1,10 +1,10 @@
 //! The tables of a bank in the order in which they are set, those of up to four inputs in lists by
 //! kind.
 //!
-//! A `Series` keeps a bank and an order of its tables. `set_all` gives what they drive its value, one
-//! after another: it reads words that are exact for unknown values too. `set_all_known`, where each
-//! table finds its inputs known, reads shorter ones. Both set the same as the bank does, table by
-//! table.
+//! A `Series` keeps a bank and an order of its tables. `set_all` gives what they drive its value,
+//! one after another: it reads words that are exact for unknown values too. `set_all_known`, where
+//! each table finds its inputs known, reads shorter ones. Both set the same as the bank does, table
+//! by table.
 #![tactic(auto)]
 
 mod lists;

@@ -1,7 +1,8 @@
 //! Tables of one kind that are set one after another.
 ghost use Rattle.std.specs.Prelude.{◌≡◌, ◌+◌, ◌-◌, ◌<◌, ◌≤◌, true, All, OnOk, drop, length, take};
 ghost use Rattle.ds_cover.specs.Bank.{IsWithin};
-ghost use Rattle.ds_series.specs.Series.{FindsKnown, IsRun, IsRunAdded, after_each, in_order, own_tables, parts_of};
+ghost use Rattle.ds_series.specs.Series.{FindsKnown, IsRun, IsRunAdded, after_each, in_order};
+ghost use Rattle.ds_series.specs.Series.{own_tables, parts_of};
 
 use crate::lists::Lists;
 use crate::small::{set_fours, set_threes, set_twos, set_worded_threes, set_worded_twos};

@@ -77,7 +77,8 @@ impl Two {
     // The value by the word of all rows of values.
     fn worded(&self, word: u64, nets: &[Value]) -> Value
         requires { All (λ net. net < length nets.now) self.now.nets }
-        ensures { result ≡ worded_value (record { small = small_two self.now; word = word }) nets.now }
+        ensures { result ≡ worded_value
+            (record { small = small_two self.now; word = word }) nets.now }
     {
         let a = code(nets[self.nets[0].index()]);
         let b = code(nets[self.nets[1].index()]);
@@ -113,7 +114,8 @@ impl Three {
     // The value by the word of all rows of values.
     fn worded(&self, word: u64, nets: &[Value]) -> Value
         requires { All (λ net. net < length nets.now) self.now.nets }
-        ensures { result ≡ worded_value (record { small = small_three self.now; word = word }) nets.now }
+        ensures { result ≡ worded_value
+            (record { small = small_three self.now; word = word }) nets.now }
     {
         let a = code(nets[self.nets[0].index()]);
         let b = code(nets[self.nets[1].index()]);

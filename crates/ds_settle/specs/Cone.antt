@@ -1,5 +1,6 @@
 -- The part of a circuit that some nets depend on.
-use Rattle.std.specs.Prelude.{◌≡◌, ◌≢◌, ◌↔◌, ℕ, ◌<◌, ◌≤◌, List, length, map, All, AllPairs, Any, Contains, slice_index, slice_index_or}
+use Rattle.std.specs.Prelude.{◌≡◌, ◌≢◌, ◌↔◌, ℕ, ◌<◌, ◌≤◌, List, length, map, All, AllPairs, Any}
+use Rattle.std.specs.Prelude.{Contains, slice_index, slice_index_or}
 use Rattle.ds_base.specs.Values.{Row}
 use Rattle.ds_cover.specs.Cover.{value_at, value_of}
 use Rattle.ds_design.specs.Circuit.{Circuit}
@@ -32,18 +33,21 @@ pub record AreInOrder (c : Circuit) (tables : List ℕ) : Type 0 where
       → ¬ Contains (slice_index_or c.tables (slice_index tables i) d).table.inputs
       (slice_index_or c.tables (slice_index tables j) d).output
 
--- the tables are those whose nets reach these, each once and in order by level, and the sources are the nets that reach
--- them and that no table drives, each once
+-- the tables are those whose nets reach these, each once and in order by level, and the sources are
+-- the nets that reach them and that no table drives, each once
 pub record IsCone (c : Circuit) (these : List ℕ) (cone : Parts) : Type 0 where
   pub order : AreInOrder c cone.tables
   pub by_level : IsByLevel c cone.tables
   pub once : AllPairs (λ j k. j ≢ k) cone.tables
-  pub tables : (k : ℕ) → k < length c.tables → (Contains cone.tables k ↔ ReachesSome c these (net_of c k))
-  pub sources : (net : ℕ) → Contains cone.sources net ↔ (ReachesSome c these net × ¬ Contains (table_nets c) net)
+  pub tables : (k : ℕ) → k < length c.tables
+      → (Contains cone.tables k ↔ ReachesSome c these (net_of c k))
+  pub sources : (net : ℕ) → Contains cone.sources net
+      ↔ (ReachesSome c these net × ¬ Contains (table_nets c) net)
   pub sources_within : All (λ net. net < length c.nets) cone.sources
   pub sources_once : AllPairs (λ a b. a ≢ b) cone.sources
 
--- each table of the cone has its value on the nets, and all nets that these tables do not drive are as they were
+-- each table of the cone has its value on the nets, and all nets that these tables do not drive are
+-- as they were
 pub record IsPartSettled (c : Circuit) (cone : Parts) (old new : Row) : Type 0 where
   pub same_length : length new ≡ length old
   pub settled : (k : ℕ) (d : Gate) → Contains cone.tables k

@@ -10,11 +10,15 @@ use Rattle.ds_base.specs.declared.value.Value.TheVariants.{Zero}
 abbrev pub LeavesOthers : List ℕ → Row → Row → Type 0
 LeavesOthers these old new = (net : ℕ) → ¬ Contains these net → value_at new net ≡ value_at old net
 
--- the columns and registers have their bits, nets that nothing drives are 0, and the first n tables of the order
--- have their values
-pub record IsSettledTo (c : Circuit) (state vector nets : Row) (order : List ℕ) (n : ℕ) : Type 0 where
+-- the columns and registers have their bits, nets that nothing drives are 0, and the first n tables
+-- of the order have their values
+pub record IsSettledTo (c : Circuit) (state vector nets : Row) (order : List ℕ)
+    (n : ℕ) : Type 0 where
   pub one_each : length nets ≡ length c.nets
   pub column : values_at nets (columns c) ≡ vector
   pub register : values_at nets (register_nets c) ≡ state
-  pub undriven : (net : ℕ) → net < length c.nets → ¬ Contains (drivers c) net → value_at nets net ≡ Zero
-  pub table : (k : ℕ) (d : Gate) → k < n → let t = slice_index_or c.tables (slice_index order k) d in value_at nets t.output ≡ value_of t.table nets
+  pub undriven : (net : ℕ) → net < length c.nets → ¬ Contains (drivers c) net
+      → value_at nets net ≡ Zero
+  pub table : (k : ℕ) (d : Gate) → k < n
+      → let t = slice_index_or c.tables (slice_index order k) d in value_at nets t.output
+      ≡ value_of t.table nets

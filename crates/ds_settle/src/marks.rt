@@ -1,5 +1,6 @@
 //! Marks on nets.
-ghost use Rattle.std.specs.Prelude.{◌≡◌, ◌<◌, ◌≤◌, ◌^◌, All, IfOk, false, length, replicate, slice_index_or, slice_set, true};
+ghost use Rattle.std.specs.Prelude.{◌≡◌, ◌<◌, ◌≤◌, ◌^◌, All, IfOk, false, length, replicate};
+ghost use Rattle.std.specs.Prelude.{slice_index_or, slice_set, true};
 
 use ds_base::{NetId, OutOfMemory};
 use std::alloc::Global;

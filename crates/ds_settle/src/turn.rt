@@ -1,3 +1,5 @@
+//! All nets of a turn: the sources are set, then each table in order. Where no source is unknown,
+//! tables are set without a look for unknown values.
 ghost use Rattle.std.specs.Prelude.{◌≡◌, ◌≢◌, ◌↔◌, ◌<◌, ℕ, IsTrue, [], length, map, All, AllPairs};
 ghost use Rattle.ds_base.specs.Values.{AreKnown};
 ghost use Rattle.ds_cover.specs.Cover.{value_at, values_at};

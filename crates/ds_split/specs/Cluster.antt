@@ -1,5 +1,6 @@
 -- Registers in clusters.
-use Rattle.std.specs.Prelude.{◌≡◌, ◌≢◌, ◌↔◌, ⊤, ℕ, ◌<◌, List, [], length, All, AllPairs, Any, Contains, slice_index, slice_index_or}
+use Rattle.std.specs.Prelude.{◌≡◌, ◌≢◌, ◌↔◌, ⊤, ℕ, ◌<◌, List, [], length, All, AllPairs, Any}
+use Rattle.std.specs.Prelude.{Contains, slice_index, slice_index_or}
 use Rattle.std.specs.List.{flat_map}
 use Rattle.ds_base.specs.Limit.{most_of}
 use Rattle.ds_base.specs.declared.number.Limit.TheVariants.{Clusters}
@@ -21,8 +22,8 @@ bus_of_net net = record { copy = net.copy; name = bus_name net.name }
 abbrev pub bus_of : Circuit → ℕ → Net
 bus_of c r = bus_of_net (slice_index_or c.nets (slice_index (register_nets c) r) no_net)
 
--- two registers belong together: where each stands alone, only one with itself; where there is one cluster, always;
--- by bus, where they drive one bus
+-- two registers belong together: where each stands alone, only one with itself; where there is one
+-- cluster, always; by bus, where they drive one bus
 abbrev pub Agree : Circuit → Mode → ℕ → ℕ → Type 0
 Agree c Each a b = a ≡ b
 Agree c One a b = ⊤
@@ -38,9 +39,10 @@ pub record HasEachOnce (count : ℕ) (clusters : List (List ℕ)) : Type 0 where
 abbrev pub HaveBoth : List (List ℕ) → ℕ → ℕ → Type 0
 HaveBoth clusters a b = Any (λ registers. Contains registers a × Contains registers b) clusters
 
--- registers in clusters, those together that belong together; no cluster is empty, the registers of each rise, and the
--- clusters rise by their first registers
-pub record IsGrouping (belong : ℕ → ℕ → Type 0) (count : ℕ) (clusters : List (List ℕ)) : Type 0 where
+-- registers in clusters, those together that belong together; no cluster is empty, the registers of
+-- each rise, and the clusters rise by their first registers
+pub record IsGrouping (belong : ℕ → ℕ → Type 0) (count : ℕ)
+    (clusters : List (List ℕ)) : Type 0 where
   pub each_once : HasEachOnce count clusters
   pub together : (a b : ℕ) → a < count → b < count → belong a b ↔ HaveBoth clusters a b
   pub some : All (λ registers. 0 < length registers) clusters

@@ -11,7 +11,8 @@ use Rattle.ds_split.specs.Split.{IsEdgeOf}
 -- the data edges into the nodes below a number, each once
 pub record AreEdgesBelow (s : Split) (most : ℕ) (edges : List Edge) : Type 0 where
   pub sound : (e : Edge) → Contains edges e → IsEdgeOf s e
-  pub complete : (p c : Node) → IsDataEdge s p c → number_of c < most → Contains edges (edge_of (number_of p) (number_of c))
+  pub complete : (p c : Node) → IsDataEdge s p c → number_of c < most
+      → Contains edges (edge_of (number_of p) (number_of c))
   pub once : AllPairs (λ a b. a ≢ b) edges
 
 -- the search has found the data edges into the nodes below a number

@@ -1,5 +1,6 @@
 -- Clusters by their places, as they are built.
-use Rattle.std.specs.Prelude.{◌≡◌, ℕ, ◌<◌, List, [], ◌∷◌, ◌++◌, length, ltb, AllPairs, Contains, slice_index, slice_index_or, slice_set, if◌then◌else◌}
+use Rattle.std.specs.Prelude.{◌≡◌, ℕ, ◌<◌, List, [], ◌∷◌, ◌++◌, length, ltb, AllPairs, Contains}
+use Rattle.std.specs.Prelude.{slice_index, slice_index_or, slice_set, if◌then◌else◌}
 use Rattle.ds_design.specs.Circuit.{Circuit}
 use Rattle.ds_design.specs.declared.design.Net.{Net}
 use Rattle.ds_split.specs.Cluster.{bus_of, no_net}
@@ -18,8 +19,10 @@ with_register groups place r =
 pub record AreGroups (belong : ℕ → ℕ → Type 0) (count : ℕ) (groups : List (List ℕ)) : Type 0 where
   pub covered : (r : ℕ) → r < count → (i : ℕ) × (i < length groups) × Contains (group groups i) r
   pub within : (i r : ℕ) → Contains (group groups i) r → r < count
-  pub together : (i a b : ℕ) → Contains (group groups i) a → Contains (group groups i) b → belong a b
-  pub apart : (i j a b : ℕ) → Contains (group groups i) a → Contains (group groups j) b → belong a b → i ≡ j
+  pub together : (i a b : ℕ) → Contains (group groups i) a → Contains (group groups i) b
+      → belong a b
+  pub apart : (i j a b : ℕ) → Contains (group groups i) a → Contains (group groups j) b → belong a b
+      → i ≡ j
   pub some : (i : ℕ) → i < length groups → 0 < length (group groups i)
   pub rising : (i : ℕ) → AllPairs (λ a b. a < b) (group groups i)
   pub by_first : (i j : ℕ) → i < j → j < length groups

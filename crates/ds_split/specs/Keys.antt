@@ -10,7 +10,8 @@ net_of bus = record { copy = bus.copy; name = bus.name.now }
 
 -- a net stands at this place
 abbrev pub IsFound : List Net → Net → List Net → ℕ → Type 0
-IsFound old net new place = (place < length old) × (new ≡ old) × (slice_index_or old place no_net ≡ net)
+IsFound old net new place = (place < length old) × (new ≡ old)
+    × (slice_index_or old place no_net ≡ net)
 
 -- a net was not there, and stands behind the last now
 abbrev pub IsAdded : List Net → Net → List Net → ℕ → Type 0

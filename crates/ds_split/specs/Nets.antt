@@ -1,5 +1,6 @@
 -- The nets of the nodes, and the producer of each net.
-use Rattle.std.specs.Prelude.{◌≡◌, ℕ, ◌+◌, ◌<◌, List, [], length, Contains, slice_index, slice_index_or}
+use Rattle.std.specs.Prelude.{◌≡◌, ℕ, ◌+◌, ◌<◌, List, [], length, Contains, slice_index}
+use Rattle.std.specs.Prelude.{slice_index_or}
 use Rattle.ds_design.specs.Accepted.{IsAccepted}
 use Rattle.ds_design.specs.Circuit.{Circuit}
 use Rattle.ds_design.specs.InRange.{IsInRange}
@@ -11,7 +12,8 @@ use Rattle.ds_split.specs.Split.{split_of}
 -- the nets of each node below a number
 abbrev pub HasNetsBelow : Split → ℕ → List (List ℕ) → Type 0
 HasNetsBelow s most bits = (length bits ≡ most)
-    × ((n : Node) → IsNode s n → number_of n < most → slice_index_or bits (number_of n) [] ≡ nets_of s n)
+    × ((n : Node) → IsNode s n → number_of n < most
+    → slice_index_or bits (number_of n) [] ≡ nets_of s n)
 
 -- the nets of all nodes
 abbrev pub HasNets : Split → List (List ℕ) → Type 0
@@ -21,10 +23,12 @@ HasNets s bits = HasNetsBelow s (nodes s) bits
 abbrev pub IsProducer : Split → Node → ℕ → Type 0
 IsProducer s p net = IsSource p × IsNode s p × Contains (nets_of s p) net
 
--- for each net its producer among those below a number: one more than its number, 0 where there is none
+-- for each net its producer among those below a number: one more than its number, 0 where there is
+-- none
 pub record AreProducersBelow (s : Split) (most : ℕ) (producers : List ℕ) : Type 0 where
   pub one_each : length producers ≡ length s.circuit.nets
-  pub known : (p : Node) (net : ℕ) → IsProducer s p net → number_of p < most → slice_index producers net ≡ number_of p + 1
+  pub known : (p : Node) (net : ℕ) → IsProducer s p net → number_of p < most
+      → slice_index producers net ≡ number_of p + 1
   pub from : (net m : ℕ) → slice_index producers net ≡ m + 1
       → (p : Node) × IsProducer s p net × (number_of p ≡ m) × (m < most)
 

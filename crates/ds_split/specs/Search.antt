@@ -1,11 +1,13 @@
 -- A search for edges, consumer by consumer.
-use Rattle.std.specs.Prelude.{◌≡◌, ◌≢◌, ◌⊎◌, ℕ, ◌+◌, ◌<◌, ◌≤◌, List, [], ◌∷◌, ◌++◌, length, AllPairs, Contains, slice_index, slice_set}
+use Rattle.std.specs.Prelude.{◌≡◌, ◌≢◌, ◌⊎◌, ℕ, ◌+◌, ◌<◌, ◌≤◌, List, [], ◌∷◌, ◌++◌, length}
+use Rattle.std.specs.Prelude.{AllPairs, Contains, slice_index, slice_set}
 use Rattle.ds_design.specs.Circuit.{Circuit}
 use Rattle.ds_design.specs.Levels.{table_nets}
 use Rattle.ds_latch.specs.declared.latches.Edge.{Edge}
 use Rattle.ds_settle.specs.Cone.{ReachesSome}
 
--- the producer of each net, one more than its number; for each producer the last consumer that it was met for; and the edges
+-- the producer of each net, one more than its number; for each producer the last consumer that it
+-- was met for; and the edges
 pub record Found : Type 0 where
   pub producers : List ℕ
   pub seen : List ℕ
@@ -43,15 +45,18 @@ pub record IsAt (consumer : ℕ) (f : Found) : Type 0 where
 
 -- an edge is that from the producer of a net
 abbrev pub IsFrom : List ℕ → ℕ → ℕ → Edge → Type 0
-IsFrom producers consumer net e = (m : ℕ) × (slice_index producers net ≡ m + 1) × (e ≡ edge_of m consumer)
+IsFrom producers consumer net e = (m : ℕ) × (slice_index producers net ≡ m + 1)
+    × (e ≡ edge_of m consumer)
 
--- beside the edges that were there, the search has those from the producers of the nets that are meant, and no others
+-- beside the edges that were there, the search has those from the producers of the nets that are
+-- meant, and no others
 pub record HasMet (consumer : ℕ) (old : Found) (Means : ℕ → Type 0) (new : Found) : Type 0 where
   pub at : IsAt consumer new
   pub same_producers : new.producers ≡ old.producers
   pub same_room : length new.seen ≡ length old.seen
   pub kept : (e : Edge) → Contains old.edges e → Contains new.edges e
-  pub found : (net m : ℕ) → Means net → slice_index old.producers net ≡ m + 1 → Contains new.edges (edge_of m consumer)
+  pub found : (net m : ℕ) → Means net → slice_index old.producers net ≡ m + 1
+      → Contains new.edges (edge_of m consumer)
   pub only : (e : Edge) → Contains new.edges e
       → Contains old.edges e ⊎ ((net : ℕ) × Means net × IsFrom old.producers consumer net e)
 

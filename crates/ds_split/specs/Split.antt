@@ -13,15 +13,21 @@ use Rattle.ds_split.specs.declared.fault.SplitFault.TheVariants.{TooMany, Memory
 
 -- a circuit with its registers in these clusters, begun as its registers say, without slack
 abbrev pub split_of : Circuit → List (List ℕ) → Split
-split_of c clusters = record { circuit = c; clusters = clusters; initial = initial_row c; slack = 0 }
+split_of c clusters = record {
+  circuit = c;
+  clusters = clusters;
+  initial = initial_row c;
+  slack = 0;
+}
 
 -- an edge is a data edge, by the numbers of its nodes
 abbrev pub IsEdgeOf : Split → Edge → Type 0
 IsEdgeOf s e =
-    (p c : Node) × IsDataEdge s p c × (e ≡ record { producer = number_of p; consumer = number_of c })
+    (p c : Node) × IsDataEdge s p c
+    × (e ≡ record { producer = number_of p; consumer = number_of c })
 
--- so many data edges, each once, that the required orders, two for each node and two for each data edge, are more than
--- there may be arcs
+-- so many data edges, each once, that the required orders, two for each node and two for each data
+-- edge, are more than there may be arcs
 pub record HasTooManyOrders (s : Split) : Type 0 where
   pub edges : List Edge
   pub data_edges : (e : Edge) → Contains edges e → IsEdgeOf s e

@@ -6,7 +6,8 @@
 //! `split` gives the latch graph of a netlist and its clusters: a master and a slave for each
 //! cluster, beside the vectors and the output row, and an edge from each node to those that read
 //! it. A caller sees its definition, `Split` of ds_latch. It answers `TooMany(Arcs)` exactly where
-//! the orders that the edges ask for are more than 1,048,576. When memory is wanted is not promised.
+//! the orders that the edges ask for are more than 1,048,576. When memory is wanted is not
+//! promised.
 #![tactic(auto)]
 
 mod bus;

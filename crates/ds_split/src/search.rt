@@ -1,5 +1,6 @@
 //! A search for data edges, consumer by consumer.
-ghost use Rattle.std.specs.Prelude.{◌≡◌, ◌<◌, [], length, All, Contains, replicate, slice_index, IfOk, OnOk};
+ghost use Rattle.std.specs.Prelude.{◌≡◌, ◌<◌, [], length, All, Contains, replicate, slice_index};
+ghost use Rattle.std.specs.Prelude.{IfOk, OnOk};
 ghost use Rattle.ds_split.specs.Search.{IsBefore, IsAt, HasMet, IsCause, with_edge};
 
 use ds_base::{LatchId, NetId, OutOfMemory};

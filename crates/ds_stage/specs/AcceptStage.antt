@@ -9,7 +9,8 @@ use Rattle.ds_stage.specs.Stage.{Stage, giving}
 
 -- each event in order, with its rank: a line as that of a firing
 abbrev pub rank_lines : Graph → List ℕ → ℕ → List ℕ
-rank_lines g ranks count = flat_map (λ v. firing_text g v (slice_index ranks v)) (range_with_len 0 count)
+rank_lines g ranks count =
+    flat_map (λ v. firing_text g v (slice_index ranks v)) (range_with_len 0 count)
 
 -- `accepted`, and the ranks of all events
 abbrev pub ranks_text : Graph → List ℕ → List ℕ
@@ -17,4 +18,5 @@ ranks_text g ranks = codes "accepted\n" ++ rank_lines g ranks (length g.events)
 
 -- the ranks of the events of a plan
 abbrev pub ranks_stage : Planned → Stage (List ℕ)
-ranks_stage p = giving (λ text. (ranks : List ℕ) × AreRanks p.graph ranks × (text ≡ ranks_text p.graph ranks))
+ranks_stage p = giving (λ text. (ranks : List ℕ) × AreRanks p.graph ranks
+    × (text ≡ ranks_text p.graph ranks))

@@ -57,9 +57,11 @@ pub record Output : Type 0 where
   pub before : ℕ
   pub now : ℕ
 
--- the text of the last stage was written, or a first part of it and a write failed; else nothing was
+-- the text of the last stage was written, or a first part of it and a write failed; else nothing
+-- was
 abbrev pub Ends : {A : Type 0} → Stage (List ℕ) → OfFile → Output → Result A Stop → Type 0
-Ends stage failed out (Ok x) = (text : List ℕ) × stage.means text × (out.new ≡ appended out.old text)
+Ends stage failed out (Ok x) = (text : List ℕ) × stage.means text
+    × (out.new ≡ appended out.old text)
 Ends stage failed out (Err Unwritten) =
     (text : List ℕ) × stage.means text × AppendsPart out.old out.new text × Rose out.before out.now
 Ends stage failed out (Err (Refused line)) = stage.refused line × (out.new ≡ out.old)

@@ -1,8 +1,11 @@
 -- The lines that name faults: the file, the line where there is one, and the text of the fault.
-use Rattle.std.specs.Prelude.{◌≡◌, ℕ, List, [], ◌∷◌, ◌++◌, codes, decimal, map, Option, None, Some, slice_index_or, ◌==◌, if◌then◌else◌}
+use Rattle.std.specs.Prelude.{◌≡◌, ℕ, List, [], ◌∷◌, ◌++◌, codes, decimal, map, Option, None, Some}
+use Rattle.std.specs.Prelude.{slice_index_or, ◌==◌, if◌then◌else◌}
 use Rattle.ds_base.specs.Limit.{most_of}
 use Rattle.ds_base.specs.declared.number.Limit.{Limit}
-use Rattle.ds_base.specs.declared.number.Limit.TheVariants.{Bytes, TableInputs, Copies, Nets, Tables, Registers, Clusters, Arcs, Signals, Vectors}
+use Rattle.ds_base.specs.declared.number.Limit.TheVariants.{Bytes, TableInputs, Copies, Nets}
+use Rattle.ds_base.specs.declared.number.Limit.TheVariants.{Tables, Registers, Clusters, Arcs}
+use Rattle.ds_base.specs.declared.number.Limit.TheVariants.{Signals, Vectors}
 use Rattle.ds_design.specs.declared.design.Net.{Net}
 use Rattle.ds_design.specs.Circuit.{Circuit, register_nets}
 use Rattle.ds_blif.specs.declared.fault.BlifKind.{BlifKind}
@@ -22,7 +25,8 @@ file_line file text = file ++ codes ": " ++ text ++ codes "\n"
 
 -- a fault of a line of a file
 abbrev pub numbered_line : List ℕ → ℕ → List ℕ → List ℕ
-numbered_line file number text = file ++ codes ":" ++ decimal number ++ codes ": " ++ text ++ codes "\n"
+numbered_line file number text = file ++ codes ":" ++ decimal number ++ codes ": " ++ text
+    ++ codes "\n"
 
 -- a file that was not read
 abbrev pub unread_line : List ℕ → List ℕ
@@ -43,7 +47,8 @@ limit_text Vectors = codes "vectors"
 
 -- a limit is passed
 abbrev pub too_many_text : Limit → List ℕ
-too_many_text limit = codes "too many " ++ limit_text limit ++ codes " (limit " ++ decimal (most_of limit) ++ codes ")"
+too_many_text limit = codes "too many " ++ limit_text limit ++ codes " (limit "
+    ++ decimal (most_of limit) ++ codes ")"
 
 -- a file has too many bytes
 abbrev pub too_long_text : List ℕ
@@ -94,14 +99,20 @@ driver_text (driver.Latch line) = codes "latch at " ++ decimal line
 
 -- the fault of a design that is not accepted; want of memory is none
 abbrev pub net_fault_text : Circuit → NetFault → Option (List ℕ)
-net_fault_text c (net.SeveralClocks one other) = Some (codes "several clocks: " ++ net_of c one ++ codes " and " ++ net_of c other)
-net_fault_text c (net.MixedEdges one other) = Some (codes "mixed edges: " ++ register_of c one ++ codes " and " ++ register_of c other)
-net_fault_text c (net.DrivenClock clock) = Some (codes "clock " ++ net_of c clock ++ codes " is driven")
-net_fault_text c (net.ClockAsData clock) = Some (codes "clock " ++ net_of c clock ++ codes " used as data")
+net_fault_text c (net.SeveralClocks one other) =
+    Some (codes "several clocks: " ++ net_of c one ++ codes " and " ++ net_of c other)
+net_fault_text c (net.MixedEdges one other) =
+    Some (codes "mixed edges: " ++ register_of c one ++ codes " and " ++ register_of c other)
+net_fault_text c (net.DrivenClock clock) =
+    Some (codes "clock " ++ net_of c clock ++ codes " is driven")
+net_fault_text c (net.ClockAsData clock) =
+    Some (codes "clock " ++ net_of c clock ++ codes " used as data")
 net_fault_text c (net.MultiplyDriven twice one other) =
-    Some (codes "net " ++ net_of c twice ++ codes " driven twice: " ++ driver_text one ++ codes " and " ++ driver_text other)
+    Some (codes "net " ++ net_of c twice ++ codes " driven twice: " ++ driver_text one
+    ++ codes " and " ++ driver_text other)
 net_fault_text c (net.Undriven loose) = Some (codes "undriven net " ++ net_of c loose)
-net_fault_text c (net.CombinationalCycle nets) = Some (codes "combinational cycle:" ++ listed (map (net_of c) nets))
+net_fault_text c (net.CombinationalCycle nets) =
+    Some (codes "combinational cycle:" ++ listed (map (net_of c) nets))
 net_fault_text c net.Memory = None
 
 -- this is the text of a fault; want of memory has none

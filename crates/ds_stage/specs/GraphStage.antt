@@ -7,7 +7,8 @@ use Rattle.ds_control.specs.Control.{AreOrders, IsSimple}
 use Rattle.ds_astg.specs.Text.{graph_text}
 use Rattle.ds_stage.specs.Stage.{Stage, giving}
 
--- the graph of a split design: its events are those of the nodes, its arcs exactly the required orders, in order and none twice
+-- the graph of a split design: its events are those of the nodes, its arcs exactly the required
+-- orders, in order and none twice
 pub record IsGraphOf (s : Split) (g : Graph) : Type 0 where
   pub kept : IsKept g
   pub events : g.events ≡ split_events s
@@ -16,4 +17,5 @@ pub record IsGraphOf (s : Split) (g : Graph) : Type 0 where
 
 -- its text under the name of the main model
 abbrev pub controller_stage : Split → Stage (List ℕ)
-controller_stage s = giving (λ text. (g : Graph) × IsGraphOf s g × (text ≡ graph_text s.circuit.name g))
+controller_stage s = giving
+    (λ text. (g : Graph) × IsGraphOf s g × (text ≡ graph_text s.circuit.name g))

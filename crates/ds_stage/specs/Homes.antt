@@ -10,7 +10,8 @@ IsHome s r home = StandsAt s r home.cluster home.place
 
 -- a register stands in this cluster, at this place of these registers
 abbrev pub IsIn : List ℕ → ℕ → ℕ → Home → Type 0
-IsIn registers cluster r home = (home.cluster ≡ cluster) × (home.place < length registers) × (slice_index registers home.place ≡ r)
+IsIn registers cluster r home = (home.cluster ≡ cluster) × (home.place < length registers)
+    × (slice_index registers home.place ≡ r)
 
 -- where a register was placed or left
 abbrev pub IsPlacedOrKept : List ℕ → ℕ → ℕ → Home → Home → Type 0
@@ -22,7 +23,8 @@ no_home = record { cluster = 0; place = 0 }
 
 -- these registers are placed as those of a cluster
 abbrev pub ArePlaced : List ℕ → ℕ → List Home → Type 0
-ArePlaced registers cluster homes = All (λ r. IsIn registers cluster r (slice_index_or homes r no_home)) registers
+ArePlaced registers cluster homes =
+    All (λ r. IsIn registers cluster r (slice_index_or homes r no_home)) registers
 
 -- the registers of a cluster have their homes
 abbrev pub AreHoused : Split → List Home → ℕ → Type 0

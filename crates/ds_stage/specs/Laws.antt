@@ -8,7 +8,8 @@ use Rattle.ds_stage.specs.Stages.{netlist_stage, vectors_stage}
 
 -- each number in the netlist of a file names what is there, whatever lines the file has
 abbrev pub NetlistsAreInRange : Type 0
-NetlistsAreInRange = (held : List ℕ → Held) (net : List ℕ) (c : Circuit) → (netlist_stage held net).means c → IsInRange c
+NetlistsAreInRange = (held : List ℕ → Held) (net : List ℕ) (c : Circuit)
+    → (netlist_stage held net).means c → IsInRange c
 
 -- the vectors of a file are as wide as the columns, whatever lines the file has
 abbrev pub VectorsHaveColumns : Type 0

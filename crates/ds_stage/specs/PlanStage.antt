@@ -1,5 +1,6 @@
 -- The plan of a job: that of its controller graph, or that of a graph in a file.
-use Rattle.std.specs.Prelude.{◌≡◌, ℕ, List, ◌++◌, Option, None, Some, Result, Ok, Err, codes, decimal, map}
+use Rattle.std.specs.Prelude.{◌≡◌, ℕ, List, ◌++◌, Option, None, Some, Result, Ok, Err, codes}
+use Rattle.std.specs.Prelude.{decimal, map}
 use Rattle.ds_base.specs.declared.number.Mode.{Mode}
 use Rattle.ds_outside.specs.Held.{Held}
 use Rattle.ds_outside.specs.declared.files.Which.TheVariants as which
@@ -40,7 +41,8 @@ accept_text g (accept.MissingEvent event) = Some (codes "missing event " ++ even
 accept_text g (accept.MissingOrder from to tokens) =
     Some (codes "missing order " ++ text_of_event g from ++ codes " to " ++ text_of_event g to
     ++ codes " with " ++ decimal tokens ++ codes " tokens")
-accept_text g (accept.TokenFreeCycle events) = Some (codes "token-free cycle:" ++ listed (map (text_of_event g) events))
+accept_text g (accept.TokenFreeCycle events) =
+    Some (codes "token-free cycle:" ++ listed (map (text_of_event g) events))
 accept_text g accept.Memory = None
 
 -- this is the text of a fault; want of memory has none
@@ -64,7 +66,8 @@ pub record IsNamedPlan (s : Split) (g : Graph) (p : Planned) : Type 0 where
   pub graph_kept : IsKept g
   pub plan_kept : IsKept p.graph
 
--- the plan of a graph that is acceptable, or the line of its first fault; where that is a cycle, of any cycle
+-- the plan of a graph that is acceptable, or the line of its first fault; where that is a cycle, of
+-- any cycle
 abbrev pub acceptable_stage : List ℕ → Split → Graph → Stage Planned
 acceptable_stage file s g = record {
   means = λ p. IsNamedPlan s g p;
@@ -88,5 +91,6 @@ plan_stage held None s = giving (IsOwnPlan s)
 plan_stage held (Some file) s = named_stage held file s
 
 -- the plan of a netlist, once it is read
-abbrev pub planned_stage : (List ℕ → Held) → List ℕ → Option (List ℕ) → Mode → Circuit → Stage Planned
+abbrev pub planned_stage : (List ℕ → Held) → List ℕ → Option (List ℕ) → Mode → Circuit
+    → Stage Planned
 planned_stage held net graph mode c = then_stage (split_stage net mode c) (plan_stage held graph)

@@ -1,5 +1,7 @@
--- The text of a log that is replayed: what each register has stored, and how many firings there were.
-use Rattle.std.specs.Prelude.{◌≡◌, ℕ, ◌*◌, ◌<◌, List, [], ◌++◌, length, codes, decimal, slice_get, Ok, Err}
+-- The text of a log that is replayed: what each register has stored, and how many firings there
+-- were.
+use Rattle.std.specs.Prelude.{◌≡◌, ℕ, ◌*◌, ◌<◌, List, [], ◌++◌, length, codes, decimal, slice_get}
+use Rattle.std.specs.Prelude.{Ok, Err}
 use Rattle.std.specs.List.{flat_map, range_with_len}
 use Rattle.std.specs.Option.{option_map_or}
 use Rattle.ds_base.specs.Values.{Row}
@@ -17,7 +19,8 @@ use Rattle.ds_rows.specs.Log.{stored_text}
 use Rattle.ds_replay.specs.Replay.{replay_of}
 use Rattle.ds_replay.specs.declared.fault.ReplayFault.{ReplayFault}
 use Rattle.ds_replay.specs.declared.fault.ReplayKind.{ReplayKind}
-use Rattle.ds_replay.specs.declared.fault.ReplayKind.TheVariants.{BadWord, UnknownEvent, WrongTurn, OverLimit, NotEnabled}
+use Rattle.ds_replay.specs.declared.fault.ReplayKind.TheVariants.{BadWord, UnknownEvent, WrongTurn}
+use Rattle.ds_replay.specs.declared.fault.ReplayKind.TheVariants.{OverLimit, NotEnabled}
 use Rattle.ds_stage.specs.FaultText.{numbered_line, register_of}
 use Rattle.ds_stage.specs.Stage.{Stage, giving, then_stage}
 use Rattle.ds_stage.specs.Stages.{lines_stage}
@@ -32,20 +35,23 @@ log_text g BadWord = codes "bad word"
 log_text g (UnknownEvent word) = codes "unknown event " ++ word
 log_text g WrongTurn = codes "wrong turn"
 log_text g OverLimit = codes "over limit"
-log_text g (NotEnabled arc) = codes "not enabled: " ++ option_map_or (ends_text g) (slice_get g.arcs arc) []
+log_text g (NotEnabled arc) = codes "not enabled: "
+    ++ option_map_or (ends_text g) (slice_get g.arcs arc) []
 
 -- the events that the lines of a log fire one after another, or the line of their first fault
 abbrev pub fired_stage : List ℕ → Planned → List Row → List Line → Stage (List ℕ)
 fired_stage file planned vectors lines = record {
   means = λ events. replay_of planned.graph (length vectors) lines ≡ Ok events;
-  refused = λ line. (fault : ReplayFault) × (replay_of planned.graph (length vectors) lines ≡ Err fault)
+  refused = λ line. (fault : ReplayFault)
+      × (replay_of planned.graph (length vectors) lines ≡ Err fault)
       × (line ≡ numbered_line file fault.line (log_text planned.graph fault.kind));
   unread = λ _ _. ⊥;
 }
 
 -- the events that the log of a file fires
 abbrev pub log_stage : (List ℕ → Held) → List ℕ → Planned → List Row → Stage (List ℕ)
-log_stage held log planned vectors = then_stage (lines_stage held Log log) (fired_stage log planned vectors)
+log_stage held log planned vectors =
+    then_stage (lines_stage held Log log) (fired_stage log planned vectors)
 
 -- a register has stored these values: those at its place in the rows that its cluster's slave has
 -- stored
@@ -56,7 +62,8 @@ HasStored s now r values =
 
 -- how many firings there were, of how many that there may be
 abbrev pub fired_line : ℕ → ℕ → List ℕ
-fired_line fired most = codes "fired " ++ decimal fired ++ codes " of " ++ decimal most ++ codes "\n"
+fired_line fired most = codes "fired " ++ decimal fired ++ codes " of " ++ decimal most
+    ++ codes "\n"
 
 -- of the state that these firings lead to: a line for each register, and the line of the firings;
 -- each event may fire once a vector

@@ -9,5 +9,6 @@ count_line name count = name ++ codes " " ++ decimal count ++ codes "\n"
 
 -- the nets other than the clock, the tables, the registers, and the greatest level of a net
 abbrev pub report_text : Circuit → ℕ → List ℕ
-report_text c depth = count_line (codes "nets") (net_count c) ++ count_line (codes "tables") (length c.tables)
+report_text c depth = count_line (codes "nets") (net_count c)
+    ++ count_line (codes "tables") (length c.tables)
     ++ count_line (codes "registers") (length c.registers) ++ count_line (codes "levels") depth

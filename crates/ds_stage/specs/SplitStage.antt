@@ -21,7 +21,8 @@ pub record IsInClusters (mode : Mode) (c : Circuit) (s : Split) : Type 0 where
 abbrev pub IsSplitLine : List ℕ → Mode → Circuit → List ℕ → Type 0
 IsSplitLine file mode c line =
     (HasTooManyClusters c mode × (line ≡ file_line file (too_many_text Clusters)))
-    ⊎ ((s : Split) × IsInClusters mode c s × HasTooManyOrders s × (line ≡ file_line file (too_many_text Arcs)))
+    ⊎ ((s : Split) × IsInClusters mode c s × HasTooManyOrders s
+    × (line ≡ file_line file (too_many_text Arcs)))
 
 -- a circuit split into latches that ask for few enough orders, or the line that refuses it
 abbrev pub split_stage : List ℕ → Mode → Circuit → Stage Split

@@ -6,7 +6,8 @@ use Rattle.ds_outside.specs.declared.files.Which.{Which}
 abbrev pub OfFile : Type 1
 OfFile = Which → List ℕ → Type 0
 
--- what the stage may give; the lines that refuse it; the lines that say which file, of those that failed, was not read
+-- what the stage may give; the lines that refuse it; the lines that say which file, of those that
+-- failed, was not read
 pub record Stage (A : Type 0) : Type 1 where
   pub means : A → Type 0
   pub refused : List ℕ → Type 0
@@ -21,7 +22,8 @@ abbrev pub then_stage : {A B : Type 0} → Stage A → (A → Stage B) → Stage
 then_stage {A} first next = record {
   means = λ b. (a : A) × first.means a × (next a).means b;
   refused = λ line. first.refused line ⊎ ((a : A) × first.means a × (next a).refused line);
-  unread = λ failed line. first.unread failed line ⊎ ((a : A) × first.means a × (next a).unread failed line);
+  unread = λ failed line. first.unread failed line
+      ⊎ ((a : A) × first.means a × (next a).unread failed line);
 }
 
 -- it gives one thing at most, and where it gives one it is not refused

@@ -20,7 +20,8 @@ use Rattle.ds_netlist.specs.Fault.{IsNetFault}
 use Rattle.ds_netlist.specs.declared.fault.NetFault.{NetFault}
 use Rattle.ds_rows.specs.Vector.{vectors_of}
 use Rattle.ds_rows.specs.declared.fault.VectorFault.{VectorFault}
-use Rattle.ds_stage.specs.FaultText.{file_line, numbered_line, unread_line, too_long_text, blif_text, flat_text, IsNetFaultText, vector_text}
+use Rattle.ds_stage.specs.FaultText.{file_line, numbered_line, unread_line, too_long_text}
+use Rattle.ds_stage.specs.FaultText.{blif_text, flat_text, IsNetFaultText, vector_text}
 use Rattle.ds_stage.specs.Report.{report_text}
 use Rattle.ds_stage.specs.Stage.{Stage, giving, then_stage}
 
@@ -55,7 +56,8 @@ result_stage result = record {
 }
 
 -- the models of a netlist's lines, or the line of their first fault
-abbrev pub models_or_line : List ℕ → Result (List BlifModel) BlifFault → Result (List BlifModel) (List ℕ)
+abbrev pub models_or_line : List ℕ → Result (List BlifModel) BlifFault
+    → Result (List BlifModel) (List ℕ)
 models_or_line file (Ok models) = Ok models
 models_or_line file (Err fault) = Err (numbered_line file fault.line (blif_text fault.kind))
 

@@ -10,9 +10,9 @@
 //! latches (`specs/SplitStage`), `plan_netlist`, `plan_named` and `own_plan` plans
 //! (`specs/PlanStage`), `read_log` the state after a log, and `write_state` its text
 //! (`specs/ReplayStage`, and `specs/Kept` for what is kept between them). `read_timing` reads the
-//! delays of `own_graph` (`specs/PeriodStage`), and `with_event` and `with_events` put events behind
-//! a text. `write_report` writes the report on a netlist (`specs/Report`). The texts of faults are
-//! those of `specs/FaultText`. When memory is wanted is not promised.
+//! delays of `own_graph` (`specs/PeriodStage`), and `with_event` and `with_events` put events
+//! behind a text. `write_report` writes the report on a netlist (`specs/Report`). The texts of
+//! faults are those of `specs/FaultText`. When memory is wanted is not promised.
 #![tactic(auto)]
 
 mod delays;
