@@ -8,9 +8,9 @@ use Rattle.ds_names.specs.Names.{place_of_name}
 use Rattle.ds_marked.specs.Log.{event_text}
 use Rattle.ds_lines.specs.Line.{Line, line_or_none}
 use Rattle.ds_marked.specs.Graph.{Graph}
-use Rattle.ds_period.specs.Word.{delay_of, has_delay, value_of, word_at}
-use Rattle.ds_period.specs.Read.{Given, IsRead, arc_between, event_of, event_texts, arc_of, delays_from, delays_of, is_given, line_in, none_given, then_lines, with_delay}
-use Rattle.ds_period.specs.Step.{Takes, refusal_of}
+use Rattle.ds_period.specs.Word.{delay_on, has_delay, written_delay, word_on}
+use Rattle.ds_period.specs.Read.{Given, HasOneEach, IsRead, arc_by_texts, arc_named, event_by_text, written_events, delays_from, delays_of, is_given, after_line, none_given, then_lines, with_delay}
+use Rattle.ds_period.specs.Step.{IsTaken, line_refusal}
 use Rattle.ds_period.specs.declared.fault.Refusal.{Refusal}
 use Rattle.ds_period.specs.declared.fault.Refusal.TheVariants as refusal
 use Rattle.ds_period.specs.declared.fault.DelayKind.{DelayKind}
@@ -28,47 +28,44 @@ none_some : (a : ℕ) → (let o : Option ℕ = None in ¬ (o ≡ Some a))
 none_some a e = cc
 
 -- what is known where a line has a delay
-pub delay_is : (words : List (List ℕ)) (delay : ℕ) → delay_of words ≡ Some delay → (has_delay words ≡ true) × (value_of words ≡ delay)
+pub delay_is : (words : List (List ℕ)) (delay : ℕ) → delay_on words ≡ Some delay → (has_delay words ≡ true) × (written_delay words ≡ delay)
 delay_is words delay e = elim (cases_Bool (has_delay words)) [
-  | inl has ↦ (has, some_same _ _ (sym (ap (λ (b : Bool). if b then Some (value_of words) else None) has) ∙ e))
-  | inr not_so ↦ absurd (none_some delay (sym (ap (λ (b : Bool). if b then Some (value_of words) else None) not_so) ∙ e))
+  | inl has ↦ (has, some_same _ _ (sym (ap (λ (b : Bool). if b then Some (written_delay words) else None) has) ∙ e))
+  | inr not_so ↦ absurd (none_some delay (sym (ap (λ (b : Bool). if b then Some (written_delay words) else None) not_so) ∙ e))
 ]
 
 module _ (g : Graph) (so_far : Given) (words : List (List ℕ)) where
-  pub unknown : has_delay words ≡ true → length g.arcs ≤ arc_of g words
-      → line_in g so_far words ≡ Err (UnknownOrder (word_at words 0) (word_at words 1))
-  unknown has past = let none : nat_lt (arc_of g words) (length g.arcs) ≡ false = le-ltb (arc_of g words) (length g.arcs) past in rw (has, none) refl
+  pub unknown : has_delay words ≡ true → length g.arcs ≤ arc_named g words
+      → after_line g so_far words ≡ Err (UnknownOrder (word_on words 0) (word_on words 1))
+  unknown has past = let none : nat_lt (arc_named g words) (length g.arcs) ≡ false = le-ltb (arc_named g words) (length g.arcs) past in rw (has, none) refl
 
-  pub repeated : has_delay words ≡ true → arc_of g words < length g.arcs → is_given so_far (arc_of g words) ≡ true
-      → line_in g so_far words ≡ Err (RepeatedOrder (word_at words 0) (word_at words 1))
-  repeated has inside again = let some : nat_lt (arc_of g words) (length g.arcs) ≡ true = lt-ltb (arc_of g words) (length g.arcs) inside in rw (has, some, again) refl
+  pub repeated : has_delay words ≡ true → arc_named g words < length g.arcs → is_given so_far (arc_named g words) ≡ true
+      → after_line g so_far words ≡ Err (RepeatedOrder (word_on words 0) (word_on words 1))
+  repeated has inside again = let some : nat_lt (arc_named g words) (length g.arcs) ≡ true = lt-ltb (arc_named g words) (length g.arcs) inside in rw (has, some, again) refl
 
-  pub taken : has_delay words ≡ true → arc_of g words < length g.arcs → is_given so_far (arc_of g words) ≡ false
-      → line_in g so_far words ≡ Ok (with_delay so_far (arc_of g words) (value_of words))
-  taken has inside fresh = let some : nat_lt (arc_of g words) (length g.arcs) ≡ true = lt-ltb (arc_of g words) (length g.arcs) inside in rw (has, some, fresh) refl
+  pub taken : has_delay words ≡ true → arc_named g words < length g.arcs → is_given so_far (arc_named g words) ≡ false
+      → after_line g so_far words ≡ Ok (with_delay so_far (arc_named g words) (written_delay words))
+  taken has inside fresh = let some : nat_lt (arc_named g words) (length g.arcs) ≡ true = lt-ltb (arc_named g words) (length g.arcs) inside in rw (has, some, fresh) refl
 
--- an arc that is found by these words, or is not
-abbrev pub found_by : Graph → List ℕ → List ℕ → ℕ
-found_by g source target = arc_between g (event_of g source) (event_of g target)
+-- the arc by the words of a line
+found_is : (g : Graph) (words : List (List ℕ)) (a b : List ℕ) → a ≡ word_on words 0 → b ≡ word_on words 1
+    → arc_by_texts g a b ≡ arc_named g words
+found_is g words a b source target = ap₂ (λ (s t : List ℕ). arc_by_texts g s t) source target
 
-found_is : (g : Graph) (words : List (List ℕ)) (a b : List ℕ) → a ≡ word_at words 0 → b ≡ word_at words 1
-    → found_by g a b ≡ arc_of g words
-found_is g words a b source target = ap₂ (λ (s t : List ℕ). found_by g s t) source target
-
-pub unknown_at : (g : Graph) (so_far : Given) (words : List (List ℕ)) (delay : ℕ) (a b s t : List ℕ) → delay_of words ≡ Some delay
-    → a ≡ word_at words 0 → b ≡ word_at words 1 → s ≡ word_at words 0 → t ≡ word_at words 1
-    → length g.arcs ≤ found_by g a b → line_in g so_far words ≡ Err (UnknownOrder s t)
+pub unknown_at : (g : Graph) (so_far : Given) (words : List (List ℕ)) (delay : ℕ) (a b s t : List ℕ) → delay_on words ≡ Some delay
+    → a ≡ word_on words 0 → b ≡ word_on words 1 → s ≡ word_on words 0 → t ≡ word_on words 1
+    → length g.arcs ≤ arc_by_texts g a b → after_line g so_far words ≡ Err (UnknownOrder s t)
 unknown_at g so_far words delay a b s t has source target first second past =
-    let same : found_by g a b ≡ arc_of g words = found_is g words a b source target in
+    let same : arc_by_texts g a b ≡ arc_named g words = found_is g words a b source target in
     unknown g so_far words (delay_is words delay has).0 (omega arith)
     ∙ ap₂ (λ (x y : List ℕ). Err (UnknownOrder x y)) (sym first) (sym second)
 
-pub repeated_at : (g : Graph) (so_far : Given) (words : List (List ℕ)) (delay arc : ℕ) (a b s t : List ℕ) → delay_of words ≡ Some delay
-    → a ≡ word_at words 0 → b ≡ word_at words 1 → s ≡ word_at words 0 → t ≡ word_at words 1
-    → arc ≡ found_by g a b → arc < length g.arcs → false ≡ not (is_given so_far arc)
-    → line_in g so_far words ≡ Err (RepeatedOrder s t)
+pub repeated_at : (g : Graph) (so_far : Given) (words : List (List ℕ)) (delay arc : ℕ) (a b s t : List ℕ) → delay_on words ≡ Some delay
+    → a ≡ word_on words 0 → b ≡ word_on words 1 → s ≡ word_on words 0 → t ≡ word_on words 1
+    → arc ≡ arc_by_texts g a b → arc < length g.arcs → false ≡ not (is_given so_far arc)
+    → after_line g so_far words ≡ Err (RepeatedOrder s t)
 repeated_at g so_far words delay arc a b s t has source target first second at inside fresh =
-    let same : arc ≡ arc_of g words = at ∙ found_is g words a b source target in
+    let same : arc ≡ arc_named g words = at ∙ found_is g words a b source target in
     repeated g so_far words (delay_is words delay has).0 (omega arith)
     (ap (λ (k : ℕ). is_given so_far k) (sym same) ∙ not_false (is_given so_far arc) fresh)
     ∙ ap₂ (λ (x y : List ℕ). Err (RepeatedOrder x y)) (sym first) (sym second)
@@ -77,12 +74,12 @@ repeated_at g so_far words delay arc a b s t has source target first second at i
     not_false true e = refl
     not_false false e = absurd (false≢true e)
 
-pub taken_at : (g : Graph) (so_far new : Given) (words : List (List ℕ)) (delay arc : ℕ) (a b : List ℕ) → delay_of words ≡ Some delay
-    → a ≡ word_at words 0 → b ≡ word_at words 1
-    → arc ≡ found_by g a b → arc < length g.arcs → true ≡ not (is_given so_far arc) → new ≡ with_delay so_far arc delay
-    → line_in g so_far words ≡ Ok new
+pub taken_at : (g : Graph) (so_far new : Given) (words : List (List ℕ)) (delay arc : ℕ) (a b : List ℕ) → delay_on words ≡ Some delay
+    → a ≡ word_on words 0 → b ≡ word_on words 1
+    → arc ≡ arc_by_texts g a b → arc < length g.arcs → true ≡ not (is_given so_far arc) → new ≡ with_delay so_far arc delay
+    → after_line g so_far words ≡ Ok new
 taken_at g so_far new words delay arc a b has source target at inside fresh is =
-    let same : arc ≡ arc_of g words = at ∙ found_is g words a b source target in
+    let same : arc ≡ arc_named g words = at ∙ found_is g words a b source target in
     let (some, value) = delay_is words delay has in
     taken g so_far words some (omega arith)
     (ap (λ (k : ℕ). is_given so_far k) (sym same) ∙ not_true (is_given so_far arc) fresh)
@@ -94,16 +91,16 @@ taken_at g so_far new words delay arc a b has source target at inside fresh is =
     not_true false e = refl
 
 -- a word that no event is written as
-pub no_event : (g : Graph) (texts : List (List ℕ)) (word : List ℕ) → texts ≡ event_texts g
-    → length texts ≤ place_of_name texts word → length g.events ≤ event_of g word
+pub no_event : (g : Graph) (texts : List (List ℕ)) (word : List ℕ) → texts ≡ written_events g
+    → length texts ≤ place_of_name texts word → length g.events ≤ event_by_text g word
 no_event g texts word are past =
-    let same : place_of_name texts word ≡ event_of g word = ap (λ (ts : List (List ℕ)). place_of_name ts word) are in
+    let same : place_of_name texts word ≡ event_by_text g word = ap (λ (ts : List (List ℕ)). place_of_name ts word) are in
     let size : length texts ≡ length g.events = ap (λ (ts : List (List ℕ)). length ts) are ∙ length-map g.events event_text in
     omega arith
 
 -- a word that an event is written as
-pub event_is : (g : Graph) (texts : List (List ℕ)) (word : List ℕ) (v : ℕ) → texts ≡ event_texts g → v ≡ place_of_name texts word
-    → v ≡ event_of g word
+pub event_is : (g : Graph) (texts : List (List ℕ)) (word : List ℕ) (v : ℕ) → texts ≡ written_events g → v ≡ place_of_name texts word
+    → v ≡ event_by_text g word
 event_is g texts word v are at = at ∙ ap (λ (ts : List (List ℕ)). place_of_name ts word) are
 
 -- what is given where nothing is refused
@@ -114,17 +111,14 @@ choose false true c one two three given new e = absurd cc
 choose false false true one two three given new e = absurd cc
 choose false false false one two three given new e = cc
 
--- as many delays as there are arcs
-abbrev pub HasOneEach : Graph → Given → Type 0
-HasOneEach g so_far = (length so_far.delays ≡ length g.arcs) × (length so_far.given ≡ length g.arcs)
-
-pub one_each : (g : Graph) (old new : Given) (words : List (List ℕ)) → HasOneEach g old → line_in g old words ≡ Ok new → HasOneEach g new
+-- a line leaves as many delays as there are arcs
+pub one_each : (g : Graph) (old new : Given) (words : List (List ℕ)) → HasOneEach g old → after_line g old words ≡ Ok new → HasOneEach g new
 one_each g old new words sizes e =
-    let same : with_delay old (arc_of g words) (value_of words) ≡ new = choose (not (has_delay words)) (not (nat_lt (arc_of g words) (length g.arcs))) (is_given old (arc_of g words))
-    BadWord (UnknownOrder (word_at words 0) (word_at words 1)) (RepeatedOrder (word_at words 0) (word_at words 1)) (with_delay old (arc_of g words) (value_of words)) new e in
+    let same : with_delay old (arc_named g words) (written_delay words) ≡ new = choose (not (has_delay words)) (not (nat_lt (arc_named g words) (length g.arcs))) (is_given old (arc_named g words))
+    BadWord (UnknownOrder (word_on words 0) (word_on words 1)) (RepeatedOrder (word_on words 0) (word_on words 1)) (with_delay old (arc_named g words) (written_delay words)) new e in
     subst (λ (r : Given). HasOneEach g r) same (
-      length-set old.delays (arc_of g words) (value_of words) ∙ sizes.0,
-      length-set old.given (arc_of g words) true ∙ sizes.1,
+      length-set old.delays (arc_named g words) (written_delay words) ∙ sizes.0,
+      length-set old.given (arc_named g words) true ∙ sizes.1,
     )
 
 -- so many lines are taken
@@ -141,17 +135,17 @@ taken_none g lines so_far e = subst (λ (r : Given). AreTaken g lines 0 r) (sym 
 -- the lines from one on
 from_here : (g : Graph) (lines : List Line) (i : ℕ) (so_far : Given) → i < length lines
     → delays_from g so_far (drop i lines)
-    ≡ then_lines (line_or_none lines i).number (line_in g so_far (line_or_none lines i).words) (λ next. delays_from g next (drop (i + 1) lines))
+    ≡ then_lines (line_or_none lines i).number (after_line g so_far (line_or_none lines i).words) (λ next. delays_from g next (drop (i + 1) lines))
 from_here g lines i so_far inside =
     ap (λ (ls : List Line). delays_from g so_far ls)
     (drop-cons lines i (line_or_none [] 0) inside ∙ ap (λ (n : ℕ). line_or_none lines i ∷ drop n lines) (sym (add-one i)))
 
 pub taken_more : (g : Graph) (lines : List Line) (i : ℕ) (old new : Given) (words : List (List ℕ)) → i < length lines
-    → words ≡ (line_or_none lines i).words → line_in g old words ≡ Ok new → AreTaken g lines i old → AreTaken g lines (i + 1) new
+    → words ≡ (line_or_none lines i).words → after_line g old words ≡ Ok new → AreTaken g lines i old → AreTaken g lines (i + 1) new
 taken_more g lines i old new words inside are e before = record {
   sizes = one_each g old new words before.sizes e;
   rest = before.rest ∙ from_here g lines i old inside
-      ∙ ap (λ (ws : List (List ℕ)). then_lines (line_or_none lines i).number (line_in g old ws) (λ next. delays_from g next (drop (i + 1) lines))) (sym are)
+      ∙ ap (λ (ws : List (List ℕ)). then_lines (line_or_none lines i).number (after_line g old ws) (λ next. delays_from g next (drop (i + 1) lines))) (sym are)
       ∙ ap (λ (r : Result Given DelayKind). then_lines (line_or_none lines i).number r (λ next. delays_from g next (drop (i + 1) lines))) e;
 }
 
@@ -161,10 +155,10 @@ taken_all g lines i so_far past are = are.rest ∙ ap (λ (ls : List Line). dela
 
 pub refused : (g : Graph) (lines : List Line) (i : ℕ) (old new : Given) (words : List (List ℕ)) (why : Refusal) (line : ℕ) → i < length lines
     → words ≡ (line_or_none lines i).words → line ≡ (line_or_none lines i).number
-    → Takes g old words new (Err why) → AreTaken g lines i old → IsRead g lines (Err (refusal_of line why))
+    → IsTaken g old words new (Err why) → AreTaken g lines i old → IsRead g lines (Err (line_refusal line why))
 refused g lines i old new words refusal.Memory line inside are number takes before = tt
 refused g lines i old new words (refusal.Because kind) line inside are number takes before =
     before.rest ∙ from_here g lines i old inside
-    ∙ ap (λ (ws : List (List ℕ)). then_lines (line_or_none lines i).number (line_in g old ws) (λ next. delays_from g next (drop (i + 1) lines))) (sym are)
+    ∙ ap (λ (ws : List (List ℕ)). then_lines (line_or_none lines i).number (after_line g old ws) (λ next. delays_from g next (drop (i + 1) lines))) (sym are)
     ∙ ap (λ (r : Result Given DelayKind). then_lines (line_or_none lines i).number r (λ next. delays_from g next (drop (i + 1) lines))) takes
     ∙ ap (λ (n : ℕ). Err (record { line = n; kind = kind })) (sym number)

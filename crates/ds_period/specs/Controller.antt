@@ -5,7 +5,8 @@ use Rattle.ds_latch.specs.Plan.{IsPlan}
 use Rattle.ds_control.specs.Control.{AreOrders, IsSimple}
 use Rattle.ds_period.specs.Timing.{HasCycle}
 
--- what is asked of a graph: no two arcs have the same ends, each cycle has a token, and some cycle is there
+-- what is asked of a graph: no two arcs have the same ends, each cycle has a token, and some cycle
+-- is there
 pub record HasPeriod (g : Graph) : Type 0 where
   pub simple : IsSimple g
   pub tokens : IsLive g
@@ -13,4 +14,5 @@ pub record HasPeriod (g : Graph) : Type 0 where
 
 -- a controller graph is such
 abbrev pub ControllersHavePeriods : Type 0
-ControllersHavePeriods = (s : Split) (g : Graph) → AreOrders s g → IsSimple g → IsPlan s g → HasPeriod g
+ControllersHavePeriods = (s : Split) (g : Graph) → AreOrders s g → IsSimple g → IsPlan s g
+    → HasPeriod g

@@ -1,37 +1,44 @@
 -- The delays that lines give the arcs of a graph, or the first fault of the lines.
-use Rattle.std.specs.Prelude.{◌≡◌, ⊤, ℕ, Bool, true, false, not, List, [], ◌∷◌, map, length, replicate, slice_index_or, slice_set, Result, Ok, Err, nat_lt, ◌==◌, ◌&&◌, if◌then◌else◌}
+use Rattle.std.specs.Prelude.{◌≡◌, ⊤, ℕ, Bool, true, false, not, List, [], ◌∷◌, map, length}
+use Rattle.std.specs.Prelude.{replicate, slice_index_or, slice_set, Result, Ok, Err, nat_lt, ◌==◌}
+use Rattle.std.specs.Prelude.{◌&&◌, if◌then◌else◌}
 use Rattle.std.specs.List.{position_or_len}
 use Rattle.ds_names.specs.Names.{place_of_name}
 use Rattle.ds_lines.specs.Line.{Line}
 use Rattle.ds_marked.specs.Graph.{Graph}
 use Rattle.ds_marked.specs.declared.marked.Arc.{Arc}
 use Rattle.ds_marked.specs.Log.{event_text}
-use Rattle.ds_period.specs.Word.{has_delay, value_of, word_at}
+use Rattle.ds_period.specs.Word.{has_delay, written_delay, word_on}
 use Rattle.ds_period.specs.declared.fault.DelayFault.{DelayFault}
 use Rattle.ds_period.specs.declared.fault.DelayKind.{DelayKind}
-use Rattle.ds_period.specs.declared.fault.DelayKind.TheVariants.{BadWord, UnknownOrder, RepeatedOrder}
+use Rattle.ds_period.specs.declared.fault.DelayKind.TheVariants.{BadWord, UnknownOrder}
+use Rattle.ds_period.specs.declared.fault.DelayKind.TheVariants.{RepeatedOrder}
 use Rattle.ds_period.specs.declared.fault.DelayRefusal.{DelayRefusal}
 use Rattle.ds_period.specs.declared.fault.DelayRefusal.TheVariants.{Memory, Fault}
 
 -- the events, as they are written
-abbrev pub event_texts : Graph → List (List ℕ)
-event_texts g = map event_text g.events
+abbrev pub written_events : Graph → List (List ℕ)
+written_events g = map event_text g.events
 
 -- the first event that is written so; past the events where none is
-abbrev pub event_of : Graph → List ℕ → ℕ
-event_of g word = place_of_name (event_texts g) word
+abbrev pub event_by_text : Graph → List ℕ → ℕ
+event_by_text g word = place_of_name (written_events g) word
 
 -- an arc leads from u to v
-abbrev pub joins : ℕ → ℕ → Arc → Bool
-joins u v arc = (arc.source == u) && (arc.target == v)
+abbrev pub is_from_to : ℕ → ℕ → Arc → Bool
+is_from_to u v arc = (arc.source == u) && (arc.target == v)
 
 -- the first arc from u to v; past the arcs where there is none
 abbrev pub arc_between : Graph → ℕ → ℕ → ℕ
-arc_between g u v = position_or_len (joins u v) g.arcs
+arc_between g u v = position_or_len (is_from_to u v) g.arcs
+
+-- the first arc between the events that are written so
+abbrev pub arc_by_texts : Graph → List ℕ → List ℕ → ℕ
+arc_by_texts g source target = arc_between g (event_by_text g source) (event_by_text g target)
 
 -- the arc that a line's first two words name
-abbrev pub arc_of : Graph → List (List ℕ) → ℕ
-arc_of g words = arc_between g (event_of g (word_at words 0)) (event_of g (word_at words 1))
+abbrev pub arc_named : Graph → List (List ℕ) → ℕ
+arc_named g words = arc_by_texts g (word_on words 0) (word_on words 1)
 
 -- the delays of the arcs so far, 0 where none is given, and to which arcs one is given
 pub record Given : Type 0 where
@@ -40,7 +47,15 @@ pub record Given : Type 0 where
 
 -- no delay is given
 abbrev pub none_given : Graph → Given
-none_given g = record { delays = replicate (length g.arcs) 0; given = replicate (length g.arcs) false }
+none_given g = record {
+  delays = replicate (length g.arcs) 0;
+  given = replicate (length g.arcs) false;
+}
+
+-- as many as there are arcs
+abbrev pub HasOneEach : Graph → Given → Type 0
+HasOneEach g so_far = (length so_far.delays ≡ length g.arcs)
+    × (length so_far.given ≡ length g.arcs)
 
 -- the arc has a delay already
 abbrev pub is_given : Given → ℕ → Bool
@@ -53,23 +68,33 @@ with_delay so_far arc delay = record {
   given = slice_set so_far.given arc true;
 }
 
+-- no arc has the ends that a line names
+abbrev pub unknown_order : List (List ℕ) → DelayKind
+unknown_order words = UnknownOrder (word_on words 0) (word_on words 1)
+
+-- an earlier line has the arc
+abbrev pub repeated_order : List (List ℕ) → DelayKind
+repeated_order words = RepeatedOrder (word_on words 0) (word_on words 1)
+
 -- what a line gives, or what is wrong with it: the first of the kinds that hold
-abbrev pub line_in : Graph → Given → List (List ℕ) → Result Given DelayKind
-line_in g so_far words =
+abbrev pub after_line : Graph → Given → List (List ℕ) → Result Given DelayKind
+after_line g so_far words =
     if not (has_delay words) then Err BadWord
-    else if not (nat_lt (arc_of g words) (length g.arcs)) then Err (UnknownOrder (word_at words 0) (word_at words 1))
-    else if is_given so_far (arc_of g words) then Err (RepeatedOrder (word_at words 0) (word_at words 1))
-    else Ok (with_delay so_far (arc_of g words) (value_of words))
+    else if not (nat_lt (arc_named g words) (length g.arcs)) then Err (unknown_order words)
+    else if is_given so_far (arc_named g words) then Err (repeated_order words)
+    else Ok (with_delay so_far (arc_named g words) (written_delay words))
 
 -- a fault of the line of this number, else what the lines behind it give
-abbrev pub then_lines : ℕ → Result Given DelayKind → (Given → Result (List ℕ) DelayFault) → Result (List ℕ) DelayFault
+abbrev pub then_lines : ℕ → Result Given DelayKind → (Given → Result (List ℕ) DelayFault)
+    → Result (List ℕ) DelayFault
 then_lines number (Ok so_far) rest = rest so_far
 then_lines number (Err kind) rest = Err (record { line = number; kind = kind })
 
 -- the delays of the arcs after these lines, or the first fault
 abbrev pub delays_from : Graph → Given → List Line → Result (List ℕ) DelayFault
 delays_from g so_far [] = Ok so_far.delays
-delays_from g so_far (line ∷ lines) = then_lines line.number (line_in g so_far line.words) (λ next. delays_from g next lines)
+delays_from g so_far (line ∷ lines) =
+    then_lines line.number (after_line g so_far line.words) (λ next. delays_from g next lines)
 
 -- the delays that lines give, or the first fault
 abbrev pub delays_of : Graph → List Line → Result (List ℕ) DelayFault

@@ -7,7 +7,7 @@ use ds_marked::{Event, Kind};
 use std::alloc::{AllocError, Global};
 
 /// The text of each event.
-pub fn texts_of(alloc: Global, events: &[Event]) -> Result<Seq<Name>, OutOfMemory>
+pub(crate) fn texts_of(alloc: Global, events: &[Event]) -> Result<Seq<Name>, OutOfMemory>
     ensures { IfOk result (λ texts. texts ≡ map text_of_event events.now) }
 {
     let mut texts = Seq::new(alloc);

@@ -1,0 +1,124 @@
+-- The delays that lines give, line by line.
+use Rattle.std.proofs.Common.{◌≡◌, ◌≢◌, ◌∙◌, ◌<◌, ℕ, Bool, true, false, List, [], ◌∷◌, length, not, Result, Ok, Err, refl, arith, ap, sym, subst, suc, if◌then◌else◌}
+use Rattle.std.specs.Prelude.{nat_lt, slice_index, AllPairs}
+use Rattle.std.specs.List.{All}
+use Rattle.std.proofs.lemmas.Bool.{false≢true, ltb-true}
+use Rattle.std.proofs.lemmas.List.{get_or-replicate, get_or-set_other, get_or-set_same, length-replicate}
+use Rattle.std.proofs.lemmas.List.Elements.{All-cons}
+use Rattle.std.proofs.lemmas.List.Kept.{AllPairs-cons}
+use Rattle.ds_lines.specs.Line.{Line}
+use Rattle.ds_marked.specs.Graph.{Graph}
+use Rattle.ds_period.specs.Word.{has_delay, written_delay}
+use Rattle.ds_period.specs.Read.{Given, HasOneEach, after_line, arc_named, delays_from, is_given, none_given, repeated_order, then_lines, unknown_order, with_delay}
+use Rattle.ds_period.specs.Written.{DelaysAreWritten, GivesDelay}
+use Rattle.ds_period.specs.declared.fault.DelayFault.{DelayFault}
+use Rattle.ds_period.specs.declared.fault.DelayKind.{DelayKind}
+use Rattle.ds_period.specs.declared.fault.DelayKind.TheVariants.{BadWord}
+use Rattle.ds_period.proofs.Taking.{one_each}
+
+-- what is known where no test refuses
+passes : (a b c : Bool) (one two three : DelayKind) (given new : Given)
+    → (let r : Result Given DelayKind = if not a then Err one else if not b then Err two else if c then Err three else Ok given in r ≡ Ok new)
+    → (a ≡ true) × (b ≡ true) × (c ≡ false) × (given ≡ new)
+passes false b c one two three given new e = absurd cc
+passes true false c one two three given new e = absurd cc
+passes true true true one two three given new e = absurd cc
+passes true true false one two three given new e = (refl, refl, refl, cc)
+
+-- a line that is taken
+record IsLineTaken (g : Graph) (old : Given) (words : List (List ℕ)) (new : Given) : Type 0 where
+  has : has_delay words ≡ true
+  inside : arc_named g words < length g.arcs
+  fresh : is_given old (arc_named g words) ≡ false
+  is : with_delay old (arc_named g words) (written_delay words) ≡ new
+
+line_taken : (g : Graph) (old new : Given) (words : List (List ℕ)) → after_line g old words ≡ Ok new → IsLineTaken g old words new
+line_taken g old new words e =
+    let (has, inside, fresh, is) = passes (has_delay words) (nat_lt (arc_named g words) (length g.arcs)) (is_given old (arc_named g words))
+    BadWord (unknown_order words) (repeated_order words) (with_delay old (arc_named g words) (written_delay words)) new e in
+    record {
+      has = has;
+      inside = ltb-true (arc_named g words) (length g.arcs) inside;
+      fresh = fresh;
+      is = is;
+    }
+
+-- where the lines from one on give delays, it is taken
+first_taken : (number : ℕ) (r : Result Given DelayKind) (rest : Given → Result (List ℕ) DelayFault) (delays : List ℕ)
+    → then_lines number r rest ≡ Ok delays → (next : Given) × (r ≡ Ok next) × (rest next ≡ Ok delays)
+first_taken number (Ok next) rest delays e = (next, refl, e)
+first_taken number (Err kind) rest delays e = absurd cc
+
+module _ (g : Graph) (delays : List ℕ) where
+  -- an arc with a delay is named by no later line
+  not_again : (k : ℕ) (lines : List Line) (so_far : Given) → is_given so_far k ≡ true → delays_from g so_far lines ≡ Ok delays
+      → All (λ line. arc_named g line.words ≢ k) lines
+  not_again k [] so_far given e = λ i d lt. absurd (omega arith)
+  not_again k (line ∷ lines) so_far given e =
+      let (next, taken, rest) = first_taken line.number (after_line g so_far line.words) (λ so_far. delays_from g so_far lines) delays e in
+      let t = line_taken g so_far next line.words taken in
+      let differs : arc_named g line.words ≢ k = λ same. false≢true (sym t.fresh ∙ ap (λ (j : ℕ). is_given so_far j) same ∙ given) in
+      let still : is_given next k ≡ true = subst (λ (r : Given). is_given r k ≡ true) t.is
+      (get_or-set_other so_far.given (arc_named g line.words) k true false (λ same. differs (sym same)) ∙ given) in
+      All-cons (λ (l : Line). arc_named g l.words ≢ k) line lines differs (not_again k lines next still rest)
+
+  -- an arc that no line names keeps its delay
+  keeps : (k : ℕ) (lines : List Line) (so_far : Given) → All (λ line. arc_named g line.words ≢ k) lines
+      → delays_from g so_far lines ≡ Ok delays → slice_index delays k ≡ slice_index so_far.delays k
+  keeps k [] so_far others e = let same : so_far.delays ≡ delays = cc in ap (λ (xs : List ℕ). slice_index xs k) (sym same)
+  keeps k (line ∷ lines) so_far others e =
+      let (next, taken, rest) = first_taken line.number (after_line g so_far line.words) (λ so_far. delays_from g so_far lines) delays e in
+      let t = line_taken g so_far next line.words taken in
+      let differs : arc_named g line.words ≢ k = others 0 line (omega arith) in
+      keeps k lines next (λ i d lt. others (suc i) d (omega arith)) rest
+      ∙ ap (λ (r : Given). slice_index r.delays k) (sym t.is)
+      ∙ get_or-set_other so_far.delays (arc_named g line.words) k (written_delay line.words) 0 (λ same. differs (sym same))
+
+  -- each line's arc has its delay
+  all_given : (lines : List Line) (so_far : Given) → HasOneEach g so_far → delays_from g so_far lines ≡ Ok delays
+      → All (GivesDelay g delays) lines
+  all_given [] so_far sizes e = λ i d lt. absurd (omega arith)
+  all_given (line ∷ lines) so_far sizes e =
+      let (next, taken, rest) = first_taken line.number (after_line g so_far line.words) (λ so_far. delays_from g so_far lines) delays e in
+      let t = line_taken g so_far next line.words taken in
+      let arc = arc_named g line.words in
+      let again : is_given next arc ≡ true = subst (λ (r : Given). is_given r (arc_named g line.words) ≡ true) t.is
+      (get_or-set_same so_far.given (arc_named g line.words) true false (omega (arith, t.inside, sizes.1))) in
+      let kept = keeps arc lines next (not_again arc lines next again rest) rest in
+      let value = ap (λ (r : Given). slice_index r.delays (arc_named g line.words)) (sym t.is)
+      ∙ get_or-set_same so_far.delays (arc_named g line.words) (written_delay line.words) 0 (omega (arith, t.inside, sizes.0)) in
+      All-cons (GivesDelay g delays) line lines (t.has, t.inside, kept ∙ value)
+      (all_given lines next (one_each g so_far next line.words sizes taken) rest)
+
+  -- no two lines name the same arc
+  all_once : (lines : List Line) (so_far : Given) → HasOneEach g so_far → delays_from g so_far lines ≡ Ok delays
+      → AllPairs (λ a b. arc_named g a.words ≢ arc_named g b.words) lines
+  all_once [] so_far sizes e = λ i j d before lt. absurd (omega arith)
+  all_once (line ∷ lines) so_far sizes e =
+      let (next, taken, rest) = first_taken line.number (after_line g so_far line.words) (λ so_far. delays_from g so_far lines) delays e in
+      let t = line_taken g so_far next line.words taken in
+      let again : is_given next (arc_named g line.words) ≡ true = subst (λ (r : Given). is_given r (arc_named g line.words) ≡ true) t.is
+      (get_or-set_same so_far.given (arc_named g line.words) true false (omega (arith, t.inside, sizes.1))) in
+      let later = not_again (arc_named g line.words) lines next again rest in
+      AllPairs-cons (λ (a b : Line). arc_named g a.words ≢ arc_named g b.words) line lines
+      (λ i d lt same. later i d lt (sym same))
+      (all_once lines next (one_each g so_far next line.words sizes taken) rest)
+
+  -- one delay an arc
+  all_sizes : (lines : List Line) (so_far : Given) → HasOneEach g so_far → delays_from g so_far lines ≡ Ok delays
+      → length delays ≡ length g.arcs
+  all_sizes [] so_far sizes e = let same : so_far.delays ≡ delays = cc in ap (λ (xs : List ℕ). length xs) (sym same) ∙ sizes.0
+  all_sizes (line ∷ lines) so_far sizes e =
+      let (next, taken, rest) = first_taken line.number (after_line g so_far line.words) (λ so_far. delays_from g so_far lines) delays e in
+      all_sizes lines next (one_each g so_far next line.words sizes taken) rest
+
+none_sizes : (g : Graph) → HasOneEach g (none_given g)
+none_sizes g = (length-replicate (length g.arcs) 0, length-replicate (length g.arcs) false)
+
+pub delays_written : DelaysAreWritten
+delays_written g lines delays e = record {
+  one_each = all_sizes g delays lines (none_given g) (none_sizes g) e;
+  given = all_given g delays lines (none_given g) (none_sizes g) e;
+  once = all_once g delays lines (none_given g) (none_sizes g) e;
+  others = λ k lt others. keeps g delays k lines (none_given g) others e ∙ get_or-replicate (length g.arcs) k 0 0 lt;
+}
