@@ -67,8 +67,8 @@ fn link_words<'a>(
         (link_words_in signals.now line (seen source.entry) (drop 1 (texts words.now)) places.old
         ≡ Ok places.new) }
     ensures fault { IfErr result
-        (λ e. IsKind e
-        (link_words_in signals.now line (seen source.entry) (drop 1 (texts words.now)) places.old)) }
+        (λ e. IsKind e (link_words_in signals.now line (seen source.entry)
+        (drop 1 (texts words.now)) places.old)) }
 {
     for i in 1..words.len() {
         link_word(alloc, signals, places, line, source, word(words, i))?;
