@@ -114,13 +114,25 @@ def jobs(folder):
     yield "run: the same firings", ["run", net, vec], 0
 
 
+# Starts a program and tells how it ended, its processor time and its greatest memory. A process
+# begins with the memory of the one that starts it, so this one is small.
+STARTER = """
+import os, sys
+nowhere = [(os.POSIX_SPAWN_OPEN, file, os.devnull, os.O_WRONLY, 0) for file in (1, 2)]
+number = os.posix_spawn(sys.argv[1], sys.argv[1:], os.environ, file_actions=nowhere)
+_, ended, used = os.wait4(number, 0)
+print(ended, used.ru_utime + used.ru_stime, used.ru_maxrss)
+"""
+
+
 def timed(words, status):
-    """The processor time of a run, and its greatest memory in MB."""
-    started = subprocess.Popen(words, stdout=subprocess.DEVNULL, stderr=subprocess.DEVNULL)
-    _, ended, used = os.wait4(started.pid, 0)
-    if os.WEXITSTATUS(ended) != status or os.WIFSIGNALED(ended):
+    """The processor time of a run, and its greatest memory in MB, some ten at least."""
+    starter = [sys.executable, "-I", "-S", "-c", STARTER]
+    told = subprocess.run(starter + words, stdout=subprocess.PIPE, check=True).stdout.split()
+    ended = int(told[0])
+    if os.WIFSIGNALED(ended) or os.WEXITSTATUS(ended) != status:
         sys.exit("%s: ended with %d" % (" ".join(words), ended))
-    return used.ru_utime + used.ru_stime, used.ru_maxrss / 1000
+    return float(told[1]), int(told[2]) / 1000
 
 
 def main():
