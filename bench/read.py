@@ -1,11 +1,13 @@
 #!/usr/bin/env python3
-"""Times how fast texts at the limits are read, and nothing else of a job.
+"""Times how fast texts at the limits are read, and one whole `check`.
 
-Each text ends in a fault that is met only once the whole text is read, so that no later stage runs:
-a netlist whose first command uses a model that is not there (a fault of copies, which come after
-all lines are read), and vectors whose last line has another width. The size is that of the text in
-bytes; each time is the median of some runs, processor time from the start of the process to its
-end. The exit status is 1 where a run answers anything but its fault.
+Each text but one ends in a fault that is met only once the whole text is read, so that no later
+stage runs: a netlist whose first command uses a model that is not there (a fault of copies, which
+come after all lines are read), and vectors whose last line has another width. The one is a netlist
+of 60,000 tables and 4,000 registers without a fault, of which `check` makes a design as well. The
+size is that of the text in bytes; each time is the median of some runs, processor time from the
+start of the process to its end. The exit status is 1 where a run answers anything but what its text
+asks for.
 """
 
 import argparse
@@ -77,6 +79,21 @@ def netlist(make, most):
     return HEAD + repeated(limited, room) + END
 
 
+def mapped():
+    """A whole netlist as synthesis writes it: tables of two inputs, and registers behind them."""
+    registers, tables = 4000, 60000
+    lines = [".model mapped", ".inputs in_a in_b"]
+    nets = ["in_a", "in_b"] + ["unit_%d/state" % number for number in range(registers)]
+    for number in range(tables):
+        net = "unit_%d/net" % number
+        one, other = nets[-1 - number % 3001], nets[number * 7919 % len(nets)]
+        lines.append(".names %s %s %s\n01 1\n10 1" % (one, other, net))
+        nets.append(net)
+    for number in range(registers):
+        lines.append(".latch %s unit_%d/state re clk 0" % (nets[-1 - number], number))
+    return "\n".join(lines + [".outputs " + nets[-1], ".end"]) + "\n"
+
+
 def vectors(width):
     """As many vectors as have room, and one that is too short."""
     rows = ["".join("01"[(row >> bit % 16) & 1] for bit in range(width)) + "\n" for row in range(64)]
@@ -96,13 +113,13 @@ def used():
 
 
 def timed(words, fault, times):
-    """The median time of a run that is to end with this fault."""
+    """The median time of a run that is to end with this fault, or, with none, with status 0."""
     taken = []
     for _ in range(times):
         before = used()
         done = subprocess.run(words, capture_output=True)
         taken.append(used() - before)
-        if done.returncode != 1 or fault not in done.stderr:
+        if done.returncode != (1 if fault else 0) or fault not in done.stderr:
             sys.exit("%s: status %d, %r" % (words, done.returncode, done.stderr[:200]))
     return statistics.median(taken)
 
@@ -129,6 +146,10 @@ def main():
             words = [options.program, "check", net]
             seconds = timed(words, b"unknown model nix", options.times)
             report(name, os.path.getsize(net), seconds)
+        with open(net, "w") as file:
+            file.write(mapped())
+        seconds = timed([options.program, "check", net], b"", options.times)
+        report("whole `check` of 60,000 tables of two inputs", os.path.getsize(net), seconds)
         for name, width in VECTORS:
             with open(net, "w") as file:
                 file.write(columns(width))
