@@ -9,6 +9,8 @@ import sys
 from streams import Parser, parser  # noqa: F401, for the tools
 
 ROOT = os.path.dirname(os.path.dirname(os.path.abspath(__file__)))
+# Crates on which nothing but tests stands.
+FOR_TESTS = {"ds_trial"}
 PLACED = re.compile(r"crates/(\w+)/(src|specs|proofs)/(.+)\.(rt|antt)$")
 SKIPPED = re.compile(
     r"//[^\n]*|/\*.*?\*/|b?\"(?:[^\"\\]|\\.)*\""
@@ -226,6 +228,7 @@ class Source:
 def sources(names):
     """Each file of code."""
     tests = testing_files(names)
+    tests |= {name for name, crate in placed(names, ("src",), ("rt",)) if crate in FOR_TESTS}
     return [Source(name, crate, name in tests) for name, crate in placed(names, ("src",), ("rt",))]
 
 

@@ -1,8 +1,7 @@
 //! Controller graphs of the user's, accepted and refused.
-use crate::script::play;
-use ds_base::OutOfMemory;
+use ds_trial::play;
 use std::alloc::{AllocError, Global};
-use std::process::Abort;
+use std::test::Fail;
 use std::thread::Threads;
 
 // The controller graph of the toggle.
@@ -49,11 +48,11 @@ fn push_case(text: &mut String, old: &str, rest: &str) -> Result<(), AllocError>
 }
 
 // Does all runs of a table, which are so many.
-fn play_edits<R: AllocGlobal + Threads + Sync + Abort>(
+fn play_edits<R: AllocGlobal + Threads + Sync>(
     rt: &R,
     table: &str,
     runs: usize,
-) -> Result<(), OutOfMemory> {
+) -> Result<(), Fail> {
     let text = edited(rt.alloc(), table)?;
     play(rt, text.as_str(), runs)
 }
@@ -107,7 +106,7 @@ S0- 4
 ";
 
 #[test]
-fn accepted_graphs_show_their_ranks(rt: HostRuntime) -> Result<(), OutOfMemory> {
+fn accepted_graphs_show_their_ranks(rt: HostRuntime) -> Result<(), Fail> {
     play_edits(&rt, ACCEPTED, 3)
 }
 
@@ -145,7 +144,7 @@ end 0
 ";
 
 #[test]
-fn runs_over_accepted_graphs_print_the_clocked_trace(rt: HostRuntime) -> Result<(), OutOfMemory> {
+fn runs_over_accepted_graphs_print_the_clocked_trace(rt: HostRuntime) -> Result<(), Fail> {
     play_edits(&rt, RUNS, 3)
 }
 
@@ -160,7 +159,7 @@ l:2: not enabled: IN- to M0+
 ";
 
 #[test]
-fn logs_are_fired_over_the_named_graph(rt: HostRuntime) -> Result<(), OutOfMemory> {
+fn logs_are_fired_over_the_named_graph(rt: HostRuntime) -> Result<(), Fail> {
     play_edits(&rt, LOGS, 1)
 }
 
@@ -266,6 +265,6 @@ g: missing order M0- to S0+ with 0 tokens
 ";
 
 #[test]
-fn faults_of_graphs_are_named(rt: HostRuntime) -> Result<(), OutOfMemory> {
+fn faults_of_graphs_are_named(rt: HostRuntime) -> Result<(), Fail> {
     play_edits(&rt, FAULTS, 22)
 }

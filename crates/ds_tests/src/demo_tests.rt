@@ -1,8 +1,6 @@
 //! Runs of designs that are made from a number.
-use crate::script::play;
-use crate::trial::{Wanted, gives, printed};
-use ds_base::OutOfMemory;
 use ds_outside::OpenGate;
+use ds_trial::{Wanted, gives, play, printed};
 use std::test::Fail;
 
 // Two sizes, each by one, two and eight workers.
@@ -25,7 +23,7 @@ fold 1347
 ";
 
 #[test]
-fn demonstrations_have_their_summaries(rt: HostRuntime) -> Result<(), OutOfMemory> {
+fn demonstrations_have_their_summaries(rt: HostRuntime) -> Result<(), Fail> {
     play(&rt, SUMS, 6)
 }
 
@@ -56,6 +54,6 @@ desync: bad command line
 ";
 
 #[test]
-fn sizes_past_the_limits_are_no_command_line(rt: HostRuntime) -> Result<(), OutOfMemory> {
+fn sizes_past_the_limits_are_no_command_line(rt: HostRuntime) -> Result<(), Fail> {
     play(&rt, SIZES, 4)
 }

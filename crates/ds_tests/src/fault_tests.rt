@@ -1,7 +1,5 @@
 //! The lines of the faults of files.
-use crate::script::play;
-use crate::trial::{Wanted, gives};
-use ds_base::OutOfMemory;
+use ds_trial::{Wanted, gives, play};
 use std::alloc::{AllocError, Global};
 use std::test::Fail;
 
@@ -101,7 +99,7 @@ v:2: bad bit
 ";
 
 #[test]
-fn faults_of_lines_are_named(rt: HostRuntime) -> Result<(), OutOfMemory> {
+fn faults_of_lines_are_named(rt: HostRuntime) -> Result<(), Fail> {
     play(&rt, LINES, 10)
 }
 
@@ -161,7 +159,7 @@ n:3: repeated model m
 ";
 
 #[test]
-fn faults_of_copies_are_named(rt: HostRuntime) -> Result<(), OutOfMemory> {
+fn faults_of_copies_are_named(rt: HostRuntime) -> Result<(), Fail> {
     play(&rt, MODELS, 5)
 }
 
@@ -298,6 +296,6 @@ n: mixed edges: q and r
 ";
 
 #[test]
-fn faults_of_designs_are_named(rt: HostRuntime) -> Result<(), OutOfMemory> {
+fn faults_of_designs_are_named(rt: HostRuntime) -> Result<(), Fail> {
     play(&rt, DESIGNS, 14)
 }

@@ -1,7 +1,6 @@
 //! Controller graphs of netlists in texts, and runs over clusters.
-use crate::script::play;
-use crate::trial::{Wanted, gives};
 use ds_base::OutOfMemory;
+use ds_trial::{Wanted, gives, play};
 use std::alloc::{AllocError, Global};
 use std::test::Fail;
 use std::thread::Threads;
@@ -89,7 +88,7 @@ S1- M1+ S1+
 ";
 
 #[test]
-fn graphs_are_written(rt: HostRuntime) -> Result<(), OutOfMemory> {
+fn graphs_are_written(rt: HostRuntime) -> Result<(), Fail> {
     play(&rt, GRAPHS, 4)
 }
 

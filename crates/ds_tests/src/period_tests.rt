@@ -1,8 +1,6 @@
 //! The exact period of a controller graph, and the faults of delays.
-use crate::script::play;
-use crate::trial::{TOGGLE, Wanted, gives, printed};
-use ds_base::OutOfMemory;
 use ds_outside::OpenGate;
+use ds_trial::{TOGGLE, Wanted, gives, play, printed};
 use std::alloc::{AllocError, Global};
 use std::test::Fail;
 
@@ -72,7 +70,7 @@ potential S0- 0
 ";
 
 #[test]
-fn periods_are_exact(rt: HostRuntime) -> Result<(), OutOfMemory> {
+fn periods_are_exact(rt: HostRuntime) -> Result<(), Fail> {
     play(&rt, PERIODS, 4)
 }
 
@@ -139,7 +137,7 @@ desync: bad command line
 ";
 
 #[test]
-fn what_comes_before_the_delays_is_named_first(rt: HostRuntime) -> Result<(), OutOfMemory> {
+fn what_comes_before_the_delays_is_named_first(rt: HostRuntime) -> Result<(), Fail> {
     play(&rt, OTHERS, 7)
 }
 

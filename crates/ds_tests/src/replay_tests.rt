@@ -1,6 +1,6 @@
 //! Logs of firings, fired again.
-use crate::script::play;
-use ds_base::OutOfMemory;
+use ds_trial::play;
+use std::test::Fail;
 
 // Netlists with vectors and logs, the last one with a register in a copy, and their states.
 const STATES: &str = "%v
@@ -76,7 +76,7 @@ fired 1 of 8
 ";
 
 #[test]
-fn logs_lead_to_states(rt: HostRuntime) -> Result<(), OutOfMemory> {
+fn logs_lead_to_states(rt: HostRuntime) -> Result<(), Fail> {
     play(&rt, STATES, 5)
 }
 
@@ -122,6 +122,6 @@ l:3: wrong turn
 ";
 
 #[test]
-fn faults_of_logs_are_named_by_their_lines(rt: HostRuntime) -> Result<(), OutOfMemory> {
+fn faults_of_logs_are_named_by_their_lines(rt: HostRuntime) -> Result<(), Fail> {
     play(&rt, FAULTS, 6)
 }

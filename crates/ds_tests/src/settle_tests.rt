@@ -1,9 +1,9 @@
 //! The values of nets beside a plain slow way to find them.
-use crate::trial::files;
 use ds_base::{Row3, Value};
 use ds_design::{Gate, Netlist, Register};
 use ds_settle::settle;
 use ds_stage::{Stop, read_netlist};
+use ds_trial::files;
 use std::alloc::{AllocError, Global};
 
 // Tables against the order of the file, an off-set beside an on-set, constants, two registers, and

@@ -44,9 +44,48 @@ pub struct Wanted<'t> {
 
 impl Wanted<'_> {
     // Whether a run gave this.
-    fn is_given(&self, status: u8, out: &[u8], err: &[u8]) -> bool {
-        let (text, other) = if status == 0 { (out, err) } else { (err, out) };
+    fn is_given(&self, status: u8, outputs: &Outputs) -> bool {
+        let (out, err) = (outputs.out.bytes(), outputs.err.bytes());
+        let text = if status == 0 { out } else { err };
+        let other = if status == 0 { err } else { out };
         status == self.status && text == self.text.as_bytes() && other.is_empty()
+    }
+}
+
+// The output and the error output of a run.
+struct Outputs {
+    out: MemorySink,
+    err: MemorySink,
+}
+
+impl Drop for Outputs {
+    fn drop(self) {
+        let Outputs { out: _, err: _ } = self;
+    }
+}
+
+impl Outputs {
+    // With room for so many bytes on the output.
+    fn with_room(alloc: Global, room: usize) -> Result<Self, OutOfMemory> {
+        Ok(Outputs {
+            out: MemorySink::with_room(alloc, room)?,
+            err: MemorySink::with_room(alloc, 1_000)?,
+        })
+    }
+
+    // The status of a command line, its words parted by one space each, over these files, with
+    // workers that pause at the gate.
+    fn take<R: AllocGlobal + Threads + Sync, G: Gate>(
+        &mut self,
+        rt: &R,
+        all: &[(&str, &str)],
+        line: &str,
+        gate: &G,
+    ) -> Result<u8, OutOfMemory> {
+        let words: Vec<&str> = line.split(' ').collect(rt.alloc())?;
+        let mut files = files(rt.alloc(), all)?;
+        let (out, err) = (&mut self.out, &mut self.err);
+        Ok(desync_main(rt, &words, &mut files, out, err, gate))
     }
 }
 
@@ -57,13 +96,9 @@ pub fn gives<R: AllocGlobal + Threads + Sync>(
     line: &str,
     wanted: Wanted<'_>,
 ) -> Result<bool, OutOfMemory> {
-    let alloc = rt.alloc();
-    let words: Vec<&str> = line.split(' ').collect(alloc)?;
-    let mut out = MemorySink::with_room(alloc, 100_000)?;
-    let mut err = MemorySink::with_room(alloc, 1_000)?;
-    let mut files = files(alloc, all)?;
-    let status = desync_main(rt, &words, &mut files, &mut out, &mut err, &OpenGate);
-    Ok(wanted.is_given(status, out.bytes(), err.bytes()))
+    let mut outputs = Outputs::with_room(rt.alloc(), 100_000)?;
+    let status = outputs.take(rt, all, line, &OpenGate)?;
+    Ok(wanted.is_given(status, &outputs))
 }
 
 /// What a command line prints over these files, with workers that pause at the gate, where it ends
@@ -74,14 +109,12 @@ pub fn printed<R: AllocGlobal + Threads + Sync, G: Gate>(
     line: &str,
     gate: &G,
 ) -> Option<String> {
-    let alloc = rt.alloc();
-    let words: Vec<&str> = line.split(' ').collect(alloc).ok()?;
-    let mut out = MemorySink::with_room(alloc, 1_000_000).ok()?;
-    let mut err = MemorySink::with_room(alloc, 1_000).ok()?;
-    let mut files = files(alloc, all).ok()?;
-    if desync_main(rt, &words, &mut files, &mut out, &mut err, gate) != 0 {
-        return None;
+    let mut outputs = Outputs::with_room(rt.alloc(), 1_000_000).ok()?;
+    let status = outputs.take(rt, all, line, gate).ok()?;
+    let text = str::from_utf8(outputs.out.bytes()).ok()?;
+    if status == 0 {
+        String::from_str(rt.alloc(), text).ok()
+    } else {
+        None
     }
-    let text = str::from_utf8(out.bytes()).ok()?;
-    String::from_str(alloc, text).ok()
 }

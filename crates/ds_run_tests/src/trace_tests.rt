@@ -1,11 +1,10 @@
 //! Traces and reports, and what is left where a file or an output fails.
-use crate::script::play;
-use crate::trial::{TOGGLE, Wanted, files, gives};
 use ds_app::desync_main;
-use ds_base::{OutOfMemory, Row3};
+use ds_base::Row3;
 use ds_clocked::{SimFault, simulate_from};
 use ds_outside::{MemoryFiles, MemorySink, OpenGate};
 use ds_stage::{Stop, read_netlist, read_rows};
+use ds_trial::{TOGGLE, Wanted, files, gives, play};
 use std::alloc::Global;
 use std::test::Fail;
 
@@ -155,7 +154,7 @@ end -
 ";
 
 #[test]
-fn run_and_clock_print_the_trace(rt: HostRuntime) -> Result<(), OutOfMemory> {
+fn run_and_clock_print_the_trace(rt: HostRuntime) -> Result<(), Fail> {
     play(&rt, TRACES, 18)
 }
 
@@ -198,7 +197,7 @@ levels 2
 ";
 
 #[test]
-fn netlists_are_reported_on(rt: HostRuntime) -> Result<(), OutOfMemory> {
+fn netlists_are_reported_on(rt: HostRuntime) -> Result<(), Fail> {
     play(&rt, REPORTS, 3)
 }
 
@@ -226,7 +225,7 @@ n: combinational cycle: y z
 ";
 
 #[test]
-fn words_and_files_may_fail(rt: HostRuntime) -> Result<(), OutOfMemory> {
+fn words_and_files_may_fail(rt: HostRuntime) -> Result<(), Fail> {
     play(&rt, LACKS, 4)
 }
 

@@ -1,6 +1,6 @@
 //! Workers that are held at the gate: what they fire is theirs, and they run at once.
-use crate::trial::{SHIFT, printed};
 use ds_outside::Gate;
+use ds_trial::{SHIFT, printed};
 use std::sync::atomic::AtomicBool;
 use std::sync::atomic::Ordering::SeqCst;
 use std::thread::Threads;

@@ -13,7 +13,7 @@
 use crate::trial::{SHIFT, TOGGLE, Wanted, gives};
 use ds_base::OutOfMemory;
 use std::alloc::Global;
-use std::process::Abort;
+use std::test::Fail;
 use std::thread::Threads;
 
 // What has been told so far.
@@ -103,18 +103,13 @@ impl<'t> Script<'t> {
     }
 }
 
-/// Does all runs of a text, which are so many, and each of which gives what the text says.
-pub fn play<R: AllocGlobal + Threads + Sync + Abort>(
-    rt: &R,
-    text: &str,
-    runs: usize,
-) -> Result<(), OutOfMemory> {
+/// Does all runs of a text, which are so many, and each of which gives what the text says. Else the
+/// failure names the first part that is none or whose runs gave something else, or tells that it is
+/// of their number.
+pub fn play<R: AllocGlobal + Threads + Sync>(rt: &R, text: &str, runs: usize) -> Result<(), Fail> {
     let mut script = Script::new(rt.alloc())?;
-    let wrong = script.first_wrong(rt, text)?;
-    assert!(rt;
-        wrong.is_none() && script.is_over(runs),
-        "{}",
-        wrong.unwrap_or("runs")
-    );
-    Ok(())
+    match script.first_wrong(rt, text)? {
+        None if script.is_over(runs) => Ok(()),
+        wrong => Err(Fail::new(wrong.unwrap_or("another number of runs"))),
+    }
 }

@@ -1,6 +1,6 @@
 //! Unknown values: in vectors, in registers, in tables and in what is printed.
-use crate::script::play;
-use ds_base::OutOfMemory;
+use ds_trial::play;
+use std::test::Fail;
 
 // A vector may be unknown, and so is what registers take from it.
 const VECTORS: &str = "%v
@@ -200,31 +200,31 @@ v:1: bad width
 ";
 
 #[test]
-fn a_vector_may_be_unknown(rt: HostRuntime) -> Result<(), OutOfMemory> {
+fn a_vector_may_be_unknown(rt: HostRuntime) -> Result<(), Fail> {
     play(&rt, VECTORS, 6)
 }
 
 #[test]
-fn a_register_without_an_initial_value_is_unknown(rt: HostRuntime) -> Result<(), OutOfMemory> {
+fn a_register_without_an_initial_value_is_unknown(rt: HostRuntime) -> Result<(), Fail> {
     play(&rt, STARTS, 6)
 }
 
 #[test]
-fn a_start_that_does_not_matter_is_zero(rt: HostRuntime) -> Result<(), OutOfMemory> {
+fn a_start_that_does_not_matter_is_zero(rt: HostRuntime) -> Result<(), Fail> {
     play(&rt, ANY, 3)
 }
 
 #[test]
-fn a_table_is_known_where_its_rows_decide_it(rt: HostRuntime) -> Result<(), OutOfMemory> {
+fn a_table_is_known_where_its_rows_decide_it(rt: HostRuntime) -> Result<(), Fail> {
     play(&rt, TABLES, 9)
 }
 
 #[test]
-fn a_stored_value_may_be_unknown(rt: HostRuntime) -> Result<(), OutOfMemory> {
+fn a_stored_value_may_be_unknown(rt: HostRuntime) -> Result<(), Fail> {
     play(&rt, STORED, 1)
 }
 
 #[test]
-fn no_other_character_is_a_value(rt: HostRuntime) -> Result<(), OutOfMemory> {
+fn no_other_character_is_a_value(rt: HostRuntime) -> Result<(), Fail> {
     play(&rt, OTHERS, 5)
 }

@@ -1,9 +1,8 @@
 //! Runs over clusters beside clocked ones, and a failed write of a line.
-use crate::script::play;
-use crate::trial::{RING, Wanted, files, gives};
 use ds_app::desync_main;
 use ds_base::OutOfMemory;
 use ds_outside::{MemorySink, OpenGate};
+use ds_trial::{RING, Wanted, files, gives, play};
 use std::alloc::{AllocError, Global};
 use std::test::Fail;
 use std::thread::Threads;
@@ -71,7 +70,7 @@ end 000
 ";
 
 #[test]
-fn clusters_print_the_clocked_trace(rt: HostRuntime) -> Result<(), OutOfMemory> {
+fn clusters_print_the_clocked_trace(rt: HostRuntime) -> Result<(), Fail> {
     play(&rt, TRACES, 14)
 }
 

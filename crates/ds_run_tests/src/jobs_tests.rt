@@ -1,8 +1,7 @@
 //! Runs by several workers: the same bytes, and logs that can be fired again.
-use crate::script::play;
-use crate::trial::{TOGGLE, Wanted, gives, printed};
 use ds_base::OutOfMemory;
 use ds_outside::OpenGate;
+use ds_trial::{TOGGLE, Wanted, gives, play, printed};
 use std::alloc::{AllocError, Global};
 use std::test::Fail;
 use std::thread::Threads;
@@ -44,7 +43,7 @@ firings
 ";
 
 #[test]
-fn no_vectors_give_an_empty_log(rt: HostRuntime) -> Result<(), OutOfMemory> {
+fn no_vectors_give_an_empty_log(rt: HostRuntime) -> Result<(), Fail> {
     play(&rt, EMPTY, 1)
 }
 
@@ -82,7 +81,7 @@ end 10
 ";
 
 #[test]
-fn any_number_of_workers_prints_the_trace(rt: HostRuntime) -> Result<(), OutOfMemory> {
+fn any_number_of_workers_prints_the_trace(rt: HostRuntime) -> Result<(), Fail> {
     play(&rt, TRACES, 10)
 }
 
@@ -100,7 +99,7 @@ desync: bad command line
 ";
 
 #[test]
-fn other_numbers_of_workers_are_no_command_line(rt: HostRuntime) -> Result<(), OutOfMemory> {
+fn other_numbers_of_workers_are_no_command_line(rt: HostRuntime) -> Result<(), Fail> {
     play(&rt, OTHERS, 6)
 }
 
