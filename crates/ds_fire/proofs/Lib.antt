@@ -7,3 +7,4 @@ pub mod Turning
 pub mod Lawful
 pub mod Fed
 pub mod First
+pub mod Transparent

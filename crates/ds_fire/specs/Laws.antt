@@ -6,9 +6,10 @@ use Rattle.ds_design.specs.Run.{IsRun}
 use Rattle.ds_design.specs.Trace.{trace_line, trace_lines}
 use Rattle.ds_latch.specs.Node.{Node, Out, IsNode, opening, closing}
 use Rattle.ds_latch.specs.Numbered.{numbered}
-use Rattle.ds_latch.specs.Firing.{AreRegisters}
-use Rattle.ds_fire.specs.Snapshot.{Snapshot, split_of, graph_of, limit_of, count_of, held_row}
-use Rattle.ds_fire.specs.Snapshot.{stored_values, stored_row}
+use Rattle.ds_latch.specs.Firing.{State, AreRegisters}
+use Rattle.ds_latch.specs.Transparent.{IsShowing}
+use Rattle.ds_fire.specs.Snapshot.{Snapshot, Shows, split_of, graph_of, limit_of, count_of}
+use Rattle.ds_fire.specs.Snapshot.{held_row, stored_values, stored_row}
 use Rattle.ds_fire.specs.Fired.{IsReady, IsFired, IsAfter, IsReached, IsSound}
 
 -- a run of the vectors from the plan's initial row
@@ -58,3 +59,11 @@ StoredSpellTrace = (kept : Snapshot) → IsSound kept → IsReached kept → IsD
     (range_with_len 0 (limit_of kept))
     ≡ trace_lines (split_of kept).circuit first (limit_of kept) state nets)
     × (rows (limit_of kept) ≡ state (limit_of kept))
+
+-- without slack there is exactly one way to show, and it is what the nodes hold
+abbrev pub HeldIsShown : Type 0
+HeldIsShown = (kept : Snapshot) → IsSound kept → IsReached kept → (split_of kept).slack ≡ 0
+    → (now : State) → Shows kept now
+    → IsShowing (split_of kept) kept.vectors now (held_row kept)
+    × ((shown : Node → Row) → IsShowing (split_of kept) kept.vectors now shown
+    → (n : Node) → IsNode (split_of kept) n → shown n ≡ held_row kept n)

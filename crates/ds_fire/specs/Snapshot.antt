@@ -1,10 +1,11 @@
 -- What a state keeps, and the states that it shows.
 use Rattle.std.specs.Prelude.{◌≡◌, ℕ, ◌+◌, ◌*◌, ◌≤◌, List, [], length, slice_index, slice_index_or}
-use Rattle.std.specs.Prelude.{slice_range}
+use Rattle.std.specs.Prelude.{slice_range, Bool, ◌==◌}
 use Rattle.std.specs.List.{flat_map}
 use Rattle.ds_base.specs.Values.{Row}
 use Rattle.ds_marked.specs.Graph.{Graph}
 use Rattle.ds_latch.specs.Node.{Node, Split, IsNode, number_of, place_of, nets_of, opening}
+use Rattle.ds_latch.specs.Node.{closing}
 use Rattle.ds_latch.specs.Plan.{Planned}
 use Rattle.ds_latch.specs.Firing.{State, first_state}
 
@@ -32,6 +33,10 @@ limit_of kept = length kept.vectors
 -- how often an event has fired
 abbrev pub count_of : Snapshot → ℕ → ℕ
 count_of kept v = slice_index kept.counts v
+
+-- whether a node has opened once more than it has closed
+abbrev pub is_open : Snapshot → Node → Bool
+is_open kept n = count_of kept (opening n) == count_of kept (closing n) + 1
 
 -- where the row of the node with a number is kept, by its place
 abbrev pub row_index : Split → ℕ → ℕ → ℕ

@@ -3,10 +3,10 @@ use Rattle.std.specs.Prelude.{◌≡◌, ℕ, ◌+◌, ◌*◌, ◌<◌, ◌≤�
 use Rattle.std.specs.Prelude.{slice_index_or, slice_set, ◌==◌, if◌then◌else◌}
 use Rattle.ds_base.specs.Values.{Row}
 use Rattle.ds_base.specs.declared.value.Value.{Value}
-use Rattle.ds_cover.specs.Cover.{value_at}
+use Rattle.ds_cover.specs.Cover.{value_at, values_at}
 use Rattle.ds_latch.specs.Node.{Node, Split, IsNode, number_of, nodes, nets_of, opening, closing}
 use Rattle.ds_latch.specs.Node.{extra_event, place_of}
-use Rattle.ds_latch.specs.Firing.{State, Takes}
+use Rattle.ds_latch.specs.Firing.{State, IsSettled, Takes, read_rows}
 use Rattle.ds_fire.specs.Snapshot.{row_index, rows_of}
 use Rattle.ds_fire.specs.History.{Stored}
 use Rattle.ds_fire.specs.Feeds.{home_of}
@@ -54,6 +54,11 @@ pub record IsThere (places : Places) (rows : List Row) (home : Home) : Type 0 wh
 -- a net has the value at its home
 abbrev pub IsLoaded : Places → List Row → List Home → Row → ℕ → Type 0
 IsLoaded places rows homes nets net = value_at nets net ≡ home_value places rows (home_of homes net)
+
+-- on these nets, a node that has opened so often has what settles for what its producers keep
+abbrev pub IsSettledOn : Split → List Row → ℕ → Node → Row → Type 0
+IsSettledOn s rows opened n nets =
+    IsSettled s (read_rows s (state_with s rows) opened) n (values_at nets (nets_of s n))
 
 -- a node that has opened so often has taken its row, at its next place
 pub record IsOpened (s : Split) (vectors : List Row) (opened : ℕ) (n : Node)

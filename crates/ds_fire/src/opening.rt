@@ -9,7 +9,7 @@ ghost use Rattle.ds_latch.specs.Node.{Node, In, Slave, IsNode, number_of, nodes}
 ghost use Rattle.ds_opening.specs.Woven.{IsSettlingAt};
 ghost use Rattle.ds_fire.specs.Feeds.{AreFeeds, home_of};
 ghost use Rattle.ds_fire.specs.Turn.{AreLow, AreRows, IsLoaded, IsOpened, IsThere};
-ghost use Rattle.ds_fire.specs.Turn.{Opens, home_index};
+ghost use Rattle.ds_fire.specs.Turn.{IsSettledOn, Opens, home_index};
 
 use crate::feeds::Feeds;
 use crate::homes::Home;
@@ -19,6 +19,13 @@ use ds_base::{NetId, Row3};
 use ds_design::Vectors;
 use ds_latch::Latches;
 use ds_settle::{pick_values, settle_part};
+
+// Which node opens, by its number, and how often it has opened before.
+#[derive(Clone, Copy)]
+pub(crate) struct Opening {
+    pub(crate) number: usize,
+    pub(crate) opened: usize,
+}
 
 // The node with this number takes its row: IN the next vector, a slave the row of its master, the
 // others what settles.
@@ -98,21 +105,44 @@ fn open_settled(latches: &Latches, feeds: &Feeds, number: usize, opened: usize, 
     ensures stored { kept.new.stored.items ≡ kept.old.stored.items }
 {
     let places = Places::of(latches, opened);
-    let cone = &feeds.cones[number / 2];
-    load(
-        cone.sources(),
-        feeds.homes.as_slice(),
+    let opening = Opening { number, opened };
+    settle(
+        latches,
+        feeds,
+        opening,
         kept.rows.as_slice(),
-        places,
         &mut kept.nets,
     );
-    settle_part(latches.netlist(), cone, &mut kept.nets);
     let into = number * places.each + places.next;
     pick_values(
         &kept.nets,
         latches.bits()[number].as_slice(),
         &mut kept.rows[into],
     );
+}
+
+// Settles the cone of a node, in a row of all nets, for what its producers keep.
+pub(crate) fn settle(
+    latches: &Latches,
+    feeds: &Feeds,
+    opening: Opening,
+    rows: &[Row3],
+    nets: &mut Row3,
+)
+    requires few { opening.opened < 2 ^ 32 }
+    requires node { (n : Node) × IsSettlingAt latches.now n opening.number }
+    requires design { IsInRange latches.now.circuit × IsSplit latches.now }
+    requires feeds { AreFeeds latches.now feeds.now }
+    requires rows { AreRows latches.now rows.now }
+    requires nets { length nets.old ≡ length latches.now.circuit.nets }
+    ensures settled { (n : Node) → IsSettlingAt latches.now n opening.number
+        → IsSettledOn latches.now rows.now opening.opened n nets.new }
+    ensures same { length nets.new ≡ length nets.old }
+{
+    let places = Places::of(latches, opening.opened);
+    let cone = &feeds.cones[opening.number / 2];
+    load(cone.sources(), feeds.homes.as_slice(), rows, places, nets);
+    settle_part(latches.netlist(), cone, nets);
 }
 
 // Gives each of these nets the value that its home has at these places.

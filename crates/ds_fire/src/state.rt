@@ -21,6 +21,8 @@ use ds_marked::{Blocked, Counts};
 use std::alloc::Global;
 use std::marker::Model;
 
+mod output;
+
 /// What each node of a plan keeps and has stored, as its events fire, each at most once a vector.
 pub struct State<'a> {
     plan: &'a Plan<'a>,

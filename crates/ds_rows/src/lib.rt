@@ -3,10 +3,11 @@
 //! A caller sees vectors as a width and a list of rows of values, and a text as bytes.
 //! `read_vectors` gives exactly the rows that the lines stand for, or exactly their first fault;
 //! the characters `0`, `1` and `x` are values there, and no other one. `trace_line` and `end_line`
-//! write exactly the line of a turn and the last line, `firing_line` and `stored_line` that of a
-//! firing and of what a register has stored, or a first part of it where a write fails; none of
-//! them takes memory. `put` and `put_column` write pieces of a line, and writers of other crates
-//! chain them too. By the laws what prints rows is read as these rows.
+//! write exactly the line of a turn and the last line, `firing_line`, `stored_line` and `open_line`
+//! that of a firing, of what a register has stored and of what an open node shows, or a first part
+//! of it where a write fails; none of them takes memory. `put` and `put_column` write pieces of a
+//! line, and writers of other crates chain them too. By the laws what prints rows is read as these
+//! rows.
 //! How many calls of the sink a line takes is not promised.
 #![tactic(auto)]
 
@@ -16,6 +17,7 @@ mod laws;
 mod log;
 mod piece;
 mod reader;
+mod shown;
 #[cfg(test)]
 mod tests;
 mod trace;
@@ -27,4 +29,5 @@ pub use laws::{printed_is_read, worked_vectors};
 pub use log::{firing_line, stored_line};
 pub use piece::put;
 pub use reader::read_vectors;
+pub use shown::open_line;
 pub use trace::{end_line, trace_line};

@@ -4,13 +4,14 @@ use Rattle.std.proofs.lemmas.List.{drop-append-le, drop_at, length-map, length-t
 use Rattle.std.proofs.Common.{append-nil}
 use Rattle.ds_cover.specs.Bank.{Driven, driven_at}
 use Rattle.ds_cover.specs.Kept.{IsQuick}
-use Rattle.ds_series.specs.Small.{StandsFor, WordsFor, paired, small_four, small_three, small_two}
+use Rattle.ds_series.specs.Small.{StandsFor, WordsFor, paired, small_four, small_three, small_two, worded_three, worded_two}
 use Rattle.ds_series.specs.Series.{AreFor, AreRuns, IsAddedTo, IsOfKind, IsPart, IsRun, IsRunAdded, IsSeries, IsSmallAdded, Parts, in_order, joined, own_tables, part_of}
 use Rattle.ds_series.specs.Series.IsRunAdded.{alone, joins}
 use Rattle.ds_cover.specs.declared.entry.Quick.{Quick}
 use Rattle.ds_series.specs.declared.run.Kind.{Kind}
 use Rattle.ds_series.specs.declared.run.Kind.TheVariants.{Twos, Threes, Fours, Others}
 use Rattle.ds_series.specs.declared.run.Run.{Run}
+use Rattle.ds_series.specs.declared.nine.Nine.{Nine}
 use Rattle.ds_series.specs.declared.small.Two.{Two}
 use Rattle.ds_series.specs.declared.small.Three.{Three}
 use Rattle.ds_series.specs.declared.small.Four.{Four}
@@ -79,31 +80,31 @@ part_more IsFor smalls s tables t last run low whole meets first one part stands
 -- each list has more behind
 pub record Grows (old new : Parts) : Type 0 where
   pub twos : List Two
-  pub two_words : List ℕ
+  pub nines : List Nine
   pub threes : List Three
   pub three_words : List ℕ
   pub fours : List Four
   pub is : new ≡ record {
     twos = old.twos ++ twos;
-    two_words = old.two_words ++ two_words;
+    nines = old.nines ++ nines;
     threes = old.threes ++ threes;
     three_words = old.three_words ++ three_words;
     fours = old.fours ++ fours;
   }
 
-module _ (old new : Parts) (even : length old.two_words ≡ length old.twos) (even' : length old.three_words ≡ length old.threes) (grows : Grows old new) (tables others : List Driven) where
+module _ (old new : Parts) (even : length old.nines ≡ length old.twos) (even' : length old.three_words ≡ length old.threes) (grows : Grows old new) (tables others : List Driven) where
   kind_stays : (run : Run) → run.first ≤ run.end → run.at + (run.end - run.first) ≤ length tables → (kind : Kind) → IsOfKind old tables run kind → IsOfKind new (tables ++ others) run kind
   kind_stays run low fits Twos (part, words) =
-      subst (λ (p : Parts). IsPart StandsFor (map small_two p.twos) (tables ++ others) run × IsPart WordsFor (paired small_two p.twos p.two_words) (tables ++ others) run) (sym grows.is) (
+      subst (λ (p : Parts). IsPart StandsFor (map small_two p.twos) (tables ++ others) run × IsPart WordsFor (paired worded_two p.twos p.nines) (tables ++ others) run) (sym grows.is) (
         subst (λ ss. IsPart StandsFor ss (tables ++ others) run) (sym (map-append small_two old.twos grows.twos)) (part_longer StandsFor (map small_two old.twos) (map small_two grows.twos) tables others run low fits part),
-        subst (λ ss. IsPart WordsFor ss (tables ++ others) run) (sym (paired-append small_two old.twos grows.twos old.two_words grows.two_words even))
-            (part_longer WordsFor (paired small_two old.twos old.two_words) (paired small_two grows.twos grows.two_words) tables others run low fits words),
+        subst (λ ss. IsPart WordsFor ss (tables ++ others) run) (sym (paired-append worded_two old.twos grows.twos old.nines grows.nines even))
+            (part_longer WordsFor (paired worded_two old.twos old.nines) (paired worded_two grows.twos grows.nines) tables others run low fits words),
       )
   kind_stays run low fits Threes (part, words) =
-      subst (λ (p : Parts). IsPart StandsFor (map small_three p.threes) (tables ++ others) run × IsPart WordsFor (paired small_three p.threes p.three_words) (tables ++ others) run) (sym grows.is) (
+      subst (λ (p : Parts). IsPart StandsFor (map small_three p.threes) (tables ++ others) run × IsPart WordsFor (paired worded_three p.threes p.three_words) (tables ++ others) run) (sym grows.is) (
         subst (λ ss. IsPart StandsFor ss (tables ++ others) run) (sym (map-append small_three old.threes grows.threes)) (part_longer StandsFor (map small_three old.threes) (map small_three grows.threes) tables others run low fits part),
-        subst (λ ss. IsPart WordsFor ss (tables ++ others) run) (sym (paired-append small_three old.threes grows.threes old.three_words grows.three_words even'))
-            (part_longer WordsFor (paired small_three old.threes old.three_words) (paired small_three grows.threes grows.three_words) tables others run low fits words),
+        subst (λ ss. IsPart WordsFor ss (tables ++ others) run) (sym (paired-append worded_three old.threes grows.threes old.three_words grows.three_words even'))
+            (part_longer WordsFor (paired worded_three old.threes old.three_words) (paired worded_three grows.threes grows.three_words) tables others run low fits words),
       )
   kind_stays run low fits Fours part =
       subst (λ (p : Parts). IsPart StandsFor (map small_four p.fours) (tables ++ others) run) (sym grows.is)
@@ -117,34 +118,34 @@ module _ (old new : Parts) (even : length old.two_words ≡ length old.twos) (ev
       record { low = is.low; fits = omega arith; kind = kind_stays run is.low is.fits run.kind is.kind }
 
 -- the lists
-abbrev lists_of : List Two → List ℕ → List Three → List ℕ → List Four → Parts
-lists_of twos ws threes us fours = record { twos = twos; two_words = ws; threes = threes; three_words = us; fours = fours }
+abbrev lists_of : List Two → List Nine → List Three → List ℕ → List Four → Parts
+lists_of twos ws threes us fours = record { twos = twos; nines = ws; threes = threes; three_words = us; fours = fours }
 
 -- what is added stands for the table
-module _ (quick : Quick) (old new : Parts) (even : length old.two_words ≡ length old.twos) (even' : length old.three_words ≡ length old.threes) (tables : List Driven) (t : Driven) (run : Run)
+module _ (quick : Quick) (old new : Parts) (even : length old.nines ≡ length old.twos) (even' : length old.three_words ≡ length old.threes) (tables : List Driven) (t : Driven) (run : Run)
     (added : IsSmallAdded quick t.cover.masks t.cover.on (length t.cover.inputs) (length tables) old new run)
     (drives : quick.output ≡ t.output) (is_quick : quick.few ≡ true → IsQuick quick t.cover) where
   abbrev IsAdded' : Kind → Type 0
   IsAdded' kind = IsAddedTo quick t.cover.masks t.cover.on (length t.cover.inputs) (length tables) old new run.first kind
 
   kind_one : (kind : Kind) → IsAdded' kind → IsOfKind new (tables ++ t ∷ []) run kind
-  kind_one Twos (two, word, few, small, folded, worded, first, is) =
+  kind_one Twos (two, word, nine, few, small, folded, worded, values, first, is) =
       let stands = two_for quick t (small_two two) (is_quick few) drives folded t.cover.inputs refl small in
-      let words = two_words quick t (small_two two) word (is_quick few) drives folded worded t.cover.inputs refl small in
-      subst (λ (p : Parts). IsPart StandsFor (map small_two p.twos) (tables ++ t ∷ []) run × IsPart WordsFor (paired small_two p.twos p.two_words) (tables ++ t ∷ []) run) (sym is) (
+      let words = two_words quick t two word nine (is_quick few) drives folded worded values t.cover.inputs refl small in
+      subst (λ (p : Parts). IsPart StandsFor (map small_two p.twos) (tables ++ t ∷ []) run × IsPart WordsFor (paired worded_two p.twos p.nines) (tables ++ t ∷ []) run) (sym is) (
         subst (λ ss. IsPart StandsFor ss (tables ++ t ∷ []) run) (sym (map_push small_two old.twos two))
             (part_one StandsFor (map small_two old.twos) (small_two two) tables t run added.at_is (first ∙ sym (length-map old.twos small_two)) added.one stands),
-        subst (λ ss. IsPart WordsFor ss (tables ++ t ∷ []) run) (sym (paired-append small_two old.twos (two ∷ []) old.two_words (word ∷ []) even))
-            (part_one WordsFor (paired small_two old.twos old.two_words) (record { small = small_two two; word = word }) tables t run added.at_is (first ∙ sym (length-paired small_two old.twos old.two_words even)) added.one words),
+        subst (λ ss. IsPart WordsFor ss (tables ++ t ∷ []) run) (sym (paired-append worded_two old.twos (two ∷ []) old.nines (nine ∷ []) even))
+            (part_one WordsFor (paired worded_two old.twos old.nines) (worded_two two nine) tables t run added.at_is (first ∙ sym (length-paired worded_two old.twos old.nines even)) added.one words),
       )
   kind_one Threes (three, word, few, small, folded, worded, first, is) =
       let stands = three_for quick t (small_three three) (is_quick few) drives folded t.cover.inputs refl small in
-      let words = three_words quick t (small_three three) word (is_quick few) drives folded worded t.cover.inputs refl small in
-      subst (λ (p : Parts). IsPart StandsFor (map small_three p.threes) (tables ++ t ∷ []) run × IsPart WordsFor (paired small_three p.threes p.three_words) (tables ++ t ∷ []) run) (sym is) (
+      let words = three_words quick t three word (is_quick few) drives folded worded t.cover.inputs refl small in
+      subst (λ (p : Parts). IsPart StandsFor (map small_three p.threes) (tables ++ t ∷ []) run × IsPart WordsFor (paired worded_three p.threes p.three_words) (tables ++ t ∷ []) run) (sym is) (
         subst (λ ss. IsPart StandsFor ss (tables ++ t ∷ []) run) (sym (map_push small_three old.threes three))
             (part_one StandsFor (map small_three old.threes) (small_three three) tables t run added.at_is (first ∙ sym (length-map old.threes small_three)) added.one stands),
-        subst (λ ss. IsPart WordsFor ss (tables ++ t ∷ []) run) (sym (paired-append small_three old.threes (three ∷ []) old.three_words (word ∷ []) even'))
-            (part_one WordsFor (paired small_three old.threes old.three_words) (record { small = small_three three; word = word }) tables t run added.at_is (first ∙ sym (length-paired small_three old.threes old.three_words even')) added.one words),
+        subst (λ ss. IsPart WordsFor ss (tables ++ t ∷ []) run) (sym (paired-append worded_three old.threes (three ∷ []) old.three_words (word ∷ []) even'))
+            (part_one WordsFor (paired worded_three old.threes old.three_words) (worded_three three word) tables t run added.at_is (first ∙ sym (length-paired worded_three old.threes old.three_words even')) added.one words),
       )
   kind_one Fours (four, few, small, folded, first, is) =
       subst (λ (p : Parts). IsPart StandsFor (map small_four p.fours) (tables ++ t ∷ []) run) (sym is)
@@ -165,23 +166,23 @@ module _ (quick : Quick) (old new : Parts) (even : length old.two_words ≡ leng
 
   module _ (last : Run) (meets : last.end ≡ run.first) (whole : last.at + (last.end - last.first) ≡ length tables) (is_run : IsRun old tables last) where
     kind_more : (kind : Kind) → IsAdded' kind → IsOfKind old tables last kind → IsOfKind new (tables ++ t ∷ []) (joined last run) kind
-    kind_more Twos (two, word, few, small, folded, worded, first, is) (part, was) =
+    kind_more Twos (two, word, nine, few, small, folded, worded, values, first, is) (part, was) =
         let stands = two_for quick t (small_two two) (is_quick few) drives folded t.cover.inputs refl small in
-        let words = two_words quick t (small_two two) word (is_quick few) drives folded worded t.cover.inputs refl small in
-        subst (λ (p : Parts). IsPart StandsFor (map small_two p.twos) (tables ++ t ∷ []) (joined last run) × IsPart WordsFor (paired small_two p.twos p.two_words) (tables ++ t ∷ []) (joined last run)) (sym is) (
+        let words = two_words quick t two word nine (is_quick few) drives folded worded values t.cover.inputs refl small in
+        subst (λ (p : Parts). IsPart StandsFor (map small_two p.twos) (tables ++ t ∷ []) (joined last run) × IsPart WordsFor (paired worded_two p.twos p.nines) (tables ++ t ∷ []) (joined last run)) (sym is) (
           subst (λ ss. IsPart StandsFor ss (tables ++ t ∷ []) (joined last run)) (sym (map_push small_two old.twos two))
               (part_more StandsFor (map small_two old.twos) (small_two two) tables t last run is_run.low whole meets (first ∙ sym (length-map old.twos small_two)) added.one part stands),
-          subst (λ ss. IsPart WordsFor ss (tables ++ t ∷ []) (joined last run)) (sym (paired-append small_two old.twos (two ∷ []) old.two_words (word ∷ []) even))
-              (part_more WordsFor (paired small_two old.twos old.two_words) (record { small = small_two two; word = word }) tables t last run is_run.low whole meets (first ∙ sym (length-paired small_two old.twos old.two_words even)) added.one was words),
+          subst (λ ss. IsPart WordsFor ss (tables ++ t ∷ []) (joined last run)) (sym (paired-append worded_two old.twos (two ∷ []) old.nines (nine ∷ []) even))
+              (part_more WordsFor (paired worded_two old.twos old.nines) (worded_two two nine) tables t last run is_run.low whole meets (first ∙ sym (length-paired worded_two old.twos old.nines even)) added.one was words),
         )
     kind_more Threes (three, word, few, small, folded, worded, first, is) (part, was) =
         let stands = three_for quick t (small_three three) (is_quick few) drives folded t.cover.inputs refl small in
-        let words = three_words quick t (small_three three) word (is_quick few) drives folded worded t.cover.inputs refl small in
-        subst (λ (p : Parts). IsPart StandsFor (map small_three p.threes) (tables ++ t ∷ []) (joined last run) × IsPart WordsFor (paired small_three p.threes p.three_words) (tables ++ t ∷ []) (joined last run)) (sym is) (
+        let words = three_words quick t three word (is_quick few) drives folded worded t.cover.inputs refl small in
+        subst (λ (p : Parts). IsPart StandsFor (map small_three p.threes) (tables ++ t ∷ []) (joined last run) × IsPart WordsFor (paired worded_three p.threes p.three_words) (tables ++ t ∷ []) (joined last run)) (sym is) (
           subst (λ ss. IsPart StandsFor ss (tables ++ t ∷ []) (joined last run)) (sym (map_push small_three old.threes three))
               (part_more StandsFor (map small_three old.threes) (small_three three) tables t last run is_run.low whole meets (first ∙ sym (length-map old.threes small_three)) added.one part stands),
-          subst (λ ss. IsPart WordsFor ss (tables ++ t ∷ []) (joined last run)) (sym (paired-append small_three old.threes (three ∷ []) old.three_words (word ∷ []) even'))
-              (part_more WordsFor (paired small_three old.threes old.three_words) (record { small = small_three three; word = word }) tables t last run is_run.low whole meets (first ∙ sym (length-paired small_three old.threes old.three_words even')) added.one was words),
+          subst (λ ss. IsPart WordsFor ss (tables ++ t ∷ []) (joined last run)) (sym (paired-append worded_three old.threes (three ∷ []) old.three_words (word ∷ []) even'))
+              (part_more WordsFor (paired worded_three old.threes old.three_words) (worded_three three word) tables t last run is_run.low whole meets (first ∙ sym (length-paired worded_three old.threes old.three_words even')) added.one was words),
         )
     kind_more Fours (four, few, small, folded, first, is) part =
         subst (λ (p : Parts). IsPart StandsFor (map small_four p.fours) (tables ++ t ∷ []) (joined last run)) (sym is)
@@ -201,13 +202,13 @@ module _ (quick : Quick) (old new : Parts) (even : length old.two_words ≡ leng
           kind = kind_more last.kind (subst IsAdded' (sym kind) added.kind) is_run.kind;
         }
 
-  none_more : (twos : List Two) (ws : List ℕ) (threes : List Three) (us : List ℕ) (fours : List Four) → lists_of twos ws threes us fours ≡ lists_of (twos ++ []) (ws ++ []) (threes ++ []) (us ++ []) (fours ++ [])
+  none_more : (twos : List Two) (ws : List Nine) (threes : List Three) (us : List ℕ) (fours : List Four) → lists_of twos ws threes us fours ≡ lists_of (twos ++ []) (ws ++ []) (threes ++ []) (us ++ []) (fours ++ [])
   none_more twos ws threes us fours = rw (append-nil twos, append-nil ws, append-nil threes, append-nil us, append-nil fours) refl
 
   grown : (kind : Kind) → IsAdded' kind → Grows old new
-  grown Twos (two, word, few, small, folded, worded, first, is) = record {
+  grown Twos (two, word, nine, few, small, folded, worded, values, first, is) = record {
     twos = two ∷ [];
-    two_words = word ∷ [];
+    nines = nine ∷ [];
     threes = [];
     three_words = [];
     fours = [];
@@ -215,36 +216,36 @@ module _ (quick : Quick) (old new : Parts) (even : length old.two_words ≡ leng
   }
   grown Threes (three, word, few, small, folded, worded, first, is) = record {
     twos = [];
-    two_words = [];
+    nines = [];
     threes = three ∷ [];
     three_words = word ∷ [];
     fours = [];
-    is = is ∙ (let a = append-nil old.twos in let b = append-nil old.two_words in let c = append-nil old.fours in rw (a, b, c) refl);
+    is = is ∙ (let a = append-nil old.twos in let b = append-nil old.nines in let c = append-nil old.fours in rw (a, b, c) refl);
   }
   grown Fours (four, few, small, folded, first, is) = record {
     twos = [];
-    two_words = [];
+    nines = [];
     threes = [];
     three_words = [];
     fours = four ∷ [];
-    is = is ∙ (let a = append-nil old.twos in let b = append-nil old.two_words in let c = append-nil old.threes in let d = append-nil old.three_words in rw (a, b, c, d) refl);
+    is = is ∙ (let a = append-nil old.twos in let b = append-nil old.nines in let c = append-nil old.threes in let d = append-nil old.three_words in rw (a, b, c, d) refl);
   }
-  grown Others (first, is) = record { twos = []; two_words = []; threes = []; three_words = []; fours = []; is = is ∙ none_more old.twos old.two_words old.threes old.three_words old.fours }
+  grown Others (first, is) = record { twos = []; nines = []; threes = []; three_words = []; fours = []; is = is ∙ none_more old.twos old.nines old.threes old.three_words old.fours }
 
   grows : Grows old new
   grows = grown run.kind added.kind
 
-  evens : (kind : Kind) → IsAdded' kind → (length new.two_words ≡ length new.twos) × (length new.three_words ≡ length new.threes)
-  evens Twos (two, word, few, small, folded, worded, first, is) =
-      subst (λ (p : Parts). (length p.two_words ≡ length p.twos) × (length p.three_words ≡ length p.threes)) (sym is)
-      (let a = length-append old.twos (two ∷ []) in let b = length-append old.two_words (word ∷ []) in (omega arith, even'))
+  evens : (kind : Kind) → IsAdded' kind → (length new.nines ≡ length new.twos) × (length new.three_words ≡ length new.threes)
+  evens Twos (two, word, nine, few, small, folded, worded, values, first, is) =
+      subst (λ (p : Parts). (length p.nines ≡ length p.twos) × (length p.three_words ≡ length p.threes)) (sym is)
+      (let a = length-append old.twos (two ∷ []) in let b = length-append old.nines (nine ∷ []) in (omega arith, even'))
   evens Threes (three, word, few, small, folded, worded, first, is) =
-      subst (λ (p : Parts). (length p.two_words ≡ length p.twos) × (length p.three_words ≡ length p.threes)) (sym is)
+      subst (λ (p : Parts). (length p.nines ≡ length p.twos) × (length p.three_words ≡ length p.threes)) (sym is)
       (let a = length-append old.threes (three ∷ []) in let b = length-append old.three_words (word ∷ []) in (even, omega arith))
   evens Fours (four, few, small, folded, first, is) =
-      subst (λ (p : Parts). (length p.two_words ≡ length p.twos) × (length p.three_words ≡ length p.threes)) (sym is) (even, even')
+      subst (λ (p : Parts). (length p.nines ≡ length p.twos) × (length p.three_words ≡ length p.threes)) (sym is) (even, even')
   evens Others (first, is) =
-      subst (λ (p : Parts). (length p.two_words ≡ length p.twos) × (length p.three_words ≡ length p.threes)) (sym is) (even, even')
+      subst (λ (p : Parts). (length p.nines ≡ length p.twos) × (length p.three_words ≡ length p.threes)) (sym is) (even, even')
 
   runs_alone : (at : ℕ) (runs : List Run) → AreRuns old tables at runs → AreRuns new (tables ++ t ∷ []) at (runs ++ run ∷ [])
   runs_alone at [] are =

@@ -179,38 +179,38 @@ worded_after (s ∷ items) (t ∷ tables) nets (stands, rest) =
     ap (λ n. set nets n (worded_value s nets)) stands.drives ∙ ap (set nets t.output) (stands.value nets) in
     ap (after_worded items) same ∙ worded_after items tables (set nets t.output (packed_value t.cover nets)) rest
 
-module _ {A : Type 0} (f : A → Small) where
+module _ {A W : Type 0} (f : A → W → Worded) where
   paired-none : (xs : List A) → paired f xs [] ≡ []
   paired-none [] = refl
   paired-none (x ∷ xs) = refl
 
-  paired-take : (n : ℕ) (xs : List A) (ws : List ℕ) → take n (paired f xs ws) ≡ paired f (take n xs) (take n ws)
+  paired-take : (n : ℕ) (xs : List A) (ws : List W) → take n (paired f xs ws) ≡ paired f (take n xs) (take n ws)
   paired-take zero xs ws = refl
   paired-take (suc n) [] ws = refl
   paired-take (suc n) (x ∷ xs) [] = refl
-  paired-take (suc n) (x ∷ xs) (w ∷ ws) = ap (λ (r : List Worded). record { small = f x; word = w } ∷ r) (paired-take n xs ws)
+  paired-take (suc n) (x ∷ xs) (w ∷ ws) = ap (λ (r : List Worded). f x w ∷ r) (paired-take n xs ws)
 
-  paired-drop : (n : ℕ) (xs : List A) (ws : List ℕ) → drop n (paired f xs ws) ≡ paired f (drop n xs) (drop n ws)
+  paired-drop : (n : ℕ) (xs : List A) (ws : List W) → drop n (paired f xs ws) ≡ paired f (drop n xs) (drop n ws)
   paired-drop zero xs ws = refl
   paired-drop (suc n) [] ws = refl
   paired-drop (suc n) (x ∷ xs) [] = sym (paired-none (drop n xs))
   paired-drop (suc n) (x ∷ xs) (w ∷ ws) = paired-drop n xs ws
 
-  pub paired-part : (first end : ℕ) (xs : List A) (ws : List ℕ) → part_of first end (paired f xs ws) ≡ paired f (part_of first end xs) (part_of first end ws)
+  pub paired-part : (first end : ℕ) (xs : List A) (ws : List W) → part_of first end (paired f xs ws) ≡ paired f (part_of first end xs) (part_of first end ws)
   paired-part first end xs ws = ap (take (end - first)) (paired-drop first xs ws) ∙ paired-take (end - first) (drop first xs) (drop first ws)
 
-  pub paired-append : (xs ys : List A) (ws us : List ℕ) → length ws ≡ length xs → paired f (xs ++ ys) (ws ++ us) ≡ paired f xs ws ++ paired f ys us
+  pub paired-append : (xs ys : List A) (ws us : List W) → length ws ≡ length xs → paired f (xs ++ ys) (ws ++ us) ≡ paired f xs ws ++ paired f ys us
   paired-append [] ys [] us same = refl
   paired-append [] ys (w ∷ ws) us same = absurd (omega arith)
   paired-append (x ∷ xs) ys [] us same = absurd (omega arith)
-  paired-append (x ∷ xs) ys (w ∷ ws) us same = ap (λ (r : List Worded). record { small = f x; word = w } ∷ r) (paired-append xs ys ws us (omega arith))
+  paired-append (x ∷ xs) ys (w ∷ ws) us same = ap (λ (r : List Worded). f x w ∷ r) (paired-append xs ys ws us (omega arith))
 
-  pub length-paired : (xs : List A) (ws : List ℕ) → length ws ≡ length xs → length (paired f xs ws) ≡ length xs
+  pub length-paired : (xs : List A) (ws : List W) → length ws ≡ length xs → length (paired f xs ws) ≡ length xs
   length-paired [] ws same = refl
   length-paired (x ∷ xs) [] same = absurd (omega arith)
   length-paired (x ∷ xs) (w ∷ ws) same = ap suc (length-paired xs ws (omega arith))
 
-  pub words_after : (xs : List A) (ws : List ℕ) (tables : List Driven) (run : Run) (nets : Row) → IsPart WordsFor (paired f xs ws) tables run
+  pub words_after : (xs : List A) (ws : List W) (tables : List Driven) (run : Run) (nets : Row) → IsPart WordsFor (paired f xs ws) tables run
       → after_worded (paired f (part_of run.first run.end xs) (part_of run.first run.end ws)) nets ≡ after_each (own_tables tables run) nets
   words_after xs ws tables run nets part =
       ap (λ ss. after_worded ss nets) (sym (paired-part run.first run.end xs ws)) ∙ worded_after (part_of run.first run.end (paired f xs ws)) (own_tables tables run) nets part.stands
@@ -250,7 +250,7 @@ far_whole parts tables initial nets now =
     let none : drop now.at tables ≡ [] = ap (λ n. drop n tables) now.left ∙ drop-all tables in
     sym (now.rest ∙ ap (λ ts. after_each ts nets) none)
 
-pub paired-short : {A : Type 0} (f : A → Small) (xs : List A) (ws : List ℕ) → length (paired f xs ws) ≤ length ws
+pub paired-short : {A W : Type 0} (f : A → W → Worded) (xs : List A) (ws : List W) → length (paired f xs ws) ≤ length ws
 paired-short f [] ws = omega arith
 paired-short f (x ∷ xs) [] = omega arith
 paired-short f (x ∷ xs) (w ∷ ws) = (let s = paired-short f xs ws in omega arith)

@@ -11,21 +11,10 @@ use Rattle.ds_cover.specs.Bank.{Driven}
 use Rattle.ds_cover.specs.Packed.{masks_value, packed_value, words_of}
 use Rattle.ds_cover.specs.Kept.{IsSingle, singles_value}
 use Rattle.ds_cover.specs.Ternary.{IsWordOf, code_value, three_at}
-use Rattle.ds_series.specs.Small.{Small, after_worded, paired, place_of, worded_value}
+use Rattle.ds_series.specs.Small.{Worded, after_worded, nine_of, nine_value, paired, place_in_27, value_in_27, worded_value}
 use Rattle.ds_cover.proofs.Few.{singles_are}
 
-pub two_at : (u v : Value) → three_at (place_of (u ∷ v ∷ [])) ≡ u ∷ v ∷ v ∷ []
-two_at Zero Zero = refl
-two_at Zero One = refl
-two_at Zero Unknown = refl
-two_at One Zero = refl
-two_at One One = refl
-two_at One Unknown = refl
-two_at Unknown Zero = refl
-two_at Unknown One = refl
-two_at Unknown Unknown = refl
-
-pub three_is : (u v w : Value) → three_at (place_of (u ∷ v ∷ w ∷ [])) ≡ u ∷ v ∷ w ∷ []
+pub three_is : (u v w : Value) → three_at (place_in_27 u v w) ≡ u ∷ v ∷ w ∷ []
 three_is Zero Zero Zero = refl
 three_is Zero Zero One = refl
 three_is Zero Zero Unknown = refl
@@ -54,11 +43,20 @@ three_is Unknown Unknown Zero = refl
 three_is Unknown Unknown One = refl
 three_is Unknown Unknown Unknown = refl
 
-pub two_low : (u v : Value) → place_of (u ∷ v ∷ []) < 27
-two_low u v = (let a = code_of-few u in let b = code_of-few v in omega arith)
-
-pub three_low : (u v w : Value) → place_of (u ∷ v ∷ w ∷ []) < 27
+pub three_low : (u v w : Value) → place_in_27 u v w < 27
 three_low u v w = (let a = code_of-few u in let b = code_of-few v in let c = code_of-few w in omega arith)
+
+-- the values for two inputs are those for three, the last one repeated
+pub nine_is : (word : ℕ) (u v : Value) → nine_value (nine_of word) (u ∷ v ∷ []) ≡ value_in_27 word (place_in_27 u v v)
+nine_is word Zero Zero = refl
+nine_is word Zero One = refl
+nine_is word Zero Unknown = refl
+nine_is word One Zero = refl
+nine_is word One One = refl
+nine_is word One Unknown = refl
+nine_is word Unknown Zero = refl
+nine_is word Unknown One = refl
+nine_is word Unknown Unknown = refl
 
 -- the word of a table, where the values of its nets stand at a place, and begin with those of its inputs
 pub word_for : (t : Driven) (word : ℕ) (nets : Row) (place : ℕ) (values : Row) → IsWordOf t.cover.masks t.cover.on word → All IsSingle t.cover.masks
@@ -71,14 +69,14 @@ word_for t word nets place values is single reads low at short own =
     ∙ ap (signed t.cover.on) (sym (singles_are t.cover.masks values single short) ∙ (reads values ∙ ap (λ vs. masks_value vs One t.cover.masks) own)))
 
 -- one table of a list with words
-pub paired-step : {A : Type 0} (f : A → Small) (tables : List A) (words : List ℕ) (i : ℕ) (t : A) (w : ℕ) (nets : Row) → i < length tables → length words ≡ length tables
-    → t ≡ get_or tables i t → w ≡ get_or words i 0
+pub paired-step : {A W : Type 0} (f : A → W → Worded) (tables : List A) (words : List W) (i : ℕ) (t : A) (w : W) (nets : Row) → i < length tables → length words ≡ length tables
+    → t ≡ get_or tables i t → w ≡ get_or words i w
     → after_worded (paired f (drop i tables) (drop i words)) nets
-    ≡ after_worded (paired f (drop (i + 1) tables) (drop (i + 1) words)) (set nets (f t).output (worded_value (record { small = f t; word = w }) nets))
+    ≡ after_worded (paired f (drop (i + 1) tables) (drop (i + 1) words)) (set nets (f t w).small.output (worded_value (f t w) nets))
 paired-step f tables words i t w nets inside same at at' =
     let here : drop i tables ≡ t ∷ drop (suc i) tables = drop-cons tables i t inside ∙ ap (λ x. x ∷ drop (suc i) tables) (sym at) in
-    let there : drop i words ≡ w ∷ drop (suc i) words = drop-cons words i 0 (omega arith) ∙ ap (λ x. x ∷ drop (suc i) words) (sym at') in
+    let there : drop i words ≡ w ∷ drop (suc i) words = drop-cons words i w (omega arith) ∙ ap (λ x. x ∷ drop (suc i) words) (sym at') in
     let m : suc i ≡ i + 1 = omega arith in
     ap (λ ts. after_worded (paired f ts (drop i words)) nets) here
     ∙ (ap (λ ws. after_worded (paired f (t ∷ drop (suc i) tables) ws) nets) there
-    ∙ ap (λ n. after_worded (paired f (drop n tables) (drop n words)) (set nets (f t).output (worded_value (record { small = f t; word = w }) nets))) m)
+    ∙ ap (λ n. after_worded (paired f (drop n tables) (drop n words)) (set nets (f t w).small.output (worded_value (f t w) nets))) m)

@@ -6,14 +6,15 @@ use Rattle.ds_cover.specs.Cover.{values_at}
 use Rattle.ds_cover.specs.Packed.{packed_value}
 use Rattle.ds_cover.specs.Bank.{Driven, driven_at}
 use Rattle.ds_cover.specs.Ternary.{IsWordOf}
-use Rattle.ds_series.specs.Small.{IsFolded, StandsFor, WordsFor, paired, small_four, small_three}
-use Rattle.ds_series.specs.Small.{small_two}
+use Rattle.ds_series.specs.Small.{IsFolded, StandsFor, WordsFor, nine_of, paired, small_four}
+use Rattle.ds_series.specs.Small.{small_three, small_two, worded_three, worded_two}
 use Rattle.ds_cover.specs.declared.entry.Quick.{Quick}
 use Rattle.ds_series.specs.declared.lists.Lists.{Lists}
 use Rattle.ds_cover.specs.declared.mask.Mask.{Mask}
 use Rattle.ds_series.specs.declared.run.Kind.{Kind}
 use Rattle.ds_series.specs.declared.run.Kind.TheVariants.{Twos, Threes, Fours, Others}
 use Rattle.ds_series.specs.declared.run.Run.{Run}
+use Rattle.ds_series.specs.declared.nine.Nine.{Nine}
 use Rattle.ds_series.specs.declared.small.Two.{Two}
 use Rattle.ds_series.specs.declared.small.Three.{Three}
 use Rattle.ds_series.specs.declared.small.Four.{Four}
@@ -44,10 +45,10 @@ FindsKnown (table ∷ tables) nets =
 abbrev pub part_of : {A : Type 0} → ℕ → ℕ → List A → List A
 part_of first end items = take (end - first) (drop first items)
 
--- the lists by kind, and the words of those of up to three inputs
+-- the lists by kind, and what those of up to three inputs are for all values
 pub record Parts : Type 0 where
   pub twos : List Two
-  pub two_words : List ℕ
+  pub nines : List Nine
   pub threes : List Three
   pub three_words : List ℕ
   pub fours : List Four
@@ -56,7 +57,7 @@ pub record Parts : Type 0 where
 abbrev pub parts_of : Lists → Parts
 parts_of lists = record {
   twos = lists.twos.items;
-  two_words = lists.two_words.items;
+  nines = lists.nines.items;
   threes = lists.threes.items;
   three_words = lists.three_words.items;
   fours = lists.fours.items;
@@ -82,9 +83,9 @@ pub record IsPart {S : Type 0} (IsFor : S → Driven → Type 0) (items : List S
 -- others stand where their numbers say
 abbrev pub IsOfKind : Parts → List Driven → Run → Kind → Type 0
 IsOfKind parts tables run Twos = IsPart StandsFor (map small_two parts.twos) tables run
-    × IsPart WordsFor (paired small_two parts.twos parts.two_words) tables run
+    × IsPart WordsFor (paired worded_two parts.twos parts.nines) tables run
 IsOfKind parts tables run Threes = IsPart StandsFor (map small_three parts.threes) tables run
-    × IsPart WordsFor (paired small_three parts.threes parts.three_words) tables run
+    × IsPart WordsFor (paired worded_three parts.threes parts.three_words) tables run
 IsOfKind parts tables run Fours = IsPart StandsFor (map small_four parts.fours) tables run
 IsOfKind parts tables run Others = run.first ≡ run.at
 
@@ -111,20 +112,21 @@ pub data IsRunAdded (before : List Run) (run : Run) (after : List Run) : Type 0 
       → last.end ≡ run.first
       → after ≡ front ++ joined last run ∷ [] → IsRunAdded before run after
 
--- all tables, with a word for each of up to three inputs
+-- all tables, with nine values for each of two inputs, and a word for each of three
 pub record IsSeries (parts : Parts) (tables : List Driven) (all : List Run) : Type 0 where
-  pub twos : length parts.two_words ≡ length parts.twos
+  pub twos : length parts.nines ≡ length parts.twos
   pub threes : length parts.three_words ≡ length parts.threes
   pub runs : AreRuns parts tables 0 all
 
 -- a table is added to the list of its kind
 abbrev pub IsAddedTo : Quick → List Mask → Bool → ℕ → ℕ → Parts → Parts → ℕ → Kind → Type 0
 IsAddedTo quick masks on inputs at before after first Twos =
-    (two : Two) × (word : ℕ) × (quick.few ≡ true) × (inputs ≤ 2) × IsFolded 2 quick (small_two two)
-    × IsWordOf masks on word × (first ≡ length before.twos)
+    (two : Two) × (word : ℕ) × (nine : Nine) × (quick.few ≡ true) × (inputs ≤ 2)
+    × IsFolded 2 quick (small_two two) × IsWordOf masks on word × (nine.values ≡ nine_of word)
+    × (first ≡ length before.twos)
     × (after ≡ record {
       twos = before.twos ++ two ∷ [];
-      two_words = before.two_words ++ word ∷ [];
+      nines = before.nines ++ nine ∷ [];
       threes = before.threes;
       three_words = before.three_words;
       fours = before.fours;
@@ -135,7 +137,7 @@ IsAddedTo quick masks on inputs at before after first Threes =
     × (first ≡ length before.threes)
     × (after ≡ record {
       twos = before.twos;
-      two_words = before.two_words;
+      nines = before.nines;
       threes = before.threes ++ three ∷ [];
       three_words = before.three_words ++ word ∷ [];
       fours = before.fours;
@@ -145,7 +147,7 @@ IsAddedTo quick masks on inputs at before after first Fours =
     × (first ≡ length before.fours)
     × (after ≡ record {
       twos = before.twos;
-      two_words = before.two_words;
+      nines = before.nines;
       threes = before.threes;
       three_words = before.three_words;
       fours = before.fours ++ four ∷ [];

@@ -1,16 +1,18 @@
 -- Tables of up to four inputs by one word, and nets after some of them are set.
 use Rattle.std.specs.Prelude.{◌≡◌, ℕ, ◌+◌, ◌*◌, ◌-◌, ◌<◌, ◌/◌, ◌%◌, ◌^◌, List, [], ◌∷◌, All, length}
-use Rattle.std.specs.Prelude.{take, slice_set}
+use Rattle.std.specs.Prelude.{map, take, slice_index_or, slice_set}
 use Rattle.std.specs.Int.{bit_at}
 use Rattle.ds_base.specs.Values.{AreKnown, Row}
 use Rattle.ds_base.specs.Word.{code_of}
 use Rattle.ds_base.specs.declared.value.Value.{Value}
+use Rattle.ds_base.specs.declared.value.Value.TheVariants.{Zero}
 use Rattle.ds_cover.specs.Cover.{values_at}
 use Rattle.ds_cover.specs.Packed.{bits_by, packed_value}
 use Rattle.ds_cover.specs.Bank.{Driven}
 use Rattle.ds_cover.specs.Kept.{bit_value}
 use Rattle.ds_cover.specs.Ternary.{code_value}
 use Rattle.ds_cover.specs.declared.entry.Quick.{Quick}
+use Rattle.ds_series.specs.declared.nine.Nine.{Nine}
 use Rattle.ds_series.specs.declared.small.Two.{Two}
 use Rattle.ds_series.specs.declared.small.Three.{Three}
 use Rattle.ds_series.specs.declared.small.Four.{Four}
@@ -65,29 +67,53 @@ pub record StandsFor (small : Small) (driven : Driven) : Type 0 where
       → small_value small nets ≡ packed_value driven.cover nets
   pub drives : small.output ≡ driven.output
 
--- a table by the word of its values for 27 rows of values, two bits each
+-- the place of three values in a word of 27: `Three::worded`
+abbrev pub place_in_27 : Value → Value → Value → ℕ
+place_in_27 u v w = code_of u + 3 * code_of v + 9 * code_of w
+
+-- the value that a word of 27 has there, in two bits
+abbrev pub value_in_27 : ℕ → ℕ → Value
+value_in_27 word place = code_value (word / 2 ^ (2 * place) % 4)
+
+-- the values of a word of 27 for all rows of two values, the last one repeated
+abbrev pub nine_of : ℕ → Row
+nine_of word = map (value_in_27 word) (0 ∷ 1 ∷ 2 ∷ 12 ∷ 13 ∷ 14 ∷ 24 ∷ 25 ∷ 26 ∷ [])
+
+-- a table by what it is for the values of its inputs
 pub record Worded : Type 0 where
   pub small : Small
-  pub word : ℕ
+  pub value : Row → Value
 
--- the place of up to three values, the last one repeated: `Two::worded`, `Three::worded`
-abbrev pub place_of : Row → ℕ
-place_of [] = 0
-place_of (u ∷ []) = 13 * code_of u
-place_of (u ∷ v ∷ []) = code_of u + 12 * code_of v
-place_of (u ∷ v ∷ w ∷ values) = code_of u + 3 * code_of v + 9 * code_of w
+-- by nine values, of two inputs: `Two::worded`
+abbrev pub nine_value : Row → Row → Value
+nine_value nine [] = Zero
+nine_value nine (u ∷ []) = Zero
+nine_value nine (u ∷ v ∷ values) = slice_index_or nine (code_of u + 3 * code_of v) Zero
 
--- the two bits of the word that the values of the inputs number
+-- by a word of 27, of three
+abbrev pub word_value : ℕ → Row → Value
+word_value word [] = Zero
+word_value word (u ∷ []) = Zero
+word_value word (u ∷ v ∷ []) = Zero
+word_value word (u ∷ v ∷ w ∷ values) = value_in_27 word (place_in_27 u v w)
+
+-- of one or two inputs
+abbrev pub worded_two : Two → Nine → Worded
+worded_two two nine = record { small = small_two two; value = nine_value nine.values }
+
+-- of three
+abbrev pub worded_three : Three → ℕ → Worded
+worded_three three word = record { small = small_three three; value = word_value word }
+
+-- its value
 abbrev pub worded_value : Worded → Row → Value
-worded_value worded nets =
-    code_value (worded.word / 2 ^ (2 * place_of (values_at nets worded.small.nets)) % 4)
+worded_value worded nets = worded.value (values_at nets worded.small.nets)
 
--- tables with their words
-abbrev pub paired : {A : Type 0} → (A → Small) → List A → List ℕ → List Worded
-paired small [] words = []
-paired small (table ∷ tables) [] = []
-paired small (table ∷ tables) (word ∷ words) =
-    record { small = small table; word = word } ∷ paired small tables words
+-- tables with what they are for all values
+abbrev pub paired : {A W : Type 0} → (A → W → Worded) → List A → List W → List Worded
+paired worded [] words = []
+paired worded (table ∷ tables) [] = []
+paired worded (table ∷ tables) (word ∷ words) = worded table word ∷ paired worded tables words
 
 -- the nets after such tables are set one after another
 abbrev pub after_worded : List Worded → Row → Row

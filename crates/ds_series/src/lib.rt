@@ -8,6 +8,7 @@
 #![tactic(auto)]
 
 mod lists;
+mod nine;
 mod run;
 mod series;
 mod small;

@@ -3,18 +3,19 @@ ghost use Rattle.std.specs.Prelude.{◌≡◌, ◌<◌, ◌-◌, ◌^◌, [], le
 ghost use Rattle.ds_cover.specs.Bank.{driven_at};
 ghost use Rattle.ds_series.specs.Series.{IsSmallAdded, parts_of};
 
+use crate::nine::Nine;
 use crate::run::{Kind, Run};
 use crate::small::{Four, Three, Two};
 use ds_cover::{Bank, Quick};
 use std::alloc::{AllocError, Global};
 
-/// Tables of up to four inputs, in lists by kind, and beside those of up to three a word of all
-/// their values.
+/// Tables of up to four inputs, in lists by kind, and beside those of up to three what they are for
+/// all values, also unknown ones.
 pub struct Lists {
     /// Of one or two inputs.
     pub twos: Vec<Two>,
-    /// The words of these.
-    pub two_words: Vec<u64>,
+    /// The values of these.
+    pub nines: Vec<Nine>,
     /// Of three.
     pub threes: Vec<Three>,
     /// The words of these.
@@ -27,7 +28,7 @@ impl Drop for Lists {
     fn drop(self) {
         let Lists {
             twos: _,
-            two_words: _,
+            nines: _,
             threes: _,
             three_words: _,
             fours: _,
@@ -40,7 +41,7 @@ impl Lists {
     pub(crate) fn new(alloc: Global) -> Self
         ensures { parts_of result ≡ record {
           twos = [];
-          two_words = [];
+          nines = [];
           threes = [];
           three_words = [];
           fours = [];
@@ -48,7 +49,7 @@ impl Lists {
     {
         Lists {
             twos: Vec::new(alloc),
-            two_words: Vec::new(alloc),
+            nines: Vec::new(alloc),
             threes: Vec::new(alloc),
             three_words: Vec::new(alloc),
             fours: Vec::new(alloc),
@@ -78,7 +79,7 @@ impl Lists {
                 kind = Kind::Twos;
                 first = self.twos.len();
                 self.twos.push(Two::of(quick))?;
-                self.two_words.push(bank.word(table))?;
+                self.nines.push(Nine::of(bank.word(table)))?;
             } else if inputs == 3 {
                 kind = Kind::Threes;
                 first = self.threes.len();

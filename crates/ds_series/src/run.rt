@@ -97,12 +97,12 @@ pub(crate) fn set_run(run: &Run, lists: &Lists, bank: &Bank, order: &[u32], nets
     ensures { nets.new ≡ after_each (own_tables (in_order bank.now order.now) run.now) nets.old }
 {
     let twos = lists.twos.as_slice();
-    let two_words = lists.two_words.as_slice();
+    let nines = lists.nines.as_slice();
     let threes = lists.threes.as_slice();
     let three_words = lists.three_words.as_slice();
     let (first, end) = (run.first, run.end);
     match run.kind {
-        Kind::Twos => set_worded_twos(&twos[first..end], &two_words[first..end], nets),
+        Kind::Twos => set_worded_twos(&twos[first..end], &nines[first..end], nets),
         Kind::Threes => set_worded_threes(&threes[first..end], &three_words[first..end], nets),
         Kind::Fours | Kind::Others => bank.set_all(own_order(run, order), nets),
     }

@@ -1,5 +1,5 @@
-//! Tables of up to four inputs by one word of known values, and of up to three by a word of 27
-//! values, two bits each, which is exact for unknown values too.
+//! Tables of up to four inputs by one word of known values; of up to two by a list of nine values
+//! too, and of three by a word of 27, two bits each, which are exact for unknown values.
 ghost use Rattle.std.specs.Prelude.{◌≡◌, ◌<◌, ◌≤◌, All, length, map};
 ghost use Rattle.ds_series.specs.Small.{
   IsFolded,
@@ -11,10 +11,12 @@ ghost use Rattle.ds_series.specs.Small.{
   small_value,
   after_worded,
   paired,
+  worded_three,
+  worded_two,
   worded_value,
 };
-ghost use Rattle.ds_cover.specs.Ternary.{code_value};
 
+use crate::nine::{Nine, value_in};
 use ds_base::{NetId, Row3, Value};
 use ds_cover::{Quick, code, value_of_bit};
 
@@ -74,16 +76,15 @@ impl Two {
         value_of_bit((u64::from(self.truth) >> place) & 1)
     }
 
-    // The value by the word of all rows of values.
-    fn worded(&self, word: u64, nets: &[Value]) -> Value
+    // The value out of those for all rows of two values.
+    fn worded(&self, nine: &Nine, nets: &[Value]) -> Value
         requires { All (λ net. net < length nets.now) self.now.nets }
-        ensures { result ≡ worded_value
-            (record { small = small_two self.now; word = word }) nets.now }
+        ensures { result ≡ worded_value (worded_two self.now nine.now) nets.now }
     {
         let a = code(nets[self.nets[0].index()]);
         let b = code(nets[self.nets[1].index()]);
-        let place = a + 12 * b;
-        value_of_code((word >> (2 * place)) % 4)
+        let place = a + 3 * b;
+        nine.values[place as usize]
     }
 }
 
@@ -114,14 +115,13 @@ impl Three {
     // The value by the word of all rows of values.
     fn worded(&self, word: u64, nets: &[Value]) -> Value
         requires { All (λ net. net < length nets.now) self.now.nets }
-        ensures { result ≡ worded_value
-            (record { small = small_three self.now; word = word }) nets.now }
+        ensures { result ≡ worded_value (worded_three self.now word) nets.now }
     {
         let a = code(nets[self.nets[0].index()]);
         let b = code(nets[self.nets[1].index()]);
         let c = code(nets[self.nets[2].index()]);
         let place = a + 3 * b + 9 * c;
-        value_of_code((word >> (2 * place)) % 4)
+        value_in(word, place)
     }
 }
 
@@ -175,20 +175,20 @@ pub(crate) fn set_fours(tables: &[Four], nets: &mut Row3)
     put_fours(tables, nets.values_mut());
 }
 
-// Sets what these tables drive by their words, one after another.
-pub(crate) fn set_worded_twos(tables: &[Two], words: &[u64], nets: &mut Row3)
-    requires one_each { length words.now ≡ length tables.now }
+// Sets what these tables drive by their values for all rows, one after another.
+pub(crate) fn set_worded_twos(tables: &[Two], nines: &[Nine], nets: &mut Row3)
+    requires one_each { length nines.now ≡ length tables.now }
     requires within { All (λ t. IsSmallWithin (small_two t) nets.old) tables.now }
-    ensures { nets.new ≡ after_worded (paired small_two tables.now words.now) nets.old }
+    ensures { nets.new ≡ after_worded (paired worded_two tables.now nines.now) nets.old }
 {
-    put_worded_twos(tables, words, nets.values_mut());
+    put_worded_twos(tables, nines, nets.values_mut());
 }
 
-// The same of three inputs.
+// The same of three inputs, by their words.
 pub(crate) fn set_worded_threes(tables: &[Three], words: &[u64], nets: &mut Row3)
     requires one_each { length words.now ≡ length tables.now }
     requires within { All (λ t. IsSmallWithin (small_three t) nets.old) tables.now }
-    ensures { nets.new ≡ after_worded (paired small_three tables.now words.now) nets.old }
+    ensures { nets.new ≡ after_worded (paired worded_three tables.now words.now) nets.old }
 {
     put_worded_threes(tables, words, nets.values_mut());
 }
@@ -226,39 +226,26 @@ fn put_fours(tables: &[Four], nets: &mut [Value])
     }
 }
 
-// By their words.
-fn put_worded_twos(tables: &[Two], words: &[u64], nets: &mut [Value])
-    requires one_each { length words.now ≡ length tables.now }
+// By their values for all rows.
+fn put_worded_twos(tables: &[Two], nines: &[Nine], nets: &mut [Value])
+    requires one_each { length nines.now ≡ length tables.now }
     requires within { All (λ t. IsSmallWithin (small_two t) nets.old) tables.now }
-    ensures { nets.new ≡ after_worded (paired small_two tables.now words.now) nets.old }
+    ensures { nets.new ≡ after_worded (paired worded_two tables.now nines.now) nets.old }
 {
     for i in 0..tables.len() {
-        let value = tables[i].worded(words[i], nets);
+        let value = tables[i].worded(&nines[i], nets);
         nets[tables[i].output.index()] = value;
     }
 }
 
-// The same of three inputs.
+// By their words.
 fn put_worded_threes(tables: &[Three], words: &[u64], nets: &mut [Value])
     requires one_each { length words.now ≡ length tables.now }
     requires within { All (λ t. IsSmallWithin (small_three t) nets.old) tables.now }
-    ensures { nets.new ≡ after_worded (paired small_three tables.now words.now) nets.old }
+    ensures { nets.new ≡ after_worded (paired worded_three tables.now words.now) nets.old }
 {
     for i in 0..tables.len() {
         let value = tables[i].worded(words[i], nets);
         nets[tables[i].output.index()] = value;
-    }
-}
-
-// The value of a code.
-fn value_of_code(code: u64) -> Value
-    ensures { result ≡ code_value code }
-{
-    if code == 0 {
-        Value::Zero
-    } else if code == 1 {
-        Value::One
-    } else {
-        Value::Unknown
     }
 }

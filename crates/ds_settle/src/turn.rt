@@ -56,8 +56,16 @@ fn clear(nets: &mut Row3)
     ensures same { length nets.new ≡ length nets.old }
     ensures zero { (net : ℕ) → value_at nets.new net ≡ Zero }
 {
+    clear_values(nets.values_mut());
+}
+
+// The same on the values that a row lends, which no store moves.
+fn clear_values(nets: &mut [Value])
+    ensures same { length nets.new ≡ length nets.old }
+    ensures zero { (net : ℕ) → value_at nets.new net ≡ Zero }
+{
     for net in 0..nets.len() {
-        nets.set(net, Value::Zero);
+        nets[net] = Value::Zero;
     }
 }
 

@@ -1,12 +1,12 @@
 use Rattle.std.proofs.Common.{◌≡◌, ◌∙◌, ap, length}
-use Rattle.ds_series.specs.Small.{after_worded, paired, small_three}
+use Rattle.ds_series.specs.Small.{after_worded, paired, worded_three}
 use Rattle.ds_cover.proofs.Lent.{with-all}
 use Rattle.ds_series.proofs.Runs.{length-after_worded}
 use Rattle.ds_series.proofs.small.set_worded_threes.Goals as goal
 
 pub returns : goal.returns
 returns c =
-    let items = paired small_three c.args.tables.now c.args.words.now in
-    let is : c.put_worded_threes.new.nets ≡ after_worded (paired small_three c.args.tables.now c.args.words.now) c.args.nets.now =
+    let items = paired worded_three c.args.tables.now c.args.words.now in
+    let is : c.put_worded_threes.new.nets ≡ after_worded (paired worded_three c.args.tables.now c.args.words.now) c.args.nets.now =
     c.put_worded_threes.ensures ∙ ap (after_worded items) c.values_mut.ensures.value in
     with-all c.args.nets.now c.put_worded_threes.new.nets (ap length is ∙ length-after_worded items c.args.nets.now) ∙ is

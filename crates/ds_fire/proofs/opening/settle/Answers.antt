@@ -1,0 +1,75 @@
+use Rattle.std.proofs.Common.{◌<◌, ℕ, List, length, subst, sym, arith}
+use Rattle.std.specs.Prelude.{All}
+use Rattle.ds_base.specs.Values.{Row}
+use Rattle.ds_design.specs.Circuit.{Circuit}
+use Rattle.ds_latch.specs.Node.{nets_of, nodes, number_of}
+use Rattle.ds_latch.proofs.Counts.{number_below}
+use Rattle.ds_settle.specs.Cone.{AreInOrder, IsCone, IsPartSettled}
+use Rattle.ds_opening.proofs.Slaves.{cone_at}
+use Rattle.ds_fire.specs.Feeds.{IsHome, home_of}
+use Rattle.ds_fire.specs.Turn.{IsLoaded, IsThere}
+use Rattle.ds_fire.specs.declared.homes.Home.{Home}
+use Rattle.ds_fire.proofs.Fed.{source_homes}
+use Rattle.ds_fire.proofs.Opened.{home_there}
+use Rattle.ds_fire.proofs.Settles.{part_settles}
+use Rattle.ds_fire.proofs.opening.settle.Goals as goal
+
+pub index-cone-requires : goal.index-cone-requires
+index-cone-requires c =
+    let (m, at) = c.requires.node in
+    let low : number_of m < nodes c.args.latches.now = number_below c.args.latches.now m at.node in
+    omega (arith, low, at.is, c.requires.feeds.cones.one_each, c.args.feeds.now.cones.ok.0)
+
+pub load-requires-clause-homes : goal.load-requires-clause-homes
+load-requires-clause-homes c =
+    let (m, at) = c.requires.node in
+    let is_cone : IsCone c.args.latches.now.circuit (nets_of c.args.latches.now m) c.index-cone.result.now =
+    cone_at c.args.latches.now c.args.feeds.now.cones.items c.requires.feeds.cones c.args.opening.number c.index-cone.result.now c.index-cone.ensures m at in
+    subst (λ (xs : List ℕ). All (λ net. net < length c.as_slice.result.now) xs) (sym c.sources.ensures)
+    (subst (λ (hs : List Home). All (λ net. net < length hs) c.index-cone.result.now.sources) (sym c.as_slice.ensures.value)
+    (subst (λ (n : ℕ). All (λ net. net < n) c.index-cone.result.now.sources) (sym c.requires.feeds.homes.one_each) is_cone.sources_within))
+
+pub load-requires-clause-there : goal.load-requires-clause-there
+load-requires-clause-there c =
+    let (m, at) = c.requires.node in
+    let homes : List Home = c.args.feeds.now.homes.items in
+    let rows : List Row = c.args.rows.now in
+    let sources : List ℕ = c.index-cone.result.now.sources in
+    let is_cone : IsCone c.args.latches.now.circuit (nets_of c.args.latches.now m) c.index-cone.result.now =
+    cone_at c.args.latches.now c.args.feeds.now.cones.items c.requires.feeds.cones c.args.opening.number c.index-cone.result.now c.index-cone.ensures m at in
+    let housed : All (λ net. IsHome c.args.latches.now net (home_of c.args.feeds.now.homes.items net)) c.index-cone.result.now.sources =
+    source_homes c.args.latches.now c.requires.design.1 m at.node at.settling homes c.requires.feeds.homes c.index-cone.result.now is_cone in
+    subst (λ (xs : List ℕ). All (λ net. IsThere c.of-places.result c.args.rows.now (home_of c.as_slice.result.now net)) xs) (sym c.sources.ensures)
+    (subst (λ (hs : List Home). All (λ net. IsThere c.of-places.result c.args.rows.now (home_of hs net)) sources) (sym c.as_slice.ensures.value)
+    (λ k d inside. home_there c.args.latches.now rows c.requires.rows c.args.opening.opened c.of-places.result c.of-places.ensures _ _ (housed k d inside)))
+
+pub load-requires-clause-nets : goal.load-requires-clause-nets
+load-requires-clause-nets c =
+    let (m, at) = c.requires.node in
+    let is_cone : IsCone c.args.latches.now.circuit (nets_of c.args.latches.now m) c.index-cone.result.now =
+    cone_at c.args.latches.now c.args.feeds.now.cones.items c.requires.feeds.cones c.args.opening.number c.index-cone.result.now c.index-cone.ensures m at in
+    subst (λ (xs : List ℕ). All (λ net. net < length c.args.nets.now) xs) (sym c.sources.ensures)
+    (subst (λ (n : ℕ). All (λ net. net < n) c.index-cone.result.now.sources) (sym c.requires.nets) is_cone.sources_within)
+
+pub settle_part-requires-clause-cone : goal.settle_part-requires-clause-cone
+settle_part-requires-clause-cone c =
+    let (m, at) = c.requires.node in
+    let is_cone : IsCone c.args.latches.now.circuit (nets_of c.args.latches.now m) c.index-cone.result.now =
+    cone_at c.args.latches.now c.args.feeds.now.cones.items c.requires.feeds.cones c.args.opening.number c.index-cone.result.now c.index-cone.ensures m at in
+    subst (λ (circuit : Circuit). AreInOrder circuit c.index-cone.result.now.tables) (sym c.netlist.ensures.netlist) is_cone.order
+
+pub returns-clause-settled : goal.returns-clause-settled
+returns-clause-settled c m at =
+    let homes : List Home = c.args.feeds.now.homes.items in
+    let rows : List Row = c.args.rows.now in
+    let sources : List ℕ = c.index-cone.result.now.sources in
+    let is_cone : IsCone c.args.latches.now.circuit (nets_of c.args.latches.now m) c.index-cone.result.now =
+    cone_at c.args.latches.now c.args.feeds.now.cones.items c.requires.feeds.cones c.args.opening.number c.index-cone.result.now c.index-cone.ensures m at in
+    let housed : All (λ net. IsHome c.args.latches.now net (home_of c.args.feeds.now.homes.items net)) c.index-cone.result.now.sources =
+    source_homes c.args.latches.now c.requires.design.1 m at.node at.settling homes c.requires.feeds.homes c.index-cone.result.now is_cone in
+    let loaded : All (IsLoaded c.of-places.result c.args.rows.now c.args.feeds.now.homes.items c.load.new.nets) c.index-cone.result.now.sources =
+    subst (λ (hs : List Home). All (IsLoaded c.of-places.result c.args.rows.now hs c.load.new.nets) sources) c.as_slice.ensures.value
+    (subst (λ (xs : List ℕ). All (IsLoaded c.of-places.result c.args.rows.now c.as_slice.result.now c.load.new.nets) xs) c.sources.ensures c.load.ensures.loaded) in
+    let part : IsPartSettled c.args.latches.now.circuit c.index-cone.result.now c.load.new.nets c.settle_part.new.nets =
+    subst (λ (circuit : Circuit). IsPartSettled circuit c.index-cone.result.now c.load.new.nets c.settle_part.new.nets) c.netlist.ensures.netlist c.settle_part.ensures in
+    part_settles c.args.latches.now c.requires.design.1 c.requires.design.0 rows c.requires.rows c.args.opening.opened m c.index-cone.result.now is_cone homes housed c.of-places.result c.of-places.ensures c.load.new.nets c.settle_part.new.nets loaded part
