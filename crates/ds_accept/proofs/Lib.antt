@@ -3,6 +3,7 @@ pub mod Counted
 pub mod Placed
 pub mod Merged
 pub mod Moved
+pub mod ByRank
 pub mod Facts
 pub mod Refused
 pub mod Accepted

@@ -1,13 +1,13 @@
 -- Orders and arcs that are gone through side by side.
-use Rattle.std.proofs.Common.{◌≡◌, inl, inr, ℕ, ◌+◌, ◌<◌, ◌≤◌, List, length, get_or, sym, ◌∙◌, ap, subst, arith, AllPairs}
+use Rattle.std.proofs.Common.{◌≡◌, ◌⊎◌, inl, inr, ℕ, ◌+◌, ◌<◌, ◌≤◌, List, [], ◌∷◌, ◌++◌, length, get_or, sym, ◌∙◌, ap, subst, arith, All, AllPairs, Contains}
 use Rattle.std.specs.List.{AllWithin, HoldsAt}
 use Rattle.std.proofs.lemmas.Bool.{cases_eq, cases_lt}
 use Rattle.std.proofs.lemmas.List.{get_or_default}
-use Rattle.std.proofs.lemmas.List.Elements.{AllWithin-more}
+use Rattle.std.proofs.lemmas.List.Elements.{All-push, AllWithin-more, Contains-append_left, Contains-push}
+use Rattle.std.proofs.lemmas.List.Quantifiers.{all_pairs_push}
 use Rattle.ds_marked.specs.Graph.{StandsBefore}
 use Rattle.ds_marked.specs.declared.marked.Arc.{Arc}
-use Rattle.ds_accept.specs.Accept.{IsArcWithin}
-use Rattle.ds_accept.specs.Steps.{EndsBefore, IsFirstUngiven, IsGivenBy}
+use Rattle.ds_accept.specs.Steps.{AreLeft, EndsBefore, IsArcWithin, IsGivenBy}
 
 -- ends before the ends of an order stand before those of a later one
 ends_later : (a b c : Arc) → EndsBefore a b → StandsBefore b c → EndsBefore a c
@@ -43,36 +43,86 @@ module _ (orders arcs : List Arc) (orders_sorted : AllPairs StandsBefore orders)
         ])
   ]
 
+  -- where any arc gives the order, the one at the place does
+  pub given_here : (place : ℕ) (order : Arc) → AllWithin (λ arc. EndsBefore arc order) arcs 0 place → place < length arcs
+      → HoldsAt (λ arc. ¬ EndsBefore arc order) arcs place → IsGivenBy arcs order
+      → IsArcWithin order.source order.target order.tokens (get_or arcs place order)
+  given_here place order before inside behind (j, arc, below, is, (source, target, tokens)) = elim (cases_lt j place) [
+    | inl low ↦ (
+        let ends : EndsBefore arc order = subst (λ (x : Arc). EndsBefore x order) is (before j arc (omega arith) low) in
+        elim ends [ inl s ↦ absurd (omega arith) | inr (s, t) ↦ absurd (omega arith) ])
+    | inr high ↦ past place order arc (get_or arcs place order) j (sym (get_or_default arcs place (get_or arcs place order) order inside))
+        inside (sym is) below (omega arith) (behind order) (source, target, tokens)
+  ]
+
   -- where the arc at the place does not give the order, none does
   pub none_gives : (place : ℕ) (order : Arc) → AllWithin (λ arc. EndsBefore arc order) arcs 0 place
       → (place < length arcs → HoldsAt (λ arc. ¬ EndsBefore arc order) arcs place)
       → (place < length arcs → ¬ IsArcWithin order.source order.target order.tokens (get_or arcs place order)) → ¬ IsGivenBy arcs order
-  none_gives place order before behind not (j, arc, below, is, (source, target, tokens)) = elim (cases_lt j place) [
-    | inl low ↦ (
-        let ends : EndsBefore arc order = subst (λ (x : Arc). EndsBefore x order) is (before j arc (omega arith) low) in
+  none_gives place order before behind not by = elim (cases_lt place (length arcs)) [
+    | inl inside ↦ not inside (given_here place order before inside (behind inside) by)
+    | inr past_end ↦ (
+        let (j, arc, below, is, (source, target, tokens)) = by in
+        let ends : EndsBefore arc order = subst (λ (x : Arc). EndsBefore x order) is (before j arc (omega arith) (omega (below, past_end, arith))) in
         elim ends [ inl s ↦ absurd (omega arith) | inr (s, t) ↦ absurd (omega arith) ])
-    | inr high ↦ (
-        let inside : place < length arcs = omega arith in
-        not inside (past place order arc (get_or arcs place order) j (sym (get_or_default arcs place (get_or arcs place order) order inside))
-        inside (sym is) below (omega arith) (behind inside order) (source, target, tokens)))
   ]
 
-  -- where it gives the order, one more is given
-  pub one_more : (k : ℕ) (order : Arc) → order ≡ get_or orders k order → k < length orders → AllWithin (IsGivenBy arcs) orders 0 k
-      → (place : ℕ) → place < length arcs → IsArcWithin order.source order.target order.tokens (get_or arcs place order)
-      → AllWithin (IsGivenBy arcs) orders 0 (k + 1)
-  one_more k order is inside given place low gives =
-      AllWithin-more (IsGivenBy arcs) orders 0 k given (λ d. subst (IsGivenBy arcs) (is ∙ get_or_default orders k order d inside)
-      (place, get_or arcs place order, low, get_or_default arcs place (get_or arcs place order) order low, gives))
+  -- the arc at the place tells whether any gives the order
+  pub gives_any : (place : ℕ) (order arc : Arc) → place < length arcs → arc ≡ get_or arcs place arc
+      → IsArcWithin order.source order.target order.tokens arc → IsGivenBy arcs order
+  gives_any place order arc low is gives = (place, arc, low, sym is, gives)
 
-  pub first_ungiven : (k : ℕ) (order : Arc) → order ≡ get_or orders k order → k < length orders → AllWithin (IsGivenBy arcs) orders 0 k
-      → ¬ IsGivenBy arcs order → IsFirstUngiven orders arcs order
-  first_ungiven k order is inside given not = record {
-    place = k;
-    first = record {
-      inside = inside;
-      without = λ d has. not (subst (IsGivenBy arcs) (get_or_default orders k d order inside ∙ sym is) has);
-      before = given;
-    };
-    is = λ d. get_or_default orders k d order inside ∙ sym is;
+-- the first orders, and those of them that no arc gives
+pub record AreLeftOf (orders arcs : List Arc) (k : ℕ) (left : List Arc) : Type 0 where
+  pub some : All (λ order. (j : ℕ) × (j < k) × HoldsAt (λ x. x ≡ order) orders j) left
+  pub sorted : AllPairs StandsBefore left
+  pub lack : All (λ order. ¬ IsGivenBy arcs order) left
+  pub others : AllWithin (λ order. IsGivenBy arcs order ⊎ Contains left order) orders 0 k
+
+module _ (orders arcs : List Arc) (sorted : AllPairs StandsBefore orders) (k : ℕ) (left : List Arc) (are : AreLeftOf orders arcs k left)
+    (order : Arc) (is : order ≡ get_or orders k order) (inside : k < length orders) where
+  at_order : (d : Arc) → order ≡ get_or orders k d
+  at_order d = is ∙ get_or_default orders k order d inside
+
+  sooner : All (λ o. (j : ℕ) × (j < k + 1) × HoldsAt (λ x. x ≡ o) orders j) left
+  sooner i d low = (let (j, below, at) = are.some i d low in (j, omega arith, at))
+
+  -- an order more that an arc gives
+  pub left_given : IsGivenBy arcs order → AreLeftOf orders arcs (k + 1) left
+  left_given given = record {
+    some = sooner;
+    sorted = are.sorted;
+    lack = are.lack;
+    others = AllWithin-more (λ o. IsGivenBy arcs o ⊎ Contains left o) orders 0 k are.others
+        (λ d. inl (subst (IsGivenBy arcs) (at_order d) given));
   }
+
+  stands_last : (i : ℕ) (d : Arc) → i < length left → StandsBefore (get_or left i d) order
+  stands_last i d low =
+      let (j, below, at) = are.some i d low in
+      subst (λ (x : Arc). StandsBefore (get_or left i d) x) (sym (at_order d))
+      (subst (λ (x : Arc). StandsBefore x (get_or orders k d)) (at d) (sorted j k d below inside))
+
+  still : (o : Arc) → IsGivenBy arcs o ⊎ Contains left o → IsGivenBy arcs o ⊎ Contains (left ++ order ∷ []) o
+  still o (inl by) = inl by
+  still o (inr has) = inr (Contains-append_left left (order ∷ []) o has)
+
+  -- one more that none gives
+  pub left_lacks : ¬ IsGivenBy arcs order → AreLeftOf orders arcs (k + 1) (left ++ order ∷ [])
+  left_lacks none = record {
+    some = All-push (λ o. (j : ℕ) × (j < k + 1) × HoldsAt (λ x. x ≡ o) orders j) left order sooner (k, omega arith, λ d. sym (at_order d));
+    sorted = all_pairs_push StandsBefore left order are.sorted stands_last;
+    lack = All-push (λ o. ¬ IsGivenBy arcs o) left order are.lack none;
+    others = AllWithin-more (λ o. IsGivenBy arcs o ⊎ Contains (left ++ order ∷ []) o) orders 0 k
+        (λ j d zero_low below. still (get_or orders j d) (are.others j d zero_low below))
+        (λ d. inr (subst (Contains (left ++ order ∷ [])) (at_order d) (Contains-push left order)));
+  }
+
+-- all orders
+pub all_left : (orders arcs : List Arc) (k : ℕ) (left : List Arc) → AreLeftOf orders arcs k left → k ≡ length orders → AreLeft orders arcs left
+all_left orders arcs k left are all = record {
+  some = λ i d low. (let (j, below, at) = are.some i d low in (j, rw (sym all) below, at (get_or left i d)));
+  sorted = are.sorted;
+  lack = are.lack;
+  others = λ j d low. are.others j d (omega arith) (omega (low, all, arith));
+}

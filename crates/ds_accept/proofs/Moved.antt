@@ -1,21 +1,22 @@
 -- A graph, and the same with its events in the order of the nodes.
-use Rattle.std.proofs.Common.{◌≡◌, ◌≢◌, inl, inr, ℕ, ◌+◌, ◌<◌, ◌≤◌, List, [], length, get_or, map, refl, sym, ◌∙◌, ap, subst, arith, All, AllPairs, IsPermutation, slice_index}
-use Rattle.std.specs.Prelude.{Any}
+use Rattle.std.proofs.Common.{◌≡◌, ◌≢◌, ◌⊎◌, inl, inr, ℕ, ◌+◌, ◌<◌, ◌≤◌, List, [], length, get_or, map, refl, sym, ◌∙◌, ap, subst, arith, All, AllPairs, IsPermutation, slice_index, Some}
+use Rattle.std.specs.Prelude.{Any, Contains}
 use Rattle.std.proofs.lemmas.Bool.{cases_eq, cases_lt}
 use Rattle.std.proofs.lemmas.List.{get_or-map, get_or_default, length-map, append-nil}
 use Rattle.std.proofs.lemmas.List.Elements.{All-contains, All-map}
 use Rattle.std.proofs.lemmas.List.Sorted.{All-permutation, Contains-permutation, IsPermutation-sym}
 use Rattle.ds_base.proofs.Lists.{get_or-self}
-use Rattle.ds_marked.specs.Graph.{Graph, AreEnds, IsKept, StandsBefore, stay, along}
+use Rattle.ds_marked.specs.Graph.{Graph, AreEnds, IsArc, IsKept, StandsBefore, Walk, stay, along}
 use Rattle.ds_marked.specs.declared.marked.Arc.{Arc}
 use Rattle.ds_marked.specs.declared.marked.Event.{Event}
 use Rattle.ds_latch.specs.Node.{Split}
 use Rattle.ds_latch.specs.Plan.{IsPlan, IsSplit, Reorders, split_events}
 use Rattle.ds_control.specs.Control.{AreOrders}
 use Rattle.ds_rank.specs.Rank.{AreRanks}
-use Rattle.ds_accept.specs.Accept.{AreGiven, AreKnown, AreThere, Gives, IsAcceptable, IsArcWithin, StandsAt}
+use Rattle.ds_walk.specs.Given.{IsFirstUnmet, IsGiven}
+use Rattle.ds_accept.specs.Accept.{AreGiven, AreKnown, AreThere, Gives, IsAcceptable, StandsAt}
 use Rattle.ds_accept.specs.Fault.{IsFirstMissing, StandsFirst}
-use Rattle.ds_accept.specs.Steps.{IsFirstUngiven, IsGivenBy, moved}
+use Rattle.ds_accept.specs.Steps.{AreLeft, IsArcWithin, IsGivenBy, moved}
 use Rattle.ds_accept.proofs.Counted.{no_more, one_place, some_event}
 
 module _ (s : Split) (g to : Graph) (number place : ℕ → ℕ) (kept : IsKept g) (once : AllPairs (λ a b. a ≢ b) (split_events s))
@@ -43,24 +44,28 @@ module _ (s : Split) (g to : Graph) (number place : ℕ → ℕ) (kept : IsKept 
       let back : StandsAt s g (number p) (place (number p)) = placed (number p) own.number in
       one_place g.events kept.once (place (number p)) p some_event back.inside inside (back.event some_event ∙ sym (own.event some_event))
 
-  -- what the graph gives, an arc of the other gives
-  down : (u v tokens : ℕ) → Gives s g u v tokens → Any (IsArcWithin u v tokens) to.arcs
-  down u v tokens gives =
-      let (k, arc, inside, is, (from, target, few)) = gives.arc in
+  -- an arc of the graph is one of the other, with its ends moved
+  arc_down : (v w tokens : ℕ) → IsArc g v w tokens → IsArc to (number v) (number w) tokens
+  arc_down v w tokens (k, arc, inside, is, (source, target, few)) =
       let (j, low, same) = Contains-permutation (map (moved number) g.arcs) to.arcs (moved number arc) arcs
-      (k, rw (length-map g.arcs (moved number)) inside, get_or-map (moved number) g.arcs k arc (moved number arc) inside ∙ ap (moved number) is) in (
-        j,
-        moved number arc,
-        low,
-        same,
-        (
-          ap number from ∙ number_is u gives.from gives.source,
-          ap number target ∙ number_is v gives.to gives.target,
-          few,
-        ),
-      )
+      (k, rw (length-map g.arcs (moved number)) inside, get_or-map (moved number) g.arcs k arc (moved number arc) inside ∙ ap (moved number) is) in
+      (j, moved number arc, low, same, (ap number source, ap number target, few))
 
-  -- and the other way round
+  -- a walk of the graph is one of the other
+  walk_down : (u v sum : ℕ) → Walk g u v sum → Walk to (number u) (number v) sum
+  walk_down _ _ _ stay = stay
+  walk_down _ _ _ (along {u} {v} {w} {sum} {tokens} walk arc) = along (walk_down u v sum walk) (arc_down v w tokens arc)
+
+  -- what the graph gives, a walk of the other gives
+  down : (u v tokens : ℕ) → Gives s g u v tokens → (sum : ℕ) × Walk to u v sum × (sum ≤ tokens)
+  down u v tokens gives = (
+    gives.sum,
+    subst (λ (x : ℕ). Walk to x v gives.sum) (number_is u gives.from gives.source)
+        (subst (λ (y : ℕ). Walk to (number gives.from) y gives.sum) (number_is v gives.to gives.target) (walk_down gives.from gives.to gives.sum gives.walk)),
+    gives.few,
+  )
+
+  -- what an arc of the other gives, the graph gives
   up : (u v tokens : ℕ) → Any (IsArcWithin u v tokens) to.arcs → Gives s g u v tokens
   up u v tokens (j, arc, low, is, (source, target, few)) =
       let (k, below, same) = Contains-permutation to.arcs (map (moved number) g.arcs) arc (IsPermutation-sym (map (moved number) g.arcs) to.arcs arcs) (j, low, is) in
@@ -73,8 +78,35 @@ module _ (s : Split) (g to : Graph) (number place : ℕ → ℕ) (kept : IsKept 
         to = x.target;
         source = subst (λ (w : ℕ). StandsAt s g w x.source) (ap (λ (a : Arc). a.source) moved_is ∙ source) (numbered x.source ends.0);
         target = subst (λ (w : ℕ). StandsAt s g w x.target) (ap (λ (a : Arc). a.target) moved_is ∙ target) (numbered x.target ends.1);
-        arc = (k, x, inside, get_or-self g.arcs k arc inside, (refl, refl, omega (few, tokens_is, arith)));
+        sum = 0 + x.tokens;
+        walk = along stay (k, x, inside, get_or-self g.arcs k arc inside, (refl, refl, refl));
+        few = omega (few, tokens_is, arith);
       }
+
+  -- an order that a walk gives
+  walked : (order : Arc) → (order.source < length (split_events s)) × (order.target < length (split_events s))
+      → IsGiven g (moved place order) → Gives s g order.source order.target order.tokens
+  walked order ends (sum, few, walk) = record {
+    from = place order.source;
+    to = place order.target;
+    source = placed order.source ends.0;
+    target = placed order.target ends.1;
+    sum = sum;
+    walk = walk;
+    few = few;
+  }
+
+  place_at : (v p : ℕ) → StandsAt s g v p → p ≡ place v
+  place_at v p at = sym (place_is p at.inside) ∙ ap place (number_is v p at)
+
+  -- and the other way round
+  by_walk : (order : Arc) → Gives s g order.source order.target order.tokens → IsGiven g (moved place order)
+  by_walk order gives = (
+    gives.sum,
+    gives.few,
+    subst (λ (x : ℕ). Walk g x (place order.target) gives.sum) (place_at order.source gives.from gives.source)
+        (subst (λ (y : ℕ). Walk g gives.from y gives.sum) (place_at order.target gives.to gives.target) gives.walk),
+  )
 
   pub acceptable : AreGiven s g → (ranks : List ℕ) → AreRanks g ranks → IsAcceptable s g
   acceptable given ranks are = record {
@@ -124,39 +156,56 @@ module _ (s : Split) (g to : Graph) (number place : ℕ → ℕ) (kept : IsKept 
           let both : ((get_or g.arcs k d).source < length g.events) × ((get_or g.arcs k d).target < length g.events) = kept.ends k d inside in
           rw (place_is (get_or g.arcs k d).source both.0, place_is (get_or g.arcs k d).target both.1) (acc.rises k d inside free)));
     };
-    orders = λ u v tokens required.
-        let (j, arc, low, is, (source, target, few)) = down u v tokens (acc.given u v tokens required) in
-        (0 + arc.tokens, along stay (j, arc, low, is, (source, target, refl)), omega (few, arith));
+    orders = λ u v tokens required. down u v tokens (acc.given u v tokens required);
   }
 
   -- an order by the parts of its arc
-  given_at : (arc : Arc) (u v tokens : ℕ) → arc.source ≡ u → arc.target ≡ v → arc.tokens ≡ tokens
-      → IsGivenBy to.arcs arc → Gives s g u v tokens
-  given_at arc u v tokens su tv kt by =
-      subst (λ (u : ℕ). Gives s g u v tokens) su (subst (λ (v : ℕ). Gives s g arc.source v tokens) tv (subst (λ (t : ℕ). Gives s g arc.source arc.target t) kt
-      (up arc.source arc.target arc.tokens by)))
+  by_parts : (arc : Arc) (u v tokens : ℕ) → arc.source ≡ u → arc.target ≡ v → arc.tokens ≡ tokens
+      → Gives s g arc.source arc.target arc.tokens → Gives s g u v tokens
+  by_parts arc u v tokens su tv kt gives =
+      subst (λ (u : ℕ). Gives s g u v tokens) su (subst (λ (v : ℕ). Gives s g arc.source v tokens) tv
+      (subst (λ (t : ℕ). Gives s g arc.source arc.target t) kt gives))
 
   module _ (required : Graph) (orders : AreOrders s required) (sorted : AllPairs StandsBefore required.arcs)
-      (inside_required : AreEnds (length (split_events s)) required.arcs) where
-    pub given : All (IsGivenBy to.arcs) required.arcs → AreGiven s g
+      (inside_required : AreEnds (length (split_events s)) required.arcs) (left : List Arc) (are : AreLeft required.arcs to.arcs left) where
+    -- an order that is left is a required one
+    left_in : (k : ℕ) (d : Arc) → k < length left → Contains required.arcs (get_or left k d)
+    left_in k d inside = are.some k d inside
+
+    left_ends : (k : ℕ) (d : Arc) → k < length left
+        → ((get_or left k d).source < length (split_events s)) × ((get_or left k d).target < length (split_events s))
+    left_ends k d inside = All-contains (λ (x : Arc). (x.source < length (split_events s)) × (x.target < length (split_events s)))
+        required.arcs (get_or left k d) inside_required (left_in k d inside)
+
+    -- an order that is left is given where the walk of its places is
+    given_left : (k : ℕ) (d : Arc) → k < length left → IsGiven g (get_or (map (moved place) left) k (moved place d))
+        → Gives s g (get_or left k d).source (get_or left k d).target (get_or left k d).tokens
+    given_left k d inside is = walked (get_or left k d) (left_ends k d inside)
+        (subst (IsGiven g) (get_or-map (moved place) left k d (moved place d) inside) is)
+
+    pub given : All (IsGiven g) (map (moved place) left) → AreGiven s g
     given all u v tokens order =
         let (k, arc, inside, is, (su, tv, kt)) = (orders u v tokens).0 order in
-        given_at arc u v tokens su tv kt (All-contains (IsGivenBy to.arcs) required.arcs arc all (k, inside, is))
+        by_parts arc u v tokens su tv kt (elim (All-contains (λ o. IsGivenBy to.arcs o ⊎ Contains left o) required.arcs arc are.others (k, inside, is)) [
+          | inl by ↦ up arc.source arc.target arc.tokens by
+          | inr (j, low, at) ↦ subst (λ (x : Arc). Gives s g x.source x.target x.tokens) at
+              (given_left j arc low (all j (moved place arc) (rw (length-map left (moved place)) low)))
+        ])
 
-    -- what stands before an order has an earlier arc
-    earlier : (k j : ℕ) (order arc : Arc) → k < length required.arcs → get_or required.arcs k order ≡ order → j < length required.arcs
-        → get_or required.arcs j arc ≡ arc → StandsFirst arc.source arc.target order.source order.target → j < k
+    -- what stands before an order that is left is left earlier
+    earlier : (k j : ℕ) (order arc : Arc) → k < length left → get_or left k order ≡ order → j < length left
+        → get_or left j arc ≡ arc → StandsFirst arc.source arc.target order.source order.target → j < k
     earlier k j order arc inside is low arc_is first = elim (cases_lt j k) [
       | inl below ↦ below
       | inr above ↦ absurd (elim (cases_eq k j) [
         | inl same ↦ (
-            let one : arc ≡ order = sym arc_is ∙ (ap (λ (n : ℕ). get_or required.arcs n arc) (sym same) ∙ (get_or_default required.arcs k arc order inside ∙ is)) in
+            let one : arc ≡ order = sym arc_is ∙ (ap (λ (n : ℕ). get_or left n arc) (sym same) ∙ (get_or_default left k arc order inside ∙ is)) in
             let e : arc.source ≡ order.source = ap (λ (a : Arc). a.source) one in
             let f : arc.target ≡ order.target = ap (λ (a : Arc). a.target) one in
             elim first [ inl p ↦ absurd (omega (p, e, arith)) | inr (p, q) ↦ absurd (omega (q, f, arith)) ])
         | inr differs ↦ (
-            let stands : StandsBefore order arc = subst (λ (x : Arc). StandsBefore x arc) (get_or_default required.arcs k arc order inside ∙ is)
-            (subst (StandsBefore (get_or required.arcs k arc)) arc_is (sorted k j arc (omega arith) low)) in
+            let stands : StandsBefore order arc = subst (λ (x : Arc). StandsBefore x arc) (get_or_default left k arc order inside ∙ is)
+            (subst (StandsBefore (get_or left k arc)) arc_is (are.sorted k j arc (omega arith) low)) in
             no_turn order arc stands first)
       ])
     ]
@@ -168,22 +217,28 @@ module _ (s : Split) (g to : Graph) (number place : ℕ → ℕ) (kept : IsKept 
         no_turn a b (inr (p, inl x)) (inr (q, r)) = absurd (omega (x, r, arith))
         no_turn a b (inr (p, inr (x, t))) (inr (q, r)) = absurd (omega (x, r, arith))
 
-    pub missing : (order : Arc) → IsFirstUngiven required.arcs to.arcs order → IsFirstMissing s g (place order.source) (place order.target) order.tokens
-    missing order first =
-        let k : ℕ = first.place in
-        let inside : k < length required.arcs = first.first.inside in
-        let is : get_or required.arcs k order ≡ order = first.is order in
+    pub missing : (k : ℕ) (order : Arc) → order ≡ get_or left k order → IsFirstUnmet g (map (moved place) left) (Some k)
+        → IsFirstMissing s g (place order.source) (place order.target) order.tokens
+    missing k order is (high, (none, before)) =
+        let inside : k < length left = rw (length-map left (moved place)) at high in
+        let own : get_or left k order ≡ order = sym is in
+        let (m, m_low, m_is) = subst (Contains required.arcs) own (left_in k order inside) in
         let ends : (order.source < length (split_events s)) × (order.target < length (split_events s))
-        = subst (λ (x : Arc). (x.source < length (split_events s)) × (x.target < length (split_events s))) is (inside_required k order inside) in record {
+        = subst (λ (x : Arc). (x.source < length (split_events s)) × (x.target < length (split_events s))) own (left_ends k order inside) in record {
           u = order.source;
           v = order.target;
-          required = (orders order.source order.target order.tokens).1 (k, order, inside, is, (refl, refl, refl));
+          required = (orders order.source order.target order.tokens).1 (m, order, m_low, m_is, (refl, refl, refl));
           source = placed order.source ends.0;
           target = placed order.target ends.1;
-          lacks = λ gives. first.first.without order (subst (IsGivenBy to.arcs) (sym is) (down order.source order.target order.tokens gives));
+          lacks = λ gives. none (moved place order) (subst (IsGiven g) (sym (get_or-map (moved place) left k order (moved place order) inside))
+              (subst (λ (x : Arc). IsGiven g (moved place x)) is (by_walk order gives)));
           before = λ u v tokens other less.
-              let (j, arc, low, arc_is, (su, tv, kt)) = (orders u v tokens).0 other in
-              let less_arc : StandsFirst arc.source arc.target order.source order.target = rw (su, tv) less in
-              let below : j < k = earlier k j order arc inside is low arc_is less_arc in
-              given_at arc u v tokens su tv kt (subst (IsGivenBy to.arcs) arc_is (first.first.before j arc (omega arith) below));
+              let (i, arc, low, arc_is, (su, tv, kt)) = (orders u v tokens).0 other in
+              by_parts arc u v tokens su tv kt (elim (All-contains (λ o. IsGivenBy to.arcs o ⊎ Contains left o) required.arcs arc are.others (i, low, arc_is)) [
+                | inl by ↦ up arc.source arc.target arc.tokens by
+                | inr (j, near, at) ↦ (
+                    let first : StandsFirst arc.source arc.target order.source order.target = rw (su, tv) less in
+                    let below : j < k = earlier k j order arc inside own near at first in
+                    subst (λ (x : Arc). Gives s g x.source x.target x.tokens) at (given_left j arc near (before j (moved place arc) (omega arith) below)))
+              ]);
         }

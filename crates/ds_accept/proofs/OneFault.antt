@@ -1,5 +1,5 @@
 -- Two faults of a graph are the same, or both show a cycle.
-use Rattle.std.proofs.Common.{◌≡◌, inl, inr, ℕ, List, get_or, refl, sym, ◌∙◌, ap, arith}
+use Rattle.std.proofs.Common.{◌≡◌, inl, inr, ℕ, List, get_or, refl, sym, ◌∙◌, ap, subst, arith, Option, None}
 use Rattle.std.specs.Prelude.{Contains}
 use Rattle.std.specs.List.{HoldsAt}
 use Rattle.std.proofs.lemmas.Bool.{cases_lt}
@@ -10,7 +10,9 @@ use Rattle.ds_latch.specs.Order.{IsRequired, opens_first, closes_before_next, af
 use Rattle.ds_latch.specs.Plan.{split_events}
 use Rattle.ds_latch.proofs.Counts.{edge_differs, same_node}
 use Rattle.ds_accept.specs.Accept.{StandsAt}
-use Rattle.ds_accept.specs.Fault.{IsFirstMissing, IsFirstWithout, StandsFirst}
+use Rattle.ds_walk.proofs.Least.{one_list_of_sums_lem}
+use Rattle.ds_walk.specs.Sums.{AreLeastSums}
+use Rattle.ds_accept.specs.Fault.{IsFirstMissing, IsFirstWithout, ShowsLeast, StandsFirst}
 use Rattle.ds_accept.specs.Laws.{OneFault}
 use Rattle.ds_accept.specs.declared.fault.AcceptFault.TheVariants.{UnknownEvent, MissingEvent, MissingOrder, TokenFreeCycle, Memory}
 use Rattle.ds_accept.proofs.Counted.{one_place, some_event}
@@ -51,7 +53,8 @@ module _ (s : Split) (g : Graph) (kept : IsKept g) where
       one_place g.events kept.once p q some_event one.inside other.inside
       (one.event some_event ∙ (ap (λ (n : ℕ). get_or (split_events s) n some_event) e ∙ sym (other.event some_event)))
 
-  module _ (from to t from2 to2 t2 : ℕ) (one : IsFirstMissing s g from to t) (other : IsFirstMissing s g from2 to2 t2) where
+  module _ (from to t from2 to2 t2 : ℕ) (one : IsFirstMissing s g from to t) (other : IsFirstMissing s g from2 to2 t2)
+      (least least2 : Option ℕ) (numbers numbers2 : List (Option ℕ)) (shows : ShowsLeast g from to least numbers) (also : ShowsLeast g from2 to2 least2 numbers2) where
     not_before : StandsFirst one.u one.v other.u other.v → ⊥
     not_before first = one.lacks (other.before one.u one.v t one.required first)
 
@@ -76,12 +79,16 @@ module _ (s : Split) (g : Graph) (kept : IsKept g) where
       ]
     ]
 
-    same_order : MissingOrder from to t ≡ MissingOrder from2 to2 t2
+    same_order : MissingOrder from to t least numbers ≡ MissingOrder from2 to2 t2 least2 numbers2
     same_order =
         let source : from ≡ from2 = place_once one.u other.u from from2 same_source one.source other.source in
         let target : to ≡ to2 = place_once one.v other.v to to2 same_target one.target other.target in
         let tokens : t ≡ t2 = same_tokens s one.u one.v t other.u other.v t2 one.required other.required same_source same_target in
-        ap (λ (n : ℕ). MissingOrder n to t) source ∙ (ap (λ (n : ℕ). MissingOrder from2 n t) target ∙ ap (λ (n : ℕ). MissingOrder from2 to2 n) tokens)
+        let sums : numbers ≡ numbers2 = one_list_of_sums_lem g from2 numbers numbers2 (subst (λ (n : ℕ). AreLeastSums g n numbers) source shows.sums) also.sums in
+        let few : least ≡ least2 = sym shows.at ∙ (ap (λ (ns : List (Option ℕ)). get_or ns to None) sums ∙ (ap (λ (n : ℕ). get_or numbers2 n None) target ∙ also.at)) in
+        ap (λ (n : ℕ). MissingOrder n to t least numbers) source ∙ (ap (λ (n : ℕ). MissingOrder from2 n t least numbers) target
+        ∙ (ap (λ (n : ℕ). MissingOrder from2 to2 n least numbers) tokens ∙ (ap (λ (o : Option ℕ). MissingOrder from2 to2 t2 o numbers) few
+        ∙ ap (λ (ns : List (Option ℕ)). MissingOrder from2 to2 t2 least2 ns) sums)))
 
   same_event : (k m : ℕ) (e f : Event) → k ≡ m → HoldsAt (λ x. x ≡ e) (split_events s) k → HoldsAt (λ x. x ≡ f) (split_events s) m → e ≡ f
   same_event k m e f same is at = sym (is some_event) ∙ (ap (λ (n : ℕ). get_or (split_events s) n some_event) same ∙ at some_event)
@@ -89,26 +96,26 @@ module _ (s : Split) (g : Graph) (kept : IsKept g) where
 pub one_fault_lem : OneFault
 one_fault_lem s g (UnknownEvent p) (UnknownEvent q) kept some more is at = inl (ap UnknownEvent (first_once (Contains (split_events s)) g.events some_event p q is at))
 one_fault_lem s g (UnknownEvent p) (MissingEvent f) kept some more is at = absurd (is.without some_event (at.0 p some_event is.inside))
-one_fault_lem s g (UnknownEvent p) (MissingOrder from to t) kept some more is at = absurd (is.without some_event (at.0 p some_event is.inside))
+one_fault_lem s g (UnknownEvent p) (MissingOrder from to t least numbers) kept some more is at = absurd (is.without some_event (at.0 p some_event is.inside))
 one_fault_lem s g (UnknownEvent p) (TokenFreeCycle events) kept some more is at = absurd (is.without some_event (at.0 p some_event is.inside))
 one_fault_lem s g (MissingEvent e) (UnknownEvent q) kept some more is at = absurd (at.without some_event (is.0 q some_event at.inside))
 one_fault_lem s g (MissingEvent e) (MissingEvent f) kept some more (known, (k, first, is)) (also, (m, second, at)) =
     inl (ap MissingEvent (same_event s g kept k m e f (first_once (Contains g.events) (split_events s) some_event k m first second) is at))
-one_fault_lem s g (MissingEvent e) (MissingOrder from to t) kept some more (known, (k, first, is)) (also, there, second) =
+one_fault_lem s g (MissingEvent e) (MissingOrder from to t least numbers) kept some more (known, (k, first, is)) (also, there, second, shows) =
     absurd (first.without some_event (there k some_event first.inside))
 one_fault_lem s g (MissingEvent e) (TokenFreeCycle events) kept some more (known, (k, first, is)) (also, there, given, cycle) =
     absurd (first.without some_event (there k some_event first.inside))
-one_fault_lem s g (MissingOrder from to t) (UnknownEvent q) kept some more is at = absurd (at.without some_event (is.0 q some_event at.inside))
-one_fault_lem s g (MissingOrder from to t) (MissingEvent f) kept some more (known, there, first) (also, (m, second, at)) =
+one_fault_lem s g (MissingOrder from to t least numbers) (UnknownEvent q) kept some more is at = absurd (at.without some_event (is.0 q some_event at.inside))
+one_fault_lem s g (MissingOrder from to t least numbers) (MissingEvent f) kept some more (known, there, first, shows) (also, (m, second, at)) =
     absurd (second.without some_event (there m some_event second.inside))
-one_fault_lem s g (MissingOrder from to t) (MissingOrder from2 to2 t2) kept some more (known, there, is) (also, present, at) =
-    inl (same_order s g kept from to t from2 to2 t2 is at)
-one_fault_lem s g (MissingOrder from to t) (TokenFreeCycle events) kept some more (known, there, is) (also, present, given, cycle) =
+one_fault_lem s g (MissingOrder from to t least numbers) (MissingOrder from2 to2 t2 least2 numbers2) kept some more (known, there, is, shows) (also, present, at, too) =
+    inl (same_order s g kept from to t from2 to2 t2 is at least least2 numbers numbers2 shows too)
+one_fault_lem s g (MissingOrder from to t least numbers) (TokenFreeCycle events) kept some more (known, there, is, shows) (also, present, given, cycle) =
     absurd (is.lacks (given is.u is.v t is.required))
 one_fault_lem s g (TokenFreeCycle events) (UnknownEvent q) kept some more is at = absurd (at.without some_event (is.0 q some_event at.inside))
 one_fault_lem s g (TokenFreeCycle events) (MissingEvent f) kept some more (known, there, given, cycle) (also, (m, second, at)) =
     absurd (second.without some_event (there m some_event second.inside))
-one_fault_lem s g (TokenFreeCycle events) (MissingOrder from to t) kept some more (known, there, given, cycle) (also, present, at) =
+one_fault_lem s g (TokenFreeCycle events) (MissingOrder from to t least numbers) kept some more (known, there, given, cycle) (also, present, at, too) =
     absurd (at.lacks (given at.u at.v t at.required))
 one_fault_lem s g (TokenFreeCycle events) (TokenFreeCycle others) kept some more is at = inr ((events, refl), (others, refl))
 one_fault_lem s g Memory other kept some more is at = absurd (some refl)

@@ -1,7 +1,6 @@
 -- The graphs that are accepted for a split design, whose events stand in any order.
-use Rattle.std.specs.Prelude.{◌≡◌, ℕ, ◌<◌, ◌≤◌, length, slice_index_or, All, Any, Contains}
-use Rattle.ds_marked.specs.Graph.{Graph}
-use Rattle.ds_marked.specs.declared.marked.Arc.{Arc}
+use Rattle.std.specs.Prelude.{◌≡◌, ℕ, ◌<◌, ◌≤◌, length, slice_index_or, All, Contains}
+use Rattle.ds_marked.specs.Graph.{Graph, Walk}
 use Rattle.ds_marked.specs.declared.marked.Event.{Event}
 use Rattle.ds_latch.specs.Node.{Split}
 use Rattle.ds_latch.specs.Order.{IsRequired}
@@ -13,18 +12,16 @@ pub record StandsAt (s : Split) (g : Graph) (v place : ℕ) : Type 0 where
   pub inside : place < length g.events
   pub event : (d : Event) → slice_index_or g.events place d ≡ slice_index_or (split_events s) v d
 
--- an arc leads from one place to another, with at most so many tokens
-abbrev pub IsArcWithin : ℕ → ℕ → ℕ → Arc → Type 0
-IsArcWithin from to tokens arc = (arc.source ≡ from) × (arc.target ≡ to) × (arc.tokens ≤ tokens)
-
--- the graph gives an order of the design: an arc leads from its source to its target, with at
--- most its tokens
+-- the graph gives an order of the design: the tokens along some walk from its source to its target
+-- sum to at most its own
 pub record Gives (s : Split) (g : Graph) (u v tokens : ℕ) : Type 0 where
   pub from : ℕ
   pub to : ℕ
   pub source : StandsAt s g u from
   pub target : StandsAt s g v to
-  pub arc : Any (IsArcWithin from to tokens) g.arcs
+  pub sum : ℕ
+  pub walk : Walk g from to sum
+  pub few : sum ≤ tokens
 
 -- each event of the graph is one of a node
 abbrev pub AreKnown : Split → Graph → Type 0

@@ -1,5 +1,6 @@
 -- Why a graph is not accepted.
-use Rattle.std.specs.Prelude.{◌≡◌, ◌⊎◌, ⊤, ℕ, ◌<◌, List, length, Contains}
+use Rattle.std.specs.Prelude.{◌≡◌, ◌⊎◌, ⊤, ℕ, ◌<◌, List, Option, None, length, slice_index_or}
+use Rattle.std.specs.Prelude.{Contains}
 use Rattle.std.specs.List.{HoldsAt, AllWithin}
 use Rattle.ds_marked.specs.Graph.{Graph}
 use Rattle.ds_latch.specs.Node.{Split}
@@ -7,6 +8,7 @@ use Rattle.ds_latch.specs.Order.{IsRequired}
 use Rattle.ds_latch.specs.Plan.{split_events}
 use Rattle.ds_order.specs.Order.{IsCycle}
 use Rattle.ds_rank.specs.Rank.{HasFreeArc}
+use Rattle.ds_walk.specs.Sums.{AreLeastSums}
 use Rattle.ds_accept.specs.Accept.{AreKnown, AreThere, AreGiven, Gives, StandsAt}
 use Rattle.ds_accept.specs.declared.fault.AcceptFault.{AcceptFault}
 use Rattle.ds_accept.specs.declared.fault.AcceptFault.TheVariants.{UnknownEvent, MissingEvent}
@@ -34,6 +36,13 @@ pub record IsFirstMissing (s : Split) (g : Graph) (from to tokens : ℕ) : Type 
   pub before : (u' v' tokens' : ℕ) → IsRequired s u' v' tokens' → StandsFirst u' v' u v
       → Gives s g u' v' tokens'
 
+-- how few tokens there are along walks from one event to another, none where there is no walk; the
+-- numbers, the same for all events, show it
+pub record ShowsLeast (g : Graph) (from to : ℕ) (least : Option ℕ) (numbers : List (Option ℕ))
+    : Type 0 where
+  pub sums : AreLeastSums g from numbers
+  pub at : slice_index_or numbers to None ≡ least
+
 -- an event of a node that the graph lacks, the first one
 abbrev pub IsFirstLacking : Split → Graph → ℕ → Type 0
 IsFirstLacking s g k = IsFirstWithout (Contains g.events) (split_events s) k
@@ -44,8 +53,8 @@ IsAcceptFault s g (UnknownEvent place) =
     IsFirstWithout (Contains (split_events s)) g.events place
 IsAcceptFault s g (MissingEvent event) = AreKnown s g
     × ((k : ℕ) × IsFirstLacking s g k × HoldsAt (λ e. e ≡ event) (split_events s) k)
-IsAcceptFault s g (MissingOrder from to tokens) = AreKnown s g × AreThere s g
-    × IsFirstMissing s g from to tokens
+IsAcceptFault s g (MissingOrder from to tokens least numbers) = AreKnown s g × AreThere s g
+    × IsFirstMissing s g from to tokens × ShowsLeast g from to least numbers
 IsAcceptFault s g (TokenFreeCycle events) = AreKnown s g × AreThere s g × AreGiven s g
     × IsCycle (HasFreeArc g) events
 IsAcceptFault s g Memory = ⊤

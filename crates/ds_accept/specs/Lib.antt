@@ -3,4 +3,5 @@ pub mod Accept
 pub mod Fault
 pub mod Laws
 pub mod Codes
+pub mod Ranked
 pub mod Steps

@@ -1,15 +1,17 @@
 -- What the steps of acceptance find.
-use Rattle.std.specs.Prelude.{◌≡◌, ⊤, ℕ, ◌<◌, ◌⊎◌, List, length, slice_index, slice_index_or}
-use Rattle.std.specs.Prelude.{All, Any, Contains, IsPermutation, map}
+use Rattle.std.specs.Prelude.{◌≡◌, ⊤, ℕ, ◌<◌, ◌≤◌, ◌⊎◌, List, Some, length, slice_index}
+use Rattle.std.specs.Prelude.{slice_index_or, All, AllPairs, Any, Contains, IsPermutation, map}
 use Rattle.std.specs.List.{HoldsAt}
-use Rattle.ds_marked.specs.Graph.{Graph}
+use Rattle.ds_marked.specs.Graph.{Graph, IsKept, StandsBefore}
 use Rattle.ds_marked.specs.declared.marked.Arc.{Arc}
 use Rattle.ds_marked.specs.declared.marked.Event.{Event}
-use Rattle.ds_marked.specs.Graph.{IsKept}
+use Rattle.ds_order.specs.Order.{IsCycle}
+use Rattle.ds_rank.specs.Rank.{AreRanks, HasFreeArc}
+use Rattle.ds_walk.specs.Given.{IsFirstUnmet, IsGiven}
 use Rattle.ds_latch.specs.Node.{Split}
 use Rattle.ds_latch.specs.Plan.{IsPlan, Reorders, split_events}
-use Rattle.ds_accept.specs.Accept.{IsAcceptable, IsArcWithin}
-use Rattle.ds_accept.specs.Fault.{IsFirstWithout}
+use Rattle.ds_accept.specs.Accept.{IsAcceptable}
+use Rattle.ds_accept.specs.Fault.{IsFirstWithout, ShowsLeast}
 use Rattle.ds_accept.specs.declared.fault.AcceptFault.{AcceptFault}
 use Rattle.ds_accept.specs.declared.fault.AcceptFault.TheVariants as fault
 use Rattle.ds_accept.specs.declared.places.Stop.{Stop}
@@ -32,15 +34,54 @@ abbrev pub moved : (ℕ → ℕ) → Arc → Arc
 moved place arc =
     record { source = place arc.source; target = place arc.target; tokens = arc.tokens }
 
+-- an arc leads from one place to another, with at most so many tokens
+abbrev pub IsArcWithin : ℕ → ℕ → ℕ → Arc → Type 0
+IsArcWithin from to tokens arc = (arc.source ≡ from) × (arc.target ≡ to) × (arc.tokens ≤ tokens)
+
 -- one of the arcs has the ends of an order, and at most its tokens
 abbrev pub IsGivenBy : List Arc → Arc → Type 0
 IsGivenBy arcs order = Any (IsArcWithin order.source order.target order.tokens) arcs
 
--- an order that no arc gives, where each order before it is given
-pub record IsFirstUngiven (orders arcs : List Arc) (order : Arc) : Type 0 where
-  pub place : ℕ
-  pub first : IsFirstWithout (IsGivenBy arcs) orders place
-  pub is : HoldsAt (λ x. x ≡ order) orders place
+-- the orders that no arc gives, in order
+pub record AreLeft (orders arcs left : List Arc) : Type 0 where
+  pub some : All (Contains orders) left
+  pub sorted : AllPairs StandsBefore left
+  pub lack : All (λ order. ¬ IsGivenBy arcs order) left
+  pub others : All (λ order. IsGivenBy arcs order ⊎ Contains left order) orders
+
+-- these orders, with the places of their ends
+pub record AreAsked (orders arcs : List Arc) (place : ℕ → ℕ) (asked : List Arc) : Type 0 where
+  pub left : List Arc
+  pub are : AreLeft orders arcs left
+  pub moved : asked ≡ map (moved place) left
+
+-- walks give the orders, and the events have ranks
+pub record AreWalked (g : Graph) (asked : List Arc) : Type 0 where
+  pub given : All (IsGiven g) asked
+  pub ranks : List ℕ
+  pub are : AreRanks g ranks
+
+-- the fault that no walk gives an order, or want of memory
+abbrev pub IsMissing : Graph → Arc → AcceptFault → Type 0
+IsMissing g order (fault.UnknownEvent place) = ⊥
+IsMissing g order (fault.MissingEvent event) = ⊥
+IsMissing g order (fault.MissingOrder from to tokens least numbers) =
+    (order ≡ record { source = from; target = to; tokens = tokens })
+    × ShowsLeast g from to least numbers
+IsMissing g order (fault.TokenFreeCycle cycle) = ⊥
+IsMissing g order fault.Memory = ⊤
+
+-- a fault that no walk gives one of the orders, or that arcs without tokens lead in a circle, or
+-- want of memory
+abbrev pub IsUnmet : Graph → List Arc → AcceptFault → Type 0
+IsUnmet g asked (fault.UnknownEvent place) = ⊥
+IsUnmet g asked (fault.MissingEvent event) = ⊥
+IsUnmet g asked (fault.MissingOrder from to tokens least numbers) =
+    (k : ℕ) × IsFirstUnmet g asked (Some k) × ShowsLeast g from to least numbers
+    × HoldsAt (λ o. o ≡ record { source = from; target = to; tokens = tokens }) asked k
+IsUnmet g asked (fault.TokenFreeCycle cycle) = All (IsGiven g) asked
+    × IsCycle (HasFreeArc g) cycle
+IsUnmet g asked fault.Memory = ⊤
 
 -- the ends of an arc stand before those of another, by source and then by target
 abbrev pub EndsBefore : Arc → Arc → Type 0
@@ -51,7 +92,7 @@ abbrev pub IsUnknown : List Event → List Event → AcceptFault → Type 0
 IsUnknown events required (fault.UnknownEvent place) =
     IsFirstWithout (Contains required) events place
 IsUnknown events required (fault.MissingEvent event) = ⊥
-IsUnknown events required (fault.MissingOrder from to tokens) = ⊥
+IsUnknown events required (fault.MissingOrder from to tokens least numbers) = ⊥
 IsUnknown events required (fault.TokenFreeCycle cycle) = ⊥
 IsUnknown events required fault.Memory = ⊤
 
@@ -60,7 +101,7 @@ abbrev pub IsLacking : List Event → List Event → AcceptFault → Type 0
 IsLacking required events (fault.UnknownEvent place) = ⊥
 IsLacking required events (fault.MissingEvent event) =
     (k : ℕ) × IsFirstWithout (Contains events) required k × HoldsAt (λ e. e ≡ event) required k
-IsLacking required events (fault.MissingOrder from to tokens) = ⊥
+IsLacking required events (fault.MissingOrder from to tokens least numbers) = ⊥
 IsLacking required events (fault.TokenFreeCycle cycle) = ⊥
 IsLacking required events fault.Memory = ⊤
 

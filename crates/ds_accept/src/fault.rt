@@ -13,9 +13,16 @@ pub enum AcceptFault {
     UnknownEvent(EventId),
     /// The first event of a node, in the order of the nodes, that the graph lacks.
     MissingEvent(Event),
-    /// The ends and the tokens of the first required order, in the order of the nodes by source and
-    /// then by target, that no arc gives with at most its tokens.
-    MissingOrder(EventId, EventId, u8),
+    /// The first required order, in the order of the nodes by source and then by target, that no
+    /// walk gives with at most its tokens; how few tokens there are along a walk between its ends,
+    /// or none where there is no walk; and the same from its source to each event, which shows it.
+    MissingOrder {
+        from: EventId,
+        to: EventId,
+        tokens: u8,
+        least: Option<u64>,
+        numbers: Seq<Option<u64>>,
+    },
     /// An arc without tokens leads from each event to the next, and from the last to the first,
     /// which is the least. No event is there twice.
     TokenFreeCycle(Seq<EventId>),

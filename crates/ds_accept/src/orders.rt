@@ -1,40 +1,46 @@
-//! The first order that no arc gives.
-ghost use Rattle.std.specs.Prelude.{◌≡◌, ◌<◌, ◌≤◌, ◌↔◌, length, slice_index, All, AllPairs};
-ghost use Rattle.std.specs.Prelude.{IsTrue, MatchOption};
+//! The orders that no arc gives.
+ghost use Rattle.std.specs.Prelude.{◌≡◌, ◌<◌, ◌≤◌, ◌↔◌, length, slice_index, AllPairs, IfOk};
+ghost use Rattle.std.specs.Prelude.{IsTrue};
 ghost use Rattle.std.specs.List.{AllWithin, HoldsAt};
 ghost use Rattle.ds_marked.specs.Graph.{StandsBefore};
-ghost use Rattle.ds_accept.specs.Accept.{IsArcWithin};
-ghost use Rattle.ds_accept.specs.Steps.{EndsBefore, IsFirstUngiven, IsGivenBy};
-ghost use Rattle.ds_accept.specs.declared.fault.AcceptFault.TheVariants.{MissingOrder};
+ghost use Rattle.ds_accept.specs.Steps.{AreAsked, AreLeft, EndsBefore, IsArcWithin, IsGivenBy};
 
-use crate::AcceptFault;
+use crate::renumber::moved_arcs;
 use ds_base::EventId;
 use ds_marked::{Arc, Marked};
+use std::alloc::{AllocError, Global};
 
-// The first required order that the graph does not give.
-pub(crate) fn first_missing(required: &Marked, graph: &Marked) -> Option<Arc>
-    ensures { MatchOption result (All (IsGivenBy graph.now.arcs) required.now.arcs)
-        (IsFirstUngiven required.now.arcs graph.now.arcs) }
+// The required orders that no arc of the graph gives, in order, with the places of their ends.
+pub(crate) fn orders_asked(
+    alloc: Global,
+    required: &Marked,
+    graph: &Marked,
+    places: &[EventId],
+) -> Result<Vec<Arc>, AllocError>
+    requires { length places.now ≡ length required.now.events }
+    ensures { IfOk result (λ asked. AreAsked required.now.arcs graph.now.arcs
+        (slice_index places.now) asked.items) }
 {
     let orders = required.arcs();
-    first_ungiven(orders, graph.arcs())
+    let left = left_of(alloc, orders, graph.arcs())?;
+    moved_arcs(alloc, left.as_slice(), places)
 }
 
 // Goes through orders and arcs side by side.
-fn first_ungiven(orders: &[Arc], arcs: &[Arc]) -> Option<Arc>
+fn left_of(alloc: Global, orders: &[Arc], arcs: &[Arc]) -> Result<Vec<Arc>, AllocError>
     requires orders { AllPairs StandsBefore orders.now }
     requires arcs { AllPairs StandsBefore arcs.now }
-    ensures { MatchOption result (All (IsGivenBy arcs.now) orders.now)
-        (IsFirstUngiven orders.now arcs.now) }
+    ensures { IfOk result (λ left. AreLeft orders.now arcs.now left.items) }
 {
+    let mut left: Vec<Arc> = Vec::new(alloc);
     let mut place = 0;
     for order in orders {
         place = first_from(arcs, place, order);
-        if place == arcs.len() || !gives(&arcs[place], order) {
-            return Some(*order);
+        if !is_given(arcs, place, order) {
+            left.push(*order)?;
         }
     }
-    None
+    Ok(left)
 }
 
 // The first arc from a place on whose ends do not stand before those of the order.
@@ -60,22 +66,24 @@ fn ends_before(arc: &Arc, other: &Arc) -> bool
     arc.source < other.source || (arc.source == other.source && arc.target < other.target)
 }
 
+// Whether an arc gives an order: the one at the place, where any does.
+fn is_given(arcs: &[Arc], place: usize, order: &Arc) -> bool
+    requires arcs { AllPairs StandsBefore arcs.now }
+    requires before { AllWithin (λ arc. EndsBefore arc order.now) arcs.now 0 place }
+    requires behind { place < length arcs.now
+        → HoldsAt (λ arc. ¬ EndsBefore arc order.now) arcs.now place }
+    ensures { IsTrue result ↔ IsGivenBy arcs.now order.now }
+{
+    if place >= arcs.len() {
+        return false;
+    }
+    gives(&arcs[place], order)
+}
+
 // Whether an arc gives an order.
 fn gives(arc: &Arc, order: &Arc) -> bool
     ensures { IsTrue result
         ↔ IsArcWithin order.now.source order.now.target order.now.tokens arc.now }
 {
     arc.source == order.source && arc.target == order.target && arc.tokens <= order.tokens
-}
-
-// The fault that no arc gives an order, with the places of its ends.
-pub(crate) fn missing_order(order: Arc, places: &[EventId]) -> AcceptFault
-    requires source { order.source < length places.now }
-    requires target { order.target < length places.now }
-    ensures { result ≡ MissingOrder (slice_index places.now order.source)
-        (slice_index places.now order.target) order.tokens }
-{
-    let from = places[order.source.index()];
-    let to = places[order.target.index()];
-    AcceptFault::MissingOrder(from, to, order.tokens)
 }

@@ -8,12 +8,12 @@ ghost use Rattle.ds_accept.specs.declared.fault.AcceptFault.TheVariants.{Memory}
 
 use crate::AcceptFault;
 use crate::events::{numbers_of, places_of};
-use crate::orders::{first_missing, missing_order};
+use crate::orders::orders_asked;
 use crate::renumber::ordered;
+use crate::walks::check_walks;
 use ds_control::controller;
 use ds_latch::{Latches, Plan};
 use ds_marked::Marked;
-use ds_rank::{RankFault, rank};
 use std::alloc::Global;
 
 /// Makes a plan of a graph that is accepted. A refusal gives latches and graph back.
@@ -48,12 +48,7 @@ fn check(alloc: Global, latches: &Latches<'_>, graph: &Marked) -> Result<Marked,
     let numbers = numbers_of(alloc, graph, &required)?;
     let places = places_of(alloc, &required, graph)?;
     let other = ordered(alloc, graph, &required, numbers.as_slice())?;
-    if let Some(order) = first_missing(&required, &other) {
-        return Err(missing_order(order, places.as_slice()));
-    }
-    match rank(alloc, graph) {
-        Ok(_) => Ok(other),
-        Err(RankFault::Cycle(events)) => Err(AcceptFault::TokenFreeCycle(events)),
-        Err(RankFault::Memory) => Err(AcceptFault::Memory),
-    }
+    let asked = orders_asked(alloc, &required, &other, places.as_slice())?;
+    check_walks(alloc, graph, asked.as_slice())?;
+    Ok(other)
 }

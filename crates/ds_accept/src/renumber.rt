@@ -23,7 +23,11 @@ pub(crate) fn ordered(
 }
 
 // The arcs with their ends at these places.
-fn moved_arcs(alloc: Global, arcs: &[Arc], places: &[EventId]) -> Result<Vec<Arc>, AllocError>
+pub(crate) fn moved_arcs(
+    alloc: Global,
+    arcs: &[Arc],
+    places: &[EventId],
+) -> Result<Vec<Arc>, AllocError>
     requires { AreEnds (length places.now) arcs.now }
     ensures { IfOk result (λ v. v.items ≡ map (moved (slice_index places.now)) arcs.now) }
 {

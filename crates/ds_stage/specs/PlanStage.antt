@@ -34,13 +34,18 @@ astg_text (astg.NotMarkedGraph place) = codes "not a marked graph: " ++ place
 astg_text (astg.BadMarking word) = codes "bad marking " ++ word
 astg_text (astg.TooMany limit) = too_many_text limit
 
+-- how few tokens there are along a walk, where there is one
+abbrev pub walk_text : Option ℕ → List ℕ
+walk_text None = codes " (no walk)"
+walk_text (Some sum) = codes " (least walk " ++ decimal sum ++ codes ")"
+
 -- the fault of a graph that is not accepted, its events as they stand in it; want of memory is none
 abbrev pub accept_text : Graph → AcceptFault → Option (List ℕ)
 accept_text g (accept.UnknownEvent event) = Some (codes "unknown event " ++ text_of_event g event)
 accept_text g (accept.MissingEvent event) = Some (codes "missing event " ++ event_text event)
-accept_text g (accept.MissingOrder from to tokens) =
+accept_text g (accept.MissingOrder from to tokens least numbers) =
     Some (codes "missing order " ++ text_of_event g from ++ codes " to " ++ text_of_event g to
-    ++ codes " with " ++ decimal tokens ++ codes " tokens")
+    ++ codes " with " ++ decimal tokens ++ codes " tokens" ++ walk_text least)
 accept_text g (accept.TokenFreeCycle events) =
     Some (codes "token-free cycle:" ++ listed (map (text_of_event g) events))
 accept_text g accept.Memory = None

@@ -2,7 +2,7 @@
 ghost use Rattle.std.specs.Prelude.{◌≡◌, ◌++◌, ℕ, IfOk, codes, decimal, map};
 ghost use Rattle.ds_marked.specs.Log.{event_text, text_of_event};
 ghost use Rattle.ds_stage.specs.FaultText.{listed};
-ghost use Rattle.ds_stage.specs.PlanStage.{IsAcceptText, astg_text as astg_text_of};
+ghost use Rattle.ds_stage.specs.PlanStage.{IsAcceptText, astg_text as astg_text_of, walk_text};
 
 use crate::fault_line::too_many;
 use crate::fault_text::with_name;
@@ -40,8 +40,15 @@ pub fn accept_text(
     match fault {
         AcceptFault::UnknownEvent(event) => unknown(alloc, graph, *event),
         AcceptFault::MissingEvent(event) => missing(alloc, event),
-        AcceptFault::MissingOrder(source, target, tokens) => {
-            missing_order(alloc, graph, *source, *target, *tokens)
+        AcceptFault::MissingOrder {
+            from,
+            to,
+            tokens,
+            least,
+            numbers: _,
+        } => {
+            let text = missing_order(alloc, graph, *from, *to, *tokens)?;
+            with_walk(text, *least)
         }
         AcceptFault::TokenFreeCycle(events) => cycle(alloc, graph, events.as_slice()),
         AcceptFault::Memory => Err(OutOfMemory),
@@ -67,7 +74,7 @@ fn missing(alloc: Global, event: &Event) -> Result<Vec<u8>, OutOfMemory>
     Ok(text)
 }
 
-// An order that no arc gives.
+// An order that no walk gives.
 fn missing_order(
     alloc: Global,
     graph: &Marked,
@@ -87,6 +94,23 @@ fn missing_order(
     text.extend_from_slice(b" with ")?;
     text.extend_from_slice(buffer.format(tokens).as_bytes())?;
     text.extend_from_slice(b" tokens")?;
+    Ok(text)
+}
+
+// A text with how few tokens there are along a walk behind it.
+fn with_walk(text: Vec<u8>, least: Option<u64>) -> Result<Vec<u8>, OutOfMemory>
+    ensures { IfOk result (λ all. all.items ≡ text.items ++ walk_text least) }
+{
+    let mut text = text;
+    match least {
+        Some(sum) => {
+            let mut buffer = Buffer::new();
+            text.extend_from_slice(b" (least walk ")?;
+            text.extend_from_slice(buffer.format(sum).as_bytes())?;
+            text.extend_from_slice(b")")?;
+        }
+        None => text.extend_from_slice(b" (no walk)")?,
+    }
     Ok(text)
 }
 

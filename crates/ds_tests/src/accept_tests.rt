@@ -57,7 +57,7 @@ fn play_edits<R: AllocGlobal + Threads + Sync>(
     play(rt, text.as_str(), runs)
 }
 
-// Graphs that are accepted, with their ranks.
+// Graphs that are accepted, with their ranks. The last one gives five orders by walks.
 const ACCEPTED: &str = "%~
 .model toggle
 =>
@@ -103,11 +103,36 @@ M0+ 1
 M0- 2
 S0+ 3
 S0- 4
+%~
+.graph
+=>
+.graph
+IN+ IN- M0+
+IN- IN+
+OUT+ OUT-
+OUT- S0+
+M0+ M0-
+M0- IN+ S0+
+S0+ OUT+ S0-
+S0- M0+
+.marking { <IN-,IN+> <M0-,IN+> <S0+,OUT+> <S0-,M0+> }
+.end
+%$ desync accept toggle g
+%= 0
+accepted
+IN+ 0
+IN- 1
+OUT+ 0
+OUT- 1
+M0+ 1
+M0- 2
+S0+ 3
+S0- 4
 ";
 
 #[test]
 fn accepted_graphs_show_their_ranks(rt: HostRuntime) -> Result<(), Fail> {
-    play_edits(&rt, ACCEPTED, 3)
+    play_edits(&rt, ACCEPTED, 4)
 }
 
 // Runs over the same graphs.
@@ -141,11 +166,31 @@ end 0
 1 1 1
 2 1 1
 end 0
+%~
+.graph
+=>
+.graph
+IN+ IN- M0+
+IN- IN+
+OUT+ OUT-
+OUT- S0+
+M0+ M0-
+M0- IN+ S0+
+S0+ OUT+ S0-
+S0- M0+
+.marking { <IN-,IN+> <M0-,IN+> <S0+,OUT+> <S0-,M0+> }
+.end
+%$ desync run toggle v --graph g
+%= 0
+0 0 0
+1 1 1
+2 1 1
+end 0
 ";
 
 #[test]
 fn runs_over_accepted_graphs_print_the_clocked_trace(rt: HostRuntime) -> Result<(), Fail> {
-    play_edits(&rt, RUNS, 3)
+    play_edits(&rt, RUNS, 4)
 }
 
 // Here M0+ alone waits for more than it must.
@@ -171,7 +216,7 @@ M0- IN+ M0+
 %$ desync accept toggle g
 %$ desync run toggle v --graph g
 %= 1
-g: missing order M0- to S0+ with 0 tokens
+g: missing order M0- to S0+ with 0 tokens (least walk 1)
 %~
 S0- M0+ S0+
 =>
@@ -207,7 +252,7 @@ g: unknown event X+
 %$ desync accept toggle g
 %$ desync run toggle v --graph g
 %= 1
-g: missing order IN+ to IN- with 0 tokens
+g: missing order IN+ to IN- with 0 tokens (no walk)
 %~
 .outputs IN OUT M0 S0
 =>
@@ -261,7 +306,7 @@ g:12: bad marking <M0+,IN+>
 %$ desync accept toggle g
 %$ desync run toggle v --graph g
 %= 1
-g: missing order M0- to S0+ with 0 tokens
+g: missing order M0- to S0+ with 0 tokens (least walk 1)
 ";
 
 #[test]

@@ -1,11 +1,10 @@
-use Rattle.std.proofs.Common.{◌≡◌, ◌∙◌, ap, subst, sym, ℕ, List, slice_index}
-use Rattle.ds_rank.specs.Rank.{IsRankFault}
-use Rattle.ds_rank.specs.declared.fault.RankFault.{RankFault}
+use Rattle.std.proofs.Common.{subst, sym, ℕ, List, length, slice_index}
+use Rattle.ds_marked.specs.Graph.{AreEnds}
+use Rattle.ds_marked.specs.declared.marked.Arc.{Arc}
 use Rattle.ds_accept.specs.Fault.{IsAcceptFault}
-use Rattle.ds_accept.specs.Steps.{IsMoved}
+use Rattle.ds_accept.specs.Steps.{AreAsked, AreWalked, IsMoved, IsUnmet}
 use Rattle.ds_accept.specs.declared.fault.AcceptFault.{AcceptFault}
-use Rattle.ds_accept.specs.declared.fault.AcceptFault.TheVariants.{MissingOrder}
-use Rattle.ds_accept.proofs.Facts.{Facts, accepted, lacking, matched, order_ends, turning, ungiven}
+use Rattle.ds_accept.proofs.Facts.{Facts, accepted, asked_ends, lacking, matched, unmet}
 use Rattle.ds_accept.proofs.plan.check.Goals as goal
 
 pub returns-in_err-places : goal.returns-in_err-places
@@ -22,32 +21,8 @@ returns-in_err-places c =
           (lacking c.args.latches.now c.args.graph.now c.in_ok-required.required c.in_ok-numbers.numbers.items f c.in_err-places.field-0.0 c.in_err-places.ensures));
     }
 
-pub missing_order-requires-clause-source : goal.missing_order-requires-clause-source
-missing_order-requires-clause-source c =
-    let f : Facts c.args.latches.now c.args.graph.now c.in_ok-required.required c.in_ok-numbers.numbers.items = record {
-      plan = c.in_ok-required.ensures.ok_plan;
-      events = c.in_ok-required.ensures.ok_events;
-      orders = c.in_ok-required.ensures.ok_orders;
-      kept = c.numbers_of.ensures.kept;
-      numbers_are = c.in_ok-numbers.ensures.value;
-    } in
-    rw c.as_slice-in-Some.ensures.value (order_ends c.args.latches.now c.args.graph.now c.in_ok-required.required c.in_ok-numbers.numbers.items f c.in_ok-places.places.items c.in_ok-places.ensures
-    c.in_ok-other.other.arcs c.in-Some.order c.in-Some.ensures).0
-
-pub missing_order-requires-clause-target : goal.missing_order-requires-clause-target
-missing_order-requires-clause-target c =
-    let f : Facts c.args.latches.now c.args.graph.now c.in_ok-required.required c.in_ok-numbers.numbers.items = record {
-      plan = c.in_ok-required.ensures.ok_plan;
-      events = c.in_ok-required.ensures.ok_events;
-      orders = c.in_ok-required.ensures.ok_orders;
-      kept = c.numbers_of.ensures.kept;
-      numbers_are = c.in_ok-numbers.ensures.value;
-    } in
-    rw c.as_slice-in-Some.ensures.value (order_ends c.args.latches.now c.args.graph.now c.in_ok-required.required c.in_ok-numbers.numbers.items f c.in_ok-places.places.items c.in_ok-places.ensures
-    c.in_ok-other.other.arcs c.in-Some.order c.in-Some.ensures).1
-
-pub returns-in-Some : goal.returns-in-Some
-returns-in-Some c =
+pub check_walks-requires : goal.check_walks-requires
+check_walks-requires c =
     let f : Facts c.args.latches.now c.args.graph.now c.in_ok-required.required c.in_ok-numbers.numbers.items = record {
       plan = c.in_ok-required.ensures.ok_plan;
       events = c.in_ok-required.ensures.ok_events;
@@ -57,14 +32,13 @@ returns-in-Some c =
     } in
     let m : IsMoved c.args.graph.now c.in_ok-required.required.events (slice_index c.in_ok-numbers.numbers.items) c.in_ok-other.other
     = subst (λ (ns : List ℕ). IsMoved c.args.graph.now c.in_ok-required.required.events (slice_index ns) c.in_ok-other.other) c.as_slice.ensures.value c.in_ok-other.ensures in
-    let is : c.missing_order.result ≡ MissingOrder (slice_index c.in_ok-places.places.items c.in-Some.order.source) (slice_index c.in_ok-places.places.items c.in-Some.order.target) c.in-Some.order.tokens
-    = c.missing_order.ensures ∙ ap (λ (ps : List ℕ). MissingOrder (slice_index ps c.in-Some.order.source) (slice_index ps c.in-Some.order.target) c.in-Some.order.tokens) c.as_slice-in-Some.ensures.value in record {
-      checked = subst (λ (fault : AcceptFault). IsAcceptFault c.args.latches.now c.args.graph.now fault) (sym is)
-          (ungiven c.args.latches.now c.args.graph.now c.in_ok-required.required c.in_ok-numbers.numbers.items f c.in_ok-places.places.items c.in_ok-places.ensures c.in_ok-other.other m c.in-Some.order c.in-Some.ensures);
-    }
+    let a : AreAsked c.in_ok-required.required.arcs c.in_ok-other.other.arcs (slice_index c.in_ok-places.places.items) c.in_ok-asked.asked.items
+    = subst (λ (ps : List ℕ). AreAsked c.in_ok-required.required.arcs c.in_ok-other.other.arcs (slice_index ps) c.in_ok-asked.asked.items) c.as_slice-2.ensures.value c.in_ok-asked.ensures in
+    subst (AreEnds (length c.args.graph.now.events)) (sym c.as_slice-3.ensures.value)
+    (asked_ends c.args.latches.now c.args.graph.now c.in_ok-required.required c.in_ok-numbers.numbers.items f c.in_ok-places.places.items c.in_ok-places.ensures c.in_ok-other.other m c.in_ok-asked.asked.items a)
 
-pub returns-in-Ok : goal.returns-in-Ok
-returns-in-Ok c =
+pub returns-in_err-check_walks : goal.returns-in_err-check_walks
+returns-in_err-check_walks c =
     let f : Facts c.args.latches.now c.args.graph.now c.in_ok-required.required c.in_ok-numbers.numbers.items = record {
       plan = c.in_ok-required.ensures.ok_plan;
       events = c.in_ok-required.ensures.ok_events;
@@ -73,13 +47,18 @@ returns-in-Ok c =
       numbers_are = c.in_ok-numbers.ensures.value;
     } in
     let m : IsMoved c.args.graph.now c.in_ok-required.required.events (slice_index c.in_ok-numbers.numbers.items) c.in_ok-other.other
-    = subst (λ (ns : List ℕ). IsMoved c.args.graph.now c.in_ok-required.required.events (slice_index ns) c.in_ok-other.other) c.as_slice.ensures.value c.in_ok-other.ensures in record {
-      checked = accepted c.args.latches.now c.args.graph.now c.in_ok-required.required c.in_ok-numbers.numbers.items f c.in_ok-places.places.items c.in_ok-places.ensures c.in_ok-other.other m
-          c.in_default.ensures c.in-Ok.field-0 c.in-Ok.ensures.ok;
+    = subst (λ (ns : List ℕ). IsMoved c.args.graph.now c.in_ok-required.required.events (slice_index ns) c.in_ok-other.other) c.as_slice.ensures.value c.in_ok-other.ensures in
+    let a : AreAsked c.in_ok-required.required.arcs c.in_ok-other.other.arcs (slice_index c.in_ok-places.places.items) c.in_ok-asked.asked.items
+    = subst (λ (ps : List ℕ). AreAsked c.in_ok-required.required.arcs c.in_ok-other.other.arcs (slice_index ps) c.in_ok-asked.asked.items) c.as_slice-2.ensures.value c.in_ok-asked.ensures in
+    let shown : IsUnmet c.args.graph.now c.in_ok-asked.asked.items c.in_err-check_walks.field-0.0
+    = subst (λ (xs : List Arc). IsUnmet c.args.graph.now xs c.in_err-check_walks.field-0.0) c.as_slice-3.ensures.value c.in_err-check_walks.ensures in record {
+      checked = matched _ _ _ c.from_residual-in_err-check_walks.result c.from_residual-in_err-check_walks.ensures.1
+          (λ e is. subst (λ (fault : AcceptFault). IsAcceptFault c.args.latches.now c.args.graph.now fault) (sym is)
+          (unmet c.args.latches.now c.args.graph.now c.in_ok-required.required c.in_ok-numbers.numbers.items f c.in_ok-places.places.items c.in_ok-places.ensures c.in_ok-other.other m c.in_ok-asked.asked.items a c.in_err-check_walks.field-0.0 shown));
     }
 
-pub returns-in-Err-Cycle : goal.returns-in-Err-Cycle
-returns-in-Err-Cycle c =
+pub returns : goal.returns
+returns c =
     let f : Facts c.args.latches.now c.args.graph.now c.in_ok-required.required c.in_ok-numbers.numbers.items = record {
       plan = c.in_ok-required.ensures.ok_plan;
       events = c.in_ok-required.ensures.ok_events;
@@ -88,7 +67,10 @@ returns-in-Err-Cycle c =
       numbers_are = c.in_ok-numbers.ensures.value;
     } in
     let m : IsMoved c.args.graph.now c.in_ok-required.required.events (slice_index c.in_ok-numbers.numbers.items) c.in_ok-other.other
-    = subst (λ (ns : List ℕ). IsMoved c.args.graph.now c.in_ok-required.required.events (slice_index ns) c.in_ok-other.other) c.as_slice.ensures.value c.in_ok-other.ensures in record {
-      checked = turning c.args.latches.now c.args.graph.now c.in_ok-required.required c.in_ok-numbers.numbers.items f c.in_ok-places.places.items c.in_ok-places.ensures c.in_ok-other.other m
-          c.in_default.ensures c.in-Err-Cycle.events (subst (λ (fault : RankFault). IsRankFault c.args.graph.now fault) c.in-Err-Cycle.field-0-is c.in-Err-Cycle.ensures.fault);
+    = subst (λ (ns : List ℕ). IsMoved c.args.graph.now c.in_ok-required.required.events (slice_index ns) c.in_ok-other.other) c.as_slice.ensures.value c.in_ok-other.ensures in
+    let a : AreAsked c.in_ok-required.required.arcs c.in_ok-other.other.arcs (slice_index c.in_ok-places.places.items) c.in_ok-asked.asked.items
+    = subst (λ (ps : List ℕ). AreAsked c.in_ok-required.required.arcs c.in_ok-other.other.arcs (slice_index ps) c.in_ok-asked.asked.items) c.as_slice-2.ensures.value c.in_ok-asked.ensures in
+    record {
+      checked = accepted c.args.latches.now c.args.graph.now c.in_ok-required.required c.in_ok-numbers.numbers.items f c.in_ok-places.places.items c.in_ok-places.ensures c.in_ok-other.other m c.in_ok-asked.asked.items a
+          (subst (AreWalked c.args.graph.now) c.as_slice-3.ensures.value c.in_ok-check_walks.ensures);
     }

@@ -1,0 +1,46 @@
+-- Events that are put in the order of their ranks are all there.
+use Rattle.std.proofs.Common.{◌≡◌, inl, inr, ℕ, ◌+◌, ◌<◌, List, [], ◌∷◌, ◌++◌, length, get_or, map, sym, ◌∙◌, ap, subst, arith, length-append, Contains, IsPermutation}
+use Rattle.std.proofs.lemmas.Bool.{cases_eq}
+use Rattle.std.proofs.lemmas.List.{get_or-map, length-map, get_or_append_left, get_or_push}
+use Rattle.std.proofs.lemmas.List.Elements.{Contains-append_left, Contains-push}
+use Rattle.std.proofs.lemmas.List.Sorted.{Contains-permutation}
+use Rattle.ds_base.proofs.Lists.{get_or-self}
+use Rattle.ds_accept.specs.Ranked.{AreRanked}
+use Rattle.ds_accept.specs.declared.ranked.Ranked.{Ranked}
+
+-- an event more
+pub ranked_more : (events : ℕ) (all : List Ranked) (x : Ranked) → x.event ≡ events → AreRanked events all → AreRanked (events + 1) (all ++ x ∷ [])
+ranked_more events all x is are = record {
+  one_each = length-append all (x ∷ []) ∙ ap (λ (n : ℕ). n + 1) are.one_each;
+  at = λ v low d. elim (cases_eq v events) [
+    | inl last ↦ (
+        let size : length all ≡ events = are.one_each in
+        let here : get_or (all ++ x ∷ []) v d ≡ x = get_or_push all x d v (omega (size, last, arith)) in
+        ap (λ (r : Ranked). r.event) here ∙ (is ∙ sym last))
+    | inr early ↦ (
+        let size : length all ≡ events = are.one_each in
+        let here : get_or (all ++ x ∷ []) v d ≡ get_or all v d = get_or_append_left all (x ∷ []) d v (omega (size, low, early, arith)) in
+        ap (λ (r : Ranked). r.event) here ∙ are.at v (omega (low, early, arith)) d)
+  ];
+}
+
+-- each event stands among those that are put in another order
+pub all_ranked : (events : ℕ) (all sorted : List Ranked) (order : List ℕ) → AreRanked events all → IsPermutation all sorted
+    → order ≡ map (λ (r : Ranked). r.event) sorted → (v : ℕ) → v < events → Contains order v
+all_ranked events all sorted order are permuted is v low =
+    let some : Ranked = record { rank = 0; event = 0 } in
+    let inside : v < length all = rw are.one_each low in
+    let x : Ranked = get_or all v some in
+    let (i, within, same) = Contains-permutation all sorted x permuted (v, inside, get_or-self all v some inside) in (
+      i,
+      rw (is, length-map sorted (λ (r : Ranked). r.event)) within,
+      ap (λ (xs : List ℕ). get_or xs i v) is
+          ∙ (get_or-map (λ (r : Ranked). r.event) sorted i x v within ∙ (ap (λ (r : Ranked). r.event) same ∙ are.at v low some)),
+    )
+
+-- an event more, in turn
+pub in_turn_more : (k : ℕ) (order : List ℕ) → ((v : ℕ) → v < k → Contains order v) → (v : ℕ) → v < k + 1 → Contains (order ++ k ∷ []) v
+in_turn_more k order all v low = elim (cases_eq v k) [
+  | inl last ↦ subst (Contains (order ++ k ∷ [])) (sym last) (Contains-push order k)
+  | inr early ↦ Contains-append_left order (k ∷ []) v (all v (omega (low, early, arith)))
+]

@@ -1,0 +1,72 @@
+//! The events of a graph in the order of their ranks.
+ghost use Rattle.std.specs.Prelude.{◌≡◌, ◌<◌, ◌^◌, ℕ, length, map, Contains, IfOk};
+ghost use Rattle.std.specs.List.Sorted.{IsPermutation};
+ghost use Rattle.ds_accept.specs.Ranked.{AreRanked};
+
+use ds_base::EventId;
+use ds_rank::Ranks;
+use std::alloc::{AllocError, Global};
+
+// An event with its rank.
+#[derive(Clone, Copy)]
+struct Ranked {
+    rank: u64,
+    event: EventId,
+}
+
+// The events as they stand.
+pub(crate) fn in_turn(alloc: Global, events: usize) -> Result<Vec<EventId>, AllocError>
+    requires { events < 2 ^ 32 }
+    ensures { IfOk result (λ order. (v : ℕ) → v < events → Contains order.items v) }
+{
+    let mut order: Vec<EventId> = Vec::new(alloc);
+    for place in 0..events {
+        order.push(EventId::new(place as u32))?;
+    }
+    Ok(order)
+}
+
+// The events by their ranks.
+pub(crate) fn by_rank(
+    alloc: Global,
+    events: usize,
+    ranks: &Ranks,
+) -> Result<Vec<EventId>, AllocError>
+    requires few { events < 2 ^ 32 }
+    requires ranks { length ranks.now ≡ events }
+    ensures { IfOk result (λ order. (v : ℕ) → v < events → Contains order.items v) }
+{
+    let mut all = with_ranks(alloc, events, ranks)?;
+    sort_by_rank(&mut all)?;
+    events_of(alloc, all.as_slice())
+}
+
+// Each event with its rank.
+fn with_ranks(alloc: Global, events: usize, ranks: &Ranks) -> Result<Vec<Ranked>, AllocError>
+    requires few { events < 2 ^ 32 }
+    requires ranks { length ranks.now ≡ events }
+    ensures { IfOk result (λ all. AreRanked events all.items) }
+{
+    let mut all: Vec<Ranked> = Vec::new(alloc);
+    for place in 0..events {
+        let event = EventId::new(place as u32);
+        let rank = ranks.at(event);
+        all.push(Ranked { rank, event })?;
+    }
+    Ok(all)
+}
+
+// Sorts by rank, and leaves those of one rank in their order.
+fn sort_by_rank(all: &mut Vec<Ranked>) -> Result<(), AllocError>
+    ensures { IsPermutation all.old.items all.new.items }
+{
+    all.sort_by_key(|ranked| ranked.rank)?;
+    Ok(())
+}
+
+// The events alone.
+fn events_of(alloc: Global, all: &[Ranked]) -> Result<Vec<EventId>, AllocError>
+    ensures { IfOk result (λ events. events.items ≡ map (λ ranked. ranked.event) all.now) }
+{
+    all.iter().map(|ranked| ranked.event).collect(alloc)
+}

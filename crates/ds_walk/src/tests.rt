@@ -1,0 +1,96 @@
+//! Events in a row, with one arc back.
+ghost use Rattle.std.specs.Prelude.{◌≡◌, ◌<◌, ℕ, IfOk, All, Contains, length};
+ghost use Rattle.ds_marked.specs.Graph.{AreEnds};
+
+use crate::{first_unmet, least_sums};
+use ds_base::{EventId, OutOfMemory, Seq};
+use ds_marked::{Arc, Event, Kind, Marked};
+use std::alloc::Global;
+
+fn graph(alloc: Global, arcs: [Arc; 4]) -> Result<Marked, OutOfMemory>
+    requires { All (λ arc. (arc.source < 3) × (arc.target < 3)) arcs }
+    ensures { IfOk result (λ g. length g.events ≡ 3) }
+{
+    let mut events = Seq::new(alloc);
+    events.push(event(alloc, Kind::Rise))?;
+    events.push(event(alloc, Kind::Fall))?;
+    events.push(event(alloc, Kind::Dummy))?;
+    Marked::new(alloc, events, Vec::from_array(alloc, arcs)?)
+}
+
+fn event(alloc: Global, kind: Kind) -> Event
+    ensures { result.kind ≡ kind }
+{
+    let signal = Seq::new(alloc);
+    Event { signal, kind }
+}
+
+fn arc(source: u32, target: u32, tokens: u8) -> Arc
+    ensures { result ≡ record { source = source; target = target; tokens = tokens } }
+{
+    Arc {
+        source: EventId::new(source),
+        target: EventId::new(target),
+        tokens,
+    }
+}
+
+// The events, the last one first.
+fn order() -> [EventId; 3]
+    ensures { (v : ℕ) → v < 3 → Contains result v }
+{
+    [EventId::new(2), EventId::new(1), EventId::new(0)]
+}
+
+// More than 64 times the source changes, and the last order is the first that no walk gives.
+fn long(alloc: Global) -> Result<Vec<Arc>, OutOfMemory>
+    ensures { IfOk result (λ asked. AreEnds 3 asked.items) }
+{
+    let mut asked: Vec<Arc> = Vec::new(alloc);
+    for _ in 0..100 {
+        asked.push(arc(0, 2, 0))?;
+        asked.push(arc(1, 0, 1))?;
+    }
+    asked.push(arc(1, 0, 0))?;
+    Ok(asked)
+}
+
+// From 2 to 1 there is a walk of one token, by 0.
+#[test]
+fn an_order_is_given_by_a_walk(rt: HostRuntime) {
+    let arcs = [arc(0, 1, 0), arc(1, 2, 0), arc(2, 0, 1), arc(0, 2, 3)];
+    let (Ok(graph), Ok(long)) = (graph(rt.alloc(), arcs), long(rt.alloc())) else {
+        panic!(rt; "memory");
+    };
+    let given = [arc(0, 2, 0), arc(2, 1, 1), arc(2, 2, 0), arc(1, 1, 1)];
+    assert_eq!(rt;
+        first_unmet(rt.alloc(), &graph, &order(), &given).ok(),
+        Some(None)
+    );
+    let lacking = [arc(0, 2, 1), arc(2, 1, 0), arc(1, 0, 0)];
+    assert_eq!(rt;
+        first_unmet(rt.alloc(), &graph, &order(), &lacking).ok(),
+        Some(Some(1))
+    );
+    assert_eq!(rt;
+        first_unmet(rt.alloc(), &graph, &order(), &long).ok(),
+        Some(Some(200))
+    );
+}
+
+// Nothing leads to the event 0, and two arcs from it to the event 2.
+#[test]
+fn the_least_sums_are_those_of_walks(rt: HostRuntime) {
+    let arcs = [arc(0, 1, 1), arc(1, 2, 0), arc(2, 1, 1), arc(0, 2, 3)];
+    let Ok(graph) = graph(rt.alloc(), arcs) else {
+        panic!(rt; "memory");
+    };
+    let Ok(sums) = least_sums(rt.alloc(), &graph, &order(), EventId::new(0)) else {
+        panic!(rt; "memory");
+    };
+    assert_eq!(rt; sums.as_slice(), [Some(0), Some(1), Some(1)].as_slice());
+    let Ok(sums) = least_sums(rt.alloc(), &graph, &order(), EventId::new(1)) else {
+        panic!(rt; "memory");
+    };
+    assert_eq!(rt; sums.as_slice(), [None, Some(0), Some(0)].as_slice());
+}
