@@ -32,6 +32,15 @@ pub record Belongs (f : Base) (p : Showing) : Type 0 where
   pub run : p.view.run ≡ f.run
   pub nets : p.nets ≡ f.nets
 
+-- the same, whatever row it has to work in
+pub record IsOf (f : Base) (p : Showing) : Type 0 where
+  pub table : p.table_id ≡ f.table_id
+  pub run : p.view.run ≡ f.run
+
+-- a pass with so many values in its row
+abbrev pub with_nets : ℕ → Showing → Showing
+with_nets n p = record p { nets = n }
+
 -- only what the pass knows is other than before
 pub record Stays (old p : Showing) : Type 0 where
   pub table : p.table_id ≡ old.table_id

@@ -1,18 +1,17 @@
 //! The shared table with its calls: `build` makes it and the pass of all nodes, `step` fires,
-//! `deal` and `gather` hand nodes from pass to pass, `finish` makes the record.
+//! `deal`, `deal_bare` and `gather` hand nodes from pass to pass, `finish` makes the record.
 ghost use Rattle.std.specs.Prelude.{◌≡◌, ◌<◌, ◌≤◌, ◌+◌, true, ℕ, OnOk, OnErr, IfOk, length};
 ghost use Rattle.ds_rule.specs.Sound.{IsSound};
 ghost use Rattle.ds_rule.specs.Log.{Recorded};
 ghost use Rattle.ds_rule.specs.Rule.{holds, tickets};
 ghost use Rattle.ds_rule.specs.Plays.{both};
 ghost use Rattle.ds_fabric.specs.Stepped.{Stepped};
-ghost use Rattle.ds_fabric.specs.Showing.{Belongs, IsBegun, IsCounted, IsDealt, IsLeft, Stays};
+ghost use Rattle.ds_fabric.specs.Showing.{Belongs, IsBegun, IsCounted, IsDealt, IsLeft, IsOf};
+ghost use Rattle.ds_fabric.specs.Showing.{Stays, with_nets};
 
 use crate::build::{histories, lay};
 use crate::chain::Chains;
 use crate::compute::Compute;
-use crate::counts::seems_enough;
-use crate::flight::advance;
 use crate::hands::{cut, mend, shut};
 use crate::index::{Index, firsts};
 use crate::pass::Pass;
@@ -100,38 +99,13 @@ impl<'a, J: Rows, C: Compute> Fabric<'a, J, C> {
         ensures same { Stays pass.old pass.new }
         ensures step { Stepped self.now.run pass.old.view node result pass.new.view }
     {
-        let number = node.index();
-        let nodes = pass.nodes.as_slice();
-        let at = find(nodes, pass.places.as_slice(), number);
-        advance(
-            &self.table.shared,
-            self.run,
-            self.openings,
-            &self.chains,
-            &self.index,
+        self.step_node(
             &mut pass.seat,
-            &mut pass.nodes[at],
+            &mut pass.nodes,
+            &pass.places,
+            node,
             &mut pass.nets,
         )
-    }
-
-    /// Plain looks at the counts show enough for the next event of the node, which is not done. A
-    /// hint: it tells nothing, and a step alone says what may fire. A worker that lacks tokens
-    /// passes its time so.
-    pub fn seems_ready(&self, pass: &Pass, node: LatchId) -> bool
-        requires fits { Belongs self.now pass.now }
-        requires held { holds pass.now.view node ≡ true }
-    {
-        let number = node.index();
-        let nodes = pass.nodes.as_slice();
-        let at = find(nodes, pass.places.as_slice(), number);
-        let fired = pass.nodes[at].fired;
-        let event = self.run.next(number, fired);
-        let before = self.run.turns(event, fired);
-        if before >= self.run.limit() {
-            return false;
-        }
-        seems_enough(&self.table.shared, self.run, &self.chains, event, before)
     }
 
     /// The node goes to a new pass, which has seen what the old one had seen.
@@ -150,12 +124,50 @@ impl<'a, J: Rows, C: Compute> Fabric<'a, J, C> {
         ensures ok_left { OnOk result (IsLeft pass.old node pass.new) }
         ensures same { OnErr result (pass.new ≡ pass.old) }
     {
+        self.deal_with(alloc, pass, node, room, self.openings.nets())
+    }
+
+    /// The node goes to a new bare pass, which has room for it alone, and no row to work in: small,
+    /// so that there may be one for each node. It steps by `step_in`.
+    pub fn deal_bare(
+        &self,
+        alloc: Global,
+        pass: &mut Pass,
+        node: LatchId,
+    ) -> Result<Pass, OutOfMemory>
+        requires fits { IsOf self.now pass.old }
+        requires held { holds pass.old.view node ≡ true }
+
+        ensures ok { IfOk result (λ q. IsDealt (with_nets 0 pass.old) node 1 q) }
+        ensures ok_left { OnOk result (IsLeft pass.old node pass.new) }
+        ensures same { OnErr result (pass.new ≡ pass.old) }
+    {
+        self.deal_with(alloc, pass, node, 1, 0)
+    }
+
+    // The node goes to a new pass, whose row has so many values.
+    fn deal_with(
+        &self,
+        alloc: Global,
+        pass: &mut Pass,
+        node: LatchId,
+        room: u32,
+        count: usize,
+    ) -> Result<Pass, OutOfMemory>
+        requires fits { IsOf self.now pass.old }
+        requires held { holds pass.old.view node ≡ true }
+        requires room { 0 < room }
+
+        ensures ok { IfOk result (λ q. IsDealt (with_nets count pass.old) node room q) }
+        ensures ok_left { OnOk result (IsLeft pass.old node pass.new) }
+        ensures same { OnErr result (pass.new ≡ pass.old) }
+    {
         let number = node.index();
         let held = pass.nodes.as_slice();
         let at = find(held, pass.places.as_slice(), number);
         let mut nodes = Vec::with_capacity(alloc, room as usize)?;
         let places = alone(alloc, self.run.nodes(), number, room)?;
-        let nets = Row3::with_len(alloc, self.openings.nets())?;
+        let nets = Row3::with_len(alloc, count)?;
         let seat = cut(&self.table.shared, self.run, &mut pass.seat, number);
         let history = take_out(&mut pass.nodes, &mut pass.places, at);
         nodes.push_reserved(history);
@@ -171,7 +183,7 @@ impl<'a, J: Rows, C: Compute> Fabric<'a, J, C> {
     /// The first pass takes in the nodes of the second.
     pub fn gather(&self, pass: &mut Pass, other: Pass)
         requires fits { Belongs self.now pass.old }
-        requires other { Belongs self.now other }
+        requires other { IsOf self.now other }
         requires room { pass.old.many + other.many ≤ pass.old.room }
 
         ensures same { (pass.new.table_id ≡ pass.old.table_id) × (pass.new.room ≡ pass.old.room)

@@ -3,7 +3,8 @@
 //! A `Fabric` is seen as its table and its run, a `Pass` as what it holds and knows. `build` gives
 //! a table in which nothing has fired, and the pass of all nodes; `deal` and `gather` cut and join
 //! passes; `step` fires the next event of a node where the counts that it loads are enough, and
-//! says else which arc lacks tokens; `finish` ends the run. A `Record` has the tickets of each
+//! says else which arc lacks tokens, in the pass's own row, and `step_in` in a `Scratch`, for the
+//! small passes of `deal_bare`; `finish` ends the run. A `Record` has the tickets of each
 //! event, which are the places of one legal list, and the rows of each node. How the row of a node
 //! comes from those of its producers is a `Compute`. Nothing is promised of time, or of which pass
 //! fires what.
@@ -16,12 +17,14 @@ mod counts;
 mod fabric;
 mod flight;
 mod hands;
+mod hints;
 mod history;
 mod index;
 mod pass;
 mod places;
 mod record;
 mod rows;
+mod scratch;
 mod spread;
 mod step;
 mod words;
@@ -30,5 +33,6 @@ pub use compute::Compute;
 pub use fabric::Fabric;
 pub use pass::Pass;
 pub use record::Record;
+pub use scratch::Scratch;
 pub use step::Step;
 pub use words::unpack;

@@ -12,9 +12,9 @@ use Rattle.ds_runner.proofs.complete.collect.Goals as goal
 
 pub gather-requires-clause-other : goal.gather-requires-clause-other
 gather-requires-clause-other g c = let items = c.in-Some.ensures.items in let ws = c.pop.new.self.items in
-    (c.taking.invariant.1 (length ws) c.in-Some.worker
+    let fits = (c.taking.invariant.1 (length ws) c.in-Some.worker
     (subst (λ zs. get_elem? zs (length ws) ≡ some c.in-Some.worker) (sym items)
-    (at_last ws c.in-Some.worker (length ws) refl))).fits
+    (at_last ws c.in-Some.worker (length ws) refl))).fits in record { table = fits.table; run = fits.run }
 
 pub taking-preserved : goal.taking-preserved
 taking-preserved g c = let items = c.in-Some.ensures.items in let ws = c.pop.new.self.items in

@@ -1,9 +1,8 @@
-use Rattle.std.proofs.Common.{◌≡◌, ◌<◌, ◌∙◌, ap, sym, subst, arith, true}
+use Rattle.std.proofs.Common.{◌≡◌, ap, sym, subst, arith, true}
 use Rattle.ds_rule.specs.Run.{Run}
 use Rattle.ds_rule.specs.Rule.{holds}
-use Rattle.ds_fabric.specs.Base.{Base}
 use Rattle.ds_fabric.specs.Showing.{Showing}
-use Rattle.ds_fabric.proofs.Passes.{near-node, next_below}
+use Rattle.ds_fabric.proofs.Passes.{near-node}
 use Rattle.ds_fabric.proofs.Finds.{indexed_same, stands_same, stands_below}
 use Rattle.ds_fabric.proofs.fabric.Fabric.seems_ready.Goals as goal
 
@@ -29,21 +28,14 @@ index-requires g c =
     let b = stands_below c.pass.inside.nodes.items c.as_slice-nodes.result.now c.find-at.result
     c.index-number.result c.as_slice-nodes.ensures.value c.find-at.ensures in omega (arith, b)
 
-pub seems_enough-requires-clause-near : goal.seems_enough-requires-clause-near
-seems_enough-requires-clause-near g c =
-    let run : Run = c.self.inside.run.now in
+pub seems_enabled-requires : goal.seems_enabled-requires
+seems_enabled-requires g c =
     let held : holds c.pass.inside.seat.me.0 c.args.node ≡ true = subst (λ (x : Showing). holds x.view c.args.node ≡ true)
     (sym c.pass.view_is) c.requires.held in
-    let is : c.pass.inside.seat.me.0.run ≡ run = ap (λ (x : Showing). x.view.run) c.pass.view_is
-    ∙ (c.requires.fits.run ∙ sym (ap (λ (x : Base). x.run) c.self.view_is)) in
-    let near : c.index-number.result < run.nodes = omega (
+    omega (
       arith,
       c.index-number.ensures,
       near-node c.pass.inside.seat.me c.pass.inside.nodes.items c.args.node c.pass.invariant.keeps held,
-      ap (λ (r : Run). r.nodes) is,
-    ) in
-    omega (
-      arith,
-      c.next-event.ensures,
-      next_below run c.index-number.result c.index.result.now.fired c.self.invariant.0.over.sound.among near,
+      ap (λ (x : Showing). x.view.run.nodes) c.pass.view_is,
+      ap (λ (r : Run). r.nodes) c.requires.fits.run,
     )

@@ -14,7 +14,7 @@ use Rattle.ds_rule.proofs.Lists.{same_at}
 use Rattle.ds_fabric.specs.Indexed.{IsIndexed}
 use Rattle.ds_fabric.specs.Showing.{IsPass}
 use Rattle.ds_fabric.proofs.Passes.{near-node}
-use Rattle.ds_fabric.proofs.fabric.Fabric.deal.Goals as goal
+use Rattle.ds_fabric.proofs.fabric.Fabric.deal_with.Goals as goal
 
 pub find-at-requires-clause-indexed : goal.find-at-requires-clause-indexed
 find-at-requires-clause-indexed g c = (

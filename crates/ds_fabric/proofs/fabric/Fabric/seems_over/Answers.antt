@@ -1,0 +1,10 @@
+use Rattle.std.proofs.Common.{arith}
+use Rattle.ds_rule.proofs.PlaceLaws.{counts_inside}
+use Rattle.ds_fabric.proofs.fabric.Fabric.seems_over.Goals as goal
+
+pub peek-requires : goal.peek-requires
+peek-requires g c = omega (
+  arith,
+  c.self.invariant.0.over.sized,
+  counts_inside c.self.inside.run.now 0 (omega arith),
+)

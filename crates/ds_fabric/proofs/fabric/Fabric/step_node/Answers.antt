@@ -1,0 +1,95 @@
+use Rattle.std.proofs.Common.{◌≡◌, ◌∙◌, ℕ, List, ap, sym, subst, arith, length}
+use Rattle.std.proofs.Common.{set}
+use mathlib.Core.Option.{some}
+use lib.ListN.{get_elem?}
+use Rattle.ds_rule.specs.Run.{Run}
+use Rattle.ds_fabric.specs.Base.{Base}
+use Rattle.ds_fabric.specs.Indexed.{IsIndexed}
+use Rattle.ds_fabric.proofs.Standing.{put_back}
+use Rattle.ds_fabric.specs.Stepped.{Stepped}
+use Rattle.ds_fabric.specs.declared.history.History.{History}
+use Rattle.ds_fabric.proofs.Finds.{indexed_same, stands_same, stands_below}
+use Rattle.std.proofs.Common.{get_or}
+use Rattle.atomic_table.proofs.Lists.{at_index}
+use Rattle.ds_rule.proofs.Lists.{at_below, same_at}
+use Rattle.ds_fabric.proofs.fabric.Fabric.step_node.Goals as goal
+
+pub find-at-requires-clause-indexed : goal.find-at-requires-clause-indexed
+find-at-requires-clause-indexed g c = (
+  c.args.seat.now.me.0.run.nodes,
+  c.requires.pass.0,
+  indexed_same c.args.seat.now.me.0.run.nodes c.requires.pass.0 c.args.nodes.now.items
+      c.as_slice-held.result.now c.args.places.now.items c.as_slice.result.now
+      c.as_slice-held.ensures.value c.as_slice.ensures.value c.requires.pass.1.indexed,
+)
+
+pub find-at-requires-clause-there : goal.find-at-requires-clause-there
+find-at-requires-clause-there g c =
+    stands_same c.args.nodes.now.items c.as_slice-held.result.now c.index-number.result c.args.node
+    c.as_slice-held.ensures.value c.index-number.ensures
+    (c.requires.pass.1.keeps.found c.args.node c.requires.held)
+
+pub index_mut-requires : goal.index_mut-requires
+index_mut-requires g c =
+    let b = stands_below c.args.nodes.now.items c.as_slice-held.result.now c.find-at.result
+    c.index-number.result c.as_slice-held.ensures.value c.find-at.ensures in omega (arith, b)
+
+-- the history that was found is one of the pass
+there : (ns zs : List History) (i l : ℕ) (h : History) → zs ≡ ns → (x : History)
+    × (get_elem? zs i ≡ some x) × (x.node ≡ l)
+    → h ≡ get_or ns i h → get_elem? ns i ≡ some h
+there ns zs i l h e f is =
+    at_index ns i h (at_below ns i f.0 (subst
+    (λ (xs : List History). get_elem? xs i ≡ some f.0) e f.1)) is
+
+pub advance-requires-clause-run : goal.advance-requires-clause-run
+advance-requires-clause-run g c =
+    c.requires.table.1 ∙ sym (ap (λ (x : Base). x.run) c.self.view_is)
+
+pub advance-requires-clause-keeps : goal.advance-requires-clause-keeps
+advance-requires-clause-keeps g c = (
+  c.args.nodes.now.items,
+  c.find-at.result,
+  c.requires.pass.1.keeps,
+  there c.args.nodes.now.items c.as_slice-held.result.now c.find-at.result c.index-number.result
+      c.index_mut.result.now c.as_slice-held.ensures.value c.find-at.ensures c.index_mut.ensures.value,
+)
+
+-- the node of the history that was found
+node-found : (ns zs : List History) (i l node : ℕ) (h : History) → zs ≡ ns → l ≡ node
+    → get_elem? ns i ≡ some h
+    → (x : History) × (get_elem? zs i ≡ some x) × (x.node ≡ l) → h.node ≡ node
+node-found ns zs i l node h e n at f =
+    ap (λ (x : History). x.node) (same_at ns i h f.0 at
+    (subst (λ (xs : List History). get_elem? xs i ≡ some f.0) e f.1)) ∙ (f.2 ∙ n)
+
+pub returns-clause-pass : goal.returns-clause-pass
+returns-clause-pass g c room p =
+    let nodes : List History = c.args.nodes.now.items in let i : ℕ = c.find-at.result in
+    let h : History = c.index_mut.result.now in
+    let at = there nodes c.as_slice-held.result.now i c.index-number.result h
+    c.as_slice-held.ensures.value c.find-at.ensures c.index_mut.ensures.value in
+    let q = c.advance.ensures in record {
+      keeps = q.keeps nodes i p.keeps at;
+      indexed = subst (λ (r : Run). IsIndexed r.nodes room
+          (length (set nodes i c.advance.new.history))
+          (set nodes i c.advance.new.history) c.args.places.now.items)
+          (sym q.same.0) (put_back c.args.seat.now.me.0.run.nodes room i nodes h c.advance.new.history
+          c.args.places.now.items p.indexed at q.node);
+      roomy = p.roomy;
+      few = p.few;
+    }
+
+pub returns-clause-step : goal.returns-clause-step
+returns-clause-step g c =
+    let nodes : List History = c.args.nodes.now.items in let i : ℕ = c.find-at.result in
+    let h : History = c.index_mut.result.now in
+    let at = there nodes c.as_slice-held.result.now i c.index-number.result h
+    c.as_slice-held.ensures.value c.find-at.ensures c.index_mut.ensures.value in
+    let same = node-found nodes c.as_slice-held.result.now i c.index-number.result c.args.node h
+    c.as_slice-held.ensures.value c.index-number.ensures at c.find-at.ensures in
+    let P : Run → ℕ → Type 0 =
+    λ r l. Stepped r c.args.seat.now.me.0 l c.advance.result c.advance.new.seat.me.0 in
+    subst (P c.args.self.now.run) same
+    (subst (λ (r : Run). P r h.node)
+    (ap (λ (x : Base). x.run) c.self.view_is) c.advance.ensures.step)
