@@ -1,0 +1,11 @@
+pub mod Placed
+pub mod WindowLaws
+pub mod Behind
+pub mod Short
+pub mod Cut
+pub mod Wrong
+pub mod Likeness
+pub mod Kept
+pub mod Taking
+pub mod Closing
+pub mod Nexting
