@@ -38,10 +38,10 @@ clock_not_refused : (held : List ℕ → Held) (vec : List ℕ) → held vec ≢
 clock_not_refused held vec told c text line means refused =
     then_not_refused (vectors_stage held vec c) (trace_stage c) (vectors_exclusive held vec c told) (λ rows b l is none. none) text line means refused
 
-run_not_refused : OneClustering → (held : List ℕ → Held) (file vec : List ℕ) (graph : Option (List ℕ)) (mode : Mode) (log : Bool) → held vec ≢ untold → IsToldIn held graph
-    → (c : Circuit) (text line : List ℕ) → (run_stage held file vec graph mode log c).means text → ¬ (run_stage held file vec graph mode log c).refused line
-run_not_refused law held file vec graph mode log told named c text line means refused =
-    then_not_refused (planned_stage held file graph mode c) (λ (p : Planned). then_stage (vectors_stage held vec c) (traced_stage log c p)) (planned_exclusive law held file graph mode (told_file held graph named) c)
+run_not_refused : OneClustering → (held : List ℕ → Held) (file vec : List ℕ) (graph : Option (List ℕ)) (mode : Mode) (log : Bool) (slack : ℕ) → held vec ≢ untold → IsToldIn held graph
+    → (c : Circuit) (text line : List ℕ) → (run_stage held file vec graph mode log slack c).means text → ¬ (run_stage held file vec graph mode log slack c).refused line
+run_not_refused law held file vec graph mode log slack told named c text line means refused =
+    then_not_refused (planned_stage held file graph mode slack c) (λ (p : Planned). then_stage (vectors_stage held vec c) (traced_stage log c p)) (planned_exclusive law held file graph mode slack (told_file held graph named) c)
     (λ p b l is no_more. then_not_refused (vectors_stage held vec c) (traced_stage log c p) (vectors_exclusive held vec c told) (λ rows t k means none. none) b l is no_more) text line means refused
 
 graph_not_refused : OneClustering → (file : List ℕ) (mode : Mode) (c : Circuit) (text line : List ℕ)
@@ -50,12 +50,12 @@ graph_not_refused law file mode c text line means refused =
     then_not_refused (split_stage file mode c) controller_stage (split_exclusive law file mode c)
     (λ s b l is none. none) text line means refused
 
-replay_not_refused : OneClustering → (held : List ℕ → Held) (file vec log : List ℕ) (graph : Option (List ℕ)) (mode : Mode)
+replay_not_refused : OneClustering → (held : List ℕ → Held) (file vec log : List ℕ) (graph : Option (List ℕ)) (mode : Mode) (slack : ℕ)
     → held vec ≢ untold → held log ≢ untold → IsToldIn held graph → (c : Circuit) (text line : List ℕ)
-    → (replay_stage held file vec log graph mode c).means text → ¬ (replay_stage held file vec log graph mode c).refused line
-replay_not_refused law held file vec log graph mode told logged named c text line means refused =
-    then_not_refused (planned_stage held file graph mode c) (λ (p : Planned). then_stage (vectors_stage held vec c) (λ (vectors : Rows). replayed_stage held log p vectors.rows))
-    (planned_exclusive law held file graph mode (told_file held graph named) c)
+    → (replay_stage held file vec log graph mode slack c).means text → ¬ (replay_stage held file vec log graph mode slack c).refused line
+replay_not_refused law held file vec log graph mode slack told logged named c text line means refused =
+    then_not_refused (planned_stage held file graph mode slack c) (λ (p : Planned). then_stage (vectors_stage held vec c) (λ (vectors : Rows). replayed_stage held log p vectors.rows))
+    (planned_exclusive law held file graph mode slack (told_file held graph named) c)
     (λ p b l is bad. then_not_refused (vectors_stage held vec c) (λ (vectors : Rows). replayed_stage held log p vectors.rows) (vectors_exclusive held vec c told)
     (λ vectors t k means bad. replayed_not_refused held log (lines_exclusive held Log log logged) p vectors.rows t k means bad) b l is bad)
     text line means refused
@@ -63,7 +63,7 @@ replay_not_refused law held file vec log graph mode told logged named c text lin
 accept_not_refused : OneClustering → (held : List ℕ → Held) (file graph : List ℕ) (mode : Mode) → held graph ≢ untold → (c : Circuit) (text line : List ℕ)
     → (accept_stage held file graph mode c).means text → ¬ (accept_stage held file graph mode c).refused line
 accept_not_refused law held file graph mode named c text line means refused =
-    then_not_refused (planned_stage held file (Some graph) mode c) ranks_stage (planned_exclusive law held file (Some graph) mode (told_file held (Some graph) named) c)
+    then_not_refused (planned_stage held file (Some graph) mode 0 c) ranks_stage (planned_exclusive law held file (Some graph) mode 0 (told_file held (Some graph) named) c)
     (λ p b l is none. none) text line means refused
 
 period_not_refused : OneClustering → (held : List ℕ → Held) (file delays : List ℕ) (mode : Mode)
@@ -78,18 +78,18 @@ period_not_refused law held file delays mode told c text line means refused =
 -- a job that has a text is not refused
 pub job_not_refused : FaultsAreRefused → OneClustering → (held : List ℕ → Held) (job : Job) → AreTold held job → (text line : List ℕ)
     → (stages_of held job).means text → ¬ (stages_of held job).refused line
-job_not_refused law one held (Run file vec graph mode jobs log) told text line means refused =
-    then_not_refused (netlist_stage held file) (run_stage held file vec graph mode log) (netlist_exclusive law held file told.0)
-    (run_not_refused one held file vec graph mode log told.1 told.2) text line means refused
+job_not_refused law one held (Run file vec graph mode jobs log slack) told text line means refused =
+    then_not_refused (netlist_stage held file) (run_stage held file vec graph mode log slack) (netlist_exclusive law held file told.0)
+    (run_not_refused one held file vec graph mode log slack told.1 told.2) text line means refused
 job_not_refused law one held (Clock file vec) told text line means refused =
     then_not_refused (netlist_stage held file) (clock_stage held vec) (netlist_exclusive law held file told.0) (clock_not_refused held vec told.1) text line means refused
 job_not_refused law one held (Check file) told text line means refused =
     then_not_refused (netlist_stage held file) report_stage (netlist_exclusive law held file told) (λ c b l is none. none) text line means refused
 job_not_refused law one held (Graph file mode) told text line means refused =
     then_not_refused (netlist_stage held file) (graph_stage file mode) (netlist_exclusive law held file told) (graph_not_refused one file mode) text line means refused
-job_not_refused law one held (Replay file vec log graph mode) told text line means refused =
-    then_not_refused (netlist_stage held file) (replay_stage held file vec log graph mode) (netlist_exclusive law held file told.0)
-    (replay_not_refused one held file vec log graph mode told.1 told.2 told.3) text line means refused
+job_not_refused law one held (Replay file vec log graph mode slack transparent) told text line means refused =
+    then_not_refused (netlist_stage held file) (replay_stage held file vec log graph mode slack) (netlist_exclusive law held file told.0)
+    (replay_not_refused one held file vec log graph mode slack told.1 told.2 told.3) text line means refused
 job_not_refused law one held (Accept file graph mode) told text line means refused =
     then_not_refused (netlist_stage held file) (accept_stage held file graph mode) (netlist_exclusive law held file told.0)
     (accept_not_refused one held file graph mode told.1) text line means refused

@@ -25,24 +25,24 @@ use Rattle.ds_stage.proofs.Failed.{IsFailed, Says, netlist_says, planned_says, r
 clock_says : (held : List ℕ → Held) (vec : List ℕ) (failed : OfFile) (c : Circuit) → Says (clock_stage held vec c) failed
 clock_says held vec failed c = then_says (vectors_stage held vec c) (trace_stage c) failed (vectors_say held vec c failed) (λ rows line none. absurd none)
 
-run_says : (held : List ℕ → Held) (file vec : List ℕ) (graph : Option (List ℕ)) (mode : Mode) (log : Bool) (failed : OfFile) (c : Circuit) → Says (run_stage held file vec graph mode log c) failed
-run_says held file vec graph mode log failed c =
-    then_says (planned_stage held file graph mode c) (λ (p : Planned). then_stage (vectors_stage held vec c) (traced_stage log c p)) failed
-    (planned_says held file graph mode failed c)
+run_says : (held : List ℕ → Held) (file vec : List ℕ) (graph : Option (List ℕ)) (mode : Mode) (log : Bool) (slack : ℕ) (failed : OfFile) (c : Circuit) → Says (run_stage held file vec graph mode log slack c) failed
+run_says held file vec graph mode log slack failed c =
+    then_says (planned_stage held file graph mode slack c) (λ (p : Planned). then_stage (vectors_stage held vec c) (traced_stage log c p)) failed
+    (planned_says held file graph mode slack failed c)
     (λ p. then_says (vectors_stage held vec c) (traced_stage log c p) failed (vectors_say held vec c failed) (λ rows line none. absurd none))
 
 accept_says : (held : List ℕ → Held) (file graph : List ℕ) (mode : Mode) (failed : OfFile) (c : Circuit) → Says (accept_stage held file graph mode c) failed
 accept_says held file graph mode failed c =
-    then_says (planned_stage held file (Some graph) mode c) ranks_stage failed (planned_says held file (Some graph) mode failed c) (λ p line none. absurd none)
+    then_says (planned_stage held file (Some graph) mode 0 c) ranks_stage failed (planned_says held file (Some graph) mode 0 failed c) (λ p line none. absurd none)
 
 graph_says : (file : List ℕ) (mode : Mode) (failed : OfFile) (c : Circuit) → Says (graph_stage file mode c) failed
 graph_says file mode failed c =
     then_says (split_stage file mode c) controller_stage failed (λ line none. absurd none) (λ s line none. absurd none)
 
-replay_says : (held : List ℕ → Held) (file vec log : List ℕ) (graph : Option (List ℕ)) (mode : Mode) (failed : OfFile) (c : Circuit) → Says (replay_stage held file vec log graph mode c) failed
-replay_says held file vec log graph mode failed c =
-    then_says (planned_stage held file graph mode c) (λ (p : Planned). then_stage (vectors_stage held vec c) (λ (vectors : Rows). replayed_stage held log p vectors.rows)) failed
-    (planned_says held file graph mode failed c)
+replay_says : (held : List ℕ → Held) (file vec log : List ℕ) (graph : Option (List ℕ)) (mode : Mode) (slack : ℕ) (failed : OfFile) (c : Circuit) → Says (replay_stage held file vec log graph mode slack c) failed
+replay_says held file vec log graph mode slack failed c =
+    then_says (planned_stage held file graph mode slack c) (λ (p : Planned). then_stage (vectors_stage held vec c) (λ (vectors : Rows). replayed_stage held log p vectors.rows)) failed
+    (planned_says held file graph mode slack failed c)
     (λ p. then_says (vectors_stage held vec c) (λ (vectors : Rows). replayed_stage held log p vectors.rows) failed (vectors_say held vec c failed) (λ vectors. replayed_says held log failed p vectors.rows))
 
 period_says : (held : List ℕ → Held) (file delays : List ℕ) (mode : Mode) (failed : OfFile)
@@ -54,11 +54,11 @@ period_says held file delays mode failed c =
 
 -- where a job names a file that it did not read, a read failed
 pub job_says : (held : List ℕ → Held) (job : Job) (failed : OfFile) (line : List ℕ) → (stages_of held job).unread failed line → IsFailed failed
-job_says held (Run file vec graph mode jobs log) failed line is = then_says (netlist_stage held file) (run_stage held file vec graph mode log) failed (netlist_says held file failed) (run_says held file vec graph mode log failed) line is
+job_says held (Run file vec graph mode jobs log slack) failed line is = then_says (netlist_stage held file) (run_stage held file vec graph mode log slack) failed (netlist_says held file failed) (run_says held file vec graph mode log slack failed) line is
 job_says held (Clock file vec) failed line is = then_says (netlist_stage held file) (clock_stage held vec) failed (netlist_says held file failed) (clock_says held vec failed) line is
 job_says held (Check file) failed line is = then_says (netlist_stage held file) report_stage failed (netlist_says held file failed) (λ c l none. absurd none) line is
 job_says held (Graph file mode) failed line is = then_says (netlist_stage held file) (graph_stage file mode) failed (netlist_says held file failed) (graph_says file mode failed) line is
-job_says held (Replay file vec log graph mode) failed line is = then_says (netlist_stage held file) (replay_stage held file vec log graph mode) failed (netlist_says held file failed) (replay_says held file vec log graph mode failed) line is
+job_says held (Replay file vec log graph mode slack transparent) failed line is = then_says (netlist_stage held file) (replay_stage held file vec log graph mode slack) failed (netlist_says held file failed) (replay_says held file vec log graph mode slack failed) line is
 job_says held (Accept file graph mode) failed line is = then_says (netlist_stage held file) (accept_stage held file graph mode) failed (netlist_says held file failed) (accept_says held file graph mode failed) line is
 job_says held (Demo seed registers turns jobs) failed line none = absurd none
 job_says held (Period file delays mode) failed line is =

@@ -1,25 +1,22 @@
 -- A plan of what is held has one clocked run, and every legal list does what it does.
-use Rattle.std.proofs.Common.{◌≡◌, ℕ, List, length, sym, ap, subst}
+use Rattle.std.proofs.Common.{◌≡◌, ℕ, List, length, sym, subst}
 use Rattle.std.specs.Prelude.{All}
 use Rattle.ds_outside.specs.Held.{Held}
 use Rattle.ds_design.specs.Accepted.{IsAccepted}
 use Rattle.ds_design.specs.Circuit.{Circuit, columns}
 use Rattle.ds_design.specs.InRange.{IsInRange}
-use Rattle.ds_latch.specs.Node.{Split}
 use Rattle.ds_latch.specs.Plan.{IsPlan}
 use Rattle.ds_latch.proofs.Headline.{headline}
-use Rattle.ds_stage.specs.SplitStage.{IsInClusters}
 use Rattle.ds_stage.proofs.Meant.{netlist_in_range, vectors_wide}
-use Rattle.ds_stage.proofs.PlanAccepted.{planned_in_clusters, planned_is_plan}
+use Rattle.ds_stage.proofs.PlanAccepted.{planned_circuit, planned_is_plan}
 use Rattle.ds_app.specs.Interleavings.{Interleavings}
 
 pub interleavings_lem : (held : List ℕ → Held) (words : List (List ℕ)) → Interleavings held words
-interleavings_lem held words net vec graph mode jobs log is_job c netlist p planned vectors means =
+interleavings_lem held words net vec graph mode jobs log slack is_job c netlist p planned vectors means =
     let (flat, is_flat, (is, accepted)) = netlist in
     let accepted' : IsAccepted c = subst (λ (d : Circuit). IsAccepted d) (sym is) accepted in
-    let plan : IsPlan p.split p.graph = planned_is_plan held net graph mode c p accepted' planned in
-    let clusters : IsInClusters mode c p.split = planned_in_clusters held net graph mode c p planned in
-    let same : c ≡ p.split.circuit = sym (ap (λ (s : Split). s.circuit) clusters.is) in
+    let plan : IsPlan p.split p.graph = planned_is_plan held net graph mode slack c p accepted' planned in
+    let same : c ≡ p.split.circuit = sym (planned_circuit held net graph mode slack c p planned) in
     headline p.split p.graph plan
     (subst IsInRange same (netlist_in_range held net c netlist))
     vectors.rows

@@ -18,8 +18,9 @@ use Rattle.ds_stage.specs.PlanStage.{planned_stage}
 abbrev pub Interleavings : (List ℕ → Held) → List (List ℕ) → Type 0
 Interleavings held words =
     (net vec : List ℕ) (graph : Option (List ℕ)) (mode : Mode) (jobs : ℕ) (log : Bool)
-    → job_of words ≡ Ok (Run net vec graph mode jobs log)
+    (slack : ℕ)
+    → job_of words ≡ Ok (Run net vec graph mode jobs log slack)
     → (c : Circuit) → (netlist_stage held net).means c
-    → (p : Planned) → (planned_stage held net graph mode c).means p
+    → (p : Planned) → (planned_stage held net graph mode slack c).means p
     → (vectors : Rows) → (vectors_stage held vec c).means vectors
     → Desynchronizes p.split p.graph vectors.rows

@@ -22,9 +22,10 @@ abbrev pub clock_stage : (List ℕ → Held) → List ℕ → Circuit → Stage 
 clock_stage held vec c = then_stage (vectors_stage held vec c) (trace_stage c)
 
 -- `run`, once the netlist is read
-abbrev pub run_stage : (List ℕ → Held) → List ℕ → List ℕ → Option (List ℕ) → Mode → Bool → Circuit
-    → Stage (List ℕ)
-run_stage held net vec graph mode log c = then_stage (planned_stage held net graph mode c) (λ p.
+abbrev pub run_stage : (List ℕ → Held) → List ℕ → List ℕ → Option (List ℕ) → Mode → Bool → ℕ
+    → Circuit → Stage (List ℕ)
+run_stage held net vec graph mode log slack c =
+    then_stage (planned_stage held net graph mode slack c) (λ p.
     then_stage (vectors_stage held vec c) (traced_stage log c p))
 
 -- `graph`, once the netlist is read
@@ -32,15 +33,16 @@ abbrev pub graph_stage : List ℕ → Mode → Circuit → Stage (List ℕ)
 graph_stage net mode c = then_stage (split_stage net mode c) controller_stage
 
 -- `replay`, once the netlist is read
-abbrev pub replay_stage : (List ℕ → Held) → List ℕ → List ℕ → List ℕ → Option (List ℕ) → Mode
+abbrev pub replay_stage : (List ℕ → Held) → List ℕ → List ℕ → List ℕ → Option (List ℕ) → Mode → ℕ
     → Circuit → Stage (List ℕ)
-replay_stage held net vec log graph mode c = then_stage (planned_stage held net graph mode c) (λ p.
+replay_stage held net vec log graph mode slack c =
+    then_stage (planned_stage held net graph mode slack c) (λ p.
     then_stage (vectors_stage held vec c) (λ vectors. replayed_stage held log p vectors.rows))
 
 -- `accept`, once the netlist is read
 abbrev pub accept_stage : (List ℕ → Held) → List ℕ → List ℕ → Mode → Circuit → Stage (List ℕ)
 accept_stage held net graph mode c =
-    then_stage (planned_stage held net (Some graph) mode c) ranks_stage
+    then_stage (planned_stage held net (Some graph) mode 0 c) ranks_stage
 
 -- `period`, once the netlist is read
 abbrev pub period_stage : (List ℕ → Held) → List ℕ → List ℕ → Mode → Circuit → Stage (List ℕ)
@@ -49,13 +51,13 @@ period_stage held net delays mode c =
 
 -- the stages of a job, on what its files hold
 abbrev pub stages_of : (List ℕ → Held) → Job → Stage (List ℕ)
-stages_of held (Run net vec graph mode jobs log) =
-    then_stage (netlist_stage held net) (run_stage held net vec graph mode log)
+stages_of held (Run net vec graph mode jobs log slack) =
+    then_stage (netlist_stage held net) (run_stage held net vec graph mode log slack)
 stages_of held (Clock net vec) = then_stage (netlist_stage held net) (clock_stage held vec)
 stages_of held (Check net) = then_stage (netlist_stage held net) report_stage
 stages_of held (Graph net mode) = then_stage (netlist_stage held net) (graph_stage net mode)
-stages_of held (Replay net vec log graph mode) =
-    then_stage (netlist_stage held net) (replay_stage held net vec log graph mode)
+stages_of held (Replay net vec log graph mode slack transparent) =
+    then_stage (netlist_stage held net) (replay_stage held net vec log graph mode slack)
 stages_of held (Accept net graph mode) =
     then_stage (netlist_stage held net) (accept_stage held net graph mode)
 stages_of held (Demo seed registers turns jobs) = demo_stage seed registers turns

@@ -89,12 +89,12 @@ IsToldIn held (Some file) = held file ≢ untold
 
 -- the files of a job tell what they hold
 abbrev pub AreTold : (List ℕ → Held) → Job → Type 0
-AreTold held (Run net vec graph mode jobs log) = (held net ≢ untold) × (held vec ≢ untold)
+AreTold held (Run net vec graph mode jobs log slack) = (held net ≢ untold) × (held vec ≢ untold)
     × IsToldIn held graph
 AreTold held (Clock net vec) = (held net ≢ untold) × (held vec ≢ untold)
 AreTold held (Check net) = held net ≢ untold
 AreTold held (Graph net mode) = held net ≢ untold
-AreTold held (Replay net vec log graph mode) =
+AreTold held (Replay net vec log graph mode slack transparent) =
     (held net ≢ untold) × (held vec ≢ untold) × (held log ≢ untold) × IsToldIn held graph
 AreTold held (Accept net graph mode) = (held net ≢ untold) × (held graph ≢ untold)
 AreTold held (Demo seed registers turns jobs) = Unit {0}

@@ -108,6 +108,7 @@ fn do_job<R: AllocGlobal + Threads + Sync, G: Gate, F: Files, O: Sink>(
             clusters,
             jobs,
             log,
+            slack,
         } => {
             let job = RunJob {
                 net: net.as_str(),
@@ -116,6 +117,7 @@ fn do_job<R: AllocGlobal + Threads + Sync, G: Gate, F: Files, O: Sink>(
                 clusters: *clusters,
                 jobs: *jobs,
                 log: *log,
+                slack: *slack,
             };
             run(rt, &job, gate, files, out)
         }
@@ -128,6 +130,8 @@ fn do_job<R: AllocGlobal + Threads + Sync, G: Gate, F: Files, O: Sink>(
             log,
             graph,
             clusters,
+            slack,
+            transparent: _,
         } => {
             let job = ReplayJob {
                 net: net.as_str(),
@@ -135,6 +139,7 @@ fn do_job<R: AllocGlobal + Threads + Sync, G: Gate, F: Files, O: Sink>(
                 log: log.as_str(),
                 graph,
                 clusters: *clusters,
+                slack: *slack,
             };
             replay(alloc, &job, files, out)
         }

@@ -1,5 +1,5 @@
 //! `replay`: the firings of a log fired again.
-ghost use Rattle.std.specs.Prelude.{◌≡◌};
+ghost use Rattle.std.specs.Prelude.{◌≡◌, ◌≤◌, false};
 ghost use Rattle.ds_cmd.specs.declared.job.Job.TheVariants.{Replay};
 ghost use Rattle.ds_stage.specs.Ends.{Ends, Output, RoseIn};
 ghost use Rattle.ds_app.specs.Job.{stages_of};
@@ -7,11 +7,12 @@ ghost use Rattle.ds_app.specs.Job.{stages_of};
 use ds_base::Mode;
 use ds_cmd::FileName;
 use ds_outside::{Files, Sink};
-use ds_stage::{Stop, plan_netlist, read_log, read_netlist, read_rows, write_state};
+use ds_stage::{Splitting, Stop, plan_netlist, read_log, read_netlist, read_rows, write_state};
 use std::alloc::Global;
 
 /// What `replay` is to do: the files of the netlist, of the vectors, of the log and of a graph,
-/// where one is named, and how registers are put into clusters.
+/// where one is named, how registers are put into clusters, and how many openings a producer may
+/// run ahead of its consumers.
 #[derive(Clone, Copy)]
 pub struct ReplayJob<'a> {
     pub net: &'a str,
@@ -19,6 +20,7 @@ pub struct ReplayJob<'a> {
     pub log: &'a str,
     pub graph: &'a Option<FileName>,
     pub clusters: Mode,
+    pub slack: u8,
 }
 
 /// Reads a netlist, makes its plan, fires the events of the log in their order on the vectors, and
@@ -30,8 +32,9 @@ pub fn replay<F: Files, O: Sink>(
     files: &mut F,
     out: &mut O,
 ) -> Result<(), Stop>
+    requires { job.now.slack ≤ 15 }
     ensures value { Ends (stages_of (F.held files.old) (Replay job.now.net.now job.now.vec.now
-        job.now.log.now job.now.graph.now job.now.clusters))
+        job.now.log.now job.now.graph.now job.now.clusters job.now.slack false))
         (RoseIn (F.faults files.old) (F.faults files.new)) (record {
           old = O.written out.old;
           new = O.written out.new;
@@ -44,7 +47,11 @@ pub fn replay<F: Files, O: Sink>(
     // Read for the fact that its names are texts.
     let _texts = *job;
     let netlist = read_netlist(alloc, files, job.net)?;
-    let plan = plan_netlist(alloc, files, job.net, &netlist, job.graph, job.clusters)?;
+    let splitting = Splitting {
+        clusters: job.clusters,
+        slack: job.slack,
+    };
+    let plan = plan_netlist(alloc, files, job.net, &netlist, job.graph, splitting)?;
     let vectors = read_rows(alloc, files, job.vec, &netlist)?;
     let (state, fired) = read_log(alloc, files, job.log, &plan, &vectors)?;
     write_state(alloc, &plan, &vectors, &state, fired, out)

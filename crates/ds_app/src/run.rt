@@ -13,12 +13,13 @@ use ds_design::Vectors;
 use ds_latch::Plan;
 use ds_outside::{Files, Gate, Sink};
 use ds_run::Workers;
-use ds_stage::{Stop, plan_netlist, read_netlist, read_rows};
+use ds_stage::{Splitting, Stop, plan_netlist, read_netlist, read_rows};
 use ds_trace::{RunFault, write_run};
 use std::thread::Threads;
 
 /// What `run` is to do: the files of the netlist, of the vectors and of a graph, where one is
-/// named; how registers are put into clusters; how many workers, and whether a log is wanted.
+/// named; how registers are put into clusters; how many workers, whether a log is wanted, and how
+/// many openings a producer may run ahead of its consumers.
 #[derive(Clone, Copy)]
 pub struct RunJob<'a> {
     pub net: &'a str,
@@ -27,6 +28,7 @@ pub struct RunJob<'a> {
     pub clusters: Mode,
     pub jobs: u32,
     pub log: bool,
+    pub slack: u8,
 }
 
 /// Reads a netlist, makes its plan, has workers run it on the vectors, and writes the trace, and
@@ -39,9 +41,10 @@ pub fn run<R: AllocGlobal + Threads + Sync, G: Gate, F: Files, O: Sink>(
     files: &mut F,
     out: &mut O,
 ) -> Result<(), Stop>
-    requires { (0 < job.now.jobs) × (job.now.jobs ≤ 64) }
+    requires jobs { (0 < job.now.jobs) × (job.now.jobs ≤ 64) }
+    requires slack { job.now.slack ≤ 15 }
     ensures value { Ends (stages_of (F.held files.old) (Run job.now.net.now job.now.vec.now
-        job.now.graph.now job.now.clusters job.now.jobs job.now.log))
+        job.now.graph.now job.now.clusters job.now.jobs job.now.log job.now.slack))
         (RoseIn (F.faults files.old) (F.faults files.new)) (record {
           old = O.written out.old;
           new = O.written out.new;
@@ -55,7 +58,11 @@ pub fn run<R: AllocGlobal + Threads + Sync, G: Gate, F: Files, O: Sink>(
     let _texts = *job;
     let alloc = rt.alloc();
     let netlist = read_netlist(alloc, files, job.net)?;
-    let plan = plan_netlist(alloc, files, job.net, &netlist, job.graph, job.clusters)?;
+    let splitting = Splitting {
+        clusters: job.clusters,
+        slack: job.slack,
+    };
+    let plan = plan_netlist(alloc, files, job.net, &netlist, job.graph, splitting)?;
     let vectors = read_rows(alloc, files, job.vec, &netlist)?;
     write_traced(rt, job, &plan, &vectors, gate, out)
 }

@@ -1,23 +1,23 @@
 -- The numbers of a job are within their ranges.
-use Rattle.std.proofs.Common.{◌≡◌, ◌&&◌, ◌≤◌, ℕ, Bool, true, false, List}
+use Rattle.std.proofs.Common.{◌≡◌, ◌&&◌, ◌≤◌, ℕ, zero, suc, Bool, true, false, List}
 use Rattle.std.proofs.Common.{Option, Some, None, Result, Ok, Err, refl, arith, subst}
 use Rattle.std.proofs.Common.{if◌then◌else◌}
-use Rattle.std.specs.Prelude.{nat_le, codes, IfOk}
+use Rattle.std.specs.Prelude.{nat_le, nat_lt, codes, IfOk}
 use Rattle.std.specs.Str.{bytes_eq}
 use Rattle.std.specs.Str.Parse.{digits_value}
-use Rattle.std.proofs.lemmas.Bool.{leb-true}
+use Rattle.std.proofs.lemmas.Bool.{leb-true, lt-ltb}
 use Rattle.ds_base.specs.Limit.{most_of}
-use Rattle.ds_base.specs.declared.number.Mode.{Mode}
 use Rattle.ds_base.specs.declared.number.Limit.TheVariants.{Clusters, Vectors}
 use Rattle.clap.specs.Words.{Row, Text, fault_of, first_of, subcommand_of}
 use Rattle.ds_cmd.specs.Fault.{Gives, with_mode, with_number, with_value}
-use Rattle.ds_cmd.specs.Number.{is_between, is_numeral, jobs_of, number_of, number_or_one}
+use Rattle.ds_cmd.specs.Number.{is_between, is_numeral, jobs_of, number_of, number_or_one, number_or_zero, slack_of}
 use Rattle.ds_cmd.specs.Clusters.{clusters_of}
 use Rattle.ds_cmd.specs.Run.{run_job}
 use Rattle.ds_cmd.specs.Clock.{clock_job}
 use Rattle.ds_cmd.specs.Check.{check_job}
 use Rattle.ds_cmd.specs.Graph.{graph_job}
-use Rattle.ds_cmd.specs.Replay.{replay_job}
+use Rattle.ds_cmd.specs.Argument.{is_set}
+use Rattle.ds_cmd.specs.Replay.{replay_job, shown_with}
 use Rattle.ds_cmd.specs.Accept.{accept_job}
 use Rattle.ds_cmd.specs.Demo.{demo_job}
 use Rattle.ds_cmd.specs.Period.{period_job}
@@ -45,9 +45,9 @@ valued : {A : Type 0} (o : Option A) (next : A → Result Job UsageFault) → ((
 valued None next all = fault_yields _
 valued (Some a) next all = all a
 
-moded : (o : Option Mode) (next : Mode → Result Job UsageFault) → ((a : Mode) → Yields (next a)) → Yields (with_mode o next)
+moded : {A : Type 0} (o : Option A) (next : A → Result Job UsageFault) → ((a : A) → o ≡ Some a → Yields (next a)) → Yields (with_mode o next)
 moded None next all = fault_yields _
-moded (Some a) next all = all a
+moded (Some a) next all = all a refl
 
 numbered : (o : Option ℕ) (next : ℕ → Result Job UsageFault) → ((n : ℕ) → o ≡ Some n → Yields (next n)) → Yields (with_number o next)
 numbered None next all = fault_yields _
@@ -78,10 +78,23 @@ one_or_more : (o : Option Text) (n : ℕ) → number_or_one o ≡ Some n → Are
 one_or_more None n is = let e : 1 ≡ n = (let f : Some 1 ≡ Some n = is in cc) in (omega arith, omega arith)
 one_or_more (Some word) n is = between 1 64 word n is
 
+few_openings : (o : Option Text) (n : ℕ) → number_or_zero o ≡ Some n → n ≤ 15
+few_openings None n is = let e : 0 ≡ n = (let f : Some 0 ≡ Some n = is in cc) in omega arith
+few_openings (Some word) n is = (between 0 15 word n is).1
+
+-- open latches are shown without slack alone
+without_slack : (slack : ℕ) (wanted shown : Bool) → shown_with slack wanted ≡ Some shown → shown ≡ true → slack ≡ 0
+unfolding shown_with
+without_slack slack false shown is e = absurd (let f : Some false ≡ Some shown = is in cc)
+without_slack zero true shown is e = refl
+without_slack (suc slack) true shown is e =
+    let some : nat_lt 0 (suc slack) ≡ true = lt-ltb 0 (suc slack) (omega arith) in
+    absurd (let f : None ≡ Some shown = rw some at is in cc)
+
 run_yields : (rows : List Row) → Yields (run_job rows)
 run_yields rows = valued (first_of (codes "net") rows) _ (λ net. valued (first_of (codes "vec") rows) _ (λ vec.
-    numbered (jobs_of rows) _ (λ jobs is. moded (clusters_of rows) _ (λ mode.
-    ok_yields _ (one_or_more (first_of (codes "jobs") rows) jobs is)))))
+    numbered (jobs_of rows) _ (λ jobs are. numbered (slack_of rows) _ (λ slack is. moded (clusters_of rows) _ (λ mode in_mode.
+    ok_yields _ (one_or_more (first_of (codes "jobs") rows) jobs are, few_openings (first_of (codes "slack") rows) slack is))))))
 
 clock_yields : (rows : List Row) → Yields (clock_job rows)
 clock_yields rows = valued (first_of (codes "net") rows) _ (λ net. valued (first_of (codes "vec") rows) _ (λ vec. ok_yields _ tt))
@@ -90,15 +103,18 @@ check_yields : (rows : List Row) → Yields (check_job rows)
 check_yields rows = valued (first_of (codes "net") rows) _ (λ net. ok_yields _ tt)
 
 graph_yields : (rows : List Row) → Yields (graph_job rows)
-graph_yields rows = valued (first_of (codes "net") rows) _ (λ net. moded (clusters_of rows) _ (λ mode. ok_yields _ tt))
+graph_yields rows = valued (first_of (codes "net") rows) _ (λ net. moded (clusters_of rows) _ (λ mode is. ok_yields _ tt))
 
 replay_yields : (rows : List Row) → Yields (replay_job rows)
 replay_yields rows = valued (first_of (codes "net") rows) _ (λ net. valued (first_of (codes "vec") rows) _ (λ vec.
-    valued (first_of (codes "log") rows) _ (λ log. moded (clusters_of rows) _ (λ mode. ok_yields _ tt))))
+    valued (first_of (codes "log") rows) _ (λ log.
+    numbered (slack_of rows) _ (λ slack is. moded (clusters_of rows) _ (λ mode in_mode.
+    moded (shown_with slack (is_set (codes "transparent") rows)) _ (λ transparent shown.
+    ok_yields _ (few_openings (first_of (codes "slack") rows) slack is, without_slack slack (is_set (codes "transparent") rows) transparent shown)))))))
 
 accept_yields : (rows : List Row) → Yields (accept_job rows)
 accept_yields rows = valued (first_of (codes "net") rows) _ (λ net. valued (first_of (codes "graph") rows) _ (λ graph.
-    moded (clusters_of rows) _ (λ mode. ok_yields _ tt)))
+    moded (clusters_of rows) _ (λ mode is. ok_yields _ tt)))
 
 demo_yields : (rows : List Row) → Yields (demo_job rows)
 demo_yields rows = valued (first_of (codes "seed") rows) _ (λ seed. valued (first_of (codes "registers") rows) _ (λ registers.
@@ -115,7 +131,7 @@ demo_yields rows = valued (first_of (codes "seed") rows) _ (λ seed. valued (fir
 period_yields : (rows : List Row) → Yields (period_job rows)
 period_yields rows = valued (first_of (codes "net") rows) _ (λ net.
     valued (first_of (codes "delays") rows) _ (λ delays.
-    moded (clusters_of rows) _ (λ mode. ok_yields _ tt)))
+    moded (clusters_of rows) _ (λ mode is. ok_yields _ tt)))
 
 named_yields : (name : Text) (rows : List Row) → Yields (named_job name rows commands)
 named_yields name rows =

@@ -1,4 +1,4 @@
--- Numbers behind `--jobs` and those of `demo`, and the option `--log`, are taken.
+-- Numbers behind `--jobs` and `--slack` and those of `demo`, and the option `--log`, are taken.
 use Rattle.std.proofs.Common.{◌≡◌, ◌<◌, ◌≤◌, ◌^◌, ℕ, true, false, [], ◌∷◌, Ok, Option, Some, None}
 use Rattle.std.proofs.Common.{Result, refl, ap, ◌∙◌, arith, codes}
 use Rattle.std.specs.Fmt.{decimal}
@@ -16,11 +16,11 @@ use Rattle.ds_cmd.proofs.NumberLemmas.{number_of-decimal, plain_number}
 use Rattle.ds_cmd.proofs.Taken.{IsNoOption, no_option}
 
 -- a word that is read as a number
-record IsWritten (least most : ℕ) (word : Text) (value : ℕ) : Type 0 where
-  plain : IsNoOption word
-  number : number_of least most word ≡ Some value
+pub record IsWritten (least most : ℕ) (word : Text) (value : ℕ) : Type 0 where
+  pub plain : IsNoOption word
+  pub number : number_of least most word ≡ Some value
 
-written : (least most value : ℕ) → least ≤ value → value ≤ most → value < 2 ^ 64
+pub written : (least most value : ℕ) → least ≤ value → value ≤ most → value < 2 ^ 64
     → IsWritten least most (decimal value) value
 written least most value from to fits =
     let number = number_of-decimal least most value from to fits in
@@ -31,7 +31,7 @@ written least most value from to fits =
 
 -- the job of `run` with so many threads
 run_job_at : Text → Text → Option ℕ → Result Job UsageFault
-run_job_at net vec jobs = with_number jobs (λ jobs. Ok (Run net vec None Each jobs false))
+run_job_at net vec jobs = with_number jobs (λ jobs. Ok (Run net vec None Each jobs false 0))
 
 jobs_at : (program net vec word : Text) → IsNoOption net → IsNoOption vec → IsNoOption word
     → job_of (program ∷ codes "run" ∷ net ∷ vec ∷ codes "--jobs" ∷ word ∷ [])
@@ -41,16 +41,32 @@ jobs_at program net vec word n v w = rw (n.dashes, n.long, n.short) (rw (v.dashe
     (rw (w.dashes, w.long, w.short) (refl {a = run_job_at net vec (number_of 1 64 word)})))
 
 run_job_of : (net vec word : Text) (jobs : ℕ) → IsWritten 1 64 word jobs
-    → run_job_at net vec (number_of 1 64 word) ≡ Ok (Run net vec None Each jobs false)
+    → run_job_at net vec (number_of 1 64 word) ≡ Ok (Run net vec None Each jobs false 0)
 unfolding run_job_at
 run_job_of net vec word jobs w = rw w.number refl
 
+-- the job of `run` with so much slack
+run_job_with : Text → Text → Option ℕ → Result Job UsageFault
+run_job_with net vec slack = with_number slack (λ slack. Ok (Run net vec None Each 1 false slack))
+
+slack_at : (program net vec word : Text) → IsNoOption net → IsNoOption vec → IsNoOption word
+    → job_of (program ∷ codes "run" ∷ net ∷ vec ∷ codes "--slack" ∷ word ∷ [])
+    ≡ run_job_with net vec (number_of 0 15 word)
+unfolding clap_on_literals run_job_with
+slack_at program net vec word n v w = rw (n.dashes, n.long, n.short) (rw (v.dashes, v.long, v.short)
+    (rw (w.dashes, w.long, w.short) (refl {a = run_job_with net vec (number_of 0 15 word)})))
+
+run_job_slack : (net vec word : Text) (slack : ℕ) → IsWritten 0 15 word slack
+    → run_job_with net vec (number_of 0 15 word) ≡ Ok (Run net vec None Each 1 false slack)
+unfolding run_job_with
+run_job_slack net vec word slack w = rw w.number refl
+
 log_at : (program net vec : Text) → IsNoOption net → IsNoOption vec
     → job_of (program ∷ codes "run" ∷ net ∷ vec ∷ codes "--log" ∷ [])
-    ≡ Ok (Run net vec None Each 1 true)
+    ≡ Ok (Run net vec None Each 1 true 0)
 unfolding clap_on_literals
 log_at program net vec n v = rw (n.dashes, n.long, n.short)
-    (rw (v.dashes, v.long, v.short) (refl {a = Ok (Run net vec None Each 1 true)}))
+    (rw (v.dashes, v.long, v.short) (refl {a = Ok (Run net vec None Each 1 true 0)}))
 
 -- the greatest seed
 most_seed : ℕ
@@ -102,15 +118,24 @@ demo_job_of a b c seed registers turns jobs w =
 pub run_with_jobs : (program net vec : Text) (jobs : ℕ) → is_plain net ≡ true → is_plain vec ≡ true
     → 1 ≤ jobs → jobs ≤ 64
     → job_of (program ∷ codes "run" ∷ net ∷ vec ∷ codes "--jobs" ∷ decimal jobs ∷ [])
-    ≡ Ok (Run net vec None Each jobs false)
+    ≡ Ok (Run net vec None Each jobs false 0)
 run_with_jobs program net vec jobs n v from to =
     let w : IsWritten 1 64 (decimal jobs) jobs = written 1 64 jobs from to (omega arith) in
     jobs_at program net vec (decimal jobs) (no_option net n) (no_option vec v) w.plain
     ∙ run_job_of net vec (decimal jobs) jobs w
 
+pub run_with_slack : (program net vec : Text) (slack : ℕ) → is_plain net ≡ true
+    → is_plain vec ≡ true → slack ≤ 15
+    → job_of (program ∷ codes "run" ∷ net ∷ vec ∷ codes "--slack" ∷ decimal slack ∷ [])
+    ≡ Ok (Run net vec None Each 1 false slack)
+run_with_slack program net vec slack n v to =
+    let w : IsWritten 0 15 (decimal slack) slack = written 0 15 slack (omega arith) to (omega arith) in
+    slack_at program net vec (decimal slack) (no_option net n) (no_option vec v) w.plain
+    ∙ run_job_slack net vec (decimal slack) slack w
+
 pub run_with_log : (program net vec : Text) → is_plain net ≡ true → is_plain vec ≡ true
     → job_of (program ∷ codes "run" ∷ net ∷ vec ∷ codes "--log" ∷ [])
-    ≡ Ok (Run net vec None Each 1 true)
+    ≡ Ok (Run net vec None Each 1 true 0)
 run_with_log program net vec n v = log_at program net vec (no_option net n) (no_option vec v)
 
 pub demo_taken : (program : Text) (seed registers turns : ℕ) → seed < 2 ^ 64

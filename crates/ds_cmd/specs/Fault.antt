@@ -4,7 +4,6 @@ use Rattle.ds_cmd.specs.declared.job.Job.{Job}
 use Rattle.ds_cmd.specs.declared.fault.UsageFault.{UsageFault}
 use Rattle.ds_cmd.specs.declared.fault.UsageFault.TheVariants.{Line, Memory}
 use Rattle.ds_cmd.specs.declared.fault.UsageFault.TheVariants as usage
-use Rattle.ds_base.specs.declared.number.Mode.{Mode}
 
 -- what follows from a value; without one the words are no command line
 abbrev pub with_value : {A : Type 0} → Option A → (A → Result Job UsageFault)
@@ -17,8 +16,9 @@ abbrev pub with_number : Option ℕ → (ℕ → Result Job UsageFault) → Resu
 with_number None next = Err usage.Number
 with_number (Some number) next = next number
 
--- what follows from how registers are put into clusters; without it there is no such mode
-abbrev pub with_mode : Option Mode → (Mode → Result Job UsageFault) → Result Job UsageFault
+-- what follows from a mode, as how registers are put into clusters; without it there is no such one
+abbrev pub with_mode : {A : Type 0} → Option A → (A → Result Job UsageFault)
+    → Result Job UsageFault
 with_mode None next = Err usage.Mode
 with_mode (Some mode) next = next mode
 

@@ -28,3 +28,12 @@ number_or_one (Some word) = number_of 1 64 word
 -- how many threads are wanted, by the values of a command's arguments
 abbrev pub jobs_of : List Row → Option ℕ
 jobs_of rows = number_or_one (first_of (codes "jobs") rows)
+
+-- the number of the option's value, from 0 to 15, and 0 without the option
+abbrev pub number_or_zero : Option Text → Option ℕ
+number_or_zero None = Some 0
+number_or_zero (Some word) = number_of 0 15 word
+
+-- how many openings a producer may run ahead, by the values of a command's arguments
+abbrev pub slack_of : List Row → Option ℕ
+slack_of rows = number_or_zero (first_of (codes "slack") rows)

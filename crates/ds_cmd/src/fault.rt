@@ -10,7 +10,8 @@ pub enum UsageFault {
     /// A number is out of form or range.
     #[error("a number is out of form or range")]
     Number,
-    /// There is no such way to put registers into clusters.
+    /// There is no such way to put registers into clusters, or open latches are to be shown of a
+    /// run with slack.
     #[error("there is no such mode")]
     Mode,
     /// Memory was wanted and not found.

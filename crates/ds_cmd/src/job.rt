@@ -5,7 +5,8 @@ use ds_base::Mode;
 
 /// What a command line asks for. `net` is the file of the netlist, `vec` that of the vectors,
 /// `graph` that of a controller graph, where one is named, `clusters` says how the registers are
-/// put into clusters, and `jobs`, 1 to 64, how many threads are wanted.
+/// put into clusters, `jobs`, 1 to 64, how many threads are wanted, and `slack`, 0 to 15, how many
+/// openings a producer may run ahead of its consumers.
 #[derive(Drop)]
 pub enum Job {
     /// The trace of a desynchronized run, with `log` also the log of its firings behind it.
@@ -16,6 +17,7 @@ pub enum Job {
         clusters: Mode,
         jobs: u32,
         log: bool,
+        slack: u8,
     },
     /// The trace of a clocked run.
     Clock {
@@ -31,13 +33,16 @@ pub enum Job {
         net: FileName,
         clusters: Mode,
     },
-    /// What the registers have stored after the firings of the file `log`.
+    /// What the registers have stored after the firings of the file `log`, with `transparent` also
+    /// what the open latches let through; that is without slack.
     Replay {
         net: FileName,
         vec: FileName,
         log: FileName,
         graph: Option<FileName>,
         clusters: Mode,
+        slack: u8,
+        transparent: bool,
     },
     /// The ranks of the events of a controller graph that is accepted.
     Accept {

@@ -14,26 +14,30 @@ ghost use Rattle.ds_cmd.specs.declared.fault.UsageFault.TheVariants.{Line};
 
 /// `run` with two names of files is taken, whatever the program's name is; each register is then a
 /// cluster of its own, unless the word behind `--clusters` says otherwise, and no controller graph
-/// is named, unless `--graph` does; one thread is wanted, unless `--jobs` says otherwise, and no
-/// log, unless `--log` stands there.
+/// is named, unless `--graph` does; one thread is wanted, unless `--jobs` says otherwise, no log,
+/// unless `--log` stands there, and no slack, unless `--slack` says otherwise.
 pub fn run_is_taken()
     ensures each { (program net vec : List ℕ) → is_plain net ≡ true → is_plain vec ≡ true
-        → job_of (program ∷ codes "run" ∷ net ∷ vec ∷ []) ≡ Ok (Run net vec None Each 1 false) }
+        → job_of (program ∷ codes "run" ∷ net ∷ vec ∷ []) ≡ Ok (Run net vec None Each 1 false 0) }
     ensures clusters { (program net vec : List ℕ) (mode : Mode) → is_plain net ≡ true
         → is_plain vec ≡ true
         → job_of (program ∷ codes "run" ∷ net ∷ vec ∷ codes "--clusters" ∷ mode_word mode ∷ [])
-        ≡ Ok (Run net vec None mode 1 false) }
+        ≡ Ok (Run net vec None mode 1 false 0) }
     ensures graph { (program net vec graph : List ℕ) → is_plain net ≡ true → is_plain vec ≡ true
         → is_plain graph ≡ true
         → job_of (program ∷ codes "run" ∷ net ∷ vec ∷ codes "--graph" ∷ graph ∷ [])
-        ≡ Ok (Run net vec (Some graph) Each 1 false) }
+        ≡ Ok (Run net vec (Some graph) Each 1 false 0) }
     ensures jobs { (program net vec : List ℕ) (jobs : ℕ) → is_plain net ≡ true → is_plain vec ≡ true
         → 1 ≤ jobs → jobs ≤ 64
         → job_of (program ∷ codes "run" ∷ net ∷ vec ∷ codes "--jobs" ∷ decimal jobs ∷ [])
-        ≡ Ok (Run net vec None Each jobs false) }
+        ≡ Ok (Run net vec None Each jobs false 0) }
     ensures log { (program net vec : List ℕ) → is_plain net ≡ true → is_plain vec ≡ true
         → job_of (program ∷ codes "run" ∷ net ∷ vec ∷ codes "--log" ∷ [])
-        ≡ Ok (Run net vec None Each 1 true) }
+        ≡ Ok (Run net vec None Each 1 true 0) }
+    ensures slack { (program net vec : List ℕ) (slack : ℕ) → is_plain net ≡ true
+        → is_plain vec ≡ true → slack ≤ 15
+        → job_of (program ∷ codes "run" ∷ net ∷ vec ∷ codes "--slack" ∷ decimal slack ∷ [])
+        ≡ Ok (Run net vec None Each 1 false slack) }
 {}
 
 /// `clock` with two names of files is taken.
@@ -57,12 +61,21 @@ pub fn graph_is_taken()
         ≡ Ok (Graph net mode) }
 {}
 
-/// `replay` with three names of files is taken.
+/// `replay` with three names of files is taken; then without slack, unless `--slack` says
+/// otherwise, and open latches are not shown, unless `--transparent` stands there.
 pub fn replay_is_taken()
-    ensures { (program net vec log : List ℕ) → is_plain net ≡ true → is_plain vec ≡ true
+    ensures each { (program net vec log : List ℕ) → is_plain net ≡ true → is_plain vec ≡ true
         → is_plain log ≡ true
         → job_of (program ∷ codes "replay" ∷ net ∷ vec ∷ log ∷ [])
-        ≡ Ok (Replay net vec log None Each) }
+        ≡ Ok (Replay net vec log None Each 0 false) }
+    ensures slack { (program net vec log : List ℕ) (slack : ℕ) → is_plain net ≡ true
+        → is_plain vec ≡ true → is_plain log ≡ true → slack ≤ 15
+        → job_of (program ∷ codes "replay" ∷ net ∷ vec ∷ log ∷ codes "--slack" ∷ decimal slack ∷ [])
+        ≡ Ok (Replay net vec log None Each slack false) }
+    ensures transparent { (program net vec log : List ℕ) → is_plain net ≡ true
+        → is_plain vec ≡ true → is_plain log ≡ true
+        → job_of (program ∷ codes "replay" ∷ net ∷ vec ∷ log ∷ codes "--transparent" ∷ [])
+        ≡ Ok (Replay net vec log None Each 0 true) }
 {}
 
 /// `accept` with two names of files is taken.

@@ -7,8 +7,8 @@
 //! `specs/Commands.antt`, where a command joins by an entry. The laws say without `clap` which
 //! lines are taken: the name of a command, its files or its numbers in decimal, and the option
 //! behind them; and that no other name is. Of several faults a bad line comes first, then a bad
-//! number, then a bad mode. A request for help or for the version is no command line. No clause
-//! says what a `UsageFault` displays.
+//! number, then a bad mode; open latches beside slack are a bad mode. A request for help or for the
+//! version is no command line. No clause says what a `UsageFault` displays.
 #![tactic(auto)]
 
 mod accept;

@@ -3,7 +3,7 @@ ghost use Rattle.std.specs.Prelude.{◌≡◌};
 ghost use Rattle.std.specs.Char.{is_ascii_digit};
 ghost use Rattle.std.specs.List.{list_all};
 ghost use Rattle.clap.specs.Words.{found_of, rows_of};
-ghost use Rattle.ds_cmd.specs.Number.{is_numeral as is_numeral_text, jobs_of, number_of};
+ghost use Rattle.ds_cmd.specs.Number.{is_numeral as is_numeral_text, jobs_of, number_of, slack_of};
 
 use crate::argument::text;
 use clap::ArgMatches;
@@ -32,6 +32,16 @@ pub fn small_number(word: &str, least: u32, most: u32) -> Option<u32>
     }
 }
 
+/// The same for a range of numbers of a byte.
+pub fn byte_number(word: &str, least: u8, most: u8) -> Option<u8>
+    ensures { result ≡ number_of least most word.now }
+{
+    match number(word, u64::from(least), u64::from(most)) {
+        Some(value) => Some(value as u8),
+        None => None,
+    }
+}
+
 /// How many threads are wanted: as the option `--jobs` says, 1 to 64, and without it 1. `None`
 /// where its value is no such number.
 pub fn jobs(values: &ArgMatches<'_>) -> Option<u32>
@@ -40,6 +50,17 @@ pub fn jobs(values: &ArgMatches<'_>) -> Option<u32>
     match text(values, "jobs") {
         Some(word) => small_number(word, 1, 64),
         None => Some(1),
+    }
+}
+
+/// How many openings a producer may run ahead: as the option `--slack` says, 0 to 15, and without
+/// it 0. `None` where its value is no such number.
+pub fn slack(values: &ArgMatches<'_>) -> Option<u8>
+    ensures { result ≡ slack_of (rows_of (found_of values.now)) }
+{
+    match text(values, "slack") {
+        Some(word) => byte_number(word, 0, 15),
+        None => Some(0),
     }
 }
 

@@ -1,18 +1,20 @@
 //! The words of `replay`.
-ghost use Rattle.std.specs.Prelude.{◌≡◌, IfOk};
+ghost use Rattle.std.specs.Prelude.{◌≡◌, codes, IfOk};
 ghost use Rattle.clap.specs.Words.{shape_of, found_of, rows_of};
+ghost use Rattle.ds_cmd.specs.Argument.{is_set as is_set_in};
 ghost use Rattle.ds_cmd.specs.Fault.{Gives};
-ghost use Rattle.ds_cmd.specs.Replay.{replay_job, replay_shape};
+ghost use Rattle.ds_cmd.specs.Replay.{replay_job, replay_shape, shown_with};
 
-use crate::argument::{named, option, text, word};
+use crate::argument::{flag, is_set, named, option, text, word};
 use crate::clusters::clusters;
+use crate::number::slack;
 use crate::subcommand::subcommand;
 use crate::{FileName, Job, UsageFault};
 use clap::{ArgMatches, Command};
 use ds_base::OutOfMemory;
 use std::alloc::Global;
 
-/// `replay NET VEC LOG [--graph G] [--clusters MODE]`, as a subcommand.
+/// `replay NET VEC LOG [--graph G] [--clusters MODE] [--slack N] [--transparent]`, as a subcommand.
 pub fn command<'a>(alloc: Global) -> Result<Command<'a>, OutOfMemory>
     ensures { IfOk result (λ c. shape_of c ≡ replay_shape) }
 {
@@ -22,6 +24,8 @@ pub fn command<'a>(alloc: Global) -> Result<Command<'a>, OutOfMemory>
         word(alloc, "log"),
         option(alloc, "graph"),
         option(alloc, "clusters"),
+        option(alloc, "slack"),
+        flag(alloc, "transparent"),
     ]?;
     subcommand(alloc, "replay", args)
 }
@@ -39,7 +43,13 @@ pub fn job(alloc: Global, values: &ArgMatches<'_>) -> Result<Job, UsageFault>
     let Some(log) = text(values, "log") else {
         return Err(UsageFault::Line);
     };
+    let Some(slack) = slack(values) else {
+        return Err(UsageFault::Number);
+    };
     let Some(clusters) = clusters(values) else {
+        return Err(UsageFault::Mode);
+    };
+    let Some(transparent) = transparent(values, slack) else {
         return Err(UsageFault::Mode);
     };
     Ok(Job::Replay {
@@ -48,5 +58,22 @@ pub fn job(alloc: Global, values: &ArgMatches<'_>) -> Result<Job, UsageFault>
         log: FileName::new(alloc, log)?,
         graph: named(alloc, values, "graph")?,
         clusters,
+        slack,
+        transparent,
     })
+}
+
+// Whether open latches are to be shown: as the option `--transparent` says. `None` where it stands
+// beside a slack above 0.
+#[tactic(auto, unfolding(crate::specs::Replay::shown_with))]
+fn transparent(values: &ArgMatches<'_>, slack: u8) -> Option<bool>
+    ensures { result ≡ shown_with slack
+        (is_set_in (codes "transparent") (rows_of (found_of values.now))) }
+{
+    let wanted = is_set(values, "transparent");
+    if wanted && slack > 0 {
+        None
+    } else {
+        Some(wanted)
+    }
 }

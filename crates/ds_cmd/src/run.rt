@@ -6,14 +6,14 @@ ghost use Rattle.ds_cmd.specs.Run.{run_job, run_shape};
 
 use crate::argument::{flag, is_set, named, option, text, word};
 use crate::clusters::clusters;
-use crate::number::jobs;
+use crate::number::{jobs, slack};
 use crate::subcommand::subcommand;
 use crate::{FileName, Job, UsageFault};
 use clap::{ArgMatches, Command};
 use ds_base::OutOfMemory;
 use std::alloc::Global;
 
-/// `run NET VEC [--graph G] [--clusters MODE] [--jobs N] [--log]`, as a subcommand.
+/// `run NET VEC [--graph G] [--clusters MODE] [--jobs N] [--log] [--slack N]`, as a subcommand.
 pub fn command<'a>(alloc: Global) -> Result<Command<'a>, OutOfMemory>
     ensures { IfOk result (λ c. shape_of c ≡ run_shape) }
 {
@@ -24,6 +24,7 @@ pub fn command<'a>(alloc: Global) -> Result<Command<'a>, OutOfMemory>
         option(alloc, "clusters"),
         option(alloc, "jobs"),
         flag(alloc, "log"),
+        option(alloc, "slack"),
     ]?;
     subcommand(alloc, "run", args)
 }
@@ -41,6 +42,9 @@ pub fn job(alloc: Global, values: &ArgMatches<'_>) -> Result<Job, UsageFault>
     let Some(jobs) = jobs(values) else {
         return Err(UsageFault::Number);
     };
+    let Some(slack) = slack(values) else {
+        return Err(UsageFault::Number);
+    };
     let Some(clusters) = clusters(values) else {
         return Err(UsageFault::Mode);
     };
@@ -51,5 +55,6 @@ pub fn job(alloc: Global, values: &ArgMatches<'_>) -> Result<Job, UsageFault>
         clusters,
         jobs,
         log: is_set(values, "log"),
+        slack,
     })
 }

@@ -9,15 +9,15 @@ use std::test::Fail;
 
 // Each line, and its job.
 const TAKEN: &str = "\
-d|run|n|v -> run|n|v|none|each|1|false
+d|run|n|v -> run|n|v|none|each|1|false|0
 d|clock|n|v -> clock|n|v
 d|check|n -> check|n
 d|graph|n -> graph|n|each
-d|replay|n|v|l -> replay|n|v|l|none|each
-d|replay|n|--clusters=one|v|- -> replay|n|v|-|none|one
-d|run|n|v|--graph|g -> run|n|v|g|each|1|false
-d|run|--graph=-|n|v|--clusters=bus -> run|n|v|-|bus|1|false
-d|replay|n|v|l|--graph=g -> replay|n|v|l|g|each
+d|replay|n|v|l -> replay|n|v|l|none|each|0|false
+d|replay|n|--clusters=one|v|- -> replay|n|v|-|none|one|0|false
+d|run|n|v|--graph|g -> run|n|v|g|each|1|false|0
+d|run|--graph=-|n|v|--clusters=bus -> run|n|v|-|bus|1|false|0
+d|replay|n|v|l|--graph=g -> replay|n|v|l|g|each|0|false
 d|accept|n|g -> accept|n|g|each
 d|accept|n|--clusters|one|g -> accept|n|g|one
 d|period|n|d -> period|n|d|each
@@ -26,31 +26,43 @@ d|period|--clusters=bus|n|- -> period|n|-|bus
 |check|n -> check|n
 run|check|n -> check|n
 # Names of files: empty, `-`, the name of a command.
-d|run||v -> run||v|none|each|1|false
-d|run|-|v -> run|-|v|none|each|1|false
-d|run|run|run -> run|run|run|none|each|1|false
-d|run|help|v -> run|help|v|none|each|1|false
+d|run||v -> run||v|none|each|1|false|0
+d|run|-|v -> run|-|v|none|each|1|false|0
+d|run|run|run -> run|run|run|none|each|1|false|0
+d|run|help|v -> run|help|v|none|each|1|false|0
 # The word `--`: what stands behind it is a file.
-d|run|--|-n|v -> run|-n|v|none|each|1|false
-d|run|n|--|v -> run|n|v|none|each|1|false
-d|run|n|v|-- -> run|n|v|none|each|1|false
+d|run|--|-n|v -> run|-n|v|none|each|1|false|0
+d|run|n|--|v -> run|n|v|none|each|1|false|0
+d|run|n|v|-- -> run|n|v|none|each|1|false|0
 d|check|--|-- -> check|--
 # Options stand anywhere behind the command's name.
-d|run|n|v|--clusters|one -> run|n|v|none|one|1|false
-d|run|--clusters=bus|n|v -> run|n|v|none|bus|1|false
+d|run|n|v|--clusters|one -> run|n|v|none|one|1|false|0
+d|run|--clusters=bus|n|v -> run|n|v|none|bus|1|false|0
 d|graph|n|--clusters|each -> graph|n|each
 d|graph|--clusters|bus|n -> graph|n|bus
 # Behind `--` there are no options.
 d|graph|--|--clusters -> graph|--clusters|each
-d|run|n|--|--log -> run|n|--log|none|each|1|false
+d|run|n|--|--log -> run|n|--log|none|each|1|false|0
 # Threads, 1 to 64, in one to twenty digits; the log.
-d|run|n|v|--jobs|3 -> run|n|v|none|each|3|false
-d|run|n|v|--jobs=1 -> run|n|v|none|each|1|false
-d|run|n|v|--jobs|64 -> run|n|v|none|each|64|false
-d|run|n|v|--jobs|064 -> run|n|v|none|each|64|false
-d|run|n|v|--jobs|00000000000000000007 -> run|n|v|none|each|7|false
-d|run|n|v|--log -> run|n|v|none|each|1|true
-d|run|--log|n|--jobs=2|v|--graph|g|--clusters=one -> run|n|v|g|one|2|true
+d|run|n|v|--jobs|3 -> run|n|v|none|each|3|false|0
+d|run|n|v|--jobs=1 -> run|n|v|none|each|1|false|0
+d|run|n|v|--jobs|64 -> run|n|v|none|each|64|false|0
+d|run|n|v|--jobs|064 -> run|n|v|none|each|64|false|0
+d|run|n|v|--jobs|00000000000000000007 -> run|n|v|none|each|7|false|0
+d|run|n|v|--log -> run|n|v|none|each|1|true|0
+d|run|--log|n|--jobs=2|v|--graph|g|--clusters=one -> run|n|v|g|one|2|true|0
+# Slack, 0 to 15, in one to twenty digits.
+d|run|n|v|--slack|0 -> run|n|v|none|each|1|false|0
+d|run|n|v|--slack|15 -> run|n|v|none|each|1|false|15
+d|run|n|v|--slack=00000000000000000001 -> run|n|v|none|each|1|false|1
+d|run|--slack|3|n|--log|v|--jobs|4|--graph=g -> run|n|v|g|each|4|true|3
+d|run|n|--|--slack -> run|n|--slack|none|each|1|false|0
+d|replay|n|v|l|--slack|2 -> replay|n|v|l|none|each|2|false
+d|replay|n|--slack=015|v|l|--graph|g|--clusters|bus -> replay|n|v|l|g|bus|15|false
+# Open latches, without slack.
+d|replay|n|v|l|--transparent -> replay|n|v|l|none|each|0|true
+d|replay|--transparent|n|v|l|--slack|00 -> replay|n|v|l|none|each|0|true
+d|replay|n|v|--|--transparent -> replay|n|v|--transparent|none|each|0|false
 # The demonstration, up to its limits.
 d|demo|0|1|0 -> demo|0|1|0|1
 d|demo|7|4096|65536 -> demo|7|4096|65536|1
@@ -100,6 +112,25 @@ d|demo|1|2|3|4
 d|demo|1|2|3|--log
 d|demo|1|2|3|--clusters|one
 d|demo|-1|2|3
+d|run|n|v|--slack
+d|run|n|v|--slack|1|--slack|1
+d|run|n|v|--slack|-1
+d|replay|n|v|l|--slack
+d|replay|n|v|l|--slack=2|--slack=2
+d|--slack=1|run|n|v
+d|clock|n|v|--slack|1
+d|check|n|--slack|1
+d|graph|n|--slack|1
+d|accept|n|g|--slack|1
+d|period|n|d|--slack|1
+d|demo|1|2|3|--slack|1
+d|replay|n|v|l|--transparent|--transparent
+d|replay|n|v|l|--transparent=true
+d|replay|n|v|l|--transparent=
+d|replay|n|v|l|--transparent|true
+d|--transparent|replay|n|v|l
+d|run|n|v|--transparent
+d|accept|n|g|--transparent
 # The words come before the numbers and the mode.
 d|run|n|--jobs|0|--clusters|two
 d|run|n|v|x|--jobs|65
@@ -131,6 +162,23 @@ d|run|n|v|--jobs|000000000000000000001
 d|run|n|v|--jobs|18446744073709551617
 d|run|n|v|--jobs|0|--clusters|two
 d|run|n|v|--clusters|two|--jobs|0
+# Slack, whatever else is wrong with the mode.
+d|run|n|v|--slack|16
+d|run|n|v|--slack|016
+d|run|n|v|--slack|+1
+d|run|n|v|--slack=-1
+d|run|n|v|--slack=
+d|run|n|v|--slack|
+d|run|n|v|--slack|x
+d|run|n|v|--slack|1.0
+d|run|n|v|--slack|256
+d|run|n|v|--slack|000000000000000000001
+d|run|n|v|--slack|18446744073709551616
+d|run|n|v|--slack|16|--clusters|two
+d|replay|n|v|l|--slack|16
+d|replay|n|v|l|--slack=
+d|replay|n|v|l|--slack|16|--transparent
+d|replay|n|v|l|--clusters|two|--slack|x
 # The seed.
 d|demo|18446744073709551616|1|0
 d|demo|000000000000000000000|1|0
@@ -147,7 +195,7 @@ d|demo|0|1|x
 d|demo|0|1|0|--jobs|65
 ";
 
-// Lines with another mode than the three.
+// Lines with another mode than the three, or with open latches beside slack.
 const MODES: &str = "\
 d|run|n|v|--clusters|two
 d|run|n|v|--clusters|two|--jobs|2
@@ -155,6 +203,10 @@ d|graph|n|--clusters=
 d|graph|n|--clusters|EACH
 d|period|n|d|--clusters|two
 d|graph|n|--clusters|each,one
+d|run|n|v|--clusters|two|--slack|2
+d|replay|n|v|l|--transparent|--slack|1
+d|replay|n|v|l|--slack|15|--transparent
+d|replay|n|v|l|--transparent|--clusters|two
 ";
 
 // The word of a mode.
@@ -186,7 +238,7 @@ fn joined(alloc: Global, words: &[&str]) -> Result<String, AllocError> {
     Ok(text)
 }
 
-// A job, with `|` between its words, its numbers and whether a log is wanted.
+// A job, with `|` between its words, its numbers and what is wanted beside.
 fn words_of(alloc: Global, job: &Job) -> Result<String, AllocError> {
     match job {
         Job::Run {
@@ -196,6 +248,7 @@ fn words_of(alloc: Global, job: &Job) -> Result<String, AllocError> {
             clusters,
             jobs,
             log,
+            slack,
         } => {
             let words = [
                 "run",
@@ -204,7 +257,26 @@ fn words_of(alloc: Global, job: &Job) -> Result<String, AllocError> {
                 name(graph),
                 word(clusters),
             ];
-            with_jobs(alloc, words, *jobs, *log)
+            run_words(alloc, words, [*jobs, u32::from(*slack)], *log)
+        }
+        Job::Replay {
+            net,
+            vec,
+            log,
+            graph,
+            clusters,
+            slack,
+            transparent,
+        } => {
+            let words = [
+                "replay",
+                net.as_str(),
+                vec.as_str(),
+                log.as_str(),
+                name(graph),
+                word(clusters),
+            ];
+            replay_words(alloc, words, *slack, *transparent)
         }
         Job::Demo {
             seed,
@@ -216,10 +288,27 @@ fn words_of(alloc: Global, job: &Job) -> Result<String, AllocError> {
     }
 }
 
-// The words of a run, with its threads and whether a log is wanted.
-fn with_jobs(alloc: Global, words: [&str; 5], jobs: u32, log: bool) -> Result<String, AllocError> {
+// The words of a run, with its threads, whether a log is wanted, and its slack.
+fn run_words(
+    alloc: Global,
+    words: [&str; 5],
+    numbers: [u32; 2],
+    log: bool,
+) -> Result<String, AllocError> {
     let words = joined(alloc, &words)?;
-    format!(in alloc; "{words}|{jobs}|{log}")
+    let [jobs, slack] = numbers;
+    format!(in alloc; "{words}|{jobs}|{log}|{slack}")
+}
+
+// The words of a replay, with its slack and whether open latches are to be shown.
+fn replay_words(
+    alloc: Global,
+    words: [&str; 6],
+    slack: u8,
+    transparent: bool,
+) -> Result<String, AllocError> {
+    let words = joined(alloc, &words)?;
+    format!(in alloc; "{words}|{slack}|{transparent}")
 }
 
 // The words of a demonstration.
@@ -234,23 +323,6 @@ fn named_words(alloc: Global, job: &Job) -> Result<String, AllocError> {
         Job::Clock { net, vec } => joined(alloc, &["clock", net.as_str(), vec.as_str()]),
         Job::Check { net } => joined(alloc, &["check", net.as_str()]),
         Job::Graph { net, clusters } => joined(alloc, &["graph", net.as_str(), word(clusters)]),
-        Job::Replay {
-            net,
-            vec,
-            log,
-            graph,
-            clusters,
-        } => joined(
-            alloc,
-            &[
-                "replay",
-                net.as_str(),
-                vec.as_str(),
-                log.as_str(),
-                name(graph),
-                word(clusters),
-            ],
-        ),
         Job::Accept {
             net,
             graph,

@@ -76,18 +76,18 @@ vectors_since held later vec c before mid now same less =
     })
 
 -- a plan that was made later, of files that hold the same
-pub planned_since : (held later : List ℕ → Held) (net : List ℕ) (graph : Option (List ℕ)) (mode : Mode) (c : Circuit) (before mid now : Which → List ℕ → ℕ) → later ≡ held
+pub planned_since : (held later : List ℕ → Held) (net : List ℕ) (graph : Option (List ℕ)) (mode : Mode) (slack : ℕ) (c : Circuit) (before mid now : Which → List ℕ → ℕ) → later ≡ held
     → ((w : Which) (n : List ℕ) → before w n ≤ mid w n)
-    → IsWider (planned_stage later net graph mode c) (planned_stage held net graph mode c) (RoseIn mid now) (RoseIn before now)
-planned_since held later net None mode c before mid now same less =
-    subst (λ (h : List ℕ → Held). IsWider (planned_stage later net None mode c) (planned_stage h net None mode c) (RoseIn mid now) (RoseIn before now)) same
+    → IsWider (planned_stage later net graph mode slack c) (planned_stage held net graph mode slack c) (RoseIn mid now) (RoseIn before now)
+planned_since held later net None mode slack c before mid now same less =
+    subst (λ (h : List ℕ → Held). IsWider (planned_stage later net None mode slack c) (planned_stage h net None mode slack c) (RoseIn mid now) (RoseIn before now)) same
     (record {
       means = λ a is. is;
       refused = λ line is. is;
       unread = λ line either. elim either [ inl none ↦ absurd none | inr (s, is, none) ↦ absurd none ];
     })
-planned_since held later net (Some file) mode c before mid now same less =
-    subst (λ (h : List ℕ → Held). IsWider (planned_stage later net (Some file) mode c) (planned_stage h net (Some file) mode c) (RoseIn mid now) (RoseIn before now)) same
+planned_since held later net (Some file) mode slack c before mid now same less =
+    subst (λ (h : List ℕ → Held). IsWider (planned_stage later net (Some file) mode slack c) (planned_stage h net (Some file) mode slack c) (RoseIn mid now) (RoseIn before now)) same
     (record {
       means = λ a is. is;
       refused = λ line is. is;

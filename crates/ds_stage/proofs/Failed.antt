@@ -18,7 +18,7 @@ use Rattle.ds_base.specs.Values.{Row}
 use Rattle.ds_astg.specs.Read.{graph_of}
 use Rattle.ds_latch.specs.Plan.{Planned}
 use Rattle.ds_base.specs.declared.number.Mode.{Mode}
-use Rattle.ds_latch.specs.Node.{Split}
+use Rattle.ds_latch.specs.Node.{Split, slackened}
 
 -- a read of some file failed
 pub record IsFailed (failed : OfFile) : Type 0 where
@@ -58,9 +58,10 @@ plan_says held (Some file) failed s =
     then_says (lines_stage held which.Graph file) (marked_stage file s) failed (lines_say held which.Graph file failed)
     (λ lines. then_says (result_stage (graph_or_line file (graph_of lines))) (acceptable_stage file s) failed (λ line none. absurd none) (λ g line none. absurd none))
 
-pub planned_says : (held : List ℕ → Held) (net : List ℕ) (graph : Option (List ℕ)) (mode : Mode) (failed : OfFile) (c : Circuit) → Says (planned_stage held net graph mode c) failed
-planned_says held net graph mode failed c =
-    then_says (split_stage net mode c) (plan_stage held graph) failed (λ line none. absurd none) (plan_says held graph failed)
+pub planned_says : (held : List ℕ → Held) (net : List ℕ) (graph : Option (List ℕ)) (mode : Mode) (slack : ℕ) (failed : OfFile) (c : Circuit) → Says (planned_stage held net graph mode slack c) failed
+planned_says held net graph mode slack failed c =
+    then_says (split_stage net mode c) (λ (s : Split). plan_stage held graph (slackened s slack)) failed (λ line none. absurd none)
+    (λ s. plan_says held graph failed (slackened s slack))
 
 pub replayed_says : (held : List ℕ → Held) (log : List ℕ) (failed : OfFile) (planned : Planned) (vectors : List Row) → Says (replayed_stage held log planned vectors) failed
 replayed_says held log failed planned vectors =

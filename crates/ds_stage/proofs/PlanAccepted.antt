@@ -7,9 +7,9 @@ use Rattle.ds_outside.specs.Held.{Held}
 use Rattle.ds_marked.specs.Graph.{Graph}
 use Rattle.ds_marked.specs.declared.marked.Event.{Event}
 use Rattle.ds_design.specs.Accepted.{IsAccepted}
-use Rattle.ds_design.specs.Circuit.{Circuit, initial_value}
+use Rattle.ds_design.specs.Circuit.{Circuit, initial_row, initial_value}
 use Rattle.ds_design.specs.declared.design.Register.{Register}
-use Rattle.ds_latch.specs.Node.{Split}
+use Rattle.ds_latch.specs.Node.{Split, slackened}
 use Rattle.ds_latch.specs.Plan.{IsPlan, IsSplit, Planned, Reorders, split_events}
 use Rattle.ds_latch.proofs.Rising.{orders_are_accepted}
 use Rattle.ds_accept.specs.Accept.{AreThere, StandsAt}
@@ -61,17 +61,43 @@ named_is_plan s g p split named =
     (λ v inside. placed_by s g named.acceptable.there v (cases_lt v (length (split_events s))) inside)
     named.plan.events named.plan.reorders.arcs split named.acceptable
 
--- the split design of a plan is the netlist's
-pub planned_in_clusters : (held : List ℕ → Held) (net : List ℕ) (graph : Option (List ℕ)) (mode : Mode) (c : Circuit) (p : Planned)
-    → (planned_stage held net graph mode c).means p → IsInClusters mode c p.split
-planned_in_clusters held net None mode c p (s, (is, few), own) = subst (λ (t : Split). IsInClusters mode c t) (sym own.split) is
-planned_in_clusters held net (Some file) mode c p (s, (is, few), (lines, are, (g, read, named))) = subst (λ (t : Split). IsInClusters mode c t) (sym named.plan.split) is
+-- slack leaves a split design split
+slackened_split : (s : Split) (slack : ℕ) → IsSplit s → IsSplit (slackened s slack)
+slackened_split s slack is = record {
+  accepted = is.accepted;
+  covered = is.covered;
+  within = is.within;
+  once = is.once;
+  one_value_each = is.one_value_each;
+}
+
+-- the split design of a plan is the netlist's, with slack
+planned_in_clusters : (held : List ℕ → Held) (net : List ℕ) (graph : Option (List ℕ)) (mode : Mode) (slack : ℕ) (c : Circuit) (p : Planned)
+    → (planned_stage held net graph mode slack c).means p → (s : Split) × IsInClusters mode c s × (p.split ≡ slackened s slack)
+planned_in_clusters held net None mode slack c p (s, (is, few), own) = (s, is, own.split)
+planned_in_clusters held net (Some file) mode slack c p (s, (is, few), (lines, are, (g, read, named))) = (s, is, named.plan.split)
+
+-- the circuit of a plan is the netlist
+pub planned_circuit : (held : List ℕ → Held) (net : List ℕ) (graph : Option (List ℕ)) (mode : Mode) (slack : ℕ) (c : Circuit) (p : Planned)
+    → (planned_stage held net graph mode slack c).means p → p.split.circuit ≡ c
+planned_circuit held net graph mode slack c p means =
+    let (s, is, same) = planned_in_clusters held net graph mode slack c p means in
+    ap (λ (t : Split). t.circuit) same ∙ ap (λ (t : Split). t.circuit) is.is
+
+-- and its registers start as the netlist says
+pub planned_start : (held : List ℕ → Held) (net : List ℕ) (graph : Option (List ℕ)) (mode : Mode) (slack : ℕ) (c : Circuit) (p : Planned)
+    → (planned_stage held net graph mode slack c).means p → p.split.initial ≡ initial_row p.split.circuit
+planned_start held net graph mode slack c p means =
+    let (s, is, same) = planned_in_clusters held net graph mode slack c p means in
+    ap (λ (t : Split). t.initial) same ∙ (ap (λ (t : Split). t.initial) is.is
+    ∙ ap initial_row (sym (planned_circuit held net graph mode slack c p means)))
 
 -- the graph of a plan is accepted
-pub planned_is_plan : (held : List ℕ → Held) (net : List ℕ) (graph : Option (List ℕ)) (mode : Mode) (c : Circuit) (p : Planned) → IsAccepted c
-    → (planned_stage held net graph mode c).means p → IsPlan p.split p.graph
-planned_is_plan held net None mode c p accepted (s, (is, few), own) =
+pub planned_is_plan : (held : List ℕ → Held) (net : List ℕ) (graph : Option (List ℕ)) (mode : Mode) (slack : ℕ) (c : Circuit) (p : Planned) → IsAccepted c
+    → (planned_stage held net graph mode slack c).means p → IsPlan p.split p.graph
+planned_is_plan held net None mode slack c p accepted (s, (is, few), own) =
     subst (λ (t : Split). IsPlan t p.graph) (sym own.split)
-    (orders_are_accepted s p.graph (in_clusters_split mode c s accepted is) own.graph.events own.graph.orders)
-planned_is_plan held net (Some file) mode c p accepted (s, (is, few), (lines, are, (g, read, named))) =
-    subst (λ (t : Split). IsPlan t p.graph) (sym named.plan.split) (named_is_plan s g p (in_clusters_split mode c s accepted is) named)
+    (orders_are_accepted (slackened s slack) p.graph (slackened_split s slack (in_clusters_split mode c s accepted is)) own.graph.events own.graph.orders)
+planned_is_plan held net (Some file) mode slack c p accepted (s, (is, few), (lines, are, (g, read, named))) =
+    subst (λ (t : Split). IsPlan t p.graph) (sym named.plan.split)
+    (named_is_plan (slackened s slack) g p (slackened_split s slack (in_clusters_split mode c s accepted is)) named)

@@ -6,7 +6,7 @@ use Rattle.ds_design.specs.Circuit.{Circuit}
 use Rattle.ds_base.specs.Limit.{most_of}
 use Rattle.ds_base.specs.declared.number.Limit.TheVariants.{Clusters}
 use Rattle.ds_base.specs.declared.number.Mode.{Mode}
-use Rattle.ds_latch.specs.Node.{Split}
+use Rattle.ds_latch.specs.Node.{Split, slackened}
 use Rattle.ds_split.specs.Cluster.{HasTooManyClusters}
 use Rattle.ds_split.specs.Split.{HasTooManyOrders, split_of}
 use Rattle.ds_split.specs.Laws.{OneClustering}
@@ -51,7 +51,8 @@ plan_exclusive : (held : List ℕ → Held) (graph : Option (List ℕ)) → ((fi
 plan_exclusive held None told s = own_exclusive s
 plan_exclusive held (Some file) told s = named_exclusive held file (told file refl) s
 
-pub planned_exclusive : OneClustering → (held : List ℕ → Held) (net : List ℕ) (graph : Option (List ℕ)) (mode : Mode) → ((file : List ℕ) → graph ≡ Some file → held file ≢ untold) → (c : Circuit)
-    → IsExclusive (planned_stage held net graph mode c)
-planned_exclusive law held net graph mode told c =
-    then_exclusive (split_stage net mode c) (plan_stage held graph) (split_exclusive law net mode c) (plan_exclusive held graph told)
+pub planned_exclusive : OneClustering → (held : List ℕ → Held) (net : List ℕ) (graph : Option (List ℕ)) (mode : Mode) (slack : ℕ) → ((file : List ℕ) → graph ≡ Some file → held file ≢ untold) → (c : Circuit)
+    → IsExclusive (planned_stage held net graph mode slack c)
+planned_exclusive law held net graph mode slack told c =
+    then_exclusive (split_stage net mode c) (λ (s : Split). plan_stage held graph (slackened s slack)) (split_exclusive law net mode c)
+    (λ s. plan_exclusive held graph told (slackened s slack))

@@ -8,7 +8,7 @@ use Rattle.ds_lines.specs.Line.{Line}
 use Rattle.ds_marked.specs.Graph.{Graph, IsKept}
 use Rattle.ds_design.specs.Circuit.{Circuit}
 use Rattle.ds_marked.specs.Log.{event_text, text_of_event}
-use Rattle.ds_latch.specs.Node.{Split}
+use Rattle.ds_latch.specs.Node.{Split, slackened}
 use Rattle.ds_latch.specs.Plan.{Planned}
 use Rattle.ds_astg.specs.Read.{graph_of}
 use Rattle.ds_astg.specs.declared.fault.AstgFault.{AstgFault}
@@ -95,7 +95,8 @@ abbrev pub plan_stage : (List ℕ → Held) → Option (List ℕ) → Split → 
 plan_stage held None s = giving (IsOwnPlan s)
 plan_stage held (Some file) s = named_stage held file s
 
--- the plan of a netlist, once it is read
-abbrev pub planned_stage : (List ℕ → Held) → List ℕ → Option (List ℕ) → Mode → Circuit
+-- the plan of a netlist, once it is read: of its split design with slack
+abbrev pub planned_stage : (List ℕ → Held) → List ℕ → Option (List ℕ) → Mode → ℕ → Circuit
     → Stage Planned
-planned_stage held net graph mode c = then_stage (split_stage net mode c) (plan_stage held graph)
+planned_stage held net graph mode slack c =
+    then_stage (split_stage net mode c) (λ s. plan_stage held graph (slackened s slack))

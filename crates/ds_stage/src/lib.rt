@@ -28,6 +28,7 @@ mod plan;
 mod report;
 mod source;
 mod split;
+mod splitting;
 mod state_text;
 mod stop;
 
@@ -39,5 +40,6 @@ pub use plan::{own_plan, plan_named, plan_netlist};
 pub use report::{put_count, write_report};
 pub use source::{read_netlist, read_rows};
 pub use split::split_netlist;
+pub use splitting::Splitting;
 pub use state_text::write_state;
 pub use stop::Stop;

@@ -11,6 +11,7 @@ ghost use Rattle.ds_stage.specs.PlanStage.{marked_stage, named_stage, plan_stage
 use crate::graph_text::{accept_text, astg_text};
 use crate::source::{lines_in, read_text, refused, refused_at};
 use crate::split::split_netlist;
+use crate::splitting::Splitting;
 use crate::stop::Stop;
 use ds_accept::{AcceptFault, accept};
 use ds_astg::{AstgFault, AstgRefusal, read};
@@ -24,24 +25,25 @@ use ds_marked::Marked;
 use ds_outside::{Files, Which};
 use std::alloc::Global;
 
-/// The plan of a netlist, its registers in the clusters of a mode: with the graph of a file, where
-/// one is named, else with its controller graph. `net` is the netlist's file.
+/// The plan of a netlist that is split so: with the graph of a file, where one is named, else with
+/// its controller graph. `net` is the netlist's file.
 pub fn plan_netlist<'a, F: Files>(
     alloc: Global,
     files: &mut F,
     net: &str,
     netlist: &'a Netlist,
     graph: &Option<FileName>,
-    mode: Mode,
+    splitting: Splitting,
 ) -> Result<Plan<'a>, Stop>
-    ensures value { Answers (planned_stage (F.held files.old) net.now graph.now mode
-        netlist.entry.now) (RoseIn (F.faults files.old) (F.faults files.new)) result }
+    requires { splitting.slack ≤ 15 }
+    ensures value { Answers (planned_stage (F.held files.old) net.now graph.now
+        splitting.clusters splitting.slack netlist.entry.now) (RoseIn (F.faults files.old) (F.faults files.new)) result }
 
     ensures same_held { F.held files.new ≡ F.held files.old }
     ensures never_falls { (w : _) (n : List ℕ) → F.faults files.old w n ≤ F.faults files.new w n }
 {
-    let latches = split_netlist(alloc, net, netlist, mode)?;
-    plan_of(alloc, files, graph, latches)
+    let latches = split_netlist(alloc, net, netlist, splitting.clusters)?;
+    plan_of(alloc, files, graph, latches.with_slack(splitting.slack))
 }
 
 // The plan of latches.
@@ -72,7 +74,7 @@ pub fn own_plan<'a>(alloc: Global, latches: Latches<'a>) -> Result<Plan<'a>, Out
     Ok(Plan::of(latches, graph))
 }
 
-/// The plan of a netlist with the graph of a file.
+/// The plan of a netlist with the graph of a file, without slack.
 pub fn plan_named<'a, F: Files>(
     alloc: Global,
     files: &mut F,
@@ -81,14 +83,14 @@ pub fn plan_named<'a, F: Files>(
     graph: &str,
     mode: Mode,
 ) -> Result<Plan<'a>, Stop>
-    ensures value { Answers (planned_stage (F.held files.old) net.now (Some graph.now) mode
+    ensures value { Answers (planned_stage (F.held files.old) net.now (Some graph.now) mode 0
         netlist.entry.now) (RoseIn (F.faults files.old) (F.faults files.new)) result }
 
     ensures same_held { F.held files.new ≡ F.held files.old }
     ensures never_falls { (w : _) (n : List ℕ) → F.faults files.old w n ≤ F.faults files.new w n }
 {
     let latches = split_netlist(alloc, net, netlist, mode)?;
-    named_plan(alloc, files, graph, latches)
+    named_plan(alloc, files, graph, latches.with_slack(0))
 }
 
 // The plan of the graph of a file.

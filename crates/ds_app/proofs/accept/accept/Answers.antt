@@ -38,17 +38,17 @@ returns-in_err-plan-clause-value g c =
     let before : Which → List ℕ → ℕ = g.F.Files.faults c.args.files.now in
     let more : OfFile = RoseIn (g.F.Files.faults c.args.files.now) (g.F.Files.faults c.plan_named.new.files) in
     let circuit : Circuit = c.in_ok-netlist.netlist in
-    let wider : IsWider (planned_stage (g.F.Files.held c.read_netlist.new.files) net graph mode circuit) (planned_stage held net graph mode circuit) (RoseIn (g.F.Files.faults c.read_netlist.new.files) (g.F.Files.faults c.plan_named.new.files)) (RoseIn before (g.F.Files.faults c.plan_named.new.files)) =
-    planned_since held (g.F.Files.held c.read_netlist.new.files) net graph mode circuit before (g.F.Files.faults c.read_netlist.new.files) (g.F.Files.faults c.plan_named.new.files) c.in_ok-netlist.ensures.same_held c.in_ok-netlist.ensures.never_falls in
+    let wider : IsWider (planned_stage (g.F.Files.held c.read_netlist.new.files) net graph mode 0 circuit) (planned_stage held net graph mode 0 circuit) (RoseIn (g.F.Files.faults c.read_netlist.new.files) (g.F.Files.faults c.plan_named.new.files)) (RoseIn before (g.F.Files.faults c.plan_named.new.files)) =
+    planned_since held (g.F.Files.held c.read_netlist.new.files) net graph mode 0 circuit before (g.F.Files.faults c.read_netlist.new.files) (g.F.Files.faults c.plan_named.new.files) c.in_ok-netlist.ensures.same_held c.in_ok-netlist.ensures.never_falls in
     let stop : Stop = c.in_err-plan.field-0.0 in
     let p = err_from_is_err_and c.from_residual-in_err-plan.result c.from_residual-in_err-plan.ensures.1 in
-    let few : Answers {A = Planned} (planned_stage held net graph mode circuit) more (Err stop) =
-    widened {A = Planned} (planned_stage (g.F.Files.held c.read_netlist.new.files) net graph mode circuit) (planned_stage held net graph mode circuit)
+    let few : Answers {A = Planned} (planned_stage held net graph mode 0 circuit) more (Err stop) =
+    widened {A = Planned} (planned_stage (g.F.Files.held c.read_netlist.new.files) net graph mode 0 circuit) (planned_stage held net graph mode 0 circuit)
     (RoseIn (g.F.Files.faults c.read_netlist.new.files) (g.F.Files.faults c.plan_named.new.files)) more wider (Err stop) c.in_err-plan.ensures.value in
     rw (p.1, p.2) (ended (Unit {0}) (then_stage (netlist_stage held net) (accept_stage held net c.args.job.now.graph.now mode)) more
     (record { old = g.O.Sink.written c.args.out.now; new = g.O.Sink.written c.args.out.now; before = g.O.Sink.faults c.args.out.now; now = g.O.Sink.faults c.args.out.now }) stop refl
     (passed {B = List ℕ} (netlist_stage held net) (accept_stage held net c.args.job.now.graph.now mode) more circuit c.in_ok-netlist.ensures.value (Err stop)
-    (stopped (planned_stage held net graph mode circuit) ranks_stage more stop few)))
+    (stopped (planned_stage held net graph mode 0 circuit) ranks_stage more stop few)))
 
 pub returns-clause-value : goal.returns-clause-value
 returns-clause-value g c =
@@ -59,12 +59,12 @@ returns-clause-value g c =
     let before : Which → List ℕ → ℕ = g.F.Files.faults c.args.files.now in
     let more : OfFile = RoseIn (g.F.Files.faults c.args.files.now) (g.F.Files.faults c.plan_named.new.files) in
     let circuit : Circuit = c.in_ok-netlist.netlist in
-    let wider : IsWider (planned_stage (g.F.Files.held c.read_netlist.new.files) net graph mode circuit) (planned_stage held net graph mode circuit) (RoseIn (g.F.Files.faults c.read_netlist.new.files) (g.F.Files.faults c.plan_named.new.files)) (RoseIn before (g.F.Files.faults c.plan_named.new.files)) =
-    planned_since held (g.F.Files.held c.read_netlist.new.files) net graph mode circuit before (g.F.Files.faults c.read_netlist.new.files) (g.F.Files.faults c.plan_named.new.files) c.in_ok-netlist.ensures.same_held c.in_ok-netlist.ensures.never_falls in
+    let wider : IsWider (planned_stage (g.F.Files.held c.read_netlist.new.files) net graph mode 0 circuit) (planned_stage held net graph mode 0 circuit) (RoseIn (g.F.Files.faults c.read_netlist.new.files) (g.F.Files.faults c.plan_named.new.files)) (RoseIn before (g.F.Files.faults c.plan_named.new.files)) =
+    planned_since held (g.F.Files.held c.read_netlist.new.files) net graph mode 0 circuit before (g.F.Files.faults c.read_netlist.new.files) (g.F.Files.faults c.plan_named.new.files) c.in_ok-netlist.ensures.same_held c.in_ok-netlist.ensures.never_falls in
     let plan : Planned = c.in_ok-plan.plan in
-    let planned : (planned_stage held net graph mode circuit).means plan = wider.means plan c.in_ok-plan.ensures.value in
+    let planned : (planned_stage held net graph mode 0 circuit).means plan = wider.means plan c.in_ok-plan.ensures.value in
     let out : Output = (record { old = g.O.Sink.written c.args.out.now; new = g.O.Sink.written c.write_accepted.new.out; before = g.O.Sink.faults c.args.out.now; now = g.O.Sink.faults c.write_accepted.new.out }) in
     let last : Ends {A = Unit {0}} (ranks_stage plan) more out c.write_accepted.result =
     ends_more {A = Unit {0}} (ranks_stage plan) Never more out (λ line none. absurd none) c.write_accepted.result c.write_accepted.ensures in
     ends_after (netlist_stage held net) (accept_stage held net c.args.job.now.graph.now mode) more out circuit c.in_ok-netlist.ensures.value c.write_accepted.result
-    (ends_after (planned_stage held net graph mode circuit) ranks_stage more out plan planned c.write_accepted.result last)
+    (ends_after (planned_stage held net graph mode 0 circuit) ranks_stage more out plan planned c.write_accepted.result last)

@@ -1,6 +1,6 @@
 use Rattle.ds_cmd.proofs.Taken.{run_taken, run_with_mode}
 use Rattle.ds_cmd.proofs.TakenGraph.{run_with_graph}
-use Rattle.ds_cmd.proofs.TakenNumbers.{run_with_jobs, run_with_log}
+use Rattle.ds_cmd.proofs.TakenNumbers.{run_with_jobs, run_with_log, run_with_slack}
 use Rattle.ds_cmd.proofs.laws.run_is_taken.Goals as goal
 
 pub returns-clause-each : goal.returns-clause-each
@@ -17,3 +17,6 @@ returns-clause-jobs c = run_with_jobs
 
 pub returns-clause-log : goal.returns-clause-log
 returns-clause-log c = run_with_log
+
+pub returns-clause-slack : goal.returns-clause-slack
+returns-clause-slack c = run_with_slack

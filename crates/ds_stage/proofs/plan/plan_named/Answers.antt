@@ -1,13 +1,14 @@
 -- Behind the split, the plan.
-use Rattle.std.proofs.Common.{ℕ, List, Some, Err}
+use Rattle.std.proofs.Common.{ℕ, List, Some, Err, subst}
 use Rattle.std.proofs.lemmas.Result.{err_from_is_err_and}
 use Rattle.ds_base.specs.declared.number.Mode.{Mode}
 use Rattle.ds_design.specs.Circuit.{Circuit}
-use Rattle.ds_latch.specs.Node.{Split}
+use Rattle.ds_latch.specs.Node.{Split, slackened}
+use Rattle.ds_latch.specs.Plan.{Planned}
 use Rattle.ds_stage.specs.Stage.{OfFile}
 use Rattle.ds_stage.specs.SplitStage.{split_stage}
 use Rattle.ds_stage.specs.PlanStage.{plan_stage}
-use Rattle.ds_stage.specs.Ends.{Never, RoseIn}
+use Rattle.ds_stage.specs.Ends.{Answers, Never, RoseIn}
 use Rattle.ds_stage.specs.declared.stop.Stop.{Stop}
 use Rattle.ds_stage.proofs.Stages.{passed, stopped, widened}
 use Rattle.ds_stage.proofs.Ends.{no_more}
@@ -22,12 +23,12 @@ returns-in_err-latches-clause-value g c =
     let more : OfFile = RoseIn (g.F.Files.faults c.args.files.now) (g.F.Files.faults c.args.files.now) in
     let stop : Stop = c.in_err-latches.field-0.0 in
     let p = err_from_is_err_and c.from_residual.result c.from_residual.ensures.1 in
-    rw (p.1, p.2) (stopped (split_stage net mode circuit) (plan_stage held (Some c.args.graph.now)) more stop
+    rw (p.1, p.2) (stopped (split_stage net mode circuit) (λ (s : Split). plan_stage held (Some c.args.graph.now) (slackened s 0)) more stop
     (widened {A = Split} (split_stage net mode circuit) (split_stage net mode circuit) Never more (no_more (split_stage net mode circuit) more (λ line none. absurd none)) (Err stop) c.in_err-latches.ensures))
 
 pub returns-clause-value : goal.returns-clause-value
 returns-clause-value g c =
     let held = g.F.Files.held c.args.files.now in
     let more : OfFile = RoseIn (g.F.Files.faults c.args.files.now) (g.F.Files.faults c.named_plan.new.files) in
-    passed (split_stage c.args.net.now c.args.mode c.args.netlist.now) (plan_stage held (Some c.args.graph.now)) more c.in_ok-latches.latches c.in_ok-latches.ensures
-    c.named_plan.result c.named_plan.ensures.value
+    passed (split_stage c.args.net.now c.args.mode c.args.netlist.now) (λ (s : Split). plan_stage held (Some c.args.graph.now) (slackened s 0)) more c.in_ok-latches.latches c.in_ok-latches.ensures
+    c.named_plan.result (subst (λ (s : Split). Answers {A = Planned} (plan_stage held (Some c.args.graph.now) s) more c.named_plan.result) c.with_slack.ensures c.named_plan.ensures.value)
