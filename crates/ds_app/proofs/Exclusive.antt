@@ -50,14 +50,14 @@ graph_not_refused law file mode c text line means refused =
     then_not_refused (split_stage file mode c) controller_stage (split_exclusive law file mode c)
     (λ s b l is none. none) text line means refused
 
-replay_not_refused : OneClustering → (held : List ℕ → Held) (file vec log : List ℕ) (graph : Option (List ℕ)) (mode : Mode) (slack : ℕ)
+replay_not_refused : OneClustering → (held : List ℕ → Held) (file vec log : List ℕ) (graph : Option (List ℕ)) (mode : Mode) (slack : ℕ) (transparent : Bool)
     → held vec ≢ untold → held log ≢ untold → IsToldIn held graph → (c : Circuit) (text line : List ℕ)
-    → (replay_stage held file vec log graph mode slack c).means text → ¬ (replay_stage held file vec log graph mode slack c).refused line
-replay_not_refused law held file vec log graph mode slack told logged named c text line means refused =
-    then_not_refused (planned_stage held file graph mode slack c) (λ (p : Planned). then_stage (vectors_stage held vec c) (λ (vectors : Rows). replayed_stage held log p vectors.rows))
+    → (replay_stage held file vec log graph mode slack transparent c).means text → ¬ (replay_stage held file vec log graph mode slack transparent c).refused line
+replay_not_refused law held file vec log graph mode slack transparent told logged named c text line means refused =
+    then_not_refused (planned_stage held file graph mode slack c) (λ (p : Planned). then_stage (vectors_stage held vec c) (λ (vectors : Rows). replayed_stage held log transparent p vectors.rows))
     (planned_exclusive law held file graph mode slack (told_file held graph named) c)
-    (λ p b l is bad. then_not_refused (vectors_stage held vec c) (λ (vectors : Rows). replayed_stage held log p vectors.rows) (vectors_exclusive held vec c told)
-    (λ vectors t k means bad. replayed_not_refused held log (lines_exclusive held Log log logged) p vectors.rows t k means bad) b l is bad)
+    (λ p b l is bad. then_not_refused (vectors_stage held vec c) (λ (vectors : Rows). replayed_stage held log transparent p vectors.rows) (vectors_exclusive held vec c told)
+    (λ vectors t k means bad. replayed_not_refused held log transparent (lines_exclusive held Log log logged) p vectors.rows t k means bad) b l is bad)
     text line means refused
 
 accept_not_refused : OneClustering → (held : List ℕ → Held) (file graph : List ℕ) (mode : Mode) → held graph ≢ untold → (c : Circuit) (text line : List ℕ)
@@ -88,8 +88,8 @@ job_not_refused law one held (Check file) told text line means refused =
 job_not_refused law one held (Graph file mode) told text line means refused =
     then_not_refused (netlist_stage held file) (graph_stage file mode) (netlist_exclusive law held file told) (graph_not_refused one file mode) text line means refused
 job_not_refused law one held (Replay file vec log graph mode slack transparent) told text line means refused =
-    then_not_refused (netlist_stage held file) (replay_stage held file vec log graph mode slack) (netlist_exclusive law held file told.0)
-    (replay_not_refused one held file vec log graph mode slack told.1 told.2 told.3) text line means refused
+    then_not_refused (netlist_stage held file) (replay_stage held file vec log graph mode slack transparent) (netlist_exclusive law held file told.0)
+    (replay_not_refused one held file vec log graph mode slack transparent told.1 told.2 told.3) text line means refused
 job_not_refused law one held (Accept file graph mode) told text line means refused =
     then_not_refused (netlist_stage held file) (accept_stage held file graph mode) (netlist_exclusive law held file told.0)
     (accept_not_refused one held file graph mode told.1) text line means refused

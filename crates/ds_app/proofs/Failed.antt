@@ -39,11 +39,11 @@ graph_says : (file : List ℕ) (mode : Mode) (failed : OfFile) (c : Circuit) →
 graph_says file mode failed c =
     then_says (split_stage file mode c) controller_stage failed (λ line none. absurd none) (λ s line none. absurd none)
 
-replay_says : (held : List ℕ → Held) (file vec log : List ℕ) (graph : Option (List ℕ)) (mode : Mode) (slack : ℕ) (failed : OfFile) (c : Circuit) → Says (replay_stage held file vec log graph mode slack c) failed
-replay_says held file vec log graph mode slack failed c =
-    then_says (planned_stage held file graph mode slack c) (λ (p : Planned). then_stage (vectors_stage held vec c) (λ (vectors : Rows). replayed_stage held log p vectors.rows)) failed
+replay_says : (held : List ℕ → Held) (file vec log : List ℕ) (graph : Option (List ℕ)) (mode : Mode) (slack : ℕ) (transparent : Bool) (failed : OfFile) (c : Circuit) → Says (replay_stage held file vec log graph mode slack transparent c) failed
+replay_says held file vec log graph mode slack transparent failed c =
+    then_says (planned_stage held file graph mode slack c) (λ (p : Planned). then_stage (vectors_stage held vec c) (λ (vectors : Rows). replayed_stage held log transparent p vectors.rows)) failed
     (planned_says held file graph mode slack failed c)
-    (λ p. then_says (vectors_stage held vec c) (λ (vectors : Rows). replayed_stage held log p vectors.rows) failed (vectors_say held vec c failed) (λ vectors. replayed_says held log failed p vectors.rows))
+    (λ p. then_says (vectors_stage held vec c) (λ (vectors : Rows). replayed_stage held log transparent p vectors.rows) failed (vectors_say held vec c failed) (λ vectors. replayed_says held log transparent failed p vectors.rows))
 
 period_says : (held : List ℕ → Held) (file delays : List ℕ) (mode : Mode) (failed : OfFile)
     → (c : Circuit) → Says (period_stage held file delays mode c) failed
@@ -58,7 +58,7 @@ job_says held (Run file vec graph mode jobs log slack) failed line is = then_say
 job_says held (Clock file vec) failed line is = then_says (netlist_stage held file) (clock_stage held vec) failed (netlist_says held file failed) (clock_says held vec failed) line is
 job_says held (Check file) failed line is = then_says (netlist_stage held file) report_stage failed (netlist_says held file failed) (λ c l none. absurd none) line is
 job_says held (Graph file mode) failed line is = then_says (netlist_stage held file) (graph_stage file mode) failed (netlist_says held file failed) (graph_says file mode failed) line is
-job_says held (Replay file vec log graph mode slack transparent) failed line is = then_says (netlist_stage held file) (replay_stage held file vec log graph mode slack) failed (netlist_says held file failed) (replay_says held file vec log graph mode slack failed) line is
+job_says held (Replay file vec log graph mode slack transparent) failed line is = then_says (netlist_stage held file) (replay_stage held file vec log graph mode slack transparent) failed (netlist_says held file failed) (replay_says held file vec log graph mode slack transparent failed) line is
 job_says held (Accept file graph mode) failed line is = then_says (netlist_stage held file) (accept_stage held file graph mode) failed (netlist_says held file failed) (accept_says held file graph mode failed) line is
 job_says held (Demo seed registers turns jobs) failed line none = absurd none
 job_says held (Period file delays mode) failed line is =

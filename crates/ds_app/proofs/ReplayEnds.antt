@@ -1,5 +1,5 @@
 -- How `replay` ends behind its netlist, its plan and its vectors.
-use Rattle.std.proofs.Common.{◌≡◌, ℕ, ◌≤◌, List, Option, Result, Err, inl, inr, subst}
+use Rattle.std.proofs.Common.{◌≡◌, ℕ, ◌≤◌, Bool, List, Option, Result, Err, inl, inr, subst}
 use Rattle.ds_base.specs.Values.{Row}
 use Rattle.ds_outside.specs.declared.files.Which.{Which}
 use Rattle.ds_outside.specs.declared.files.Which.TheVariants.{Log}
@@ -14,7 +14,7 @@ use Rattle.ds_stage.specs.declared.stop.Stop.TheVariants.{Refused, Unread, Unwri
 use Rattle.ds_stage.specs.Stage.{OfFile, Stage, giving, then_stage}
 use Rattle.ds_stage.specs.Stages.{netlist_stage, vectors_stage}
 use Rattle.ds_stage.specs.PlanStage.{planned_stage}
-use Rattle.ds_stage.specs.ReplayStage.{IsStateText, log_stage, replayed_stage}
+use Rattle.ds_stage.specs.ReplayStage.{IsReplayText, log_stage, replayed_stage}
 use Rattle.ds_stage.specs.Kept.{IsAfterLog, IsKeptText, kept_stage}
 use Rattle.ds_app.specs.Job.{replay_stage}
 use Rattle.ds_stage.specs.Ends.{Ends, Never, Output, RoseIn, Stops}
@@ -47,37 +47,37 @@ log_stops held log planned vectors more (Unread line) is = elim is [ inl here �
 log_stops held log planned vectors more Unwritten is = is
 log_stops held log planned vectors more Memory is = tt
 
-module _ (held : List ℕ → Held) (net vec log : List ℕ) (graph : Option (List ℕ)) (mode : Mode) (slack : ℕ) (more : OfFile) (c : Circuit) (accepted : (netlist_stage held net).means c) where
+module _ (held : List ℕ → Held) (net vec log : List ℕ) (graph : Option (List ℕ)) (mode : Mode) (slack : ℕ) (transparent : Bool) (more : OfFile) (c : Circuit) (accepted : (netlist_stage held net).means c) where
   -- what stands behind the netlist
-  pub stops_plan : (stop : Stop) → Stops (planned_stage held net graph mode slack c) more stop → Stops (then_stage (netlist_stage held net) (replay_stage held net vec log graph mode slack)) more stop
+  pub stops_plan : (stop : Stop) → Stops (planned_stage held net graph mode slack c) more stop → Stops (then_stage (netlist_stage held net) (replay_stage held net vec log graph mode slack transparent)) more stop
   stops_plan stop is =
-      passed {B = List ℕ} (netlist_stage held net) (replay_stage held net vec log graph mode slack) more c accepted (Err stop)
-      (stopped (planned_stage held net graph mode slack c) (λ (p : Planned). then_stage (vectors_stage held vec c) (λ (vectors : Rows). replayed_stage held log p vectors.rows)) more stop is)
+      passed {B = List ℕ} (netlist_stage held net) (replay_stage held net vec log graph mode slack transparent) more c accepted (Err stop)
+      (stopped (planned_stage held net graph mode slack c) (λ (p : Planned). then_stage (vectors_stage held vec c) (λ (vectors : Rows). replayed_stage held log transparent p vectors.rows)) more stop is)
 
   module _ (p : Planned) (is_plan : (planned_stage held net graph mode slack c).means p) where
-    pub stops_vectors : (stop : Stop) → Stops (vectors_stage held vec c) more stop → Stops (then_stage (netlist_stage held net) (replay_stage held net vec log graph mode slack)) more stop
+    pub stops_vectors : (stop : Stop) → Stops (vectors_stage held vec c) more stop → Stops (then_stage (netlist_stage held net) (replay_stage held net vec log graph mode slack transparent)) more stop
     stops_vectors stop is =
-        passed {B = List ℕ} (netlist_stage held net) (replay_stage held net vec log graph mode slack) more c accepted (Err stop)
-        (passed {B = List ℕ} (planned_stage held net graph mode slack c) (λ (q : Planned). then_stage (vectors_stage held vec c) (λ (vectors : Rows). replayed_stage held log q vectors.rows)) more p is_plan (Err stop)
-        (stopped (vectors_stage held vec c) (λ (vectors : Rows). replayed_stage held log p vectors.rows) more stop is))
+        passed {B = List ℕ} (netlist_stage held net) (replay_stage held net vec log graph mode slack transparent) more c accepted (Err stop)
+        (passed {B = List ℕ} (planned_stage held net graph mode slack c) (λ (q : Planned). then_stage (vectors_stage held vec c) (λ (vectors : Rows). replayed_stage held log transparent q vectors.rows)) more p is_plan (Err stop)
+        (stopped (vectors_stage held vec c) (λ (vectors : Rows). replayed_stage held log transparent p vectors.rows) more stop is))
 
     module _ (rows : Rows) (are : (vectors_stage held vec c).means rows) where
       abbrev Last : List ℕ → Stage (List ℕ)
-      Last events = giving (IsStateText p rows.rows events)
+      Last events = giving (IsReplayText transparent p rows.rows events)
 
-      pub stops_log : (stop : Stop) → Stops (log_stage held log p rows.rows) more stop → Stops (then_stage (netlist_stage held net) (replay_stage held net vec log graph mode slack)) more stop
+      pub stops_log : (stop : Stop) → Stops (log_stage held log p rows.rows) more stop → Stops (then_stage (netlist_stage held net) (replay_stage held net vec log graph mode slack transparent)) more stop
       stops_log stop is =
-          passed {B = List ℕ} (netlist_stage held net) (replay_stage held net vec log graph mode slack) more c accepted (Err stop)
-          (passed {B = List ℕ} (planned_stage held net graph mode slack c) (λ (q : Planned). then_stage (vectors_stage held vec c) (λ (vectors : Rows). replayed_stage held log q vectors.rows)) more p is_plan (Err stop)
-          (passed {B = List ℕ} (vectors_stage held vec c) (λ (vectors : Rows). replayed_stage held log p vectors.rows) more rows are (Err stop)
+          passed {B = List ℕ} (netlist_stage held net) (replay_stage held net vec log graph mode slack transparent) more c accepted (Err stop)
+          (passed {B = List ℕ} (planned_stage held net graph mode slack c) (λ (q : Planned). then_stage (vectors_stage held vec c) (λ (vectors : Rows). replayed_stage held log transparent q vectors.rows)) more p is_plan (Err stop)
+          (passed {B = List ℕ} (vectors_stage held vec c) (λ (vectors : Rows). replayed_stage held log transparent p vectors.rows) more rows are (Err stop)
           (stopped (log_stage held log p rows.rows) Last more stop is)))
 
       pub ends_log : (events : List ℕ) → (log_stage held log p rows.rows).means events → (out : Output) (result : Result (Unit {0}) Stop)
           → (kept : Snapshot) (fired : ℕ) → IsAfterLog p rows.rows events kept fired
-          → Ends {A = Unit {0}} (giving (IsKeptText kept fired)) Never out result → Ends {A = Unit {0}} (then_stage (netlist_stage held net) (replay_stage held net vec log graph mode slack)) more out result
+          → Ends {A = Unit {0}} (giving (IsKeptText transparent kept fired)) Never out result → Ends {A = Unit {0}} (then_stage (netlist_stage held net) (replay_stage held net vec log graph mode slack transparent)) more out result
       ends_log events means out result kept fired after is =
-          ends_after (netlist_stage held net) (replay_stage held net vec log graph mode slack) more out c accepted result
-          (ends_after (planned_stage held net graph mode slack c) (λ (q : Planned). then_stage (vectors_stage held vec c) (λ (vectors : Rows). replayed_stage held log q vectors.rows)) more out p is_plan result
-          (ends_after (vectors_stage held vec c) (λ (vectors : Rows). replayed_stage held log p vectors.rows) more out rows are result
+          ends_after (netlist_stage held net) (replay_stage held net vec log graph mode slack transparent) more out c accepted result
+          (ends_after (planned_stage held net graph mode slack c) (λ (q : Planned). then_stage (vectors_stage held vec c) (λ (vectors : Rows). replayed_stage held log transparent q vectors.rows)) more out p is_plan result
+          (ends_after (vectors_stage held vec c) (λ (vectors : Rows). replayed_stage held log transparent p vectors.rows) more out rows are result
           (ends_after (log_stage held log p rows.rows) Last more out events means result
-          (gives_more {A = Unit {0}} (IsKeptText kept fired) (IsStateText p rows.rows events) more out (λ text of. of.is p rows.rows events after) result is))))
+          (gives_more {A = Unit {0}} (IsKeptText transparent kept fired) (IsReplayText transparent p rows.rows events) more out (λ text of. of.is p rows.rows events after) result is))))

@@ -34,10 +34,11 @@ graph_stage net mode c = then_stage (split_stage net mode c) controller_stage
 
 -- `replay`, once the netlist is read
 abbrev pub replay_stage : (List ℕ → Held) → List ℕ → List ℕ → List ℕ → Option (List ℕ) → Mode → ℕ
-    → Circuit → Stage (List ℕ)
-replay_stage held net vec log graph mode slack c =
+    → Bool → Circuit → Stage (List ℕ)
+replay_stage held net vec log graph mode slack transparent c =
     then_stage (planned_stage held net graph mode slack c) (λ p.
-    then_stage (vectors_stage held vec c) (λ vectors. replayed_stage held log p vectors.rows))
+    then_stage (vectors_stage held vec c) (λ vectors.
+    replayed_stage held log transparent p vectors.rows))
 
 -- `accept`, once the netlist is read
 abbrev pub accept_stage : (List ℕ → Held) → List ℕ → List ℕ → Mode → Circuit → Stage (List ℕ)
@@ -57,7 +58,7 @@ stages_of held (Clock net vec) = then_stage (netlist_stage held net) (clock_stag
 stages_of held (Check net) = then_stage (netlist_stage held net) report_stage
 stages_of held (Graph net mode) = then_stage (netlist_stage held net) (graph_stage net mode)
 stages_of held (Replay net vec log graph mode slack transparent) =
-    then_stage (netlist_stage held net) (replay_stage held net vec log graph mode slack)
+    then_stage (netlist_stage held net) (replay_stage held net vec log graph mode slack transparent)
 stages_of held (Accept net graph mode) =
     then_stage (netlist_stage held net) (accept_stage held net graph mode)
 stages_of held (Demo seed registers turns jobs) = demo_stage seed registers turns

@@ -131,7 +131,7 @@ fn do_job<R: AllocGlobal + Threads + Sync, G: Gate, F: Files, O: Sink>(
             graph,
             clusters,
             slack,
-            transparent: _,
+            transparent,
         } => {
             let job = ReplayJob {
                 net: net.as_str(),
@@ -140,6 +140,7 @@ fn do_job<R: AllocGlobal + Threads + Sync, G: Gate, F: Files, O: Sink>(
                 graph,
                 clusters: *clusters,
                 slack: *slack,
+                transparent: *transparent,
             };
             replay(alloc, &job, files, out)
         }

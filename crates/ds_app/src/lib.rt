@@ -12,9 +12,10 @@
 //! workers; with a log, what the workers fired stands behind it, a legal list that has each event
 //! once a vector. `check` reports on the netlist, and `graph` writes the controller graph. `accept`
 //! writes the ranks of a graph of the user's that is accepted, and `run` and `replay` fire over
-//! such a graph where one is named, with as much slack as is wanted. `replay` fires the events of a log where each may fire, and
-//! writes what each register has stored then. `demo` makes a design from a number, runs it, and
-//! sums its trace up. `period` writes the exact period of the controller graph, a cycle that has
+//! such a graph where one is named, with as much slack as is wanted. `replay` fires the events of a
+//! log where each may fire, and writes what each register has stored then, and where it is wanted
+//! what each open latch lets through. `demo` makes a design from a number, runs it, and sums its
+//! trace up. `period` writes the exact period of the controller graph, a cycle that has
 //! it, and potentials that show it. In whatever order the latches fire, each register stores its
 //! clocked values: `Interleavings`. Not promised is that memory is found, and which of several
 //! cycles is shown.

@@ -1,5 +1,5 @@
 //! `replay`: the firings of a log fired again.
-ghost use Rattle.std.specs.Prelude.{◌≡◌, ◌≤◌, false};
+ghost use Rattle.std.specs.Prelude.{◌≡◌, ◌≤◌, true};
 ghost use Rattle.ds_cmd.specs.declared.job.Job.TheVariants.{Replay};
 ghost use Rattle.ds_stage.specs.Ends.{Ends, Output, RoseIn};
 ghost use Rattle.ds_app.specs.Job.{stages_of};
@@ -7,12 +7,21 @@ ghost use Rattle.ds_app.specs.Job.{stages_of};
 use ds_base::Mode;
 use ds_cmd::FileName;
 use ds_outside::{Files, Sink};
-use ds_stage::{Splitting, Stop, plan_netlist, read_log, read_netlist, read_rows, write_state};
+use ds_stage::{
+    AfterLog,
+    Splitting,
+    Stop,
+    plan_netlist,
+    read_log,
+    read_netlist,
+    read_rows,
+    write_state,
+};
 use std::alloc::Global;
 
 /// What `replay` is to do: the files of the netlist, of the vectors, of the log and of a graph,
-/// where one is named, how registers are put into clusters, and how many openings a producer may
-/// run ahead of its consumers.
+/// where one is named, how registers are put into clusters, how many openings a producer may run
+/// ahead of its consumers, and whether what open latches show is wanted, which is without slack.
 #[derive(Clone, Copy)]
 pub struct ReplayJob<'a> {
     pub net: &'a str,
@@ -21,10 +30,11 @@ pub struct ReplayJob<'a> {
     pub graph: &'a Option<FileName>,
     pub clusters: Mode,
     pub slack: u8,
+    pub transparent: bool,
 }
 
 /// Reads a netlist, makes its plan, fires the events of the log in their order on the vectors, and
-/// writes what each register has stored then.
+/// writes what each register has stored then, and where it is wanted what open latches show.
 #[tactic(auto)]
 pub fn replay<F: Files, O: Sink>(
     alloc: Global,
@@ -32,9 +42,11 @@ pub fn replay<F: Files, O: Sink>(
     files: &mut F,
     out: &mut O,
 ) -> Result<(), Stop>
-    requires { job.now.slack ≤ 15 }
+    requires slack { job.now.slack ≤ 15 }
+    requires shown { job.now.transparent ≡ true → job.now.slack ≡ 0 }
     ensures value { Ends (stages_of (F.held files.old) (Replay job.now.net.now job.now.vec.now
-        job.now.log.now job.now.graph.now job.now.clusters job.now.slack false))
+        job.now.log.now job.now.graph.now job.now.clusters job.now.slack
+        job.now.transparent))
         (RoseIn (F.faults files.old) (F.faults files.new)) (record {
           old = O.written out.old;
           new = O.written out.new;
@@ -54,5 +66,10 @@ pub fn replay<F: Files, O: Sink>(
     let plan = plan_netlist(alloc, files, job.net, &netlist, job.graph, splitting)?;
     let vectors = read_rows(alloc, files, job.vec, &netlist)?;
     let (state, fired) = read_log(alloc, files, job.log, &plan, &vectors)?;
-    write_state(alloc, &plan, &vectors, &state, fired, out)
+    let after = AfterLog {
+        state: &state,
+        fired,
+        transparent: job.transparent,
+    };
+    write_state(alloc, &plan, &vectors, &after, out)
 }

@@ -2,9 +2,9 @@
 //! kind.
 //!
 //! A `Series` keeps a bank and an order of its tables. `set_all` gives what they drive its value,
-//! one after another: it reads words that are exact for unknown values too. `set_all_known`, where
-//! each table finds its inputs known, reads shorter ones. Both set the same as the bank does, table
-//! by table.
+//! one after another: it reads lists of nine values, or words of 27, that are exact for unknown
+//! values too. `set_all_known`, where each table finds its inputs known, reads short words. Both
+//! set the same as the bank does, table by table.
 #![tactic(auto)]
 
 mod lists;

@@ -1,5 +1,5 @@
 -- A stage names a file that it did not read only where a read failed.
-use Rattle.std.proofs.Common.{ℕ, List, Option, None, Some, length, inl, inr}
+use Rattle.std.proofs.Common.{ℕ, Bool, List, Option, None, Some, length, inl, inr}
 use Rattle.ds_outside.specs.Held.{Held}
 use Rattle.ds_outside.specs.declared.files.Which.{Which}
 use Rattle.ds_outside.specs.declared.files.Which.TheVariants.{Net, Vectors, Log}
@@ -13,7 +13,7 @@ use Rattle.ds_stage.specs.Stage.{OfFile, Stage, giving, then_stage}
 use Rattle.ds_stage.specs.Stages.{accepted_stage, design_stage, file_stage, flat_or_line, lines_stage, models_or_line, netlist_stage, result_stage, rows_stage, vectors_stage}
 use Rattle.ds_stage.specs.SplitStage.{split_stage}
 use Rattle.ds_stage.specs.PlanStage.{acceptable_stage, graph_or_line, marked_stage, plan_stage, planned_stage}
-use Rattle.ds_stage.specs.ReplayStage.{IsStateText, fired_stage, log_stage, replayed_stage}
+use Rattle.ds_stage.specs.ReplayStage.{IsReplayText, fired_stage, log_stage, replayed_stage}
 use Rattle.ds_base.specs.Values.{Row}
 use Rattle.ds_astg.specs.Read.{graph_of}
 use Rattle.ds_latch.specs.Plan.{Planned}
@@ -63,8 +63,8 @@ planned_says held net graph mode slack failed c =
     then_says (split_stage net mode c) (λ (s : Split). plan_stage held graph (slackened s slack)) failed (λ line none. absurd none)
     (λ s. plan_says held graph failed (slackened s slack))
 
-pub replayed_says : (held : List ℕ → Held) (log : List ℕ) (failed : OfFile) (planned : Planned) (vectors : List Row) → Says (replayed_stage held log planned vectors) failed
-replayed_says held log failed planned vectors =
-    then_says (log_stage held log planned vectors) (λ (events : List ℕ). giving (IsStateText planned vectors events)) failed
+pub replayed_says : (held : List ℕ → Held) (log : List ℕ) (transparent : Bool) (failed : OfFile) (planned : Planned) (vectors : List Row) → Says (replayed_stage held log transparent planned vectors) failed
+replayed_says held log transparent failed planned vectors =
+    then_says (log_stage held log planned vectors) (λ (events : List ℕ). giving (IsReplayText transparent planned vectors events)) failed
     (then_says (lines_stage held Log log) (fired_stage log planned vectors) failed (lines_say held Log log failed) (λ lines line none. absurd none))
     (λ events line none. absurd none)

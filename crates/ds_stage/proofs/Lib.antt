@@ -12,4 +12,5 @@ pub mod LogTexts
 pub mod PeriodStages
 pub mod Housed
 pub mod Registers
+pub mod OpenTexts
 pub mod Meant

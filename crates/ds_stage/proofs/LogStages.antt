@@ -1,5 +1,5 @@
 -- The stages of `replay`: what the text of the log gives the file gives, and a log that has a state is not refused.
-use Rattle.std.proofs.Common.{◌≡◌, ℕ, List, Result, Ok, Err, inl, inr}
+use Rattle.std.proofs.Common.{◌≡◌, ℕ, Bool, List, Result, Ok, Err, inl, inr}
 use Rattle.ds_base.specs.Values.{Row}
 use Rattle.ds_outside.specs.Held.{Held, FrontIsHeld}
 use Rattle.ds_outside.specs.declared.files.Which.TheVariants.{Log}
@@ -8,7 +8,7 @@ use Rattle.ds_latch.specs.Plan.{Planned}
 use Rattle.ds_replay.specs.declared.fault.ReplayFault.{ReplayFault}
 use Rattle.ds_stage.specs.Stage.{OfFile, Stage, IsExclusive, giving, then_stage}
 use Rattle.ds_stage.specs.Stages.{lines_stage, text_stage}
-use Rattle.ds_stage.specs.ReplayStage.{IsStateText, fired_stage, log_stage, replayed_stage}
+use Rattle.ds_stage.specs.ReplayStage.{IsReplayText, fired_stage, log_stage, replayed_stage}
 use Rattle.ds_stage.specs.Kept.{kept_after, kept_stage}
 use Rattle.ds_stage.specs.Ends.{Never}
 use Rattle.ds_stage.proofs.Exclusive.{then_not_refused}
@@ -51,8 +51,8 @@ log_not_refused held log lines planned vectors events line means refused =
     then_not_refused (lines_stage held Log log) (fired_stage log planned vectors) lines (fired_not_refused log planned vectors) events line means refused
 
 -- a log whose text is told is not refused where it has a text
-pub replayed_not_refused : (held : List ℕ → Held) (log : List ℕ) → IsExclusive (lines_stage held Log log) → (planned : Planned) (vectors : List Row) (text line : List ℕ)
-    → (replayed_stage held log planned vectors).means text → ¬ (replayed_stage held log planned vectors).refused line
-replayed_not_refused held log lines planned vectors text line means refused =
-    first_not_refused (log_stage held log planned vectors) (λ (events : List ℕ). giving (IsStateText planned vectors events))
+pub replayed_not_refused : (held : List ℕ → Held) (log : List ℕ) (transparent : Bool) → IsExclusive (lines_stage held Log log) → (planned : Planned) (vectors : List Row) (text line : List ℕ)
+    → (replayed_stage held log transparent planned vectors).means text → ¬ (replayed_stage held log transparent planned vectors).refused line
+replayed_not_refused held log transparent lines planned vectors text line means refused =
+    first_not_refused (log_stage held log planned vectors) (λ (events : List ℕ). giving (IsReplayText transparent planned vectors events))
     (log_not_refused held log lines planned vectors) (λ events l none. none) text line means refused

@@ -72,7 +72,7 @@ slackened_split s slack is = record {
 }
 
 -- the split design of a plan is the netlist's, with slack
-planned_in_clusters : (held : List ℕ → Held) (net : List ℕ) (graph : Option (List ℕ)) (mode : Mode) (slack : ℕ) (c : Circuit) (p : Planned)
+pub planned_in_clusters : (held : List ℕ → Held) (net : List ℕ) (graph : Option (List ℕ)) (mode : Mode) (slack : ℕ) (c : Circuit) (p : Planned)
     → (planned_stage held net graph mode slack c).means p → (s : Split) × IsInClusters mode c s × (p.split ≡ slackened s slack)
 planned_in_clusters held net None mode slack c p (s, (is, few), own) = (s, is, own.split)
 planned_in_clusters held net (Some file) mode slack c p (s, (is, few), (lines, are, (g, read, named))) = (s, is, named.plan.split)

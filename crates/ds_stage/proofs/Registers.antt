@@ -19,7 +19,7 @@ use Rattle.ds_rows.specs.Log.{column, stored_text}
 use Rattle.ds_stage.specs.FaultText.{register_of}
 use Rattle.ds_stage.specs.Homes.{AreHomes, IsHome, no_home}
 use Rattle.ds_stage.specs.ReplayStage.{IsStateText, fired_line}
-use Rattle.ds_stage.specs.Kept.{IsKeptText, register_line, state_text}
+use Rattle.ds_stage.specs.Kept.{register_line, state_text}
 use Rattle.ds_stage.specs.declared.homes.Home.{Home}
 
 -- a line that is spelt by the home of its register
@@ -61,7 +61,7 @@ column_is rows w p widths low =
     ∙ sym (get_or-map (λ r. get_or r p Zero) rows k [] d inside_rows)))))
 
 -- the lines of registers that have their homes are the text of the state that is kept
-text_of_kept : (kept : Snapshot) (events : List ℕ) (homes : List Home) (fired most : ℕ)
+unfoldable pub text_of_kept : (kept : Snapshot) (events : List ℕ) (homes : List Home) (fired most : ℕ)
     → IsLegal (graph_of kept) (limit_of kept) events → IsAfter kept events → IsSound kept → AreHomes (split_of kept) homes
     → fired ≡ length events → most ≡ length (graph_of kept).events * limit_of kept
     → IsStateText kept.planned kept.vectors events (state_text kept homes fired most)
@@ -89,19 +89,3 @@ text_of_kept kept events homes fired most legal (now, all, shows) sound are many
           ∙ (ap (λ (n : ℕ). flat_map line (range_with_len 0 (length (split_of kept).circuit.registers)) ++ fired_line n most) many
           ∙ ap (λ (n : ℕ). flat_map line (range_with_len 0 (length (split_of kept).circuit.registers)) ++ fired_line (length events) n) each));
     }
-
--- so whatever log led to it
-pub text_is : (kept : Snapshot) (s : Split) (homes : List Home) (fired most : ℕ) → split_of kept ≡ s → AreHomes s homes → most ≡ length (graph_of kept).events * limit_of kept
-    → IsKeptText kept fired (state_text kept homes fired most)
-text_is kept s homes fired most split are each = record {
-  is = λ planned vectors events after.
-      let plan : kept.planned ≡ planned = after.state.planned_is in
-      let rows : kept.vectors ≡ vectors = after.state.vectors_are in
-      let legal : IsLegal (graph_of kept) (limit_of kept) events =
-      subst (λ (p : Planned). IsLegal p.graph (limit_of kept) events) (sym plan)
-      (subst (λ (vs : List Row). IsLegal planned.graph (length vs) events) (sym rows) after.state.legal) in
-      let homes_are : AreHomes (split_of kept) homes = subst (λ (t : Split). AreHomes t homes) (sym split) are in
-      subst (λ (p : Planned). IsStateText p vectors events (state_text kept homes fired most)) plan
-      (subst (λ (vs : List Row). IsStateText kept.planned vs events (state_text kept homes fired most)) rows
-      (text_of_kept kept events homes fired most legal after.state.after after.state.sound homes_are after.count each));
-}

@@ -1,16 +1,18 @@
 -- What a call keeps of a log, and the text that it writes of that.
-use Rattle.std.specs.Prelude.{◌≡◌, ℕ, List, ◌++◌, length, slice_index_or}
+use Rattle.std.specs.Prelude.{◌≡◌, ℕ, Bool, List, [], ◌++◌, length, slice_index_or}
+use Rattle.std.specs.Prelude.{if◌then◌else◌}
 use Rattle.std.specs.List.{flat_map, range_with_len}
 use Rattle.ds_base.specs.Values.{Row}
 use Rattle.ds_outside.specs.Held.{Held}
 use Rattle.ds_latch.specs.Node.{Slave, members}
 use Rattle.ds_latch.specs.Plan.{Planned}
-use Rattle.ds_fire.specs.Snapshot.{Snapshot, split_of, stored_values}
+use Rattle.ds_fire.specs.Snapshot.{Snapshot, split_of, stored_values, count_of, held_row}
 use Rattle.ds_rows.specs.Log.{column, stored_text}
 use Rattle.ds_replay.specs.Replayed.{IsReplayed}
 use Rattle.ds_stage.specs.FaultText.{register_of}
 use Rattle.ds_stage.specs.Stage.{Stage, giving, then_stage}
-use Rattle.ds_stage.specs.ReplayStage.{IsStateText, fired_line, log_stage}
+use Rattle.ds_stage.specs.OpenLines.{open_lines}
+use Rattle.ds_stage.specs.ReplayStage.{IsReplayText, fired_line, log_stage}
 use Rattle.ds_stage.specs.Homes.{no_home}
 use Rattle.ds_stage.specs.declared.homes.Home.{Home}
 
@@ -21,9 +23,11 @@ pub record IsAfterLog (planned : Planned) (vectors : List Row) (events : List �
   pub count : fired ≡ length events
 
 -- whatever log led to what is kept, this is its text
-pub record IsKeptText (kept : Snapshot) (fired : ℕ) (text : List ℕ) : Type 0 where
+pub record IsKeptText (transparent : Bool) (kept : Snapshot) (fired : ℕ) (text : List ℕ) :
+    Type 0 where
   pub is : (planned : Planned) (vectors : List Row) (events : List ℕ)
-      → IsAfterLog planned vectors events kept fired → IsStateText planned vectors events text
+      → IsAfterLog planned vectors events kept fired
+      → IsReplayText transparent planned vectors events text
 
 -- what is kept of a log that fires these events
 abbrev pub kept_after : Planned → List Row → List ℕ → Stage (Snapshot × ℕ)
@@ -46,3 +50,8 @@ register_line kept homes r = stored_text (register_of (split_of kept).circuit r)
 abbrev pub state_text : Snapshot → List Home → ℕ → ℕ → List ℕ
 state_text kept homes fired most =
     flat_map (register_line kept homes) (range_with_len 0 (length homes)) ++ fired_line fired most
+
+-- the lines of the open nodes, where they are wanted
+abbrev pub open_part : Bool → Snapshot → List ℕ
+open_part transparent kept = if transparent
+    then open_lines (count_of kept) (held_row kept) (length (split_of kept).clusters) else []

@@ -7,6 +7,7 @@ pub mod SplitStage
 pub mod GraphStage
 pub mod PlanStage
 pub mod AcceptStage
+pub mod OpenLines
 pub mod ReplayStage
 pub mod Homes
 pub mod Kept

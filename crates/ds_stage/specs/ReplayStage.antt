@@ -1,7 +1,7 @@
 -- The text of a log that is replayed: what each register has stored, and how many firings there
 -- were.
 use Rattle.std.specs.Prelude.{◌≡◌, ℕ, ◌*◌, ◌<◌, List, [], ◌++◌, length, codes, decimal, slice_get}
-use Rattle.std.specs.Prelude.{Ok, Err}
+use Rattle.std.specs.Prelude.{Ok, Err, Bool, true, false}
 use Rattle.std.specs.List.{flat_map, range_with_len}
 use Rattle.std.specs.Option.{option_map_or}
 use Rattle.ds_base.specs.Values.{Row}
@@ -10,9 +10,10 @@ use Rattle.ds_outside.specs.declared.files.Which.TheVariants.{Log}
 use Rattle.ds_lines.specs.Line.{Line}
 use Rattle.ds_marked.specs.Graph.{Graph}
 use Rattle.ds_marked.specs.declared.marked.Arc.{Arc}
-use Rattle.ds_latch.specs.Node.{Split}
+use Rattle.ds_latch.specs.Node.{Node, Split}
 use Rattle.ds_latch.specs.Plan.{Planned}
 use Rattle.ds_latch.specs.Firing.{State, first_state, FiresAll}
+use Rattle.ds_latch.specs.Transparent.{IsShowing}
 use Rattle.ds_latch.specs.Headline.{StandsAt, values_stored}
 use Rattle.ds_marked.specs.Log.{text_of_event}
 use Rattle.ds_rows.specs.Log.{stored_text}
@@ -22,6 +23,7 @@ use Rattle.ds_replay.specs.declared.fault.ReplayKind.{ReplayKind}
 use Rattle.ds_replay.specs.declared.fault.ReplayKind.TheVariants.{BadWord, UnknownEvent, WrongTurn}
 use Rattle.ds_replay.specs.declared.fault.ReplayKind.TheVariants.{OverLimit, NotEnabled}
 use Rattle.ds_stage.specs.FaultText.{numbered_line, register_of}
+use Rattle.ds_stage.specs.OpenLines.{open_lines}
 use Rattle.ds_stage.specs.Stage.{Stage, giving, then_stage}
 use Rattle.ds_stage.specs.Stages.{lines_stage}
 
@@ -79,8 +81,24 @@ pub record IsStateText (planned : Planned) (vectors : List Row) (events text : L
       (range_with_len 0 (length planned.split.circuit.registers))
       ++ fired_line (length events) (length planned.graph.events * length vectors)
 
+-- the text of a state, and behind it a line for each node that is open there, with what it shows
+pub record IsOpenText (planned : Planned) (vectors : List Row) (events text : List ℕ) :
+    Type 0 where
+  pub stored : List ℕ
+  pub is_stored : IsStateText planned vectors events stored
+  pub shown : Node → Row
+  pub showing : IsShowing planned.split vectors is_stored.now shown
+  pub spelt : text
+      ≡ stored ++ open_lines is_stored.now.count shown (length planned.split.clusters)
+
+-- the text of a log that is replayed, with or without what open latches show
+abbrev pub IsReplayText : Bool → Planned → List Row → List ℕ → List ℕ → Type 0
+IsReplayText false planned vectors events text = IsStateText planned vectors events text
+IsReplayText true planned vectors events text = IsOpenText planned vectors events text
+
 -- the text of a log, once its plan is made and its vectors are read
-abbrev pub replayed_stage : (List ℕ → Held) → List ℕ → Planned → List Row → Stage (List ℕ)
-replayed_stage held log planned vectors =
+abbrev pub replayed_stage : (List ℕ → Held) → List ℕ → Bool → Planned → List Row
+    → Stage (List ℕ)
+replayed_stage held log transparent planned vectors =
     then_stage (log_stage held log planned vectors)
-    (λ events. giving (IsStateText planned vectors events))
+    (λ events. giving (IsReplayText transparent planned vectors events))

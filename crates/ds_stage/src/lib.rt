@@ -9,12 +9,15 @@
 //! `read_netlist` and `read_rows` read netlist and vectors (`specs/Stages`), `split_netlist` makes
 //! latches (`specs/SplitStage`), `plan_netlist`, `plan_named` and `own_plan` plans
 //! (`specs/PlanStage`), `read_log` the state after a log, and `write_state` its text
-//! (`specs/ReplayStage`, and `specs/Kept` for what is kept between them). `read_timing` reads the
-//! delays of `own_graph` (`specs/PeriodStage`), and `with_event` and `with_events` put events
-//! behind a text. `write_report` writes the report on a netlist (`specs/Report`). The texts of
-//! faults are those of `specs/FaultText`. When memory is wanted is not promised.
+//! (`specs/ReplayStage`, `specs/Kept` for what is kept between them, and `specs/OpenLines` for the
+//! lines of what open latches show, which stand behind that text where they are wanted; all memory
+//! is taken before its first byte is written). `read_timing` reads the delays of `own_graph`
+//! (`specs/PeriodStage`), and `with_event` and `with_events` put events behind a text.
+//! `write_report` writes the report on a netlist (`specs/Report`). The texts of faults are those of
+//! `specs/FaultText`. When memory is wanted is not promised.
 #![tactic(auto)]
 
+mod after_log;
 mod delays;
 mod fault_line;
 mod fault_text;
@@ -24,14 +27,17 @@ pub mod laws;
 mod log;
 mod log_text;
 mod net_text;
+mod open_text;
 mod plan;
 mod report;
+mod rooms;
 mod source;
 mod split;
 mod splitting;
 mod state_text;
 mod stop;
 
+pub use after_log::AfterLog;
 pub use delays::{own_graph, read_timing};
 pub use graph_text::with_events;
 pub use log::read_log;

@@ -1,5 +1,6 @@
-//! The text of a state: what each register has stored, and how many firings there were.
-ghost use Rattle.std.specs.Prelude.{◌≡◌, ◌<◌, ◌*◌, ◌++◌, ℕ, List, Ok, codes, decimal, length};
+//! The text of a state: what each register has stored, how many firings there were, and where it is
+//! wanted what open latches show.
+ghost use Rattle.std.specs.Prelude.{◌≡◌, ◌<◌, ◌*◌, ◌++◌, ℕ, List, Ok, codes, decimal, length, true};
 ghost use Rattle.std.specs.List.{flat_map, range_with_len};
 ghost use Rattle.ds_outside.specs.Writes.{GoesOn, Writes};
 ghost use Rattle.ds_fire.specs.Snapshot.{graph_of, limit_of, split_of};
@@ -7,12 +8,16 @@ ghost use Rattle.ds_stage.specs.Ends.{Ends, Never, Output};
 ghost use Rattle.ds_stage.specs.FaultText.{net_text, register_of};
 ghost use Rattle.ds_stage.specs.Homes.{AreHomes};
 ghost use Rattle.ds_stage.specs.ReplayStage.{fired_line};
-ghost use Rattle.ds_stage.specs.Kept.{IsKeptText, register_line};
+ghost use Rattle.ds_stage.specs.Kept.{IsKeptText, open_part, register_line};
+ghost use Rattle.ds_stage.specs.OpenLines.{AreShown};
 ghost use Rattle.ds_stage.specs.Stage.{giving};
 
-use crate::homes::{Home, homes_of};
+use crate::after_log::AfterLog;
+use crate::homes::Home;
+use crate::open_text::put_open_lines;
+use crate::rooms::Rooms;
 use crate::stop::Stop;
-use ds_base::LatchId;
+use ds_base::{LatchId, Row3};
 use ds_design::{Design, Net, Vectors};
 use ds_fire::State;
 use ds_latch::{Latches, Plan};
@@ -22,29 +27,32 @@ use itoa::Buffer;
 use std::alloc::Global;
 use std::marker::Brand;
 
-/// Writes a line for each register, and the line of the firings, once a log has been fired.
+/// Writes a line for each register, and the line of the firings, once a log has been fired; where
+/// what open latches show is wanted, then a line for each open node. All memory is taken before the
+/// first byte is written.
 pub fn write_state<O: Sink>(
     alloc: Global,
     plan: &Plan<'_>,
     vectors: &Vectors,
-    state: &State<'_>,
-    fired: u64,
+    after: &AfterLog<'_>,
     out: &mut O,
 ) -> Result<(), Stop>
-    requires plan { state.now.planned ≡ plan.now }
-    requires vectors { state.now.vectors ≡ vectors.now.rows }
-    ensures { Ends (giving (IsKeptText state.now fired)) Never (record {
-      old = O.written out.old;
-      new = O.written out.new;
-      before = O.faults out.old;
-      now = O.faults out.new;
-    }) result }
+    requires plan { after.now.state.now.planned ≡ plan.now }
+    requires vectors { after.now.state.now.vectors ≡ vectors.now.rows }
+    requires slack { after.now.transparent ≡ true → (split_of after.now.state.now).slack ≡ 0 }
+    ensures { Ends (giving (IsKeptText after.now.transparent after.now.state.now after.now.fired))
+        Never (record {
+          old = O.written out.old;
+          new = O.written out.new;
+          before = O.faults out.old;
+          now = O.faults out.new;
+        }) result }
 {
     let latches = plan.latches();
-    let homes = homes_of(alloc, latches)?;
+    let rooms = Rooms::of(alloc, latches, after)?;
     let most = most_of(plan, vectors);
     let lent = Lent { sink: out };
-    let (_, result) = write_behind::<O, Brand>(latches, &homes, state, fired, most, lent);
+    let (_, result) = write_behind::<O, Brand>(latches, &rooms, after, most, lent);
     match result {
         Ok(()) => Ok(()),
         Err(_) => Err(Stop::Unwritten),
@@ -61,27 +69,55 @@ fn most_of(plan: &Plan<'_>, vectors: &Vectors) -> u64
 // Writes the text by way of a buffer.
 fn write_behind<'a, O: Sink, B: Behind>(
     latches: &Latches<'_>,
-    homes: &[Home],
-    state: &State<'_>,
-    fired: u64,
+    rooms: &Rooms,
+    after: &AfterLog<'_>,
     most: u64,
     behind: Lent<'a, O>,
 ) -> (Lent<'a, O>, Result<(), WriteFault>)
-    requires split { split_of state.now ≡ latches.now }
-    requires homes { AreHomes latches.now homes.now }
-    requires most { most ≡ length (graph_of state.now).events * limit_of state.now }
+    requires split { split_of after.now.state.now ≡ latches.now }
+    requires slack { after.now.transparent ≡ true → (split_of after.now.state.now).slack ≡ 0 }
+    requires homes { AreHomes latches.now rooms.now.homes.items }
+    requires rows { after.now.transparent ≡ true
+        → AreShown after.now.state.now rooms.now.rows.items }
+    requires most { most
+        ≡ length (graph_of after.now.state.now).events * limit_of after.now.state.now }
     requires same { behind.sink.ghost_name ≡ B.name }
     requires before { O.written behind.sink.now ≡ B.before }
 
-    ensures ok { (text : List ℕ) × IsKeptText state.now fired text
+    ensures ok { (text : List ℕ)
+        × IsKeptText after.now.transparent after.now.state.now after.now.fired text
         × Writes result.1 B.before (O.written result.0.sink.now)
         (O.faults behind.entry.sink.now) (O.faults result.0.sink.now) text }
     ensures same { result.0.sink.ghost_name ≡ B.name }
 {
+    let homes = rooms.homes.as_slice();
+    let rows = rooms.rows.as_slice();
     let mut buffered: Buffered<'a, O, B> = Buffered::new(behind);
-    let so_far = put_registers(latches, homes, state, &mut buffered);
-    let so_far = put_fired(so_far, fired, most, &mut buffered);
+    let so_far = put_registers(latches, homes, after.state, &mut buffered);
+    let so_far = put_fired(so_far, after.fired, most, &mut buffered);
+    let so_far = put_wanted(so_far, latches, after, rows, &mut buffered);
     buffered.finish(so_far)
+}
+
+// Writes the lines of the open nodes, where they are wanted.
+fn put_wanted<O: Sink>(
+    so_far: Result<(), WriteFault>,
+    latches: &Latches<'_>,
+    after: &AfterLog<'_>,
+    rows: &[Row3],
+    out: &mut O,
+) -> Result<(), WriteFault>
+    requires split { split_of after.now.state.now ≡ latches.now }
+    requires rows { after.now.transparent ≡ true → AreShown after.now.state.now rows.now }
+    ensures { GoesOn so_far result (O.written out.old) (O.written out.new) (O.faults out.old)
+        (O.faults out.new) (open_part after.now.transparent after.now.state.now) }
+{
+    let transparent = after.transparent;
+    if transparent {
+        put_open_lines(so_far, latches, after.state, rows, out)
+    } else {
+        so_far
+    }
 }
 
 // Writes the lines of all registers.

@@ -257,7 +257,7 @@ told_last width line other byte full other_full kept plain =
     (inr (
       subst (λ (l : List ℕ). AreWrong width (words_of l)) (sym (trimmed_at front byte [] kept none)) (are_wrong width front byte begins front_some (omega (arith, long, full.wide)) (no_blank byte kept)),
       subst (λ (l : List ℕ). AreWrong width (words_of l)) (sym (trimmed_at other byte [] kept none))
-      (are_wrong width other byte other_full.begun.begins (omega (arith, other_full.several)) (omega (arith, other_full.wide)) (no_blank byte kept)),
+          (are_wrong width other byte other_full.begun.begins (omega (arith, other_full.several)) (omega (arith, other_full.wide)) (no_blank byte kept)),
     )) in
     subst (λ (l : List ℕ). IsLike width [] l [] (other ++ byte ∷ []) × IsFull width l) (sym is) (like, new_full)
 

@@ -13,8 +13,10 @@ FitsHeld absent shown = Unit {0}
 FitsHeld (bytes text) shown = FitsText shown text
 
 -- these are the rows of the next window, and the numbers behind it fit again
-pub record IsNext (shown : Shown) (count : ℕ) (text : List ℕ) (after : Shown) (rows : List Row) : Type 0 where
-  pub window : next_window shown text count ≡ record { rows = rows; behind = after.behind; stop = None }
+pub record IsNext (shown : Shown) (count : ℕ) (text : List ℕ) (after : Shown) (rows : List Row)
+    : Type 0 where
+  pub window : next_window shown text count
+      ≡ record { rows = rows; behind = after.behind; stop = None }
   pub fits : FitsText after text
 
 -- the same of what is held, where that is told; nothing is given of a file that is not there

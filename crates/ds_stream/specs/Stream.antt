@@ -1,4 +1,4 @@
--- Vectors without end: the lines of a text with the place behind each, and windows of their vectors.
+-- Vectors without end: the lines of a text with the place behind each, and windows of vectors.
 use Rattle.std.specs.Prelude.{◌≡◌, ℕ, zero, suc, ◌+◌, ◌^◌, List, [], ◌∷◌, ◌++◌, length, drop}
 use Rattle.std.specs.Prelude.{Option, None, Some, nat_lt, if◌then◌else◌}
 use Rattle.ds_base.specs.Values.{Row}
@@ -9,7 +9,7 @@ use Rattle.ds_rows.specs.declared.fault.VectorKind.{VectorKind}
 use Rattle.ds_stream.specs.declared.fault.NextFault.{NextFault}
 use Rattle.ds_stream.specs.declared.fault.NextFault.TheVariants.{Vector, TooLong}
 
--- where a line ends: the place behind it, from 0, and how many physical lines stand before that place
+-- where a line ends: the place behind it, from 0, and how many physical lines stand before it
 pub record Behind : Type 0 where
   pub place : ℕ
   pub lines : ℕ
@@ -22,10 +22,12 @@ pub record Placed : Type 0 where
 -- a line where there are words
 abbrev pub placed_of : ℕ → List (List ℕ) → Behind → List Placed
 placed_of first words behind =
-    if is_some words then record { line = record { number = first; words = words }; behind = behind } ∷ [] else []
+    if is_some words
+    then record { line = record { number = first; words = words }; behind = behind } ∷ []
+    else []
 
 -- The lines of a rest of a text from a place on, so many physical lines being before it, where the
--- open line began at `first` and has these words so far, and the open physical line has these bytes.
+-- open line began at `first` and has these words so far, and its open physical line these bytes.
 -- A physical line ends behind its newline, the last one at the end of the text.
 abbrev pub placed_in : ℕ → List (List ℕ) → List ℕ → ℕ → ℕ → List ℕ → List Placed
 placed_in first words line place lines [] = placed_of first (words ++ words_in line)
@@ -77,9 +79,9 @@ row_or None width behind line w = onto (row_of width line.words) w
 row_or (Some kind) width behind line w = stopped behind
     (Some (Vector (record { line = line.number; kind = kind })))
 
--- So many next vectors of lines of a text of `size` bytes, where `seen` vectors stand before them and
--- the last of these ends at `behind`: fewer where there are no more. A line with an end past the
--- longest text is not looked at.
+-- So many next vectors of lines of a text of `size` bytes, where `seen` vectors stand before them
+-- and the last of these ends at `behind`: fewer where there are no more. A line with an end past
+-- the longest text is not looked at.
 abbrev pub window : ℕ → ℕ → ℕ → ℕ → Behind → ℕ → List Placed → RowWindow
 window width most size zero behind seen lines = stopped behind None
 window width most size (suc count) behind seen [] = stopped behind (stop_of size)
@@ -124,7 +126,8 @@ pub record Shown : Type 0 where
 
 -- the first so many vectors of a text
 abbrev pub first_window : ℕ → ℕ → List ℕ → ℕ → RowWindow
-first_window width most text count = window width most (length text) count beginning 0 (placed_lines text)
+first_window width most text count =
+    window width most (length text) count beginning 0 (placed_lines text)
 
 -- so many vectors of a text, with no faulty line among them, end there
 pub record FitsText (shown : Shown) (text : List ℕ) : Type 0 where
@@ -133,5 +136,6 @@ pub record FitsText (shown : Shown) (text : List ℕ) : Type 0 where
 
 -- the next so many vectors of a text behind those that were given
 abbrev pub next_window : Shown → List ℕ → ℕ → RowWindow
-next_window shown text count = window shown.width shown.most (length text) count shown.behind shown.given
+next_window shown text count =
+    window shown.width shown.most (length text) count shown.behind shown.given
     (drop shown.given (placed_lines text))

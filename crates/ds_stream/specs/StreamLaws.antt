@@ -8,14 +8,16 @@ use Rattle.ds_design.specs.Rows.{Rows}
 use Rattle.ds_lines.specs.Line.{Line, lines_of}
 use Rattle.ds_rows.specs.Vector.{vectors_of}
 use Rattle.ds_stream.specs.Bounded.{vectors_under}
-use Rattle.ds_stream.specs.Stream.{Behind, FitsText, Shown, RowWindow, beginning, first_window, next_window, placed_behind, placed_lines, stream_of}
+use Rattle.ds_stream.specs.Stream.{Behind, FitsText, Shown, RowWindow, beginning, first_window}
+use Rattle.ds_stream.specs.Stream.{next_window, placed_behind, placed_lines, stream_of}
 use Rattle.ds_stream.specs.declared.fault.NextFault.{NextFault}
 use Rattle.ds_stream.specs.declared.fault.NextFault.TheVariants.{Vector}
 use Rattle.ds_rows.specs.declared.fault.VectorFault.{VectorFault}
 
 -- a window and the next one, by why the first one has no more
 abbrev pub goes_on_from : Option NextFault → RowWindow → RowWindow → RowWindow
-goes_on_from None front more = record { rows = front.rows ++ more.rows; behind = more.behind; stop = more.stop }
+goes_on_from None front more =
+    record { rows = front.rows ++ more.rows; behind = more.behind; stop = more.stop }
 goes_on_from (Some why) front more = front
 
 -- a window and the next one, unless the first one stopped
@@ -27,7 +29,9 @@ goes_on_with front more = goes_on_from front.stop front more
 abbrev pub windows : ℕ → ℕ → List ℕ → ℕ → Behind → List ℕ → RowWindow
 windows width most text given behind [] = record { rows = []; behind = behind; stop = None }
 windows width most text given behind (count ∷ counts) =
-    let next = next_window (record { width = width; most = most; given = given; behind = behind }) text count in
+    let shown : Shown =
+    record { width = width; most = most; given = given; behind = behind } in
+    let next = next_window shown text count in
     goes_on_with next (windows width most text (given + count) next.behind counts)
 
 -- so many together
@@ -42,7 +46,8 @@ WindowsAreOne = (width most : ℕ) (text counts : List ℕ)
 
 -- windows of more vectors than there are lines are all rows, and stop where they stop
 abbrev pub WindowsAreTheStream : Type 0
-WindowsAreTheStream = (width most : ℕ) (text counts : List ℕ) → length (placed_lines text) < total counts
+WindowsAreTheStream = (width most : ℕ) (text counts : List ℕ)
+    → length (placed_lines text) < total counts
     → let all = windows width most text 0 beginning counts in
     record { rows = all.rows; stop = all.stop } ≡ stream_of width most text
 
@@ -69,13 +74,20 @@ ShortIsRead = (width most : ℕ) (text : List ℕ) → length text ≤ most_of B
 -- behind the vectors that were given the lines are those of the rest of the text
 abbrev pub GoesOnBehind : Type 0
 GoesOnBehind = (shown : Shown) (text : List ℕ) → FitsText shown text
-    → drop shown.given (placed_lines text) ≡ placed_behind shown.behind (drop shown.behind.place text)
+    → drop shown.given (placed_lines text)
+    ≡ placed_behind shown.behind (drop shown.behind.place text)
 
 -- a window of those vectors that fit, and the next one: the numbers behind both fit
 abbrev pub FitsAgain : Type 0
 FitsAgain = (shown : Shown) (text : List ℕ) (count : ℕ) → FitsText shown text
     → let next = next_window shown text count in
-    next.stop ≡ None → FitsText (record { width = shown.width; most = shown.most; given = shown.given + length next.rows; behind = next.behind }) text
+    next.stop ≡ None
+    → FitsText (record {
+      width = shown.width;
+      most = shown.most;
+      given = shown.given + length next.rows;
+      behind = next.behind;
+    }) text
 
 -- under the limit of vectors that are read whole, lines stand for what they do there
 abbrev pub IsOfTheLimit : Type 0

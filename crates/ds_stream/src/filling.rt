@@ -1,5 +1,6 @@
 //! Vectors that are being read, byte by byte.
-ghost use Rattle.std.specs.Prelude.{◌≡◌, ◌≤◌, ◌<◌, ◌+◌, ◌-◌, ◌∷◌, false, ◌++◌, [], length, Ok, OnOk};
+ghost use Rattle.std.specs.Prelude.{◌≡◌, ◌≤◌, ◌<◌, ◌+◌, ◌-◌, ◌∷◌, false, ◌++◌, [], length, Ok};
+ghost use Rattle.std.specs.Prelude.{OnOk};
 ghost use Rattle.std.specs.Prelude.{MatchResult};
 ghost use Rattle.ds_lines.specs.Line.{is_hash, joins, words_in};
 ghost use Rattle.std.specs.List.{list_any};
@@ -117,8 +118,8 @@ impl Filling {
         self.place
     }
 
-    /// How many bytes to read next: no more than the vectors that are missing have at least, so that
-    /// none is read behind the last of them; whole lines, where they are many.
+    /// How many bytes to read next: no more than the vectors that are missing have at least, so
+    /// that none is read behind the last of them; whole lines, where they are many.
     pub(crate) fn ask(&self) -> usize
         ensures some { 0 < result }
         ensures few { result ≤ 65536 }
@@ -165,12 +166,14 @@ impl Filling {
         (reader, Vectors::of(width, rows))
     }
 
-    /// Bytes are taken up to the last vector that is missing; all, where one is missing behind them.
+    /// Bytes are taken up to the last vector that is missing; all, where one is missing then.
     pub(crate) fn take(&mut self, alloc: Global, bytes: &[u8]) -> Result<(), NextFault>
         ensures takes { TakesBytes result self.old self.new bytes.now }
         ensures same { OnOk result (IsLater self.old self.new) }
-        ensures place { OnOk result (0 < self.new.missing → self.new.place ≡ self.old.place + length bytes.now) }
-        ensures later { OnOk result (0 < self.old.missing → 0 < length bytes.now → self.old.place < self.new.place) }
+        ensures place { OnOk result (0 < self.new.missing
+            → self.new.place ≡ self.old.place + length bytes.now) }
+        ensures later { OnOk result (0 < self.old.missing → 0 < length bytes.now
+            → self.old.place < self.new.place) }
         ensures bounds { OnOk result (self.old.lines ≤ self.old.place + self.old.seen
             → self.new.lines ≤ self.new.place + self.new.seen) }
     {

@@ -112,9 +112,9 @@ impl VectorReader {
         self.lines
     }
 
-    /// The next so many vectors of a file, fewer only where it has no more. The first faulty line is
-    /// told with its number in the file; on one line too many vectors come first, then its width,
-    /// then its characters. No byte is read behind the last line that is given.
+    /// The next so many vectors of a file, fewer only where it has no more. The first faulty line
+    /// is told with its number in the file; on one line too many vectors come first, then its
+    /// width, then its characters. No byte is read behind the last line that is given.
     pub fn next<F: Files>(
         self,
         alloc: Global,
@@ -133,11 +133,13 @@ impl VectorReader {
         ensures width { IfOk result (λ r. r.1.width ≡ self.width) }
 
         ensures same_held { F.held files.new ≡ F.held files.old }
-        ensures never_falls { (w : _) (n : List ℕ) → F.faults files.old w n ≤ F.faults files.new w n }
+        ensures never_falls { (w : _) (n : List ℕ)
+            → F.faults files.old w n ≤ F.faults files.new w n }
         ensures other_kinds { (w : _) (n : List ℕ) → w ≢ Which.Vectors
             → F.faults files.new w n ≡ F.faults files.old w n }
         ensures cause { result ≡ Err NextFault.Read
-            → Rose (F.faults files.old Which.Vectors name.now) (F.faults files.new Which.Vectors name.now) }
+            → Rose (F.faults files.old Which.Vectors name.now)
+            (F.faults files.new Which.Vectors name.now) }
     {
         let mut filling = Filling::begin(alloc, &self, count);
         let mut piece = [0u8; 65536];

@@ -191,25 +191,30 @@ fn same(one: &Row3, other: &Row3) -> bool {
 }
 
 // Whether they agree from each state of two registers, with each vector of two columns.
-fn all_agree(alloc: Global, net: &str) -> Result<bool, Stop> {
-    let mut files = files(alloc, &[("n", net)])?;
-    let netlist = read_netlist(alloc, &mut files, "n")?;
+fn all_agree(alloc: Global, netlist: &Netlist) -> Result<bool, AllocError> {
     let registers = netlist.design().registers().len();
     let columns = netlist.columns().len();
     let mut all = registers <= 2 && columns <= 2;
     for number in 0..81 {
         let state = row_of(alloc, registers, number % 9)?;
         let vector = row_of(alloc, columns, number / 9)?;
-        all = all && agrees(alloc, &netlist, &state, &vector)?;
+        all = all && agrees(alloc, netlist, &state, &vector)?;
     }
     Ok(all)
+}
+
+// The same of the netlist of a text.
+fn all_agree_in(alloc: Global, net: &str) -> Result<bool, Stop> {
+    let mut files = files(alloc, &[("n", net)])?;
+    let netlist = read_netlist(alloc, &mut files, "n")?;
+    Ok(all_agree(alloc, &netlist)?)
 }
 
 #[test]
 fn settled_nets_are_the_fixed_point(rt: HostRuntime) {
     let mut netlists = 0_u64;
     for net in NETLISTS.split("%\n") {
-        assert!(rt; all_agree(rt.alloc(), net).is_ok_and(|all| all), "{net}");
+        assert!(rt; all_agree_in(rt.alloc(), net).is_ok_and(|all| all), "{net}");
         netlists = netlists.saturating_add(1);
     }
     assert_eq!(rt; netlists, 5);

@@ -71,10 +71,15 @@ run-requires-clause-slack g c _ _ =
     let job : Run c.as_str.result.now c.as_str-in-Run.result.now c.in-Run.graph c.in-Run.clusters c.in-Run.jobs c.in-Run.log c.in-Run.slack ≡ c.args.job.now = cc in
     let (workers, few) = subst AreAllowed (sym job) c.requires in few
 
-pub replay-requires : goal.replay-requires
-replay-requires g c =
+pub replay-requires-clause-slack : goal.replay-requires-clause-slack
+replay-requires-clause-slack g c =
     let job : Replay c.as_str-in-Replay.result.now c.as_str-in-Replay-2.result.now c.as_str-in-Replay-3.result.now c.in-Replay.graph c.in-Replay.clusters c.in-Replay.slack c.in-Replay.transparent ≡ c.args.job.now = cc in
-    let (few, shown) = subst AreAllowed (sym job) c.requires in few
+    (subst AreAllowed (sym job) c.requires).0
+
+pub replay-requires-clause-shown : goal.replay-requires-clause-shown
+replay-requires-clause-shown g c =
+    let job : Replay c.as_str-in-Replay.result.now c.as_str-in-Replay-2.result.now c.as_str-in-Replay-3.result.now c.in-Replay.graph c.in-Replay.clusters c.in-Replay.slack c.in-Replay.transparent ≡ c.args.job.now = cc in
+    (subst AreAllowed (sym job) c.requires).1
 
 pub demo-requires-clause-registers : goal.demo-requires-clause-registers
 demo-requires-clause-registers g c _ _ =

@@ -30,9 +30,11 @@ returns-in-Some c =
     let cut = is_cut inside.line.items kept c.self.invariant.0 is (positive kept c.if-kept-eq0.false) in
     let words = words_kept inside.comment inside.joined inside.line.items kept c.self.invariant.0 is in
     let same : words_of (take kept inside.line.items) ≡ words_of (take kept c.deref-2.result.now) = ap (λ (l : List ℕ). words_of (take kept l)) (sym c.deref-2.ensures.value) in
-    subst (λ (f : Filled). (is_some (words_in f.line) ≡ true) × (inside.first ≡ f.first) × (fault_under f.most f.width f.seen (words_in f.line) ≡ Some c.in-Some.kind)) c.self.view_is
-    (ap is_some words ∙ some_kept (take kept inside.line.items) cut, refl,
-    ap (fault_under inside.most inside.width inside.seen) (words ∙ same) ∙ (sym c.fault_of.ensures.value ∙ c.in-Some.is))
+    subst (λ (f : Filled). (is_some (words_in f.line) ≡ true) × (inside.first ≡ f.first) × (fault_under f.most f.width f.seen (words_in f.line) ≡ Some c.in-Some.kind)) c.self.view_is (
+      ap is_some words ∙ some_kept (take kept inside.line.items) cut,
+      refl,
+      ap (fault_under inside.most inside.width inside.seen) (words ∙ same) ∙ (sym c.fault_of.ensures.value ∙ c.in-Some.is),
+    )
 
 pub returns : goal.returns
 returns c =
@@ -42,7 +44,8 @@ returns c =
     let cut = is_cut inside.line.items kept c.self.invariant.0 is (positive kept c.if-kept-eq0.false) in
     let words = words_kept inside.comment inside.joined inside.line.items kept c.self.invariant.0 is in
     let same : words_of (take kept inside.line.items) ≡ words_of (take kept c.deref-2.result.now) = ap (λ (l : List ℕ). words_of (take kept l)) (sym c.deref-2.ensures.value) in
-    subst (λ (f : Filled). (is_some (words_in f.line) ≡ true) × (fault_under f.most f.width f.seen (words_in f.line) ≡ None) × (c.in_ok-row.row ≡ row_of f.width (words_in f.line))) c.self.view_is
-    (ap is_some words ∙ some_kept (take kept inside.line.items) cut,
-    ap (fault_under inside.most inside.width inside.seen) (words ∙ same) ∙ (sym c.fault_of.ensures.value ∙ c.in_default.is),
-    c.in_ok-row.ensures ∙ ap (row_of inside.width) (sym (words ∙ same)))
+    subst (λ (f : Filled). (is_some (words_in f.line) ≡ true) × (fault_under f.most f.width f.seen (words_in f.line) ≡ None) × (c.in_ok-row.row ≡ row_of f.width (words_in f.line))) c.self.view_is (
+      ap is_some words ∙ some_kept (take kept inside.line.items) cut,
+      ap (fault_under inside.most inside.width inside.seen) (words ∙ same) ∙ (sym c.fault_of.ensures.value ∙ c.in_default.is),
+      c.in_ok-row.ensures ∙ ap (row_of inside.width) (sym (words ∙ same)),
+    )
