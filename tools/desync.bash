@@ -23,7 +23,7 @@ _desync() {
         fi
         case ${COMP_WORDS[i]} in
             --) plain=1 ;;
-            --clusters | --graph | --jobs) option=${COMP_WORDS[i]} given+=" $option" ;;
+            --clusters | --graph | --jobs | --slack) option=${COMP_WORDS[i]} given+=" $option" ;;
             --*) given+=" ${COMP_WORDS[i]}" ;;
             =) ;;
             *) if [ "$option" ]; then option=; else names=$((names + 1)); fi ;;
@@ -41,11 +41,11 @@ _desync() {
     fi
     local options= most=0
     case $command in
-        run) options="--clusters --graph --jobs --log" most=2 ;;
+        run) options="--clusters --graph --jobs --log --slack" most=2 ;;
         clock) most=2 ;;
         check) most=1 ;;
         graph) options=--clusters most=1 ;;
-        replay) options="--clusters --graph" most=3 ;;
+        replay) options="--clusters --graph --slack --transparent" most=3 ;;
         accept | period) options=--clusters most=2 ;;
         demo) options=--jobs ;;
     esac

@@ -278,13 +278,7 @@ fn words_of(alloc: Global, job: &Job) -> Result<String, AllocError> {
             ];
             replay_words(alloc, words, *slack, *transparent)
         }
-        Job::Demo {
-            seed,
-            registers,
-            turns,
-            jobs,
-        } => demo_words(alloc, *seed, [*registers, *turns, *jobs]),
-        _ => named_words(alloc, job),
+        _ => other_words(alloc, job),
     }
 }
 
@@ -317,8 +311,8 @@ fn demo_words(alloc: Global, seed: u64, numbers: [u32; 3]) -> Result<String, All
     format!(in alloc; "demo|{seed}|{registers}|{turns}|{jobs}")
 }
 
-// The words of a job without numbers.
-fn named_words(alloc: Global, job: &Job) -> Result<String, AllocError> {
+// The words of the other jobs.
+fn other_words(alloc: Global, job: &Job) -> Result<String, AllocError> {
     match job {
         Job::Clock { net, vec } => joined(alloc, &["clock", net.as_str(), vec.as_str()]),
         Job::Check { net } => joined(alloc, &["check", net.as_str()]),
@@ -339,7 +333,13 @@ fn named_words(alloc: Global, job: &Job) -> Result<String, AllocError> {
             alloc,
             &["period", net.as_str(), delays.as_str(), word(clusters)],
         ),
-        _ => joined(alloc, &["a job with numbers"]),
+        Job::Demo {
+            seed,
+            registers,
+            turns,
+            jobs,
+        } => demo_words(alloc, *seed, [*registers, *turns, *jobs]),
+        _ => joined(alloc, &["run or replay"]),
     }
 }
 

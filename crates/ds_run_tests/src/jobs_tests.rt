@@ -103,8 +103,8 @@ fn other_numbers_of_workers_are_no_command_line(rt: HostRuntime) -> Result<(), F
     play(&rt, OTHERS, 6)
 }
 
-// So many registers in a row, of which the first takes the input.
-fn chain(alloc: Global, registers: usize) -> Result<String, AllocError> {
+/// So many registers in a row, of which the first takes the input.
+pub fn chain(alloc: Global, registers: usize) -> Result<String, AllocError> {
     let mut text = String::from_str(
         alloc,
         ".model chain\n.inputs a\n.outputs q0\n.latch a q0 0\n",
@@ -157,8 +157,8 @@ fn source(alloc: Global, word: &mut u64) -> Result<String, AllocError> {
     }
 }
 
-// A hundred registers, each of which takes a table of two nets.
-fn tangle(alloc: Global, seed: u64) -> Result<String, AllocError> {
+/// A hundred registers, each of which takes a table of two nets.
+pub fn tangle(alloc: Global, seed: u64) -> Result<String, AllocError> {
     let mut word = seed ^ 88_172_645_463_325_252;
     let mut text = String::from_str(alloc, ".model tangle\n.inputs a\n.outputs q0\n")?;
     for i in 0..100 {

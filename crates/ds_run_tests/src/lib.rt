@@ -12,6 +12,10 @@ mod jobs_tests;
 #[cfg(test)]
 mod run_tests;
 #[cfg(test)]
+mod shown_tests;
+#[cfg(test)]
+mod slack_tests;
+#[cfg(test)]
 mod trace_tests;
 #[cfg(test)]
 mod unknown_tests;

@@ -37,7 +37,8 @@ pub fn plan_netlist<'a, F: Files>(
 ) -> Result<Plan<'a>, Stop>
     requires { splitting.slack ≤ 15 }
     ensures value { Answers (planned_stage (F.held files.old) net.now graph.now
-        splitting.clusters splitting.slack netlist.entry.now) (RoseIn (F.faults files.old) (F.faults files.new)) result }
+        splitting.clusters splitting.slack netlist.entry.now)
+        (RoseIn (F.faults files.old) (F.faults files.new)) result }
 
     ensures same_held { F.held files.new ≡ F.held files.old }
     ensures never_falls { (w : _) (n : List ℕ) → F.faults files.old w n ≤ F.faults files.new w n }

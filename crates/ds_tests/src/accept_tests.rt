@@ -47,8 +47,8 @@ fn push_case(text: &mut String, old: &str, rest: &str) -> Result<(), AllocError>
     Ok(())
 }
 
-// Does all runs of a table, which are so many.
-fn play_edits<R: AllocGlobal + Threads + Sync>(
+/// Does all runs of a table of graphs, which are so many.
+pub fn play_edits<R: AllocGlobal + Threads + Sync>(
     rt: &R,
     table: &str,
     runs: usize,

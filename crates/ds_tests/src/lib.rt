@@ -17,8 +17,12 @@ mod fault_tests;
 #[cfg(test)]
 mod graph_tests;
 #[cfg(test)]
+mod open_tests;
+#[cfg(test)]
 mod period_tests;
 #[cfg(test)]
 mod replay_tests;
 #[cfg(test)]
 mod settle_tests;
+#[cfg(test)]
+mod slack_tests;
