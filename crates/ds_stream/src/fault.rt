@@ -1,3 +1,4 @@
+//! Why the next vectors of a file are not given.
 use ds_base::OutOfMemory;
 use ds_rows::VectorFault;
 use std::alloc::{AllocError, AllocFailed};
