@@ -11,7 +11,7 @@ use Rattle.ds_base.specs.Limit.{most_of}
 use Rattle.ds_base.specs.declared.number.Limit.TheVariants.{Arcs}
 use Rattle.ds_base.specs.declared.number.Mode.TheVariants.{Each}
 use Rattle.ds_design.specs.Accepted.{IsAccepted}
-use Rattle.ds_design.specs.Circuit.{Circuit, columns, data_nets, register_nets}
+use Rattle.ds_design.specs.Circuit.{Circuit, data_nets, register_nets}
 use Rattle.ds_design.specs.Reach.{Feeds, Reaches, here, through}
 use Rattle.ds_design.specs.Levels.{table_nets}
 use Rattle.ds_design.specs.declared.design.Gate.{Gate}

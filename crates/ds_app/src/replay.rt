@@ -8,14 +8,7 @@ use ds_base::Mode;
 use ds_cmd::FileName;
 use ds_outside::{Files, Sink};
 use ds_stage::{
-    AfterLog,
-    Splitting,
-    Stop,
-    plan_netlist,
-    read_log,
-    read_netlist,
-    read_rows,
-    write_state,
+    AfterLog, Splitting, Stop, plan_netlist, read_log, read_netlist, read_rows, write_state,
 };
 use std::alloc::Global;
 

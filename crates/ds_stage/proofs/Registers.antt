@@ -1,5 +1,5 @@
 -- What the registers have stored, as it is written.
-use Rattle.std.proofs.Common.{◌≡◌, ◌∙◌, ℕ, suc, ◌+◌, ◌*◌, ◌/◌, ◌<◌, List, [], ◌∷◌, ◌++◌, length, get_or, map, take, drop, refl, arith, ap, sym, subst}
+use Rattle.std.proofs.Common.{◌≡◌, ◌∙◌, ℕ, suc, ◌+◌, ◌*◌, ◌/◌, ◌<◌, List, [], ◌∷◌, ◌++◌, length, get_or, map, take, drop, refl, arith, ap, sym}
 use Rattle.std.specs.List.{flat_map, range_with_len}
 use Rattle.std.proofs.Math.Nat.{mul-div_cancel, suc-mul, zero-mul}
 use Rattle.std.proofs.lemmas.List.{get_or-drop, get_or-map, get_or-take, length-append, length-map, same_lists}
@@ -10,7 +10,6 @@ use Rattle.ds_base.specs.declared.value.Value.TheVariants.{Zero}
 use Rattle.ds_design.specs.Circuit.{Circuit}
 use Rattle.ds_marked.specs.Graph.{IsLegal}
 use Rattle.ds_latch.specs.Node.{Slave, Split, members}
-use Rattle.ds_latch.specs.Plan.{Planned}
 use Rattle.ds_latch.specs.Headline.{values_stored}
 use Rattle.ds_fire.specs.Snapshot.{Snapshot, graph_of, limit_of, rows_joined, split_of, stored_values}
 use Rattle.ds_fire.specs.Fired.{IsAfter, IsSound}

@@ -1,5 +1,5 @@
 -- Least sums are 0 where they begin, and rise along arcs by at most the tokens.
-use Rattle.std.proofs.Common.{◌≡◌, ◌∙◌, ℕ, ◌≤◌, ◌+◌, ◌<◌, List, length, get_or, refl, sym, ap, subst, arith, Option, None, Some}
+use Rattle.std.proofs.Common.{◌≡◌, ◌∙◌, ℕ, ◌≤◌, ◌+◌, ◌<◌, length, get_or, refl, sym, ap, subst, arith, Option, None, Some}
 use Rattle.std.proofs.lemmas.List.{get_or_default, same_lists}
 use Rattle.ds_base.proofs.Lists.{get_or-self}
 use Rattle.ds_marked.specs.Graph.{Graph, Walk, stay, along}

@@ -1,4 +1,4 @@
-use Rattle.std.proofs.Common.{refl, subst, sym}
+use Rattle.std.proofs.Common.{sym}
 use Rattle.ds_app.proofs.period.write_period.Goals as goal
 
 pub returns-in-Ok : goal.returns-in-Ok

@@ -1,4 +1,4 @@
-use Rattle.std.proofs.Common.{◌≡◌, ◌∙◌, ℕ, List, arith, ap, length, subst, sym}
+use Rattle.std.proofs.Common.{◌≡◌, ℕ, arith, ap, length, subst, sym}
 use Rattle.std.specs.List.{flat_map, range_with_len}
 use Rattle.ds_control.proofs.Two.{flat_map_next}
 use Rattle.ds_latch.specs.Node.{Split}
