@@ -5,3 +5,5 @@ pub mod Begun
 pub mod Lower
 pub mod Blocks
 pub mod Least
+pub mod Lowering
+pub mod Fewer

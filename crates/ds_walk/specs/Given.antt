@@ -1,5 +1,5 @@
 -- Orders that walks give.
-use Rattle.std.specs.Prelude.{ℕ, ◌<◌, ◌≤◌, Option, None, Some, List, length, All}
+use Rattle.std.specs.Prelude.{ℕ, ◌<◌, ◌≤◌, Option, None, Some, List, length, All, min}
 use Rattle.std.specs.List.{HoldsAt, AllWithin}
 use Rattle.ds_marked.specs.Graph.{Graph, Walk}
 use Rattle.ds_marked.specs.declared.marked.Arc.{Arc}
@@ -22,3 +22,8 @@ IsFirstUnmet g asked (Some k) = (k < length asked) × IsUnmetAt g asked 0 k
 abbrev pub IsFirstUnmetBelow : Graph → List Arc → ℕ → ℕ → Option ℕ → Type 0
 IsFirstUnmetBelow g asked from to None = AllWithin (IsGiven g) asked from to
 IsFirstUnmetBelow g asked from to (Some k) = (k < to) × (from ≤ k) × IsUnmetAt g asked from k
+
+-- an order with one token at most
+abbrev pub capped : Arc → Arc
+capped order =
+    record { source = order.source; target = order.target; tokens = min order.tokens 1 }

@@ -4,7 +4,7 @@ use Rattle.std.specs.Prelude.{None, Some, List, length}
 use Rattle.std.specs.List.{slice_index_or, sum_by}
 use Rattle.ds_marked.specs.Graph.{Walk}
 use Rattle.ds_marked.specs.declared.marked.Arc.{Arc}
-use Rattle.ds_walk.specs.Masks.{along_arcs}
+use Rattle.ds_walk.specs.Masks.{AreAllIn, along_arcs}
 
 -- the sum of an event, or none
 abbrev pub sum_at : List (Option ℕ) → ℕ → Option ℕ
@@ -61,3 +61,11 @@ pub record IsLowering (arcs : List Arc) (low : List (Option ℕ) → Type 0)
   pub less : changed ≡ true → heights new < heights old
   pub same : changed ≡ false → new ≡ old
   pub stays : changed ≡ false → low new
+
+-- sums after some arcs are taken: each that is that of a walk along these arcs stays one
+pub record AreLowered (known : List Arc) (old new : List (Option ℕ)) : Type 0 where
+  pub size : length new ≡ length old
+  pub bounded : AreBounded new
+  pub walks : (arcs : List Arc) (from : ℕ) → AreAllIn known arcs → AreWalkSums arcs from old
+      → AreWalkSums arcs from new
+  pub start : (from : ℕ) → sum_at old from ≡ Some 0 → sum_at new from ≡ Some 0

@@ -5,19 +5,19 @@ ghost use Rattle.ds_walk.specs.Masks.{AreAllIn, HaveSameArcs, IsWithFrom};
 
 use ds_base::EventId;
 use ds_marked::{Arc, Marked};
-use std::alloc::{AllocError, Global};
+use std::alloc::AllocError;
 
-// The arcs of a graph, those from the first event of the order first.
+// The arcs of a graph behind some that are there, those from the first event of the order first.
 pub(crate) fn arcs_by(
-    alloc: Global,
+    mut arcs: Vec<Arc>,
     graph: &Marked,
     order: &[EventId],
 ) -> Result<Vec<Arc>, AllocError>
-    requires { (v : ℕ) → v < length graph.now.events → Contains order.now v }
+    requires order { (v : ℕ) → v < length graph.now.events → Contains order.now v }
+    requires arcs { AreAllIn arcs.items graph.now.arcs }
     ensures { IfOk result (λ arcs. HaveSameArcs arcs.items graph.now.arcs) }
 {
     let _kept = graph.arcs();
-    let mut arcs: Vec<Arc> = Vec::new(alloc);
     for event in order {
         push_from(&mut arcs, graph, *event)?;
     }
@@ -25,7 +25,11 @@ pub(crate) fn arcs_by(
 }
 
 // The arcs from an event, behind those that are there.
-fn push_from(arcs: &mut Vec<Arc>, graph: &Marked, event: EventId) -> Result<(), AllocError>
+pub(crate) fn push_from(
+    arcs: &mut Vec<Arc>,
+    graph: &Marked,
+    event: EventId,
+) -> Result<(), AllocError>
     ensures { OnOk result (IsWithFrom graph.now.arcs event arcs.old.items arcs.new.items) }
 {
     let range = graph.arcs_from(event);

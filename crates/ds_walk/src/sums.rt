@@ -7,6 +7,7 @@ ghost use Rattle.ds_walk.specs.Lowered.{AreBounded, AreWalkSums, IsBelow, IsLowA
 ghost use Rattle.ds_walk.specs.Lowered.{sum_at};
 
 use crate::arcs::arcs_by;
+use crate::nearest::lower_nearest;
 use ds_base::{EventId, OutOfMemory, Seq};
 use ds_marked::{Arc, Marked};
 use std::alloc::{AllocError, Global};
@@ -24,9 +25,10 @@ pub fn least_sums(
     ensures ok { IfOk result (AreLeastSums graph.now from) }
 {
     let events = graph.events().len();
-    let arcs = arcs_by(alloc, graph, order)?;
+    let arcs = arcs_by(Vec::new(alloc), graph, order)?;
     let mut sums = no_sums(alloc, events)?;
     sums[from.index()] = Some(0);
+    lower_nearest(alloc, graph, from, &mut sums)?;
     lower_all(arcs.as_slice(), &mut sums);
     Ok(Seq::of(sums))
 }
@@ -70,7 +72,7 @@ fn lower_each(arcs: &[Arc], sums: &mut Vec<Option<u64>>) -> bool
 }
 
 // The sum at the source of an arc and its tokens, at its target, where that is less. Whether it is.
-fn lower(arc: &Arc, sums: &mut Vec<Option<u64>>) -> bool
+pub(crate) fn lower(arc: &Arc, sums: &mut Vec<Option<u64>>) -> bool
     requires ends { (arc.now.source < length sums.old.items)
         × (arc.now.target < length sums.old.items) }
     requires few { length sums.old.items < 2 ^ 32 }

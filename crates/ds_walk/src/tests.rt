@@ -94,3 +94,17 @@ fn the_least_sums_are_those_of_walks(rt: HostRuntime) {
     };
     assert_eq!(rt; sums.as_slice(), [None, Some(0), Some(0)].as_slice());
 }
+
+// The events lead to each other without tokens, both ways along a row, against the order.
+#[test]
+fn an_order_is_given_along_a_knot(rt: HostRuntime) {
+    let arcs = [arc(2, 0, 0), arc(0, 2, 0), arc(0, 1, 0), arc(1, 0, 0)];
+    let Ok(graph) = graph(rt.alloc(), arcs) else {
+        panic!(rt; "memory");
+    };
+    let given = [arc(2, 1, 0), arc(1, 2, 0), arc(2, 2, 0)];
+    assert_eq!(rt;
+        first_unmet(rt.alloc(), &graph, &order(), &given).ok(),
+        Some(None)
+    );
+}
