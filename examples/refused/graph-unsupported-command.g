@@ -1,6 +1,6 @@
 .model toggle
 .outputs IN OUT M0 S0
-.dummy e
+.capacity p0=1
 .graph
 IN+ IN- M0+
 IN- IN+

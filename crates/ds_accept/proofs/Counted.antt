@@ -10,10 +10,10 @@ pub some_event : Event
 some_event = record { signal = []; kind = Rise }
 
 module _ {X : Type 0} where
-  in_head : (y : X) (ys : List X) → Contains (y ∷ ys) y
+  pub in_head : (y : X) (ys : List X) → Contains (y ∷ ys) y
   in_head y ys = (0, omega arith, refl)
 
-  in_tail : (y : X) (ys : List X) (x : X) → Contains ys x → Contains (y ∷ ys) x
+  pub in_tail : (y : X) (ys : List X) (x : X) → Contains ys x → Contains (y ∷ ys) x
   in_tail y ys x (k, inside, is) = (suc k, omega arith, is)
 
   pub in_which : (y : X) (ys : List X) (x : X) → Contains (y ∷ ys) x → (y ≡ x) ⊎ Contains ys x

@@ -1,6 +1,9 @@
 pub mod Keys
 pub mod Counted
+pub mod Others
+pub mod Inverse
 pub mod Placed
+pub mod Numbering
 pub mod Merged
 pub mod Moved
 pub mod ByRank

@@ -1,8 +1,8 @@
--- A graph, and the same with its events in the order of the nodes.
-use Rattle.std.proofs.Common.{◌≡◌, ◌≢◌, ◌⊎◌, inl, inr, ℕ, ◌+◌, ◌<◌, ◌≤◌, List, [], length, get_or, map, refl, sym, ◌∙◌, ap, subst, arith, All, AllPairs, IsPermutation, slice_index, Some}
+-- A graph, and the same with the events of the nodes first.
+use Rattle.std.proofs.Common.{◌≡◌, ◌≢◌, ◌⊎◌, inl, inr, ℕ, ◌+◌, ◌<◌, ◌≤◌, List, ◌++◌, length, length-append, get_or, map, refl, sym, ◌∙◌, ap, subst, arith, All, AllPairs, IsPermutation, slice_index, Some}
 use Rattle.std.specs.Prelude.{Any, Contains}
 use Rattle.std.proofs.lemmas.Bool.{cases_eq, cases_lt}
-use Rattle.std.proofs.lemmas.List.{get_or-map, get_or_default, length-map, append-nil}
+use Rattle.std.proofs.lemmas.List.{get_or-map, get_or_append_left, get_or_default, length-map}
 use Rattle.std.proofs.lemmas.List.Elements.{All-contains, All-map}
 use Rattle.std.proofs.lemmas.List.Sorted.{All-permutation, Contains-permutation, IsPermutation-sym}
 use Rattle.ds_base.proofs.Lists.{get_or-self}
@@ -14,35 +14,51 @@ use Rattle.ds_latch.specs.Plan.{IsPlan, IsSplit, Reorders, split_events}
 use Rattle.ds_control.specs.Control.{AreOrders}
 use Rattle.ds_rank.specs.Rank.{AreRanks}
 use Rattle.ds_walk.specs.Given.{IsFirstUnmet, IsGiven}
-use Rattle.ds_accept.specs.Accept.{AreGiven, AreKnown, AreThere, Gives, IsAcceptable, StandsAt}
+use Rattle.ds_accept.specs.Accept.{AreGiven, AreThere, Gives, IsAcceptable, StandsAt, extra_events}
 use Rattle.ds_accept.specs.Fault.{IsFirstMissing, StandsFirst}
 use Rattle.ds_accept.specs.Steps.{AreLeft, IsArcWithin, IsGivenBy, moved}
 use Rattle.ds_accept.proofs.Counted.{no_more, one_place, some_event}
+use Rattle.ds_accept.proofs.Inverse.{inverse, inverse_is}
+use Rattle.ds_accept.proofs.Others.{all_once, all_within}
 
 module _ (s : Split) (g to : Graph) (number place : ℕ → ℕ) (kept : IsKept g) (once : AllPairs (λ a b. a ≢ b) (split_events s))
-    (numbered : (p : ℕ) → p < length g.events → StandsAt s g (number p) p)
+    (numbered : (p : ℕ) (d : Event) → p < length g.events → (number p < length to.events) × (get_or to.events (number p) d ≡ get_or g.events p d))
     (placed : (v : ℕ) → v < length (split_events s) → StandsAt s g v (place v))
-    (events : to.events ≡ split_events s) (arcs : IsPermutation (map (moved number) g.arcs) to.arcs) where
-  pub known : AreKnown s g
-  known k d inside =
-      let at : StandsAt s g (number k) k = numbered k inside in
-      (number k, at.number, sym (at.event (get_or g.events k d)) ∙ get_or-self g.events k d inside)
-
+    (events : to.events ≡ split_events s ++ extra_events s g) (arcs : IsPermutation (map (moved number) g.arcs) to.arcs) where
   pub there : AreThere s g
   there v d inside =
       let at : StandsAt s g v (place v) = placed v inside in
       (place v, at.inside, at.event (get_or (split_events s) v d) ∙ get_or-self (split_events s) v d inside)
 
+  to_once : AllPairs (λ a b. a ≢ b) to.events
+  to_once = subst (AllPairs (λ a b. a ≢ b)) (sym events) (all_once (split_events s) g.events once kept.once)
+
+  -- the events of the nodes stand first
+  stands_first : (v : ℕ) (d : Event) → v < length (split_events s) → (v < length to.events) × (get_or to.events v d ≡ get_or (split_events s) v d)
+  stands_first v d low =
+      let size : length to.events ≡ length (split_events s) + length (extra_events s g) = ap (λ (es : List Event). length es) events ∙ length-append (split_events s) (extra_events s g) in (
+        omega (low, size, arith),
+        ap (λ (es : List Event). get_or es v d) events ∙ get_or_append_left (split_events s) (extra_events s g) d v low,
+      )
+
   number_is : (v p : ℕ) → StandsAt s g v p → number p ≡ v
   number_is v p at =
-      let own : StandsAt s g (number p) p = numbered p at.inside in
-      one_place (split_events s) once (number p) v some_event own.number at.number (sym (own.event some_event) ∙ at.event some_event)
+      let (low, same) = numbered p some_event at.inside in
+      let (also, is) = stands_first v some_event at.number in
+      one_place to.events to_once (number p) v some_event low also (same ∙ (at.event some_event ∙ sym is))
 
-  place_is : (p : ℕ) → p < length g.events → place (number p) ≡ p
-  place_is p inside =
-      let own : StandsAt s g (number p) p = numbered p inside in
-      let back : StandsAt s g (number p) (place (number p)) = placed (number p) own.number in
-      one_place g.events kept.once (place (number p)) p some_event back.inside inside (back.event some_event ∙ sym (own.event some_event))
+  -- and the other way round
+  number_at : (v p : ℕ) → v < length (split_events s) → p < length g.events → number p ≡ v → StandsAt s g v p
+  number_at v p low inside is = record {
+    number = low;
+    inside = inside;
+    event = λ d. sym (numbered p d inside).1 ∙ (ap (λ (n : ℕ). get_or to.events n d) is ∙ (stands_first v d low).1);
+  }
+
+  -- no two events have one number
+  one_number : (p q : ℕ) → p < length g.events → q < length g.events → number p ≡ number q → p ≡ q
+  one_number p q low high same = one_place g.events kept.once p q some_event low high
+      (sym (numbered p some_event low).1 ∙ (ap (λ (n : ℕ). get_or to.events n some_event) same ∙ (numbered q some_event high).1))
 
   -- an arc of the graph is one of the other, with its ends moved
   arc_down : (v w tokens : ℕ) → IsArc g v w tokens → IsArc to (number v) (number w) tokens
@@ -66,8 +82,8 @@ module _ (s : Split) (g to : Graph) (number place : ℕ → ℕ) (kept : IsKept 
   )
 
   -- what an arc of the other gives, the graph gives
-  up : (u v tokens : ℕ) → Any (IsArcWithin u v tokens) to.arcs → Gives s g u v tokens
-  up u v tokens (j, arc, low, is, (source, target, few)) =
+  up : (u v tokens : ℕ) → u < length (split_events s) → v < length (split_events s) → Any (IsArcWithin u v tokens) to.arcs → Gives s g u v tokens
+  up u v tokens u_low v_low (j, arc, low, is, (source, target, few)) =
       let (k, below, same) = Contains-permutation to.arcs (map (moved number) g.arcs) arc (IsPermutation-sym (map (moved number) g.arcs) to.arcs arcs) (j, low, is) in
       let inside : k < length g.arcs = rw (length-map g.arcs (moved number)) at below in
       let x : Arc = get_or g.arcs k arc in
@@ -76,8 +92,8 @@ module _ (s : Split) (g to : Graph) (number place : ℕ → ℕ) (kept : IsKept 
       let tokens_is : x.tokens ≡ arc.tokens = ap (λ (a : Arc). a.tokens) moved_is in record {
         from = x.source;
         to = x.target;
-        source = subst (λ (w : ℕ). StandsAt s g w x.source) (ap (λ (a : Arc). a.source) moved_is ∙ source) (numbered x.source ends.0);
-        target = subst (λ (w : ℕ). StandsAt s g w x.target) (ap (λ (a : Arc). a.target) moved_is ∙ target) (numbered x.target ends.1);
+        source = number_at u x.source u_low ends.0 (ap (λ (a : Arc). a.source) moved_is ∙ source);
+        target = number_at v x.target v_low ends.1 (ap (λ (a : Arc). a.target) moved_is ∙ target);
         sum = 0 + x.tokens;
         walk = along stay (k, x, inside, get_or-self g.arcs k arc inside, (refl, refl, refl));
         few = omega (few, tokens_is, arith);
@@ -97,7 +113,9 @@ module _ (s : Split) (g to : Graph) (number place : ℕ → ℕ) (kept : IsKept 
   }
 
   place_at : (v p : ℕ) → StandsAt s g v p → p ≡ place v
-  place_at v p at = sym (place_is p at.inside) ∙ ap place (number_is v p at)
+  place_at v p at =
+      let own : StandsAt s g v (place v) = placed v at.number in
+      one_place g.events kept.once p (place v) some_event at.inside own.inside (at.event some_event ∙ sym (own.event some_event))
 
   -- and the other way round
   by_walk : (order : Arc) → Gives s g order.source order.target order.tokens → IsGiven g (moved place order)
@@ -110,7 +128,6 @@ module _ (s : Split) (g to : Graph) (number place : ℕ → ℕ) (kept : IsKept 
 
   pub acceptable : AreGiven s g → (ranks : List ℕ) → AreRanks g ranks → IsAcceptable s g
   acceptable given ranks are = record {
-    known = known;
     there = there;
     given = given;
     rank = slice_index ranks;
@@ -122,18 +139,18 @@ module _ (s : Split) (g to : Graph) (number place : ℕ → ℕ) (kept : IsKept 
 
   same_size : length to.events ≡ length g.events
   same_size =
-      let most : length g.events ≤ length (split_events s) = no_more g.events (split_events s) kept.once known in
-      let least : length (split_events s) ≤ length g.events = no_more (split_events s) g.events once there in
-      let size : length to.events ≡ length (split_events s) = ap (λ (es : List Event). length es) events in
-      omega (most, least, size, arith)
+      let all : All (Contains to.events) g.events = λ k d inside.
+      let (low, same) = numbered k (get_or g.events k d) inside in (number k, low, same ∙ get_or-self g.events k d inside) in
+      let most : length g.events ≤ length to.events = no_more g.events to.events kept.once all in
+      let within : All (Contains g.events) to.events = subst (All (Contains g.events)) (sym events) (all_within (split_events s) g.events there) in
+      let least : length to.events ≤ length g.events = no_more to.events g.events to_once within in
+      omega (most, least, arith)
 
   pub reorders : Reorders g to
   reorders = record {
     place = number;
     as_many = same_size;
-    events = λ p d inside.
-        let at : StandsAt s g (number p) p = numbered p inside in
-        (rw events at.number, ap (λ (es : List Event). get_or es (number p) d) events ∙ sym (at.event d));
+    events = numbered;
     arcs = arcs;
   }
 
@@ -141,20 +158,28 @@ module _ (s : Split) (g to : Graph) (number place : ℕ → ℕ) (kept : IsKept 
   ends = All-permutation (λ (arc : Arc). (arc.source < length to.events) × (arc.target < length to.events)) (map (moved number) g.arcs) to.arcs arcs
       (All-map (λ (arc : Arc). (arc.source < length to.events) × (arc.target < length to.events)) (moved number) g.arcs (λ k d inside.
       let both : ((get_or g.arcs k d).source < length g.events) × ((get_or g.arcs k d).target < length g.events) = kept.ends k d inside in
-      (rw events (numbered (get_or g.arcs k d).source both.0).number, rw events (numbered (get_or g.arcs k d).target both.1).number)))
+      ((numbered (get_or g.arcs k d).source some_event both.0).0, (numbered (get_or g.arcs k d).target some_event both.1).0)))
+
+  -- the place of a number
+  back : ℕ → ℕ
+  back = inverse number (length g.events)
+
+  back_is : (p : ℕ) → p < length g.events → back (number p) ≡ p
+  unfolding back
+  back_is p inside = inverse_is number (length g.events) one_number p inside
 
   pub plan : IsSplit s → IsAcceptable s g → IsPlan s to
   plan split acc = record {
     split = split;
-    extra = [];
-    events = events ∙ sym (append-nil (split_events s));
+    extra = extra_events s g;
+    events = events;
     live = record {
       ends = ends;
-      rank = λ v. acc.rank (place v);
-      rises = All-permutation (λ (arc : Arc). arc.tokens ≡ 0 → acc.rank (place arc.source) < acc.rank (place arc.target)) (map (moved number) g.arcs) to.arcs arcs
-          (All-map (λ (arc : Arc). arc.tokens ≡ 0 → acc.rank (place arc.source) < acc.rank (place arc.target)) (moved number) g.arcs (λ k d inside free.
+      rank = λ v. acc.rank (back v);
+      rises = All-permutation (λ (arc : Arc). arc.tokens ≡ 0 → acc.rank (back arc.source) < acc.rank (back arc.target)) (map (moved number) g.arcs) to.arcs arcs
+          (All-map (λ (arc : Arc). arc.tokens ≡ 0 → acc.rank (back arc.source) < acc.rank (back arc.target)) (moved number) g.arcs (λ k d inside free.
           let both : ((get_or g.arcs k d).source < length g.events) × ((get_or g.arcs k d).target < length g.events) = kept.ends k d inside in
-          rw (place_is (get_or g.arcs k d).source both.0, place_is (get_or g.arcs k d).target both.1) (acc.rises k d inside free)));
+          rw (back_is (get_or g.arcs k d).source both.0, back_is (get_or g.arcs k d).target both.1) (acc.rises k d inside free)));
     };
     orders = λ u v tokens required. down u v tokens (acc.given u v tokens required);
   }
@@ -168,14 +193,16 @@ module _ (s : Split) (g to : Graph) (number place : ℕ → ℕ) (kept : IsKept 
 
   module _ (required : Graph) (orders : AreOrders s required) (sorted : AllPairs StandsBefore required.arcs)
       (inside_required : AreEnds (length (split_events s)) required.arcs) (left : List Arc) (are : AreLeft required.arcs to.arcs left) where
+    required_ends : (arc : Arc) → Contains required.arcs arc → (arc.source < length (split_events s)) × (arc.target < length (split_events s))
+    required_ends arc is = All-contains (λ (x : Arc). (x.source < length (split_events s)) × (x.target < length (split_events s))) required.arcs arc inside_required is
+
     -- an order that is left is a required one
     left_in : (k : ℕ) (d : Arc) → k < length left → Contains required.arcs (get_or left k d)
     left_in k d inside = are.some k d inside
 
     left_ends : (k : ℕ) (d : Arc) → k < length left
         → ((get_or left k d).source < length (split_events s)) × ((get_or left k d).target < length (split_events s))
-    left_ends k d inside = All-contains (λ (x : Arc). (x.source < length (split_events s)) × (x.target < length (split_events s)))
-        required.arcs (get_or left k d) inside_required (left_in k d inside)
+    left_ends k d inside = required_ends (get_or left k d) (left_in k d inside)
 
     -- an order that is left is given where the walk of its places is
     given_left : (k : ℕ) (d : Arc) → k < length left → IsGiven g (get_or (map (moved place) left) k (moved place d))
@@ -186,10 +213,11 @@ module _ (s : Split) (g to : Graph) (number place : ℕ → ℕ) (kept : IsKept 
     pub given : All (IsGiven g) (map (moved place) left) → AreGiven s g
     given all u v tokens order =
         let (k, arc, inside, is, (su, tv, kt)) = (orders u v tokens).0 order in
+        let low : (arc.source < length (split_events s)) × (arc.target < length (split_events s)) = required_ends arc (k, inside, is) in
         by_parts arc u v tokens su tv kt (elim (All-contains (λ o. IsGivenBy to.arcs o ⊎ Contains left o) required.arcs arc are.others (k, inside, is)) [
-          | inl by ↦ up arc.source arc.target arc.tokens by
-          | inr (j, low, at) ↦ subst (λ (x : Arc). Gives s g x.source x.target x.tokens) at
-              (given_left j arc low (all j (moved place arc) (rw (length-map left (moved place)) low)))
+          | inl by ↦ up arc.source arc.target arc.tokens low.0 low.1 by
+          | inr (j, near, at) ↦ subst (λ (x : Arc). Gives s g x.source x.target x.tokens) at
+              (given_left j arc near (all j (moved place arc) (rw (length-map left (moved place)) near)))
         ])
 
     -- what stands before an order that is left is left earlier
@@ -234,8 +262,9 @@ module _ (s : Split) (g to : Graph) (number place : ℕ → ℕ) (kept : IsKept 
               (subst (λ (x : Arc). IsGiven g (moved place x)) is (by_walk order gives)));
           before = λ u v tokens other less.
               let (i, arc, low, arc_is, (su, tv, kt)) = (orders u v tokens).0 other in
+              let both : (arc.source < length (split_events s)) × (arc.target < length (split_events s)) = required_ends arc (i, low, arc_is) in
               by_parts arc u v tokens su tv kt (elim (All-contains (λ o. IsGivenBy to.arcs o ⊎ Contains left o) required.arcs arc are.others (i, low, arc_is)) [
-                | inl by ↦ up arc.source arc.target arc.tokens by
+                | inl by ↦ up arc.source arc.target arc.tokens both.0 both.1 by
                 | inr (j, near, at) ↦ (
                     let first : StandsFirst arc.source arc.target order.source order.target = rw (su, tv) less in
                     let below : j < k = earlier k j order arc inside own near at first in

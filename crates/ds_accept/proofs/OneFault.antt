@@ -14,7 +14,7 @@ use Rattle.ds_walk.proofs.Least.{one_list_of_sums_lem}
 use Rattle.ds_walk.specs.Sums.{AreLeastSums}
 use Rattle.ds_accept.specs.Fault.{IsFirstMissing, IsFirstWithout, ShowsLeast, StandsFirst}
 use Rattle.ds_accept.specs.Laws.{OneFault}
-use Rattle.ds_accept.specs.declared.fault.AcceptFault.TheVariants.{UnknownEvent, MissingEvent, MissingOrder, TokenFreeCycle, Memory}
+use Rattle.ds_accept.specs.declared.fault.AcceptFault.TheVariants.{MissingEvent, MissingOrder, TokenFreeCycle, Memory}
 use Rattle.ds_accept.proofs.Counted.{one_place, some_event}
 
 -- a list has one first place without the property
@@ -94,28 +94,21 @@ module _ (s : Split) (g : Graph) (kept : IsKept g) where
   same_event k m e f same is at = sym (is some_event) ∙ (ap (λ (n : ℕ). get_or (split_events s) n some_event) same ∙ at some_event)
 
 pub one_fault_lem : OneFault
-one_fault_lem s g (UnknownEvent p) (UnknownEvent q) kept some more is at = inl (ap UnknownEvent (first_once (Contains (split_events s)) g.events some_event p q is at))
-one_fault_lem s g (UnknownEvent p) (MissingEvent f) kept some more is at = absurd (is.without some_event (at.0 p some_event is.inside))
-one_fault_lem s g (UnknownEvent p) (MissingOrder from to t least numbers) kept some more is at = absurd (is.without some_event (at.0 p some_event is.inside))
-one_fault_lem s g (UnknownEvent p) (TokenFreeCycle events) kept some more is at = absurd (is.without some_event (at.0 p some_event is.inside))
-one_fault_lem s g (MissingEvent e) (UnknownEvent q) kept some more is at = absurd (at.without some_event (is.0 q some_event at.inside))
-one_fault_lem s g (MissingEvent e) (MissingEvent f) kept some more (known, (k, first, is)) (also, (m, second, at)) =
+one_fault_lem s g (MissingEvent e) (MissingEvent f) kept some more (k, first, is) (m, second, at) =
     inl (ap MissingEvent (same_event s g kept k m e f (first_once (Contains g.events) (split_events s) some_event k m first second) is at))
-one_fault_lem s g (MissingEvent e) (MissingOrder from to t least numbers) kept some more (known, (k, first, is)) (also, there, second, shows) =
+one_fault_lem s g (MissingEvent e) (MissingOrder from to t least numbers) kept some more (k, first, is) (there, second, shows) =
     absurd (first.without some_event (there k some_event first.inside))
-one_fault_lem s g (MissingEvent e) (TokenFreeCycle events) kept some more (known, (k, first, is)) (also, there, given, cycle) =
+one_fault_lem s g (MissingEvent e) (TokenFreeCycle events) kept some more (k, first, is) (there, given, cycle) =
     absurd (first.without some_event (there k some_event first.inside))
-one_fault_lem s g (MissingOrder from to t least numbers) (UnknownEvent q) kept some more is at = absurd (at.without some_event (is.0 q some_event at.inside))
-one_fault_lem s g (MissingOrder from to t least numbers) (MissingEvent f) kept some more (known, there, first, shows) (also, (m, second, at)) =
+one_fault_lem s g (MissingOrder from to t least numbers) (MissingEvent f) kept some more (there, first, shows) (m, second, at) =
     absurd (second.without some_event (there m some_event second.inside))
-one_fault_lem s g (MissingOrder from to t least numbers) (MissingOrder from2 to2 t2 least2 numbers2) kept some more (known, there, is, shows) (also, present, at, too) =
+one_fault_lem s g (MissingOrder from to t least numbers) (MissingOrder from2 to2 t2 least2 numbers2) kept some more (there, is, shows) (present, at, too) =
     inl (same_order s g kept from to t from2 to2 t2 is at least least2 numbers numbers2 shows too)
-one_fault_lem s g (MissingOrder from to t least numbers) (TokenFreeCycle events) kept some more (known, there, is, shows) (also, present, given, cycle) =
+one_fault_lem s g (MissingOrder from to t least numbers) (TokenFreeCycle events) kept some more (there, is, shows) (present, given, cycle) =
     absurd (is.lacks (given is.u is.v t is.required))
-one_fault_lem s g (TokenFreeCycle events) (UnknownEvent q) kept some more is at = absurd (at.without some_event (is.0 q some_event at.inside))
-one_fault_lem s g (TokenFreeCycle events) (MissingEvent f) kept some more (known, there, given, cycle) (also, (m, second, at)) =
+one_fault_lem s g (TokenFreeCycle events) (MissingEvent f) kept some more (there, given, cycle) (m, second, at) =
     absurd (second.without some_event (there m some_event second.inside))
-one_fault_lem s g (TokenFreeCycle events) (MissingOrder from to t least numbers) kept some more (known, there, given, cycle) (also, present, at, too) =
+one_fault_lem s g (TokenFreeCycle events) (MissingOrder from to t least numbers) kept some more (there, given, cycle) (present, at, too) =
     absurd (at.lacks (given at.u at.v t at.required))
 one_fault_lem s g (TokenFreeCycle events) (TokenFreeCycle others) kept some more is at = inr ((events, refl), (others, refl))
 one_fault_lem s g Memory other kept some more is at = absurd (some refl)

@@ -18,16 +18,16 @@ pub record ArePlacedTo (events others : List Event) (k : ℕ) (places : List ℕ
   pub inside : All (λ place. place < length others) places
   pub same : (j : ℕ) (d : Event) → j < k → get_or others (slice_index places j) d ≡ get_or events j d
 
-missing : (others : List Event) (e : Event) → IsMissingCode (map code_of others) (code_of e) → ¬ Contains others e
+pub missing : (others : List Event) (e : Event) → IsMissingCode (map code_of others) (code_of e) → ¬ Contains others e
 missing others e none (j, inside, is) =
     none j (rw (length-map others code_of) inside) (code_of e) (get_or-map code_of others j e (code_of e) inside ∙ ap code_of is)
 
 -- a place of an event
-record Stands (others : List Event) (e : Event) (place : ℕ) : Type 0 where
-  inside : place < length others
-  is : (d : Event) → get_or others place d ≡ e
+pub record Stands (others : List Event) (e : Event) (place : ℕ) : Type 0 where
+  pub inside : place < length others
+  pub is : (d : Event) → get_or others place d ≡ e
 
-stands : (others : List Event) (e : Event) (place : ℕ) → StandsAtCode (map code_of others) (code_of e) place → Stands others e place
+pub stands : (others : List Event) (e : Event) (place : ℕ) → StandsAtCode (map code_of others) (code_of e) place → Stands others e place
 stands others e place code =
     let low : place < length (map code_of others) = code.inside in
     let inside : place < length others = rw (length-map others code_of) at low in
@@ -60,13 +60,28 @@ module _ (events others : List Event) (k : ℕ) (places : List ℕ) (placed : Ar
             ap (λ (n : ℕ). get_or others n d) read ∙ placed.same j d below)
       ]
 
+  pub one_more_at : k < length events → (e : Event) → e ≡ get_or events k e → (place : ℕ) → Stands others e place
+      → ArePlacedTo events others (k + 1) (places ++ place ∷ [])
+  one_more_at inside e is place at = record {
+    one_each = length-append places (place ∷ []) ∙ ap (λ (n : ℕ). n + 1) placed.one_each;
+    inside = All-push (λ place. place < length others) places place placed.inside at.inside;
+    same = one_place place e at is inside;
+  }
+
   pub one_more : k < length events → (e : Event) → e ≡ get_or events k e → (place : ℕ) → StandsAtCode (map code_of others) (code_of e) place
       → ArePlacedTo events others (k + 1) (places ++ place ∷ [])
-  one_more inside e is place code =
-      let at : Stands others e place = stands others e place code in record {
-        one_each = length-append places (place ∷ []) ∙ ap (λ (n : ℕ). n + 1) placed.one_each;
-        inside = All-push (λ place. place < length others) places place placed.inside at.inside;
-        same = one_place place e at is inside;
+  one_more inside e is place code = one_more_at inside e is place (stands others e place code)
+
+  -- the places stay where there are more behind the others
+  pub with_more : (more : List Event) → ArePlacedTo events (others ++ more) k places
+  with_more more =
+      let size : length (others ++ more) ≡ length others + length more = length-append others more in record {
+        one_each = placed.one_each;
+        inside = λ j d low. (let below : get_or places j d < length others = placed.inside j d low in omega (below, size, arith));
+        same = λ j d low.
+            let count : length places ≡ k = placed.one_each in
+            let below : slice_index places j < length others = placed.inside j 0 (omega (count, low, arith)) in
+            get_or_append_left others more d (slice_index places j) below ∙ placed.same j d low;
       }
 
 pub all_placed : (events others : List Event) (k : ℕ) (places : List ℕ) → ArePlacedTo events others k places → k ≡ length events → ArePlaces events others places

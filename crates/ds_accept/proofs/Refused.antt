@@ -9,7 +9,7 @@ use Rattle.ds_accept.specs.Accept.{IsAcceptable}
 use Rattle.ds_accept.specs.Fault.{IsAcceptFault}
 use Rattle.ds_accept.specs.declared.fault.AcceptFault.{AcceptFault}
 use Rattle.ds_accept.specs.Laws.{FaultsAreRefused}
-use Rattle.ds_accept.specs.declared.fault.AcceptFault.TheVariants.{UnknownEvent, MissingEvent, MissingOrder, TokenFreeCycle, Memory}
+use Rattle.ds_accept.specs.declared.fault.AcceptFault.TheVariants.{MissingEvent, MissingOrder, TokenFreeCycle, Memory}
 use Rattle.ds_accept.proofs.Counted.{some_event}
 
 -- a walk rises with what rises at each step
@@ -32,16 +32,14 @@ free_rises g rank rises u v (k, arc, inside, is, (source, target, free)) =
     rw (← source, ← target) (up free)
 
 pub faults_are_refused_lem : FaultsAreRefused
-faults_are_refused_lem s g (UnknownEvent place) some is acc = is.without some_event (acc.known place some_event is.inside)
-faults_are_refused_lem s g (MissingEvent event) some (known, (k, first, is)) acc = first.without some_event (acc.there k some_event first.inside)
-faults_are_refused_lem s g (MissingOrder from to tokens least numbers) some (known, there, first, shows) acc = first.lacks (acc.given first.u first.v tokens first.required)
-faults_are_refused_lem s g (TokenFreeCycle events) some (known, there, given, cycle) acc =
+faults_are_refused_lem s g (MissingEvent event) some (k, first, is) acc = first.without some_event (acc.there k some_event first.inside)
+faults_are_refused_lem s g (MissingOrder from to tokens least numbers) some (there, first, shows) acc = first.lacks (acc.given first.u first.v tokens first.required)
+faults_are_refused_lem s g (TokenFreeCycle events) some (there, given, cycle) acc =
     no_cycle (HasFreeArc g) acc.rank (free_rises g acc.rank acc.rises) events cycle
 faults_are_refused_lem s g Memory some is acc = some refl
 
 -- an acceptable graph has no fault, but memory may be wanted
 pub memory_alone : (s : Split) (g : Graph) → IsAcceptable s g → (fault : AcceptFault) → IsAcceptFault s g fault → fault ≡ Memory
-memory_alone s g acc (UnknownEvent place) is = absurd (faults_are_refused_lem s g (UnknownEvent place) (λ e. absurd (cc)) is acc)
 memory_alone s g acc (MissingEvent event) is = absurd (faults_are_refused_lem s g (MissingEvent event) (λ e. absurd (cc)) is acc)
 memory_alone s g acc (MissingOrder from to tokens least numbers) is = absurd (faults_are_refused_lem s g (MissingOrder from to tokens least numbers) (λ e. absurd (cc)) is acc)
 memory_alone s g acc (TokenFreeCycle events) is = absurd (faults_are_refused_lem s g (TokenFreeCycle events) (λ e. absurd (cc)) is acc)

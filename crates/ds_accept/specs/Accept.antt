@@ -1,10 +1,27 @@
 -- The graphs that are accepted for a split design, whose events stand in any order.
-use Rattle.std.specs.Prelude.{◌≡◌, ℕ, ◌<◌, ◌≤◌, length, slice_index_or, All, Contains}
+use Rattle.std.specs.Prelude.{◌≡◌, ℕ, ◌<◌, ◌≤◌, Bool, not, ◌&&◌, ◌==◌, List, ◌++◌, length, All}
+use Rattle.std.specs.Prelude.{slice_index_or, Contains}
+use Rattle.std.specs.List.{filter, list_any}
+use Rattle.std.specs.Str.{bytes_eq}
 use Rattle.ds_marked.specs.Graph.{Graph, Walk}
 use Rattle.ds_marked.specs.declared.marked.Event.{Event}
 use Rattle.ds_latch.specs.Node.{Split}
 use Rattle.ds_latch.specs.Order.{IsRequired}
 use Rattle.ds_latch.specs.Plan.{Planned, Reorders, split_events}
+use Rattle.ds_accept.specs.Codes.{sign_of}
+
+-- whether two events are the same: the same signal, and the same kind
+abbrev pub is_same_event : Event → Event → Bool
+is_same_event one other =
+    bytes_eq one.signal other.signal && (sign_of one.kind == sign_of other.kind)
+
+-- the events of a list that do not stand in another one, in their order
+abbrev pub others_of : List Event → List Event → List Event
+others_of known events = filter (λ event. not (list_any (is_same_event event) known)) events
+
+-- the events of a graph that are no node's, in the order of the graph
+abbrev pub extra_events : Split → Graph → List Event
+extra_events s g = others_of (split_events s) g.events
 
 -- the event of the design with this number stands at this place of the graph
 pub record StandsAt (s : Split) (g : Graph) (v place : ℕ) : Type 0 where
@@ -23,10 +40,6 @@ pub record Gives (s : Split) (g : Graph) (u v tokens : ℕ) : Type 0 where
   pub walk : Walk g from to sum
   pub few : sum ≤ tokens
 
--- each event of the graph is one of a node
-abbrev pub AreKnown : Split → Graph → Type 0
-AreKnown s g = All (Contains (split_events s)) g.events
-
 -- each event of a node is one of the graph
 abbrev pub AreThere : Split → Graph → Type 0
 AreThere s g = All (Contains g.events) (split_events s)
@@ -35,17 +48,17 @@ AreThere s g = All (Contains g.events) (split_events s)
 abbrev pub AreGiven : Split → Graph → Type 0
 AreGiven s g = (u v tokens : ℕ) → IsRequired s u v tokens → Gives s g u v tokens
 
--- the events are those of the nodes, each required order is given, and some numbering rises along
--- each arc without tokens
+-- the events of the nodes are there, each required order is given, and some numbering rises along
+-- each arc without tokens; of further events nothing is asked
 pub record IsAcceptable (s : Split) (g : Graph) : Type 0 where
-  pub known : AreKnown s g
   pub there : AreThere s g
   pub given : AreGiven s g
   pub rank : ℕ → ℕ
   pub rises : All (λ arc. arc.tokens ≡ 0 → rank arc.source < rank arc.target) g.arcs
 
--- a plan has the split design, and the graph with its events in the order of the nodes
+-- a plan has the split design, and the graph with the events of the nodes first, in the order of
+-- the nodes, and behind them all others that it has, in the order of the graph
 pub record IsPlanOf (s : Split) (g : Graph) (plan : Planned) : Type 0 where
   pub split : plan.split ≡ s
-  pub events : plan.graph.events ≡ split_events s
+  pub events : plan.graph.events ≡ split_events s ++ extra_events s g
   pub reorders : Reorders g plan.graph

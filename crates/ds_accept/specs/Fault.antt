@@ -9,9 +9,9 @@ use Rattle.ds_latch.specs.Plan.{split_events}
 use Rattle.ds_order.specs.Order.{IsCycle}
 use Rattle.ds_rank.specs.Rank.{HasFreeArc}
 use Rattle.ds_walk.specs.Sums.{AreLeastSums}
-use Rattle.ds_accept.specs.Accept.{AreKnown, AreThere, AreGiven, Gives, StandsAt}
+use Rattle.ds_accept.specs.Accept.{AreThere, AreGiven, Gives, StandsAt}
 use Rattle.ds_accept.specs.declared.fault.AcceptFault.{AcceptFault}
-use Rattle.ds_accept.specs.declared.fault.AcceptFault.TheVariants.{UnknownEvent, MissingEvent}
+use Rattle.ds_accept.specs.declared.fault.AcceptFault.TheVariants.{MissingEvent}
 use Rattle.ds_accept.specs.declared.fault.AcceptFault.TheVariants.{MissingOrder, TokenFreeCycle}
 use Rattle.ds_accept.specs.declared.fault.AcceptFault.TheVariants.{Memory}
 
@@ -49,12 +49,10 @@ IsFirstLacking s g k = IsFirstWithout (Contains g.events) (split_events s) k
 
 -- the fault is what the graph shows, and it shows none of those that come before
 abbrev pub IsAcceptFault : Split → Graph → AcceptFault → Type 0
-IsAcceptFault s g (UnknownEvent place) =
-    IsFirstWithout (Contains (split_events s)) g.events place
-IsAcceptFault s g (MissingEvent event) = AreKnown s g
-    × ((k : ℕ) × IsFirstLacking s g k × HoldsAt (λ e. e ≡ event) (split_events s) k)
-IsAcceptFault s g (MissingOrder from to tokens least numbers) = AreKnown s g × AreThere s g
+IsAcceptFault s g (MissingEvent event) =
+    (k : ℕ) × IsFirstLacking s g k × HoldsAt (λ e. e ≡ event) (split_events s) k
+IsAcceptFault s g (MissingOrder from to tokens least numbers) = AreThere s g
     × IsFirstMissing s g from to tokens × ShowsLeast g from to least numbers
-IsAcceptFault s g (TokenFreeCycle events) = AreKnown s g × AreThere s g × AreGiven s g
+IsAcceptFault s g (TokenFreeCycle events) = AreThere s g × AreGiven s g
     × IsCycle (HasFreeArc g) events
 IsAcceptFault s g Memory = ⊤

@@ -13,7 +13,7 @@ abbrev pub FaultsAreRefused : Type 0
 FaultsAreRefused = (s : Split) (g : Graph) (fault : AcceptFault) → fault ≢ Memory
     → IsAcceptFault s g fault → ¬ IsAcceptable s g
 
--- an acceptable graph is a plan's once its events stand in the order of the nodes
+-- an acceptable graph is a plan's once the events of the nodes stand first, in their order
 abbrev pub AcceptableIsAccepted : Type 0
 AcceptableIsAccepted = (s : Split) (g : Graph) → IsSplit s → length s.clusters ≤ 1048576 → IsKept g
     → IsAcceptable s g → IsAcceptedGraph s g

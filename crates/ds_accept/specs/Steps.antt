@@ -1,5 +1,6 @@
 -- What the steps of acceptance find.
-use Rattle.std.specs.Prelude.{◌≡◌, ⊤, ℕ, ◌<◌, ◌≤◌, ◌⊎◌, List, Some, length, slice_index}
+use Rattle.std.specs.Prelude.{◌≡◌, ⊤, ℕ, ◌<◌, ◌≤◌, ◌⊎◌, List, [], ◌∷◌, ◌++◌, Some, length}
+use Rattle.std.specs.Prelude.{slice_index}
 use Rattle.std.specs.Prelude.{slice_index_or, All, AllPairs, Any, Contains, IsPermutation, map}
 use Rattle.std.specs.List.{HoldsAt}
 use Rattle.ds_marked.specs.Graph.{Graph, IsKept, StandsBefore}
@@ -10,10 +11,12 @@ use Rattle.ds_rank.specs.Rank.{AreRanks, HasFreeArc}
 use Rattle.ds_walk.specs.Given.{IsFirstUnmet, IsGiven}
 use Rattle.ds_latch.specs.Node.{Split}
 use Rattle.ds_latch.specs.Plan.{IsPlan, Reorders, split_events}
-use Rattle.ds_accept.specs.Accept.{IsAcceptable}
+use Rattle.ds_accept.specs.Accept.{IsAcceptable, extra_events, others_of}
+use Rattle.ds_accept.specs.Codes.{Code, code_of, IsMissingCode, StandsAtCode}
 use Rattle.ds_accept.specs.Fault.{IsFirstWithout, ShowsLeast}
 use Rattle.ds_accept.specs.declared.fault.AcceptFault.{AcceptFault}
 use Rattle.ds_accept.specs.declared.fault.AcceptFault.TheVariants as fault
+use Rattle.ds_accept.specs.declared.numbered.Numbered.{Numbered}
 use Rattle.ds_accept.specs.declared.places.Stop.{Stop}
 use Rattle.ds_accept.specs.declared.places.Stop.TheVariants.{First, Memory}
 
@@ -63,7 +66,6 @@ pub record AreWalked (g : Graph) (asked : List Arc) : Type 0 where
 
 -- the fault that no walk gives an order, or want of memory
 abbrev pub IsMissing : Graph → Arc → AcceptFault → Type 0
-IsMissing g order (fault.UnknownEvent place) = ⊥
 IsMissing g order (fault.MissingEvent event) = ⊥
 IsMissing g order (fault.MissingOrder from to tokens least numbers) =
     (order ≡ record { source = from; target = to; tokens = tokens })
@@ -74,7 +76,6 @@ IsMissing g order fault.Memory = ⊤
 -- a fault that no walk gives one of the orders, or that arcs without tokens lead in a circle, or
 -- want of memory
 abbrev pub IsUnmet : Graph → List Arc → AcceptFault → Type 0
-IsUnmet g asked (fault.UnknownEvent place) = ⊥
 IsUnmet g asked (fault.MissingEvent event) = ⊥
 IsUnmet g asked (fault.MissingOrder from to tokens least numbers) =
     (k : ℕ) × IsFirstUnmet g asked (Some k) × ShowsLeast g from to least numbers
@@ -87,34 +88,40 @@ IsUnmet g asked fault.Memory = ⊤
 abbrev pub EndsBefore : Arc → Arc → Type 0
 EndsBefore a b = (a.source < b.source) ⊎ ((a.source ≡ b.source) × (a.target < b.target))
 
--- a fault that an event of a graph is none of the nodes, or want of memory
-abbrev pub IsUnknown : List Event → List Event → AcceptFault → Type 0
-IsUnknown events required (fault.UnknownEvent place) =
-    IsFirstWithout (Contains required) events place
-IsUnknown events required (fault.MissingEvent event) = ⊥
-IsUnknown events required (fault.MissingOrder from to tokens least numbers) = ⊥
-IsUnknown events required (fault.TokenFreeCycle cycle) = ⊥
-IsUnknown events required fault.Memory = ⊤
-
 -- a fault that a graph lacks an event of a node, or want of memory
 abbrev pub IsLacking : List Event → List Event → AcceptFault → Type 0
-IsLacking required events (fault.UnknownEvent place) = ⊥
 IsLacking required events (fault.MissingEvent event) =
     (k : ℕ) × IsFirstWithout (Contains events) required k × HoldsAt (λ e. e ≡ event) required k
 IsLacking required events (fault.MissingOrder from to tokens least numbers) = ⊥
 IsLacking required events (fault.TokenFreeCycle cycle) = ⊥
 IsLacking required events fault.Memory = ⊤
 
--- a graph with these events, and the arcs of another between their places
-pub record IsMoved (g : Graph) (events : List Event) (place : ℕ → ℕ) (to : Graph) : Type 0 where
-  pub same : to.events ≡ events
-  pub arcs : IsPermutation (map (moved place) g.arcs) to.arcs
+-- the number of an event behind these codes: its place among them, or else the next one behind the
+-- events, where it is put
+abbrev pub IsNumberOf : List Code → Event → List Event → List Event → ℕ → Type 0
+IsNumberOf codes event events more number =
+    (StandsAtCode codes (code_of event) number × (more ≡ events))
+    ⊎ (IsMissingCode codes (code_of event) × (more ≡ events ++ event ∷ [])
+    × (number ≡ length events))
+
+-- these events first, then the others of a list, and for each of the list its place among these
+pub record AreNumbered (known events : List Event) (all : Numbered) : Type 0 where
+  pub same : all.events ≡ known ++ others_of known events
+  pub places : ArePlaces events all.events all.numbers.items
+
+-- a graph with these events first and then all others of another one, and the arcs of that one
+-- between their places
+pub record IsMoved (g : Graph) (known : List Event) (to : Graph) : Type 0 where
+  pub events : to.events ≡ known ++ others_of known g.events
+  pub numbers : List ℕ
+  pub are : ArePlaces g.events to.events numbers
+  pub arcs : IsPermutation (map (moved (slice_index numbers)) g.arcs) to.arcs
   pub kept : IsKept to
 
--- the graph is acceptable, and is this one with its events in the order of the nodes
+-- the graph is acceptable, and is this one with the events of the nodes first and in their order
 pub record IsOrdered (s : Split) (g to : Graph) : Type 0 where
   pub acceptable : IsAcceptable s g
-  pub events : to.events ≡ split_events s
+  pub events : to.events ≡ split_events s ++ extra_events s g
   pub reorders : Reorders g to
   pub plan : IsPlan s to
   pub kept : IsKept to

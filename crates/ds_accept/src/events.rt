@@ -1,7 +1,7 @@
-//! The events of the graph against those of the nodes.
+//! The events of the nodes against those of the graph.
 ghost use Rattle.std.specs.Prelude.{◌≡◌, ◌⊎◌, MatchResult};
 ghost use Rattle.ds_marked.specs.Graph.{IsKept};
-ghost use Rattle.ds_accept.specs.Steps.{ArePlaces, IsLacking, IsUnknown};
+ghost use Rattle.ds_accept.specs.Steps.{ArePlaces, IsLacking};
 ghost use Rattle.ds_accept.specs.declared.fault.AcceptFault.TheVariants.{Memory, MissingEvent};
 
 use crate::AcceptFault;
@@ -11,32 +11,16 @@ use ds_base::EventId;
 use ds_marked::{Event, Marked};
 use std::alloc::Global;
 
-// The number of each event of a graph among the events of another.
-pub(crate) fn numbers_of(
-    alloc: Global,
-    graph: &Marked,
-    required: &Marked,
-) -> Result<Vec<EventId>, AcceptFault>
-    ensures value { MatchResult result (λ v. ArePlaces graph.now.events required.now.events v.items)
-        (IsUnknown graph.now.events required.now.events) }
-    ensures kept { IsKept graph.now × IsKept required.now }
-{
-    let events = graph.events();
-    match places_in(alloc, events, required.events()) {
-        Ok(numbers) => Ok(numbers),
-        Err(Stop::First(place)) => Err(AcceptFault::UnknownEvent(EventId::new(place as u32))),
-        Err(Stop::Memory) => Err(AcceptFault::Memory),
-    }
-}
-
 // The place of each required event in a graph.
 pub(crate) fn places_of(
     alloc: Global,
     required: &Marked,
     graph: &Marked,
 ) -> Result<Vec<EventId>, AcceptFault>
-    ensures { MatchResult result (λ v. ArePlaces required.now.events graph.now.events v.items)
+    ensures value { MatchResult result
+        (λ v. ArePlaces required.now.events graph.now.events v.items)
         (IsLacking required.now.events graph.now.events) }
+    ensures kept { IsKept required.now × IsKept graph.now }
 {
     let events = required.events();
     match places_in(alloc, events, graph.events()) {

@@ -9,8 +9,6 @@ use std::alloc::AllocError;
 /// the graph.
 #[derive(Drop)]
 pub enum AcceptFault {
-    /// The first event of the graph that is no node's.
-    UnknownEvent(EventId),
     /// The first event of a node, in the order of the nodes, that the graph lacks.
     MissingEvent(Event),
     /// The first required order, in the order of the nodes by source and then by target, that no

@@ -6,7 +6,7 @@ pub fn faults_are_refused()
     ensures { FaultsAreRefused }
 {}
 
-/// An acceptable graph is accepted once its events stand in the order of the nodes.
+/// An acceptable graph is accepted once the events of the nodes stand first, in their order.
 pub fn acceptable_is_accepted()
     ensures { AcceptableIsAccepted }
 {}

@@ -7,7 +7,7 @@ ghost use Rattle.ds_accept.specs.Steps.{IsOrdered};
 ghost use Rattle.ds_accept.specs.declared.fault.AcceptFault.TheVariants.{Memory};
 
 use crate::AcceptFault;
-use crate::events::{numbers_of, places_of};
+use crate::events::places_of;
 use crate::orders::orders_asked;
 use crate::renumber::ordered;
 use crate::walks::check_walks;
@@ -22,7 +22,7 @@ pub fn accept<'a>(
     latches: Latches<'a>,
     graph: Marked,
 ) -> Result<Plan<'a>, (Latches<'a>, Marked, AcceptFault)>
-    // An acceptable graph, with its events in the order of the nodes.
+    // An acceptable graph, with the events of the nodes first, in their order, then all others.
     ensures ok { IfOk result (IsPlanOf latches.entry graph) }
     ensures ok_kept { IfOk result (λ p. IsKept p.graph) }
     ensures ok_accepted { IfOk result (λ _. IsAcceptable latches.entry graph) }
@@ -39,15 +39,14 @@ pub fn accept<'a>(
     }
 }
 
-// The graph with its events in the order of the nodes, or the fault.
+// The graph with the events of the nodes first, or the fault.
 fn check(alloc: Global, latches: &Latches<'_>, graph: &Marked) -> Result<Marked, AcceptFault>
     ensures checked { MatchResult result (IsOrdered latches.now graph.now)
         (IsAcceptFault latches.now graph.now) }
 {
     let required = controller(alloc, latches)?;
-    let numbers = numbers_of(alloc, graph, &required)?;
     let places = places_of(alloc, &required, graph)?;
-    let other = ordered(alloc, graph, &required, numbers.as_slice())?;
+    let other = ordered(alloc, graph, &required)?;
     let asked = orders_asked(alloc, &required, &other, places.as_slice())?;
     check_walks(alloc, graph, asked.as_slice())?;
     Ok(other)

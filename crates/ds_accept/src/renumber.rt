@@ -1,24 +1,27 @@
-//! The same events and arcs, the arcs with other numbers.
-ghost use Rattle.std.specs.Prelude.{◌≡◌, ◌<◌, length, map, slice_index, IfOk};
+//! The same events and arcs, in another order and with other numbers.
+ghost use Rattle.std.specs.Prelude.{◌≡◌, ◌<◌, length, map, slice_index, All, Contains, IfOk};
 ghost use Rattle.ds_marked.specs.Graph.{AreEnds};
-ghost use Rattle.ds_accept.specs.Steps.{ArePlaces, IsMoved, moved};
+ghost use Rattle.ds_accept.specs.Steps.{IsMoved, moved};
 
+use crate::numbered::{Numbered, numbers_of};
 use ds_base::{EventId, OutOfMemory, Seq};
 use ds_marked::{Arc, Event, Marked};
 use std::alloc::{AllocError, Global};
 
-// The graph with the required events in place of its own, each of which has a number among them.
+// The graph with the required events first, all of which it has, and then its others.
 pub(crate) fn ordered(
     alloc: Global,
     graph: &Marked,
     required: &Marked,
-    numbers: &[EventId],
 ) -> Result<Marked, OutOfMemory>
-    requires { ArePlaces graph.now.events required.now.events numbers.now }
-    ensures { IfOk result (IsMoved graph.now required.now.events (slice_index numbers.now)) }
+    requires { All (Contains graph.now.events) required.now.events }
+    ensures { IfOk result (IsMoved graph.now required.now.events) }
 {
-    let arcs = moved_arcs(alloc, graph.arcs(), numbers)?;
-    let events = copies(alloc, required.events())?;
+    let known = required.events();
+    let own = graph.events();
+    let all = numbers_of(alloc, known, own)?;
+    let Numbered { events, numbers } = all;
+    let arcs = moved_arcs(alloc, graph.arcs(), numbers.as_slice())?;
     Marked::new(alloc, events, arcs)
 }
 
@@ -52,7 +55,7 @@ fn moved_arc(arc: &Arc, places: &[EventId]) -> Arc
 }
 
 // The same events.
-fn copies(alloc: Global, events: &[Event]) -> Result<Seq<Event>, OutOfMemory>
+pub(crate) fn copies(alloc: Global, events: &[Event]) -> Result<Seq<Event>, OutOfMemory>
     ensures { IfOk result (λ others. others ≡ events.now) }
 {
     let mut others = Seq::new(alloc);

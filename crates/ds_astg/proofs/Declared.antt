@@ -8,23 +8,28 @@ use Rattle.std.proofs.Math.Seq.{get_or-append_seam}
 use Rattle.std.proofs.lemmas.List.Folds.{list_any_at}
 use Rattle.ds_base.specs.declared.number.Limit.TheVariants.{Signals as SignalsLimit}
 use Rattle.ds_names.specs.Names.{has_name, with_name}
-use Rattle.ds_astg.specs.Word.{is_signal}
-use Rattle.ds_astg.specs.Line.{declare}
+use Rattle.ds_astg.specs.Signals.{Declared, with_declared}
+use Rattle.ds_astg.specs.Place.{Places}
+use Rattle.ds_astg.specs.Line.{declare, may_declare}
+use Rattle.ds_astg.specs.declared.role.Role.{Role}
 use Rattle.ds_astg.specs.declared.fault.AstgKind.TheVariants.{BadWord, TooMany}
 
-module _ (word : List ℕ) (signals : List (List ℕ)) where
-  pub declare-bad : is_signal word ≡ false → declare word signals ≡ Err (BadWord word)
+module _ (role : Role) (ps : Places) (word : List ℕ) (signals : Declared) where
+  pub declare-bad : may_declare role ps word signals ≡ false → declare role ps word signals ≡ Err (BadWord word)
   declare-bad is = rw is refl
 
-  pub declare-known : is_signal word ≡ true → has_name signals word ≡ true → declare word signals ≡ Ok signals
+  pub declare-known : may_declare role ps word signals ≡ true → has_name signals.names word ≡ true → declare role ps word signals ≡ Ok signals
   declare-known is has = rw is (rw has refl)
 
-  pub declare-full : is_signal word ≡ true → has_name signals word ≡ false → 65536 ≤ length signals → declare word signals ≡ Err (TooMany SignalsLimit)
-  declare-full is has full = rw is (rw has (rw (le-ltb (length signals) 65536 full) refl))
+  pub declare-full : may_declare role ps word signals ≡ true → has_name signals.names word ≡ false → 65536 ≤ length signals.names
+      → declare role ps word signals ≡ Err (TooMany SignalsLimit)
+  declare-full is has full = rw is (rw has (rw (le-ltb (length signals.names) 65536 full) refl))
 
-  pub declare-new : is_signal word ≡ true → has_name signals word ≡ false → length signals < 65536 → declare word signals ≡ Ok (with_name signals word)
-  declare-new is has room = rw is (rw has (rw (lt-ltb (length signals) 65536 room) refl))
+  pub declare-new : may_declare role ps word signals ≡ true → has_name signals.names word ≡ false → length signals.names < 65536
+      → declare role ps word signals ≡ Ok (with_declared role word signals)
+  declare-new is has room = rw is (rw has (rw (lt-ltb (length signals.names) 65536 room) refl))
 
+module _ (word : List ℕ) (signals : List (List ℕ)) where
   -- signals stay distinct
   pub distinct : AllPairs (λ a b. a ≢ b) signals → AllPairs (λ a b. a ≢ b) (with_name signals word)
   distinct all = elim (cases_Bool (has_name signals word)) [

@@ -17,7 +17,7 @@ use Rattle.ds_astg.specs.Text.{arc_at, is_further, place_name}
 use Rattle.ds_astg.specs.Written.{IsReadable, target_word, arc_words, lists_below}
 use Rattle.ds_astg.specs.declared.place.Place.{Place}
 use Rattle.ds_astg.specs.declared.fault.AstgKind.{AstgKind}
-use Rattle.ds_astg.proofs.Names.{key_at, keys_differ, key_itself, texts_read, le_source}
+use Rattle.ds_astg.proofs.Names.{key_at, keys_differ, key_itself, plain, no_dummy, texts_read, le_source}
 use Rattle.ds_astg.proofs.Written.{places_are_read}
 use Rattle.ds_astg.proofs.Built.{Built, added_next, built_next}
 
@@ -44,7 +44,7 @@ all_of-append {S = S} step (x ∷ xs) ys s = go (step x s) (λ t. all_of-append 
 module _ (signals : List (List ℕ)) (g : Graph) (readable : IsReadable signals g) (line : ℕ) where
   -- the place of an arc, behind those before it
   pub link_next : (k : ℕ) (ps : Places) → Built g k (first_target g) no_tokens ps → k < length g.arcs
-      → (qs : Places) × (link_word signals line (EventNode (arc_at g k).source) (target_word g k) ps ≡ Ok qs) × Built g (k + 1) (first_target g) no_tokens qs
+      → (qs : Places) × (link_word (plain signals) line (EventNode (arc_at g k).source) (target_word g k) ps ≡ Ok qs) × Built g (k + 1) (first_target g) no_tokens qs
   link_next k ps built next =
       let none : Arc = record { source = 0; target = 0; tokens = 0 } in
       let s = (arc_at g k).source in
@@ -56,7 +56,7 @@ module _ (signals : List (List ℕ)) (g : Graph) (readable : IsReadable signals 
             let key_is : key_at g k ≡ Named name = rw further refl in
             let word_is : target_word g k ≡ name = rw further refl in
             let all = with_new ps (key_at g k) (named line) in
-            let read : node_of signals name ≡ Ok (PlaceNode name) = places_are_read signals k (omega (arith, next, readable.few_arcs)) in
+            let read : node_of (plain signals) name ≡ Ok (PlaceNode name) = places_are_read (plain signals) k (omega (arith, next, readable.few_arcs)) (no_dummy signals (place_name k)) in
             let size : length ps.places ≡ k = built.place_count in
             let add : with_place (Named name) (named line) ps ≡ Ok all = subst (λ (key : Key). with_place key (named line) ps ≡ Ok all) key_is
             (added_next signals g readable (first_target g) no_tokens k ps built next (named line)) in
@@ -69,19 +69,19 @@ module _ (signals : List (List ℕ)) (g : Graph) (readable : IsReadable signals 
             let done : into_place line s name ps ≡ Ok (with_new ps (key_at g k) (from_event (named line) s)) =
             rw (add, number) (put ∙ ap (λ (qs : Places). Ok qs) last) in (
               with_new ps (key_at g k) (from_event (named line) s),
-              (let h : link_word signals line (EventNode s) (target_word g k) ps ≡ into_place line s name ps = rw (word_is, read) refl in h ∙ done),
+              (let h : link_word (plain signals) line (EventNode s) (target_word g k) ps ≡ into_place line s name ps = rw (word_is, read) refl in h ∙ done),
               built_next signals g readable (first_target g) no_tokens k ps built (from_event (named line) s) refl (rw further refl) refl,
             ))
         | inr first ↦ (
             let key_is : key_at g k ≡ Between s t = rw first refl in
             let word_is : target_word g k ≡ text_of_event g t = rw first refl in
             let place = between line s t in
-            let read : node_of signals (text_of_event g t) ≡ Ok (EventNode t) = texts_read signals g readable t ends.1 in
+            let read : node_of (plain signals) (text_of_event g t) ≡ Ok (EventNode t) = texts_read signals g readable t ends.1 in
             let add : with_place (Between s t) place ps ≡ Ok (with_new ps (key_at g k) place) =
             subst (λ (key : Key). with_place key place ps ≡ Ok (with_new ps (key_at g k) place)) key_is
             (added_next signals g readable (first_target g) no_tokens k ps built next place) in (
               with_new ps (key_at g k) place,
-              (let h : link_word signals line (EventNode s) (target_word g k) ps ≡ with_place (Between s t) place ps = rw (word_is, read) refl in h ∙ add),
+              (let h : link_word (plain signals) line (EventNode s) (target_word g k) ps ≡ with_place (Between s t) place ps = rw (word_is, read) refl in h ∙ add),
               built_next signals g readable (first_target g) no_tokens k ps built place refl (rw first refl) refl,
             ))
       ]
@@ -118,12 +118,12 @@ module _ (signals : List (List ℕ)) (g : Graph) (readable : IsReadable signals 
   ]
 
   pub targets_read : (v : ℕ) (m : ℕ) (ps : Places) → Built g m (first_target g) no_tokens ps → IsPrefix v 0 m → (k : ℕ) → k ≤ length g.arcs
-      → (n : ℕ) × (qs : Places) × (all_of (link_word signals line (EventNode v)) (lists_below (arc_words g v) k) ps ≡ Ok qs) × Built g n (first_target g) no_tokens qs × IsPrefix v k n
+      → (n : ℕ) × (qs : Places) × (all_of (link_word (plain signals) line (EventNode v)) (lists_below (arc_words g v) k) ps ≡ Ok qs) × Built g n (first_target g) no_tokens qs × IsPrefix v k n
   targets_read v m ps built prefix zero most = (m, ps, refl, built, prefix)
   targets_read v m ps built prefix (suc k) most =
       let (n, qs, run, so_far, before) = targets_read v m ps built prefix k (omega (arith, most)) in
       let next : k < length g.arcs = omega (arith, most) in
-      let step = link_word signals line (EventNode v) in
+      let step = link_word (plain signals) line (EventNode v) in
       let split : all_of step (lists_below (arc_words g v) (suc k)) ps ≡ all_of step (arc_words g v k) qs =
       all_of-append step (lists_below (arc_words g v) k) (arc_words g v k) ps ∙ ap (λ (r : Result Places AstgKind). then_do r (all_of step (arc_words g v k))) run in
       elim (cases_Bool ((arc_at g k).source == v)) [
@@ -132,7 +132,7 @@ module _ (signals : List (List ℕ)) (g : Graph) (readable : IsReadable signals 
             let same : n ≡ k = is_next v k n before next e in
             let (rs, link_is, all) = link_next k qs (subst (λ (i : ℕ). Built g i (first_target g) no_tokens qs) same so_far) next in
             let words : arc_words g v k ≡ target_word g k ∷ [] = rw here refl in
-            let one : step (target_word g k) qs ≡ Ok rs = subst (λ (u : ℕ). link_word signals line (EventNode u) (target_word g k) qs ≡ Ok rs) e link_is in (
+            let one : step (target_word g k) qs ≡ Ok rs = subst (λ (u : ℕ). link_word (plain signals) line (EventNode u) (target_word g k) qs ≡ Ok rs) e link_is in (
               k + 1,
               rs,
               split ∙ (ap (λ (ws : List (List ℕ)). all_of step ws qs) words ∙ ap (λ (r : Result Places AstgKind). then_do r (all_of step [])) one),

@@ -12,6 +12,7 @@ pub mod Texts
 pub mod Turns
 pub mod Written
 pub mod Names
+pub mod Numbered
 pub mod Built
 pub mod EventLines
 pub mod Runs

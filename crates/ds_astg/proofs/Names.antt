@@ -1,31 +1,33 @@
 -- Names that are written for events and places of a graph.
-use Rattle.std.proofs.Common.{◌≡◌, ◌≢◌, ◌⊎◌, ℕ, zero, suc, ◌+◌, ◌-◌, ◌*◌, ◌^◌, drop, ◌<◌, ◌≤◌, Bool, true, false, List, [], ◌∷◌, ◌++◌, length, get_or, refl, sym, ◌∙◌, ap, subst, arith, inl, inr, Option, Ok, ◌&&◌, ◌==◌, codes, decimal, if◌then◌else◌, slice_get}
+use Rattle.std.proofs.Common.{◌≡◌, ◌≢◌, ℕ, ◌-◌, ◌^◌, drop, map, option_map, Some, None, ◌<◌, ◌≤◌, Bool, true, false, List, [], ◌∷◌, ◌++◌, length, get_or, refl, sym, ◌∙◌, ap, subst, arith, inl, inr, Option, Ok, ◌&&◌, ◌==◌, codes, decimal, if◌then◌else◌, slice_get}
 use Rattle.std.specs.List.{flat_map}
 use Rattle.std.specs.Option.{option_map_or}
 use Rattle.std.proofs.lemmas.Bool.{cases_Bool, cases_lt, eqb-true, eqb-false, lt-ltb, false≢true}
 use Rattle.std.specs.Int.Digits.{digits_of}
 use Rattle.std.proofs.lemmas.Int.Digits.{number_digits_of}
 use Rattle.std.proofs.lemmas.Fmt.{decimal_digit, decimal-digits_of}
-use Rattle.std.proofs.lemmas.Option.{slice_get_read}
-use Rattle.std.proofs.lemmas.List.{get_or_default}
+use Rattle.std.proofs.lemmas.Option.{slice_get-get_or, slice_get-map}
+use Rattle.ds_names.specs.Names.{place_of_name}
 use Rattle.ds_marked.specs.Graph.{Graph, StandsBefore, IsKept}
 use Rattle.ds_marked.specs.declared.marked.Arc.{Arc}
 use Rattle.ds_marked.specs.declared.marked.Event.{Event}
-use Rattle.ds_marked.specs.declared.marked.Kind.TheVariants.{Rise, Fall}
-use Rattle.ds_marked.specs.Log.{event_text, text_of_event}
+use Rattle.ds_marked.specs.declared.marked.Kind.TheVariants.{Rise}
+use Rattle.ds_marked.specs.Log.{event_text, sign, text_of_event}
+use Rattle.ds_astg.specs.Signals.{Declared, first_event, role_of}
+use Rattle.ds_astg.specs.declared.role.Role.TheVariants.{Signal, Dummy}
 use Rattle.ds_astg.specs.Node.{node_of}
 use Rattle.ds_astg.specs.Node.Node.{Event as EventNode}
 use Rattle.ds_astg.specs.Place.{Key, key_eq}
 use Rattle.ds_astg.specs.Place.Key.{Named, Between}
-use Rattle.ds_astg.specs.Read.{events_of}
-use Rattle.ds_astg.specs.Word.{first_byte}
+use Rattle.ds_astg.specs.Read.{all_events, events_of}
+use Rattle.ds_astg.specs.Word.{first_byte, is_signal}
 use Rattle.ds_astg.specs.Line.{head_of}
 use Rattle.ds_astg.specs.declared.head.Head.TheVariants.{Body}
 use Rattle.ds_astg.specs.Marking.{value_from}
 use Rattle.ds_astg.specs.Text.{arc_at, is_further, place_name}
 use Rattle.ds_astg.specs.Written.{IsReadable}
 use Rattle.ds_astg.proofs.Entries.{value_digits}
-use Rattle.ds_astg.proofs.Written.{events_are_read}
+use Rattle.ds_astg.proofs.Written.{event_at, events_are_read, signal_is}
 use Rattle.std.specs.Str.{bytes_eq}
 use Rattle.std.proofs.lemmas.Slice.Eq.{bytes_eq-Decides}
 
@@ -46,43 +48,67 @@ names_differ j k small_j small_k same =
 abbrev pub key_at : Graph → ℕ → Key
 key_at g k = if is_further g k then Named (place_name k) else Between (arc_at g k).source (arc_at g k).target
 
--- the event with a number
-event_at : (signals : List (List ℕ)) (v : ℕ) (d : Event) → v < length (flat_map events_of signals)
-    → (i : ℕ) × (i < length signals) × (((v ≡ 2 * i) × (get_or (flat_map events_of signals) v d ≡ record { signal = get_or signals i []; kind = Rise }))
-    ⊎ ((v ≡ 2 * i + 1) × (get_or (flat_map events_of signals) v d ≡ record { signal = get_or signals i []; kind = Fall })))
-event_at [] v d inside = absurd (omega arith)
-event_at (signal ∷ signals) zero d inside = (0, omega arith, inl (refl, refl))
-event_at (signal ∷ signals) (suc zero) d inside = (0, omega arith, inr (refl, refl))
-event_at (signal ∷ signals) (suc (suc v)) d inside =
-    let (i, less, is) = event_at signals v d (omega (arith, inside)) in (
-      suc i,
-      omega (arith, less),
-      elim is [
-        | inl (even, event) ↦ inl (omega (arith, even), event)
-        | inr (uneven, event) ↦ inr (omega (arith, uneven), event)
-      ],
-    )
+-- a word that does not begin with a dot
+pub body_is : (word : List ℕ) → first_byte word ≢ 46 → head_of word ≡ Body
+unfolding head_of
+body_is word ne = elim (cases_Bool (first_byte word == 46)) [
+  | inl e ↦ absurd (ne (eqb-true _ _ e))
+  | inr e ↦ rw e refl
+]
 
-text_is : (g : Graph) (events : List Event) (v : ℕ) (e : Event) → g.events ≡ events → v < length events → get_or events v e ≡ e → text_of_event g v ≡ event_text e
-text_is g events v e same inside is =
-    ap (λ (es : List Event). option_map_or event_text (slice_get es v) []) same
-    ∙ ap (λ (o : Option Event). option_map_or event_text o []) (slice_get_read events (length events) v e refl inside (sym is))
+first_of : (word more : List ℕ) → 0 < length word → first_byte (word ++ more) ≡ first_byte word
+first_of [] more some = absurd (omega arith)
+first_of (byte ∷ word) more some = refl
 
--- the text of an event of signals
-pub texts_read : (signals : List (List ℕ)) (g : Graph) → IsReadable signals g → (v : ℕ) → v < length g.events
-    → node_of signals (text_of_event g v) ≡ Ok (EventNode v)
-texts_read signals g readable v inside =
-    let within : v < length (flat_map events_of signals) = subst (λ (es : List Event). v < length es) readable.events inside in
-    let d : Event = record { signal = []; kind = Rise } in
-    let (i, less, is) = event_at signals v d within in
-    let free = readable.names i [] less in
-    let read = events_are_read signals i readable.distinct less free in
-    elim is [
-      | inl (even, event) ↦ ap (node_of signals) (text_is g (flat_map events_of signals) v (record { signal = get_or signals i []; kind = Rise }) readable.events within
-          (get_or_default (flat_map events_of signals) v _ d within ∙ event)) ∙ (read.0 ∙ ap (λ (n : ℕ). Ok (EventNode n)) (sym even))
-      | inr (uneven, event) ↦ ap (node_of signals) (text_is g (flat_map events_of signals) v (record { signal = get_or signals i []; kind = Fall }) readable.events within
-          (get_or_default (flat_map events_of signals) v _ d within ∙ event)) ∙ (read.1 ∙ ap (λ (n : ℕ). Ok (EventNode n)) (sym uneven))
-    ]
+-- signals without dummies among them
+abbrev pub plain : List (List ℕ) → Declared
+plain signals = record { names = signals; roles = map (λ _. Signal) signals }
+
+pub plain_events : (signals : List (List ℕ)) → flat_map events_of signals ≡ all_events signals (map (λ _. Signal) signals)
+plain_events [] = refl
+plain_events (signal ∷ signals) = ap (λ (es : List Event). events_of signal ++ es) (plain_events signals)
+
+pub no_dummy : (signals : List (List ℕ)) (name : List ℕ) → role_of (plain signals) name ≢ Some Dummy
+no_dummy signals name is = other (slice_get signals (place_of_name signals name)) (sym (slice_get-map (λ (_ : List ℕ). Signal) signals (place_of_name signals name)) ∙ is)
+  where
+    other : (name : Option (List ℕ)) → option_map (λ _. Signal) name ≡ Some Dummy → ⊥
+    other None e = cc
+    other (Some word) e = cc
+
+module _ (signals : List (List ℕ)) (g : Graph) (readable : IsReadable signals g) (v : ℕ) (inside : v < length g.events) where
+  -- the event with a number
+  event : Event
+  event = get_or g.events v (record { signal = []; kind = Rise })
+
+  there : slice_get g.events v ≡ Some event
+  unfolding event
+  there = slice_get-get_or g.events v (record { signal = []; kind = Rise }) inside
+
+  listed : slice_get (all_events signals (map (λ _. Signal) signals)) v ≡ Some event
+  listed = ap (λ (es : List Event). slice_get es v) (sym (readable.events ∙ plain_events signals)) ∙ there
+
+  text_is : text_of_event g v ≡ event_text event
+  text_is = ap (λ (o : Option Event). option_map_or event_text o []) there
+
+  -- its signal
+  signal_at : (i : ℕ) × (i < length signals) × (event.signal ≡ get_or signals i [])
+  signal_at =
+      let (i, role, less, role_is, one) = event_at signals (map (λ _. Signal) signals) v event listed in
+      (i, less, signal_is role (first_event (map (λ _. Signal) signals) i) (get_or signals i []) v event one)
+
+  -- the text of an event of signals
+  pub texts_read : node_of (plain signals) (text_of_event g v) ≡ Ok (EventNode v)
+  texts_read =
+      let (i, less, is) = signal_at in
+      ap (node_of (plain signals)) text_is ∙ events_are_read (plain signals) v event readable.distinct listed (ap is_signal is ∙ readable.names i [] less)
+
+  -- it does not begin with a dot
+  pub dotless : head_of (text_of_event g v) ≡ Body
+  dotless =
+      let (i, less, is) = signal_at in
+      let some : 0 < length event.signal = subst (λ (s : List ℕ). 0 < length s) (sym is) (readable.some i [] less) in
+      ap head_of text_is ∙ body_is (event_text event) (λ e. readable.undotted i [] less
+      (ap first_byte (sym is) ∙ (sym (first_of event.signal (sign event.kind) some) ∙ e)))
 
 pub le_source : (a b : Arc) → StandsBefore a b → a.source ≤ b.source
 le_source a b (inl less) = omega arith
@@ -148,29 +174,3 @@ keys_differ g kept few j k less inside = elim (cases_Bool (is_further g k)) [
 pub key_itself : (key : Key) → key_eq key key ≡ true
 key_itself (Named name) = (bytes_eq-Decides name name).1 refl
 key_itself (Between u v) = rw (eq_true u u refl, eq_true v v refl) refl
-
--- the text of an event does not begin with a dot
-pub body_is : (word : List ℕ) → first_byte word ≢ 46 → head_of word ≡ Body
-unfolding head_of
-body_is word ne = elim (cases_Bool (first_byte word == 46)) [
-  | inl e ↦ absurd (ne (eqb-true _ _ e))
-  | inr e ↦ rw e refl
-]
-
-first_of : (word more : List ℕ) → 0 < length word → first_byte (word ++ more) ≡ first_byte word
-first_of [] more some = absurd (omega arith)
-first_of (byte ∷ word) more some = refl
-
-pub dotless : (signals : List (List ℕ)) (g : Graph) → IsReadable signals g → (v : ℕ) → v < length g.events → head_of (text_of_event g v) ≡ Body
-dotless signals g readable v inside =
-    let within : v < length (flat_map events_of signals) = subst (λ (es : List Event). v < length es) readable.events inside in
-    let d : Event = record { signal = []; kind = Rise } in
-    let (i, less, is) = event_at signals v d within in
-    let some = readable.some i [] less in
-    let undotted = readable.undotted i [] less in
-    elim is [
-      | inl (even, event) ↦ ap head_of (text_is g (flat_map events_of signals) v (record { signal = get_or signals i []; kind = Rise }) readable.events within
-          (get_or_default (flat_map events_of signals) v _ d within ∙ event)) ∙ body_is _ (λ e. undotted (sym (first_of (get_or signals i []) (codes "+") some) ∙ e))
-      | inr (uneven, event) ↦ ap head_of (text_is g (flat_map events_of signals) v (record { signal = get_or signals i []; kind = Fall }) readable.events within
-          (get_or_default (flat_map events_of signals) v _ d within ∙ event)) ∙ body_is _ (λ e. undotted (sym (first_of (get_or signals i []) (codes "-") some) ∙ e))
-    ]

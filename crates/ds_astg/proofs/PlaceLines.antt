@@ -13,7 +13,7 @@ use Rattle.ds_marked.specs.Log.{text_of_event}
 use Rattle.ds_astg.specs.Text.{arc_at, is_further, place_name}
 use Rattle.ds_astg.specs.Written.{IsReadable, lists_below, place_lines}
 use Rattle.ds_astg.specs.declared.fault.AstgKind.{AstgKind}
-use Rattle.ds_astg.proofs.Names.{key_at, texts_read, body_is}
+use Rattle.ds_astg.proofs.Names.{key_at, plain, no_dummy, texts_read, body_is}
 use Rattle.ds_astg.proofs.Written.{places_are_read}
 use Rattle.ds_astg.proofs.Built.{Built, number_is, stands_there, built_set}
 use Rattle.ds_astg.proofs.EventLines.{first_target, no_tokens}
@@ -55,7 +55,7 @@ same_below j k ne = elim (cases_lt k j) [
 
 module _ (signals : List (List ℕ)) (g : Graph) (readable : IsReadable signals g) where
   place_line_run : (line j : ℕ) (ps : Places) → Built g (length g.arcs) (placed_target g j) no_tokens ps → j < length g.arcs → is_further g j ≡ true
-      → (graph_line signals line (place_name j ∷ text_of_event g (arc_at g j).target ∷ []) ps ≡ Ok (with_place_at ps j (to_event (place_at ps j) (arc_at g j).target)))
+      → (graph_line (plain signals) line (place_name j ∷ text_of_event g (arc_at g j).target ∷ []) ps ≡ Ok (with_place_at ps j (to_event (place_at ps j) (arc_at g j).target)))
       × Built g (length g.arcs) (placed_target g (suc j)) no_tokens (with_place_at ps j (to_event (place_at ps j) (arc_at g j).target))
   place_line_run line j ps built inside further =
       let n = length g.arcs in
@@ -64,27 +64,27 @@ module _ (signals : List (List ℕ)) (g : Graph) (readable : IsReadable signals 
       let none : Arc = record { source = 0; target = 0; tokens = 0 } in
       let ends = readable.kept.ends j none inside in
       let key_is : key_at g j ≡ Named name = rw further refl in
-      let read : node_of signals name ≡ Ok (PlaceNode name) = places_are_read signals j (omega (arith, inside, readable.few_arcs)) in
-      let event : node_of signals (text_of_event g t) ≡ Ok (EventNode t) = texts_read signals g readable t ends.1 in
+      let read : node_of (plain signals) name ≡ Ok (PlaceNode name) = places_are_read (plain signals) j (omega (arith, inside, readable.few_arcs)) (no_dummy signals (place_name j)) in
+      let event : node_of (plain signals) (text_of_event g t) ≡ Ok (EventNode t) = texts_read signals g readable t ends.1 in
       let has : has_place ps (Named name) ≡ true = ap (has_place ps) (sym key_is) ∙ stands_there signals g readable (placed_target g j) no_tokens n ps built j inside in
       let number : number_of ps (Named name) ≡ j = ap (number_of ps) (sym key_is) ∙ number_is signals g readable (placed_target g j) no_tokens n ps built (omega arith) j inside in
       let lacks : (place_at ps j).target ≡ None = built.targets j inside ∙ (let f : placed_target g j j ≡ first_target g j = rw (le-ltb j j (omega arith)) refl in f ∙ rw further refl) in
       let stays : with_place (Named name) (named line) ps ≡ Ok ps = rw has refl in
       let put : with_target j name t ps ≡ Ok (with_place_at ps j (to_event (place_at ps j) t)) = rw lacks refl in
-      let one : link_word signals line (PlaceNode name) (text_of_event g t) ps ≡ with_target (number_of ps (Named name)) name t ps = rw event refl in
-      let done : link_word signals line (PlaceNode name) (text_of_event g t) ps ≡ Ok (with_place_at ps j (to_event (place_at ps j) t)) = one ∙ (ap (λ (k : ℕ). with_target k name t ps) number ∙ put) in
-      let all : link_words signals line (PlaceNode name) (text_of_event g t ∷ []) ps ≡ Ok (with_place_at ps j (to_event (place_at ps j) t)) =
-      ap (λ (r : Result Places AstgKind). then_do r (all_of (link_word signals line (PlaceNode name)) [])) done in
-      let whole : graph_line signals line (name ∷ text_of_event g t ∷ []) ps ≡ then_do (with_place (Named name) (named line) ps) (link_words signals line (PlaceNode name) (text_of_event g t ∷ [])) =
+      let one : link_word (plain signals) line (PlaceNode name) (text_of_event g t) ps ≡ with_target (number_of ps (Named name)) name t ps = rw event refl in
+      let done : link_word (plain signals) line (PlaceNode name) (text_of_event g t) ps ≡ Ok (with_place_at ps j (to_event (place_at ps j) t)) = one ∙ (ap (λ (k : ℕ). with_target k name t ps) number ∙ put) in
+      let all : link_words (plain signals) line (PlaceNode name) (text_of_event g t ∷ []) ps ≡ Ok (with_place_at ps j (to_event (place_at ps j) t)) =
+      ap (λ (r : Result Places AstgKind). then_do r (all_of (link_word (plain signals) line (PlaceNode name)) [])) done in
+      let whole : graph_line (plain signals) line (name ∷ text_of_event g t ∷ []) ps ≡ then_do (with_place (Named name) (named line) ps) (link_words (plain signals) line (PlaceNode name) (text_of_event g t ∷ [])) =
       rw read refl in (
-        whole ∙ (ap (λ (r : Result Places AstgKind). then_do r (link_words signals line (PlaceNode name) (text_of_event g t ∷ []))) stays ∙ all),
+        whole ∙ (ap (λ (r : Result Places AstgKind). then_do r (link_words (plain signals) line (PlaceNode name) (text_of_event g t ∷ []))) stays ∙ all),
         built_set signals g readable (placed_target g j) no_tokens n ps built j inside (to_event (place_at ps j) t) (placed_target g (suc j)) no_tokens
             (built.sources j inside) (let h : placed_target g (suc j) j ≡ Some t = rw (lt-ltb j (suc j) (omega arith)) refl in sym h) (built.marks j inside)
             (λ k low ne. ap (λ (b : Bool). if b then Some (arc_at g k).target else first_target g k) (same_below j k ne)) (λ k low ne. refl),
       )
 
   pub places_run : (line j : ℕ) (ps : Places) → j ≤ length g.arcs → Built g (length g.arcs) (first_target g) no_tokens ps
-      → (qs : Places) × Runs signals line (lists_below (place_lines g) j) ps qs × Built g (length g.arcs) (placed_target g j) no_tokens qs
+      → (qs : Places) × Runs (plain signals) line (lists_below (place_lines g) j) ps qs × Built g (length g.arcs) (placed_target g j) no_tokens qs
   places_run line zero ps most built = (
     ps,
     refl,
@@ -101,15 +101,15 @@ module _ (signals : List (List ℕ)) (g : Graph) (readable : IsReadable signals 
             let lines : place_lines g j ≡ (place_name j ∷ text_of_event g (arc_at g j).target ∷ []) ∷ [] = rw further refl in
             let rs = with_place_at qs j (to_event (place_at qs j) (arc_at g j).target) in (
               rs,
-              runs_append signals line (lists_below (place_lines g) j) (place_lines g j) ps qs rs run
-                  (subst (λ (ls : List (List (List ℕ))). Runs signals here ls qs rs) (sym lines) (rs, body_is (place_name j) (λ e. absurd (omega (arith, e))), one, refl)),
+              runs_append (plain signals) line (lists_below (place_lines g) j) (place_lines g j) ps qs rs run
+                  (subst (λ (ls : List (List (List ℕ))). Runs (plain signals) here ls qs rs) (sym lines) (rs, body_is (place_name j) (λ e. absurd (omega (arith, e))), one, refl)),
               next,
             ))
         | inr first ↦ (
             let lines : place_lines g j ≡ [] = rw first refl in (
               qs,
-              runs_append signals line (lists_below (place_lines g) j) (place_lines g j) ps qs qs run
-                  (subst (λ (ls : List (List (List ℕ))). Runs signals here ls qs qs) (sym lines) refl),
+              runs_append (plain signals) line (lists_below (place_lines g) j) (place_lines g j) ps qs qs run
+                  (subst (λ (ls : List (List (List ℕ))). Runs (plain signals) here ls qs qs) (sym lines) refl),
               built_same g (length g.arcs) (placed_target g j) no_tokens (placed_target g (suc j)) no_tokens qs so_far
                   (λ k low. elim (cases_eq k j) [
                     | inl e ↦ (let a : placed_target g j j ≡ Some (arc_at g j).target = rw (le-ltb j j (omega arith), first) refl in

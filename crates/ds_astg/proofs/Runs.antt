@@ -4,6 +4,7 @@ use Rattle.std.proofs.lemmas.Bool.{cases_eq, le-ltb}
 use Rattle.ds_marked.specs.Graph.{Graph}
 use Rattle.ds_astg.specs.Word.{word_at}
 use Rattle.ds_astg.specs.Turn.{all_of}
+use Rattle.ds_astg.specs.Signals.{Declared}
 use Rattle.ds_astg.specs.Node.{node_of}
 use Rattle.ds_astg.specs.Node.Node.{Event as EventNode}
 use Rattle.ds_astg.specs.Place.{Places, no_places}
@@ -13,18 +14,18 @@ use Rattle.ds_astg.specs.declared.head.Head.TheVariants.{Body}
 use Rattle.ds_marked.specs.Log.{text_of_event}
 use Rattle.ds_astg.specs.Text.{arc_at}
 use Rattle.ds_astg.specs.Written.{IsReadable, arc_words, lists_below, line_behind, event_lines}
-use Rattle.ds_astg.proofs.Names.{texts_read, dotless}
+use Rattle.ds_astg.proofs.Names.{plain, texts_read, dotless}
 use Rattle.ds_astg.proofs.Soundness.{one_value}
 use Rattle.ds_astg.proofs.Built.{Built}
 use Rattle.ds_astg.proofs.EventLines.{IsPrefix, first_target, no_tokens, targets_read}
 
 -- lines of the graph part lead from places to places
-abbrev pub Runs : List (List ℕ) → ℕ → List (List (List ℕ)) → Places → Places → Type 0
+abbrev pub Runs : Declared → ℕ → List (List (List ℕ)) → Places → Places → Type 0
 Runs signals n [] ps qs = ps ≡ qs
 Runs signals n (words ∷ lines) ps qs =
     (rs : Places) × (head_of (word_at words 0) ≡ Body) × (graph_line signals n words ps ≡ Ok rs) × Runs signals (n + 1) lines rs qs
 
-pub runs_append : (signals : List (List ℕ)) (n : ℕ) (xs ys : List (List (List ℕ))) (ps qs rs : Places) → Runs signals n xs ps qs → Runs signals (n + length xs) ys qs rs
+pub runs_append : (signals : Declared) (n : ℕ) (xs ys : List (List (List ℕ))) (ps qs rs : Places) → Runs signals n xs ps qs → Runs signals (n + length xs) ys qs rs
     → Runs signals n (xs ++ ys) ps rs
 runs_append signals n [] ys ps qs rs first second =
     subst (λ (k : ℕ). Runs signals k ys ps rs) (let e : n + 0 ≡ n = omega arith in e) (subst (λ (p : Places). Runs signals (n + 0) ys p rs) (sym first) second)
@@ -37,7 +38,7 @@ runs_append signals n (words ∷ xs) ys ps qs rs (next, body, one, rest) second 
 )
 
 -- a line of an event
-pub line_run : (signals : List (List ℕ)) (n v : ℕ) (word : List ℕ) (words : List (List ℕ)) (ps qs : Places) → head_of word ≡ Body → node_of signals word ≡ Ok (EventNode v)
+pub line_run : (signals : Declared) (n v : ℕ) (word : List ℕ) (words : List (List ℕ)) (ps qs : Places) → head_of word ≡ Body → node_of signals word ≡ Ok (EventNode v)
     → all_of (link_word signals n (EventNode v)) words ps ≡ Ok qs → Runs signals n (line_behind word words) ps qs
 line_run signals n v word [] ps qs body read run = one_value ps qs run
 line_run signals n v word (next ∷ words) ps qs body read run = (
@@ -51,7 +52,7 @@ line_run signals n v word (next ∷ words) ps qs body read run = (
 
 -- all lines of events below a number
 pub events_run : (signals : List (List ℕ)) (g : Graph) (readable : IsReadable signals g) (n v : ℕ) → v ≤ length g.events
-    → (m : ℕ) × (qs : Places) × Runs signals n (lists_below (event_lines g) v) no_places qs × Built g m (first_target g) no_tokens qs × IsPrefix signals g readable n v 0 m
+    → (m : ℕ) × (qs : Places) × Runs (plain signals) n (lists_below (event_lines g) v) no_places qs × Built g m (first_target g) no_tokens qs × IsPrefix signals g readable n v 0 m
 events_run signals g readable n zero most = (0, no_places, refl, nothing, first)
   where
     nothing : Built g 0 (first_target g) no_tokens no_places
@@ -75,11 +76,11 @@ events_run signals g readable n (suc v) most =
     let line = n + length (lists_below (event_lines g) v) in
     let inside : v < length g.events = omega (arith, most) in
     let (k, qs, targets, all, before) = targets_read signals g readable line v m ps built (moved line v 0 m prefix) (length g.arcs) (omega arith) in
-    let here : Runs signals line (event_lines g v) ps qs = line_run signals line v (text_of_event g v) (lists_below (arc_words g v) (length g.arcs)) ps qs
+    let here : Runs (plain signals) line (event_lines g v) ps qs = line_run (plain signals) line v (text_of_event g v) (lists_below (arc_words g v) (length g.arcs)) ps qs
     (dotless signals g readable v inside) (texts_read signals g readable v inside) targets in (
       k,
       qs,
-      runs_append signals n (lists_below (event_lines g) v) (event_lines g v) no_places ps qs run here,
+      runs_append (plain signals) n (lists_below (event_lines g) v) (event_lines g v) no_places ps qs run here,
       all,
       record {
         most = before.most;

@@ -3,23 +3,25 @@ use Rattle.std.proofs.Common.{◌≡◌, ◌⊎◌, ℕ, ◌+◌, ◌*◌, ◌<�
 use Rattle.std.proofs.lemmas.Bool.{cases_Bool, cases_lt}
 use Rattle.std.proofs.lemmas.List.{length-append, length-set, get_or_past}
 use Rattle.std.proofs.lemmas.List.Elements.{All-cons, All-set, All-append}
-use Rattle.std.specs.Str.{bytes_eq}
 use Rattle.ds_names.specs.Names.{has_name, place_of_name}
-use Rattle.ds_astg.specs.Word.{is_signed, without_last, fall_of, last_byte, word_at, is_signal, has_slash, has_reserved}
+use Rattle.ds_astg.specs.Word.{is_signed, fall_of, last_byte, word_at, has_slash, has_reserved}
 use Rattle.ds_astg.specs.Turn.{then_do, all_of}
-use Rattle.ds_astg.specs.Node.{Node, node_of, event_in, event_node, event_number}
+use Rattle.ds_astg.specs.Signals.{Declared, count_events, event_count, role_of}
+use Rattle.ds_astg.specs.Node.{Node, node_of, node_by, event_in, event_by, first_number, name_in}
 use Rattle.ds_astg.specs.Node.Node.{Event as EventNode, Place as PlaceNode}
 use Rattle.ds_astg.specs.Place.{Places, Key, with_place, with_place_at, place_at, named, between, has_place, number_of}
 use Rattle.ds_astg.specs.Place.Key.{Named, Between}
 use Rattle.ds_astg.specs.Links.{may_be, from_event, to_event, with_source, with_target, link, link_word, link_words, with_node, source_line, graph_line}
 use Rattle.ds_astg.specs.Marking.{with_tokens, is_unmarked, mark_key, mark_by, mark, mark_all, key_in, place_text, tokens_of, entries_of}
-use Rattle.ds_astg.specs.Line.{State, declare, declare_all, signals_line, with_signals, with_places, with_marking, body_line, entries_line, step_by}
+use Rattle.ds_astg.specs.Line.{State, may_declare, declare, declare_all, declaration_line, with_signals, with_places, with_marking, body_line, entries_line, step_by}
 use Rattle.ds_astg.specs.declared.head.Head.{Head}
-use Rattle.ds_astg.specs.declared.head.Head.TheVariants.{Body, Model, Signals, Graph, Marking, End, Unknown}
+use Rattle.ds_astg.specs.declared.head.Head.TheVariants.{Body, Model, Signals, Dummies, Graph, Marking, End, Unknown}
+use Rattle.ds_astg.specs.declared.role.Role.{Role}
+use Rattle.ds_astg.specs.declared.role.Role.TheVariants.{Signal, Dummy}
 use Rattle.ds_astg.specs.Sound.{HasEnds, ArePlaces, IsSound}
 use Rattle.ds_astg.specs.declared.place.Place.{Place}
 use Rattle.ds_astg.specs.declared.fault.AstgKind.{AstgKind}
-use Rattle.ds_astg.proofs.Choices.{place_inside}
+use Rattle.ds_astg.proofs.Numbered.{count_push, room_at}
 
 -- a step that is done was done behind another that is done
 pub then_was : {A B : Type 0} (r : Result A AstgKind) (next : A → Result B AstgKind) (b : B) → then_do r next ≡ Ok b → (a : A) × (r ≡ Ok a) × (next a ≡ Ok b)
@@ -113,72 +115,75 @@ module _ (n : ℕ) where
   mark_by_sound entry (Some key) None ps qs sound is = absurd (cc)
   mark_by_sound entry (Some key) (Some tokens) ps qs sound is = mark_key_sound entry key tokens ps qs sound is
 
-  pub mark_sound : (signals : List (List ℕ)) (entry : List ℕ) (ps qs : Places) → ArePlaces n ps → mark signals entry ps ≡ Ok qs → ArePlaces n qs
+  pub mark_sound : (signals : Declared) (entry : List ℕ) (ps qs : Places) → ArePlaces n ps → mark signals entry ps ≡ Ok qs → ArePlaces n qs
   mark_sound signals entry ps qs sound is = elim (if_was (length entry == 0) _ _ qs is) [
     | inl (none, same) ↦ subst (ArePlaces n) (one_value ps qs same) sound
     | inr (some, next) ↦ mark_by_sound entry (key_in signals (place_text entry)) (tokens_of entry) ps qs sound next
   ]
 
--- an event that is found is one of the signals'
-event_low : (signals : List (List ℕ)) (word : List ℕ) (event : ℕ) → event_in signals word ≡ Some event → event < 2 * length signals
-event_low signals word event is = elim (cases_Bool (has_name signals (without_last word))) [
-  | inl has ↦ (
-      let inside : place_of_name signals (without_last word) < length signals = place_inside (bytes_eq (without_last word)) signals has in
-      let fall : fall_of word ≤ 1 = small (last_byte word == 43) in
-      let number : event ≡ event_number signals word = found (is_signed word && has_name signals (without_last word)) (event_number signals word) event is in
-      omega (arith, inside, fall, number))
-  | inr missing ↦ absurd (none (is_signed word) (has_name signals (without_last word)) (event_number signals word) event missing is)
-]
+-- an event that is found is one of the names'
+event_by_low : (role : Option Role) (first : ℕ) (word : List ℕ) (n event : ℕ) → IfSome role (λ r. first + event_count r ≤ n) → event_by role first word ≡ Some event → event < n
+event_by_low None first word n event room is = absurd (cc)
+event_by_low (Some Signal) first word n event room is =
+    let fall : fall_of word ≤ 1 = small (last_byte word == 43) in
+    let e : event ≡ first + fall_of word = found (is_signed word) (first + fall_of word) is in
+    omega (arith, fall, e, room)
   where
     small : (b : Bool) → (if b then 0 else 1) ≤ 1
     small true = omega arith
     small false = omega arith
 
-    found : (b : Bool) (number event : ℕ) → (if b then Some number else None) ≡ Some event → event ≡ number
-    found true number event e = cc
-    found false number event e = absurd (cc)
+    found : (b : Bool) (number : ℕ) → (if b then Some number else None) ≡ Some event → event ≡ number
+    found true number e = cc
+    found false number e = absurd (cc)
+event_by_low (Some Dummy) first word n event room is = (let e = found (is_signed word) is in omega (arith, e, room))
+  where
+    found : (b : Bool) → (if b then None else Some first) ≡ Some event → event ≡ first
+    found true e = absurd (cc)
+    found false e = cc
 
-    none : (a b : Bool) (number event : ℕ) → b ≡ false → (if a && b then Some number else None) ≡ Some event → ⊥
-    none true true number event e is = cc
-    none true false number event e is = cc
-    none false b number event e is = cc
+event_low : (signals : Declared) (word : List ℕ) (event : ℕ) → event_in signals word ≡ Some event → event < count_events signals.roles
+event_low signals word event is =
+    event_by_low (role_of signals (name_in word)) (first_number signals (name_in word)) word (count_events signals.roles) event
+    (room_at signals.roles (place_of_name signals.names (name_in word))) is
 
-event_node_low : (signals : List (List ℕ)) (word : List ℕ) (event : Option ℕ) (node : Node) → event ≡ event_in signals word → event_node word event ≡ Ok node → NodeIn (2 * length signals) node
+node_by_low : (signals : Declared) (word : List ℕ) (event : Option ℕ) (node : Node) → event ≡ event_in signals word → node_by word event ≡ Ok node
+    → NodeIn (count_events signals.roles) node
 unfolding NodeIn
-event_node_low signals word None node e is = absurd (cc)
-event_node_low signals word (Some event) node e is = subst (NodeIn (2 * length signals)) (one_value (EventNode event) node is) (event_low signals word event (sym e))
+node_by_low signals word None node e is = elim (if_was (is_signed word) _ _ node is) [
+  | inl (signed, fault) ↦ absurd (cc)
+  | inr (unsigned, place) ↦ subst (NodeIn (count_events signals.roles)) (one_value (PlaceNode word) node place) tt
+]
+node_by_low signals word (Some event) node e is =
+    subst (NodeIn (count_events signals.roles)) (one_value (EventNode event) node is) (event_low signals word event (sym e))
 
-pub node_low : (signals : List (List ℕ)) (word : List ℕ) (node : Node) → node_of signals word ≡ Ok node → NodeIn (2 * length signals) node
-unfolding NodeIn
+pub node_low : (signals : Declared) (word : List ℕ) (node : Node) → node_of signals word ≡ Ok node → NodeIn (count_events signals.roles) node
 node_low signals word node is = elim (if_was (has_slash word) _ _ node is) [
   | inl (slash, fault) ↦ absurd (cc)
   | inr (no_slash, next) ↦ elim (if_was (has_reserved word) _ _ node next) [
     | inl (reserved, fault) ↦ absurd (cc)
-    | inr (free, last) ↦ elim (if_was (is_signed word) _ _ node last) [
-      | inl (signed, event) ↦ event_node_low signals word (event_in signals word) node refl event
-      | inr (unsigned, place) ↦ subst (NodeIn (2 * length signals)) (one_value (PlaceNode word) node place) tt
-    ]
+    | inr (free, last) ↦ node_by_low signals word (event_in signals word) node refl last
   ]
 ]
 
-module _ (signals : List (List ℕ)) (line : ℕ) where
-  link_word_sound : (source : Node) (word : List ℕ) (ps qs : Places) → NodeIn (2 * length signals) source → ArePlaces (2 * length signals) ps
-      → link_word signals line source word ps ≡ Ok qs → ArePlaces (2 * length signals) qs
+module _ (signals : Declared) (line : ℕ) where
+  link_word_sound : (source : Node) (word : List ℕ) (ps qs : Places) → NodeIn (count_events signals.roles) source → ArePlaces (count_events signals.roles) ps
+      → link_word signals line source word ps ≡ Ok qs → ArePlaces (count_events signals.roles) qs
   link_word_sound source word ps qs low sound is =
       let (target, one, next) = then_was (node_of signals word) (λ target. link line source target ps) qs is in
-      link_sound (2 * length signals) line source target ps qs low (node_low signals word target one) sound next
+      link_sound (count_events signals.roles) line source target ps qs low (node_low signals word target one) sound next
 
-  pub graph_line_sound : (words : List (List ℕ)) (ps qs : Places) → ArePlaces (2 * length signals) ps → graph_line signals line words ps ≡ Ok qs
-      → ArePlaces (2 * length signals) qs
+  pub graph_line_sound : (words : List (List ℕ)) (ps qs : Places) → ArePlaces (count_events signals.roles) ps → graph_line signals line words ps ≡ Ok qs
+      → ArePlaces (count_events signals.roles) qs
   graph_line_sound words ps qs sound is =
       let (source, one, next) = then_was (node_of signals (word_at words 0)) (λ source. source_line signals line words source ps) qs is in
       elim (if_was (nat_lt (length words) 2) _ _ qs next) [
         | inl (lone, fault) ↦ absurd (cc)
         | inr (more, rest) ↦ (
             let (first, here, last) = then_was (with_node line source ps) (link_words signals line source (drop 1 words)) qs rest in
-            all_stay (ArePlaces (2 * length signals)) (link_word signals line source)
+            all_stay (ArePlaces (count_events signals.roles)) (link_word signals line source)
             (λ word rs ts p step. link_word_sound source word rs ts (node_low signals (word_at words 0) source one) p step)
-            (drop 1 words) first qs (with_node_sound (2 * length signals) line source ps first sound here) last)
+            (drop 1 words) first qs (with_node_sound (count_events signals.roles) line source ps first sound here) last)
       ]
 
 -- more events
@@ -194,31 +199,41 @@ more_events few many ps order sound = record {
     higher None h = tt
     higher (Some u) h = omega (arith, order, h)
 
-declare_grows : (word : List ℕ) (signals more : List (List ℕ)) → declare word signals ≡ Ok more → length signals ≤ length more
-declare_grows word signals more is = elim (if_was (not (is_signal word)) _ _ more is) [
+-- names that are declared, each as something, and at least so many events
+record Grows (events : ℕ) (signals : Declared) : Type 0 where
+  each : length signals.names ≡ length signals.roles
+  more : events ≤ count_events signals.roles
+
+declare_grows : (n : ℕ) (role : Role) (ps : Places) (word : List ℕ) (signals more : Declared) → Grows n signals → declare role ps word signals ≡ Ok more → Grows n more
+declare_grows n role ps word signals more grows is = elim (if_was (not (may_declare role ps word signals)) _ _ more is) [
   | inl (bad, fault) ↦ absurd (cc)
-  | inr (good, next) ↦ elim (if_was (has_name signals word) _ _ more next) [
-    | inl (has, same) ↦ (let e = ap (λ (xs : List (List ℕ)). length xs) (one_value signals more same) in omega (arith, e))
-    | inr (new, last) ↦ elim (if_was (nat_lt (length signals) 65536) _ _ more last) [
-      | inl (room, same) ↦ (let e = ap (λ (xs : List (List ℕ)). length xs) (one_value _ more same) in let l = length-append signals (word ∷ []) in omega (arith, e, l))
+  | inr (good, next) ↦ elim (if_was (has_name signals.names word) _ _ more next) [
+    | inl (has, same) ↦ subst (Grows n) (one_value signals more same) grows
+    | inr (new, last) ↦ elim (if_was (nat_lt (length signals.names) 65536) _ _ more last) [
+      | inl (room, same) ↦ subst (Grows n) (one_value _ more same) (record {
+        each = (let h = grows.each in let l = length-append signals.names (word ∷ []) in let m = length-append signals.roles (role ∷ []) in omega (arith, h, l, m));
+        more = (let h = grows.more in let c = count_push signals.roles role in omega (arith, h, c));
+      })
       | inr (full, fault) ↦ absurd (cc)
     ]
   ]
 ]
 
-signals_sound : (words : List (List ℕ)) (state next : State) → IsSound state → signals_line words state ≡ Ok next → IsSound next
-signals_sound words state next sound is =
-    let (signals, one, last) = then_was (declare_all (drop 1 words) state.signals) (λ signals. Ok (with_signals state signals)) next is in
-    let grows : length state.signals ≤ length signals = all_stay (λ (s : List (List ℕ)). length state.signals ≤ length s) declare
-    (λ word s t p step. let h = declare_grows word s t step in omega (arith, h, p)) (drop 1 words) state.signals signals (omega arith) one in
+declaration_sound : (role : Role) (words : List (List ℕ)) (state next : State) → IsSound state → declaration_line role words state ≡ Ok next → IsSound next
+declaration_sound role words state next sound is =
+    let (signals, one, last) = then_was (declare_all role state.places (drop 1 words) state.signals) (λ signals. Ok (with_signals state signals)) next is in
+    let n = count_events state.signals.roles in
+    let grows : Grows n signals = all_stay (Grows n) (declare role state.places)
+    (λ word s t p step. declare_grows n role state.places word s t p step) (drop 1 words) state.signals signals (record { each = sound.each; more = omega arith }) one in
     subst IsSound (one_value (with_signals state signals) next last)
-    (more_events (2 * length state.signals) (2 * length signals) state.places (omega (arith, grows)) sound)
+    (record { each = grows.each; places = more_events n (count_events signals.roles) state.places grows.more sound.places })
 
 body_sound : (line : ℕ) (words : List (List ℕ)) (state next : State) → IsSound state → body_line line words state ≡ Ok next → IsSound next
 body_sound line words state next sound is = elim (if_was state.is_open _ _ next is) [
   | inl (open_part, step) ↦ (
       let (places, one, last) = then_was (graph_line state.signals line words state.places) (λ places. Ok (with_places state places)) next step in
-      subst IsSound (one_value (with_places state places) next last) (graph_line_sound state.signals line words state.places places sound one))
+      subst IsSound (one_value (with_places state places) next last)
+      (record { each = sound.each; places = graph_line_sound state.signals line words state.places places sound.places one }))
   | inr (closed_part, fault) ↦ absurd (cc)
 ]
 
@@ -226,19 +241,22 @@ entries_sound : (word : List ℕ) (entries : Option (List (List ℕ))) (state ne
 entries_sound word None state next sound is = absurd (cc)
 entries_sound word (Some entries) state next sound is =
     let (places, one, last) = then_was (mark_all state.signals entries state.places) (λ places. Ok (with_marking state places)) next is in
-    subst IsSound (one_value (with_marking state places) next last)
-    (all_stay (ArePlaces (2 * length state.signals)) (mark state.signals) (λ entry ps qs p step. mark_sound (2 * length state.signals) state.signals entry ps qs p step)
-    entries state.places places sound one)
+    subst IsSound (one_value (with_marking state places) next last) (record {
+      each = sound.each;
+      places = all_stay (ArePlaces (count_events state.signals.roles)) (mark state.signals)
+          (λ entry ps qs p step. mark_sound (count_events state.signals.roles) state.signals entry ps qs p step) entries state.places places sound.places one;
+    })
 
 -- what was read stays sound
 pub step_sound : (head : Head) (line : ℕ) (words : List (List ℕ)) (state next : State) → IsSound state → step_by head line words state ≡ Ok next → IsSound next
 step_sound Body line words state next sound is = body_sound line words state next sound is
 step_sound Model line words state next sound is = elim (if_was (state.is_named || not (length words == 2)) _ _ next is) [
   | inl (bad, fault) ↦ absurd (cc)
-  | inr (good, same) ↦ subst IsSound (one_value _ next same) sound
+  | inr (good, same) ↦ subst IsSound (one_value _ next same) (record { each = sound.each; places = sound.places })
 ]
-step_sound Signals line words state next sound is = signals_sound words state next sound is
-step_sound Graph line words state next sound is = subst IsSound (one_value _ next is) sound
+step_sound Signals line words state next sound is = declaration_sound Signal words state next sound is
+step_sound Dummies line words state next sound is = declaration_sound Dummy words state next sound is
+step_sound Graph line words state next sound is = subst IsSound (one_value _ next is) (record { each = sound.each; places = sound.places })
 step_sound Marking line words state next sound is = elim (if_was state.is_marked _ _ next is) [
   | inl (marked, fault) ↦ absurd (cc)
   | inr (unmarked, step) ↦ entries_sound (word_at words 0) (entries_of (drop 1 words)) state next sound step

@@ -1,14 +1,17 @@
 -- All lines of a written graph.
-use Rattle.std.proofs.Common.{◌≡◌, ◌≢◌, ℕ, suc, ◌+◌, ◌-◌, ◌<◌, ◌≤◌, true, false, List, [], ◌∷◌, ◌++◌, length, get_or, map, refl, sym, ◌∙◌, ap, subst, arith, inl, inr, All, AllPairs, Some, None, Result, Ok, if◌then◌else◌, ltb, append-nil, append_assoc, codes, slice_set}
+use Rattle.std.proofs.Common.{◌≡◌, ◌≢◌, ℕ, suc, ◌+◌, ◌-◌, ◌<◌, ◌≤◌, true, false, List, [], ◌∷◌, ◌++◌, length, get_or, map, refl, sym, ◌∙◌, ap, subst, arith, inl, inr, All, AllPairs, Option, Some, None, Result, Ok, if◌then◌else◌, ltb, append-nil, append_assoc, codes, slice_set}
 use Rattle.std.specs.Str.{bytes_eq}
 use Rattle.std.proofs.lemmas.Bool.{cases_Bool, cases_lt, lt-ltb, le-ltb}
 use Rattle.std.proofs.lemmas.Slice.Eq.{bytes_eq-Decides}
-use Rattle.std.proofs.lemmas.List.{length-append, length-map, get_or-map, get_or_append_left, get_or_default, same_lists}
+use Rattle.std.proofs.lemmas.List.{length-append, length-map, map-append, get_or-map, get_or_append_left, get_or_default, same_lists}
 use Rattle.std.proofs.lemmas.List.Folds.{list_any_none}
 use Rattle.std.proofs.lemmas.List.Sorted.{IsPermutation-refl}
 use Rattle.std.proofs.Math.Seq.{get_or-append_seam}
 use Rattle.ds_lines.specs.Print.{numbered}
-use Rattle.ds_names.specs.Names.{has_name, with_name}
+use Rattle.ds_names.specs.Names.{has_name}
+use Rattle.ds_astg.specs.Signals.{Declared, with_declared, role_of, may_have}
+use Rattle.ds_astg.specs.declared.role.Role.{Role}
+use Rattle.ds_astg.specs.declared.role.Role.TheVariants.{Signal, Dummy}
 use Rattle.ds_marked.specs.Graph.{Graph}
 use Rattle.ds_marked.specs.declared.marked.Arc.{Arc}
 use Rattle.ds_marked.specs.declared.marked.Event.{Event}
@@ -16,13 +19,14 @@ use Rattle.ds_astg.specs.Word.{word_at, is_signal}
 use Rattle.ds_astg.specs.Turn.{then_do, all_of}
 use Rattle.ds_astg.specs.Place.{Places, Key, named, no_places, place_at}
 use Rattle.ds_astg.specs.Marking.{mark, mark_all, entries_of, closed, last_word}
-use Rattle.ds_astg.specs.Line.{State, head_of, is_declaration, declare, declare_all, with_marking}
+use Rattle.ds_astg.specs.Line.{State, head_of, is_declaration, declare, declare_all, may_declare, with_marking}
 use Rattle.ds_astg.specs.Read.{graph_of, graph_from, end_of, graph_of_parts, lacking, lacks, arc_of, or_zero, in_order}
 use Rattle.ds_astg.specs.Text.{arc_at}
 use Rattle.ds_astg.specs.Written.{IsReadable, WrittenIsRead, graph_words, body_lines, marking_words, lists_below, event_lines, place_lines, entry_words}
 use Rattle.ds_astg.specs.declared.place.Place.{Place}
 use Rattle.ds_astg.specs.declared.fault.AstgKind.{AstgKind}
 use Rattle.ds_astg.proofs.Declared.{declare-new}
+use Rattle.ds_astg.proofs.Names.{no_dummy, plain, plain_events}
 use Rattle.ds_astg.proofs.InOrder.{sorted_is}
 use Rattle.ds_astg.proofs.Built.{Built}
 use Rattle.ds_astg.proofs.EventLines.{first_target, no_tokens, all_of-append, set_last}
@@ -32,18 +36,21 @@ use Rattle.ds_astg.proofs.EntryLine.{marks_run}
 
 -- signals that are declared one after another
 declared : (done rest : List (List ℕ)) → AllPairs (λ a b. a ≢ b) (done ++ rest) → All (λ signal. is_signal signal ≡ true) rest → length (done ++ rest) ≤ 65536
-    → all_of declare rest done ≡ Ok (done ++ rest)
-declared done [] distinct names few = ap (λ (xs : List (List ℕ)). Ok xs) (sym (append-nil done))
+    → all_of (declare Signal no_places) rest (plain done) ≡ Ok (plain (done ++ rest))
+declared done [] distinct names few = ap (λ (xs : List (List ℕ)). Ok (plain xs)) (sym (append-nil done))
 declared done (signal ∷ rest) distinct names few =
     let size = length-append done (signal ∷ rest) in
     let new : has_name done signal ≡ false = list_any_none (bytes_eq signal) done (λ k d inside. unlike k d inside) in
-    let added : with_name done signal ≡ done ++ signal ∷ [] = rw new refl in
-    let one : declare signal done ≡ Ok (done ++ signal ∷ []) = declare-new signal done (names 0 [] (omega arith)) new (omega (arith, size, few)) ∙ ap (λ (xs : List (List ℕ)). Ok xs) added in
+    let may : may_declare Signal no_places signal (plain done) ≡ true = rw (names 0 [] (omega arith)) (may_signal (role_of (plain done) signal) (no_dummy done signal)) in
+    let shape_of : with_declared Signal signal (plain done) ≡ plain (done ++ signal ∷ []) =
+    ap (λ (rs : List Role). record { names = done ++ signal ∷ []; roles = rs }) (sym (map-append (λ (_ : List ℕ). Signal) done (signal ∷ []))) in
+    let one : declare Signal no_places signal (plain done) ≡ Ok (plain (done ++ signal ∷ [])) =
+    declare-new Signal no_places signal (plain done) may new (omega (arith, size, few)) ∙ ap (λ (s : Declared). Ok s) shape_of in
     let shape : (done ++ signal ∷ []) ++ rest ≡ done ++ signal ∷ rest = append_assoc done (signal ∷ []) rest in
-    let more : all_of declare rest (done ++ signal ∷ []) ≡ Ok ((done ++ signal ∷ []) ++ rest) = declared (done ++ signal ∷ []) rest
+    let more : all_of (declare Signal no_places) rest (plain (done ++ signal ∷ [])) ≡ Ok (plain ((done ++ signal ∷ []) ++ rest)) = declared (done ++ signal ∷ []) rest
     (subst (λ (xs : List (List ℕ)). AllPairs (λ a b. a ≢ b) xs) (sym shape) distinct) (λ k d inside. names (suc k) d (omega (arith, inside)))
     (subst (λ (xs : List (List ℕ)). length xs ≤ 65536) (sym shape) few) in
-    ap (λ (r : Result (List (List ℕ)) AstgKind). then_do r (all_of declare rest)) one ∙ (more ∙ ap (λ (xs : List (List ℕ)). Ok xs) shape)
+    ap (λ (r : Result Declared AstgKind). then_do r (all_of (declare Signal no_places) rest)) one ∙ (more ∙ ap (λ (xs : List (List ℕ)). Ok (plain xs)) shape)
   where
     unlike : (k : ℕ) (d : List ℕ) → k < length done → bytes_eq signal (get_or done k d) ≡ false
     unlike k d inside = elim (cases_Bool (bytes_eq signal (get_or done k d))) [
@@ -52,11 +59,16 @@ declared done (signal ∷ rest) distinct names few =
       | inr differs ↦ differs
     ]
 
+    may_signal : (role : Option Role) → role ≢ Some Dummy → may_have role Signal ≡ true
+    may_signal None other = refl
+    may_signal (Some Signal) other = refl
+    may_signal (Some Dummy) other = absurd (other refl)
+
 -- what was read in the graph part
-abbrev pub in_graph : List (List ℕ) → Places → State
+abbrev pub in_graph : Declared → Places → State
 in_graph signals ps = record { is_named = true; is_open = true; is_marked = false; signals = signals; places = ps }
 
-body_from : (signals : List (List ℕ)) (n : ℕ) (lines more : List (List (List ℕ))) (ps qs : Places) → Runs signals n lines ps qs
+body_from : (signals : Declared) (n : ℕ) (lines more : List (List (List ℕ))) (ps qs : Places) → Runs signals n lines ps qs
     → graph_from (numbered n (lines ++ more)) (in_graph signals ps) ≡ graph_from (numbered (n + length lines) more) (in_graph signals qs)
 body_from signals n [] more ps qs run = ap (λ (k : ℕ). graph_from (numbered k more) (in_graph signals ps)) (let e : n ≡ n + 0 = omega arith in e)
     ∙ ap (λ (p : Places). graph_from (numbered (n + 0) more) (in_graph signals p)) run
@@ -75,7 +87,7 @@ braced entries =
     let h : closed words ≡ Some (slice_set words (length words - 1) []) = rw last refl in
     h ∙ ap (λ (ws : List (List ℕ)). Some ws) cut
 
-marked_all : (signals entries : List (List ℕ)) (ps qs : Places) → all_of (mark signals) entries ps ≡ Ok qs → mark_all signals (([] ∷ entries) ++ [] ∷ []) ps ≡ Ok qs
+marked_all : (signals : Declared) (entries : List (List ℕ)) (ps qs : Places) → all_of (mark signals) entries ps ≡ Ok qs → mark_all signals (([] ∷ entries) ++ [] ∷ []) ps ≡ Ok qs
 marked_all signals entries ps qs run =
     all_of-append (mark signals) ([] ∷ entries) ([] ∷ []) ps ∙ (let h : all_of (mark signals) ([] ∷ entries) ps ≡ Ok qs = run in ap (λ (r : Result Places AstgKind). then_do r (all_of (mark signals) ([] ∷ []))) h)
 
@@ -113,20 +125,20 @@ module _ (signals : List (List ℕ)) (g : Graph) (readable : IsReadable signals 
           get_or-map arc_of ps.places k (named 0) d low ∙ (one k under ∙ get_or_default g.arcs k (record { source = 0; target = 0; tokens = 0 }) d under)
 
   -- the end of the text
-  ends_well : (ps : Places) (state : State) → state.signals ≡ signals → state.places ≡ ps → Built g (length g.arcs) (full_target g) (marked_tokens g (length g.arcs)) ps → end_of state ≡ Ok g
+  ends_well : (ps : Places) (state : State) → state.signals ≡ plain signals → state.places ≡ ps → Built g (length g.arcs) (full_target g) (marked_tokens g (length g.arcs)) ps → end_of state ≡ Ok g
   ends_well ps state signals_are places_are built =
       let none : lacking ps.keys ps.places ≡ None = whole ps.keys ps.places (λ k inside.
       (let under : k < length g.arcs = omega (arith, inside, built.place_count) in
       let s = built.sources k under in let t = built.targets k under in
       let h : lacks (place_at ps k) ≡ false = rw (s, t) refl in h)) in
       let arcs : in_order (map arc_of ps.places) ≡ g.arcs = ap in_order (arcs_are ps built) ∙ sym (sorted_is g.arcs g.arcs (IsPermutation-refl g.arcs) readable.kept.sorted) in
-      let graph : graph_of_parts signals ps ≡ g =
-      ap (λ (es : List Event). record { events = es; arcs = in_order (map arc_of ps.places) }) (sym readable.events)
+      let graph : graph_of_parts (plain signals) ps ≡ g =
+      ap (λ (es : List Event). record { events = es; arcs = in_order (map arc_of ps.places) }) (sym (readable.events ∙ plain_events signals))
       ∙ ap (λ (xs : List Arc). record { events = g.events; arcs = xs }) arcs in
       rw (signals_are, places_are) (rw none (ap (λ (h : Graph). Ok h) graph))
 
   -- the graph part leads to places with sources and targets
-  body_run : (ps : Places) × Runs signals 4 (body_lines g) no_places ps × Built g (length g.arcs) (full_target g) no_tokens ps
+  body_run : (ps : Places) × Runs (plain signals) 4 (body_lines g) no_places ps × Built g (length g.arcs) (full_target g) no_tokens ps
   body_run =
       let n = length g.arcs in
       let (m, ps, events, built, prefix) = events_run signals g readable 4 (length g.events) (omega arith) in
@@ -138,7 +150,7 @@ module _ (signals : List (List ℕ)) (g : Graph) (readable : IsReadable signals 
       let (qs, places, placed) = places_run signals g readable (4 + length (lists_below (event_lines g) (length g.events))) n ps (omega arith)
       (subst (λ (k : ℕ). Built g k (first_target g) no_tokens ps) all built) in (
         qs,
-        runs_append signals 4 (lists_below (event_lines g) (length g.events)) (lists_below (place_lines g) n) no_places ps qs events places,
+        runs_append (plain signals) 4 (lists_below (event_lines g) (length g.events)) (lists_below (place_lines g) n) no_places ps qs events places,
         built_same g n (placed_target g n) no_tokens (full_target g) no_tokens qs placed
             (λ k low. let h : placed_target g n k ≡ Some (arc_at g k).target = rw (lt-ltb k n low) refl in h) (λ k low. refl),
       )
@@ -151,14 +163,14 @@ module _ (signals : List (List ℕ)) (g : Graph) (readable : IsReadable signals 
       let (qs, marks, marked) = marks_run signals g readable n ps (omega arith) built in
       let tail = marking_words g ∷ (codes ".end" ∷ []) ∷ [] in
       let entries = lists_below (entry_words g) n in
-      let signals_are : declare_all signals [] ≡ Ok signals = declared [] signals readable.distinct readable.names readable.few in
-      let head : graph_of (numbered 1 (graph_words name signals g)) ≡ graph_from (numbered 4 (body_lines g ++ tail)) (in_graph signals no_places) = rw signals_are refl in
-      let body = body_from signals 4 (body_lines g) tail no_places ps run in
+      let signals_are : declare_all Signal no_places signals (plain []) ≡ Ok (plain signals) = declared [] signals readable.distinct readable.names readable.few in
+      let head : graph_of (numbered 1 (graph_words name signals g)) ≡ graph_from (numbered 4 (body_lines g ++ tail)) (in_graph (plain signals) no_places) = rw signals_are refl in
+      let body = body_from (plain signals) 4 (body_lines g) tail no_places ps run in
       let line = 4 + length (body_lines g) in
-      let all : mark_all signals (([] ∷ entries) ++ [] ∷ []) ps ≡ Ok qs = marked_all signals entries ps qs marks in
+      let all : mark_all (plain signals) (([] ∷ entries) ++ [] ∷ []) ps ≡ Ok qs = marked_all (plain signals) entries ps qs marks in
       let brace : entries_of (codes "{" ∷ (entries ++ codes "}" ∷ [])) ≡ Some (([] ∷ entries) ++ [] ∷ []) = braced entries in
-      let state = with_marking (in_graph signals ps) qs in
-      let last : graph_from (numbered line tail) (in_graph signals ps) ≡ end_of state = rw (brace, all) refl in
+      let state = with_marking (in_graph (plain signals) ps) qs in
+      let last : graph_from (numbered line tail) (in_graph (plain signals) ps) ≡ end_of state = rw (brace, all) refl in
       head ∙ (body ∙ (last ∙ ends_well qs state refl refl marked))
 
 pub written_is_read : WrittenIsRead

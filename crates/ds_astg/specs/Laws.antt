@@ -1,26 +1,30 @@
 -- What follows of the definitions.
-use Rattle.std.specs.Prelude.{◌≡◌, ◌≢◌, ℕ, ◌+◌, ◌*◌, ◌<◌, ◌^◌, true, List, [], ◌++◌, length, codes}
-use Rattle.std.specs.Prelude.{slice_index_or, AllPairs, Ok, Some, false}
+use Rattle.std.specs.Prelude.{◌≡◌, ◌≢◌, ℕ, ◌<◌, ◌^◌, true, List, ◌++◌, codes, slice_get}
+use Rattle.std.specs.Prelude.{AllPairs, Ok, Some, false}
 use Rattle.std.specs.List.{list_any}
+use Rattle.ds_marked.specs.declared.marked.Event.{Event}
+use Rattle.ds_marked.specs.Log.{event_text}
 use Rattle.ds_astg.specs.Word.{is_byte, is_signal}
+use Rattle.ds_astg.specs.Signals.{Declared, role_of}
 use Rattle.ds_astg.specs.Node.{node_of, event_in}
-use Rattle.ds_astg.specs.Node.Node.{Event, Place}
+use Rattle.ds_astg.specs.Node.Node.{Event as EventNode, Place as PlaceNode}
 use Rattle.ds_astg.specs.Place.Key.{Between}
 use Rattle.ds_astg.specs.Marking.{key_in, place_text, tokens_of}
+use Rattle.ds_astg.specs.Read.{all_events}
 use Rattle.ds_astg.specs.Text.{place_name, tokens_text}
+use Rattle.ds_astg.specs.declared.role.Role.TheVariants.{Dummy}
 
--- a signal with a sign, as it is written, is read as its event
+-- an event, as it is written, is read as the event with its number
 abbrev pub EventsAreRead : Type 0
-EventsAreRead = (signals : List (List ℕ)) (k : ℕ) → AllPairs (λ a b. a ≢ b) signals
-    → k < length signals
-    → is_signal (slice_index_or signals k []) ≡ true
-    → (node_of signals (slice_index_or signals k [] ++ codes "+") ≡ Ok (Event (2 * k)))
-    × (node_of signals (slice_index_or signals k [] ++ codes "-") ≡ Ok (Event (2 * k + 1)))
+EventsAreRead = (signals : Declared) (v : ℕ) (e : Event) → AllPairs (λ a b. a ≢ b) signals.names
+    → slice_get (all_events signals.names signals.roles) v ≡ Some e → is_signal e.signal ≡ true
+    → node_of signals (event_text e) ≡ Ok (EventNode v)
 
--- the name of an arc's own place, as it is written, is read as a place
+-- the name of an arc's own place, as it is written, is read as a place, where no dummy has it
 abbrev pub PlacesAreRead : Type 0
-PlacesAreRead = (signals : List (List ℕ)) (k : ℕ) → k < 2 ^ 64
-    → node_of signals (place_name k) ≡ Ok (Place (place_name k))
+PlacesAreRead = (signals : Declared) (k : ℕ) → k < 2 ^ 64
+    → role_of signals (place_name k) ≢ Some Dummy
+    → node_of signals (place_name k) ≡ Ok (PlaceNode (place_name k))
 
 -- an entry with its tokens, as it is written, is read as what stands before the tokens, and these
 abbrev pub TokensAreRead : Type 0
@@ -31,7 +35,7 @@ TokensAreRead = (text : List ℕ) (tokens : ℕ) → list_any (is_byte 61) text 
 
 -- two events between brackets are read as the place between them
 abbrev pub EndsAreRead : Type 0
-EndsAreRead = (signals : List (List ℕ)) (source target : List ℕ) (u v : ℕ)
+EndsAreRead = (signals : Declared) (source target : List ℕ) (u v : ℕ)
     → event_in signals source ≡ Some u → event_in signals target ≡ Some v
     → list_any (is_byte 44) source ≡ false
     → key_in signals (codes "<" ++ source ++ codes "," ++ target ++ codes ">") ≡ Some (Between u v)

@@ -3,6 +3,7 @@ pub mod Pieces
 pub mod Text
 pub mod Word
 pub mod Turn
+pub mod Signals
 pub mod Node
 pub mod Place
 pub mod Keys
@@ -11,6 +12,7 @@ pub mod Marking
 pub mod Line
 pub mod Read
 pub mod Sound
+pub mod Numbered
 pub mod Steps
 pub mod Written
 pub mod Laws

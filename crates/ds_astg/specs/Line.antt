@@ -1,6 +1,6 @@
 -- What a line adds to what was read before it.
 use Rattle.std.specs.Prelude.{ℕ, Bool, true, false, not, List, [], ◌∷◌, ◌++◌, length, drop, codes}
-use Rattle.std.specs.Prelude.{Option, None, Some, Result, Ok, Err, ◌==◌, ◌||◌, nat_lt}
+use Rattle.std.specs.Prelude.{Option, None, Some, Result, Ok, Err, ◌==◌, ◌||◌, ◌&&◌, nat_lt}
 use Rattle.std.specs.Prelude.{if◌then◌else◌}
 use Rattle.std.specs.Str.{bytes_eq}
 use Rattle.ds_base.specs.Limit.{most_of}
@@ -8,23 +8,28 @@ use Rattle.ds_base.specs.declared.number.Limit.TheVariants.{Signals as SignalsLi
 use Rattle.ds_names.specs.Names.{has_name}
 use Rattle.ds_lines.specs.Line.{Line}
 use Rattle.ds_astg.specs.Word.{word_at, first_byte, is_signal}
-use Rattle.ds_astg.specs.Place.{Places, no_places}
+use Rattle.ds_astg.specs.Signals.{Declared, no_names, with_declared, role_of, may_have}
+use Rattle.ds_astg.specs.Place.{Places, no_places, has_place}
+use Rattle.ds_astg.specs.Place.Key.{Named}
 use Rattle.ds_astg.specs.Turn.{then_do, all_of}
 use Rattle.ds_astg.specs.Links.{graph_line}
 use Rattle.ds_astg.specs.Marking.{entries_of, mark_all}
 use Rattle.ds_astg.specs.declared.head.Head.{Head}
-use Rattle.ds_astg.specs.declared.head.Head.TheVariants.{Body, Model, Signals, Graph, Marking, End}
-use Rattle.ds_astg.specs.declared.head.Head.TheVariants.{Unknown}
+use Rattle.ds_astg.specs.declared.head.Head.TheVariants.{Body, Model, Signals, Dummies, Graph}
+use Rattle.ds_astg.specs.declared.head.Head.TheVariants.{Marking, End, Unknown}
+use Rattle.ds_astg.specs.declared.role.Role.{Role}
+use Rattle.ds_astg.specs.declared.role.Role.TheVariants.{Signal, Dummy}
 use Rattle.ds_astg.specs.declared.fault.AstgKind.{AstgKind}
 use Rattle.ds_astg.specs.declared.fault.AstgKind.TheVariants.{Unsupported, BadWord, BadMarking}
 use Rattle.ds_astg.specs.declared.fault.AstgKind.TheVariants.{TooMany}
 
--- is the model named; is the graph part open; is there a marking; the signals; the places
+-- is the model named; is the graph part open; is there a marking; the signals, and dummies among
+-- them; the places
 pub record State : Type 0 where
   pub is_named : Bool
   pub is_open : Bool
   pub is_marked : Bool
-  pub signals : List (List ℕ)
+  pub signals : Declared
   pub places : Places
 
 -- before all lines
@@ -33,7 +38,7 @@ start = record {
   is_named = false;
   is_open = false;
   is_marked = false;
-  signals = [];
+  signals = no_names;
   places = no_places;
 }
 
@@ -47,23 +52,30 @@ unfoldable pub head_of : List ℕ → Head
 head_of word =
     if not (first_byte word == 46) then Body
     else (if is_declaration word then Signals
+    else (if bytes_eq word (codes ".dummy") then Dummies
     else (if bytes_eq word (codes ".model") then Model
     else (if bytes_eq word (codes ".graph") then Graph
     else (if bytes_eq word (codes ".marking") then Marking
     else (if bytes_eq word (codes ".end") then End
-    else Unknown)))))
+    else Unknown))))))
 
--- the signals, with one that is declared
-abbrev pub declare : List ℕ → List (List ℕ) → Result (List (List ℕ)) AstgKind
-declare word signals =
-    if not (is_signal word) then Err (BadWord word)
-    else (if has_name signals word then Ok signals
-    else (if nat_lt (length signals) (most_of SignalsLimit) then Ok (signals ++ word ∷ [])
+-- a name may be declared as such: it is one, no place has it, and it is nothing else
+abbrev pub may_declare : Role → Places → List ℕ → Declared → Bool
+may_declare role ps name signals = is_signal name
+    && (not (has_place ps (Named name)) && may_have (role_of signals name) role)
+
+-- the signals, with a name that is declared, before which these places stand
+abbrev pub declare : Role → Places → List ℕ → Declared → Result Declared AstgKind
+declare role ps name signals =
+    if not (may_declare role ps name signals) then Err (BadWord name)
+    else (if has_name signals.names name then Ok signals
+    else (if nat_lt (length signals.names) (most_of SignalsLimit)
+    then Ok (with_declared role name signals)
     else Err (TooMany SignalsLimit)))
 
 -- the signals, with those that are declared
-abbrev pub declare_all : List (List ℕ) → List (List ℕ) → Result (List (List ℕ)) AstgKind
-declare_all words signals = all_of declare words signals
+abbrev pub declare_all : Role → Places → List (List ℕ) → Declared → Result Declared AstgKind
+declare_all role ps names signals = all_of (declare role ps) names signals
 
 -- a line that names the model
 abbrev pub model_line : List (List ℕ) → State → Result State AstgKind
@@ -78,7 +90,7 @@ model_line words state =
     })
 
 -- with these signals, the graph part closed
-abbrev pub with_signals : State → List (List ℕ) → State
+abbrev pub with_signals : State → Declared → State
 with_signals state signals = record {
   is_named = state.is_named;
   is_open = false;
@@ -87,10 +99,11 @@ with_signals state signals = record {
   places = state.places;
 }
 
--- a line that declares signals
-abbrev pub signals_line : List (List ℕ) → State → Result State AstgKind
-signals_line words state =
-    then_do (declare_all (drop 1 words) state.signals) (λ signals. Ok (with_signals state signals))
+-- a line that declares names as such
+abbrev pub declaration_line : Role → List (List ℕ) → State → Result State AstgKind
+declaration_line role words state =
+    then_do (declare_all role state.places (drop 1 words) state.signals)
+    (λ signals. Ok (with_signals state signals))
 
 -- with the graph part open
 abbrev pub opened : State → State
@@ -146,7 +159,8 @@ marking_line words state =
 abbrev pub step_by : Head → ℕ → List (List ℕ) → State → Result State AstgKind
 step_by Body line words state = body_line line words state
 step_by Model line words state = model_line words state
-step_by Signals line words state = signals_line words state
+step_by Signals line words state = declaration_line Signal words state
+step_by Dummies line words state = declaration_line Dummy words state
 step_by Graph line words state = Ok (opened state)
 step_by Marking line words state = marking_line words state
 step_by End line words state = Ok state

@@ -3,6 +3,7 @@ use Rattle.std.specs.Prelude.{ℕ, Bool, true, List, Option, None, Some, Result,
 use Rattle.std.specs.Prelude.{◌==◌, if◌then◌else◌, nat_lt, length, drop}
 use Rattle.ds_astg.specs.Word.{word_at}
 use Rattle.ds_astg.specs.Turn.{then_do, all_of}
+use Rattle.ds_astg.specs.Signals.{Declared}
 use Rattle.ds_astg.specs.Node.{Node, node_of}
 use Rattle.ds_astg.specs.Node.Node.{Event as EventNode, Place as PlaceNode}
 use Rattle.ds_astg.specs.Place.{Places, named, between, number_of, place_at, with_place}
@@ -63,12 +64,12 @@ link line (PlaceNode name) (EventNode v) ps = with_target (number_of ps (Named n
 link line (PlaceNode name) (PlaceNode other) ps = Err (NotMarkedGraph name)
 
 -- a source has this word as a target
-abbrev pub link_word : List (List ℕ) → ℕ → Node → List ℕ → Places → Result Places AstgKind
+abbrev pub link_word : Declared → ℕ → Node → List ℕ → Places → Result Places AstgKind
 link_word signals line source word ps =
     then_do (node_of signals word) (λ target. link line source target ps)
 
 -- a source has these words as targets
-abbrev pub link_words : List (List ℕ) → ℕ → Node → List (List ℕ) → Places → Result Places AstgKind
+abbrev pub link_words : Declared → ℕ → Node → List (List ℕ) → Places → Result Places AstgKind
 link_words signals line source words ps = all_of (link_word signals line source) words ps
 
 -- a source stands there: an event is, a place is from here on
@@ -77,12 +78,12 @@ with_node line (EventNode u) ps = Ok ps
 with_node line (PlaceNode name) ps = with_place (Named name) (named line) ps
 
 -- a source with its targets, of which there is one
-abbrev pub source_line : List (List ℕ) → ℕ → List (List ℕ) → Node → Places → Result Places AstgKind
+abbrev pub source_line : Declared → ℕ → List (List ℕ) → Node → Places → Result Places AstgKind
 source_line signals line words source ps =
     if nat_lt (length words) 2 then Err (BadWord (word_at words 0))
     else then_do (with_node line source ps) (link_words signals line source (drop 1 words))
 
 -- the places after a line of the graph part
-abbrev pub graph_line : List (List ℕ) → ℕ → List (List ℕ) → Places → Result Places AstgKind
+abbrev pub graph_line : Declared → ℕ → List (List ℕ) → Places → Result Places AstgKind
 graph_line signals line words ps =
     then_do (node_of signals (word_at words 0)) (λ source. source_line signals line words source ps)

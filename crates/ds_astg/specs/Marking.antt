@@ -5,6 +5,7 @@ use Rattle.std.specs.Prelude.{if◌then◌else◌}
 use Rattle.std.specs.List.{list_all, position_or_len, before_first, after_first}
 use Rattle.std.specs.Char.{is_ascii_digit}
 use Rattle.ds_astg.specs.Word.{is_byte, word_at, first_byte, last_byte, without_last}
+use Rattle.ds_astg.specs.Signals.{Declared}
 use Rattle.ds_astg.specs.Node.{event_in}
 use Rattle.ds_astg.specs.Place.{Places, Key, number_of, place_at, has_place, with_place_at}
 use Rattle.ds_astg.specs.Place.Key.{Named, Between}
@@ -45,7 +46,7 @@ both_events (Some source) None = None
 both_events (Some source) (Some target) = Some (Between source target)
 
 -- the place between the events of `u,v>`, the comma being 44
-abbrev pub key_between : List (List ℕ) → List ℕ → Option Key
+abbrev pub key_between : Declared → List ℕ → Option Key
 key_between signals text =
     if last_byte text == 62
     then both_events (event_in signals (before_first (is_byte 44) text))
@@ -53,7 +54,7 @@ key_between signals text =
     else None
 
 -- the place that `<u,v>` or a name stands for
-abbrev pub key_in : List (List ℕ) → List ℕ → Option Key
+abbrev pub key_in : Declared → List ℕ → Option Key
 key_in signals text =
     if first_byte text == 60 then key_between signals (drop 1 text) else Some (Named text)
 
@@ -85,13 +86,13 @@ mark_by entry (Some key) None ps = Err (BadMarking entry)
 mark_by entry (Some key) (Some tokens) ps = mark_key entry key tokens ps
 
 -- the places with an entry; an empty one, as stands before or behind a brace, is none
-abbrev pub mark : List (List ℕ) → List ℕ → Places → Result Places AstgKind
+abbrev pub mark : Declared → List ℕ → Places → Result Places AstgKind
 mark signals entry ps =
     if length entry == 0 then Ok ps
     else mark_by entry (key_in signals (place_text entry)) (tokens_of entry) ps
 
 -- the places with entries
-abbrev pub mark_all : List (List ℕ) → List (List ℕ) → Places → Result Places AstgKind
+abbrev pub mark_all : Declared → List (List ℕ) → Places → Result Places AstgKind
 mark_all signals entries ps = all_of (mark signals) entries ps
 
 -- the last word, empty where there is none

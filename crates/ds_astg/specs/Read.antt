@@ -1,18 +1,20 @@
 -- What a list of lines stands for: a marked graph, or its first fault.
-use Rattle.std.specs.Prelude.{ℕ, Bool, true, false, not, List, [], ◌∷◌, Option, None, Some}
-use Rattle.std.specs.Prelude.{Result, Ok, Err, ◌==◌, ◌&&◌, ◌||◌, nat_lt, nat_le, is_some, map}
+use Rattle.std.specs.Prelude.{ℕ, Bool, true, false, not, List, [], ◌∷◌, ◌++◌, Option, None}
+use Rattle.std.specs.Prelude.{Some, Result, Ok, Err, ◌==◌, ◌&&◌, ◌||◌, nat_lt, nat_le, is_some, map}
 use Rattle.std.specs.Prelude.{if◌then◌else◌}
-use Rattle.std.specs.List.{flat_map}
 use Rattle.ds_lines.specs.Line.{Line}
 use Rattle.ds_marked.specs.Graph.{Graph}
 use Rattle.ds_marked.specs.declared.marked.Arc.{Arc}
 use Rattle.ds_marked.specs.declared.marked.Event.{Event}
-use Rattle.ds_marked.specs.declared.marked.Kind.TheVariants.{Rise, Fall}
+use Rattle.ds_marked.specs.declared.marked.Kind.TheVariants.{Rise, Fall, Dummy as DummyKind}
 use Rattle.ds_astg.specs.Word.{word_at}
+use Rattle.ds_astg.specs.Signals.{Declared}
 use Rattle.ds_astg.specs.Place.{Places, Key, name_of}
 use Rattle.ds_astg.specs.Line.{State, start, step, head_of}
 use Rattle.ds_astg.specs.declared.head.Head.{Head}
 use Rattle.ds_astg.specs.declared.head.Head.TheVariants.{End}
+use Rattle.ds_astg.specs.declared.role.Role.{Role}
+use Rattle.ds_astg.specs.declared.role.Role.TheVariants.{Signal, Dummy}
 use Rattle.ds_astg.specs.declared.place.Place.{Place}
 use Rattle.ds_astg.specs.declared.fault.AstgKind.{AstgKind}
 use Rattle.ds_astg.specs.declared.fault.AstgKind.TheVariants.{NotMarkedGraph}
@@ -27,6 +29,17 @@ ends head = false
 abbrev pub events_of : List ℕ → List Event
 events_of signal = record { signal = signal; kind = Rise } ∷ record { signal = signal; kind = Fall }
     ∷ []
+
+-- the events of a name that is declared as such
+abbrev pub named_events : Role → List ℕ → List Event
+named_events Signal name = events_of name
+named_events Dummy name = record { signal = name; kind = DummyKind } ∷ []
+
+-- the events of names, one name after another
+abbrev pub all_events : List (List ℕ) → List Role → List Event
+all_events [] roles = []
+all_events (name ∷ names) [] = []
+all_events (name ∷ names) (role ∷ roles) = named_events role name ++ all_events names roles
 
 -- a number, 0 where there is none
 abbrev pub or_zero : Option ℕ → ℕ
@@ -71,9 +84,9 @@ lacking (key ∷ keys) (place ∷ places) =
     else lacking keys places
 
 -- the graph of signals and places
-abbrev pub graph_of_parts : List (List ℕ) → Places → Graph
+abbrev pub graph_of_parts : Declared → Places → Graph
 graph_of_parts signals ps = record {
-  events = flat_map events_of signals;
+  events = all_events signals.names signals.roles;
   arcs = in_order (map arc_of ps.places);
 }
 

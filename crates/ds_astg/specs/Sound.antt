@@ -1,5 +1,6 @@
 -- What holds of all that was read.
-use Rattle.std.specs.Prelude.{◌≡◌, ℕ, ◌*◌, ◌<◌, ◌≤◌, length, All, IfSome}
+use Rattle.std.specs.Prelude.{◌≡◌, ℕ, ◌<◌, ◌≤◌, length, All, IfSome}
+use Rattle.ds_astg.specs.Signals.{count_events}
 use Rattle.ds_astg.specs.Place.{Places}
 use Rattle.ds_astg.specs.Line.{State}
 use Rattle.ds_astg.specs.declared.place.Place.{Place}
@@ -14,6 +15,7 @@ pub record ArePlaces (events : ℕ) (ps : Places) : Type 0 where
   pub few : length ps.keys ≤ 1048576
   pub ends : All (HasEnds events) ps.places
 
--- there are two events for each signal
-abbrev pub IsSound : State → Type 0
-IsSound state = ArePlaces (2 * length state.signals) state.places
+-- each name is declared as something, and the ends of places are events of the names
+pub record IsSound (state : State) : Type 0 where
+  pub each : length state.signals.names ≡ length state.signals.roles
+  pub places : ArePlaces (count_events state.signals.roles) state.places

@@ -5,6 +5,7 @@ use Rattle.ds_lines.specs.Worked.{physical}
 use Rattle.ds_marked.specs.Graph.{Graph}
 use Rattle.ds_marked.specs.declared.marked.Arc.{Arc}
 use Rattle.ds_marked.specs.declared.marked.Event.{Event}
+use Rattle.ds_marked.specs.declared.marked.Kind.TheVariants.{Dummy}
 use Rattle.ds_astg.specs.Read.{graph_of, events_of}
 use Rattle.ds_astg.specs.declared.fault.AstgKind.{AstgKind}
 use Rattle.ds_astg.specs.declared.fault.AstgKind.TheVariants.{Unsupported, BadWord, Instance}
@@ -89,9 +90,24 @@ two_signals = events_of (codes "a") ++ events_of (codes "b")
 abbrev pub graph_with : List Arc → Graph
 graph_with arcs = record { events = two_signals; arcs = arcs }
 
+-- a signal, two dummies, and a signal behind them, the graph part open, and these lines from line 5
+-- on
+abbrev pub from_five : List (List ℕ) → List (List ℕ)
+from_five lines =
+    codes ".inputs a" ∷ codes ".dummy e f" ∷ codes ".outputs b" ∷ codes ".graph" ∷ lines
+
+-- these arcs between their six events
+abbrev pub graph_with_dummies : List Arc → Graph
+graph_with_dummies arcs = record {
+  events = events_of (codes "a") ++ record { signal = codes "e"; kind = Dummy }
+      ∷ record { signal = codes "f"; kind = Dummy } ∷ events_of (codes "b");
+  arcs = arcs;
+}
+
 -- declarations that add up, one twice; a graph part that is closed and opened again; words behind
 -- `.graph` and `.end`; places without an entry, one of which has the name of a signal and two of
--- which have the same ends; numbers of tokens; braces that touch entries; no text
+-- which have the same ends; numbers of tokens; braces that touch entries; dummies as sources and
+-- targets of places and in the marking, and one that is declared twice; no text
 pub record GraphsAreWorked : Type 0 where
   pub empty : Means [] (record { events = []; arcs = [] })
   pub declared : Means (codes ".inputs a" ∷ codes ".outputs b a" ∷ codes ".end" ∷ codes "x" ∷ [])
@@ -105,10 +121,13 @@ pub record GraphsAreWorked : Type 0 where
       (graph_with (arc 0 0 255 ∷ arc 0 1 1 ∷ arc 1 0 0 ∷ []))
   pub later : Means (from_three (codes ".marking {}" ∷ codes ".graph" ∷ codes "a+ p"
       ∷ codes "p b-" ∷ codes ".end" ∷ codes "p a-" ∷ [])) (graph_with (arc 0 3 0 ∷ []))
+  pub dummies : Means (from_five (codes "a+ e b+" ∷ codes "e f p" ∷ codes "p b-" ∷ codes "f a+"
+      ∷ codes ".dummy e" ∷ codes ".marking { p <f,a+>=2 <a+,e> }" ∷ []))
+      (graph_with_dummies (arc 0 2 1 ∷ arc 0 4 0 ∷ arc 2 3 0 ∷ arc 2 5 1 ∷ arc 3 0 2 ∷ []))
 
 -- lines with a word that is none
 pub record FaultsOfWords : Type 0 where
-  pub dummy : HasFault (codes ".dummy e" ∷ []) 1 (Unsupported (codes ".dummy"))
+  pub capacity : HasFault (codes ".capacity p=2" ∷ []) 1 (Unsupported (codes ".capacity"))
   pub outside : HasFault (codes "a+ b+" ∷ []) 1 (BadWord (codes "a+"))
   pub closed : HasFault (from_three (codes ".model m" ∷ codes "a+ b+" ∷ [])) 4
       (BadWord (codes "a+"))
@@ -120,6 +139,25 @@ pub record FaultsOfWords : Type 0 where
   pub signal : HasFault (codes ".inputs a b+ c=" ∷ []) 1 (BadWord (codes "b+"))
   pub two_models : HasFault (codes ".model m" ∷ codes ".model m" ∷ []) 2 (BadWord (codes ".model"))
   pub no_model : HasFault (codes ".model" ∷ []) 1 (BadWord (codes ".model"))
+
+-- lines with a dummy that is none, or that is something else too
+pub record FaultsOfDummies : Type 0 where
+  pub signed : HasFault (codes ".dummy e f+ g=" ∷ []) 1 (BadWord (codes "f+"))
+  pub a_signal : HasFault (codes ".outputs M0" ∷ codes ".dummy M0" ∷ []) 2 (BadWord (codes "M0"))
+  pub a_dummy : HasFault (codes ".dummy M0" ∷ codes ".outputs M0" ∷ []) 2 (BadWord (codes "M0"))
+  pub a_place : HasFault (toggle_with (codes "M0- e" ∷ codes "e S0+" ∷ codes ".dummy e" ∷ [])) 14
+      (BadWord (codes "e"))
+  pub a_place_too : HasFault (toggle_with (codes "M0- e" ∷ codes "e S0+" ∷ codes ".outputs f e"
+      ∷ [])) 14 (BadWord (codes "e"))
+  pub again : HasFault (from_five (codes "a+ b" ∷ codes "b b+" ∷ codes ".outputs b" ∷ [])) 7
+      (BadWord (codes "b"))
+  pub rises : HasFault (from_five (codes "a+ e+" ∷ [])) 5 (UnknownSignal (codes "e+"))
+  pub instance : HasFault (from_five (codes "e/1 e" ∷ [])) 5 (Instance (codes "e/1"))
+  pub lone : HasFault (from_five (codes "e" ∷ [])) 5 (BadWord (codes "e"))
+  pub entry : HasFault (from_five (codes "a+ e" ∷ codes ".marking { e }" ∷ [])) 6
+      (BadMarking (codes "e"))
+  pub later : HasFault (from_five (codes "a+ g" ∷ codes "g b+" ∷ codes ".dummy h"
+      ∷ codes ".marking { <a+,g> }" ∷ [])) 8 (BadMarking (codes "<a+,g>"))
 
 -- places that are none of a marked graph
 pub record FaultsOfPlaces : Type 0 where
@@ -157,5 +195,6 @@ pub record FaultsOfMarkings : Type 0 where
 pub record FaultsAreWorked : Type 0 where
   pub toggle : ToggleFaults
   pub words : FaultsOfWords
+  pub dummies : FaultsOfDummies
   pub places : FaultsOfPlaces
   pub markings : FaultsOfMarkings

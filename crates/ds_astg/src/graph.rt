@@ -1,7 +1,7 @@
 //! The graph of what was read.
-ghost use Rattle.std.specs.Prelude.{◌≡◌, ◌≢◌, ◌≤◌, ◌*◌, AllPairs, None, IfOk, length, map};
-ghost use Rattle.std.specs.List.{flat_map};
-ghost use Rattle.ds_astg.specs.Read.{arc_of as arc_in, end_of, events_of as events_in};
+ghost use Rattle.std.specs.Prelude.{◌≡◌, ◌≢◌, ◌≤◌, ◌++◌, AllPairs, None, IfOk, OnOk, length, map};
+ghost use Rattle.ds_astg.specs.Signals.{count_events};
+ghost use Rattle.ds_astg.specs.Read.{all_events, arc_of as arc_in, end_of, named_events};
 ghost use Rattle.ds_astg.specs.Read.{graph_of_parts, or_zero as or_zero_in};
 ghost use Rattle.ds_astg.specs.Read.{lacking as lacking_in, lacks as lacks_in};
 ghost use Rattle.ds_astg.specs.Sound.{ArePlaces, IsSound};
@@ -10,6 +10,7 @@ ghost use Rattle.ds_astg.specs.Steps.{Reads};
 use crate::fault::{AstgFault, AstgKind, AstgRefusal};
 use crate::place::Place;
 use crate::places::Places;
+use crate::role::Role;
 use crate::signals::Signals;
 use crate::state::State;
 use crate::word::name;
@@ -35,7 +36,8 @@ pub fn graph_of(alloc: Global, state: &State<'_>) -> Result<Marked, AstgRefusal>
 
 // The graph of signals and places.
 fn marked(alloc: Global, signals: &Signals<'_>, places: &Places<'_>) -> Result<Marked, OutOfMemory>
-    requires sound { ArePlaces (2 * length signals.now) places.now }
+    requires each { length signals.now.names ≡ length signals.now.roles }
+    requires sound { ArePlaces (count_events signals.now.roles) places.now }
     requires whole { lacking_in places.now.keys places.now.places ≡ None }
     ensures { IfOk result (λ g. g ≡ graph_of_parts signals.now places.now) }
 {
@@ -44,22 +46,40 @@ fn marked(alloc: Global, signals: &Signals<'_>, places: &Places<'_>) -> Result<M
     Marked::new(alloc, events, arcs)
 }
 
-// Both events of each signal.
+// The events of each name.
 fn events_of(alloc: Global, signals: &Signals<'_>) -> Result<Seq<Event>, OutOfMemory>
-    ensures value { IfOk result (λ e. e ≡ flat_map events_in signals.now) }
-    ensures few { length signals.now ≤ 65536 }
-    ensures distinct { AllPairs (λ a b. a ≢ b) signals.now }
+    requires each { length signals.now.names ≡ length signals.now.roles }
+    ensures value { IfOk result (λ e. e ≡ all_events signals.now.names signals.now.roles) }
+    ensures few { length signals.now.names ≤ 65536 }
+    ensures distinct { AllPairs (λ a b. a ≢ b) signals.now.names }
 {
     let mut events = Seq::new(alloc);
     for i in 0..signals.len() {
-        let signal = signals.name(i);
-        events.push(event(alloc, signal, Kind::Rise)?)?;
-        events.push(event(alloc, signal, Kind::Fall)?)?;
+        add_events(alloc, &mut events, signals.role(i), signals.name(i))?;
     }
     Ok(events)
 }
 
-// An event of a signal.
+// Adds the events of a name that is declared as such.
+fn add_events(
+    alloc: Global,
+    events: &mut Seq<Event>,
+    role: Role,
+    name: &[u8],
+) -> Result<(), OutOfMemory>
+    ensures { OnOk result (events.new ≡ events.old ++ named_events role name.now) }
+{
+    match role {
+        Role::Signal => {
+            events.push(event(alloc, name, Kind::Rise)?)?;
+            events.push(event(alloc, name, Kind::Fall)?)?;
+        }
+        Role::Dummy => events.push(event(alloc, name, Kind::Dummy)?)?,
+    }
+    Ok(())
+}
+
+// An event of a name.
 fn event(alloc: Global, signal: &[u8], kind: Kind) -> Result<Event, AllocError>
     ensures { IfOk result (λ e. e ≡ record { signal = signal.now; kind = kind }) }
 {

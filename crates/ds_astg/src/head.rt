@@ -15,6 +15,8 @@ pub enum Head {
     Model,
     /// `.inputs`, `.outputs` and `.internal`.
     Signals,
+    /// `.dummy`.
+    Dummies,
     /// `.graph`.
     Graph,
     /// `.marking`.
@@ -34,6 +36,8 @@ pub fn head_of(word: &[u8]) -> Head
         Head::Body
     } else if is_declaration(word) {
         Head::Signals
+    } else if is(word, b".dummy") {
+        Head::Dummies
     } else if is(word, b".model") {
         Head::Model
     } else if is(word, b".graph") {
@@ -68,7 +72,7 @@ pub fn ends(head: Head) -> bool
 {
     match head {
         Head::End => true,
-        Head::Body | Head::Model | Head::Signals | Head::Graph | Head::Marking | Head::Unknown =>
-            false,
+        Head::Body | Head::Model | Head::Signals | Head::Dummies => false,
+        Head::Graph | Head::Marking | Head::Unknown => false,
     }
 }

@@ -32,11 +32,11 @@ pub fn node_of<'a>(
     if has_reserved(word) {
         return Err(Refusal::Because(AstgKind::BadWord(name(alloc, word)?)));
     }
-    if !is_signed(word) {
-        return Ok(Node::Place(word));
-    }
     match signals.event(word) {
         Some(event) => Ok(Node::Event(event)),
-        None => Err(Refusal::Because(AstgKind::UnknownSignal(name(alloc, word)?))),
+        None if is_signed(word) => Err(Refusal::Because(AstgKind::UnknownSignal(name(
+            alloc, word,
+        )?))),
+        None => Ok(Node::Place(word)),
     }
 }

@@ -1,72 +1,123 @@
-//! The signals of a graph text.
-ghost use Rattle.std.specs.Prelude.{◌≡◌, ◌≢◌, ◌<◌, ◌≤◌, [], length, Ok, IfErr, OnOk, AllPairs};
+//! The signals of a graph text, and dummies among them.
+ghost use Rattle.std.specs.Prelude.{◌≡◌, ◌≢◌, ◌<◌, ◌≤◌, length, false, Ok, Some};
+ghost use Rattle.std.specs.Prelude.{IfErr, IfOk, IfSome, OnOk, AllPairs, option_map, slice_get};
+ghost use Rattle.ds_astg.specs.Signals.{no_names, role_of, with_declared, may_have as may_have_in};
 ghost use Rattle.ds_astg.specs.Line.{declare as declare_in, declare_all as declare_words};
-ghost use Rattle.ds_astg.specs.Node.{event_in, event_number};
+ghost use Rattle.ds_astg.specs.Line.{may_declare as may_declare_in};
+ghost use Rattle.ds_astg.specs.Node.{event_in, first_number};
 ghost use Rattle.ds_names.specs.Names.{has_name};
 ghost use Rattle.ds_astg.specs.Word.{word_at};
 ghost use Rattle.ds_astg.specs.Steps.{IsKind, texts};
 
+use crate::declaration::Declaration;
 use crate::fault::{AstgKind, Refusal};
-use crate::word::{fall_of, is_signal, is_signed, name, without_last, word};
-use ds_base::Limit;
+use crate::key::Key;
+use crate::places::Places;
+use crate::role::{Role, may_have};
+use crate::word::{is_signal, name, name_in, word};
+use ds_base::{Limit, OutOfMemory};
 use ds_names::Names;
 use std::alloc::Global;
 use std::marker::Model;
 
-/// Declared signals in the order of their declaration, each once.
+/// Declared names in the order of their declaration, each once, with what each is declared as, and
+/// how many events they have.
 pub struct Signals<'a> {
     names: Names<'a>,
+    declared: Vec<Declaration>,
+    events: u32,
 }
 
 impl Drop for Signals<'_> {
     fn drop(self) {
-        let Signals { names: _ } = self;
+        let Signals {
+            names: _,
+            declared: _,
+            events: _,
+        } = self;
     }
 }
 
 impl<'a> Model for Signals<'a> {
-    ghost use Rattle.std.specs.Prelude.{List, ℕ, length, ◌≤◌, ◌≢◌, AllPairs};
+    ghost use Rattle.ds_astg.specs.Signals.{Declared};
+    ghost use Rattle.ds_astg.specs.Numbered.{AreNumbered, roles_of};
 
-    ghost Value = { List (List ℕ) };
+    ghost Value = { Declared };
 
-    ghost view = { λ s. s.names };
+    ghost view = { λ s. record { names = s.names; roles = roles_of s.declared.items } };
 
-    ghost invariant = { λ s. (length s.names ≤ 65536) × AllPairs (λ a b. a ≢ b) s.names };
+    ghost invariant = { λ s. AreNumbered s.names s.declared.items s.events };
 }
 
 impl<'a> Signals<'a> {
-    /// No signals.
+    /// No names.
     pub fn new(alloc: Global) -> Self
-        ensures { result ≡ [] }
+        ensures { result ≡ no_names }
     {
         Signals {
             names: Names::new(alloc),
+            declared: Vec::new(alloc),
+            events: 0,
         }
     }
 
-    /// How many there are.
+    /// How many names there are.
     pub fn len(&self) -> usize
-        ensures value { result ≡ length self.now }
+        ensures value { result ≡ length self.now.names }
         ensures few { result ≤ 65536 }
-        ensures distinct { AllPairs (λ a b. a ≢ b) self.now }
+        ensures distinct { AllPairs (λ a b. a ≢ b) self.now.names }
     {
         self.names.len()
     }
 
-    /// The signal at a place.
+    /// The name at a place.
     pub fn name(&self, place: usize) -> &'a [u8]
-        requires { place < length self.now }
-        ensures { result.now ≡ word_at self.now place }
+        requires { place < length self.now.names }
+        ensures { result.now ≡ word_at self.now.names place }
     {
         self.names.name(place)
     }
 
-    /// Declares a signal, which may be declared before.
-    pub fn declare(&mut self, alloc: Global, word: &'a [u8]) -> Result<(), Refusal>
-        ensures ok { OnOk result (declare_in word.now self.old ≡ Ok self.new) }
-        ensures fault { IfErr result (λ e. IsKind e (declare_in word.now self.old)) }
+    /// What the name at a place is declared as.
+    pub fn role(&self, place: usize) -> Role
+        requires { place < length self.now.roles }
+        ensures { slice_get self.now.roles place ≡ Some result }
     {
-        if !is_signal(word) {
+        self.declared[place].role
+    }
+
+    /// Declares names, before which these places stand.
+    pub fn declare_all(
+        &mut self,
+        alloc: Global,
+        role: Role,
+        places: &Places<'a>,
+        words: &[&'a [u8]],
+    ) -> Result<(), Refusal>
+        ensures ok { OnOk result
+            (declare_words role places.now (texts words.now) self.old ≡ Ok self.new) }
+        ensures fault { IfErr result
+            (λ e. IsKind e (declare_words role places.now (texts words.now) self.old)) }
+    {
+        for i in 0..words.len() {
+            self.declare(alloc, role, places, word(words, i))?;
+        }
+        Ok(())
+    }
+
+    // Declares a name, which may be declared before.
+    fn declare(
+        &mut self,
+        alloc: Global,
+        role: Role,
+        places: &Places<'a>,
+        word: &'a [u8],
+    ) -> Result<(), Refusal>
+        ensures ok { OnOk result (declare_in role places.now word.now self.old ≡ Ok self.new) }
+        ensures fault { IfErr result
+            (λ e. IsKind e (declare_in role places.now word.now self.old)) }
+    {
+        if !self.may_declare(role, places, word) {
             return Err(Refusal::Because(AstgKind::BadWord(name(alloc, word)?)));
         }
         if self.has(word) {
@@ -75,38 +126,68 @@ impl<'a> Signals<'a> {
         if self.names.len() >= 65_536 {
             return Err(Refusal::Because(AstgKind::TooMany(Limit::Signals)));
         }
-        self.names.insert(word)?;
+        self.add(role, word)?;
         Ok(())
     }
 
-    // Whether a signal is declared.
+    // Whether a name may be declared as such.
+    fn may_declare(&self, role: Role, places: &Places<'a>, word: &'a [u8]) -> bool
+        ensures { result ≡ may_declare_in role places.now word.now self.now }
+    {
+        is_signal(word) && !places.has(Key::Named(word)) && self.may_be(role, word)
+    }
+
+    // Whether a name is declared as such, or not yet.
+    fn may_be(&self, role: Role, word: &[u8]) -> bool
+        ensures { result ≡ may_have_in (role_of self.now word.now) role }
+    {
+        match self.declaration(word) {
+            None => true,
+            Some(declaration) => may_have(Some(declaration.role), role),
+        }
+    }
+
+    // Whether a name is declared.
     fn has(&self, word: &[u8]) -> bool
-        ensures { result ≡ has_name self.now word.now }
+        ensures { result ≡ has_name self.now.names word.now }
     {
         self.names.place(word) < self.names.len()
     }
 
-    /// Declares signals.
-    pub fn declare_all(&mut self, alloc: Global, words: &[&'a [u8]]) -> Result<(), Refusal>
-        ensures ok { OnOk result (declare_words (texts words.now) self.old ≡ Ok self.new) }
-        ensures fault { IfErr result (λ e. IsKind e (declare_words (texts words.now) self.old)) }
+    // Adds a name that is not declared yet.
+    fn add(&mut self, role: Role, word: &'a [u8]) -> Result<(), OutOfMemory>
+        requires new { has_name self.old.names word.now ≡ false }
+        requires room { length self.old.names < 65536 }
+        ensures { OnOk result (self.new ≡ with_declared role word.now self.old) }
     {
-        for i in 0..words.len() {
-            self.declare(alloc, word(words, i))?;
-        }
+        self.names.insert(word)?;
+        let first = self.events;
+        self.declared.push(Declaration { role, first })?;
+        self.events = first + role.count();
         Ok(())
     }
 
-    /// The number of the event that a word stands for.
+    // What is known of a name, where it is declared.
+    fn declaration(&self, name: &[u8]) -> Option<Declaration>
+        ensures role { option_map (λ d. d.role) result ≡ role_of self.now name.now }
+        ensures first { IfSome result (λ d. d.first ≡ first_number self.now name.now) }
+        ensures few { IfSome result (λ d. d.first ≤ 131072) }
+    {
+        let place = self.names.place(name);
+        if place < self.declared.len() {
+            Some(self.declared[place])
+        } else {
+            None
+        }
+    }
+
+    /// The number of the event for which a word stands.
     pub fn event(&self, word: &[u8]) -> Option<u32>
         ensures { result ≡ event_in self.now word.now }
     {
-        let signal = without_last(word);
-        if is_signed(word) && self.has(signal) {
-            let place = self.names.place(signal);
-            Some(2 * place as u32 + fall_of(word))
-        } else {
-            None
+        match self.declaration(name_in(word)) {
+            None => None,
+            Some(declaration) => declaration.event(word),
         }
     }
 }

@@ -1,7 +1,7 @@
 //! What was read of a graph text.
 ghost use Rattle.std.specs.Prelude.{◌≡◌, ◌<◌, length, Ok, IfErr, OnOk};
 ghost use Rattle.ds_astg.specs.Line.{State as Known, start, model_line as model_line_in};
-ghost use Rattle.ds_astg.specs.Line.{signals_line as signals_line_in};
+ghost use Rattle.ds_astg.specs.Line.{declaration_line as declaration_line_in};
 ghost use Rattle.ds_astg.specs.Line.{body_line as body_line_in, marking_line as marking_line_in};
 ghost use Rattle.ds_astg.specs.Line.{step_by};
 ghost use Rattle.ds_astg.specs.Steps.{IsKind, IsRefusal, texts};
@@ -12,6 +12,7 @@ use crate::head::Head;
 use crate::links::graph_line;
 use crate::marking::{bad_marking, entries_of, mark_all};
 use crate::places::Places;
+use crate::role::Role;
 use crate::signals::Signals;
 use crate::word::{name, word};
 use std::alloc::Global;
@@ -71,7 +72,8 @@ impl<'a> State<'a> {
         match head {
             Head::Body => self.body_line(alloc, line, words),
             Head::Model => self.model_line(alloc, words),
-            Head::Signals => self.signals_line(alloc, words),
+            Head::Signals => self.declaration_line(alloc, Role::Signal, words),
+            Head::Dummies => self.declaration_line(alloc, Role::Dummy, words),
             Head::Graph => {
                 self.is_open = true;
                 Ok(())
@@ -113,13 +115,21 @@ impl<'a> State<'a> {
         Ok(())
     }
 
-    // A line that declares signals.
-    fn signals_line(&mut self, alloc: Global, words: &[&'a [u8]]) -> Result<(), Refusal>
+    // A line that declares names as such.
+    fn declaration_line(
+        &mut self,
+        alloc: Global,
+        role: Role,
+        words: &[&'a [u8]],
+    ) -> Result<(), Refusal>
         requires { 0 < length words.now }
-        ensures ok { OnOk result (signals_line_in (texts words.now) self.old ≡ Ok self.new) }
-        ensures fault { IfErr result (λ e. IsKind e (signals_line_in (texts words.now) self.old)) }
+        ensures ok { OnOk result
+            (declaration_line_in role (texts words.now) self.old ≡ Ok self.new) }
+        ensures fault { IfErr result
+            (λ e. IsKind e (declaration_line_in role (texts words.now) self.old)) }
     {
-        self.signals.declare_all(alloc, &words[1..])?;
+        self.signals
+            .declare_all(alloc, role, &self.places, &words[1..])?;
         self.is_open = false;
         Ok(())
     }

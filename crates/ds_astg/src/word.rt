@@ -6,6 +6,7 @@ ghost use Rattle.ds_astg.specs.Word.{has_slash as slash_in, has_reserved as rese
 ghost use Rattle.ds_astg.specs.Word.{is_reserved as is_reserved_byte};
 ghost use Rattle.ds_astg.specs.Word.{is_signed as signed, is_signal as may_be_signal};
 ghost use Rattle.ds_astg.specs.Word.{fall_of as falls};
+ghost use Rattle.ds_astg.specs.Node.{name_in as name_of_word};
 ghost use Rattle.std.specs.List.{before_first, position_or_len};
 ghost use Rattle.ds_astg.specs.Word.{is_byte, word_at};
 ghost use Rattle.ds_astg.specs.Steps.{texts};
@@ -117,6 +118,17 @@ pub fn is_signal(word: &[u8]) -> bool
     ensures { result ≡ may_be_signal word.now }
 {
     !has_slash(word) && !has_reserved(word) && !is_signed(word)
+}
+
+/// The name in a word: what stands before its sign, where it has one.
+pub fn name_in<'a>(word: &'a [u8]) -> &'a [u8]
+    ensures { result.now ≡ name_of_word word.now }
+{
+    if is_signed(word) {
+        without_last(word)
+    } else {
+        word
+    }
 }
 
 /// 0 where a word ends in `+`, else 1.

@@ -1,7 +1,6 @@
 -- The plan of a netlist has its split design, and its graph is accepted for it.
-use Rattle.std.proofs.Common.{◌≡◌, ◌≢◌, ◌∙◌, ◌⊎◌, ℕ, ◌<◌, ◌≤◌, List, Option, None, Some, length, get_or, inl, inr, arith, ap, sym, subst, AllPairs}
-use Rattle.std.proofs.lemmas.Bool.{cases_lt}
-use Rattle.std.proofs.lemmas.List.{get_or_default, length-map}
+use Rattle.std.proofs.Common.{◌≡◌, ◌≢◌, ◌∙◌, ℕ, ◌+◌, List, ◌++◌, Option, None, Some, length, length-append, arith, ap, sym, subst, AllPairs}
+use Rattle.std.proofs.lemmas.List.{get_or_append_left, length-map}
 use Rattle.ds_base.specs.declared.number.Mode.{Mode}
 use Rattle.ds_outside.specs.Held.{Held}
 use Rattle.ds_marked.specs.Graph.{Graph}
@@ -10,10 +9,10 @@ use Rattle.ds_design.specs.Accepted.{IsAccepted}
 use Rattle.ds_design.specs.Circuit.{Circuit, initial_row, initial_value}
 use Rattle.ds_design.specs.declared.design.Register.{Register}
 use Rattle.ds_latch.specs.Node.{Split, slackened}
-use Rattle.ds_latch.specs.Plan.{IsPlan, IsSplit, Planned, Reorders, split_events}
+use Rattle.ds_latch.specs.Plan.{IsPlan, IsSplit, Planned, split_events}
 use Rattle.ds_latch.proofs.Rising.{orders_are_accepted}
-use Rattle.ds_accept.specs.Accept.{AreThere, StandsAt}
-use Rattle.ds_accept.proofs.Counted.{some_event}
+use Rattle.ds_accept.specs.Accept.{extra_events}
+use Rattle.ds_accept.proofs.Accepted.{place_in, placed_in}
 use Rattle.ds_accept.proofs.Moved.{plan}
 use Rattle.ds_stage.specs.SplitStage.{IsInClusters}
 use Rattle.ds_stage.specs.PlanStage.{IsNamedPlan, planned_stage}
@@ -29,36 +28,19 @@ in_clusters_split mode c s accepted is =
       one_value_each = length-map c.registers (λ (r : Register). initial_value r.initial);
     })
 
-module _ (s : Split) (g : Graph) (there : AreThere s g) where
-  place_by : (v : ℕ) → (v < length (split_events s)) ⊎ (length (split_events s) ≤ v) → ℕ
-  place_by v (inl low) = (there v some_event low).0
-  place_by v (inr high) = 0
-
-  placed_by : (v : ℕ) (which : (v < length (split_events s)) ⊎ (length (split_events s) ≤ v)) → v < length (split_events s) → StandsAt s g v (place_by v which)
-  unfolding place_by
-  placed_by v (inl low) inside =
-      let (j, place, is) = there v some_event low in record {
-        number = inside;
-        inside = place;
-        event = λ d. get_or_default g.events j d (get_or (split_events s) v some_event) place ∙ (is ∙ get_or_default (split_events s) v some_event d low);
-      }
-  placed_by v (inr high) inside = absurd (omega arith)
-
--- an event stands in the order of the nodes where the plan has it
-numbered_by : (s : Split) (g to : Graph) → to.events ≡ split_events s → (r : Reorders g to) → (v : ℕ) → v < length g.events → StandsAt s g (r.place v) v
-numbered_by s g to events r v inside = record {
-  number = subst (λ (es : List Event). r.place v < length es) events (r.events v some_event inside).0;
-  inside = inside;
-  event = λ d. sym (r.events v d inside).1 ∙ ap (λ (es : List Event). get_or es (r.place v) d) events;
-}
+-- no event of a node stands twice
+nodes_once : (s : Split) (extra : List Event) → AllPairs (λ a b. a ≢ b) (split_events s ++ extra) → AllPairs (λ a b. a ≢ b) (split_events s)
+nodes_once s extra once i j d below inside same =
+    let size : length (split_events s ++ extra) ≡ length (split_events s) + length extra = length-append (split_events s) extra in
+    once i j d below (omega (inside, size, arith))
+    (get_or_append_left (split_events s) extra d i (omega (below, inside, arith)) ∙ (same ∙ sym (get_or_append_left (split_events s) extra d j inside)))
 
 -- the plan of a graph that is acceptable is accepted
 named_is_plan : (s : Split) (g : Graph) (p : Planned) → IsSplit s → IsNamedPlan s g p → IsPlan s p.graph
 named_is_plan s g p split named =
-    plan s g p.graph named.plan.reorders.place (λ v. place_by s g named.acceptable.there v (cases_lt v (length (split_events s)))) named.graph_kept
-    (subst (λ (es : List Event). AllPairs (λ a b. a ≢ b) es) named.plan.events named.plan_kept.once)
-    (numbered_by s g p.graph named.plan.events named.plan.reorders)
-    (λ v inside. placed_by s g named.acceptable.there v (cases_lt v (length (split_events s))) inside)
+    plan s g p.graph named.plan.reorders.place (place_in s g named.acceptable.there) named.graph_kept
+    (nodes_once s (extra_events s g) (subst (λ (es : List Event). AllPairs (λ a b. a ≢ b) es) named.plan.events named.plan_kept.once))
+    named.plan.reorders.events (placed_in s g named.acceptable.there)
     named.plan.events named.plan.reorders.arcs split named.acceptable
 
 -- slack leaves a split design split

@@ -7,7 +7,8 @@ use Rattle.ds_rank.specs.Rank.{AreRanks}
 use Rattle.ds_rows.specs.Log.{firing_text}
 use Rattle.ds_stage.specs.Stage.{Stage, giving}
 
--- each event in order, with its rank: a line as that of a firing
+-- each event in order, those of the nodes and then any others, with its rank: a line as that of a
+-- firing
 abbrev pub rank_lines : Graph → List ℕ → ℕ → List ℕ
 rank_lines g ranks count =
     flat_map (λ v. firing_text g v (slice_index ranks v)) (range_with_len 0 count)

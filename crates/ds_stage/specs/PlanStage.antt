@@ -41,7 +41,6 @@ walk_text (Some sum) = codes " (least walk " ++ decimal sum ++ codes ")"
 
 -- the fault of a graph that is not accepted, its events as they stand in it; want of memory is none
 abbrev pub accept_text : Graph → AcceptFault → Option (List ℕ)
-accept_text g (accept.UnknownEvent event) = Some (codes "unknown event " ++ text_of_event g event)
 accept_text g (accept.MissingEvent event) = Some (codes "missing event " ++ event_text event)
 accept_text g (accept.MissingOrder from to tokens least numbers) =
     Some (codes "missing order " ++ text_of_event g from ++ codes " to " ++ text_of_event g to

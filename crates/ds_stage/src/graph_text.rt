@@ -38,7 +38,6 @@ pub fn accept_text(
     ensures { IfOk result (λ text. IsAcceptText graph.now fault.now text.items) }
 {
     match fault {
-        AcceptFault::UnknownEvent(event) => unknown(alloc, graph, *event),
         AcceptFault::MissingEvent(event) => missing(alloc, event),
         AcceptFault::MissingOrder {
             from,
@@ -53,14 +52,6 @@ pub fn accept_text(
         AcceptFault::TokenFreeCycle(events) => cycle(alloc, graph, events.as_slice()),
         AcceptFault::Memory => Err(OutOfMemory),
     }
-}
-
-// An event that is no node's.
-fn unknown(alloc: Global, graph: &Marked, event: EventId) -> Result<Vec<u8>, OutOfMemory>
-    ensures { IfOk result (λ text. text.items
-        ≡ codes "unknown event " ++ text_of_event graph.now event) }
-{
-    Ok(with_event(Vec::from_slice(alloc, b"unknown event ")?, graph, event)?)
 }
 
 // A node's event that lacks.

@@ -57,7 +57,9 @@ pub fn play_edits<R: AllocGlobal + Threads + Sync>(
     play(rt, text.as_str(), runs)
 }
 
-// Graphs that are accepted, with their ranks. The last one gives five orders by walks.
+// Graphs that are accepted, with their ranks. The fourth one gives five orders by walks. Behind it
+// come those with a signal that is no node: one that nothing waits for, and one that stands between
+// two latches.
 const ACCEPTED: &str = "%~
 .model toggle
 =>
@@ -128,11 +130,49 @@ M0+ 1
 M0- 2
 S0+ 3
 S0- 4
+%~
+.graph
+=>
+.internal X
+.graph
+%$ desync accept toggle g
+%= 0
+accepted
+IN+ 0
+IN- 1
+OUT+ 0
+OUT- 1
+M0+ 1
+M0- 2
+S0+ 3
+S0- 4
+X+ 0
+X- 0
+%~
+M0- IN+ M0+ S0+
+=>
+.internal X
+.graph
+M0- IN+ M0+ X+
+X+ S0+
+%$ desync accept toggle g
+%= 0
+accepted
+IN+ 0
+IN- 1
+OUT+ 0
+OUT- 1
+M0+ 1
+M0- 2
+S0+ 4
+S0- 5
+X+ 3
+X- 0
 ";
 
 #[test]
 fn accepted_graphs_show_their_ranks(rt: HostRuntime) -> Result<(), Fail> {
-    play_edits(&rt, ACCEPTED, 4)
+    play_edits(&rt, ACCEPTED, 6)
 }
 
 // Runs over the same graphs.
@@ -186,11 +226,124 @@ S0- M0+
 1 1 1
 2 1 1
 end 0
+%v
+1
+1
+0
+1
+%$ desync run toggle v --graph g --jobs 1
+%$ desync run toggle v --graph g --jobs 4
+%= 0
+0 0 0
+1 1 1
+2 0 0
+3 0 0
+end 1
+%v
+1
+0
+1
+%~
+.outputs IN OUT M0 S0
+=>
+.inputs X
+.outputs IN OUT M0 S0
+%$ desync run toggle v --graph g
+%$ desync run toggle v --graph g --jobs 4
+%= 0
+0 0 0
+1 1 1
+2 1 1
+end 0
+%~
+M0- IN+ M0+ S0+
+=>
+.internal X
+.graph
+M0- IN+ M0+ X+
+X+ S0+
+%$ desync run toggle v --graph g
+%$ desync run toggle v --graph g --jobs 4
+%= 0
+0 0 0
+1 1 1
+2 1 1
+end 0
 ";
 
 #[test]
 fn runs_over_accepted_graphs_print_the_clocked_trace(rt: HostRuntime) -> Result<(), Fail> {
-    play_edits(&rt, RUNS, 4)
+    play_edits(&rt, RUNS, 10)
+}
+
+// Logs over graphs with signals that are no nodes: each event counts for each vector, also where
+// nothing waits for it, and what waits for it is not enabled before.
+const EXTRA_LOGS: &str = "%~
+.graph
+=>
+.internal X
+.graph
+%v
+1
+%l
+X- 1
+IN+ 1
+%$ desync replay toggle v l --graph g
+%= 0
+q: -
+fired 2 of 10
+%~
+.graph
+=>
+.internal X
+.graph
+%l
+X+ 1
+X+ 2
+%$ desync replay toggle v l --graph g
+%= 1
+l:2: over limit
+%~
+M0- IN+ M0+ S0+
+=>
+.internal X
+.graph
+M0- IN+ M0+ X+
+X+ S0+
+%l
+IN+ 1
+M0+ 1
+M0- 1
+OUT+ 1
+OUT- 1
+X+ 1
+S0+ 1
+%$ desync replay toggle v l --graph g
+%= 0
+q: -
+fired 7 of 10
+%~
+M0- IN+ M0+ S0+
+=>
+.internal X
+.graph
+M0- IN+ M0+ X+
+X+ S0+
+%l
+IN+ 1
+M0+ 1
+M0- 1
+OUT+ 1
+OUT- 1
+S0+ 1
+%$ desync replay toggle v l --graph g
+%= 1
+l:6: not enabled: X+ to S0+
+";
+
+#[test]
+fn events_of_no_node_stand_in_logs(rt: HostRuntime) -> Result<(), Fail> {
+    play_edits(&rt, EXTRA_LOGS, 4)
 }
 
 // Here M0+ alone waits for more than it must.
@@ -235,15 +388,6 @@ g: token-free cycle: M0+ M0-
 %$ desync run toggle v --graph g
 %= 1
 g: token-free cycle: OUT+ OUT- S0+
-%~
-.graph
-=>
-.internal X
-.graph
-%$ desync accept toggle g
-%$ desync run toggle v --graph g
-%= 1
-g: unknown event X+
 %~
 .graph
 =>
@@ -311,5 +455,5 @@ g: missing order M0- to S0+ with 0 tokens (least walk 1)
 
 #[test]
 fn faults_of_graphs_are_named(rt: HostRuntime) -> Result<(), Fail> {
-    play_edits(&rt, FAULTS, 22)
+    play_edits(&rt, FAULTS, 20)
 }

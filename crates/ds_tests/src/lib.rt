@@ -13,6 +13,8 @@ mod cycle_tests;
 #[cfg(test)]
 mod demo_tests;
 #[cfg(test)]
+mod dummy_tests;
+#[cfg(test)]
 mod fault_tests;
 #[cfg(test)]
 mod graph_tests;

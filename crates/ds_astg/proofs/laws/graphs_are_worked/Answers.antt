@@ -6,4 +6,4 @@ use Rattle.ds_astg.proofs.laws.graphs_are_worked.Goals as goal
 
 pub returns : goal.returns
 unfolding words_in joins is_reserved is_signed head_of is_declaration
-returns c = record { empty = refl; declared = refl; again = refl; places = refl; tokens = refl; later = refl }
+returns c = record { empty = refl; declared = refl; again = refl; places = refl; tokens = refl; later = refl; dummies = refl }

@@ -4,4 +4,4 @@ use Rattle.ds_astg.specs.Steps.{texts}
 use Rattle.ds_astg.proofs.signals.Signals.declare_all.Given as goal
 
 abbrev pub invariant-loop-i : goal.invariant-loop-i
-invariant-loop-i l = declare_words (texts l.words) l.fn.self ≡ declare_words (drop l.i (texts l.words)) l.self
+invariant-loop-i l = declare_words l.role l.places (texts l.words) l.fn.self ≡ declare_words l.role l.places (drop l.i (texts l.words)) l.self
