@@ -3,6 +3,7 @@ pub mod Distinct
 pub mod First
 pub mod Heads
 pub mod InOrder
+pub mod InParts
 pub mod NoFault
 pub mod PartsFit
 pub mod Printed

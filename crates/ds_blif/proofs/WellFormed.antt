@@ -6,9 +6,9 @@ use Rattle.std.proofs.Common.{Ok}
 use Rattle.std.specs.List.{All, AllByRecursion}
 use Rattle.std.proofs.lemmas.List.Elements.{All-from_recursion}
 use Rattle.ds_lines.specs.Line.{Line}
-use Rattle.ds_design.specs.Source.{IsPart, IsBlif}
-use Rattle.ds_design.specs.declared.blif.Part.{Part}
-use Rattle.ds_design.specs.declared.blif.BlifModel.{BlifModel}
+use Rattle.ds_models.specs.Source.{IsPart, IsBlif}
+use Rattle.ds_models.specs.declared.blif.Part.{Part}
+use Rattle.ds_models.specs.declared.blif.BlifModel.{BlifModel}
 use Rattle.ds_blif.specs.Word.{word_at}
 use Rattle.ds_blif.specs.Head.{head_of}
 use Rattle.ds_blif.specs.State.{State, after_head, after, own_fault}

@@ -7,6 +7,7 @@ pub mod State
 pub mod InOrder
 pub mod Parts
 pub mod Text
+pub mod InParts
 pub mod Worked
 pub mod Print
 pub mod Printable

@@ -4,17 +4,17 @@ ghost use Rattle.ds_blif.specs.Parts.{models_of};
 
 use crate::building::Building;
 use ds_base::{OutOfMemory, Seq};
-use ds_design::BlifModel;
 use ds_lines::Lines;
+use ds_models::BlifModel;
 use std::alloc::Global;
 
 /// The models of the lines. Of lines with a fault they are some models.
-pub fn build(alloc: Global, lines: &Lines<'_>) -> Result<Seq<BlifModel>, OutOfMemory>
-    ensures { IfOk result (λ m. m ≡ models_of lines.now) }
+pub fn build<'l>(alloc: Global, lines: &'l Lines<'_>) -> Result<Seq<BlifModel<'l>>, OutOfMemory>
+    ensures { IfOk result (λ m. m ≡ models_of lines.entry.now) }
 {
-    let mut building = Building::new(alloc);
+    let mut building: Building<'l> = Building::new(alloc);
     for i in (0..lines.count()).rev() {
-        building = building.with_line(alloc, lines.number(i), lines.line(i))?;
+        building.take_line(alloc, lines.number(i), lines.line(i))?;
     }
     Ok(building.into_models())
 }

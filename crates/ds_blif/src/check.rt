@@ -10,22 +10,22 @@ use crate::step::step;
 use ds_lines::Lines;
 use std::alloc::Global;
 
-// The state behind a line, or the fault of the line.
+// Goes on to the state behind a line, or tells the fault of the line.
 fn check_line<'a>(
     alloc: Global,
-    state: State<'a>,
+    state: &mut State<'a>,
     lines: &Lines<'a>,
     i: usize,
-) -> Result<State<'a>, BlifRefusal>
+) -> Result<(), BlifRefusal>
     requires { i < length lines.now }
     ensures { MatchResult result
-        (λ s. (fault_in state.entry (line_or_none lines.now i).words ≡ None) × (s ≡ after
-        (line_or_none lines.now i).words state.entry))
-        (λ e. IsFirst e (fault_or (fault_in state.entry (line_or_none lines.now i).words)
+        (λ _. (fault_in state.old (line_or_none lines.now i).words ≡ None) × (state.new ≡ after
+        (line_or_none lines.now i).words state.old))
+        (λ e. IsFirst e (fault_or (fault_in state.old (line_or_none lines.now i).words)
         (line_or_none lines.now i).number None)) }
 {
     match step(alloc, state, lines.line(i)) {
-        Ok(next) => Ok(next),
+        Ok(()) => Ok(()),
         Err(Refusal::Memory) => Err(BlifRefusal::Memory),
         Err(Refusal::Because(kind)) => {
             let line = lines.number(i);
@@ -41,7 +41,7 @@ pub fn check<'a>(alloc: Global, lines: &Lines<'a>) -> Result<(), BlifRefusal>
 {
     let mut state: State<'a> = initial(alloc);
     for i in 0..lines.count() {
-        state = check_line(alloc, state, lines, i)?;
+        check_line(alloc, &mut state, lines, i)?;
     }
     if state.models.len() == 0 {
         Err(BlifRefusal::Fault(BlifFault {

@@ -1,4 +1,5 @@
 //! Laws of the definitions, each the contract of a function that does nothing.
+ghost use Rattle.ds_blif.specs.InParts.{LinesStandInParts};
 ghost use Rattle.ds_blif.specs.Laws.{FaultIsInOrder, ModelsAreWellFormed};
 ghost use Rattle.ds_blif.specs.Laws.{PrintedIsRead, PrintedTextIsRead};
 ghost use Rattle.ds_blif.specs.Worked.{FaultsAreWorked, ModelsAreWorked};
@@ -11,6 +12,11 @@ pub fn models_are_well_formed()
 /// The fault of a line is the first that holds, in the one order of the format.
 pub fn fault_is_in_order()
     ensures { FaultIsInOrder }
+{}
+
+/// The models of a text are those of its lines in parts.
+pub fn lines_stand_in_parts()
+    ensures { LinesStandInParts }
 {}
 
 /// The lines that print some models stand for these models, each part at its line.

@@ -9,24 +9,23 @@ use crate::word::{name, word};
 use ds_names::Names;
 use std::alloc::Global;
 
-/// The names of the models, with that of this model's head.
-pub fn with_model<'a>(
+/// Adds the name of this model's head to the names of the models.
+pub fn add_model<'a>(
     alloc: Global,
-    names: Names<'a>,
+    names: &mut Names<'a>,
     words: &[&'a [u8]],
-) -> Result<Names<'a>, Refusal>
+) -> Result<(), Refusal>
     ensures { MatchResult result
-        (λ all. (model_fault names.entry (texts words.now) ≡ None) × (all ≡ names.entry ++ word_at
+        (λ _. (model_fault names.old (texts words.now) ≡ None) × (names.new ≡ names.old ++ word_at
         (texts words.now) 1 ∷ []))
-        (λ e. IsKind e (model_fault names.entry (texts words.now))) }
+        (λ e. IsKind e (model_fault names.old (texts words.now))) }
 {
     if words.len() != 2 {
         return Err(Refusal::Because(BlifKind::BadWords));
     }
-    let mut names = names;
     let (_, added) = names.insert(word(words, 1))?;
     if added {
-        Ok(names)
+        Ok(())
     } else {
         let repeated = name(alloc, word(words, 1))?;
         Err(Refusal::Because(BlifKind::RepeatedModel(repeated)))

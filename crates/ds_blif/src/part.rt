@@ -10,20 +10,21 @@ ghost use Rattle.ds_blif.specs.Parts.{initial_of as initial_of_words, latch_of a
 ghost use Rattle.ds_blif.specs.Parts.{pair_of as pair_of_word, use_of as use_of_words};
 
 use crate::subckt::{formal, place_of_equals};
-use crate::word::{behind, is, name, names, word_or_none};
-use ds_base::{Name, OutOfMemory, Seq};
-use ds_design::{Edge, LatchText, Pair, TableText, UseText};
-use std::alloc::{AllocError, Global};
+use crate::word::{behind, is, word_or_none};
+use ds_base::{OutOfMemory, Seq};
+use ds_design::Edge;
+use ds_models::{LatchText, Pair, TableText, UseText, Word, Words};
+use std::alloc::Global;
 
 /// The characters of a row's inputs.
-pub fn plane_of(alloc: Global, words: &[&[u8]]) -> Result<Name, AllocError>
-    ensures { IfOk result (λ n. n ≡ plane_of_words (texts words.now)) }
+pub fn plane_of<'a>(words: &[&'a [u8]]) -> Word<'a>
+    ensures { result ≡ plane_of_words (texts words.now) }
 {
-    if words.len() == 1 {
-        Ok(Seq::new(alloc))
+    Word::of(if words.len() == 1 {
+        &[]
     } else {
-        name(alloc, word_or_none(words, 0))
-    }
+        word_or_none(words, 0)
+    })
 }
 
 /// Whether the output of a row is 1.
@@ -44,14 +45,13 @@ fn edge_of(word: &[u8]) -> Edge
     }
 }
 
-fn control_of(alloc: Global, word: &[u8]) -> Result<Option<Name>, AllocError>
-    ensures { IfOk result (λ c. c ≡ control_of_word word.now) }
+fn control_of<'a>(word: &'a [u8]) -> Option<Word<'a>>
+    ensures { result ≡ control_of_word word.entry.now }
 {
     if is(word, b"NIL") {
-        Ok(None)
+        None
     } else {
-        let control = name(alloc, word)?;
-        Ok(Some(control))
+        Some(Word::of(word))
     }
 }
 
@@ -76,64 +76,62 @@ fn initial_of(words: &[&[u8]]) -> u8
 }
 
 /// The latch of a line.
-pub fn latch_of(alloc: Global, words: &[&[u8]]) -> Result<LatchText, AllocError>
-    ensures { IfOk result (λ l. l ≡ latch_of_words (texts words.now)) }
+pub fn latch_of<'a>(words: &[&'a [u8]]) -> LatchText<'a>
+    ensures { result ≡ latch_of_words (texts words.now) }
 {
-    let data_net = name(alloc, word_or_none(words, 1))?;
-    let output = name(alloc, word_or_none(words, 2))?;
+    let data_net = Word::of(word_or_none(words, 1));
+    let output = Word::of(word_or_none(words, 2));
     let initial = initial_of(words);
     if 4 < words.len() {
-        let control = control_of(alloc, word_or_none(words, 4))?;
-        let edge = Some(edge_of(word_or_none(words, 3)));
-        Ok(LatchText {
+        LatchText {
             data_net,
             output,
-            edge,
-            control,
+            edge: Some(edge_of(word_or_none(words, 3))),
+            control: control_of(word_or_none(words, 4)),
             initial,
-        })
+        }
     } else {
-        Ok(LatchText {
+        LatchText {
             data_net,
             output,
             edge: None,
             control: None,
             initial,
-        })
+        }
     }
 }
 
-fn pair_of(alloc: Global, word: &[u8]) -> Result<Pair, AllocError>
-    ensures { IfOk result (λ p. p ≡ pair_of_word word.now) }
+fn pair_of<'a>(word: &'a [u8]) -> Pair<'a>
+    ensures { result ≡ pair_of_word word.entry.now }
 {
     let place = place_of_equals(word);
-    let formal = name(alloc, formal(word))?;
-    let actual = name(
-        alloc,
-        if place < word.len() {
+    Pair {
+        formal: Word::of(formal(word)),
+        actual: Word::of(if place < word.len() {
             &word[place + 1..]
         } else {
             &[]
-        },
-    )?;
-    Ok(Pair { formal, actual })
+        }),
+    }
 }
 
 /// The use of a model of a line.
-pub fn use_of(alloc: Global, words: &[&[u8]]) -> Result<UseText, OutOfMemory>
+pub fn use_of<'a>(alloc: Global, words: &[&'a [u8]]) -> Result<UseText<'a>, OutOfMemory>
     ensures { IfOk result (λ u. u ≡ use_of_words (texts words.now)) }
 {
-    let model = name(alloc, word_or_none(words, 1))?;
     let pairs = pairs_of(alloc, behind(words, 2))?;
-    Ok(UseText { model, pairs })
+    Ok(UseText {
+        model: Word::of(word_or_none(words, 1)),
+        pairs,
+    })
 }
 
-fn pairs_of(alloc: Global, words: &[&[u8]]) -> Result<Seq<Pair>, OutOfMemory>
+fn pairs_of<'a>(alloc: Global, words: &[&'a [u8]]) -> Result<Seq<Pair<'a>>, OutOfMemory>
     ensures { IfOk result (λ p. p ≡ map pair_of_word (texts words.now)) }
 {
     let mut pairs = Vec::with_capacity(alloc, words.len())?;
     for word in words {
-        pairs.push(pair_of(alloc, *word)?)?;
+        pairs.push(pair_of(*word))?;
     }
     Ok(Seq::of(pairs))
 }
@@ -150,27 +148,20 @@ fn inputs_of<'w, 'a>(words: &'w [&'a [u8]]) -> &'w [&'a [u8]]
 }
 
 /// The table of a line, with these rows.
-pub fn table_of(
-    alloc: Global,
-    words: &[&[u8]],
-    rows: Seq<Name>,
-    on: bool,
-) -> Result<TableText, OutOfMemory>
+pub fn table_of<'a>(words: &'a [&'a [u8]], rows: Seq<Word<'a>>, on: bool) -> TableText<'a>
     requires { 0 < length words.now }
-    ensures { IfOk result (λ t. t ≡ record {
-      inputs = take (length words.now - 2) (drop 1
-          (texts words.now));
-      output = output_of (texts words.now);
-      rows = rows;
+    ensures { result ≡ record {
+      inputs = take (length words.entry.now - 2) (drop 1
+          (texts words.entry.now));
+      output = output_of (texts words.entry.now);
+      rows = rows.entry;
       on = on;
-    }) }
+    } }
 {
-    let inputs = names(alloc, inputs_of(words))?;
-    let output = name(alloc, word_or_none(words, words.len() - 1))?;
-    Ok(TableText {
-        inputs,
-        output,
+    TableText {
+        inputs: Words::of(inputs_of(words)),
+        output: Word::of(word_or_none(words, words.len() - 1)),
         rows,
         on,
-    })
+    }
 }

@@ -5,14 +5,14 @@ ghost use Rattle.ds_blif.specs.Text.{read_of, Reads};
 use crate::build::build;
 use crate::check::check;
 use crate::fault::BlifRefusal;
-use ds_design::Blif;
 use ds_lines::Lines;
+use ds_models::Blif;
 use std::alloc::Global;
 
 /// The models that the lines stand for, the main one first, or their first fault. A text without
 /// a model is a fault of line 1.
-pub fn read(alloc: Global, lines: &Lines<'_>) -> Result<Blif, BlifRefusal>
-    ensures { Reads result (read_of lines.now) }
+pub fn read<'l>(alloc: Global, lines: &'l Lines<'_>) -> Result<Blif<'l>, BlifRefusal>
+    ensures { Reads result (read_of lines.entry.now) }
 {
     check(alloc, lines)?;
     let models = build(alloc, lines)?;
@@ -44,7 +44,7 @@ mod tests {
         };
         let models = blif.models();
         assert_eq!(rt; models.len(), 2);
-        assert_eq!(rt; models[0].name.as_slice(), b"top".as_slice());
+        assert_eq!(rt; models[0].name.get(), b"top".as_slice());
         assert_eq!(rt; models[0].commands.as_slice().len(), 2);
         assert_eq!(rt; models[1].line, 4);
         Ok(())

@@ -10,7 +10,7 @@ ghost use Rattle.ds_blif.specs.declared.head.Head.TheVariants.{Model as ModelHea
 use crate::fault::{BlifKind, Refusal};
 use crate::head::{Head, head_of};
 use crate::latch::latch_fault;
-use crate::model_names::with_model;
+use crate::model_names::add_model;
 use crate::row::row_fault;
 use crate::state::{State, first_after, open_after, table_after, wants_model};
 use crate::subckt::subckt_fault;
@@ -73,66 +73,54 @@ fn line_fault(
     own_fault(alloc, head, state, words)
 }
 
-// What a line leaves open, where it is no model's head.
-fn moved<'a>(head: Head, state: State<'a>, words: &[&'a [u8]]) -> State<'a>
+// Goes on to what a line leaves open, where it is no model's head.
+fn go_on<'a>(head: Head, state: &mut State<'a>, words: &[&'a [u8]])
     requires some { 0 < length words.now }
     requires other { head ≢ ModelHead }
-    ensures { result ≡ after_head head (texts words.now) state.entry }
+    ensures { state.new ≡ after_head head (texts words.now) state.old }
 {
-    let State {
-        is_open,
-        table,
-        first,
-        models,
-    } = state;
-    State {
-        is_open: open_after(head, is_open),
-        table: table_after(head, words, table),
-        first: first_after(head, words, first),
-        models,
-    }
+    state.is_open = open_after(head, state.is_open);
+    state.table = table_after(head, words, state.table);
+    state.first = first_after(head, words, state.first);
 }
 
 // A model's head.
-fn model_step<'a>(alloc: Global, state: State<'a>, words: &[&'a [u8]]) -> Result<State<'a>, Refusal>
+fn model_step<'a>(alloc: Global, state: &mut State<'a>, words: &[&'a [u8]]) -> Result<(), Refusal>
     requires some { 0 < length words.now }
     ensures { MatchResult result
-        (λ s. (fault_by ModelHead state.entry (texts words.now) ≡ None) × (s ≡ after_head ModelHead
-        (texts words.now) state.entry))
-        (λ e. IsKind e (fault_by ModelHead state.entry (texts words.now))) }
+        (λ _. (fault_by ModelHead state.old (texts words.now) ≡ None) × (state.new ≡ after_head
+        ModelHead (texts words.now) state.old))
+        (λ e. IsKind e (fault_by ModelHead state.old (texts words.now))) }
 {
-    let State {
-        is_open: _,
-        table: _,
-        first: _,
-        models,
-    } = state;
-    match with_model(alloc, models, words) {
-        Ok(models) => Ok(State {
-            is_open: true,
-            table: None,
-            first: None,
-            models,
-        }),
+    match add_model(alloc, &mut state.models, words) {
+        Ok(()) => {
+            state.is_open = true;
+            state.table = None;
+            state.first = None;
+            Ok(())
+        }
         Err(refusal) => Err(refusal),
     }
 }
 
-/// The state behind a line, or the fault of the line.
-pub fn step<'a>(alloc: Global, state: State<'a>, words: &[&'a [u8]]) -> Result<State<'a>, Refusal>
+/// Goes on to the state behind a line, or tells the fault of the line.
+pub fn step<'a>(alloc: Global, state: &mut State<'a>, words: &[&'a [u8]]) -> Result<(), Refusal>
     requires { 0 < length words.now }
     ensures { MatchResult result
-        (λ s. (fault_in state.entry (texts words.now) ≡ None) × (s ≡ after
-        (texts words.now) state.entry))
-        (λ e. IsKind e (fault_in state.entry (texts words.now))) }
+        (λ _. (fault_in state.old (texts words.now) ≡ None) × (state.new ≡ after
+        (texts words.now) state.old))
+        (λ e. IsKind e (fault_in state.old (texts words.now))) }
 {
     let head = head_of(word(words, 0));
     if head == Head::Model {
         return model_step(alloc, state, words);
     }
-    match line_fault(alloc, head, &state, words) {
+    match line_fault(alloc, head, state, words) {
         Err(OutOfMemory) => Err(Refusal::Memory),
         Ok(Some(kind)) => Err(Refusal::Because(kind)),
-        Ok(None) => Ok(moved(head, state, words)),
+        Ok(None) => {
+            go_on(head, state, words);
+            Ok(())
+        }
     }
 }

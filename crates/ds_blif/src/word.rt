@@ -3,7 +3,8 @@ ghost use Rattle.std.specs.Prelude.{◌≡◌, ◌<◌, length, drop, IfOk};
 ghost use Rattle.std.specs.Str.{bytes_eq};
 ghost use Rattle.ds_blif.specs.Word.{texts, word_at};
 
-use ds_base::{Name, OutOfMemory, Seq};
+use ds_base::{Name, Seq};
+use ds_models::Words;
 use std::alloc::{AllocError, Global};
 
 /// Whether two words are the same.
@@ -36,22 +37,11 @@ pub fn word_or_none<'a>(words: &[&'a [u8]], k: usize) -> &'a [u8]
     if k < words.len() { words[k] } else { &[] }
 }
 
-/// Copies of words.
-pub fn names(alloc: Global, words: &[&[u8]]) -> Result<Seq<Name>, OutOfMemory>
-    ensures { IfOk result (λ n. n ≡ texts words.now) }
+/// The words behind the first one.
+pub fn words_behind<'a>(words: &'a [&'a [u8]]) -> Words<'a>
+    ensures { result ≡ drop 1 (texts words.entry.now) }
 {
-    let mut names = Vec::with_capacity(alloc, words.len())?;
-    for word in words {
-        names.push(name(alloc, *word)?)?;
-    }
-    Ok(Seq::of(names))
-}
-
-/// Copies of the words behind the first one.
-pub fn names_behind(alloc: Global, words: &[&[u8]]) -> Result<Seq<Name>, OutOfMemory>
-    ensures { IfOk result (λ n. n ≡ drop 1 (texts words.now)) }
-{
-    names(alloc, behind(words, 1))
+    Words::of(behind(words, 1))
 }
 
 /// The words from a place on.

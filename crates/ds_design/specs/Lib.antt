@@ -1,5 +1,4 @@
 -- In the order in which to read.
-pub mod Source
 pub mod Circuit
 pub mod InRange
 pub mod Accepted

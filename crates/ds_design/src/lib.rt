@@ -1,22 +1,19 @@
 //! Circuits: the types that pass between the layers, and what they mean.
 //!
-//! A `Blif` is the text of a netlist, still in words; a `Design` is a flat design, seen as a list
-//! of nets, tables and registers; a `Netlist` is a design that is accepted, with its columns, the
-//! level of each net, and its tables by level and packed; `Vectors` are rows of one width. The
-//! definitions say what a design is accepted for, which one valuation of the nets a turn has, what
-//! a clocked run is and how its trace is written. `laws` has what follows of them alone: one
-//! valuation, one run, runs in windows, and that known values stand where unknown ones become
-//! known. A caller is not promised an order of the tables but that each comes behind those that it
-//! reads.
+//! A `Design` is a flat design, seen as a list of nets, tables and registers; a `Netlist` is a
+//! design that is accepted, with its columns, the level of each net, and its tables by level and
+//! packed; `Vectors` are rows of one width. The definitions say what a design is accepted for,
+//! which one valuation of the nets a turn has, what a clocked run is and how its trace is written.
+//! `laws` has what follows of them alone: one valuation, one run, runs in windows, and that known
+//! values stand where unknown ones become known. A caller is not promised an order of the tables
+//! but that each comes behind those that it reads.
 #![tactic(auto)]
 
-mod blif;
 mod design;
 pub mod laws;
 mod netlist;
 mod vectors;
 
-pub use blif::{Blif, BlifModel, Command, LatchText, Pair, Part, TableText, UseText};
 pub use design::{Design, Edge, Gate, Net, Register};
 pub use netlist::Netlist;
 pub use vectors::Vectors;

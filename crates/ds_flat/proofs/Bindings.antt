@@ -1,5 +1,5 @@
 -- Connected formals, as a map keeps them.
-use Rattle.std.proofs.Common.{◌≡◌, ℕ, Bool, true, false, List, [], ◌∷◌, ◌++◌, map, refl, ap}
+use Rattle.std.proofs.Common.{◌≡◌, ℕ, Bool, true, false, List, [], ◌∷◌, ◌++◌, map, refl, ap, length, arith}
 use Rattle.std.proofs.Common.{◌∙◌, inl, inr, Some, None, Bor}
 use Rattle.std.specs.Str.{bytes_eq}
 use Rattle.std.specs.Map.{lookup}
@@ -52,6 +52,13 @@ pub scope_none : (copy : ℕ) (name : Bor (List ℕ)) (entries : Entries) (scope
     → net_key (record { copy = copy; name = name }) ≡ net_of scope name.now
 scope_none copy name entries scope view is = bound_none copy name entries is
     ∙ ap (λ (s : Scope). net_of s name.now) view
+
+-- a copy without connected formals has its own nets alone
+pub scope_empty : (copy : ℕ) (name : Bor (List ℕ)) (entries : Entries) (scope : Scope)
+    → scope_of copy entries ≡ scope → length entries ≡ 0
+    → net_key (record { copy = copy; name = name }) ≡ net_of scope name.now
+scope_empty copy name [] scope view none = ap (λ (s : Scope). net_of s name.now) view
+scope_empty copy name (entry ∷ entries) scope view none = absurd (omega (arith, none))
 
 inserted_new : (formal : Bor (List ℕ)) (net : NetKey) (entries : Entries)
     → has_formal (map binding_of entries) formal.now ≡ false

@@ -17,3 +17,4 @@ pub mod Opens
 pub mod Left
 pub mod Needed
 pub mod FlatRange
+pub mod InCopies

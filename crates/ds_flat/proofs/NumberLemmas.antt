@@ -2,13 +2,13 @@
 use Rattle.std.proofs.Common.{◌≡◌, ℕ, suc, ◌+◌, ◌<◌, ◌≤◌, List, [], ◌∷◌, ◌++◌, map, length}
 use Rattle.std.proofs.Common.{sym, ap, ◌∙◌, inl, inr, arith, Option, None, Some, subst, length-append, get_or, drop, add-one, append_assoc}
 use Rattle.std.proofs.Math.Seq.{drop-cons}
-use Rattle.std.specs.Prelude.{All}
+use Rattle.std.specs.Prelude.{All, slice_index_or}
 use Rattle.std.proofs.lemmas.Bool.{cases_Bool}
 use Rattle.ds_design.specs.declared.design.Net.{Net}
-use Rattle.ds_design.specs.declared.blif.TableText.{TableText}
+use Rattle.ds_models.specs.declared.blif.TableText.{TableText}
 use Rattle.std.specs.Option.{option_map}
-use Rattle.ds_design.specs.declared.blif.LatchText.{LatchText}
-use Rattle.ds_design.specs.Source.{IsTableText}
+use Rattle.ds_models.specs.declared.blif.LatchText.{LatchText}
+use Rattle.ds_models.specs.Source.{IsTableText}
 use Rattle.ds_flat.specs.declared.fault.Stop.{Stop}
 use Rattle.ds_flat.specs.declared.fault.Stop.TheVariants.{TooManyNets, Memory}
 use Rattle.ds_flat.specs.Net.{Scope, Numbered, has_net, number_of, with_net, net_of, numbered, numbered_names}
@@ -56,6 +56,12 @@ pub names_from : {X : Type 0} (names : List X) (i : ℕ) (name : X) → name ≡
     → i < length names → drop i names ≡ name ∷ drop (i + 1) names
 names_from {X} names i name is inside = rw (add-one, drop-cons names i name inside)
     (ap (λ (n : X). n ∷ drop (suc i) names) (sym is))
+
+-- what stands from a word on
+pub word_from : (names : List (List ℕ)) (i : ℕ) (name : List ℕ) → name ≡ slice_index_or names i []
+    → i < length names → drop i names ≡ name ∷ drop (i + 1) names
+word_from names i name is inside = rw (add-one, drop-cons names i [] inside)
+    (ap (λ (n : List ℕ). n ∷ drop (suc i) names) (sym is))
 
 -- one more name is numbered
 pub step_names : (scope : Scope) (nets next : List Net) (numbers more : List ℕ) (found : ℕ)

@@ -2,6 +2,7 @@
 pub mod Net
 pub mod Command
 pub mod Copies
+pub mod InCopies
 pub mod Text
 pub mod Bare
 pub mod Keys

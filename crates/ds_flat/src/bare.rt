@@ -5,7 +5,7 @@ ghost use Rattle.ds_flat.specs.Bare.{adds_nothing as adds_nothing_in, needed as 
 
 use crate::lent::Lent;
 use ds_base::OutOfMemory;
-use ds_design::{BlifModel, Command, Part};
+use ds_models::{BlifModel, Command, Part};
 use std::alloc::Global;
 use std::marker::Model;
 
@@ -18,7 +18,7 @@ pub struct Bare<'m> {
 }
 
 impl<'m> Model for Bare<'m> {
-    ghost use Rattle.ds_design.specs.declared.blif.BlifModel.{BlifModel};
+    ghost use Rattle.ds_models.specs.declared.blif.BlifModel.{BlifModel};
 
     ghost Value = { BlifModel };
 
@@ -31,12 +31,12 @@ impl<'m> Model for Bare<'m> {
 
 impl<'m> Bare<'m> {
     /// Of a model of a text.
-    pub fn of(alloc: Global, model: &'m BlifModel) -> Result<Self, OutOfMemory>
+    pub fn of(alloc: Global, model: &'m BlifModel<'m>) -> Result<Self, OutOfMemory>
         ensures { IfOk result (λ b. b ≡ bare model.entry.now) }
     {
         let commands = needed(alloc, model.commands.as_slice())?;
         Ok(Bare {
-            name: model.name.as_slice(),
+            name: model.name.get(),
             line: model.line,
             commands,
         })
@@ -58,7 +58,10 @@ impl<'m> Bare<'m> {
 }
 
 /// The models of a text, without the commands that add nothing.
-pub fn bare_models<'m>(alloc: Global, models: &'m [BlifModel]) -> Result<Vec<Bare<'m>>, OutOfMemory>
+pub fn bare_models<'m>(
+    alloc: Global,
+    models: &'m [BlifModel<'m>],
+) -> Result<Vec<Bare<'m>>, OutOfMemory>
     ensures { IfOk result (λ b. b.items ≡ map bare models.now) }
 {
     let mut all = Vec::with_capacity(alloc, models.len())?;
@@ -69,7 +72,7 @@ pub fn bare_models<'m>(alloc: Global, models: &'m [BlifModel]) -> Result<Vec<Bar
 }
 
 // The commands that add something.
-fn needed<'m>(alloc: Global, commands: &'m [Command]) -> Result<Vec<Lent<'m>>, OutOfMemory>
+fn needed<'m>(alloc: Global, commands: &'m [Command<'m>]) -> Result<Vec<Lent<'m>>, OutOfMemory>
     ensures { IfOk result (λ c. c.items ≡ needed_of commands.now) }
 {
     let mut all = Vec::with_capacity(alloc, commands.len())?;
@@ -82,13 +85,13 @@ fn needed<'m>(alloc: Global, commands: &'m [Command]) -> Result<Vec<Lent<'m>>, O
 }
 
 // Whether a command is an interface line without names.
-fn adds_nothing(part: &Part) -> bool
+fn adds_nothing(part: &Part<'_>) -> bool
     ensures { result ≡ adds_nothing_in part.now }
 {
     match part {
-        Part::Inputs(names) => names.as_slice().len() == 0,
-        Part::Outputs(names) => names.as_slice().len() == 0,
-        Part::Clock(names) => names.as_slice().len() == 0,
+        Part::Inputs(names) => names.len() == 0,
+        Part::Outputs(names) => names.len() == 0,
+        Part::Clock(names) => names.len() == 0,
         Part::Table(_) | Part::Latch(_) | Part::Subckt(_) => false,
     }
 }

@@ -8,7 +8,7 @@ ghost use Rattle.ds_flat.specs.Run.{connected};
 use crate::fault::Stop;
 use crate::nets::NetList;
 use crate::scope::Scope;
-use ds_design::Pair;
+use ds_models::Pair;
 use std::alloc::Global;
 
 /// The connected formals of a use in the next copy, each with the caller's net, which is numbered.
@@ -17,7 +17,7 @@ pub fn connect<'m>(
     nets: &mut NetList<'m>,
     caller: &Scope<'m>,
     copy: u32,
-    pairs: &'m [Pair],
+    pairs: &'m [Pair<'m>],
 ) -> Result<Scope<'m>, Stop>
     requires { AllPairs (λ one other. one.formal ≢ other.formal) pairs.now }
     ensures scope { IfOk result
@@ -42,7 +42,7 @@ fn connect_one<'m>(
     nets: &mut NetList<'m>,
     caller: &Scope<'m>,
     scope: &mut Scope<'m>,
-    pair: &'m Pair,
+    pair: &'m Pair<'m>,
 ) -> Result<(), Stop>
     requires { has_formal scope.old.bound pair.now.formal ≡ false }
     ensures scope { OnOk result (scope.new ≡ connected caller.now pair.now scope.old) }
@@ -51,12 +51,12 @@ fn connect_one<'m>(
     ensures fault { IfErr result
         (λ e. IsStop e (numbered_names caller.now nets.old (actuals_in (pair.now ∷ []))).nets) }
 {
-    let actual = pair.actual.as_slice();
+    let actual = pair.actual.get();
     if actual.len() > 0 {
         let net = caller.net(actual);
         match nets.number(net) {
             Ok(_) => {
-                scope.bind(pair.formal.as_slice(), net)?;
+                scope.bind(pair.formal.get(), net)?;
                 Ok(())
             }
             Err(stop) => Err(stop),

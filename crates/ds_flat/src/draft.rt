@@ -1,7 +1,7 @@
 //! A flat design that is being made.
 ghost use Rattle.std.specs.Prelude.{◌≡◌, OnOk, IfOk, IfErr};
 ghost use Rattle.ds_design.specs.Circuit.{Circuit};
-ghost use Rattle.ds_design.specs.Source.{IsPart, IsTableText};
+ghost use Rattle.ds_models.specs.Source.{IsPart, IsTableText};
 ghost use Rattle.ds_flat.specs.Net.{numbered_names, net_of, number_of, with_net};
 ghost use Rattle.ds_flat.specs.Command.{with_inputs, with_outputs, with_clocks, with_part};
 ghost use Rattle.ds_flat.specs.Command.{with_table, with_register, latch_names};
@@ -16,7 +16,8 @@ use crate::ports::Ports;
 use crate::scope::Scope;
 use ds_base::{Limit, Name, NetId, OutOfMemory, Seq};
 use ds_cover::Table;
-use ds_design::{Gate, LatchText, Part, Register, TableText};
+use ds_design::{Gate, Register};
+use ds_models::{LatchText, Part, TableText, Word, Words};
 use std::alloc::Global;
 use std::marker::Model;
 
@@ -107,7 +108,7 @@ impl<'m> Draft<'m> {
         alloc: Global,
         scope: &Scope<'m>,
         line: u64,
-        part: &'m Part,
+        part: &'m Part<'m>,
     ) -> Result<(), Stop>
         requires { IsPart part.now }
         ensures ok { OnOk result (self.new ≡ with_part scope.now line part.now self.old) }
@@ -115,9 +116,9 @@ impl<'m> Draft<'m> {
             (λ e. IsStop e (with_part scope.now line part.now self.old).nets) }
     {
         match part {
-            Part::Inputs(names) => self.add_inputs(alloc, scope, names.as_slice()),
-            Part::Outputs(names) => self.add_outputs(alloc, scope, names.as_slice()),
-            Part::Clock(names) => self.add_clocks(alloc, scope, names.as_slice()),
+            Part::Inputs(names) => self.add_inputs(alloc, scope, names),
+            Part::Outputs(names) => self.add_outputs(alloc, scope, names),
+            Part::Clock(names) => self.add_clocks(alloc, scope, names),
             Part::Table(text) => self.add_table(alloc, scope, line, text),
             Part::Latch(text) => self.add_register(scope, line, text),
             Part::Subckt(_) => Ok(()),
@@ -128,7 +129,7 @@ impl<'m> Draft<'m> {
         &mut self,
         alloc: Global,
         scope: &Scope<'m>,
-        names: &'m [Name],
+        names: &Words<'m>,
     ) -> Result<(), Stop>
         ensures ok { OnOk result (self.new ≡ with_inputs scope.now.copy
             (numbered_names scope.now self.old.nets names.now) self.old) }
@@ -148,7 +149,7 @@ impl<'m> Draft<'m> {
         &mut self,
         alloc: Global,
         scope: &Scope<'m>,
-        names: &'m [Name],
+        names: &Words<'m>,
     ) -> Result<(), Stop>
         ensures ok { OnOk result (self.new ≡ with_outputs scope.now.copy
             (numbered_names scope.now self.old.nets names.now) self.old) }
@@ -168,7 +169,7 @@ impl<'m> Draft<'m> {
         &mut self,
         alloc: Global,
         scope: &Scope<'m>,
-        names: &'m [Name],
+        names: &Words<'m>,
     ) -> Result<(), Stop>
         ensures ok { OnOk result (self.new ≡ with_clocks scope.now.copy
             (numbered_names scope.now self.old.nets names.now) self.old) }
@@ -189,7 +190,7 @@ impl<'m> Draft<'m> {
         alloc: Global,
         scope: &Scope<'m>,
         line: u64,
-        text: &'m TableText,
+        text: &'m TableText<'m>,
     ) -> Result<(), Stop>
         requires { IsTableText text.now }
         ensures ok { OnOk result (self.new ≡ with_table (net_of scope.now text.now.output) line
@@ -198,7 +199,7 @@ impl<'m> Draft<'m> {
             (numbered_names scope.now self.old.nets text.now.inputs).nets
             (net_of scope.now text.now.output))) }
     {
-        match numbers(alloc, &mut self.nets, scope, text.inputs.as_slice()) {
+        match numbers(alloc, &mut self.nets, scope, &text.inputs) {
             Ok(inputs) => match number(&mut self.nets, scope, &text.output) {
                 Ok(output) => {
                     let rows = rows(alloc, text.rows.as_slice())?;
@@ -220,7 +221,7 @@ impl<'m> Draft<'m> {
         &mut self,
         scope: &Scope<'m>,
         line: u64,
-        text: &'m LatchText,
+        text: &'m LatchText<'m>,
     ) -> Result<(), Stop>
         ensures ok { OnOk result (self.new ≡ with_register line text.now
             (latch_names scope.now self.old.nets text.now) self.old) }
@@ -248,7 +249,7 @@ impl<'m> Draft<'m> {
 fn latch_numbers<'m>(
     nets: &mut NetList<'m>,
     scope: &Scope<'m>,
-    text: &'m LatchText,
+    text: &'m LatchText<'m>,
 ) -> Result<(NetId, NetId, Option<NetId>), Stop>
     ensures ok { IfOk result (λ n. record {
       data_net = n.0;
@@ -276,12 +277,12 @@ fn latch_numbers<'m>(
 }
 
 // Rows of their own.
-fn rows(alloc: Global, rows: &[Name]) -> Result<Seq<Name>, OutOfMemory>
+fn rows(alloc: Global, rows: &[Word<'_>]) -> Result<Seq<Name>, OutOfMemory>
     ensures { IfOk result (λ r. r ≡ rows.now) }
 {
     let mut all = Vec::with_capacity(alloc, rows.len())?;
     for row in rows {
-        let bytes = row.as_slice().to_vec(alloc)?;
+        let bytes = row.get().to_vec(alloc)?;
         all.push(Seq::of(bytes))?;
     }
     Ok(Seq::of(all))

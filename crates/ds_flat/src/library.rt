@@ -7,8 +7,8 @@ ghost use Rattle.ds_flat.specs.Interface.{with_ports_of, with_names as names_wit
 
 use crate::bare::Bare;
 use crate::lent::Lent;
-use ds_base::{Name, OutOfMemory};
-use ds_design::{Pair, Part};
+use ds_base::OutOfMemory;
+use ds_models::{Pair, Part, Word, Words};
 use ds_names::Names;
 use std::alloc::Global;
 use std::marker::Model;
@@ -23,7 +23,7 @@ pub struct Library<'b, 'm> {
 
 impl<'b, 'm> Model for Library<'b, 'm> {
     ghost use Rattle.std.specs.Prelude.{List};
-    ghost use Rattle.ds_design.specs.declared.blif.BlifModel.{BlifModel};
+    ghost use Rattle.ds_models.specs.declared.blif.BlifModel.{BlifModel};
     ghost use Rattle.ds_flat.specs.Interface.{IsLibrary};
 
     ghost Value = { List BlifModel };
@@ -87,11 +87,11 @@ impl<'b, 'm> Library<'b, 'm> {
 }
 
 /// The first formal that is not among the names of an interface.
-pub fn unknown_formal<'p>(ports: &Names<'_>, pairs: &'p [Pair]) -> Option<&'p Name>
+pub fn unknown_formal<'p>(ports: &Names<'_>, pairs: &'p [Pair<'p>]) -> Option<&'p Word<'p>>
     ensures { option_map (λ n. n.now) result ≡ unknown_formal_in ports.now pairs.now }
 {
     for pair in pairs {
-        if ports.place(pair.formal.as_slice()) == ports.len() {
+        if ports.place(pair.formal.get()) == ports.len() {
             return Some(&pair.formal);
         }
     }
@@ -109,24 +109,24 @@ fn ports_in<'m>(alloc: Global, commands: &[Lent<'m>]) -> Result<Names<'m>, OutOf
     Ok(ports)
 }
 
-fn add_ports<'m>(ports: &mut Names<'m>, part: &'m Part) -> Result<(), OutOfMemory>
+fn add_ports<'m>(ports: &mut Names<'m>, part: &'m Part<'m>) -> Result<(), OutOfMemory>
     ensures { OnOk result (ports.new ≡ names_with ports.old (ports_in_part part.now)) }
 {
     match part {
-        Part::Inputs(names) => add_names(ports, names.as_slice()),
-        Part::Outputs(names) => add_names(ports, names.as_slice()),
-        Part::Clock(names) => add_names(ports, names.as_slice()),
+        Part::Inputs(names) => add_names(ports, names),
+        Part::Outputs(names) => add_names(ports, names),
+        Part::Clock(names) => add_names(ports, names),
         Part::Table(_) => Ok(()),
         Part::Latch(_) => Ok(()),
         Part::Subckt(_) => Ok(()),
     }
 }
 
-fn add_names<'m>(ports: &mut Names<'m>, names: &'m [Name]) -> Result<(), OutOfMemory>
+fn add_names<'m>(ports: &mut Names<'m>, names: &Words<'m>) -> Result<(), OutOfMemory>
     ensures { OnOk result (ports.new ≡ names_with ports.old names.now) }
 {
-    for name in names {
-        ports.insert(name.as_slice())?;
+    for k in 0..names.len() {
+        ports.insert(names.word(k))?;
     }
     Ok(())
 }

@@ -1,5 +1,10 @@
 //! The nets of a design, by number.
-ghost use Rattle.std.specs.Prelude.{◌≡◌, ◌<◌, ◌≤◌, [], false, length, IfOk, IfErr, OnOk};
+ghost use Rattle.std.specs.Prelude.{◌≡◌, ◌<◌, ◌≤◌, ◌++◌, ◌∷◌, [], false, length};
+ghost use Rattle.std.specs.Prelude.{IfOk, IfErr, OnOk};
+ghost use Rattle.std.specs.Hash as fed;
+ghost use Rattle.std.specs.Hash.{and-Alike, on_Alike, same_Alike};
+ghost use Rattle.std.specs.Cmp.{unsigned_Decides};
+ghost use Rattle.std.proofs.lemmas.Slice.Eq.{bytes_eq-Decides};
 ghost use Rattle.ds_base.specs.Limit.{most_of};
 ghost use Rattle.ds_base.specs.declared.number.Limit.TheVariants.{Nets};
 ghost use Rattle.ds_flat.specs.Net.{has_net, number_of, with_net};
@@ -10,13 +15,28 @@ use ds_base::{NetId, OutOfMemory, Seq};
 use ds_design::Net;
 use indexmap::IndexSet;
 use std::alloc::Global;
+use std::hash::{Hash, Hasher};
 use std::marker::Model;
 
 /// A net: its copy, and its name there.
-#[derive(Clone, Copy, PartialEq, Eq, Hash)]
+#[derive(Clone, Copy, PartialEq, Eq)]
 pub struct NetKey<'m> {
     pub copy: u32,
     pub name: &'m [u8],
+}
+
+// The name goes to the hasher as one piece; a slice by itself would go byte by byte.
+impl<'m> Hash for NetKey<'m> {
+    ghost hash_input = { λ k. fed.u32 k.copy ++ (k.name.now ∷ []) };
+
+    ghost respects_eq = { (and-Alike
+        (on_Alike (λ k. k.copy) (same_Alike fed.u32 unsigned_Decides))
+        (on_Alike (λ k. k.name.now) (same_Alike (λ name. name ∷ []) bytes_eq-Decides))).fed };
+
+    fn hash<H: Hasher>(&self, state: &mut H) {
+        state.write_u32(self.copy);
+        state.write(self.name);
+    }
 }
 
 /// Nets in the order of their first appearance, each once, not more than there may be.

@@ -6,16 +6,26 @@ ghost use Rattle.ds_flat.specs.Keys.{IsStop};
 use crate::fault::Stop;
 use crate::nets::NetList;
 use crate::scope::Scope;
-use ds_base::{Name, NetId};
+use ds_base::NetId;
+use ds_models::{Word, Words};
 use std::alloc::Global;
 
-/// The number of a name.
-pub fn number<'m>(nets: &mut NetList<'m>, scope: &Scope<'m>, name: &'m Name) -> Result<NetId, Stop>
+// The number of a name.
+fn net_number<'m>(nets: &mut NetList<'m>, scope: &Scope<'m>, name: &'m [u8]) -> Result<NetId, Stop>
     ensures number { IfOk result (λ n. n ≡ number_of nets.old (net_of scope.now name.now)) }
     ensures ok { OnOk result (nets.new ≡ with_net nets.old (net_of scope.now name.now)) }
     ensures fault { IfErr result (λ e. IsStop e (with_net nets.old (net_of scope.now name.now))) }
 {
-    nets.number(scope.net(name.as_slice()))
+    nets.number(scope.net(name))
+}
+
+/// The number of a name.
+pub fn number<'m>(nets: &mut NetList<'m>, scope: &Scope<'m>, name: &Word<'m>) -> Result<NetId, Stop>
+    ensures number { IfOk result (λ n. n ≡ number_of nets.old (net_of scope.now name.now)) }
+    ensures ok { OnOk result (nets.new ≡ with_net nets.old (net_of scope.now name.now)) }
+    ensures fault { IfErr result (λ e. IsStop e (with_net nets.old (net_of scope.now name.now))) }
+{
+    net_number(nets, scope, name.get())
 }
 
 /// The numbers of names, from the left to the right.
@@ -23,7 +33,7 @@ pub fn numbers<'m>(
     alloc: Global,
     nets: &mut NetList<'m>,
     scope: &Scope<'m>,
-    names: &'m [Name],
+    names: &Words<'m>,
 ) -> Result<Vec<NetId>, Stop>
     ensures ok { IfOk result (λ n. record { numbers = n.items; nets = nets.new }
         ≡ numbered_names scope.now nets.old names.now) }
@@ -32,8 +42,8 @@ pub fn numbers<'m>(
         (λ e. IsStop e (numbered_names scope.now nets.old names.now).nets) }
 {
     let mut numbers = Vec::with_capacity(alloc, names.len())?;
-    for name in names {
-        match number(nets, scope, name) {
+    for k in 0..names.len() {
+        match net_number(nets, scope, names.word(k)) {
             Ok(found) => numbers.push(found)?,
             Err(stop) => return Err(stop),
         }

@@ -4,7 +4,7 @@ ghost use Rattle.std.specs.Prelude.{MatchResult, List, ℕ, Ok};
 ghost use Rattle.std.specs.List.{list_any};
 ghost use Rattle.ds_names.specs.Names.{place_of_name};
 ghost use Rattle.ds_base.specs.declared.number.Limit.TheVariants.{Copies};
-ghost use Rattle.ds_design.specs.Source.{IsUseText, IsPart};
+ghost use Rattle.ds_models.specs.Source.{IsUseText, IsPart};
 ghost use Rattle.ds_flat.specs.declared.fault.FlatFault.{FlatFault as Fault_of};
 ghost use Rattle.ds_flat.specs.declared.fault.FlatKind.TheVariants.{UnknownModel, UnknownFormal};
 ghost use Rattle.ds_flat.specs.declared.fault.FlatKind.TheVariants.{Recursive, TooMany};
@@ -21,18 +21,18 @@ use crate::frame::Open;
 use crate::library::{Found, Library, unknown_formal};
 use crate::stack::{Stack, extended};
 use ds_base::{Limit, Name, OutOfMemory, Seq};
-use ds_design::UseText;
+use ds_models::{UseText, Word};
 use std::alloc::Global;
 
 /// A name of its own.
-fn name_of(alloc: Global, name: &Name) -> Result<Name, OutOfMemory>
+fn name_of(alloc: Global, name: &Word<'_>) -> Result<Name, OutOfMemory>
     ensures { IfOk result (λ n. n ≡ name.now) }
 {
-    let bytes = name.as_slice().to_vec(alloc)?;
+    let bytes = name.get().to_vec(alloc)?;
     Ok(Seq::of(bytes))
 }
 
-fn unknown_model(alloc: Global, line: u64, name: &Name) -> FlatRefusal
+fn unknown_model(alloc: Global, line: u64, name: &Word<'_>) -> FlatRefusal
     ensures { IsRefusal result (record { line = line; kind = UnknownModel name.now }) }
 {
     match name_of(alloc, name) {
@@ -44,7 +44,7 @@ fn unknown_model(alloc: Global, line: u64, name: &Name) -> FlatRefusal
     }
 }
 
-fn unknown_formal_of(alloc: Global, line: u64, name: &Name) -> FlatRefusal
+fn unknown_formal_of(alloc: Global, line: u64, name: &Word<'_>) -> FlatRefusal
     ensures { IsRefusal result (record { line = line; kind = UnknownFormal name.now }) }
 {
     match name_of(alloc, name) {
@@ -81,22 +81,22 @@ pub fn stopped(line: u64, stop: Stop) -> FlatRefusal
 
 fn path_names(
     alloc: Global,
-    name: &Name,
+    name: &Word<'_>,
     top: &Open<'_, '_>,
     below: &Stack<'_, '_>,
 ) -> Result<Vec<Name>, OutOfMemory>
     ensures { IfOk result (λ p. p.items
         ≡ path_from_of name.now (top.now.name.now ∷ path_of below.now.frames)) }
 {
-    let path = below.path_from(alloc, name.as_slice())?;
-    let all = extended(alloc, path, name.as_slice(), top.name)?;
+    let path = below.path_from(alloc, name.get())?;
+    let all = extended(alloc, path, name.get(), top.name)?;
     Ok(all)
 }
 
 fn recursive(
     alloc: Global,
     line: u64,
-    name: &Name,
+    name: &Word<'_>,
     top: &Open<'_, '_>,
     below: &Stack<'_, '_>,
 ) -> FlatRefusal
@@ -130,7 +130,7 @@ pub fn checked<'l, 'b, 'm>(
     below: &Stack<'b, 'm>,
     copies: u32,
     line: u64,
-    call: &'m UseText,
+    call: &'m UseText<'m>,
 ) -> Result<Found<'l, 'b, 'm>, FlatRefusal>
     requires known { top.now.model ∷ below.now.places ≡ map
         (place_of_name (names_of_models library.now))
@@ -146,7 +146,7 @@ pub fn checked<'l, 'b, 'm>(
     ensures fault { IfErr result (λ e. RefusesUse e library.now
         (top.now.name.now ∷ path_of below.now.frames) top.now.scope line call.entry.now copies) }
 {
-    match library.find(call.model.as_slice()) {
+    match library.find(call.model.get()) {
         None => Err(unknown_model(alloc, line, &call.model)),
         Some(found) => {
             if is_open(found.place, top, below) {
@@ -171,7 +171,7 @@ pub fn open<'b, 'm>(
     copies: u32,
     draft: Draft<'m>,
     line: u64,
-    call: &'m UseText,
+    call: &'m UseText<'m>,
 ) -> Result<(Open<'b, 'm>, Draft<'m>), FlatRefusal>
     requires call { IsUseText call.now }
     requires few { copies < 65536 }

@@ -53,12 +53,13 @@ impl<'m> Scope<'m> {
     pub fn net(&self, name: &'m [u8]) -> NetKey<'m>
         ensures { net_key result ≡ net_of self.now name.now }
     {
+        // A map makes the hash of what it is asked for, though it has no entries.
+        if self.bound.len() == 0 {
+            return own(self.copy, name);
+        }
         match self.bound.get(&name) {
             Some(net) => *net,
-            None => NetKey {
-                copy: self.copy,
-                name,
-            },
+            None => own(self.copy, name),
         }
     }
 
@@ -70,4 +71,11 @@ impl<'m> Scope<'m> {
         self.bound.insert(formal, net)?;
         Ok(())
     }
+}
+
+// The net of a name that a copy has for itself.
+fn own<'m>(copy: u32, name: &'m [u8]) -> NetKey<'m>
+    ensures { result ≡ record { copy = copy; name = name.entry } }
+{
+    NetKey { copy, name }
 }

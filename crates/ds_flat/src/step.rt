@@ -1,6 +1,6 @@
 //! The commands of the copies, one after the other.
 ghost use Rattle.std.specs.Prelude.{◌≡◌, ◌≤◌, ℕ, Ok, IfOk, MatchResult, option_map};
-ghost use Rattle.ds_design.specs.Source.{IsPart, IsUseText};
+ghost use Rattle.ds_models.specs.Source.{IsPart, IsUseText};
 ghost use Rattle.ds_flat.specs.Command.{with_part};
 ghost use Rattle.ds_flat.specs.Copies.{flat_within, use_in as use_of_part};
 ghost use Rattle.ds_flat.specs.Run.{run, after_take, HaveParts, IsKept, IsFault};
@@ -14,7 +14,7 @@ use crate::library::Library;
 use crate::open::{checked, open, stopped, too_many};
 use crate::scope::Scope;
 use crate::stack::Stack;
-use ds_design::{Command, Part, UseText};
+use ds_models::{Command, Part, UseText};
 use std::alloc::Global;
 use std::marker::Model;
 
@@ -49,7 +49,7 @@ pub enum Turn<'b, 'm> {
     Done(Draft<'m>),
 }
 
-fn use_in(part: &Part) -> Option<&UseText>
+fn use_in<'p, 'm>(part: &'p Part<'m>) -> Option<&'p UseText<'m>>
     ensures { option_map (λ u. u.now) result ≡ use_of_part part.now }
 {
     match part {
@@ -64,7 +64,7 @@ fn take_part<'m>(
     alloc: Global,
     scope: &Scope<'m>,
     draft: Draft<'m>,
-    command: &'m Command,
+    command: &'m Command<'m>,
 ) -> Result<Draft<'m>, FlatRefusal>
     requires { IsPart command.now.part }
     ensures { MatchResult result
@@ -90,7 +90,7 @@ fn take_use<'b, 'm>(
     library: &Library<'b, 'm>,
     state: State<'b, 'm>,
     line: u64,
-    call: &'m UseText,
+    call: &'m UseText<'m>,
 ) -> Result<State<'b, 'm>, FlatRefusal>
     requires kept { IsKept library.now state }
     requires parts { HaveParts library.now }
@@ -132,7 +132,7 @@ pub fn take<'b, 'm>(
     alloc: Global,
     library: &Library<'b, 'm>,
     state: State<'b, 'm>,
-    command: &'m Command,
+    command: &'m Command<'m>,
 ) -> Result<State<'b, 'm>, FlatRefusal>
     requires kept { IsKept library.now state }
     requires parts { HaveParts library.now }

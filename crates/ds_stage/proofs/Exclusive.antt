@@ -7,7 +7,7 @@ use Rattle.ds_lines.specs.Line.{Line}
 use Rattle.ds_blif.specs.Text.{read_of}
 use Rattle.ds_flat.specs.Copies.{flat_of}
 use Rattle.ds_design.specs.Circuit.{Circuit, columns}
-use Rattle.ds_design.specs.declared.blif.BlifModel.{BlifModel}
+use Rattle.ds_models.specs.declared.blif.BlifModel.{BlifModel}
 use Rattle.ds_netlist.specs.Laws.{FaultsAreRefused}
 use Rattle.ds_netlist.specs.declared.fault.NetFault.{NetFault}
 use Rattle.ds_netlist.specs.declared.fault.NetFault.TheVariants as net

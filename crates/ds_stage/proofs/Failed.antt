@@ -8,7 +8,7 @@ use Rattle.ds_lines.specs.Line.{Line}
 use Rattle.ds_blif.specs.Text.{read_of}
 use Rattle.ds_flat.specs.Copies.{flat_of}
 use Rattle.ds_design.specs.Circuit.{Circuit, columns}
-use Rattle.ds_design.specs.declared.blif.BlifModel.{BlifModel}
+use Rattle.ds_models.specs.declared.blif.BlifModel.{BlifModel}
 use Rattle.ds_stage.specs.Stage.{OfFile, Stage, giving, then_stage}
 use Rattle.ds_stage.specs.Stages.{accepted_stage, design_stage, file_stage, flat_or_line, lines_stage, models_or_line, netlist_stage, result_stage, rows_stage, vectors_stage}
 use Rattle.ds_stage.specs.SplitStage.{split_stage}

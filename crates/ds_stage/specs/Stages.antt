@@ -6,7 +6,7 @@ use Rattle.ds_outside.specs.Held.{Held, untold, absent, bytes}
 use Rattle.ds_outside.specs.declared.files.Which.{Which}
 use Rattle.ds_outside.specs.declared.files.Which.TheVariants.{Net, Vectors}
 use Rattle.ds_lines.specs.Line.{Line, lines_of}
-use Rattle.ds_design.specs.declared.blif.BlifModel.{BlifModel}
+use Rattle.ds_models.specs.declared.blif.BlifModel.{BlifModel}
 use Rattle.ds_design.specs.Circuit.{Circuit, columns}
 use Rattle.ds_design.specs.Accepted.{IsAccepted}
 use Rattle.ds_design.specs.Levels.{IsDepth}

@@ -20,9 +20,10 @@ use crate::net_text::net_fault_text;
 use crate::stop::Stop;
 use ds_base::{OutOfMemory, Seq};
 use ds_blif::{BlifFault, BlifRefusal, read};
-use ds_design::{Blif, Design, Netlist, Vectors};
+use ds_design::{Design, Netlist, Vectors};
 use ds_flat::{FlatFault, FlatRefusal, flatten};
 use ds_lines::{Lines, LinesFault, lines};
+use ds_models::Blif;
 use ds_netlist::{NetFault, levelise};
 use ds_outside::{Files, ReadFault, Which, read_whole};
 use ds_rows::{VectorFault, VectorRefusal, read_vectors};
@@ -139,8 +140,9 @@ fn design_in(alloc: Global, name: &str, text: &[u8]) -> Result<Design, Stop>
 }
 
 // The models of the lines of a netlist.
-fn models_in(alloc: Global, name: &str, lines: &Lines<'_>) -> Result<Blif, Stop>
-    ensures { Answers (result_stage (models_or_line name.now (read_of lines.now))) Never result }
+fn models_in<'l>(alloc: Global, name: &str, lines: &'l Lines<'_>) -> Result<Blif<'l>, Stop>
+    ensures { Answers (result_stage (models_or_line name.now (read_of lines.entry.now)))
+        Never result }
 {
     match read(alloc, lines) {
         Ok(blif) => Ok(blif),
@@ -152,7 +154,7 @@ fn models_in(alloc: Global, name: &str, lines: &Lines<'_>) -> Result<Blif, Stop>
 }
 
 // The flat design of models.
-fn flat_in(alloc: Global, name: &str, blif: &Blif) -> Result<Design, Stop>
+fn flat_in(alloc: Global, name: &str, blif: &Blif<'_>) -> Result<Design, Stop>
     ensures { Answers (result_stage (flat_or_line name.now (flat_of blif.now))) Never result }
 {
     match flatten(alloc, blif) {

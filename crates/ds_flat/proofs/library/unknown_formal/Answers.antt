@@ -10,7 +10,7 @@ returns-then-place-len c =
     (names_from c.args.pairs.now c.loop-pair.pair-index c.pair-item.result c.pair-item.is
     c.loop-pair-test.true)
     c.loop-pair.invariant
-    (c.place.ensures.value ∙ ap (place_of_name c.args.ports.now) c.as_slice.ensures)
+    (c.place.ensures.value ∙ ap (place_of_name c.args.ports.now) c.get.ensures)
     (c.if-place-len.true ∙ c.len.ensures)
 
 pub loop-pair-preserved : goal.loop-pair-preserved
@@ -19,5 +19,5 @@ loop-pair-preserved c =
     (names_from c.args.pairs.now c.loop-pair.pair-index c.pair-item.result c.pair-item.is
     c.loop-pair-test.true)
     c.loop-pair.invariant
-    (c.place.ensures.value ∙ ap (place_of_name c.args.ports.now) c.as_slice.ensures)
+    (c.place.ensures.value ∙ ap (place_of_name c.args.ports.now) c.get.ensures)
     (λ same. c.if-place-len.false (same ∙ sym c.len.ensures))

@@ -3,9 +3,9 @@ use Rattle.ds_flat.specs.Net.{numbered_names}
 use Rattle.ds_flat.specs.Keys.{behind}
 use Rattle.ds_flat.proofs.numbers.numbers.Given as goal
 
-abbrev pub invariant-loop-name : goal.invariant-loop-name
-invariant-loop-name l = record {
-  so_far : behind l.numbers.items (numbered_names l.scope l.nets (drop l.name-index l.names))
+abbrev pub invariant-loop-k : goal.invariant-loop-k
+invariant-loop-k l = record {
+  so_far : behind l.numbers.items (numbered_names l.scope l.nets (drop l.k l.names))
       ≡ numbered_names l.scope l.fn.nets l.names;
-  len : length l.numbers.items ≡ l.name-index;
+  len : length l.numbers.items ≡ l.k;
 }

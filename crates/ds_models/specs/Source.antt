@@ -1,12 +1,12 @@
 -- The models of a text that can be given a meaning.
 use Rattle.std.specs.Prelude.{◌≡◌, ◌≢◌, ◌⊎◌, ℕ, ◌<◌, ◌≤◌, List, length, All, AllPairs}
-use Rattle.ds_design.specs.declared.blif.TableText.{TableText}
-use Rattle.ds_design.specs.declared.blif.LatchText.{LatchText}
-use Rattle.ds_design.specs.declared.blif.UseText.{UseText}
-use Rattle.ds_design.specs.declared.blif.Part.{Part}
-use Rattle.ds_design.specs.declared.blif.Part.TheVariants.{Inputs, Outputs, Clock, Table, Latch}
-use Rattle.ds_design.specs.declared.blif.Part.TheVariants.{Subckt}
-use Rattle.ds_design.specs.declared.blif.BlifModel.{BlifModel}
+use Rattle.ds_models.specs.declared.blif.TableText.{TableText}
+use Rattle.ds_models.specs.declared.blif.LatchText.{LatchText}
+use Rattle.ds_models.specs.declared.blif.UseText.{UseText}
+use Rattle.ds_models.specs.declared.blif.Part.{Part}
+use Rattle.ds_models.specs.declared.blif.Part.TheVariants.{Inputs, Outputs, Clock, Table, Latch}
+use Rattle.ds_models.specs.declared.blif.Part.TheVariants.{Subckt}
+use Rattle.ds_models.specs.declared.blif.BlifModel.{BlifModel}
 
 -- a character of a row: `-` (45), `0` (48) or `1` (49)
 abbrev pub IsPlaneByte : ℕ → Type 0
