@@ -9,5 +9,6 @@ pub mod Supplied
 pub mod Opened
 pub mod Firsts
 pub mod Firings
+pub mod Windows
 pub mod Played
 pub mod Fired

@@ -6,4 +6,5 @@ pub mod Producers
 pub mod Openings
 pub mod Played
 pub mod Firings
+pub mod Windows
 pub mod Stored

@@ -2,6 +2,7 @@
 ghost use Rattle.ds_run.specs.Firings.{FiringsAreLegal};
 ghost use Rattle.ds_run.specs.Laws.{RunsAreAccepted, RunsAreSound, RunsHaveGraphs};
 ghost use Rattle.ds_run.specs.Stored.{FabricsShowFirst, StoresAsFired};
+ghost use Rattle.ds_run.specs.Windows.{FiringsInWindows};
 
 /// The run of a plan is sound.
 pub fn runs_are_sound()
@@ -21,6 +22,12 @@ pub fn runs_have_graphs()
 /// The firings of a run that went to its end are a legal list that has each event once a vector.
 pub fn firings_are_legal()
     ensures { FiringsAreLegal }
+{}
+
+/// The firings of windows of a run, one after another, are a legal list that has each event once a
+/// vector.
+pub fn firings_in_windows()
+    ensures { FiringsInWindows }
 {}
 
 /// Firing reaches, by the firings of a run that went to its end, a state that has stored of each

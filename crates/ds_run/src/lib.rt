@@ -5,8 +5,9 @@
 //! knows before it has fired. What it gives is sound and accepted in the sense of the rule.
 //! `Openings` computes the row of an opening from those of its producers. `run` hires the workers,
 //! and its record tells of every node that it stored the rows of the clocked run, and that the
-//! firings by rising ticket are a legal list of the plan's graph with each event once a vector.
-//! Nothing is promised of time, or of which worker fires what.
+//! firings by rising ticket are a legal list of the plan's graph with each event once a vector. So
+//! are the firings of windows, one after another (`laws`). Nothing is promised of time, or of which
+//! worker fires what.
 #![tactic(auto)]
 
 mod edges;

@@ -4,3 +4,4 @@ pub mod Turns
 pub mod Logged
 pub mod Summed
 pub mod Fired
+pub mod Ended

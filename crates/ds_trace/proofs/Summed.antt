@@ -10,6 +10,7 @@ use Rattle.ds_latch.specs.Plan.{Planned}
 use Rattle.ds_design.specs.Run.{IsRun}
 use Rattle.ds_design.specs.Trace.{end_line, trace_line}
 use Rattle.ds_outside.specs.Writes.{GoesOn}
+use Rattle.ds_rows.proofs.Then.{with_text}
 use Rattle.ds_clocked.specs.Loop.{IsWrittenTo}
 use Rattle.ds_clocked.proofs.Turns.{last_turn, no_turn, whole_trace}
 use Rattle.ds_demo.specs.Fold.{Folded, nothing, fold_after}
@@ -91,9 +92,11 @@ turn_folded p vectors r played k below t n outputs before next fold more at is w
       text ++ trace_line k outputs before,
       added ∙ (ap (λ (f : Folded). fold_after f (trace_line k outputs before)) folded
           ∙ fold_after-append nothing text (trace_line k outputs before)),
-      turn_written p vectors r played k below t n outputs before next taken_all taken_all taken_all
+      turn_written p vectors r played k below 0 t n outputs before next taken_all taken_all taken_all
           (Some []) (Some text) (Some (text ++ trace_line k outputs before)) 0 0 0
-          at is was same gathered done (taken text (trace_line k outputs before)),
+          at is was same gathered done
+          (with_text (ap (λ (turn : ℕ). trace_line turn outputs before) (sym (zero-add k)))
+          (taken text (trace_line k outputs before))),
     )
 
 -- after the last turn

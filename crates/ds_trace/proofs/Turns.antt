@@ -1,6 +1,5 @@
 -- A turn of a run that went to its end.
 use Rattle.std.proofs.Common.{◌≡◌, ◌∙◌, ℕ, ◌+◌, ◌<◌, List, length, Option, Result, ap, sym, subst}
-use Rattle.std.proofs.Common.{zero-add}
 use Rattle.std.proofs.lemmas.List.{length-map}
 use Rattle.ds_base.specs.Values.{Row}
 use Rattle.ds_cover.specs.Cover.{value_at, values_at}
@@ -68,18 +67,18 @@ module _ (p : Planned) (vectors : List Row) (r : Recorder) (played : IsPlayed p 
       (values.state (k + 1)) (registers_are p vectors r played k below values)
 
   -- one line more was written
-  pub turn_written : {T E : Type 0} (t : Split) (n : ℕ) (outputs before next : Row)
+  pub turn_written : {T E : Type 0} (first : ℕ) (t : Split) (n : ℕ) (outputs before next : Row)
       (answered so_far after : Result T E) (w0 w1 w2 : Option (List ℕ)) (f0 f1 f2 : ℕ) → n ≡ 1
       → outputs ≡ stored_at r.shown.view.run n (k + 1)
       → ((values : AreValues p.split vectors r.shown.view.run) → before ≡ values.state k)
       → t ≡ p.split → IsGathered t r.shown.view.run k next
-      → IsWrittenTo p.split.circuit 0 p.split.initial vectors k before answered so_far w0 w1 f0 f1
-      → GoesOn so_far after w1 w2 f1 f2 (trace_line k outputs before)
-      → IsWrittenTo p.split.circuit 0 p.split.initial vectors (k + 1) next answered after w0 w2 f0
-      f2
-  turn_written {T} {E} t n outputs before next answered so_far after w0 w1 w2 f0 f1 f2 at is was
-      same
-      gathered done line =
+      → IsWrittenTo p.split.circuit first p.split.initial vectors k before answered so_far w0 w1 f0
+      f1
+      → GoesOn so_far after w1 w2 f1 f2 (trace_line (first + k) outputs before)
+      → IsWrittenTo p.split.circuit first p.split.initial vectors (k + 1) next answered after w0 w2
+      f0 f2
+  turn_written {T} {E} first t n outputs before next answered so_far after w0 w1 w2 f0 f1 f2 at is
+      was same gathered done line =
       let values : AreValues p.split vectors r.shown.view.run = played.planned.values_are in
       let nets : Row = played.planned.values_are.nets k in
       let settled : IsValuation p.split.circuit before (row_at vectors k) nets =
@@ -87,12 +86,10 @@ module _ (p : Planned) (vectors : List Row) (r : Recorder) (played : IsPlayed p 
       (sym (was values)) (values.clocked.settles k below) in
       let taken : values_at nets (data_nets p.split.circuit) ≡ next =
       sym (gathered_is t next same gathered values ∙ values.clocked.steps k below) in
-      let spelt : trace_line k outputs before
-      ≡ trace_line (0 + k) (values_at nets p.split.circuit.outputs) before =
-      ap (λ (o : Row). trace_line k o before) (outputs_read values n outputs at is)
-      ∙ ap (λ (turn : ℕ). trace_line turn (values_at nets p.split.circuit.outputs) before)
-      (sym (zero-add k)) in
-      subst (λ (row : Row). IsWrittenTo p.split.circuit 0 p.split.initial vectors (k + 1) row
+      let spelt : trace_line (first + k) outputs before
+      ≡ trace_line (first + k) (values_at nets p.split.circuit.outputs) before =
+      ap (λ (o : Row). trace_line (first + k) o before) (outputs_read values n outputs at is) in
+      subst (λ (row : Row). IsWrittenTo p.split.circuit first p.split.initial vectors (k + 1) row
       answered after w0 w2 f0 f2) taken
-      (one_turn p.split.circuit 0 p.split.initial vectors k before nets answered so_far after
+      (one_turn p.split.circuit first p.split.initial vectors k before nets answered so_far after
       w0 w1 w2 f0 f1 f2 below done settled (with_text spelt line))

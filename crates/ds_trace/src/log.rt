@@ -1,11 +1,13 @@
-//! The firings of a run, as lines.
-ghost use Rattle.std.specs.Prelude.{◌≡◌, ◌<◌, All, Contains, IfOk, length, replicate};
+//! The firings of a run, as lines. A log takes the firings of a run as they are known, and counts
+//! how often each event has fired as it writes them.
+ghost use Rattle.std.specs.Prelude.{◌≡◌, ◌<◌, ℕ, List, [], All, IfOk, OnErr, OnOk, length};
+ghost use Rattle.std.specs.Prelude.{replicate};
 ghost use Rattle.ds_marked.specs.Graph.{IsLegal};
 ghost use Rattle.ds_fabric.specs.Showing.{IsFired};
 ghost use Rattle.ds_rule.specs.Rule.{tickets};
 ghost use Rattle.ds_rows.specs.Log.{firing_text};
 ghost use Rattle.ds_outside.specs.Writes.{GoesOn};
-ghost use Rattle.ds_trace.specs.Logged.{HasLog, WritesLog};
+ghost use Rattle.ds_trace.specs.Logged.{HasLog, IsLogText, IsLonger, WritesLog};
 ghost use Rattle.ds_run.specs.Played.{IsPlayed};
 
 use crate::played::Played;
@@ -13,23 +15,59 @@ use ds_base::{EventId, OutOfMemory};
 use ds_latch::Plan;
 use ds_marked::Counts;
 use ds_outside::{Sink, WriteFault};
-use ds_rows::firing_line;
+use ds_rows::{firing_line, put};
 use ds_run::laws::firings_are_legal;
 use std::alloc::Global;
+use std::marker::Model;
 
-/// The firings of a run, the first one first, and how often each event has fired.
-#[derive(Drop)]
+/// The firings of a run so far, the first one first. Contracts see their events, and how many
+/// events there is a count for.
 pub struct Log {
-    pub events: Vec<EventId>,
-    pub counts: Counts,
+    events: Vec<EventId>,
+    // All 0 until the firings are written.
+    counts: Counts,
+}
+
+impl Drop for Log {
+    fn drop(self) {
+        let Log {
+            events: _,
+            counts: _,
+        } = self;
+    }
+}
+
+impl Model for Log {
+    ghost use Rattle.std.specs.Prelude.{◌≡◌, length, replicate};
+    ghost use Rattle.ds_trace.specs.Logged.{Listed};
+
+    ghost Value = { Listed };
+
+    ghost view = { λ log. record { events = log.events.items; kinds = length log.counts } };
+
+    ghost invariant = { λ log. log.counts ≡ replicate (length log.counts) 0 };
 }
 
 impl Log {
-    /// Before the first firing.
-    pub fn of(alloc: Global, played: &Played<'_, '_>) -> Result<Self, OutOfMemory>
+    /// Before the first firing of a plan.
+    pub fn new(alloc: Global, plan: &Plan<'_>) -> Result<Self, OutOfMemory>
+        ensures { IfOk result (λ log. log ≡ record {
+          events = [];
+          kinds = length plan.now.graph.events;
+        }) }
+    {
+        Ok(Log {
+            events: Vec::new(alloc),
+            counts: Counts::zero(alloc, plan.graph().events().len())?,
+        })
+    }
+
+    /// Of a run that went to its end.
+    pub(crate) fn of(alloc: Global, played: &Played<'_, '_>) -> Result<Self, OutOfMemory>
         requires played { IsPlayed played.now.plan.now played.now.vectors.now.rows
             played.now.fired.now }
-        ensures { IfOk result (HasLog played.now.plan.now (length played.now.vectors.now.rows)) }
+        ensures { IfOk result
+            (HasLog played.now.plan.now.graph (length played.now.vectors.now.rows)) }
     {
         firings_are_legal();
         Ok(Log {
@@ -37,25 +75,58 @@ impl Log {
             counts: Counts::zero(alloc, played.plan.graph().events().len())?,
         })
     }
+
+    /// Takes the firings of a run that went to its end, behind those that it has.
+    pub(crate) fn take(&mut self, alloc: Global, played: &Played<'_, '_>) -> Result<(), OutOfMemory>
+        requires played { IsPlayed played.now.plan.now played.now.vectors.now.rows
+            played.now.fired.now }
+        ensures ok { OnOk result (IsLonger played.now.plan.now.graph
+            (length played.now.vectors.now.rows) self.old self.new) }
+        ensures same { OnErr result (self.new ≡ self.old) }
+    {
+        firings_are_legal();
+        let fired = played.fired.firings(alloc)?;
+        self.events.extend_from_slice(fired.as_slice())?;
+        Ok(())
+    }
+
+    /// Writes the line `firings` and a line for each firing, unless a write has failed.
+    pub(crate) fn write<O: Sink>(
+        self,
+        so_far: Result<(), WriteFault>,
+        plan: &Plan<'_>,
+        out: &mut O,
+    ) -> Result<(), WriteFault>
+        requires log { All (λ event. event < length plan.now.graph.events) self.events }
+        requires kinds { self.kinds ≡ length plan.now.graph.events }
+        ensures { (text : List ℕ) × IsLogText plan.now.graph self.events text
+            × GoesOn so_far result (O.written out.old) (O.written out.new)
+            (O.faults out.old) (O.faults out.new) text }
+    {
+        let Log { events, mut counts } = self;
+        let so_far = put(so_far, b"firings\n", out);
+        write_log(so_far, plan, events.as_slice(), &mut counts, out)
+    }
 }
 
-/// Writes a line for each firing, unless a write has failed.
-pub fn write_log<O: Sink>(
+// Writes a line for each firing, unless a write has failed.
+fn write_log<O: Sink>(
     so_far: Result<(), WriteFault>,
     plan: &Plan<'_>,
-    log: &mut Log,
+    events: &[EventId],
+    counts: &mut Counts,
     out: &mut O,
 ) -> Result<(), WriteFault>
-    requires log { All (λ event. event < length plan.now.graph.events) log.old.events.items }
-    requires counts { log.old.counts ≡ replicate (length plan.now.graph.events) 0 }
-    ensures { WritesLog plan.now.graph log.old.events.items so_far result
+    requires log { All (λ event. event < length plan.now.graph.events) events.now }
+    requires counts { counts.old ≡ replicate (length plan.now.graph.events) 0 }
+    ensures { WritesLog plan.now.graph events.now so_far result
         (O.written out.old) (O.written out.new) (O.faults out.old) (O.faults out.new) }
 {
     let mut so_far = so_far;
-    for i in 0..log.events.len() {
-        let event = log.events[i];
-        log.counts.add_one(event);
-        so_far = put_firing(so_far, plan, event, log.counts.at(event), out);
+    for i in 0..events.len() {
+        let event = events[i];
+        counts.add_one(event);
+        so_far = put_firing(so_far, plan, event, counts.at(event), out);
     }
     so_far
 }

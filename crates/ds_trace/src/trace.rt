@@ -1,5 +1,5 @@
 //! The trace of what the nodes of a plan have stored.
-ghost use Rattle.std.specs.Prelude.{◌≡◌};
+ghost use Rattle.std.specs.Prelude.{◌≡◌, ◌+◌, ◌<◌, ◌^◌, length};
 ghost use Rattle.ds_design.specs.Circuit.{initial_row};
 ghost use Rattle.ds_design.specs.Trace.{trace_line as trace_text, end_line as end_text};
 ghost use Rattle.ds_outside.specs.Writes.{GoesOn};
@@ -28,21 +28,26 @@ pub fn write_trace<O: Sink>(
     ensures { WritesTrace result played.now.plan.now.split.circuit played.now.vectors.now.rows
         (O.written out.old) (O.written out.new) (O.faults out.old) (O.faults out.new) }
 {
-    let so_far = write_turns(played, line, out);
+    // Read for the fact that there are few vectors, so that the number of a turn fits.
+    let _count = played.vectors.count();
+    let so_far = write_turns(played, 0, line, out);
     put_end(so_far, &line.registers, out)
 }
 
-// Writes the lines of all turns, and leaves the registers after the last one.
-fn write_turns<O: Sink>(
+/// Writes the lines of all turns, numbered from `first` on, and leaves the registers after the last
+/// one.
+pub fn write_turns<O: Sink>(
     played: &Played<'_, '_>,
+    first: u64,
     line: &mut Line,
     out: &mut O,
 ) -> Result<(), WriteFault>
     requires played { IsPlayed played.now.plan.now played.now.vectors.now.rows
         played.now.fired.now }
+    requires few { first + length played.now.vectors.now.rows < 2 ^ 64 }
     requires line { HasLine played.now.plan.now.split line.old }
     requires registers { line.old.registers ≡ played.now.plan.now.split.initial }
-    ensures { WritesLines result played.now.plan.now.split.circuit 0
+    ensures { WritesLines result played.now.plan.now.split.circuit first
         played.now.plan.now.split.initial played.now.vectors.now.rows
         line.new.registers (O.written out.old) (O.written out.new)
         (O.faults out.old) (O.faults out.new) }
@@ -50,7 +55,7 @@ fn write_turns<O: Sink>(
     let mut so_far = Ok(());
     for k in 0..played.vectors.count() {
         played.fired.row(LatchId::new(1), k, &mut line.outputs);
-        so_far = put_line(so_far, k as u64, line, out);
+        so_far = put_line(so_far, first + k as u64, line, out);
         gather(played.plan.latches(), played.fired, k, line);
     }
     so_far

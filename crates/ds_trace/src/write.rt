@@ -9,13 +9,12 @@ ghost use Rattle.ds_run.specs.Played.{IsPlayed};
 
 use crate::fault::RunFault;
 use crate::line::Line;
-use crate::log::{Log, write_log};
+use crate::log::Log;
 use crate::played::Played;
 use crate::trace::write_trace;
 use ds_design::Vectors;
 use ds_latch::Plan;
 use ds_outside::{Behind, Buffered, Gate, Lent, Sink, WriteFault};
-use ds_rows::put;
 use ds_run::{Workers, run};
 use std::alloc::Global;
 use std::marker::Brand;
@@ -104,11 +103,11 @@ fn with_log<O: Sink>(
     ensures { EndsRun true played.now.plan.now played.now.vectors.now.rows result
         (O.written out.old) (O.written out.new) (O.faults out.old) (O.faults out.new) }
 {
-    let Ok(mut log) = Log::of(alloc, played) else {
+    let Ok(log) = Log::of(alloc, played) else {
         return Err(RunFault::Memory);
     };
     let lent = Lent { sink: out };
-    let (_, result) = all_behind::<O, Brand>(played, line, &mut log, lent);
+    let (_, result) = all_behind::<O, Brand>(played, line, log, lent);
     match result {
         Ok(()) => Ok(()),
         Err(_) => Err(RunFault::Write),
@@ -144,7 +143,7 @@ fn trace_behind<'a, O: Sink, B: Behind>(
 fn all_behind<'a, O: Sink, B: Behind>(
     played: &Played<'_, '_>,
     line: &mut Line,
-    log: &mut Log,
+    log: Log,
     behind: Lent<'a, O>,
 ) -> (Lent<'a, O>, Result<(), WriteFault>)
     requires played { IsPlayed played.now.plan.now played.now.vectors.now.rows
@@ -153,7 +152,7 @@ fn all_behind<'a, O: Sink, B: Behind>(
         ≡ initial_row played.now.plan.now.split.circuit }
     requires line { HasLine played.now.plan.now.split line.old }
     requires registers { line.old.registers ≡ played.now.plan.now.split.initial }
-    requires log { HasLog played.now.plan.now (length played.now.vectors.now.rows) log.old }
+    requires log { HasLog played.now.plan.now.graph (length played.now.vectors.now.rows) log }
     requires same { behind.sink.ghost_name ≡ B.name }
     requires before { O.written behind.sink.now ≡ B.before }
 
@@ -164,7 +163,6 @@ fn all_behind<'a, O: Sink, B: Behind>(
 {
     let mut buffered: Buffered<'a, O, B> = Buffered::new(behind);
     let so_far = write_trace(played, line, &mut buffered);
-    let so_far = put(so_far, b"firings\n", &mut buffered);
-    let so_far = write_log(so_far, played.plan, log, &mut buffered);
+    let so_far = log.write(so_far, played.plan, &mut buffered);
     buffered.finish(so_far)
 }

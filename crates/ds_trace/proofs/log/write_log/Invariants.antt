@@ -6,11 +6,10 @@ use Rattle.ds_trace.proofs.log.write_log.Given as goal
 
 abbrev pub invariant-loop-i : goal.invariant-loop-i
 invariant-loop-i g l = record {
-  events : l.log.events.items ≡ l.initial.log.events.items;
-  one_each : length l.log.counts ≡ length l.plan.graph.events;
+  one_each : length l.counts ≡ length l.plan.graph.events;
   counts : (v : ℕ) → v < length l.plan.graph.events
-      → slice_index l.log.counts v ≡ counts_after (λ _. 0) (take l.i l.log.events.items) v;
-  written : WritesLog l.plan.graph (take l.i l.log.events.items) l.initial.so_far l.so_far
+      → slice_index l.counts v ≡ counts_after (λ _. 0) (take l.i l.events) v;
+  written : WritesLog l.plan.graph (take l.i l.events) l.initial.so_far l.so_far
       (g.O.Sink.written l.initial.out) (g.O.Sink.written l.out) (g.O.Sink.faults l.initial.out)
       (g.O.Sink.faults l.out);
 }

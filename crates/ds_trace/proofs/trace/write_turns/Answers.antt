@@ -19,10 +19,10 @@ loop-k-init g c =
     record {
       line = c.requires.line;
       registers = λ values. c.requires.registers ∙ sym values.clocked.starts;
-      written = subst (λ (row : Row). IsWrittenTo s.circuit 0 s.initial vectors 0 row (Ok tt)
+      written = subst (λ (row : Row). IsWrittenTo s.circuit c.args.first s.initial vectors 0 row (Ok tt)
           (Ok tt)
           old old before before) (sym c.requires.registers)
-          (no_turn s.circuit 0 s.initial vectors (Ok tt) old before);
+          (no_turn s.circuit c.args.first s.initial vectors (Ok tt) old before);
     }
 
 pub row-requires-clause-stored : goal.row-requires-clause-stored
@@ -66,7 +66,7 @@ loop-k-preserved g c =
           c.gather.ensures.line;
       registers = gathered_is p vectors r c.requires.played k below t c.gather.new.line.registers
           c.latches.ensures c.gather.ensures.gathered;
-      written = turn_written p vectors r c.requires.played k below t c.new.result c.row.new.into
+      written = turn_written p vectors r c.requires.played k below c.args.first t c.new.result c.row.new.into
           c.loop-k.line.registers c.gather.new.line.registers (Ok tt) c.loop-k.so_far
           c.put_line-so_far.result (g.O.Sink.written c.args.out.now)
           (g.O.Sink.written c.loop-k.out) (g.O.Sink.written c.put_line-so_far.new.out)
@@ -79,7 +79,7 @@ loop-k-preserved g c =
 pub returns : goal.returns
 returns g c =
     let s : Split = c.args.played.now.plan.now.split in
-    let (lines, are, goes) = last_turn s.circuit 0 s.initial c.args.played.now.vectors.now.rows
+    let (lines, are, goes) = last_turn s.circuit c.args.first s.initial c.args.played.now.vectors.now.rows
     c.loop-k.k
     c.loop-k.line.registers (Ok tt) c.loop-k.so_far (g.O.Sink.written c.args.out.now)
     (g.O.Sink.written c.loop-k.out) (g.O.Sink.faults c.args.out.now)

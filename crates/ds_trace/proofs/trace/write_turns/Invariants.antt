@@ -11,7 +11,7 @@ invariant-loop-k g l = record {
       (values : AreValues l.played.plan.now.split l.played.vectors.now.rows
       l.played.fired.now.shown.view.run)
       → l.line.registers ≡ values.state l.k;
-  written : IsWrittenTo l.played.plan.now.split.circuit 0 l.played.plan.now.split.initial
+  written : IsWrittenTo l.played.plan.now.split.circuit l.first l.played.plan.now.split.initial
       l.played.vectors.now.rows l.k
       l.line.registers l.initial.so_far l.so_far (g.O.Sink.written l.initial.out)
       (g.O.Sink.written l.out) (g.O.Sink.faults l.initial.out) (g.O.Sink.faults l.out);

@@ -1,4 +1,5 @@
-use Rattle.std.proofs.Common.{◌∙◌, List, ap, length, replicate}
+use Rattle.std.proofs.Common.{◌∙◌, List, ap, length}
+use Rattle.std.proofs.lemmas.List.{length-replicate}
 use Rattle.ds_marked.specs.Graph.{Graph}
 use Rattle.ds_marked.specs.declared.marked.Event.{Event}
 use Rattle.ds_trace.proofs.log.Log.of.Goals as goal
@@ -11,9 +12,9 @@ returns c =
     c.requires.played.whole
     c.in_ok-firings.field-0.items c.in_ok-firings.ensures in
     record {
-      legal = legal;
-      all = all;
-      none_yet = c.in_ok-zero.ensures
-          ∙ (ap (λ (es : List Event). replicate (length es) 0) c.events.ensures.events
-          ∙ ap (λ (g : Graph). replicate (length g.events) 0) c.graph.ensures.graph);
+      listed = record { legal = legal; full = all };
+      kinds = ap length c.in_ok-zero.ensures
+          ∙ (length-replicate (length c.events.result.now) 0
+          ∙ (ap (λ (es : List Event). length es) c.events.ensures.events
+          ∙ ap (λ (g : Graph). length g.events) c.graph.ensures.graph));
     }

@@ -1,0 +1,16 @@
+use Rattle.std.proofs.Common.{◌++◌, refl}
+use Rattle.ds_design.specs.Trace.{end_line}
+use Rattle.ds_outside.proofs.Handing.{handed_on}
+use Rattle.ds_clocked.proofs.Behind.{begun}
+use Rattle.ds_rows.proofs.Then.{after_ok, goes_on}
+use Rattle.ds_trace.proofs.end.end_behind.Goals as goal
+
+pub returns-clause-ok : goal.returns-clause-ok
+returns-clause-ok g c =
+    let (rest, part, goes) = c.put_log-so_far.ensures in
+    let all = (goes_on (after_ok c.end_line-so_far.ensures) goes).on_ok in (
+      end_line c.args.registers.now ++ rest,
+      (rest, part, refl),
+      handed_on c.put_log-so_far.result c.finish.result.1 c.finish.ensures.hands_on
+          (begun c.new-buffered.ensures.written c.new-buffered.ensures.faults all),
+    )
