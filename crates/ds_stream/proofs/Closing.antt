@@ -1,19 +1,18 @@
 -- A line that is closed.
 use Rattle.std.proofs.Common.{◌≡◌, ◌∙◌, ℕ, zero, suc, ◌+◌, ◌-◌, ◌≤◌, ◌<◌, ◌==◌, ◌&&◌, not, Bool, true, false, List, [], ◌∷◌, ◌++◌, None, Some, Result, Ok, Err, length, refl, ap, sym, subst, arith, append_assoc}
-use Rattle.std.specs.Prelude.{nat_lt}
+use Rattle.std.specs.Prelude.{nat_lt, if◌then◌else◌}
 use Rattle.std.proofs.lemmas.Bool.{eqb-true}
 use Rattle.std.proofs.lemmas.List.{append-nil, length-map}
 use Rattle.ds_base.specs.Values.{Row}
-use Rattle.ds_base.specs.declared.number.Limit.TheVariants.{Vectors as VectorLimit}
 use Rattle.ds_lines.specs.Line.{is_some, words_in}
-use Rattle.ds_rows.specs.Vector.{first_of, first_word, has_bits, has_width, row_of, value_of, where_true}
-use Rattle.ds_rows.specs.declared.fault.VectorKind.{VectorKind}
+use Rattle.ds_rows.specs.Vector.{first_word, has_bits, has_width, row_of, value_of}
+use Rattle.ds_stream.specs.declared.fault.StreamKind.{StreamKind}
 use Rattle.ds_stream.specs.Bounded.{fault_under}
 use Rattle.ds_stream.specs.Stream.{Behind, Placed, stop_of, longest, placed_of, window}
 use Rattle.ds_stream.specs.Filling.{ClosesLine, EndsHere, Filled, TellsWhy, last_line, with_front, on_lines}
 use Rattle.ds_stream.specs.declared.fault.NextFault.{NextFault}
 use Rattle.ds_stream.specs.declared.fault.NextFault.TheVariants.{Memory, Read, TooLong, Vector}
-use Rattle.ds_rows.specs.declared.fault.VectorKind.TheVariants.{BadBit, BadWidth, TooMany}
+use Rattle.ds_stream.specs.declared.fault.StreamKind.TheVariants.{BadBit, BadWidth, TooMany}
 use Rattle.ds_stream.specs.Word.{GivesRow}
 use Rattle.ds_stream.proofs.Short.{is_short}
 use Rattle.ds_stream.proofs.WindowLaws.{window-none}
@@ -45,7 +44,7 @@ pub closes_none : (f : Filled) (size : ℕ) (lines : List Placed) → words_in f
 closes_none f size lines none = rw none refl
 
 -- a line that has a fault
-pub closes_fault : (f : Filled) (kind : VectorKind) (size : ℕ) (lines : List Placed) → 0 < f.missing → f.place ≤ 281474976710656
+pub closes_fault : (f : Filled) (kind : StreamKind) (size : ℕ) (lines : List Placed) → 0 < f.missing → f.place ≤ 281474976710656
     → is_some (words_in f.line) ≡ true → fault_under f.most f.width f.seen (words_in f.line) ≡ Some kind
     → (on_lines f size (last_line f ++ lines)).stop ≡ Some (Vector (record { line = f.first; kind = kind }))
 closes_fault f kind size lines missing short some is =
@@ -63,8 +62,8 @@ closes_err f (Vector fault) size lines missing short gives =
     ∙ ap (λ (n : ℕ). Some (Vector (record { line = n; kind = fault.kind }))) (sym gives.1)
 
 -- where no kind holds each test does
-passed : (one two three : VectorKind) (a b c : Bool)
-    → first_of (where_true (not a) one ∷ where_true (not b) two ∷ where_true (not c) three ∷ []) ≡ None
+pub passed : (one two three : StreamKind) (a b c : Bool)
+    → (if not a then Some one else (if not b then Some two else (if not c then Some three else None))) ≡ None
     → (a ≡ true) × (b ≡ true)
 passed one two three true true c e = (refl, refl)
 passed one two three true false c e = cc
@@ -86,7 +85,7 @@ length-row_of (suc w) words e =
 -- a row has the width
 pub row-width : (most width seen : ℕ) (words : List (List ℕ)) (row : Row) → fault_under most width seen words ≡ None → row ≡ row_of width words → length row ≡ width
 row-width most width seen words row none is =
-    let tests = passed (TooMany VectorLimit) BadWidth BadBit (nat_lt seen most) (has_width width words) (has_bits width words) none in
+    let tests = passed (TooMany most) BadWidth BadBit (nat_lt seen most) (has_width width words) (has_bits width words) none in
     ap length is ∙ length-row_of width words tests.1
 
 -- what is behind the last line: nothing

@@ -9,3 +9,6 @@ pub mod Kept
 pub mod Taking
 pub mod Closing
 pub mod Nexting
+pub mod Plain
+pub mod Stepping
+pub mod Least

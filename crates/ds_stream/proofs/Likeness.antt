@@ -341,7 +341,7 @@ pub plain_more : (joined : Bool) (line : List ℕ) (byte : ℕ) → list_any is_
 plain_more joined line byte plain other = list_any-append is_hash (told_line false joined line) (byte ∷ [])
     ∙ (ap (λ (b : Bool). b || list_any is_hash (byte ∷ [])) (plain_told joined line plain) ∙ ap (λ (b : Bool). b || false) other)
 
-told_hash : (comment joined : Bool) (line : List ℕ) → list_any is_hash line ≡ false → uncommented (told_line comment joined line) ≡ told_line false joined line
+pub told_hash : (comment joined : Bool) (line : List ℕ) → list_any is_hash line ≡ false → uncommented (told_line comment joined line) ≡ told_line false joined line
 told_hash false joined line plain = ap uncommented (sym (append-nil (told_line false joined line))) ∙ (uncommented-behind (told_line false joined line) [] (plain_told joined line plain) ∙ append-nil (told_line false joined line))
 told_hash true joined line plain = uncommented-behind (told_line false joined line) (35 ∷ []) (plain_told joined line plain) ∙ append-nil (told_line false joined line)
 

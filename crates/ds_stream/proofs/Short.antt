@@ -5,13 +5,15 @@ use Rattle.std.proofs.lemmas.Bool.{cases_Bool, ltb-true}
 use Rattle.ds_base.specs.Values.{Row}
 use Rattle.ds_design.specs.Rows.{Rows}
 use Rattle.ds_lines.specs.Line.{Line, is_newline, joins, lines_of, words_in}
-use Rattle.ds_rows.specs.Vector.{first_fault, row_of, rows_of, unless_fault, vectors_of}
-use Rattle.ds_stream.specs.Bounded.{fault_under, first_fault_under, vectors_under}
+use Rattle.ds_rows.specs.Vector.{first_fault, has_bits, has_width, row_of, rows_of, vectors_of}
+use Rattle.ds_rows.specs.Vector.{unless_fault as unless_whole}
+use Rattle.ds_stream.specs.Bounded.{fault_under, first_fault_under, told_kind, told_whole, unless_fault, vectors_under}
 use Rattle.ds_stream.specs.Stream.{Behind, Placed, stop_of, longest, placed_in, placed_lines, placed_of, stream_from, stream_of}
 use Rattle.ds_stream.specs.StreamLaws.{as_next, result_of}
 use Rattle.ds_stream.specs.declared.fault.NextFault.{NextFault}
 use Rattle.ds_stream.specs.declared.fault.NextFault.TheVariants.{TooLong}
 use Rattle.ds_rows.specs.declared.fault.VectorFault.{VectorFault}
+use Rattle.ds_stream.specs.declared.fault.StreamFault.{StreamFault}
 use Rattle.ds_stream.proofs.Placed.{are_lines}
 use Rattle.ds_stream.proofs.WindowLaws.{cases_Option}
 
@@ -58,7 +60,7 @@ rows_in (Ok rows) = rows.rows
 rows_in (Err why) = []
 
 -- a row before those of an answer
-row_before : (width : ℕ) (row : Row) (stop : Option NextFault) (rows more : List Row) (fault : Option VectorFault)
+row_before : (width : ℕ) (row : Row) (stop : Option NextFault) (rows more : List Row) (fault : Option StreamFault)
     → result_of width stop rows ≡ as_next (unless_fault fault (record { width = width; rows = more }))
     → result_of width stop (row ∷ rows) ≡ as_next (unless_fault fault (record { width = width; rows = row ∷ more }))
 row_before width row None rows more None is =
@@ -86,10 +88,33 @@ short_is_read width most text few =
     (are_within 281474976710656 1 [] [] 0 0 text (omega (arith, few)))
     ∙ ap (λ (ls : List Line). as_next (vectors_under most width ls)) (are_lines text)
 
-first_fault_of_limit : (width seen : ℕ) (lines : List Line) → first_fault_under 65536 width seen lines ≡ first_fault width seen lines
-first_fault_of_limit width seen [] = refl
-first_fault_of_limit width seen (line ∷ lines) =
-    rw (first_fault_of_limit width (seen + 1) lines) refl
+-- the first fault of vectors that are read whole, with the number for the limit
+abbrev told_fault : Option VectorFault → Option StreamFault
+told_fault None = None
+told_fault (Some fault) = Some (record { line = fault.line; kind = told_kind fault.kind })
 
-pub of_the_limit : (width : ℕ) (lines : List Line) → vectors_under 65536 width lines ≡ vectors_of width lines
-of_the_limit width lines = rw (first_fault_of_limit width 0 lines) refl
+first_fault_of_limit : (width seen : ℕ) (lines : List Line) → first_fault_under 65536 width seen lines ≡ told_fault (first_fault width seen lines)
+first_fault_of_limit width seen [] = refl
+first_fault_of_limit width seen (line ∷ lines) = elim (cases_Bool (nat_lt seen 65536)) [
+  | inr many ↦ rw many refl
+  | inl few ↦ rw few (elim (cases_Bool (has_width width line.words)) [
+    | inr other ↦ rw other refl
+    | inl same ↦ rw same (elim (cases_Bool (has_bits width line.words)) [
+      | inr some ↦ rw some refl
+      | inl all ↦ rw all (first_fault_of_limit width (seen + 1) lines)
+    ])
+  ])
+]
+
+told_unless : (fault : Option VectorFault) (rows : Rows) → unless_fault (told_fault fault) rows ≡ told_whole (unless_whole fault rows)
+told_unless None rows = refl
+told_unless (Some fault) rows = refl
+
+pub of_the_limit : (width : ℕ) (lines : List Line) → vectors_under 65536 width lines ≡ told_whole (vectors_of width lines)
+of_the_limit width lines =
+    let rows : Rows = record { width = width; rows = rows_of width lines } in
+    ap (λ (f : Option StreamFault). unless_fault f rows) (first_fault_of_limit width 0 lines) ∙ told_unless (first_fault width 0 lines) rows
+
+pub is_read_whole : (width : ℕ) (text : List ℕ) → length text ≤ 16777216
+    → result_of width (stream_of width 65536 text).stop (stream_of width 65536 text).rows ≡ as_next (told_whole (vectors_of width (lines_of text)))
+is_read_whole width text few = short_is_read width 65536 text few ∙ ap as_next (of_the_limit width (lines_of text))

@@ -92,6 +92,10 @@ are_behind least first words line place lines byte text few = elim (cases_Bool (
   ])
 ]
 
+pub some_from : (f : Filled) (rest : List ℕ) → 0 < length rest → AreFrom (f.place + 1) (placed_in f.first [] f.line f.place f.lines rest)
+some_from f [] some = absurd (omega (arith, some))
+some_from f (byte ∷ rest) some = are_behind (f.place + 1) f.first [] f.line f.place f.lines byte rest (omega arith)
+
 -- a window of lines that all end past the longest text, in a text that does
 window-past : (width most size count : ℕ) (behind : Behind) (seen : ℕ) (ps : List Placed) → 0 < count → 281474976710656 < size → AreFrom 281474976710657 ps
     → (window width most size count behind seen ps).stop ≡ Some TooLong

@@ -1,6 +1,6 @@
 -- Vectors that are being read: what has been given, and the line that is open.
 use Rattle.std.specs.Prelude.{◌≡◌, ◌≤◌, ℕ, ◌+◌, List, [], ◌++◌, length, Option, None, Some}
-use Rattle.std.specs.Prelude.{Result, Ok, Err}
+use Rattle.std.specs.Prelude.{Result, Ok, Err, take, ◌<◌}
 use Rattle.ds_base.specs.Values.{Row}
 use Rattle.ds_lines.specs.Line.{words_in}
 use Rattle.ds_stream.specs.Stream.{Behind, Placed, RowWindow, placed_in, placed_of, window}
@@ -50,6 +50,11 @@ TakesBytes (Err why) old new bytes = (size : ℕ) (rest : List ℕ)
     → size ≡ old.place + length bytes + length rest
     → TellsWhy why (on_text old size (bytes ++ rest)).stop
 
+-- so many of these bytes are taken; a fault is that of all of them
+abbrev pub TakesFront : Result ℕ NextFault → Filled → Filled → List ℕ → Type 0
+TakesFront (Ok n) old new bytes = TakesBytes (Ok tt) old new (take n bytes)
+TakesFront (Err why) old new bytes = TakesBytes (Err why) old new bytes
+
 -- the open line, which ends where it stands
 abbrev pub last_line : Filled → List Placed
 last_line f = placed_of f.first (words_in f.line) (record { place = f.place; lines = f.lines })
@@ -66,6 +71,13 @@ abbrev pub EndsHere : Result (Unit {0}) NextFault → Filled → Filled → Type
 EndsHere (Ok done) old new = on_text old old.place []
     ≡ record { rows = new.rows; behind = new.behind; stop = None }
 EndsHere (Err why) old new = TellsWhy why (on_text old old.place []).stop
+
+-- so many bytes that come next stand before the end of the last line of the window, where it has
+-- all its vectors, whatever follows
+abbrev pub AreBefore : Filled → ℕ → Type 0
+AreBefore f n = (size : ℕ) (rest : List ℕ) → 0 < length rest
+    → let w = on_text f size rest in
+    length w.rows ≡ length f.rows + f.missing → f.place + n ≤ w.behind.place
 
 -- what stays the same, and numbers that are within bounds
 pub record IsLater (old new : Filled) : Type 0 where

@@ -6,4 +6,5 @@ pub mod StreamWorked
 pub mod Next
 pub mod Alike
 pub mod Filling
+pub mod Plain
 pub mod Word

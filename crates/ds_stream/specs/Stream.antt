@@ -1,11 +1,11 @@
 -- Vectors without end: the lines of a text with the place behind each, and windows of vectors.
 use Rattle.std.specs.Prelude.{◌≡◌, ℕ, zero, suc, ◌+◌, ◌^◌, List, [], ◌∷◌, ◌++◌, length, drop}
-use Rattle.std.specs.Prelude.{Option, None, Some, nat_lt, if◌then◌else◌}
+use Rattle.std.specs.Prelude.{Option, None, Some, nat_lt, if◌then◌else◌, ◌*◌, ◌-◌, max}
 use Rattle.ds_base.specs.Values.{Row}
 use Rattle.ds_lines.specs.Line.{Line, is_newline, is_some, joins, words_in}
 use Rattle.ds_rows.specs.Vector.{row_of}
 use Rattle.ds_stream.specs.Bounded.{fault_under}
-use Rattle.ds_rows.specs.declared.fault.VectorKind.{VectorKind}
+use Rattle.ds_stream.specs.declared.fault.StreamKind.{StreamKind}
 use Rattle.ds_stream.specs.declared.fault.NextFault.{NextFault}
 use Rattle.ds_stream.specs.declared.fault.NextFault.TheVariants.{Vector, TooLong}
 
@@ -74,7 +74,7 @@ abbrev pub stopped : Behind → Option NextFault → RowWindow
 stopped behind stop = record { rows = []; behind = behind; stop = stop }
 
 -- the row of a line before those of a window, unless the line has a fault
-abbrev pub row_or : Option VectorKind → ℕ → Behind → Line → RowWindow → RowWindow
+abbrev pub row_or : Option StreamKind → ℕ → Behind → Line → RowWindow → RowWindow
 row_or None width behind line w = onto (row_of width line.words) w
 row_or (Some kind) width behind line w = stopped behind
     (Some (Vector (record { line = line.number; kind = kind })))
@@ -90,13 +90,18 @@ window width most size (suc count) behind seen (next ∷ lines) =
     else row_or (fault_under most width seen next.line.words) width behind next.line
     (window width most size count next.behind (seen + 1) lines)
 
+-- so many vectors of a width have at least so many bytes: each its characters, one where the width
+-- is 0, and a newline, but for the last newline
+abbrev pub least_bytes : ℕ → ℕ → ℕ
+least_bytes width count = count * (max width 1 + 1) - 1
+
 -- all rows, and why there are no more
 pub record Stream : Type 0 where
   pub rows : List Row
   pub stop : Option NextFault
 
 -- the row of a line before those of a stream, unless the line has a fault
-abbrev pub row_of_stream : Option VectorKind → ℕ → Line → Stream → Stream
+abbrev pub row_of_stream : Option StreamKind → ℕ → Line → Stream → Stream
 row_of_stream None width line s = record { rows = row_of width line.words ∷ s.rows; stop = s.stop }
 row_of_stream (Some kind) width line s = record {
   rows = [];

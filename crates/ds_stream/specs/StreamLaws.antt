@@ -7,12 +7,12 @@ use Rattle.ds_base.specs.Values.{Row}
 use Rattle.ds_design.specs.Rows.{Rows}
 use Rattle.ds_lines.specs.Line.{Line, lines_of}
 use Rattle.ds_rows.specs.Vector.{vectors_of}
-use Rattle.ds_stream.specs.Bounded.{vectors_under}
+use Rattle.ds_stream.specs.Bounded.{told_whole, vectors_under}
 use Rattle.ds_stream.specs.Stream.{Behind, FitsText, Shown, RowWindow, beginning, first_window}
-use Rattle.ds_stream.specs.Stream.{next_window, placed_behind, placed_lines, stream_of}
+use Rattle.ds_stream.specs.Stream.{least_bytes, next_window, placed_behind, placed_lines, stream_of}
 use Rattle.ds_stream.specs.declared.fault.NextFault.{NextFault}
 use Rattle.ds_stream.specs.declared.fault.NextFault.TheVariants.{Vector}
-use Rattle.ds_rows.specs.declared.fault.VectorFault.{VectorFault}
+use Rattle.ds_stream.specs.declared.fault.StreamFault.{StreamFault}
 
 -- a window and the next one, by why the first one has no more
 abbrev pub goes_on_from : Option NextFault → RowWindow → RowWindow → RowWindow
@@ -61,7 +61,7 @@ result_of width None rows = Ok (record { width = width; rows = rows })
 result_of width (Some why) rows = Err why
 
 -- a fault as that of a reader of windows
-abbrev pub as_next : Result Rows VectorFault → Result Rows NextFault
+abbrev pub as_next : Result Rows StreamFault → Result Rows NextFault
 as_next (Ok rows) = Ok rows
 as_next (Err fault) = Err (Vector fault)
 
@@ -89,7 +89,20 @@ FitsAgain = (shown : Shown) (text : List ℕ) (count : ℕ) → FitsText shown t
       behind = next.behind;
     }) text
 
+-- a window that has all its vectors ends no sooner than they do at least
+abbrev pub AreNoShorter : Type 0
+AreNoShorter = (shown : Shown) (text : List ℕ) (count : ℕ) → FitsText shown text → 0 < count
+    → let next = next_window shown text count in
+    length next.rows ≡ count
+    → shown.behind.place + least_bytes shown.width count ≤ next.behind.place
+
 -- under the limit of vectors that are read whole, lines stand for what they do there
 abbrev pub IsOfTheLimit : Type 0
 IsOfTheLimit = (width : ℕ) (lines : List Line)
-    → vectors_under (most_of VectorLimit) width lines ≡ vectors_of width lines
+    → vectors_under (most_of VectorLimit) width lines ≡ told_whole (vectors_of width lines)
+
+-- so the stream of a short text under that limit is what is read whole of its lines
+abbrev pub IsReadWhole : Type 0
+IsReadWhole = (width : ℕ) (text : List ℕ) → length text ≤ most_of Bytes
+    → let s = stream_of width (most_of VectorLimit) text in
+    result_of width s.stop s.rows ≡ as_next (told_whole (vectors_of width (lines_of text)))

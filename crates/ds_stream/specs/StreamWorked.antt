@@ -1,13 +1,12 @@
 -- Short texts, and the windows of their vectors.
 use Rattle.std.specs.Prelude.{◌≡◌, ℕ, List, [], ◌∷◌, codes, None, Some}
-use Rattle.ds_base.specs.declared.number.Limit.TheVariants.{Vectors as VectorLimit}
 use Rattle.ds_base.specs.declared.value.Value.TheVariants.{Zero, One, Unknown}
 use Rattle.ds_lines.specs.Line.{Line}
 use Rattle.ds_stream.specs.Stream.{Shown, Placed, beginning, stop_of, first_window, next_window}
 use Rattle.ds_stream.specs.Stream.{placed_lines, stream_of, window}
 use Rattle.ds_stream.specs.declared.fault.NextFault.{NextFault}
 use Rattle.ds_stream.specs.declared.fault.NextFault.TheVariants.{Vector, TooLong}
-use Rattle.ds_rows.specs.declared.fault.VectorKind.TheVariants.{BadWidth, BadBit, TooMany}
+use Rattle.ds_stream.specs.declared.fault.StreamKind.TheVariants.{BadWidth, BadBit, TooMany}
 
 -- a comment, a line that goes on, an empty line, and a line that the text ends
 abbrev pub worked_places : List Placed
@@ -62,7 +61,7 @@ pub record IsStreamWorked : Type 0 where
   pub next_two : next_window behind_two four_ones 2 ≡ record {
     rows = (One ∷ []) ∷ [];
     behind = record { place = 6; lines = 3 };
-    stop = Some (Vector (record { line = 4; kind = TooMany VectorLimit }));
+    stop = Some (Vector (record { line = 4; kind = TooMany 3 }));
   }
   pub behind_a_joined_line : first_window 1 9 behind_joined 2 ≡ record {
     rows = (One ∷ []) ∷ (One ∷ []) ∷ [];

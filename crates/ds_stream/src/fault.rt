@@ -1,14 +1,31 @@
 //! Why the next vectors of a file are not given.
 use ds_base::OutOfMemory;
-use ds_rows::VectorFault;
 use std::alloc::{AllocError, AllocFailed};
+
+/// What is wrong with a line of a file that is read in windows.
+#[derive(Clone, Copy, Debug, PartialEq, Eq)]
+pub enum StreamKind {
+    /// As many vectors as there may be stand before it: this many, which the reader was made for.
+    TooMany(u64),
+    /// It is not one word of the wanted length; for width 0, not the word `-`.
+    BadWidth,
+    /// A character is none of `0`, `1` and `x`.
+    BadBit,
+}
+
+/// The first fault of a file that is read in windows: the number of its line, from 1, and what is
+/// wrong there.
+#[derive(Clone, Copy, Debug, PartialEq, Eq)]
+pub struct StreamFault {
+    pub line: u64,
+    pub kind: StreamKind,
+}
 
 /// Why the next vectors of a file are not given.
 #[derive(Clone, Copy, Debug, PartialEq, Eq)]
 pub enum NextFault {
-    /// A line has a fault. `TooMany` is told where as many vectors stand before it as the reader
-    /// was made for.
-    Vector(VectorFault),
+    /// A line has a fault.
+    Vector(StreamFault),
     /// The file has more bytes than it may have, and the lines that end before are not enough.
     TooLong,
     /// A read failed.

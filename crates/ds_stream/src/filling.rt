@@ -1,19 +1,20 @@
 //! Vectors that are being read, byte by byte.
 ghost use Rattle.std.specs.Prelude.{◌≡◌, ◌≤◌, ◌<◌, ◌+◌, ◌-◌, ◌∷◌, false, ◌++◌, [], length, Ok};
-ghost use Rattle.std.specs.Prelude.{OnOk};
+ghost use Rattle.std.specs.Prelude.{true, IfOk, OnOk};
 ghost use Rattle.std.specs.Prelude.{MatchResult};
 ghost use Rattle.ds_lines.specs.Line.{is_hash, joins, words_in};
 ghost use Rattle.std.specs.List.{list_any};
 ghost use Rattle.ds_stream.specs.Alike.{IsFull, IsLike};
 ghost use Rattle.ds_stream.specs.Filling.{ClosesLine, EndsHere, Filled, IsLater, TakesBytes};
+ghost use Rattle.ds_stream.specs.Filling.{AreBefore, TakesFront};
+ghost use Rattle.ds_stream.specs.Plain.{IsPlainLine, HasLineRoom};
 ghost use Rattle.ds_stream.specs.Word.{GivesRow};
 
 use crate::physical::{blank, trim};
-use crate::word::{fault_of, row_of};
-use crate::{NextFault, VectorReader};
+use crate::word::{are_bits, fault_of, row_of, values_of};
+use crate::{NextFault, StreamFault, VectorReader};
 use ds_base::{Row3, Seq};
 use ds_design::Vectors;
-use ds_rows::VectorFault;
 use std::alloc::Global;
 use std::marker::Model;
 
@@ -121,20 +122,34 @@ impl Filling {
     /// How many bytes to read next: no more than the vectors that are missing have at least, so
     /// that none is read behind the last of them; whole lines, where they are many.
     pub(crate) fn ask(&self) -> usize
+        requires { 0 < self.now.missing }
         ensures some { 0 < result }
         ensures few { result ≤ 65536 }
+        ensures before { AreBefore self.now result }
     {
+        let least = self.least();
+        if least <= 65536 {
+            return least;
+        }
         let unit = self.width.max(1).saturating_add(1);
         let open = unit.saturating_sub(self.line.len()).max(1);
-        let others = self.missing.saturating_sub(1).saturating_mul(unit);
-        let least = others.saturating_add(open).saturating_sub(1).max(1);
-        if least <= 65536 {
-            least
-        } else if unit <= 65536 && self.line.is_empty() {
-            65536 - 65536 % unit
+        if unit <= 65536 {
+            65536 - (65536 - open) % unit
         } else {
             65536
         }
+    }
+
+    // How many bytes the vectors that are missing have at least, or one.
+    fn least(&self) -> usize
+        requires { 0 < self.now.missing }
+        ensures some { 0 < result }
+        ensures before { (n : _) → n ≤ result → AreBefore self.now n }
+    {
+        let unit = self.width.max(1).saturating_add(1);
+        let open = unit.saturating_sub(self.line.len());
+        let others = (self.missing - 1).saturating_mul(unit);
+        others.saturating_add(open.saturating_sub(1)).max(1)
     }
 
     /// The reader behind these rows, and the rows.
@@ -179,8 +194,7 @@ impl Filling {
     {
         let mut done = 0;
         'taking: while done < bytes.len() && self.missing > 0 {
-            self.take_byte(alloc, bytes[done])?;
-            done += 1;
+            done += self.take_some(alloc, &bytes[done..])?;
         }
         Ok(())
     }
@@ -194,6 +208,80 @@ impl Filling {
     {
         self.lines += 1;
         self.close(alloc)
+    }
+
+    // A plain line is taken where one begins these bytes, else their first byte. Says how many
+    // bytes were taken.
+    fn take_some(&mut self, alloc: Global, bytes: &[u8]) -> Result<usize, NextFault>
+        requires missing { 0 < self.old.missing }
+        requires some { 0 < length bytes.now }
+        ensures takes { TakesFront result self.old self.new bytes.now }
+        ensures some { IfOk result (λ n. 0 < n) }
+        ensures within { IfOk result (λ n. n ≤ length bytes.now) }
+        ensures same { IfOk result (λ n. IsLater self.old self.new) }
+        ensures place { IfOk result (λ n. self.new.place ≡ self.old.place + n) }
+        ensures bounds { IfOk result (λ n. self.old.lines ≤ self.old.place + self.old.seen
+            → self.new.lines ≤ self.new.place + self.new.seen) }
+    {
+        if self.is_plain(bytes) {
+            self.take_plain(alloc, bytes)
+        } else {
+            self.take_byte(alloc, bytes[0])?;
+            Ok(1)
+        }
+    }
+
+    // A plain line begins these bytes, where no line is open and one vector more may be.
+    fn is_plain(&self, bytes: &[u8]) -> bool
+        ensures { result ≡ true → IsPlainLine self.now bytes.now }
+    {
+        if !self.is_ready() || self.width >= bytes.len() {
+            return false;
+        }
+        bytes[self.width] == b'\n' && are_bits(&bytes[..self.width])
+    }
+
+    // No line is open, and there is room for a line of the width and for its vector.
+    fn is_ready(&self) -> bool
+        ensures { result ≡ true → HasLineRoom self.now }
+    {
+        if self.comment || self.joined || !self.line.is_empty() {
+            return false;
+        }
+        self.width > 0 && self.seen < self.most && (self.width as u64) < LONGEST - self.place
+    }
+
+    // A plain line is taken with its newline. Says how many bytes they are.
+    fn take_plain(&mut self, alloc: Global, bytes: &[u8]) -> Result<usize, NextFault>
+        requires missing { 0 < self.old.missing }
+        requires plain { IsPlainLine self.old bytes.now }
+        ensures takes { TakesFront result self.old self.new bytes.now }
+        ensures count { IfOk result (λ n. n ≡ self.old.width + 1) }
+        ensures within { IfOk result (λ n. n ≤ length bytes.now) }
+        ensures same { IfOk result (λ n. IsLater self.old self.new) }
+        ensures place { IfOk result (λ n. self.new.place ≡ self.old.place + n) }
+        ensures bounds { IfOk result (λ n. self.old.lines ≤ self.old.place + self.old.seen
+            → self.new.lines ≤ self.new.place + self.new.seen) }
+    {
+        let width = self.width;
+        let values = values_of(alloc, &bytes[..width])?;
+        self.pass(width as u64 + 1);
+        self.give(Row3::of(values))?;
+        self.open();
+        Ok(width + 1)
+    }
+
+    // So many bytes are passed, the last of them a newline.
+    fn pass(&mut self, count: u64)
+        requires some { 0 < count }
+        requires room { self.old.place + count ≤ 281474976710656 }
+        ensures { self.new ≡ record self.old {
+          place = self.old.place + count;
+          lines = self.old.lines + 1;
+        } }
+    {
+        self.place += count;
+        self.lines += 1;
     }
 
     // A byte is taken.
@@ -335,7 +423,7 @@ impl Filling {
         let line = &self.line[..kept];
         if let Some(kind) = fault_of(self.most, self.seen, self.width, line) {
             let line = self.first;
-            return Err(NextFault::Vector(VectorFault { line, kind }));
+            return Err(NextFault::Vector(StreamFault { line, kind }));
         }
         let row = row_of(alloc, self.width, line)?;
         Ok(Some(row))

@@ -1,5 +1,6 @@
 //! What follows of the definitions of windows.
 ghost use Rattle.ds_stream.specs.StreamLaws.{AreTheLines, FitsAgain, GoesOnBehind, IsOfTheLimit};
+ghost use Rattle.ds_stream.specs.StreamLaws.{AreNoShorter, IsReadWhole};
 ghost use Rattle.ds_stream.specs.StreamLaws.{ShortIsRead, WindowsAreOne, WindowsAreTheStream};
 ghost use Rattle.ds_stream.specs.StreamWorked.{IsStreamWorked};
 
@@ -24,6 +25,7 @@ pub fn windows_are_the_stream()
 pub fn short_is_read()
     ensures short { ShortIsRead }
     ensures limit { IsOfTheLimit }
+    ensures whole { IsReadWhole }
 {}
 
 /// Behind the vectors that were given the lines go on with the rest of the text, and the numbers
@@ -31,4 +33,10 @@ pub fn short_is_read()
 pub fn windows_go_on()
     ensures lines { GoesOnBehind }
     ensures fits { FitsAgain }
+{}
+
+/// Vectors have their characters, and a newline each but the last: so many bytes can be asked for
+/// that none stands behind the last line of a window.
+pub fn windows_are_no_shorter()
+    ensures { AreNoShorter }
 {}

@@ -1,9 +1,9 @@
-//! Windows that are read by pieces, limits, failed reads, and lines of any length.
-use crate::{NextFault, VectorReader};
-use ds_base::{Limit, Seq, Value};
+//! Windows that are read by pieces and of a pipe, limits, failed reads, and lines of any length.
+use crate::pipe::Pipe;
+use crate::{NextFault, StreamFault, StreamKind, VectorReader};
+use ds_base::{Seq, Value};
 use ds_design::Vectors;
 use ds_outside::{Entry, MemoryFiles};
-use ds_rows::{VectorFault, VectorKind};
 use std::alloc::{AllocError, Global};
 use std::test::Fail;
 
@@ -29,10 +29,10 @@ fn file(alloc: Global, bytes: &[u8], at_most: usize) -> Result<MemoryFiles, Allo
 fn is_fault(
     answer: &Result<(VectorReader, Vectors), NextFault>,
     number: u64,
-    wanted: VectorKind,
+    wanted: StreamKind,
 ) -> bool {
     match answer {
-        Err(NextFault::Vector(VectorFault { line, kind })) => *line == number && *kind == wanted,
+        Err(NextFault::Vector(StreamFault { line, kind })) => *line == number && *kind == wanted,
         _ => false,
     }
 }
@@ -54,7 +54,7 @@ fn windows_are_read_by_any_pieces(rt: HostRuntime) -> Result<(), Fail> {
         assert_eq!(rt; reader.place(), 24);
         assert_eq!(rt; reader.lines(), 6);
         let last = reader.next(alloc, &mut files, "v", 5);
-        assert!(rt; is_fault(&last, 7, VectorKind::BadWidth));
+        assert!(rt; is_fault(&last, 7, StreamKind::BadWidth));
     }
     Ok(())
 }
@@ -86,10 +86,10 @@ fn long_lines_are_read_as_short_ones(rt: HostRuntime) -> Result<(), Fail> {
         "10 \\\n  \\\n0",
     ] {
         let read = one(alloc, wide.as_bytes());
-        assert!(rt; is_fault(&read, 1, VectorKind::BadWidth), "{wide}");
+        assert!(rt; is_fault(&read, 1, StreamKind::BadWidth), "{wide}");
     }
-    assert!(rt; is_fault(&one(alloc, b"\n1z"), 2, VectorKind::BadBit));
-    assert!(rt; is_fault(&one(alloc, b"\\1"), 1, VectorKind::BadBit));
+    assert!(rt; is_fault(&one(alloc, b"\n1z"), 2, StreamKind::BadBit));
+    assert!(rt; is_fault(&one(alloc, b"\\1"), 1, StreamKind::BadBit));
     Ok(())
 }
 
@@ -101,7 +101,7 @@ fn one_vector_too_many_is_refused(rt: HostRuntime) -> Result<(), Fail> {
     let (reader, rows) = reader.next(alloc, &mut files, "v", 2)?;
     assert_eq!(rt; rows.count(), 2);
     let last = reader.next(alloc, &mut files, "v", 2);
-    assert!(rt; is_fault(&last, 4, VectorKind::TooMany(Limit::Vectors)));
+    assert!(rt; is_fault(&last, 4, StreamKind::TooMany(3)));
     Ok(())
 }
 
@@ -127,5 +127,62 @@ fn a_file_ends_and_stays_at_its_end(rt: HostRuntime) -> Result<(), Fail> {
     let (reader, rows) = reader.next(alloc, &mut files, "v", 4)?;
     assert_eq!(rt; rows.count(), 0);
     assert_eq!(rt; reader.given(), 2);
+    Ok(())
+}
+
+// The same values in the same rows.
+fn are_same(one: &Vectors, other: &Vectors) -> bool {
+    if one.count() != other.count() {
+        return false;
+    }
+    for k in 0..one.count() {
+        if one.row(k).values() != other.row(k).values() {
+            return false;
+        }
+    }
+    true
+}
+
+#[test]
+fn a_pipe_gives_the_rows_of_a_file(rt: HostRuntime) -> Result<(), Fail> {
+    let alloc = rt.alloc();
+    let text = b"# a\n10\n\n 0x\r\n11\n01\\\n \n00 # b\n1x\nxx\n\n";
+    for most in [1usize, 2, 3, 5, 100] {
+        let mut files = Pipe::of(alloc, text, 100)?;
+        let mut pipe = Pipe::of(alloc, text, most)?;
+        let mut of_file = VectorReader::new(2, 9);
+        let mut of_pipe = VectorReader::new(2, 9);
+        for count in [2usize, 1, 3, 1, 4] {
+            let (next, rows) = of_file.next(alloc, &mut files, "v", count)?;
+            let (behind, others) = of_pipe.next(alloc, &mut pipe, "v", count)?;
+            assert!(rt; are_same(&rows, &others), "{most} {count}");
+            assert!(rt; rows.count() < count || pipe.given() == behind.place());
+            of_file = next;
+            of_pipe = behind;
+        }
+        assert_eq!(rt; of_pipe.given(), 7);
+        assert!(rt; !pipe.is_broken());
+    }
+    Ok(())
+}
+
+#[test]
+fn long_windows_are_read_to_their_last_line(rt: HostRuntime) -> Result<(), Fail> {
+    let alloc = rt.alloc();
+    let mut text = Vec::new(alloc);
+    for _ in 0..400 {
+        text.extend_from_slice(b"01x\n")?;
+    }
+    let mut pipe = Pipe::of(alloc, &text, 1000)?;
+    let mut reader = VectorReader::new(3, 400);
+    for _ in 0..4 {
+        let (next, rows) = reader.next(alloc, &mut pipe, "v", 100)?;
+        assert_eq!(rt; rows.count(), 100);
+        assert!(rt; rows.row(99).values().len() == 3);
+        assert_eq!(rt; pipe.given(), next.place());
+        reader = next;
+    }
+    assert_eq!(rt; reader.lines(), 400);
+    assert!(rt; !pipe.is_broken());
     Ok(())
 }

@@ -8,23 +8,23 @@ ghost use Rattle.ds_rows.specs.Vector.{row_of as row_of_words};
 ghost use Rattle.ds_stream.specs.Bounded.{fault_under};
 ghost use Rattle.ds_stream.specs.Word.{IsCut};
 
+use crate::StreamKind;
 use crate::physical::blank;
-use ds_base::{Limit, OutOfMemory, Row3, Value};
-use ds_rows::VectorKind;
+use ds_base::{OutOfMemory, Row3, Value};
 use std::alloc::{AllocError, Global};
 
 /// What is wrong with a line, where there may be so many vectors, and so many stand before it.
-pub fn fault_of(most: u64, seen: u64, width: usize, line: &[u8]) -> Option<VectorKind>
+pub fn fault_of(most: u64, seen: u64, width: usize, line: &[u8]) -> Option<StreamKind>
     requires { IsCut line.now }
     ensures value { result ≡ fault_under most width seen (words_of line.now) }
     ensures one { IfNone result (words_of line.now ≡ line.now ∷ []) }
 {
     if seen >= most {
-        Some(VectorKind::TooMany(Limit::Vectors))
+        Some(StreamKind::TooMany(most))
     } else if !has_width(width, line) {
-        Some(VectorKind::BadWidth)
+        Some(StreamKind::BadWidth)
     } else if !has_bits(width, line) {
-        Some(VectorKind::BadBit)
+        Some(StreamKind::BadBit)
     } else {
         None
     }
@@ -75,16 +75,16 @@ fn has_bits(width: usize, word: &[u8]) -> bool
     width == 0 || are_bits(word)
 }
 
-// Each byte is `0`, `1` or `x`.
-fn are_bits(word: &[u8]) -> bool
+/// Each byte is `0`, `1` or `x`.
+pub fn are_bits(word: &[u8]) -> bool
     ensures { result ≡ list_all is_bit word.now }
 {
     word.iter()
         .all(|byte| *byte == b'0' || *byte == b'1' || *byte == b'x')
 }
 
-// The values of such bytes.
-fn values_of(alloc: Global, word: &[u8]) -> Result<Vec<Value>, AllocError>
+/// The values of such bytes.
+pub fn values_of(alloc: Global, word: &[u8]) -> Result<Vec<Value>, AllocError>
     ensures { IfOk result (λ values. values.items ≡ map value_of_byte word.now) }
 {
     let values = word.iter().map(|byte| value_of(*byte)).collect(alloc)?;
