@@ -1,0 +1,93 @@
+-- What the workers keep, and what a step of the caller does.
+use Rattle.std.specs.Prelude.{◌≡◌, ℕ, ◌<◌, ◌≤◌, ◌+◌, ◌-◌, ◌*◌, zero, suc, true, false, Bool, List}
+use Rattle.std.specs.Prelude.{All, [], length, vec_capacity}
+use mathlib.Core.Option.{some}
+use lib.ListN.{get_elem?}
+use Rattle.ds_rule.specs.Run.{Run}
+use Rattle.ds_rule.specs.Rule.{holds, seen}
+use Rattle.ds_rule.specs.Progress.{Stuck}
+use Rattle.ds_rule.specs.declared.view.View.{View}
+use Rattle.ds_fabric.specs.Base.{Base}
+use Rattle.ds_fabric.specs.Showing.{Showing, Belongs}
+use Rattle.ds_turnstile.specs.Turns.{Alone, HasNone, fabric_of, run_of}
+use Rattle.ds_turnstile.specs.Shown.{Stile, IsTurnOf}
+use Rattle.ds_crew.specs.declared.budget.Budget.{Budget}
+use Rattle.ds_crew.specs.declared.crew.Crew.{Crew}
+use Rattle.ds_crew.specs.declared.worker.Worker.{Worker}
+
+-- the pass holds the nodes from one up to but not including another
+abbrev pub HasBetween : View → ℕ → ℕ → Type 0
+HasBetween v first end = (l : ℕ) → first ≤ l → l < end → holds v l ≡ true
+
+-- the pass holds all nodes from one on
+abbrev pub HasFrom : View → ℕ → Type 0
+HasFrom v first = HasBetween v first v.run.nodes
+
+-- a pass after steps: it holds what it held, and no node has fired less often
+pub record Moved (p q : Showing) : Type 0 where
+  pub table : q.table_id ≡ p.table_id
+  pub many : q.many ≡ p.many
+  pub room : q.room ≡ p.room
+  pub nets : q.nets ≡ p.nets
+  pub run : q.view.run ≡ p.view.run
+  pub holds_same : q.view.holds ≡ p.view.holds
+  pub up : (l : ℕ) → seen p.view l ≤ seen q.view l
+
+-- bare passes of the fabric, the l-th of which holds node l alone
+abbrev pub AreSingle : Base → List Showing → Type 0
+AreSingle b ps = (l : ℕ) (p : Showing) → get_elem? ps l ≡ some p → Alone b.table_id b.run l p
+
+-- the turnstile has a pass of the fabric for each node
+pub record Fits (b : Base) (s : Stile) : Type 0 where
+  pub fabric_is : fabric_of s.given ≡ b.table_id
+  pub run_is : run_of s.given ≡ b.run
+  pub long : length s.given ≡ b.run.nodes
+
+-- a worker between two visits: it has one part and no node out, and a row of the fabric's length
+pub record IsWorker (b : Base) (s : Stile) (w : Worker) : Type 0 where
+  pub belongs : IsTurnOf s w.turn
+  pub none : HasNone w.turn.view
+  pub one : w.turn.view.parts ≡ 1
+  pub row : w.scratch ≡ b.nets
+
+-- workers who together with the turn that is left have all parts, and no node is out
+pub record IsCrew (b : Base) (c : Crew) : Type 0 where
+  pub fits : Fits b c.gear.stile
+  pub belongs : IsTurnOf c.gear.stile c.turn
+  pub none : HasNone c.turn.view
+  pub parts : c.turn.view.parts + length c.workers.items ≡ c.gear.stile.turns
+  pub are : All (IsWorker b c.gear.stile) c.workers.items
+  pub some_workers : 0 < length c.workers.items
+  pub empty : c.passes.items ≡ []
+  pub room : length c.gear.stile.given ≤ vec_capacity c.passes
+
+-- fewer looks are left, and as many takes
+abbrev pub Waits : Budget → Budget → Type 0
+Waits old new = (new.looks < old.looks) × (new.takes ≡ old.takes)
+
+-- what is left of a pass from which nodes were dealt
+pub record IsLent (b : Base) (old : Showing) (first end_ : ℕ) (p : Showing) : Type 0 where
+  pub fits : Belongs b p
+  pub has : HasFrom p.view end_
+  pub many : p.many + end_ ≡ old.many + first
+  pub room : p.room ≡ old.room
+
+-- the sum of f over the numbers below n
+abbrev pub sum_below : (ℕ → ℕ) → ℕ → ℕ
+sum_below f zero = 0
+sum_below f (suc n) = sum_below f n + f n
+
+-- at least the firings that are left
+abbrev pub left : Run → View → ℕ
+left run v = sum_below (λ l. 2 * run.limit - seen v l) run.nodes
+
+-- one firing less is left; or nothing fired, and the node is stuck
+abbrev pub Advances : Run → View → ℕ → View → Bool → Type 0
+Advances run v l w true = left run w < left run v
+Advances run v l w false = ((x : ℕ) → x < run.nodes → seen w x ≡ seen v x) × Stuck run (seen v) l
+
+-- a firing less is left; or nothing fired, and each node below n is stuck
+abbrev pub AdvancesBelow : Run → View → ℕ → View → Bool → Type 0
+AdvancesBelow run v n w true = left run w < left run v
+AdvancesBelow run v n w false =
+    ((x : ℕ) → x < run.nodes → seen w x ≡ seen v x) × ((l : ℕ) → l < n → Stuck run (seen v) l)

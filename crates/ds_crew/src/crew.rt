@@ -1,0 +1,14 @@
+use crate::gear::Gear;
+use crate::worker::Worker;
+use ds_fabric::Pass;
+use ds_turnstile::Turn;
+
+/// Workers with what they share, the turn that is left, and the vector in which the passes come
+/// back.
+#[derive(Drop)]
+pub struct Crew {
+    pub gear: Gear,
+    pub turn: Turn,
+    pub workers: Vec<Worker>,
+    pub passes: Vec<Pass>,
+}

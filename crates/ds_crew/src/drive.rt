@@ -1,0 +1,88 @@
+//! A worker at work: visits to nodes that seem due, until all is done, its budget is used up, or it
+//! found nothing for long.
+ghost use Rattle.std.specs.Prelude.{◌≡◌, ◌<◌, IsTrue};
+ghost use Rattle.ds_crew.specs.Work.{Fits, IsWorker, Waits};
+
+use crate::budget::Budget;
+use crate::gear::Gear;
+use crate::search::search;
+use crate::site::Site;
+use crate::targets::tell_targets;
+use crate::visit::visit;
+use crate::worker::Worker;
+use ds_fabric::Compute;
+use ds_outside::Gate;
+use ds_rule::Rows;
+use std::hint::spin_loop;
+use std::thread;
+
+// Each so manieth round without a take in a row lets others go first.
+const YIELDS: u64 = 16;
+
+/// Visits one node after another, within the budget.
+pub fn drive<J: Rows, C: Compute, G: Gate>(
+    site: &Site<'_, '_, J, C, G>,
+    gear: &Gear,
+    worker: &mut Worker,
+)
+    requires fits { Fits site.now gear.now.stile }
+    requires worker { IsWorker site.now gear.now.stile worker.old }
+    ensures { IsWorker site.now gear.now.stile worker.new }
+{
+    let mut left = site.budget;
+    'visits: while left.takes > 0 {
+        if visit_next(site, gear, worker) {
+            left.takes -= 1;
+            left.dry = site.budget.dry;
+        } else if !wait(site, worker, &mut left) {
+            return;
+        }
+    }
+}
+
+// Visits the next node that seems due. False: there is none.
+fn visit_next<J: Rows, C: Compute, G: Gate>(
+    site: &Site<'_, '_, J, C, G>,
+    gear: &Gear,
+    worker: &mut Worker,
+) -> bool
+    requires fits { Fits site.now gear.now.stile }
+    requires worker { IsWorker site.now gear.now.stile worker.old }
+    ensures { IsWorker site.now gear.now.stile worker.new }
+{
+    let Some(node) = search(site, gear, worker.number, &mut worker.trail) else {
+        return false;
+    };
+    if let Some(event) = visit(site, gear, worker, node) {
+        if !worker.trail.soon {
+            tell_targets(site, gear, &mut worker.trail.hints, event);
+        }
+    }
+    true
+}
+
+// Passes some time after a look at all nodes. False: the worker ends.
+fn wait<J: Rows, C: Compute, G: Gate>(
+    site: &Site<'_, '_, J, C, G>,
+    worker: &Worker,
+    left: &mut Budget,
+) -> bool
+    ensures { IsTrue result → Waits left.old left.new }
+{
+    let looks = worker
+        .trail
+        .part
+        .count()
+        .saturating_add(worker.trail.all.count()) as u64;
+    if left.dry == 0 || left.looks <= looks || site.fabric.seems_over() {
+        return false;
+    }
+    left.looks -= looks + 1;
+    left.dry -= 1;
+    if site.budget.dry.saturating_sub(left.dry) % YIELDS == 0 {
+        thread::yield_now();
+    } else {
+        spin_loop();
+    }
+    true
+}

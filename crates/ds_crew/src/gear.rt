@@ -1,0 +1,11 @@
+use crossbeam_deque::Stealer;
+use ds_turnstile::Turnstile;
+
+/// What the workers share: the turnstile with the passes of all nodes, a handle to steal from each
+/// worker's hints, and the number of the first arc from each event.
+#[derive(Drop)]
+pub struct Gear {
+    pub stile: Turnstile,
+    pub stealers: Vec<Stealer<u32>>,
+    pub arcs_from: Vec<usize>,
+}

@@ -1,0 +1,137 @@
+//! Workers made: each node gets a pass of its own, the turnstile takes these, and each worker gets
+//! a turn. All memory that workers need is taken here.
+ghost use Rattle.std.specs.Prelude.{◌≡◌, ◌<◌, ◌≤◌, ◌+◌, IfOk, OnOk, All, length};
+ghost use Rattle.std.specs.Prelude.{vec_capacity};
+ghost use Rattle.ds_fabric.specs.Showing.{Belongs};
+ghost use Rattle.ds_turnstile.specs.Turns.{HasNone};
+ghost use Rattle.ds_turnstile.specs.Shown.{IsTurnOf};
+ghost use Rattle.ds_crew.specs.Work.{HasFrom, IsLent, AreSingle, Fits, IsWorker, IsCrew};
+
+use crate::crew::Crew;
+use crate::gear::Gear;
+use crate::hints::Hints;
+use crate::ring::Ring;
+use crate::site::Site;
+use crate::targets::arcs_from;
+use crate::trail::Trail;
+use crate::worker::Worker;
+use crossbeam_deque::Stealer;
+use ds_base::{LatchId, OutOfMemory};
+use ds_fabric::{Compute, Pass};
+use ds_outside::Gate;
+use ds_rule::Rows;
+use ds_turnstile::{Turn, Turnstile};
+use std::alloc::Global;
+
+/// So many workers, with a turn more for the caller. The pass is left without nodes.
+pub fn hire<J: Rows, C: Compute, G: Gate>(
+    alloc: Global,
+    site: &Site<'_, '_, J, C, G>,
+    pass: &mut Pass,
+    count: u32,
+) -> Result<Crew, OutOfMemory>
+    requires fits { Belongs site.now pass.old }
+    requires has { HasFrom pass.old.view 0 }
+    requires count { (0 < count) × (count ≤ 64) × (0 < site.now.run.nodes) }
+
+    ensures ok { IfOk result (IsCrew site.now) }
+    ensures ok_lent { OnOk result (IsLent site.now pass.old 0 site.now.run.nodes pass.new) }
+{
+    let arcs_from = arcs_from(alloc, site.run)?;
+    let mut passes = deal_all(alloc, site, pass)?;
+    let (stile, mut turn) = Turnstile::build(alloc, &mut passes, count + 1)?;
+    let workers = enlist(alloc, site, &stile, &mut turn, count)?;
+    let stealers = stealers_of(alloc, &workers)?;
+    let gear = Gear {
+        stile,
+        stealers,
+        arcs_from,
+    };
+    Ok(Crew {
+        gear,
+        turn,
+        workers,
+        passes,
+    })
+}
+
+// A bare pass for each node, in order.
+fn deal_all<J: Rows, C: Compute, G: Gate>(
+    alloc: Global,
+    site: &Site<'_, '_, J, C, G>,
+    pass: &mut Pass,
+) -> Result<Vec<Pass>, OutOfMemory>
+    requires fits { Belongs site.now pass.old }
+    requires has { HasFrom pass.old.view 0 }
+
+    ensures ok { IfOk result (λ v. AreSingle site.now v.items
+        × (length v.items ≡ site.now.run.nodes) × (site.now.run.nodes ≤ vec_capacity v)) }
+    ensures ok_lent { OnOk result (IsLent site.now pass.old 0 site.now.run.nodes pass.new) }
+{
+    let nodes = site.run.nodes();
+    let mut passes = Vec::with_capacity(alloc, nodes)?;
+    'dealing: for node in 0..nodes {
+        let one = site
+            .fabric
+            .deal_bare(alloc, pass, LatchId::new(node as u32))?;
+        passes.push_reserved(one);
+    }
+    Ok(passes)
+}
+
+// So many workers, each with a turn; one part is left.
+fn enlist<J: Rows, C: Compute, G: Gate>(
+    alloc: Global,
+    site: &Site<'_, '_, J, C, G>,
+    stile: &Turnstile,
+    turn: &mut Turn,
+    count: u32,
+) -> Result<Vec<Worker>, OutOfMemory>
+    requires count { (0 < count) × (count ≤ 64) }
+    requires fits { Fits site.now stile.now × IsTurnOf stile.now turn.old }
+    requires turn { HasNone turn.old.view × (turn.old.view.parts ≡ count + 1) }
+
+    ensures ok { IfOk result (λ v. All (IsWorker site.now stile.now) v.items
+        × (length v.items ≡ count)) }
+    ensures ok_turn { OnOk result (IsTurnOf stile.now turn.new × HasNone turn.new.view
+        × (turn.new.view.parts ≡ 1)) }
+{
+    let mut workers = Vec::with_capacity(alloc, count as usize)?;
+    'hiring: for number in 0..count {
+        let scratch = site.fabric.scratch(alloc)?;
+        let trail = trail_of(alloc, site.run.nodes(), number, count)?;
+        let own = stile.split(turn);
+        workers.push_reserved(Worker {
+            number,
+            turn: own,
+            scratch,
+            trail,
+        });
+    }
+    Ok(workers)
+}
+
+// Where a worker looks: its part are the nodes from its number on, of so many equal parts.
+fn trail_of(alloc: Global, nodes: usize, number: u32, count: u32) -> Result<Trail, OutOfMemory>
+    requires few { nodes < 2147483648 }
+    requires among { (number < count) × (count ≤ 64) }
+{
+    let hints = Hints::of(alloc)?;
+    let first = number as usize * nodes / count as usize;
+    let end = (number as usize + 1) * nodes / count as usize;
+    Ok(Trail {
+        hints,
+        part: Ring::over(first, end),
+        all: Ring::over(0, nodes),
+        soon: false,
+    })
+}
+
+// A handle to steal from each worker's hints.
+fn stealers_of(alloc: Global, workers: &[Worker]) -> Result<Vec<Stealer<u32>>, OutOfMemory> {
+    let mut stealers = Vec::with_capacity(alloc, workers.len())?;
+    for i in 0..workers.len() {
+        stealers.push(workers[i].trail.hints.stealer()?)?;
+    }
+    Ok(stealers)
+}

@@ -1,0 +1,57 @@
+//! One visit to a node, the gate before it included.
+ghost use Rattle.std.specs.Prelude.{◌≡◌, ◌<◌, ◌≤◌, ℕ, true, false};
+ghost use Rattle.ds_rule.specs.Run.{next, turns};
+ghost use Rattle.ds_rule.specs.Rule.{holds, seen};
+ghost use Rattle.ds_rule.specs.Sound.{IsSound};
+ghost use Rattle.ds_fabric.specs.Showing.{Belongs, Stays};
+ghost use Rattle.ds_fabric.specs.Stepped.{Stepped, done};
+
+use ds_base::LatchId;
+use ds_fabric::{Compute, Fabric, Pass, Step};
+use ds_outside::Gate;
+use ds_rule::{Layout, Rows};
+
+/// Steps a node once, unless it is done, and pauses at the gate before it.
+pub fn unit<J: Rows, C: Compute, G: Gate>(
+    fabric: &Fabric<'_, J, C>,
+    run: &Layout<J>,
+    pass: &mut Pass,
+    number: u32,
+    node: usize,
+    gate: &G,
+) -> Step
+    requires run { (run.now ≡ fabric.now.run) × IsSound run.now }
+    requires fits { Belongs fabric.now pass.old }
+    requires held { (holds pass.old.view node ≡ true) × (node < run.now.nodes) }
+
+    ensures same { Stays pass.old pass.new }
+    ensures step { Stepped fabric.now.run pass.old.view node result pass.new.view }
+{
+    if arrive(run, pass, number, node, gate) {
+        fabric.step(pass, LatchId::new(node as u32))
+    } else {
+        Step::Done
+    }
+}
+
+/// Comes to a node: pauses at the gate, unless the node is done. False: it is done.
+pub fn arrive<J: Rows, G: Gate>(
+    run: &Layout<J>,
+    pass: &Pass,
+    number: u32,
+    node: usize,
+    gate: &G,
+) -> bool
+    requires sound { IsSound run.now }
+    requires held { (holds pass.now.view node ≡ true) × (node < run.now.nodes) }
+    ensures { result ≡ false → run.now.limit ≤ done run.now pass.now.view node }
+{
+    let fired = pass.fired(LatchId::new(node as u32));
+    let event = run.next(node, fired);
+    let turns = run.turns(event, fired);
+    if turns >= run.limit() {
+        return false;
+    }
+    gate.pause(number, event as u32, turns + 1);
+    true
+}

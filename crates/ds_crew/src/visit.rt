@@ -1,0 +1,68 @@
+//! One visit to a node: its pass is taken, stepped once, and given back.
+ghost use Rattle.std.specs.Prelude.{◌≡◌, ◌<◌, ◌≤◌};
+ghost use Rattle.ds_rule.specs.Rule.{seen};
+ghost use Rattle.ds_turnstile.specs.Turns.{Alone};
+ghost use Rattle.ds_crew.specs.Work.{Fits, IsWorker};
+
+use crate::gear::Gear;
+use crate::site::Site;
+use crate::unit::arrive;
+use crate::worker::Worker;
+use ds_base::LatchId;
+use ds_fabric::{Compute, Pass, Scratch, Step};
+use ds_outside::Gate;
+use ds_rule::Rows;
+
+/// Takes the pass of the node, steps it once and gives it back. The event that fired, if there is
+/// one.
+pub fn visit<J: Rows, C: Compute, G: Gate>(
+    site: &Site<'_, '_, J, C, G>,
+    gear: &Gear,
+    worker: &mut Worker,
+    node: usize,
+) -> Option<usize>
+    requires fits { Fits site.now gear.now.stile }
+    requires worker { IsWorker site.now gear.now.stile worker.old }
+    requires near { node < site.now.run.nodes }
+
+    ensures worker { IsWorker site.now gear.now.stile worker.new }
+{
+    // A layout has fewer nodes than a `u32` counts.
+    let _nodes = site.run.nodes();
+    let latch = LatchId::new(node as u32);
+    let Some(mut pass) = gear.stile.take(&mut worker.turn, latch) else {
+        return None;
+    };
+    let fired = step_once(site, &mut pass, worker.number, node, &mut worker.scratch);
+    gear.stile.give(&mut worker.turn, latch, pass);
+    fired
+}
+
+// Steps the node once, unless it is done, and pauses at the gate before it. The event that fired,
+// if there is one.
+fn step_once<J: Rows, C: Compute, G: Gate>(
+    site: &Site<'_, '_, J, C, G>,
+    pass: &mut Pass,
+    number: u32,
+    node: usize,
+    scratch: &mut Scratch,
+) -> Option<usize>
+    requires near { node < site.now.run.nodes }
+    requires alone { Alone site.now.table_id site.now.run node pass.old }
+    requires row { scratch.old ≡ site.now.nets }
+
+    ensures alone { Alone site.now.table_id site.now.run node pass.new }
+    ensures up { seen pass.old.view node ≤ seen pass.new.view node }
+    ensures row { scratch.new ≡ scratch.old }
+{
+    if !arrive(site.run, pass, number, node, site.gate) {
+        return None;
+    }
+    match site
+        .fabric
+        .step_in(pass, LatchId::new(node as u32), scratch)
+    {
+        Step::Fired { event, .. } => Some(event.index()),
+        Step::NotYet { .. } | Step::Done => None,
+    }
+}

@@ -1,0 +1,136 @@
+//! The top call: a run by workers. Threads may fail to start and workers may give up; the caller
+//! completes the run.
+ghost use Rattle.std.specs.Prelude.{◌≡◌, ◌<◌, ◌≤◌, ◌+◌, ℕ, IfOk, OnOk, All, length, slice_index_or};
+ghost use Rattle.ds_rule.specs.Sound.{IsSound};
+ghost use Rattle.ds_rule.specs.Progress.{IsAccepted};
+ghost use Rattle.ds_fabric.specs.Showing.{Belongs};
+ghost use Rattle.ds_crew.specs.Work.{HasFrom, Fits, IsWorker};
+ghost use Rattle.ds_crew.specs.Whole.{IsWhole};
+ghost use Rattle.ds_crew.specs.declared.worker.Worker.{Worker};
+
+use crate::budget::Budget;
+use crate::complete::complete;
+use crate::drive::drive;
+use crate::gather::gather;
+use crate::gear::Gear;
+use crate::hire::hire;
+use crate::site::Site;
+use crate::worker::Worker;
+use ds_base::OutOfMemory;
+use ds_fabric::{Compute, Fabric, Pass, Record};
+use ds_outside::Gate;
+use ds_rule::{Layout, Rows};
+use std::alloc::Global;
+use std::thread;
+use std::thread::Threads;
+
+/// Fires every event of a run as often as it may, with so many workers, from 1 to 64.
+///
+/// A worker calls the gate before it steps a node that is not done, with its number, the event that
+/// the node fires next, and its turn, from 1 on. With one job the caller is worker 0. With more the
+/// caller, which fires what is left in the end, has the number `jobs`. No fault comes of a thread
+/// that cannot be started: its work is done by another.
+pub fn run<R: Threads + Sync, J: Rows + Sync, C: Compute + Sync, G: Gate>(
+    rt: &R,
+    alloc: Global,
+    run: &Layout<J>,
+    openings: &C,
+    jobs: u32,
+    gate: &G,
+) -> Result<Record, OutOfMemory>
+    requires sound { IsSound run.now }
+    requires accepted { IsAccepted run.now }
+    requires openings { C.run openings.now ≡ run.now }
+    requires jobs { (0 < jobs) × (jobs ≤ 64) }
+    ensures { IfOk result (IsWhole run.now) }
+{
+    let (fabric, mut pass) = Fabric::build(alloc, run, openings)?;
+    let number = if jobs == 1 || run.nodes() < 2 {
+        0
+    } else {
+        jobs
+    };
+    if number > 0 {
+        let budget = budget(run, openings, jobs);
+        let site = Site {
+            fabric: &fabric,
+            run,
+            gate,
+            budget,
+        };
+        share(rt, alloc, &site, &mut pass, jobs)?;
+    }
+    complete(&fabric, run, &mut pass, number, gate);
+    Ok(fabric.finish(pass))
+}
+
+// Workers fire what they can. Then the pass has all nodes again.
+fn share<R: Threads + Sync, J: Rows + Sync, C: Compute + Sync, G: Gate>(
+    rt: &R,
+    alloc: Global,
+    site: &Site<'_, '_, J, C, G>,
+    pass: &mut Pass,
+    jobs: u32,
+) -> Result<(), OutOfMemory>
+    requires fits { Belongs site.now pass.old }
+    requires has { HasFrom pass.old.view 0 }
+    requires jobs { (0 < jobs) × (jobs ≤ 64) × (0 < site.now.run.nodes) }
+    requires room { (pass.old.many ≡ site.now.run.nodes)
+        × (site.now.run.nodes ≤ pass.old.room) }
+    ensures ok { OnOk result (Belongs site.now pass.new × HasFrom pass.new.view 0) }
+{
+    let count = jobs.min(site.run.nodes() as u32);
+    let mut crew = hire(alloc, site, pass, count)?;
+    drive_all(rt, site, &crew.gear, crew.workers.as_mut_slice());
+    gather(site, pass, crew);
+    Ok(())
+}
+
+// Each worker drives, in a thread of its own.
+fn drive_all<R: Threads + Sync, J: Rows + Sync, C: Compute + Sync, G: Gate>(
+    rt: &R,
+    site: &Site<'_, '_, J, C, G>,
+    gear: &Gear,
+    workers: &mut [Worker],
+)
+    requires fits { Fits site.now gear.now.stile }
+    requires some { 0 < length workers.old }
+    requires workers { All (IsWorker site.now gear.now.stile) workers.old }
+    ensures { (i : ℕ) (d : Worker) → i < length workers.old
+        → IsWorker site.now gear.now.stile (slice_index_or workers.new i d) }
+{
+    thread::for_each_mut(
+        rt,
+        workers,
+        workers.len(),
+        &|_, worker|
+            requires fits { Fits site.now gear.now.stile }
+            requires worker { IsWorker site.now gear.now.stile worker.old }
+            ensures { IsWorker site.entry.now gear.entry.now.stile worker.new }
+        { drive(site, gear, worker) },
+    );
+}
+
+// Twice the nodes times the vectors are the firings of the whole run, and as many takes may each
+// worker have. The looks are shared among the workers: all of them together take some three times
+// as long as all firings, which goes with the nets that a node has to compute. So a worker looks on
+// until a run is done in which each is at work for a quarter of the time, and where workers wait
+// for processors, what they lose does not grow with their number. A worker that found nothing for
+// some 50 times as long as a node takes to fire waits for one that does not run, and nobody needs
+// it.
+fn budget<J: Rows, C: Compute>(run: &Layout<J>, openings: &C, workers: u32) -> Budget
+    requires { IsSound run.now }
+{
+    let nodes = run.nodes();
+    let takes = 2 * nodes as u64 * run.limit();
+    let nets = openings.nets() / nodes.max(1);
+    let each = 32 + (nets - nets / 3);
+    let looks = takes.saturating_mul(each as u64);
+    Budget {
+        takes,
+        looks: looks / workers.max(1) as u64,
+        dry: ((each / nodes.max(1)) as u64)
+            .saturating_mul(50)
+            .saturating_add(50),
+    }
+}
