@@ -3,14 +3,19 @@
 
 `random` has registers each of which takes a random table of three inputs; the inputs are drawn
 among two columns and all registers. `pipeline` has stages of registers of a given width, with
-levels of exclusive ors and ands between one stage and the next. It writes PREFIX.blif and
-PREFIX.vec. The same words and seed make the same files.
+levels of exclusive ors and ands between one stage and the next; `stages` is the same with a width
+for each stage. `mapped` has random tables of two
+to four inputs, as a mapper to tables of four inputs leaves them, and a register behind every tenth.
+It writes PREFIX.blif and PREFIX.vec. The same words and seed make the same files.
 """
 
 import argparse
 import random
 
 PIPELINE = ("width", "stages", "levels")
+STAGES = ("levels", "widths")
+SIZES = {"random": ("registers",), "pipeline": PIPELINE, "stages": STAGES, "mapped": ("tables",)}
+COLUMNS, NEAR = 32, 400
 ROWS = ["000", "100", "010", "110", "001", "101", "011", "111"]
 
 
@@ -40,20 +45,47 @@ def gate(draw, level, a, b, output):
 
 def pipeline(draw, width, stages, levels):
     """Stages of registers with levels of tables between them."""
+    return staged(draw, levels, [width] * stages)
+
+
+def staged(draw, levels, widths):
+    """The same with a width for each stage."""
     yield ".model pipeline"
-    yield ".inputs clk " + " ".join("x%d" % i for i in range(width))
-    yield ".outputs " + " ".join("s%d_%d" % (stages, i) for i in range(width))
-    before = ["x%d" % i for i in range(width)]
-    for stage in range(1, stages + 1):
+    yield ".inputs clk " + " ".join("x%d" % i for i in range(widths[0]))
+    yield ".outputs " + " ".join("s%d_%d" % (len(widths), i) for i in range(widths[-1]))
+    before = ["x%d" % i for i in range(widths[0])]
+    for stage, width in enumerate(widths, 1):
         for level in range(1, levels + 1):
             after = ["t%d_%d_%d" % (stage, level, i) for i in range(width)]
+            count = len(before)
             for i in range(width):
-                yield from gate(draw, level, before[i], before[(i + level) % width], after[i])
+                one, other = before[i % count], before[(i + level) % count]
+                yield from gate(draw, level, one, other, after[i])
             before = after
         after = ["s%d_%d" % (stage, i) for i in range(width)]
         for i in range(width):
-            yield ".latch %s %s re clk %d" % (before[i], after[i], draw.getrandbits(1))
+            yield ".latch %s %s re clk %d" % (before[i % len(before)], after[i], draw.getrandbits(1))
         before = after
+    yield ".end"
+
+
+def mapped(draw, tables):
+    """Tables of two to four inputs that read nets near them, and a register behind every tenth."""
+    registers = ["r%d" % k for k in range(0, tables, 10)]
+    nets = ["x%d" % i for i in range(COLUMNS)] + registers
+    yield ".model mapped"
+    yield ".inputs clk " + " ".join(nets[:COLUMNS])
+    yield ".outputs n%d" % (tables - 1)
+    for k in range(tables):
+        width = draw.choice((2, 2, 3, 3, 4, 4, 4))
+        yield ".names %s n%d" % (" ".join(draw.sample(nets[-NEAR:], width)), k)
+        truth = draw.randrange(1, 2 ** (2 ** width) - 1)
+        for place in range(2 ** width):
+            if truth >> place & 1:
+                yield format(place, "0%db" % width) + " 1"
+        nets.append("n%d" % k)
+    for k, register in enumerate(registers):
+        yield ".latch n%d %s re clk %d" % (10 * k, register, draw.getrandbits(1))
     yield ".end"
 
 
@@ -68,6 +100,10 @@ def make(prefix, seed, turns, kind, sizes):
     draw = random.Random(seed)
     if kind == "random":
         lines, width = random_netlist(draw, *sizes), 2
+    elif kind == "mapped":
+        lines, width = mapped(draw, *sizes), COLUMNS
+    elif kind == "stages":
+        lines, width = staged(draw, *sizes), sizes[1][0]
     else:
         lines, width = pipeline(draw, *sizes), sizes[0]
     for name, text in ((".blif", list(lines)), (".vec", list(vectors(draw, width, turns)))):
@@ -97,9 +133,13 @@ def main():
     two = kinds.add_parser("pipeline")
     for name in PIPELINE:
         two.add_argument(name, type=at_least(0 if name == "levels" else 1))
+    uneven = kinds.add_parser("stages")
+    uneven.add_argument("levels", type=at_least(1))
+    uneven.add_argument("widths", type=at_least(1), nargs="+", help="the registers of each stage")
+    three = kinds.add_parser("mapped")
+    three.add_argument("tables", type=at_least(10))
     asked = parser.parse_args()
-    names = ("registers",) if asked.kind == "random" else PIPELINE
-    sizes = [getattr(asked, name) for name in names]
+    sizes = [getattr(asked, name) for name in SIZES[asked.kind]]
     make(asked.prefix, asked.seed, asked.turns, asked.kind, sizes)
 
 

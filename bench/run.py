@@ -27,6 +27,7 @@ SIZES = [
     ("random 4000", 1000, ["random", "4000"]),
     ("pipeline 16x8x4", 10000, ["pipeline", "16", "8", "4"]),
     ("pipeline 20x25x20", 10000, ["pipeline", "20", "25", "20"]),
+    ("mapped 10000", 2000, ["mapped", "10000"]),
     ("pipeline 64x32x8", 1000, ["pipeline", "64", "32", "8"]),
     ("pipeline 64x60x16", 200, ["pipeline", "64", "60", "16"]),
 ]

@@ -13,6 +13,7 @@ import argparse
 import os
 import random
 import re
+import resource
 import statistics
 import subprocess
 import sys
@@ -47,6 +48,15 @@ def pipeline(folder, turns, *sizes):
     return [prefix + ".blif", prefix + ".vec"]
 
 
+def uneven(folder, name, turns, widths):
+    """The files of a pipeline of ten levels whose stages have these widths."""
+    prefix = os.path.join(folder, name)
+    make = [os.path.join(HERE, "make_netlist.py"), "--turns", str(turns), prefix, "stages", "10"]
+    subprocess.run([sys.executable] + make + [str(width) for width in widths], check=True)
+    buses(prefix + ".blif")
+    return [prefix + ".blif", prefix + ".vec"]
+
+
 def two_registers(folder, turns):
     """The files of two registers in a row."""
     draw = random.Random(1)
@@ -66,6 +76,10 @@ def jobs_of(folder, turns):
     yield "the same, a fifth of the vectors", ["run"] + short + ["--clusters", "bus"]
     deep = pipeline(folder, turns, 20, 25, 20)
     yield "25 clusters, 10,000 tables", ["run"] + deep + ["--clusters", "bus"]
+    five = uneven(folder, "five", turns, [100] * 5 + [10] * 15)
+    yield "5 stages of 100, 15 of 10", ["run"] + five + ["--clusters", "bus"]
+    three = uneven(folder, "three", turns, [400, 200, 100] + [20] * 13)
+    yield "stages of 400, 200, 100, 13 of 20", ["run"] + three + ["--clusters", "bus"]
     yield "1,000 clusters, %d vectors" % few, ["run"] + pipeline(folder, few, 25, 40, 10)
     yield "demo 1 4096 %d" % few, ["demo", "1", "4096", str(few)]
     yield "demo 1 1024 %d" % (turns // 16), ["demo", "1", "1024", str(turns // 16)]
@@ -74,21 +88,26 @@ def jobs_of(folder, turns):
     yield "two registers, 16,384 vectors", ["run"] + two_registers(folder, 16384)
 
 
+def used_by_children():
+    """The processor time of all commands that have ended."""
+    used = resource.getrusage(resource.RUSAGE_CHILDREN)
+    return used.ru_utime + used.ru_stime
+
+
 def once(words):
-    """The bytes that a command writes, its seconds by the clock, and its processor time."""
-    before, begin = os.times(), time.monotonic()
-    done = subprocess.run([PROGRAM] + words, stdout=subprocess.PIPE, check=True)
-    seconds, after = time.monotonic() - begin, os.times()
-    used = after.children_user + after.children_system - before.children_user - before.children_system
-    return done.stdout, seconds, used
+    """The bytes that a command writes, its processor time, and its seconds by the clock."""
+    before, begin = used_by_children(), time.monotonic()
+    text = subprocess.run(words, stdout=subprocess.PIPE, check=True).stdout
+    return text, used_by_children() - before, time.monotonic() - begin
 
 
-def line(name, words, jobs, times):
+def line(name, command, jobs, times):
     """Prints a job's line; whether all numbers of workers write the same bytes."""
     first, same, taken = None, True, {count: [] for count in jobs}
     for _ in range(times):
         for count in jobs:
-            text, seconds, used = once(words + (["--jobs", str(count)] if count else []))
+            words = command + (["--jobs", str(count)] if count else [])
+            text, used, seconds = once(words)
             first = text if first is None else first
             same = same and text == first
             taken[count].append((seconds, used))
@@ -104,7 +123,9 @@ def main():
     parser = argparse.ArgumentParser(description=__doc__.split("\n")[0])
     parser.add_argument("--times", type=int, default=5, help="runs of each command")
     parser.add_argument("--turns", type=int, default=10000, help="vectors of wide clusters")
-    parser.add_argument("--jobs", type=int, nargs="+", default=[1, 2, 4, 8, 64], help="workers")
+    parser.add_argument("--jobs", type=int, nargs="+", default=[1, 2, 4, 8, 16, 64], help="workers")
+    parser.add_argument("--program", default=PROGRAM, help="the built desync")
+    parser.add_argument("--only", default="", help="the jobs whose names have this in them")
     parser.add_argument("--beside", type=int, default=0, help="other processes that never wait")
     given = parser.parse_args()
     head = ["%3d workers" % count for count in given.jobs]
@@ -114,9 +135,12 @@ def main():
     try:
         with tempfile.TemporaryDirectory() as folder:
             for name, words in jobs_of(folder, given.turns):
+                if given.only not in name:
+                    continue
                 if "bus" in words:
-                    line("clock, " + name, ["clock"] + words[1:3], [0], given.times)
-                same = line(name, words, given.jobs, given.times) and same
+                    clock = [given.program, "clock"] + words[1:3]
+                    line("clock, " + name, clock, [0], given.times)
+                same = line(name, [given.program] + words, given.jobs, given.times) and same
     finally:
         for process in busy:
             process.kill()

@@ -2,20 +2,21 @@
 
 import re
 
-from streams import BadText
+from streams import BadText, joined
 
 EVENT = re.compile(r"^(.+)([+-])$")
+NODE = re.compile(r"^(IN|OUT|[MS]\d+)$")
 ENTRY = re.compile(r"^(?:<([^,<>]+),([^,<>]+)>|([^<>=]+))(?:=(\d+))?$")
 
 
 class Graph:
-    """The nodes of a graph, its places by their names, and the tokens of each."""
+    """The signals of a graph, of which most are nodes, its dummies, its places by their names, and
+    the tokens of each."""
 
     def __init__(self, lines):
-        self.name, self.nodes = "graph", []
+        self.name, self.nodes, self.dummies = "graph", [], []
         self.sources, self.targets, self.tokens = {}, {}, {}
-        for number, line in enumerate(lines, 1):
-            words = line.split("#")[0].split()
+        for number, words in joined(lines):
             if words and words[0] == ".end":
                 break
             try:
@@ -32,6 +33,8 @@ class Graph:
             self.name = " ".join(words[1:])
         elif words[0] in (".inputs", ".outputs", ".internal"):
             self.nodes += [word for word in words[1:] if word not in self.nodes]
+        elif words[0] == ".dummy":
+            self.dummies += [word for word in words[1:] if word not in self.dummies]
         elif words[0] == ".marking":
             self.mark(" ".join(words[1:]).strip("{} ").split())
         elif words[0].startswith("."):
@@ -54,7 +57,7 @@ class Graph:
 
     def is_event(self, word):
         parts = EVENT.match(word)
-        return parts is not None and parts.group(1) in self.nodes
+        return word in self.dummies or parts is not None and parts.group(1) in self.nodes
 
     def mark(self, entries):
         for entry in entries:
@@ -76,7 +79,7 @@ class Graph:
         for source, target in arcs:
             first, second = source[:-1], target[:-1]
             if source[-1] == target[-1] == "+" and (second + "-", source) in arcs:
-                if carries(first, second):
+                if NODE.match(first) and NODE.match(second) and carries(first, second):
                     yield first, second
 
 

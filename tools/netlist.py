@@ -3,7 +3,7 @@
 Used by the other tools. Of a netlist that is refused it may give anything, or `NotAccepted`.
 """
 
-from streams import BadText
+from streams import BadText, joined
 
 MOST_COPIES = 65536
 COMMANDS = (".latch", ".subckt")
@@ -15,19 +15,6 @@ class NotAccepted(BadText):
     """The netlist is one that `desync check` refuses."""
 
 
-def logical_lines(text):
-    """The words of each line: comments are cut, lines behind a `\\` at the end are joined."""
-    words = []
-    for line in text.split("\n"):
-        line = line.partition("#")[0]
-        kept = line.rstrip(" \t\r\\")
-        words += kept.replace("\t", " ").replace("\r", " ").split(" ")
-        if "\\" not in line[len(kept):]:
-            yield [word for word in words if word]
-            words = []
-    yield [word for word in words if word]
-
-
 def models_of(text, has_tables):
     """The models in order, each a name and its commands as lists of words.
 
@@ -35,7 +22,7 @@ def models_of(text, has_tables):
     and its nets, where tables are asked for.
     """
     models, rows = [], []
-    for words in logical_lines(text):
+    for _, words in joined(text.split("\n")):
         if words and words[0] == ".model":
             models.append((words[1], []))
         elif words and words[0] == ".names" and has_tables:

@@ -38,6 +38,20 @@ def text_of(name, path):
         return file.read()
 
 
+def joined(lines):
+    """The first number and the words of each logical line of a text: comments are cut, lines behind
+    a `\\` at the end are joined."""
+    first, words = 1, []
+    for number, line in enumerate(lines, 1):
+        line = line.rstrip("\n").partition("#")[0]
+        kept = line.rstrip(" \t\r\\")
+        words += kept.replace("\t", " ").replace("\r", " ").split(" ")
+        if "\\" not in line[len(kept):]:
+            yield first, [word for word in words if word]
+            first, words = number + 1, []
+    yield first, [word for word in words if word]
+
+
 def put(name, encoding, lines):
     """Prints some lines. Where that fails, it says so in the name of a tool, and ends with 1."""
     if sys.stdout is None:

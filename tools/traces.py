@@ -2,8 +2,7 @@
 
 import re
 
-from netlist import logical_lines
-from streams import BadText
+from streams import BadText, joined
 
 ROW = re.compile("^(?:-|[01x]+)$")
 
@@ -30,7 +29,7 @@ def rows_of(trace):
 
 def vectors_of(text, width):
     """The vectors of a file, each with a value for each column."""
-    for turn, words in enumerate(filter(None, logical_lines(text))):
+    for turn, words in enumerate(words for _, words in joined(text.split("\n")) if words):
         if len(words) != 1 or not ROW.match(words[0]):
             raise BadText("this is no vector: %s" % " ".join(words))
         if len(bits(words[0])) != width:
