@@ -1,4 +1,9 @@
-//! Reading a netlist text.
+//! Reading a netlist text: forward for its first fault, then backward for its models.
+//!
+//! These stay two passes. Whether a line has a fault hangs on what stands before it; a table's rows
+//! and a model's commands stand behind their first lines, so a pass backward has them whole when it
+//! meets these, and keeps no table or model that is open. One pass would keep both states, take
+//! memory for models that a later fault throws away, and save a look at each line's first word.
 ghost use Rattle.std.specs.Prelude.{◌≡◌};
 ghost use Rattle.ds_blif.specs.Text.{read_of, Reads};
 

@@ -35,7 +35,7 @@ split-append p (byte ∷ bytes) at more is = elim (cases_Bool (p byte)) [
       rw (other, split-append p bytes at more is, e) refl)
 ]
 
-filter-append : (parts more : List (List ℕ)) → filter is_some (parts ++ more) ≡ filter is_some parts
+pub filter-append : (parts more : List (List ℕ)) → filter is_some (parts ++ more) ≡ filter is_some parts
     ++ filter is_some more
 filter-append [] more = refl
 filter-append (part ∷ parts) more = elim (cases_Bool (is_some part)) [

@@ -1,10 +1,11 @@
 //! Lines that are being read.
 ghost use Rattle.std.specs.Prelude.{◌≡◌, ◌<◌, ◌≤◌, ◌+◌, ◌-◌, ◌^◌, ℕ, List, [], ◌∷◌, ◌++◌, map};
-ghost use Rattle.std.specs.Prelude.{length, drop, IfOk};
-ghost use Rattle.ds_lines.specs.Line.{line_of, words_of};
-ghost use Rattle.ds_lines.specs.Draft.{Read, with_rest};
+ghost use Rattle.std.specs.Prelude.{length, drop, take, IfOk, IfSome, IfNone};
+ghost use Rattle.std.specs.List.{slice_split, before_first, position_or_len};
+ghost use Rattle.ds_lines.specs.Line.{line_of, words_of, trimmed, is_joined, is_newline};
+ghost use Rattle.ds_lines.specs.Draft.{Read, with_rest, is_stop};
 
-use crate::line::{push_words, trim, uncommented};
+use crate::line::{behind, push_line};
 use crate::list::Lines;
 use crate::span::Span;
 use std::alloc::{AllocError, Global};
@@ -53,32 +54,40 @@ impl<'a> Draft<'a> {
         }
     }
 
-    /// Takes the next physical line.
-    pub fn take(self, line: &'a [u8]) -> Result<Self, AllocError>
+    /// Takes the first physical line of a text, and gives the text behind its end, where it has
+    /// one.
+    pub fn take(self, text: &'a [u8]) -> Result<(Self, Option<&'a [u8]>), AllocError>
         requires { self.number < 2 ^ 64 - 1 }
-        ensures rest { IfOk result (λ d. (rest : List (List ℕ)) → with_rest d rest
-            ≡ with_rest self.entry (line.now ∷ rest)) }
-        ensures number { IfOk result (λ d. d.number ≡ self.entry.number + 1) }
+        ensures more { IfOk result (λ r. IfSome r.1 (λ behind. with_rest r.0
+            (slice_split is_newline behind.now) ≡ with_rest self.entry
+            (slice_split is_newline text.now))) }
+        ensures shorter { IfOk result (λ r. IfSome r.1 (λ behind. length behind.now
+            < length text.now)) }
+        ensures last { IfOk result (λ r. IfNone r.1 (with_rest r.0 [] ≡ with_rest self.entry
+            (slice_split is_newline text.now))) }
+        ensures number { IfOk result (λ r. r.0.number ≡ self.entry.number + 1) }
     {
-        let text = uncommented(line);
-        let (kept, joined) = trim(text);
-        let read = self.with_words(&text[..kept])?;
+        let (read, place, joined) = self.with_line(text)?;
+        let behind = behind(text, place);
         if joined {
-            Ok(read)
+            Ok((read, behind))
         } else {
             let closed = read.closed()?;
-            Ok(closed)
+            Ok((closed, behind))
         }
     }
 
-    // The words of a physical line are added.
-    fn with_words(self, text: &'a [u8]) -> Result<Self, AllocError>
+    // The words of a text's first physical line are added. How many bytes stand before its end or
+    // its comment, and whether it is joined.
+    fn with_line(self, text: &'a [u8]) -> Result<(Self, usize, bool), AllocError>
         requires { self.number < 2 ^ 64 - 1 }
-        ensures { IfOk result (λ d. d ≡ record self.entry {
+        ensures read { IfOk result (λ r. r.0 ≡ record self.entry {
           words = self.entry.words
-              ++ words_of text.now;
+              ++ words_of (trimmed (before_first is_stop text.now));
           number = self.entry.number + 1;
         }) }
+        ensures place { IfOk result (λ r. r.1 ≡ position_or_len is_stop text.now) }
+        ensures joined { IfOk result (λ r. r.2 ≡ is_joined (before_first is_stop text.now)) }
     {
         let Draft {
             spans,
@@ -87,14 +96,15 @@ impl<'a> Draft<'a> {
             start,
             number,
         } = self;
-        push_words(&mut words, text)?;
-        Ok(Draft {
+        let (place, joined) = push_line(&mut words, text)?;
+        let read = Draft {
             spans,
             words,
             first,
             start,
             number: number + 1,
-        })
+        };
+        Ok((read, place, joined))
     }
 
     /// Closes the line that is open.

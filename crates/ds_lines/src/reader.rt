@@ -6,7 +6,6 @@ ghost use Rattle.ds_lines.specs.Line.{lines_of};
 ghost use Rattle.ds_lines.specs.Fault.{IsRefused};
 
 use crate::draft::Draft;
-use crate::line::first_line;
 use crate::list::Lines;
 use ds_base::Limit;
 use std::alloc::{AllocError, Global};
@@ -40,13 +39,10 @@ pub fn lines(alloc: Global, text: &[u8]) -> Result<Lines<'_>, LinesFault>
     if text.len() as u64 > Limit::Bytes.most() {
         return Err(LinesFault::TooLong);
     }
-    let mut draft = Draft::new(alloc);
-    let mut rest = text;
-    'reading: while let Some((line, behind)) = first_line(rest) {
-        draft = draft.take(line)?;
-        rest = behind;
+    let (mut draft, mut rest) = Draft::new(alloc).take(text)?;
+    'reading: while let Some(line) = rest {
+        (draft, rest) = draft.take(line)?;
     }
-    let draft = draft.take(rest)?;
     let draft = draft.closed()?;
     Ok(draft.into_lines())
 }
