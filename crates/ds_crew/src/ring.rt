@@ -1,3 +1,4 @@
+//! A round over nodes, in which a worker looks for the next one.
 ghost use Rattle.std.specs.Prelude.{◌≡◌};
 
 /// A round over the nodes from `first` up to but not including `end`, which begins again at its

@@ -17,7 +17,7 @@ use Rattle.ds_turnstile.specs.declared.turning.Key.{Key}
 abbrev pub Slot : Type 0
 Slot = Option Showing
 
--- the fabric and the run of no pass
+-- the fabric of no pass
 abbrev pub no_table : TableId
 no_table = record {
   words = 0;
@@ -29,6 +29,7 @@ no_table = record {
   slot_names = [];
 }
 
+-- the run of no pass
 abbrev pub no_run : Run
 no_run = record {
   nodes = 0;
@@ -77,10 +78,11 @@ abbrev pub run_of : List Showing → Run
 run_of [] = no_run
 run_of (p ∷ ps) = p.view.run
 
--- those of the passes at the start
+-- the fabric of the passes at the start
 abbrev pub fabric : Key → TableId
 fabric k = fabric_of k.passes.value.items
 
+-- the run of its passes
 abbrev pub run : Key → Run
 run k = run_of k.passes.value.items
 
