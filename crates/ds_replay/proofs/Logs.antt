@@ -1,7 +1,7 @@
 -- Which lines fire events, and the first fault of others.
-use Rattle.std.proofs.Common.{◌≡◌, ◌≢◌, ◌∙◌, ℕ, suc, List, [], ◌∷◌, ◌++◌, length, get_or, Option, None, Some, Result, Ok, Err, refl, arith, ap, ap₂, sym, subst}
+use Rattle.std.proofs.Common.{◌≡◌, ◌≢◌, ◌∙◌, ℕ, suc, inl, inr, List, [], ◌∷◌, ◌++◌, length, get_or, Option, None, Some, Result, Ok, Err, refl, arith, ap, ap₂, sym, subst}
 use Rattle.std.specs.Prelude.{AllPairs}
-use Rattle.std.proofs.lemmas.List.{append_cancel_right}
+use Rattle.std.proofs.lemmas.List.{append-nil, append_cancel_right}
 use Rattle.ds_lines.specs.Line.{Line}
 use Rattle.ds_marked.specs.Graph.{Graph, counted, counts_after}
 use Rattle.ds_marked.specs.declared.marked.Event.{Event}
@@ -11,12 +11,12 @@ use Rattle.ds_marked.specs.Log.{event_text, sign, IsLegalLogFrom, LineFault}
 use Rattle.ds_events.specs.Texts.{event_by_text}
 use Rattle.ds_replay.specs.Word.{first_word}
 use Rattle.ds_replay.specs.Replay.{fault_of, fault_or, log_of, replay_from, replay_of, with_first}
-use Rattle.ds_replay.specs.Legal.{HasKind, HasOwnTexts, HasSigns, IsFirstFault, words_of_lines}
+use Rattle.ds_replay.specs.Legal.{EndsInSign, HasKind, HasOwnTexts, HasPlainDummies, IsFirstFault, words_of_lines}
 use Rattle.ds_replay.specs.declared.fault.ReplayFault.{ReplayFault}
 use Rattle.ds_replay.specs.declared.fault.ReplayKind.{ReplayKind}
 use Rattle.ds_replay.proofs.Lines.{clean, clean_is, faulty}
 
--- texts of events with signs
+-- texts of events
 last : List ℕ → ℕ
 last [] = 0
 last (x ∷ []) = x
@@ -28,20 +28,27 @@ last_push [] x = refl
 last_push (y ∷ []) x = refl
 last_push (y ∷ z ∷ xs) x = last_push (z ∷ xs) x
 
-same_parts : (xs ys : List ℕ) (k l : Kind) → k ≢ Dummy → l ≢ Dummy → xs ++ sign k ≡ ys ++ sign l → (xs ≡ ys) × (k ≡ l)
+-- a name that does not end in a sign where it is a dummy's
+abbrev BearsNoSign : Kind → List ℕ → Type 0
+BearsNoSign k name = k ≡ Dummy → ¬ EndsInSign name
+
+same_parts : (xs ys : List ℕ) (k l : Kind) → BearsNoSign k xs → BearsNoSign l ys → xs ++ sign k ≡ ys ++ sign l → (xs ≡ ys) × (k ≡ l)
 same_parts xs ys Rise Rise a b e = (append_cancel_right xs ys (43 ∷ []) e, refl)
 same_parts xs ys Fall Fall a b e = (append_cancel_right xs ys (45 ∷ []) e, refl)
 same_parts xs ys Rise Fall a b e = absurd (let differ : 43 ≡ 45 = sym (last_push xs 43) ∙ (ap last e ∙ last_push ys 45) in omega arith)
 same_parts xs ys Fall Rise a b e = absurd (let differ : 45 ≡ 43 = sym (last_push xs 45) ∙ (ap last e ∙ last_push ys 43) in omega arith)
-same_parts xs ys Dummy l a b e = absurd (a refl)
-same_parts xs ys k Dummy a b e = absurd (b refl)
+same_parts xs ys Dummy Dummy a b e = (sym (append-nil xs) ∙ (e ∙ append-nil ys), refl)
+same_parts xs ys Dummy Rise a b e = absurd (a refl (ys, inl (sym (append-nil xs) ∙ e)))
+same_parts xs ys Dummy Fall a b e = absurd (a refl (ys, inr (sym (append-nil xs) ∙ e)))
+same_parts xs ys Rise Dummy a b e = absurd (b refl (xs, inl (sym (append-nil ys) ∙ sym e)))
+same_parts xs ys Fall Dummy a b e = absurd (b refl (xs, inr (sym (append-nil ys) ∙ sym e)))
 
-same_event : (a b : Event) → a.kind ≢ Dummy → b.kind ≢ Dummy → event_text a ≡ event_text b → a ≡ b
+same_event : (a b : Event) → BearsNoSign a.kind a.signal → BearsNoSign b.kind b.signal → event_text a ≡ event_text b → a ≡ b
 same_event a b f g e = let (signal, kind) = same_parts a.signal b.signal a.kind b.kind f g e in ap₂ (λ (s : List ℕ) (k : Kind). record { signal = s; kind = k }) signal kind
 
-pub signed : (g : Graph) → AllPairs (λ a b. a ≢ b) g.events → HasSigns g → HasOwnTexts g
-signed g once signs i j d less inside same =
-    once i j d less inside (same_event (get_or g.events i d) (get_or g.events j d) (signs i d (omega arith)) (signs j d inside) same)
+pub own_texts : (g : Graph) → AllPairs (λ a b. a ≢ b) g.events → HasPlainDummies g → HasOwnTexts g
+own_texts g once plain i j d less inside same =
+    once i j d less inside (same_event (get_or g.events i d) (get_or g.events j d) (plain i d (omega arith)) (plain j d inside) same)
 
 -- what the first line gives and what the others give
 ok_or : Result (List ℕ) ReplayFault → List ℕ

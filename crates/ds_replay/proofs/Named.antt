@@ -1,6 +1,6 @@
 -- Each event of the nodes is written as a word of its own.
 use Rattle.std.proofs.Common.{◌≡◌, ◌≢◌, ◌∙◌, ℕ, zero, suc, ◌+◌, ◌-◌, ◌<◌, ◌≤◌, ◌^◌, List, [], ◌∷◌, ◌++◌, length, get_or, inl, inr, refl, arith, ap, sym, subst}
-use Rattle.std.specs.Prelude.{codes, decimal, All, AllPairs}
+use Rattle.std.specs.Prelude.{codes, decimal, All}
 use Rattle.std.specs.List.{flat_map, range_with_len}
 use Rattle.std.proofs.lemmas.Bool.{cases_lt}
 use Rattle.std.proofs.Math.ListN.{get_or-append}
@@ -13,8 +13,9 @@ use Rattle.ds_marked.specs.Log.{event_text}
 use Rattle.ds_latch.specs.Node.{Node, In, Out, Master, Slave, Split}
 use Rattle.ds_latch.specs.Plan.{node_events, node_name, split_events}
 use Rattle.ds_lines.specs.Print.{IsWord}
+use Rattle.ds_replay.specs.Legal.{EndsInSign}
 use Rattle.ds_replay.specs.Printed.{HasOwnWords}
-use Rattle.ds_replay.proofs.Logs.{signed}
+use Rattle.ds_replay.proofs.Logs.{own_texts}
 use Rattle.ds_replay.proofs.Printed.{IsFine, IsFineWord, fine_number, word_is}
 
 -- a word of fine words
@@ -38,13 +39,13 @@ fine_byte b fine = record {
 }
 
 -- what is asked of an event
-abbrev IsSpelt : Event → Type 0
-IsSpelt e = IsWord (event_text e) × (e.kind ≢ Dummy)
+abbrev pub IsSpelt : Event → Type 0
+IsSpelt e = IsWord (event_text e) × (e.kind ≡ Dummy → ¬ EndsInSign e.signal)
 
-rise_signed : Rise ≢ Dummy
+pub rise_signed : Rise ≢ Dummy
 rise_signed e = cc
 
-fall_signed : Fall ≢ Dummy
+pub fall_signed : Fall ≢ Dummy
 fall_signed e = cc
 
 -- both events of a node whose name is a word
@@ -53,11 +54,11 @@ both_spelt n fine k d inside = elim (cases_lt k 1) [
   | inl first ↦
       (let at : k ≡ 0 = omega arith in
       subst (λ (j : ℕ). IsSpelt (get_or (node_events n) j d)) (sym at)
-      (word_is (node_name n ++ codes "+") (fine_both (node_name n) (codes "+") fine (fine_byte 43 (record { no_end = refl; no_newline = refl; no_hash = refl }))), rise_signed))
+      (word_is (node_name n ++ codes "+") (fine_both (node_name n) (codes "+") fine (fine_byte 43 (record { no_end = refl; no_newline = refl; no_hash = refl }))), λ dummy. absurd (rise_signed dummy)))
   | inr second ↦
       (let at : k ≡ 1 = omega arith in
       subst (λ (j : ℕ). IsSpelt (get_or (node_events n) j d)) (sym at)
-      (word_is (node_name n ++ codes "-") (fine_both (node_name n) (codes "-") fine (fine_byte 45 (record { no_end = refl; no_newline = refl; no_hash = refl }))), fall_signed))
+      (word_is (node_name n ++ codes "-") (fine_both (node_name n) (codes "-") fine (fine_byte 45 (record { no_end = refl; no_newline = refl; no_hash = refl }))), λ dummy. absurd (fall_signed dummy)))
 ]
 
 in_fine : IsFineWord (codes "IN")
@@ -75,13 +76,15 @@ clusters_spelt a (suc n) few =
     All-append IsSpelt (node_events (Master a) ++ node_events (Slave a)) (flat_map (λ i. node_events (Master i) ++ node_events (Slave i)) (range_with_len (a + 1) n))
     (All-append IsSpelt (node_events (Master a)) (node_events (Slave a)) master slave) (clusters_spelt (a + 1) n (omega arith))
 
-all_spelt : (s : Split) → length s.clusters ≤ 2 ^ 64 → All IsSpelt (split_events s)
+pub all_spelt : (s : Split) → length s.clusters ≤ 2 ^ 64 → All IsSpelt (split_events s)
 all_spelt s few =
     All-append IsSpelt (node_events In ++ node_events Out) (flat_map (λ i. node_events (Master i) ++ node_events (Slave i)) (range_with_len 0 (length s.clusters)))
     (All-append IsSpelt (node_events In) (node_events Out) (both_spelt In in_fine) (both_spelt Out out_fine))
     (clusters_spelt 0 (length s.clusters) (omega arith))
 
+-- events of which this is so, none of which is there twice, are written as words of their own
+pub spelt_have_own_words : (g : Graph) → IsKept g → All IsSpelt g.events → HasOwnWords g
+spelt_have_own_words g kept spelt = record { own = own_texts g kept.once (λ k d inside. (spelt k d inside).1); words = λ k d inside. (spelt k d inside).0 }
+
 pub nodes_have_own_words : (s : Split) (g : Graph) → IsKept g → length s.clusters ≤ 2 ^ 64 → g.events ≡ split_events s → HasOwnWords g
-nodes_have_own_words s g kept few events =
-    let spelt : All IsSpelt g.events = subst (All IsSpelt) (sym events) (all_spelt s few) in
-    record { own = signed g kept.once (λ k d inside. (spelt k d inside).1); words = λ k d inside. (spelt k d inside).0 }
+nodes_have_own_words s g kept few events = spelt_have_own_words g kept (subst (All IsSpelt) (sym events) (all_spelt s few))

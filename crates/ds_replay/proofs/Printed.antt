@@ -3,7 +3,6 @@ use Rattle.std.proofs.Common.{◌≡◌, ◌≢◌, ◌∙◌, ◌==◌, ℕ, su
 use Rattle.std.specs.Prelude.{nat_lt, codes, decimal, All}
 use Rattle.std.specs.List.{AllByRecursion, flat_map, list_any, position_or_len, range_with_len, suffix_len}
 use Rattle.std.specs.Str.{bytes_eq}
-use Rattle.std.specs.Str.Parse.{digits_value, AllDigits}
 use Rattle.std.proofs.lemmas.Bool.{cases_Bool, false≢true, lt-ltb, le-ltb}
 use Rattle.std.proofs.lemmas.Bool.Decides.{eqb_tells}
 use Rattle.std.proofs.lemmas.Fmt.{decimal_is_IsNumeral, length-decimal-le}
@@ -16,13 +15,12 @@ use Rattle.ds_base.specs.Values.{Row}
 use Rattle.ds_base.specs.declared.value.Value.{Value}
 use Rattle.ds_base.specs.declared.value.Value.TheVariants.{Zero, One, Unknown}
 use Rattle.ds_design.specs.Circuit.{Circuit}
-use Rattle.ds_design.specs.Trace.{IsTrace, end_line, trace_line, trace_lines, value_text, values_text}
-use Rattle.ds_lines.specs.Line.{Line, is_backslash, is_blank, is_end, is_hash, is_newline, is_some, lines_of}
+use Rattle.ds_design.specs.Trace.{IsTrace, end_line, trace_line, value_text, values_text}
+use Rattle.ds_lines.specs.Line.{Line, is_blank, is_end, is_hash, is_newline, is_some, lines_of}
 use Rattle.ds_lines.specs.Print.{IsPlain, IsWord, line_text, numbered, text_of}
 use Rattle.ds_lines.proofs.Printed.{lines_of-text_of}
-use Rattle.ds_marked.specs.Graph.{Graph, IsEnabled, IsLegal, IsLegalFrom, counted}
-use Rattle.ds_marked.specs.Log.{event_text, IsEventText, IsFiringLine, IsLegalLogFrom, IsLog, IsLogFrom}
-use Rattle.ds_replay.specs.Word.{first_word}
+use Rattle.ds_marked.specs.Graph.{Graph, IsLegal, IsLegalFrom, counted}
+use Rattle.ds_marked.specs.Log.{event_text, IsLegalLogFrom, IsLog, IsLogFrom}
 use Rattle.ds_replay.specs.Replay.{is_firings, log_of, replay_from, replay_of, start_of}
 use Rattle.ds_replay.specs.Legal.{words_of_lines}
 use Rattle.ds_replay.specs.Printed.{HasOwnWords, IsFront}

@@ -1,6 +1,6 @@
 -- What a replay has to do with legal logs.
-use Rattle.std.specs.Prelude.{◌≡◌, ◌≢◌, ◌↔◌, ℕ, List, ◌∷◌, ◌++◌, map, length, Ok, Err, All}
-use Rattle.std.specs.Prelude.{AllPairs}
+use Rattle.std.specs.Prelude.{◌≡◌, ◌≢◌, ◌↔◌, ◌⊎◌, ℕ, List, ◌∷◌, ◌++◌, map, length, Ok, Err, All}
+use Rattle.std.specs.Prelude.{AllPairs, codes}
 use Rattle.ds_lines.specs.Line.{Line}
 use Rattle.ds_marked.specs.Graph.{Graph, counts_after}
 use Rattle.ds_marked.specs.Blocked.{IsFirstLacking}
@@ -17,9 +17,13 @@ use Rattle.ds_replay.specs.declared.fault.ReplayKind.TheVariants.{OverLimit, Not
 abbrev pub HasOwnTexts : Graph → Type 0
 HasOwnTexts g = AllPairs (λ a b. event_text a ≢ event_text b) g.events
 
--- an event is a signal's, so it has a sign
-abbrev pub HasSigns : Graph → Type 0
-HasSigns g = All (λ e. e.kind ≢ Dummy) g.events
+-- a name ends in a sign
+abbrev pub EndsInSign : List ℕ → Type 0
+EndsInSign name = (front : List ℕ) × ((name ≡ front ++ codes "+") ⊎ (name ≡ front ++ codes "-"))
+
+-- no dummy's name ends in a sign
+abbrev pub HasPlainDummies : Graph → Type 0
+HasPlainDummies g = All (λ e. e.kind ≡ Dummy → ¬ EndsInSign e.signal) g.events
 
 -- the words of lines
 abbrev pub words_of_lines : List Line → List (List (List ℕ))
@@ -53,9 +57,11 @@ pub record IsFirstFault (g : Graph) (limit : ℕ) (lines : List Line)
   pub why : LineFault g limit (counts_after (λ _. 0) events) line.words
   pub kind : HasKind why fault.kind
 
--- events with signs, of which none is there twice, are written each in its own way
-abbrev pub SignedHaveOwnTexts : Type 0
-SignedHaveOwnTexts = (g : Graph) → AllPairs (λ a b. a ≢ b) g.events → HasSigns g → HasOwnTexts g
+-- events with signs, and dummies whose names end in none, of which none is there twice, are
+-- written each in its own way
+abbrev pub EventsHaveOwnTexts : Type 0
+EventsHaveOwnTexts = (g : Graph) → AllPairs (λ a b. a ≢ b) g.events → HasPlainDummies g
+    → HasOwnTexts g
 
 -- a log fires events exactly where the lines that are read are a legal log of them
 abbrev pub FiresLegalLogs : Type 0

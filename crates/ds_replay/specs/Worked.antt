@@ -1,8 +1,8 @@
 -- Short logs and what they fire.
-use Rattle.std.specs.Prelude.{◌≡◌, ℕ, List, [], ◌∷◌, Result, Ok, Err, codes}
+use Rattle.std.specs.Prelude.{◌≡◌, ℕ, List, [], ◌∷◌, ◌++◌, Result, Ok, Err, codes}
 use Rattle.ds_lines.specs.Line.{lines_of}
 use Rattle.ds_marked.specs.Graph.{Graph}
-use Rattle.ds_marked.specs.declared.marked.Kind.TheVariants.{Rise, Fall}
+use Rattle.ds_marked.specs.declared.marked.Kind.TheVariants.{Rise, Fall, Dummy}
 use Rattle.ds_replay.specs.Replay.{replay_of}
 use Rattle.ds_replay.specs.declared.fault.ReplayFault.{ReplayFault}
 use Rattle.ds_replay.specs.declared.fault.ReplayKind.TheVariants.{BadWord, UnknownEvent, WrongTurn}
@@ -21,6 +21,15 @@ one_signal = record {
 abbrev pub read : List ℕ → Result (List ℕ) ReplayFault
 read text = replay_of one_signal 2 (lines_of text)
 
+-- the same signal, and a dummy between its rise and its fall
+abbrev pub with_dummy : Graph
+with_dummy = record {
+  events = one_signal.events ++ record { signal = codes "e"; kind = Dummy } ∷ [];
+  arcs = record { source = 0; target = 2; tokens = 0 }
+      ∷ record { source = 1; target = 0; tokens = 1 }
+      ∷ record { source = 2; target = 1; tokens = 0 } ∷ [];
+}
+
 -- each text beside its events or its first fault
 pub record AreWorked : Type 0 where
   pub fires : read (codes "a+ 1 # rises\na- 1\n\na+ 02\n") ≡ Ok (0 ∷ 1 ∷ 0 ∷ [])
@@ -36,4 +45,9 @@ pub record AreWorked : Type 0 where
       ≡ Err (record { line = 5; kind = OverLimit })
   pub no_token : read (codes "a+ 1\na+ 2\n") ≡ Err (record { line = 2; kind = NotEnabled 1 })
   pub words_first : read (codes "b+ x\n") ≡ Err (record { line = 1; kind = BadWord })
+  pub dummy : replay_of with_dummy 2 (lines_of (codes "a+ 1\ne 1\na- 1\n")) ≡ Ok (0 ∷ 2 ∷ 1 ∷ [])
+  pub before_dummy : replay_of with_dummy 2 (lines_of (codes "a+ 1\na- 1\n"))
+      ≡ Err (record { line = 2; kind = NotEnabled 2 })
+  pub signed_dummy : replay_of with_dummy 2 (lines_of (codes "e+ 1\n"))
+      ≡ Err (record { line = 1; kind = UnknownEvent (codes "e+") })
   pub turn_first : read (codes "a- 2\n") ≡ Err (record { line = 1; kind = WrongTurn })

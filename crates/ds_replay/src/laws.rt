@@ -1,6 +1,6 @@
 //! What a replay has to do with legal logs.
-ghost use Rattle.ds_replay.specs.Legal.{FiresEachLine, FiresLegalLogs, RefusesFirstFaults};
-ghost use Rattle.ds_replay.specs.Legal.{SignedHaveOwnTexts};
+ghost use Rattle.ds_replay.specs.Legal.{EventsHaveOwnTexts, FiresEachLine, FiresLegalLogs};
+ghost use Rattle.ds_replay.specs.Legal.{RefusesFirstFaults};
 ghost use Rattle.ds_replay.specs.Printed.{NodesHaveOwnWords, PrintedBehindIsFired};
 ghost use Rattle.ds_replay.specs.Printed.{PrintedIsFired, TraceIsFront};
 ghost use Rattle.ds_replay.specs.Worked.{AreWorked};
@@ -21,9 +21,10 @@ pub fn refuses_first_faults()
     ensures { RefusesFirstFaults }
 {}
 
-/// Events with signs, of which none is there twice, are written each in its own way.
-pub fn signed_have_own_texts()
-    ensures { SignedHaveOwnTexts }
+/// Events with signs, and dummies whose names end in none, of which none is there twice, are
+/// written each in its own way.
+pub fn events_have_own_texts()
+    ensures { EventsHaveOwnTexts }
 {}
 
 /// The events of the nodes are written as words, each in its own way.

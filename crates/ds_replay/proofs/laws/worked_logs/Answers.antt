@@ -16,5 +16,8 @@ returns c = record {
   too_often = refl;
   no_token = refl;
   words_first = refl;
+  dummy = refl;
+  before_dummy = refl;
+  signed_dummy = refl;
   turn_first = refl;
 }
