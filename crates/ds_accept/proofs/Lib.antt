@@ -10,6 +10,7 @@ pub mod ByRank
 pub mod Facts
 pub mod Refused
 pub mod Accepted
+pub mod Planned
 pub mod Sorted
 pub mod OnePlan
 pub mod OneFault

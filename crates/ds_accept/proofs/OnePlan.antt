@@ -19,7 +19,7 @@ arc u v tokens = record { source = u; target = v; tokens = tokens }
 same_arc : (a b : Arc) → a.source ≡ b.source → a.target ≡ b.target → a.tokens ≡ b.tokens → a ≡ b
 same_arc a b e f g = ap (λ (u : ℕ). arc u a.target a.tokens) e ∙ (ap (λ (v : ℕ). arc b.source v a.tokens) f ∙ ap (arc b.source b.target) g)
 
-told : (a b : Arc) → (a ≡ b) ⊎ (a ≢ b)
+pub told : (a b : Arc) → (a ≡ b) ⊎ (a ≢ b)
 told a b = elim (cases_eq a.source b.source) [
   | inl e ↦ elim (cases_eq a.target b.target) [
     | inl f ↦ elim (cases_eq a.tokens b.tokens) [
@@ -31,7 +31,7 @@ told a b = elim (cases_eq a.source b.source) [
   | inr ne ↦ inr (λ is. ne (ap (λ (x : Arc). x.source) is))
 ]
 
-turns : (a b : Arc) → StandsBefore a b → StandsBefore b a → a ≡ b
+pub turns : (a b : Arc) → StandsBefore a b → StandsBefore b a → a ≡ b
 turns a b (inl p) (inl q) = absurd (omega (p, q, arith))
 turns a b (inl p) (inr (q, rest)) = absurd (omega (p, q, arith))
 turns a b (inr (p, rest)) (inl q) = absurd (omega (p, q, arith))

@@ -2,7 +2,7 @@
 use Rattle.std.specs.Prelude.{◌≡◌, ◌≢◌, ◌⊎◌, ◌≤◌, ℕ, List, length}
 use Rattle.ds_marked.specs.Graph.{Graph, IsKept}
 use Rattle.ds_latch.specs.Node.{Split}
-use Rattle.ds_latch.specs.Plan.{IsAcceptedGraph, IsSplit, Planned}
+use Rattle.ds_latch.specs.Plan.{IsAcceptedGraph, IsPlan, IsSplit, Planned}
 use Rattle.ds_accept.specs.Accept.{IsAcceptable, IsPlanOf}
 use Rattle.ds_accept.specs.Fault.{IsAcceptFault}
 use Rattle.ds_accept.specs.declared.fault.AcceptFault.{AcceptFault}
@@ -17,6 +17,10 @@ FaultsAreRefused = (s : Split) (g : Graph) (fault : AcceptFault) → fault ≢ M
 abbrev pub AcceptableIsAccepted : Type 0
 AcceptableIsAccepted = (s : Split) (g : Graph) → IsSplit s → length s.clusters ≤ 1048576 → IsKept g
     → IsAcceptable s g → IsAcceptedGraph s g
+
+-- the graph of a plan is acceptable
+abbrev pub PlansAreAcceptable : Type 0
+PlansAreAcceptable = (s : Split) (g : Graph) → IsPlan s g → IsAcceptable s g
 
 -- a graph has one plan at most
 abbrev pub OnePlan : Type 0

@@ -1,5 +1,6 @@
 //! Laws of the definitions, each the contract of a function that does nothing.
 ghost use Rattle.ds_accept.specs.Laws.{AcceptableIsAccepted, FaultsAreRefused, OneFault, OnePlan};
+ghost use Rattle.ds_accept.specs.Laws.{PlansAreAcceptable};
 
 /// A graph that has a fault is not acceptable.
 pub fn faults_are_refused()
@@ -9,6 +10,11 @@ pub fn faults_are_refused()
 /// An acceptable graph is accepted once the events of the nodes stand first, in their order.
 pub fn acceptable_is_accepted()
     ensures { AcceptableIsAccepted }
+{}
+
+/// The graph of a plan is acceptable.
+pub fn plans_are_acceptable()
+    ensures { PlansAreAcceptable }
 {}
 
 /// A graph has one plan at most.

@@ -47,8 +47,17 @@ cross_both slack n x ne = (
   ),
 )
 
-turn : (a b : Arc) → EndsDiffer a b → EndsDiffer b a
+pub turn : (a b : Arc) → EndsDiffer a b → EndsDiffer b a
 turn a b ne e = ne (sym e.0, sym e.1)
+
+pub node_pairs : (count : ℕ) → AllPairs EndsDiffer (node_arcs count)
+node_pairs count = pairs_two closing_arc opening_arc EndsDiffer (range_with_len 0 count)
+    (λ i j d below inside.
+    let high : j < count = rw (← length-range_with_len 0 count) inside in
+    let one : get_or (range_with_len 0 count) i d ≡ 0 + i = get_or-range_with_len 0 count i d (omega arith) in
+    let two : get_or (range_with_len 0 count) j d ≡ 0 + j = get_or-range_with_len 0 count j d high in
+    cross_nodes (get_or (range_with_len 0 count) i d) (get_or (range_with_len 0 count) j d) (omega arith))
+    (λ k d inside e. let n : ℕ = get_or (range_with_len 0 count) k d in let a : 2 * n ≡ 2 * n + 1 = e.0 in absurd (omega arith))
 
 module _ (s : Split) (arcs : List Arc) (listed : AreListed s arcs) where
   edges : List Edge
@@ -72,15 +81,6 @@ module _ (s : Split) (arcs : List Arc) (listed : AreListed s arcs) where
       let few : 2 * nodes s + 2 * length listed.edges ≤ 1048576 = listed.few in
       omega arith
 
-  node_pairs : AllPairs EndsDiffer (node_arcs (nodes s))
-  node_pairs = pairs_two closing_arc opening_arc EndsDiffer (range_with_len 0 (nodes s))
-      (λ i j d below inside.
-      let high : j < nodes s = rw (← length-range_with_len 0 (nodes s)) inside in
-      let one : get_or (range_with_len 0 (nodes s)) i d ≡ 0 + i = get_or-range_with_len 0 (nodes s) i d (omega arith) in
-      let two : get_or (range_with_len 0 (nodes s)) j d ≡ 0 + j = get_or-range_with_len 0 (nodes s) j d high in
-      cross_nodes (get_or (range_with_len 0 (nodes s)) i d) (get_or (range_with_len 0 (nodes s)) j d) (omega arith))
-      (λ k d inside e. let n : ℕ = get_or (range_with_len 0 (nodes s)) k d in let a : 2 * n ≡ 2 * n + 1 = e.0 in absurd (omega arith))
-
   edge_pairs : AllPairs EndsDiffer (edge_arcs s.slack listed.edges)
   edge_pairs = pairs_two reading_arc (freeing_arc s.slack) EndsDiffer listed.edges
       (λ i j d below inside. cross_edges s.slack (get_or listed.edges i d) (get_or listed.edges j d) (listed.once i j d below inside))
@@ -95,7 +95,7 @@ module _ (s : Split) (arcs : List Arc) (listed : AreListed s arcs) where
       )
 
   required_pairs : AllPairs EndsDiffer (required_arcs s listed.edges)
-  required_pairs = pairs_append EndsDiffer (node_arcs (nodes s)) (edge_arcs s.slack listed.edges) node_pairs edge_pairs
+  required_pairs = pairs_append EndsDiffer (node_arcs (nodes s)) (edge_arcs s.slack listed.edges) (node_pairs (nodes s)) edge_pairs
       (all_two closing_arc opening_arc (λ a. All (EndsDiffer a) (edge_arcs s.slack listed.edges)) (range_with_len 0 (nodes s)) (λ k d inside. node_edge (get_or (range_with_len 0 (nodes s)) k d)))
 
   module _ (g : Graph) (same : IsPermutation arcs g.arcs) where

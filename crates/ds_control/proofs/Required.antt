@@ -18,12 +18,12 @@ halves zero = (0, inl (omega arith))
 halves (suc v) = let (n, is) = halves v in elim is [ inl e ↦ (n, inr (omega arith)) | inr e ↦ (n + 1, inl (omega arith)) ]
 
 -- each number is a node's
-named : (n : ℕ) → (m : Node) × (number_of m ≡ n)
+pub named : (n : ℕ) → (m : Node) × (number_of m ≡ n)
 named zero = (In, refl)
 named (suc zero) = (Out, refl)
 named (suc (suc l)) = let (i, is) = halves l in elim is [ inl e ↦ (Master i, omega arith) | inr e ↦ (Slave i, omega arith) ]
 
-is_node : (s : Split) (m : Node) → number_of m < nodes s → IsNode s m
+pub is_node : (s : Split) (m : Node) → number_of m < nodes s → IsNode s m
 is_node s In low = tt
 is_node s Out low = tt
 is_node s (Master i) low = omega arith
@@ -33,7 +33,7 @@ either : (b : Bool) (x : ℕ) → x ≡ 0 → (if b then x else 0) ≡ 0
 either true x e = e
 either false x e = refl
 
-tokens_is : (p : Node) → tokens_after (number_of p) ≡ open_tokens p
+pub tokens_is : (p : Node) → tokens_after (number_of p) ≡ open_tokens p
 tokens_is In = refl
 tokens_is Out = refl
 tokens_is (Master i) =

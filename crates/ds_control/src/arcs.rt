@@ -19,8 +19,9 @@ pub(crate) fn arcs(alloc: Global, latches: &Latches<'_>) -> Result<Vec<Arc>, All
     Ok(arcs)
 }
 
-// Of each node: it closes after it opened, and opens again after it closed.
-fn push_node_arcs(nodes: u32, arcs: &mut Vec<Arc>) -> Result<(), AllocError>
+/// Of each node, of which there are so many: it closes after it opened, and opens again after it
+/// closed.
+pub fn push_node_arcs(nodes: u32, arcs: &mut Vec<Arc>) -> Result<(), AllocError>
     requires { nodes ≤ 1048576 }
     ensures { OnOk result (arcs.new.items ≡ arcs.old.items ++ node_arcs nodes) }
 {
@@ -64,8 +65,9 @@ fn freeing(slack: u8, edge: &DataEdge) -> Arc
     arc(closing(edge.consumer), opening(edge.producer), tokens)
 }
 
-// One where the producer is a slave, which has an odd number above that of `OUT`.
-fn tokens_after(producer: LatchId) -> u8
+/// The tokens with which the consumers of a node open after it: one where it is a slave, which has
+/// an odd number above that of `OUT`.
+pub fn tokens_after(producer: LatchId) -> u8
     ensures value { result ≡ tokens_of producer }
     ensures low { result ≤ 1 }
 {
@@ -76,7 +78,8 @@ fn tokens_after(producer: LatchId) -> u8
     }
 }
 
-fn arc(source: EventId, target: EventId, tokens: u8) -> Arc
+/// An arc by its parts.
+pub fn arc(source: EventId, target: EventId, tokens: u8) -> Arc
     ensures { result ≡ record { source = source; target = target; tokens = tokens } }
 {
     Arc {
@@ -86,16 +89,16 @@ fn arc(source: EventId, target: EventId, tokens: u8) -> Arc
     }
 }
 
-// The event that opens a node.
-fn opening(node: LatchId) -> EventId
+/// The event that opens a node.
+pub fn opening(node: LatchId) -> EventId
     requires { node ≤ 1048576 }
     ensures { result ≡ 2 * node }
 {
     EventId::new(2 * node.number())
 }
 
-// The event that closes a node.
-fn closing(node: LatchId) -> EventId
+/// The event that closes a node.
+pub fn closing(node: LatchId) -> EventId
     requires { node ≤ 1048576 }
     ensures { result ≡ 2 * node + 1 }
 {

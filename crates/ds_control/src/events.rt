@@ -10,8 +10,8 @@ use ds_marked::{Event, Kind};
 use itoa::Buffer;
 use std::alloc::Global;
 
-// The events of `IN`, of `OUT`, and of the master and the slave of each cluster.
-pub(crate) fn events(alloc: Global, clusters: usize) -> Result<Seq<Event>, OutOfMemory>
+/// The events of `IN`, of `OUT`, and of the master and the slave of each cluster.
+pub fn node_events(alloc: Global, clusters: usize) -> Result<Seq<Event>, OutOfMemory>
     ensures { IfOk result (λ e. e ≡ node_events In ++ node_events Out ++ cluster_events clusters) }
 {
     let mut events = Seq::new(alloc);
@@ -34,8 +34,8 @@ fn push_cluster(alloc: Global, i: usize, events: &mut Seq<Event>) -> Result<(), 
     push_events(alloc, b"S", digits, events)
 }
 
-// The events of the node whose name is a letter, or a word, and digits.
-fn push_events(
+/// Both events of the signal whose name is a word, or a letter, and digits.
+pub fn push_events(
     alloc: Global,
     word: &[u8],
     digits: &[u8],

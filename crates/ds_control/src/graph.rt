@@ -3,7 +3,7 @@ ghost use Rattle.ds_latch.specs.Plan.{IsPlan, split_events};
 ghost use Rattle.ds_control.specs.Control.{AreOrders, IsSimple};
 
 use crate::arcs::arcs;
-use crate::events::events;
+use crate::events::node_events;
 use ds_base::OutOfMemory;
 use ds_latch::Latches;
 use ds_marked::Marked;
@@ -17,7 +17,7 @@ pub fn controller(alloc: Global, latches: &Latches<'_>) -> Result<Marked, OutOfM
     ensures ok_simple { IfOk result (λ g. IsSimple g) }
     ensures ok_plan { IfOk result (λ g. IsPlan latches.now g) }
 {
-    let events = events(alloc, latches.clusters().len())?;
+    let events = node_events(alloc, latches.clusters().len())?;
     let arcs = arcs(alloc, latches)?;
     Marked::new(alloc, events, arcs)
 }

@@ -2,7 +2,7 @@ use Rattle.std.proofs.Common.{◌≡◌, ◌++◌}
 use Rattle.ds_latch.specs.Node.{In, Out}
 use Rattle.ds_latch.specs.Plan.{node_events}
 use Rattle.ds_control.specs.Orders.{cluster_events}
-use Rattle.ds_control.proofs.events.events.Given as goal
+use Rattle.ds_control.proofs.events.node_events.Given as goal
 
 abbrev pub invariant-loop-i : goal.invariant-loop-i
 invariant-loop-i l = l.events ≡ node_events In ++ node_events Out ++ cluster_events l.i

@@ -3,7 +3,7 @@ use Rattle.ds_marked.specs.declared.marked.Event.{Event}
 use Rattle.ds_latch.specs.Node.{In, Out, Master, Slave}
 use Rattle.ds_latch.specs.Plan.{node_events}
 use Rattle.ds_control.proofs.Pushed.{cluster_pushed}
-use Rattle.ds_control.proofs.events.events.Goals as goal
+use Rattle.ds_control.proofs.events.node_events.Goals as goal
 
 pub loop-i-preserved : goal.loop-i-preserved
 loop-i-preserved c =

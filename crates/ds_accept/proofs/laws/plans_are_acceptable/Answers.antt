@@ -1,0 +1,5 @@
+use Rattle.ds_accept.proofs.Planned.{plans_are_acceptable_lem}
+use Rattle.ds_accept.proofs.laws.plans_are_acceptable.Goals as goal
+
+pub returns : goal.returns
+returns c = plans_are_acceptable_lem

@@ -1,0 +1,10 @@
+pub mod Flat
+pub mod Pairs
+pub mod Numbered
+pub mod Joined
+pub mod Expanded
+pub mod Named
+pub mod Made
+pub mod Simple
+pub mod One
+pub mod Refused

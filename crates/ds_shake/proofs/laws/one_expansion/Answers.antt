@@ -1,0 +1,5 @@
+use Rattle.ds_shake.proofs.One.{one_expansion_lem}
+use Rattle.ds_shake.proofs.laws.one_expansion.Goals as goal
+
+pub returns : goal.returns
+returns c = one_expansion_lem
