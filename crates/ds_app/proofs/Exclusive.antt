@@ -7,6 +7,7 @@ use Rattle.ds_design.specs.Rows.{Rows}
 use Rattle.ds_netlist.specs.Laws.{FaultsAreRefused}
 use Rattle.ds_base.specs.declared.number.Mode.{Mode}
 use Rattle.ds_split.specs.Laws.{OneClustering}
+use Rattle.ds_shake.proofs.Refused.{faults_are_refused_lem}
 use Rattle.ds_cmd.specs.declared.job.Job.{Job}
 use Rattle.ds_cmd.specs.declared.job.Job.TheVariants.{Run, Clock, Check, Graph, Replay, Accept}
 use Rattle.ds_cmd.specs.declared.job.Job.TheVariants.{Demo, Period}
@@ -25,6 +26,7 @@ use Rattle.ds_stage.specs.PeriodStage.{measured_stage}
 use Rattle.ds_app.specs.Status.{AreTold, IsToldIn}
 use Rattle.ds_stage.proofs.LogStages.{replayed_not_refused}
 use Rattle.ds_stage.proofs.PeriodStages.{measured_not_refused}
+use Rattle.ds_stage.proofs.Expansions.{controller_not_refused}
 use Rattle.ds_stage.proofs.Exclusive.{lines_exclusive, netlist_exclusive, then_not_refused, vectors_exclusive}
 use Rattle.ds_stage.proofs.PlanExclusive.{planned_exclusive, split_exclusive}
 
@@ -44,11 +46,11 @@ run_not_refused law held file vec graph mode log slack told named c text line me
     then_not_refused (planned_stage held file graph mode slack c) (λ (p : Planned). then_stage (vectors_stage held vec c) (traced_stage log c p)) (planned_exclusive law held file graph mode slack (told_file held graph named) c)
     (λ p b l is no_more. then_not_refused (vectors_stage held vec c) (traced_stage log c p) (vectors_exclusive held vec c told) (λ rows t k means none. none) b l is no_more) text line means refused
 
-graph_not_refused : OneClustering → (file : List ℕ) (mode : Mode) (c : Circuit) (text line : List ℕ)
-    → (graph_stage file mode c).means text → ¬ (graph_stage file mode c).refused line
-graph_not_refused law file mode c text line means refused =
-    then_not_refused (split_stage file mode c) controller_stage (split_exclusive law file mode c)
-    (λ s b l is none. none) text line means refused
+graph_not_refused : OneClustering → (file : List ℕ) (mode : Mode) (shake : Bool) (c : Circuit) (text line : List ℕ)
+    → (graph_stage file mode shake c).means text → ¬ (graph_stage file mode shake c).refused line
+graph_not_refused law file mode shake c text line means refused =
+    then_not_refused (split_stage file mode c) (controller_stage file shake) (split_exclusive law file mode c)
+    (controller_not_refused file faults_are_refused_lem shake) text line means refused
 
 replay_not_refused : OneClustering → (held : List ℕ → Held) (file vec log : List ℕ) (graph : Option (List ℕ)) (mode : Mode) (slack : ℕ) (transparent : Bool)
     → held vec ≢ untold → held log ≢ untold → IsToldIn held graph → (c : Circuit) (text line : List ℕ)
@@ -85,8 +87,8 @@ job_not_refused law one held (Clock file vec) told text line means refused =
     then_not_refused (netlist_stage held file) (clock_stage held vec) (netlist_exclusive law held file told.0) (clock_not_refused held vec told.1) text line means refused
 job_not_refused law one held (Check file) told text line means refused =
     then_not_refused (netlist_stage held file) report_stage (netlist_exclusive law held file told) (λ c b l is none. none) text line means refused
-job_not_refused law one held (Graph file mode) told text line means refused =
-    then_not_refused (netlist_stage held file) (graph_stage file mode) (netlist_exclusive law held file told) (graph_not_refused one file mode) text line means refused
+job_not_refused law one held (Graph file mode shake) told text line means refused =
+    then_not_refused (netlist_stage held file) (graph_stage file mode shake) (netlist_exclusive law held file told) (graph_not_refused one file mode shake) text line means refused
 job_not_refused law one held (Replay file vec log graph mode slack transparent) told text line means refused =
     then_not_refused (netlist_stage held file) (replay_stage held file vec log graph mode slack transparent) (netlist_exclusive law held file told.0)
     (replay_not_refused one held file vec log graph mode slack transparent told.1 told.2 told.3) text line means refused

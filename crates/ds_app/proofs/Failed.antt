@@ -20,6 +20,7 @@ use Rattle.ds_app.specs.Job.{accept_stage, clock_stage, graph_stage, period_stag
 use Rattle.ds_app.specs.Job.{replay_stage, run_stage, stages_of}
 use Rattle.ds_base.specs.declared.number.Mode.{Mode}
 use Rattle.ds_stage.proofs.PeriodStages.{measured_says}
+use Rattle.ds_stage.proofs.Expansions.{controller_says}
 use Rattle.ds_stage.proofs.Failed.{IsFailed, Says, netlist_says, planned_says, replayed_says, then_says, vectors_say}
 
 clock_says : (held : List ℕ → Held) (vec : List ℕ) (failed : OfFile) (c : Circuit) → Says (clock_stage held vec c) failed
@@ -35,9 +36,9 @@ accept_says : (held : List ℕ → Held) (file graph : List ℕ) (mode : Mode) (
 accept_says held file graph mode failed c =
     then_says (planned_stage held file (Some graph) mode 0 c) ranks_stage failed (planned_says held file (Some graph) mode 0 failed c) (λ p line none. absurd none)
 
-graph_says : (file : List ℕ) (mode : Mode) (failed : OfFile) (c : Circuit) → Says (graph_stage file mode c) failed
-graph_says file mode failed c =
-    then_says (split_stage file mode c) controller_stage failed (λ line none. absurd none) (λ s line none. absurd none)
+graph_says : (file : List ℕ) (mode : Mode) (shake : Bool) (failed : OfFile) (c : Circuit) → Says (graph_stage file mode shake c) failed
+graph_says file mode shake failed c =
+    then_says (split_stage file mode c) (controller_stage file shake) failed (λ line none. absurd none) (controller_says file shake failed)
 
 replay_says : (held : List ℕ → Held) (file vec log : List ℕ) (graph : Option (List ℕ)) (mode : Mode) (slack : ℕ) (transparent : Bool) (failed : OfFile) (c : Circuit) → Says (replay_stage held file vec log graph mode slack transparent c) failed
 replay_says held file vec log graph mode slack transparent failed c =
@@ -57,7 +58,7 @@ pub job_says : (held : List ℕ → Held) (job : Job) (failed : OfFile) (line : 
 job_says held (Run file vec graph mode jobs log slack) failed line is = then_says (netlist_stage held file) (run_stage held file vec graph mode log slack) failed (netlist_says held file failed) (run_says held file vec graph mode log slack failed) line is
 job_says held (Clock file vec) failed line is = then_says (netlist_stage held file) (clock_stage held vec) failed (netlist_says held file failed) (clock_says held vec failed) line is
 job_says held (Check file) failed line is = then_says (netlist_stage held file) report_stage failed (netlist_says held file failed) (λ c l none. absurd none) line is
-job_says held (Graph file mode) failed line is = then_says (netlist_stage held file) (graph_stage file mode) failed (netlist_says held file failed) (graph_says file mode failed) line is
+job_says held (Graph file mode shake) failed line is = then_says (netlist_stage held file) (graph_stage file mode shake) failed (netlist_says held file failed) (graph_says file mode shake failed) line is
 job_says held (Replay file vec log graph mode slack transparent) failed line is = then_says (netlist_stage held file) (replay_stage held file vec log graph mode slack transparent) failed (netlist_says held file failed) (replay_says held file vec log graph mode slack transparent failed) line is
 job_says held (Accept file graph mode) failed line is = then_says (netlist_stage held file) (accept_stage held file graph mode) failed (netlist_says held file failed) (accept_says held file graph mode failed) line is
 job_says held (Demo seed registers turns jobs) failed line none = absurd none

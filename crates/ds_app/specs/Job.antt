@@ -29,8 +29,8 @@ run_stage held net vec graph mode log slack c =
     then_stage (vectors_stage held vec c) (traced_stage log c p))
 
 -- `graph`, once the netlist is read
-abbrev pub graph_stage : List ℕ → Mode → Circuit → Stage (List ℕ)
-graph_stage net mode c = then_stage (split_stage net mode c) controller_stage
+abbrev pub graph_stage : List ℕ → Mode → Bool → Circuit → Stage (List ℕ)
+graph_stage net mode shake c = then_stage (split_stage net mode c) (controller_stage net shake)
 
 -- `replay`, once the netlist is read
 abbrev pub replay_stage : (List ℕ → Held) → List ℕ → List ℕ → List ℕ → Option (List ℕ) → Mode → ℕ
@@ -56,7 +56,8 @@ stages_of held (Run net vec graph mode jobs log slack) =
     then_stage (netlist_stage held net) (run_stage held net vec graph mode log slack)
 stages_of held (Clock net vec) = then_stage (netlist_stage held net) (clock_stage held vec)
 stages_of held (Check net) = then_stage (netlist_stage held net) report_stage
-stages_of held (Graph net mode) = then_stage (netlist_stage held net) (graph_stage net mode)
+stages_of held (Graph net mode shake) =
+    then_stage (netlist_stage held net) (graph_stage net mode shake)
 stages_of held (Replay net vec log graph mode slack transparent) =
     then_stage (netlist_stage held net) (replay_stage held net vec log graph mode slack transparent)
 stages_of held (Accept net graph mode) =

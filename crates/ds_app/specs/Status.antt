@@ -93,7 +93,7 @@ AreTold held (Run net vec graph mode jobs log slack) = (held net ≢ untold) × 
     × IsToldIn held graph
 AreTold held (Clock net vec) = (held net ≢ untold) × (held vec ≢ untold)
 AreTold held (Check net) = held net ≢ untold
-AreTold held (Graph net mode) = held net ≢ untold
+AreTold held (Graph net mode shake) = held net ≢ untold
 AreTold held (Replay net vec log graph mode slack transparent) =
     (held net ≢ untold) × (held vec ≢ untold) × (held log ≢ untold) × IsToldIn held graph
 AreTold held (Accept net graph mode) = (held net ≢ untold) × (held graph ≢ untold)

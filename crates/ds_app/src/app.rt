@@ -10,7 +10,7 @@ use crate::accept::{AcceptJob, accept};
 use crate::check::check;
 use crate::clock::clock;
 use crate::demo::{DemoJob, demo};
-use crate::graph::graph;
+use crate::graph::{GraphJob, graph};
 use crate::period::{PeriodJob, period};
 use crate::replay::{ReplayJob, replay};
 use crate::run::{RunJob, run};
@@ -123,7 +123,18 @@ fn do_job<R: AllocGlobal + Threads + Sync, G: Gate, F: Files, O: Sink>(
         }
         Job::Clock { net, vec } => clock(alloc, net.as_str(), vec.as_str(), files, out),
         Job::Check { net } => check(alloc, net.as_str(), files, out),
-        Job::Graph { net, clusters } => graph(alloc, net.as_str(), *clusters, files, out),
+        Job::Graph {
+            net,
+            clusters,
+            shake,
+        } => {
+            let job = GraphJob {
+                net: net.as_str(),
+                clusters: *clusters,
+                shake: *shake,
+            };
+            graph(alloc, &job, files, out)
+        }
         Job::Replay {
             net,
             vec,

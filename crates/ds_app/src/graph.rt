@@ -1,33 +1,40 @@
-//! `graph`: the controller graph of a netlist.
+//! `graph`: the controller graph of a netlist, or its expansion.
 ghost use Rattle.std.specs.Prelude.{◌≡◌};
 ghost use Rattle.ds_outside.specs.Writes.{Writes};
 ghost use Rattle.ds_astg.specs.Text.{graph_text};
 ghost use Rattle.ds_cmd.specs.declared.job.Job.TheVariants.{Graph};
 ghost use Rattle.ds_stage.specs.Ends.{Ends, Never, Output, RoseIn};
-ghost use Rattle.ds_stage.specs.GraphStage.{controller_stage};
+ghost use Rattle.ds_stage.specs.GraphStage.{controller_stage, drawn_stage};
 ghost use Rattle.ds_app.specs.Job.{stages_of};
 
 use ds_astg::write;
 use ds_base::Mode;
-use ds_control::controller;
 use ds_latch::Latches;
 use ds_marked::Marked;
 use ds_outside::{Behind, Buffered, Files, Lent, Sink, WriteFault};
-use ds_stage::{Stop, read_netlist, split_netlist};
+use ds_stage::{Stop, read_netlist, split_netlist, wanted_graph};
 use std::alloc::Global;
 use std::marker::Brand;
 
-/// Reads the netlist of the file `net`, and writes its controller graph, its registers in the
-/// clusters of a mode.
-#[tactic(none)]
+/// What `graph` is to do: the file of the netlist, how registers are put into clusters, and whether
+/// the graph is to be expanded.
+#[derive(Clone, Copy)]
+pub struct GraphJob<'a> {
+    pub net: &'a str,
+    pub clusters: Mode,
+    pub shake: bool,
+}
+
+/// Reads a netlist, and writes its controller graph, or the expansion of it.
+#[tactic(auto)]
 pub fn graph<F: Files, O: Sink>(
     alloc: Global,
-    net: &str,
-    clusters: Mode,
+    job: &GraphJob<'_>,
     files: &mut F,
     out: &mut O,
 ) -> Result<(), Stop>
-    ensures value { Ends (stages_of (F.held files.old) (Graph net.now clusters))
+    ensures value { Ends (stages_of (F.held files.old)
+        (Graph job.now.net.now job.now.clusters job.now.shake))
         (RoseIn (F.faults files.old) (F.faults files.new)) (record {
           old = O.written out.old;
           new = O.written out.new;
@@ -37,24 +44,46 @@ pub fn graph<F: Files, O: Sink>(
 
     ensures same_held { F.held files.new ≡ F.held files.old }
 {
-    let netlist = read_netlist(alloc, files, net)?;
-    let latches = split_netlist(alloc, net, &netlist, clusters)?;
-    write_graph(alloc, &latches, out)
+    // Read for the fact that its names are texts.
+    let _texts = *job;
+    let netlist = read_netlist(alloc, files, job.net)?;
+    let latches = split_netlist(alloc, job.net, &netlist, job.clusters)?;
+    draw(alloc, job.net, &latches, job.shake, out)
 }
 
-// Writes the graph of the required orders of a split netlist, under the name of its main model.
-fn write_graph<O: Sink>(alloc: Global, latches: &Latches<'_>, out: &mut O) -> Result<(), Stop>
-    ensures { Ends (controller_stage latches.now) Never (record {
+// Writes the graph that is wanted of a split netlist. `file` is the netlist's.
+fn draw<O: Sink>(
+    alloc: Global,
+    file: &str,
+    latches: &Latches<'_>,
+    shake: bool,
+    out: &mut O,
+) -> Result<(), Stop>
+    ensures { Ends (controller_stage file.now shake latches.now) Never (record {
       old = O.written out.old;
       new = O.written out.new;
       before = O.faults out.old;
       now = O.faults out.new;
     }) result }
 {
-    let graph = controller(alloc, latches)?;
-    let _arcs = graph.arcs();
+    let graph = wanted_graph(alloc, file, latches, shake)?;
+    write_graph(latches, &graph, out)
+}
+
+// Writes a graph of a split netlist, under the name of its main model.
+fn write_graph<O: Sink>(latches: &Latches<'_>, graph: &Marked, out: &mut O) -> Result<(), Stop>
+    ensures { Ends (drawn_stage latches.now graph.now) Never (record {
+      old = O.written out.old;
+      new = O.written out.new;
+      before = O.faults out.old;
+      now = O.faults out.new;
+    }) result }
+{
+    // Lent for the fact that nodes are few.
+    let _edges = latches.edges();
+    let own = latches.bits().len() as u32;
     let name = latches.netlist().design().name();
-    let (_, result) = write_behind::<O, Brand>(name, &graph, Lent { sink: out });
+    let (_, result) = write_behind::<O, Brand>(name, own, graph, Lent { sink: out });
     match result {
         Ok(()) => Ok(()),
         Err(_) => Err(Stop::Unwritten),
@@ -64,6 +93,7 @@ fn write_graph<O: Sink>(alloc: Global, latches: &Latches<'_>, out: &mut O) -> Re
 // Writes a graph by way of a buffer.
 fn write_behind<'a, O: Sink, B: Behind>(
     name: &[u8],
+    own: u32,
     graph: &Marked,
     behind: Lent<'a, O>,
 ) -> (Lent<'a, O>, Result<(), WriteFault>)
@@ -72,10 +102,10 @@ fn write_behind<'a, O: Sink, B: Behind>(
 
     ensures ok { Writes result.1 B.before (O.written result.0.sink.now)
         (O.faults behind.entry.sink.now) (O.faults result.0.sink.now)
-        (graph_text name.now graph.now) }
+        (graph_text name.now own graph.now) }
     ensures same { result.0.sink.ghost_name ≡ B.name }
 {
     let mut buffered: Buffered<'a, O, B> = Buffered::new(behind);
-    let so_far = write(name, graph, &mut buffered);
+    let so_far = write(name, own, graph, &mut buffered);
     buffered.finish(so_far)
 }

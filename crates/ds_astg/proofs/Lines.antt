@@ -1,18 +1,19 @@
 -- The text of a graph, line by line.
-use Rattle.std.proofs.Common.{◌≡◌, ℕ, zero, suc, List, [], ◌∷◌, ◌++◌, length, refl, sym, ◌∙◌, ap, inl, inr, Option, ltb, ◌==◌, append-nil, append_assoc, codes, slice_get}
+use Rattle.std.proofs.Common.{◌≡◌, ℕ, zero, suc, List, [], ◌∷◌, ◌++◌, length, refl, sym, ◌∙◌, ap, inl, inr, ltb, ◌==◌, take, drop, ◌*◌, arith, append-nil, append_assoc, codes}
 use Rattle.std.specs.List.{flat_map}
-use Rattle.std.specs.Option.{option_map_or}
 use Rattle.std.proofs.lemmas.Bool.{cases_Bool}
+use Rattle.std.proofs.Math.Seq.{take-nil, drop-nil}
 use Rattle.ds_lines.specs.Line.{lines_of}
 use Rattle.ds_lines.specs.Print.{line_text, text_of}
 use Rattle.ds_lines.proofs.Printed.{lines_of-text_of}
 use Rattle.ds_marked.specs.Graph.{Graph}
 use Rattle.ds_marked.specs.declared.marked.Event.{Event}
+use Rattle.ds_marked.specs.declared.marked.Kind.TheVariants.{Rise, Fall}
 use Rattle.ds_astg.specs.Pieces.{all_below, line_with}
 use Rattle.ds_marked.specs.Log.{text_of_event}
-use Rattle.ds_astg.specs.Text.{arc_at, is_further, place_name, entry_name, tokens_text, arc_text, event_line, place_line, entry_text, signal_text, signal_of, graph_text}
+use Rattle.ds_astg.specs.Text.{arc_at, is_further, place_name, entry_name, tokens_text, arc_text, event_line, place_line, entry_text, signal_of, signals_text, graph_text}
 use Rattle.ds_astg.specs.Read.{graph_of, events_of}
-use Rattle.ds_astg.specs.Written.{IsReadable, WrittenTextIsRead, graph_words, body_lines, marking_words, lists_below, target_word, arc_words, line_behind, event_lines, place_lines, entry_words}
+use Rattle.ds_astg.specs.Written.{IsReadable, WrittenTextIsRead, graph_words, rest_lines, body_lines, marking_words, lists_below, target_word, arc_words, line_behind, event_lines, place_lines, entry_words}
 use Rattle.ds_astg.proofs.Whole.{written_is_read}
 
 -- words, each with a blank before it
@@ -79,69 +80,122 @@ entry_is g k = elim (cases_Bool (ltb 0 (arc_at g k).tokens)) [
   | inr e ↦ rw e refl
 ]
 
--- the pieces of a list
-below_first : (piece : ℕ → List ℕ) (n : ℕ) → all_below piece (suc n) ≡ piece 0 ++ all_below (λ k. piece (suc k)) n
-below_first piece zero = sym (append-nil (piece 0))
-below_first piece (suc n) = ap (λ (t : List ℕ). t ++ piece (suc n)) (below_first piece n) ∙ append_assoc (piece 0) (all_below (λ k. piece (suc k)) n) (piece (suc n))
+-- the events of the first signals, and those behind them
+first_events : (own : ℕ) (signals : List (List ℕ)) → take (2 * own) (flat_map events_of signals) ≡ flat_map events_of (take own signals)
+first_events zero signals = refl
+first_events (suc own) [] = take-nil (2 * suc own)
+first_events (suc own) (signal ∷ signals) =
+    let e : 2 * suc own ≡ suc (suc (2 * own)) = omega arith in
+    ap (λ (n : ℕ). take n (flat_map events_of (signal ∷ signals))) e
+    ∙ ap (λ (es : List Event). record { signal = signal; kind = Rise } ∷ record { signal = signal; kind = Fall } ∷ es) (first_events own signals)
 
-shifted : (event : Event) (events : List Event) (k : ℕ) → slice_get (event ∷ events) (suc k) ≡ slice_get events k
-shifted event events k = refl
-
-each_piece : (f : Event → List ℕ) (events : List Event) → all_below (λ v. option_map_or f (slice_get events v) []) (length events) ≡ flat_map f events
-each_piece f [] = refl
-each_piece f (event ∷ events) = below_first (λ v. option_map_or f (slice_get (event ∷ events) v) []) (length events)
-    ∙ ap (λ (t : List ℕ). f event ++ t) (same (length events) ∙ each_piece f events)
-  where
-    same : (n : ℕ) → all_below (λ k. option_map_or f (slice_get (event ∷ events) (suc k)) []) n ≡ all_below (λ k. option_map_or f (slice_get events k) []) n
-    same zero = refl
-    same (suc n) = ap (λ (t : List ℕ). t ++ option_map_or f (slice_get (event ∷ events) (suc n)) []) (same n)
-        ∙ ap (λ (o : Option Event). all_below (λ k. option_map_or f (slice_get events k) []) n ++ option_map_or f o []) (shifted event events n)
+further_events : (own : ℕ) (signals : List (List ℕ)) → drop (2 * own) (flat_map events_of signals) ≡ flat_map events_of (drop own signals)
+further_events zero signals = refl
+further_events (suc own) [] = drop-nil (2 * suc own)
+further_events (suc own) (signal ∷ signals) =
+    let e : 2 * suc own ≡ suc (suc (2 * own)) = omega arith in
+    ap (λ (n : ℕ). drop n (flat_map events_of (signal ∷ signals))) e ∙ further_events own signals
 
 signals_are : (signals : List (List ℕ)) → flat_map signal_of (flat_map events_of signals) ≡ spaced signals
 unfolding spaced
 signals_are [] = refl
 signals_are (signal ∷ signals) = ap (λ (t : List ℕ). 32 ∷ (signal ++ t)) (signals_are signals)
 
--- the parts of the text
-abbrev whole_text : (name signals events places marks : List ℕ) → List ℕ
-whole_text name signals events places marks = codes ".model " ++ name ++ codes "\n.outputs" ++ signals ++ codes "\n.graph\n" ++ events ++ places ++ codes ".marking {" ++ marks ++ codes " }\n.end\n"
+-- the parts of the text: before the graph part, and the graph part
+abbrev whole_text : (name outputs further rest : List ℕ) → List ℕ
+whole_text name outputs further rest = codes ".model " ++ name ++ codes "\n" ++ (codes ".outputs" ++ outputs ++ codes "\n" ++ further) ++ rest
+
+abbrev rest_text : (events places marks : List ℕ) → List ℕ
+rest_text events places marks = codes ".graph\n" ++ events ++ places ++ codes ".marking {" ++ marks ++ codes " }\n.end\n"
+
+-- both, piece by piece
+abbrev flat_text : (name outputs further events places marks : List ℕ) → List ℕ
+flat_text name outputs further events places marks =
+    codes ".model " ++ name ++ codes "\n" ++ (codes ".outputs" ++ outputs ++ codes "\n" ++ further) ++ codes ".graph\n" ++ events ++ places ++ codes ".marking {" ++ marks ++ codes " }\n.end\n"
+
+flat_shape : (name outputs further events places marks : List ℕ) → flat_text name outputs further events places marks ≡ whole_text name outputs further (rest_text events places marks)
+flat_shape name outputs further events places marks =
+    let x = codes ".model " ++ name ++ codes "\n" ++ (codes ".outputs" ++ outputs ++ codes "\n" ++ further) in
+    let graph = codes ".graph\n" in
+    let brace = codes ".marking {" in
+    let end = codes " }\n.end\n" in
+    ap (λ (t : List ℕ). t ++ end)
+    (ap (λ (t : List ℕ). t ++ marks)
+    (ap (λ (t : List ℕ). t ++ brace)
+    (ap (λ (t : List ℕ). t ++ places) (append_assoc x graph events)
+    ∙ append_assoc x (graph ++ events) places)
+    ∙ append_assoc x (graph ++ events ++ places) brace)
+    ∙ append_assoc x (graph ++ events ++ places ++ brace) marks)
+    ∙ append_assoc x (graph ++ events ++ places ++ brace ++ marks) end
 
 -- the same, line by line
-abbrev lines_text : (name signals events places marks : List ℕ) → List ℕ
-lines_text name signals events places marks = (codes ".model" ++ 32 ∷ name) ++ 10 ∷ ((codes ".outputs" ++ signals) ++ 10 ∷ (codes ".graph" ++ 10 ∷ ((events ++ places)
-    ++ ((codes ".marking" ++ 32 ∷ 123 ∷ (marks ++ 32 ∷ 125 ∷ [])) ++ 10 ∷ (codes ".end" ++ 10 ∷ [])))))
+abbrev whole_lines : (name outputs further rest : List ℕ) → List ℕ
+whole_lines name outputs further rest = (codes ".model" ++ 32 ∷ name) ++ 10 ∷ ((codes ".outputs" ++ outputs) ++ 10 ∷ (further ++ rest))
 
-shape : (name signals events places marks : List ℕ) → whole_text name signals events places marks ≡ lines_text name signals events places marks
-shape name signals events places marks = simp append_assoc refl
+abbrev rest_text_lines : (events places marks : List ℕ) → List ℕ
+rest_text_lines events places marks = codes ".graph" ++ 10 ∷ ((events ++ places) ++ ((codes ".marking" ++ 32 ∷ 123 ∷ (marks ++ 32 ∷ 125 ∷ [])) ++ 10 ∷ (codes ".end" ++ 10 ∷ [])))
 
--- the text prints the lines
-pub text_is : (name : List ℕ) (signals : List (List ℕ)) (g : Graph) → IsReadable signals g → graph_text name g ≡ text_of (graph_words name signals g)
+-- two lines with more behind them
+seam : (x y z : List ℕ) → ((x ++ 10 ∷ []) ++ y) ++ z ≡ x ++ 10 ∷ (y ++ z)
+seam x y z = ap (λ (t : List ℕ). t ++ z) (append_assoc x (10 ∷ []) y) ∙ append_assoc x (10 ∷ y) z
+
+whole_shape : (name outputs further rest : List ℕ) → whole_text name outputs further rest ≡ whole_lines name outputs further rest
+whole_shape name outputs further rest =
+    let x = codes ".model " ++ name in
+    let o = codes ".outputs" ++ outputs in
+    seam x (o ++ codes "\n" ++ further) rest ∙ ap (λ (t : List ℕ). x ++ 10 ∷ t) (seam o further rest)
+
+rest_shape : (events places marks : List ℕ) → rest_text events places marks ≡ rest_text_lines events places marks
+rest_shape events places marks = simp append_assoc refl
+
+-- the graph part prints its lines
+rest_is : (g : Graph) → rest_text (all_below (event_line g) (length g.events)) (all_below (place_line g) (length g.arcs)) (all_below (entry_text g) (length g.arcs)) ≡ text_of (rest_lines g)
 unfolding spaced
-text_is name signals g readable =
+rest_is g =
     let n = length g.arcs in
     let v = length g.events in
     let entries = lists_below (entry_words g) n in
     let tail = marking_words g ∷ (codes ".end" ∷ []) ∷ [] in
-    let outputs : all_below (signal_text g) v ≡ spaced signals = each_piece signal_of g.events ∙ (ap (flat_map signal_of) readable.events ∙ signals_are signals) in
     let events : all_below (event_line g) v ≡ text_of (lists_below (event_lines g) v) = pieces_lines (event_line g) (event_lines g) (event_is g) v in
     let places : all_below (place_line g) n ≡ text_of (lists_below (place_lines g) n) = pieces_lines (place_line g) (place_lines g) (place_is g) n in
     let marks : all_below (entry_text g) n ≡ spaced entries = pieces_words (entry_text g) (entry_words g) (entry_is g) n in
-    let left = ap (λ (t : List ℕ). whole_text name t (all_below (event_line g) v) (all_below (place_line g) n) (all_below (entry_text g) n)) outputs
-    ∙ (ap (λ (t : List ℕ). whole_text name (spaced signals) t (all_below (place_line g) n) (all_below (entry_text g) n)) events
-    ∙ (ap (λ (t : List ℕ). whole_text name (spaced signals) (text_of (lists_below (event_lines g) v)) t (all_below (entry_text g) n)) places
-    ∙ ap (λ (t : List ℕ). whole_text name (spaced signals) (text_of (lists_below (event_lines g) v)) (text_of (lists_below (place_lines g) n)) t) marks)) in
+    let left = ap (λ (t : List ℕ). rest_text t (all_below (place_line g) n) (all_below (entry_text g) n)) events
+    ∙ (ap (λ (t : List ℕ). rest_text (text_of (lists_below (event_lines g) v)) t (all_below (entry_text g) n)) places
+    ∙ ap (λ (t : List ℕ). rest_text (text_of (lists_below (event_lines g) v)) (text_of (lists_below (place_lines g) n)) t) marks) in
     let mark_line : line_text (marking_words g) ≡ codes ".marking" ++ 32 ∷ 123 ∷ (spaced entries ++ 32 ∷ 125 ∷ []) =
     line_is (codes ".marking") (codes "{" ∷ (entries ++ codes "}" ∷ [])) ∙ ap (λ (t : List ℕ). codes ".marking" ++ 32 ∷ 123 ∷ t) (spaced-append entries (codes "}" ∷ [])) in
     let body : text_of (body_lines g ++ tail) ≡ (text_of (lists_below (event_lines g) v) ++ text_of (lists_below (place_lines g) n)) ++ text_of tail =
     text-append (body_lines g) tail ∙ ap (λ (t : List ℕ). t ++ text_of tail) (text-append (lists_below (event_lines g) v) (lists_below (place_lines g) n)) in
     let last : text_of tail ≡ (codes ".marking" ++ 32 ∷ 123 ∷ (spaced entries ++ 32 ∷ 125 ∷ [])) ++ 10 ∷ (codes ".end" ++ 10 ∷ []) = ap (λ (t : List ℕ). t ++ 10 ∷ (codes ".end" ++ 10 ∷ [])) mark_line in
-    let right : text_of (graph_words name signals g) ≡ lines_text name (spaced signals) (text_of (lists_below (event_lines g) v)) (text_of (lists_below (place_lines g) n)) (spaced entries) =
-    ap (λ (t : List ℕ). (codes ".model" ++ 32 ∷ name) ++ 10 ∷ (t ++ 10 ∷ (codes ".graph" ++ 10 ∷ text_of (body_lines g ++ tail)))) (line_is (codes ".outputs") signals)
-    ∙ (ap (λ (t : List ℕ). (codes ".model" ++ 32 ∷ name) ++ 10 ∷ ((codes ".outputs" ++ spaced signals) ++ 10 ∷ (codes ".graph" ++ 10 ∷ t))) body
-    ∙ ap (λ (t : List ℕ). (codes ".model" ++ 32 ∷ name) ++ 10 ∷ ((codes ".outputs" ++ spaced signals) ++ 10 ∷ (codes ".graph" ++ 10 ∷ ((text_of (lists_below (event_lines g) v) ++ text_of (lists_below (place_lines g) n)) ++ t)))) last) in
-    left ∙ (shape name (spaced signals) (text_of (lists_below (event_lines g) v)) (text_of (lists_below (place_lines g) n)) (spaced entries) ∙ sym right)
+    let right : text_of (rest_lines g) ≡ rest_text_lines (text_of (lists_below (event_lines g) v)) (text_of (lists_below (place_lines g) n)) (spaced entries) =
+    ap (λ (t : List ℕ). codes ".graph" ++ 10 ∷ t) body
+    ∙ ap (λ (t : List ℕ). codes ".graph" ++ 10 ∷ ((text_of (lists_below (event_lines g) v) ++ text_of (lists_below (place_lines g) n)) ++ t)) last in
+    left ∙ (rest_shape (text_of (lists_below (event_lines g) v)) (text_of (lists_below (place_lines g) n)) (spaced entries) ∙ sym right)
+
+-- the text prints the lines
+pub text_is : (name : List ℕ) (own : ℕ) (signals : List (List ℕ)) (g : Graph) → IsReadable signals g → graph_text name own g ≡ text_of (graph_words name own signals g)
+unfolding spaced
+text_is name own signals g readable =
+    let first = take own signals in
+    let more = drop own signals in
+    let behind = line_behind (codes ".internal") more in
+    let rest = rest_text (all_below (event_line g) (length g.events)) (all_below (place_line g) (length g.arcs)) (all_below (entry_text g) (length g.arcs)) in
+    let outputs : signals_text (take (2 * own) g.events) ≡ spaced first =
+    ap (λ (es : List Event). signals_text (take (2 * own) es)) readable.events ∙ (ap signals_text (first_events own signals) ∙ signals_are first) in
+    let others : signals_text (drop (2 * own) g.events) ≡ spaced more =
+    ap (λ (es : List Event). signals_text (drop (2 * own) es)) readable.events ∙ (ap signals_text (further_events own signals) ∙ signals_are more) in
+    let further : line_with (codes ".internal") (signals_text (drop (2 * own) g.events)) ≡ text_of behind = ap (line_with (codes ".internal")) others ∙ behind_is (codes ".internal") more in
+    let left = flat_shape name (signals_text (take (2 * own) g.events)) (line_with (codes ".internal") (signals_text (drop (2 * own) g.events)))
+    (all_below (event_line g) (length g.events)) (all_below (place_line g) (length g.arcs)) (all_below (entry_text g) (length g.arcs))
+    ∙ (ap (λ (t : List ℕ). whole_text name t (line_with (codes ".internal") (signals_text (drop (2 * own) g.events))) rest) outputs
+    ∙ (ap (λ (t : List ℕ). whole_text name (spaced first) t rest) further
+    ∙ ap (λ (t : List ℕ). whole_text name (spaced first) (text_of behind) t) (rest_is g))) in
+    let right : text_of (graph_words name own signals g) ≡ whole_lines name (spaced first) (text_of behind) (text_of (rest_lines g)) =
+    ap (λ (t : List ℕ). (codes ".model" ++ 32 ∷ name) ++ 10 ∷ (t ++ 10 ∷ text_of (behind ++ rest_lines g))) (line_is (codes ".outputs") first)
+    ∙ ap (λ (t : List ℕ). (codes ".model" ++ 32 ∷ name) ++ 10 ∷ ((codes ".outputs" ++ spaced first) ++ 10 ∷ t)) (text-append behind (rest_lines g)) in
+    left ∙ (whole_shape name (spaced first) (text_of behind) (text_of (rest_lines g)) ∙ sym right)
 
 pub written_text_is_read : WrittenTextIsRead
-written_text_is_read name signals g readable plain =
-    ap (λ (t : List ℕ). graph_of (lines_of t)) (text_is name signals g readable)
-    ∙ (ap graph_of (lines_of-text_of (graph_words name signals g) plain) ∙ written_is_read name signals g readable)
+written_text_is_read name own signals g readable plain =
+    ap (λ (t : List ℕ). graph_of (lines_of t)) (text_is name own signals g readable)
+    ∙ (ap graph_of (lines_of-text_of (graph_words name own signals g) plain) ∙ written_is_read name own signals g readable)

@@ -1,24 +1,24 @@
 -- The parts of a text, case by case.
-use Rattle.std.proofs.Common.{◌≡◌, ◌≢◌, ℕ, ◌<◌, ◌≤◌, Bool, true, false, List, [], ◌++◌, length, get_or, Option, Some, refl, arith, ap, sym, ◌∙◌, subst, codes, decimal}
-use Rattle.std.specs.Option.{option_map_or}
+use Rattle.std.proofs.Common.{◌≡◌, ◌≢◌, ℕ, ◌<◌, ◌≤◌, Bool, true, false, ◌+◌, take, List, [], ◌∷◌, ◌++◌, length, get_or, Option, Some, refl, arith, ap, sym, ◌∙◌, subst, codes, decimal, append-nil}
 use Rattle.std.specs.Prelude.{slice_get, ltb, if◌then◌else◌}
 use Rattle.std.proofs.lemmas.Bool.{lt-ltb, le-ltb}
 use Rattle.std.proofs.lemmas.Option.{slice_get_read, get_or_from_slice_get}
+use Rattle.std.proofs.lemmas.List.{take_more}
+use Rattle.std.proofs.lemmas.List.Concat.{flat_map-append}
+use Rattle.std.proofs.lemmas.List.Folds.{length-flat_map-take}
 use Rattle.ds_base.proofs.Tests.{test_same, test_other}
 use Rattle.ds_marked.specs.Graph.{Graph, IsRangeFrom}
 use Rattle.ds_marked.specs.declared.marked.Arc.{Arc}
 use Rattle.ds_marked.specs.declared.marked.Event.{Event}
+use Rattle.ds_marked.specs.declared.marked.Kind.TheVariants.{Rise}
 use Rattle.ds_marked.specs.Log.{event_text, text_of_event}
 use Rattle.ds_astg.specs.Pieces.{all_below, line_with}
-use Rattle.ds_astg.specs.Text.{arc_at, arc_text, entry_name, entry_text, event_line, is_further, place_line, place_name, signal_of, signal_text, target_text, tokens_text}
+use Rattle.ds_astg.specs.Text.{arc_at, arc_text, entry_name, entry_text, event_line, is_further, place_line, place_name, rising, signal_of, signals_text, target_text, tokens_text}
 use Rattle.ds_astg.proofs.Pieces.{IsSome, silent_to}
 
 -- what a list has at a place
 found : {X : Type 0} (xs ys : List X) (k : ℕ) (x : X) → xs ≡ ys → k < length ys → x ≡ get_or xs k x → slice_get ys k ≡ Some x
 found xs ys k x same inside is = slice_get_read ys (length ys) k x refl inside (subst (λ zs. x ≡ get_or zs k x) same is)
-
-pub signal_is : (g : Graph) (es : List Event) (v : ℕ) (e : Event) → es ≡ g.events → v < length g.events → e ≡ get_or es v e → signal_of e ≡ signal_text g v
-signal_is g es v e same inside is = sym (ap (λ (o : Option Event). option_map_or signal_of o []) (found es g.events v e same inside is))
 
 pub arc_is : (g : Graph) (arcs : List Arc) (k : ℕ) (a : Arc) → arcs ≡ g.arcs → k < length g.arcs → a ≡ get_or arcs k a → a ≡ arc_at g k
 arc_is g arcs k a same inside is = sym (get_or_from_slice_get g.arcs k a (record { source = 0; target = 0; tokens = 0 }) (found arcs g.arcs k a same inside is))
@@ -86,3 +86,29 @@ no_line g v low high range e =
 -- what stands for an arc is not empty
 pub some_target : (g : Graph) (v low high k : ℕ) → IsRangeFrom g.arcs v low high → low ≤ k → k < high → IsSome (arc_text g v k)
 some_target g v low high k range above below = subst IsSome (leads g v low high k range above below) (32, (if is_further g k then place_name k else text_of_event g (arc_at g k).target), refl)
+
+-- no text of further signals, no line of them
+pub no_further : (word text : List ℕ) → ¬ (0 < length text) → [] ≡ line_with word text
+no_further word [] none = refl
+no_further word (byte ∷ rest) none = absurd (none (omega arith))
+
+pub some_further : (word text : List ℕ) → 0 < length text → word ++ text ++ codes "\n" ≡ line_with word text
+some_further word [] some = absurd (let h : 0 < 0 = some in omega arith)
+some_further word (byte ∷ rest) some = refl
+
+-- an event that rises among events has a signal there
+pub some_signal : (events : List Event) (k : ℕ) (e : Event) → k < length events → e ≡ get_or events k e → e.kind ≡ Rise → 0 < length (signals_text events)
+some_signal events k e inside is rises =
+    let long = length-flat_map-take signal_of events k e inside in
+    let own : 0 < length (signal_of (get_or events k e)) = subst (λ (x : Event). 0 < length (signal_of x)) is rising_some in
+    omega (arith, long, own)
+  where
+    rising_some : 0 < length (rising e.kind e.signal)
+    rising_some = rw rises (omega arith)
+
+-- one event more
+pub one_signal_more : (events : List Event) (k : ℕ) (e : Event) → k < length events → e ≡ get_or events k e
+    → signals_text (take (k + 1) events) ≡ signals_text (take k events) ++ signal_of e
+one_signal_more events k e inside is =
+    ap signals_text (take_more events k e inside ∙ ap (λ (x : Event). take k events ++ x ∷ []) (sym is))
+    ∙ (flat_map-append signal_of (take k events) (e ∷ []) ∙ ap (λ (t : List ℕ). signals_text (take k events) ++ t) (append-nil (signal_of e)))

@@ -1,9 +1,9 @@
 -- All lines of a written graph.
-use Rattle.std.proofs.Common.{◌≡◌, ◌≢◌, ℕ, suc, ◌+◌, ◌-◌, ◌<◌, ◌≤◌, true, false, List, [], ◌∷◌, ◌++◌, length, get_or, map, refl, sym, ◌∙◌, ap, subst, arith, inl, inr, All, AllPairs, Option, Some, None, Result, Ok, if◌then◌else◌, ltb, append-nil, append_assoc, codes, slice_set}
+use Rattle.std.proofs.Common.{◌≡◌, ◌≢◌, ℕ, suc, ◌+◌, ◌-◌, ◌<◌, ◌≤◌, true, false, List, [], ◌∷◌, ◌++◌, length, get_or, map, refl, sym, ◌∙◌, ap, subst, arith, take, drop, inl, inr, All, AllPairs, Option, Some, None, Result, Ok, if◌then◌else◌, ltb, append-nil, append_assoc, codes, slice_set}
 use Rattle.std.specs.Str.{bytes_eq}
 use Rattle.std.proofs.lemmas.Bool.{cases_Bool, cases_lt, lt-ltb, le-ltb}
 use Rattle.std.proofs.lemmas.Slice.Eq.{bytes_eq-Decides}
-use Rattle.std.proofs.lemmas.List.{length-append, length-map, map-append, get_or-map, get_or_append_left, get_or_default, same_lists}
+use Rattle.std.proofs.lemmas.List.{length-append, length-map, map-append, get_or-map, get_or_append_left, get_or-append-add, take-append-drop, get_or_default, same_lists}
 use Rattle.std.proofs.lemmas.List.Folds.{list_any_none}
 use Rattle.std.proofs.lemmas.List.Sorted.{IsPermutation-refl}
 use Rattle.std.proofs.Math.Seq.{get_or-append_seam}
@@ -22,7 +22,7 @@ use Rattle.ds_astg.specs.Marking.{mark, mark_all, entries_of, closed, last_word}
 use Rattle.ds_astg.specs.Line.{State, head_of, is_declaration, declare, declare_all, may_declare, with_marking}
 use Rattle.ds_astg.specs.Read.{graph_of, graph_from, end_of, graph_of_parts, lacking, lacks, arc_of, or_zero, in_order}
 use Rattle.ds_astg.specs.Text.{arc_at}
-use Rattle.ds_astg.specs.Written.{IsReadable, WrittenIsRead, graph_words, body_lines, marking_words, lists_below, event_lines, place_lines, entry_words}
+use Rattle.ds_astg.specs.Written.{IsReadable, WrittenIsRead, graph_words, line_behind, body_lines, marking_words, lists_below, event_lines, place_lines, entry_words}
 use Rattle.ds_astg.specs.declared.place.Place.{Place}
 use Rattle.ds_astg.specs.declared.fault.AstgKind.{AstgKind}
 use Rattle.ds_astg.proofs.Declared.{declare-new}
@@ -64,9 +64,46 @@ declared done (signal ∷ rest) distinct names few =
     may_signal (Some Signal) other = refl
     may_signal (Some Dummy) other = absurd (other refl)
 
+-- signals of which some are declared before the others
+module _ (first more : List (List ℕ)) (distinct : AllPairs (λ a b. a ≢ b) (first ++ more)) (names : All (λ signal. is_signal signal ≡ true) (first ++ more)) (few : length (first ++ more) ≤ 65536) where
+  first_declared : declare_all Signal no_places first (plain []) ≡ Ok (plain first)
+  first_declared = let size = length-append first more in
+      declared [] first
+      (λ i j d order inside e. distinct i j d order (omega (arith, inside, size)) (get_or_append_left first more d i (omega (arith, order, inside)) ∙ (e ∙ sym (get_or_append_left first more d j inside))))
+      (λ k d inside. subst (λ (w : List ℕ). is_signal w ≡ true) (get_or_append_left first more d k inside) (names k d (omega (arith, inside, size))))
+      (omega (arith, few, size))
+
+  more_declared : declare_all Signal no_places more (plain first) ≡ Ok (plain (first ++ more))
+  more_declared = let size = length-append first more in
+      declared first more distinct
+      (λ k d inside. subst (λ (w : List ℕ). is_signal w ≡ true) (get_or-append-add first more k d) (names (length first + k) d (omega (arith, inside, size)))) few
+
+-- what was read outside of the graph part
+abbrev outside : Declared → State
+outside signals = record { is_named = true; is_open = false; is_marked = false; signals = signals; places = no_places }
+
 -- what was read in the graph part
 abbrev pub in_graph : Declared → Places → State
 in_graph signals ps = record { is_named = true; is_open = true; is_marked = false; signals = signals; places = ps }
+
+-- a line of signals
+outputs_line : (n : ℕ) (words : List (List ℕ)) (lines : List (List (List ℕ))) (s t : Declared) → declare_all Signal no_places words s ≡ Ok t
+    → graph_from (numbered n ((codes ".outputs" ∷ words) ∷ lines)) (outside s) ≡ graph_from (numbered (n + 1) lines) (outside t)
+unfolding head_of is_declaration
+outputs_line n words lines s t is = rw is refl
+
+internal_line : (n : ℕ) (words : List (List ℕ)) (lines : List (List (List ℕ))) (s t : Declared) → declare_all Signal no_places words s ≡ Ok t
+    → graph_from (numbered n ((codes ".internal" ∷ words) ∷ lines)) (outside s) ≡ graph_from (numbered (n + 1) lines) (outside t)
+unfolding head_of is_declaration
+internal_line n words lines s t is = rw is refl
+
+-- the line of further signals, where there are some, and that which opens the graph part
+further_run : (first more : List (List ℕ)) (lines : List (List (List ℕ))) → declare_all Signal no_places more (plain first) ≡ Ok (plain (first ++ more))
+    → graph_from (numbered 3 (line_behind (codes ".internal") more ++ (codes ".graph" ∷ []) ∷ lines)) (outside (plain first))
+    ≡ graph_from (numbered (4 + length (line_behind (codes ".internal") more)) lines) (in_graph (plain (first ++ more)) no_places)
+unfolding head_of is_declaration
+further_run first [] lines is = ap (λ (xs : List (List ℕ)). graph_from (numbered 4 lines) (in_graph (plain xs) no_places)) (sym (append-nil first))
+further_run first (signal ∷ more) lines is = internal_line 3 (signal ∷ more) ((codes ".graph" ∷ []) ∷ lines) (plain first) (plain (first ++ signal ∷ more)) is
 
 body_from : (signals : Declared) (n : ℕ) (lines more : List (List (List ℕ))) (ps qs : Places) → Runs signals n lines ps qs
     → graph_from (numbered n (lines ++ more)) (in_graph signals ps) ≡ graph_from (numbered (n + length lines) more) (in_graph signals qs)
@@ -138,35 +175,51 @@ module _ (signals : List (List ℕ)) (g : Graph) (readable : IsReadable signals 
       rw (signals_are, places_are) (rw none (ap (λ (h : Graph). Ok h) graph))
 
   -- the graph part leads to places with sources and targets
-  body_run : (ps : Places) × Runs (plain signals) 4 (body_lines g) no_places ps × Built g (length g.arcs) (full_target g) no_tokens ps
-  body_run =
+  body_run : (line : ℕ) → (ps : Places) × Runs (plain signals) line (body_lines g) no_places ps × Built g (length g.arcs) (full_target g) no_tokens ps
+  body_run line =
       let n = length g.arcs in
-      let (m, ps, events, built, prefix) = events_run signals g readable 4 (length g.events) (omega arith) in
+      let (m, ps, events, built, prefix) = events_run signals g readable line (length g.events) (omega arith) in
       let none : Arc = record { source = 0; target = 0; tokens = 0 } in
       let all : m ≡ n = elim (cases_lt m n) [
         | inl low ↦ absurd (let a = prefix.above m (omega arith) low in let e = readable.kept.ends m none low in let h = a.0 in let k = e.0 in omega (arith, h, k))
         | inr high ↦ (let most = prefix.most in omega (arith, high, most))
       ] in
-      let (qs, places, placed) = places_run signals g readable (4 + length (lists_below (event_lines g) (length g.events))) n ps (omega arith)
+      let (qs, places, placed) = places_run signals g readable (line + length (lists_below (event_lines g) (length g.events))) n ps (omega arith)
       (subst (λ (k : ℕ). Built g k (first_target g) no_tokens ps) all built) in (
         qs,
-        runs_append (plain signals) 4 (lists_below (event_lines g) (length g.events)) (lists_below (place_lines g) n) no_places ps qs events places,
+        runs_append (plain signals) line (lists_below (event_lines g) (length g.events)) (lists_below (place_lines g) n) no_places ps qs events places,
         built_same g n (placed_target g n) no_tokens (full_target g) no_tokens qs placed
             (λ k low. let h : placed_target g n k ≡ Some (arc_at g k).target = rw (lt-ltb k n low) refl in h) (λ k low. refl),
       )
 
-  pub written : (name : List ℕ) → graph_of (numbered 1 (graph_words name signals g)) ≡ Ok g
+  -- the lines before the graph part
+  head_run : (name : List ℕ) (own : ℕ) (lines : List (List (List ℕ)))
+      → graph_of (numbered 1 ((codes ".model" ∷ name ∷ []) ∷ (codes ".outputs" ∷ take own signals) ∷ (line_behind (codes ".internal") (drop own signals) ++ (codes ".graph" ∷ []) ∷ lines)))
+      ≡ graph_from (numbered (4 + length (line_behind (codes ".internal") (drop own signals))) lines) (in_graph (plain signals) no_places)
   unfolding head_of is_declaration
-  written name =
+  head_run name own lines =
+      let first = take own signals in
+      let more = drop own signals in
+      let whole : first ++ more ≡ signals = take-append-drop own signals in
+      let distinct : AllPairs (λ a b. a ≢ b) (first ++ more) = subst (λ (xs : List (List ℕ)). AllPairs (λ a b. a ≢ b) xs) (sym whole) readable.distinct in
+      let names : All (λ signal. is_signal signal ≡ true) (first ++ more) = subst (λ (xs : List (List ℕ)). All (λ signal. is_signal signal ≡ true) xs) (sym whole) readable.names in
+      let few : length (first ++ more) ≤ 65536 = subst (λ (xs : List (List ℕ)). length xs ≤ 65536) (sym whole) readable.few in
+      outputs_line 2 first (line_behind (codes ".internal") more ++ (codes ".graph" ∷ []) ∷ lines) (plain []) (plain first) (first_declared first more distinct names few)
+      ∙ (further_run first more lines (more_declared first more distinct names few)
+      ∙ ap (λ (xs : List (List ℕ)). graph_from (numbered (4 + length (line_behind (codes ".internal") more)) lines) (in_graph (plain xs) no_places)) whole)
+
+  pub written : (name : List ℕ) (own : ℕ) → graph_of (numbered 1 (graph_words name own signals g)) ≡ Ok g
+  unfolding head_of is_declaration
+  written name own =
       let n = length g.arcs in
-      let (ps, run, built) = body_run in
+      let from = 4 + length (line_behind (codes ".internal") (drop own signals)) in
+      let (ps, run, built) = body_run from in
       let (qs, marks, marked) = marks_run signals g readable n ps (omega arith) built in
       let tail = marking_words g ∷ (codes ".end" ∷ []) ∷ [] in
       let entries = lists_below (entry_words g) n in
-      let signals_are : declare_all Signal no_places signals (plain []) ≡ Ok (plain signals) = declared [] signals readable.distinct readable.names readable.few in
-      let head : graph_of (numbered 1 (graph_words name signals g)) ≡ graph_from (numbered 4 (body_lines g ++ tail)) (in_graph (plain signals) no_places) = rw signals_are refl in
-      let body = body_from (plain signals) 4 (body_lines g) tail no_places ps run in
-      let line = 4 + length (body_lines g) in
+      let head : graph_of (numbered 1 (graph_words name own signals g)) ≡ graph_from (numbered from (body_lines g ++ tail)) (in_graph (plain signals) no_places) = head_run name own (body_lines g ++ tail) in
+      let body = body_from (plain signals) from (body_lines g) tail no_places ps run in
+      let line = from + length (body_lines g) in
       let all : mark_all (plain signals) (([] ∷ entries) ++ [] ∷ []) ps ≡ Ok qs = marked_all (plain signals) entries ps qs marks in
       let brace : entries_of (codes "{" ∷ (entries ++ codes "}" ∷ [])) ≡ Some (([] ∷ entries) ++ [] ∷ []) = braced entries in
       let state = with_marking (in_graph (plain signals) ps) qs in
@@ -174,4 +227,4 @@ module _ (signals : List (List ℕ)) (g : Graph) (readable : IsReadable signals 
       head ∙ (body ∙ (last ∙ ends_well qs state refl refl marked))
 
 pub written_is_read : WrittenIsRead
-written_is_read name signals g readable = written signals g readable name
+written_is_read name own signals g readable = written signals g readable name own

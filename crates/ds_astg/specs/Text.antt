@@ -1,7 +1,7 @@
 -- The text of a marked graph, in the `.g` form of SIS and petrify.
-use Rattle.std.specs.Prelude.{ℕ, ◌-◌, Bool, List, [], ◌++◌, length, codes, decimal, ltb, ◌&&◌, ◌==◌}
-use Rattle.std.specs.Prelude.{slice_get, slice_index_or, if◌then◌else◌}
-use Rattle.std.specs.Option.{option_map_or}
+use Rattle.std.specs.Prelude.{ℕ, ◌-◌, ◌*◌, Bool, List, [], ◌++◌, length, codes, decimal, ltb}
+use Rattle.std.specs.Prelude.{◌&&◌, ◌==◌, take, drop, slice_index_or, if◌then◌else◌}
+use Rattle.std.specs.List.{flat_map}
 use Rattle.ds_marked.specs.Graph.{Graph}
 use Rattle.ds_marked.specs.declared.marked.Arc.{Arc}
 use Rattle.ds_marked.specs.declared.marked.Event.{Event}
@@ -36,9 +36,16 @@ rising Dummy signal = []
 abbrev pub signal_of : Event → List ℕ
 signal_of e = rising e.kind e.signal
 
--- the signal of an event with a number, where it rises there
-abbrev pub signal_text : Graph → ℕ → List ℕ
-signal_text g v = option_map_or signal_of (slice_get g.events v) []
+-- the signals that rise among these events
+abbrev pub signals_text : List Event → List ℕ
+signals_text events = flat_map signal_of events
+
+-- the lines of the signals: the graph's own, which are so many and come first, and the further
+-- ones, where there are some
+abbrev pub signal_lines : ℕ → List Event → List ℕ
+signal_lines own events =
+    codes ".outputs" ++ signals_text (take (2 * own) events) ++ codes "\n"
+    ++ line_with (codes ".internal") (signals_text (drop (2 * own) events))
 
 -- what stands for an arc on the line of its source: its target, or its place
 abbrev pub target_text : Graph → ℕ → List ℕ
@@ -76,11 +83,11 @@ entry_text g k =
     if ltb 0 (arc_at g k).tokens then codes " " ++ entry_name g k
     ++ tokens_text (arc_at g k).tokens else []
 
--- the whole text: the signals, a line for each event from which arcs lead, a line for each place of
--- its own, the marking
-abbrev pub graph_text : List ℕ → Graph → List ℕ
-graph_text name g =
-    codes ".model " ++ name ++ codes "\n.outputs" ++ all_below (signal_text g) (length g.events)
-    ++ codes "\n.graph\n" ++ all_below (event_line g) (length g.events)
+-- the whole text: the signals, of which so many are the graph's own, a line for each event from
+-- which arcs lead, a line for each place of its own, the marking
+abbrev pub graph_text : List ℕ → ℕ → Graph → List ℕ
+graph_text name own g =
+    codes ".model " ++ name ++ codes "\n" ++ signal_lines own g.events
+    ++ codes ".graph\n" ++ all_below (event_line g) (length g.events)
     ++ all_below (place_line g) (length g.arcs)
     ++ codes ".marking {" ++ all_below (entry_text g) (length g.arcs) ++ codes " }\n.end\n"

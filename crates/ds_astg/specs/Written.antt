@@ -1,6 +1,6 @@
 -- The lines that a graph is written as.
 use Rattle.std.specs.Prelude.{◌≡◌, ◌≢◌, ℕ, zero, suc, ◌<◌, ◌≤◌, true, List, [], ◌∷◌, ◌++◌, length}
-use Rattle.std.specs.Prelude.{codes, All, AllPairs, Ok, ltb, ◌==◌, if◌then◌else◌}
+use Rattle.std.specs.Prelude.{codes, All, AllPairs, Ok, ltb, ◌==◌, take, drop, if◌then◌else◌}
 use Rattle.std.specs.List.{flat_map, AllByRecursion}
 use Rattle.ds_lines.specs.Line.{lines_of}
 use Rattle.ds_lines.specs.Print.{numbered, IsPlain}
@@ -52,11 +52,16 @@ abbrev pub marking_words : Graph → List (List ℕ)
 marking_words g = codes ".marking" ∷ codes "{"
     ∷ (lists_below (entry_words g) (length g.arcs) ++ (codes "}" ∷ []))
 
--- the lines of a graph of these signals
-abbrev pub graph_words : List ℕ → List (List ℕ) → Graph → List (List (List ℕ))
-graph_words name signals g =
-    (codes ".model" ∷ name ∷ []) ∷ (codes ".outputs" ∷ signals) ∷ (codes ".graph" ∷ [])
+-- the lines behind those of the signals
+abbrev pub rest_lines : Graph → List (List (List ℕ))
+rest_lines g = (codes ".graph" ∷ [])
     ∷ (body_lines g ++ (marking_words g ∷ (codes ".end" ∷ []) ∷ []))
+
+-- the lines of a graph of these signals, of which so many are its own
+abbrev pub graph_words : List ℕ → ℕ → List (List ℕ) → Graph → List (List (List ℕ))
+graph_words name own signals g =
+    (codes ".model" ∷ name ∷ []) ∷ (codes ".outputs" ∷ take own signals)
+    ∷ (line_behind (codes ".internal") (drop own signals) ++ rest_lines g)
 
 -- a graph of signals that the reader takes, within its limits
 pub record IsReadable (signals : List (List ℕ)) (g : Graph) : Type 0 where
@@ -70,13 +75,13 @@ pub record IsReadable (signals : List (List ℕ)) (g : Graph) : Type 0 where
   pub few_arcs : length g.arcs ≤ 1048576
   pub tokens : All (λ arc. arc.tokens < 256) g.arcs
 
--- the lines that a graph is written as stand for it
+-- the lines that a graph is written as stand for it, however many signals are its own
 abbrev pub WrittenIsRead : Type 0
-WrittenIsRead = (name : List ℕ) (signals : List (List ℕ)) (g : Graph) → IsReadable signals g
-    → graph_of (numbered 1 (graph_words name signals g)) ≡ Ok g
+WrittenIsRead = (name : List ℕ) (own : ℕ) (signals : List (List ℕ)) (g : Graph)
+    → IsReadable signals g → graph_of (numbered 1 (graph_words name own signals g)) ≡ Ok g
 
 -- the text that a graph is written as stands for it, where its lines are such as are printed
 abbrev pub WrittenTextIsRead : Type 0
-WrittenTextIsRead = (name : List ℕ) (signals : List (List ℕ)) (g : Graph) → IsReadable signals g
-    → AllByRecursion IsPlain (graph_words name signals g)
-    → graph_of (lines_of (graph_text name g)) ≡ Ok g
+WrittenTextIsRead = (name : List ℕ) (own : ℕ) (signals : List (List ℕ)) (g : Graph)
+    → IsReadable signals g → AllByRecursion IsPlain (graph_words name own signals g)
+    → graph_of (lines_of (graph_text name own g)) ≡ Ok g

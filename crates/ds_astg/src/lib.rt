@@ -4,10 +4,11 @@
 //! the line and the kind; want of memory alone is answered freely. `specs/Read` says what lines
 //! stand for: `specs/Line` what a line adds, `specs/Signals` the names that are declared, signals
 //! and dummies, `specs/Links` the graph part, `specs/Marking` the marking. `write` appends the text
-//! of a graph of signals, which `specs/Text` gives to the byte: of several arcs with the same
-//! ends the first is implicit, and each other one is a place of its own. Where a write fails, a
-//! first part of the text is appended. `laws` says what follows: what is written is read as the
-//! same graph, texts that are worked by hand.
+//! of a graph of signals, which `specs/Text` gives to the byte: its own signals are outputs, and
+//! further ones are internal; of several arcs with the same ends the first is implicit, and each
+//! other one is a place of its own. Where a write fails, a first part of the text is appended.
+//! `laws` says what follows: what is written is read as the same graph, texts that are worked by
+//! hand.
 //!
 //! `write` takes no memory; pieces are small, so that a buffer behind `out` pays.
 #![tactic(auto)]
@@ -29,6 +30,7 @@ mod place;
 mod places;
 mod reader;
 mod role;
+mod signal_lines;
 mod signals;
 mod state;
 mod text;

@@ -2,67 +2,33 @@
 ghost use Rattle.std.specs.Prelude.{◌≡◌, ◌<◌, length};
 ghost use Rattle.ds_outside.specs.Writes.{GoesOn, Writes};
 ghost use Rattle.ds_astg.specs.Pieces.{all_below};
-ghost use Rattle.ds_astg.specs.Text.{entry_text, event_line, graph_text, place_line, signal_of};
-ghost use Rattle.ds_astg.specs.Text.{signal_text};
+ghost use Rattle.ds_astg.specs.Text.{entry_text, event_line, graph_text, place_line};
 
 use crate::entry::put_entry;
 use crate::line::{put_event_line, put_place_line};
 use crate::piece::put;
+use crate::signal_lines::put_signal_lines;
 use ds_base::EventId;
-use ds_marked::{Event, Kind, Marked};
+use ds_marked::Marked;
 use ds_outside::{Sink, WriteFault};
 
-/// Appends the text of a graph under a name. Where a write fails, a first part of it is appended.
-pub fn write<O: Sink>(name: &[u8], graph: &Marked, out: &mut O) -> Result<(), WriteFault>
+/// Appends the text of a graph under a name. So many signals, the first ones, are its own and are
+/// declared as outputs; further ones are internal. Where a write fails, a first part of the text is
+/// appended.
+pub fn write<O: Sink>(name: &[u8], own: u32, graph: &Marked, out: &mut O) -> Result<(), WriteFault>
     ensures { Writes result (O.written out.old) (O.written out.new) (O.faults out.old)
-        (O.faults out.new) (graph_text name.now graph.now) }
+        (O.faults out.new) (graph_text name.now own graph.now) }
 {
     let so_far = put(Ok(()), b".model ", out);
     let so_far = put(so_far, name, out);
-    let so_far = put(so_far, b"\n.outputs", out);
-    let so_far = put_signals(so_far, graph, out);
-    let so_far = put(so_far, b"\n.graph\n", out);
+    let so_far = put(so_far, b"\n", out);
+    let so_far = put_signal_lines(so_far, own, graph.events(), out);
+    let so_far = put(so_far, b".graph\n", out);
     let so_far = put_event_lines(so_far, graph, out);
     let so_far = put_place_lines(so_far, graph, out);
     let so_far = put(so_far, b".marking {", out);
     let so_far = put_entries(so_far, graph, out);
     put(so_far, b" }\n.end\n", out)
-}
-
-// Writes the signals that rise.
-fn put_signals<O: Sink>(
-    so_far: Result<(), WriteFault>,
-    graph: &Marked,
-    out: &mut O,
-) -> Result<(), WriteFault>
-    ensures { GoesOn so_far result (O.written out.old) (O.written out.new) (O.faults out.old)
-        (O.faults out.new) (all_below (signal_text graph.now) (length graph.now.events)) }
-{
-    let events = graph.events();
-    let mut so_far = so_far;
-    for event in 0..events.len() {
-        so_far = put_signal(so_far, &events[event], out);
-    }
-    so_far
-}
-
-// Writes the signal of an event, where it rises.
-fn put_signal<O: Sink>(
-    so_far: Result<(), WriteFault>,
-    event: &Event,
-    out: &mut O,
-) -> Result<(), WriteFault>
-    ensures { GoesOn so_far result (O.written out.old) (O.written out.new) (O.faults out.old)
-        (O.faults out.new) (signal_of event.now) }
-{
-    match event.kind {
-        Kind::Rise => {
-            let so_far = put(so_far, b" ", out);
-            put(so_far, event.signal.as_slice(), out)
-        }
-        Kind::Fall => so_far,
-        Kind::Dummy => so_far,
-    }
 }
 
 // Writes the lines of the events.

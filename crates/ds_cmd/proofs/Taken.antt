@@ -77,15 +77,19 @@ check_at : (program net : Text) → IsNoOption net → job_of (program ∷ codes
 unfolding clap_on_literals
 check_at program net n = rw (n.dashes, n.long, n.short) refl
 
-graph_at : (program net : Text) → IsNoOption net → job_of (program ∷ codes "graph" ∷ net ∷ []) ≡ Ok (Graph net Each)
+graph_at : (program net : Text) → IsNoOption net → job_of (program ∷ codes "graph" ∷ net ∷ []) ≡ Ok (Graph net Each false)
 unfolding clap_on_literals
 graph_at program net n = rw (n.dashes, n.long, n.short) refl
 
-graph_in : (program net : Text) (mode : Mode) → IsNoOption net → job_of (program ∷ codes "graph" ∷ net ∷ codes "--clusters" ∷ mode_word mode ∷ []) ≡ Ok (Graph net mode)
+graph_in : (program net : Text) (mode : Mode) → IsNoOption net → job_of (program ∷ codes "graph" ∷ net ∷ codes "--clusters" ∷ mode_word mode ∷ []) ≡ Ok (Graph net mode false)
 unfolding clap_on_literals
 graph_in program net Each n = rw (n.dashes, n.long, n.short) refl
 graph_in program net One n = rw (n.dashes, n.long, n.short) refl
 graph_in program net Bus n = rw (n.dashes, n.long, n.short) refl
+
+graph_shaken : (program net : Text) → IsNoOption net → job_of (program ∷ codes "graph" ∷ net ∷ codes "--shake" ∷ []) ≡ Ok (Graph net Each true)
+unfolding clap_on_literals
+graph_shaken program net n = rw (n.dashes, n.long, n.short) refl
 
 pub run_taken : (program net vec : Text) → is_plain net ≡ true → is_plain vec ≡ true → job_of (program ∷ codes "run" ∷ net ∷ vec ∷ []) ≡ Ok (Run net vec None Each 1 false 0)
 run_taken program net vec n v = run_at program net vec (no_option net n) (no_option vec v)
@@ -99,8 +103,11 @@ clock_taken program net vec n v = clock_at program net vec (no_option net n) (no
 pub check_taken : (program net : Text) → is_plain net ≡ true → job_of (program ∷ codes "check" ∷ net ∷ []) ≡ Ok (Check net)
 check_taken program net n = check_at program net (no_option net n)
 
-pub graph_taken : (program net : Text) → is_plain net ≡ true → job_of (program ∷ codes "graph" ∷ net ∷ []) ≡ Ok (Graph net Each)
+pub graph_taken : (program net : Text) → is_plain net ≡ true → job_of (program ∷ codes "graph" ∷ net ∷ []) ≡ Ok (Graph net Each false)
 graph_taken program net n = graph_at program net (no_option net n)
 
-pub graph_with_mode : (program net : Text) (mode : Mode) → is_plain net ≡ true → job_of (program ∷ codes "graph" ∷ net ∷ codes "--clusters" ∷ mode_word mode ∷ []) ≡ Ok (Graph net mode)
+pub graph_with_mode : (program net : Text) (mode : Mode) → is_plain net ≡ true → job_of (program ∷ codes "graph" ∷ net ∷ codes "--clusters" ∷ mode_word mode ∷ []) ≡ Ok (Graph net mode false)
 graph_with_mode program net mode n = graph_in program net mode (no_option net n)
+
+pub graph_with_shake : (program net : Text) → is_plain net ≡ true → job_of (program ∷ codes "graph" ∷ net ∷ codes "--shake" ∷ []) ≡ Ok (Graph net Each true)
+graph_with_shake program net n = graph_shaken program net (no_option net n)

@@ -15,7 +15,7 @@ abbrev pub AreAllowed : Job → Type 0
 AreAllowed (Run net vec graph mode jobs log slack) = AreWorkers jobs × (slack ≤ 15)
 AreAllowed (Clock net vec) = ⊤
 AreAllowed (Check net) = ⊤
-AreAllowed (Graph net mode) = ⊤
+AreAllowed (Graph net mode shake) = ⊤
 AreAllowed (Replay net vec log graph mode slack transparent) =
     (slack ≤ 15) × (transparent ≡ true → slack ≡ 0)
 AreAllowed (Accept net graph mode) = ⊤

@@ -1,19 +1,22 @@
 -- The command `graph`.
 use Rattle.std.specs.Prelude.{List, [], ◌∷◌, Result, Ok, codes}
 use Rattle.clap.specs.Words.{Row, Shape, first_of}
-use Rattle.ds_cmd.specs.Argument.{command_shape, word_rule, option_rule}
+use Rattle.ds_cmd.specs.Argument.{command_shape, flag_rule, is_set, option_rule, word_rule}
 use Rattle.ds_cmd.specs.Clusters.{clusters_of}
 use Rattle.ds_cmd.specs.Fault.{with_mode, with_value}
 use Rattle.ds_cmd.specs.declared.job.Job.{Job}
 use Rattle.ds_cmd.specs.declared.job.Job.TheVariants.{Graph}
 use Rattle.ds_cmd.specs.declared.fault.UsageFault.{UsageFault}
 
--- `graph NET [--clusters MODE]`
+-- `graph NET [--clusters MODE] [--shake]`
 abbrev pub graph_shape : Shape
-graph_shape =
-    command_shape (codes "graph") (word_rule (codes "net") ∷ option_rule (codes "clusters") ∷ [])
+graph_shape = command_shape (codes "graph") (
+    word_rule (codes "net") ∷
+    option_rule (codes "clusters") ∷
+    flag_rule (codes "shake") ∷ [])
 
 -- its job, from the values of its arguments
 abbrev pub graph_job : List Row → Result Job UsageFault
 graph_job rows = with_value (first_of (codes "net") rows) (λ net.
-    with_mode (clusters_of rows) (λ clusters. Ok (Graph net clusters)))
+    with_mode (clusters_of rows) (λ clusters.
+    Ok (Graph net clusters (is_set (codes "shake") rows))))

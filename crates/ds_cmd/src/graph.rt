@@ -1,9 +1,10 @@
+//! The words of `graph`.
 ghost use Rattle.std.specs.Prelude.{◌≡◌, IfOk};
 ghost use Rattle.clap.specs.Words.{shape_of, found_of, rows_of};
 ghost use Rattle.ds_cmd.specs.Fault.{Gives};
 ghost use Rattle.ds_cmd.specs.Graph.{graph_job, graph_shape};
 
-use crate::argument::{option, text, word};
+use crate::argument::{flag, is_set, option, text, word};
 use crate::clusters::clusters;
 use crate::subcommand::subcommand;
 use crate::{FileName, Job, UsageFault};
@@ -11,11 +12,15 @@ use clap::{ArgMatches, Command};
 use ds_base::OutOfMemory;
 use std::alloc::Global;
 
-/// `graph NET [--clusters MODE]`, as a subcommand.
+/// `graph NET [--clusters MODE] [--shake]`, as a subcommand.
 pub fn command<'a>(alloc: Global) -> Result<Command<'a>, OutOfMemory>
     ensures { IfOk result (λ c. shape_of c ≡ graph_shape) }
 {
-    let args = vec![in alloc; word(alloc, "net"), option(alloc, "clusters")]?;
+    let args = vec![in alloc;
+        word(alloc, "net"),
+        option(alloc, "clusters"),
+        flag(alloc, "shake"),
+    ]?;
     subcommand(alloc, "graph", args)
 }
 
@@ -32,5 +37,6 @@ pub fn job(alloc: Global, values: &ArgMatches<'_>) -> Result<Job, UsageFault>
     Ok(Job::Graph {
         net: FileName::new(alloc, net)?,
         clusters,
+        shake: is_set(values, "shake"),
     })
 }

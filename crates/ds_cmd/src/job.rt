@@ -28,10 +28,11 @@ pub enum Job {
     Check {
         net: FileName,
     },
-    /// The text of the controller graph.
+    /// The text of the controller graph, with `shake` of its four-phase expansion.
     Graph {
         net: FileName,
         clusters: Mode,
+        shake: bool,
     },
     /// What the registers have stored after the firings of the file `log`, with `transparent` also
     /// what the open latches let through; that is without slack.

@@ -52,13 +52,18 @@ pub fn check_is_taken()
         → job_of (program ∷ codes "check" ∷ net ∷ []) ≡ Ok (Check net) }
 {}
 
-/// `graph` with the name of a file is taken.
+/// `graph` with the name of a file is taken; each register is then a cluster of its own, unless the
+/// word behind `--clusters` says otherwise, and the graph is not expanded, unless `--shake` stands
+/// there.
 pub fn graph_is_taken()
     ensures each { (program net : List ℕ) → is_plain net ≡ true
-        → job_of (program ∷ codes "graph" ∷ net ∷ []) ≡ Ok (Graph net Each) }
+        → job_of (program ∷ codes "graph" ∷ net ∷ []) ≡ Ok (Graph net Each false) }
     ensures clusters { (program net : List ℕ) (mode : Mode) → is_plain net ≡ true
         → job_of (program ∷ codes "graph" ∷ net ∷ codes "--clusters" ∷ mode_word mode ∷ [])
-        ≡ Ok (Graph net mode) }
+        ≡ Ok (Graph net mode false) }
+    ensures shake { (program net : List ℕ) → is_plain net ≡ true
+        → job_of (program ∷ codes "graph" ∷ net ∷ codes "--shake" ∷ [])
+        ≡ Ok (Graph net Each true) }
 {}
 
 /// `replay` with three names of files is taken; then without slack, unless `--slack` says

@@ -12,7 +12,7 @@ const TAKEN: &str = "\
 d|run|n|v -> run|n|v|none|each|1|false|0
 d|clock|n|v -> clock|n|v
 d|check|n -> check|n
-d|graph|n -> graph|n|each
+d|graph|n -> graph|n|each|false
 d|replay|n|v|l -> replay|n|v|l|none|each|0|false
 d|replay|n|--clusters=one|v|- -> replay|n|v|-|none|one|0|false
 d|run|n|v|--graph|g -> run|n|v|g|each|1|false|0
@@ -38,10 +38,15 @@ d|check|--|-- -> check|--
 # Options stand anywhere behind the command's name.
 d|run|n|v|--clusters|one -> run|n|v|none|one|1|false|0
 d|run|--clusters=bus|n|v -> run|n|v|none|bus|1|false|0
-d|graph|n|--clusters|each -> graph|n|each
-d|graph|--clusters|bus|n -> graph|n|bus
+d|graph|n|--clusters|each -> graph|n|each|false
+d|graph|--clusters|bus|n -> graph|n|bus|false
+# The expansion of a graph.
+d|graph|n|--shake -> graph|n|each|true
+d|graph|--shake|n|--clusters=bus -> graph|n|bus|true
+d|graph|--clusters|one|--shake|n -> graph|n|one|true
 # Behind `--` there are no options.
-d|graph|--|--clusters -> graph|--clusters|each
+d|graph|--|--clusters -> graph|--clusters|each|false
+d|graph|--|--shake -> graph|--shake|each|false
 d|run|n|--|--log -> run|n|--log|none|each|1|false|0
 # Threads, 1 to 64, in one to twenty digits; the log.
 d|run|n|v|--jobs|3 -> run|n|v|none|each|3|false|0
@@ -131,6 +136,19 @@ d|replay|n|v|l|--transparent|true
 d|--transparent|replay|n|v|l
 d|run|n|v|--transparent
 d|accept|n|g|--transparent
+d|graph|n|--shake|--shake
+d|graph|n|--shake=x
+d|graph|n|--shake=true
+d|graph|n|--shake=
+d|graph|n|--shake|true
+d|--shake|graph|n
+d|run|n|v|--shake
+d|clock|n|v|--shake
+d|check|n|--shake
+d|replay|n|v|l|--shake
+d|accept|n|g|--shake
+d|demo|1|2|3|--shake
+d|period|n|d|--shake
 # The words come before the numbers and the mode.
 d|run|n|--jobs|0|--clusters|two
 d|run|n|v|x|--jobs|65
@@ -201,6 +219,7 @@ d|run|n|v|--clusters|two
 d|run|n|v|--clusters|two|--jobs|2
 d|graph|n|--clusters=
 d|graph|n|--clusters|EACH
+d|graph|n|--shake|--clusters|two
 d|period|n|d|--clusters|two
 d|graph|n|--clusters|each,one
 d|run|n|v|--clusters|two|--slack|2
@@ -305,6 +324,12 @@ fn replay_words(
     format!(in alloc; "{words}|{slack}|{transparent}")
 }
 
+// The words of a graph, with whether it is to be expanded.
+fn graph_words(alloc: Global, words: [&str; 3], shake: bool) -> Result<String, AllocError> {
+    let words = joined(alloc, &words)?;
+    format!(in alloc; "{words}|{shake}")
+}
+
 // The words of a demonstration.
 fn demo_words(alloc: Global, seed: u64, numbers: [u32; 3]) -> Result<String, AllocError> {
     let [registers, turns, jobs] = numbers;
@@ -316,7 +341,11 @@ fn other_words(alloc: Global, job: &Job) -> Result<String, AllocError> {
     match job {
         Job::Clock { net, vec } => joined(alloc, &["clock", net.as_str(), vec.as_str()]),
         Job::Check { net } => joined(alloc, &["check", net.as_str()]),
-        Job::Graph { net, clusters } => joined(alloc, &["graph", net.as_str(), word(clusters)]),
+        Job::Graph {
+            net,
+            clusters,
+            shake,
+        } => graph_words(alloc, ["graph", net.as_str(), word(clusters)], *shake),
         Job::Accept {
             net,
             graph,

@@ -4,6 +4,7 @@ pub mod Exclusive
 pub mod Failed
 pub mod SplitStops
 pub mod OneGraph
+pub mod Expansions
 pub mod PlanStages
 pub mod PlanExclusive
 pub mod PlanAccepted

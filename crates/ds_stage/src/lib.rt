@@ -12,13 +12,15 @@
 //! (`specs/ReplayStage`, `specs/Kept` for what is kept between them, and `specs/OpenLines` for the
 //! lines of what open latches show, which stand behind that text where they are wanted; all memory
 //! is taken before its first byte is written). `read_timing` reads the delays of `own_graph`
-//! (`specs/PeriodStage`), and `with_event` and `with_events` put events behind a text.
-//! `write_report` writes the report on a netlist (`specs/Report`). The texts of faults are those of
-//! `specs/FaultText`. When memory is wanted is not promised.
+//! (`specs/PeriodStage`), `wanted_graph` makes the graph that is written (`specs/GraphStage`), and
+//! `with_event` and `with_events` put events behind a text. `write_report` writes the report on a
+//! netlist (`specs/Report`). The texts of faults are those of `specs/FaultText`. When memory is
+//! wanted is not promised.
 #![tactic(auto)]
 
 mod after_log;
 mod delays;
+mod expansion;
 mod fault_line;
 mod fault_text;
 mod graph_text;
@@ -39,6 +41,7 @@ mod stop;
 
 pub use after_log::AfterLog;
 pub use delays::{own_graph, read_timing};
+pub use expansion::wanted_graph;
 pub use graph_text::with_events;
 pub use log::read_log;
 pub use log_text::with_event;

@@ -3,8 +3,7 @@ ghost use Rattle.std.specs.Prelude.{◌≡◌};
 ghost use Rattle.ds_stage.specs.Ends.{Answers, Never, SaysSplit};
 ghost use Rattle.ds_stage.specs.SplitStage.{split_stage};
 
-use crate::fault_line::too_many;
-use crate::source::refused;
+use crate::source::passed_limit;
 use crate::stop::Stop;
 use ds_base::Mode;
 use ds_design::Netlist;
@@ -41,10 +40,7 @@ fn split_stop(alloc: Global, file: &str, fault: SplitFault) -> Stop
     ensures { SaysSplit file.now fault result }
 {
     match fault {
-        SplitFault::TooMany(limit) => match too_many(alloc, limit) {
-            Ok(text) => refused(alloc, file, &text),
-            Err(_) => Stop::Memory,
-        },
+        SplitFault::TooMany(limit) => passed_limit(alloc, file, limit),
         SplitFault::Memory => Stop::Memory,
     }
 }

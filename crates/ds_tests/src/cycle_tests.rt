@@ -25,14 +25,14 @@ impl Ratio {
     }
 }
 
-// The next number below this one.
-fn below(draws: &mut Xoshiro256PlusPlus, most: u64) -> u64 {
+/// The next number below this one.
+pub fn below(draws: &mut Xoshiro256PlusPlus, most: u64) -> u64 {
     let word: u64 = draws.next_word();
     word.checked_rem(most).unwrap_or(0)
 }
 
-// A netlist of registers, each of which reads two nets, registers or the input.
-fn netlist(
+/// A netlist of registers, each of which reads two nets, registers or the input.
+pub fn netlist(
     alloc: Global,
     draws: &mut Xoshiro256PlusPlus,
     registers: u64,

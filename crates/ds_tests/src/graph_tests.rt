@@ -92,8 +92,8 @@ fn graphs_are_written(rt: HostRuntime) -> Result<(), Fail> {
     play(&rt, GRAPHS, 4)
 }
 
-// So many registers, all of which take one table over all of them.
-fn wide(alloc: Global, count: usize) -> Result<String, AllocError> {
+/// So many registers, all of which take one table over all of them.
+pub fn wide(alloc: Global, count: usize) -> Result<String, AllocError> {
     let mut text = String::from_str(alloc, ".model w\n.names")?;
     for i in 0..count {
         text.push_str(format!(in alloc; " q{i}")?.as_str())?;

@@ -27,4 +27,6 @@ mod replay_tests;
 #[cfg(test)]
 mod settle_tests;
 #[cfg(test)]
+mod shake_tests;
+#[cfg(test)]
 mod slack_tests;

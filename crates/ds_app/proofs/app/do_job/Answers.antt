@@ -31,7 +31,7 @@ returns-in-Check-clause-value g c =
 
 pub returns-in-Graph-clause-value : goal.returns-in-Graph-clause-value
 returns-in-Graph-clause-value g c =
-    let job : Graph c.as_str-in-Graph.result.now c.in-Graph.clusters ≡ c.args.job.now = cc in
+    let job : Graph c.as_str-in-Graph.result.now c.in-Graph.clusters c.in-Graph.shake ≡ c.args.job.now = cc in
     subst (λ (j : Job). Ends (stages_of (g.F.Files.held c.args.files.now) j) (RoseIn (g.F.Files.faults c.args.files.now) (g.F.Files.faults c.graph.new.files))
     (record { old = g.O.Sink.written c.args.out.now; new = g.O.Sink.written c.graph.new.out; before = g.O.Sink.faults c.args.out.now; now = g.O.Sink.faults c.graph.new.out }) c.graph.result) job c.graph.ensures.value
 

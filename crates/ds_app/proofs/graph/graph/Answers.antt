@@ -1,4 +1,4 @@
-use Rattle.std.proofs.Common.{ℕ, List, Err, refl}
+use Rattle.std.proofs.Common.{ℕ, Bool, List, Err, refl}
 use Rattle.std.proofs.lemmas.Result.{err_from_is_err_and}
 use Rattle.ds_base.specs.declared.number.Mode.{Mode}
 use Rattle.ds_outside.specs.Held.{Held}
@@ -13,48 +13,52 @@ use Rattle.ds_stage.specs.Ends.{Answers, Ends, Never, Output, RoseIn}
 use Rattle.ds_stage.specs.declared.stop.Stop.{Stop}
 use Rattle.ds_stage.proofs.Stages.{stopped, passed, widened}
 use Rattle.ds_stage.proofs.Ends.{ended, ends_after, ends_more, no_more}
+use Rattle.ds_stage.proofs.Expansions.{controller_says}
 use Rattle.ds_app.proofs.graph.graph.Goals as goal
 
 pub returns-in_err-netlist-clause-value : goal.returns-in_err-netlist-clause-value
 returns-in_err-netlist-clause-value g c =
     let held : List ℕ → Held = g.F.Files.held c.args.files.now in
-    let net : List ℕ = c.args.net.now in
-    let mode : Mode = c.args.clusters in
+    let net : List ℕ = c.args.job.now.net.now in
+    let mode : Mode = c.args.job.now.clusters in
+    let shake : Bool = c.args.job.now.shake in
     let more : OfFile = RoseIn (g.F.Files.faults c.args.files.now) (g.F.Files.faults c.read_netlist.new.files) in
     let p = err_from_is_err_and c.from_residual.result c.from_residual.ensures.1 in
-    rw (p.1, p.2) (ended (Unit {0}) (then_stage (netlist_stage held net) (graph_stage net mode)) more
+    rw (p.1, p.2) (ended (Unit {0}) (then_stage (netlist_stage held net) (graph_stage net mode shake)) more
     (record { old = g.O.Sink.written c.args.out.now; new = g.O.Sink.written c.args.out.now; before = g.O.Sink.faults c.args.out.now; now = g.O.Sink.faults c.args.out.now }) c.in_err-netlist.field-0.0 refl
-    (stopped (netlist_stage held net) (graph_stage net mode) more c.in_err-netlist.field-0.0 c.in_err-netlist.ensures.value))
+    (stopped (netlist_stage held net) (graph_stage net mode shake) more c.in_err-netlist.field-0.0 c.in_err-netlist.ensures.value))
 
 pub returns-in_err-latches-clause-value : goal.returns-in_err-latches-clause-value
 returns-in_err-latches-clause-value g c =
     let held : List ℕ → Held = g.F.Files.held c.args.files.now in
-    let net : List ℕ = c.args.net.now in
-    let mode : Mode = c.args.clusters in
+    let net : List ℕ = c.args.job.now.net.now in
+    let mode : Mode = c.args.job.now.clusters in
+    let shake : Bool = c.args.job.now.shake in
     let more : OfFile = RoseIn (g.F.Files.faults c.args.files.now) (g.F.Files.faults c.read_netlist.new.files) in
     let circuit : Circuit = c.in_ok-netlist.netlist in
     let stop : Stop = c.in_err-latches.field-0.0 in
     let p = err_from_is_err_and c.from_residual-in_err-latches.result c.from_residual-in_err-latches.ensures.1 in
     let few : Answers {A = Split} (split_stage net mode circuit) more (Err stop) =
     widened {A = Split} (split_stage net mode circuit) (split_stage net mode circuit) Never more (no_more (split_stage net mode circuit) more (λ line none. absurd none)) (Err stop) c.in_err-latches.ensures in
-    rw (p.1, p.2) (ended (Unit {0}) (then_stage (netlist_stage held net) (graph_stage net mode)) more
+    rw (p.1, p.2) (ended (Unit {0}) (then_stage (netlist_stage held net) (graph_stage net mode shake)) more
     (record { old = g.O.Sink.written c.args.out.now; new = g.O.Sink.written c.args.out.now; before = g.O.Sink.faults c.args.out.now; now = g.O.Sink.faults c.args.out.now }) stop refl
-    (passed {B = List ℕ} (netlist_stage held net) (graph_stage net mode) more circuit c.in_ok-netlist.ensures.value (Err stop)
-    (stopped (split_stage net mode circuit) controller_stage more stop few)))
+    (passed {B = List ℕ} (netlist_stage held net) (graph_stage net mode shake) more circuit c.in_ok-netlist.ensures.value (Err stop)
+    (stopped (split_stage net mode circuit) (controller_stage net shake) more stop few)))
 
 pub returns-clause-value : goal.returns-clause-value
 returns-clause-value g c =
     let held : List ℕ → Held = g.F.Files.held c.args.files.now in
-    let net : List ℕ = c.args.net.now in
-    let mode : Mode = c.args.clusters in
+    let net : List ℕ = c.args.job.now.net.now in
+    let mode : Mode = c.args.job.now.clusters in
+    let shake : Bool = c.args.job.now.shake in
     let more : OfFile = RoseIn (g.F.Files.faults c.args.files.now) (g.F.Files.faults c.read_netlist.new.files) in
     let circuit : Circuit = c.in_ok-netlist.netlist in
     let latches : Split = c.in_ok-latches.latches in
-    let out : Output = (record { old = g.O.Sink.written c.args.out.now; new = g.O.Sink.written c.write_graph.new.out; before = g.O.Sink.faults c.args.out.now; now = g.O.Sink.faults c.write_graph.new.out }) in
-    let last : Ends (controller_stage latches) more out c.write_graph.result =
-    ends_more (controller_stage latches) Never more out (λ line none. absurd none) c.write_graph.result c.write_graph.ensures in
-    ends_after (netlist_stage held net) (graph_stage net mode) more out circuit c.in_ok-netlist.ensures.value c.write_graph.result
-    (ends_after (split_stage net mode circuit) controller_stage more out latches c.in_ok-latches.ensures c.write_graph.result last)
+    let out : Output = (record { old = g.O.Sink.written c.args.out.now; new = g.O.Sink.written c.draw.new.out; before = g.O.Sink.faults c.args.out.now; now = g.O.Sink.faults c.draw.new.out }) in
+    let last : Ends (controller_stage net shake latches) more out c.draw.result =
+    ends_more (controller_stage net shake latches) Never more out (λ line unread. absurd (controller_says net shake Never latches line unread).is) c.draw.result c.draw.ensures in
+    ends_after (netlist_stage held net) (graph_stage net mode shake) more out circuit c.in_ok-netlist.ensures.value c.draw.result
+    (ends_after (split_stage net mode circuit) (controller_stage net shake) more out latches c.in_ok-latches.ensures c.draw.result last)
 
 pub returns-in_err-netlist-clause-same_held : goal.returns-in_err-netlist-clause-same_held
 returns-in_err-netlist-clause-same_held g c = c.in_err-netlist.ensures.same_held

@@ -1,4 +1,4 @@
-use Rattle.ds_cmd.proofs.Taken.{graph_taken, graph_with_mode}
+use Rattle.ds_cmd.proofs.Taken.{graph_taken, graph_with_mode, graph_with_shake}
 use Rattle.ds_cmd.proofs.laws.graph_is_taken.Goals as goal
 
 pub returns-clause-each : goal.returns-clause-each
@@ -6,3 +6,6 @@ returns-clause-each c = graph_taken
 
 pub returns-clause-clusters : goal.returns-clause-clusters
 returns-clause-clusters c = graph_with_mode
+
+pub returns-clause-shake : goal.returns-clause-shake
+returns-clause-shake c = graph_with_shake
