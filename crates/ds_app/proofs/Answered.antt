@@ -1,5 +1,5 @@
 -- Each way in which a call may end has its status, and no other.
-use Rattle.std.proofs.Common.{◌≡◌, ◌⊎◌, ℕ, List, Ok, Err, inl, inr, refl, arith, sym, subst}
+use Rattle.std.proofs.Common.{◌≡◌, ◌∙◌, ◌⊎◌, ℕ, List, [], Ok, Err, inl, inr, ap, refl, arith, sym, subst}
 use Rattle.std.specs.Prelude.{codes}
 use Rattle.ds_outside.specs.Fault.{Rose}
 use Rattle.ds_outside.specs.Written.{appended, AppendsPart}
@@ -13,7 +13,10 @@ use Rattle.ds_stage.specs.declared.stop.Stop.{Stop}
 use Rattle.ds_stage.specs.declared.stop.Stop.TheVariants.{Refused, Unread, Unwritten, Memory}
 use Rattle.ds_stage.specs.Ends.{Ends, Output, RoseIn}
 use Rattle.ds_app.specs.Job.{stages_of}
-use Rattle.ds_app.specs.Status.{AreTold, Call, IsAnswered, Reports, SaysStop, SaysUsage}
+use Rattle.ds_stage.specs.Stage.{leaves_nothing}
+use Rattle.ds_app.specs.Status.{AreTold, Call, HasWindows, IsAnswered, HasLeft, IsWanting, Reports, SaysStop, SaysUsage, WritesLast}
+use Rattle.ds_stage.proofs.Left.{LeavesNothing, nothing_appended}
+use Rattle.ds_app.proofs.Left.{job_nothing}
 use Rattle.ds_app.proofs.Exclusive.{job_not_refused}
 use Rattle.ds_app.proofs.Failed.{job_says}
 
@@ -32,6 +35,17 @@ never_both call job other text line is also told means refused =
     job_not_refused faults_are_refused_lem one_clustering_lem call.held other told text line
     (subst (λ (j : Job). (stages_of call.held j).means text) (same_job call.words job other is also) means) refused
 
+-- a job that leaves nothing leaves the output as it was
+left_same : (call : Call) (job : Job) (stop : Stop) → LeavesNothing (stages_of call.held job) → ((text : List ℕ) → leaves_nothing stop text → text ≡ [])
+    → HasLeft call job stop → call.out.new ≡ call.out.old
+left_same call job stop nothing none left =
+    left.written ∙ (ap (appended call.out.old) (none left.text (nothing.only (RoseIn call.before call.now) stop left.text left.is_left)) ∙ nothing_appended call.out.old)
+
+-- so does want of memory
+wanting_same : (call : Call) → WritesLast call.words → IsWanting call → call.out.new ≡ call.out.old
+wanting_same call last (inl same) = same
+wanting_same call last (inr (job, is, left)) = left_same call job Memory (job_nothing call.held job (last job is)) (λ text none. none) left
+
 pub answered_done : (call : Call) (job : Job) (text : List ℕ) → job_of call.words ≡ Ok job → (stages_of call.held job).means text
     → call.out.new ≡ appended call.out.old text → call.err.new ≡ call.err.old → IsAnswered call 0
 answered_done call job text is means written silent = record {
@@ -42,48 +56,57 @@ answered_done call job text is means written silent = record {
   unread = λ e. absurd (omega arith);
   no_memory = λ e. absurd (omega arith);
   unwritten = λ e. absurd (omega arith);
-  out_same = λ low high. absurd (omega arith);
+  out_same = λ last low high. absurd (omega arith);
   exact_line = λ fault faulty. absurd (no_fault call.words job fault is faulty);
-  exact_fault = λ other line also told refused none. absurd (never_both call job other text line is also told means refused);
+  exact_fault = λ other line also told refused none written. absurd (never_both call job other text line is also told means refused);
   complete = λ other t also told meant none whole. inl refl;
 }
 
 answered_refused : (call : Call) (job : Job) (line : List ℕ) → job_of call.words ≡ Ok job → (stages_of call.held job).refused line
-    → call.out.new ≡ call.out.old → Reports call.err line → IsAnswered call 1
-answered_refused call job line is refused same reported = record {
+    → HasLeft call job (Refused line) → Reports call.err line → IsAnswered call 1
+answered_refused call job line is refused left reported = record {
   known = omega arith;
   done = λ e. absurd (omega arith);
-  refused = λ e. record { job = job; line = line; is_job = is; is_line = refused; reported = reported };
+  refused = λ e. record { job = job; line = line; is_job = is; is_line = refused; left = left; reported = reported };
   no_line = λ e. absurd (omega arith);
   unread = λ e. absurd (omega arith);
   no_memory = λ e. absurd (omega arith);
   unwritten = λ e. absurd (omega arith);
-  out_same = λ low high. same;
+  out_same = λ last low high. left_same call job (Refused line) (job_nothing call.held job (last job is)) (λ text none. none) left;
   exact_line = λ fault faulty. absurd (no_fault call.words job fault is faulty);
-  exact_fault = λ other l also told r none. inl refl;
+  exact_fault = λ other l also told r none written. inl refl;
   complete = λ other text also told means none whole. absurd (never_both call other other text line also also told means
       (subst (λ (j : Job). (stages_of call.held j).refused line) (same_job call.words job other is also) refused));
 }
 
 answered_unread : (call : Call) (job : Job) (line : List ℕ) → job_of call.words ≡ Ok job → (stages_of call.held job).unread (RoseIn call.before call.now) line
-    → call.out.new ≡ call.out.old → Reports call.err line → IsAnswered call 3
-answered_unread call job line is unread same reported =
+    → HasLeft call job (Unread line) → Reports call.err line → IsAnswered call 3
+answered_unread call job line is unread left reported =
     let failed = job_says call.held job (RoseIn call.before call.now) line unread in
     record {
       known = omega arith;
       done = λ e. absurd (omega arith);
       refused = λ e. absurd (omega arith);
       no_line = λ e. absurd (omega arith);
-      unread = λ e. record { job = job; line = line; is_job = is; is_line = unread; reported = reported };
+      unread = λ e. record { job = job; line = line; is_job = is; is_line = unread; left = left; reported = reported };
       no_memory = λ e. absurd (omega arith);
       unwritten = λ e. absurd (omega arith);
-      out_same = λ low high. same;
+      out_same = λ last low high. left_same call job (Unread line) (job_nothing call.held job (last job is)) (λ text none. none) left;
       exact_line = λ fault faulty. absurd (no_fault call.words job fault is faulty);
-      exact_fault = λ other l also told r none. absurd (none failed.which failed.name failed.is);
+      exact_fault = λ other l also told r none written. absurd (none failed.which failed.name failed.is);
       complete = λ other t also told meant none whole. absurd (none failed.which failed.name failed.is);
     }
 
-answered_unwritten : (call : Call) (job : Job) (text : List ℕ) → job_of call.words ≡ Ok job → (stages_of call.held job).means text
+-- a job that gives a text, or leaves one although it writes last, is not refused
+begun_not_refused : (call : Call) (job other : Job) (text line : List ℕ) → job_of call.words ≡ Ok job → job_of call.words ≡ Ok other
+    → AreTold call.held other → (stages_of call.held job).means text ⊎ (stages_of call.held job).leaves (RoseIn call.before call.now) Unwritten text
+    → Rose call.out.before call.out.now → (HasWindows other → ¬ Rose call.out.before call.out.now) → (stages_of call.held other).refused line → ⊥
+begun_not_refused call job other text line is also told (inl means) rose whole refused = never_both call job other text line is also told means refused
+begun_not_refused call job other text line is also told (inr left) rose whole refused =
+    (job_nothing call.held job (λ has. whole (subst HasWindows (same_job call.words job other is also) has) rose)).only (RoseIn call.before call.now) Unwritten text left
+
+answered_unwritten : (call : Call) (job : Job) (text : List ℕ) → job_of call.words ≡ Ok job
+    → (stages_of call.held job).means text ⊎ (stages_of call.held job).leaves (RoseIn call.before call.now) Unwritten text
     → AppendsPart call.out.old call.out.new text → Rose call.out.before call.out.now → Reports call.err (codes "desync: cannot write\n") → IsAnswered call 5
 answered_unwritten call job text is means part cause reported = record {
   known = omega arith;
@@ -93,24 +116,24 @@ answered_unwritten call job text is means part cause reported = record {
   unread = λ e. absurd (omega arith);
   no_memory = λ e. absurd (omega arith);
   unwritten = λ e. record { job = job; text = text; is_job = is; is_text = means; part = part; cause = cause; reported = reported };
-  out_same = λ low high. absurd (omega arith);
+  out_same = λ last low high. absurd (omega arith);
   exact_line = λ fault faulty. absurd (no_fault call.words job fault is faulty);
-  exact_fault = λ other line also told refused none. absurd (never_both call job other text line is also told means refused);
+  exact_fault = λ other line also told refused none written. absurd (begun_not_refused call job other text line is also told means cause written refused);
   complete = λ other t also told meant none whole. absurd (whole cause);
 }
 
-pub answered_memory : (call : Call) → call.out.new ≡ call.out.old → Reports call.err (codes "desync: out of memory\n") → IsAnswered call 4
-answered_memory call same reported = record {
+pub answered_memory : (call : Call) → IsWanting call → Reports call.err (codes "desync: out of memory\n") → IsAnswered call 4
+answered_memory call wanting reported = record {
   known = omega arith;
   done = λ e. absurd (omega arith);
   refused = λ e. absurd (omega arith);
   no_line = λ e. absurd (omega arith);
   unread = λ e. absurd (omega arith);
-  no_memory = λ e. reported;
+  no_memory = λ e. (wanting, reported);
   unwritten = λ e. absurd (omega arith);
-  out_same = λ low high. same;
+  out_same = λ last low high. wanting_same call last wanting;
   exact_line = λ fault faulty. inr refl;
-  exact_fault = λ other line also told refused none. inr refl;
+  exact_fault = λ other line also told refused none written. inr refl;
   complete = λ other t also told meant none whole. inr refl;
 }
 
@@ -124,23 +147,23 @@ answered_usage call fault faulty same reported = record {
   unread = λ e. absurd (omega arith);
   no_memory = λ e. absurd (omega arith);
   unwritten = λ e. absurd (omega arith);
-  out_same = λ low high. same;
+  out_same = λ last low high. same;
   exact_line = λ other also. inl refl;
-  exact_fault = λ job line is told refused none. absurd (no_fault call.words job fault is faulty);
+  exact_fault = λ job line is told refused none written. absurd (no_fault call.words job fault is faulty);
   complete = λ job t is told meant none whole. absurd (no_fault call.words job fault is faulty);
 }
 
 -- what ended a job says the status
 pub answered_stop : (A : Type 0) (call : Call) (job : Job) (stop : Stop) (status : ℕ) → job_of call.words ≡ Ok job
     → Ends {A = A} (stages_of call.held job) (RoseIn call.before call.now) call.out (Err stop) → SaysStop stop call.err status → IsAnswered call status
-answered_stop A call job (Refused line) status is (refused, same) (e, reported) =
-    subst (λ (s : ℕ). IsAnswered call s) (sym e) (answered_refused call job line is refused same reported)
-answered_stop A call job (Unread line) status is (unread, same) (e, reported) =
-    subst (λ (s : ℕ). IsAnswered call s) (sym e) (answered_unread call job line is unread same reported)
+answered_stop A call job (Refused line) status is (refused, (text, left, written)) (e, reported) =
+    subst (λ (s : ℕ). IsAnswered call s) (sym e) (answered_refused call job line is refused (record { text = text; is_left = left; written = written }) reported)
+answered_stop A call job (Unread line) status is (unread, (text, left, written)) (e, reported) =
+    subst (λ (s : ℕ). IsAnswered call s) (sym e) (answered_unread call job line is unread (record { text = text; is_left = left; written = written }) reported)
 answered_stop A call job Unwritten status is (text, means, part, cause) (e, reported) =
     subst (λ (s : ℕ). IsAnswered call s) (sym e) (answered_unwritten call job text is means part cause reported)
-answered_stop A call job Memory status is same (e, reported) =
-    subst (λ (s : ℕ). IsAnswered call s) (sym e) (answered_memory call same reported)
+answered_stop A call job Memory status is (text, left, written) (e, reported) =
+    subst (λ (s : ℕ). IsAnswered call s) (sym e) (answered_memory call (inr (job, is, record { text = text; is_left = left; written = written })) reported)
 
 -- words that are no command line, or for which there was no memory, say the status
 pub answered_words : (call : Call) (fault : UsageFault) (status : ℕ) → (fault ≡ usage.Memory) ⊎ (job_of call.words ≡ Err fault)
@@ -151,7 +174,7 @@ answered_words call usage.Number status (inl memory) same says = cc
 answered_words call usage.Number status (inr is) same (e, reported) = subst (λ (s : ℕ). IsAnswered call s) (sym e) (answered_usage call usage.Number is same reported)
 answered_words call usage.Mode status (inl memory) same says = cc
 answered_words call usage.Mode status (inr is) same (e, reported) = subst (λ (s : ℕ). IsAnswered call s) (sym e) (answered_usage call usage.Mode is same reported)
-answered_words call usage.Memory status either same (e, reported) = subst (λ (s : ℕ). IsAnswered call s) (sym e) (answered_memory call same reported)
+answered_words call usage.Memory status either same (e, reported) = subst (λ (s : ℕ). IsAnswered call s) (sym e) (answered_memory call (inl same) reported)
 
 -- what ends a job is no fault of the words
 pub stop_is_not_two : (stop : Stop) (err : Output) (status : ℕ) → SaysStop stop err status → status ≡ 2 → ⊥

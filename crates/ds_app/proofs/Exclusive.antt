@@ -1,5 +1,5 @@
 -- A job that has a text is not refused, where its files tell what they hold.
-use Rattle.std.proofs.Common.{◌≡◌, ◌≢◌, ℕ, Bool, List, Option, None, Some, subst}
+use Rattle.std.proofs.Common.{◌≡◌, ◌≢◌, ℕ, Bool, false, List, Option, None, Some, subst}
 use Rattle.ds_outside.specs.Held.{Held, untold}
 use Rattle.ds_outside.specs.declared.files.Which.TheVariants.{Log}
 use Rattle.ds_design.specs.Circuit.{Circuit}
@@ -13,12 +13,13 @@ use Rattle.ds_cmd.specs.declared.job.Job.TheVariants.{Run, Clock, Check, Graph, 
 use Rattle.ds_cmd.specs.declared.job.Job.TheVariants.{Demo, Period}
 use Rattle.ds_stage.specs.Stage.{then_stage}
 use Rattle.ds_stage.specs.Stages.{netlist_stage, report_stage, trace_stage, vectors_stage}
+use Rattle.ds_stage.specs.StreamStage.{most_vectors, streamed_stage}
 use Rattle.ds_stage.specs.SplitStage.{split_stage}
 use Rattle.ds_latch.specs.Plan.{Planned}
 use Rattle.ds_stage.specs.GraphStage.{controller_stage}
 use Rattle.ds_stage.specs.PlanStage.{planned_stage}
 use Rattle.ds_stage.specs.AcceptStage.{ranks_stage}
-use Rattle.ds_app.specs.RunStage.{traced_stage}
+use Rattle.ds_app.specs.RunStage.{streamed_run_stage, traced_stage}
 use Rattle.ds_app.specs.Job.{accept_stage, clock_stage, graph_stage, period_stage}
 use Rattle.ds_app.specs.Job.{replay_stage, run_stage, stages_of}
 use Rattle.ds_stage.specs.ReplayStage.{replayed_stage}
@@ -28,23 +29,24 @@ use Rattle.ds_stage.proofs.LogStages.{replayed_not_refused}
 use Rattle.ds_stage.proofs.PeriodStages.{measured_not_refused}
 use Rattle.ds_stage.proofs.Expansions.{controller_not_refused}
 use Rattle.ds_stage.proofs.Exclusive.{lines_exclusive, netlist_exclusive, then_not_refused, vectors_exclusive}
+use Rattle.ds_stage.proofs.Streamed.{streamed_exclusive}
 use Rattle.ds_stage.proofs.PlanExclusive.{planned_exclusive, split_exclusive}
 
 -- where the files of a job tell what they hold, so does a graph's that is named
-told_file : (held : List ℕ → Held) (graph : Option (List ℕ)) → IsToldIn held graph → (file : List ℕ) → graph ≡ Some file → held file ≢ untold
+pub told_file : (held : List ℕ → Held) (graph : Option (List ℕ)) → IsToldIn held graph → (file : List ℕ) → graph ≡ Some file → held file ≢ untold
 told_file held None told file is = cc
 told_file held (Some name) told file is = subst (λ (f : Option (List ℕ)). IsToldIn held f) is told
 
 clock_not_refused : (held : List ℕ → Held) (vec : List ℕ) → held vec ≢ untold → (c : Circuit) (text line : List ℕ)
     → (clock_stage held vec c).means text → ¬ (clock_stage held vec c).refused line
 clock_not_refused held vec told c text line means refused =
-    then_not_refused (vectors_stage held vec c) (trace_stage c) (vectors_exclusive held vec c told) (λ rows b l is none. none) text line means refused
+    then_not_refused (streamed_stage held vec (most_vectors false) c) (trace_stage c) (streamed_exclusive held vec (most_vectors false) c told) (λ rows b l is none. none) text line means refused
 
 run_not_refused : OneClustering → (held : List ℕ → Held) (file vec : List ℕ) (graph : Option (List ℕ)) (mode : Mode) (log : Bool) (slack : ℕ) → held vec ≢ untold → IsToldIn held graph
     → (c : Circuit) (text line : List ℕ) → (run_stage held file vec graph mode log slack c).means text → ¬ (run_stage held file vec graph mode log slack c).refused line
 run_not_refused law held file vec graph mode log slack told named c text line means refused =
-    then_not_refused (planned_stage held file graph mode slack c) (λ (p : Planned). then_stage (vectors_stage held vec c) (traced_stage log c p)) (planned_exclusive law held file graph mode slack (told_file held graph named) c)
-    (λ p b l is no_more. then_not_refused (vectors_stage held vec c) (traced_stage log c p) (vectors_exclusive held vec c told) (λ rows t k means none. none) b l is no_more) text line means refused
+    then_not_refused (planned_stage held file graph mode slack c) (streamed_run_stage held vec log c) (planned_exclusive law held file graph mode slack (told_file held graph named) c)
+    (λ p b l is no_more. then_not_refused (streamed_stage held vec (most_vectors log) c) (traced_stage log c p) (streamed_exclusive held vec (most_vectors log) c told) (λ rows t k means none. none) b l is no_more) text line means refused
 
 graph_not_refused : OneClustering → (file : List ℕ) (mode : Mode) (shake : Bool) (c : Circuit) (text line : List ℕ)
     → (graph_stage file mode shake c).means text → ¬ (graph_stage file mode shake c).refused line

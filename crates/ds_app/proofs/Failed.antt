@@ -1,5 +1,5 @@
 -- A job names a file that it did not read only where a read failed.
-use Rattle.std.proofs.Common.{ℕ, Bool, List, Option, Some}
+use Rattle.std.proofs.Common.{ℕ, Bool, false, List, Option, Some}
 use Rattle.ds_outside.specs.Held.{Held}
 use Rattle.ds_design.specs.Circuit.{Circuit}
 use Rattle.ds_cmd.specs.declared.job.Job.{Job}
@@ -7,6 +7,7 @@ use Rattle.ds_cmd.specs.declared.job.Job.TheVariants.{Run, Clock, Check, Graph, 
 use Rattle.ds_cmd.specs.declared.job.Job.TheVariants.{Demo, Period}
 use Rattle.ds_stage.specs.Stage.{OfFile, then_stage}
 use Rattle.ds_stage.specs.Stages.{netlist_stage, report_stage, trace_stage, vectors_stage}
+use Rattle.ds_stage.specs.StreamStage.{most_vectors, streamed_stage}
 use Rattle.ds_stage.specs.SplitStage.{split_stage}
 use Rattle.ds_stage.specs.GraphStage.{controller_stage}
 use Rattle.ds_stage.specs.PlanStage.{planned_stage}
@@ -15,22 +16,23 @@ use Rattle.ds_stage.specs.ReplayStage.{replayed_stage}
 use Rattle.ds_stage.specs.PeriodStage.{measured_stage}
 use Rattle.ds_latch.specs.Plan.{Planned}
 use Rattle.ds_design.specs.Rows.{Rows}
-use Rattle.ds_app.specs.RunStage.{traced_stage}
+use Rattle.ds_app.specs.RunStage.{streamed_run_stage, traced_stage}
 use Rattle.ds_app.specs.Job.{accept_stage, clock_stage, graph_stage, period_stage}
 use Rattle.ds_app.specs.Job.{replay_stage, run_stage, stages_of}
 use Rattle.ds_base.specs.declared.number.Mode.{Mode}
 use Rattle.ds_stage.proofs.PeriodStages.{measured_says}
 use Rattle.ds_stage.proofs.Expansions.{controller_says}
+use Rattle.ds_stage.proofs.Streamed.{streamed_says}
 use Rattle.ds_stage.proofs.Failed.{IsFailed, Says, netlist_says, planned_says, replayed_says, then_says, vectors_say}
 
 clock_says : (held : List ℕ → Held) (vec : List ℕ) (failed : OfFile) (c : Circuit) → Says (clock_stage held vec c) failed
-clock_says held vec failed c = then_says (vectors_stage held vec c) (trace_stage c) failed (vectors_say held vec c failed) (λ rows line none. absurd none)
+clock_says held vec failed c = then_says (streamed_stage held vec (most_vectors false) c) (trace_stage c) failed (streamed_says held vec (most_vectors false) c failed) (λ rows line none. absurd none)
 
 run_says : (held : List ℕ → Held) (file vec : List ℕ) (graph : Option (List ℕ)) (mode : Mode) (log : Bool) (slack : ℕ) (failed : OfFile) (c : Circuit) → Says (run_stage held file vec graph mode log slack c) failed
 run_says held file vec graph mode log slack failed c =
-    then_says (planned_stage held file graph mode slack c) (λ (p : Planned). then_stage (vectors_stage held vec c) (traced_stage log c p)) failed
+    then_says (planned_stage held file graph mode slack c) (streamed_run_stage held vec log c) failed
     (planned_says held file graph mode slack failed c)
-    (λ p. then_says (vectors_stage held vec c) (traced_stage log c p) failed (vectors_say held vec c failed) (λ rows line none. absurd none))
+    (λ p. then_says (streamed_stage held vec (most_vectors log) c) (traced_stage log c p) failed (streamed_says held vec (most_vectors log) c failed) (λ rows line none. absurd none))
 
 accept_says : (held : List ℕ → Held) (file graph : List ℕ) (mode : Mode) (failed : OfFile) (c : Circuit) → Says (accept_stage held file graph mode c) failed
 accept_says held file graph mode failed c =

@@ -7,7 +7,9 @@ use Rattle.ds_design.specs.Circuit.{Circuit, columns}
 use Rattle.ds_design.specs.InRange.{IsInRange}
 use Rattle.ds_latch.specs.Plan.{IsPlan}
 use Rattle.ds_latch.proofs.Headline.{headline}
-use Rattle.ds_stage.proofs.Meant.{netlist_in_range, vectors_wide}
+use Rattle.ds_stage.specs.StreamStage.{most_vectors}
+use Rattle.ds_stage.proofs.Meant.{netlist_in_range}
+use Rattle.ds_stage.proofs.Streamed.{streamed_wide}
 use Rattle.ds_stage.proofs.PlanAccepted.{planned_circuit, planned_is_plan}
 use Rattle.ds_app.specs.Interleavings.{Interleavings}
 
@@ -20,4 +22,4 @@ interleavings_lem held words net vec graph mode jobs log slack is_job c netlist 
     headline p.split p.graph plan
     (subst IsInRange same (netlist_in_range held net c netlist))
     vectors.rows
-    (subst (λ (d : Circuit). All (λ vector. length vector ≡ length (columns d)) vectors.rows) same (vectors_wide held vec c vectors means))
+    (subst (λ (d : Circuit). All (λ vector. length vector ≡ length (columns d)) vectors.rows) same (streamed_wide held vec (most_vectors log) c vectors means))

@@ -1,9 +1,15 @@
 pub mod Cycles
+pub mod Left
 pub mod Exclusive
 pub mod Failed
 pub mod Answered
 pub mod Interleaved
+pub mod Whole
+pub mod Replayed
 pub mod ReplayEnds
+pub mod WindowEnds
+pub mod ClockEnds
+pub mod RunEnds
 pub mod DemoSplit
 pub mod Summaries
 pub mod PeriodEnds

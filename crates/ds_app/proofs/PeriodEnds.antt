@@ -14,8 +14,10 @@ use Rattle.ds_stage.specs.PeriodStage.{delays_stage, measured_stage, timed_stage
 use Rattle.ds_stage.specs.Ends.{Answers, Ends, Never, Output, Stops}
 use Rattle.ds_stage.proofs.Stages.{passed, stopped, widened}
 use Rattle.ds_stage.proofs.Ends.{ended, ends_after, ends_more, no_more}
+use Rattle.ds_stage.proofs.Left.{giving_nothing, measured_nothing}
 use Rattle.ds_stage.proofs.PeriodStages.{last_stage}
 use Rattle.ds_app.specs.Job.{period_stage}
+use Rattle.ds_app.proofs.Left.{period_nothing}
 
 module _ (held : List ℕ → Held) (delays : List ℕ) (more : OfFile) where
   -- behind the controller graph, delays that are not read end it
@@ -23,7 +25,7 @@ module _ (held : List ℕ → Held) (delays : List ℕ) (more : OfFile) where
       → out.new ≡ out.old → Stops (delays_stage held delays g) more stop
       → Ends {A = Unit {0}} (measured_stage held delays s) more out (Err stop)
   stops_delays s g graph out stop same is =
-      ended (Unit {0}) (measured_stage held delays s) more out stop same
+      ended (Unit {0}) (measured_stage held delays s) more out stop (measured_nothing held delays s) same
       (passed {B = List ℕ} (giving (IsGraphOf s)) (timed_stage held delays) more g graph (Err stop)
       (stopped (delays_stage held delays g) (last_stage g) more stop is))
 
@@ -35,7 +37,7 @@ module _ (held : List ℕ → Held) (delays : List ℕ) (more : OfFile) where
   ends_text s g graph numbers are out result is =
       ends_after (giving (IsGraphOf s)) (timed_stage held delays) more out g graph result
       (ends_after (delays_stage held delays g) (last_stage g) more out numbers are result
-      (ends_more (last_stage g numbers) Never more out (λ line none. absurd none) result is))
+      (ends_more (last_stage g numbers) Never more out (giving_nothing (last_stage g numbers).means) (λ line none. absurd none) result is))
 
   module _ (net : List ℕ) (mode : Mode) where
     -- all its stages
@@ -46,7 +48,7 @@ module _ (held : List ℕ → Held) (delays : List ℕ) (more : OfFile) where
         → Stops (netlist_stage held net) more stop
         → Ends {A = Unit {0}} whole more out (Err stop)
     stops_netlist out stop same is =
-        ended (Unit {0}) whole more out stop same
+        ended (Unit {0}) whole more out stop (period_nothing held net delays mode) same
         (stopped (netlist_stage held net) (period_stage held net delays mode) more stop is)
 
     pub stops_split : (c : Circuit) → (netlist_stage held net).means c → (out : Output) (stop : Stop)
@@ -56,7 +58,7 @@ module _ (held : List ℕ → Held) (delays : List ℕ) (more : OfFile) where
         let few : Answers {A = Split} (split_stage net mode c) more (Err stop) =
         widened {A = Split} (split_stage net mode c) (split_stage net mode c) Never more
         (no_more (split_stage net mode c) more (λ line none. absurd none)) (Err stop) is in
-        ended (Unit {0}) whole more out stop same
+        ended (Unit {0}) whole more out stop (period_nothing held net delays mode) same
         (passed {B = List ℕ} (netlist_stage held net) (period_stage held net delays mode) more c
         accepted (Err stop)
         (stopped (split_stage net mode c) (measured_stage held delays) more stop few))

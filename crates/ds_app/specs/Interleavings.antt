@@ -9,7 +9,8 @@ use Rattle.ds_latch.specs.Plan.{Planned}
 use Rattle.ds_latch.specs.Headline.{Desynchronizes}
 use Rattle.ds_cmd.specs.Line.{job_of}
 use Rattle.ds_cmd.specs.declared.job.Job.TheVariants.{Run}
-use Rattle.ds_stage.specs.Stages.{netlist_stage, vectors_stage}
+use Rattle.ds_stage.specs.Stages.{netlist_stage}
+use Rattle.ds_stage.specs.StreamStage.{most_vectors, streamed_stage}
 use Rattle.ds_stage.specs.PlanStage.{planned_stage}
 
 -- for the words of a `run` command, and the netlist, plan and vectors that the bytes held mean,
@@ -22,5 +23,5 @@ Interleavings held words =
     → job_of words ≡ Ok (Run net vec graph mode jobs log slack)
     → (c : Circuit) → (netlist_stage held net).means c
     → (p : Planned) → (planned_stage held net graph mode slack c).means p
-    → (vectors : Rows) → (vectors_stage held vec c).means vectors
+    → (vectors : Rows) → (streamed_stage held vec (most_vectors log) c).means vectors
     → Desynchronizes p.split p.graph vectors.rows

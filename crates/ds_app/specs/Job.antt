@@ -1,5 +1,5 @@
 -- The text that a job gives, and what stands in its way.
-use Rattle.std.specs.Prelude.{ℕ, Bool, List, Option, Some}
+use Rattle.std.specs.Prelude.{ℕ, Bool, false, List, Option, Some}
 use Rattle.ds_base.specs.declared.number.Mode.{Mode}
 use Rattle.ds_outside.specs.Held.{Held}
 use Rattle.ds_design.specs.Circuit.{Circuit}
@@ -8,10 +8,11 @@ use Rattle.ds_cmd.specs.declared.job.Job.TheVariants.{Run, Clock, Check, Graph, 
 use Rattle.ds_cmd.specs.declared.job.Job.TheVariants.{Demo, Period}
 use Rattle.ds_stage.specs.Stage.{Stage, then_stage}
 use Rattle.ds_stage.specs.Stages.{netlist_stage, vectors_stage, trace_stage, report_stage}
+use Rattle.ds_stage.specs.StreamStage.{most_vectors, streamed_stage}
 use Rattle.ds_stage.specs.SplitStage.{split_stage}
 use Rattle.ds_stage.specs.GraphStage.{controller_stage}
 use Rattle.ds_stage.specs.PlanStage.{planned_stage}
-use Rattle.ds_app.specs.RunStage.{traced_stage}
+use Rattle.ds_app.specs.RunStage.{streamed_run_stage}
 use Rattle.ds_app.specs.DemoStage.{demo_stage}
 use Rattle.ds_stage.specs.AcceptStage.{ranks_stage}
 use Rattle.ds_stage.specs.ReplayStage.{replayed_stage}
@@ -19,14 +20,14 @@ use Rattle.ds_stage.specs.PeriodStage.{measured_stage}
 
 -- `clock`, once the netlist is read
 abbrev pub clock_stage : (List ℕ → Held) → List ℕ → Circuit → Stage (List ℕ)
-clock_stage held vec c = then_stage (vectors_stage held vec c) (trace_stage c)
+clock_stage held vec c =
+    then_stage (streamed_stage held vec (most_vectors false) c) (trace_stage c)
 
 -- `run`, once the netlist is read
 abbrev pub run_stage : (List ℕ → Held) → List ℕ → List ℕ → Option (List ℕ) → Mode → Bool → ℕ
     → Circuit → Stage (List ℕ)
 run_stage held net vec graph mode log slack c =
-    then_stage (planned_stage held net graph mode slack c) (λ p.
-    then_stage (vectors_stage held vec c) (traced_stage log c p))
+    then_stage (planned_stage held net graph mode slack c) (streamed_run_stage held vec log c)
 
 -- `graph`, once the netlist is read
 abbrev pub graph_stage : List ℕ → Mode → Bool → Circuit → Stage (List ℕ)

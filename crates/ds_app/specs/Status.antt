@@ -56,28 +56,45 @@ pub record IsDone (call : Call) : Type 0 where
   pub written : call.out.new ≡ appended call.out.old text
   pub silent : call.err.new ≡ call.err.old
 
--- a file has a fault, the first in the order of the stages, and its line is on `err`
+-- `out` has what the stages of the job leave where they stop so
+pub record HasLeft (call : Call) (job : Job) (stop : Stop) : Type 0 where
+  pub text : List ℕ
+  pub is_left : (stages_of call.held job).leaves (RoseIn call.before call.now) stop text
+  pub written : call.out.new ≡ appended call.out.old text
+
+-- a file has a fault, the first in the order of the stages, and its line is on `err`; `out` has
+-- exactly what the stages leave there
 pub record IsRefused (call : Call) : Type 0 where
   pub job : Job
   pub line : List ℕ
   pub is_job : job_of call.words ≡ Ok job
   pub is_line : (stages_of call.held job).refused line
+  pub left : HasLeft call job (Refused line)
   pub reported : Reports call.err line
 
--- a read of a file failed, and the stages before it have no fault; the line on `err` names the file
+-- a read of a file failed, and the stages before it have no fault; the line on `err` names the
+-- file, and `out` has what the stages leave there
 pub record IsUnread (call : Call) : Type 0 where
   pub job : Job
   pub line : List ℕ
   pub is_job : job_of call.words ≡ Ok job
   pub is_line : (stages_of call.held job).unread (RoseIn call.before call.now) line
+  pub left : HasLeft call job (Unread line)
   pub reported : Reports call.err line
 
--- a write failed, no file has a fault, and `out` has a first part of the job's text more
+-- memory was wanted and not found: `out` is as it was, or has what the stages of the job leave
+abbrev pub IsWanting : Call → Type 0
+IsWanting call = (call.out.new ≡ call.out.old)
+    ⊎ ((job : Job) × (job_of call.words ≡ Ok job) × HasLeft call job Memory)
+
+-- a write failed: `out` has a first part of the job's text more; or, where a file has a fault that
+-- the job meets behind what it has written, a first part of what it leaves there
 pub record IsUnwritten (call : Call) : Type 0 where
   pub job : Job
   pub text : List ℕ
   pub is_job : job_of call.words ≡ Ok job
   pub is_text : (stages_of call.held job).means text
+      ⊎ (stages_of call.held job).leaves (RoseIn call.before call.now) Unwritten text
   pub part : AppendsPart call.out.old call.out.new text
   pub cause : Rose call.out.before call.out.now
   pub reported : Reports call.err (codes "desync: cannot write\n")
@@ -100,6 +117,21 @@ AreTold held (Accept net graph mode) = (held net ≢ untold) × (held graph ≢ 
 AreTold held (Demo seed registers turns jobs) = Unit {0}
 AreTold held (Period net delays mode) = (held net ≢ untold) × (held delays ≢ untold)
 
+-- the job reads its vectors window by window, and writes as it reads
+abbrev pub HasWindows : Job → Type 0
+HasWindows (Run net vec graph mode jobs log slack) = Unit {0}
+HasWindows (Clock net vec) = Unit {0}
+HasWindows (Check net) = ⊥
+HasWindows (Graph net mode shake) = ⊥
+HasWindows (Replay net vec log graph mode slack transparent) = ⊥
+HasWindows (Accept net graph mode) = ⊥
+HasWindows (Demo seed registers turns jobs) = ⊥
+HasWindows (Period net delays mode) = ⊥
+
+-- the words are no command line, or that of a job that writes nothing before it has all its text
+abbrev pub WritesLast : List (List ℕ) → Type 0
+WritesLast words = (job : Job) → job_of words ≡ Ok job → ¬ HasWindows job
+
 -- no read failed in the call
 abbrev pub NoneFailed : Call → Type 0
 NoneFailed call = (which : Which) (name : List ℕ) → ¬ RoseIn call.before call.now which name
@@ -112,13 +144,16 @@ pub record IsAnswered (call : Call) (status : ℕ) : Type 0 where
   pub no_line : status ≡ 2 → IsNoLine call.words
       × Reports call.err (codes "desync: bad command line\n")
   pub unread : status ≡ 3 → IsUnread call
-  pub no_memory : status ≡ 4 → Reports call.err (codes "desync: out of memory\n")
+  pub no_memory : status ≡ 4 → IsWanting call
+      × Reports call.err (codes "desync: out of memory\n")
   pub unwritten : status ≡ 5 → IsUnwritten call
-  pub out_same : 1 ≤ status → status ≤ 4 → call.out.new ≡ call.out.old
+  pub out_same : WritesLast call.words → 1 ≤ status → status ≤ 4
+      → call.out.new ≡ call.out.old
   pub exact_line : (fault : UsageFault) → job_of call.words ≡ Err fault
       → (status ≡ 2) ⊎ (status ≡ 4)
   pub exact_fault : (job : Job) (line : List ℕ) → job_of call.words ≡ Ok job → AreTold call.held job
-      → (stages_of call.held job).refused line → NoneFailed call → (status ≡ 1) ⊎ (status ≡ 4)
+      → (stages_of call.held job).refused line → NoneFailed call
+      → (HasWindows job → ¬ Rose call.out.before call.out.now) → (status ≡ 1) ⊎ (status ≡ 4)
   pub complete : (job : Job) (text : List ℕ) → job_of call.words ≡ Ok job → AreTold call.held job
       → (stages_of call.held job).means text → NoneFailed call → ¬ Rose call.out.before call.out.now
       → (status ≡ 0) ⊎ (status ≡ 4)

@@ -1,18 +1,27 @@
 //! `clock`: the clocked run of a netlist.
-ghost use Rattle.std.specs.Prelude.{◌≡◌, length};
-ghost use Rattle.ds_design.specs.Circuit.{columns};
+ghost use Rattle.std.specs.Prelude.{◌≡◌, IfOk};
+ghost use Rattle.ds_design.specs.Accepted.{IsAccepted};
+ghost use Rattle.ds_design.specs.Circuit.{initial_row};
+ghost use Rattle.ds_design.specs.InRange.{IsInRange};
 ghost use Rattle.ds_cmd.specs.declared.job.Job.TheVariants.{Clock};
-ghost use Rattle.ds_stage.specs.Ends.{Ends, Never, Output, RoseIn};
-ghost use Rattle.ds_stage.specs.Stages.{trace_stage};
-ghost use Rattle.ds_app.specs.Job.{stages_of};
+ghost use Rattle.ds_stage.specs.Ends.{Ends, Output, RoseIn};
+ghost use Rattle.ds_app.specs.Job.{clock_stage, stages_of};
 
-use ds_clocked::{SimFault, simulate};
-use ds_design::{Netlist, Vectors};
+use ds_base::{OutOfMemory, Row3};
+use ds_clocked::{SimFault, simulate_from};
+use ds_design::Netlist;
 use ds_outside::{Files, Sink};
-use ds_stage::{Stop, read_netlist, read_rows};
+use ds_rows::end_line;
+use ds_settle::set_initial;
+use ds_stage::{Stop, WINDOW, read_netlist, read_window};
+use ds_stream::VectorReader;
 use std::alloc::Global;
 
-/// Clocks the netlist of the file `net` on the vectors of the file `vec`, and writes the trace.
+// How many vectors there may be.
+const MOST: u64 = 4_294_967_295;
+
+/// Clocks the netlist of the file `net` on the vectors of the file `vec`, and writes the trace as
+/// it reads.
 #[tactic(none)]
 pub fn clock<F: Files, O: Sink>(
     alloc: Global,
@@ -32,29 +41,58 @@ pub fn clock<F: Files, O: Sink>(
     ensures same_held { F.held files.new ≡ F.held files.old }
 {
     let netlist = read_netlist(alloc, files, net)?;
-    let vectors = read_rows(alloc, files, vec, &netlist)?;
-    write_clocked(alloc, &netlist, &vectors, out)
+    write_clocked(alloc, &netlist, vec, files, out)
 }
 
-// Writes the trace of the clocked run.
-fn write_clocked<O: Sink>(
+// Writes the trace of the clocked run, window by window, each begun with the registers behind the
+// one before.
+fn write_clocked<F: Files, O: Sink>(
     alloc: Global,
     netlist: &Netlist,
-    vectors: &Vectors,
+    vec: &str,
+    files: &mut F,
     out: &mut O,
 ) -> Result<(), Stop>
-    requires { vectors.now.width ≡ length (columns netlist.now) }
-    ensures { Ends (trace_stage netlist.now vectors.now) Never (record {
-      old = O.written out.old;
-      new = O.written out.new;
-      before = O.faults out.old;
-      now = O.faults out.new;
-    }) result }
+    ensures value { Ends (clock_stage (F.held files.old) vec.now netlist.now)
+        (RoseIn (F.faults files.old) (F.faults files.new)) (record {
+          old = O.written out.old;
+          new = O.written out.new;
+          before = O.faults out.old;
+          now = O.faults out.new;
+        }) result }
+
+    ensures same_held { F.held files.new ≡ F.held files.old }
 {
-    let _turns = vectors.count();
-    match simulate(alloc, netlist, vectors, out) {
-        Ok(()) => Ok(()),
-        Err(SimFault::Write) => Err(Stop::Unwritten),
-        Err(SimFault::Memory) => Err(Stop::Memory),
+    let mut state = first_row(alloc, netlist)?;
+    let mut reader = VectorReader::new(netlist.columns().len(), MOST);
+    let mut first = 0;
+    let mut more = true;
+    'windows: while more {
+        let (behind, vectors) = read_window(alloc, files, vec, reader)?;
+        let turns = vectors.count();
+        match simulate_from(alloc, netlist, &state, first, &vectors, out) {
+            Ok(row) => state = row,
+            Err(SimFault::Write) => return Err(Stop::Unwritten),
+            Err(SimFault::Memory) => return Err(Stop::Memory),
+        }
+        reader = behind;
+        first = reader.given();
+        more = turns == WINDOW;
     }
+    match end_line(&state, out) {
+        Ok(()) => Ok(()),
+        Err(_) => Err(Stop::Unwritten),
+    }
+}
+
+// The registers before the first turn.
+fn first_row(alloc: Global, netlist: &Netlist) -> Result<Row3, OutOfMemory>
+    ensures row { IfOk result (λ row. row ≡ initial_row netlist.now) }
+    ensures in_range { IsInRange netlist.now }
+    ensures accepted { IsAccepted netlist.now }
+{
+    let registers = netlist.design().registers();
+    let mut row = Row3::with_len(alloc, registers.len())?;
+    set_initial(registers, &mut row);
+    Ok(row)
 }

@@ -1,20 +1,22 @@
 //! `run`: the run of a plan by workers.
-ghost use Rattle.std.specs.Prelude.{◌≡◌, ◌≤◌, ◌<◌, length};
-ghost use Rattle.ds_design.specs.Circuit.{columns, initial_row};
+ghost use Rattle.std.specs.Prelude.{◌≡◌, ◌≤◌, ◌<◌, Bool, IfOk, true, false, Some, None};
+ghost use Rattle.ds_design.specs.Circuit.{initial_row};
 ghost use Rattle.ds_cmd.specs.declared.job.Job.TheVariants.{Run};
-ghost use Rattle.ds_trace.specs.RunText.{IsRunText};
-ghost use Rattle.ds_stage.specs.Ends.{Ends, Never, Output, RoseIn};
-ghost use Rattle.ds_stage.specs.Stage.{giving};
+ghost use Rattle.ds_trace.specs.Logged.{IsLogOf};
+ghost use Rattle.ds_stage.specs.Ends.{Ends, Output, RoseIn};
+ghost use Rattle.ds_stage.specs.StreamStage.{most_vectors as most_vectors_of};
 ghost use Rattle.ds_app.specs.Job.{stages_of};
+ghost use Rattle.ds_app.specs.RunStage.{streamed_run_stage};
 
-use ds_base::Mode;
+use ds_base::{Mode, OutOfMemory};
 use ds_cmd::FileName;
-use ds_design::Vectors;
 use ds_latch::Plan;
 use ds_outside::{Files, Gate, Sink};
 use ds_run::Workers;
-use ds_stage::{Splitting, Stop, plan_netlist, read_netlist, read_rows};
-use ds_trace::{RunFault, write_run};
+use ds_stage::{Splitting, Stop, WINDOW, plan_netlist, read_netlist, read_window};
+use ds_stream::VectorReader;
+use ds_trace::{Log, RunFault, RunWindow, end_run, write_window};
+use std::alloc::Global;
 use std::thread::Threads;
 
 /// What `run` is to do: the files of the netlist, of the vectors and of a graph, where one is
@@ -31,8 +33,8 @@ pub struct RunJob<'a> {
     pub slack: u8,
 }
 
-/// Reads a netlist, makes its plan, has workers run it on the vectors, and writes the trace, and
-/// the log where one is wanted.
+/// Reads a netlist, makes its plan, has workers run it on the vectors as these are read, and writes
+/// the trace, and the log where one is wanted.
 #[tactic(auto)]
 pub fn run<R: AllocGlobal + Threads + Sync, G: Gate, F: Files, O: Sink>(
     rt: &R,
@@ -62,39 +64,83 @@ pub fn run<R: AllocGlobal + Threads + Sync, G: Gate, F: Files, O: Sink>(
         clusters: job.clusters,
         slack: job.slack,
     };
-    let plan = plan_netlist(alloc, files, job.net, &netlist, job.graph, splitting)?;
-    let vectors = read_rows(alloc, files, job.vec, &netlist)?;
-    write_traced(rt, job, &plan, &vectors, gate, out)
+    let mut plan = plan_netlist(alloc, files, job.net, &netlist, job.graph, splitting)?;
+    let workers = Workers {
+        threads: rt,
+        jobs: job.jobs,
+        gate,
+    };
+    write_traced(&workers, job, &mut plan, files, out)
 }
 
-// Runs a plan with so many workers, and writes its trace, and its log where one is wanted.
-fn write_traced<R: AllocGlobal + Threads + Sync, G: Gate, O: Sink>(
-    rt: &R,
+// Runs a plan by these workers window by window, each begun with the registers behind the one
+// before, and writes its trace, and its log where one is wanted.
+fn write_traced<R: AllocGlobal + Threads + Sync, G: Gate, F: Files, O: Sink>(
+    workers: &Workers<'_, R, G>,
     job: &RunJob<'_>,
-    plan: &Plan<'_>,
-    vectors: &Vectors,
-    gate: &G,
+    plan: &mut Plan<'_>,
+    files: &mut F,
     out: &mut O,
 ) -> Result<(), Stop>
-    requires width { vectors.now.width ≡ length (columns plan.now.split.circuit) }
-    requires start { plan.now.split.initial ≡ initial_row plan.now.split.circuit }
-    requires jobs { (0 < job.now.jobs) × (job.now.jobs ≤ 64) }
-    ensures value { Ends (giving (IsRunText job.now.log plan.now vectors.now.rows)) Never
+    requires start { plan.old.split.initial ≡ initial_row plan.old.split.circuit }
+    requires jobs { (0 < workers.now.jobs) × (workers.now.jobs ≤ 64) }
+    ensures value { Ends (streamed_run_stage (F.held files.old) job.now.vec.now job.now.log
+        plan.old.split.circuit plan.old) (RoseIn (F.faults files.old) (F.faults files.new))
         (record {
           old = O.written out.old;
           new = O.written out.new;
           before = O.faults out.old;
           now = O.faults out.new;
         }) result }
+
+    ensures same_held { F.held files.new ≡ F.held files.old }
 {
-    let workers = Workers {
-        threads: rt,
-        jobs: job.jobs,
-        gate,
-    };
-    match write_run(rt.alloc(), plan, vectors, &workers, job.log, out) {
-        Ok(()) => Ok(()),
-        Err(RunFault::Write) => Err(Stop::Unwritten),
-        Err(RunFault::Memory) => Err(Stop::Memory),
+    let alloc = workers.threads.alloc();
+    // Read for the facts that its numbers are in range, and that it is accepted.
+    let _design = plan.latches().netlist().design();
+    let _graph = plan.graph();
+    let mut log = log_for(alloc, plan, job.log)?;
+    let width = plan.latches().netlist().columns().len();
+    let mut reader = VectorReader::new(width, most_vectors(job.log));
+    let mut first = 0;
+    let mut more = true;
+    'windows: while more {
+        let (behind, vectors) = read_window(alloc, files, job.vec, reader)?;
+        let turns = vectors.count();
+        let window = RunWindow {
+            plan: &*plan,
+            vectors: &vectors,
+            first,
+        };
+        match write_window(alloc, &window, workers, &mut log, out) {
+            Ok(row) => plan.begin(&row),
+            Err(RunFault::Write) => return Err(Stop::Unwritten),
+            Err(RunFault::Memory) => return Err(Stop::Memory),
+        }
+        reader = behind;
+        first = reader.given();
+        more = turns == WINDOW;
     }
+    match end_run(plan, plan.latches().initial(), log, out) {
+        Ok(()) => Ok(()),
+        Err(_) => Err(Stop::Unwritten),
+    }
+}
+
+// The log before the first firing of a plan, where one is wanted.
+fn log_for(alloc: Global, plan: &Plan<'_>, wanted: bool) -> Result<Option<Log>, OutOfMemory>
+    ensures { IfOk result (IsLogOf wanted plan.now.graph 0) }
+{
+    if wanted {
+        Ok(Some(Log::new(alloc, plan)?))
+    } else {
+        Ok(None)
+    }
+}
+
+// How many vectors there may be: a log keeps all firings.
+fn most_vectors(log: bool) -> u64
+    ensures { result ≡ most_vectors_of log }
+{
+    if log { 65_536 } else { 4_294_967_295 }
 }

@@ -270,15 +270,46 @@ fn many_vectors_are_run(rt: HostRuntime) -> Result<(), Fail> {
     Ok(())
 }
 
+// A log keeps all firings, so with one there are fewer vectors; the windows before are written.
 #[test]
 fn too_many_vectors_are_refused(rt: HostRuntime) -> Result<(), Fail> {
-    let vectors = ones(rt.alloc(), 65_537)?;
-    let refused = Wanted {
-        status: 1,
-        text: "v:65537: too many vectors (limit 65536)\n",
-    };
-    let files = [("n", TOGGLE), ("v", vectors.as_str())];
-    assert!(rt; gives(&rt, &files, "desync run n v", refused)?);
+    let alloc = rt.alloc();
+    let vectors = ones(alloc, 65_537)?;
+    let mut files = files(alloc, &[("n", TOGGLE), ("v", vectors.as_str())])?;
+    let mut out = MemorySink::with_room(alloc, 1_000_000)?;
+    let mut err = MemorySink::with_room(alloc, 100)?;
+    let words = ["desync", "run", "n", "v", "--log"];
+    let answer = desync_main(&rt, &words, &mut files, &mut out, &mut err, &OpenGate);
+    assert_eq!(rt; answer, 1);
+    assert!(rt; out.bytes().ends_with(b"\n65535 1 1\n"));
+    let line = b"v:65537: too many vectors (limit 65536)\n".as_slice();
+    assert_eq!(rt; err.bytes(), line);
+    Ok(())
+}
+
+// Five thousand lines, of which one is no vector.
+fn with_fault(alloc: Global, faulty: usize) -> Result<String, Fail> {
+    let mut vectors = String::new(alloc);
+    for line in 1..5_001 {
+        vectors.push_str(if line == faulty { "z\n" } else { "1\n" })?;
+    }
+    Ok(vectors)
+}
+
+#[test]
+fn windows_stop_at_a_fault(rt: HostRuntime) -> Result<(), Fail> {
+    let alloc = rt.alloc();
+    let vectors = with_fault(alloc, 4_098)?;
+    for command in ["run", "clock"] {
+        let mut files = files(alloc, &[("n", TOGGLE), ("v", vectors.as_str())])?;
+        let mut out = MemorySink::with_room(alloc, 100_000)?;
+        let mut err = MemorySink::with_room(alloc, 100)?;
+        let words = ["desync", command, "n", "v"];
+        let answer = desync_main(&rt, &words, &mut files, &mut out, &mut err, &OpenGate);
+        assert_eq!(rt; answer, 1);
+        assert!(rt; out.bytes().ends_with(b"\n4095 1 1\n"));
+        assert_eq!(rt; err.bytes(), b"v:4098: bad bit\n".as_slice());
+    }
     Ok(())
 }
 

@@ -1,6 +1,7 @@
 -- How a job ends that goes through stages.
-use Rattle.std.proofs.Common.{◌≡◌, ℕ, ◌≤◌, List, Option, None, Some, Result, Ok, Err, inl, inr, arith, subst}
+use Rattle.std.proofs.Common.{◌≡◌, ◌∙◌, sym, ℕ, ◌≤◌, List, [], Option, None, Some, Result, Ok, Err, inl, inr, arith, subst}
 use Rattle.ds_outside.specs.Fault.{Rose}
+use Rattle.ds_outside.specs.Written.{appended}
 use Rattle.ds_outside.specs.Held.{Held}
 use Rattle.ds_outside.specs.declared.files.Which.{Which}
 use Rattle.ds_outside.specs.declared.files.Which.TheVariants.{Vectors}
@@ -9,47 +10,73 @@ use Rattle.ds_base.specs.declared.number.Mode.{Mode}
 use Rattle.ds_design.specs.Circuit.{Circuit}
 use Rattle.ds_stage.specs.declared.stop.Stop.{Stop}
 use Rattle.ds_stage.specs.declared.stop.Stop.TheVariants.{Refused, Unread, Unwritten, Memory}
-use Rattle.ds_stage.specs.Stage.{OfFile, Stage, giving, then_stage}
+use Rattle.ds_stage.specs.Stage.{OfFile, Stage, giving, leaves_nothing, then_stage}
 use Rattle.ds_stage.specs.Stages.{vectors_stage}
 use Rattle.ds_stage.specs.PlanStage.{planned_stage}
-use Rattle.ds_stage.specs.Ends.{Ends, Never, Output, RoseIn, Stops}
+use Rattle.ds_stage.specs.Ends.{Ends, Leaves, Never, Output, RoseIn, Stops}
+use Rattle.ds_stage.proofs.Left.{LeavesNothing, nothing_appended}
 use Rattle.ds_stage.proofs.Stages.{IsWider}
 
--- a stage that stops leaves the output as it is
-pub ended : (A : Type 0) (stage : Stage (List ℕ)) (failed : OfFile) (out : Output) (stop : Stop) → out.new ≡ out.old
+-- nothing is left on an output that is as it was
+left_as_is : {A : Type 0} (stage : Stage A) (failed : OfFile) (out : Output) (stop : Stop) → out.new ≡ out.old → stage.leaves failed stop [] → Leaves stage failed out stop
+left_as_is stage failed out stop same is = ([], is, same ∙ sym (nothing_appended out.old))
+
+-- a stage that leaves nothing where it stops leaves the output as it is
+pub ended : (A : Type 0) (stage : Stage (List ℕ)) (failed : OfFile) (out : Output) (stop : Stop) → LeavesNothing stage → out.new ≡ out.old
     → Stops stage failed stop → Ends {A = A} stage failed out (Err stop)
-ended A stage failed out (Refused line) same is = (is, same)
-ended A stage failed out (Unread line) same is = (is, same)
-ended A stage failed out Unwritten same is = absurd is
-ended A stage failed out Memory same is = same
+ended A stage failed out (Refused line) nothing same is = (is, left_as_is stage failed out (Refused line) same (nothing.may failed (Refused line) is))
+ended A stage failed out (Unread line) nothing same is = (is, left_as_is stage failed out (Unread line) same (nothing.may failed (Unread line) is))
+ended A stage failed out Unwritten nothing same is = absurd is
+ended A stage failed out Memory nothing same is = left_as_is stage failed out Memory same (nothing.may failed Memory tt)
+
+-- a first stage that leaves nothing ends all of them so where it stops
+pub ended_first : {B : Type 0} (A : Type 0) (first : Stage B) (next : B → Stage (List ℕ)) (failed : OfFile) (out : Output) (stop : Stop) → LeavesNothing first → out.new ≡ out.old
+    → Stops first failed stop → Ends {A = A} (then_stage first next) failed out (Err stop)
+ended_first A first next failed out (Refused line) nothing same is =
+    (inl is, left_as_is (then_stage first next) failed out (Refused line) same (inl (is, nothing.may failed (Refused line) is)))
+ended_first A first next failed out (Unread line) nothing same is =
+    (inl is, left_as_is (then_stage first next) failed out (Unread line) same (inl (is, nothing.may failed (Unread line) is)))
+ended_first A first next failed out Unwritten nothing same is = absurd is
+ended_first A first next failed out Memory nothing same is =
+    left_as_is (then_stage first next) failed out Memory same (inl (tt, nothing.may failed Memory tt))
 
 -- behind a stage that gives something, a job ends as its later stages do
 pub ends_after : {A B : Type 0} (first : Stage B) (next : B → Stage (List ℕ)) (failed : OfFile) (out : Output) (b : B) → first.means b
     → (result : Result A Stop) → Ends (next b) failed out result → Ends (then_stage first next) failed out result
 ends_after first next failed out b means (Ok x) (text, is, written) = (text, (b, means, is), written)
-ends_after first next failed out b means (Err (Refused line)) (is, same) = (inr (b, means, is), same)
-ends_after first next failed out b means (Err (Unread line)) (is, same) = (inr (b, means, is), same)
-ends_after first next failed out b means (Err Unwritten) (text, is, part, cause) = (text, (b, means, is), part, cause)
-ends_after first next failed out b means (Err Memory) same = same
+ends_after first next failed out b means (Err (Refused line)) (is, (text, left, same)) = (inr (b, means, is), (text, inr (b, means, left), same))
+ends_after first next failed out b means (Err (Unread line)) (is, (text, left, same)) = (inr (b, means, is), (text, inr (b, means, left), same))
+ends_after first next failed out b means (Err Unwritten) (text, inl is, part, cause) = (text, inl (b, means, is), part, cause)
+ends_after first next failed out b means (Err Unwritten) (text, inr left, part, cause) = (text, inr (inr (b, means, left)), part, cause)
+ends_after first next failed out b means (Err Memory) (text, left, same) = (text, inr (b, means, left), same)
 
--- where a stage reads nothing, it ends the same whatever failed
-pub ends_more : {A : Type 0} (stage : Stage (List ℕ)) (failed more : OfFile) (out : Output)
+-- what a stage leaves that leaves nothing, it leaves whatever failed
+left_more : {A : Type 0} (stage : Stage A) (failed more : OfFile) (out : Output) (stop : Stop) → LeavesNothing stage
+    → ((text : List ℕ) → leaves_nothing stop text → text ≡ []) → Stops stage more stop → Leaves stage failed out stop → Leaves stage more out stop
+left_more stage failed more out stop nothing none is (text, left, same) =
+    ([], nothing.may more stop is, subst (λ (t : List ℕ). out.new ≡ appended out.old t) (none text (nothing.only failed stop text left)) same)
+
+-- a stage that leaves nothing ends the same whatever failed, where it may
+pub ends_more : {A : Type 0} (stage : Stage (List ℕ)) (failed more : OfFile) (out : Output) → LeavesNothing stage
     → ((line : List ℕ) → stage.unread failed line → stage.unread more line)
     → (result : Result A Stop) → Ends stage failed out result → Ends stage more out result
-ends_more stage failed more out unread (Ok x) is = is
-ends_more stage failed more out unread (Err (Refused line)) is = is
-ends_more stage failed more out unread (Err (Unread line)) (is, same) = (unread line is, same)
-ends_more stage failed more out unread (Err Unwritten) is = is
-ends_more stage failed more out unread (Err Memory) is = is
+ends_more stage failed more out nothing unread (Ok x) is = is
+ends_more stage failed more out nothing unread (Err (Refused line)) (is, left) = (is, left_more stage failed more out (Refused line) nothing (λ text none. none) is left)
+ends_more stage failed more out nothing unread (Err (Unread line)) (is, left) =
+    (unread line is, left_more stage failed more out (Unread line) nothing (λ text none. none) (unread line is) left)
+ends_more stage failed more out nothing unread (Err Unwritten) (text, inl is, part, cause) = (text, inl is, part, cause)
+ends_more stage failed more out nothing unread (Err Unwritten) (text, inr left, part, cause) = absurd (nothing.only failed Unwritten text left)
+ends_more stage failed more out nothing unread (Err Memory) left = left_more stage failed more out Memory nothing (λ text none. none) tt left
 
 -- a last stage ends as one that gives less, whatever failed
 pub gives_more : {A : Type 0} (P Q : List ℕ → Type 0) (more : OfFile) (out : Output) → ((text : List ℕ) → P text → Q text)
     → (result : Result A Stop) → Ends (giving P) Never out result → Ends (giving Q) more out result
 gives_more P Q more out gives (Ok x) (text, is, written) = (text, gives text is, written)
-gives_more P Q more out gives (Err (Refused line)) (none, same) = absurd none
-gives_more P Q more out gives (Err (Unread line)) (none, same) = absurd none
-gives_more P Q more out gives (Err Unwritten) (text, is, part, cause) = (text, gives text is, part, cause)
-gives_more P Q more out gives (Err Memory) same = same
+gives_more P Q more out gives (Err (Refused line)) (none, left) = absurd none
+gives_more P Q more out gives (Err (Unread line)) (none, left) = absurd none
+gives_more P Q more out gives (Err Unwritten) (text, inl is, part, cause) = (text, inl (gives text is), part, cause)
+gives_more P Q more out gives (Err Unwritten) (text, inr none, part, cause) = absurd none
+gives_more P Q more out gives (Err Memory) left = left
 
 -- the parts of a job behind the split need not know what failed
 pub no_more : {A : Type 0} (stage : Stage A) (more : OfFile) → ((line : List ℕ) → stage.unread Never line → stage.unread more line)

@@ -17,6 +17,7 @@ use Rattle.ds_stage.specs.Stages.{lines_stage, text_stage}
 use Rattle.ds_stage.proofs.Ends.{ends_more, rose_since}
 use Rattle.ds_stage.proofs.Exclusive.{lines_exclusive, result_exclusive, then_exclusive}
 use Rattle.ds_stage.proofs.Exclusive.{then_not_refused}
+use Rattle.ds_stage.proofs.Left.{measured_nothing}
 use Rattle.ds_stage.proofs.Failed.{Says, lines_say, then_says}
 use Rattle.ds_stage.proofs.OneGraph.{one_graph}
 use Rattle.ds_stage.proofs.Stages.{IsWider, read_means, read_refused, wider_first}
@@ -101,4 +102,5 @@ module _ (before mid now : Which → List ℕ → ℕ) where
   measured_since {A} held later file s same less out result is =
       subst (λ (h : List ℕ → Held). Ends (measured_stage h file s) (RoseIn before now) out result)
       same (ends_more (measured_stage later file s) (RoseIn mid now) (RoseIn before now) out
+      (measured_nothing later file s)
       (λ line unread. unread_since later file s line less unread) result is)

@@ -1,5 +1,5 @@
 -- How a stage of a job ends.
-use Rattle.std.specs.Prelude.{◌≡◌, ℕ, List, Option, Result, Ok, Err}
+use Rattle.std.specs.Prelude.{◌≡◌, ◌⊎◌, ℕ, List, Option, Result, Ok, Err}
 use Rattle.ds_outside.specs.Fault.{Rose}
 use Rattle.ds_outside.specs.Written.{appended, AppendsPart}
 use Rattle.ds_outside.specs.declared.files.Which.{Which}
@@ -57,13 +57,21 @@ pub record Output : Type 0 where
   pub before : ℕ
   pub now : ℕ
 
--- the text of the last stage was written, or a first part of it and a write failed; else nothing
--- was
+-- a text that the stage leaves where it stops so was appended
+abbrev pub Leaves : {A : Type 0} → Stage A → OfFile → Output → Stop → Type 0
+Leaves stage failed out stop = (text : List ℕ) × stage.leaves failed stop text
+    × (out.new ≡ appended out.old text)
+
+-- the text of the last stage was written, or a first part of it or of what the stages leave, and a
+-- write failed; else what the stages leave stands where they stop
 abbrev pub Ends : {A : Type 0} → Stage (List ℕ) → OfFile → Output → Result A Stop → Type 0
 Ends stage failed out (Ok x) = (text : List ℕ) × stage.means text
     × (out.new ≡ appended out.old text)
 Ends stage failed out (Err Unwritten) =
-    (text : List ℕ) × stage.means text × AppendsPart out.old out.new text × Rose out.before out.now
-Ends stage failed out (Err (Refused line)) = stage.refused line × (out.new ≡ out.old)
-Ends stage failed out (Err (Unread line)) = stage.unread failed line × (out.new ≡ out.old)
-Ends stage failed out (Err Memory) = out.new ≡ out.old
+    (text : List ℕ) × (stage.means text ⊎ stage.leaves failed Unwritten text)
+    × AppendsPart out.old out.new text × Rose out.before out.now
+Ends stage failed out (Err (Refused line)) =
+    stage.refused line × Leaves stage failed out (Refused line)
+Ends stage failed out (Err (Unread line)) =
+    stage.unread failed line × Leaves stage failed out (Unread line)
+Ends stage failed out (Err Memory) = Leaves stage failed out Memory

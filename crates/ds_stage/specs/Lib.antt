@@ -3,6 +3,8 @@ pub mod Stage
 pub mod FaultText
 pub mod Report
 pub mod Stages
+pub mod StreamStage
+pub mod StreamStops
 pub mod SplitStage
 pub mod GraphStage
 pub mod PlanStage

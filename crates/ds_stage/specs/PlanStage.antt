@@ -19,7 +19,7 @@ use Rattle.ds_accept.specs.Fault.{IsAcceptFault}
 use Rattle.ds_accept.specs.declared.fault.AcceptFault.{AcceptFault}
 use Rattle.ds_accept.specs.declared.fault.AcceptFault.TheVariants as accept
 use Rattle.ds_stage.specs.FaultText.{file_line, listed, numbered_line, too_many_text}
-use Rattle.ds_stage.specs.Stage.{Stage, giving, then_stage}
+use Rattle.ds_stage.specs.Stage.{Stage, giving, leaves_nothing, then_stage}
 use Rattle.ds_stage.specs.Stages.{lines_stage, result_stage}
 use Rattle.ds_stage.specs.SplitStage.{split_stage}
 use Rattle.ds_stage.specs.GraphStage.{IsGraphOf}
@@ -78,6 +78,7 @@ acceptable_stage file s g = record {
   refused = λ line. (fault : AcceptFault) × (text : List ℕ) × IsAcceptFault s g fault
       × IsAcceptText g fault text × (line ≡ file_line file text);
   unread = λ _ _. ⊥;
+  leaves = λ _. leaves_nothing;
 }
 
 -- the plan of the graph of lines

@@ -24,7 +24,7 @@ use Rattle.ds_replay.specs.declared.fault.ReplayKind.TheVariants.{BadWord, Unkno
 use Rattle.ds_replay.specs.declared.fault.ReplayKind.TheVariants.{OverLimit, NotEnabled}
 use Rattle.ds_stage.specs.FaultText.{numbered_line, register_of}
 use Rattle.ds_stage.specs.OpenLines.{open_lines}
-use Rattle.ds_stage.specs.Stage.{Stage, giving, then_stage}
+use Rattle.ds_stage.specs.Stage.{Stage, giving, leaves_nothing, then_stage}
 use Rattle.ds_stage.specs.Stages.{lines_stage}
 
 -- the ends of an arc
@@ -48,6 +48,7 @@ fired_stage file planned vectors lines = record {
       × (replay_of planned.graph (length vectors) lines ≡ Err fault)
       × (line ≡ numbered_line file fault.line (log_text planned.graph fault.kind));
   unread = λ _ _. ⊥;
+  leaves = λ _. leaves_nothing;
 }
 
 -- the events that the log of a file fires

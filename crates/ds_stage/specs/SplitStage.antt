@@ -8,7 +8,7 @@ use Rattle.ds_latch.specs.Node.{Split}
 use Rattle.ds_split.specs.Cluster.{HasTooManyClusters, IsClustering}
 use Rattle.ds_split.specs.Split.{HasTooManyOrders, split_of}
 use Rattle.ds_stage.specs.FaultText.{file_line, too_many_text}
-use Rattle.ds_stage.specs.Stage.{Stage}
+use Rattle.ds_stage.specs.Stage.{Stage, leaves_nothing}
 
 -- the registers of a circuit in few enough clusters, and the circuit split by them
 pub record IsInClusters (mode : Mode) (c : Circuit) (s : Split) : Type 0 where
@@ -30,4 +30,5 @@ split_stage file mode c = record {
   means = λ s. IsInClusters mode c s × ¬ HasTooManyOrders s;
   refused = IsSplitLine file mode c;
   unread = λ _ _. ⊥;
+  leaves = λ _. leaves_nothing;
 }

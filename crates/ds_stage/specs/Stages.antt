@@ -23,7 +23,7 @@ use Rattle.ds_rows.specs.declared.fault.VectorFault.{VectorFault}
 use Rattle.ds_stage.specs.FaultText.{file_line, numbered_line, unread_line, too_long_text}
 use Rattle.ds_stage.specs.FaultText.{blif_text, flat_text, IsNetFaultText, vector_text}
 use Rattle.ds_stage.specs.Report.{report_text}
-use Rattle.ds_stage.specs.Stage.{Stage, giving, then_stage}
+use Rattle.ds_stage.specs.Stage.{Stage, giving, leaves_nothing, then_stage}
 
 -- P of the bytes that are held, where they are told; no bytes have P where nothing is there
 abbrev pub OfBytes : Held → (List ℕ → Type 0) → Type 0
@@ -37,6 +37,7 @@ text_stage file text = record {
   means = λ lines. (length text ≤ most_of Bytes) × (lines ≡ lines_of text);
   refused = λ line. (most_of Bytes < length text) × (line ≡ file_line file too_long_text);
   unread = λ _ _. ⊥;
+  leaves = λ _. leaves_nothing;
 }
 
 -- the lines of a file
@@ -45,6 +46,7 @@ lines_stage held which name = record {
   means = λ lines. OfBytes (held name) (λ text. (text_stage name text).means lines);
   refused = λ line. OfBytes (held name) (λ text. (text_stage name text).refused line);
   unread = λ failed line. failed which name × (line ≡ unread_line name);
+  leaves = λ _. leaves_nothing;
 }
 
 -- a value, or the line that refuses it
@@ -53,6 +55,7 @@ result_stage result = record {
   means = λ a. result ≡ Ok a;
   refused = λ line. result ≡ Err line;
   unread = λ _ _. ⊥;
+  leaves = λ _. leaves_nothing;
 }
 
 -- the models of a netlist's lines, or the line of their first fault
@@ -79,6 +82,7 @@ accepted_stage file c = record {
   refused = λ line. (fault : NetFault) × (text : List ℕ) × IsNetFault c fault
       × IsNetFaultText c fault text × (line ≡ file_line file text);
   unread = λ _ _. ⊥;
+  leaves = λ _. leaves_nothing;
 }
 
 -- the flat design of a file

@@ -1,21 +1,22 @@
 //! The stages of a job: from its files to netlist, vectors, plan and state, with their texts.
 //!
-//! A stage says three things: what it may give, which lines refuse it, and which line says that a
-//! file was not read (`specs/Stage`). A call here does one stage. It gives what the stage may give,
-//! or a `Stop`, which has the line that the stage says, or says that memory was wanted or that a
-//! write failed (`specs/Ends`). The last stage of a job writes a text: it was appended whole, or a
-//! first part of it and a write failed.
+//! A stage says four things: what it may give, which lines refuse it, which line says that a
+//! file was not read (`specs/Stage`), and which text it leaves on the output where it stops: none,
+//! but for vectors that are read window by window (`specs/StreamStage`). A call here does one
+//! stage. It gives what the stage may give, or a `Stop`, which has the line that the stage says, or
+//! says that memory was wanted or that a write failed (`specs/Ends`). The last stage of a job
+//! writes a text: it was appended whole, or a first part of it and a write failed.
 //!
-//! `read_netlist` and `read_rows` read netlist and vectors (`specs/Stages`), `split_netlist` makes
-//! latches (`specs/SplitStage`), `plan_netlist`, `plan_named` and `own_plan` plans
-//! (`specs/PlanStage`), `read_log` the state after a log, and `write_state` its text
-//! (`specs/ReplayStage`, `specs/Kept` for what is kept between them, and `specs/OpenLines` for the
-//! lines of what open latches show, which stand behind that text where they are wanted; all memory
-//! is taken before its first byte is written). `read_timing` reads the delays of `own_graph`
-//! (`specs/PeriodStage`), `wanted_graph` makes the graph that is written (`specs/GraphStage`), and
-//! `with_event` and `with_events` put events behind a text. `write_report` writes the report on a
-//! netlist (`specs/Report`). The texts of faults are those of `specs/FaultText`. When memory is
-//! wanted is not promised.
+//! `read_netlist` and `read_rows` read netlist and vectors (`specs/Stages`), `read_window` the next
+//! 4,096 vectors of a stream (`specs/StreamStops`), `split_netlist` makes latches
+//! (`specs/SplitStage`), `plan_netlist`, `plan_named` and `own_plan` plans (`specs/PlanStage`),
+//! `read_log` the state after a log, and `write_state` its text (`specs/ReplayStage`, `specs/Kept`
+//! for what is kept between them, and `specs/OpenLines` for the lines of what open latches show,
+//! which stand behind that text where they are wanted; all memory is taken before its first byte is
+//! written). `read_timing` reads the delays of `own_graph` (`specs/PeriodStage`), `wanted_graph`
+//! makes the graph that is written (`specs/GraphStage`), and `with_event` and `with_events` put
+//! events behind a text. `write_report` writes the report on a netlist (`specs/Report`). The texts
+//! of faults are those of `specs/FaultText`. When memory is wanted is not promised.
 #![tactic(auto)]
 
 mod after_log;
@@ -38,6 +39,7 @@ mod split;
 mod splitting;
 mod state_text;
 mod stop;
+mod stream;
 
 pub use after_log::AfterLog;
 pub use delays::{own_graph, read_timing};
@@ -52,3 +54,4 @@ pub use split::split_netlist;
 pub use splitting::Splitting;
 pub use state_text::write_state;
 pub use stop::Stop;
+pub use stream::{WINDOW, read_window};

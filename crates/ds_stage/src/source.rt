@@ -84,8 +84,8 @@ pub fn read_text<F: Files>(
     }
 }
 
-// The stop of a file that was not read.
-fn unread(alloc: Global, name: &str) -> Stop
+/// The stop of a file that was not read.
+pub fn unread(alloc: Global, name: &str) -> Stop
     ensures { SaysUnread name.now result }
 {
     match unread_line(alloc, name.as_bytes()) {

@@ -3,7 +3,7 @@
 //!
 //! Nothing stands on this crate. Most tests are texts that tell runs, which `ds_trial` plays. The
 //! other tests make long texts, or compare what stands behind the top call with a plain slow way.
-//! Tests of `run` and of traces stand in `ds_run_tests`.
+//! Tests of `run` and of traces stand in `ds_run_tests` and `ds_jobs_tests`.
 #![tactic(auto)]
 
 #[cfg(test)]

@@ -227,9 +227,11 @@ fn vectors(
 // and a run by it prints the clocked trace.
 fn is_run_by_its_expansion<R: AllocGlobal + Threads + Sync>(
     rt: &R,
-    files: [(&str, &str); 2],
+    net: String,
+    vec: String,
     mode: &str,
 ) -> Result<bool, OutOfMemory> {
+    let files = [("n", net.as_str()), ("v", vec.as_str())];
     let line = format!(in rt.alloc(); "desync graph n --shake --clusters {mode}")?;
     let Some(graph) = printed(rt, &files, line.as_str(), &OpenGate) else {
         return Ok(false);
@@ -237,8 +239,11 @@ fn is_run_by_its_expansion<R: AllocGlobal + Threads + Sync>(
     let Some(clocked) = printed(rt, &files, "desync clock n v", &OpenGate) else {
         return Ok(false);
     };
-    let [net, vec] = files;
-    let files = [net, vec, ("g", graph.as_str())];
+    let files = [
+        ("n", net.as_str()),
+        ("v", vec.as_str()),
+        ("g", graph.as_str()),
+    ];
     let line = format!(in rt.alloc(); "desync accept n g --clusters {mode}")?;
     let ranks = printed(rt, &files, line.as_str(), &OpenGate);
     let line = format!(in rt.alloc(); "desync run n v --graph g --jobs 4 --clusters {mode}")?;
@@ -259,8 +264,7 @@ fn expansions_of_random_designs_are_accepted_and_run(rt: HostRuntime) -> Result<
         let net = netlist(alloc, &mut draws, registers)?;
         let vec = vectors(alloc, &mut draws, 25)?;
         let mode = if round & 1 == 0 { "each" } else { "one" };
-        let files = [("n", net.as_str()), ("v", vec.as_str())];
-        assert!(rt; is_run_by_its_expansion(&rt, files, mode)?, "{net}");
+        assert!(rt; is_run_by_its_expansion(&rt, net, vec, mode)?, "{round}");
     }
     Ok(())
 }

@@ -14,6 +14,8 @@ use Rattle.ds_stage.specs.Ends.{Answers, Ends, Never, Output, RoseIn}
 use Rattle.ds_stage.specs.declared.stop.Stop.{Stop}
 use Rattle.ds_stage.proofs.Stages.{IsWider, passed, stopped, widened}
 use Rattle.ds_stage.proofs.Ends.{ended, ends_after, ends_more, planned_since}
+use Rattle.ds_stage.proofs.Left.{giving_nothing}
+use Rattle.ds_app.proofs.Left.{accept_nothing}
 use Rattle.ds_app.proofs.accept.accept.Goals as goal
 
 pub returns-in_err-netlist-clause-value : goal.returns-in_err-netlist-clause-value
@@ -26,7 +28,7 @@ returns-in_err-netlist-clause-value g c =
     let more : OfFile = RoseIn (g.F.Files.faults c.args.files.now) (g.F.Files.faults c.read_netlist.new.files) in
     let p = err_from_is_err_and c.from_residual.result c.from_residual.ensures.1 in
     rw (p.1, p.2) (ended (Unit {0}) (then_stage (netlist_stage held net) (accept_stage held net c.args.job.now.graph.now mode)) more
-    (record { old = g.O.Sink.written c.args.out.now; new = g.O.Sink.written c.args.out.now; before = g.O.Sink.faults c.args.out.now; now = g.O.Sink.faults c.args.out.now }) c.in_err-netlist.field-0.0 refl
+    (record { old = g.O.Sink.written c.args.out.now; new = g.O.Sink.written c.args.out.now; before = g.O.Sink.faults c.args.out.now; now = g.O.Sink.faults c.args.out.now }) c.in_err-netlist.field-0.0 (accept_nothing held net c.args.job.now.graph.now mode) refl
     (stopped (netlist_stage held net) (accept_stage held net c.args.job.now.graph.now mode) more c.in_err-netlist.field-0.0 c.in_err-netlist.ensures.value))
 
 pub returns-in_err-plan-clause-value : goal.returns-in_err-plan-clause-value
@@ -46,7 +48,7 @@ returns-in_err-plan-clause-value g c =
     widened {A = Planned} (planned_stage (g.F.Files.held c.read_netlist.new.files) net graph mode 0 circuit) (planned_stage held net graph mode 0 circuit)
     (RoseIn (g.F.Files.faults c.read_netlist.new.files) (g.F.Files.faults c.plan_named.new.files)) more wider (Err stop) c.in_err-plan.ensures.value in
     rw (p.1, p.2) (ended (Unit {0}) (then_stage (netlist_stage held net) (accept_stage held net c.args.job.now.graph.now mode)) more
-    (record { old = g.O.Sink.written c.args.out.now; new = g.O.Sink.written c.args.out.now; before = g.O.Sink.faults c.args.out.now; now = g.O.Sink.faults c.args.out.now }) stop refl
+    (record { old = g.O.Sink.written c.args.out.now; new = g.O.Sink.written c.args.out.now; before = g.O.Sink.faults c.args.out.now; now = g.O.Sink.faults c.args.out.now }) stop (accept_nothing held net c.args.job.now.graph.now mode) refl
     (passed {B = List ℕ} (netlist_stage held net) (accept_stage held net c.args.job.now.graph.now mode) more circuit c.in_ok-netlist.ensures.value (Err stop)
     (stopped (planned_stage held net graph mode 0 circuit) ranks_stage more stop few)))
 
@@ -65,6 +67,6 @@ returns-clause-value g c =
     let planned : (planned_stage held net graph mode 0 circuit).means plan = wider.means plan c.in_ok-plan.ensures.value in
     let out : Output = (record { old = g.O.Sink.written c.args.out.now; new = g.O.Sink.written c.write_accepted.new.out; before = g.O.Sink.faults c.args.out.now; now = g.O.Sink.faults c.write_accepted.new.out }) in
     let last : Ends {A = Unit {0}} (ranks_stage plan) more out c.write_accepted.result =
-    ends_more {A = Unit {0}} (ranks_stage plan) Never more out (λ line none. absurd none) c.write_accepted.result c.write_accepted.ensures in
+    ends_more {A = Unit {0}} (ranks_stage plan) Never more out (giving_nothing (ranks_stage plan).means) (λ line none. absurd none) c.write_accepted.result c.write_accepted.ensures in
     ends_after (netlist_stage held net) (accept_stage held net c.args.job.now.graph.now mode) more out circuit c.in_ok-netlist.ensures.value c.write_accepted.result
     (ends_after (planned_stage held net graph mode 0 circuit) ranks_stage more out plan planned c.write_accepted.result last)

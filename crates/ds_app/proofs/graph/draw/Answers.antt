@@ -6,6 +6,7 @@ use Rattle.ds_stage.specs.GraphStage.{controller_stage, drawn_stage, wanted_stag
 use Rattle.ds_stage.specs.declared.stop.Stop.{Stop}
 use Rattle.ds_stage.proofs.Stages.{stopped}
 use Rattle.ds_stage.proofs.Ends.{ended, ends_after}
+use Rattle.ds_stage.proofs.Left.{controller_nothing}
 use Rattle.ds_app.proofs.graph.draw.Goals as goal
 
 pub returns-in_err-graph : goal.returns-in_err-graph
@@ -16,7 +17,7 @@ returns-in_err-graph g c =
     let stop : Stop = c.in_err-graph.field-0.0 in
     let p = err_from_is_err_and c.from_residual.result c.from_residual.ensures.1 in
     rw (p.1, p.2) (ended (Unit {0}) (controller_stage file shake s) Never
-    (record { old = g.O.Sink.written c.args.out.now; new = g.O.Sink.written c.args.out.now; before = g.O.Sink.faults c.args.out.now; now = g.O.Sink.faults c.args.out.now }) stop refl
+    (record { old = g.O.Sink.written c.args.out.now; new = g.O.Sink.written c.args.out.now; before = g.O.Sink.faults c.args.out.now; now = g.O.Sink.faults c.args.out.now }) stop (controller_nothing file shake s) refl
     (stopped (wanted_stage file shake s) (drawn_stage s) Never stop c.in_err-graph.ensures))
 
 pub returns : goal.returns

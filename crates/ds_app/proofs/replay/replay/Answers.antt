@@ -19,6 +19,7 @@ use Rattle.ds_stage.proofs.Ends.{ended, never_fell, planned_since, vectors_since
 use Rattle.ds_stage.proofs.PlanAccepted.{planned_circuit, planned_in_clusters}
 use Rattle.ds_fire.specs.Snapshot.{Snapshot}
 use Rattle.ds_app.proofs.ReplayEnds.{ends_log, log_since, log_stops, stops_log, stops_plan, stops_vectors}
+use Rattle.ds_app.proofs.Left.{replay_nothing}
 use Rattle.ds_app.proofs.replay.replay.Goals as goal
 
 pub returns-in_err-netlist-clause-value : goal.returns-in_err-netlist-clause-value
@@ -35,7 +36,7 @@ returns-in_err-netlist-clause-value g c =
     let log : List ℕ = c.args.job.now.log.now in
     let p = err_from_is_err_and c.from_residual.result c.from_residual.ensures.1 in
     rw (p.1, p.2) (ended (Unit {0}) (then_stage (netlist_stage held net) (replay_stage held net vec log graph mode slack transparent)) more
-    (record { old = g.O.Sink.written c.args.out.now; new = g.O.Sink.written c.args.out.now; before = g.O.Sink.faults c.args.out.now; now = g.O.Sink.faults c.args.out.now }) c.in_err-netlist.field-0.0 refl
+    (record { old = g.O.Sink.written c.args.out.now; new = g.O.Sink.written c.args.out.now; before = g.O.Sink.faults c.args.out.now; now = g.O.Sink.faults c.args.out.now }) c.in_err-netlist.field-0.0 (replay_nothing held net vec log graph mode slack transparent) refl
     (stopped (netlist_stage held net) (replay_stage held net vec log graph mode slack transparent) more c.in_err-netlist.field-0.0 c.in_err-netlist.ensures.value))
 
 pub returns-in_err-plan-clause-value : goal.returns-in_err-plan-clause-value
@@ -59,7 +60,7 @@ returns-in_err-plan-clause-value g c =
     widened {A = Planned} (planned_stage (g.F.Files.held c.read_netlist.new.files) net graph mode slack circuit) (planned_stage held net graph mode slack circuit)
     (RoseIn (g.F.Files.faults c.read_netlist.new.files) (g.F.Files.faults c.plan_netlist.new.files)) more wider (Err stop) c.in_err-plan.ensures.value in
     rw (p.1, p.2) (ended (Unit {0}) (then_stage (netlist_stage held net) (replay_stage held net vec log graph mode slack transparent)) more
-    (record { old = g.O.Sink.written c.args.out.now; new = g.O.Sink.written c.args.out.now; before = g.O.Sink.faults c.args.out.now; now = g.O.Sink.faults c.args.out.now }) stop refl
+    (record { old = g.O.Sink.written c.args.out.now; new = g.O.Sink.written c.args.out.now; before = g.O.Sink.faults c.args.out.now; now = g.O.Sink.faults c.args.out.now }) stop (replay_nothing held net vec log graph mode slack transparent) refl
     (stops_plan held net vec log graph mode slack transparent more circuit c.in_ok-netlist.ensures.value stop few))
 
 pub returns-in_err-vectors-clause-value : goal.returns-in_err-vectors-clause-value
@@ -90,7 +91,7 @@ returns-in_err-vectors-clause-value g c =
     widened {A = Rows} (vectors_stage later vec circuit) (vectors_stage held vec circuit)
     (RoseIn (g.F.Files.faults c.plan_netlist.new.files) (g.F.Files.faults c.read_rows.new.files)) more since (Err stop) c.in_err-vectors.ensures.value in
     rw (p.1, p.2) (ended (Unit {0}) (then_stage (netlist_stage held net) (replay_stage held net vec log graph mode slack transparent)) more
-    (record { old = g.O.Sink.written c.args.out.now; new = g.O.Sink.written c.args.out.now; before = g.O.Sink.faults c.args.out.now; now = g.O.Sink.faults c.args.out.now }) stop refl
+    (record { old = g.O.Sink.written c.args.out.now; new = g.O.Sink.written c.args.out.now; before = g.O.Sink.faults c.args.out.now; now = g.O.Sink.faults c.args.out.now }) stop (replay_nothing held net vec log graph mode slack transparent) refl
     (stops_vectors held net vec log graph mode slack transparent more circuit c.in_ok-netlist.ensures.value plan planned stop unread))
 
 pub read_log-requires : goal.read_log-requires
@@ -136,7 +137,7 @@ returns-in_err-state-clause-value g c =
     widened {A = Snapshot × ℕ} (kept_stage after_rows log plan rows.rows) (kept_stage held log plan rows.rows)
     (RoseIn (g.F.Files.faults c.read_rows.new.files) (g.F.Files.faults c.read_log.new.files)) more logged (Err stop) c.in_err-state.ensures.value in
     rw (p.1, p.2) (ended (Unit {0}) (then_stage (netlist_stage held net) (replay_stage held net vec log graph mode slack transparent)) more
-    (record { old = g.O.Sink.written c.args.out.now; new = g.O.Sink.written c.args.out.now; before = g.O.Sink.faults c.args.out.now; now = g.O.Sink.faults c.args.out.now }) stop refl
+    (record { old = g.O.Sink.written c.args.out.now; new = g.O.Sink.written c.args.out.now; before = g.O.Sink.faults c.args.out.now; now = g.O.Sink.faults c.args.out.now }) stop (replay_nothing held net vec log graph mode slack transparent) refl
     (stops_log held net vec log graph mode slack transparent more circuit c.in_ok-netlist.ensures.value plan planned rows given stop (log_stops held log plan rows.rows more stop unread)))
 
 pub write_state-requires-clause-plan : goal.write_state-requires-clause-plan

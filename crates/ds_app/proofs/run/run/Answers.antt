@@ -1,22 +1,25 @@
-use Rattle.std.proofs.Common.{◌≡◌, ℕ, List, Option, Err, length, refl, subst, sym, ◌∙◌}
+use Rattle.std.proofs.Common.{◌≡◌, ℕ, List, Option, Err, refl, subst, ◌∙◌}
 use Rattle.std.proofs.lemmas.Result.{err_from_is_err_and}
 use Rattle.ds_base.specs.declared.number.Mode.{Mode}
 use Rattle.ds_outside.specs.Held.{Held}
 use Rattle.ds_outside.specs.declared.files.Which.{Which}
-use Rattle.ds_design.specs.Circuit.{Circuit, columns}
+use Rattle.ds_design.specs.Circuit.{Circuit}
 use Rattle.ds_latch.specs.Plan.{Planned}
 use Rattle.ds_design.specs.Rows.{Rows}
 use Rattle.ds_trace.specs.RunText.{IsRunText}
-use Rattle.ds_stage.specs.Stage.{OfFile, giving, then_stage}
-use Rattle.ds_stage.specs.Stages.{netlist_stage, vectors_stage}
+use Rattle.ds_stage.specs.Stage.{OfFile}
+use Rattle.ds_stage.specs.Stages.{netlist_stage}
+use Rattle.ds_stage.specs.StreamStage.{most_vectors}
 use Rattle.ds_stage.specs.PlanStage.{planned_stage}
-use Rattle.ds_app.specs.RunStage.{traced_stage}
+use Rattle.ds_app.specs.RunStage.{streamed_run_stage}
 use Rattle.ds_app.specs.Job.{run_stage}
-use Rattle.ds_stage.specs.Ends.{Answers, Ends, Never, Output, RoseIn}
+use Rattle.ds_stage.specs.Ends.{Answers, Ends, Output, RoseIn}
 use Rattle.ds_stage.specs.declared.stop.Stop.{Stop}
-use Rattle.ds_stage.proofs.Stages.{IsWider, passed, stopped, widened}
-use Rattle.ds_stage.proofs.Ends.{ended, ends_after, gives_more, never_fell, planned_since, vectors_since}
+use Rattle.ds_stage.proofs.Stages.{IsWider, widened}
+use Rattle.ds_stage.proofs.Ends.{ended_first, ends_after, never_fell, planned_since}
+use Rattle.ds_stage.proofs.Left.{netlist_nothing, planned_nothing}
 use Rattle.ds_stage.proofs.PlanAccepted.{planned_circuit, planned_start}
+use Rattle.ds_stage.proofs.Streamed.{streamed_since}
 use Rattle.ds_app.proofs.run.run.Goals as goal
 
 pub returns-in_err-netlist-clause-value : goal.returns-in_err-netlist-clause-value
@@ -30,9 +33,9 @@ returns-in_err-netlist-clause-value g c =
     let more : OfFile = RoseIn (g.F.Files.faults c.args.files.now) (g.F.Files.faults c.read_netlist.new.files) in
     let vec : List ℕ = c.args.job.now.vec.now in
     let p = err_from_is_err_and c.from_residual.result c.from_residual.ensures.1 in
-    rw (p.1, p.2) (ended (Unit {0}) (then_stage (netlist_stage held net) (run_stage held net vec graph mode c.args.job.now.log slack)) more
-    (record { old = g.O.Sink.written c.args.out.now; new = g.O.Sink.written c.args.out.now; before = g.O.Sink.faults c.args.out.now; now = g.O.Sink.faults c.args.out.now }) c.in_err-netlist.field-0.0 refl
-    (stopped (netlist_stage held net) (run_stage held net vec graph mode c.args.job.now.log slack) more c.in_err-netlist.field-0.0 c.in_err-netlist.ensures.value))
+    rw (p.1, p.2) (ended_first (Unit {0}) (netlist_stage held net) (run_stage held net vec graph mode c.args.job.now.log slack) more
+    (record { old = g.O.Sink.written c.args.out.now; new = g.O.Sink.written c.args.out.now; before = g.O.Sink.faults c.args.out.now; now = g.O.Sink.faults c.args.out.now }) c.in_err-netlist.field-0.0
+    (netlist_nothing held net) refl c.in_err-netlist.ensures.value)
 
 pub returns-in_err-plan-clause-value : goal.returns-in_err-plan-clause-value
 returns-in_err-plan-clause-value g c =
@@ -52,47 +55,10 @@ returns-in_err-plan-clause-value g c =
     let few : Answers {A = Planned} (planned_stage held net graph mode slack circuit) more (Err stop) =
     widened {A = Planned} (planned_stage (g.F.Files.held c.read_netlist.new.files) net graph mode slack circuit) (planned_stage held net graph mode slack circuit)
     (RoseIn (g.F.Files.faults c.read_netlist.new.files) (g.F.Files.faults c.plan_netlist.new.files)) more wider (Err stop) c.in_err-plan.ensures.value in
-    rw (p.1, p.2) (ended (Unit {0}) (then_stage (netlist_stage held net) (run_stage held net vec graph mode c.args.job.now.log slack)) more
-    (record { old = g.O.Sink.written c.args.out.now; new = g.O.Sink.written c.args.out.now; before = g.O.Sink.faults c.args.out.now; now = g.O.Sink.faults c.args.out.now }) stop refl
-    (passed {B = List ℕ} (netlist_stage held net) (run_stage held net vec graph mode c.args.job.now.log slack) more circuit c.in_ok-netlist.ensures.value (Err stop)
-    (stopped (planned_stage held net graph mode slack circuit) (λ (p : Planned). then_stage (vectors_stage held vec circuit) (traced_stage c.args.job.now.log circuit p)) more stop few)))
-
-pub returns-in_err-vectors-clause-value : goal.returns-in_err-vectors-clause-value
-returns-in_err-vectors-clause-value g c =
-    let held : List ℕ → Held = g.F.Files.held c.args.files.now in
-    let net : List ℕ = c.args.job.now.net.now in
-    let graph : Option (List ℕ) = c.args.job.now.graph.now in
-    let mode : Mode = c.args.job.now.clusters in
-    let slack : ℕ = c.args.job.now.slack in
-    let before : Which → List ℕ → ℕ = g.F.Files.faults c.args.files.now in
-    let more : OfFile = RoseIn (g.F.Files.faults c.args.files.now) (g.F.Files.faults c.read_rows.new.files) in
-    let vec : List ℕ = c.args.job.now.vec.now in
-    let circuit : Circuit = c.in_ok-netlist.netlist in
-    let wider : IsWider (planned_stage (g.F.Files.held c.read_netlist.new.files) net graph mode slack circuit) (planned_stage held net graph mode slack circuit) (RoseIn (g.F.Files.faults c.read_netlist.new.files) (g.F.Files.faults c.plan_netlist.new.files)) (RoseIn before (g.F.Files.faults c.plan_netlist.new.files)) =
-    planned_since held (g.F.Files.held c.read_netlist.new.files) net graph mode slack circuit before (g.F.Files.faults c.read_netlist.new.files) (g.F.Files.faults c.plan_netlist.new.files) c.in_ok-netlist.ensures.same_held c.in_ok-netlist.ensures.never_falls in
-    let plan : Planned = c.in_ok-plan.plan in
-    let planned : (planned_stage held net graph mode slack circuit).means plan = wider.means plan c.in_ok-plan.ensures.value in
-    let later : List ℕ → Held = g.F.Files.held c.plan_netlist.new.files in
-    let since : IsWider (vectors_stage later vec circuit) (vectors_stage held vec circuit) (RoseIn (g.F.Files.faults c.plan_netlist.new.files) (g.F.Files.faults c.read_rows.new.files)) (RoseIn before (g.F.Files.faults c.read_rows.new.files)) =
-    vectors_since held later vec circuit before (g.F.Files.faults c.plan_netlist.new.files) (g.F.Files.faults c.read_rows.new.files)
-    (c.in_ok-plan.ensures.same_held ∙ c.in_ok-netlist.ensures.same_held)
-    (never_fell before (g.F.Files.faults c.read_netlist.new.files) (g.F.Files.faults c.plan_netlist.new.files) c.in_ok-netlist.ensures.never_falls c.in_ok-plan.ensures.never_falls) in
-    let stop : Stop = c.in_err-vectors.field-0.0 in
-    let p = err_from_is_err_and c.from_residual-in_err-vectors.result c.from_residual-in_err-vectors.ensures.1 in
-    let unread : Answers {A = Rows} (vectors_stage held vec circuit) more (Err stop) =
-    widened {A = Rows} (vectors_stage later vec circuit) (vectors_stage held vec circuit)
-    (RoseIn (g.F.Files.faults c.plan_netlist.new.files) (g.F.Files.faults c.read_rows.new.files)) more since (Err stop) c.in_err-vectors.ensures.value in
-    rw (p.1, p.2) (ended (Unit {0}) (then_stage (netlist_stage held net) (run_stage held net vec graph mode c.args.job.now.log slack)) more
-    (record { old = g.O.Sink.written c.args.out.now; new = g.O.Sink.written c.args.out.now; before = g.O.Sink.faults c.args.out.now; now = g.O.Sink.faults c.args.out.now }) stop refl
-    (passed {B = List ℕ} (netlist_stage held net) (run_stage held net vec graph mode c.args.job.now.log slack) more circuit c.in_ok-netlist.ensures.value (Err stop)
-    (passed {B = List ℕ} (planned_stage held net graph mode slack circuit) (λ (p : Planned). then_stage (vectors_stage held vec circuit) (traced_stage c.args.job.now.log circuit p)) more plan planned (Err stop)
-    (stopped (vectors_stage held vec circuit) (traced_stage c.args.job.now.log circuit plan) more stop unread))))
-
-pub write_traced-requires-clause-width : goal.write_traced-requires-clause-width
-write_traced-requires-clause-width g c _ _ =
-    let same : c.in_ok-plan.plan.split.circuit ≡ c.in_ok-netlist.netlist =
-    planned_circuit (g.F.Files.held c.read_netlist.new.files) c.args.job.now.net.now c.args.job.now.graph.now c.args.job.now.clusters c.args.job.now.slack c.in_ok-netlist.netlist c.in_ok-plan.plan c.in_ok-plan.ensures.value in
-    subst (λ (k : Circuit). c.in_ok-vectors.vectors.width ≡ length (columns k)) (sym same) c.in_ok-vectors.ensures.width
+    let out : Output = (record { old = g.O.Sink.written c.args.out.now; new = g.O.Sink.written c.args.out.now; before = g.O.Sink.faults c.args.out.now; now = g.O.Sink.faults c.args.out.now }) in
+    rw (p.1, p.2) (ends_after {A = Unit {0}} (netlist_stage held net) (run_stage held net vec graph mode c.args.job.now.log slack) more out circuit c.in_ok-netlist.ensures.value (Err stop)
+    (ended_first (Unit {0}) (planned_stage held net graph mode slack circuit) (streamed_run_stage held vec c.args.job.now.log circuit) more out stop
+    (planned_nothing held net graph mode slack circuit) refl few))
 
 pub write_traced-requires-clause-start : goal.write_traced-requires-clause-start
 write_traced-requires-clause-start g c _ _ =
@@ -108,27 +74,34 @@ returns-clause-value g c =
     let graph : Option (List ℕ) = c.args.job.now.graph.now in
     let mode : Mode = c.args.job.now.clusters in
     let slack : ℕ = c.args.job.now.slack in
-    let before : Which → List ℕ → ℕ = g.F.Files.faults c.args.files.now in
-    let more : OfFile = RoseIn (g.F.Files.faults c.args.files.now) (g.F.Files.faults c.read_rows.new.files) in
     let vec : List ℕ = c.args.job.now.vec.now in
+    let before : Which → List ℕ → ℕ = g.F.Files.faults c.args.files.now in
+    let now : Which → List ℕ → ℕ = g.F.Files.faults c.write_traced.new.files in
+    let more : OfFile = RoseIn before now in
     let circuit : Circuit = c.in_ok-netlist.netlist in
     let wider : IsWider (planned_stage (g.F.Files.held c.read_netlist.new.files) net graph mode slack circuit) (planned_stage held net graph mode slack circuit) (RoseIn (g.F.Files.faults c.read_netlist.new.files) (g.F.Files.faults c.plan_netlist.new.files)) (RoseIn before (g.F.Files.faults c.plan_netlist.new.files)) =
     planned_since held (g.F.Files.held c.read_netlist.new.files) net graph mode slack circuit before (g.F.Files.faults c.read_netlist.new.files) (g.F.Files.faults c.plan_netlist.new.files) c.in_ok-netlist.ensures.same_held c.in_ok-netlist.ensures.never_falls in
     let plan : Planned = c.in_ok-plan.plan in
     let planned : (planned_stage held net graph mode slack circuit).means plan = wider.means plan c.in_ok-plan.ensures.value in
+    let same : plan.split.circuit ≡ circuit =
+    planned_circuit (g.F.Files.held c.read_netlist.new.files) net graph mode slack circuit plan c.in_ok-plan.ensures.value in
     let later : List ℕ → Held = g.F.Files.held c.plan_netlist.new.files in
-    let since : IsWider (vectors_stage later vec circuit) (vectors_stage held vec circuit) (RoseIn (g.F.Files.faults c.plan_netlist.new.files) (g.F.Files.faults c.read_rows.new.files)) (RoseIn before (g.F.Files.faults c.read_rows.new.files)) =
-    vectors_since held later vec circuit before (g.F.Files.faults c.plan_netlist.new.files) (g.F.Files.faults c.read_rows.new.files)
-    (c.in_ok-plan.ensures.same_held ∙ c.in_ok-netlist.ensures.same_held)
-    (never_fell before (g.F.Files.faults c.read_netlist.new.files) (g.F.Files.faults c.plan_netlist.new.files) c.in_ok-netlist.ensures.never_falls c.in_ok-plan.ensures.never_falls) in
-    let same : c.in_ok-plan.plan.split.circuit ≡ c.in_ok-netlist.netlist =
-    planned_circuit (g.F.Files.held c.read_netlist.new.files) c.args.job.now.net.now c.args.job.now.graph.now c.args.job.now.clusters c.args.job.now.slack c.in_ok-netlist.netlist c.in_ok-plan.plan c.in_ok-plan.ensures.value in
-    let rows : Rows = c.in_ok-vectors.vectors in
-    let given : (vectors_stage held vec circuit).means rows = since.means rows c.in_ok-vectors.ensures.value in
     let out : Output = (record { old = g.O.Sink.written c.args.out.now; new = g.O.Sink.written c.write_traced.new.out; before = g.O.Sink.faults c.args.out.now; now = g.O.Sink.faults c.write_traced.new.out }) in
-    let run : Ends {A = Unit {0}} (giving (IsRunText c.args.job.now.log plan rows.rows)) Never out c.write_traced.result = c.write_traced.ensures.value in
-    let last : Ends {A = Unit {0}} (traced_stage c.args.job.now.log circuit plan rows) more out c.write_traced.result =
-    gives_more (IsRunText c.args.job.now.log plan rows.rows) (λ text. (plan.split.circuit ≡ circuit) × IsRunText c.args.job.now.log plan rows.rows text) more out (λ text is. (same, is)) c.write_traced.result run in
+    let run : Ends {A = Unit {0}} (streamed_run_stage later vec c.args.job.now.log circuit plan) (RoseIn (g.F.Files.faults c.plan_netlist.new.files) now) out c.write_traced.result =
+    subst (λ (k : Circuit). Ends {A = Unit {0}} (streamed_run_stage later vec c.args.job.now.log k plan) (RoseIn (g.F.Files.faults c.plan_netlist.new.files) now) out c.write_traced.result) same c.write_traced.ensures.value in
     ends_after (netlist_stage held net) (run_stage held net vec graph mode c.args.job.now.log slack) more out circuit c.in_ok-netlist.ensures.value c.write_traced.result
-    (ends_after (planned_stage held net graph mode slack circuit) (λ (p : Planned). then_stage (vectors_stage held vec circuit) (traced_stage c.args.job.now.log circuit p)) more out plan planned c.write_traced.result
-    (ends_after (vectors_stage held vec circuit) (traced_stage c.args.job.now.log circuit plan) more out rows given c.write_traced.result last))
+    (ends_after (planned_stage held net graph mode slack circuit) (streamed_run_stage held vec c.args.job.now.log circuit) more out plan planned c.write_traced.result
+    (streamed_since held later vec circuit (most_vectors c.args.job.now.log) (λ (rows : Rows) (text : List ℕ). (plan.split.circuit ≡ circuit) × IsRunText c.args.job.now.log plan rows.rows text)
+    before (g.F.Files.faults c.plan_netlist.new.files) now
+    (c.in_ok-plan.ensures.same_held ∙ c.in_ok-netlist.ensures.same_held)
+    (never_fell before (g.F.Files.faults c.read_netlist.new.files) (g.F.Files.faults c.plan_netlist.new.files) c.in_ok-netlist.ensures.never_falls c.in_ok-plan.ensures.never_falls)
+    out c.write_traced.result run))
+
+pub returns-in_err-netlist-clause-same_held : goal.returns-in_err-netlist-clause-same_held
+returns-in_err-netlist-clause-same_held g c = c.in_err-netlist.ensures.same_held
+
+pub returns-in_err-plan-clause-same_held : goal.returns-in_err-plan-clause-same_held
+returns-in_err-plan-clause-same_held g c = c.in_err-plan.ensures.same_held ∙ c.in_ok-netlist.ensures.same_held
+
+pub returns-clause-same_held : goal.returns-clause-same_held
+returns-clause-same_held g c = c.write_traced.ensures.same_held ∙ (c.in_ok-plan.ensures.same_held ∙ c.in_ok-netlist.ensures.same_held)

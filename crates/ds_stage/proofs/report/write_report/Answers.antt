@@ -1,4 +1,4 @@
-use Rattle.std.proofs.Common.{ap, refl}
+use Rattle.std.proofs.Common.{ap, inl, refl}
 use Rattle.std.specs.Prelude.{codes}
 use Rattle.ds_rows.proofs.Then.{goes_on, with_text}
 use Rattle.ds_stage.specs.Report.{count_line, report_text}
@@ -23,7 +23,7 @@ returns-in-Err g c =
     (with_text (ap (count_line (codes "registers")) c.registers.ensures.value) c.put_count-so_far-3.ensures))
     c.in-Err.ensures).on_ok in (
       report_text c.args.netlist.now c.levels.result,
-      (c.levels.result, c.levels.ensures.value, refl),
+      inl (c.levels.result, c.levels.ensures.value, refl),
       writes.err,
       writes.cause,
     )

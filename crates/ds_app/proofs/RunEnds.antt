@@ -1,0 +1,101 @@
+-- How `run` ends, and that there is a text of all vectors.
+use Rattle.std.proofs.Common.{◌≡◌, ◌∙◌, ◌++◌, ◌+◌, ◌<◌, ℕ, Bool, true, false, List, [], ◌∷◌, Option, Some, Ok, Err, length, ap, inl, refl, subst, sym, arith}
+use Rattle.std.specs.Prelude.{All, codes, decimal}
+use Rattle.std.proofs.lemmas.List.Elements.{All-head, All-tail}
+use Rattle.ds_base.specs.Values.{Row}
+use Rattle.ds_marked.specs.Graph.{Graph, IsLive, counted}
+use Rattle.ds_marked.specs.Log.{IsLogFrom}
+use Rattle.ds_marked.proofs.Progress.{reachability}
+use Rattle.ds_outside.specs.Fault.{Rose}
+use Rattle.ds_outside.specs.Held.{Held}
+use Rattle.ds_outside.specs.Written.{appended, AppendsPart}
+use Rattle.ds_outside.proofs.Appended.{appended-append}
+use Rattle.ds_design.specs.Circuit.{columns, initial_row}
+use Rattle.ds_design.specs.Rows.{Rows}
+use Rattle.ds_design.specs.Trace.{end_line}
+use Rattle.ds_latch.specs.Plan.{Planned}
+use Rattle.ds_clocked.proofs.Turns.{whole_trace}
+use Rattle.ds_trace.specs.Ended.{IsRunEnd}
+use Rattle.ds_trace.specs.Logged.{IsLogOf, Listed}
+use Rattle.ds_trace.proofs.Ended.{end_spells_run}
+use Rattle.ds_trace.proofs.Logged.{legal_events, log_more}
+use Rattle.ds_stage.specs.declared.stop.Stop.TheVariants.{Unwritten}
+use Rattle.ds_stage.specs.Ends.{Ends, Output}
+use Rattle.ds_stage.specs.Stage.{OfFile}
+use Rattle.ds_stage.specs.StreamStage.{most_vectors}
+use Rattle.ds_stage.proofs.Streamed.{AreWritten, GivenOf, Spells, given_whole, of_many}
+use Rattle.ds_app.proofs.WindowEnds.{part_after}
+use Rattle.ds_app.specs.RunStage.{streamed_run_stage, traced_stage}
+
+-- firings have a log
+some_log : (g : Graph) (count : ℕ → ℕ) (events : List ℕ) → All (λ v. v < length g.events) events
+    → (text : List ℕ) × IsLogFrom g count events text
+some_log g count [] all = ([], refl)
+some_log g count (v ∷ events) all =
+    let (name, none, named, after, is) = log_more g [] v 1 [] (All-head (λ (u : ℕ). u < length g.events) v events all) refl refl in
+    let (rest, logged) = some_log g (counted v count) events (All-tail (λ (u : ℕ). u < length g.events) v events all) in
+    (name ++ codes " " ++ decimal (count v + 1) ++ codes "\n" ++ rest, (name, rest, named, logged, refl))
+
+-- behind the lines of all turns stands the line `end`, and some log where one is wanted
+pub run_spells : (p : Planned) → IsLive p.graph → (log : Bool) → Spells (traced_stage log p.split.circuit p) p.split.circuit
+run_spells p live false rows lines last are =
+    (end_line last, (refl, whole_trace p.split.circuit (initial_row p.split.circuit) rows.rows lines last refl are))
+run_spells p live true rows lines last are =
+    let turns : ℕ = length rows.rows in
+    let (events, legal, all) = reachability p.graph live turns (λ (v : ℕ). turns) (record { agrees = λ k d inside. omega arith; within = λ v inside. omega arith }) in
+    let (log, logged) = some_log p.graph (λ (v : ℕ). 0) events (legal_events p.graph turns (λ (v : ℕ). 0) events legal) in
+    let text : List ℕ = end_line last ++ (codes "firings\n" ++ log) in
+    let listed : Listed = record { events = events; kinds = length p.graph.events } in (
+      text,
+      (
+        refl,
+        end_spells_run p true rows.rows lines last (Some listed) text are
+            (record { listed = record { legal = legal; full = all }; kinds = refl })
+            (codes "firings\n" ++ log, (log, logged, refl), refl),
+      ),
+    )
+
+module _ (held : List ℕ → Held) (vec : List ℕ) (p : Planned) (log : Bool) (failed : OfFile) (out : Output) (mid : Option (List ℕ)) (given : ℕ) (rows : List Row) (state : Row)
+    (is : GivenOf (held vec) p.split.circuit (most_vectors log) given false rows) (written : AreWritten p.split.circuit rows state out.old mid)
+    (kept : Option Listed) (logged : IsLogOf log p.graph given kept) (text : List ℕ) (end : IsRunEnd p.graph kept state text) where
+  -- the vectors, and the text of their run
+  abbrev these : Rows
+  these = record { width = length (columns p.split.circuit); rows = rows }
+
+  means : (streamed_run_stage held vec log p.split.circuit p).means (written.lines ++ text)
+  means = (
+    these,
+    given_whole p.split.circuit (most_vectors log) (held vec) given rows is,
+    (
+      refl,
+      end_spells_run p log rows written.lines state kept text written.are
+          (subst (λ (turns : ℕ). IsLogOf log p.graph turns kept) (sym (of_many (held vec) p.split.circuit (most_vectors log) given false rows is)) logged) end,
+    ),
+  )
+
+  -- the end is written whole
+  pub run_ends_whole : out.new ≡ appended mid text → Ends {A = Unit {0}} (streamed_run_stage held vec log p.split.circuit p) failed out (Ok tt)
+  run_ends_whole more = (
+    written.lines ++ text,
+    means,
+    more ∙ (ap (λ (w : Option (List ℕ)). appended w text) written.written ∙ appended-append out.old written.lines text),
+  )
+
+  -- or in part
+  pub run_ends_part : AppendsPart mid out.new text → Rose out.before out.now → Ends {A = Unit {0}} (streamed_run_stage held vec log p.split.circuit p) failed out (Err Unwritten)
+  run_ends_part part cause = (
+    written.lines ++ text,
+    inl means,
+    part_after out.old mid out.new written.lines text written.written part,
+    cause,
+  )
+
+-- vectors that a job takes have numbers
+pub few_vectors : (log : Bool) → most_vectors log < 4294967296
+few_vectors false = omega arith
+few_vectors true = omega arith
+
+-- the end of a run by the same graph and the same registers
+pub run_end_of : (g other : Graph) (kept : Option Listed) (state shown : Row) (text : List ℕ) → g ≡ other → shown ≡ state → IsRunEnd other kept shown text → IsRunEnd g kept state text
+run_end_of g other kept state shown text same is end =
+    subst (λ (row : Row). IsRunEnd g kept row text) is (subst (λ (k : Graph). IsRunEnd k kept shown text) (sym same) end)

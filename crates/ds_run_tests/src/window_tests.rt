@@ -1,0 +1,74 @@
+//! Runs and clocked traces over more vectors than a window has.
+
+use ds_base::OutOfMemory;
+use ds_outside::OpenGate;
+use ds_trial::{TOGGLE, printed};
+use std::alloc::{AllocError, Global};
+use std::test::Fail;
+use std::thread::Threads;
+
+// As many lines `1`.
+fn ones(alloc: Global, count: usize) -> Result<String, AllocError> {
+    let mut text = String::new(alloc);
+    for _ in 0..count {
+        text.push_str("1\n")?;
+    }
+    Ok(text)
+}
+
+// Whether `run` and `clock` print the same trace of the toggle on these vectors, with this end.
+fn is_traced<R: AllocGlobal + Threads + Sync>(
+    rt: &R,
+    vectors: String,
+    end: &[u8],
+) -> Result<bool, OutOfMemory> {
+    let net = String::from_str(rt.alloc(), TOGGLE)?;
+    let files = [("n", net.as_str()), ("v", vectors.as_str())];
+    let Some(clocked) = printed(rt, &files, "desync clock n v", &OpenGate) else {
+        return Ok(false);
+    };
+    let Some(run) = printed(rt, &files, "desync run n v --jobs 2", &OpenGate) else {
+        return Ok(false);
+    };
+    let trace = run.as_str().as_bytes();
+    Ok(trace == clocked.as_str().as_bytes() && trace.ends_with(end))
+}
+
+#[test]
+fn windows_are_one_trace(rt: HostRuntime) -> Result<(), Fail> {
+    let alloc = rt.alloc();
+    assert!(rt; is_traced(&rt, ones(alloc, 4_095)?, b"\n4094 0 0\nend 1\n")?);
+    assert!(rt; is_traced(&rt, ones(alloc, 4_096)?, b"\n4095 1 1\nend 0\n")?);
+    assert!(rt; is_traced(&rt, ones(alloc, 4_097)?, b"\n4096 0 0\nend 1\n")?);
+    assert!(rt; is_traced(&rt, ones(alloc, 8_193)?, b"\n8192 0 0\nend 1\n")?);
+    Ok(())
+}
+
+// Whether the log that three workers print on these vectors is fired again, to this end.
+fn is_fired_again<R: AllocGlobal + Threads + Sync>(
+    rt: &R,
+    vectors: String,
+    end: &[u8],
+) -> Result<bool, OutOfMemory> {
+    let net = String::from_str(rt.alloc(), TOGGLE)?;
+    let files = [("n", net.as_str()), ("v", vectors.as_str())];
+    let Some(log) = printed(rt, &files, "desync run n v --log --jobs 3", &OpenGate) else {
+        return Ok(false);
+    };
+    let files = [
+        ("n", net.as_str()),
+        ("v", vectors.as_str()),
+        ("l", log.as_str()),
+    ];
+    let Some(text) = printed(rt, &files, "desync replay n v l", &OpenGate) else {
+        return Ok(false);
+    };
+    Ok(text.as_str().as_bytes().ends_with(end))
+}
+
+#[test]
+fn the_log_of_windows_is_fired_again(rt: HostRuntime) -> Result<(), Fail> {
+    let vectors = ones(rt.alloc(), 4_097)?;
+    assert!(rt; is_fired_again(&rt, vectors, b"\nfired 32776 of 32776\n")?);
+    Ok(())
+}
