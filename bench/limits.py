@@ -95,6 +95,8 @@ def jobs(folder):
     yield "check: 20,000 models, each with one use of the next", ["check", net], 0
     net = write(folder, "chain.blif", chain(65000))
     yield "check: a chain of 65,000 tables", ["check", net], 0
+    net = write(folder, "line.blif", [".model line", "# " + "x" * 16000000, ".end"])
+    yield "check: a line of 16,000,000 bytes", ["check", net], 0
     net = write(folder, "row.blif", registers(4096))
     yield "graph: 4,096 registers in a row", ["graph", net], 0
     net = write(folder, "dense.blif", dense(722))
@@ -105,6 +107,13 @@ def jobs(folder):
     with open(text, "wb") as file:
         subprocess.run([PROGRAM, "graph", net], stdout=file, check=True)
     yield "accept: the same, by the graph that was written", ["accept", net, text], 0
+    net = write(folder, "few.blif", dense(180))
+    yield "graph --shake: 180 registers, 261,364 arcs", ["graph", net, "--shake"], 0
+    text = os.path.join(folder, "few.g")
+    with open(text, "wb") as file:
+        subprocess.run([PROGRAM, "graph", net, "--shake"], stdout=file, check=True)
+    yield "accept: the same, by the expansion that was written", ["accept", net, text], 0
+    yield "run: the same, 20 vectors", ["run", net, vec, "--graph", text], 0
     net = write(folder, "toggle.blif", toggle())
     text = write(folder, "full.g", full_graph(1024))
     yield "accept: 1,048,576 arcs that are read, and refused", ["accept", net, text], 1

@@ -44,7 +44,7 @@ _desync() {
         run) options="--clusters --graph --jobs --log --slack" most=2 ;;
         clock) most=2 ;;
         check) most=1 ;;
-        graph) options=--clusters most=1 ;;
+        graph) options="--clusters --shake" most=1 ;;
         replay) options="--clusters --graph --slack --transparent" most=3 ;;
         accept | period) options=--clusters most=2 ;;
         demo) options=--jobs ;;

@@ -74,13 +74,42 @@ class Graph:
                 yield source, self.targets[place], self.tokens.get(place, 0)
 
     def data_edges(self):
-        """The pairs of nodes with both orders of a data edge: P+ to C+, and C- to P+."""
-        arcs = {(source, target) for source, target, _ in self.arcs()}
-        for source, target in arcs:
-            first, second = source[:-1], target[:-1]
-            if source[-1] == target[-1] == "+" and (second + "-", source) in arcs:
-                if NODE.match(first) and NODE.match(second) and carries(first, second):
-                    yield first, second
+        """The pairs of nodes with both orders of a data edge, P+ to C+ and C- to P+, each with the
+        names of the signals and dummies through which these orders go."""
+        after = {}
+        for source, target, _ in self.arcs():
+            after.setdefault(source, []).append(target)
+        reached = {event: reached_from(event, after) for event in after if node_of(event)}
+        for source, ways in reached.items():
+            first = node_of(source)
+            for target, names in ways.items():
+                second = node_of(target)
+                back = reached.get(second + "-", {})
+                if source[-1] == target[-1] == "+" and source in back and carries(first, second):
+                    yield (first, second), list(dict.fromkeys(names + back[source]))
+
+
+def node_of(event):
+    """The node of an event; None where it is none's."""
+    parts = EVENT.match(event)
+    return parts.group(1) if parts and NODE.match(parts.group(1)) else None
+
+
+def reached_from(source, after):
+    """The events of nodes to which an event leads, along an arc or through events that are no
+    node's, each with the names of those on the shortest way."""
+    found, seen, waiting = {}, {source}, [(source, [])]
+    for event, names in waiting:
+        for target in after.get(event, []):
+            if target in seen:
+                continue
+            seen.add(target)
+            if node_of(target):
+                found[target] = names
+            else:
+                parts = EVENT.match(target)
+                waiting.append((target, names + [parts.group(1) if parts else target]))
+    return found
 
 
 def carries(first, second):
