@@ -1,7 +1,8 @@
 -- How a job ends that reads its vectors window by window.
 use Rattle.std.proofs.Common.{◌≡◌, ◌≢◌, ◌∙◌, ◌⊎◌, ◌==◌, ◌++◌, ◌+◌, ◌*◌, ◌/◌, ◌<◌, ◌≤◌, ℕ, zero, suc, Bool, true, false, List, [], ◌∷◌, Option, None, Some, Result, Ok, Err, length, take, drop, length-append, refl, ap, sym, subst, arith, inl, inr}
 use Rattle.std.specs.Prelude.{All}
-use Rattle.std.proofs.lemmas.List.{length-map, length-take, get_or-take, take-take, take-append-drop, take-append-le, append_assoc}
+use Rattle.std.proofs.lemmas.List.{length-map, length-take, get_or-take, take_all, take-take, take-append-drop, take-append-le, append_assoc}
+use Rattle.std.proofs.lemmas.Bool.{eqb-true}
 use Rattle.std.proofs.lemmas.List.Elements.{All-append, All-tail}
 use Rattle.std.proofs.Math.Seq.{take-append-add}
 use Rattle.ds_base.specs.Values.{Row}
@@ -30,7 +31,7 @@ use Rattle.ds_stage.specs.declared.stop.Stop.TheVariants.{Refused, Unread, Unwri
 use Rattle.ds_stage.specs.Ends.{Ends, Output, RoseIn}
 use Rattle.ds_stage.specs.Stage.{OfFile, Stage, IsExclusive, giving, then_stage}
 use Rattle.ds_stage.specs.Stages.{OfBytes}
-use Rattle.ds_stage.specs.StreamStage.{AreAllWindowLines, AreWindowLines, HasFault, IsFaultLine, IsStreamLine, gives_held, leaves_held, streamed_stage}
+use Rattle.ds_stage.specs.StreamStage.{AreAllWindowLines, AreSomeWindowLines, AreWindowLines, HasFault, IsFaultLine, IsStreamLine, gives_held, leaves_held, streamed_stage}
 use Rattle.ds_stage.specs.StreamStops.{StopsWindow}
 use Rattle.ds_stage.proofs.Ends.{rose_since}
 use Rattle.ds_stage.proofs.Failed.{Says}
@@ -38,9 +39,15 @@ use Rattle.ds_stage.proofs.Left.{nothing_appended}
 use Rattle.ds_stage.proofs.Meant.{stream_wide}
 use Rattle.ds_stage.proofs.Streams.{IsGiven, IsNextOf, all_given, given_many, more_given, next_of, none_given}
 
+-- so many rows of the width, a whole number of windows while there is more
+pub record AreRowsGiven (c : Circuit) (given : ℕ) (more : Bool) (rows : List Row) : Type 0 where
+  pub many : length rows ≡ given
+  pub wide : All (λ row. length row ≡ length (columns c)) rows
+  pub windows : more ≡ true → (n : ℕ) × (given ≡ n * 4096)
+
 -- so many vectors of what is held have been given, where that is told
 abbrev pub GivenOf : Held → Circuit → ℕ → ℕ → Bool → List Row → Type 0
-GivenOf untold c most given more rows = (length rows ≡ given) × All (λ row. length row ≡ length (columns c)) rows
+GivenOf untold c most given more rows = AreRowsGiven c given more rows
 GivenOf absent c most given more rows = (more ≡ true) × (rows ≡ []) × (given ≡ 0)
 GivenOf (bytes text) c most given more rows = IsGiven (stream_of (length (columns c)) most text) given more rows
 
@@ -51,12 +58,16 @@ pub record AreWritten (c : Circuit) (rows : List Row) (state : Row) (old new : O
   pub written : new ≡ appended old lines
 
 pub of_many : (h : Held) (c : Circuit) (most given : ℕ) (more : Bool) (rows : List Row) → GivenOf h c most given more rows → length rows ≡ given
-of_many untold c most given more rows is = is.0
+of_many untold c most given more rows is = is.many
 of_many absent c most given more rows (goes, none, zero_given) = ap length none ∙ sym zero_given
 of_many (bytes text) c most given more rows is = given_many (stream_of (length (columns c)) most text) given more rows is
 
 pub of_none : (h : Held) (c : Circuit) (most : ℕ) → GivenOf h c most 0 true []
-of_none untold c most = (refl, λ k d inside. absurd (omega arith))
+of_none untold c most = record {
+  many = refl;
+  wide = λ k d inside. absurd (omega arith);
+  windows = λ is. (0, refl);
+}
 of_none absent c most = (refl, refl, refl)
 of_none (bytes text) c most = none_given (stream_of (length (columns c)) most text)
 
@@ -75,8 +86,11 @@ next_here c most shown text of fits =
 -- a window more
 pub of_more : (h : Held) (c : Circuit) (most : ℕ) (shown after : Shown) (rows next : List Row) → IsReaderOf c most shown → FitsHeld h shown
     → GivenOf h c most shown.given true rows → GivesHeld h shown 4096 after next → All (λ row. length row ≡ length (columns c)) next → GivenOf h c most (shown.given + length next) (length next == 4096) (rows ++ next)
-of_more untold c most shown after rows next of fits (many, wide) gives next_wide =
-    (length-append rows next ∙ ap (λ (n : ℕ). n + length next) many, All-append (λ (row : Row). length row ≡ length (columns c)) rows next wide next_wide)
+of_more untold c most shown after rows next of fits is gives next_wide = record {
+  many = length-append rows next ∙ ap (λ (n : ℕ). n + length next) is.many;
+  wide = All-append (λ (row : Row). length row ≡ length (columns c)) rows next is.wide next_wide;
+  windows = λ whole. let (n, windows) = is.windows refl in (n + 1, let e = eqb-true (length next) 4096 whole in omega (arith, e, windows));
+}
 of_more absent c most shown after rows next of fits is none next_wide = absurd (let e : 4096 ≡ 0 = none in omega (arith, e))
 of_more (bytes text) c most shown after rows next of fits is gives next_wide =
     let s : Stream = stream_of (length (columns c)) most text in
@@ -124,17 +138,34 @@ all_window_lines c s given rows state lines is short are =
       all = omega (arith, windows, short);
     }
 
+-- the same of rows that nothing tells
+window_lines_given : (c : Circuit) (given : ℕ) (rows : List Row) (state : Row) (lines : List ℕ) → AreRowsGiven c given true rows
+    → AreLines c 0 (initial_row c) rows lines state → AreSomeWindowLines c lines
+window_lines_given c given rows state lines is are =
+    let (n, windows) = is.windows refl in
+    let all : take (n * 4096) rows ≡ rows = take_all (n * 4096) rows (omega (arith, windows, is.many)) in
+    record {
+      rows = rows;
+      wide = is.wide;
+      lines = record {
+        windows = n;
+        few = omega (arith, windows, is.many);
+        last = state;
+        lines = subst (λ (these : List Row). AreLines c 0 (initial_row c) these lines state) (sym all) are;
+      };
+    }
+
 -- what is left where memory was wanted or a read failed
 pub left_memory : (h : Held) (c : Circuit) (most given : ℕ) (rows : List Row) (state : Row) (lines : List ℕ) → GivenOf h c most given true rows
     → AreLines c 0 (initial_row c) rows lines state → leaves_held h c most Memory lines
-left_memory untold c most given rows state lines is are = tt
+left_memory untold c most given rows state lines is are = window_lines_given c given rows state lines is are
 left_memory absent c most given rows state lines (goes, none, zero_given) are =
     (subst (λ (these : List Row). AreLines c 0 (initial_row c) these lines state) none are).0
 left_memory (bytes text) c most given rows state lines is are = window_lines c (stream_of (length (columns c)) most text) given rows state lines is are
 
 left_unread : (h : Held) (c : Circuit) (most given : ℕ) (rows : List Row) (state : Row) (lines line : List ℕ) → GivenOf h c most given true rows
     → AreLines c 0 (initial_row c) rows lines state → leaves_held h c most (Unread line) lines
-left_unread untold c most given rows state lines line is are = tt
+left_unread untold c most given rows state lines line is are = window_lines_given c given rows state lines is are
 left_unread absent c most given rows state lines line (goes, none, zero_given) are =
     (subst (λ (these : List Row). AreLines c 0 (initial_row c) these lines state) none are).0
 left_unread (bytes text) c most given rows state lines line is are = window_lines c (stream_of (length (columns c)) most text) given rows state lines is are
@@ -151,7 +182,7 @@ left_refused : (h : Held) (c : Circuit) (most : ℕ) (shown : Shown) (rows : Lis
     → IsReaderOf c most shown → FitsHeld h shown → GivenOf h c most shown.given true rows → AreLines c 0 (initial_row c) rows lines state
     → RefusesHeld h shown 4096 fault → IsStreamLine file fault line
     → OfBytes h (λ text. IsFaultLine file (stream_of (length (columns c)) most text) line) × leaves_held h c most (Refused line) lines
-left_refused untold c most shown rows state lines file line fault of fits is are refused says = (tt, tt)
+left_refused untold c most shown rows state lines file line fault of fits is are refused says = (tt, window_lines_given c shown.given rows state lines is are)
 left_refused absent c most shown rows state lines file line fault of fits is are refused says =
     absurd (let e : None ≡ Some fault = stopped_by None fault file line refused says in cc)
 left_refused (bytes text) c most shown rows state lines file line fault of fits is are refused says =
@@ -305,7 +336,7 @@ module _ (c : Circuit) (range : IsInRange c) (accepted : IsAccepted c) (most : �
       → AreLines c 0 (initial_row c) rows lines state → (rest : List ℕ) × MeansOrLeaves h (lines ++ rest)
   begins_in untold given more rows state lines is there are =
       let (rest, means) = spells (record { width = length (columns c); rows = rows }) lines state are in
-      (rest, inl (record { width = length (columns c); rows = rows }, is.1, means))
+      (rest, inl (record { width = length (columns c); rows = rows }, is.wide, means))
   begins_in absent given more rows state lines is there are = absurd (there refl)
   begins_in (bytes text) given more rows state lines is there are =
       let s : Stream = stream_of (length (columns c)) most text in
@@ -339,7 +370,7 @@ module _ (c : Circuit) (range : IsInRange c) (accepted : IsAccepted c) (most : �
 -- all vectors are given
 pub given_whole : (c : Circuit) (most : ℕ) (h : Held) (given : ℕ) (rows : List Row) → GivenOf h c most given false rows
     → gives_held h (length (columns c)) most (record { width = length (columns c); rows = rows })
-given_whole c most untold given rows is = is.1
+given_whole c most untold given rows is = is.wide
 given_whole c most absent given rows is = absurd (let e : false ≡ true = is.0 in cc)
 given_whole c most (bytes text) given rows is =
     let s : Stream = stream_of (length (columns c)) most text in

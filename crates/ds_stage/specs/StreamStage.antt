@@ -65,9 +65,16 @@ leaves_windows c s (Unread line) text = AreWindowLines c s.rows text
 leaves_windows c s Unwritten text = HasFault s × AreAllWindowLines c s.rows text
 leaves_windows c s Memory text = AreWindowLines c s.rows text
 
--- the same of what is held, where that is told; of a file that is not there nothing was written
+-- the trace lines of whole windows of the clocked run on some rows of the width
+pub record AreSomeWindowLines (c : Circuit) (text : List ℕ) : Type 0 where
+  pub rows : List Row
+  pub wide : All (λ row. length row ≡ length (columns c)) rows
+  pub lines : AreWindowLines c rows text
+
+-- the same of what is held, where that is told, else the lines of some whole windows; of a file
+-- that is not there nothing was written
 abbrev pub leaves_held : Held → Circuit → ℕ → Stop → List ℕ → Type 0
-leaves_held untold c most stop text = Unit {0}
+leaves_held untold c most stop text = AreSomeWindowLines c text
 leaves_held absent c most stop text = leaves_nothing stop text
 leaves_held (bytes text) c most stop left =
     leaves_windows c (stream_of (length (columns c)) most text) stop left

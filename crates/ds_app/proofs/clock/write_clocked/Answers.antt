@@ -87,6 +87,18 @@ returns-in-Err-Write-clause-value g c =
     written (c.in-Err-Write.ensures.part (ap Err c.in-Err-Write.field-0-is))
     (rose_since (g.O.Sink.faults c.args.out.now) (g.O.Sink.faults c.windows.out) (g.O.Sink.faults c.simulate_from.new.out) kept.never_fell (c.in-Err-Write.ensures.cause (ap Err c.in-Err-Write.field-0-is)))
 
+pub returns-in-Err-Memory-clause-value : goal.returns-in-Err-Memory-clause-value
+returns-in-Err-Memory-clause-value g c =
+    let held : List ℕ → Held = g.F.Files.held c.args.files.now in
+    let vec : List ℕ = c.args.vec.now in
+    let circuit : Circuit = c.args.netlist.now in
+    let (rows, is, written) = c.windows.invariant.so_far in
+    let failed : OfFile = RoseIn (g.F.Files.faults c.args.files.now) (g.F.Files.faults c.read_window.new.files) in
+    let out : Output = (record { old = g.O.Sink.written c.args.out.now; new = g.O.Sink.written c.simulate_from.new.out; before = g.O.Sink.faults c.args.out.now; now = g.O.Sink.faults c.simulate_from.new.out }) in
+    memory_stops (Unit {0}) held vec circuit 4294967295 (λ (r : Rows). trace_stage circuit r) failed out c.windows.first rows c.windows.state
+    (subst (λ (b : Bool). GivenOf (held vec) circuit 4294967295 c.windows.first b rows) c.windows-test.true is)
+    (subst (λ (w : Option (List ℕ)). AreWritten circuit rows c.windows.state (g.O.Sink.written c.args.out.now) w) (sym (c.in-Err-Memory.ensures.same (ap Err c.in-Err-Memory.field-0-is))) written)
+
 pub windows-preserved : goal.windows-preserved
 windows-preserved g c =
     let held : List ℕ → Held = g.F.Files.held c.args.files.now in
