@@ -5,7 +5,7 @@ use Rattle.std.proofs.Common.{length-drop, Bor, ◌||◌, inl, inr}
 use Rattle.std.specs.List.{before_first, position_or_len, list_any}
 use Rattle.std.proofs.lemmas.Bool.{cases_Bool, false≢true}
 use Rattle.std.proofs.lemmas.List.{drop-drop, drop_more, take_rest, take_all, take-take, map-append}
-use Rattle.std.proofs.lemmas.List.{take-append-le, take-map, length-map, length-take-le}
+use Rattle.std.proofs.lemmas.List.{take-append-le, take-map, length-map, length-take-le, length-append}
 use Rattle.ds_lines.specs.Line.{words_of, is_blank, is_end, is_backslash}
 use Rattle.ds_lines.specs.Line.{kept_len, trimmed}
 use Rattle.ds_lines.specs.Draft.{is_stop, ends_word}
@@ -92,6 +92,9 @@ pub pushed : (items all : List (Bor (List ℕ))) (word : Bor (List ℕ)) (left n
 pushed items all word left next whole is at before =
     rw (is, map-append) (append_assoc (map {B = List ℕ} (λ w. w.now) items) (word.now ∷ []) next
     ∙ (ap (λ (ws : List (List ℕ)). map {B = List ℕ} (λ w. w.now) items ++ ws) (sym at) ∙ before))
+
+pub one_more : (items all : List (Bor (List ℕ))) (word : Bor (List ℕ)) → all ≡ items ++ word ∷ [] → length all ≡ length items + 1
+one_more items all word is = ap length is ∙ length-append items (word ∷ [])
 
 -- what was there before words were added
 pub truncated : (old one two : List (Bor (List ℕ))) (words : List (List ℕ)) (count : ℕ)

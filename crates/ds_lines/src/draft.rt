@@ -56,90 +56,63 @@ impl<'a> Draft<'a> {
 
     /// Takes the first physical line of a text, and gives the text behind its end, where it has
     /// one.
-    pub fn take(self, text: &'a [u8]) -> Result<(Self, Option<&'a [u8]>), AllocError>
-        requires { self.number < 2 ^ 64 - 1 }
-        ensures more { IfOk result (λ r. IfSome r.1 (λ behind. with_rest r.0
-            (slice_split is_newline behind.now) ≡ with_rest self.entry
+    pub fn take(&mut self, text: &'a [u8]) -> Result<Option<&'a [u8]>, AllocError>
+        requires { self.old.number < 2 ^ 64 - 1 }
+        ensures more { IfOk result (λ r. IfSome r (λ behind. with_rest self.new
+            (slice_split is_newline behind.now) ≡ with_rest self.old
             (slice_split is_newline text.now))) }
-        ensures shorter { IfOk result (λ r. IfSome r.1 (λ behind. length behind.now
+        ensures shorter { IfOk result (λ r. IfSome r (λ behind. length behind.now
             < length text.now)) }
-        ensures last { IfOk result (λ r. IfNone r.1 (with_rest r.0 [] ≡ with_rest self.entry
+        ensures last { IfOk result (λ r. IfNone r (with_rest self.new [] ≡ with_rest self.old
             (slice_split is_newline text.now))) }
-        ensures number { IfOk result (λ r. r.0.number ≡ self.entry.number + 1) }
+        ensures number { IfOk result (λ _. self.new.number ≡ self.old.number + 1) }
     {
-        let (read, place, joined) = self.with_line(text)?;
-        let behind = behind(text, place);
-        if joined {
-            Ok((read, behind))
-        } else {
-            let closed = read.closed()?;
-            Ok((closed, behind))
+        let (place, joined) = self.take_words(text)?;
+        if !joined {
+            self.close()?;
         }
+        Ok(behind(text, place))
     }
 
     // The words of a text's first physical line are added. How many bytes stand before its end or
     // its comment, and whether it is joined.
-    fn with_line(self, text: &'a [u8]) -> Result<(Self, usize, bool), AllocError>
-        requires { self.number < 2 ^ 64 - 1 }
-        ensures read { IfOk result (λ r. r.0 ≡ record self.entry {
-          words = self.entry.words
+    fn take_words(&mut self, text: &'a [u8]) -> Result<(usize, bool), AllocError>
+        requires { self.old.number < 2 ^ 64 - 1 }
+        ensures read { IfOk result (λ _. self.new ≡ record self.old {
+          words = self.old.words
               ++ words_of (trimmed (before_first is_stop text.now));
-          number = self.entry.number + 1;
+          number = self.old.number + 1;
         }) }
-        ensures place { IfOk result (λ r. r.1 ≡ position_or_len is_stop text.now) }
-        ensures joined { IfOk result (λ r. r.2 ≡ is_joined (before_first is_stop text.now)) }
+        ensures place { IfOk result (λ r. r.0 ≡ position_or_len is_stop text.now) }
+        ensures joined { IfOk result (λ r. r.1 ≡ is_joined (before_first is_stop text.now)) }
     {
-        let Draft {
-            spans,
-            mut words,
-            first,
-            start,
-            number,
-        } = self;
-        let (place, joined) = push_line(&mut words, text)?;
-        let read = Draft {
-            spans,
-            words,
-            first,
-            start,
-            number: number + 1,
-        };
-        Ok((read, place, joined))
+        let (place, joined) = push_line(&mut self.words, text)?;
+        self.number += 1;
+        Ok((place, joined))
     }
 
     /// Closes the line that is open.
-    pub fn closed(self) -> Result<Self, AllocError>
-        ensures { IfOk result (λ d. d ≡ record {
-          lines = self.entry.lines
-              ++ line_of self.entry.first self.entry.words;
-          first = self.entry.number;
+    pub fn close(&mut self) -> Result<(), AllocError>
+        ensures { IfOk result (λ _. self.new ≡ record {
+          lines = self.old.lines
+              ++ line_of self.old.first self.old.words;
+          first = self.old.number;
           words =
               [];
-          number = self.entry.number;
+          number = self.old.number;
         }) }
     {
-        let Draft {
-            mut spans,
-            words,
-            first,
-            start,
-            number,
-        } = self;
-        let end = words.len();
-        if start < end {
-            spans.push(Span {
-                number: first,
-                start,
+        let end = self.words.len();
+        if self.start < end {
+            self.spans.push(Span {
+                number: self.first,
+                start: self.start,
                 end,
             })?;
         }
-        Ok(Draft {
-            spans,
-            words,
-            first: number,
-            start: end,
-            number,
-        })
+        self.first = self.number;
+        self.start = end;
+        Ok(())
     }
 
     /// The lines, where none is open.

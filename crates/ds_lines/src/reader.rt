@@ -39,11 +39,12 @@ pub fn lines(alloc: Global, text: &[u8]) -> Result<Lines<'_>, LinesFault>
     if text.len() as u64 > Limit::Bytes.most() {
         return Err(LinesFault::TooLong);
     }
-    let (mut draft, mut rest) = Draft::new(alloc).take(text)?;
+    let mut draft = Draft::new(alloc);
+    let mut rest = draft.take(text)?;
     'reading: while let Some(line) = rest {
-        (draft, rest) = draft.take(line)?;
+        rest = draft.take(line)?;
     }
-    let draft = draft.closed()?;
+    draft.close()?;
     Ok(draft.into_lines())
 }
 

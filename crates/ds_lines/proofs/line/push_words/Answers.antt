@@ -2,7 +2,7 @@ use Rattle.std.proofs.Common.{◌∙◌, ◌≡◌, ◌+◌, ◌++◌, ◌-◌, 
 use Rattle.std.specs.List.{before_first}
 use Rattle.ds_lines.specs.Draft.{is_stop}
 use Rattle.ds_lines.specs.Line.{words_of}
-use Rattle.ds_lines.proofs.Steps.{blank_stop, blank_words, word_at, pushed}
+use Rattle.ds_lines.proofs.Steps.{blank_stop, blank_words, word_at, one_more, pushed}
 use Rattle.ds_lines.proofs.line.push_words.Goals as goal
 
 pub reading-preserved-then-blank : goal.reading-preserved-then-blank
@@ -14,6 +14,7 @@ reading-preserved-then-blank c =
     record {
       within = omega arith;
       so_far = omega arith;
+      more = c.reading.invariant.more;
       words = ap (λ ws. map {B = List ℕ} (λ w. w.now) c.reading.words.items ++ ws) (sym (blank_words c.args.text.now c.reading.place 0 less on
           blank)) ∙ c.reading.invariant.words;
     }
@@ -45,6 +46,9 @@ reading-preserved c =
     record {
       within = at.within;
       so_far = omega arith;
+      more =
+          let e = one_more c.reading.words.items c.push.new.self.items _ c.in_ok-push.ensures.items in
+          omega (arith, e, c.reading.invariant.more);
       words = pushed c.reading.words.items c.push.new.self.items _ _ _ _ c.in_ok-push.ensures.items
           (at.words ∙ ap (λ n. take n (drop c.reading.place c.args.text.now) ∷ words_of
           (before_first is_stop (drop (c.reading.place + c.word_len.result) c.args.text.now)))
