@@ -1,8 +1,9 @@
 -- The fault of a line, after the lines before it.
-use Rattle.std.specs.Prelude.{ℕ, Bool, false, not, List, [], ◌∷◌, drop, length, Option, None}
+use Rattle.std.specs.Prelude.{ℕ, Bool, false, not, List, [], ◌∷◌, drop, length, Option, None, ◌+◌}
 use Rattle.std.specs.Prelude.{Some, ◌==◌, ◌||◌, if◌then◌else◌, nat_lt, is_some}
 use Rattle.std.specs.List.{list_any}
 use Rattle.std.specs.Str.{bytes_eq}
+use Rattle.ds_base.specs.Limit.{most_of}
 use Rattle.ds_base.specs.declared.number.Limit.TheVariants.{TableInputs}
 use Rattle.ds_blif.specs.Word.{word_at}
 use Rattle.ds_blif.specs.Form.{is_row_form, output_of, is_latch_form, is_level_latch, has_bad_init}
@@ -49,11 +50,15 @@ latch_fault words = first_of (
     ∷ where_true (has_bad_init words) BadInit
     ∷ [])
 
+-- the head of a table has more inputs than there may be, beside the command and the output
+abbrev pub has_too_many_inputs : List (List ℕ) → Bool
+has_too_many_inputs words = nat_lt (most_of TableInputs + 2) (length words)
+
 -- the fault of a table's head
 abbrev pub names_fault : List (List ℕ) → Option BlifKind
 names_fault words = first_of (
     where_true (nat_lt (length words) 2) BadWords
-    ∷ where_true (nat_lt 1026 (length words)) (TooMany TableInputs)
+    ∷ where_true (has_too_many_inputs words) (TooMany TableInputs)
     ∷ [])
 
 -- the fault of a use of a model

@@ -7,7 +7,7 @@ use Rattle.ds_base.specs.declared.number.Limit.TheVariants.{TableInputs}
 use Rattle.ds_blif.specs.Word.{word_at}
 use Rattle.ds_blif.specs.Form.{output_of, is_latch_form, is_level_latch, has_bad_init}
 use Rattle.ds_blif.specs.Form.{has_bad_pairs}
-use Rattle.ds_blif.specs.Fault.{where_true, first_of, differs, is_row_of}
+use Rattle.ds_blif.specs.Fault.{where_true, first_of, differs, is_row_of, has_too_many_inputs}
 use Rattle.ds_blif.specs.State.{State, is_unknown, wants_model}
 use Rattle.ds_blif.specs.declared.head.Head.{Head}
 use Rattle.ds_blif.specs.declared.head.Head.TheVariants.{Row, Names, Model, Latch, Subckt}
@@ -52,7 +52,7 @@ fault_in_order head state words = first_of (
     ∷ where_true (wants_model head && not state.is_open) NoModel
     ∷ where_true (is_row head && not (is_some state.table)) RowWithoutTable
     ∷ where_true (has_bad_words head words) BadWords
-    ∷ where_true (is_names head && nat_lt 1026 (length words)) (TooMany TableInputs)
+    ∷ where_true (is_names head && has_too_many_inputs words) (TooMany TableInputs)
     ∷ where_true (is_latch head && is_level_latch words) LevelLatch
     ∷ where_true (is_latch head && has_bad_init words) BadInit
     ∷ where_true (is_model head && list_any (bytes_eq (word_at words 1)) state.models)

@@ -23,7 +23,7 @@ fn names_fault(words: &[&[u8]]) -> Option<BlifKind>
 {
     if words.len() < 2 {
         Some(BlifKind::BadWords)
-    } else if words.len() > 1026 {
+    } else if words.len() as u64 > Limit::TableInputs.most() + 2 {
         Some(BlifKind::TooMany(Limit::TableInputs))
     } else {
         None
