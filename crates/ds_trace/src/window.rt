@@ -35,7 +35,7 @@ pub struct RunWindow<'a, 'n> {
 /// Runs a window by these workers and writes its lines, without the line `end`. Gives the registers
 /// after its last turn, one value per register. Where a log is kept, it takes the firings of the
 /// window. Without vectors nobody runs. After `Memory` nothing is written and the log is as it was,
-/// after `Write` a first part of the lines is written.
+/// after `Write` a first part of the lines is written and the log has the firings.
 pub fn write_window<R: Threads + Sync, G: Gate, O: Sink>(
     alloc: Global,
     window: &RunWindow<'_, '_>,
@@ -63,6 +63,8 @@ pub fn write_window<R: Threads + Sync, G: Gate, O: Sink>(
         (O.written out.old) (O.written out.new) }
     ensures same { result ≡ Err RunFault.Memory → O.written out.new ≡ O.written out.old }
     ensures same_log { result ≡ Err RunFault.Memory → log.new ≡ log.old }
+    ensures back_log { result ≡ Err RunFault.Write → LogGrows window.now.plan.now.graph
+        (length window.now.vectors.now.rows) log.old log.new }
 
     // When a write failed.
     ensures never_falls { O.faults out.old ≤ O.faults out.new }
