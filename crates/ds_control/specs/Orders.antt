@@ -4,6 +4,7 @@ use Rattle.std.specs.Prelude.{◌++◌, ltb, if◌then◌else◌}
 use Rattle.std.specs.List.{flat_map, range_with_len}
 use Rattle.ds_marked.specs.declared.marked.Arc.{Arc}
 use Rattle.ds_marked.specs.declared.marked.Event.{Event}
+use Rattle.ds_marked.specs.declared.marked.Kind.TheVariants.{Rise, Fall}
 use Rattle.ds_latch.specs.Node.{Master, Slave, Split, nodes}
 use Rattle.ds_latch.specs.Latches.{HasEdges}
 use Rattle.ds_latch.specs.Plan.{node_events}
@@ -49,6 +50,11 @@ edge_arcs slack edges = flat_map (λ e. reading_arc e ∷ freeing_arc slack e �
 -- all of them
 abbrev pub required_arcs : Split → List Edge → List Arc
 required_arcs s edges = node_arcs (nodes s) ++ edge_arcs s.slack edges
+
+-- both events of a signal
+abbrev pub signal_events : List ℕ → List Event
+signal_events name = record { signal = name; kind = Rise }
+    ∷ record { signal = name; kind = Fall } ∷ []
 
 -- the events of the nodes of so many clusters
 abbrev pub cluster_events : ℕ → List Event

@@ -1,7 +1,8 @@
 //! The arcs of the required orders.
-ghost use Rattle.std.specs.Prelude.{◌≡◌, ◌+◌, ◌*◌, ◌<◌, ◌≤◌, ◌++◌, All, IfOk, OnOk};
+ghost use Rattle.std.specs.Prelude.{◌≡◌, ◌+◌, ◌*◌, ◌<◌, ◌≤◌, ◌++◌, All, IfOk, OnErr, OnOk};
 ghost use Rattle.ds_control.specs.Orders.{AreListed, edge_arcs, freeing_arc, node_arcs};
 ghost use Rattle.ds_control.specs.Orders.{reading_arc, tokens_after as tokens_of};
+ghost use Rattle.ds_control.specs.Part.{PushesPart};
 
 use ds_base::{EventId, LatchId};
 use ds_latch::{DataEdge, Latches};
@@ -23,7 +24,10 @@ pub(crate) fn arcs(alloc: Global, latches: &Latches<'_>) -> Result<Vec<Arc>, All
 /// closed.
 pub fn push_node_arcs(nodes: u32, arcs: &mut Vec<Arc>) -> Result<(), AllocError>
     requires { nodes ≤ 1048576 }
-    ensures { OnOk result (arcs.new.items ≡ arcs.old.items ++ node_arcs nodes) }
+    ensures ok { OnOk result (arcs.new.items ≡ arcs.old.items ++ node_arcs nodes) }
+
+    // For want of memory.
+    ensures part { OnErr result (PushesPart arcs.old.items arcs.new.items (node_arcs nodes)) }
 {
     for i in 0..nodes {
         let node = LatchId::new(i);

@@ -1,9 +1,9 @@
 //! The events of the nodes.
-ghost use Rattle.std.specs.Prelude.{◌≡◌, ◌++◌, ◌∷◌, [], IfOk, OnOk};
+ghost use Rattle.std.specs.Prelude.{◌≡◌, ◌++◌, IfOk, OnErr, OnOk};
 ghost use Rattle.ds_latch.specs.Node.{In, Out, Master, Slave};
 ghost use Rattle.ds_latch.specs.Plan.{node_events};
-ghost use Rattle.ds_marked.specs.declared.marked.Kind.TheVariants.{Rise, Fall};
-ghost use Rattle.ds_control.specs.Orders.{cluster_events};
+ghost use Rattle.ds_control.specs.Orders.{cluster_events, signal_events};
+ghost use Rattle.ds_control.specs.Part.{PushesPart};
 
 use ds_base::{OutOfMemory, Seq};
 use ds_marked::{Event, Kind};
@@ -41,9 +41,11 @@ pub fn push_events(
     digits: &[u8],
     events: &mut Seq<Event>,
 ) -> Result<(), OutOfMemory>
-    ensures { OnOk result (events.new ≡ events.old
-        ++ record { signal = word.now ++ digits.now; kind = Rise }
-        ∷ record { signal = word.now ++ digits.now; kind = Fall } ∷ []) }
+    ensures ok { OnOk result (events.new ≡ events.old ++ signal_events (word.now ++ digits.now)) }
+
+    // For want of memory.
+    ensures part { OnErr result
+        (PushesPart events.old events.new (signal_events (word.now ++ digits.now))) }
 {
     events.push(event(alloc, word, digits, Kind::Rise)?)?;
     events.push(event(alloc, word, digits, Kind::Fall)?)
