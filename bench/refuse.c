@@ -3,7 +3,8 @@
  * REFUSE names what is refused: `memory` (malloc, calloc and realloc count together), `read`,
  * `write` or `thread` (pthread_create). REFUSE_AT is the number of the call that is refused, from
  * 1. The file REFUSE_MET is made where a call was refused. With REFUSE `short` each read and each
- * write moves one byte at most, and no call is refused. */
+ * write moves one byte at most, and no call is refused. REFUSE_TO is a descriptor: beside all this,
+ * each write to it is refused. */
 #define _GNU_SOURCE
 #include <dlfcn.h>
 #include <errno.h>
@@ -20,6 +21,7 @@ enum kind { NOTHING, MEMORY, READ, WRITE, THREAD, SHORT };
 static const char *const words[] = {"", "memory", "read", "write", "thread", "short"};
 static enum kind refused_kind = NOTHING;
 static long refused_at = 0;
+static int refused_to = -1;
 static const char *met = NULL;
 static _Atomic long calls = 0;
 static int is_ready = 0;
@@ -28,11 +30,13 @@ static int is_ready = 0;
 __attribute__((constructor)) static void begin(void) {
     const char *word = getenv("REFUSE");
     const char *at = getenv("REFUSE_AT");
+    const char *to = getenv("REFUSE_TO");
     met = getenv("REFUSE_MET");
     for (int k = 1; word && k <= SHORT; k++)
         if (!strcmp(word, words[k]))
             refused_kind = k;
     refused_at = at ? atol(at) : 0;
+    refused_to = to ? atoi(to) : -1;
     is_ready = 1;
 }
 
@@ -84,7 +88,7 @@ ssize_t read(int file, void *bytes, size_t count) {
 }
 
 ssize_t write(int file, const void *bytes, size_t count) {
-    if (is_refused(WRITE)) {
+    if (file == refused_to || is_refused(WRITE)) {
         errno = ENOSPC;
         return -1;
     }

@@ -7,7 +7,9 @@ Each run has to end with the status, the outputs and the line that its good run 
 refusal is to end:
 
 - memory: status 4, `desync: out of memory`, and nothing on the output; what is refused may also be
-  a thread's or a hint's, which nobody misses;
+  a thread's or a hint's, which nobody misses; and once more with each write to the error output
+  refused: the same status and output, and no line; behind the first 512 pieces of a command this
+  is tried at each sixteenth;
 - a read: status 3, the line names a file of the command, and nothing is on the output; an output
   that is written while it is read has whole windows of vectors;
 - a write: status 5, `desync: cannot write`, and a first part of the output; where the error output
@@ -31,6 +33,8 @@ HERE = os.path.dirname(os.path.abspath(__file__))
 PROGRAM = os.path.join(os.path.dirname(HERE), "crates", "desync", "out", "desync")
 WINDOW = 4096
 KINDS = ("memory", "read", "write", "thread")
+# Up to which piece of memory each one is also refused unheard, and which of those behind it.
+EACH, STEP = 512, 16
 TOGGLE = """.model toggle
 .inputs t
 .outputs q
@@ -81,9 +85,18 @@ class Run:
         )
         self.status, self.out, self.err = done.returncode, done.stdout, done.stderr
 
+    def __str__(self):
+        return f"status {self.status}, {len(self.out)} bytes, {self.err!r}"
+
+    def ends_as(self, other):
+        return self.status == other.status and ordered(self.out) == ordered(other.out)
+
     def is_as(self, other):
-        ends = self.status == other.status and self.err == other.err
-        return ends and ordered(self.out) == ordered(other.out)
+        return self.err == other.err and self.ends_as(other)
+
+    def is_unheard(self, other):
+        """It ends as the other, but that its error output was refused."""
+        return self.err == b"" and self.ends_as(other)
 
     def is_part_of(self, other):
         """The output is a first part of the other, but that firings may stand in another order."""
@@ -153,8 +166,11 @@ def refused(program, folder, library, words, good):
             around = {"LD_PRELOAD": library, "REFUSE": kind, "REFUSE_AT": str(at)}
             run = Run(program, folder, plain, dict(around, REFUSE_MET=met).items())
             if not is_right(kind, words, good, run):
-                raise SystemExit(f"{' '.join(plain)}: {kind} {at}: status {run.status},"
-                                 f" {len(run.out)} bytes, {run.err!r}")
+                raise SystemExit(f"{' '.join(plain)}: {kind} {at}: {run}")
+            if kind == "memory" and (at <= EACH or at % STEP == 0):
+                unheard = Run(program, folder, plain, dict(around, REFUSE_TO="2").items())
+                if not unheard.is_unheard(run):
+                    raise SystemExit(f"{' '.join(plain)}: {kind} {at}, unheard: {unheard}")
             if not os.path.exists(met):
                 break
             os.remove(met)
