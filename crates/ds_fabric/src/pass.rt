@@ -1,6 +1,7 @@
 //! A pass: the nodes that one thread may fire, with their histories.
 ghost use Rattle.std.specs.Prelude.{◌≡◌, ◌↔◌, ◌<◌, ℕ, true, IsTrue};
 ghost use Rattle.ds_rule.specs.Rule.{holds, seen};
+ghost use Rattle.ds_fabric.specs.Showing.{IsCounted};
 
 use crate::history::History;
 use crate::places::{find, has};
@@ -57,7 +58,8 @@ impl Pass {
     /// How often the node has fired.
     pub fn fired(&self, node: LatchId) -> u64
         requires { holds self.now.view node ≡ true }
-        ensures { result ≡ seen self.now.view node }
+        ensures value { result ≡ seen self.now.view node }
+        ensures counted { IsCounted self.now.view }
     {
         let number = node.index();
         let nodes = self.nodes.as_slice();

@@ -40,6 +40,13 @@ impl Model for Record {
 }
 
 impl Record {
+    /// How many firings there were.
+    pub fn fired(&self) -> u64
+        ensures { result ≡ self.now.many }
+    {
+        self.many
+    }
+
     /// The tickets of an event's firings, in order.
     pub fn tickets(&self, event: EventId) -> &[u64]
         requires { event < events self.now.shown.view.run }

@@ -35,6 +35,7 @@ pub fn run<R: Threads + Sync, G: Gate>(
         &run,
         &openings,
         workers.jobs,
+        None,
         workers.gate,
     )
 }

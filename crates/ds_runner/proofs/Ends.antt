@@ -1,24 +1,23 @@
--- The record of a run that went to its end.
-use Rattle.std.proofs.Common.{◌≡◌, ℕ, ◌<◌, ◌≤◌, List, [], ◌∷◌, length, sym, ap, ◌∙◌, subst, arith, true}
+-- The record of a run that went to its end, or stopped before it.
+use Rattle.std.proofs.Common.{◌≡◌, ℕ, ◌+◌, ◌-◌, ◌*◌, ◌<◌, ◌≤◌, List, length, sym, ap, ◌∙◌, subst, arith, true, Option, None, Some}
+use Rattle.std.proofs.Common.{mul_left_comm, mul-le-mul_right, one-mul}
 use mathlib.Core.Logic.{dite}
-use native.Mathlib.Decide.{ℕ_discrete}
-use Rattle.ds_rule.specs.Run.{Run, node_of, turns, count}
-use Rattle.ds_rule.specs.Log.{times, IsLegalList, Recorded}
+use native.Mathlib.Decide.{dec_lt}
+use Rattle.ds_rule.specs.Run.{Run, events, node_of, turns, count}
+use Rattle.ds_rule.specs.Sound.{IsSound}
+use Rattle.ds_rule.specs.Log.{IsLegalList, InTurn, Recorded}
 use Rattle.ds_rule.specs.Rule.{holds, seen, tickets}
 use Rattle.ds_rule.specs.declared.view.View.{View}
-use Rattle.ds_rule.proofs.Logs.{times-here, times-else, length-places}
+use Rattle.ds_rule.proofs.EventLaws.{node_below}
+use Rattle.ds_rule.proofs.Logs.{length-places, log_most}
 use Rattle.ds_fabric.specs.Base.{Base}
-use Rattle.ds_fabric.specs.Showing.{Recorder, IsCounted}
-use Rattle.ds_runner.specs.Work.{IsLent}
+use Rattle.ds_fabric.specs.Showing.{Showing, Recorder, IsCounted}
+use Rattle.ds_runner.specs.Work.{CoverBelow, HasBetween, HasFrom, IsLent, IsRest, quota_of, all_tickets, tickets_below}
+use Rattle.ds_runner.specs.declared.worker.Worker.{Worker}
 use Rattle.ds_runner.specs.Whole.{IsWhole}
-use Rattle.ds_fabric.specs.Showing.{Showing}
-
--- no event stands in a legal log more often than it may fire
-times_most : (run : Run) (e : ℕ) (log : List ℕ) → IsLegalList run log → times e log ≤ run.limit
-times_most run e [] legal = omega arith
-times_most run e (x ∷ xs) legal = dite (ℕ_discrete x e)
-    (λ here. omega (arith, times-here e x xs here, legal.1, ap (λ v. times v xs) here))
-    (λ away. omega (arith, times-else e x xs away, times_most run e xs legal.0))
+use Rattle.ds_runner.specs.Stopped.{IsStopped, IsRun, all_firings}
+use Rattle.ds_runner.proofs.Sums.{sum_all}
+use Rattle.ds_runner.proofs.Tickets.{tickets-many, times_most, length_most}
 
 pub whole : (run : Run) (v : View) (r : Recorder) → r.shown.view ≡ v → v.run ≡ run → Recorded run (tickets v) r.many
     → IsCounted v → ((l : ℕ) → l < run.nodes → holds v l ≡ true)
@@ -40,6 +39,74 @@ whole run v r shown run-is recorded counted all done = record {
       ));
 }
 
+-- the firings of a whole run
+whole-many : (run : Run) (r : Recorder) → run.latches ≤ run.nodes → IsWhole run r → all_firings run ≡ r.many
+whole-many run r among w = let v : View = r.shown.view in
+    sym (sum_all (λ e. length (tickets v e)) (events run) run.limit (λ e near. w.all e (node_below run e among near)))
+    ∙ (ap (λ (x : Run). tickets_below v (events x)) (sym w.run_is) ∙ tickets-many run v r.many among w.run_is w.recorded)
+
+-- a legal log is shorter than the count of a run without a quota
+not_full : (run : Run) (log : List ℕ) → IsSound run → IsLegalList run log → InTurn run log
+    → length log < 18446744073709551615
+not_full run log sound legal turns = omega (
+  arith,
+  log_most run log legal turns,
+  sound.narrow,
+  mul_left_comm run.nodes 2 run.limit,
+)
+
+-- how often so many workers have fired together
+pub collected : (before lent many jobs most quota : ℕ) → before ≤ lent + many * most → lent ≡ 0 → many ≤ jobs → most ≡ quota
+    → before ≤ jobs * quota
+collected before lent many jobs most quota low none few is = omega (
+  arith,
+  low,
+  none,
+  mul-le-mul_right most few,
+  ap (λ (m : ℕ). jobs * m) is,
+)
+
+-- with a quota: the workers have fired so often, and the caller has fired the rest, or all that is left
+stopped : (quota jobs : ℕ) (run : Run) (r : Recorder) (before now : ℕ) → IsSound run → 0 < jobs → r.shown.view.run ≡ run
+    → Recorded run (tickets r.shown.view) r.many → now ≡ r.many → before ≤ jobs * quota → now ≤ before + (quota - before)
+    → (now < before + (quota - before) → IsWhole run r) → IsStopped quota jobs run r
+stopped quota jobs run r before now sound some-job run-is recorded is few most done =
+    let once : 1 * quota ≤ jobs * quota = mul-le-mul_right quota some-job in
+    let all : r.many ≤ all_firings run =
+    subst (λ (m : ℕ). m ≤ all_firings run) (sym recorded.long)
+    (length_most run recorded.log sound.among recorded.legal recorded.in_turn) in record {
+      run_is = run-is;
+      recorded = recorded;
+      least = dite (dec_lt now (before + (quota - before)))
+          (λ short. omega (arith, whole-many run r sound.among (done short)))
+          (λ there. omega (arith, there, is));
+      most = omega (arith, once, one-mul quota, few, most, is, all);
+    }
+
+pub ended : (quota : Option ℕ) (jobs : ℕ) (run : Run) (v : View) (r : Recorder) (before rest : ℕ) → IsSound run → 0 < jobs
+    → r.shown.view ≡ v → v.run ≡ run → Recorded run (tickets v) r.many → before ≤ jobs * quota_of quota
+    → IsRest quota before rest → all_tickets v ≤ before + rest → (all_tickets v < before + rest → IsWhole run r)
+    → IsRun quota jobs run r
+ended None jobs run v r before rest sound some-job shown run-is recorded few is most done = done (omega (
+  arith,
+  is,
+  tickets-many run v r.many sound.among run-is recorded,
+  recorded.long,
+  not_full run recorded.log sound recorded.legal recorded.in_turn,
+))
+ended (Some quota) jobs run v r before rest sound some-job shown run-is recorded few is most done =
+    stopped quota jobs run r before (all_tickets v) sound some-job (ap (λ (x : View). x.run) shown ∙ run-is)
+    (subst (λ (x : View). Recorded run (tickets x) r.many) (sym shown) recorded)
+    (tickets-many run v r.many sound.among run-is recorded) few
+    (subst (λ (n : ℕ). all_tickets v ≤ before + n) is most)
+    (subst (λ (n : ℕ). all_tickets v < before + n → IsWhole run r) is done)
+
+-- the passes of all workers were taken in
+pub all_again : (b : Base) (run : Run) (v : View) (ws : List Worker) → b.run ≡ run → v.run ≡ b.run
+    → CoverBelow ws run.nodes → ((n : ℕ) → n ≤ b.run.nodes → CoverBelow ws n → HasBetween v 0 n) → HasFrom v 0
+all_again b run v ws is same cover all l near far = let nodes = ap (λ (r : Run). r.nodes) is in
+    all run.nodes (omega (arith, nodes)) cover l near (omega (arith, far, ap (λ (r : Run). r.nodes) same, nodes))
+
 -- a share more was dealt
 pub lent_on : (b : Base) (old mid new : Showing) (first last : ℕ) → IsLent b old 0 first mid → IsLent b mid first last new
     → IsLent b old 0 last new
@@ -48,4 +115,5 @@ lent_on b old mid new first last one other = record {
   has = other.has;
   many = omega (arith, one.many, other.many);
   room = other.room ∙ one.room;
+  blank = other.blank;
 }

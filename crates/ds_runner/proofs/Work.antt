@@ -1,7 +1,7 @@
 -- Lemmas of workers, their shares and their rounds.
 use Rattle.std.proofs.Common.{◌≡◌, ℕ, ◌+◌, ◌-◌, ◌*◌, cond, Bool, ◌<◌, ◌≤◌, true, false, List, [], ◌∷◌, ◌++◌, length}
 use Rattle.std.proofs.Common.{get_or, sym, refl, ap, ◌∙◌, subst, arith, le_refl, le_trans, le_of_eq, replicate, ◌||◌, ⊎_elim, inl, inr}
-use Rattle.std.proofs.Common.{sum_by, zero, suc, take, drop, All, get_or-set_other, get_or-set_same}
+use Rattle.std.proofs.Common.{sum_by, zero, suc, take, drop, All, get_or-set_other, get_or-set_same, length-append, suc-mul}
 use Rattle.std.proofs.lemmas.List.{length-replicate}
 use Rattle.std.proofs.Math.Seq.{drop-nil}
 use Rattle.std.proofs.lemmas.List.Sums.{sum_by-append, sum_by-cons}
@@ -26,8 +26,10 @@ use Rattle.ds_fabric.specs.Showing.{Showing, Belongs, Stays}
 use Rattle.ds_fabric.specs.Stepped.{Stepped}
 use Rattle.ds_fabric.specs.declared.step.Step.{Step}
 use Rattle.ds_fabric.specs.declared.step.Step.TheVariants.{Fired, NotYet, Done}
-use Rattle.ds_runner.specs.Work.{HasBetween, HasFrom, Moved, Drove, IsWorker, AreWorkers, CoverWith, AreHired, many_of}
-use Rattle.ds_runner.specs.Work.{sum_below, left, Advances, AdvancesBelow}
+use Rattle.ds_runner.specs.Work.{HasBetween, HasFrom, Moved, Drove, DroveFor, IsWorker, AreWorkers, CoverWith, AreHired, many_of}
+use Rattle.ds_runner.specs.Work.{HaveAtMost, all_tickets, sum_below, left, Advances, AdvancesBelow}
+use Rattle.ds_runner.proofs.Sums.{sum_same}
+use Rattle.ds_runner.proofs.Tickets.{tickets_both}
 use Rattle.ds_runner.specs.declared.worker.Worker.{Worker}
 
 -- what a pass has seen only rises in a step
@@ -135,6 +137,33 @@ taken_in v v' ws vs w n few is items cover l h = let P : View → Type 0 = λ x.
     (at_end ws w t.1 t.0 (subst (λ zs. get_elem? zs t.0 ≡ some t.1) items t.2)))
     (cover l h)
 
+-- and its tickets with it
+pub taken_tickets : (v v' : View) (ws vs : List Worker) (w : Worker) (n total : ℕ) → w.pass.view.run ≡ v.run
+    → v' ≡ both v w.pass.view → vs ≡ ws ++ w ∷ [] → HaveAtMost n vs → all_tickets v + length vs * n ≤ total
+    → HaveAtMost n ws × (all_tickets v' + length ws * n ≤ total)
+taken_tickets v v' ws vs w n total same is items most low =
+    let long : length vs ≡ suc (length ws) = omega (arith, ap length items, length-append ws (w ∷ [])) in
+    let last : get_elem? vs (length ws) ≡ some w =
+    subst (λ zs. get_elem? zs (length ws) ≡ some w) (sym items) (at_last ws w (length ws) refl) in (
+      (λ k x there. most k x (subst (λ zs. get_elem? zs k ≡ some x) (sym items) (at_longer ws (w ∷ []) k x there))),
+      omega (
+        arith,
+        low,
+        ap (λ (m : ℕ). m * n) long,
+        suc-mul (length ws) n,
+        ap all_tickets is,
+        tickets_both v w.pass.view same,
+        most (length ws) w last,
+      ),
+    )
+
+-- one more worker that has no more tickets than these
+pub one_more_few : (ws vs : List Worker) (w : Worker) (n : ℕ) → vs ≡ ws ++ w ∷ [] → all_tickets w.pass.view ≤ n
+    → HaveAtMost n ws → HaveAtMost n vs
+one_more_few ws vs w n is one few k x there = ⊎_elim (λ old. few k x old)
+    (λ e. subst (λ (y : Worker). all_tickets y.pass.view ≤ n) e.1 one)
+    (at_end ws w x k (subst (λ zs. get_elem? zs k ≡ some x) is there))
+
 -- a worker that drove is a worker still
 drove_on : (b : Base) (w x : Worker) → IsWorker b w → Drove w x → IsWorker b x
 drove_on b w x one d = record {
@@ -177,6 +206,16 @@ all_drove b ws vs n long drove hired = record {
       sums ws vs (omega arith) (λ i d near. h (suc i) d (omega arith)),
     )
 
+-- each worker drove on with at most so many firings
+pub all_drove_for : (most : ℕ) (ws vs : List Worker) → length vs ≡ length ws
+    → ((i : ℕ) (d : Worker) → i < length ws → DroveFor most (get_or ws i d) (get_or vs i d)) → HaveAtMost 0 ws
+    → HaveAtMost most vs
+all_drove_for most ws vs long drove blank k x there = let near : k < length ws = omega (arith, at_below vs k x there, long) in
+    let w = there_is ws k near in
+    let d : DroveFor most w.0 x = subst (λ (y : Worker). DroveFor most w.0 y) (at_get vs k x w.0 there)
+    (subst (λ (y : Worker). DroveFor most y (get_or vs k w.0)) (at_get ws k w.0 w.0 w.1) (drove k w.0 near)) in
+    omega (arith, d.most, blank k w.0 w.1)
+
 pub are_all : (b : Base) (ws : List Worker) → AreWorkers b ws → All (IsWorker b) ws
 are_all b ws are k d h = are k (get_or ws k d) (at_or ws k d h)
 
@@ -189,15 +228,23 @@ written (suc n) [] (y ∷ ys) e = ap (λ zs. y ∷ zs) (ap (take n) (ap (λ zs. 
     ∙ written n [] ys (omega arith))
 written (suc n) (x ∷ xs) (y ∷ ys) e = ap (λ zs. y ∷ zs) (written n xs ys (omega arith))
 
-pub after_drive : (b : Base) (items now new : List Worker) (n m : ℕ) → now ≡ items → length new ≡ length now
-    → length items ≡ n → ((i : ℕ) (d : Worker) → i < length now → Drove (get_or now i d) (get_or new i d))
-    → AreHired b items m → AreHired b (take n (new ++ drop (length new) items)) m
-after_drive b items now new n m is long wide drove hired =
-    let P : List Worker → Type 0 = λ zs. AreHired b zs m in
+-- so many workers that are back: they hold the first n nodes, and none has more tickets than these
+abbrev pub AreBack : Base → ℕ → ℕ → ℕ → List Worker → Type 0
+AreBack b many n most ws = AreHired b ws n × HaveAtMost most ws × (length ws ≡ many)
+
+pub after_drive : (b : Base) (items now new : List Worker) (many n most : ℕ) → now ≡ items → length new ≡ length now
+    → length items ≡ many → ((i : ℕ) (d : Worker) → i < length now → DroveFor most (get_or now i d) (get_or new i d))
+    → AreHired b items n → HaveAtMost 0 items → AreBack b many n most (take many (new ++ drop (length new) items))
+after_drive b items now new many n most is long wide drove hired blank =
+    let P : List Worker → Type 0 = AreBack b many n most in
     let Q : List Worker → Type 0 = λ zs. (length new ≡ length zs)
-    → ((i : ℕ) (d : Worker) → i < length zs → Drove (get_or zs i d) (get_or new i d)) → P new in
-    subst P (sym (written n items new (long ∙ (ap length is ∙ wide))))
-    (subst Q (sym is) (λ l d. all_drove b items new m l d hired) long drove)
+    → ((i : ℕ) (d : Worker) → i < length zs → DroveFor most (get_or zs i d) (get_or new i d)) → P new in
+    subst P (sym (written many items new (long ∙ (ap length is ∙ wide))))
+    (subst Q (sym is) (λ l d. (
+      all_drove b items new n l (λ i w near. (d i w near).drove) hired,
+      all_drove_for most items new l d blank,
+      l ∙ wide,
+    )) long drove)
 
 -- a sum that falls at one place and rises at none
 falls_at : (f g : ℕ → ℕ) (n l : ℕ) → l < n → ((j : ℕ) → g j ≤ f j) → g l < f l → sum_below g n < sum_below f n
@@ -209,10 +256,6 @@ falls_at f g (suc n) l h low less = dite (ℕ_discrete l n)
     falls_no_more : (n : ℕ) → sum_below g n ≤ sum_below f n
     falls_no_more zero = omega arith
     falls_no_more (suc n) = omega (arith, falls_no_more n, low n)
-
-same_sum : (f g : ℕ → ℕ) (n : ℕ) → ((j : ℕ) → j < n → f j ≡ g j) → sum_below f n ≡ sum_below g n
-same_sum f g zero same = refl
-same_sum f g (suc n) same = omega (arith, same_sum f g n (λ j h. same j (omega arith)), same n (omega arith))
 
 -- a pass that holds all nodes has one firing less left, or the node is stuck
 pub advances : (run : Run) (v w : View) (l : ℕ) (r : Step) → IsSound run → v.run ≡ run → HasFrom v 0 → l < run.nodes
@@ -245,7 +288,7 @@ advances_on run own v w l r is sound run-is all near s = advances run v w l r so
     (subst (λ (x : Run). Stepped x v l r w) (sym is) s)
 
 same_left : (run : Run) (v w : View) → ((x : ℕ) → x < run.nodes → seen w x ≡ seen v x) → left run w ≡ left run v
-same_left run v w same = same_sum (λ l. 2 * run.limit - seen w l) (λ l. 2 * run.limit - seen v l) run.nodes
+same_left run v w same = sum_same (λ l. 2 * run.limit - seen w l) (λ l. 2 * run.limit - seen v l) run.nodes
     (λ j h. ap (λ n. 2 * run.limit - n) (same j h))
 
 -- what is enabled, and what is stuck, depends on the firings of the nodes that are there
@@ -288,6 +331,12 @@ one_more_node run v u w n false false sound near h a = (
   omega (arith, same_left run u w a.0, h.1),
 )
 
+-- where a node fired, less is left than at the start of the round
+pub less_left : (run : Run) (v u w : View) (n : ℕ) (b r : Bool) → Round run v n u b → Advances run u n w r → r ≡ true
+    → left run w < left run v
+less_left run v u w n b true h a is = omega (arith, a, h.1)
+less_left run v u w n b false h a is = absurd (false≢true is)
+
 -- where a round fires nothing, every event has fired as often as it may
 pub rounds_end : (run : Run) → IsSound run → IsAccepted run → (v w : View) (b : Bool) → AdvancesBelow run v run.nodes w b
     → b ≡ false → (e : ℕ) → node_of run e < run.nodes → run.limit ≤ count run (seen w) e
@@ -298,10 +347,9 @@ rounds_end run sound ok v w false a is e near = omega (
   all_done run sound ok (seen v) a.1 e near,
 )
 
-pub shrinks : (run : Run) (v w : View) (b : Bool) → AdvancesBelow run v run.nodes w b
-    → 2 * left run w + cond b 1 0 < 2 * left run v + 1
-shrinks run v w true a = omega arith
-shrinks run v w false a = omega (arith, same_left run v w a.0)
+pub shrinks : (run : Run) (v w : View) (b : Bool) → AdvancesBelow run v run.nodes w b → b ≡ true → left run w < left run v
+shrinks run v w true a is = a
+shrinks run v w false a is = absurd (false≢true is)
 
 -- the number of a node's next event has 32 bits
 pub event_small : (run : Run) (l f : ℕ) → IsSound run → l < run.nodes → next run l f < 4294967296

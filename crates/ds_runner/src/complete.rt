@@ -1,19 +1,26 @@
 //! What the caller does when the workers are back: it takes their passes in and fires what is left,
 //! alone.
-ghost use Rattle.std.specs.Prelude.{◌≡◌, ◌<◌, ◌≤◌, ◌+◌, ℕ, sum_by};
+ghost use Rattle.std.specs.Prelude.{◌≡◌, ◌<◌, ◌≤◌, ◌+◌, ◌*◌, ℕ, cond, length, sum_by};
 ghost use Rattle.ds_rule.specs.Run.{node_of, count};
 ghost use Rattle.ds_rule.specs.Rule.{seen};
 ghost use Rattle.ds_rule.specs.Sound.{IsSound};
 ghost use Rattle.ds_rule.specs.Progress.{IsAccepted};
 ghost use Rattle.ds_fabric.specs.Showing.{Belongs};
 ghost use Rattle.ds_runner.specs.Work.{HasFrom, HasBetween, Moved, AreWorkers, CoverBelow, many_of};
-ghost use Rattle.ds_runner.specs.Work.{Advances, AdvancesBelow};
+ghost use Rattle.ds_runner.specs.Work.{Advances, AdvancesBelow, HaveAtMost, all_tickets};
 
 use crate::unit::unit;
 use crate::worker::Worker;
 use ds_fabric::{Compute, Fabric, Pass, Step};
 use ds_outside::Gate;
 use ds_rule::{Layout, Rows};
+
+/// The caller as one that fires: its number, and how often it may still fire.
+#[derive(Clone, Copy)]
+pub struct Caller {
+    pub number: u32,
+    pub rest: u64,
+}
 
 /// Takes the workers' passes in.
 pub fn collect<J: Rows, C: Compute>(
@@ -27,6 +34,8 @@ pub fn collect<J: Rows, C: Compute>(
     ensures fits { Belongs fabric.now pass.new }
     ensures all { (n : ℕ) → n ≤ fabric.now.run.nodes → CoverBelow workers.items n
         → HasBetween pass.new.view 0 n }
+    ensures most { (n : ℕ) → HaveAtMost n workers.items
+        → all_tickets pass.new.view ≤ all_tickets pass.old.view + length workers.items * n }
 {
     'taking: while let Some(worker) = workers.pop() {
         let Worker {
@@ -39,44 +48,58 @@ pub fn collect<J: Rows, C: Compute>(
     }
 }
 
-/// Fires each event as often as it may, with a pass that holds all nodes.
+/// Fires each event as often as it may, with a pass that holds all nodes, until the caller has
+/// nothing left.
 pub fn complete<J: Rows, C: Compute, G: Gate>(
     fabric: &Fabric<'_, J, C>,
     run: &Layout<J>,
     pass: &mut Pass,
-    number: u32,
+    caller: Caller,
     gate: &G,
 )
     requires run { (run.now ≡ fabric.now.run) × IsSound run.now × IsAccepted run.now }
     requires fits { Belongs fabric.now pass.old }
     requires all { HasFrom pass.old.view 0 }
     ensures moved { Moved pass.old pass.new }
-    ensures done { (e : ℕ) → node_of run.now e < run.now.nodes
+    ensures most { all_tickets pass.new.view ≤ all_tickets pass.old.view + caller.rest }
+    ensures done { all_tickets pass.new.view < all_tickets pass.old.view + caller.rest
+        → (e : ℕ) → node_of run.now e < run.now.nodes
         → run.now.limit ≤ count run.now (seen pass.new.view) e }
 {
-    let mut busy = true;
-    'rounds: while busy {
-        busy = go_round(fabric, run, pass, number, gate);
+    let mut own = caller;
+    'rounds: while own.rest > 0 {
+        let busy = go_round(fabric, run, pass, &mut own, gate);
+        if !busy {
+            return;
+        }
     }
 }
 
-// Steps each node once. False: nothing fired, and every node is stuck.
+// Steps each node once, until the caller has nothing left. False: nothing fired, and every node is
+// stuck.
 fn go_round<J: Rows, C: Compute, G: Gate>(
     fabric: &Fabric<'_, J, C>,
     run: &Layout<J>,
     pass: &mut Pass,
-    number: u32,
+    caller: &mut Caller,
     gate: &G,
 ) -> bool
     requires run { (run.now ≡ fabric.now.run) × IsSound run.now }
     requires fits { Belongs fabric.now pass.old }
     requires all { HasFrom pass.old.view 0 }
+    requires rest { 0 < caller.old.rest }
     ensures moved { Moved pass.old pass.new }
     ensures told { AdvancesBelow run.now pass.old.view run.now.nodes pass.new.view result }
+    ensures fired { all_tickets pass.new.view + caller.new.rest
+        ≡ all_tickets pass.old.view + caller.old.rest }
 {
     let mut busy = false;
     'nodes: for node in 0..run.nodes() {
-        if advance(fabric, run, pass, number, node, gate) {
+        if advance(fabric, run, pass, caller.number, node, gate) {
+            caller.rest -= 1;
+            if caller.rest == 0 {
+                return true;
+            }
             busy = true;
         }
     }
@@ -97,6 +120,7 @@ fn advance<J: Rows, C: Compute, G: Gate>(
     requires all { HasFrom pass.old.view 0 × (node < run.now.nodes) }
     ensures moved { Moved pass.old pass.new }
     ensures told { Advances run.now pass.old.view node pass.new.view result }
+    ensures fired { all_tickets pass.new.view ≡ all_tickets pass.old.view + cond result 1 0 }
 {
     match unit(fabric, run, pass, number, node, gate) {
         Step::Fired { .. } => true,

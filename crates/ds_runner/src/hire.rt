@@ -1,8 +1,9 @@
 //! Workers made: the nodes are dealt in equal shares.
-ghost use Rattle.std.specs.Prelude.{◌≡◌, ◌<◌, ◌≤◌, ◌+◌, ◌*◌, ◌/◌, ℕ, IfOk, OnOk, sum_by};
+ghost use Rattle.std.specs.Prelude.{◌≡◌, ◌<◌, ◌≤◌, ◌+◌, ◌*◌, ◌/◌, ℕ, IfOk, OnOk, sum_by, length};
 ghost use Rattle.ds_rule.specs.Sound.{IsSound};
 ghost use Rattle.ds_fabric.specs.Showing.{Belongs};
 ghost use Rattle.ds_runner.specs.Work.{HasFrom, HasBetween, IsShared, IsLent, AreHired};
+ghost use Rattle.ds_runner.specs.Work.{HaveAtMost, all_tickets};
 
 use crate::worker::Worker;
 use ds_base::{LatchId, OutOfMemory};
@@ -22,8 +23,11 @@ pub fn hire<J: Rows, C: Compute>(
     requires fits { Belongs fabric.now pass.old }
     requires jobs { (0 < jobs) × (jobs ≤ 64) }
     requires has { HasFrom pass.old.view 0 }
+    requires blank { all_tickets pass.old.view ≡ 0 }
 
     ensures ok { IfOk result (λ workers. AreHired fabric.now workers.items run.now.nodes) }
+    ensures ok_few { IfOk result (λ workers. length workers.items ≤ jobs) }
+    ensures ok_blank { IfOk result (λ workers. HaveAtMost 0 workers.items) }
     ensures ok_lent { OnOk result (IsLent fabric.now pass.old 0 run.now.nodes pass.new) }
 {
     let nodes = run.nodes();
@@ -70,6 +74,7 @@ fn share<J: Rows, C: Compute>(
     requires fits { Belongs fabric.now pass.old }
     requires share { (first < end) × (end ≤ run.now.nodes) }
     requires has { HasFrom pass.old.view first }
+    requires blank { all_tickets pass.old.view ≡ 0 }
 
     ensures ok { IfOk result (IsShared fabric.now first end) }
     ensures ok_lent { OnOk result (IsLent fabric.now pass.old first end pass.new) }

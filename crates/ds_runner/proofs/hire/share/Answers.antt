@@ -3,7 +3,8 @@ use Rattle.ds_rule.specs.Run.{Run}
 use Rattle.ds_rule.specs.Rule.{holds}
 use Rattle.ds_rule.specs.declared.view.View.{View}
 use Rattle.ds_fabric.specs.Showing.{Showing, IsDealt, IsLeft}
-use Rattle.ds_runner.specs.Work.{HasBetween, HasFrom}
+use Rattle.ds_runner.specs.Work.{HasBetween, HasFrom, all_tickets}
+use Rattle.ds_runner.proofs.Tickets.{tickets-dealt, tickets-left, tickets_both}
 use Rattle.ds_runner.proofs.Work.{without_has, only_has, both_between}
 use Rattle.ds_runner.proofs.hire.share.Goals as goal
 
@@ -42,5 +43,14 @@ dealing-preserved g c =
         has = subst (λ (x : View). HasFrom x (n + 1)) (sym rest.view) (without_has old.view n lent.has);
         many = omega (arith, rest.many, lent.many);
         room = rest.room ∙ lent.room;
+        blank = tickets-left old.view c.deal-in-dealing.new.pass.view n rest.view ∙ lent.blank;
       },
+      omega (
+        arith,
+        ap all_tickets e.view,
+        tickets_both own one.view (ap (λ (x : View). x.run) dealt.view ∙ (lent.fits.run ∙ sym i.0.run)),
+        tickets-dealt old.view one.view n dealt.view,
+        lent.blank,
+        i.5,
+      ),
     )

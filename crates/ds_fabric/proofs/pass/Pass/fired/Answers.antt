@@ -1,6 +1,6 @@
 use Rattle.std.proofs.Common.{◌≡◌, ◌∙◌, ap, sym, true, arith, subst}
 use Rattle.ds_rule.specs.Rule.{seen, holds}
-use Rattle.ds_fabric.specs.Showing.{Showing}
+use Rattle.ds_fabric.specs.Showing.{Showing, IsCounted}
 use Rattle.ds_fabric.proofs.Passes.{reads}
 use Rattle.ds_fabric.proofs.Finds.{indexed_same, stands_same, at_node, stands_below}
 use Rattle.ds_fabric.proofs.pass.Pass.fired.Goals as goal
@@ -26,8 +26,11 @@ index-requires c =
     let b = stands_below c.self.inside.nodes.items c.as_slice-nodes.result.now c.find-at.result
     c.index-number.result c.as_slice-nodes.ensures.value c.find-at.ensures in omega (arith, b)
 
-pub returns : goal.returns
-returns c =
+pub returns-clause-counted : goal.returns-clause-counted
+returns-clause-counted c = subst (λ (x : Showing). IsCounted x.view) c.self.view_is c.self.invariant.keeps.counts
+
+pub returns-clause-value : goal.returns-clause-value
+returns-clause-value c =
     let f = reads c.self.inside.seat.me c.self.inside.nodes.items c.as_slice-nodes.result.now c.find-at.result
     c.args.node c.index.result.now c.as_slice-nodes.ensures.value c.self.invariant.keeps
     (at_node c.as_slice-nodes.result.now c.find-at.result c.index-number.result c.args.node
