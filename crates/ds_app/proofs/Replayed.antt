@@ -22,13 +22,14 @@ use Rattle.ds_latch.specs.Transparent.{IsShowing}
 use Rattle.ds_latch.proofs.Headline.{headline}
 use Rattle.ds_netlist.specs.Laws.{FaultsAreRefused}
 use Rattle.ds_split.specs.Laws.{OneClustering}
-use Rattle.ds_rows.specs.Log.{stored_text}
+use Rattle.ds_rows.specs.Log.{fired_line, stored_text}
+use Rattle.ds_rows.specs.Nets.{register_of}
+use Rattle.ds_rows.specs.StateText.{IsStateText}
 use Rattle.ds_cmd.specs.declared.job.Job.TheVariants.{Run, Replay}
 use Rattle.ds_stage.specs.Stage.{then_stage}
-use Rattle.ds_stage.specs.FaultText.{register_of}
 use Rattle.ds_stage.specs.OpenLines.{open_lines}
 use Rattle.ds_stage.specs.PlanStage.{planned_stage}
-use Rattle.ds_stage.specs.ReplayStage.{IsReplayText, IsStateText, fired_line, log_stage, replayed_stage}
+use Rattle.ds_stage.specs.ReplayStage.{IsReplayText, log_stage, replayed_stage}
 use Rattle.ds_stage.specs.Stages.{netlist_stage, vectors_stage}
 use Rattle.ds_stage.proofs.Exclusive.{netlist_exclusive, vectors_exclusive}
 use Rattle.ds_stage.proofs.LogRead.{log_one, log_read}

@@ -6,7 +6,7 @@ use Rattle.ds_base.specs.declared.number.Mode.{Mode}
 use Rattle.ds_outside.specs.Held.{Held, bytes}
 use Rattle.ds_cmd.specs.declared.job.Job.{Job}
 use Rattle.ds_cmd.specs.declared.job.Job.TheVariants.{Run, Replay}
-use Rattle.ds_stage.specs.ReplayStage.{fired_line}
+use Rattle.ds_rows.specs.Log.{fired_line}
 use Rattle.ds_app.specs.Job.{stages_of}
 use Rattle.ds_app.specs.Status.{AreTold}
 

@@ -3,3 +3,5 @@ pub mod Then
 pub mod Reading
 pub mod Printed
 pub mod Columns
+pub mod ValueWords
+pub mod Housed

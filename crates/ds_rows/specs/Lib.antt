@@ -2,4 +2,7 @@
 pub mod Vector
 pub mod Print
 pub mod Log
+pub mod Nets
+pub mod Homes
+pub mod StateText
 pub mod Worked

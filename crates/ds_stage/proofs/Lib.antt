@@ -2,7 +2,6 @@ pub mod Ends
 pub mod Exclusive
 pub mod Expansions
 pub mod Failed
-pub mod Housed
 pub mod Left
 pub mod LineWords
 pub mod LogRead

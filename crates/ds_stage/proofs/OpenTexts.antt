@@ -12,12 +12,13 @@ use Rattle.ds_fire.proofs.Lawful.{range_agree}
 use Rattle.ds_fire.proofs.Transparent.{held_is_shown}
 use Rattle.ds_outside.specs.Writes.{GoesOn, Writes}
 use Rattle.ds_rows.proofs.Then.{after_ok}
+use Rattle.ds_rows.specs.Homes.{AreHomes}
 use Rattle.ds_rows.specs.Log.{open_text}
-use Rattle.ds_stage.specs.Homes.{AreHomes}
+use Rattle.ds_rows.specs.StateText.{IsStateText}
+use Rattle.ds_rows.specs.declared.homes.Home.{Home}
 use Rattle.ds_stage.specs.OpenLines.{IsShownAt, open_line_of, open_lines, open_pair}
-use Rattle.ds_stage.specs.ReplayStage.{IsOpenText, IsReplayText, IsStateText}
+use Rattle.ds_stage.specs.ReplayStage.{IsOpenText, IsReplayText}
 use Rattle.ds_stage.specs.Kept.{IsKeptText, open_part, state_text}
-use Rattle.ds_stage.specs.declared.homes.Home.{Home}
 use Rattle.ds_stage.proofs.Registers.{text_of_kept}
 
 -- one row more

@@ -14,12 +14,12 @@ use Rattle.ds_latch.specs.Headline.{values_stored}
 use Rattle.ds_fire.specs.Snapshot.{Snapshot, graph_of, limit_of, rows_joined, split_of, stored_values}
 use Rattle.ds_fire.specs.Fired.{IsAfter, IsSound}
 use Rattle.ds_fire.proofs.Lawful.{chunk, range_agree, slave_wide}
-use Rattle.ds_rows.specs.Log.{column, stored_text}
-use Rattle.ds_stage.specs.FaultText.{register_of}
-use Rattle.ds_stage.specs.Homes.{AreHomes, IsHome, no_home}
-use Rattle.ds_stage.specs.ReplayStage.{IsStateText, fired_line}
+use Rattle.ds_rows.specs.Homes.{AreHomes, IsHome, no_home}
+use Rattle.ds_rows.specs.Log.{column, fired_line, stored_text}
+use Rattle.ds_rows.specs.Nets.{register_of}
+use Rattle.ds_rows.specs.StateText.{IsStateText}
+use Rattle.ds_rows.specs.declared.homes.Home.{Home}
 use Rattle.ds_stage.specs.Kept.{register_line, state_text}
-use Rattle.ds_stage.specs.declared.homes.Home.{Home}
 
 -- a line that is spelt by the home of its register
 pub line_is : (kept : Snapshot) (s : Split) (homes : List Home) (r : ℕ) (c : Circuit) (width : ℕ) (values : Row) → split_of kept ≡ s → c ≡ s.circuit

@@ -1,13 +1,11 @@
 -- The lines that name faults: the file, the line where there is one, and the text of the fault.
 use Rattle.std.specs.Prelude.{◌≡◌, ℕ, List, [], ◌∷◌, ◌++◌, codes, decimal, map, Option, None, Some}
-use Rattle.std.specs.Prelude.{slice_index_or, ◌==◌, if◌then◌else◌}
 use Rattle.ds_base.specs.Limit.{most_of}
 use Rattle.ds_base.specs.declared.number.Limit.{Limit}
 use Rattle.ds_base.specs.declared.number.Limit.TheVariants.{Bytes, TableInputs, Copies, Nets}
 use Rattle.ds_base.specs.declared.number.Limit.TheVariants.{Tables, Registers, Clusters, Arcs}
 use Rattle.ds_base.specs.declared.number.Limit.TheVariants.{Signals, Vectors}
-use Rattle.ds_design.specs.declared.design.Net.{Net}
-use Rattle.ds_design.specs.Circuit.{Circuit, register_nets}
+use Rattle.ds_design.specs.Circuit.{Circuit}
 use Rattle.ds_blif.specs.declared.fault.BlifKind.{BlifKind}
 use Rattle.ds_blif.specs.declared.fault.BlifKind.TheVariants as blif
 use Rattle.ds_flat.specs.declared.fault.FlatKind.{FlatKind}
@@ -16,6 +14,7 @@ use Rattle.ds_netlist.specs.declared.fault.Driver.{Driver}
 use Rattle.ds_netlist.specs.declared.fault.Driver.TheVariants as driver
 use Rattle.ds_netlist.specs.declared.fault.NetFault.{NetFault}
 use Rattle.ds_netlist.specs.declared.fault.NetFault.TheVariants as net
+use Rattle.ds_rows.specs.Nets.{net_of, register_of}
 use Rattle.ds_rows.specs.declared.fault.VectorKind.{VectorKind}
 use Rattle.ds_rows.specs.declared.fault.VectorKind.TheVariants as vector
 
@@ -58,18 +57,6 @@ too_long_text = codes "too long (limit 16777216)"
 abbrev pub listed : List (List ℕ) → List ℕ
 listed [] = []
 listed (word ∷ words) = codes " " ++ word ++ listed words
-
--- a net of the main model is its name, one of a copy has the copy's number and `/` before it
-abbrev pub net_text : Net → List ℕ
-net_text net = if net.copy == 0 then net.name else (decimal net.copy ++ codes "/" ++ net.name)
-
--- the net with a number
-abbrev pub net_of : Circuit → ℕ → List ℕ
-net_of c net = net_text (slice_index_or c.nets net (record { copy = 0; name = [] }))
-
--- a register is printed as the net that it drives
-abbrev pub register_of : Circuit → ℕ → List ℕ
-register_of c register = net_of c (slice_index_or (register_nets c) register 0)
 
 -- the fault of a line of a netlist
 abbrev pub blif_text : BlifKind → List ℕ

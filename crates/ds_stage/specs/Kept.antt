@@ -7,14 +7,14 @@ use Rattle.ds_outside.specs.Held.{Held}
 use Rattle.ds_latch.specs.Node.{Slave, members}
 use Rattle.ds_latch.specs.Plan.{Planned}
 use Rattle.ds_fire.specs.Snapshot.{Snapshot, split_of, stored_values, count_of, held_row}
-use Rattle.ds_rows.specs.Log.{column, stored_text}
+use Rattle.ds_rows.specs.Homes.{no_home}
+use Rattle.ds_rows.specs.Log.{column, fired_line, stored_text}
+use Rattle.ds_rows.specs.Nets.{register_of}
+use Rattle.ds_rows.specs.declared.homes.Home.{Home}
 use Rattle.ds_replay.specs.Replayed.{IsReplayed}
-use Rattle.ds_stage.specs.FaultText.{register_of}
 use Rattle.ds_stage.specs.Stage.{Stage, giving, then_stage}
 use Rattle.ds_stage.specs.OpenLines.{open_lines}
-use Rattle.ds_stage.specs.ReplayStage.{IsReplayText, fired_line, log_stage}
-use Rattle.ds_stage.specs.Homes.{no_home}
-use Rattle.ds_stage.specs.declared.homes.Home.{Home}
+use Rattle.ds_stage.specs.ReplayStage.{IsReplayText, log_stage}
 
 -- these firings lead to what is kept, and so many they are
 pub record IsAfterLog (planned : Planned) (vectors : List Row) (events : List ℕ) (kept : Snapshot)

@@ -11,7 +11,6 @@ pub mod PlanStage
 pub mod AcceptStage
 pub mod OpenLines
 pub mod ReplayStage
-pub mod Homes
 pub mod Kept
 pub mod PeriodStage
 pub mod Ends

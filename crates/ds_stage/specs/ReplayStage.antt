@@ -1,8 +1,7 @@
 -- The text of a log that is replayed: what each register has stored, and how many firings there
 -- were.
-use Rattle.std.specs.Prelude.{◌≡◌, ℕ, ◌*◌, ◌<◌, List, [], ◌++◌, length, codes, decimal, slice_get}
+use Rattle.std.specs.Prelude.{◌≡◌, ℕ, List, [], ◌++◌, length, codes, slice_get}
 use Rattle.std.specs.Prelude.{Ok, Err, Bool, true, false}
-use Rattle.std.specs.List.{flat_map, range_with_len}
 use Rattle.std.specs.Option.{option_map_or}
 use Rattle.ds_base.specs.Values.{Row}
 use Rattle.ds_outside.specs.Held.{Held}
@@ -10,19 +9,17 @@ use Rattle.ds_outside.specs.declared.files.Which.TheVariants.{Log}
 use Rattle.ds_lines.specs.Line.{Line}
 use Rattle.ds_marked.specs.Graph.{Graph}
 use Rattle.ds_marked.specs.declared.marked.Arc.{Arc}
-use Rattle.ds_latch.specs.Node.{Node, Split}
+use Rattle.ds_latch.specs.Node.{Node}
 use Rattle.ds_latch.specs.Plan.{Planned}
-use Rattle.ds_latch.specs.Firing.{State, first_state, FiresAll}
 use Rattle.ds_latch.specs.Transparent.{IsShowing}
-use Rattle.ds_latch.specs.Headline.{StandsAt, values_stored}
 use Rattle.ds_marked.specs.Log.{text_of_event}
-use Rattle.ds_rows.specs.Log.{stored_text}
+use Rattle.ds_rows.specs.StateText.{IsStateText}
 use Rattle.ds_replay.specs.Replay.{replay_of}
 use Rattle.ds_replay.specs.declared.fault.ReplayFault.{ReplayFault}
 use Rattle.ds_replay.specs.declared.fault.ReplayKind.{ReplayKind}
 use Rattle.ds_replay.specs.declared.fault.ReplayKind.TheVariants.{BadWord, UnknownEvent, WrongTurn}
 use Rattle.ds_replay.specs.declared.fault.ReplayKind.TheVariants.{OverLimit, NotEnabled}
-use Rattle.ds_stage.specs.FaultText.{numbered_line, register_of}
+use Rattle.ds_stage.specs.FaultText.{numbered_line}
 use Rattle.ds_stage.specs.OpenLines.{open_lines}
 use Rattle.ds_stage.specs.Stage.{Stage, giving, leaves_nothing, then_stage}
 use Rattle.ds_stage.specs.Stages.{lines_stage}
@@ -55,32 +52,6 @@ fired_stage file planned vectors lines = record {
 abbrev pub log_stage : (List ℕ → Held) → List ℕ → Planned → List Row → Stage (List ℕ)
 log_stage held log planned vectors =
     then_stage (lines_stage held Log log) (fired_stage log planned vectors)
-
--- a register has stored these values: those at its place in the rows that its cluster's slave has
--- stored
-abbrev pub HasStored : Split → State → ℕ → Row → Type 0
-HasStored s now r values =
-    (cluster : ℕ) × (place : ℕ) × StandsAt s r cluster place
-    × (values ≡ values_stored now cluster place)
-
--- how many firings there were, of how many that there may be
-abbrev pub fired_line : ℕ → ℕ → List ℕ
-fired_line fired most = codes "fired " ++ decimal fired ++ codes " of " ++ decimal most
-    ++ codes "\n"
-
--- of the state that these firings lead to: a line for each register, and the line of the firings;
--- each event may fire once a vector
-pub record IsStateText (planned : Planned) (vectors : List Row) (events text : List ℕ) :
-    Type 0 where
-  pub now : State
-  pub fires : FiresAll planned.split vectors (first_state planned.split) events now
-  pub values : ℕ → Row
-  pub stored : (r : ℕ) → r < length planned.split.circuit.registers
-      → HasStored planned.split now r (values r)
-  pub spelt : text
-      ≡ flat_map (λ r. stored_text (register_of planned.split.circuit r) (values r))
-      (range_with_len 0 (length planned.split.circuit.registers))
-      ++ fired_line (length events) (length planned.graph.events * length vectors)
 
 -- the text of a state, and behind it a line for each node that is open there, with what it shows
 pub record IsOpenText (planned : Planned) (vectors : List Row) (events text : List ℕ) :

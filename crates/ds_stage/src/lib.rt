@@ -25,7 +25,6 @@ mod expansion;
 mod fault_line;
 mod fault_text;
 mod graph_text;
-mod homes;
 pub mod laws;
 mod log;
 mod log_text;

@@ -1,8 +1,9 @@
 //! The texts of faults of a design, with the names of its nets.
 ghost use Rattle.std.specs.Prelude.{◌≡◌, ◌++◌, ◌<◌, IfOk, length, map, All, codes, decimal};
 ghost use Rattle.ds_netlist.specs.Named.{IsNamed};
+ghost use Rattle.ds_rows.specs.Nets.{net_of, net_text, register_of};
 ghost use Rattle.ds_stage.specs.FaultText.{driver_text, net_fault_text as net_fault_text_of};
-ghost use Rattle.ds_stage.specs.FaultText.{IsNetFaultText, listed, net_of, net_text, register_of};
+ghost use Rattle.ds_stage.specs.FaultText.{IsNetFaultText, listed};
 
 use ds_base::{NetId, OutOfMemory, RegId};
 use ds_design::{Design, Net};

@@ -2,14 +2,14 @@
 ghost use Rattle.std.specs.Prelude.{◌≡◌, ◌<◌, ◌≤◌, IfOk, true, length};
 ghost use Rattle.ds_latch.specs.Node.{Node, IsNode, number_of, nodes, nets_of};
 ghost use Rattle.ds_fire.specs.Snapshot.{split_of};
-ghost use Rattle.ds_stage.specs.Homes.{AreHomes};
+ghost use Rattle.ds_rows.specs.Homes.{AreHomes};
 ghost use Rattle.ds_stage.specs.OpenLines.{AreShown, IsShownAt};
 
 use crate::after_log::AfterLog;
-use crate::homes::{Home, homes_of};
 use ds_base::{LatchId, OutOfMemory, Row3};
 use ds_fire::State;
 use ds_latch::Latches;
+use ds_rows::{Home, homes_of};
 use std::alloc::Global;
 
 /// Where the registers stand; and where it is wanted what open latches show, a row for each node.

@@ -1,29 +1,25 @@
 //! The text of a state: what each register has stored, how many firings there were, and where it is
 //! wanted what open latches show.
-ghost use Rattle.std.specs.Prelude.{◌≡◌, ◌<◌, ◌*◌, ◌++◌, ℕ, List, Ok, codes, decimal, length, true};
+ghost use Rattle.std.specs.Prelude.{◌≡◌, ◌<◌, ◌*◌, ℕ, List, Ok, length, true};
 ghost use Rattle.std.specs.List.{flat_map, range_with_len};
 ghost use Rattle.ds_outside.specs.Writes.{GoesOn, Writes};
 ghost use Rattle.ds_fire.specs.Snapshot.{graph_of, limit_of, split_of};
+ghost use Rattle.ds_rows.specs.Homes.{AreHomes};
 ghost use Rattle.ds_stage.specs.Ends.{Ends, Never, Output};
-ghost use Rattle.ds_stage.specs.FaultText.{net_text, register_of};
-ghost use Rattle.ds_stage.specs.Homes.{AreHomes};
-ghost use Rattle.ds_stage.specs.ReplayStage.{fired_line};
 ghost use Rattle.ds_stage.specs.Kept.{IsKeptText, open_part, register_line};
 ghost use Rattle.ds_stage.specs.OpenLines.{AreShown};
 ghost use Rattle.ds_stage.specs.Stage.{giving};
 
 use crate::after_log::AfterLog;
-use crate::homes::Home;
 use crate::open_text::put_open_lines;
 use crate::rooms::Rooms;
 use crate::stop::Stop;
 use ds_base::{LatchId, Row3};
-use ds_design::{Design, Net, Vectors};
+use ds_design::Vectors;
 use ds_fire::State;
 use ds_latch::{Latches, Plan};
 use ds_outside::{Behind, Buffered, Lent, Sink, WriteFault};
-use ds_rows::{put, put_column};
-use itoa::Buffer;
+use ds_rows::{Home, put, put_column, put_fired, put_register_name};
 use std::alloc::Global;
 use std::marker::Brand;
 
@@ -159,73 +155,8 @@ fn put_register<O: Sink>(
     let home = homes[r];
     let width = clusters[home.cluster].as_slice().len();
     let slave = LatchId::new(2 * home.cluster as u32 + 3);
-    let so_far = put_name(so_far, latches.netlist().design(), r, out);
+    let so_far = put_register_name(so_far, latches.netlist().design(), r, out);
     let so_far = put(so_far, b": ", out);
     let so_far = put_column(so_far, state.stored(slave), width, home.place, out);
-    put(so_far, b"\n", out)
-}
-
-// Writes the name of a register.
-fn put_name<O: Sink>(
-    so_far: Result<(), WriteFault>,
-    design: &Design,
-    r: usize,
-    out: &mut O,
-) -> Result<(), WriteFault>
-    requires { r < length design.now.registers }
-    ensures { GoesOn so_far result (O.written out.old) (O.written out.new) (O.faults out.old)
-        (O.faults out.new) (register_of design.now r) }
-{
-    let output = design.registers()[r].output;
-    put_net(so_far, &design.nets()[output.index()], out)
-}
-
-// Writes a net.
-fn put_net<O: Sink>(
-    so_far: Result<(), WriteFault>,
-    net: &Net,
-    out: &mut O,
-) -> Result<(), WriteFault>
-    ensures { GoesOn so_far result (O.written out.old) (O.written out.new) (O.faults out.old)
-        (O.faults out.new) (net_text net.now) }
-{
-    if net.copy == 0 {
-        put(so_far, net.name.as_slice(), out)
-    } else {
-        put_copy(so_far, net, out)
-    }
-}
-
-// Writes a net of a copy, with the number of the copy.
-fn put_copy<O: Sink>(
-    so_far: Result<(), WriteFault>,
-    net: &Net,
-    out: &mut O,
-) -> Result<(), WriteFault>
-    ensures { GoesOn so_far result (O.written out.old) (O.written out.new) (O.faults out.old)
-        (O.faults out.new) (decimal net.now.copy ++ codes "/" ++ net.now.name) }
-{
-    let mut buffer = Buffer::new();
-    let so_far = put(so_far, buffer.format(net.copy).as_bytes(), out);
-    let so_far = put(so_far, b"/", out);
-    put(so_far, net.name.as_slice(), out)
-}
-
-// Writes the line of the firings.
-fn put_fired<O: Sink>(
-    so_far: Result<(), WriteFault>,
-    fired: u64,
-    most: u64,
-    out: &mut O,
-) -> Result<(), WriteFault>
-    ensures { GoesOn so_far result (O.written out.old) (O.written out.new) (O.faults out.old)
-        (O.faults out.new) (fired_line fired most) }
-{
-    let mut of = Buffer::new();
-    let mut buffer = Buffer::new();
-    let so_far = put(so_far, b"fired ", out);
-    let so_far = put(so_far, buffer.format(fired).as_bytes(), out);
-    let so_far = put(so_far, b" of ", out);
-    let so_far = put(so_far, of.format(most).as_bytes(), out);
     put(so_far, b"\n", out)
 }

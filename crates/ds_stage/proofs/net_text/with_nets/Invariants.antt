@@ -1,5 +1,6 @@
 use Rattle.std.proofs.Common.{◌≡◌, ◌++◌, drop, map}
-use Rattle.ds_stage.specs.FaultText.{listed, net_of}
+use Rattle.ds_rows.specs.Nets.{net_of}
+use Rattle.ds_stage.specs.FaultText.{listed}
 use Rattle.ds_stage.proofs.net_text.with_nets.Given as goal
 
 -- with the nets that are left behind it, this is the whole text

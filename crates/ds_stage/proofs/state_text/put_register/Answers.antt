@@ -3,8 +3,8 @@ use Rattle.std.proofs.lemmas.List.{get_or_default}
 use Rattle.ds_latch.specs.Node.{Slave, Split, members}
 use Rattle.ds_fire.specs.Snapshot.{split_of, stored_values}
 use Rattle.ds_rows.proofs.Then.{goes_on, with_text}
-use Rattle.ds_stage.specs.Homes.{no_home}
-use Rattle.ds_stage.specs.declared.homes.Home.{Home}
+use Rattle.ds_rows.specs.Homes.{no_home}
+use Rattle.ds_rows.specs.declared.homes.Home.{Home}
 use Rattle.ds_stage.proofs.Registers.{line_is}
 use Rattle.ds_stage.proofs.state_text.put_register.Goals as goal
 
@@ -19,4 +19,4 @@ returns g c =
     let is_cluster : (get_or c.args.homes.now c.args.r no_home).cluster < length (split_of c.args.state.now).clusters = subst (λ (s : Split). home.cluster < length s.clusters) (sym c.requires.split) inside in
     let stored : c.stored.result.now ≡ stored_values c.args.state.now (Slave (get_or c.args.homes.now c.args.r no_home).cluster) = c.stored.ensures.value (Slave home.cluster) is_cluster (sym c.new-slave.ensures) in
     with_text (line_is c.args.state.now c.args.latches.now c.args.homes.now c.args.r c.design.result.now (length c.as_slice-width.result.now) c.stored.result.now c.requires.split (c.design.ensures.design ∙ c.netlist.ensures.netlist) wide stored)
-    (goes_on (goes_on (goes_on c.put_name-so_far.ensures c.put-so_far.ensures) c.put_column-so_far.ensures) c.put.ensures)
+    (goes_on (goes_on (goes_on c.put_register_name-so_far.ensures c.put-so_far.ensures) c.put_column-so_far.ensures) c.put.ensures)

@@ -3,10 +3,10 @@ use Rattle.ds_base.specs.Values.{Row}
 use Rattle.ds_outside.proofs.Handing.{handed_on}
 use Rattle.ds_clocked.proofs.Behind.{begun}
 use Rattle.ds_rows.proofs.Then.{goes_on}
-use Rattle.ds_stage.specs.Homes.{AreHomes}
+use Rattle.ds_rows.specs.Homes.{AreHomes}
 use Rattle.ds_stage.specs.Kept.{open_part, state_text}
 use Rattle.ds_stage.specs.OpenLines.{AreShown}
-use Rattle.ds_stage.specs.declared.homes.Home.{Home}
+use Rattle.ds_rows.specs.declared.homes.Home.{Home}
 use Rattle.ds_stage.proofs.OpenTexts.{text_is}
 use Rattle.ds_stage.proofs.state_text.write_behind.Goals as goal
 

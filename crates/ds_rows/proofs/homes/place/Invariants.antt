@@ -1,7 +1,7 @@
 use Rattle.std.proofs.Common.{◌≡◌, ℕ, length, get_or}
 use Rattle.std.specs.List.{AllWithin}
-use Rattle.ds_stage.specs.Homes.{IsIn, IsPlacedOrKept, no_home}
-use Rattle.ds_stage.proofs.homes.place.Given as goal
+use Rattle.ds_rows.specs.Homes.{IsIn, IsPlacedOrKept, no_home}
+use Rattle.ds_rows.proofs.homes.place.Given as goal
 
 abbrev pub invariant-loop-place : goal.invariant-loop-place
 invariant-loop-place l = record {

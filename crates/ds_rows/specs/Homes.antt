@@ -2,7 +2,7 @@
 use Rattle.std.specs.Prelude.{◌≡◌, ◌⊎◌, ℕ, ◌<◌, List, length, All, slice_index, slice_index_or}
 use Rattle.ds_latch.specs.Node.{Split, members}
 use Rattle.ds_latch.specs.Headline.{StandsAt}
-use Rattle.ds_stage.specs.declared.homes.Home.{Home}
+use Rattle.ds_rows.specs.declared.homes.Home.{Home}
 
 -- the home of a register is where it stands
 abbrev pub IsHome : Split → ℕ → Home → Type 0

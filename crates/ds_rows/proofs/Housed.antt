@@ -6,8 +6,8 @@ use Rattle.std.proofs.lemmas.List.{get_or_default}
 use Rattle.ds_latch.specs.Node.{Split, members}
 use Rattle.ds_latch.specs.Headline.{StandsAt}
 use Rattle.ds_latch.specs.Plan.{IsSplit}
-use Rattle.ds_stage.specs.Homes.{AreHomes, AreHoused, ArePlaced, IsHome, IsIn, IsPlacedOrKept, no_home}
-use Rattle.ds_stage.specs.declared.homes.Home.{Home}
+use Rattle.ds_rows.specs.Homes.{AreHomes, AreHoused, ArePlaced, IsHome, IsIn, IsPlacedOrKept, no_home}
+use Rattle.ds_rows.specs.declared.homes.Home.{Home}
 
 -- the registers of a cluster are among the circuit's
 pub members_within : (s : Split) → IsSplit s → (i : ℕ) → i < length s.clusters → All (λ r. r < length s.circuit.registers) (members s i)

@@ -1,6 +1,6 @@
 //! Where the registers stand among the clusters.
 ghost use Rattle.std.specs.Prelude.{◌≡◌, ◌<◌, ℕ, All, IfOk, length, slice_index_or};
-ghost use Rattle.ds_stage.specs.Homes.{AreHomes, ArePlaced, IsPlacedOrKept, no_home};
+ghost use Rattle.ds_rows.specs.Homes.{AreHomes, ArePlaced, IsPlacedOrKept, no_home};
 
 use ds_base::RegId;
 use ds_latch::Latches;

@@ -1,6 +1,6 @@
 use Rattle.std.proofs.Common.{◌∙◌}
 use Rattle.ds_rows.proofs.Then.{goes_on, with_text}
-use Rattle.ds_stage.proofs.state_text.put_fired.Goals as goal
+use Rattle.ds_rows.proofs.log.put_fired.Goals as goal
 
 pub returns : goal.returns
 returns g c =

@@ -1,6 +1,6 @@
 use Rattle.std.proofs.Common.{◌∙◌}
 use Rattle.ds_rows.proofs.Then.{goes_on, with_text}
-use Rattle.ds_stage.proofs.state_text.put_copy.Goals as goal
+use Rattle.ds_rows.proofs.register_name.put_copy.Goals as goal
 
 pub returns : goal.returns
 returns g c =

@@ -2,9 +2,9 @@ use Rattle.std.proofs.Common.{◌≡◌, ◌∙◌, ◌<◌, ℕ, List, [], leng
 use Rattle.std.specs.Prelude.{All}
 use Rattle.std.proofs.lemmas.List.{get_or_default}
 use Rattle.ds_latch.specs.Node.{members}
-use Rattle.ds_stage.specs.Homes.{ArePlaced, IsPlacedOrKept, no_home}
-use Rattle.ds_stage.proofs.Housed.{housed_all, housed_more, members_within}
-use Rattle.ds_stage.proofs.homes.homes_of.Goals as goal
+use Rattle.ds_rows.specs.Homes.{ArePlaced, IsPlacedOrKept, no_home}
+use Rattle.ds_rows.proofs.Housed.{housed_all, housed_more, members_within}
+use Rattle.ds_rows.proofs.homes.homes_of.Goals as goal
 
 pub returns : goal.returns
 returns c =

@@ -1,6 +1,6 @@
 use Rattle.std.proofs.Common.{◌≡◌, ◌<◌, ℕ, length}
-use Rattle.ds_stage.specs.Homes.{AreHoused}
-use Rattle.ds_stage.proofs.homes.homes_of.Given as goal
+use Rattle.ds_rows.specs.Homes.{AreHoused}
+use Rattle.ds_rows.proofs.homes.homes_of.Given as goal
 
 abbrev pub invariant-loop-i : goal.invariant-loop-i
 invariant-loop-i l = record {
