@@ -121,6 +121,7 @@ def jobs(folder):
     lines = write(folder, "toggle.log", log(65536))
     yield "replay: 524,288 firings", ["replay", net, vec, lines], 0
     yield "run: the same firings", ["run", net, vec], 0
+    yield "run --stop: the same firings", ["run", net, vec, "--stop", "524288"], 0
 
 
 # Starts a program and tells how it ended, its processor time and its greatest memory. A process

@@ -3,10 +3,10 @@
 
 `pairs.py OLD NEW` runs each job with the one program and then with the other, again and again, so
 that what else the machine does meets both alike. `pairs.py PROGRAM` runs the kinds of a job turn
-about: known and unknown values, slacks by numbers of workers, and `replay` without and with open
-latches. For each there are the median, the least and the greatest processor time in seconds, and
-the median by the clock. The exit status is 1 where a job's kinds or programs write different bytes
-and are to write the same.
+about: known and unknown values, slacks by numbers of workers, runs that go to their ends and ones
+that are stopped, and `replay` without and with open latches. For each there are the median, the
+least and the greatest processor time in seconds, and the median by the clock. The exit status is 1
+where a job's kinds or programs write different bytes and are to write the same.
 """
 
 import argparse
@@ -84,6 +84,11 @@ def kinds(folder):
         words = ["run"] + wide + ["--clusters", "bus", "--jobs", count, "--slack"]
         yield "40 clusters, jobs " + count, True, {
             "slack " + slack: words + [slack] for slack in ("0", "1", "3", "15")}
+    for count in ("1", "4"):
+        words = ["run"] + wide + ["--clusters", "bus", "--jobs", count]
+        yield "40 clusters, a trace or a stop, jobs " + count, False, {
+            "trace": words, "at the end": words + ["--stop", str(2**64 - 1)],
+            "amid": words + ["--stop", "100000"], "at once": words + ["--stop", "0"]}
     cases = {
         "524,288 firings of the toggle": replay_toggle(folder),
         "4,096 registers in a row, all masters open":

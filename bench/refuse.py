@@ -62,6 +62,7 @@ COMMANDS = [
     "check :tog --log",
     "run :tog :v",
     "run :tog :v --graph :g --log --jobs 2",
+    "run :tog :v --stop 9 --log",
     "run :tog :many --jobs 2",
     "clock :tog :v",
     "clock :tog :many",

@@ -23,7 +23,9 @@ _desync() {
         fi
         case ${COMP_WORDS[i]} in
             --) plain=1 ;;
-            --clusters | --graph | --jobs | --slack) option=${COMP_WORDS[i]} given+=" $option" ;;
+            --clusters | --graph | --jobs | --slack | --stop)
+                option=${COMP_WORDS[i]} given+=" $option"
+                ;;
             --*) given+=" ${COMP_WORDS[i]}" ;;
             =) ;;
             *) if [ "$option" ]; then option=; else names=$((names + 1)); fi ;;
@@ -41,7 +43,7 @@ _desync() {
     fi
     local options= most=0
     case $command in
-        run) options="--clusters --graph --jobs --log --slack" most=2 ;;
+        run) options="--clusters --graph --jobs --log --slack --stop" most=2 ;;
         clock) most=2 ;;
         check) most=1 ;;
         graph) options="--clusters --shake" most=1 ;;

@@ -19,7 +19,7 @@ use Rattle.ds_latch.specs.Plan.{Planned}
 use Rattle.ds_stage.specs.GraphStage.{controller_stage}
 use Rattle.ds_stage.specs.PlanStage.{planned_stage}
 use Rattle.ds_stage.specs.AcceptStage.{ranks_stage}
-use Rattle.ds_app.specs.RunStage.{streamed_run_stage, traced_stage}
+use Rattle.ds_app.specs.RunStage.{planned_run_stage, stopped_stage, traced_stage}
 use Rattle.ds_app.specs.Job.{accept_stage, clock_stage, graph_stage, period_stage}
 use Rattle.ds_app.specs.Job.{replay_stage, run_stage, stages_of}
 use Rattle.ds_stage.specs.ReplayStage.{replayed_stage}
@@ -42,11 +42,18 @@ clock_not_refused : (held : List ℕ → Held) (vec : List ℕ) → held vec ≢
 clock_not_refused held vec told c text line means refused =
     then_not_refused (streamed_stage held vec (most_vectors false) c) (trace_stage c) (streamed_exclusive held vec (most_vectors false) c told) (λ rows b l is none. none) text line means refused
 
-run_not_refused : OneClustering → (held : List ℕ → Held) (file vec : List ℕ) (graph : Option (List ℕ)) (mode : Mode) (log : Bool) (slack : ℕ) → held vec ≢ untold → IsToldIn held graph
-    → (c : Circuit) (text line : List ℕ) → (run_stage held file vec graph mode log slack c).means text → ¬ (run_stage held file vec graph mode log slack c).refused line
-run_not_refused law held file vec graph mode log slack told named c text line means refused =
-    then_not_refused (planned_stage held file graph mode slack c) (streamed_run_stage held vec log c) (planned_exclusive law held file graph mode slack (told_file held graph named) c)
-    (λ p b l is no_more. then_not_refused (streamed_stage held vec (most_vectors log) c) (traced_stage log c p) (streamed_exclusive held vec (most_vectors log) c told) (λ rows t k means none. none) b l is no_more) text line means refused
+fired_not_refused : (held : List ℕ → Held) (vec : List ℕ) (log : Bool) (jobs : ℕ) (stop : Option ℕ) → held vec ≢ untold
+    → (c : Circuit) (p : Planned) (text line : List ℕ) → (planned_run_stage held vec log jobs stop c p).means text → ¬ (planned_run_stage held vec log jobs stop c p).refused line
+fired_not_refused held vec log jobs None told c p text line means refused =
+    then_not_refused (streamed_stage held vec (most_vectors log) c) (traced_stage log c p) (streamed_exclusive held vec (most_vectors log) c told) (λ rows t k means none. none) text line means refused
+fired_not_refused held vec log jobs (Some stop) told c p text line means refused =
+    then_not_refused (vectors_stage held vec c) (stopped_stage log jobs stop c p) (vectors_exclusive held vec c told) (λ rows t k means none. none) text line means refused
+
+run_not_refused : OneClustering → (held : List ℕ → Held) (file vec : List ℕ) (graph : Option (List ℕ)) (mode : Mode) (jobs : ℕ) (log : Bool) (slack : ℕ) (stop : Option ℕ) → held vec ≢ untold → IsToldIn held graph
+    → (c : Circuit) (text line : List ℕ) → (run_stage held file vec graph mode jobs log slack stop c).means text → ¬ (run_stage held file vec graph mode jobs log slack stop c).refused line
+run_not_refused law held file vec graph mode jobs log slack stop told named c text line means refused =
+    then_not_refused (planned_stage held file graph mode slack c) (planned_run_stage held vec log jobs stop c) (planned_exclusive law held file graph mode slack (told_file held graph named) c)
+    (fired_not_refused held vec log jobs stop told c) text line means refused
 
 graph_not_refused : OneClustering → (file : List ℕ) (mode : Mode) (shake : Bool) (c : Circuit) (text line : List ℕ)
     → (graph_stage file mode shake c).means text → ¬ (graph_stage file mode shake c).refused line
@@ -82,9 +89,9 @@ period_not_refused law held file delays mode told c text line means refused =
 -- a job that has a text is not refused
 pub job_not_refused : FaultsAreRefused → OneClustering → (held : List ℕ → Held) (job : Job) → AreTold held job → (text line : List ℕ)
     → (stages_of held job).means text → ¬ (stages_of held job).refused line
-job_not_refused law one held (Run file vec graph mode jobs log slack) told text line means refused =
-    then_not_refused (netlist_stage held file) (run_stage held file vec graph mode log slack) (netlist_exclusive law held file told.0)
-    (run_not_refused one held file vec graph mode log slack told.1 told.2) text line means refused
+job_not_refused law one held (Run file vec graph mode jobs log slack stop) told text line means refused =
+    then_not_refused (netlist_stage held file) (run_stage held file vec graph mode jobs log slack stop) (netlist_exclusive law held file told.0)
+    (run_not_refused one held file vec graph mode jobs log slack stop told.1 told.2) text line means refused
 job_not_refused law one held (Clock file vec) told text line means refused =
     then_not_refused (netlist_stage held file) (clock_stage held vec) (netlist_exclusive law held file told.0) (clock_not_refused held vec told.1) text line means refused
 job_not_refused law one held (Check file) told text line means refused =

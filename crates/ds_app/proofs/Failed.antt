@@ -1,5 +1,5 @@
 -- A job names a file that it did not read only where a read failed.
-use Rattle.std.proofs.Common.{ℕ, Bool, false, List, Option, Some}
+use Rattle.std.proofs.Common.{ℕ, Bool, false, List, Option, None, Some}
 use Rattle.ds_outside.specs.Held.{Held}
 use Rattle.ds_design.specs.Circuit.{Circuit}
 use Rattle.ds_cmd.specs.declared.job.Job.{Job}
@@ -16,7 +16,7 @@ use Rattle.ds_stage.specs.ReplayStage.{replayed_stage}
 use Rattle.ds_stage.specs.PeriodStage.{measured_stage}
 use Rattle.ds_latch.specs.Plan.{Planned}
 use Rattle.ds_design.specs.Rows.{Rows}
-use Rattle.ds_app.specs.RunStage.{streamed_run_stage, traced_stage}
+use Rattle.ds_app.specs.RunStage.{planned_run_stage, stopped_stage, traced_stage}
 use Rattle.ds_app.specs.Job.{accept_stage, clock_stage, graph_stage, period_stage}
 use Rattle.ds_app.specs.Job.{replay_stage, run_stage, stages_of}
 use Rattle.ds_base.specs.declared.number.Mode.{Mode}
@@ -28,11 +28,16 @@ use Rattle.ds_stage.proofs.Failed.{IsFailed, Says, netlist_says, planned_says, r
 clock_says : (held : List ℕ → Held) (vec : List ℕ) (failed : OfFile) (c : Circuit) → Says (clock_stage held vec c) failed
 clock_says held vec failed c = then_says (streamed_stage held vec (most_vectors false) c) (trace_stage c) failed (streamed_says held vec (most_vectors false) c failed) (λ rows line none. absurd none)
 
-run_says : (held : List ℕ → Held) (file vec : List ℕ) (graph : Option (List ℕ)) (mode : Mode) (log : Bool) (slack : ℕ) (failed : OfFile) (c : Circuit) → Says (run_stage held file vec graph mode log slack c) failed
-run_says held file vec graph mode log slack failed c =
-    then_says (planned_stage held file graph mode slack c) (streamed_run_stage held vec log c) failed
-    (planned_says held file graph mode slack failed c)
-    (λ p. then_says (streamed_stage held vec (most_vectors log) c) (traced_stage log c p) failed (streamed_says held vec (most_vectors log) c failed) (λ rows line none. absurd none))
+fired_says : (held : List ℕ → Held) (vec : List ℕ) (log : Bool) (jobs : ℕ) (stop : Option ℕ) (failed : OfFile) (c : Circuit) (p : Planned) → Says (planned_run_stage held vec log jobs stop c p) failed
+fired_says held vec log jobs None failed c p =
+    then_says (streamed_stage held vec (most_vectors log) c) (traced_stage log c p) failed (streamed_says held vec (most_vectors log) c failed) (λ rows line none. absurd none)
+fired_says held vec log jobs (Some stop) failed c p =
+    then_says (vectors_stage held vec c) (stopped_stage log jobs stop c p) failed (vectors_say held vec c failed) (λ rows line none. absurd none)
+
+run_says : (held : List ℕ → Held) (file vec : List ℕ) (graph : Option (List ℕ)) (mode : Mode) (jobs : ℕ) (log : Bool) (slack : ℕ) (stop : Option ℕ) (failed : OfFile) (c : Circuit) → Says (run_stage held file vec graph mode jobs log slack stop c) failed
+run_says held file vec graph mode jobs log slack stop failed c =
+    then_says (planned_stage held file graph mode slack c) (planned_run_stage held vec log jobs stop c) failed
+    (planned_says held file graph mode slack failed c) (fired_says held vec log jobs stop failed c)
 
 accept_says : (held : List ℕ → Held) (file graph : List ℕ) (mode : Mode) (failed : OfFile) (c : Circuit) → Says (accept_stage held file graph mode c) failed
 accept_says held file graph mode failed c =
@@ -57,7 +62,7 @@ period_says held file delays mode failed c =
 
 -- where a job names a file that it did not read, a read failed
 pub job_says : (held : List ℕ → Held) (job : Job) (failed : OfFile) (line : List ℕ) → (stages_of held job).unread failed line → IsFailed failed
-job_says held (Run file vec graph mode jobs log slack) failed line is = then_says (netlist_stage held file) (run_stage held file vec graph mode log slack) failed (netlist_says held file failed) (run_says held file vec graph mode log slack failed) line is
+job_says held (Run file vec graph mode jobs log slack stop) failed line is = then_says (netlist_stage held file) (run_stage held file vec graph mode jobs log slack stop) failed (netlist_says held file failed) (run_says held file vec graph mode jobs log slack stop failed) line is
 job_says held (Clock file vec) failed line is = then_says (netlist_stage held file) (clock_stage held vec) failed (netlist_says held file failed) (clock_says held vec failed) line is
 job_says held (Check file) failed line is = then_says (netlist_stage held file) report_stage failed (netlist_says held file failed) (λ c l none. absurd none) line is
 job_says held (Graph file mode shake) failed line is = then_says (netlist_stage held file) (graph_stage file mode shake) failed (netlist_says held file failed) (graph_says file mode shake failed) line is

@@ -1,5 +1,5 @@
 -- A plan of what is held has one clocked run, and every legal list does what it does.
-use Rattle.std.proofs.Common.{◌≡◌, ℕ, List, length, sym, subst}
+use Rattle.std.proofs.Common.{◌≡◌, ℕ, Bool, List, Option, None, Some, length, sym, subst}
 use Rattle.std.specs.Prelude.{All}
 use Rattle.ds_outside.specs.Held.{Held}
 use Rattle.ds_design.specs.Accepted.{IsAccepted}
@@ -7,14 +7,22 @@ use Rattle.ds_design.specs.Circuit.{Circuit, columns}
 use Rattle.ds_design.specs.InRange.{IsInRange}
 use Rattle.ds_latch.specs.Plan.{IsPlan}
 use Rattle.ds_latch.proofs.Headline.{headline}
+use Rattle.ds_design.specs.Rows.{Rows}
 use Rattle.ds_stage.specs.StreamStage.{most_vectors}
-use Rattle.ds_stage.proofs.Meant.{netlist_in_range}
+use Rattle.ds_stage.proofs.Meant.{netlist_in_range, vectors_wide}
 use Rattle.ds_stage.proofs.Streamed.{streamed_wide}
 use Rattle.ds_stage.proofs.PlanAccepted.{planned_circuit, planned_is_plan}
 use Rattle.ds_app.specs.Interleavings.{Interleavings}
+use Rattle.ds_app.specs.RunStage.{run_vectors_stage}
+
+-- the vectors of `run` are as wide as the columns
+run_wide : (held : List ℕ → Held) (vec : List ℕ) (log : Bool) (stop : Option ℕ) (c : Circuit) (vectors : Rows) → (run_vectors_stage held vec log stop c).means vectors
+    → All (λ vector. length vector ≡ length (columns c)) vectors.rows
+run_wide held vec log None c vectors means = streamed_wide held vec (most_vectors log) c vectors means
+run_wide held vec log (Some stop) c vectors means = vectors_wide held vec c vectors means
 
 pub interleavings_lem : (held : List ℕ → Held) (words : List (List ℕ)) → Interleavings held words
-interleavings_lem held words net vec graph mode jobs log slack is_job c netlist p planned vectors means =
+interleavings_lem held words net vec graph mode jobs log slack stop is_job c netlist p planned vectors means =
     let (flat, is_flat, (is, accepted)) = netlist in
     let accepted' : IsAccepted c = subst (λ (d : Circuit). IsAccepted d) (sym is) accepted in
     let plan : IsPlan p.split p.graph = planned_is_plan held net graph mode slack c p accepted' planned in
@@ -22,4 +30,4 @@ interleavings_lem held words net vec graph mode jobs log slack is_job c netlist 
     headline p.split p.graph plan
     (subst IsInRange same (netlist_in_range held net c netlist))
     vectors.rows
-    (subst (λ (d : Circuit). All (λ vector. length vector ≡ length (columns d)) vectors.rows) same (streamed_wide held vec (most_vectors log) c vectors means))
+    (subst (λ (d : Circuit). All (λ vector. length vector ≡ length (columns d)) vectors.rows) same (run_wide held vec log stop c vectors means))

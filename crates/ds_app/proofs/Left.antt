@@ -1,5 +1,5 @@
 -- Jobs that leave nothing where they stop: all that do not write as they read.
-use Rattle.std.proofs.Common.{ℕ, Bool, List, Option, Some}
+use Rattle.std.proofs.Common.{ℕ, Bool, List, Option, None, Some}
 use Rattle.ds_base.specs.declared.number.Mode.{Mode}
 use Rattle.ds_outside.specs.Held.{Held}
 use Rattle.ds_design.specs.Circuit.{Circuit}
@@ -17,7 +17,8 @@ use Rattle.ds_stage.specs.AcceptStage.{ranks_stage}
 use Rattle.ds_stage.specs.ReplayStage.{replayed_stage}
 use Rattle.ds_stage.specs.PeriodStage.{measured_stage}
 use Rattle.ds_app.specs.DemoStage.{IsSummary}
-use Rattle.ds_app.specs.Job.{accept_stage, graph_stage, period_stage, replay_stage, stages_of}
+use Rattle.ds_app.specs.Job.{accept_stage, graph_stage, period_stage, replay_stage, run_stage, stages_of}
+use Rattle.ds_app.specs.RunStage.{stopped_run_stage, stopped_stage}
 use Rattle.ds_app.specs.Status.{HasWindows}
 use Rattle.ds_stage.proofs.Left.{LeavesNothing, controller_nothing, giving_nothing, measured_nothing, netlist_nothing, planned_nothing, replayed_nothing, split_nothing, then_nothing, vectors_nothing}
 
@@ -26,6 +27,19 @@ report_nothing c = giving_nothing (report_stage c).means
 
 pub check_nothing : (held : List ℕ → Held) (file : List ℕ) → LeavesNothing (then_stage (netlist_stage held file) report_stage)
 check_nothing held file = then_nothing (netlist_stage held file) report_stage (netlist_nothing held file) report_nothing
+
+pub stopped_nothing : (held : List ℕ → Held) (vec : List ℕ) (log : Bool) (jobs stop : ℕ) (c : Circuit) (p : Planned)
+    → LeavesNothing (stopped_run_stage held vec log jobs stop c p)
+stopped_nothing held vec log jobs stop c p =
+    then_nothing (vectors_stage held vec c) (stopped_stage log jobs stop c p) (vectors_nothing held vec c)
+    (λ rows. giving_nothing (stopped_stage log jobs stop c p rows).means)
+
+pub halted_nothing : (held : List ℕ → Held) (file vec : List ℕ) (graph : Option (List ℕ)) (mode : Mode) (jobs : ℕ) (log : Bool) (slack stop : ℕ)
+    → LeavesNothing (then_stage (netlist_stage held file) (run_stage held file vec graph mode jobs log slack (Some stop)))
+halted_nothing held file vec graph mode jobs log slack stop =
+    then_nothing (netlist_stage held file) (run_stage held file vec graph mode jobs log slack (Some stop)) (netlist_nothing held file)
+    (λ c. then_nothing (planned_stage held file graph mode slack c) (stopped_run_stage held vec log jobs stop c)
+    (planned_nothing held file graph mode slack c) (stopped_nothing held vec log jobs stop c))
 
 pub graph_nothing : (held : List ℕ → Held) (file : List ℕ) (mode : Mode) (shake : Bool) → LeavesNothing (then_stage (netlist_stage held file) (graph_stage file mode shake))
 graph_nothing held file mode shake =
@@ -53,7 +67,8 @@ period_nothing held file delays mode =
 
 -- a job that does not write as it reads leaves nothing
 pub job_nothing : (held : List ℕ → Held) (job : Job) → ¬ HasWindows job → LeavesNothing (stages_of held job)
-job_nothing held (Run file vec graph mode jobs log slack) none = absurd (none tt)
+job_nothing held (Run file vec graph mode jobs log slack None) none = absurd (none tt)
+job_nothing held (Run file vec graph mode jobs log slack (Some stop)) none = halted_nothing held file vec graph mode jobs log slack stop
 job_nothing held (Clock file vec) none = absurd (none tt)
 job_nothing held (Check file) none = check_nothing held file
 job_nothing held (Graph file mode shake) none = graph_nothing held file mode shake

@@ -10,6 +10,7 @@ pub mod ReplayEnds
 pub mod WindowEnds
 pub mod ClockEnds
 pub mod RunEnds
+pub mod StoppedEnds
 pub mod DemoSplit
 pub mod Summaries
 pub mod PeriodEnds

@@ -1,5 +1,5 @@
 -- What a run with its log prints is replayed to its end.
-use Rattle.std.proofs.Common.{◌≡◌, ◌≢◌, ◌∙◌, ℕ, ◌*◌, ◌<◌, ◌≤◌, Bool, true, false, List, [], ◌++◌, length, get_or, Option, ◌⊎◌, inl, inr, refl, arith, ap, sym, subst}
+use Rattle.std.proofs.Common.{◌≡◌, ◌≢◌, ◌∙◌, ℕ, ◌*◌, ◌<◌, ◌≤◌, Bool, true, false, List, [], ◌++◌, length, get_or, Option, None, ◌⊎◌, inl, inr, refl, arith, ap, sym, subst}
 use Rattle.std.specs.Prelude.{All}
 use Rattle.std.specs.List.{flat_map, range_with_len}
 use Rattle.std.proofs.lemmas.Bool.{cases_lt}
@@ -180,8 +180,8 @@ module _ (faults : FaultsAreRefused) (one : OneClustering) (held : List ℕ → 
 
 pub printed_is_replayed : FaultsAreRefused → OneClustering → (held : List ℕ → Held) (net vec log : List ℕ) (graph : Option (List ℕ))
     (mode : Mode) (jobs slack : ℕ) (transparent : Bool) (printed : List ℕ)
-    → AreTold held (Run net vec graph mode jobs true slack)
-    → (stages_of held (Run net vec graph mode jobs true slack)).means printed
+    → AreTold held (Run net vec graph mode jobs true slack None)
+    → (stages_of held (Run net vec graph mode jobs true slack None)).means printed
     → held log ≡ bytes printed → IsShort (held log) → IsShort (held vec)
     → ReplaysAll held (Replay net vec log graph mode slack transparent)
 printed_is_replayed faults one held net vec log graph mode jobs slack transparent printed (told_net, told_vec, told)

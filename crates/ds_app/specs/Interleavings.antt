@@ -10,8 +10,8 @@ use Rattle.ds_latch.specs.Headline.{Desynchronizes}
 use Rattle.ds_cmd.specs.Line.{job_of}
 use Rattle.ds_cmd.specs.declared.job.Job.TheVariants.{Run}
 use Rattle.ds_stage.specs.Stages.{netlist_stage}
-use Rattle.ds_stage.specs.StreamStage.{most_vectors, streamed_stage}
 use Rattle.ds_stage.specs.PlanStage.{planned_stage}
+use Rattle.ds_app.specs.RunStage.{run_vectors_stage}
 
 -- for the words of a `run` command, and the netlist, plan and vectors that the bytes held mean,
 -- with a graph of the user's where one is named: the netlist has one clocked run on the vectors,
@@ -19,9 +19,9 @@ use Rattle.ds_stage.specs.PlanStage.{planned_stage}
 abbrev pub Interleavings : (List ℕ → Held) → List (List ℕ) → Type 0
 Interleavings held words =
     (net vec : List ℕ) (graph : Option (List ℕ)) (mode : Mode) (jobs : ℕ) (log : Bool)
-    (slack : ℕ)
-    → job_of words ≡ Ok (Run net vec graph mode jobs log slack)
+    (slack : ℕ) (stop : Option ℕ)
+    → job_of words ≡ Ok (Run net vec graph mode jobs log slack stop)
     → (c : Circuit) → (netlist_stage held net).means c
     → (p : Planned) → (planned_stage held net graph mode slack c).means p
-    → (vectors : Rows) → (streamed_stage held vec (most_vectors log) c).means vectors
+    → (vectors : Rows) → (run_vectors_stage held vec log stop c).means vectors
     → Desynchronizes p.split p.graph vectors.rows

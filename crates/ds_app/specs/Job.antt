@@ -12,7 +12,7 @@ use Rattle.ds_stage.specs.StreamStage.{most_vectors, streamed_stage}
 use Rattle.ds_stage.specs.SplitStage.{split_stage}
 use Rattle.ds_stage.specs.GraphStage.{controller_stage}
 use Rattle.ds_stage.specs.PlanStage.{planned_stage}
-use Rattle.ds_app.specs.RunStage.{streamed_run_stage}
+use Rattle.ds_app.specs.RunStage.{planned_run_stage}
 use Rattle.ds_app.specs.DemoStage.{demo_stage}
 use Rattle.ds_stage.specs.AcceptStage.{ranks_stage}
 use Rattle.ds_stage.specs.ReplayStage.{replayed_stage}
@@ -24,10 +24,11 @@ clock_stage held vec c =
     then_stage (streamed_stage held vec (most_vectors false) c) (trace_stage c)
 
 -- `run`, once the netlist is read
-abbrev pub run_stage : (List ℕ → Held) → List ℕ → List ℕ → Option (List ℕ) → Mode → Bool → ℕ
-    → Circuit → Stage (List ℕ)
-run_stage held net vec graph mode log slack c =
-    then_stage (planned_stage held net graph mode slack c) (streamed_run_stage held vec log c)
+abbrev pub run_stage : (List ℕ → Held) → List ℕ → List ℕ → Option (List ℕ) → Mode → ℕ → Bool
+    → ℕ → Option ℕ → Circuit → Stage (List ℕ)
+run_stage held net vec graph mode jobs log slack stop c =
+    then_stage (planned_stage held net graph mode slack c)
+    (planned_run_stage held vec log jobs stop c)
 
 -- `graph`, once the netlist is read
 abbrev pub graph_stage : List ℕ → Mode → Bool → Circuit → Stage (List ℕ)
@@ -53,8 +54,8 @@ period_stage held net delays mode c =
 
 -- the stages of a job, on what its files hold
 abbrev pub stages_of : (List ℕ → Held) → Job → Stage (List ℕ)
-stages_of held (Run net vec graph mode jobs log slack) =
-    then_stage (netlist_stage held net) (run_stage held net vec graph mode log slack)
+stages_of held (Run net vec graph mode jobs log slack stop) =
+    then_stage (netlist_stage held net) (run_stage held net vec graph mode jobs log slack stop)
 stages_of held (Clock net vec) = then_stage (netlist_stage held net) (clock_stage held vec)
 stages_of held (Check net) = then_stage (netlist_stage held net) report_stage
 stages_of held (Graph net mode shake) =

@@ -1,5 +1,5 @@
 -- What follows of the definition of a job.
-use Rattle.std.specs.Prelude.{◌≡◌, ℕ, ◌≤◌, Bool, true, List, ◌++◌, length, Option}
+use Rattle.std.specs.Prelude.{◌≡◌, ℕ, ◌≤◌, Bool, true, List, ◌++◌, length, Option, None}
 use Rattle.ds_base.specs.Limit.{most_of}
 use Rattle.ds_base.specs.declared.number.Limit.TheVariants.{Bytes}
 use Rattle.ds_base.specs.declared.number.Mode.{Mode}
@@ -35,7 +35,7 @@ IsShort held = (text : List ℕ) → held ≡ bytes text → length text ≤ mos
 abbrev pub PrintedIsReplayed : Type 0
 PrintedIsReplayed = (held : List ℕ → Held) (net vec log : List ℕ) (graph : Option (List ℕ))
     (mode : Mode) (jobs slack : ℕ) (transparent : Bool) (printed : List ℕ)
-    → AreTold held (Run net vec graph mode jobs true slack)
-    → (stages_of held (Run net vec graph mode jobs true slack)).means printed
+    → AreTold held (Run net vec graph mode jobs true slack None)
+    → (stages_of held (Run net vec graph mode jobs true slack None)).means printed
     → held log ≡ bytes printed → IsShort (held log) → IsShort (held vec)
     → ReplaysAll held (Replay net vec log graph mode slack transparent)

@@ -106,8 +106,8 @@ IsToldIn held (Some file) = held file ≢ untold
 
 -- the files of a job tell what they hold
 abbrev pub AreTold : (List ℕ → Held) → Job → Type 0
-AreTold held (Run net vec graph mode jobs log slack) = (held net ≢ untold) × (held vec ≢ untold)
-    × IsToldIn held graph
+AreTold held (Run net vec graph mode jobs log slack stop) =
+    (held net ≢ untold) × (held vec ≢ untold) × IsToldIn held graph
 AreTold held (Clock net vec) = (held net ≢ untold) × (held vec ≢ untold)
 AreTold held (Check net) = held net ≢ untold
 AreTold held (Graph net mode shake) = held net ≢ untold
@@ -119,7 +119,8 @@ AreTold held (Period net delays mode) = (held net ≢ untold) × (held delays �
 
 -- the job reads its vectors window by window, and writes as it reads
 abbrev pub HasWindows : Job → Type 0
-HasWindows (Run net vec graph mode jobs log slack) = Unit {0}
+HasWindows (Run net vec graph mode jobs log slack None) = Unit {0}
+HasWindows (Run net vec graph mode jobs log slack (Some stop)) = ⊥
 HasWindows (Clock net vec) = Unit {0}
 HasWindows (Check net) = ⊥
 HasWindows (Graph net mode shake) = ⊥

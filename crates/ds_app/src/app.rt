@@ -109,6 +109,7 @@ fn do_job<R: AllocGlobal + Threads + Sync, G: Gate, F: Files, O: Sink>(
             jobs,
             log,
             slack,
+            stop,
         } => {
             let job = RunJob {
                 net: net.as_str(),
@@ -118,6 +119,7 @@ fn do_job<R: AllocGlobal + Threads + Sync, G: Gate, F: Files, O: Sink>(
                 jobs: *jobs,
                 log: *log,
                 slack: *slack,
+                stop: *stop,
             };
             run(rt, &job, gate, files, out)
         }

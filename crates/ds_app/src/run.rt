@@ -6,8 +6,9 @@ ghost use Rattle.ds_trace.specs.Logged.{IsLogOf};
 ghost use Rattle.ds_stage.specs.Ends.{Ends, Output, RoseIn};
 ghost use Rattle.ds_stage.specs.StreamStage.{most_vectors as most_vectors_of};
 ghost use Rattle.ds_app.specs.Job.{stages_of};
-ghost use Rattle.ds_app.specs.RunStage.{streamed_run_stage};
+ghost use Rattle.ds_app.specs.RunStage.{planned_run_stage, streamed_run_stage};
 
+use crate::stopped::{PlannedStop, write_at_stop};
 use ds_base::{Mode, OutOfMemory};
 use ds_cmd::FileName;
 use ds_latch::Plan;
@@ -20,8 +21,9 @@ use std::alloc::Global;
 use std::thread::Threads;
 
 /// What `run` is to do: the files of the netlist, of the vectors and of a graph, where one is
-/// named; how registers are put into clusters; how many workers, whether a log is wanted, and how
-/// many openings a producer may run ahead of its consumers.
+/// named; how registers are put into clusters; how many workers, whether a log is wanted, how many
+/// openings a producer may run ahead of its consumers, and after how many firings each worker
+/// stops, where the run is to be stopped.
 #[derive(Clone, Copy)]
 pub struct RunJob<'a> {
     pub net: &'a str,
@@ -31,10 +33,12 @@ pub struct RunJob<'a> {
     pub jobs: u32,
     pub log: bool,
     pub slack: u8,
+    pub stop: Option<u64>,
 }
 
 /// Reads a netlist, makes its plan, has workers run it on the vectors as these are read, and writes
-/// the trace, and the log where one is wanted.
+/// the trace; or has them run it to a stop, and writes what each register has stored then. The log
+/// stands behind where one is wanted.
 #[tactic(auto)]
 pub fn run<R: AllocGlobal + Threads + Sync, G: Gate, F: Files, O: Sink>(
     rt: &R,
@@ -46,7 +50,7 @@ pub fn run<R: AllocGlobal + Threads + Sync, G: Gate, F: Files, O: Sink>(
     requires jobs { (0 < job.now.jobs) × (job.now.jobs ≤ 64) }
     requires slack { job.now.slack ≤ 15 }
     ensures value { Ends (stages_of (F.held files.old) (Run job.now.net.now job.now.vec.now
-        job.now.graph.now job.now.clusters job.now.jobs job.now.log job.now.slack))
+        job.now.graph.now job.now.clusters job.now.jobs job.now.log job.now.slack job.now.stop))
         (RoseIn (F.faults files.old) (F.faults files.new)) (record {
           old = O.written out.old;
           new = O.written out.new;
@@ -70,7 +74,37 @@ pub fn run<R: AllocGlobal + Threads + Sync, G: Gate, F: Files, O: Sink>(
         jobs: job.jobs,
         gate,
     };
-    write_traced(&workers, job, &mut plan, files, out)
+    run_planned(&workers, job, &mut plan, files, out)
+}
+
+// Runs a plan by these workers, to its end or to its stop.
+fn run_planned<R: AllocGlobal + Threads + Sync, G: Gate, F: Files, O: Sink>(
+    workers: &Workers<'_, R, G>,
+    job: &RunJob<'_>,
+    plan: &mut Plan<'_>,
+    files: &mut F,
+    out: &mut O,
+) -> Result<(), Stop>
+    requires start { plan.old.split.initial ≡ initial_row plan.old.split.circuit }
+    requires jobs { (0 < workers.now.jobs) × (workers.now.jobs ≤ 64) }
+    ensures value { Ends (planned_run_stage (F.held files.old) job.now.vec.now job.now.log
+        workers.now.jobs job.now.stop plan.old.split.circuit plan.old)
+        (RoseIn (F.faults files.old) (F.faults files.new)) (record {
+          old = O.written out.old;
+          new = O.written out.new;
+          before = O.faults out.old;
+          now = O.faults out.new;
+        }) result }
+
+    ensures same_held { F.held files.new ≡ F.held files.old }
+{
+    match job.stop {
+        None => write_traced(workers, job, plan, files, out),
+        Some(stop) => {
+            let planned = PlannedStop { plan: &*plan, stop };
+            write_at_stop(workers, job, &planned, files, out)
+        }
+    }
 }
 
 // Runs a plan by these workers window by window, each begun with the registers behind the one

@@ -3,14 +3,14 @@
 //! In each turn the nets take the one valuation of the registers and the vector, a line with the
 //! outputs and the registers is written, and each register takes the value of its data net.
 //!
-//! `simulate` writes the whole trace, and `simulate_from` the lines of a window, from any row and
-//! turn number on, and gives the row after it. Each answers `Write` only where the sink's faults
-//! rose, and then a first part of the text was appended; on `Memory` nothing was. `laws` has what a
-//! reader of traces may rely on where some values are unknown: known ones in their place change no
-//! other character. When memory is found is not promised.
+//! `simulate_from` writes the lines of a window, from any row and turn number on, and gives the row
+//! after it. It answers `Write` only where the sink's faults rose, and then a first part of the
+//! lines was appended; on `Memory` nothing was. `laws` has what a reader of traces may rely on
+//! where some values are unknown: known ones in their place change no other character. When memory
+//! is found is not promised.
 #![tactic(auto)]
 
 pub mod laws;
 mod run;
 
-pub use run::{SimFault, simulate, simulate_from};
+pub use run::{SimFault, simulate_from};

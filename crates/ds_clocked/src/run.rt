@@ -1,20 +1,19 @@
 //! The clocked run, turn by turn: the nets are settled, the line is written, and each register
 //! takes its data net. The text goes through a buffer, and all memory is taken before the first
 //! byte.
-ghost use Rattle.std.specs.Prelude.{◌≡◌, ◌+◌, ◌^◌, ◌<◌, ◌≤◌, length, map, All, OnOk, IfOk};
+ghost use Rattle.std.specs.Prelude.{◌≡◌, ◌+◌, ◌^◌, ◌<◌, ◌≤◌, length, map, All, IfOk};
 ghost use Rattle.ds_outside.specs.Fault.{Rose};
 ghost use Rattle.ds_cover.specs.Cover.{values_at};
-ghost use Rattle.ds_design.specs.Circuit.{columns, data_nets, initial_row, initial_value};
-ghost use Rattle.ds_design.specs.Trace.{trace_line as trace_text, end_line as end_text};
+ghost use Rattle.ds_design.specs.Circuit.{columns, data_nets};
+ghost use Rattle.ds_design.specs.Trace.{trace_line as trace_text};
 ghost use Rattle.ds_outside.specs.Writes.{GoesOn};
-ghost use Rattle.ds_clocked.specs.Appends.{AppendsTrace, AppendsTracePart, AppendsLines};
-ghost use Rattle.ds_clocked.specs.Appends.{AppendsLinesPart, WritesTrace, WritesLines};
+ghost use Rattle.ds_clocked.specs.Appends.{AppendsLines, AppendsLinesPart, WritesLines};
 
 use ds_base::{NetId, OutOfMemory, Row3};
 use ds_design::{Netlist, Register, Vectors};
 use ds_outside::{Behind, Buffered, Lent, Sink, WriteFault};
-use ds_rows::{end_line, trace_line};
-use ds_settle::{pick_data, pick_values, set_initial, settle};
+use ds_rows::trace_line;
+use ds_settle::{pick_data, pick_values, settle};
 use std::alloc::Global;
 use std::marker::Brand;
 
@@ -23,40 +22,6 @@ use std::marker::Brand;
 pub enum SimFault {
     Write,
     Memory,
-}
-
-/// Writes the trace of the clocked run: a line for each turn, numbered from 0, with the outputs and
-/// the registers before the turn, and the line `end` with the registers after the last one.
-pub fn simulate<O: Sink>(
-    alloc: Global,
-    netlist: &Netlist,
-    vectors: &Vectors,
-    out: &mut O,
-) -> Result<(), SimFault>
-    requires width { vectors.now.width ≡ length (columns netlist.now) }
-    requires few { length vectors.now.rows < 2 ^ 64 }
-
-    ensures ok { OnOk result
-        (AppendsTrace netlist.now vectors.now.rows (O.written out.old) (O.written out.new)) }
-
-    // After a fault.
-    ensures part { result ≡ Err SimFault.Write
-        → AppendsTracePart netlist.now vectors.now.rows (O.written out.old) (O.written out.new) }
-    ensures same { result ≡ Err SimFault.Memory → O.written out.new ≡ O.written out.old }
-
-    // When a write failed.
-    ensures never_falls { O.faults out.old ≤ O.faults out.new }
-    ensures cause { result ≡ Err SimFault.Write → Rose (O.faults out.old) (O.faults out.new) }
-{
-    let Ok(mut rows) = rows_for(alloc, netlist) else {
-        return Err(SimFault::Memory);
-    };
-    set_initial(netlist.design().registers(), &mut rows.state);
-    let (_, result) = trace_behind::<O, Brand>(netlist, vectors, &mut rows, Lent { sink: out });
-    match result {
-        Ok(()) => Ok(()),
-        Err(_) => Err(SimFault::Write),
-    }
 }
 
 /// Writes the lines of a window of a run, numbered from `first` on and with `start` as the
@@ -120,31 +85,6 @@ fn rows_for(alloc: Global, netlist: &Netlist) -> Result<Rows, OutOfMemory>
     })
 }
 
-// Writes the whole trace by way of a buffer.
-fn trace_behind<'a, O: Sink, B: Behind>(
-    netlist: &Netlist,
-    vectors: &Vectors,
-    rows: &mut Rows,
-    behind: Lent<'a, O>,
-) -> (Lent<'a, O>, Result<(), WriteFault>)
-    requires width { vectors.now.width ≡ length (columns netlist.now) }
-    requires state { rows.old.state ≡ initial_row netlist.now }
-    requires nets { length rows.old.nets ≡ length netlist.now.nets }
-    requires outputs { length rows.old.outputs ≡ length netlist.now.outputs }
-    requires few { length vectors.now.rows < 2 ^ 64 }
-    requires same { behind.sink.ghost_name ≡ B.name }
-    requires before { O.written behind.sink.now ≡ B.before }
-
-    ensures ok { WritesTrace result.1 netlist.now vectors.now.rows B.before
-        (O.written result.0.sink.now) (O.faults behind.entry.sink.now)
-        (O.faults result.0.sink.now) }
-    ensures same { result.0.sink.ghost_name ≡ B.name }
-{
-    let mut buffered: Buffered<'a, O, B> = Buffered::new(behind);
-    let so_far = write_trace(netlist, vectors, rows, &mut buffered);
-    buffered.finish(so_far)
-}
-
 // Writes the lines of these turns by way of a buffer, and leaves the row after them in `rows`.
 fn lines_behind<'a, O: Sink, B: Behind>(
     netlist: &Netlist,
@@ -169,25 +109,6 @@ fn lines_behind<'a, O: Sink, B: Behind>(
     let mut buffered: Buffered<'a, O, B> = Buffered::new(behind);
     let so_far = write_turns(netlist, first, vectors, rows, &mut buffered);
     buffered.finish(so_far)
-}
-
-// Writes the whole trace, from the row in `rows` on.
-fn write_trace<O: Sink>(
-    netlist: &Netlist,
-    vectors: &Vectors,
-    rows: &mut Rows,
-    out: &mut O,
-) -> Result<(), WriteFault>
-    requires width { vectors.now.width ≡ length (columns netlist.now) }
-    requires state { rows.old.state ≡ initial_row netlist.now }
-    requires nets { length rows.old.nets ≡ length netlist.now.nets }
-    requires outputs { length rows.old.outputs ≡ length netlist.now.outputs }
-    requires few { length vectors.now.rows < 2 ^ 64 }
-    ensures { WritesTrace result netlist.now vectors.now.rows
-        (O.written out.old) (O.written out.new) (O.faults out.old) (O.faults out.new) }
-{
-    let so_far = write_turns(netlist, 0, vectors, rows, out);
-    put_end(so_far, &rows.state, out)
 }
 
 // Writes the lines of these turns, and leaves the row after them in `rows`.
@@ -217,20 +138,6 @@ fn write_turns<O: Sink>(
         pick_data(&rows.nets, registers, &mut rows.state);
     }
     so_far
-}
-
-fn put_end<O: Sink>(
-    so_far: Result<(), WriteFault>,
-    registers: &Row3,
-    out: &mut O,
-) -> Result<(), WriteFault>
-    ensures { GoesOn so_far result (O.written out.old) (O.written out.new)
-        (O.faults out.old) (O.faults out.new) (end_text registers.now) }
-{
-    match so_far {
-        Ok(()) => end_line(registers, out),
-        Err(fault) => Err(fault),
-    }
 }
 
 fn put_line<O: Sink>(

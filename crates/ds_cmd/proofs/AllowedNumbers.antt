@@ -10,7 +10,7 @@ use Rattle.ds_base.specs.Limit.{most_of}
 use Rattle.ds_base.specs.declared.number.Limit.TheVariants.{Clusters, Vectors}
 use Rattle.clap.specs.Words.{Row, Text, fault_of, first_of, subcommand_of}
 use Rattle.ds_cmd.specs.Fault.{Gives, with_mode, with_number, with_value}
-use Rattle.ds_cmd.specs.Number.{is_between, is_numeral, jobs_of, number_of, number_or_one, number_or_zero, slack_of}
+use Rattle.ds_cmd.specs.Number.{is_between, is_numeral, jobs_of, number_of, number_or_one, number_or_zero, slack_of, stop_in}
 use Rattle.ds_cmd.specs.Clusters.{clusters_of}
 use Rattle.ds_cmd.specs.Run.{run_job}
 use Rattle.ds_cmd.specs.Clock.{clock_job}
@@ -49,7 +49,7 @@ moded : {A : Type 0} (o : Option A) (next : A → Result Job UsageFault) → ((a
 moded None next all = fault_yields _
 moded (Some a) next all = all a refl
 
-numbered : (o : Option ℕ) (next : ℕ → Result Job UsageFault) → ((n : ℕ) → o ≡ Some n → Yields (next n)) → Yields (with_number o next)
+numbered : {A : Type 0} (o : Option A) (next : A → Result Job UsageFault) → ((n : A) → o ≡ Some n → Yields (next n)) → Yields (with_number o next)
 numbered None next all = fault_yields _
 numbered (Some n) next all = all n refl
 
@@ -93,8 +93,8 @@ without_slack (suc slack) true shown is e =
 
 run_yields : (rows : List Row) → Yields (run_job rows)
 run_yields rows = valued (first_of (codes "net") rows) _ (λ net. valued (first_of (codes "vec") rows) _ (λ vec.
-    numbered (jobs_of rows) _ (λ jobs are. numbered (slack_of rows) _ (λ slack is. moded (clusters_of rows) _ (λ mode in_mode.
-    ok_yields _ (one_or_more (first_of (codes "jobs") rows) jobs are, few_openings (first_of (codes "slack") rows) slack is))))))
+    numbered (jobs_of rows) _ (λ jobs are. numbered (slack_of rows) _ (λ slack is. numbered (stop_in rows) _ (λ stop there. moded (clusters_of rows) _ (λ mode in_mode.
+    ok_yields _ (one_or_more (first_of (codes "jobs") rows) jobs are, few_openings (first_of (codes "slack") rows) slack is)))))))
 
 clock_yields : (rows : List Row) → Yields (clock_job rows)
 clock_yields rows = valued (first_of (codes "net") rows) _ (λ net. valued (first_of (codes "vec") rows) _ (λ vec. ok_yields _ tt))

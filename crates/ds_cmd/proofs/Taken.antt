@@ -48,23 +48,23 @@ no_option (byte ∷ []) plain = record {
 }
 no_option (byte ∷ next ∷ rest) plain = let e = not_true (byte == 45) plain in record { dashes = rw e refl; long = rw e refl; short = rw e refl }
 
-run_at : (program net vec : Text) → IsNoOption net → IsNoOption vec → job_of (program ∷ codes "run" ∷ net ∷ vec ∷ []) ≡ Ok (Run net vec None Each 1 false 0)
+run_at : (program net vec : Text) → IsNoOption net → IsNoOption vec → job_of (program ∷ codes "run" ∷ net ∷ vec ∷ []) ≡ Ok (Run net vec None Each 1 false 0 None)
 unfolding clap_on_literals
-run_at program net vec n v = rw (n.dashes, n.long, n.short) (rw (v.dashes, v.long, v.short) (refl {a = Ok (Run net vec None Each 1 false 0)}))
+run_at program net vec n v = rw (n.dashes, n.long, n.short) (rw (v.dashes, v.long, v.short) (refl {a = Ok (Run net vec None Each 1 false 0 None)}))
 
-run_each : (program net vec : Text) → IsNoOption net → IsNoOption vec → job_of (program ∷ codes "run" ∷ net ∷ vec ∷ codes "--clusters" ∷ mode_word Each ∷ []) ≡ Ok (Run net vec None Each 1 false 0)
+run_each : (program net vec : Text) → IsNoOption net → IsNoOption vec → job_of (program ∷ codes "run" ∷ net ∷ vec ∷ codes "--clusters" ∷ mode_word Each ∷ []) ≡ Ok (Run net vec None Each 1 false 0 None)
 unfolding clap_on_literals
-run_each program net vec n v = rw (n.dashes, n.long, n.short, v.dashes, v.long, v.short) (refl {a = Ok (Run net vec None Each 1 false 0)})
+run_each program net vec n v = rw (n.dashes, n.long, n.short, v.dashes, v.long, v.short) (refl {a = Ok (Run net vec None Each 1 false 0 None)})
 
-run_one : (program net vec : Text) → IsNoOption net → IsNoOption vec → job_of (program ∷ codes "run" ∷ net ∷ vec ∷ codes "--clusters" ∷ mode_word One ∷ []) ≡ Ok (Run net vec None One 1 false 0)
+run_one : (program net vec : Text) → IsNoOption net → IsNoOption vec → job_of (program ∷ codes "run" ∷ net ∷ vec ∷ codes "--clusters" ∷ mode_word One ∷ []) ≡ Ok (Run net vec None One 1 false 0 None)
 unfolding clap_on_literals
-run_one program net vec n v = rw (n.dashes, n.long, n.short, v.dashes, v.long, v.short) (refl {a = Ok (Run net vec None One 1 false 0)})
+run_one program net vec n v = rw (n.dashes, n.long, n.short, v.dashes, v.long, v.short) (refl {a = Ok (Run net vec None One 1 false 0 None)})
 
-run_bus : (program net vec : Text) → IsNoOption net → IsNoOption vec → job_of (program ∷ codes "run" ∷ net ∷ vec ∷ codes "--clusters" ∷ mode_word Bus ∷ []) ≡ Ok (Run net vec None Bus 1 false 0)
+run_bus : (program net vec : Text) → IsNoOption net → IsNoOption vec → job_of (program ∷ codes "run" ∷ net ∷ vec ∷ codes "--clusters" ∷ mode_word Bus ∷ []) ≡ Ok (Run net vec None Bus 1 false 0 None)
 unfolding clap_on_literals
-run_bus program net vec n v = rw (n.dashes, n.long, n.short, v.dashes, v.long, v.short) (refl {a = Ok (Run net vec None Bus 1 false 0)})
+run_bus program net vec n v = rw (n.dashes, n.long, n.short, v.dashes, v.long, v.short) (refl {a = Ok (Run net vec None Bus 1 false 0 None)})
 
-run_in : (program net vec : Text) (mode : Mode) → IsNoOption net → IsNoOption vec → job_of (program ∷ codes "run" ∷ net ∷ vec ∷ codes "--clusters" ∷ mode_word mode ∷ []) ≡ Ok (Run net vec None mode 1 false 0)
+run_in : (program net vec : Text) (mode : Mode) → IsNoOption net → IsNoOption vec → job_of (program ∷ codes "run" ∷ net ∷ vec ∷ codes "--clusters" ∷ mode_word mode ∷ []) ≡ Ok (Run net vec None mode 1 false 0 None)
 run_in program net vec Each n v = run_each program net vec n v
 run_in program net vec One n v = run_one program net vec n v
 run_in program net vec Bus n v = run_bus program net vec n v
@@ -91,10 +91,10 @@ graph_shaken : (program net : Text) → IsNoOption net → job_of (program ∷ c
 unfolding clap_on_literals
 graph_shaken program net n = rw (n.dashes, n.long, n.short) refl
 
-pub run_taken : (program net vec : Text) → is_plain net ≡ true → is_plain vec ≡ true → job_of (program ∷ codes "run" ∷ net ∷ vec ∷ []) ≡ Ok (Run net vec None Each 1 false 0)
+pub run_taken : (program net vec : Text) → is_plain net ≡ true → is_plain vec ≡ true → job_of (program ∷ codes "run" ∷ net ∷ vec ∷ []) ≡ Ok (Run net vec None Each 1 false 0 None)
 run_taken program net vec n v = run_at program net vec (no_option net n) (no_option vec v)
 
-pub run_with_mode : (program net vec : Text) (mode : Mode) → is_plain net ≡ true → is_plain vec ≡ true → job_of (program ∷ codes "run" ∷ net ∷ vec ∷ codes "--clusters" ∷ mode_word mode ∷ []) ≡ Ok (Run net vec None mode 1 false 0)
+pub run_with_mode : (program net vec : Text) (mode : Mode) → is_plain net ≡ true → is_plain vec ≡ true → job_of (program ∷ codes "run" ∷ net ∷ vec ∷ codes "--clusters" ∷ mode_word mode ∷ []) ≡ Ok (Run net vec None mode 1 false 0 None)
 run_with_mode program net vec mode n v = run_in program net vec mode (no_option net n) (no_option vec v)
 
 pub clock_taken : (program net vec : Text) → is_plain net ≡ true → is_plain vec ≡ true → job_of (program ∷ codes "clock" ∷ net ∷ vec ∷ []) ≡ Ok (Clock net vec)

@@ -1,6 +1,8 @@
--- Numbers behind `--jobs` and `--slack` and those of `demo`, and the option `--log`, are taken.
+-- Numbers behind `--jobs`, `--slack` and `--stop` and those of `demo`, and the option `--log`, are
+-- taken.
 use Rattle.std.proofs.Common.{◌≡◌, ◌<◌, ◌≤◌, ◌^◌, ℕ, true, false, [], ◌∷◌, Ok, Option, Some, None}
 use Rattle.std.proofs.Common.{Result, refl, ap, ◌∙◌, arith, codes}
+use Rattle.std.specs.Prelude.{option_map}
 use Rattle.std.specs.Fmt.{decimal}
 use Rattle.clap.specs.Words.{Text}
 use Rattle.clap.proofs.OnLiterals.{clap_on_literals}
@@ -29,9 +31,13 @@ written least most value from to fits =
       number = number;
     }
 
+-- the greatest number of 64 bits
+most_number : ℕ
+most_number = 18446744073709551615
+
 -- the job of `run` with so many threads
 run_job_at : Text → Text → Option ℕ → Result Job UsageFault
-run_job_at net vec jobs = with_number jobs (λ jobs. Ok (Run net vec None Each jobs false 0))
+run_job_at net vec jobs = with_number jobs (λ jobs. Ok (Run net vec None Each jobs false 0 None))
 
 jobs_at : (program net vec word : Text) → IsNoOption net → IsNoOption vec → IsNoOption word
     → job_of (program ∷ codes "run" ∷ net ∷ vec ∷ codes "--jobs" ∷ word ∷ [])
@@ -41,13 +47,13 @@ jobs_at program net vec word n v w = rw (n.dashes, n.long, n.short) (rw (v.dashe
     (rw (w.dashes, w.long, w.short) (refl {a = run_job_at net vec (number_of 1 64 word)})))
 
 run_job_of : (net vec word : Text) (jobs : ℕ) → IsWritten 1 64 word jobs
-    → run_job_at net vec (number_of 1 64 word) ≡ Ok (Run net vec None Each jobs false 0)
+    → run_job_at net vec (number_of 1 64 word) ≡ Ok (Run net vec None Each jobs false 0 None)
 unfolding run_job_at
 run_job_of net vec word jobs w = rw w.number refl
 
 -- the job of `run` with so much slack
 run_job_with : Text → Text → Option ℕ → Result Job UsageFault
-run_job_with net vec slack = with_number slack (λ slack. Ok (Run net vec None Each 1 false slack))
+run_job_with net vec slack = with_number slack (λ slack. Ok (Run net vec None Each 1 false slack None))
 
 slack_at : (program net vec word : Text) → IsNoOption net → IsNoOption vec → IsNoOption word
     → job_of (program ∷ codes "run" ∷ net ∷ vec ∷ codes "--slack" ∷ word ∷ [])
@@ -57,54 +63,68 @@ slack_at program net vec word n v w = rw (n.dashes, n.long, n.short) (rw (v.dash
     (rw (w.dashes, w.long, w.short) (refl {a = run_job_with net vec (number_of 0 15 word)})))
 
 run_job_slack : (net vec word : Text) (slack : ℕ) → IsWritten 0 15 word slack
-    → run_job_with net vec (number_of 0 15 word) ≡ Ok (Run net vec None Each 1 false slack)
+    → run_job_with net vec (number_of 0 15 word) ≡ Ok (Run net vec None Each 1 false slack None)
 unfolding run_job_with
 run_job_slack net vec word slack w = rw w.number refl
 
+-- the job of `run` that stops there
+run_job_to : Text → Text → Option (Option ℕ) → Result Job UsageFault
+run_job_to net vec stop = with_number stop (λ stop. Ok (Run net vec None Each 1 false 0 stop))
+
+stop_at : (program net vec word : Text) → IsNoOption net → IsNoOption vec → IsNoOption word
+    → job_of (program ∷ codes "run" ∷ net ∷ vec ∷ codes "--stop" ∷ word ∷ [])
+    ≡ run_job_to net vec (option_map Some (number_of 0 most_number word))
+unfolding clap_on_literals run_job_to most_number
+stop_at program net vec word n v w = rw (n.dashes, n.long, n.short) (rw (v.dashes, v.long, v.short)
+    (rw (w.dashes, w.long, w.short)
+    (refl {a = run_job_to net vec (option_map Some (number_of 0 most_number word))})))
+
+run_job_stop : (net vec word : Text) (stop : ℕ) → IsWritten 0 most_number word stop
+    → run_job_to net vec (option_map Some (number_of 0 most_number word))
+    ≡ Ok (Run net vec None Each 1 false 0 (Some stop))
+unfolding run_job_to
+run_job_stop net vec word stop w = rw w.number refl
+
 log_at : (program net vec : Text) → IsNoOption net → IsNoOption vec
     → job_of (program ∷ codes "run" ∷ net ∷ vec ∷ codes "--log" ∷ [])
-    ≡ Ok (Run net vec None Each 1 true 0)
+    ≡ Ok (Run net vec None Each 1 true 0 None)
 unfolding clap_on_literals
 log_at program net vec n v = rw (n.dashes, n.long, n.short)
-    (rw (v.dashes, v.long, v.short) (refl {a = Ok (Run net vec None Each 1 true 0)}))
-
--- the greatest seed
-most_seed : ℕ
-most_seed = 18446744073709551615
+    (rw (v.dashes, v.long, v.short) (refl {a = Ok (Run net vec None Each 1 true 0 None)}))
 
 -- the job of `demo` at these words
 demo_job_at : Text → Text → Text → Option ℕ → Result Job UsageFault
-demo_job_at a b c jobs = with_number (number_of 0 most_seed a) (λ seed.
+demo_job_at a b c jobs = with_number (number_of 0 most_number a) (λ seed.
     with_number (number_of 1 4096 b) (λ registers.
     with_number (number_of 0 65536 c) (λ turns.
     with_number jobs (λ jobs. Ok (Demo seed registers turns jobs)))))
 
 demo_at : (program a b c : Text) → IsNoOption a → IsNoOption b → IsNoOption c
     → job_of (program ∷ codes "demo" ∷ a ∷ b ∷ c ∷ []) ≡ demo_job_at a b c (Some 1)
-unfolding clap_on_literals demo_job_at most_seed
+unfolding clap_on_literals demo_job_at most_number
 demo_at program a b c s r t = rw (s.dashes, s.long, s.short) (rw (r.dashes, r.long, r.short)
     (rw (t.dashes, t.long, t.short) (refl {a = demo_job_at a b c (Some 1)})))
 
 demo_in : (program a b c d : Text) → IsNoOption a → IsNoOption b → IsNoOption c → IsNoOption d
     → job_of (program ∷ codes "demo" ∷ a ∷ b ∷ c ∷ codes "--jobs" ∷ d ∷ [])
     ≡ demo_job_at a b c (number_of 1 64 d)
-unfolding clap_on_literals demo_job_at most_seed
+unfolding clap_on_literals demo_job_at most_number
 demo_in program a b c d s r t j = rw (s.dashes, s.long, s.short) (rw (r.dashes, r.long, r.short)
     (rw (t.dashes, t.long, t.short) (rw (j.dashes, j.long, j.short)
     (refl {a = demo_job_at a b c (number_of 1 64 d)}))))
 
 -- three words that are read as the numbers of `demo`
 record AreWritten (a b c : Text) (s r t : ℕ) : Type 0 where
-  seed : IsWritten 0 most_seed a s
+  seed : IsWritten 0 most_number a s
   registers : IsWritten 1 4096 b r
   turns : IsWritten 0 65536 c t
 
 are_written : (seed registers turns : ℕ) → seed < 2 ^ 64 → 1 ≤ registers → registers ≤ 4096
     → turns ≤ 65536
     → AreWritten (decimal seed) (decimal registers) (decimal turns) seed registers turns
-unfolding most_seed
+unfolding most_number
 are_written seed registers turns s r most t = record {
-  seed = written 0 most_seed seed (omega arith) (omega arith) s;
+  seed = written 0 most_number seed (omega arith) (omega arith) s;
   registers = written 1 4096 registers r most (omega arith);
   turns = written 0 65536 turns (omega arith) t (omega arith);
 }
@@ -118,7 +138,7 @@ demo_job_of a b c seed registers turns jobs w =
 pub run_with_jobs : (program net vec : Text) (jobs : ℕ) → is_plain net ≡ true → is_plain vec ≡ true
     → 1 ≤ jobs → jobs ≤ 64
     → job_of (program ∷ codes "run" ∷ net ∷ vec ∷ codes "--jobs" ∷ decimal jobs ∷ [])
-    ≡ Ok (Run net vec None Each jobs false 0)
+    ≡ Ok (Run net vec None Each jobs false 0 None)
 run_with_jobs program net vec jobs n v from to =
     let w : IsWritten 1 64 (decimal jobs) jobs = written 1 64 jobs from to (omega arith) in
     jobs_at program net vec (decimal jobs) (no_option net n) (no_option vec v) w.plain
@@ -127,15 +147,26 @@ run_with_jobs program net vec jobs n v from to =
 pub run_with_slack : (program net vec : Text) (slack : ℕ) → is_plain net ≡ true
     → is_plain vec ≡ true → slack ≤ 15
     → job_of (program ∷ codes "run" ∷ net ∷ vec ∷ codes "--slack" ∷ decimal slack ∷ [])
-    ≡ Ok (Run net vec None Each 1 false slack)
+    ≡ Ok (Run net vec None Each 1 false slack None)
 run_with_slack program net vec slack n v to =
     let w : IsWritten 0 15 (decimal slack) slack = written 0 15 slack (omega arith) to (omega arith) in
     slack_at program net vec (decimal slack) (no_option net n) (no_option vec v) w.plain
     ∙ run_job_slack net vec (decimal slack) slack w
 
+pub run_with_stop : (program net vec : Text) (stop : ℕ) → is_plain net ≡ true
+    → is_plain vec ≡ true → stop < 2 ^ 64
+    → job_of (program ∷ codes "run" ∷ net ∷ vec ∷ codes "--stop" ∷ decimal stop ∷ [])
+    ≡ Ok (Run net vec None Each 1 false 0 (Some stop))
+unfolding most_number
+run_with_stop program net vec stop n v fits =
+    let w : IsWritten 0 most_number (decimal stop) stop =
+    written 0 most_number stop (omega arith) (omega arith) fits in
+    stop_at program net vec (decimal stop) (no_option net n) (no_option vec v) w.plain
+    ∙ run_job_stop net vec (decimal stop) stop w
+
 pub run_with_log : (program net vec : Text) → is_plain net ≡ true → is_plain vec ≡ true
     → job_of (program ∷ codes "run" ∷ net ∷ vec ∷ codes "--log" ∷ [])
-    ≡ Ok (Run net vec None Each 1 true 0)
+    ≡ Ok (Run net vec None Each 1 true 0 None)
 run_with_log program net vec n v = log_at program net vec (no_option net n) (no_option vec v)
 
 pub demo_taken : (program : Text) (seed registers turns : ℕ) → seed < 2 ^ 64

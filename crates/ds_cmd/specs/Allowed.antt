@@ -12,7 +12,7 @@ AreWorkers jobs = (1 ≤ jobs) × (jobs ≤ 64)
 
 -- the numbers of a job are within their ranges, and open latches are shown without slack alone
 abbrev pub AreAllowed : Job → Type 0
-AreAllowed (Run net vec graph mode jobs log slack) = AreWorkers jobs × (slack ≤ 15)
+AreAllowed (Run net vec graph mode jobs log slack stop) = AreWorkers jobs × (slack ≤ 15)
 AreAllowed (Clock net vec) = ⊤
 AreAllowed (Check net) = ⊤
 AreAllowed (Graph net mode shake) = ⊤

@@ -1,5 +1,5 @@
 -- What a call gives that may also want memory.
-use Rattle.std.specs.Prelude.{ℕ, Option, Some, None, Result, Ok, Err, ◌≡◌, ◌⊎◌, MatchResult}
+use Rattle.std.specs.Prelude.{Option, Some, None, Result, Ok, Err, ◌≡◌, ◌⊎◌, MatchResult}
 use Rattle.ds_cmd.specs.declared.job.Job.{Job}
 use Rattle.ds_cmd.specs.declared.fault.UsageFault.{UsageFault}
 use Rattle.ds_cmd.specs.declared.fault.UsageFault.TheVariants.{Line, Memory}
@@ -12,7 +12,8 @@ with_value None next = Err Line
 with_value (Some value) next = next value
 
 -- what follows from a number; without one it is out of form or range
-abbrev pub with_number : Option ℕ → (ℕ → Result Job UsageFault) → Result Job UsageFault
+abbrev pub with_number : {A : Type 0} → Option A → (A → Result Job UsageFault)
+    → Result Job UsageFault
 with_number None next = Err usage.Number
 with_number (Some number) next = next number
 

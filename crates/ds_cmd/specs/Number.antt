@@ -1,6 +1,6 @@
 -- The numbers among the words.
 use Rattle.std.specs.Prelude.{ℕ, Bool, ◌&&◌, List, length, nat_lt, nat_le, Option, Some, None}
-use Rattle.std.specs.Prelude.{codes, if◌then◌else◌}
+use Rattle.std.specs.Prelude.{codes, option_map, if◌then◌else◌}
 use Rattle.std.specs.Char.{is_ascii_digit}
 use Rattle.std.specs.List.{list_all}
 use Rattle.std.specs.Str.Parse.{digits_value}
@@ -37,3 +37,13 @@ number_or_zero (Some word) = number_of 0 15 word
 -- how many openings a producer may run ahead, by the values of a command's arguments
 abbrev pub slack_of : List Row → Option ℕ
 slack_of rows = number_or_zero (first_of (codes "slack") rows)
+
+-- the number of the option's value, any of 64 bits, and none without the option
+abbrev pub number_or_none : Option Text → Option (Option ℕ)
+number_or_none None = Some None
+number_or_none (Some word) = option_map Some (number_of 0 18446744073709551615 word)
+
+-- how many events each worker fires at most, where there is such a bound, by the values of a
+-- command's arguments
+abbrev pub stop_in : List Row → Option (Option ℕ)
+stop_in rows = number_or_none (first_of (codes "stop") rows)

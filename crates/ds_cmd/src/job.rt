@@ -5,11 +5,13 @@ use ds_base::Mode;
 
 /// What a command line asks for. `net` is the file of the netlist, `vec` that of the vectors,
 /// `graph` that of a controller graph, where one is named, `clusters` says how the registers are
-/// put into clusters, `jobs`, 1 to 64, how many threads are wanted, and `slack`, 0 to 15, how many
-/// openings a producer may run ahead of its consumers.
+/// put into clusters, `jobs`, 1 to 64, how many threads are wanted, `slack`, 0 to 15, how many
+/// openings a producer may run ahead of its consumers, and `stop` how many events each worker
+/// fires at most, where the run is to be stopped.
 #[derive(Drop)]
 pub enum Job {
-    /// The trace of a desynchronized run, with `log` also the log of its firings behind it.
+    /// The trace of a desynchronized run, or with `stop` what the registers have stored so far when
+    /// it stops; with `log` also the log of its firings behind it.
     Run {
         net: FileName,
         vec: FileName,
@@ -18,6 +20,7 @@ pub enum Job {
         jobs: u32,
         log: bool,
         slack: u8,
+        stop: Option<u64>,
     },
     /// The trace of a clocked run.
     Clock {

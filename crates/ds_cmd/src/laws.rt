@@ -15,29 +15,35 @@ ghost use Rattle.ds_cmd.specs.declared.fault.UsageFault.TheVariants.{Line};
 /// `run` with two names of files is taken, whatever the program's name is; each register is then a
 /// cluster of its own, unless the word behind `--clusters` says otherwise, and no controller graph
 /// is named, unless `--graph` does; one thread is wanted, unless `--jobs` says otherwise, no log,
-/// unless `--log` stands there, and no slack, unless `--slack` says otherwise.
+/// unless `--log` stands there, and no slack, unless `--slack` says otherwise; the run goes to its
+/// end, unless a number stands behind `--stop`.
 pub fn run_is_taken()
     ensures each { (program net vec : List ℕ) → is_plain net ≡ true → is_plain vec ≡ true
-        → job_of (program ∷ codes "run" ∷ net ∷ vec ∷ []) ≡ Ok (Run net vec None Each 1 false 0) }
+        → job_of (program ∷ codes "run" ∷ net ∷ vec ∷ [])
+        ≡ Ok (Run net vec None Each 1 false 0 None) }
     ensures clusters { (program net vec : List ℕ) (mode : Mode) → is_plain net ≡ true
         → is_plain vec ≡ true
         → job_of (program ∷ codes "run" ∷ net ∷ vec ∷ codes "--clusters" ∷ mode_word mode ∷ [])
-        ≡ Ok (Run net vec None mode 1 false 0) }
+        ≡ Ok (Run net vec None mode 1 false 0 None) }
     ensures graph { (program net vec graph : List ℕ) → is_plain net ≡ true → is_plain vec ≡ true
         → is_plain graph ≡ true
         → job_of (program ∷ codes "run" ∷ net ∷ vec ∷ codes "--graph" ∷ graph ∷ [])
-        ≡ Ok (Run net vec (Some graph) Each 1 false 0) }
+        ≡ Ok (Run net vec (Some graph) Each 1 false 0 None) }
     ensures jobs { (program net vec : List ℕ) (jobs : ℕ) → is_plain net ≡ true → is_plain vec ≡ true
         → 1 ≤ jobs → jobs ≤ 64
         → job_of (program ∷ codes "run" ∷ net ∷ vec ∷ codes "--jobs" ∷ decimal jobs ∷ [])
-        ≡ Ok (Run net vec None Each jobs false 0) }
+        ≡ Ok (Run net vec None Each jobs false 0 None) }
     ensures log { (program net vec : List ℕ) → is_plain net ≡ true → is_plain vec ≡ true
         → job_of (program ∷ codes "run" ∷ net ∷ vec ∷ codes "--log" ∷ [])
-        ≡ Ok (Run net vec None Each 1 true 0) }
+        ≡ Ok (Run net vec None Each 1 true 0 None) }
     ensures slack { (program net vec : List ℕ) (slack : ℕ) → is_plain net ≡ true
         → is_plain vec ≡ true → slack ≤ 15
         → job_of (program ∷ codes "run" ∷ net ∷ vec ∷ codes "--slack" ∷ decimal slack ∷ [])
-        ≡ Ok (Run net vec None Each 1 false slack) }
+        ≡ Ok (Run net vec None Each 1 false slack None) }
+    ensures stop { (program net vec : List ℕ) (stop : ℕ) → is_plain net ≡ true
+        → is_plain vec ≡ true → stop < 2 ^ 64
+        → job_of (program ∷ codes "run" ∷ net ∷ vec ∷ codes "--stop" ∷ decimal stop ∷ [])
+        ≡ Ok (Run net vec None Each 1 false 0 (Some stop)) }
 {}
 
 /// `clock` with two names of files is taken.

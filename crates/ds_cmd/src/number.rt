@@ -4,6 +4,7 @@ ghost use Rattle.std.specs.Char.{is_ascii_digit};
 ghost use Rattle.std.specs.List.{list_all};
 ghost use Rattle.clap.specs.Words.{found_of, rows_of};
 ghost use Rattle.ds_cmd.specs.Number.{is_numeral as is_numeral_text, jobs_of, number_of, slack_of};
+ghost use Rattle.ds_cmd.specs.Number.{stop_in};
 
 use crate::argument::text;
 use clap::ArgMatches;
@@ -61,6 +62,20 @@ pub fn slack(values: &ArgMatches<'_>) -> Option<u8>
     match text(values, "slack") {
         Some(word) => byte_number(word, 0, 15),
         None => Some(0),
+    }
+}
+
+/// How many events each worker fires at most: as the option `--stop` says, any number of 64 bits,
+/// and without it there is no such bound. `None` where its value is no such number.
+pub fn stop(values: &ArgMatches<'_>) -> Option<Option<u64>>
+    ensures { result ≡ stop_in (rows_of (found_of values.now)) }
+{
+    let Some(word) = text(values, "stop") else {
+        return Some(None);
+    };
+    match number(word, 0, u64::MAX) {
+        Some(value) => Some(Some(value)),
+        None => None,
     }
 }
 

@@ -6,14 +6,15 @@ ghost use Rattle.ds_cmd.specs.Run.{run_job, run_shape};
 
 use crate::argument::{flag, is_set, named, option, text, word};
 use crate::clusters::clusters;
-use crate::number::{jobs, slack};
+use crate::number::{jobs, slack, stop};
 use crate::subcommand::subcommand;
 use crate::{FileName, Job, UsageFault};
 use clap::{ArgMatches, Command};
 use ds_base::OutOfMemory;
 use std::alloc::Global;
 
-/// `run NET VEC [--graph G] [--clusters MODE] [--jobs N] [--log] [--slack N]`, as a subcommand.
+/// `run NET VEC [--graph G] [--clusters MODE] [--jobs N] [--log] [--slack N] [--stop N]`, as a
+/// subcommand.
 pub fn command<'a>(alloc: Global) -> Result<Command<'a>, OutOfMemory>
     ensures { IfOk result (λ c. shape_of c ≡ run_shape) }
 {
@@ -25,6 +26,7 @@ pub fn command<'a>(alloc: Global) -> Result<Command<'a>, OutOfMemory>
         option(alloc, "jobs"),
         flag(alloc, "log"),
         option(alloc, "slack"),
+        option(alloc, "stop"),
     ]?;
     subcommand(alloc, "run", args)
 }
@@ -45,6 +47,9 @@ pub fn job(alloc: Global, values: &ArgMatches<'_>) -> Result<Job, UsageFault>
     let Some(slack) = slack(values) else {
         return Err(UsageFault::Number);
     };
+    let Some(stop) = stop(values) else {
+        return Err(UsageFault::Number);
+    };
     let Some(clusters) = clusters(values) else {
         return Err(UsageFault::Mode);
     };
@@ -56,5 +61,6 @@ pub fn job(alloc: Global, values: &ArgMatches<'_>) -> Result<Job, UsageFault>
         jobs,
         log: is_set(values, "log"),
         slack,
+        stop,
     })
 }

@@ -9,14 +9,14 @@ use std::test::Fail;
 
 // Each line, and its job.
 const TAKEN: &str = "\
-d|run|n|v -> run|n|v|none|each|1|false|0
+d|run|n|v -> run|n|v|none|each|1|false|0|none
 d|clock|n|v -> clock|n|v
 d|check|n -> check|n
 d|graph|n -> graph|n|each|false
 d|replay|n|v|l -> replay|n|v|l|none|each|0|false
 d|replay|n|--clusters=one|v|- -> replay|n|v|-|none|one|0|false
-d|run|n|v|--graph|g -> run|n|v|g|each|1|false|0
-d|run|--graph=-|n|v|--clusters=bus -> run|n|v|-|bus|1|false|0
+d|run|n|v|--graph|g -> run|n|v|g|each|1|false|0|none
+d|run|--graph=-|n|v|--clusters=bus -> run|n|v|-|bus|1|false|0|none
 d|replay|n|v|l|--graph=g -> replay|n|v|l|g|each|0|false
 d|accept|n|g -> accept|n|g|each
 d|accept|n|--clusters|one|g -> accept|n|g|one
@@ -26,18 +26,18 @@ d|period|--clusters=bus|n|- -> period|n|-|bus
 |check|n -> check|n
 run|check|n -> check|n
 # Names of files: empty, `-`, the name of a command.
-d|run||v -> run||v|none|each|1|false|0
-d|run|-|v -> run|-|v|none|each|1|false|0
-d|run|run|run -> run|run|run|none|each|1|false|0
-d|run|help|v -> run|help|v|none|each|1|false|0
+d|run||v -> run||v|none|each|1|false|0|none
+d|run|-|v -> run|-|v|none|each|1|false|0|none
+d|run|run|run -> run|run|run|none|each|1|false|0|none
+d|run|help|v -> run|help|v|none|each|1|false|0|none
 # The word `--`: what stands behind it is a file.
-d|run|--|-n|v -> run|-n|v|none|each|1|false|0
-d|run|n|--|v -> run|n|v|none|each|1|false|0
-d|run|n|v|-- -> run|n|v|none|each|1|false|0
+d|run|--|-n|v -> run|-n|v|none|each|1|false|0|none
+d|run|n|--|v -> run|n|v|none|each|1|false|0|none
+d|run|n|v|-- -> run|n|v|none|each|1|false|0|none
 d|check|--|-- -> check|--
 # Options stand anywhere behind the command's name.
-d|run|n|v|--clusters|one -> run|n|v|none|one|1|false|0
-d|run|--clusters=bus|n|v -> run|n|v|none|bus|1|false|0
+d|run|n|v|--clusters|one -> run|n|v|none|one|1|false|0|none
+d|run|--clusters=bus|n|v -> run|n|v|none|bus|1|false|0|none
 d|graph|n|--clusters|each -> graph|n|each|false
 d|graph|--clusters|bus|n -> graph|n|bus|false
 # The expansion of a graph.
@@ -47,27 +47,36 @@ d|graph|--clusters|one|--shake|n -> graph|n|one|true
 # Behind `--` there are no options.
 d|graph|--|--clusters -> graph|--clusters|each|false
 d|graph|--|--shake -> graph|--shake|each|false
-d|run|n|--|--log -> run|n|--log|none|each|1|false|0
+d|run|n|--|--log -> run|n|--log|none|each|1|false|0|none
 # Threads, 1 to 64, in one to twenty digits; the log.
-d|run|n|v|--jobs|3 -> run|n|v|none|each|3|false|0
-d|run|n|v|--jobs=1 -> run|n|v|none|each|1|false|0
-d|run|n|v|--jobs|64 -> run|n|v|none|each|64|false|0
-d|run|n|v|--jobs|064 -> run|n|v|none|each|64|false|0
-d|run|n|v|--jobs|00000000000000000007 -> run|n|v|none|each|7|false|0
-d|run|n|v|--log -> run|n|v|none|each|1|true|0
-d|run|--log|n|--jobs=2|v|--graph|g|--clusters=one -> run|n|v|g|one|2|true|0
+d|run|n|v|--jobs|3 -> run|n|v|none|each|3|false|0|none
+d|run|n|v|--jobs=1 -> run|n|v|none|each|1|false|0|none
+d|run|n|v|--jobs|64 -> run|n|v|none|each|64|false|0|none
+d|run|n|v|--jobs|064 -> run|n|v|none|each|64|false|0|none
+d|run|n|v|--jobs|00000000000000000007 -> run|n|v|none|each|7|false|0|none
+d|run|n|v|--log -> run|n|v|none|each|1|true|0|none
+d|run|--log|n|--jobs=2|v|--graph|g|--clusters=one -> run|n|v|g|one|2|true|0|none
 # Slack, 0 to 15, in one to twenty digits.
-d|run|n|v|--slack|0 -> run|n|v|none|each|1|false|0
-d|run|n|v|--slack|15 -> run|n|v|none|each|1|false|15
-d|run|n|v|--slack=00000000000000000001 -> run|n|v|none|each|1|false|1
-d|run|--slack|3|n|--log|v|--jobs|4|--graph=g -> run|n|v|g|each|4|true|3
-d|run|n|--|--slack -> run|n|--slack|none|each|1|false|0
+d|run|n|v|--slack|0 -> run|n|v|none|each|1|false|0|none
+d|run|n|v|--slack|15 -> run|n|v|none|each|1|false|15|none
+d|run|n|v|--slack=00000000000000000001 -> run|n|v|none|each|1|false|1|none
+d|run|--slack|3|n|--log|v|--jobs|4|--graph=g -> run|n|v|g|each|4|true|3|none
+d|run|n|--|--slack -> run|n|--slack|none|each|1|false|0|none
 d|replay|n|v|l|--slack|2 -> replay|n|v|l|none|each|2|false
 d|replay|n|--slack=015|v|l|--graph|g|--clusters|bus -> replay|n|v|l|g|bus|15|false
 # Open latches, without slack.
 d|replay|n|v|l|--transparent -> replay|n|v|l|none|each|0|true
 d|replay|--transparent|n|v|l|--slack|00 -> replay|n|v|l|none|each|0|true
 d|replay|n|v|--|--transparent -> replay|n|v|--transparent|none|each|0|false
+# A stop, any number of 64 bits in one to twenty digits.
+d|run|n|v|--stop|0 -> run|n|v|none|each|1|false|0|0
+d|run|n|v|--stop=5 -> run|n|v|none|each|1|false|0|5
+d|run|n|v|--stop|0032 -> run|n|v|none|each|1|false|0|32
+d|run|n|v|--stop|18446744073709551615 -> run|n|v|none|each|1|false|0|18446744073709551615
+d|run|n|v|--stop=00000000000000000020 -> run|n|v|none|each|1|false|0|20
+d|run|--stop|7|n|--jobs=4|v|--log|--slack|2|--graph|g -> run|n|v|g|each|4|true|2|7
+d|run|n|v|--stop|3|--clusters|bus -> run|n|v|none|bus|1|false|0|3
+d|run|n|--|--stop -> run|n|--stop|none|each|1|false|0|none
 # The demonstration, up to its limits.
 d|demo|0|1|0 -> demo|0|1|0|1
 d|demo|7|4096|65536 -> demo|7|4096|65536|1
@@ -129,6 +138,21 @@ d|graph|n|--slack|1
 d|accept|n|g|--slack|1
 d|period|n|d|--slack|1
 d|demo|1|2|3|--slack|1
+d|run|n|v|--stop
+d|run|n|v|--stop|1|--stop|1
+d|run|n|v|--stop|1|--stop|2
+d|run|n|v|--stop=1|--stop|x
+d|run|n|v|--stop|-1
+d|run|n|v|--stop|--log
+d|--stop=1|run|n|v
+d|--stop|1|run|n|v
+d|clock|n|v|--stop|1
+d|check|n|--stop|1
+d|graph|n|--stop|1
+d|replay|n|v|l|--stop|1
+d|accept|n|g|--stop|1
+d|period|n|d|--stop|1
+d|demo|1|2|3|--stop|1
 d|replay|n|v|l|--transparent|--transparent
 d|replay|n|v|l|--transparent=true
 d|replay|n|v|l|--transparent=
@@ -197,6 +221,23 @@ d|replay|n|v|l|--slack|16
 d|replay|n|v|l|--slack=
 d|replay|n|v|l|--slack|16|--transparent
 d|replay|n|v|l|--clusters|two|--slack|x
+# The stop, whatever else is wrong with the mode.
+d|run|n|v|--stop|x
+d|run|n|v|--stop|+1
+d|run|n|v|--stop=-1
+d|run|n|v|--stop=
+d|run|n|v|--stop|
+d|run|n|v|--stop|1 
+d|run|n|v|--stop|1.0
+d|run|n|v|--stop|0x10
+d|run|n|v|--stop|-
+d|run|n|v|--stop|18446744073709551616
+d|run|n|v|--stop|99999999999999999999
+d|run|n|v|--stop|000000000000000000000
+d|run|n|v|--stop|000000000000000000001
+d|run|n|v|--stop|0|--jobs|65
+d|run|n|v|--stop|0|--slack|16
+d|run|n|v|--stop|x|--clusters|two
 # The seed.
 d|demo|18446744073709551616|1|0
 d|demo|000000000000000000000|1|0
@@ -223,6 +264,7 @@ d|graph|n|--shake|--clusters|two
 d|period|n|d|--clusters|two
 d|graph|n|--clusters|each,one
 d|run|n|v|--clusters|two|--slack|2
+d|run|n|v|--clusters|two|--stop|2
 d|replay|n|v|l|--transparent|--slack|1
 d|replay|n|v|l|--slack|15|--transparent
 d|replay|n|v|l|--transparent|--clusters|two
@@ -268,6 +310,7 @@ fn words_of(alloc: Global, job: &Job) -> Result<String, AllocError> {
             jobs,
             log,
             slack,
+            stop,
         } => {
             let words = [
                 "run",
@@ -276,8 +319,15 @@ fn words_of(alloc: Global, job: &Job) -> Result<String, AllocError> {
                 name(graph),
                 word(clusters),
             ];
-            run_words(alloc, words, [*jobs, u32::from(*slack)], *log)
+            run_words(alloc, words, [*jobs, u32::from(*slack)], *log, *stop)
         }
+        _ => replay_or_other(alloc, job),
+    }
+}
+
+// The words of a replay, or of the jobs that are neither run nor replayed.
+fn replay_or_other(alloc: Global, job: &Job) -> Result<String, AllocError> {
+    match job {
         Job::Replay {
             net,
             vec,
@@ -301,16 +351,21 @@ fn words_of(alloc: Global, job: &Job) -> Result<String, AllocError> {
     }
 }
 
-// The words of a run, with its threads, whether a log is wanted, and its slack.
+// The words of a run, with its threads, whether a log is wanted, its slack, and where it stops.
 fn run_words(
     alloc: Global,
     words: [&str; 5],
     numbers: [u32; 2],
     log: bool,
+    stop: Option<u64>,
 ) -> Result<String, AllocError> {
     let words = joined(alloc, &words)?;
     let [jobs, slack] = numbers;
-    format!(in alloc; "{words}|{jobs}|{log}|{slack}")
+    let words = format!(in alloc; "{words}|{jobs}|{log}|{slack}")?;
+    match stop {
+        Some(stop) => format!(in alloc; "{words}|{stop}"),
+        None => format!(in alloc; "{words}|none"),
+    }
 }
 
 // The words of a replay, with its slack and whether open latches are to be shown.

@@ -8,6 +8,8 @@ use std::thread::Threads;
 /// The command lines.
 pub const LINES: &str = "desync run tog v
 desync run tog v --graph g --jobs 2 --log
+desync run tog v --stop 32800
+desync run tog v --stop 32800 --jobs 2 --log
 desync clock tog v
 desync check tog
 desync graph tog
@@ -50,7 +52,7 @@ const REPORT: &str = "nets 3\ntables 1\nregisters 1\nlevels 1\n";
 const RANKS: &str = "accepted\nIN+ 0\nIN- 1\nOUT+ 0\nOUT- 1\nM0+ 1\nM0- 2\nS0+ 3\nS0- 4\n";
 
 /// Vectors of the toggle, and what is written for them: the trace, what `replay` writes behind the
-/// first turn, and what it writes behind all of them.
+/// first turn, and what it writes behind all of them, as a run does that stops no earlier.
 pub struct Jobs {
     pub vectors: String,
     pub trace: String,
@@ -103,6 +105,7 @@ impl Jobs {
             Some("graph") => GRAPH,
             Some("accept") => RANKS,
             Some("replay") => self.first.as_str(),
+            _ if is_stopped(line) => self.last.as_str(),
             _ => self.trace.as_str(),
         }
     }
@@ -166,6 +169,11 @@ impl Jobs {
         let fired = format!(in rt.alloc(); "\nfired {count} of ")?;
         Ok(state.as_str().contains(fired.as_str()))
     }
+}
+
+/// Whether this is the command line of a run that is stopped.
+pub fn is_stopped(line: &str) -> bool {
+    line.contains(" --stop ")
 }
 
 // What stands behind the trace and the line of its log.

@@ -1,7 +1,8 @@
 //! Tests of the workers of `run`, and of the logs that they print, over files in memory.
 //!
-//! Nothing stands on this crate. The tests hold workers at the gate, run by many numbers of workers
-//! and with slack, and fire printed logs again. Tests of the traces stand in `ds_run_tests`.
+//! Nothing stands on this crate. The tests hold workers at the gate, run by many numbers of them,
+//! with slack and up to a stop, and fire printed logs again. Tests of the traces stand in
+//! `ds_run_tests`.
 #![tactic(auto)]
 
 #[cfg(test)]
@@ -12,3 +13,7 @@ mod jobs_tests;
 mod shown_tests;
 #[cfg(test)]
 mod slack_tests;
+#[cfg(test)]
+mod stop_tests;
+#[cfg(test)]
+mod stopped_tests;

@@ -4,7 +4,8 @@ use Rattle.std.specs.List.{range_with_len}
 use Rattle.std.proofs.lemmas.List.FromFn.{get_or-range_with_len, length-range_with_len}
 use Rattle.ds_base.proofs.Lists.{map_agree}
 use Rattle.ds_base.specs.Values.{Row}
-use Rattle.ds_marked.specs.Graph.{counts_after}
+use Rattle.ds_marked.specs.Graph.{IsLegal, counts_after}
+use Rattle.ds_marked.proofs.Progress.{legal_is_consistent}
 use Rattle.ds_latch.specs.Firing.{State, FiresAll, first_row, first_state, held}
 use Rattle.ds_latch.specs.Flow.{IsInStep}
 use Rattle.ds_latch.specs.Node.{Node, In, Out, Master, Slave, Split, IsNode, closing, number_of, place_of}
@@ -12,13 +13,14 @@ use Rattle.ds_latch.specs.Numbered.{numbered}
 use Rattle.ds_latch.specs.Plan.{IsController, Planned}
 use Rattle.ds_latch.proofs.Counts.{accepted_controls}
 use Rattle.ds_latch.proofs.Flow.{fires_count, flow_equivalence, some_firing}
-use Rattle.ds_rule.specs.Run.{Run, events as events_in}
-use Rattle.ds_rule.specs.Rule.{first_view}
+use Rattle.ds_rule.specs.Run.{Run, closing as closing_in, events as events_in}
+use Rattle.ds_rule.specs.Rule.{first_view, tickets}
 use Rattle.ds_rule.specs.Words.{values_at}
+use Rattle.ds_rule.proofs.EventLaws.{closing-is}
 use Rattle.ds_run.specs.Layout.{AreValues}
-use Rattle.ds_run.specs.Stored.{FabricsShowFirst, ShowsFirst, StoresAsFired}
-use Rattle.ds_run.proofs.Firings.{firings_are_legal_lem}
-use Rattle.ds_run.proofs.Played.{latches_among, node_near, node_stored}
+use Rattle.ds_run.specs.Stored.{FabricsShowFirst, RecordsStoreAsFired, ShowsFirst, StoresAsFired}
+use Rattle.ds_run.proofs.Firings.{fired_counts}
+use Rattle.ds_run.proofs.Records.{record_among, record_near, record_played}
 
 -- firings count as their list does
 counts_fired : (s : Split) (vectors : List Row) (old now : State) (events : List ℕ) → FiresAll s vectors old events now
@@ -39,13 +41,18 @@ told_is p vectors run values n is_node turns few =
     let at : get_or (range_with_len 1 turns) i d ≡ 1 + i = get_or-range_with_len 1 turns i d (omega arith) in
     values.of_node n is_node (get_or (range_with_len 1 turns) i d) (omega arith))
 
-pub stores_as_fired_lem : StoresAsFired
-stores_as_fired_lem p vectors r played events fired =
+-- a node has closed no more often than there are vectors
+closed_most : (p : Planned) (vectors : List Row) (items : List ℕ) → IsLegal p.graph (length vectors) items
+    → (v : ℕ) → v < length p.graph.events → counts_after (λ _. 0) items v ≤ length vectors
+closed_most p vectors items legal = (legal_is_consistent p.graph (length vectors) items legal).within
+
+pub records_store_as_fired_lem : RecordsStoreAsFired
+records_store_as_fired_lem p vectors r is events fired =
     let s : Split = p.split in
     let run : Run = r.shown.view.run in
-    let values : AreValues s vectors run = played.planned.values_are in
-    let controls : IsController s p.graph = accepted_controls s p.graph played.accepted in
-    let (legal, full) = firings_are_legal_lem p vectors r played.accepted played.planned played.whole events fired in
+    let values : AreValues s vectors run = is.planned.values_are in
+    let controls : IsController s p.graph = accepted_controls s p.graph is.accepted in
+    let (legal, counts) = fired_counts p vectors r is.accepted is.planned events fired in
     let (now, all) = some_firing s p.graph controls vectors values.state values.nets values.clocked events legal in
     let step : IsInStep s vectors values.state values.nets now =
     flow_equivalence s p.graph controls vectors values.state values.nets values.clocked events legal now all in (
@@ -53,16 +60,24 @@ stores_as_fired_lem p vectors r played events fired =
       record {
         fires = all;
         stores = λ n is_node.
-            let near : number_of n < run.latches = node_near p vectors r played n is_node in
-            let among : run.latches ≤ run.nodes = latches_among p vectors r played in
-            let event : closing n < length p.graph.events = omega (arith, played.planned.nodes_are) in
-            let count : now.count (closing n) ≡ length vectors =
-            ap (λ (count : ℕ → ℕ). count (closing n)) (counts_fired s vectors (first_state s) now events all) ∙ full (closing n) event in
+            let near : number_of n < run.latches = record_near p vectors r is n is_node in
+            let among : run.latches ≤ run.nodes = record_among p vectors r is in
+            let event : closing n < length p.graph.events = omega (arith, is.planned.nodes_are) in
+            let told : counts_after (λ _. 0) events (closing n) ≡ length (tickets r.shown.view (closing n)) = counts (closing n) event in
+            let few : counts_after (λ _. 0) events (closing n) ≤ length vectors = closed_most p vectors events legal (closing n) event in
+            let count : now.count (closing n) ≡ length (tickets r.shown.view (closing_in (number_of n))) =
+            ap (λ (count : ℕ → ℕ). count (closing n)) (counts_fired s vectors (first_state s) now events all)
+            ∙ (told ∙ ap (λ (e : ℕ). length (tickets r.shown.view e)) (sym (closing-is (number_of n)))) in
             step.stored n is_node
-            ∙ (ap (λ (k : ℕ). map (numbered s vectors values.state values.nets n) (range_with_len 1 k)) (count ∙ sym (node_stored p vectors r played n is_node))
-            ∙ sym (told_is p vectors run values n is_node _ (omega (arith, node_stored p vectors r played n is_node))));
+            ∙ (ap (λ (k : ℕ). map (numbered s vectors values.state values.nets n) (range_with_len 1 k)) count
+            ∙ sym (told_is p vectors run values n is_node (length (tickets r.shown.view (closing_in (number_of n))))
+            (omega (arith, few, told, ap (λ (e : ℕ). length (tickets r.shown.view e)) (closing-is (number_of n))))));
       },
     )
+
+pub stores_as_fired_lem : StoresAsFired
+stores_as_fired_lem p vectors r played events fired =
+    records_store_as_fired_lem p vectors r (record_played p vectors r played) events fired
 
 -- no event of the first view has a ticket
 none_drawn : (count e : ℕ) → get_or (replicate {A = List ℕ} count []) e [] ≡ []

@@ -8,7 +8,9 @@ pub mod Rows
 pub mod Supplied
 pub mod Opened
 pub mod Firsts
+pub mod Records
 pub mod Firings
 pub mod Windows
 pub mod Played
 pub mod Fired
+pub mod Halted

@@ -1,18 +1,16 @@
 -- What the record of a run has of each node.
-use Rattle.std.proofs.Common.{◌≡◌, ◌∙◌, ℕ, ◌+◌, ◌*◌, ◌<◌, ◌≤◌, List, length}
-use Rattle.std.proofs.Common.{length-append, ap, sym, subst, arith, add-one}
+use Rattle.std.proofs.Common.{◌≡◌, ◌∙◌, ℕ, ◌+◌, ◌<◌, ◌≤◌, List, length}
+use Rattle.std.proofs.Common.{ap, sym, subst, arith, add-one}
 use Rattle.std.proofs.lemmas.List.{length-map}
 use Rattle.std.specs.Prelude.{slice_index, slice_index_or}
 use Rattle.ds_base.specs.Values.{Row}
 use Rattle.ds_cover.specs.Cover.{value_at, values_at}
 use Rattle.ds_design.specs.Circuit.{data_nets, register_nets}
-use Rattle.ds_latch.specs.Node.{Node, Out, Slave, IsNode, number_of, nodes}
+use Rattle.ds_latch.specs.Node.{Node, Out, Slave, IsNode, number_of}
 use Rattle.ds_latch.specs.Node.{members}
 use Rattle.ds_latch.specs.Firing.{AreRegisters}
 use Rattle.ds_latch.specs.Numbered.{numbered}
-use Rattle.ds_latch.specs.Plan.{Planned, split_events}
-use Rattle.ds_latch.proofs.Counts.{number_below}
-use Rattle.ds_latch.proofs.Rising.{events_long}
+use Rattle.ds_latch.specs.Plan.{Planned}
 use Rattle.ds_rule.specs.Run.{Run, node_of, closing}
 use Rattle.ds_rule.specs.Rule.{tickets}
 use Rattle.ds_rule.specs.Words.{values_at as stored_at}
@@ -20,21 +18,17 @@ use Rattle.ds_rule.proofs.EventLaws.{node-closing}
 use Rattle.ds_fabric.specs.Showing.{Recorder}
 use Rattle.ds_run.specs.Layout.{AreValues}
 use Rattle.ds_run.specs.Played.{IsPlayed, HasSlaves}
+use Rattle.ds_run.proofs.Records.{record_among, record_near, record_played}
 
 -- no node that opens and closes is behind the last
 pub latches_among : (p : Planned) (vectors : List Row) (r : Recorder) → IsPlayed p vectors r
     → r.shown.view.run.latches ≤ r.shown.view.run.nodes
-latches_among p vectors r played =
-    let long : length (split_events p.split) ≡ 2 * nodes p.split = events_long p.split in
-    let all : length p.graph.events ≡ length (split_events p.split) + length played.accepted.extra =
-    ap length played.accepted.events ∙ length-append (split_events p.split) played.accepted.extra in
-    omega (arith, played.planned.nodes_are, played.planned.latches_are)
+latches_among p vectors r played = record_among p vectors r (record_played p vectors r played)
 
 pub node_near : (p : Planned) (vectors : List Row) (r : Recorder) → IsPlayed p vectors r → (n : Node)
     → IsNode p.split n → number_of n < r.shown.view.run.latches
 node_near p vectors r played n is_node =
-    subst (λ (m : ℕ). number_of n < m) (sym played.planned.latches_are)
-    (number_below p.split n is_node)
+    record_near p vectors r (record_played p vectors r played) n is_node
 
 pub node_stored : (p : Planned) (vectors : List Row) (r : Recorder) → IsPlayed p vectors r → (n : Node)
     → IsNode p.split n

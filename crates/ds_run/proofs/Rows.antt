@@ -27,12 +27,17 @@ listed-map f (suc n) =
     ∙ (sym (map-range_with_len_more f 0 n n (omega arith))
     ∙ ap (λ (m : ℕ). map f (range_with_len 0 m)) up)
 
+-- the words of a value, by its row
+pub row-words : (run : Run) (l k : ℕ)
+    → row run l k ≡ map (word_of (values_at run l k)) (range_with_len 0 (width run l))
+unfolding value
+row-words run l k = listed-map (λ i. word_of (values_at run l k) i) (width run l)
+
 -- the words of a value are those of its row
 row-packed : (run : Run) (l k : ℕ) (values : Row) → values_at run l k ≡ values
     → width run l ≡ words_of (length values) → row run l k ≡ packed values
-unfolding value
 row-packed run l k values is wide =
-    listed-map (λ i. word_of (values_at run l k) i) (width run l)
+    row-words run l k
     ∙ (ap (λ (r : Row). map (word_of r) (range_with_len 0 (width run l))) is
     ∙ ap (λ (n : ℕ). map (word_of values) (range_with_len 0 n)) wide)
 

@@ -4,7 +4,7 @@ use Rattle.std.specs.List.{flat_map}
 use Rattle.std.proofs.lemmas.List.Elements.{All-map}
 use Rattle.ds_marked.specs.Window.{IsWindow, Window, joined}
 use Rattle.ds_marked.proofs.Joined.{lists_in_windows}
-use Rattle.ds_latch.specs.Plan.{IsPlan, Planned}
+use Rattle.ds_latch.specs.Plan.{Planned}
 use Rattle.ds_run.specs.Windows.{FiringsInWindows, IsPlayedWindow, PlayedWindow, begun_plan}
 use Rattle.ds_run.proofs.Firings.{firings_are_legal_lem}
 

@@ -7,6 +7,14 @@ use Rattle.ds_rule.specs.Rule.{tickets}
 use Rattle.ds_fabric.specs.Showing.{IsFired, Recorder}
 use Rattle.ds_runner.specs.Whole.{IsWhole}
 use Rattle.ds_run.specs.Layout.{IsRunOf}
+use Rattle.ds_run.specs.Played.{IsRecordOf}
+
+-- the firings of a record, first one first, are a legal list of the plan's graph, and as many as
+-- the record counts
+abbrev pub RecordsAreLegal : Type 0
+RecordsAreLegal = (p : Planned) (vectors : List Row) (r : Recorder) → IsRecordOf p vectors r
+    → (items : List ℕ) → IsFired r.shown.view.run (tickets r.shown.view) items
+    → IsLegal p.graph (length vectors) items × (length items ≡ r.many)
 
 -- the firings of a run that went to its end, first one first, are a legal list of the plan's graph
 -- that has each event once a vector

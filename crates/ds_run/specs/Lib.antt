@@ -5,6 +5,7 @@ pub mod Laws
 pub mod Producers
 pub mod Openings
 pub mod Played
+pub mod Halted
 pub mod Firings
 pub mod Windows
 pub mod Stored

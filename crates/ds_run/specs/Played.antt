@@ -4,11 +4,18 @@ use Rattle.ds_base.specs.Values.{Row}
 use Rattle.ds_latch.specs.Node.{Slave, Split, members, number_of}
 use Rattle.ds_latch.specs.Plan.{Planned, IsPlan}
 use Rattle.ds_rule.specs.Run.{closing}
+use Rattle.ds_rule.specs.Log.{Recorded}
 use Rattle.ds_rule.specs.Rule.{tickets}
 use Rattle.ds_rule.specs.Words.{values_at}
 use Rattle.ds_fabric.specs.Showing.{Recorder}
 use Rattle.ds_runner.specs.Whole.{IsWhole}
 use Rattle.ds_run.specs.Layout.{IsRunOf}
+
+-- a record of firings of a plan's run, whether it went to its end or not
+pub record IsRecordOf (p : Planned) (vectors : List Row) (r : Recorder) : Type 0 where
+  pub accepted : IsPlan p.split p.graph
+  pub planned : IsRunOf p vectors r.shown.view.run
+  pub recorded : Recorded r.shown.view.run (tickets r.shown.view) r.many
 
 -- the record of a run that went to its end
 pub record IsPlayed (p : Planned) (vectors : List Row) (r : Recorder) : Type 0 where

@@ -12,7 +12,7 @@ use Rattle.ds_rule.specs.declared.view.View.{View}
 use Rattle.ds_fabric.specs.Base.{Base}
 use Rattle.ds_fabric.specs.Showing.{IsBegun, IsFired, Recorder, Showing}
 use Rattle.ds_run.specs.Layout.{IsRunOf}
-use Rattle.ds_run.specs.Played.{IsPlayed}
+use Rattle.ds_run.specs.Played.{IsPlayed, IsRecordOf}
 
 -- the rows that a record tells of a node, one for each of its closings
 abbrev pub rows_told : Recorder → Node → List Row
@@ -25,7 +25,13 @@ pub record IsRecorded (s : Split) (vectors : List Row) (r : Recorder) (events : 
   pub fires : FiresAll s vectors (first_state s) events now
   pub stores : (n : Node) → IsNode s n → now.stored n ≡ rows_told r n
 
--- by the list of the record of a run firing reaches such a state
+-- by the list of a record firing reaches such a state, whether the run went to its end or not
+abbrev pub RecordsStoreAsFired : Type 0
+RecordsStoreAsFired = (p : Planned) (vectors : List Row) (r : Recorder) → IsRecordOf p vectors r
+    → (events : List ℕ) → IsFired r.shown.view.run (tickets r.shown.view) events
+    → (now : State) × IsRecorded p.split vectors r events now
+
+-- so it does by the list of a run that went to its end
 abbrev pub StoresAsFired : Type 0
 StoresAsFired = (p : Planned) (vectors : List Row) (r : Recorder) → IsPlayed p vectors r
     → (events : List ℕ) → IsFired r.shown.view.run (tickets r.shown.view) events

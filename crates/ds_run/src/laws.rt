@@ -1,7 +1,7 @@
 //! Laws of the definitions, each the contract of a function that does nothing.
-ghost use Rattle.ds_run.specs.Firings.{FiringsAreLegal};
+ghost use Rattle.ds_run.specs.Firings.{FiringsAreLegal, RecordsAreLegal};
 ghost use Rattle.ds_run.specs.Laws.{RunsAreAccepted, RunsAreSound, RunsHaveGraphs};
-ghost use Rattle.ds_run.specs.Stored.{FabricsShowFirst, StoresAsFired};
+ghost use Rattle.ds_run.specs.Stored.{FabricsShowFirst, RecordsStoreAsFired, StoresAsFired};
 ghost use Rattle.ds_run.specs.Windows.{FiringsInWindows};
 
 /// The run of a plan is sound.
@@ -19,6 +19,11 @@ pub fn runs_have_graphs()
     ensures { RunsHaveGraphs }
 {}
 
+/// The firings of a record are a legal list, of as many as it counts.
+pub fn records_are_legal()
+    ensures { RecordsAreLegal }
+{}
+
 /// The firings of a run that went to its end are a legal list that has each event once a vector.
 pub fn firings_are_legal()
     ensures { FiringsAreLegal }
@@ -30,8 +35,13 @@ pub fn firings_in_windows()
     ensures { FiringsInWindows }
 {}
 
-/// Firing reaches, by the firings of a run that went to its end, a state that has stored of each
-/// node what the record tells.
+/// Firing reaches, by the firings of a record, a state that has stored of each node what the record
+/// tells.
+pub fn records_store_as_fired()
+    ensures { RecordsStoreAsFired }
+{}
+
+/// So it does by the firings of a run that went to its end.
 pub fn stores_as_fired()
     ensures { StoresAsFired }
 {}

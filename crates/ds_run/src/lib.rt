@@ -6,8 +6,9 @@
 //! `Openings` computes the row of an opening from those of its producers. `run` hires the workers,
 //! and its record tells of every node that it stored the rows of the clocked run, and that the
 //! firings by rising ticket are a legal list of the plan's graph with each event once a vector. So
-//! are the firings of windows, one after another (`laws`). Nothing is promised of time, or of which
-//! worker fires what.
+//! are the firings of windows, one after another (`laws`). `run_to` has each worker stop after so
+//! many firings: they are a legal list, and what is stored is what firing stores by that list.
+//! Nothing is promised of time, or of which worker fires what.
 #![tactic(auto)]
 
 mod edges;
@@ -24,5 +25,5 @@ mod workers;
 pub use foreseen::Foreseen;
 pub use layout::layout_of;
 pub use openings::Openings;
-pub use play::run;
+pub use play::{run, run_to};
 pub use workers::Workers;

@@ -1,6 +1,7 @@
-//! A plan that workers run to its end.
+//! A plan that workers run, to its end or until it is stopped.
 ghost use Rattle.std.specs.Prelude.{◌≡◌, ◌<◌, ◌≤◌, IfOk, length};
 ghost use Rattle.ds_design.specs.Circuit.{columns};
+ghost use Rattle.ds_run.specs.Halted.{IsHalted, IsWorked};
 ghost use Rattle.ds_run.specs.Played.{IsPlayed};
 
 use crate::layout::layout_of;
@@ -25,6 +26,38 @@ pub fn run<R: Threads + Sync, G: Gate>(
     requires jobs { (0 < workers.now.jobs) × (workers.now.jobs ≤ 64) }
     ensures ok { IfOk result (IsPlayed plan.now vectors.now.rows) }
 {
+    work(alloc, plan, vectors, workers, None)
+}
+
+/// Fires events of a plan until each worker has fired so many, or all have fired once a vector; if
+/// fewer have then fired in all than one worker was to fire, the caller goes on until so many have.
+/// Want of memory is the only fault.
+pub fn run_to<R: Threads + Sync, G: Gate>(
+    alloc: Global,
+    plan: &Plan<'_>,
+    vectors: &Vectors,
+    workers: &Workers<'_, R, G>,
+    stop: u64,
+) -> Result<Record, OutOfMemory>
+    requires width { vectors.now.width ≡ length (columns plan.now.split.circuit) }
+    requires jobs { (0 < workers.now.jobs) × (workers.now.jobs ≤ 64) }
+    ensures ok { IfOk result (IsHalted stop workers.now.jobs plan.now vectors.now.rows) }
+{
+    work(alloc, plan, vectors, workers, Some(stop))
+}
+
+// Has workers fire events of a plan, each as many as its quota, where there is one.
+fn work<R: Threads + Sync, G: Gate>(
+    alloc: Global,
+    plan: &Plan<'_>,
+    vectors: &Vectors,
+    workers: &Workers<'_, R, G>,
+    quota: Option<u64>,
+) -> Result<Record, OutOfMemory>
+    requires width { vectors.now.width ≡ length (columns plan.now.split.circuit) }
+    requires jobs { (0 < workers.now.jobs) × (workers.now.jobs ≤ 64) }
+    ensures { IfOk result (IsWorked quota workers.now.jobs plan.now vectors.now.rows) }
+{
     // Read for the fact that it is accepted for the latches.
     let _accepted = plan.graph();
     let run = layout_of(alloc, plan, vectors)?;
@@ -35,7 +68,7 @@ pub fn run<R: Threads + Sync, G: Gate>(
         &run,
         &openings,
         workers.jobs,
-        None,
+        quota,
         workers.gate,
     )
 }

@@ -2,8 +2,7 @@
 use Rattle.std.proofs.Common.{◌≡◌, ◌∙◌, ℕ, ◌+◌, true, false, List, [], ◌∷◌, ◌++◌, length, codes}
 use Rattle.std.proofs.Common.{Option, None, Some, Result, Ok, Err, refl, ap, sym, subst, arith}
 use Rattle.std.proofs.Common.{add-zero, append_assoc}
-use Rattle.std.proofs.Common.{◌<◌}
-use Rattle.std.specs.Prelude.{All, IfOk}
+use Rattle.std.specs.Prelude.{IfOk}
 use Rattle.std.specs.List.{flat_map}
 use Rattle.std.proofs.lemmas.List.{append-nil, length-map}
 use Rattle.std.proofs.lemmas.List.Elements.{All-cons, All-nil}
@@ -23,7 +22,7 @@ use Rattle.ds_marked.specs.Log.{IsLog}
 use Rattle.ds_trace.proofs.Logged.{legal_events}
 use Rattle.ds_trace.specs.Logged.{HasLog, IsLogOf, IsLogText, IsLonger, Listed, LogGrows}
 use Rattle.ds_trace.specs.Logged.{WritesLog}
-use Rattle.ds_trace.specs.Ended.{AreWindows, IsSomeLog, WrittenWindow}
+use Rattle.ds_trace.specs.Ended.{AreWindows, IsKnownLog, IsSomeLog, WrittenWindow}
 use Rattle.ds_trace.specs.Laws.{EndSpellsRun, LogsGoOn, WindowsSpellRun}
 
 -- a window behind another one is one window
@@ -163,12 +162,12 @@ row_long (Ok row) c first start vectors old new long (lines, are, is) =
     last_long c first start vectors lines row long are
 row_long (Err e) c first start vectors old new long ok = tt
 
--- each event of a log is one of the graph
-pub kept_events : (g : Graph) (log : Listed) → IsSomeLog g (Some log)
-    → All (λ v. v < length g.events) log.events
-kept_events g log (false, turns, none) = absurd none
-kept_events g log (true, turns, has) =
-    legal_events g turns (λ _. 0) log.events has.listed.legal
+-- a log of some turns can be written
+pub known_some : (g : Graph) (log : Option Listed) → IsSomeLog g log → IsKnownLog g log
+known_some g None is = tt
+known_some g (Some log) (false, turns, none) = absurd none
+known_some g (Some log) (true, turns, has) =
+    (legal_events g turns (λ _. 0) log.events has.listed.legal, has.kinds)
 
 -- the line `firings` and the lines behind it
 pub log_text : {T E : Type 0} {a b c : Result T E} {w0 w1 w2 : Option (List ℕ)} {f0 f1 f2 : ℕ}

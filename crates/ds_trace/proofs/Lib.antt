@@ -5,3 +5,4 @@ pub mod Logged
 pub mod Summed
 pub mod Fired
 pub mod Ended
+pub mod Stops

@@ -1,6 +1,6 @@
 -- The text of a run that is written window by window, and its end.
-use Rattle.std.specs.Prelude.{◌≡◌, ℕ, ◌+◌, List, [], ◌∷◌, ◌++◌, length, Option, None, Some}
-use Rattle.std.specs.Prelude.{Bool, Result}
+use Rattle.std.specs.Prelude.{◌≡◌, ℕ, ◌+◌, ◌<◌, ⊤, List, [], ◌∷◌, ◌++◌, length, Option, None}
+use Rattle.std.specs.Prelude.{All, Bool, Result, Some}
 use Rattle.ds_base.specs.Values.{Row}
 use Rattle.ds_marked.specs.Graph.{Graph}
 use Rattle.ds_design.specs.Circuit.{Circuit}
@@ -11,6 +11,12 @@ use Rattle.ds_trace.specs.Logged.{IsLogOf, IsLogText, Listed}
 -- the log is that of some number of turns, or there is none
 abbrev pub IsSomeLog : Graph → Option Listed → Type 0
 IsSomeLog g log = (wanted : Bool) × (turns : ℕ) × IsLogOf wanted g turns log
+
+-- each firing of a log, where there is one, is of an event of the graph, and each event has a count
+abbrev pub IsKnownLog : Graph → Option Listed → Type 0
+IsKnownLog g None = ⊤
+IsKnownLog g (Some log) =
+    All (λ event. event < length g.events) log.events × (log.kinds ≡ length g.events)
 
 -- what stands behind the trace: the text of a log where there is one
 abbrev pub IsLogPart : Graph → Option Listed → List ℕ → Type 0

@@ -4,6 +4,8 @@ pub mod Logged
 pub mod Ended
 pub mod Laws
 pub mod Appends
+pub mod Stopped
+pub mod Left
 pub mod Line
 pub mod Summed
 pub mod Refused

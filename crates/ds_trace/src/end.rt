@@ -1,7 +1,7 @@
 //! The end of a run that was written window by window.
 ghost use Rattle.std.specs.Prelude.{◌≡◌, ℕ, List};
 ghost use Rattle.ds_outside.specs.Writes.{GoesOn};
-ghost use Rattle.ds_trace.specs.Ended.{IsLogPart, IsSomeLog, WritesEnd};
+ghost use Rattle.ds_trace.specs.Ended.{IsKnownLog, IsLogPart, IsSomeLog, WritesEnd};
 
 use crate::log::Log;
 use ds_base::Row3;
@@ -49,13 +49,13 @@ fn end_behind<'a, O: Sink, B: Behind>(
 }
 
 // What stands behind the trace, unless a write has failed.
-fn put_log<O: Sink>(
+pub(crate) fn put_log<O: Sink>(
     so_far: Result<(), WriteFault>,
     plan: &Plan<'_>,
     log: Option<Log>,
     out: &mut O,
 ) -> Result<(), WriteFault>
-    requires log { IsSomeLog plan.now.graph log }
+    requires log { IsKnownLog plan.now.graph log }
     ensures { (text : List ℕ) × IsLogPart plan.now.graph log text
         × GoesOn so_far result (O.written out.old) (O.written out.new)
         (O.faults out.old) (O.faults out.new) text }

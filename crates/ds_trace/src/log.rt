@@ -7,11 +7,13 @@ ghost use Rattle.ds_fabric.specs.Showing.{IsFired};
 ghost use Rattle.ds_rule.specs.Rule.{tickets};
 ghost use Rattle.ds_rows.specs.Log.{firing_text};
 ghost use Rattle.ds_outside.specs.Writes.{GoesOn};
+ghost use Rattle.ds_trace.specs.Left.{IsLogOfRecord};
 ghost use Rattle.ds_trace.specs.Logged.{HasLog, IsLogText, IsLonger, WritesLog};
 ghost use Rattle.ds_run.specs.Played.{IsPlayed};
 
 use crate::played::Played;
 use ds_base::{EventId, OutOfMemory};
+use ds_fabric::Record;
 use ds_latch::Plan;
 use ds_marked::Counts;
 use ds_outside::{Sink, WriteFault};
@@ -62,17 +64,13 @@ impl Log {
         })
     }
 
-    /// Of a run that went to its end.
-    pub(crate) fn of(alloc: Global, played: &Played<'_, '_>) -> Result<Self, OutOfMemory>
-        requires played { IsPlayed played.now.plan.now played.now.vectors.now.rows
-            played.now.fired.now }
-        ensures { IfOk result
-            (HasLog played.now.plan.now.graph (length played.now.vectors.now.rows)) }
+    /// Of a record of firings.
+    pub(crate) fn fired(alloc: Global, plan: &Plan<'_>, fired: &Record) -> Result<Self, OutOfMemory>
+        ensures { IfOk result (IsLogOfRecord plan.now.graph fired.now) }
     {
-        firings_are_legal();
         Ok(Log {
-            events: played.fired.firings(alloc)?,
-            counts: Counts::zero(alloc, played.plan.graph().events().len())?,
+            events: fired.firings(alloc)?,
+            counts: Counts::zero(alloc, plan.graph().events().len())?,
         })
     }
 

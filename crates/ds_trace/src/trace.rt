@@ -1,38 +1,16 @@
 //! The trace of what the nodes of a plan have stored.
 ghost use Rattle.std.specs.Prelude.{◌≡◌, ◌+◌, ◌<◌, ◌^◌, length};
-ghost use Rattle.ds_design.specs.Circuit.{initial_row};
-ghost use Rattle.ds_design.specs.Trace.{trace_line as trace_text, end_line as end_text};
+ghost use Rattle.ds_design.specs.Trace.{trace_line as trace_text};
 ghost use Rattle.ds_outside.specs.Writes.{GoesOn};
-ghost use Rattle.ds_clocked.specs.Appends.{WritesLines, WritesTrace};
+ghost use Rattle.ds_clocked.specs.Appends.{WritesLines};
 ghost use Rattle.ds_trace.specs.Line.{HasLine};
 ghost use Rattle.ds_run.specs.Played.{IsPlayed};
 
 use crate::line::{Line, gather};
 use crate::played::Played;
-use ds_base::{LatchId, Row3};
+use ds_base::LatchId;
 use ds_outside::{Sink, WriteFault};
-use ds_rows::{end_line, trace_line};
-
-/// Writes the whole trace.
-pub fn write_trace<O: Sink>(
-    played: &Played<'_, '_>,
-    line: &mut Line,
-    out: &mut O,
-) -> Result<(), WriteFault>
-    requires played { IsPlayed played.now.plan.now played.now.vectors.now.rows
-        played.now.fired.now }
-    requires start { played.now.plan.now.split.initial
-        ≡ initial_row played.now.plan.now.split.circuit }
-    requires line { HasLine played.now.plan.now.split line.old }
-    requires registers { line.old.registers ≡ played.now.plan.now.split.initial }
-    ensures { WritesTrace result played.now.plan.now.split.circuit played.now.vectors.now.rows
-        (O.written out.old) (O.written out.new) (O.faults out.old) (O.faults out.new) }
-{
-    // Read for the fact that there are few vectors, so that the number of a turn fits.
-    let _count = played.vectors.count();
-    let so_far = write_turns(played, 0, line, out);
-    put_end(so_far, &line.registers, out)
-}
+use ds_rows::trace_line;
 
 /// Writes the lines of all turns, numbered from `first` on, and leaves the registers after the last
 /// one.
@@ -74,21 +52,6 @@ fn put_line<O: Sink>(
 {
     match so_far {
         Ok(()) => trace_line(turn, &line.outputs, &line.registers, out),
-        Err(fault) => Err(fault),
-    }
-}
-
-// The last line, unless a write has failed.
-fn put_end<O: Sink>(
-    so_far: Result<(), WriteFault>,
-    registers: &Row3,
-    out: &mut O,
-) -> Result<(), WriteFault>
-    ensures { GoesOn so_far result (O.written out.old) (O.written out.new)
-        (O.faults out.old) (O.faults out.new) (end_text registers.now) }
-{
-    match so_far {
-        Ok(()) => end_line(registers, out),
         Err(fault) => Err(fault),
     }
 }

@@ -13,7 +13,7 @@ use Rattle.ds_app.proofs.app.do_job.Goals as goal
 
 pub returns-in-Run-clause-value : goal.returns-in-Run-clause-value
 returns-in-Run-clause-value g c =
-    let job : Run c.as_str.result.now c.as_str-in-Run.result.now c.in-Run.graph c.in-Run.clusters c.in-Run.jobs c.in-Run.log c.in-Run.slack ≡ c.args.job.now = cc in
+    let job : Run c.as_str.result.now c.as_str-in-Run.result.now c.in-Run.graph c.in-Run.clusters c.in-Run.jobs c.in-Run.log c.in-Run.slack c.in-Run.stop ≡ c.args.job.now = cc in
     subst (λ (j : Job). Ends (stages_of (g.F.Files.held c.args.files.now) j) (RoseIn (g.F.Files.faults c.args.files.now) (g.F.Files.faults c.run.new.files))
     (record { old = g.O.Sink.written c.args.out.now; new = g.O.Sink.written c.run.new.out; before = g.O.Sink.faults c.args.out.now; now = g.O.Sink.faults c.run.new.out }) c.run.result) job c.run.ensures.value
 
@@ -63,12 +63,12 @@ returns-in-Period-clause-value g c =
 
 pub run-requires-clause-jobs : goal.run-requires-clause-jobs
 run-requires-clause-jobs g c _ _ =
-    let job : Run c.as_str.result.now c.as_str-in-Run.result.now c.in-Run.graph c.in-Run.clusters c.in-Run.jobs c.in-Run.log c.in-Run.slack ≡ c.args.job.now = cc in
+    let job : Run c.as_str.result.now c.as_str-in-Run.result.now c.in-Run.graph c.in-Run.clusters c.in-Run.jobs c.in-Run.log c.in-Run.slack c.in-Run.stop ≡ c.args.job.now = cc in
     let (workers, few) = subst AreAllowed (sym job) c.requires in workers
 
 pub run-requires-clause-slack : goal.run-requires-clause-slack
 run-requires-clause-slack g c _ _ =
-    let job : Run c.as_str.result.now c.as_str-in-Run.result.now c.in-Run.graph c.in-Run.clusters c.in-Run.jobs c.in-Run.log c.in-Run.slack ≡ c.args.job.now = cc in
+    let job : Run c.as_str.result.now c.as_str-in-Run.result.now c.in-Run.graph c.in-Run.clusters c.in-Run.jobs c.in-Run.log c.in-Run.slack c.in-Run.stop ≡ c.args.job.now = cc in
     let (workers, few) = subst AreAllowed (sym job) c.requires in few
 
 pub replay-requires-clause-slack : goal.replay-requires-clause-slack

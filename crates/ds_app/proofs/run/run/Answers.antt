@@ -5,13 +5,10 @@ use Rattle.ds_outside.specs.Held.{Held}
 use Rattle.ds_outside.specs.declared.files.Which.{Which}
 use Rattle.ds_design.specs.Circuit.{Circuit}
 use Rattle.ds_latch.specs.Plan.{Planned}
-use Rattle.ds_design.specs.Rows.{Rows}
-use Rattle.ds_trace.specs.RunText.{IsRunText}
 use Rattle.ds_stage.specs.Stage.{OfFile}
 use Rattle.ds_stage.specs.Stages.{netlist_stage}
-use Rattle.ds_stage.specs.StreamStage.{most_vectors}
 use Rattle.ds_stage.specs.PlanStage.{planned_stage}
-use Rattle.ds_app.specs.RunStage.{streamed_run_stage}
+use Rattle.ds_app.specs.RunStage.{planned_run_stage}
 use Rattle.ds_app.specs.Job.{run_stage}
 use Rattle.ds_stage.specs.Ends.{Answers, Ends, Output, RoseIn}
 use Rattle.ds_stage.specs.declared.stop.Stop.{Stop}
@@ -19,7 +16,7 @@ use Rattle.ds_stage.proofs.Stages.{IsWider, widened}
 use Rattle.ds_stage.proofs.Ends.{ended_first, ends_after, never_fell, planned_since}
 use Rattle.ds_stage.proofs.Left.{netlist_nothing, planned_nothing}
 use Rattle.ds_stage.proofs.PlanAccepted.{planned_circuit, planned_start}
-use Rattle.ds_stage.proofs.Streamed.{streamed_since}
+use Rattle.ds_app.proofs.StoppedEnds.{planned_run_since}
 use Rattle.ds_app.proofs.run.run.Goals as goal
 
 pub returns-in_err-netlist-clause-value : goal.returns-in_err-netlist-clause-value
@@ -33,7 +30,7 @@ returns-in_err-netlist-clause-value g c =
     let more : OfFile = RoseIn (g.F.Files.faults c.args.files.now) (g.F.Files.faults c.read_netlist.new.files) in
     let vec : List ℕ = c.args.job.now.vec.now in
     let p = err_from_is_err_and c.from_residual.result c.from_residual.ensures.1 in
-    rw (p.1, p.2) (ended_first (Unit {0}) (netlist_stage held net) (run_stage held net vec graph mode c.args.job.now.log slack) more
+    rw (p.1, p.2) (ended_first (Unit {0}) (netlist_stage held net) (run_stage held net vec graph mode c.args.job.now.jobs c.args.job.now.log slack c.args.job.now.stop) more
     (record { old = g.O.Sink.written c.args.out.now; new = g.O.Sink.written c.args.out.now; before = g.O.Sink.faults c.args.out.now; now = g.O.Sink.faults c.args.out.now }) c.in_err-netlist.field-0.0
     (netlist_nothing held net) refl c.in_err-netlist.ensures.value)
 
@@ -56,16 +53,16 @@ returns-in_err-plan-clause-value g c =
     widened {A = Planned} (planned_stage (g.F.Files.held c.read_netlist.new.files) net graph mode slack circuit) (planned_stage held net graph mode slack circuit)
     (RoseIn (g.F.Files.faults c.read_netlist.new.files) (g.F.Files.faults c.plan_netlist.new.files)) more wider (Err stop) c.in_err-plan.ensures.value in
     let out : Output = (record { old = g.O.Sink.written c.args.out.now; new = g.O.Sink.written c.args.out.now; before = g.O.Sink.faults c.args.out.now; now = g.O.Sink.faults c.args.out.now }) in
-    rw (p.1, p.2) (ends_after {A = Unit {0}} (netlist_stage held net) (run_stage held net vec graph mode c.args.job.now.log slack) more out circuit c.in_ok-netlist.ensures.value (Err stop)
-    (ended_first (Unit {0}) (planned_stage held net graph mode slack circuit) (streamed_run_stage held vec c.args.job.now.log circuit) more out stop
+    rw (p.1, p.2) (ends_after {A = Unit {0}} (netlist_stage held net) (run_stage held net vec graph mode c.args.job.now.jobs c.args.job.now.log slack c.args.job.now.stop) more out circuit c.in_ok-netlist.ensures.value (Err stop)
+    (ended_first (Unit {0}) (planned_stage held net graph mode slack circuit) (planned_run_stage held vec c.args.job.now.log c.args.job.now.jobs c.args.job.now.stop circuit) more out stop
     (planned_nothing held net graph mode slack circuit) refl few))
 
-pub write_traced-requires-clause-start : goal.write_traced-requires-clause-start
-write_traced-requires-clause-start g c _ _ =
+pub run_planned-requires-clause-start : goal.run_planned-requires-clause-start
+run_planned-requires-clause-start g c _ _ =
     planned_start (g.F.Files.held c.read_netlist.new.files) c.args.job.now.net.now c.args.job.now.graph.now c.args.job.now.clusters c.args.job.now.slack c.in_ok-netlist.netlist c.in_ok-plan.plan c.in_ok-plan.ensures.value
 
-pub write_traced-requires-clause-jobs : goal.write_traced-requires-clause-jobs
-write_traced-requires-clause-jobs g c _ _ = c.requires.jobs
+pub run_planned-requires-clause-jobs : goal.run_planned-requires-clause-jobs
+run_planned-requires-clause-jobs g c _ _ = c.requires.jobs
 
 pub returns-clause-value : goal.returns-clause-value
 returns-clause-value g c =
@@ -76,7 +73,7 @@ returns-clause-value g c =
     let slack : ℕ = c.args.job.now.slack in
     let vec : List ℕ = c.args.job.now.vec.now in
     let before : Which → List ℕ → ℕ = g.F.Files.faults c.args.files.now in
-    let now : Which → List ℕ → ℕ = g.F.Files.faults c.write_traced.new.files in
+    let now : Which → List ℕ → ℕ = g.F.Files.faults c.run_planned.new.files in
     let more : OfFile = RoseIn before now in
     let circuit : Circuit = c.in_ok-netlist.netlist in
     let wider : IsWider (planned_stage (g.F.Files.held c.read_netlist.new.files) net graph mode slack circuit) (planned_stage held net graph mode slack circuit) (RoseIn (g.F.Files.faults c.read_netlist.new.files) (g.F.Files.faults c.plan_netlist.new.files)) (RoseIn before (g.F.Files.faults c.plan_netlist.new.files)) =
@@ -86,16 +83,16 @@ returns-clause-value g c =
     let same : plan.split.circuit ≡ circuit =
     planned_circuit (g.F.Files.held c.read_netlist.new.files) net graph mode slack circuit plan c.in_ok-plan.ensures.value in
     let later : List ℕ → Held = g.F.Files.held c.plan_netlist.new.files in
-    let out : Output = (record { old = g.O.Sink.written c.args.out.now; new = g.O.Sink.written c.write_traced.new.out; before = g.O.Sink.faults c.args.out.now; now = g.O.Sink.faults c.write_traced.new.out }) in
-    let run : Ends {A = Unit {0}} (streamed_run_stage later vec c.args.job.now.log circuit plan) (RoseIn (g.F.Files.faults c.plan_netlist.new.files) now) out c.write_traced.result =
-    subst (λ (k : Circuit). Ends {A = Unit {0}} (streamed_run_stage later vec c.args.job.now.log k plan) (RoseIn (g.F.Files.faults c.plan_netlist.new.files) now) out c.write_traced.result) same c.write_traced.ensures.value in
-    ends_after (netlist_stage held net) (run_stage held net vec graph mode c.args.job.now.log slack) more out circuit c.in_ok-netlist.ensures.value c.write_traced.result
-    (ends_after (planned_stage held net graph mode slack circuit) (streamed_run_stage held vec c.args.job.now.log circuit) more out plan planned c.write_traced.result
-    (streamed_since held later vec circuit (most_vectors c.args.job.now.log) (λ (rows : Rows) (text : List ℕ). (plan.split.circuit ≡ circuit) × IsRunText c.args.job.now.log plan rows.rows text)
+    let out : Output = (record { old = g.O.Sink.written c.args.out.now; new = g.O.Sink.written c.run_planned.new.out; before = g.O.Sink.faults c.args.out.now; now = g.O.Sink.faults c.run_planned.new.out }) in
+    let run : Ends {A = Unit {0}} (planned_run_stage later vec c.args.job.now.log c.args.job.now.jobs c.args.job.now.stop circuit plan) (RoseIn (g.F.Files.faults c.plan_netlist.new.files) now) out c.run_planned.result =
+    subst (λ (k : Circuit). Ends {A = Unit {0}} (planned_run_stage later vec c.args.job.now.log c.args.job.now.jobs c.args.job.now.stop k plan) (RoseIn (g.F.Files.faults c.plan_netlist.new.files) now) out c.run_planned.result) same c.run_planned.ensures.value in
+    ends_after (netlist_stage held net) (run_stage held net vec graph mode c.args.job.now.jobs c.args.job.now.log slack c.args.job.now.stop) more out circuit c.in_ok-netlist.ensures.value c.run_planned.result
+    (ends_after (planned_stage held net graph mode slack circuit) (planned_run_stage held vec c.args.job.now.log c.args.job.now.jobs c.args.job.now.stop circuit) more out plan planned c.run_planned.result
+    (planned_run_since held later vec c.args.job.now.log c.args.job.now.jobs c.args.job.now.stop circuit plan
     before (g.F.Files.faults c.plan_netlist.new.files) now
     (c.in_ok-plan.ensures.same_held ∙ c.in_ok-netlist.ensures.same_held)
     (never_fell before (g.F.Files.faults c.read_netlist.new.files) (g.F.Files.faults c.plan_netlist.new.files) c.in_ok-netlist.ensures.never_falls c.in_ok-plan.ensures.never_falls)
-    out c.write_traced.result run))
+    out c.run_planned.result run))
 
 pub returns-in_err-netlist-clause-same_held : goal.returns-in_err-netlist-clause-same_held
 returns-in_err-netlist-clause-same_held g c = c.in_err-netlist.ensures.same_held
@@ -104,4 +101,4 @@ pub returns-in_err-plan-clause-same_held : goal.returns-in_err-plan-clause-same_
 returns-in_err-plan-clause-same_held g c = c.in_err-plan.ensures.same_held ∙ c.in_ok-netlist.ensures.same_held
 
 pub returns-clause-same_held : goal.returns-clause-same_held
-returns-clause-same_held g c = c.write_traced.ensures.same_held ∙ (c.in_ok-plan.ensures.same_held ∙ c.in_ok-netlist.ensures.same_held)
+returns-clause-same_held g c = c.run_planned.ensures.same_held ∙ (c.in_ok-plan.ensures.same_held ∙ c.in_ok-netlist.ensures.same_held)

@@ -1,6 +1,6 @@
 use Rattle.ds_cmd.proofs.Taken.{run_taken, run_with_mode}
 use Rattle.ds_cmd.proofs.TakenGraph.{run_with_graph}
-use Rattle.ds_cmd.proofs.TakenNumbers.{run_with_jobs, run_with_log, run_with_slack}
+use Rattle.ds_cmd.proofs.TakenNumbers.{run_with_jobs, run_with_log, run_with_slack, run_with_stop}
 use Rattle.ds_cmd.proofs.laws.run_is_taken.Goals as goal
 
 pub returns-clause-each : goal.returns-clause-each
@@ -20,3 +20,6 @@ returns-clause-log c = run_with_log
 
 pub returns-clause-slack : goal.returns-clause-slack
 returns-clause-slack c = run_with_slack
+
+pub returns-clause-stop : goal.returns-clause-stop
+returns-clause-stop c = run_with_stop

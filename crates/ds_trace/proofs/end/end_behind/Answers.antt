@@ -3,7 +3,13 @@ use Rattle.ds_design.specs.Trace.{end_line}
 use Rattle.ds_outside.proofs.Handing.{handed_on}
 use Rattle.ds_clocked.proofs.Behind.{begun}
 use Rattle.ds_rows.proofs.Then.{after_ok, goes_on}
+use Rattle.ds_trace.proofs.Ended.{known_some}
 use Rattle.ds_trace.proofs.end.end_behind.Goals as goal
+
+pub put_log-so_far-requires : goal.put_log-so_far-requires
+put_log-so_far-requires g c = record {
+  log = known_some c.args.plan.now.graph c.args.log c.requires.log;
+}
 
 pub returns-clause-ok : goal.returns-clause-ok
 returns-clause-ok g c =

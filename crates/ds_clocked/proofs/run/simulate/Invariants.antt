@@ -1,4 +1,0 @@
-use Rattle.ds_clocked.proofs.run.simulate.Given as goal
-
-abbrev pub ghosts-trace_behind : goal.ghosts-trace_behind
-ghosts-trace_behind g a = record { name = a.behind.sink.ghost_name; before = g.O.Sink.written a.behind.sink.now }

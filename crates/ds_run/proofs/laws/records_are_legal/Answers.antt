@@ -1,0 +1,5 @@
+use Rattle.ds_run.proofs.Firings.{records_are_legal_lem}
+use Rattle.ds_run.proofs.laws.records_are_legal.Goals as goal
+
+pub returns : goal.returns
+returns c = records_are_legal_lem
