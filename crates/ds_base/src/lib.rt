@@ -5,7 +5,8 @@
 //! other ids are numbers from 0 that are not mixed up. `Seq` is a list that is a part of another
 //! value, and a `Name` is one of bytes. `Limit` says how many of what there may be.
 //!
-//! What takes memory answers `OutOfMemory` where none is found; when that is, nothing promises.
+//! What takes memory answers `OutOfMemory` where none is found, and `Seq::push` hands the item back
+//! then; when that is, nothing promises.
 #![tactic(auto)]
 
 mod list;

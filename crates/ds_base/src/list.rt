@@ -1,10 +1,10 @@
 //! A list that grows, for the parts of a value that are lists. All types of the product keep their
 //! lists in it, so that contracts see the items and no capacity.
-ghost use Rattle.std.specs.Prelude.{◌≡◌, ◌+◌, ◌<◌, List, [], ◌∷◌, ◌++◌, length, IsOk, OnOk, OnErr};
+ghost use Rattle.std.specs.Prelude.{◌≡◌, ◌+◌, ◌<◌, List, [], ◌∷◌, ◌++◌, length, IsOk, IfErr, OnOk};
+ghost use Rattle.std.specs.Prelude.{OnErr};
 ghost use Rattle.std.specs.Prelude.{slice_index_or};
 
-use crate::OutOfMemory;
-use std::alloc::Global;
+use std::alloc::{AllocFailed, Global};
 use std::marker::Model;
 
 /// A list, for the parts of a value that are lists. Contracts see the list of its items.
@@ -50,15 +50,13 @@ impl<T> Seq<T> {
         self.items.as_slice()
     }
 
-    /// One item more, at the end.
-    pub fn push(&mut self, item: T) -> Result<(), OutOfMemory>
-    where
-        T: Drop,
+    /// One item more, at the end. `AllocFailed` where memory is wanting; it has the item.
+    pub fn push(&mut self, item: T) -> Result<(), AllocFailed<T>>
         ensures ok { OnOk result (self.new ≡ self.old ++ item ∷ []) }
         ensures err { OnErr result (self.new ≡ self.old) }
+        ensures back { IfErr result (λ failed. failed.value ≡ item) }
     {
-        self.items.push(item)?;
-        Ok(())
+        self.items.push(item)
     }
 }
 
