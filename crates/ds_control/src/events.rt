@@ -48,7 +48,8 @@ pub fn push_events(
         (PushesPart events.old events.new (signal_events (word.now ++ digits.now))) }
 {
     events.push(event(alloc, word, digits, Kind::Rise)?)?;
-    events.push(event(alloc, word, digits, Kind::Fall)?)
+    events.push(event(alloc, word, digits, Kind::Fall)?)?;
+    Ok(())
 }
 
 fn event(alloc: Global, word: &[u8], digits: &[u8], kind: Kind) -> Result<Event, OutOfMemory>

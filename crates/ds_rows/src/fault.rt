@@ -1,4 +1,5 @@
 use ds_base::{Limit, OutOfMemory};
+use std::alloc::AllocFailed;
 
 /// What is wrong with a line of vectors.
 #[derive(Clone, Copy, Debug, PartialEq, Eq)]
@@ -34,6 +35,17 @@ impl From<OutOfMemory> for VectorRefusal {
     ghost from_gives = { λ _ why. why ≡ Memory };
 
     fn from(_: OutOfMemory) -> Self {
+        VectorRefusal::Memory
+    }
+}
+
+impl<T: Drop> From<AllocFailed<T>> for VectorRefusal {
+    ghost use Rattle.std.specs.Prelude.{◌≡◌};
+    ghost use Rattle.ds_rows.specs.declared.fault.VectorRefusal.TheVariants.{Memory};
+
+    ghost from_gives = { λ _ why. why ≡ Memory };
+
+    fn from(_: AllocFailed<T>) -> Self {
         VectorRefusal::Memory
     }
 }
