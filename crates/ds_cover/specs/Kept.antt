@@ -70,6 +70,11 @@ pub record IsKept (inputs : List ℕ) (masks : List Mask) (span : Span) (quick :
   pub drives : quick.output ≡ span.output
   pub is_quick : quick.few ≡ true → IsQuick quick (driven_in inputs masks span).cover
 
+-- what stood in a list stands there still, and more may stand behind it
+pub record IsPrefix {A : Type 0} (before after : List A) : Type 0 where
+  pub more : List A
+  pub is : after ≡ before ++ more
+
 -- all tables are kept
 pub record AreKept (inputs : List ℕ) (masks : List Mask) (spans : List Span)
     (quicks : List Quick) : Type 0 where

@@ -1,6 +1,7 @@
 //! All tables of a design, packed.
 ghost use Rattle.std.specs.Prelude.{◌≡◌, ◌+◌, ◌<◌, ◌≤◌, [], true, length, drop, take, All, IfOk};
-ghost use Rattle.ds_cover.specs.Kept.{IsAdded, IsQuick};
+ghost use Rattle.std.specs.Prelude.{OnErr, OnOk};
+ghost use Rattle.ds_cover.specs.Kept.{IsAdded, IsPrefix, IsQuick};
 ghost use Rattle.ds_cover.specs.Packed.{packed_value};
 ghost use Rattle.ds_cover.specs.Ternary.{IsWordOf};
 ghost use Rattle.ds_cover.specs.Bank.{IsMore, IsWithin, after_table, after_tables, driven_at};
@@ -60,25 +61,17 @@ impl Bank {
         }
     }
 
-    /// With one table more, which drives this net.
-    pub fn with(self, table: &Table, output: NetId) -> Result<Self, OutOfMemory>
-        ensures { IfOk result (IsMore self table.now output) }
+    /// Adds a table, which drives this net.
+    pub fn add(&mut self, table: &Table, output: NetId) -> Result<(), OutOfMemory>
+        ensures ok { OnOk result (IsMore self.old table.now output self.new) }
+        ensures same { OnErr result (self.new ≡ self.old) }
     {
-        let Bank {
-            mut quicks,
-            mut spans,
-            mut inputs,
-            mut masks,
-        } = self;
-        let (span, quick) = add(&mut inputs, &mut masks, table, output)?;
-        spans.push(span)?;
-        quicks.push(quick)?;
-        Ok(Bank {
-            quicks,
-            spans,
-            inputs,
-            masks,
-        })
+        self.spans.reserve(1)?;
+        self.quicks.reserve(1)?;
+        let (span, quick) = add_parts(&mut self.inputs, &mut self.masks, table, output)?;
+        self.spans.push_reserved(span);
+        self.quicks.push_reserved(quick);
+        Ok(())
     }
 
     /// How many tables there are.
@@ -216,15 +209,18 @@ fn masks_of<'a>(masks: &'a [Mask], span: &Span) -> &'a [Mask]
     &masks[span.first_mask..span.first_mask + span.masks]
 }
 
-// Adds the inputs and the masks of a table, and says where they stand.
-fn add(
+// Adds the inputs and the masks of a table, and says where they stand. For want of memory some of
+// them may stand behind the others, where no table has them.
+fn add_parts(
     inputs: &mut Vec<NetId>,
     masks: &mut Vec<Mask>,
     table: &Table,
     output: NetId,
 ) -> Result<(Span, Quick), AllocError>
-    ensures { IfOk result (λ entry. IsAdded inputs.old.items masks.old.items table.now output
+    ensures ok { IfOk result (λ entry. IsAdded inputs.old.items masks.old.items table.now output
         inputs.new.items masks.new.items entry.0 entry.1) }
+    ensures inputs { OnErr result (IsPrefix inputs.old.items inputs.new.items) }
+    ensures masks { OnErr result (IsPrefix masks.old.items masks.new.items) }
 {
     let own = table.inputs();
     let first_input = inputs.len();
