@@ -163,7 +163,8 @@ fn set_last(
         return Ok(None);
     }
     let last = NetId::new(count as u32 - 1);
-    let bank = Bank::new(alloc).with(table, last)?;
+    let mut bank = Bank::new(alloc);
+    bank.add(table, last)?;
     if table.inputs().iter().all(|net| net.index() < count) {
         bank.set(0, nets);
         bank.set_all(&[0], others);
@@ -228,9 +229,10 @@ fn a_bank_counts_its_tables(rt: HostRuntime) -> Result<(), OutOfMemory> {
     let (Some(one), Some(other)) = (one, other) else {
         panic!(rt; "no tables");
     };
-    let bank = Bank::new(alloc);
+    let mut bank = Bank::new(alloc);
     assert_eq!(rt; bank.len(), 0);
-    let bank = bank.with(&one, NetId::new(2))?.with(&other, NetId::new(3))?;
+    bank.add(&one, NetId::new(2))?;
+    bank.add(&other, NetId::new(3))?;
     assert_eq!(rt; bank.len(), 2);
     Ok(())
 }

@@ -19,7 +19,10 @@ pub(crate) fn series_of(
     ensures bank { IfOk result (λ series. IsBankOf tables.now series.tables) }
 {
     let bank = bank_of(alloc, tables)?;
-    Series::of(alloc, bank, order)
+    match Series::of(alloc, bank, order) {
+        Ok(series) => Ok(series),
+        Err(_) => Err(OutOfMemory),
+    }
 }
 
 // The tables packed, by their places.
@@ -28,7 +31,7 @@ fn bank_of(alloc: Global, tables: &[Gate]) -> Result<Bank, OutOfMemory>
 {
     let mut bank = Bank::new(alloc);
     for gate in tables {
-        bank = bank.with(&gate.table, gate.output)?;
+        bank.add(&gate.table, gate.output)?;
     }
     Ok(bank)
 }

@@ -1,3 +1,4 @@
+//! Why vectors are refused.
 use ds_base::{Limit, OutOfMemory};
 use std::alloc::AllocFailed;
 

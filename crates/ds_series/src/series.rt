@@ -1,11 +1,11 @@
 //! The tables of a bank in the order in which they are set, those of up to four inputs by kinds.
-ghost use Rattle.std.specs.Prelude.{◌≡◌, ◌<◌, length, All, IfOk};
+ghost use Rattle.std.specs.Prelude.{◌≡◌, ◌<◌, length, All, IfErr, IfOk};
 ghost use Rattle.ds_cover.specs.Bank.{IsWithin, after_tables};
 ghost use Rattle.ds_series.specs.Series.{FindsKnown, IsSeries, in_order, parts_of};
 
 use crate::lists::Lists;
 use crate::run::{Run, push_run, set_known, set_run};
-use ds_base::{OutOfMemory, Row3};
+use ds_base::Row3;
 use ds_cover::Bank;
 use std::alloc::{AllocError, Global};
 use std::marker::Model;
@@ -42,18 +42,21 @@ impl Model for Series {
 }
 
 impl Series {
-    /// The tables of this bank, in this order.
-    pub fn of(alloc: Global, bank: Bank, order: Vec<u32>) -> Result<Self, OutOfMemory>
+    /// The tables of this bank, in this order. Where memory is wanting both come back.
+    pub fn of(alloc: Global, bank: Bank, order: Vec<u32>) -> Result<Self, (Bank, Vec<u32>)>
         requires { All (λ k. k < length bank) order.items }
-        ensures { IfOk result (λ s. s ≡ record { tables = bank; order = order.items }) }
+        ensures ok { IfOk result (λ s. s ≡ record { tables = bank; order = order.items }) }
+        ensures back { IfErr result (λ r. (r.0 ≡ bank) × (r.1 ≡ order)) }
     {
-        let (lists, runs) = lists_of(alloc, &bank, order.as_slice())?;
-        Ok(Series {
-            bank,
-            order,
-            lists,
-            runs,
-        })
+        match lists_of(alloc, &bank, order.as_slice()) {
+            Ok((lists, runs)) => Ok(Series {
+                bank,
+                order,
+                lists,
+                runs,
+            }),
+            Err(_) => Err((bank, order)),
+        }
     }
 
     /// The tables by their numbers.

@@ -3,5 +3,5 @@ use Rattle.ds_netlist.proofs.packed.bank_of.Goals as goal
 
 pub loop-gate-preserved : goal.loop-gate-preserved
 loop-gate-preserved c =
-    bank-take_more c.args.tables.now c.loop-gate.bank c.in_ok-bank.bank c.loop-gate.gate-index c.gate-item.result c.loop-gate-test.true c.gate-item.is
-    c.loop-gate.invariant c.in_ok-bank.ensures
+    bank-take_more c.args.tables.now c.loop-gate.bank c.add.new.self c.loop-gate.gate-index c.gate-item.result c.loop-gate-test.true c.gate-item.is
+    c.loop-gate.invariant c.in_ok-add.ensures.ok
