@@ -1,8 +1,8 @@
 //! Workers that are held at the gate: what they fire is theirs, and they run at once.
 use ds_outside::Gate;
 use ds_trial::{SHIFT, printed};
-use std::sync::atomic::AtomicBool;
 use std::sync::atomic::Ordering::SeqCst;
+use std::sync::atomic::{AtomicBool, AtomicU32};
 use std::thread::Threads;
 
 // How many looks a worker that is held takes at a flag.
@@ -18,40 +18,86 @@ const M1_OPENS: u32 = 8;
 
 const M1_CLOSES: u32 = 9;
 
-// Where one worker is, and whether another had to wait for it in vain.
+// The first worker who paused at an event, its number and one, and the latest; 0 where nobody did.
+#[derive(Drop)]
+struct Place {
+    first: AtomicU32,
+    latest: AtomicU32,
+}
+
+impl Place {
+    fn new() -> Self {
+        Place {
+            first: AtomicU32::new(0),
+            latest: AtomicU32::new(0),
+        }
+    }
+
+    // A worker pauses. True: it is the first.
+    fn come(&self, worker: u32) -> bool {
+        let mark = worker.saturating_add(1);
+        self.latest.store(mark, SeqCst);
+        self.first.compare_exchange(0, mark, SeqCst, SeqCst).is_ok()
+    }
+
+    // Somebody has paused.
+    fn is_met(&self) -> bool {
+        self.first.load(SeqCst) != 0
+    }
+
+    // Somebody other than this worker has paused.
+    fn is_met_without(&self, worker: u32) -> bool {
+        let mark = worker.saturating_add(1);
+        let first = self.first.load(SeqCst);
+        let latest = self.latest.load(SeqCst);
+        (first != 0 && first != mark) || (latest != 0 && latest != mark)
+    }
+
+    // Looks whether a worker other than this one has paused, until it has or the looks are used
+    // up.
+    fn looks_for_another(&self, worker: u32) -> bool {
+        for _ in 0..LOOKS {
+            if self.is_met_without(worker) {
+                return true;
+            }
+        }
+        false
+    }
+}
+
+// The places of two registers in a row where workers are held, and whether one of them waited in
+// vain.
 #[derive(Drop)]
 struct Meeting {
-    first_came: AtomicBool,
-    second_came: AtomicBool,
+    opens: Place,
+    closes: Place,
     in_vain: AtomicBool,
 }
 
 impl Meeting {
     fn new() -> Self {
         Meeting {
-            first_came: AtomicBool::new(false),
-            second_came: AtomicBool::new(false),
+            opens: Place::new(),
+            closes: Place::new(),
             in_vain: AtomicBool::new(false),
         }
     }
 
-    // Looks at a flag until it is up, or the looks are used up.
-    fn wait_for(&self, flag: &AtomicBool) {
-        for _ in 0..LOOKS {
-            if flag.load(SeqCst) {
-                return;
-            }
+    // Holds a worker until another one has paused at a place.
+    fn hold(&self, place: &Place, worker: u32) {
+        if !place.looks_for_another(worker) {
+            self.in_vain.store(true, SeqCst);
         }
-        self.in_vain.store(true, SeqCst);
     }
 
-    // Both came, and nobody waited in vain.
+    // Somebody paused at each place, and nobody waited in vain.
     fn held(&self) -> bool {
-        self.first_came.load(SeqCst) && self.second_came.load(SeqCst) && !self.in_vain.load(SeqCst)
+        self.opens.is_met() && self.closes.is_met() && !self.in_vain.load(SeqCst)
     }
 }
 
-// Worker 0 is held at M0+ until another pauses at M1-.
+// The first who pauses at M0+ is held until another has paused at M1-. Who pauses there first looks
+// whether another has come to M0+, so that it does not come there itself, and goes on in any case.
 #[derive(Drop)]
 struct OneIsHeld {
     meeting: Meeting,
@@ -60,18 +106,17 @@ struct OneIsHeld {
 impl Gate for OneIsHeld {
     fn pause(&self, worker: u32, event: u32, _turn: u64) {
         let meeting = &self.meeting;
-        if worker == 0 && event == M0_OPENS {
-            meeting.first_came.store(true, SeqCst);
-            meeting.wait_for(&meeting.second_came);
+        if event == M0_OPENS && meeting.opens.come(worker) {
+            meeting.hold(&meeting.closes, worker);
         }
-        if worker != 0 && event == M1_CLOSES {
-            meeting.second_came.store(true, SeqCst);
+        if event == M1_CLOSES && meeting.closes.come(worker) {
+            let _came = meeting.opens.looks_for_another(worker);
         }
     }
 }
 
-// Worker 0 is held at M0+ until worker 1 pauses at M1-, and worker 1 there until worker 0 has
-// paused.
+// The first who pauses at M0+ and the first who pauses at M1- are held until another has paused at
+// the other place.
 #[derive(Drop)]
 struct BothAreHeld {
     meeting: Meeting,
@@ -80,13 +125,11 @@ struct BothAreHeld {
 impl Gate for BothAreHeld {
     fn pause(&self, worker: u32, event: u32, _turn: u64) {
         let meeting = &self.meeting;
-        if worker == 0 && event == M0_OPENS {
-            meeting.first_came.store(true, SeqCst);
-            meeting.wait_for(&meeting.second_came);
+        if event == M0_OPENS && meeting.opens.come(worker) {
+            meeting.hold(&meeting.closes, worker);
         }
-        if worker == 1 && event == M1_CLOSES {
-            meeting.second_came.store(true, SeqCst);
-            meeting.wait_for(&meeting.first_came);
+        if event == M1_CLOSES && meeting.closes.come(worker) {
+            meeting.hold(&meeting.opens, worker);
         }
     }
 }
@@ -94,18 +137,36 @@ impl Gate for BothAreHeld {
 // Whoever pauses at M1+ is held until some worker has paused at M0-.
 #[derive(Drop)]
 struct LateIsHeld {
-    meeting: Meeting,
+    came: AtomicBool,
+    passed: AtomicBool,
+    in_vain: AtomicBool,
+}
+
+impl LateIsHeld {
+    // Some worker paused at M1+, and nobody waited there in vain.
+    fn held(&self) -> bool {
+        self.came.load(SeqCst) && self.passed.load(SeqCst) && !self.in_vain.load(SeqCst)
+    }
+
+    // Looks whether a worker has paused at M0-, until one has or the looks are used up.
+    fn wait(&self) {
+        for _ in 0..LOOKS {
+            if self.passed.load(SeqCst) {
+                return;
+            }
+        }
+        self.in_vain.store(true, SeqCst);
+    }
 }
 
 impl Gate for LateIsHeld {
     fn pause(&self, _worker: u32, event: u32, _turn: u64) {
-        let meeting = &self.meeting;
         if event == M1_OPENS {
-            meeting.first_came.store(true, SeqCst);
-            meeting.wait_for(&meeting.second_came);
+            self.came.store(true, SeqCst);
+            self.wait();
         }
         if event == M0_CLOSES {
-            meeting.second_came.store(true, SeqCst);
+            self.passed.store(true, SeqCst);
         }
     }
 }
@@ -169,11 +230,13 @@ fn gate_both(rt: HostRuntime) {
 #[test]
 fn gate_late(rt: HostRuntime) {
     let gate = LateIsHeld {
-        meeting: Meeting::new(),
+        came: AtomicBool::new(false),
+        passed: AtomicBool::new(false),
+        in_vain: AtomicBool::new(false),
     };
     let Some(text) = logged(&rt, &gate) else {
         panic!(rt; "no trace");
     };
-    assert!(rt; gate.meeting.held());
+    assert!(rt; gate.held());
     assert!(rt; stands_before(text.as_str(), "M0+ 1", "M1+ 1"));
 }
