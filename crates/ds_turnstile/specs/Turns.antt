@@ -42,10 +42,10 @@ no_run = record {
   rows = [];
 }
 
--- a pass of this fabric that holds the node alone
+-- a pass of this fabric that holds the node, and no other
 abbrev pub Alone : TableId → Run → ℕ → Showing → Type 0
 Alone z r l p = (p.table_id ≡ z) × (p.view.run ≡ r) × (holds p.view l ≡ true)
-    × (p.many ≡ 1)
+    × (p.many ≡ 1) × ((j : ℕ) → j ≢ l → holds p.view j ≡ false)
 
 -- the sum of f over the numbers below n
 abbrev pub sum_below : (ℕ → ℕ) → ℕ → ℕ
