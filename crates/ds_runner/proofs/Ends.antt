@@ -10,10 +10,8 @@ use Rattle.ds_rule.specs.Rule.{holds, seen, tickets}
 use Rattle.ds_rule.specs.declared.view.View.{View}
 use Rattle.ds_rule.proofs.EventLaws.{node_below}
 use Rattle.ds_rule.proofs.Logs.{length-places, log_most}
-use Rattle.ds_fabric.specs.Base.{Base}
-use Rattle.ds_fabric.specs.Showing.{Showing, Recorder, IsCounted}
-use Rattle.ds_runner.specs.Work.{CoverBelow, HasBetween, HasFrom, IsLent, IsRest, quota_of, all_tickets, tickets_below}
-use Rattle.ds_runner.specs.declared.worker.Worker.{Worker}
+use Rattle.ds_fabric.specs.Showing.{Recorder, IsCounted}
+use Rattle.ds_runner.specs.Work.{IsRest, quota_of, all_tickets, tickets_below}
 use Rattle.ds_runner.specs.Whole.{IsWhole}
 use Rattle.ds_runner.specs.Stopped.{IsStopped, IsRun, all_firings}
 use Rattle.ds_runner.proofs.Sums.{sum_all}
@@ -56,12 +54,10 @@ not_full run log sound legal turns = omega (
 )
 
 -- how often so many workers have fired together
-pub collected : (before lent many jobs most quota : ℕ) → before ≤ lent + many * most → lent ≡ 0 → many ≤ jobs → most ≡ quota
-    → before ≤ jobs * quota
-collected before lent many jobs most quota low none few is = omega (
+pub collected : (before many jobs most quota : ℕ) → before ≤ many * most → many ≤ jobs → most ≡ quota → before ≤ jobs * quota
+collected before many jobs most quota low few is = omega (
   arith,
   low,
-  none,
   mul-le-mul_right most few,
   ap (λ (m : ℕ). jobs * m) is,
 )
@@ -100,20 +96,3 @@ ended (Some quota) jobs run v r before rest sound some-job shown run-is recorded
     (tickets-many run v r.many sound.among run-is recorded) few
     (subst (λ (n : ℕ). all_tickets v ≤ before + n) is most)
     (subst (λ (n : ℕ). all_tickets v < before + n → IsWhole run r) is done)
-
--- the passes of all workers were taken in
-pub all_again : (b : Base) (run : Run) (v : View) (ws : List Worker) → b.run ≡ run → v.run ≡ b.run
-    → CoverBelow ws run.nodes → ((n : ℕ) → n ≤ b.run.nodes → CoverBelow ws n → HasBetween v 0 n) → HasFrom v 0
-all_again b run v ws is same cover all l near far = let nodes = ap (λ (r : Run). r.nodes) is in
-    all run.nodes (omega (arith, nodes)) cover l near (omega (arith, far, ap (λ (r : Run). r.nodes) same, nodes))
-
--- a share more was dealt
-pub lent_on : (b : Base) (old mid new : Showing) (first last : ℕ) → IsLent b old 0 first mid → IsLent b mid first last new
-    → IsLent b old 0 last new
-lent_on b old mid new first last one other = record {
-  fits = other.fits;
-  has = other.has;
-  many = omega (arith, one.many, other.many);
-  room = other.room ∙ one.room;
-  blank = other.blank;
-}

@@ -1,6 +1,8 @@
--- Lemmas of workers and rounds.
+-- Sums, tickets and firings; then lemmas of passes, turns and rounds, and of the end.
 pub mod Sums
 pub mod Tickets
-pub mod Budgets
+pub mod Firings
 pub mod Work
+pub mod Visits
+pub mod Hired
 pub mod Ends

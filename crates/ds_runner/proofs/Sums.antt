@@ -2,14 +2,11 @@
 use Rattle.std.proofs.Common.{◌≡◌, ◌≢◌, ℕ, zero, suc, ◌+◌, ◌*◌, ◌<◌, ◌≤◌, sym, refl, ap, subst, arith, suc-mul}
 use mathlib.Core.Logic.{dite}
 use native.Mathlib.Decide.{ℕ_discrete}
-use Rattle.ds_runner.specs.Work.{sum_below}
+use Rattle.ds_turnstile.specs.Turns.{sum_below}
+use Rattle.ds_turnstile.proofs.Wheels.{sum_same}
 
 pub sum-next : (f : ℕ → ℕ) (n : ℕ) → sum_below f (n + 1) ≡ sum_below f n + f n
 sum-next f n = let next : n + 1 ≡ suc n = omega arith in ap (sum_below f) next
-
-pub sum_same : (f g : ℕ → ℕ) (n : ℕ) → ((j : ℕ) → j < n → f j ≡ g j) → sum_below f n ≡ sum_below g n
-sum_same f g zero same = refl
-sum_same f g (suc n) same = omega (arith, sum_same f g n (λ j h. same j (omega arith)), same n (omega arith))
 
 pub sum_none : (f : ℕ → ℕ) (n : ℕ) → ((j : ℕ) → j < n → f j ≡ 0) → sum_below f n ≡ 0
 sum_none f zero none = refl
@@ -26,12 +23,6 @@ sum_up f g (suc n) x same more h = dite (ℕ_discrete x n)
       subst (λ (m : ℕ). f m ≡ g m + 1) e more,
     ))
     (λ ne. omega (arith, sum_up f g n x same more (omega arith), same n (λ t. ne (sym t))))
-
--- a sum of two
-pub sum_two : (f g h : ℕ → ℕ) (n : ℕ) → ((j : ℕ) → j < n → f j ≤ g j + h j)
-    → sum_below f n ≤ sum_below g n + sum_below h n
-sum_two f g h zero low = omega arith
-sum_two f g h (suc n) low = omega (arith, sum_two f g h n (λ j near. low j (omega arith)), low n (omega arith))
 
 pub sum_most : (f : ℕ → ℕ) (n m : ℕ) → ((j : ℕ) → j < n → f j ≤ m) → sum_below f n ≤ n * m
 sum_most f zero m low = omega arith

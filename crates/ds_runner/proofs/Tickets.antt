@@ -1,5 +1,5 @@
 -- How many tickets passes have, and how many firings a log.
-use Rattle.std.proofs.Common.{◌≡◌, ℕ, ◌+◌, ◌*◌, ◌<◌, ◌≤◌, cond, true, false, Bool, List, [], ◌∷◌, length, get_or, ap}
+use Rattle.std.proofs.Common.{◌≡◌, ℕ, ◌+◌, ◌*◌, ◌<◌, ◌≤◌, true, List, [], ◌∷◌, length, get_or, ap}
 use Rattle.std.proofs.Common.{sym, refl, ◌∙◌, subst, arith, length-append}
 use mathlib.Core.Logic.{dite}
 use native.Mathlib.Decide.{ℕ_discrete}
@@ -7,46 +7,23 @@ use Rattle.ds_rule.specs.Run.{Run, events, node_of, turns}
 use Rattle.ds_rule.specs.Sound.{IsSound}
 use Rattle.ds_rule.specs.Log.{times, IsLegalList, InTurn, Recorded}
 use Rattle.ds_rule.specs.Rule.{holds, tickets, seen, first_view}
-use Rattle.ds_rule.specs.Plays.{after_point, without_cut, only_cut, both}
 use Rattle.ds_rule.specs.declared.view.View.{View}
 use Rattle.ds_rule.proofs.EventLaws.{node-next, event_below, node_below}
-use Rattle.ds_rule.proofs.Lists.{get-listed, replicate-default}
+use Rattle.ds_rule.proofs.Lists.{replicate-default}
 use Rattle.ds_rule.proofs.Logs.{times-here, times-else, length-places}
 use Rattle.ds_fabric.specs.Showing.{IsCounted}
 use Rattle.ds_fabric.specs.Stepped.{Stepped}
 use Rattle.ds_fabric.specs.declared.step.Step.{Step}
 use Rattle.ds_fabric.specs.declared.step.Step.TheVariants.{Fired, NotYet, Done}
-use Rattle.ds_runner.specs.Work.{tickets_below, all_tickets, sum_below}
-use Rattle.ds_runner.proofs.Sums.{sum_same, sum_none, sum_up, sum_two, sum_most}
+use Rattle.ds_turnstile.specs.Turns.{sum_below}
+use Rattle.ds_turnstile.proofs.Wheels.{sum_same}
+use Rattle.ds_runner.specs.Work.{tickets_below, all_tickets}
+use Rattle.ds_runner.proofs.Sums.{sum_none, sum_up, sum_most}
 
 -- before anything fired there are none
 pub blank_first : (run : Run) → all_tickets (first_view run) ≡ 0
 blank_first run = sum_none (λ e. length (tickets (first_view run) e)) (events run)
     (λ e near. ap length (replicate-default (events run) e []))
-
--- a deal leaves both passes what the one had
-pub tickets-dealt : (v w : View) (l : ℕ) → w ≡ only_cut (after_point v l) → all_tickets w ≡ all_tickets v
-tickets-dealt v w l is = ap all_tickets is
-
-pub tickets-left : (v w : View) (l : ℕ) → w ≡ without_cut (after_point v l) → all_tickets w ≡ all_tickets v
-tickets-left v w l is = ap all_tickets is
-
--- of an event a pass has what the one had or what the other had
-one_of : (b : Bool) (xs ys : List ℕ) → length (cond b xs ys) ≤ length ys + length xs
-one_of true xs ys = omega arith
-one_of false xs ys = omega arith
-
-pub tickets_both : (v w : View) → w.run ≡ v.run → all_tickets (both v w) ≤ all_tickets v + all_tickets w
-tickets_both v w same = let n : ℕ = events v.run in omega (
-  arith,
-  sum_two (λ e. length (tickets (both v w) e)) (λ e. length (tickets v e)) (λ e. length (tickets w e)) n
-      (λ e near. omega (
-        arith,
-        ap length (get-listed (λ x. cond (holds w (node_of v.run x)) (tickets w x) (tickets v x)) n e [] near),
-        one_of (holds w (node_of v.run e)) (tickets w e) (tickets v e),
-      )),
-  ap (λ (x : Run). tickets_below w (events x)) same,
-)
 
 -- how often something fires in a step
 abbrev pub fires_in : Step → ℕ

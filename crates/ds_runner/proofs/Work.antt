@@ -1,17 +1,13 @@
--- Lemmas of workers, their shares and their rounds.
+-- Lemmas of passes and rounds.
 use Rattle.std.proofs.Common.{◌≡◌, ℕ, ◌+◌, ◌-◌, ◌*◌, cond, Bool, ◌<◌, ◌≤◌, true, false, List, [], ◌∷◌, ◌++◌, length}
 use Rattle.std.proofs.Common.{get_or, sym, refl, ap, ◌∙◌, subst, arith, le_refl, le_trans, le_of_eq, replicate, ◌||◌, ⊎_elim, inl, inr}
-use Rattle.std.proofs.Common.{sum_by, zero, suc, take, drop, All, get_or-set_other, get_or-set_same, length-append, suc-mul}
+use Rattle.std.proofs.Common.{zero, suc, take, drop, get_or-set_other, get_or-set_same}
 use Rattle.std.proofs.lemmas.List.{length-replicate}
 use Rattle.std.proofs.Math.Seq.{drop-nil}
-use Rattle.std.proofs.lemmas.List.Sums.{sum_by-append, sum_by-cons}
 use Rattle.std.proofs.lemmas.Bool.{false≢true}
 use Rattle.std.proofs.Math.Bool.{or-true, true-or}
 use mathlib.Core.Logic.{dite}
-use native.Mathlib.Decide.{ℕ_discrete, dec_lt}
-use mathlib.Core.Option.{some}
-use lib.ListN.{get_elem?}
-use Rattle.atomic_table.proofs.Lists.{at_longer, at_last}
+use native.Mathlib.Decide.{ℕ_discrete}
 use Rattle.ds_rule.specs.Run.{Run, events, node_of, next, turns, count, Enabled}
 use Rattle.ds_rule.specs.Sound.{IsSound}
 use Rattle.ds_rule.specs.Progress.{IsAccepted, Stuck}
@@ -20,20 +16,19 @@ use Rattle.ds_rule.specs.Plays.{after_point, without_cut, only_cut, both}
 use Rattle.ds_rule.specs.declared.view.View.{View}
 use Rattle.ds_rule.proofs.Progress.{all_done}
 use Rattle.ds_rule.proofs.EventLaws.{node-next, fired_most, event_below}
-use Rattle.ds_rule.proofs.Lists.{at_end, at_below, there_is, at_get, at_or, has_below, get-listed}
+use Rattle.ds_rule.proofs.Lists.{has_below, get-listed}
 use Rattle.ds_fabric.specs.Base.{Base}
 use Rattle.ds_fabric.specs.Showing.{Showing, Belongs, Stays}
 use Rattle.ds_fabric.specs.Stepped.{Stepped}
 use Rattle.ds_fabric.specs.declared.step.Step.{Step}
 use Rattle.ds_fabric.specs.declared.step.Step.TheVariants.{Fired, NotYet, Done}
-use Rattle.ds_runner.specs.Work.{HasBetween, HasFrom, Moved, Drove, DroveFor, IsWorker, AreWorkers, CoverWith, AreHired, many_of}
-use Rattle.ds_runner.specs.Work.{HaveAtMost, all_tickets, sum_below, left, Advances, AdvancesBelow}
-use Rattle.ds_runner.proofs.Sums.{sum_same}
-use Rattle.ds_runner.proofs.Tickets.{tickets_both}
-use Rattle.ds_runner.specs.declared.worker.Worker.{Worker}
+use Rattle.ds_runner.specs.Work.{HasBetween, HasFrom, Moved}
+use Rattle.ds_runner.specs.Work.{left, Advances, AdvancesBelow}
+use Rattle.ds_turnstile.specs.Turns.{sum_below}
+use Rattle.ds_turnstile.proofs.Wheels.{sum_same}
 
 -- what a pass has seen only rises in a step
-steps_up : (run : Run) (v : View) (l : ℕ) (r : Step) (w : View) → Stepped run v l r w → (x : ℕ) → seen v x ≤ seen w x
+pub steps_up : (run : Run) (v : View) (l : ℕ) (r : Step) (w : View) → Stepped run v l r w → (x : ℕ) → seen v x ≤ seen w x
 steps_up run v l (Fired event turn ticket) w s x = s.seen_up x
 steps_up run v l (NotYet arc n) w s x = s.0.seen_up x
 steps_up run v l Done w s x = le_of_eq (ap (λ (y : View). seen y x) (sym s.0))
@@ -72,14 +67,6 @@ step_moves run p q l r s st = record {
   up = steps_up run p.view l r q.view st;
 }
 
-pub drove_further : (w x y : Worker) → Drove w x → Drove x y → Drove w y
-drove_further w x y d e = record {
-  moved = moved_on w.pass x.pass y.pass d.moved e.moved;
-  number = e.number ∙ d.number;
-  first = e.first ∙ d.first;
-  end_ = e.end_ ∙ d.end_;
-}
-
 pub still_belongs : (b : Base) (p q : Showing) → Belongs b p → Moved p q → Belongs b q
 still_belongs b p q h m = record { table = m.table ∙ h.table; run = m.run ∙ h.run; nets = m.nets ∙ h.nets }
 
@@ -94,10 +81,6 @@ pub only_has : (v : View) (node : ℕ) → holds v node ≡ true → holds (only
 only_has v node h = get_or-set_same (replicate (length v.holds) false) node true false
     (omega (arith, length-replicate (length v.holds) false, has_below v.holds node h))
 
-pub only_between : (v : View) (node : ℕ) → holds v node ≡ true → HasBetween (only_cut (after_point v node)) node (node + 1)
-only_between v node h l near far = let e : l ≡ node = omega arith in
-    ap (holds (only_cut (after_point v node))) e ∙ only_has v node h
-
 -- what two passes hold together, of the nodes that are there
 both-holds : (v w : View) (l : ℕ) → l < v.run.nodes → holds (both v w) l ≡ (holds v l || holds w l)
 both-holds v w l near = get-listed (λ x. holds v x || holds w x) v.run.nodes l false near
@@ -108,117 +91,6 @@ first_both v w l near h = both-holds v w l near ∙ (ap (λ b. b || holds w l) h
 pub second_both : (v w : View) (l : ℕ) → l < v.run.nodes → holds w l ≡ true → holds (both v w) l ≡ true
 second_both v w l near h = both-holds v w l near ∙ (ap (λ b. holds v l || b) h ∙ or-true (holds v l))
 
-pub both_between : (v w : View) (first node : ℕ) → node < v.run.nodes → HasBetween v first node → holds w node ≡ true
-    → HasBetween (both v w) first (node + 1)
-both_between v w first node there h h' l near far = dite (ℕ_discrete l node)
-    (λ e. second_both v w l (omega arith) (ap (holds w) e ∙ h'))
-    (λ n. first_both v w l (omega arith) (h l near (omega arith)))
-
--- one worker more
-pub one_more_worker : (b : Base) (ws : List Worker) (w : Worker) {vs : List Worker} → vs ≡ ws ++ w ∷ []
-    → AreHired b ws w.first → IsWorker b w → w.pass.many + w.first ≡ w.end → AreHired b vs w.end
-one_more_worker b ws w is hired one many = subst (λ (zs : List Worker). AreHired b zs w.end) (sym is) (record {
-  are = λ k x there. ⊎_elim (λ old. hired.are k x old) (λ e. subst (IsWorker b) e.1 one) (at_end ws w x k there);
-  cover = λ l h. dite (dec_lt l w.first)
-      (λ near. let r = hired.cover l near in (r.0, r.1, at_longer ws (w ∷ []) r.0 r.1 r.2, r.3))
-      (λ far. (length ws, w, at_last ws w (length ws) refl, one.share l (omega arith) h));
-  sum = omega (arith, sum_by-append many_of ws (w ∷ []), hired.sum, many);
-})
-
--- a worker's pass was taken in
-pub taken_in : (v v' : View) (ws vs : List Worker) (w : Worker) (n : ℕ) → n ≤ v.run.nodes → v' ≡ both v w.pass.view
-    → vs ≡ ws ++ w ∷ [] → CoverWith v vs n → CoverWith v' ws n
-taken_in v v' ws vs w n few is items cover l h = let P : View → Type 0 = λ x. holds x l ≡ true in
-    let there : l < v.run.nodes = omega arith in ⊎_elim
-    (λ t. inl (subst P (sym is) (first_both v w.pass.view l there t)))
-    (λ t. ⊎_elim (λ old. inr (t.0, t.1, old, t.3))
-    (λ new. inl (subst P (sym is)
-    (second_both v w.pass.view l there (ap (λ (x : Worker). holds x.pass.view l) new.1 ∙ t.3))))
-    (at_end ws w t.1 t.0 (subst (λ zs. get_elem? zs t.0 ≡ some t.1) items t.2)))
-    (cover l h)
-
--- and its tickets with it
-pub taken_tickets : (v v' : View) (ws vs : List Worker) (w : Worker) (n total : ℕ) → w.pass.view.run ≡ v.run
-    → v' ≡ both v w.pass.view → vs ≡ ws ++ w ∷ [] → HaveAtMost n vs → all_tickets v + length vs * n ≤ total
-    → HaveAtMost n ws × (all_tickets v' + length ws * n ≤ total)
-taken_tickets v v' ws vs w n total same is items most low =
-    let long : length vs ≡ suc (length ws) = omega (arith, ap length items, length-append ws (w ∷ [])) in
-    let last : get_elem? vs (length ws) ≡ some w =
-    subst (λ zs. get_elem? zs (length ws) ≡ some w) (sym items) (at_last ws w (length ws) refl) in (
-      (λ k x there. most k x (subst (λ zs. get_elem? zs k ≡ some x) (sym items) (at_longer ws (w ∷ []) k x there))),
-      omega (
-        arith,
-        low,
-        ap (λ (m : ℕ). m * n) long,
-        suc-mul (length ws) n,
-        ap all_tickets is,
-        tickets_both v w.pass.view same,
-        most (length ws) w last,
-      ),
-    )
-
--- one more worker that has no more tickets than these
-pub one_more_few : (ws vs : List Worker) (w : Worker) (n : ℕ) → vs ≡ ws ++ w ∷ [] → all_tickets w.pass.view ≤ n
-    → HaveAtMost n ws → HaveAtMost n vs
-one_more_few ws vs w n is one few k x there = ⊎_elim (λ old. few k x old)
-    (λ e. subst (λ (y : Worker). all_tickets y.pass.view ≤ n) e.1 one)
-    (at_end ws w x k (subst (λ zs. get_elem? zs k ≡ some x) is there))
-
--- a worker that drove is a worker still
-drove_on : (b : Base) (w x : Worker) → IsWorker b w → Drove w x → IsWorker b x
-drove_on b w x one d = record {
-  fits = still_belongs b w.pass x.pass one.fits d.moved;
-  share = λ l p q. still_has w.pass x.pass w.first w.end one.share d.moved l
-      (omega (arith, d.first)) (omega (arith, d.end_));
-  near = omega (arith, d.end_, one.near);
-}
-
--- each worker drove on, so they hold what they held
-pub all_drove : (b : Base) (ws vs : List Worker) (n : ℕ) → length vs ≡ length ws
-    → ((i : ℕ) (d : Worker) → i < length ws → Drove (get_or ws i d) (get_or vs i d)) → AreHired b ws n → AreHired b vs n
-all_drove b ws vs n long drove hired = record {
-  are = λ k x there. let near : k < length ws = omega (arith, at_below vs k x there, long) in
-      let w = there_is ws k near in
-      drove_on b w.0 x (hired.are k w.0 w.1) (drove_to ws vs drove k near w.0 w.1 x there);
-  cover = λ l h. let r = hired.cover l h in let near : r.0 < length ws = at_below ws r.0 r.1 r.2 in
-      let x = there_is vs r.0 (omega (arith, long)) in
-      let d = drove_to ws vs drove r.0 near r.1 r.2 x.0 x.1 in
-      (r.0, x.0, x.1, ap (λ hs. get_or hs l false) d.moved.holds_same ∙ r.3);
-  sum = sums ws vs long (λ i d near. (drove i d near).moved.many) ∙ hired.sum;
-}
-  where
-    drove_to : (ws vs : List Worker) → ((i : ℕ) (d : Worker) → i < length ws → Drove (get_or ws i d) (get_or vs i d))
-        → (k : ℕ) → k < length ws → (w : Worker) → get_elem? ws k ≡ some w → (x : Worker) → get_elem? vs k ≡ some x → Drove w x
-    drove_to ws vs drove k near w p x q = subst (λ (y : Worker). Drove w y) (at_get vs k x w q)
-        (subst (λ (y : Worker). Drove y (get_or vs k w)) (at_get ws k w w p) (drove k w near))
-
-    sums : (ws vs : List Worker) → length vs ≡ length ws
-        → ((i : ℕ) (d : Worker) → i < length ws → many_of (get_or vs i d) ≡ many_of (get_or ws i d))
-        → sum_by many_of vs ≡ sum_by many_of ws
-    sums [] [] e h = refl
-    sums [] (v ∷ vs) e h = absurd (omega arith)
-    sums (w ∷ ws) [] e h = absurd (omega arith)
-    sums (w ∷ ws) (v ∷ vs) e h = omega (
-      arith,
-      sum_by-cons many_of w ws,
-      sum_by-cons many_of v vs,
-      h 0 w (omega arith),
-      sums ws vs (omega arith) (λ i d near. h (suc i) d (omega arith)),
-    )
-
--- each worker drove on with at most so many firings
-pub all_drove_for : (most : ℕ) (ws vs : List Worker) → length vs ≡ length ws
-    → ((i : ℕ) (d : Worker) → i < length ws → DroveFor most (get_or ws i d) (get_or vs i d)) → HaveAtMost 0 ws
-    → HaveAtMost most vs
-all_drove_for most ws vs long drove blank k x there = let near : k < length ws = omega (arith, at_below vs k x there, long) in
-    let w = there_is ws k near in
-    let d : DroveFor most w.0 x = subst (λ (y : Worker). DroveFor most w.0 y) (at_get vs k x w.0 there)
-    (subst (λ (y : Worker). DroveFor most y (get_or vs k w.0)) (at_get ws k w.0 w.0 w.1) (drove k w.0 near)) in
-    omega (arith, d.most, blank k w.0 w.1)
-
-pub are_all : (b : Base) (ws : List Worker) → AreWorkers b ws → All (IsWorker b) ws
-are_all b ws are k d h = are k (get_or ws k d) (at_or ws k d h)
-
 -- a whole list written over another of its length
 pub written : {A : Type 0} (n : ℕ) (xs ys : List A) → length ys ≡ n → take n (ys ++ drop (length ys) xs) ≡ ys
 written zero xs [] e = refl
@@ -227,24 +99,6 @@ written (suc n) xs [] e = absurd (omega arith)
 written (suc n) [] (y ∷ ys) e = ap (λ zs. y ∷ zs) (ap (take n) (ap (λ zs. ys ++ zs) (sym (drop-nil (length ys))))
     ∙ written n [] ys (omega arith))
 written (suc n) (x ∷ xs) (y ∷ ys) e = ap (λ zs. y ∷ zs) (written n xs ys (omega arith))
-
--- so many workers that are back: they hold the first n nodes, and none has more tickets than these
-abbrev pub AreBack : Base → ℕ → ℕ → ℕ → List Worker → Type 0
-AreBack b many n most ws = AreHired b ws n × HaveAtMost most ws × (length ws ≡ many)
-
-pub after_drive : (b : Base) (items now new : List Worker) (many n most : ℕ) → now ≡ items → length new ≡ length now
-    → length items ≡ many → ((i : ℕ) (d : Worker) → i < length now → DroveFor most (get_or now i d) (get_or new i d))
-    → AreHired b items n → HaveAtMost 0 items → AreBack b many n most (take many (new ++ drop (length new) items))
-after_drive b items now new many n most is long wide drove hired blank =
-    let P : List Worker → Type 0 = AreBack b many n most in
-    let Q : List Worker → Type 0 = λ zs. (length new ≡ length zs)
-    → ((i : ℕ) (d : Worker) → i < length zs → DroveFor most (get_or zs i d) (get_or new i d)) → P new in
-    subst P (sym (written many items new (long ∙ (ap length is ∙ wide))))
-    (subst Q (sym is) (λ l d. (
-      all_drove b items new n l (λ i w near. (d i w near).drove) hired,
-      all_drove_for most items new l d blank,
-      l ∙ wide,
-    )) long drove)
 
 -- a sum that falls at one place and rises at none
 falls_at : (f g : ℕ → ℕ) (n l : ℕ) → l < n → ((j : ℕ) → g j ≤ f j) → g l < f l → sum_below g n < sum_below f n

@@ -1,6 +1,6 @@
 -- What the workers keep, and what a step of the caller does.
-use Rattle.std.specs.Prelude.{◌≡◌, ℕ, ◌<◌, ◌≤◌, ◌+◌, ◌-◌, ◌*◌, zero, suc, true, false, Bool, List}
-use Rattle.std.specs.Prelude.{sum_by, length, cond, ◌⊎◌, Option, None, Some}
+use Rattle.std.specs.Prelude.{◌≡◌, ℕ, ◌<◌, ◌≤◌, ◌+◌, ◌-◌, ◌*◌, true, false, Bool, List}
+use Rattle.std.specs.Prelude.{All, [], length, vec_capacity, Option, None, Some}
 use mathlib.Core.Option.{some}
 use lib.ListN.{get_elem?}
 use Rattle.ds_rule.specs.Run.{Run, events}
@@ -9,17 +9,11 @@ use Rattle.ds_rule.specs.Progress.{Stuck}
 use Rattle.ds_rule.specs.declared.view.View.{View}
 use Rattle.ds_fabric.specs.Base.{Base}
 use Rattle.ds_fabric.specs.Showing.{Showing, Belongs}
-use Rattle.ds_runner.specs.declared.worker.Worker.{Worker}
+use Rattle.ds_turnstile.specs.Turns.{Alone, HasNone, fabric_of, run_of, base, sum_below}
+use Rattle.ds_turnstile.specs.Shown.{Stile, IsTurnOf}
 use Rattle.ds_runner.specs.declared.budget.Budget.{Budget}
-use Rattle.ds_runner.specs.declared.drive.Round.{Round}
-use Rattle.ds_runner.specs.declared.drive.Round.TheVariants.{Done, Busy, Idle}
-use Rattle.ds_runner.specs.declared.visit.Visited.{Visited}
-use Rattle.ds_runner.specs.declared.visit.Visited.TheVariants.{AllFired, NotReady, Stepped}
-
--- the sum of f over the numbers below n
-abbrev pub sum_below : (ℕ → ℕ) → ℕ → ℕ
-sum_below f zero = 0
-sum_below f (suc n) = sum_below f n + f n
+use Rattle.ds_runner.specs.declared.crew.Crew.{Crew}
+use Rattle.ds_runner.specs.declared.worker.Worker.{Worker}
 
 -- how many tickets a pass has of the events below n: one for each firing of its own
 abbrev pub tickets_below : View → ℕ → ℕ
@@ -28,6 +22,10 @@ tickets_below v n = sum_below (λ e. length (tickets v e)) n
 -- and of all events
 abbrev pub all_tickets : View → ℕ
 all_tickets v = tickets_below v (events v.run)
+
+-- the pass has seen no firing
+abbrev pub IsUnfired : View → Type 0
+IsUnfired v = (l : ℕ) → seen v l ≡ 0
 
 -- the pass holds the nodes from one up to but not including another
 abbrev pub HasBetween : View → ℕ → ℕ → Type 0
@@ -47,67 +45,57 @@ pub record Moved (p q : Showing) : Type 0 where
   pub holds_same : q.view.holds ≡ p.view.holds
   pub up : (l : ℕ) → seen p.view l ≤ seen q.view l
 
--- a worker after steps: its share is as it was
-pub record Drove (w x : Worker) : Type 0 where
-  pub moved : Moved w.pass x.pass
-  pub number : x.number ≡ w.number
-  pub first : x.first ≡ w.first
-  pub end_ : x.end ≡ w.end
+-- bare passes of the fabric, the l-th of which holds node l alone
+abbrev pub AreSingle : Base → List Showing → Type 0
+AreSingle b ps = (l : ℕ) (p : Showing) → get_elem? ps l ≡ some p → Alone b.table_id b.run l p
 
--- the same, with at most so many firings more
-pub record DroveFor (quota : ℕ) (w x : Worker) : Type 0 where
-  pub drove : Drove w x
-  pub most : all_tickets x.pass.view ≤ all_tickets w.pass.view + quota
+-- the turnstile has a pass of the fabric for each node
+pub record Fits (b : Base) (s : Stile) : Type 0 where
+  pub fabric_is : fabric_of s.given ≡ b.table_id
+  pub run_is : run_of s.given ≡ b.run
+  pub long : length s.given ≡ b.run.nodes
 
--- a worker of the fabric holds its share
-pub record IsWorker (b : Base) (w : Worker) : Type 0 where
-  pub fits : Belongs b w.pass
-  pub share : HasBetween w.pass.view w.first w.end
-  pub near : w.end ≤ b.run.nodes
+-- a worker between two visits: it has one part and no node out, and a row of the fabric's length
+pub record IsWorker (b : Base) (s : Stile) (w : Worker) : Type 0 where
+  pub belongs : IsTurnOf s w.turn
+  pub none : HasNone w.turn.view
+  pub one : w.turn.view.parts ≡ 1
+  pub row : w.scratch ≡ b.nets
 
--- all are workers of the fabric
-abbrev pub AreWorkers : Base → List Worker → Type 0
-AreWorkers b ws = (k : ℕ) (w : Worker) → get_elem? ws k ≡ some w → IsWorker b w
+-- the same, and it has fired at most so often
+pub record IsWithin (b : Base) (s : Stile) (most : ℕ) (w : Worker) : Type 0 where
+  pub worker : IsWorker b s w
+  pub few : w.turn.view.made ≤ most
 
--- how many nodes a worker has
-abbrev pub many_of : Worker → ℕ
-many_of w = w.pass.many
+-- how often a worker has fired
+abbrev pub made_of : Worker → ℕ
+made_of w = w.turn.view.made
 
--- no worker has more tickets than these
-abbrev pub HaveAtMost : ℕ → List Worker → Type 0
-HaveAtMost n ws = (k : ℕ) (w : Worker) → get_elem? ws k ≡ some w → all_tickets w.pass.view ≤ n
+-- workers who together with the turn that is left have all parts, and no node is out; the passes
+-- were given before anything fired
+pub record IsCrew (b : Base) (c : Crew) : Type 0 where
+  pub fits : Fits b c.gear.stile
+  pub belongs : IsTurnOf c.gear.stile c.turn
+  pub none : HasNone c.turn.view
+  pub made : c.turn.view.made ≡ 0
+  pub unfired : base 0 c.gear.stile.given ≡ 0
+  pub parts : c.turn.view.parts + length c.workers.items ≡ c.gear.stile.turns
+  pub are : All (IsWorker b c.gear.stile) c.workers.items
+  pub some_workers : 0 < length c.workers.items
+  pub empty : c.passes.items ≡ []
+  pub room : length c.gear.stile.given ≤ vec_capacity c.passes
 
--- each node below n is held by some worker
-abbrev pub CoverBelow : List Worker → ℕ → Type 0
-CoverBelow ws n = (l : ℕ) → l < n → (k : ℕ) × (w : Worker) × (get_elem? ws k ≡ some w)
-    × (holds w.pass.view l ≡ true)
+-- fewer looks are left, and as many takes and firings
+abbrev pub Waits : Budget → Budget → Type 0
+Waits old new = (new.looks < old.looks) × (new.takes ≡ old.takes) × (new.firings ≡ old.firings)
 
--- the workers hold the first n nodes and no other
-pub record AreHired (b : Base) (ws : List Worker) (n : ℕ) : Type 0 where
-  pub are : AreWorkers b ws
-  pub cover : CoverBelow ws n
-  pub sum : sum_by many_of ws ≡ n
-
--- a pass of the fabric that holds a share, before anything fired
-pub record IsShared (b : Base) (first end_ : ℕ) (p : Showing) : Type 0 where
-  pub fits : Belongs b p
-  pub has : HasBetween p.view first end_
-  pub many : p.many + first ≡ end_
-  pub blank : all_tickets p.view ≡ 0
-
--- what is left of a pass from which a share was dealt, before anything fired
+-- what is left of a pass from which nodes were dealt, before anything fired
 pub record IsLent (b : Base) (old : Showing) (first end_ : ℕ) (p : Showing) : Type 0 where
   pub fits : Belongs b p
   pub has : HasFrom p.view end_
   pub many : p.many + end_ ≡ old.many + first
   pub room : p.room ≡ old.room
-  pub blank : all_tickets p.view ≡ 0
-
--- each node below n is held by the pass or by some worker
-abbrev pub CoverWith : View → List Worker → ℕ → Type 0
-CoverWith v ws n = (l : ℕ) → l < n
-    → (holds v l ≡ true) ⊎ ((k : ℕ) × (w : Worker) × (get_elem? ws k ≡ some w)
-    × (holds w.pass.view l ≡ true))
+  pub unfired : IsUnfired p.view
 
 -- how often a worker fires at most: without a quota more often than a run has firings
 abbrev pub quota_of : Option ℕ → ℕ
@@ -118,22 +106,6 @@ quota_of (Some quota) = quota
 abbrev pub IsRest : Option ℕ → ℕ → ℕ → Type 0
 IsRest None fired n = n ≡ 18446744073709551615
 IsRest (Some quota) fired n = n ≡ quota - fired
-
--- a budget that has steps has firings too
-abbrev pub HasFirings : Budget → Type 0
-HasFirings b = 0 < b.steps → 0 < b.firings
-
--- how many firings there were in a visit to a node
-abbrev pub fired_in : Visited → ℕ
-fired_in AllFired = 0
-fired_in NotReady = 0
-fired_in (Stepped fired) = cond fired 1 0
-
--- what a round takes of a budget: nothing, unless there was a step
-abbrev pub Spent : Budget → Budget → Round → Type 0
-Spent old new Busy = (new.steps < old.steps) × (new.looks ≡ old.looks)
-Spent old new Done = new ≡ old
-Spent old new Idle = new ≡ old
 
 -- at least the firings that are left
 abbrev pub left : Run → View → ℕ

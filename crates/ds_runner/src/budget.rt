@@ -1,33 +1,31 @@
-ghost use Rattle.std.specs.Prelude.{◌≡◌, ◌<◌, ◌+◌, ℕ, cond};
-ghost use Rattle.ds_runner.specs.Work.{HasFirings};
+ghost use Rattle.std.specs.Prelude.{◌≡◌, ◌<◌, ◌+◌, cond};
 
-/// How long a worker goes on. Without steps it has ended.
+/// How many workers there are, and how long each of them goes on.
 #[derive(Clone, Copy)]
 pub struct Budget {
-    /// The most steps.
-    pub steps: u64,
-    /// The most looks at nodes in rounds without a step.
-    pub looks: u64,
-    /// The most steps that fire.
+    pub workers: u32,
+    /// The most takes.
+    pub takes: u64,
+    /// The most firings.
     pub firings: u64,
+    /// The most looks at nodes in rounds without a take.
+    pub looks: u64,
+    /// The most rounds without a take in a row.
+    pub dry: u64,
 }
 
 impl Budget {
-    /// Takes off a step, and a firing where it fired. After the last firing no steps are left.
+    /// Takes off a take, and a firing where the node fired.
     pub fn take(&mut self, fired: bool)
-        requires steps { 0 < self.old.steps }
-        requires open { HasFirings self.old }
-        ensures steps { self.new.steps < self.old.steps }
+        requires takes { 0 < self.old.takes }
+        requires firings { 0 < self.old.firings }
+        ensures takes { self.new.takes < self.old.takes }
         ensures looks { self.new.looks ≡ self.old.looks }
         ensures firings { self.new.firings + cond fired 1 0 ≡ self.old.firings }
-        ensures open { HasFirings self.new }
     {
-        self.steps -= 1;
+        self.takes -= 1;
         if fired {
             self.firings -= 1;
-            if self.firings == 0 {
-                self.steps = 0;
-            }
         }
     }
 }

@@ -1,16 +1,13 @@
-//! What the caller does when the workers are back: it takes their passes in and fires what is left,
-//! alone.
-ghost use Rattle.std.specs.Prelude.{◌≡◌, ◌<◌, ◌≤◌, ◌+◌, ◌*◌, ℕ, cond, length, sum_by};
+//! What the caller does when all passes are back: it fires what is left, alone.
+ghost use Rattle.std.specs.Prelude.{◌≡◌, ◌<◌, ◌≤◌, ◌+◌, ℕ, cond};
 ghost use Rattle.ds_rule.specs.Run.{node_of, count};
 ghost use Rattle.ds_rule.specs.Rule.{seen};
 ghost use Rattle.ds_rule.specs.Sound.{IsSound};
 ghost use Rattle.ds_rule.specs.Progress.{IsAccepted};
 ghost use Rattle.ds_fabric.specs.Showing.{Belongs};
-ghost use Rattle.ds_runner.specs.Work.{HasFrom, HasBetween, Moved, AreWorkers, CoverBelow, many_of};
-ghost use Rattle.ds_runner.specs.Work.{Advances, AdvancesBelow, HaveAtMost, all_tickets};
+ghost use Rattle.ds_runner.specs.Work.{HasFrom, Moved, Advances, AdvancesBelow, all_tickets};
 
 use crate::unit::unit;
-use crate::worker::Worker;
 use ds_fabric::{Compute, Fabric, Pass, Step};
 use ds_outside::Gate;
 use ds_rule::{Layout, Rows};
@@ -20,32 +17,6 @@ use ds_rule::{Layout, Rows};
 pub struct Caller {
     pub number: u32,
     pub rest: u64,
-}
-
-/// Takes the workers' passes in.
-pub fn collect<J: Rows, C: Compute>(
-    fabric: &Fabric<'_, J, C>,
-    pass: &mut Pass,
-    mut workers: Vec<Worker>,
-)
-    requires fits { Belongs fabric.now pass.old }
-    requires workers { AreWorkers fabric.now workers.items }
-    requires room { pass.old.many + sum_by many_of workers.items ≤ pass.old.room }
-    ensures fits { Belongs fabric.now pass.new }
-    ensures all { (n : ℕ) → n ≤ fabric.now.run.nodes → CoverBelow workers.items n
-        → HasBetween pass.new.view 0 n }
-    ensures most { (n : ℕ) → HaveAtMost n workers.items
-        → all_tickets pass.new.view ≤ all_tickets pass.old.view + length workers.items * n }
-{
-    'taking: while let Some(worker) = workers.pop() {
-        let Worker {
-            number: _,
-            first: _,
-            end: _,
-            pass: other,
-        } = worker;
-        fabric.gather(pass, other);
-    }
 }
 
 /// Fires each event as often as it may, with a pass that holds all nodes, until the caller has

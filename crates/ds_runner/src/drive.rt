@@ -1,105 +1,93 @@
-//! A worker at work: rounds over the nodes of its share, until all are done or its budget is used
-//! up.
-ghost use Rattle.std.specs.Prelude.{◌≡◌, ◌<◌, ◌≤◌, ◌+◌, ℕ};
-ghost use Rattle.ds_rule.specs.Sound.{IsSound};
-ghost use Rattle.ds_fabric.specs.Showing.{Belongs};
-ghost use Rattle.ds_runner.specs.Work.{HasBetween, Drove, DroveFor, HasFirings, Spent, all_tickets};
-ghost use Rattle.ds_runner.specs.declared.budget.Budget.{Budget};
+//! A worker at work: visits to nodes that seem due, until all is done, its budget is used up, or it
+//! found nothing for long.
+ghost use Rattle.std.specs.Prelude.{◌≡◌, ◌<◌, ◌+◌, IsTrue, MatchOption, cond};
+ghost use Rattle.ds_runner.specs.Work.{Fits, IsWorker, IsWithin, Waits};
 
 use crate::budget::Budget;
-use crate::visit::{Visited, visit};
+use crate::gear::Gear;
+use crate::search::search;
+use crate::site::Site;
+use crate::targets::tell_targets;
+use crate::visit::visit;
 use crate::worker::Worker;
-use ds_fabric::{Compute, Fabric};
+use ds_fabric::Compute;
 use ds_outside::Gate;
-use ds_rule::{Layout, Rows};
+use ds_rule::Rows;
 use std::hint::spin_loop;
+use std::thread;
 
-/// What a worker got of a round over its nodes.
-#[derive(Clone, Copy)]
-pub enum Round {
-    /// All is done.
-    Done,
-    /// There was a step.
-    Busy,
-    /// Nothing is ready.
-    Idle,
-}
+// Each so manieth round without a take in a row lets others go first.
+const YIELDS: u64 = 16;
 
-/// Goes through the nodes of a share again and again, for so many steps and firings at most, and
-/// for so many looks in rounds without a step.
+/// Visits one node after another, within the budget.
 pub fn drive<J: Rows, C: Compute, G: Gate>(
-    fabric: &Fabric<'_, J, C>,
-    run: &Layout<J>,
+    site: &Site<'_, '_, J, C, G>,
+    gear: &Gear,
     worker: &mut Worker,
     budget: Budget,
-    gate: &G,
 )
-    requires run { (run.now ≡ fabric.now.run) × IsSound run.now }
-    requires fits { Belongs fabric.now worker.old.pass }
-    requires share { HasBetween worker.old.pass.view worker.old.first worker.old.end }
-    requires near { worker.old.end ≤ run.now.nodes }
-    requires open { HasFirings budget }
-    ensures { DroveFor budget.firings worker.old worker.new }
+    requires fits { Fits site.now gear.now.stile }
+    requires worker { IsWithin site.now gear.now.stile 0 worker.old }
+    ensures { IsWithin site.now gear.now.stile budget.firings worker.new }
 {
     let mut left = budget;
-    'rounds: while left.steps > 0 {
-        match go_round(fabric, run, worker, &mut left, gate) {
-            Round::Done => return,
-            Round::Busy => {}
-            Round::Idle => {
-                let taken = worker.end.saturating_sub(worker.first) as u64;
-                if left.looks <= taken {
-                    return;
-                }
-                left.looks -= taken + 1;
-                spin_loop();
-            }
+    'visits: while left.takes > 0 && left.firings > 0 {
+        if let Some(fired) = visit_next(site, gear, worker) {
+            left.take(fired);
+            left.dry = budget.dry;
+        } else if !wait(site, worker, budget, &mut left) {
+            return;
         }
     }
 }
 
-// Goes through the nodes of a share once.
-fn go_round<J: Rows, C: Compute, G: Gate>(
-    fabric: &Fabric<'_, J, C>,
-    run: &Layout<J>,
+// Visits the next node that seems due, and says whether it fired. None: no node seems due.
+fn visit_next<J: Rows, C: Compute, G: Gate>(
+    site: &Site<'_, '_, J, C, G>,
+    gear: &Gear,
     worker: &mut Worker,
-    left: &mut Budget,
-    gate: &G,
-) -> Round
-    requires run { (run.now ≡ fabric.now.run) × IsSound run.now }
-    requires fits { Belongs fabric.now worker.old.pass }
-    requires share { HasBetween worker.old.pass.view worker.old.first worker.old.end }
-    requires near { worker.old.end ≤ run.now.nodes }
-    requires left { (0 < left.old.steps) × HasFirings left.old }
-
-    ensures drove { Drove worker.old worker.new }
-    ensures fired { all_tickets worker.new.pass.view + left.new.firings
-        ≡ all_tickets worker.old.pass.view + left.old.firings }
-    ensures left { Spent left.old left.new result × HasFirings left.new }
+) -> Option<bool>
+    requires fits { Fits site.now gear.now.stile }
+    requires worker { IsWorker site.now gear.now.stile worker.old }
+    ensures worker { IsWorker site.now gear.now.stile worker.new }
+    ensures made { MatchOption result (worker.new.turn.view.made ≡ worker.old.turn.view.made)
+        (λ fired. worker.new.turn.view.made ≡ worker.old.turn.view.made + cond fired 1 0) }
 {
-    let mut round = Round::Done;
-    'nodes: for node in worker.first..worker.end {
-        if left.steps == 0 {
-            break;
-        }
-        match visit(fabric, run, worker, node, gate) {
-            Visited::AllFired => {}
-            Visited::NotReady => round = idle(round),
-            Visited::Stepped(fired) => {
-                left.take(fired);
-                round = Round::Busy;
-            }
-        }
+    let Some(node) = search(site, gear, worker.number, &mut worker.trail) else {
+        return None;
+    };
+    let Some(event) = visit(site, gear, worker, node) else {
+        return Some(false);
+    };
+    if !worker.trail.soon {
+        tell_targets(site, gear, &mut worker.trail.hints, event);
     }
-    round
+    Some(true)
 }
 
-// The round, once a node was not ready.
-fn idle(round: Round) -> Round
-    ensures { (old new : Budget) → Spent old new round → Spent old new result }
+// Passes some time after a look at all nodes. False: the worker ends.
+fn wait<J: Rows, C: Compute, G: Gate>(
+    site: &Site<'_, '_, J, C, G>,
+    worker: &Worker,
+    budget: Budget,
+    left: &mut Budget,
+) -> bool
+    ensures { IsTrue result → Waits left.old left.new }
 {
-    match round {
-        Round::Busy => Round::Busy,
-        Round::Done | Round::Idle => Round::Idle,
+    let looks = worker
+        .trail
+        .part
+        .count()
+        .saturating_add(worker.trail.all.count()) as u64;
+    if left.dry == 0 || left.looks <= looks || site.fabric.seems_over() {
+        return false;
     }
+    left.looks -= looks + 1;
+    left.dry -= 1;
+    if budget.dry.saturating_sub(left.dry) % YIELDS == 0 {
+        thread::yield_now();
+    } else {
+        spin_loop();
+    }
+    true
 }

@@ -1,89 +1,144 @@
-//! Workers made: the nodes are dealt in equal shares.
-ghost use Rattle.std.specs.Prelude.{◌≡◌, ◌<◌, ◌≤◌, ◌+◌, ◌*◌, ◌/◌, ℕ, IfOk, OnOk, sum_by, length};
-ghost use Rattle.ds_rule.specs.Sound.{IsSound};
+//! Workers made: each node gets a pass of its own, the turnstile takes these, and each worker gets
+//! a turn. All memory that workers need is taken here.
+ghost use Rattle.std.specs.Prelude.{◌≡◌, ◌<◌, ◌≤◌, ◌+◌, IfOk, OnOk, All, length};
+ghost use Rattle.std.specs.Prelude.{vec_capacity};
 ghost use Rattle.ds_fabric.specs.Showing.{Belongs};
-ghost use Rattle.ds_runner.specs.Work.{HasFrom, HasBetween, IsShared, IsLent, AreHired};
-ghost use Rattle.ds_runner.specs.Work.{HaveAtMost, all_tickets};
+ghost use Rattle.ds_turnstile.specs.Turns.{HasNone, base};
+ghost use Rattle.ds_turnstile.specs.Shown.{IsTurnOf};
+ghost use Rattle.ds_runner.specs.Work.{HasFrom, IsLent, AreSingle, Fits, IsWithin, IsCrew};
+ghost use Rattle.ds_runner.specs.Work.{IsUnfired};
 
+use crate::crew::Crew;
+use crate::gear::Gear;
+use crate::hints::Hints;
+use crate::ring::Ring;
+use crate::site::Site;
+use crate::targets::arcs_from;
+use crate::trail::Trail;
 use crate::worker::Worker;
+use crossbeam_deque::Stealer;
 use ds_base::{LatchId, OutOfMemory};
-use ds_fabric::{Compute, Fabric, Pass};
-use ds_rule::{Layout, Rows};
+use ds_fabric::{Compute, Pass};
+use ds_outside::Gate;
+use ds_rule::Rows;
+use ds_turnstile::{Turn, Turnstile};
 use std::alloc::Global;
 
-/// Deals equal shares of the nodes to so many workers, but for those whose share would be empty.
-pub fn hire<J: Rows, C: Compute>(
+/// So many workers, with a turn more for the caller. The pass is left without nodes.
+pub fn hire<J: Rows, C: Compute, G: Gate>(
     alloc: Global,
-    fabric: &Fabric<'_, J, C>,
-    run: &Layout<J>,
+    site: &Site<'_, '_, J, C, G>,
     pass: &mut Pass,
-    jobs: u32,
-) -> Result<Vec<Worker>, OutOfMemory>
-    requires run { (run.now ≡ fabric.now.run) × IsSound run.now }
-    requires fits { Belongs fabric.now pass.old }
-    requires jobs { (0 < jobs) × (jobs ≤ 64) }
+    count: u32,
+) -> Result<Crew, OutOfMemory>
+    requires fits { Belongs site.now pass.old }
     requires has { HasFrom pass.old.view 0 }
-    requires blank { all_tickets pass.old.view ≡ 0 }
+    requires unfired { IsUnfired pass.old.view }
+    requires count { (0 < count) × (count ≤ 64) × (0 < site.now.run.nodes) }
 
-    ensures ok { IfOk result (λ workers. AreHired fabric.now workers.items run.now.nodes) }
-    ensures ok_few { IfOk result (λ workers. length workers.items ≤ jobs) }
-    ensures ok_blank { IfOk result (λ workers. HaveAtMost 0 workers.items) }
-    ensures ok_lent { OnOk result (IsLent fabric.now pass.old 0 run.now.nodes pass.new) }
+    ensures ok { IfOk result (IsCrew site.now) }
+    ensures ok_workers { IfOk result (λ c. (length c.workers.items ≡ count)
+        × All (IsWithin site.now c.gear.stile 0) c.workers.items) }
+    ensures ok_lent { OnOk result (IsLent site.now pass.old 0 site.now.run.nodes pass.new) }
 {
-    let nodes = run.nodes();
-    let mut workers = Vec::with_capacity(alloc, jobs as usize)?;
-    let mut first = 0;
-    'hiring: for number in 0..jobs {
-        let end = border(nodes, number + 1, jobs);
-        if first < end {
-            let own = share(alloc, fabric, run, pass, first, end)?;
-            workers.push(Worker {
-                number,
-                first,
-                end,
-                pass: own,
-            })?;
-        }
-        first = end;
+    let arcs_from = arcs_from(alloc, site.run)?;
+    let mut passes = deal_all(alloc, site, pass)?;
+    let (stile, mut turn) = Turnstile::build(alloc, &mut passes, count + 1)?;
+    let workers = enlist(alloc, site, &stile, &mut turn, count)?;
+    let stealers = stealers_of(alloc, &workers)?;
+    let gear = Gear {
+        stile,
+        stealers,
+        arcs_from,
+    };
+    Ok(Crew {
+        gear,
+        turn,
+        workers,
+        passes,
+    })
+}
+
+// A bare pass for each node, in order.
+fn deal_all<J: Rows, C: Compute, G: Gate>(
+    alloc: Global,
+    site: &Site<'_, '_, J, C, G>,
+    pass: &mut Pass,
+) -> Result<Vec<Pass>, OutOfMemory>
+    requires fits { Belongs site.now pass.old }
+    requires has { HasFrom pass.old.view 0 }
+    requires unfired { IsUnfired pass.old.view }
+
+    ensures ok_unfired { IfOk result (λ v. base 0 v.items ≡ 0) }
+    ensures ok { IfOk result (λ v. AreSingle site.now v.items
+        × (length v.items ≡ site.now.run.nodes) × (site.now.run.nodes ≤ vec_capacity v)) }
+    ensures ok_lent { OnOk result (IsLent site.now pass.old 0 site.now.run.nodes pass.new) }
+{
+    let nodes = site.run.nodes();
+    let mut passes = Vec::with_capacity(alloc, nodes)?;
+    'dealing: for node in 0..nodes {
+        let one = site
+            .fabric
+            .deal_bare(alloc, pass, LatchId::new(node as u32))?;
+        passes.push_reserved(one);
+    }
+    Ok(passes)
+}
+
+// So many workers, each with a turn; one part is left.
+fn enlist<J: Rows, C: Compute, G: Gate>(
+    alloc: Global,
+    site: &Site<'_, '_, J, C, G>,
+    stile: &Turnstile,
+    turn: &mut Turn,
+    count: u32,
+) -> Result<Vec<Worker>, OutOfMemory>
+    requires count { (0 < count) × (count ≤ 64) }
+    requires fits { Fits site.now stile.now × IsTurnOf stile.now turn.old }
+    requires turn { HasNone turn.old.view × (turn.old.view.parts ≡ count + 1) }
+    requires made { turn.old.view.made ≡ 0 }
+
+    ensures ok { IfOk result (λ v. All (IsWithin site.now stile.now 0) v.items
+        × (length v.items ≡ count)) }
+    ensures ok_turn { OnOk result (IsTurnOf stile.now turn.new × HasNone turn.new.view
+        × (turn.new.view.parts ≡ 1) × (turn.new.view.made ≡ 0)) }
+{
+    let mut workers = Vec::with_capacity(alloc, count as usize)?;
+    'hiring: for number in 0..count {
+        let scratch = site.fabric.scratch(alloc)?;
+        let trail = trail_of(alloc, site.run.nodes(), number, count)?;
+        let own = stile.split(turn);
+        workers.push_reserved(Worker {
+            number,
+            turn: own,
+            scratch,
+            trail,
+        });
     }
     Ok(workers)
 }
 
-// Where the shares of the first so many workers end.
-fn border(nodes: usize, count: u32, jobs: u32) -> usize
+// Where a worker looks: its part are the nodes from its number on, of so many equal parts.
+fn trail_of(alloc: Global, nodes: usize, number: u32, count: u32) -> Result<Trail, OutOfMemory>
     requires few { nodes < 2147483648 }
-    requires jobs { (count ≤ jobs) × (0 < jobs) × (jobs ≤ 64) }
-    ensures value { result ≡ count * nodes / jobs }
-    ensures within { result ≤ nodes }
-    ensures last { count ≡ jobs → result ≡ nodes }
-    ensures rises { (c : ℕ) → c ≤ count → c * nodes / jobs ≤ result }
+    requires among { (number < count) × (count ≤ 64) }
 {
-    count as usize * nodes / jobs as usize
+    let hints = Hints::of(alloc)?;
+    let first = number as usize * nodes / count as usize;
+    let end = (number as usize + 1) * nodes / count as usize;
+    Ok(Trail {
+        hints,
+        part: Ring::over(first, end),
+        all: Ring::over(0, nodes),
+        soon: false,
+    })
 }
 
-// A pass of its own for a share of the nodes.
-fn share<J: Rows, C: Compute>(
-    alloc: Global,
-    fabric: &Fabric<'_, J, C>,
-    run: &Layout<J>,
-    pass: &mut Pass,
-    first: usize,
-    end: usize,
-) -> Result<Pass, OutOfMemory>
-    requires run { (run.now ≡ fabric.now.run) × IsSound run.now }
-    requires fits { Belongs fabric.now pass.old }
-    requires share { (first < end) × (end ≤ run.now.nodes) }
-    requires has { HasFrom pass.old.view first }
-    requires blank { all_tickets pass.old.view ≡ 0 }
-
-    ensures ok { IfOk result (IsShared fabric.now first end) }
-    ensures ok_lent { OnOk result (IsLent fabric.now pass.old first end pass.new) }
-{
-    let room = (end - first) as u32;
-    let mut own = fabric.deal(alloc, pass, LatchId::new(first as u32), room)?;
-    'dealing: for node in first + 1..end {
-        let one = fabric.deal(alloc, pass, LatchId::new(node as u32), 1)?;
-        fabric.gather(&mut own, one);
+// A handle to steal from each worker's hints.
+fn stealers_of(alloc: Global, workers: &[Worker]) -> Result<Vec<Stealer<u32>>, OutOfMemory> {
+    let mut stealers = Vec::with_capacity(alloc, workers.len())?;
+    for i in 0..workers.len() {
+        stealers.push(workers[i].trail.hints.stealer()?)?;
     }
-    Ok(own)
+    Ok(stealers)
 }

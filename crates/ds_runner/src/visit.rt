@@ -1,55 +1,72 @@
-//! One visit of a worker to a node of its share.
-ghost use Rattle.std.specs.Prelude.{◌≡◌, ◌<◌, ◌≤◌, ◌+◌, ℕ};
-ghost use Rattle.ds_rule.specs.Sound.{IsSound};
-ghost use Rattle.ds_fabric.specs.Showing.{Belongs};
-ghost use Rattle.ds_runner.specs.Work.{HasBetween, Drove, all_tickets, fired_in};
+//! One visit to a node: its pass is taken, stepped once, and given back.
+ghost use Rattle.std.specs.Prelude.{◌≡◌, ◌<◌, ◌≤◌, ◌+◌, MatchOption};
+ghost use Rattle.ds_rule.specs.Rule.{seen};
+ghost use Rattle.ds_turnstile.specs.Turns.{Alone};
+ghost use Rattle.ds_runner.specs.Work.{Fits, IsWorker};
 
+use crate::gear::Gear;
+use crate::site::Site;
 use crate::unit::arrive;
 use crate::worker::Worker;
 use ds_base::LatchId;
-use ds_fabric::{Compute, Fabric, Step};
+use ds_fabric::{Compute, Pass, Scratch, Step};
 use ds_outside::Gate;
-use ds_rule::{Layout, Rows};
+use ds_rule::Rows;
 
-/// What a worker got of a visit to a node.
-#[derive(Clone, Copy)]
-pub enum Visited {
-    /// Each event of the node has fired as often as it may.
-    AllFired,
-    /// The node does not seem ready.
-    NotReady,
-    /// There was a step, and whether it fired.
-    Stepped(bool),
-}
-
-/// Steps a node of the share if it seems ready.
+/// Takes the pass of the node, steps it once and gives it back. The event that fired, if there is
+/// one.
 pub fn visit<J: Rows, C: Compute, G: Gate>(
-    fabric: &Fabric<'_, J, C>,
-    run: &Layout<J>,
+    site: &Site<'_, '_, J, C, G>,
+    gear: &Gear,
     worker: &mut Worker,
     node: usize,
-    gate: &G,
-) -> Visited
-    requires run { (run.now ≡ fabric.now.run) × IsSound run.now }
-    requires fits { Belongs fabric.now worker.old.pass }
-    requires share { HasBetween worker.old.pass.view worker.old.first worker.old.end }
-    requires among { (worker.old.first ≤ node) × (node < worker.old.end) }
-    requires near { worker.old.end ≤ run.now.nodes }
+) -> Option<usize>
+    requires fits { Fits site.now gear.now.stile }
+    requires worker { IsWorker site.now gear.now.stile worker.old }
+    requires near { node < site.now.run.nodes }
 
-    ensures drove { Drove worker.old worker.new }
-    ensures fired { all_tickets worker.new.pass.view
-        ≡ all_tickets worker.old.pass.view + fired_in result }
+    ensures worker { IsWorker site.now gear.now.stile worker.new }
+    ensures made { MatchOption result (worker.new.turn.view.made ≡ worker.old.turn.view.made)
+        (λ _. worker.new.turn.view.made ≡ worker.old.turn.view.made + 1) }
 {
-    if !arrive(run, &worker.pass, worker.number, node, gate) {
-        return Visited::AllFired;
-    }
+    // A layout has fewer nodes than a `u32` counts.
+    let _nodes = site.run.nodes();
     let latch = LatchId::new(node as u32);
-    if !fabric.seems_ready(&worker.pass, latch) {
-        return Visited::NotReady;
+    let Some(mut pass) = gear.stile.take(&mut worker.turn, latch) else {
+        return None;
+    };
+    let fired = step_once(site, &mut pass, worker.number, node, &mut worker.scratch);
+    gear.stile.give(&mut worker.turn, latch, pass);
+    fired
+}
+
+// Steps the node once, unless it is done, and pauses at the gate before it. The event that fired,
+// if there is one.
+fn step_once<J: Rows, C: Compute, G: Gate>(
+    site: &Site<'_, '_, J, C, G>,
+    pass: &mut Pass,
+    number: u32,
+    node: usize,
+    scratch: &mut Scratch,
+) -> Option<usize>
+    requires near { node < site.now.run.nodes }
+    requires alone { Alone site.now.table_id site.now.run node pass.old }
+    requires row { scratch.old ≡ site.now.nets }
+
+    ensures alone { Alone site.now.table_id site.now.run node pass.new }
+    ensures up { seen pass.old.view node ≤ seen pass.new.view node }
+    ensures fired { MatchOption result (seen pass.new.view node ≡ seen pass.old.view node)
+        (λ _. seen pass.new.view node ≡ seen pass.old.view node + 1) }
+    ensures row { scratch.new ≡ scratch.old }
+{
+    if !arrive(site.run, pass, number, node, site.gate) {
+        return None;
     }
-    match fabric.step(&mut worker.pass, latch) {
-        Step::Fired { .. } => Visited::Stepped(true),
-        Step::NotYet { .. } => Visited::Stepped(false),
-        Step::Done => Visited::Stepped(false),
+    match site
+        .fabric
+        .step_in(pass, LatchId::new(node as u32), scratch)
+    {
+        Step::Fired { event, .. } => Some(event.index()),
+        Step::NotYet { .. } | Step::Done => None,
     }
 }

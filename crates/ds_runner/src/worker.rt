@@ -1,10 +1,12 @@
-use ds_fabric::Pass;
+use crate::trail::Trail;
+use ds_fabric::Scratch;
+use ds_turnstile::Turn;
 
-/// A worker with its share of the nodes, from `first` up to but not including `end`.
+/// A worker: its number, its turn, its row to work in, and where it looks for nodes.
 #[derive(Drop)]
 pub struct Worker {
     pub number: u32,
-    pub first: usize,
-    pub end: usize,
-    pub pass: Pass,
+    pub turn: Turn,
+    pub scratch: Scratch,
+    pub trail: Trail,
 }

@@ -1,20 +1,25 @@
 //! The top call: a run by workers. Threads may fail to start and workers may give up; the caller
 //! completes the run.
-ghost use Rattle.std.specs.Prelude.{◌≡◌, ◌<◌, ◌≤◌, ◌+◌, ℕ, IfOk, All, length, slice_index_or};
+ghost use Rattle.std.specs.Prelude.{◌≡◌, ◌<◌, ◌≤◌, ◌+◌, ◌*◌, ℕ, IfOk, OnOk, All, length};
+ghost use Rattle.std.specs.Prelude.{slice_index_or};
 ghost use Rattle.ds_rule.specs.Sound.{IsSound};
 ghost use Rattle.ds_rule.specs.Progress.{IsAccepted};
-ghost use Rattle.ds_runner.specs.Work.{DroveFor, IsWorker, HasFirings, quota_of};
+ghost use Rattle.ds_fabric.specs.Showing.{Belongs};
+ghost use Rattle.ds_runner.specs.Work.{HasFrom, Fits, IsWithin, IsUnfired, all_tickets, quota_of};
 ghost use Rattle.ds_runner.specs.Stopped.{IsRun};
 ghost use Rattle.ds_runner.specs.declared.worker.Worker.{Worker};
 
 use crate::budget::Budget;
-use crate::complete::{Caller, collect, complete};
+use crate::complete::{Caller, complete};
 use crate::drive::drive;
+use crate::gather::gather;
+use crate::gear::Gear;
 use crate::hire::hire;
 use crate::rest::rest;
+use crate::site::Site;
 use crate::worker::Worker;
 use ds_base::OutOfMemory;
-use ds_fabric::{Compute, Fabric, Record};
+use ds_fabric::{Compute, Fabric, Pass, Record};
 use ds_outside::Gate;
 use ds_rule::{Layout, Rows};
 use std::alloc::Global;
@@ -24,8 +29,8 @@ use std::thread::Threads;
 /// Fires every event of a run as often as it may, with so many workers, from 1 to 64; or with a
 /// quota until about that many events have fired.
 ///
-/// A worker calls the gate before it comes to a node that is not done, to step it or to see that it
-/// is not ready, with its number, the event that the node fires next, and its turn, from 1 on. The
+/// A worker calls the gate before it steps a node that is not done, with its number, the event that
+/// the node fires next, and its turn, from 1 on. With one job the caller is worker 0. With more the
 /// caller, which fires what is left in the end, has the number `jobs`. No fault comes of a thread
 /// that cannot be started: its work is done by another.
 ///
@@ -47,72 +52,110 @@ pub fn run<R: Threads + Sync, J: Rows + Sync, C: Compute + Sync, G: Gate>(
     ensures { IfOk result (IsRun quota jobs run.now) }
 {
     let (fabric, mut pass) = Fabric::build(alloc, run, openings)?;
-    let mut workers = hire(alloc, &fabric, run, &mut pass, jobs)?;
-    let budget = budget(run, openings, workers.len(), quota);
-    drive_all(rt, &fabric, run, workers.as_mut_slice(), jobs, budget, gate);
-    collect(&fabric, &mut pass, workers);
+    let number = if jobs == 1 || run.nodes() < 2 {
+        0
+    } else {
+        jobs
+    };
+    if number > 0 {
+        let budget = budget(run, openings, jobs, quota);
+        let site = Site {
+            fabric: &fabric,
+            run,
+            gate,
+        };
+        share(rt, alloc, &site, &mut pass, budget)?;
+    }
     let rest = rest(run, &pass, quota);
-    complete(&fabric, run, &mut pass, Caller { number: jobs, rest }, gate);
+    complete(&fabric, run, &mut pass, Caller { number, rest }, gate);
     Ok(fabric.finish(pass))
 }
 
-// Each worker drives its share, in a thread of its own.
+// Workers fire what they can. Then the pass has all nodes again.
+fn share<R: Threads + Sync, J: Rows + Sync, C: Compute + Sync, G: Gate>(
+    rt: &R,
+    alloc: Global,
+    site: &Site<'_, '_, J, C, G>,
+    pass: &mut Pass,
+    budget: Budget,
+) -> Result<(), OutOfMemory>
+    requires fits { Belongs site.now pass.old }
+    requires has { HasFrom pass.old.view 0 }
+    requires unfired { IsUnfired pass.old.view }
+    requires workers { (0 < budget.workers) × (budget.workers ≤ 64)
+        × (0 < site.now.run.nodes) }
+    requires room { (pass.old.many ≡ site.now.run.nodes)
+        × (site.now.run.nodes ≤ pass.old.room) }
+    ensures ok { OnOk result (Belongs site.now pass.new × HasFrom pass.new.view 0) }
+    ensures ok_few { OnOk result (all_tickets pass.new.view
+        ≤ budget.workers * budget.firings) }
+{
+    let mut crew = hire(alloc, site, pass, budget.workers)?;
+    drive_all(rt, site, &crew.gear, crew.workers.as_mut_slice(), budget);
+    gather(site, pass, crew);
+    Ok(())
+}
+
+// Each worker drives, in a thread of its own.
 fn drive_all<R: Threads + Sync, J: Rows + Sync, C: Compute + Sync, G: Gate>(
     rt: &R,
-    fabric: &Fabric<'_, J, C>,
-    run: &Layout<J>,
+    site: &Site<'_, '_, J, C, G>,
+    gear: &Gear,
     workers: &mut [Worker],
-    jobs: u32,
     budget: Budget,
-    gate: &G,
 )
-    requires run { (run.now ≡ fabric.now.run) × IsSound run.now }
-    requires jobs { 0 < jobs }
-    requires workers { All (IsWorker fabric.now) workers.old }
-    requires open { HasFirings budget }
-    ensures { (i : ℕ) (d : Worker) → i < length workers.old → DroveFor budget.firings
-        (slice_index_or workers.old i d) (slice_index_or workers.new i d) }
+    requires fits { Fits site.now gear.now.stile }
+    requires some { 0 < length workers.old }
+    requires workers { All (IsWithin site.now gear.now.stile 0) workers.old }
+    ensures { (i : ℕ) (d : Worker) → i < length workers.old
+        → IsWithin site.now gear.now.stile budget.firings (slice_index_or workers.new i d) }
 {
     thread::for_each_mut(
         rt,
         workers,
-        jobs as usize,
+        workers.len(),
         &|_, worker|
-            requires run { (run.now ≡ fabric.now.run) × IsSound run.now }
-            requires worker { IsWorker fabric.now worker.old }
-            requires open { HasFirings budget }
-            ensures { DroveFor budget.firings worker.old worker.new }
-        { drive(fabric, run, worker, budget, gate) },
+            requires fits { Fits site.now gear.now.stile }
+            requires worker { IsWithin site.now gear.now.stile 0 worker.old }
+            ensures { IsWithin site.entry.now gear.entry.now.stile budget.firings worker.new }
+        { drive(site, gear, worker, budget) },
     );
 }
 
-// Twice the nodes times the vectors are the firings of the whole run, and as many steps may each
-// worker take; one that may not fire takes none. The looks are shared among the workers: all of
-// them together take some three times as long as all firings that there may be, which goes with the
-// nets that a node has to compute. So a worker looks on until a run is done in which each is at
-// work for a quarter of the time; where workers wait for processors, what they lose does not grow
-// with their number; and who waits for one that has ended at its quota ends soon.
+// No more workers than nodes. Twice the nodes times the vectors are the firings of the whole run,
+// and as many takes may each worker have. The looks are shared among the workers: all of them
+// together take some three times as long as all firings that there may be, which goes with the nets
+// that a node has to compute. So a worker looks on until a run is done in which each is at work for
+// a quarter of the time; where workers wait for processors, what they lose does not grow with their
+// number; and who waits for one that has ended at its quota ends soon. A worker that found nothing
+// for some 50 times as long as a node takes to fire waits for one that does not run, and nobody
+// needs it.
 fn budget<J: Rows, C: Compute>(
     run: &Layout<J>,
     openings: &C,
-    workers: usize,
+    jobs: u32,
     quota: Option<u64>,
 ) -> Budget
-    requires { IsSound run.now }
+    requires sound { IsSound run.now }
+    requires some { (0 < jobs) × (0 < run.now.nodes) }
+    ensures workers { (0 < result.workers) × (result.workers ≤ jobs) }
     ensures firings { result.firings ≡ quota_of quota }
-    ensures open { HasFirings result }
 {
     let nodes = run.nodes();
+    let workers = jobs.min(nodes as u32);
     let firings = quota.unwrap_or(u64::MAX);
-    let all = 2 * nodes as u64 * run.limit();
-    let steps = if firings == 0 { 0 } else { all };
+    let takes = 2 * nodes as u64 * run.limit();
     let nets = openings.nets() / nodes.max(1);
     let each = 32 + (nets - nets / 3);
-    let due = all.min(firings.saturating_mul(workers as u64));
+    let due = takes.min(firings.saturating_mul(workers as u64));
     let looks = due.saturating_mul(each as u64);
     Budget {
-        steps,
-        looks: looks / workers.max(1) as u64,
+        workers,
+        takes,
         firings,
+        looks: looks / workers.max(1) as u64,
+        dry: ((each / nodes.max(1)) as u64)
+            .saturating_mul(50)
+            .saturating_add(50),
     }
 }

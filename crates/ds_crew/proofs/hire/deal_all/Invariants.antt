@@ -1,8 +1,0 @@
-use Rattle.std.proofs.Common.{◌≡◌, ◌≤◌, length}
-use Rattle.std.specs.Prelude.{vec_capacity}
-use Rattle.ds_crew.specs.Work.{AreSingle, IsLent}
-use Rattle.ds_crew.proofs.hire.deal_all.Given as goal
-
-abbrev pub invariant-dealing : goal.invariant-dealing
-invariant-dealing g l = AreSingle l.site l.passes.items × (length l.passes.items ≡ l.node) × IsLent l.site l.fn.pass 0 l.node l.pass
-    × (l.nodes ≤ vec_capacity l.passes)

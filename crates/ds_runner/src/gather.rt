@@ -1,0 +1,94 @@
+//! What the caller does when the workers are back: it joins their turns, closes the turnstile, and
+//! takes the passes in.
+ghost use Rattle.std.specs.Prelude.{◌≡◌, ◌<◌, ◌≤◌, ◌+◌, All, length, sum_by};
+ghost use Rattle.ds_fabric.specs.Showing.{Belongs};
+ghost use Rattle.ds_turnstile.specs.Turns.{HasNone, base};
+ghost use Rattle.ds_turnstile.specs.Shown.{IsTurnOf};
+ghost use Rattle.ds_runner.specs.Work.{HasBetween, AreSingle, IsCrew, made_of, all_tickets};
+
+use crate::crew::Crew;
+use crate::gear::Gear;
+use crate::site::Site;
+use crate::worker::Worker;
+use ds_base::LatchId;
+use ds_fabric::{Compute, Pass};
+use ds_outside::Gate;
+use ds_rule::Rows;
+use ds_turnstile::{Turn, Turnstile};
+
+/// Takes the passes of all nodes in, of workers who are back.
+pub fn gather<J: Rows, C: Compute, G: Gate>(
+    site: &Site<'_, '_, J, C, G>,
+    pass: &mut Pass,
+    crew: Crew,
+)
+    requires fits { Belongs site.now pass.old }
+    requires crew { IsCrew site.now crew }
+    requires room { pass.old.many + site.now.run.nodes ≤ pass.old.room }
+
+    ensures fits { Belongs site.now pass.new }
+    ensures all { HasBetween pass.new.view 0 site.now.run.nodes }
+    ensures fired { all_tickets pass.new.view ≡ sum_by made_of crew.workers.items }
+{
+    let Crew {
+        gear,
+        mut turn,
+        workers,
+        mut passes,
+    } = crew;
+    let Gear {
+        stile,
+        stealers: _,
+        arcs_from: _,
+    } = gear;
+    join_all(&stile, &mut turn, workers);
+    stile.close(turn, &mut passes);
+    gather_all(site, pass, passes);
+}
+
+// The turn takes in those of the workers.
+fn join_all(stile: &Turnstile, turn: &mut Turn, mut workers: Vec<Worker>)
+    requires fits { IsTurnOf stile.now turn.old × HasNone turn.old.view }
+    requires workers { All (λ (w : Worker). IsTurnOf stile.now w.turn × HasNone w.turn.view
+        × (w.turn.view.parts ≡ 1)) workers.items }
+
+    ensures fits { IsTurnOf stile.now turn.new × HasNone turn.new.view }
+    ensures parts { turn.new.view.parts
+        ≡ turn.old.view.parts + length workers.items }
+    ensures made { turn.new.view.made
+        ≡ turn.old.view.made + sum_by made_of workers.items }
+{
+    'joining: while let Some(worker) = workers.pop() {
+        let Worker {
+            number: _,
+            turn: own,
+            scratch: _,
+            trail: _,
+        } = worker;
+        stile.join(turn, own);
+    }
+}
+
+// The pass takes in those of all nodes.
+fn gather_all<J: Rows, C: Compute, G: Gate>(
+    site: &Site<'_, '_, J, C, G>,
+    pass: &mut Pass,
+    mut passes: Vec<Pass>,
+)
+    requires fits { Belongs site.now pass.old }
+    requires passes { AreSingle site.now passes.items
+        × (length passes.items ≡ site.now.run.nodes) }
+    requires room { pass.old.many + length passes.items ≤ pass.old.room }
+
+    ensures fits { Belongs site.now pass.new }
+    ensures all { HasBetween pass.new.view 0 site.now.run.nodes }
+    ensures fired { all_tickets pass.new.view ≡ base 0 passes.items }
+{
+    // A layout has fewer nodes than a `u32` counts.
+    let _nodes = site.run.nodes();
+    'taking: while let Some(one) = passes.pop() {
+        // A pass has as many tickets of its node as the node has fired.
+        let _fired = one.fired(LatchId::new(passes.len() as u32));
+        site.fabric.gather(pass, one);
+    }
+}

@@ -1,0 +1,143 @@
+//! How a worker finds a node to try: by a hint of its own, in its own part, by a hint of another
+//! worker, or in its round over all nodes. Plain looks say what seems due; a take alone says
+//! whether the pass is there.
+ghost use Rattle.std.specs.Prelude.{◌<◌, IsTrue, IfSome};
+ghost use Rattle.ds_runner.specs.Work.{Fits};
+
+use crate::gear::Gear;
+use crate::hints::Hints;
+use crate::ring::Ring;
+use crate::site::Site;
+use crate::trail::Trail;
+use crossbeam_deque::Steal;
+use ds_base::LatchId;
+use ds_fabric::Compute;
+use ds_outside::Gate;
+use ds_rule::Rows;
+
+// The most hints that are tried before a worker looks for itself.
+const HINTS: usize = 256;
+
+// A part in which a node is found within so many looks needs no hints.
+const SOON: usize = 16;
+
+/// The node that the worker tries next. None: no node seems due.
+pub fn search<J: Rows, C: Compute, G: Gate>(
+    site: &Site<'_, '_, J, C, G>,
+    gear: &Gear,
+    number: u32,
+    trail: &mut Trail,
+) -> Option<usize>
+    requires fits { Fits site.now gear.now.stile }
+    ensures near { IfSome result (λ n. n < site.now.run.nodes) }
+{
+    trail.soon = false;
+    if let Some(node) = hinted(site, gear, &mut trail.hints) {
+        return Some(node);
+    }
+    if let Some(node) = next_due(site, gear, &mut trail.part) {
+        trail.soon = trail.part.looks < SOON;
+        return Some(node);
+    }
+    if let Some(node) = stolen(site, gear, number) {
+        return Some(node);
+    }
+    next_due(site, gear, &mut trail.all)
+}
+
+/// By plain looks the pass of the node is at home, and its next event may fire. A number that is no
+/// node's is not due.
+pub fn is_due<J: Rows, C: Compute, G: Gate>(
+    site: &Site<'_, '_, J, C, G>,
+    gear: &Gear,
+    node: usize,
+) -> bool
+    requires fits { Fits site.now gear.now.stile }
+    ensures near { IsTrue result → node < site.now.run.nodes }
+{
+    if node >= site.run.nodes() {
+        return false;
+    }
+    let latch = LatchId::new(node as u32);
+    gear.stile.seems_home(latch) && site.fabric.seems_due(latch)
+}
+
+// The latest hint that still seems due.
+fn hinted<J: Rows, C: Compute, G: Gate>(
+    site: &Site<'_, '_, J, C, G>,
+    gear: &Gear,
+    hints: &mut Hints,
+) -> Option<usize>
+    requires fits { Fits site.now gear.now.stile }
+    ensures near { IfSome result (λ n. n < site.now.run.nodes) }
+{
+    for _ in 0..HINTS {
+        let Some(hint) = hints.pop() else {
+            return None;
+        };
+        if is_due(site, gear, hint as usize) {
+            return Some(hint as usize);
+        }
+    }
+    None
+}
+
+// The next node of a round that seems due.
+fn next_due<J: Rows, C: Compute, G: Gate>(
+    site: &Site<'_, '_, J, C, G>,
+    gear: &Gear,
+    ring: &mut Ring,
+) -> Option<usize>
+    requires fits { Fits site.now gear.now.stile }
+    ensures near { IfSome result (λ n. n < site.now.run.nodes) }
+{
+    for looks in 0..ring.count() {
+        let node = ring.step();
+        if is_due(site, gear, node) {
+            ring.looks = looks;
+            return Some(node);
+        }
+    }
+    None
+}
+
+// A hint of another worker that still seems due.
+fn stolen<J: Rows, C: Compute, G: Gate>(
+    site: &Site<'_, '_, J, C, G>,
+    gear: &Gear,
+    number: u32,
+) -> Option<usize>
+    requires fits { Fits site.now gear.now.stile }
+    ensures near { IfSome result (λ n. n < site.now.run.nodes) }
+{
+    let workers = gear.stealers.len();
+    let own = number as usize;
+    for i in 0..workers {
+        let other = if i < workers.saturating_sub(own) {
+            own + i
+        } else {
+            i - workers.saturating_sub(own)
+        };
+        if let Some(hint) = steal_from(gear, other, own) {
+            if is_due(site, gear, hint as usize) {
+                return Some(hint as usize);
+            }
+        }
+    }
+    None
+}
+
+// A hint of one other worker, if its deque has one.
+fn steal_from(gear: &Gear, other: usize, own: usize) -> Option<u32> {
+    if other == own || other >= gear.stealers.len() {
+        return None;
+    }
+    let stealer = &gear.stealers[other];
+    if stealer.is_empty() {
+        return None;
+    }
+    match stealer.steal() {
+        Steal::Success(hint) => Some(hint),
+        Steal::Empty | Steal::Retry => None,
+    }
+}

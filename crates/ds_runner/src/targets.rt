@@ -1,0 +1,59 @@
+//! Hints made: an event that fired makes others due, which wait for it.
+ghost use Rattle.std.specs.Prelude.{◌<◌};
+ghost use Rattle.ds_runner.specs.Work.{Fits};
+ghost use Rattle.ds_rule.specs.Sound.{IsSound};
+
+use crate::gear::Gear;
+use crate::hints::Hints;
+use crate::search::is_due;
+use crate::site::Site;
+use ds_base::OutOfMemory;
+use ds_fabric::Compute;
+use ds_outside::Gate;
+use ds_rule::{Layout, Rows};
+use std::alloc::Global;
+
+// The most arcs of an event that are looked at.
+const TARGETS: usize = 64;
+
+/// Tells of the nodes that seem due along the first arcs from an event.
+pub fn tell_targets<J: Rows, C: Compute, G: Gate>(
+    site: &Site<'_, '_, J, C, G>,
+    gear: &Gear,
+    hints: &mut Hints,
+    event: usize,
+)
+    requires fits { Fits site.now gear.now.stile }
+{
+    if event >= gear.arcs_from.len() {
+        return;
+    }
+    let arcs = site.run.arcs();
+    let first = gear.arcs_from[event];
+    for k in first..arcs.len().min(first.saturating_add(TARGETS)) {
+        if arcs[k].source.index() != event {
+            return;
+        }
+        let node = site.run.node_of(arcs[k].target.index());
+        if is_due(site, gear, node) {
+            hints.push(node as u32);
+        }
+    }
+}
+
+/// For each event the number of the first arc from it, or how many arcs there are where the arc
+/// with this number is not from it. The arcs of an event stand together.
+pub fn arcs_from<J: Rows>(alloc: Global, run: &Layout<J>) -> Result<Vec<usize>, OutOfMemory>
+    requires { IsSound run.now }
+{
+    let arcs = run.arcs();
+    let mut firsts = vec![in alloc; arcs.len(); run.nodes() + run.latches()]?;
+    for i in 0..arcs.len() {
+        let k = arcs.len() - 1 - i;
+        let source = arcs[k].source.index();
+        if source < firsts.len() {
+            firsts[source] = k;
+        }
+    }
+    Ok(firsts)
+}
