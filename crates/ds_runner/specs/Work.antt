@@ -13,6 +13,7 @@ use Rattle.ds_turnstile.specs.Turns.{Alone, HasNone, fabric_of, run_of, base, su
 use Rattle.ds_turnstile.specs.Shown.{Stile, IsTurnOf}
 use Rattle.ds_runner.specs.declared.budget.Budget.{Budget}
 use Rattle.ds_runner.specs.declared.crew.Crew.{Crew}
+use Rattle.ds_runner.specs.declared.fired.Fired.{Fired}
 use Rattle.ds_runner.specs.declared.worker.Worker.{Worker}
 
 -- how many tickets a pass has of the events below n: one for each firing of its own
@@ -84,6 +85,15 @@ pub record IsCrew (b : Base) (c : Crew) : Type 0 where
   pub some_workers : 0 < length c.workers.items
   pub empty : c.passes.items ≡ []
   pub room : length c.gear.stile.given ≤ vec_capacity c.passes
+
+-- one for an event that is there
+abbrev pub one_of : Option ℕ → ℕ
+one_of None = 0
+one_of (Some event) = 1
+
+-- how many events a visit fired
+abbrev pub count_of : Fired → ℕ
+count_of f = one_of f.first + one_of f.second
 
 -- fewer looks are left, and as many takes and firings
 abbrev pub Waits : Budget → Budget → Type 0

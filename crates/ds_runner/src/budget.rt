@@ -1,4 +1,4 @@
-ghost use Rattle.std.specs.Prelude.{◌≡◌, ◌<◌, ◌+◌, cond};
+ghost use Rattle.std.specs.Prelude.{◌≡◌, ◌<◌, ◌≤◌, ◌+◌};
 
 /// How many workers there are, and how long each of them goes on.
 #[derive(Clone, Copy)]
@@ -15,17 +15,15 @@ pub struct Budget {
 }
 
 impl Budget {
-    /// Takes off a take, and a firing where the node fired.
-    pub fn take(&mut self, fired: bool)
+    /// Takes off a take, and the firings of a visit.
+    pub fn take(&mut self, fired: u64)
         requires takes { 0 < self.old.takes }
-        requires firings { 0 < self.old.firings }
+        requires firings { fired ≤ self.old.firings }
         ensures takes { self.new.takes < self.old.takes }
         ensures looks { self.new.looks ≡ self.old.looks }
-        ensures firings { self.new.firings + cond fired 1 0 ≡ self.old.firings }
+        ensures firings { self.new.firings + fired ≡ self.old.firings }
     {
         self.takes -= 1;
-        if fired {
-            self.firings -= 1;
-        }
+        self.firings -= fired;
     }
 }

@@ -1,10 +1,12 @@
 //! A worker at work: visits to nodes that seem due, until all is done, its budget is used up, or it
 //! found nothing for long.
-ghost use Rattle.std.specs.Prelude.{◌≡◌, ◌<◌, ◌+◌, IsTrue, MatchOption, cond};
+ghost use Rattle.std.specs.Prelude.{◌≡◌, ◌<◌, ◌≤◌, ◌+◌, IsTrue, MatchOption};
 ghost use Rattle.ds_runner.specs.Work.{Fits, IsWorker, IsWithin, Waits};
 
 use crate::budget::Budget;
+use crate::fired::Fired;
 use crate::gear::Gear;
+use crate::hints::Hints;
 use crate::search::search;
 use crate::site::Site;
 use crate::targets::tell_targets;
@@ -32,7 +34,7 @@ pub fn drive<J: Rows, C: Compute, G: Gate>(
 {
     let mut left = budget;
     'visits: while left.takes > 0 && left.firings > 0 {
-        if let Some(fired) = visit_next(site, gear, worker) {
+        if let Some(fired) = visit_next(site, gear, worker, left.firings) {
             left.take(fired);
             left.dry = budget.dry;
         } else if !wait(site, worker, budget, &mut left) {
@@ -41,28 +43,46 @@ pub fn drive<J: Rows, C: Compute, G: Gate>(
     }
 }
 
-// Visits the next node that seems due, and says whether it fired. None: no node seems due.
+// Visits the next node that seems due, and says how often it fired. None: no node seems due.
 fn visit_next<J: Rows, C: Compute, G: Gate>(
     site: &Site<'_, '_, J, C, G>,
     gear: &Gear,
     worker: &mut Worker,
-) -> Option<bool>
+    most: u64,
+) -> Option<u64>
     requires fits { Fits site.now gear.now.stile }
     requires worker { IsWorker site.now gear.now.stile worker.old }
+    requires most { 0 < most }
     ensures worker { IsWorker site.now gear.now.stile worker.new }
     ensures made { MatchOption result (worker.new.turn.view.made ≡ worker.old.turn.view.made)
-        (λ fired. worker.new.turn.view.made ≡ worker.old.turn.view.made + cond fired 1 0) }
+        (λ fired. (worker.new.turn.view.made ≡ worker.old.turn.view.made + fired)
+        × (fired ≤ most)) }
 {
     let Some(node) = search(site, gear, worker.number, &mut worker.trail) else {
         return None;
     };
-    let Some(event) = visit(site, gear, worker, node) else {
-        return Some(false);
-    };
+    let fired = visit(site, gear, worker, node, most);
     if !worker.trail.soon {
-        tell_targets(site, gear, &mut worker.trail.hints, event);
+        tell_all(site, gear, &mut worker.trail.hints, fired);
     }
-    Some(true)
+    Some(fired.count())
+}
+
+// Tells of the nodes that seem due behind each event that fired.
+fn tell_all<J: Rows, C: Compute, G: Gate>(
+    site: &Site<'_, '_, J, C, G>,
+    gear: &Gear,
+    hints: &mut Hints,
+    fired: Fired,
+)
+    requires fits { Fits site.now gear.now.stile }
+{
+    if let Some(event) = fired.first {
+        tell_targets(site, gear, hints, event);
+    }
+    if let Some(event) = fired.second {
+        tell_targets(site, gear, hints, event);
+    }
 }
 
 // Passes some time after a look at all nodes. False: the worker ends.

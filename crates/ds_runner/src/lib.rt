@@ -17,6 +17,7 @@ mod budget;
 mod complete;
 mod crew;
 mod drive;
+mod fired;
 mod gather;
 mod gear;
 mod hints;

@@ -1,9 +1,10 @@
-//! One visit to a node: its pass is taken, stepped once, and given back.
+//! One visit to a node: its pass is taken, stepped, and given back.
 ghost use Rattle.std.specs.Prelude.{◌≡◌, ◌<◌, ◌≤◌, ◌+◌, MatchOption};
 ghost use Rattle.ds_rule.specs.Rule.{seen};
 ghost use Rattle.ds_turnstile.specs.Turns.{Alone};
-ghost use Rattle.ds_runner.specs.Work.{Fits, IsWorker};
+ghost use Rattle.ds_runner.specs.Work.{Fits, IsWorker, count_of};
 
+use crate::fired::Fired;
 use crate::gear::Gear;
 use crate::site::Site;
 use crate::unit::arrive;
@@ -13,31 +14,65 @@ use ds_fabric::{Compute, Pass, Scratch, Step};
 use ds_outside::Gate;
 use ds_rule::Rows;
 
-/// Takes the pass of the node, steps it once and gives it back. The event that fired, if there is
-/// one.
+/// Takes the pass of the node, steps it, and once more where it fired and another firing is
+/// allowed, and gives it back: behind an opening the closing of the same node is mostly due. It
+/// fires `most` times at most.
 pub fn visit<J: Rows, C: Compute, G: Gate>(
     site: &Site<'_, '_, J, C, G>,
     gear: &Gear,
     worker: &mut Worker,
     node: usize,
-) -> Option<usize>
+    most: u64,
+) -> Fired
     requires fits { Fits site.now gear.now.stile }
     requires worker { IsWorker site.now gear.now.stile worker.old }
     requires near { node < site.now.run.nodes }
+    requires most { 0 < most }
 
     ensures worker { IsWorker site.now gear.now.stile worker.new }
-    ensures made { MatchOption result (worker.new.turn.view.made ≡ worker.old.turn.view.made)
-        (λ _. worker.new.turn.view.made ≡ worker.old.turn.view.made + 1) }
+    ensures made { worker.new.turn.view.made ≡ worker.old.turn.view.made + count_of result }
+    ensures most { count_of result ≤ most }
 {
     // A layout has fewer nodes than a `u32` counts.
     let _nodes = site.run.nodes();
     let latch = LatchId::new(node as u32);
     let Some(mut pass) = gear.stile.take(&mut worker.turn, latch) else {
-        return None;
+        return Fired {
+            first: None,
+            second: None,
+        };
     };
-    let fired = step_once(site, &mut pass, worker.number, node, &mut worker.scratch);
+    let fired = step_twice(site, &mut pass, worker, node, most);
     gear.stile.give(&mut worker.turn, latch, pass);
     fired
+}
+
+// Steps the node, and once more where it fired and another firing is allowed.
+fn step_twice<J: Rows, C: Compute, G: Gate>(
+    site: &Site<'_, '_, J, C, G>,
+    pass: &mut Pass,
+    worker: &mut Worker,
+    node: usize,
+    most: u64,
+) -> Fired
+    requires near { node < site.now.run.nodes }
+    requires alone { Alone site.now.table_id site.now.run node pass.old }
+    requires row { worker.old.scratch ≡ site.now.nets }
+    requires most { 0 < most }
+
+    ensures alone { Alone site.now.table_id site.now.run node pass.new }
+    ensures fired { seen pass.new.view node ≡ seen pass.old.view node + count_of result }
+    ensures most { count_of result ≤ most }
+    ensures same { (worker.new.turn ≡ worker.old.turn)
+        × (worker.new.scratch ≡ worker.old.scratch) }
+{
+    let first = step_once(site, pass, worker.number, node, &mut worker.scratch);
+    let second = if first.is_some() && most > 1 {
+        step_once(site, pass, worker.number, node, &mut worker.scratch)
+    } else {
+        None
+    };
+    Fired { first, second }
 }
 
 // Steps the node once, unless it is done, and pauses at the gate before it. The event that fired,
@@ -54,7 +89,6 @@ fn step_once<J: Rows, C: Compute, G: Gate>(
     requires row { scratch.old ≡ site.now.nets }
 
     ensures alone { Alone site.now.table_id site.now.run node pass.new }
-    ensures up { seen pass.old.view node ≤ seen pass.new.view node }
     ensures fired { MatchOption result (seen pass.new.view node ≡ seen pass.old.view node)
         (λ _. seen pass.new.view node ≡ seen pass.old.view node + 1) }
     ensures row { scratch.new ≡ scratch.old }
