@@ -1,32 +1,16 @@
 //! Hints, by plain looks without a seat: they tell nothing, as what was seen may have changed
 //! since.
-ghost use Rattle.std.specs.Prelude.{◌≡◌, ◌<◌, true};
-ghost use Rattle.ds_rule.specs.Rule.{holds};
-ghost use Rattle.ds_fabric.specs.Showing.{Belongs};
+ghost use Rattle.std.specs.Prelude.{◌<◌};
 
 use crate::compute::Compute;
 use crate::counts::seems_enough;
 use crate::fabric::Fabric;
-use crate::pass::Pass;
-use crate::places::find;
 use ds_base::LatchId;
 use ds_rule::Rows;
 
 impl<'a, J: Rows, C: Compute> Fabric<'a, J, C> {
-    /// Plain looks at the counts show enough for the next event of the node, which is not done. A
-    /// hint: it tells nothing, and a step alone says what may fire. A worker that lacks tokens
-    /// passes its time so.
-    pub fn seems_ready(&self, pass: &Pass, node: LatchId) -> bool
-        requires fits { Belongs self.now pass.now }
-        requires held { holds pass.now.view node ≡ true }
-    {
-        let number = node.index();
-        let nodes = pass.nodes.as_slice();
-        let at = find(nodes, pass.places.as_slice(), number);
-        self.seems_enabled(number, pass.nodes[at].fired)
-    }
-
-    /// As `seems_ready`, of any node, whoever holds it.
+    /// Plain looks at the counts show enough for the next event of the node, whoever holds it. A
+    /// hint: it tells nothing, and a step alone says what may fire.
     pub fn seems_due(&self, node: LatchId) -> bool
         requires near { node < self.now.run.nodes }
     {

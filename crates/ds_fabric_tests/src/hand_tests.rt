@@ -3,7 +3,7 @@ ghost use Rattle.std.specs.Prelude.{◌≡◌, IfSome};
 ghost use Rattle.ds_fabric_tests.specs.Toggle.{toggle, HoldsBoth, HoldsMaster, HoldsSlave};
 
 use crate::toggle::{
-    Toggle, begin, end, fired, has, layout, master, part, slave, slave_seems_ready, step, unite,
+    Toggle, begin, end, fired, has, layout, master, part, slave, slave_seems_due, step, unite,
 };
 use ds_base::{ArcId, LatchId};
 use ds_fabric::{Fabric, Pass, Record, Step};
@@ -37,9 +37,9 @@ fn waits_for_the_master(fabric: &Fabric<Toggle, Toggle>, pass: &mut Pass, other:
     ensures master { HoldsMaster fabric.now other.new }
 {
     let opened = master(fabric, other) == fired(2, 1, 0);
-    let early = slave_seems_ready(fabric, pass) || slave(fabric, pass) != not_yet(5, 0);
+    let early = slave_seems_due(fabric) || slave(fabric, pass) != not_yet(5, 0);
     let closed = master(fabric, other) == fired(3, 1, 1);
-    opened && !early && closed && slave_seems_ready(fabric, pass)
+    opened && !early && closed && slave_seems_due(fabric)
 }
 
 // The master opens again once the slave closed.

@@ -140,11 +140,11 @@ pub fn step(fabric: &Fabric<Toggle, Toggle>, pass: &mut Pass, node: u32) -> Step
     fabric.step(pass, LatchId::new(node))
 }
 
-/// The slave seems ready.
-pub fn slave_seems_ready(fabric: &Fabric<Toggle, Toggle>, pass: &Pass) -> bool
-    requires { HoldsSlave fabric.now pass.now }
+/// The next event of the slave seems due.
+pub fn slave_seems_due(fabric: &Fabric<Toggle, Toggle>) -> bool
+    requires { 0 < fabric.now.run.nodes }
 {
-    fabric.seems_ready(pass, LatchId::new(0))
+    fabric.seems_due(LatchId::new(0))
 }
 
 /// The end of the run.
