@@ -3,12 +3,12 @@
 //! A caller sees vectors as a width and a list of rows of values, and a text as bytes.
 //! `read_vectors` gives exactly the rows that the lines stand for, or exactly their first fault;
 //! the characters `0`, `1` and `x` are values there, and no other one. `trace_line` and `end_line`
-//! write exactly the line of a turn and the last line, `firing_line` and `open_line` that of a firing
-//! and of what an open node shows, or a first part of it where a write fails; none of them takes
-//! memory. What begins with `put` writes a piece of a text, such as the values that a register has
-//! stored, and writers of other crates chain these too; `homes_of` finds where each register stands.
-//! By the laws what prints rows is read as these rows.
-//! How many calls of the sink a line takes is not promised.
+//! write exactly the line of a turn and the last line, `firing_line` and `open_line` that of a
+//! firing and of what an open node shows, or a first part of it where a write fails; none of them
+//! takes memory. What begins with `put` writes a piece of a text, such as the values that a
+//! register has stored, and writers of other crates chain these too; `homes_of` finds where each
+//! register stands. By the laws what prints rows is read as these rows. How many calls of the sink
+//! a line takes is not promised.
 #![tactic(auto)]
 
 mod column;
