@@ -30,6 +30,13 @@ impl Counts {
         })
     }
 
+    /// Begins anew: no event has fired.
+    pub fn begin(&mut self)
+        ensures { self.new ≡ replicate (length self.old) 0 }
+    {
+        self.counts.fill(0);
+    }
+
     /// How many events there are.
     pub fn len(&self) -> usize
         ensures { result ≡ length self.now }
