@@ -136,7 +136,10 @@ fn plan_for<'a>(alloc: Global, netlist: &'a Netlist) -> Result<Plan<'a>, OutOfMe
     ensures start { IfOk result (λ plan. plan.split.initial ≡ initial_row netlist.entry.now) }
 {
     match split_netlist(alloc, "", netlist, Mode::Each) {
-        Ok(latches) => own_plan(alloc, latches),
+        Ok(latches) => match own_plan(alloc, latches) {
+            Ok(plan) => Ok(plan),
+            Err(_) => Err(OutOfMemory),
+        },
         Err(Stop::Memory) => Err(OutOfMemory),
         Err(Stop::Refused(_)) => unreachable!(),
         Err(Stop::Unread(_)) => unreachable!(),

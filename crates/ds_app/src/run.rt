@@ -2,6 +2,7 @@
 ghost use Rattle.std.specs.Prelude.{◌≡◌, ◌≤◌, ◌<◌, Bool, IfOk, true, false, Some, None};
 ghost use Rattle.ds_design.specs.Circuit.{initial_row};
 ghost use Rattle.ds_cmd.specs.declared.job.Job.TheVariants.{Run};
+ghost use Rattle.ds_trace.specs.Ended.{IsSomeLog, WritesEnd};
 ghost use Rattle.ds_trace.specs.Logged.{IsLogOf};
 ghost use Rattle.ds_stage.specs.Ends.{Ends, Output, RoseIn};
 ghost use Rattle.ds_stage.specs.StreamStage.{most_vectors as most_vectors_of};
@@ -9,10 +10,10 @@ ghost use Rattle.ds_app.specs.Job.{stages_of};
 ghost use Rattle.ds_app.specs.RunStage.{planned_run_stage, streamed_run_stage};
 
 use crate::stopped::{PlannedStop, write_at_stop};
-use ds_base::{Mode, OutOfMemory};
+use ds_base::{Mode, OutOfMemory, Row3};
 use ds_cmd::FileName;
 use ds_latch::Plan;
-use ds_outside::{Files, Gate, Sink};
+use ds_outside::{Files, Gate, Sink, WriteFault};
 use ds_run::Workers;
 use ds_stage::{Splitting, Stop, WINDOW, plan_netlist, read_netlist, read_window};
 use ds_stream::VectorReader;
@@ -155,10 +156,26 @@ fn write_traced<R: AllocGlobal + Threads + Sync, G: Gate, F: Files, O: Sink>(
         first = reader.given();
         more = turns == WINDOW;
     }
-    match end_run(plan, plan.latches().initial(), log, out) {
+    match end_traced(plan, plan.latches().initial(), log, out) {
         Ok(()) => Ok(()),
         Err(_) => Err(Stop::Unwritten),
     }
+}
+
+// Writes the end of a run, and gives its log up.
+#[tactic(auto)]
+fn end_traced<O: Sink>(
+    plan: &Plan<'_>,
+    registers: &Row3,
+    log: Option<Log>,
+    out: &mut O,
+) -> Result<(), WriteFault>
+    requires log { IsSomeLog plan.now.graph log }
+    ensures { WritesEnd result plan.now.graph log registers.now
+        (O.written out.old) (O.written out.new) (O.faults out.old) (O.faults out.new) }
+{
+    let mut log = log;
+    end_run(plan, registers, &mut log, out)
 }
 
 // The log before the first firing of a plan, where one is wanted.

@@ -95,7 +95,9 @@ fn each_firing_of_a_run_shows(
     run: &str,
 ) -> Result<bool, Stop> {
     let latches = split_netlist(alloc, "n", netlist, Mode::Each)?;
-    let plan = own_plan(alloc, latches)?;
+    let Ok(plan) = own_plan(alloc, latches) else {
+        return Err(Stop::Memory);
+    };
     match run.split_once("firings\n") {
         Some((_, log)) => Ok(each_firing_shows_what_is_held(alloc, &plan, vectors, log)?),
         None => Ok(false),

@@ -22,3 +22,4 @@ pub mod SplitStops
 pub mod Stages
 pub mod Streamed
 pub mod Streams
+pub mod TextParts

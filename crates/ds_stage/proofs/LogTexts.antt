@@ -1,6 +1,6 @@
 -- The text of an arc's ends.
-use Rattle.std.proofs.Common.{◌≡◌, ◌∙◌, ℕ, ◌<◌, List, [], ◌++◌, length, get_or, codes, Option, Some, Result, Ok, Err, refl, ap, sym}
-use Rattle.std.specs.Prelude.{slice_get, IfOk}
+use Rattle.std.proofs.Common.{◌≡◌, ◌∙◌, ℕ, ◌<◌, List, [], ◌++◌, length, get_or, codes, Option, Some, refl, ap, sym}
+use Rattle.std.specs.Prelude.{slice_get}
 use Rattle.std.specs.Option.{option_map_or}
 use Rattle.std.proofs.lemmas.List.{append_assoc}
 use Rattle.std.proofs.lemmas.Option.{slice_get_read}
@@ -8,11 +8,6 @@ use Rattle.ds_marked.specs.Graph.{Graph}
 use Rattle.ds_marked.specs.declared.marked.Arc.{Arc}
 use Rattle.ds_marked.specs.Log.{text_of_event}
 use Rattle.ds_stage.specs.ReplayStage.{ends_text}
-
--- what follows from what an answer gives
-pub if_ok : {T E : Type 0} (r : Result T E) (P Q : T → Type 0) → ((x : T) → P x → Q x) → IfOk r P → IfOk r Q
-if_ok (Ok x) P Q more is = more x is
-if_ok (Err e) P Q more is = tt
 
 pub ends_are : (g : Graph) (arcs : List Arc) (text one mid last : List ℕ) (arc k : ℕ) (a : Arc) → arcs ≡ g.arcs → k ≡ arc → k < length arcs → a ≡ get_or arcs k a
     → one ≡ text ++ text_of_event g a.source → mid ≡ one ++ codes " to " → last ≡ mid ++ text_of_event g a.target

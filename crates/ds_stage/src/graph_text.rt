@@ -1,12 +1,13 @@
 //! The texts of faults of a graph.
-ghost use Rattle.std.specs.Prelude.{◌≡◌, ◌++◌, ℕ, IfOk, codes, decimal, map};
+ghost use Rattle.std.specs.Prelude.{◌≡◌, ◌++◌, ℕ, IfOk, OnErr, OnOk, codes, decimal, map};
 ghost use Rattle.ds_marked.specs.Log.{event_text, text_of_event};
+ghost use Rattle.ds_control.specs.Part.{PushesPart};
 ghost use Rattle.ds_stage.specs.FaultText.{listed};
 ghost use Rattle.ds_stage.specs.PlanStage.{IsAcceptText, astg_text as astg_text_of, walk_text};
 
 use crate::fault_line::too_many;
 use crate::fault_text::with_name;
-use crate::log_text::with_event;
+use crate::log_text::put_event;
 use ds_accept::AcceptFault;
 use ds_astg::AstgKind;
 use ds_base::{EventId, OutOfMemory};
@@ -46,8 +47,9 @@ pub fn accept_text(
             least,
             numbers: _,
         } => {
-            let text = missing_order(alloc, graph, *from, *to, *tokens)?;
-            with_walk(text, *least)
+            let mut text = missing_order(alloc, graph, *from, *to, *tokens)?;
+            put_walk(&mut text, *least)?;
+            Ok(text)
         }
         AcceptFault::TokenFreeCycle(events) => cycle(alloc, graph, events.as_slice()),
         AcceptFault::Memory => Err(OutOfMemory),
@@ -79,30 +81,29 @@ fn missing_order(
         ++ codes " tokens") }
 {
     let mut buffer = Buffer::new();
-    let mut text = with_event(Vec::from_slice(alloc, b"missing order ")?, graph, source)?;
+    let mut text = Vec::from_slice(alloc, b"missing order ")?;
+    put_event(&mut text, graph, source)?;
     text.extend_from_slice(b" to ")?;
-    let mut text = with_event(text, graph, target)?;
+    put_event(&mut text, graph, target)?;
     text.extend_from_slice(b" with ")?;
     text.extend_from_slice(buffer.format(tokens).as_bytes())?;
     text.extend_from_slice(b" tokens")?;
     Ok(text)
 }
 
-// A text with how few tokens there are along a walk behind it.
-fn with_walk(text: Vec<u8>, least: Option<u64>) -> Result<Vec<u8>, OutOfMemory>
-    ensures { IfOk result (λ all. all.items ≡ text.items ++ walk_text least) }
+// Puts how few tokens there are along a walk behind a text.
+fn put_walk(text: &mut Vec<u8>, least: Option<u64>) -> Result<(), AllocError>
+    ensures { OnOk result (text.new.items ≡ text.old.items ++ walk_text least) }
 {
-    let mut text = text;
     match least {
         Some(sum) => {
             let mut buffer = Buffer::new();
             text.extend_from_slice(b" (least walk ")?;
             text.extend_from_slice(buffer.format(sum).as_bytes())?;
-            text.extend_from_slice(b")")?;
+            text.extend_from_slice(b")")
         }
-        None => text.extend_from_slice(b" (no walk)")?,
+        None => text.extend_from_slice(b" (no walk)"),
     }
-    Ok(text)
 }
 
 // A cycle of arcs without tokens.
@@ -110,19 +111,23 @@ fn cycle(alloc: Global, graph: &Marked, events: &[EventId]) -> Result<Vec<u8>, O
     ensures { IfOk result (λ text. text.items
         ≡ codes "token-free cycle:" ++ listed (map (text_of_event graph.now) events.now)) }
 {
-    let text = Vec::from_slice(alloc, b"token-free cycle:")?;
-    Ok(with_events(text, graph, events)?)
+    let mut text = Vec::from_slice(alloc, b"token-free cycle:")?;
+    put_events(&mut text, graph, events)?;
+    Ok(text)
 }
 
-/// A text with events behind it, each with a blank before it.
-pub fn with_events(text: Vec<u8>, graph: &Marked, events: &[EventId]) -> Result<Vec<u8>, AllocError>
-    ensures { IfOk result (λ all. all.items
-        ≡ text.items ++ listed (map (text_of_event graph.now) events.now)) }
+/// Puts events behind a text, each with a blank before it.
+pub fn put_events(text: &mut Vec<u8>, graph: &Marked, events: &[EventId]) -> Result<(), AllocError>
+    ensures ok { OnOk result (text.new.items
+        ≡ text.old.items ++ listed (map (text_of_event graph.now) events.now)) }
+
+    // For want of memory.
+    ensures part { OnErr result (PushesPart text.old.items text.new.items
+        (listed (map (text_of_event graph.now) events.now))) }
 {
-    let mut text = text;
     for event in events {
         text.extend_from_slice(b" ")?;
-        text = with_event(text, graph, *event)?;
+        put_event(text, graph, *event)?;
     }
-    Ok(text)
+    Ok(())
 }

@@ -14,7 +14,7 @@
 //! for what is kept between them, and `specs/OpenLines` for the lines of what open latches show,
 //! which stand behind that text where they are wanted; all memory is taken before its first byte is
 //! written). `read_timing` reads the delays of `own_graph` (`specs/PeriodStage`), `wanted_graph`
-//! makes the graph that is written (`specs/GraphStage`), and `with_event` and `with_events` put
+//! makes the graph that is written (`specs/GraphStage`), and `put_event` and `put_events` put
 //! events behind a text. `write_report` writes the report on a netlist (`specs/Report`). The texts
 //! of faults are those of `specs/FaultText`. When memory is wanted is not promised.
 #![tactic(auto)]
@@ -43,9 +43,9 @@ mod stream;
 pub use after_log::AfterLog;
 pub use delays::{own_graph, read_timing};
 pub use expansion::wanted_graph;
-pub use graph_text::with_events;
+pub use graph_text::put_events;
 pub use log::read_log;
-pub use log_text::with_event;
+pub use log_text::put_event;
 pub use plan::{own_plan, plan_named, plan_netlist};
 pub use report::{put_count, write_report};
 pub use source::{read_netlist, read_rows};

@@ -1,7 +1,8 @@
 //! The texts of faults of a log.
-ghost use Rattle.std.specs.Prelude.{◌≡◌, ◌++◌, [], IfOk, slice_get};
+ghost use Rattle.std.specs.Prelude.{◌≡◌, ◌++◌, [], IfOk, OnErr, OnOk, slice_get};
 ghost use Rattle.std.specs.Option.{option_map_or};
 ghost use Rattle.ds_marked.specs.Log.{text_of_event};
+ghost use Rattle.ds_control.specs.Part.{PushesPart};
 ghost use Rattle.ds_stage.specs.ReplayStage.{ends_text, log_text as log_text_of};
 
 use ds_base::{ArcId, EventId};
@@ -23,33 +24,37 @@ pub fn log_text(alloc: Global, graph: &Marked, kind: &ReplayKind) -> Result<Vec<
         ReplayKind::WrongTurn => Vec::from_slice(alloc, b"wrong turn"),
         ReplayKind::OverLimit => Vec::from_slice(alloc, b"over limit"),
         ReplayKind::NotEnabled(arc) => {
-            with_ends(Vec::from_slice(alloc, b"not enabled: ")?, graph, *arc)
+            let mut text = Vec::from_slice(alloc, b"not enabled: ")?;
+            put_ends(&mut text, graph, *arc)?;
+            Ok(text)
         }
     }
 }
 
-// A text with the ends of an arc behind it.
-fn with_ends(text: Vec<u8>, graph: &Marked, arc: ArcId) -> Result<Vec<u8>, AllocError>
-    ensures { IfOk result (λ all. all.items
-        ≡ text.items ++ option_map_or (ends_text graph.now) (slice_get graph.now.arcs arc) []) }
+// Puts the ends of an arc behind a text.
+fn put_ends(text: &mut Vec<u8>, graph: &Marked, arc: ArcId) -> Result<(), AllocError>
+    ensures { OnOk result (text.new.items ≡ text.old.items
+        ++ option_map_or (ends_text graph.now) (slice_get graph.now.arcs arc) []) }
 {
     let Some(arc) = graph.arcs().get(arc.index()) else {
-        return Ok(text);
+        return Ok(());
     };
-    let mut text = with_event(text, graph, arc.source)?;
+    put_event(text, graph, arc.source)?;
     text.extend_from_slice(b" to ")?;
-    with_event(text, graph, arc.target)
+    put_event(text, graph, arc.target)
 }
 
-/// A text with an event behind it.
-pub fn with_event(text: Vec<u8>, graph: &Marked, event: EventId) -> Result<Vec<u8>, AllocError>
-    ensures { IfOk result (λ all. all.items ≡ text.items ++ text_of_event graph.now event) }
+/// Puts an event behind a text, or nothing where there is none of this number.
+pub fn put_event(text: &mut Vec<u8>, graph: &Marked, event: EventId) -> Result<(), AllocError>
+    ensures ok { OnOk result (text.new.items ≡ text.old.items ++ text_of_event graph.now event) }
+
+    // For want of memory.
+    ensures part { OnErr result
+        (PushesPart text.old.items text.new.items (text_of_event graph.now event)) }
 {
     let Some(event) = graph.events().get(event.index()) else {
-        return Ok(text);
+        return Ok(());
     };
-    let mut text = text;
     text.extend_from_slice(event.signal.as_slice())?;
-    text.extend_from_slice(event.kind.sign())?;
-    Ok(text)
+    text.extend_from_slice(event.kind.sign())
 }

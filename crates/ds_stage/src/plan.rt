@@ -1,5 +1,5 @@
 //! The plan of a job: its latches with their controller graph, or with a graph of the user's.
-ghost use Rattle.std.specs.Prelude.{◌≡◌, ◌≤◌, ℕ, List, IfOk, Some};
+ghost use Rattle.std.specs.Prelude.{◌≡◌, ◌≤◌, ℕ, List, IfErr, IfOk, Some};
 ghost use Rattle.ds_astg.specs.Read.{graph_of as graph_in_lines};
 ghost use Rattle.ds_accept.specs.Fault.{IsAcceptFault};
 ghost use Rattle.ds_stage.specs.Ends.{Answers, Never, RoseIn, Stops};
@@ -15,7 +15,7 @@ use crate::splitting::Splitting;
 use crate::stop::Stop;
 use ds_accept::{AcceptFault, accept};
 use ds_astg::{AstgFault, AstgRefusal, read};
-use ds_base::{Mode, OutOfMemory};
+use ds_base::Mode;
 use ds_cmd::FileName;
 use ds_control::controller;
 use ds_design::Netlist;
@@ -62,17 +62,25 @@ fn plan_of<'a, F: Files>(
 {
     match graph {
         Some(file) => named_plan(alloc, files, file.as_str(), latches),
-        None => Ok(own_plan(alloc, latches)?),
+        None => match own_plan(alloc, latches) {
+            Ok(plan) => Ok(plan),
+            Err(_) => Err(Stop::Memory),
+        },
     }
 }
 
-/// The plan of the required orders.
-pub fn own_plan<'a>(alloc: Global, latches: Latches<'a>) -> Result<Plan<'a>, OutOfMemory>
-    ensures { IfOk result (IsOwnPlan latches.entry) }
+/// The plan of the required orders. For want of memory the latches come back.
+pub fn own_plan<'a>(alloc: Global, latches: Latches<'a>) -> Result<Plan<'a>, Latches<'a>>
+    ensures ok { IfOk result (IsOwnPlan latches.entry) }
+    ensures back { IfErr result (λ r. r ≡ latches.entry) }
 {
-    let graph = controller(alloc, &latches)?;
-    let _arcs = graph.arcs();
-    Ok(Plan::of(latches, graph))
+    match controller(alloc, &latches) {
+        Ok(graph) => {
+            let _arcs = graph.arcs();
+            Ok(Plan::of(latches, graph))
+        }
+        Err(_) => Err(latches),
+    }
 }
 
 /// The plan of a netlist with the graph of a file, without slack.

@@ -2,7 +2,7 @@
 use ds_base::{EventId, Mode};
 use ds_marked::{Arc, Marked};
 use ds_outside::OpenGate;
-use ds_stage::{Stop, own_graph, read_netlist, split_netlist, with_event};
+use ds_stage::{Stop, own_graph, put_event, read_netlist, split_netlist};
 use ds_trial::{files, printed};
 use rand_core::SeedableRng;
 use rand_core::utils::NextWord;
@@ -89,7 +89,8 @@ fn lines_of(alloc: Global, graph: &Marked, delays: &[u64]) -> Result<String, All
 
 // An event as it is written.
 fn name_of(alloc: Global, graph: &Marked, event: EventId) -> Result<String, AllocError> {
-    let name = with_event(Vec::new(alloc), graph, event)?;
+    let mut name = Vec::new(alloc);
+    put_event(&mut name, graph, event)?;
     String::from_str(alloc, str::from_utf8(&name).unwrap_or(""))
 }
 

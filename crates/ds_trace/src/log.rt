@@ -26,7 +26,7 @@ use std::marker::Model;
 /// events there is a count for.
 pub struct Log {
     events: Vec<EventId>,
-    // All 0 until the firings are written.
+    // By which the firings are counted as they are written.
     counts: Counts,
 }
 
@@ -40,14 +40,12 @@ impl Drop for Log {
 }
 
 impl Model for Log {
-    ghost use Rattle.std.specs.Prelude.{◌≡◌, length, replicate};
+    ghost use Rattle.std.specs.Prelude.{length};
     ghost use Rattle.ds_trace.specs.Logged.{Listed};
 
     ghost Value = { Listed };
 
     ghost view = { λ log. record { events = log.events.items; kinds = length log.counts } };
-
-    ghost invariant = { λ log. log.counts ≡ replicate (length log.counts) 0 };
 }
 
 impl Log {
@@ -90,20 +88,21 @@ impl Log {
 
     /// Writes the line `firings` and a line for each firing, unless a write has failed.
     pub(crate) fn write<O: Sink>(
-        self,
+        &mut self,
         so_far: Result<(), WriteFault>,
         plan: &Plan<'_>,
         out: &mut O,
     ) -> Result<(), WriteFault>
-        requires log { All (λ event. event < length plan.now.graph.events) self.events }
-        requires kinds { self.kinds ≡ length plan.now.graph.events }
-        ensures { (text : List ℕ) × IsLogText plan.now.graph self.events text
+        requires log { All (λ event. event < length plan.now.graph.events) self.old.events }
+        requires kinds { self.old.kinds ≡ length plan.now.graph.events }
+        ensures writes { (text : List ℕ) × IsLogText plan.now.graph self.old.events text
             × GoesOn so_far result (O.written out.old) (O.written out.new)
             (O.faults out.old) (O.faults out.new) text }
+        ensures same { self.new ≡ self.old }
     {
-        let Log { events, mut counts } = self;
+        self.counts.begin();
         let so_far = put(so_far, b"firings\n", out);
-        write_log(so_far, plan, events.as_slice(), &mut counts, out)
+        write_log(so_far, plan, self.events.as_slice(), &mut self.counts, out)
     }
 }
 
@@ -117,8 +116,9 @@ fn write_log<O: Sink>(
 ) -> Result<(), WriteFault>
     requires log { All (λ event. event < length plan.now.graph.events) events.now }
     requires counts { counts.old ≡ replicate (length plan.now.graph.events) 0 }
-    ensures { WritesLog plan.now.graph events.now so_far result
+    ensures writes { WritesLog plan.now.graph events.now so_far result
         (O.written out.old) (O.written out.new) (O.faults out.old) (O.faults out.new) }
+    ensures same_kinds { length counts.new ≡ length counts.old }
 {
     let mut so_far = so_far;
     for i in 0..events.len() {

@@ -90,16 +90,12 @@ fn left_behind<'a, O: Sink, B: Behind>(
         (O.faults behind.entry.sink.now) (O.faults result.0.sink.now) }
     ensures same { result.0.sink.ghost_name ≡ B.name }
 {
+    let mut left = left;
     let most = most_of(halt.plan, halt.vectors);
     let mut buffered: Buffered<'a, O, B> = Buffered::new(behind);
     let so_far = put_registers(halt.plan.latches(), &left, &mut buffered);
     let so_far = put_fired(so_far, left.fired.fired(), most, &mut buffered);
-    let Left {
-        fired: _,
-        homes: _,
-        log,
-    } = left;
-    let so_far = put_log(so_far, halt.plan, log, &mut buffered);
+    let so_far = put_log(so_far, halt.plan, &mut left.log, &mut buffered);
     buffered.finish(so_far)
 }
 

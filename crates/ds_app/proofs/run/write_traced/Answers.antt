@@ -173,16 +173,16 @@ windows-preserved g c =
       );
     }
 
-pub returns-in-Ok-end_run-clause-value : goal.returns-in-Ok-end_run-clause-value
-returns-in-Ok-end_run-clause-value g c =
+pub returns-in-Ok-end_traced-clause-value : goal.returns-in-Ok-end_traced-clause-value
+returns-in-Ok-end_traced-clause-value g c =
     let held : List ℕ → Held = g.F.Files.held c.args.files.now in
     let vec : List ℕ = c.args.job.now.vec.now in
     let p : Planned = c.args.plan.now in
     let log : Bool = c.args.job.now.log in
     let kept = c.windows.invariant in
     let (rows, is, written) = kept.so_far in
-    let (text, end, writes) = c.in-Ok-end_run.ensures in
-    let out : Output = (record { old = g.O.Sink.written c.args.out.now; new = g.O.Sink.written c.end_run.new.out; before = g.O.Sink.faults c.args.out.now; now = g.O.Sink.faults c.end_run.new.out }) in
+    let (text, end, writes) = c.in-Ok-end_traced.ensures in
+    let out : Output = (record { old = g.O.Sink.written c.args.out.now; new = g.O.Sink.written c.end_traced.new.out; before = g.O.Sink.faults c.args.out.now; now = g.O.Sink.faults c.end_traced.new.out }) in
     let failed : OfFile = RoseIn (g.F.Files.faults c.args.files.now) (g.F.Files.faults c.windows.files) in
     run_ends_whole held vec p log failed out (g.O.Sink.written c.windows.out) c.windows.first rows c.windows.plan.split.initial
     (subst (λ (b : Bool). GivenOf (held vec) p.split.circuit (most_vectors log) c.windows.first b rows) c.windows-test.false is) written
@@ -197,13 +197,13 @@ returns-in-Err-clause-value g c =
     let kept = c.windows.invariant in
     let (rows, is, written) = kept.so_far in
     let (text, end, writes) = c.in-Err.ensures in
-    let out : Output = (record { old = g.O.Sink.written c.args.out.now; new = g.O.Sink.written c.end_run.new.out; before = g.O.Sink.faults c.args.out.now; now = g.O.Sink.faults c.end_run.new.out }) in
+    let out : Output = (record { old = g.O.Sink.written c.args.out.now; new = g.O.Sink.written c.end_traced.new.out; before = g.O.Sink.faults c.args.out.now; now = g.O.Sink.faults c.end_traced.new.out }) in
     let failed : OfFile = RoseIn (g.F.Files.faults c.args.files.now) (g.F.Files.faults c.windows.files) in
     run_ends_part held vec p log failed out (g.O.Sink.written c.windows.out) c.windows.first rows c.windows.plan.split.initial
     (subst (λ (b : Bool). GivenOf (held vec) p.split.circuit (most_vectors log) c.windows.first b rows) c.windows-test.false is) written
     c.windows.log kept.logged text (run_end_of p.graph c.windows.plan.graph c.windows.log c.windows.plan.split.initial c.initial.result.now text (sym kept.graph) (c.initial.ensures.initial ∙ ap (λ (t : Split). t.initial) c.latches-3.ensures) end) writes.err
-    (rose_since (g.O.Sink.faults c.args.out.now) (g.O.Sink.faults c.windows.out) (g.O.Sink.faults c.end_run.new.out) kept.never_fell writes.cause)
+    (rose_since (g.O.Sink.faults c.args.out.now) (g.O.Sink.faults c.windows.out) (g.O.Sink.faults c.end_traced.new.out) kept.never_fell writes.cause)
 
-pub end_run-requires : goal.end_run-requires
-end_run-requires g c =
+pub end_traced-requires : goal.end_traced-requires
+end_traced-requires g c =
     record { log = (c.args.job.now.log, c.windows.first, subst (λ (k : Graph). IsLogOf c.args.job.now.log k c.windows.first c.windows.log) (sym c.windows.invariant.graph) c.windows.invariant.logged) }

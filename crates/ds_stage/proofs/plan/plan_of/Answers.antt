@@ -3,8 +3,8 @@ use Rattle.ds_stage.specs.PlanStage.{plan_stage}
 use Rattle.ds_stage.specs.Ends.{Answers, RoseIn}
 use Rattle.ds_stage.proofs.plan.plan_of.Goals as goal
 
-pub returns-in_ok-own_plan-in-None-clause-value : goal.returns-in_ok-own_plan-in-None-clause-value
-returns-in_ok-own_plan-in-None-clause-value g c =
+pub returns-in-Ok-clause-value : goal.returns-in-Ok-clause-value
+returns-in-Ok-clause-value g c =
     subst (λ (graph : Option (List ℕ)). Answers (plan_stage (g.F.Files.held c.args.files.now) graph c.args.latches)
-    (RoseIn (g.F.Files.faults c.args.files.now) (g.F.Files.faults c.args.files.now)) (Ok c.in_ok-own_plan-in-None.field-0))
-    (sym c.in-None.is) c.in_ok-own_plan-in-None.ensures
+    (RoseIn (g.F.Files.faults c.args.files.now) (g.F.Files.faults c.args.files.now)) (Ok c.in-Ok.plan))
+    (sym c.in-None.is) c.in-Ok.ensures.ok

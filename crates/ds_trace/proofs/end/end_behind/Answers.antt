@@ -8,12 +8,12 @@ use Rattle.ds_trace.proofs.end.end_behind.Goals as goal
 
 pub put_log-so_far-requires : goal.put_log-so_far-requires
 put_log-so_far-requires g c = record {
-  log = known_some c.args.plan.now.graph c.args.log c.requires.log;
+  log = known_some c.args.plan.now.graph c.args.log.now c.requires.log;
 }
 
-pub returns-clause-ok : goal.returns-clause-ok
-returns-clause-ok g c =
-    let (rest, part, goes) = c.put_log-so_far.ensures in
+pub returns-clause-writes : goal.returns-clause-writes
+returns-clause-writes g c =
+    let (rest, part, goes) = c.put_log-so_far.ensures.writes in
     let all = (goes_on (after_ok c.end_line-so_far.ensures) goes).on_ok in (
       end_line c.args.registers.now ++ rest,
       (rest, part, refl),

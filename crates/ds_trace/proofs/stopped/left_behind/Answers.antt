@@ -6,7 +6,7 @@ use Rattle.ds_trace.proofs.stopped.left_behind.Goals as goal
 
 pub returns-clause-ok : goal.returns-clause-ok
 returns-clause-ok g c =
-    let (rest, part, goes) = c.put_log-so_far.ensures in
+    let (rest, part, goes) = c.put_log-so_far.ensures.writes in
     let lines = with_text (text_is c.args.halt.now.plan.now c.args.halt.now.vectors.now.rows
     c.args.left.fired c.args.left.homes.items c.latches.result.now c.fired.result
     c.most_of-most.result c.latches.ensures c.fired.ensures c.most_of-most.ensures)
