@@ -10,7 +10,7 @@ pub struct Budget {
     pub firings: u64,
     /// The most looks at nodes in rounds without a take.
     pub looks: u64,
-    /// The most rounds without a take in a row.
+    /// The rounds without a take in a row, so far.
     pub dry: u64,
 }
 

@@ -1,5 +1,4 @@
-//! A worker at work: visits to nodes that seem due, until all is done, its budget is used up, or it
-//! found nothing for long.
+//! A worker at work: visits to nodes that seem due, until all is done or its budget is used up.
 ghost use Rattle.std.specs.Prelude.{◌≡◌, ◌<◌, ◌≤◌, ◌+◌, IsTrue, MatchOption};
 ghost use Rattle.ds_runner.specs.Work.{Fits, IsWorker, IsWithin, Waits};
 
@@ -36,8 +35,8 @@ pub fn drive<J: Rows, C: Compute, G: Gate>(
     'visits: while left.takes > 0 && left.firings > 0 {
         if let Some(fired) = visit_next(site, gear, worker, left.firings) {
             left.take(fired);
-            left.dry = budget.dry;
-        } else if !wait(site, worker, budget, &mut left) {
+            left.dry = 0;
+        } else if !wait(site, worker, &mut left) {
             return;
         }
     }
@@ -89,7 +88,6 @@ fn tell_all<J: Rows, C: Compute, G: Gate>(
 fn wait<J: Rows, C: Compute, G: Gate>(
     site: &Site<'_, '_, J, C, G>,
     worker: &Worker,
-    budget: Budget,
     left: &mut Budget,
 ) -> bool
     ensures { IsTrue result → Waits left.old left.new }
@@ -99,12 +97,12 @@ fn wait<J: Rows, C: Compute, G: Gate>(
         .part
         .count()
         .saturating_add(worker.trail.all.count()) as u64;
-    if left.dry == 0 || left.looks <= looks || site.fabric.seems_over() {
+    if left.looks <= looks || site.fabric.seems_over() {
         return false;
     }
     left.looks -= looks + 1;
-    left.dry -= 1;
-    if budget.dry.saturating_sub(left.dry) % YIELDS == 0 {
+    left.dry = left.dry.saturating_add(1);
+    if left.dry % YIELDS == 0 {
         thread::yield_now();
     } else {
         spin_loop();

@@ -127,9 +127,7 @@ fn drive_all<R: Threads + Sync, J: Rows + Sync, C: Compute + Sync, G: Gate>(
 // together take some three times as long as all firings that there may be, which goes with the nets
 // that a node has to compute. So a worker looks on until a run is done in which each is at work for
 // a quarter of the time; where workers wait for processors, what they lose does not grow with their
-// number; and who waits for one that has ended at its quota ends soon. A worker that found nothing
-// for some 50 times as long as a node takes to fire waits for one that does not run, and nobody
-// needs it.
+// number; and who waits for one that has ended at its quota ends soon.
 fn budget<J: Rows, C: Compute>(
     run: &Layout<J>,
     openings: &C,
@@ -154,8 +152,6 @@ fn budget<J: Rows, C: Compute>(
         takes,
         firings,
         looks: looks / workers.max(1) as u64,
-        dry: ((each / nodes.max(1)) as u64)
-            .saturating_mul(50)
-            .saturating_add(50),
+        dry: 0,
     }
 }
