@@ -3,10 +3,11 @@ use ds_outside::OpenGate;
 use ds_trial::{Wanted, gives, play, printed};
 use std::test::Fail;
 
-// Two sizes, each by one, two and eight workers.
+// Two sizes, each by one, two, eight and 64 workers.
 const SUMS: &str = "%$ desync demo 0 2 3 --jobs 1
 %$ desync demo 0 2 3 --jobs 2
 %$ desync demo 0 2 3 --jobs 8
+%$ desync demo 0 2 3 --jobs 64
 %= 0
 turns 3
 firings 36
@@ -15,6 +16,7 @@ fold 23695
 %$ desync demo 0 2 0 --jobs 1
 %$ desync demo 0 2 0 --jobs 2
 %$ desync demo 0 2 0 --jobs 8
+%$ desync demo 0 2 0 --jobs 64
 %= 0
 turns 0
 firings 0
@@ -24,7 +26,7 @@ fold 1347
 
 #[test]
 fn demonstrations_have_their_summaries(rt: HostRuntime) -> Result<(), Fail> {
-    play(&rt, SUMS, 6)
+    play(&rt, SUMS, 8)
 }
 
 #[test]
