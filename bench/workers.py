@@ -1,12 +1,19 @@
 #!/usr/bin/env python3
 """Times `desync run` and `desync demo` by numbers of workers, and compares their bytes.
 
-The netlists are pipelines of make_netlist.py whose registers are named as buses, so that
-`--clusters bus` gives a cluster for each stage, and two registers in a row. The numbers of workers
-take turns, so that what else the machine does meets all of them. For each number there are the
-least and the median of the seconds by the clock, from the start of a process to its end, and the
-median of its processor time. The exit status is 1 where two numbers of workers write different
-bytes.
+The netlists are even and uneven pipelines of make_netlist.py whose registers are named as buses, so
+that `--clusters bus` gives a cluster for each stage, the circuits of make_circuit.py, with one for
+each word, and two registers in a row. For each job and number of workers there are the median, the
+least and the greatest of the seconds by the clock, from the start of a process to its end, and the
+median of its processor time. The clocked run of a netlist stands above its runs, without a number
+of workers.
+
+The numbers of workers, 1, 2, 4, 8, 16 and 64 where `--jobs` names no others, take turns, so that
+what else the machine does meets all of them. `--before` names a second program, which takes turns
+with the first at each number of workers; then there is also how long the first takes where the
+second takes 1, by their medians. `--beside N` starts N other processes that never wait. `--times`,
+`--turns` and `--only` say how many runs of each there are, how many vectors wide clusters have, and
+which jobs. The exit status is 1 where the runs of a job write different bytes.
 """
 
 import argparse
@@ -20,8 +27,16 @@ import sys
 import tempfile
 import time
 
+import make_circuit
+
 HERE = os.path.dirname(os.path.abspath(__file__))
 PROGRAM = os.path.join(os.path.dirname(HERE), "crates", "desync", "out", "desync")
+# a circuit, how many times fewer vectors it has, and how large it is
+CIRCUITS = [
+    ("mul32", 1, ": 28 clusters, 3,008 tables"),
+    ("sha", 10, ": 243 clusters, 9,575 tables"),
+    ("cpu", 1, ": 29 clusters, 2,330 tables"),
+]
 TWO = """.model two
 .inputs clk a
 .outputs q
@@ -57,6 +72,13 @@ def uneven(folder, name, turns, widths):
     return [prefix + ".blif", prefix + ".vec"]
 
 
+def circuit(folder, turns, name):
+    """The files of a circuit in tables of at most four inputs."""
+    prefix = os.path.join(folder, name)
+    make_circuit.make(prefix, 1, turns, name)
+    return [prefix + ".blif", prefix + ".vec"]
+
+
 def two_registers(folder, turns):
     """The files of two registers in a row."""
     draw = random.Random(1)
@@ -80,6 +102,9 @@ def jobs_of(folder, turns):
     yield "5 stages of 100, 15 of 10", ["run"] + five + ["--clusters", "bus"]
     three = uneven(folder, "three", turns, [400, 200, 100] + [20] * 13)
     yield "stages of 400, 200, 100, 13 of 20", ["run"] + three + ["--clusters", "bus"]
+    for name, many, told in CIRCUITS:
+        files = circuit(folder, turns // many, name)
+        yield name + told, ["run"] + files + ["--clusters", "bus"]
     yield "1,000 clusters, %d vectors" % few, ["run"] + pipeline(folder, few, 25, 40, 10)
     yield "demo 1 4096 %d" % few, ["demo", "1", "4096", str(few)]
     yield "demo 1 1024 %d" % (turns // 16), ["demo", "1", "1024", str(turns // 16)]
@@ -101,21 +126,59 @@ def once(words):
     return text, used_by_children() - before, time.monotonic() - begin
 
 
-def line(name, command, jobs, times):
-    """Prints a job's line; whether all numbers of workers write the same bytes."""
-    first, same, taken = None, True, {count: [] for count in jobs}
+def turn_about(programs, command, jobs, times):
+    """(workers, program) -> seconds and processor times; and whether all wrote the same bytes."""
+    runs, texts = {}, set()
     for _ in range(times):
         for count in jobs:
-            words = command + (["--jobs", str(count)] if count else [])
-            text, used, seconds = once(words)
-            first = text if first is None else first
-            same = same and text == first
-            taken[count].append((seconds, used))
-    cells = []
+            for kind, program in programs.items():
+                words = [program] + command + (["--jobs", str(count)] if count else [])
+                text, used, seconds = once(words)
+                texts.add(text)
+                runs.setdefault((count, kind), []).append((seconds, used))
+    return runs, len(texts) == 1
+
+
+def told(runs):
+    """The median, the least and the greatest seconds, and the median of the processor time."""
+    seconds, used = zip(*runs)
+    spread = (statistics.median(seconds), min(seconds), max(seconds), statistics.median(used))
+    return "%.3f (%.3f to %.3f), %.2f" % spread
+
+
+def ratio(runs, before):
+    """How long a run takes where one before takes 1."""
+    now, then = (statistics.median(seconds for seconds, _ in some) for some in (runs, before))
+    return "%.2f" % (now / then)
+
+
+def report(name, programs, command, jobs, times):
+    """Prints a job's lines, one for each number of workers; whether all runs wrote the same."""
+    runs, same = turn_about(programs, command, jobs, times)
     for count in jobs:
-        seconds, used = zip(*taken[count])
-        cells.append("%6.3f %6.3f %6.2f" % (min(seconds), statistics.median(seconds), statistics.median(used)))
-    print("%-34s %s%s" % (name, " | ".join(cells), "" if same else "  DIFFERENT BYTES"), flush=True)
+        of_count = [runs[count, kind] for kind in programs]
+        cells = [name, str(count or "")] + [told(some) for some in of_count]
+        if len(of_count) == 2:
+            cells.append(ratio(*of_count))
+        print("| %s |" % " | ".join(cells), flush=True)
+    if not same:
+        print("| %s | DIFFERENT BYTES |" % name, flush=True)
+    return same
+
+
+def table(programs, given):
+    """Prints the lines of all jobs that are asked for; whether each job wrote the same bytes."""
+    head = ["Job", "Workers"] + list(programs) + (["ratio"] if len(programs) == 2 else [])
+    print("| %s |\n|%s" % (" | ".join(head), "---|" * len(head)))
+    same = True
+    with tempfile.TemporaryDirectory() as folder:
+        for name, words in jobs_of(folder, given.turns):
+            if given.only not in name:
+                continue
+            if "bus" in words:
+                clock = ["clock"] + words[1:3]
+                same = report("clock, " + name, programs, clock, [0], given.times) and same
+            same = report(name, programs, words, given.jobs, given.times) and same
     return same
 
 
@@ -125,22 +188,16 @@ def main():
     parser.add_argument("--turns", type=int, default=10000, help="vectors of wide clusters")
     parser.add_argument("--jobs", type=int, nargs="+", default=[1, 2, 4, 8, 16, 64], help="workers")
     parser.add_argument("--program", default=PROGRAM, help="the built desync")
+    parser.add_argument("--before", help="the built desync of before, timed turn about with it")
     parser.add_argument("--only", default="", help="the jobs whose names have this in them")
     parser.add_argument("--beside", type=int, default=0, help="other processes that never wait")
     given = parser.parse_args()
-    head = ["%3d workers" % count for count in given.jobs]
-    print("%-34s %s" % ("least, median, processor time", " | ".join("%-20s" % it for it in head)))
-    same = True
-    busy = [subprocess.Popen([sys.executable, "-c", "while True: pass"]) for _ in range(given.beside)]
+    programs = {"now": given.program, "before": given.before}
+    programs = {kind: os.path.abspath(path) for kind, path in programs.items() if path}
+    never_waits = [sys.executable, "-c", "while True: pass"]
+    busy = [subprocess.Popen(never_waits) for _ in range(given.beside)]
     try:
-        with tempfile.TemporaryDirectory() as folder:
-            for name, words in jobs_of(folder, given.turns):
-                if given.only not in name:
-                    continue
-                if "bus" in words:
-                    clock = [given.program, "clock"] + words[1:3]
-                    line("clock, " + name, clock, [0], given.times)
-                same = line(name, [given.program] + words, given.jobs, given.times) and same
+        same = table(programs, given)
     finally:
         for process in busy:
             process.kill()
