@@ -1,6 +1,7 @@
 -- What a fabric shows, and how its parts fit.
 use Rattle.std.specs.Prelude.{◌≡◌, ℕ, true}
 use Rattle.atomic_table.specs.Seated.{TableId}
+use Rattle.ds_scratch.specs.Scratch.{Memory}
 use Rattle.ds_rule.specs.Run.{Run}
 use Rattle.ds_rule.specs.Sound.{IsSound}
 use Rattle.ds_rule.specs.Words.{size}
@@ -9,11 +10,11 @@ use Rattle.ds_rule.specs.declared.view.View.{View}
 use Rattle.ds_fabric.specs.Ranged.{AreFirsts}
 use Rattle.ds_fabric.specs.declared.index.Index.{Index}
 
--- a table, its run, and how many values the row has in which a row is computed
+-- a table, its run, and what a scratch remembers in which its rows are computed
 pub record Base : Type 0 where
   pub table_id : TableId
   pub run : Run
-  pub nets : ℕ
+  pub memory : Memory
 
 -- a table is one of this run
 pub record IsOver (id : TableId) (key run : Run) : Type 0 where

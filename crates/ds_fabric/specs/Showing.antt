@@ -4,6 +4,7 @@ use mathlib.Core.Option.{some}
 use lib.ListN.{get_elem?}
 use Rattle.atomic_table.specs.Table.{Me}
 use Rattle.atomic_table.specs.Seated.{TableId}
+use Rattle.ds_scratch.specs.Scratch.{Kept, Memory, Remembers}
 use Rattle.ds_rule.specs.Run.{Run, events, node_of, next, turns, closing, opened}
 use Rattle.ds_rule.specs.Words.{width}
 use Rattle.ds_rule.specs.Sound.{IsSound}
@@ -23,32 +24,33 @@ pub record Showing : Type 0 where
   -- how many nodes it holds, and can hold
   pub many : ℕ
   pub room : ℕ
-  -- how many values the row has in which a row is computed
-  pub nets : ℕ
+  -- the scratch of its own
+  pub scratch : Kept
 
 -- the pass is one of this fabric
 pub record Belongs (f : Base) (p : Showing) : Type 0 where
   pub table : p.table_id ≡ f.table_id
   pub run : p.view.run ≡ f.run
-  pub nets : p.nets ≡ f.nets
+  pub remembers : Remembers f.memory p.scratch
 
--- the same, whatever row it has to work in
+-- the same, whatever its scratch remembers
 pub record IsOf (f : Base) (p : Showing) : Type 0 where
   pub table : p.table_id ≡ f.table_id
   pub run : p.view.run ≡ f.run
 
--- a pass with so many values in its row
-abbrev pub with_nets : ℕ → Showing → Showing
-with_nets n p = record p { nets = n }
+-- the scratch of a bare pass: of no net
+abbrev pub no_scratch : Kept
+no_scratch = record { nets = []; turns = [] }
 
--- only what the pass knows is other than before
-pub record Stays (old p : Showing) : Type 0 where
+-- only what the pass knows is other than before, and what its scratch has; that remembers this, if
+-- it did before
+pub record Stays (m : Memory) (old p : Showing) : Type 0 where
   pub table : p.table_id ≡ old.table_id
   pub run : p.view.run ≡ old.view.run
   pub holds_same : p.view.holds ≡ old.view.holds
   pub many : p.many ≡ old.many
   pub room : p.room ≡ old.room
-  pub nets : p.nets ≡ old.nets
+  pub remembers : Remembers m old.scratch → Remembers m p.scratch
 
 -- a fabric of this run, and a pass that holds all nodes, of which none has fired
 pub record IsBegun (run : Run) (f : Base) (p : Showing) : Type 0 where
@@ -64,7 +66,6 @@ pub record IsDealt (old : Showing) (node room : ℕ) (p : Showing) : Type 0 wher
   pub view : p.view ≡ only_cut (after_point old.view node)
   pub many : p.many ≡ 1
   pub room_is : p.room ≡ room
-  pub nets : p.nets ≡ old.nets
 
 -- what is left of the old one
 pub record IsLeft (old : Showing) (node : ℕ) (p : Showing) : Type 0 where
@@ -72,7 +73,7 @@ pub record IsLeft (old : Showing) (node : ℕ) (p : Showing) : Type 0 where
   pub view : p.view ≡ without_cut (after_point old.view node)
   pub many : p.many + 1 ≡ old.many
   pub room : p.room ≡ old.room
-  pub nets : p.nets ≡ old.nets
+  pub scratch : p.scratch ≡ old.scratch
 
 -- the room of the history of a node
 pub record HasRoom (run : Run) (l : ℕ) (h : History) : Type 0 where

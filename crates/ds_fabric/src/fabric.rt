@@ -1,13 +1,14 @@
 //! The shared table with its calls: `build` makes it and the pass of all nodes, `step` fires,
 //! `deal`, `deal_bare` and `gather` hand nodes from pass to pass, `finish` makes the record.
 ghost use Rattle.std.specs.Prelude.{◌≡◌, ◌<◌, ◌≤◌, ◌+◌, true, ℕ, OnOk, OnErr, IfOk, length};
+ghost use Rattle.ds_scratch.specs.Scratch.{Remembers};
 ghost use Rattle.ds_rule.specs.Sound.{IsSound};
 ghost use Rattle.ds_rule.specs.Log.{Recorded};
 ghost use Rattle.ds_rule.specs.Rule.{holds, tickets};
 ghost use Rattle.ds_rule.specs.Plays.{both};
 ghost use Rattle.ds_fabric.specs.Stepped.{Stepped};
 ghost use Rattle.ds_fabric.specs.Showing.{Belongs, IsBegun, IsCounted, IsDealt, IsLeft, IsOf};
-ghost use Rattle.ds_fabric.specs.Showing.{Stays, with_nets};
+ghost use Rattle.ds_fabric.specs.Showing.{Stays, no_scratch};
 
 use crate::build::{histories, lay};
 use crate::chain::Chains;
@@ -19,8 +20,9 @@ use crate::places::{alone, find, note_from, numbered, take_out};
 use crate::record::Record;
 use crate::step::Step;
 use atomic_table::Table;
-use ds_base::{LatchId, OutOfMemory, Row3};
+use ds_base::{LatchId, OutOfMemory};
 use ds_rule::{Layout, Order, Rows, View};
+use ds_scratch::Scratch;
 use std::alloc::Global;
 use std::marker::Model;
 use std::snapshot::Snapshot;
@@ -45,7 +47,7 @@ impl<'a, J: Rows, C: Compute> Model for Fabric<'a, J, C> {
     ghost view = { λ f. record {
       table_id = f.table.shared.table_id;
       run = f.run.now;
-      nets = C.scratch f.openings.now;
+      memory = C.memory f.openings.now;
     } };
 
     ghost invariant = { λ f. IsBuilt f.table.shared.table_id f.table.shared.key f.run.now f.index
@@ -70,7 +72,7 @@ impl<'a, J: Rows, C: Compute> Fabric<'a, J, C> {
         let chains = Chains::of(alloc, run)?;
         let nodes = histories(alloc, run)?;
         let places = numbered(alloc, run.nodes())?;
-        let nets = Row3::with_len(alloc, openings.nets())?;
+        let scratch = openings.scratch(alloc)?;
         let (table, seat) = Table::of_words(alloc, words.as_slice(), run)?;
         let room = run.nodes() as u32;
         let fabric = Fabric {
@@ -84,7 +86,7 @@ impl<'a, J: Rows, C: Compute> Fabric<'a, J, C> {
             seat,
             nodes,
             places,
-            nets,
+            scratch,
             room,
         };
         Ok((fabric, pass))
@@ -96,7 +98,7 @@ impl<'a, J: Rows, C: Compute> Fabric<'a, J, C> {
         requires fits { Belongs self.now pass.old }
         requires held { holds pass.old.view node ≡ true }
 
-        ensures same { Stays pass.old pass.new }
+        ensures same { Stays self.now.memory pass.old pass.new }
         ensures step { Stepped self.now.run pass.old.view node result pass.new.view }
     {
         self.step_node(
@@ -104,7 +106,7 @@ impl<'a, J: Rows, C: Compute> Fabric<'a, J, C> {
             &mut pass.nodes,
             &pass.places,
             node,
-            &mut pass.nets,
+            &mut pass.scratch,
         )
     }
 
@@ -121,14 +123,16 @@ impl<'a, J: Rows, C: Compute> Fabric<'a, J, C> {
         requires room { 0 < room }
 
         ensures ok { IfOk result (λ q. IsDealt pass.old node room q) }
+        ensures ok_remembers { IfOk result (λ q. Remembers self.now.memory q.scratch) }
         ensures ok_left { OnOk result (IsLeft pass.old node pass.new) }
         ensures same { OnErr result (pass.new ≡ pass.old) }
     {
-        self.deal_with(alloc, pass, node, room, self.openings.nets())
+        let scratch = self.openings.scratch(alloc)?;
+        self.deal_with(alloc, pass, node, room, scratch)
     }
 
-    /// The node goes to a new bare pass, which has room for it alone, and no row to work in: small,
-    /// so that there may be one for each node. It steps by `step_in`.
+    /// The node goes to a new bare pass, which has room for it alone, and a scratch of no net:
+    /// small, so that there may be one for each node. It steps by `step_in`.
     pub fn deal_bare(
         &self,
         alloc: Global,
@@ -138,27 +142,30 @@ impl<'a, J: Rows, C: Compute> Fabric<'a, J, C> {
         requires fits { IsOf self.now pass.old }
         requires held { holds pass.old.view node ≡ true }
 
-        ensures ok { IfOk result (λ q. IsDealt (with_nets 0 pass.old) node 1 q) }
+        ensures ok { IfOk result (λ q. IsDealt pass.old node 1 q) }
+        ensures ok_bare { IfOk result (λ q. q.scratch ≡ no_scratch) }
         ensures ok_left { OnOk result (IsLeft pass.old node pass.new) }
         ensures same { OnErr result (pass.new ≡ pass.old) }
     {
-        self.deal_with(alloc, pass, node, 1, 0)
+        let scratch = Scratch::of(alloc, 0, 0)?;
+        self.deal_with(alloc, pass, node, 1, scratch)
     }
 
-    // The node goes to a new pass, whose row has so many values.
+    // The node goes to a new pass, whose own scratch this is.
     fn deal_with(
         &self,
         alloc: Global,
         pass: &mut Pass,
         node: LatchId,
         room: u32,
-        count: usize,
+        scratch: Scratch,
     ) -> Result<Pass, OutOfMemory>
         requires fits { IsOf self.now pass.old }
         requires held { holds pass.old.view node ≡ true }
         requires room { 0 < room }
 
-        ensures ok { IfOk result (λ q. IsDealt (with_nets count pass.old) node room q) }
+        ensures ok { IfOk result (λ q. IsDealt pass.old node room q) }
+        ensures ok_scratch { IfOk result (λ q. q.scratch ≡ scratch) }
         ensures ok_left { OnOk result (IsLeft pass.old node pass.new) }
         ensures same { OnErr result (pass.new ≡ pass.old) }
     {
@@ -167,7 +174,6 @@ impl<'a, J: Rows, C: Compute> Fabric<'a, J, C> {
         let at = find(held, pass.places.as_slice(), number);
         let mut nodes = Vec::with_capacity(alloc, room as usize)?;
         let places = alone(alloc, self.run.nodes(), number, room)?;
-        let nets = Row3::with_len(alloc, count)?;
         let seat = cut(&self.table.shared, self.run, &mut pass.seat, number);
         let history = take_out(&mut pass.nodes, &mut pass.places, at);
         nodes.push_reserved(history);
@@ -175,7 +181,7 @@ impl<'a, J: Rows, C: Compute> Fabric<'a, J, C> {
             seat,
             nodes,
             places,
-            nets,
+            scratch,
             room,
         })
     }
@@ -187,7 +193,7 @@ impl<'a, J: Rows, C: Compute> Fabric<'a, J, C> {
         requires room { pass.old.many + other.many ≤ pass.old.room }
 
         ensures same { (pass.new.table_id ≡ pass.old.table_id) × (pass.new.room ≡ pass.old.room)
-            × (pass.new.nets ≡ pass.old.nets) }
+            × (pass.new.scratch ≡ pass.old.scratch) }
         ensures many { pass.new.many ≡ pass.old.many + other.many }
         ensures view { pass.new.view ≡ both pass.old.view other.view }
     {
@@ -195,7 +201,7 @@ impl<'a, J: Rows, C: Compute> Fabric<'a, J, C> {
             seat,
             mut nodes,
             places: _,
-            nets: _,
+            scratch: _,
             room: _,
         } = other;
         mend(&self.table.shared, self.run, &mut pass.seat, seat);
@@ -228,7 +234,7 @@ impl<'a, J: Rows, C: Compute> Fabric<'a, J, C> {
             seat,
             nodes,
             places,
-            nets: _,
+            scratch: _,
             room: _,
         } = pass;
         let many = shut(table, run, seat);

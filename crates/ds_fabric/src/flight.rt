@@ -3,6 +3,7 @@
 ghost use Rattle.std.specs.Prelude.{ℕ, List, ◌≡◌, ◌<◌, ◌≤◌, ◌+◌, ◌++◌, true, length, slice_set};
 ghost use mathlib.Core.Option.{some};
 ghost use lib.ListN.{get_elem?};
+ghost use Rattle.ds_scratch.specs.Scratch.{Remembers};
 ghost use Rattle.ds_rule.specs.Run.{next, opens, opened, Enabled};
 ghost use Rattle.ds_rule.specs.Words.{width};
 ghost use Rattle.ds_rule.specs.Rows.{row, rows_to, IsOpening};
@@ -24,8 +25,9 @@ use crate::index::Index;
 use crate::rows::{place_of, read_rows, write_row};
 use crate::step::Step;
 use atomic_table::Seat;
-use ds_base::{ArcId, EventId, LatchId, Row3};
+use ds_base::{ArcId, EventId, LatchId};
 use ds_rule::{Depart, Draw, Layout, Publish, Rows, View};
+use ds_scratch::Scratch;
 
 /// Fires the next event of the history's node, if what its sources show is enough.
 pub fn advance<J: Rows, C: Compute>(
@@ -36,13 +38,13 @@ pub fn advance<J: Rows, C: Compute>(
     index: &Index,
     seat: &mut Seat<u8, View>,
     history: &mut History,
-    nets: &mut Row3,
+    scratch: &mut Scratch,
 ) -> Step
     requires table { (seat.old.table_id ≡ board.now.table_id)
         × IsBuilt board.now.table_id board.now.key run.now index.now }
     requires chains { AreChained run.now chains.now }
     requires openings { (C.run openings.now ≡ run.now)
-        × (length nets.old ≡ C.scratch openings.now) }
+        × Remembers (C.memory openings.now) scratch.old }
     requires run { seat.old.me.0.run ≡ run.now }
     requires keeps { (nodes : List History) × (i : ℕ) × Keeps seat.old.me nodes
         × (get_elem? nodes i ≡ some history.old) }
@@ -53,7 +55,8 @@ pub fn advance<J: Rows, C: Compute>(
         → get_elem? nodes i ≡ some history.old → Keeps seat.new.me (slice_set nodes i history.new) }
     ensures node { history.new.node ≡ history.old.node }
     ensures same { (seat.new.me.0.run ≡ seat.old.me.0.run)
-        × (seat.new.me.0.holds ≡ seat.old.me.0.holds) × (length nets.new ≡ length nets.old) }
+        × (seat.new.me.0.holds ≡ seat.old.me.0.holds) }
+    ensures remembers { Remembers (C.memory openings.now) scratch.new }
 {
     let fired = history.fired;
     let event = run.next(history.node, fired);
@@ -66,7 +69,7 @@ pub fn advance<J: Rows, C: Compute>(
         let arc = ArcId::new(arc as u32);
         return Step::NotYet { arc, seen };
     }
-    let ticket = fire(board, run, openings, index, seat, history, nets);
+    let ticket = fire(board, run, openings, index, seat, history, scratch);
     let event = EventId::new(event as u32);
     Step::Fired {
         event,
@@ -83,12 +86,12 @@ fn fire<J: Rows, C: Compute>(
     index: &Index,
     seat: &mut Seat<u8, View>,
     history: &mut History,
-    nets: &mut Row3,
+    scratch: &mut Scratch,
 ) -> u64
     requires table { (seat.old.table_id ≡ board.now.table_id)
         × IsBuilt board.now.table_id board.now.key run.now index.now }
     requires openings { (C.run openings.now ≡ run.now)
-        × (length nets.old ≡ C.scratch openings.now) }
+        × Remembers (C.memory openings.now) scratch.old }
     requires rests { (seat.old.me.0.live ≡ true) × (seat.old.me.0.stage ≡ 0)
         × (seat.old.me.0.run ≡ run.now) }
     requires held { (holds seat.old.me.0 history.old.node ≡ true)
@@ -110,11 +113,11 @@ fn fire<J: Rows, C: Compute>(
         ) }
     ensures fresh { seat.old.me.0.drawn ≤ result }
     ensures noted { HasFired run.now history.old history.new result }
-    ensures nets { length nets.new ≡ length nets.old }
+    ensures remembers { Remembers (C.memory openings.now) scratch.new }
 {
     let word = history.node + 1;
     board.load::<Depart>(seat, word);
-    prepare(board, run, openings, index, seat, history, nets);
+    prepare(board, run, openings, index, seat, history, scratch);
     let ticket = board.fetch_add::<Draw>(seat, 0, 1);
     board.store::<Publish>(seat, word, history.fired + 1);
     history.note(run, ticket);
@@ -129,12 +132,12 @@ fn prepare<J: Rows, C: Compute>(
     index: &Index,
     seat: &mut Seat<u8, View>,
     history: &mut History,
-    nets: &mut Row3,
+    scratch: &mut Scratch,
 )
     requires table { (seat.old.table_id ≡ board.now.table_id)
         × IsBuilt board.now.table_id board.now.key run.now index.now }
     requires openings { (C.run openings.now ≡ run.now)
-        × (length nets.old ≡ C.scratch openings.now) }
+        × Remembers (C.memory openings.now) scratch.old }
     requires flight { IsAway run.now seat.old.me.0 history.old.node
         × (history.old.fired ≡ seen seat.old.me.0 history.old.node)
         × (history.old.node < run.now.nodes) }
@@ -153,11 +156,11 @@ fn prepare<J: Rows, C: Compute>(
         ≡ rows_to run.now history.old.node
         (opened run.now history.old.node (history.old.fired + 1)) }
     ensures same { HasOpened history.old history.new }
-    ensures nets { length nets.new ≡ length nets.old }
+    ensures remembers { Remembers (C.memory openings.now) scratch.new }
 {
     if run.opens_next(history.node, history.fired) {
         let turn = history.fired / 2 + 1;
-        open_row(board, run, openings, index, seat, history, nets, turn);
+        open_row(board, run, openings, index, seat, history, scratch, turn);
     }
 }
 
@@ -169,13 +172,13 @@ fn open_row<J: Rows, C: Compute>(
     index: &Index,
     seat: &mut Seat<u8, View>,
     history: &mut History,
-    nets: &mut Row3,
+    scratch: &mut Scratch,
     turn: u64,
 )
     requires table { (seat.old.table_id ≡ board.now.table_id)
         × IsBuilt board.now.table_id board.now.key run.now index.now }
     requires openings { (C.run openings.now ≡ run.now)
-        × (length nets.old ≡ C.scratch openings.now) }
+        × Remembers (C.memory openings.now) scratch.old }
     requires flight { IsOpening run.now seat.old.me.0 history.old.node turn
         × IsAway run.now seat.old.me.0 history.old.node }
     requires within { (history.old.node < run.now.latches) × (turn ≤ run.now.limit) }
@@ -187,7 +190,7 @@ fn open_row<J: Rows, C: Compute>(
     ensures value { history.new.rows.items
         ≡ history.old.rows.items ++ row run.now history.old.node turn }
     ensures same { HasOpened history.old history.new }
-    ensures nets { length nets.new ≡ length nets.old }
+    ensures remembers { Remembers (C.memory openings.now) scratch.new }
 {
     let node = history.node;
     history.from.clear();
@@ -198,7 +201,7 @@ fn open_row<J: Rows, C: Compute>(
         LatchId::new(node as u32),
         turn,
         from,
-        nets,
+        scratch,
         &mut history.rows,
     );
     let at = place_of(run, index.starts.as_slice(), node, turn);

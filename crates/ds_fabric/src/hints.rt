@@ -1,5 +1,5 @@
-//! Hints, by plain looks without a seat: they tell nothing, as what was seen may have changed
-//! since.
+//! Hints: what a node costs, and plain looks without a seat, which tell nothing, as what was seen
+//! may have changed since.
 ghost use Rattle.std.specs.Prelude.{◌<◌};
 
 use crate::compute::Compute;
@@ -24,6 +24,13 @@ impl<'a, J: Rows, C: Compute> Fabric<'a, J, C> {
         let events = self.run.nodes() + self.run.latches();
         let firings = (events as u64).saturating_mul(self.run.limit());
         self.table.shared.peek(0) >= firings
+    }
+
+    /// How much work an opening of the node is beside the firing, counted in tables.
+    pub fn cost(&self, node: LatchId) -> u64
+        requires near { node < self.now.run.nodes }
+    {
+        self.openings.cost(node)
     }
 
     // The next event of the node, which has fired so often, is below its limit, and plain looks

@@ -3,11 +3,11 @@
 //! A `Fabric` is seen as its table and its run, a `Pass` as what it holds and knows. `build` gives
 //! a table in which nothing has fired, and the pass of all nodes; `deal` and `gather` cut and join
 //! passes; `step` fires the next event of a node where the counts that it loads are enough, and
-//! says else which arc lacks tokens, in the pass's own row, and `step_in` in a `Scratch`, for the
-//! small passes of `deal_bare`; `finish` ends the run. A `Record` has the tickets of each
+//! says else which arc lacks tokens, in the pass's own scratch, and `step_in` in one that is lent,
+//! for the small passes of `deal_bare`; `finish` ends the run. A `Record` has the tickets of each
 //! event, which are the places of one legal list, and the rows of each node. How the row of a node
-//! comes from those of its producers is a `Compute`. Nothing is promised of time, or of which pass
-//! fires what.
+//! comes from those of its producers is a `Compute`, which says what a scratch remembers. Nothing
+//! is promised of time, or of which pass fires what.
 #![tactic(auto)]
 
 mod build;
@@ -33,6 +33,5 @@ pub use compute::Compute;
 pub use fabric::Fabric;
 pub use pass::Pass;
 pub use record::Record;
-pub use scratch::Scratch;
 pub use step::Step;
 pub use words::unpack;

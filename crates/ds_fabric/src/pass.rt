@@ -6,8 +6,9 @@ ghost use Rattle.ds_fabric.specs.Showing.{IsCounted};
 use crate::history::History;
 use crate::places::{find, has};
 use atomic_table::Seat;
-use ds_base::{LatchId, Row3};
+use ds_base::LatchId;
 use ds_rule::View;
+use ds_scratch::Scratch;
 use std::marker::Model;
 
 /// What one thread knows of a fabric, and the nodes that it holds.
@@ -16,12 +17,12 @@ pub struct Pass {
     pub(crate) seat: Seat<u8, View>,
     pub(crate) nodes: Vec<History>,
     pub(crate) places: Vec<usize>,
-    pub(crate) nets: Row3,
+    pub(crate) scratch: Scratch,
     pub(crate) room: u32,
 }
 
 impl Model for Pass {
-    ghost use Rattle.std.specs.Prelude.{length, vec_len, vec_capacity};
+    ghost use Rattle.std.specs.Prelude.{vec_len, vec_capacity};
     ghost use Rattle.ds_fabric.specs.Showing.{Showing, IsPass};
 
     ghost Value = { Showing };
@@ -31,7 +32,7 @@ impl Model for Pass {
       view = p.seat.me.0;
       many = vec_len p.nodes;
       room = p.room;
-      nets = length p.nets;
+      scratch = p.scratch;
     } };
 
     ghost invariant = { λ p. IsPass p.seat.me p.room (vec_capacity p.nodes) p.nodes.items

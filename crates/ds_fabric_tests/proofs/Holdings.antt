@@ -7,6 +7,7 @@ use Rattle.ds_rule.proofs.EventLaws.{events-is}
 use Rattle.ds_rule.specs.Rule.{holds}
 use Rattle.ds_rule.specs.Plays.{listed, both}
 use Rattle.ds_rule.specs.declared.view.View.{View}
+use Rattle.ds_scratch.specs.Scratch.{Remembers}
 use Rattle.ds_fabric.specs.Base.{Base}
 use Rattle.ds_fabric.specs.Showing.{Showing, IsBegun, IsDealt, IsLeft, Stays}
 use Rattle.ds_fabric_tests.specs.Toggle.{toggle, Holding, HoldsBoth, HoldsSlave, HoldsMaster}
@@ -34,13 +35,13 @@ begun run f p is b = record {
 
 -- a step
 pub stays : (held : List Bool) (many room : ℕ) (f : Base) (old p : Showing)
-    → Holding held many room f old → Stays old p → Holding held many room f p
+    → Holding held many room f old → Stays f.memory old p → Holding held many room f p
 stays held many room f old p h s = record {
   run_is = h.run_is;
   belongs = record {
     table = s.table ∙ h.belongs.table;
     run = s.run ∙ h.belongs.run;
-    nets = s.nets ∙ h.belongs.nets;
+    remembers = s.remembers h.belongs.remembers;
   };
   held_are = s.holds_same ∙ h.held_are;
   many_are = s.many ∙ h.many_are;
@@ -48,13 +49,14 @@ stays held many room f old p h s = record {
 }
 
 -- a deal of the master
-pub dealt : (f : Base) (old p : Showing) → HoldsBoth f old → IsDealt old 1 1 p → HoldsMaster f p
-dealt f old p h d = record {
+pub dealt : (f : Base) (old p : Showing) → HoldsBoth f old → IsDealt old 1 1 p
+    → Remembers f.memory p.scratch → HoldsMaster f p
+dealt f old p h d fresh = record {
   run_is = h.run_is;
   belongs = record {
     table = d.table ∙ h.belongs.table;
     run = ap (λ (v : View). v.run) d.view ∙ h.belongs.run;
-    nets = d.nets ∙ h.belongs.nets;
+    remembers = fresh;
   };
   held_are = ap (λ (v : View). v.holds) d.view
       ∙ ap (λ (xs : List Bool). set (replicate (length xs) false) 1 true) h.held_are;
@@ -68,7 +70,7 @@ left f old p h d = record {
   belongs = record {
     table = d.table ∙ h.belongs.table;
     run = ap (λ (v : View). v.run) d.view ∙ h.belongs.run;
-    nets = d.nets ∙ h.belongs.nets;
+    remembers = subst (Remembers f.memory) (sym d.scratch) h.belongs.remembers;
   };
   held_are = ap (λ (v : View). v.holds) d.view
       ∙ ap (λ (xs : List Bool). set xs 1 false) h.held_are;
@@ -78,15 +80,15 @@ left f old p h d = record {
 
 -- the slave's pass with the master's
 pub united : (f : Base) (old other p : Showing) → HoldsSlave f old → HoldsMaster f other
-    → p.table_id ≡ old.table_id → p.room ≡ old.room → p.nets ≡ old.nets
+    → p.table_id ≡ old.table_id → p.room ≡ old.room → p.scratch ≡ old.scratch
     → p.many ≡ old.many + other.many → p.view ≡ both old.view other.view → HoldsBoth f p
-united f old other p a b table room nets many view =
+united f old other p a b table room scratch many view =
     let v : View = old.view in let w : View = other.view in record {
       run_is = a.run_is;
       belongs = record {
         table = table ∙ a.belongs.table;
         run = ap (λ (x : View). x.run) view ∙ a.belongs.run;
-        nets = nets ∙ a.belongs.nets;
+        remembers = subst (Remembers f.memory) (sym scratch) a.belongs.remembers;
       };
       held_are = ap (λ (x : View). x.holds) view
           ∙ (ap (λ (r : Run). listed (λ l. holds v l || holds w l) r.nodes)

@@ -6,6 +6,7 @@ use Rattle.ds_base.specs.declared.value.Value.TheVariants.{Zero, One}
 use Rattle.ds_marked.specs.declared.marked.Arc.{Arc}
 use Rattle.ds_rule.specs.declared.layout.DataEdge.{DataEdge}
 use Rattle.ds_rule.specs.Run.{Run}
+use Rattle.ds_scratch.specs.Scratch.{Memory}
 use Rattle.ds_fabric.specs.Base.{Base}
 use Rattle.ds_fabric.specs.Showing.{Showing, Belongs}
 
@@ -34,6 +35,10 @@ toggle = record {
   slack = 0;
   rows = turned;
 }
+
+-- a scratch of one net remembers nothing
+abbrev pub one_net : Memory
+one_net = record { nets = 1; slots = []; rows = [] }
 
 -- a pass of a fabric of this run, which holds these nodes, so many, and has such room
 pub record Holding (held : List Bool) (many room : ℕ) (f : Base) (p : Showing) : Type 0 where

@@ -1,12 +1,13 @@
 //! A register that turns over each turn, on which the tests stand.
 ghost use Rattle.std.specs.Prelude.{◌≡◌, ◌<◌, ℕ, IfOk, OnOk};
-ghost use Rattle.ds_fabric_tests.specs.Toggle.{arc, edge, turned, toggle};
+ghost use Rattle.ds_fabric_tests.specs.Toggle.{arc, edge, turned, toggle, one_net};
 ghost use Rattle.ds_fabric_tests.specs.Toggle.{HoldsBoth, HoldsSlave, HoldsMaster};
 
-use ds_base::{ArcId, EventId, LatchId, OutOfMemory, Row3};
+use ds_base::{ArcId, EventId, LatchId, OutOfMemory};
 use ds_fabric::{Compute, Fabric, Pass, Record, Step};
 use ds_marked::Arc;
 use ds_rule::{DataEdge, Layout, Rows};
+use ds_scratch::Scratch;
 use std::alloc::Global;
 
 /// Node 0 is the slave, node 1 the master.
@@ -20,9 +21,13 @@ impl Rows for Toggle {
 impl Compute for Toggle {
     ghost run = { λ _. toggle };
 
-    ghost scratch = { λ _. 1 };
+    ghost memory = { λ _. one_net };
 
-    fn nets(&self) -> usize {
+    fn scratch(&self, alloc: Global) -> Result<Scratch, OutOfMemory> {
+        Scratch::of(alloc, 1, 0)
+    }
+
+    fn cost(&self, node: LatchId) -> u64 {
         1
     }
 
@@ -35,7 +40,7 @@ impl Compute for Toggle {
         node: LatchId,
         turn: u64,
         from: &[u64],
-        nets: &mut Row3,
+        scratch: &mut Scratch,
         into: &mut Vec<u64>,
     ) {
         into.push_reserved(turn % 2);

@@ -32,7 +32,7 @@ in_place s order vectors count l k low early =
     ∙ ap (foreseen s order vectors (node_at l)) (div-mul-add k count l low))
 
 -- a node by its number
-node_by_number : (n : Node) → node_at (number_of n) ≡ n
+pub node_by_number : (n : Node) → node_at (number_of n) ≡ n
 node_by_number In = refl
 node_by_number Out = refl
 node_by_number (Master i) =

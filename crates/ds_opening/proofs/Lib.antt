@@ -7,3 +7,7 @@ pub mod Slaves
 pub mod Given
 pub mod Foreseen
 pub mod ForeseenRows
+pub mod Learnt
+pub mod Slots
+pub mod Fed
+pub mod Noting

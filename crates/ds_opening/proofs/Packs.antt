@@ -1,10 +1,12 @@
 -- Words of values, written and read back.
-use Rattle.std.proofs.Common.{◌≡◌, ◌∙◌, ℕ, zero, suc, ◌+◌, ◌-◌, ◌*◌, ◌/◌, ◌%◌, ◌^◌, ◌<◌, ◌≤◌, List, [], ◌∷◌, ◌++◌, length, get_or, map, take, drop, refl, ap, sym, subst, arith, inl, inr, set}
+use Rattle.std.proofs.Common.{◌≡◌, ◌≢◌, ◌∙◌, ℕ, zero, suc, ◌+◌, ◌-◌, ◌*◌, ◌/◌, ◌%◌, ◌^◌, ◌<◌, ◌≤◌, List, [], ◌∷◌, ◌++◌, length, get_or, map, take, drop, refl, ap, sym, subst, arith, inl, inr, set}
 use Rattle.std.specs.List.{range_with_len}
 use Rattle.std.proofs.lemmas.List.{get_or-drop, get_or-take, length-drop, length-take, length-map, get_or-map, get_or-set_other, get_or-set_same, take-map, take_all, take_more, append_assoc}
 use Rattle.std.specs.Prelude.{Contains}
 use Rattle.std.proofs.lemmas.Bool.{cases_eq}
-use Rattle.std.proofs.lemmas.List.Elements.{Contains-append_cases}
+use Rattle.std.proofs.lemmas.List.Elements.{Contains-append_cases, Contains-append_left, Contains-push}
+use Rattle.ds_settle.specs.Settle.{LeavesOthers}
+use Rattle.ds_settle.proofs.SetBits.{value_at-set_other}
 use Rattle.std.proofs.lemmas.List.FromFn.{get_or-map-range_with_len, map-range_with_len_more}
 use Rattle.std.proofs.lemmas.Nat.{div-mul-add, mod-mul-add}
 use Rattle.std.proofs.lemmas.Grind.{pow_more}
@@ -133,3 +135,16 @@ learns_more known these i net old row new value inside net_is within value_is is
 
 pub all_learnt : (known : Row) (these : List ℕ) (i : ℕ) (old new : Row) → length these ≤ i → Learns known (take i these) old new → Learns known these old new
 all_learnt known these i old new past learns = subst (λ (xs : List ℕ). Learns known xs old new) (take_all i these past) learns
+
+-- one net more, and the others as they were
+pub others_more : (these : List ℕ) (i net : ℕ) (old row new : Row) (value : Value) → i < length these → net ≡ get_or these i net → new ≡ set row net value
+    → LeavesOthers (take i these) old row → LeavesOthers (take (i + 1) these) old new
+others_more these i net old row new value inside net_is is before other free =
+    let split : take (i + 1) these ≡ take i these ++ get_or these i net ∷ [] = take_more these i net inside in
+    let not_here : other ≢ net = λ e. free (subst (λ (xs : List ℕ). Contains xs other) (sym split)
+    (subst (λ (x : ℕ). Contains (take i these ++ get_or these i net ∷ []) x) (sym (e ∙ net_is)) (Contains-push (take i these) (get_or these i net)))) in
+    ap (λ (r : Row). value_at r other) is ∙ (value_at-set_other row net other value not_here
+    ∙ before other (λ has. free (subst (λ (xs : List ℕ). Contains xs other) (sym split) (Contains-append_left (take i these) (get_or these i net ∷ []) other has))))
+
+pub all_others : (these : List ℕ) (i : ℕ) (old new : Row) → length these ≤ i → LeavesOthers (take i these) old new → LeavesOthers these old new
+all_others these i old new past others = subst (λ (xs : List ℕ). LeavesOthers xs old new) (take_all i these past) others

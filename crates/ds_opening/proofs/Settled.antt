@@ -77,7 +77,7 @@ module _ (s : Split) (split : IsSplit s) (vectors : List Row) (state nets : ℕ 
             agree_from_map (value_at old) (value_at (nets k)) (nets_of s (Slave d)) row source in_slave)
       ]
 
-  sources_agree : All (λ net. value_at old net ≡ value_at (nets k) net) cone.sources
+  pub sources_agree : All (λ net. value_at old net ≡ value_at (nets k) net) cone.sources
   sources_agree j d inside =
       let source : ℕ = get_or cone.sources j d in
       let in_cone : Contains cone.sources source = Contains-get_or cone.sources j d inside in

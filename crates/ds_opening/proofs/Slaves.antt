@@ -63,7 +63,7 @@ module _ (s : Split) (vectors : List Row) (number opened : ℕ) (some : number �
       ∙ (ap words_of (size ∙ sym nets) ∙ ap (λ (m : Node). words_of (length (nets_of s m))) (sym is))))
 
 -- the cone of a node that settles stands at half its number
-place_is : (n : Node) → IsSettling n → cone_place n ≡ number_of n / 2
+pub place_is : (n : Node) → IsSettling n → cone_place n ≡ number_of n / 2
 place_is In settling = absurd settling
 place_is Out settling = omega arith
 place_is (Master i) settling = omega arith

@@ -46,11 +46,11 @@ module _ (s : Split) (split : IsSplit s) (range : IsInRange s.circuit) where
       All-map IsNet (λ r. get_or (register_nets s.circuit) r 0) (members s i) (λ k d inside. outputs_within (get_or (members s i) k d) 0 (omega (arith, member_low i is_node k d inside)))
 
 -- no node reads OUT, and none that settles reads a master
-no_out : (s : Split) (n : Node) → IsDataEdge s Out n → ⊥
+pub no_out : (s : Split) (n : Node) → IsDataEdge s Out n → ⊥
 no_out s _ (to_master source is_p inside supplies) = source
 no_out s _ (to_out source is_p supplies) = source
 
-no_master : (s : Split) (i : ℕ) (n : Node) → IsDataEdge s (Master i) n → IsSettling n → ⊥
+pub no_master : (s : Split) (i : ℕ) (n : Node) → IsDataEdge s (Master i) n → IsSettling n → ⊥
 no_master s i _ (to_master source is_p inside supplies) settling = source
 no_master s i _ (to_out source is_p supplies) settling = source
 no_master s i _ (to_slave inside) settling = settling
@@ -116,7 +116,7 @@ module _ (s : Split) (split : IsSplit s) (bits : List (List ℕ)) (one_each : le
       (subst (λ (these : List ℕ). AreInside these nets) (sym (nets_are p.node p.is_node))
       (subst (λ (m : ℕ). All (λ net. net < m) (nets_of s p.node)) (sym size) (nets_within s split range p.node p.is_node)))
 
-  supplied : (filled : Row) → AreLearnt known bits numbers filled → IsSupplied s (numbered s t.vectors t.state t.nets) t.opened n filled
+  pub supplied : (filled : Row) → AreLearnt known bits numbers filled → IsSupplied s (numbered s t.vectors t.state t.nets) t.opened n filled
   supplied filled learnt p is_p edge =
       let (k, inside, is) = fed.producers.all p edge in
       let size : length numbers ≡ length fed.producers.nodes = ap (λ (ns : List ℕ). length ns) fed.producers.are ∙ length-map fed.producers.nodes number_of in

@@ -4,3 +4,4 @@ pub mod Settled
 pub mod Packed
 pub mod Woven
 pub mod Foreseen
+pub mod Noted

@@ -1,65 +1,77 @@
-//! What the opening of a node computes.
-ghost use Rattle.std.specs.Prelude.{◌≡◌, ◌≤◌, ◌+◌, ◌%◌, ◌⊎◌, ◌↔◌, ◌++◌, length, IsTrue};
-ghost use Rattle.std.specs.Prelude.{vec_capacity, vec_len};
+//! What the opening of a node computes, in a row that remembers what was computed in a turn.
+ghost use Rattle.std.specs.Prelude.{◌≡◌, ◌≤◌, ◌<◌, ◌+◌, ◌%◌, ◌⊎◌, ◌↔◌, ◌++◌, ℕ, All, IsTrue, []};
+ghost use Rattle.std.specs.Prelude.{◌^◌, length};
+ghost use Rattle.std.specs.Prelude.{slice_index_or, vec_capacity, vec_len};
+ghost use Rattle.ds_base.specs.Values.{Row};
+ghost use Rattle.ds_cover.specs.Cover.{values_at};
+ghost use Rattle.ds_design.specs.Banked.{IsBankOf};
 ghost use Rattle.ds_design.specs.InRange.{IsInRange};
 ghost use Rattle.ds_design.specs.Circuit.{columns};
-ghost use Rattle.ds_latch.specs.Node.{Node, IsNode, number_of, nets_of};
+ghost use Rattle.ds_groups.specs.Groups.{group_of, tables_in};
+ghost use Rattle.ds_latch.specs.Node.{Node, IsNode, number_of, nets_of, nodes};
 ghost use Rattle.ds_latch.specs.Plan.{IsSplit};
-ghost use Rattle.ds_opening.specs.Packed.{packed, words_of};
-ghost use Rattle.ds_opening.specs.Woven.{AreCones, IsConeAt, IsFed, IsOpening};
-ghost use Rattle.ds_opening.specs.Woven.{IsSettlingAt, Turn, taken};
+ghost use Rattle.ds_scratch.specs.Scratch.{Memory, Remembers};
+ghost use Rattle.ds_settle.specs.Cone.{nets_of_tables};
+ghost use Rattle.ds_opening.specs.Packed.{AreInside, AreLearnt, packed, packed_rows};
+ghost use Rattle.ds_opening.specs.Packed.{words_of as words_for};
+ghost use Rattle.ds_opening.specs.Noted.{AreConeGroups, AreFed, AreGroupSlots, AreRowsLearnt};
+ghost use Rattle.ds_opening.specs.Noted.{IsAsKnown};
+ghost use Rattle.ds_opening.specs.Noted.{IsAsLong, IsLearnt, IsNotedOpening, IsSettlingOpening};
+ghost use Rattle.ds_opening.specs.Noted.{IsSlot};
+ghost use Rattle.ds_opening.specs.Woven.{Turn, taken};
 
-use crate::fill::fill;
-use crate::packed::{push_all, push_row, push_words};
-use ds_base::{LatchId, Row3};
-use ds_design::Vectors;
+use crate::packed::{push_all, push_row, push_words, put_values, words_of};
+use ds_base::{LatchId, NetId, Seq};
+use ds_design::{Netlist, Vectors};
+use ds_groups::Groups;
 use ds_latch::Latches;
-use ds_settle::{Cone, settle_part};
+use ds_scratch::Scratch;
+
+/// The opening of the node with a number, in a turn, from 1 on: its producers, and the words of
+/// their rows, which stand one after another.
+#[derive(Drop)]
+pub struct Opening<'a> {
+    pub number: usize,
+    pub turn: u64,
+    pub producers: &'a [LatchId],
+    pub from: &'a [u64],
+}
 
 /// Puts the words of the row that a node takes behind what stands in `into`, from the words of its
-/// producers' rows, which stand one after another: of IN the next vector, of a slave the row of its
-/// master, of the others what settles. What stands in `nets` is free before and after. It takes no
-/// memory.
+/// producers' rows: of IN the next vector, of a slave the row of its master, of the others what
+/// settles. That is worked out in a row that remembers: what another node has learnt or set in this
+/// turn is not learnt or set again. The slots of the row are those of the groups, then those of the
+/// nodes. It takes no memory.
 pub fn open(
     latches: &Latches,
     vectors: &Vectors,
-    cones: &[Cone],
-    number: usize,
-    opened: usize,
-    producers: &[LatchId],
-    from: &[u64],
-    nets: &mut Row3,
+    groups: &Groups,
+    opening: &Opening,
+    scratch: &mut Scratch,
     into: &mut Vec<u64>,
 )
     requires design { IsInRange latches.now.circuit × IsSplit latches.now }
     requires width { vectors.now.width ≡ length (columns latches.now.circuit) }
-    requires cones { AreCones latches.now cones.now }
-    requires opening { (n : Node) × (t : Turn)
-        × IsOpening latches.now vectors.now.rows number opened producers.now from.now n t }
-    requires nets { length nets.old ≡ length latches.now.circuit.nets }
-    requires room { (n : Node) → IsNode latches.now n → number_of n ≡ number
-        → vec_len into.old + words_of (length (nets_of latches.now n)) ≤ vec_capacity into.old }
+    requires groups { AreConeGroups latches.now groups.now }
+    requires opening { (n : Node) × (t : Turn) × (m : Memory)
+        × IsNotedOpening latches.now vectors.now.rows groups.now opening.now scratch.old n t m }
+    requires room { (n : Node) → IsNode latches.now n → number_of n ≡ opening.now.number
+        → vec_len into.old + words_for (length (nets_of latches.now n)) ≤ vec_capacity into.old }
 
-    ensures value { (n : Node) (t : Turn) → IsOpening latches.now vectors.now.rows number opened
-        producers.now from.now n t
+    ensures value { (n : Node) (t : Turn) (m : Memory)
+        → IsNotedOpening latches.now vectors.now.rows groups.now opening.now scratch.old n t m
         → into.new.items ≡ into.old.items ++ packed (taken latches.now t n) }
-    ensures nets { length nets.new ≡ length nets.old }
+    ensures memory { (n : Node) (t : Turn) (m : Memory)
+        → IsNotedOpening latches.now vectors.now.rows groups.now opening.now scratch.old n t m
+        → Remembers m scratch.new }
     ensures room { vec_capacity into.new ≡ vec_capacity into.old }
 {
-    if number == 0 {
-        push_row(vectors.row(opened), into);
-    } else if has_cone(number) {
-        open_settled(
-            latches,
-            &cones[number / 2],
-            number,
-            producers,
-            from,
-            nets,
-            into,
-        );
+    if opening.number == 0 {
+        push_row(vectors.row((opening.turn - 1) as usize), into);
+    } else if has_cone(opening.number) {
+        open_groups(latches, groups, opening, scratch, into);
     } else {
-        push_all(from, into);
+        push_all(opening.from, into);
     }
 }
 
@@ -71,31 +83,126 @@ fn has_cone(number: usize) -> bool
 }
 
 // The same of a node that settles.
-fn open_settled(
+fn open_groups(
     latches: &Latches,
-    cone: &Cone,
-    number: usize,
-    producers: &[LatchId],
-    from: &[u64],
-    nets: &mut Row3,
+    groups: &Groups,
+    opening: &Opening,
+    scratch: &mut Scratch,
     into: &mut Vec<u64>,
 )
     requires design { IsInRange latches.now.circuit × IsSplit latches.now }
-    requires cone { IsConeAt latches.now number cone.now }
-    requires fed { (n : Node) × (t : Turn) × IsSettlingAt latches.now n number
-        × IsFed latches.now n producers.now from.now t }
-    requires nets { length nets.old ≡ length latches.now.circuit.nets }
-    requires room { (n : Node) → IsSettlingAt latches.now n number
-        → vec_len into.old + words_of (length (nets_of latches.now n)) ≤ vec_capacity into.old }
+    requires groups { AreConeGroups latches.now groups.now }
+    requires settling { (n : Node) × (t : Turn) × (m : Memory)
+        × IsSettlingOpening latches.now groups.now opening.now scratch.old n t m }
+    requires room { (n : Node) → IsNode latches.now n → number_of n ≡ opening.now.number
+        → vec_len into.old + words_for (length (nets_of latches.now n)) ≤ vec_capacity into.old }
 
-    ensures value { (n : Node) (t : Turn) → IsSettlingAt latches.now n number
-        → IsFed latches.now n producers.now from.now t
+    ensures value { (n : Node) (t : Turn) (m : Memory)
+        → IsSettlingOpening latches.now groups.now opening.now scratch.old n t m
         → into.new.items ≡ into.old.items ++ packed (taken latches.now t n) }
-    ensures nets { length nets.new ≡ length nets.old }
+    ensures memory { (n : Node) (t : Turn) (m : Memory)
+        → IsSettlingOpening latches.now groups.now opening.now scratch.old n t m
+        → Remembers m scratch.new }
     ensures room { vec_capacity into.new ≡ vec_capacity into.old }
 {
-    let bits = latches.bits();
-    fill(bits, producers, from, nets);
-    settle_part(latches.netlist(), cone, nets);
-    push_words(nets, bits[number].as_slice(), into);
+    // The edges are read for the fact that there are not too many nodes.
+    let (bits, _edges) = (latches.bits(), latches.edges());
+    learn_rows(bits, groups.count(), opening, scratch);
+    let list = groups.of_cone(opening.number / 2);
+    set_groups(latches.netlist(), groups, list, opening.turn, scratch);
+    push_words(scratch.nets(), bits[opening.number].as_slice(), into);
+}
+
+// Gives the nets of the producers the values of their rows, where they do not have them.
+fn learn_rows(bits: &[Seq<NetId>], first: usize, opening: &Opening, scratch: &mut Scratch)
+    requires turn { 0 < opening.now.turn }
+    requires inside { All (λ node. node < length bits.now) opening.now.producers.now }
+    requires within { All (λ node. AreInside (slice_index_or bits.now node []) scratch.old.nets)
+        opening.now.producers.now }
+    requires slots { first + length bits.now ≤ length scratch.old.turns }
+    requires few { first + length bits.now < 2 ^ 64 }
+    requires from { (known : Row)
+        × (opening.now.from.now ≡ packed_rows known bits.now opening.now.producers.now) }
+
+    ensures value { (m : Memory) (known : Row)
+        → opening.now.from.now ≡ packed_rows known bits.now opening.now.producers.now
+        → All (λ node. IsSlot m opening.now.turn (first + node) (slice_index_or bits.now node [])
+        known) opening.now.producers.now
+        → Remembers m scratch.old
+        → AreRowsLearnt m known bits.now opening.now.producers.now scratch.new }
+    ensures same { IsAsLong scratch.old scratch.new }
+{
+    let mut rest = opening.from;
+    for node in opening.producers {
+        let these = bits[node.index()].as_slice();
+        let (row, others) = rest.split_at(words_of(these.len()));
+        learn_row(row, these, first + node.index(), opening.turn, scratch);
+        rest = others;
+    }
+}
+
+// The same of one producer.
+fn learn_row(row: &[u64], these: &[NetId], slot: usize, turn: u64, scratch: &mut Scratch)
+    requires turn { 0 < turn }
+    requires within { AreInside these.now scratch.old.nets }
+    requires slot { slot < length scratch.old.turns }
+    requires words { length row.now ≡ words_for (length these.now) }
+
+    ensures value { (m : Memory) (known : Row) → IsSlot m turn slot these.now known
+        → row.now ≡ packed (values_at known these.now) → Remembers m scratch.old
+        → IsLearnt m known these.now scratch.old scratch.new }
+    ensures same { IsAsLong scratch.old scratch.new }
+{
+    if scratch.is_noted(slot, turn) {
+        return;
+    }
+    put_values(row, these, scratch.nets_mut());
+    scratch.note(slot, turn);
+}
+
+// Sets the tables of these groups, one group after another, where they are not set.
+fn set_groups(netlist: &Netlist, groups: &Groups, list: &[usize], turn: u64, scratch: &mut Scratch)
+    requires turn { 0 < turn }
+    requires packed { IsBankOf netlist.now.tables groups.now.bank }
+    requires groups { All (λ a. a < length groups.now.groups) list.now }
+    requires tables { (a : ℕ) → All (λ k. k < length netlist.now.tables) (group_of groups.now a) }
+    requires nets { length scratch.old.nets ≡ length netlist.now.nets }
+    requires slots { length groups.now.groups ≤ length scratch.old.turns }
+
+    ensures value { (m : Memory) (known : Row) → AreGroupSlots netlist.now groups.now m turn known
+        → AreFed netlist.now known (IsAsKnown known scratch.old.nets)
+        (tables_in groups.now list.now)
+        → Remembers m scratch.old
+        → IsLearnt m known (nets_of_tables netlist.now (tables_in groups.now list.now)) scratch.old
+        scratch.new }
+    ensures same { IsAsLong scratch.old scratch.new }
+{
+    for group in list {
+        set_group(netlist, groups, *group, turn, scratch);
+    }
+}
+
+// The same of one group.
+fn set_group(netlist: &Netlist, groups: &Groups, number: usize, turn: u64, scratch: &mut Scratch)
+    requires turn { 0 < turn }
+    requires packed { IsBankOf netlist.now.tables groups.now.bank }
+    requires number { number < length groups.now.groups }
+    requires tables { All (λ k. k < length netlist.now.tables) (group_of groups.now number) }
+    requires nets { length scratch.old.nets ≡ length netlist.now.nets }
+    requires slot { number < length scratch.old.turns }
+
+    ensures value { (m : Memory) (known : Row)
+        → IsSlot m turn number (nets_of_tables netlist.now (group_of groups.now number)) known
+        → AreFed netlist.now known (IsAsKnown known scratch.old.nets) (group_of groups.now number)
+        → Remembers m scratch.old
+        → IsLearnt m known (nets_of_tables netlist.now (group_of groups.now number)) scratch.old
+        scratch.new }
+    ensures same { IsAsLong scratch.old scratch.new }
+{
+    if scratch.is_noted(number, turn) {
+        return;
+    }
+    let _design = netlist.design();
+    groups.set(number, scratch.nets_mut());
+    scratch.note(number, turn);
 }

@@ -6,6 +6,7 @@ ghost use Rattle.ds_base.specs.Word.{code_of, number_of_values, word_of};
 ghost use Rattle.ds_base.specs.declared.value.Value.{Value};
 ghost use Rattle.ds_base.specs.declared.value.Value.TheVariants.{Zero};
 ghost use Rattle.ds_cover.specs.Cover.{values_at};
+ghost use Rattle.ds_settle.specs.Settle.{LeavesOthers};
 ghost use Rattle.ds_opening.specs.Packed.{Learns, packed, words_of as words_for};
 
 use ds_base::{NetId, Row3, Value};
@@ -100,6 +101,7 @@ pub(crate) fn put_values(words: &[u64], these: &[NetId], nets: &mut Row3)
     requires words { length words.now ≡ words_for (length these.now) }
     ensures value { (known : Row) → words.now ≡ packed (values_at known these.now)
         → Learns known these.now nets.old nets.new }
+    ensures others { LeavesOthers these.now nets.old nets.new }
     ensures same { length nets.new ≡ length nets.old }
 {
     for (i, net) in these.iter().enumerate() {

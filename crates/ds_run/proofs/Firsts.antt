@@ -13,7 +13,7 @@ use Rattle.ds_design.specs.Circuit.{register_nets}
 use Rattle.ds_latch.specs.Node.{Node, In, Out, Master, Slave, Split, IsNode, number_of, nodes}
 use Rattle.ds_latch.specs.Node.{members, nets_of}
 use Rattle.ds_design.specs.Rows.{Rows}
-use Rattle.ds_settle.specs.Cone.{Parts as Cone}
+use Rattle.ds_groups.specs.Groups.{Grouping}
 use Rattle.ds_opening.specs.Packed.{words_of}
 use Rattle.ds_rule.specs.Run.{Run}
 use Rattle.ds_rule.specs.Words.{value, values_at as values_in, width}
@@ -52,9 +52,9 @@ cluster_at number = (number - 3) / 2
 abbrev pub IsSlaveNumber : ℕ → Type 0
 IsSlaveNumber number = (3 ≤ number) × (number % 2 ≡ 1)
 
-module _ {s : Split} {vectors : Rows} {run : Run} {cones : List Cone}
+module _ {s : Split} {vectors : Rows} {run : Run} {groups : Grouping} {order : List ℕ}
     {producers : List (List ℕ)} {starts : List Row}
-    (w : AreOpenings s vectors run cones producers starts) where
+    (w : AreOpenings s vectors run groups order producers starts) where
   -- a node that has words is one of the split design
   low : (l i : ℕ) → i < width run l → l < nodes s
   low l i inside =

@@ -14,3 +14,4 @@ pub mod Windows
 pub mod Played
 pub mod Fired
 pub mod Halted
+pub mod Remembered

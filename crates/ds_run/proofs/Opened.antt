@@ -7,7 +7,7 @@ use Rattle.ds_latch.specs.Node.{Node, Split, IsNode, number_of, nodes}
 use Rattle.ds_latch.specs.Node.{nets_of}
 use Rattle.ds_latch.specs.Order.{IsDataEdge, open_tokens}
 use Rattle.ds_design.specs.Rows.{Rows}
-use Rattle.ds_settle.specs.Cone.{Parts as Cone}
+use Rattle.ds_groups.specs.Groups.{Grouping}
 use Rattle.ds_opening.specs.Packed.{packed, words_of}
 use Rattle.ds_opening.specs.Woven.{AreProducers, IsOpening, Turn, read_of, taken}
 use Rattle.ds_rule.specs.Run.{Run}
@@ -20,9 +20,9 @@ use Rattle.ds_run.proofs.Rows.{row-is}
 use Rattle.ds_run.proofs.Joined.{numbered_inside}
 use Rattle.ds_run.proofs.Supplied.{producers_are, supply-woven}
 
-module _ {s : Split} {vectors : Rows} {run : Run} {cones : List Cone}
+module _ {s : Split} {vectors : Rows} {run : Run} {groups : Grouping} {order : List ℕ}
     {producers : List (List ℕ)} {starts : List Row}
-    (w : AreOpenings s vectors run cones producers starts) where
+    (w : AreOpenings s vectors run groups order producers starts) where
   -- a turn of the clocked run
   abbrev turn_at : ℕ → Turn
   turn_at opened = record {
@@ -49,6 +49,7 @@ module _ {s : Split} {vectors : Rows} {run : Run} {cones : List Cone}
     pub turn : Turn
     pub opens : IsOpening s vectors.rows l opened numbers from node turn
     pub gives : packed (taken s turn node) ≡ row run l (suc opened)
+    pub nets_are : turn.nets turn.opened ≡ w.planned.values_are.nets opened
 
   opens_node : (n : Node) → IsNode s n → (opened : ℕ) → opened < length vectors.rows
       → (numbers from : List ℕ) → numbers ≡ producers_in run.edges (number_of n)
@@ -82,6 +83,7 @@ module _ {s : Split} {vectors : Rows} {run : Run} {cones : List Cone}
           turn = refl;
         };
         gives = sym (row-is w.planned w.sound n is_node (suc opened) (omega arith));
+        nets_are = refl;
       }
 
   -- the opening of the node with a number, as it is asked for

@@ -1,6 +1,9 @@
 //! What computes the rows of a run.
 ghost use Rattle.std.specs.Prelude.{◌≡◌, ◌≤◌, ◌%◌, ◌↔◌, length, IfOk, IsTrue};
 ghost use Rattle.ds_design.specs.Circuit.{columns};
+ghost use Rattle.ds_design.specs.InRange.{IsInRange};
+ghost use Rattle.ds_latch.specs.Plan.{IsSplit};
+ghost use Rattle.ds_opening.specs.Noted.{AreConeGroups};
 ghost use Rattle.ds_run.specs.Layout.{IsRunOf};
 ghost use Rattle.ds_rule.specs.Sound.{IsSound};
 
@@ -10,20 +13,26 @@ use crate::starts::starts_of;
 use ds_base::{LatchId, OutOfMemory, Row3, Seq};
 use ds_design::Vectors;
 use ds_fabric::Compute;
+use ds_groups::Groups;
 use ds_latch::{Latches, Plan};
-use ds_opening::{cones_of, open};
+use ds_opening::{Opening, cones_of, groups_of, open};
 use ds_rule::Layout;
+use ds_scratch::Scratch;
 use ds_settle::Cone;
-use std::alloc::Global;
+use std::alloc::{AllocError, Global};
 use std::marker::Model;
 
-/// Computes the rows of a run from its plan: the cones of the nodes that settle, the nodes that
-/// each node reads, and the rows that the slaves start with.
+/// Computes the rows of a run from its plan: the groups of the tables that the nodes settle, the
+/// nodes that each node reads, and the rows that the slaves start with.
 pub struct Openings<'a, 'n> {
     run: &'a Layout<Foreseen<'a, 'n>>,
     latches: &'a Latches<'n>,
     vectors: &'a Vectors,
-    cones: Vec<Cone>,
+    groups: Groups<'n>,
+    // How many tables and sources the cones of OUT, M0, M1, .. have.
+    sizes: Vec<u64>,
+    // The places of the tables, each behind those that it reads. Contracts alone read them.
+    order: &'n [u32],
     producers: Vec<Seq<LatchId>>,
     starts: Vec<Row3>,
 }
@@ -34,7 +43,9 @@ impl<'a, 'n> Drop for Openings<'a, 'n> {
             run: _,
             latches: _,
             vectors: _,
-            cones: _,
+            groups: _,
+            sizes: _,
+            order: _,
             producers: _,
             starts: _,
         } = self;
@@ -42,18 +53,17 @@ impl<'a, 'n> Drop for Openings<'a, 'n> {
 }
 
 impl<'a, 'n> Model for Openings<'a, 'n> {
-    ghost use Rattle.std.specs.Prelude.{length};
-    ghost use Rattle.ds_run.specs.Openings.{AreOpenings, RunWithNets};
+    ghost use Rattle.ds_run.specs.Openings.{AreOpenings, RunWithMemory, memory_of};
 
-    ghost Value = { RunWithNets };
+    ghost Value = { RunWithMemory };
 
     ghost view = { λ w. record {
       run = w.run.now;
-      nets = length w.latches.now.circuit.nets;
+      memory = memory_of w.latches.now w.groups w.order.now w.vectors.now.rows;
     } };
 
-    ghost invariant = { λ w. AreOpenings w.latches.now w.vectors.now w.run.now w.cones.items
-        w.producers.items w.starts.items };
+    ghost invariant = { λ w. AreOpenings w.latches.now w.vectors.now w.run.now w.groups
+        w.order.now w.producers.items w.starts.items };
 }
 
 impl<'a, 'n> Openings<'a, 'n> {
@@ -67,22 +77,23 @@ impl<'a, 'n> Openings<'a, 'n> {
         requires width { vectors.now.width ≡ length (columns plan.now.split.circuit) }
         requires run { IsRunOf plan.now vectors.now.rows run.now }
         requires sound { IsSound run.now }
-        ensures ok { IfOk result (λ w. w ≡ record {
-          run = run.now;
-          nets = length plan.now.split.circuit.nets;
-        }) }
+        ensures ok { IfOk result (λ w. w.run ≡ run.now) }
     {
         let latches = plan.latches();
-        // Read for the fact that its numbers name what is there.
-        let _design = latches.netlist().design();
-        let cones = cones_of(alloc, latches)?;
+        // Read for the facts that its numbers name what is there, and that the vectors have one
+        // width.
+        let (_design, order) = (latches.netlist().design(), latches.netlist().order());
+        let _count = vectors.count();
+        let (groups, sizes) = grouped(alloc, latches)?;
         let producers = producers_of(alloc, run.edges(), run.latches())?;
         let starts = starts_of(alloc, latches.initial(), latches.clusters())?;
         Ok(Openings {
             run,
             latches,
             vectors,
-            cones,
+            groups,
+            sizes,
+            order,
             producers,
             starts,
         })
@@ -92,10 +103,22 @@ impl<'a, 'n> Openings<'a, 'n> {
 impl<'a, 'n> Compute for Openings<'a, 'n> {
     ghost run = { λ w. w.run };
 
-    ghost scratch = { λ w. w.nets };
+    ghost memory = { λ w. w.memory };
 
-    fn nets(&self) -> usize {
-        self.latches.netlist().design().nets().len()
+    fn scratch(&self, alloc: Global) -> Result<Scratch, OutOfMemory> {
+        let nets = self.latches.netlist().design().nets().len();
+        // The edges are read for the fact that there are not too many nodes.
+        let (bits, _edges) = (self.latches.bits(), self.latches.edges());
+        Scratch::of(alloc, nets, self.groups.count() + bits.len())
+    }
+
+    fn cost(&self, node: LatchId) -> u64 {
+        let number = node.index();
+        let settles = number == 1 || (number > 0 && number % 2 == 0);
+        if !settles || number / 2 >= self.sizes.len() {
+            return 0;
+        }
+        self.sizes[number / 2]
     }
 
     fn first(&self, node: LatchId, i: usize) -> u64 {
@@ -112,22 +135,46 @@ impl<'a, 'n> Compute for Openings<'a, 'n> {
         node: LatchId,
         turn: u64,
         from: &[u64],
-        nets: &mut Row3,
+        scratch: &mut Scratch,
         into: &mut Vec<u64>,
     ) {
         let number = node.index();
+        let opening = Opening {
+            number,
+            turn,
+            producers: self.producers[number].as_slice(),
+            from,
+        };
         open(
             self.latches,
             self.vectors,
-            self.cones.as_slice(),
-            number,
-            (turn - 1) as usize,
-            self.producers[number].as_slice(),
-            from,
-            nets,
+            &self.groups,
+            &opening,
+            scratch,
             into,
         );
     }
+}
+
+// The groups of the tables that the nodes settle, and how many tables and sources each cone has.
+fn grouped<'n>(alloc: Global, latches: &Latches<'n>) -> Result<(Groups<'n>, Vec<u64>), OutOfMemory>
+    requires { IsInRange latches.now.circuit × IsSplit latches.now }
+    ensures { IfOk result (λ r. AreConeGroups latches.now r.0) }
+{
+    let cones = cones_of(alloc, latches)?;
+    let groups = groups_of(alloc, latches, cones.as_slice())?;
+    let sizes = sizes_of(alloc, cones.as_slice())?;
+    Ok((groups, sizes))
+}
+
+// How many tables and sources each cone has.
+fn sizes_of(alloc: Global, cones: &[Cone]) -> Result<Vec<u64>, AllocError> {
+    cones.iter().map(|cone| size_of_cone(cone)).collect(alloc)
+}
+
+// The same of one cone.
+fn size_of_cone(cone: &Cone) -> u64 {
+    (cone.tables().len() as u64).saturating_add(cone.sources().len() as u64)
 }
 
 // Whether the node with this number is a slave.

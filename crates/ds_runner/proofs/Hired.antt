@@ -11,8 +11,9 @@ use Rattle.ds_rule.specs.Rule.{first_view, holds, seen}
 use Rattle.ds_rule.specs.Plays.{both}
 use Rattle.ds_rule.specs.declared.view.View.{View}
 use Rattle.ds_rule.proofs.Lists.{at_end, replicate-default}
+use Rattle.ds_scratch.specs.Scratch.{Remembers}
 use Rattle.ds_fabric.specs.Base.{Base}
-use Rattle.ds_fabric.specs.Showing.{Showing, Belongs, IsDealt, IsLeft, with_nets}
+use Rattle.ds_fabric.specs.Showing.{Showing, Belongs, IsDealt, IsLeft}
 use Rattle.ds_turnstile.specs.Turns.{Alone, HasNone, base, fabric_of, has_out, joined, keeps_parts, one_part, run_of}
 use Rattle.ds_turnstile.specs.Shown.{AreAlone, IsClosed, Stile}
 use Rattle.ds_turnstile.specs.declared.turn_view.TurnView.{TurnView}
@@ -32,7 +33,7 @@ no_more (suc n) zero = refl
 no_more (suc n) (suc l) = no_more n l
 
 -- a pass that is dealt is alone with its node
-pub dealt_alone : (b : Base) (old p : Showing) (n room : ℕ) → Belongs b old → holds old.view n ≡ true → IsDealt (with_nets 0 old) n room p
+pub dealt_alone : (b : Base) (old p : Showing) (n room : ℕ) → Belongs b old → holds old.view n ≡ true → IsDealt old n room p
     → Alone b.table_id b.run n p
 dealt_alone b old p n room fits has dealt = (
   dealt.table ∙ fits.table,
@@ -49,7 +50,7 @@ lent_one b old mid new n lent rest = record {
   fits = record {
     table = rest.table ∙ lent.fits.table;
     run = ap (λ (x : View). x.run) rest.view ∙ lent.fits.run;
-    nets = rest.nets ∙ lent.fits.nets;
+    remembers = subst (Remembers b.memory) (sym rest.scratch) lent.fits.remembers;
   };
   has = subst (λ (x : View). HasFrom x (n + 1)) (sym rest.view) (without_has mid.view n lent.has);
   many = omega (arith, rest.many, lent.many);

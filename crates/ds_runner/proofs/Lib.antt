@@ -5,4 +5,5 @@ pub mod Firings
 pub mod Work
 pub mod Visits
 pub mod Hired
+pub mod Borders
 pub mod Ends

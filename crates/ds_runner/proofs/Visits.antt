@@ -4,6 +4,7 @@ use mathlib.Core.Logic.{dite}
 use native.Mathlib.Decide.{ℕ_discrete}
 use Rattle.atomic_table.specs.Seated.{TableId}
 use Rattle.ds_rule.specs.Run.{Run}
+use Rattle.ds_scratch.specs.Scratch.{Memory}
 use Rattle.ds_fabric.specs.Base.{Base}
 use Rattle.ds_fabric.specs.Showing.{Showing, Stays}
 use Rattle.ds_turnstile.specs.Turns.{Alone, HasNone, has_out}
@@ -20,8 +21,8 @@ pub is_pass_of : (b : Base) (s : Stile) (l : ℕ) (p : Showing) → Fits b s →
 is_pass_of b s l p f a = (a.0 ∙ sym f.fabric_is, a.1 ∙ sym f.run_is, a.2, a.3, a.4)
 
 -- a step leaves a pass alone with its node
-pub still_alone : (z : TableId) (r : Run) (l : ℕ) (p q : Showing) → Alone z r l p → Stays p q → Alone z r l q
-still_alone z r l p q a s = (
+pub still_alone : (m : Memory) (z : TableId) (r : Run) (l : ℕ) (p q : Showing) → Alone z r l p → Stays m p q → Alone z r l q
+still_alone m z r l p q a s = (
   s.table ∙ a.0,
   s.run ∙ a.1,
   ap (λ hs. get_or hs l false) s.holds_same ∙ a.2,

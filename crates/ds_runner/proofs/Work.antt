@@ -17,6 +17,7 @@ use Rattle.ds_rule.specs.declared.view.View.{View}
 use Rattle.ds_rule.proofs.Progress.{all_done}
 use Rattle.ds_rule.proofs.EventLaws.{node-next, fired_most, event_below}
 use Rattle.ds_rule.proofs.Lists.{has_below, get-listed}
+use Rattle.ds_scratch.specs.Scratch.{Memory}
 use Rattle.ds_fabric.specs.Base.{Base}
 use Rattle.ds_fabric.specs.Showing.{Showing, Belongs, Stays}
 use Rattle.ds_fabric.specs.Stepped.{Stepped}
@@ -33,45 +34,49 @@ steps_up run v l (Fired event turn ticket) w s x = s.seen_up x
 steps_up run v l (NotYet arc n) w s x = s.0.seen_up x
 steps_up run v l Done w s x = le_of_eq (ap (λ (y : View). seen y x) (sym s.0))
 
-pub not_moved : (p : Showing) → Moved p p
-not_moved p = record {
+pub not_moved : (m : Memory) (p : Showing) → Moved m p p
+not_moved m p = record {
   table = refl;
   many = refl;
   room = refl;
-  nets = refl;
+  remembers = λ r. r;
   run = refl;
   holds_same = refl;
   up = λ x. le_refl _;
 }
 
-pub moved_on : (p q r : Showing) → Moved p q → Moved q r → Moved p r
-moved_on p q r m n = record {
+pub moved_on : (o : Memory) (p q r : Showing) → Moved o p q → Moved o q r → Moved o p r
+moved_on o p q r m n = record {
   table = n.table ∙ m.table;
   many = n.many ∙ m.many;
   room = n.room ∙ m.room;
-  nets = n.nets ∙ m.nets;
+  remembers = λ x. n.remembers (m.remembers x);
   run = n.run ∙ m.run;
   holds_same = n.holds_same ∙ m.holds_same;
   up = λ x. le_trans (m.up x) (n.up x);
 }
 
 -- a step moves a pass
-pub step_moves : (run : Run) (p q : Showing) (l : ℕ) (r : Step) → Stays p q → Stepped run p.view l r q.view → Moved p q
-step_moves run p q l r s st = record {
+pub step_moves : (m : Memory) (run : Run) (p q : Showing) (l : ℕ) (r : Step) → Stays m p q → Stepped run p.view l r q.view → Moved m p q
+step_moves m run p q l r s st = record {
   table = s.table;
   many = s.many;
   room = s.room;
-  nets = s.nets;
+  remembers = s.remembers;
   run = s.run;
   holds_same = s.holds_same;
   up = steps_up run p.view l r q.view st;
 }
 
-pub still_belongs : (b : Base) (p q : Showing) → Belongs b p → Moved p q → Belongs b q
-still_belongs b p q h m = record { table = m.table ∙ h.table; run = m.run ∙ h.run; nets = m.nets ∙ h.nets }
+pub still_belongs : (b : Base) (p q : Showing) → Belongs b p → Moved b.memory p q → Belongs b q
+still_belongs b p q h m = record {
+  table = m.table ∙ h.table;
+  run = m.run ∙ h.run;
+  remembers = m.remembers h.remembers;
+}
 
-pub still_has : (p q : Showing) (first last : ℕ) → HasBetween p.view first last → Moved p q → HasBetween q.view first last
-still_has p q first last h m l near far = ap (λ hs. get_or hs l false) m.holds_same ∙ h l near far
+pub still_has : (o : Memory) (p q : Showing) (first last : ℕ) → HasBetween p.view first last → Moved o p q → HasBetween q.view first last
+still_has o p q first last h m l near far = ap (λ hs. get_or hs l false) m.holds_same ∙ h l near far
 
 -- after a node left, what is held is what was held but for it
 pub without_has : (v : View) (node : ℕ) → HasFrom v node → HasFrom (without_cut (after_point v node)) (node + 1)
@@ -184,6 +189,11 @@ one_more_node run v u w n false false sound near h a = (
   ),
   omega (arith, same_left run u w a.0, h.1),
 )
+
+-- with a step no more is left
+pub not_more : (run : Run) (u w : View) (n : ℕ) (r : Bool) → Advances run u n w r → left run w ≤ left run u
+not_more run u w n true a = omega (arith, a)
+not_more run u w n false a = (let s = same_left run u w a.0 in omega (arith, s))
 
 -- where a node fired, less is left than at the start of the round
 pub less_left : (run : Run) (v u w : View) (n : ℕ) (b r : Bool) → Round run v n u b → Advances run u n w r → r ≡ true

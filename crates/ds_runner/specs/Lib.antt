@@ -2,3 +2,4 @@
 pub mod Whole
 pub mod Stopped
 pub mod Work
+pub mod Parts

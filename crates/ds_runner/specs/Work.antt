@@ -3,6 +3,7 @@ use Rattle.std.specs.Prelude.{◌≡◌, ℕ, ◌<◌, ◌≤◌, ◌+◌, ◌-�
 use Rattle.std.specs.Prelude.{All, [], length, vec_capacity, Option, None, Some}
 use mathlib.Core.Option.{some}
 use lib.ListN.{get_elem?}
+use Rattle.ds_scratch.specs.Scratch.{Memory, Remembers}
 use Rattle.ds_rule.specs.Run.{Run, events}
 use Rattle.ds_rule.specs.Rule.{holds, seen, tickets}
 use Rattle.ds_rule.specs.Progress.{Stuck}
@@ -36,12 +37,13 @@ HasBetween v first end = (l : ℕ) → first ≤ l → l < end → holds v l ≡
 abbrev pub HasFrom : View → ℕ → Type 0
 HasFrom v first = HasBetween v first v.run.nodes
 
--- a pass after steps: it holds what it held, and no node has fired less often
-pub record Moved (p q : Showing) : Type 0 where
+-- a pass after steps: it holds what it held, no node has fired less often, and its scratch
+-- remembers this, if it did before
+pub record Moved (m : Memory) (p q : Showing) : Type 0 where
   pub table : q.table_id ≡ p.table_id
   pub many : q.many ≡ p.many
   pub room : q.room ≡ p.room
-  pub nets : q.nets ≡ p.nets
+  pub remembers : Remembers m p.scratch → Remembers m q.scratch
   pub run : q.view.run ≡ p.view.run
   pub holds_same : q.view.holds ≡ p.view.holds
   pub up : (l : ℕ) → seen p.view l ≤ seen q.view l
@@ -56,12 +58,12 @@ pub record Fits (b : Base) (s : Stile) : Type 0 where
   pub run_is : run_of s.given ≡ b.run
   pub long : length s.given ≡ b.run.nodes
 
--- a worker between two visits: it has one part and no node out, and a row of the fabric's length
+-- a worker between two visits: it has one part and no node out, and a scratch that remembers
 pub record IsWorker (b : Base) (s : Stile) (w : Worker) : Type 0 where
   pub belongs : IsTurnOf s w.turn
   pub none : HasNone w.turn.view
   pub one : w.turn.view.parts ≡ 1
-  pub row : w.scratch ≡ b.nets
+  pub remembers : Remembers b.memory w.scratch
 
 -- the same, and it has fired at most so often
 pub record IsWithin (b : Base) (s : Stile) (most : ℕ) (w : Worker) : Type 0 where

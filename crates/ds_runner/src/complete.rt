@@ -1,5 +1,5 @@
 //! What the caller does when all passes are back: it fires what is left, alone.
-ghost use Rattle.std.specs.Prelude.{◌≡◌, ◌<◌, ◌≤◌, ◌+◌, ℕ, cond};
+ghost use Rattle.std.specs.Prelude.{◌≡◌, ◌<◌, ◌≤◌, ◌+◌, ℕ, cond, false};
 ghost use Rattle.ds_rule.specs.Run.{node_of, count};
 ghost use Rattle.ds_rule.specs.Rule.{seen};
 ghost use Rattle.ds_rule.specs.Sound.{IsSound};
@@ -31,7 +31,7 @@ pub fn complete<J: Rows, C: Compute, G: Gate>(
     requires run { (run.now ≡ fabric.now.run) × IsSound run.now × IsAccepted run.now }
     requires fits { Belongs fabric.now pass.old }
     requires all { HasFrom pass.old.view 0 }
-    ensures moved { Moved pass.old pass.new }
+    ensures moved { Moved fabric.now.memory pass.old pass.new }
     ensures most { all_tickets pass.new.view ≤ all_tickets pass.old.view + caller.rest }
     ensures done { all_tickets pass.new.view < all_tickets pass.old.view + caller.rest
         → (e : ℕ) → node_of run.now e < run.now.nodes
@@ -46,7 +46,7 @@ pub fn complete<J: Rows, C: Compute, G: Gate>(
     }
 }
 
-// Steps each node once, until the caller has nothing left. False: nothing fired, and every node is
+// Steps each node, until the caller has nothing left. False: nothing fired, and every node is
 // stuck.
 fn go_round<J: Rows, C: Compute, G: Gate>(
     fabric: &Fabric<'_, J, C>,
@@ -59,15 +59,14 @@ fn go_round<J: Rows, C: Compute, G: Gate>(
     requires fits { Belongs fabric.now pass.old }
     requires all { HasFrom pass.old.view 0 }
     requires rest { 0 < caller.old.rest }
-    ensures moved { Moved pass.old pass.new }
+    ensures moved { Moved fabric.now.memory pass.old pass.new }
     ensures told { AdvancesBelow run.now pass.old.view run.now.nodes pass.new.view result }
     ensures fired { all_tickets pass.new.view + caller.new.rest
         ≡ all_tickets pass.old.view + caller.old.rest }
 {
     let mut busy = false;
     'nodes: for node in 0..run.nodes() {
-        if advance(fabric, run, pass, caller.number, node, gate) {
-            caller.rest -= 1;
+        if advance_twice(fabric, run, pass, caller, node, gate) {
             if caller.rest == 0 {
                 return true;
             }
@@ -75,6 +74,36 @@ fn go_round<J: Rows, C: Compute, G: Gate>(
         }
     }
     busy
+}
+
+// Steps a node, and once more where it fired and the caller has something left: behind an opening
+// the closing of the same node is mostly due. False: it is stuck.
+fn advance_twice<J: Rows, C: Compute, G: Gate>(
+    fabric: &Fabric<'_, J, C>,
+    run: &Layout<J>,
+    pass: &mut Pass,
+    caller: &mut Caller,
+    node: usize,
+    gate: &G,
+) -> bool
+    requires run { (run.now ≡ fabric.now.run) × IsSound run.now }
+    requires fits { Belongs fabric.now pass.old }
+    requires all { HasFrom pass.old.view 0 × (node < run.now.nodes) }
+    requires rest { 0 < caller.old.rest }
+    ensures moved { Moved fabric.now.memory pass.old pass.new }
+    ensures told { Advances run.now pass.old.view node pass.new.view result }
+    ensures fired { all_tickets pass.new.view + caller.new.rest
+        ≡ all_tickets pass.old.view + caller.old.rest }
+    ensures stuck { result ≡ false → 0 < caller.new.rest }
+{
+    if !advance(fabric, run, pass, caller.number, node, gate) {
+        return false;
+    }
+    caller.rest -= 1;
+    if caller.rest > 0 && advance(fabric, run, pass, caller.number, node, gate) {
+        caller.rest -= 1;
+    }
+    true
 }
 
 // Steps a node. False: it is stuck.
@@ -89,7 +118,7 @@ fn advance<J: Rows, C: Compute, G: Gate>(
     requires run { (run.now ≡ fabric.now.run) × IsSound run.now }
     requires fits { Belongs fabric.now pass.old }
     requires all { HasFrom pass.old.view 0 × (node < run.now.nodes) }
-    ensures moved { Moved pass.old pass.new }
+    ensures moved { Moved fabric.now.memory pass.old pass.new }
     ensures told { Advances run.now pass.old.view node pass.new.view result }
     ensures fired { all_tickets pass.new.view ≡ all_tickets pass.old.view + cond result 1 0 }
 {

@@ -11,6 +11,7 @@ ghost use Rattle.ds_runner.specs.Work.{IsUnfired};
 use crate::crew::Crew;
 use crate::gear::Gear;
 use crate::hints::Hints;
+use crate::parts::borders_of;
 use crate::ring::Ring;
 use crate::site::Site;
 use crate::targets::arcs_from;
@@ -103,10 +104,12 @@ fn enlist<J: Rows, C: Compute, G: Gate>(
     ensures ok_turn { OnOk result (IsTurnOf stile.now turn.new × HasNone turn.new.view
         × (turn.new.view.parts ≡ 1) × (turn.new.view.made ≡ 0)) }
 {
+    let borders = borders_of(alloc, site, count)?;
     let mut workers = Vec::with_capacity(alloc, count as usize)?;
     'hiring: for number in 0..count {
         let scratch = site.fabric.scratch(alloc)?;
-        let trail = trail_of(alloc, site.run.nodes(), number, count)?;
+        let part = number as usize;
+        let trail = trail_of(alloc, borders[part], borders[part + 1], site.run.nodes())?;
         let own = stile.split(turn);
         workers.push_reserved(Worker {
             number,
@@ -118,14 +121,9 @@ fn enlist<J: Rows, C: Compute, G: Gate>(
     Ok(workers)
 }
 
-// Where a worker looks: its part are the nodes from its number on, of so many equal parts.
-fn trail_of(alloc: Global, nodes: usize, number: u32, count: u32) -> Result<Trail, OutOfMemory>
-    requires few { nodes < 2147483648 }
-    requires among { (number < count) × (count ≤ 64) }
-{
+// Where a worker looks: its part are the nodes from `first` up to but not including `end`.
+fn trail_of(alloc: Global, first: usize, end: usize, nodes: usize) -> Result<Trail, OutOfMemory> {
     let hints = Hints::of(alloc)?;
-    let first = number as usize * nodes / count as usize;
-    let end = (number as usize + 1) * nodes / count as usize;
     Ok(Trail {
         hints,
         part: Ring::over(first, end),

@@ -22,6 +22,7 @@ mod gather;
 mod gear;
 mod hints;
 mod hire;
+mod parts;
 mod rest;
 mod ring;
 mod search;

@@ -24,7 +24,7 @@ pub fn unit<J: Rows, C: Compute, G: Gate>(
     requires fits { Belongs fabric.now pass.old }
     requires held { (holds pass.old.view node ≡ true) × (node < run.now.nodes) }
 
-    ensures same { Stays pass.old pass.new }
+    ensures same { Stays fabric.now.memory pass.old pass.new }
     ensures step { Stepped fabric.now.run pass.old.view node result pass.new.view }
 {
     if arrive(run, pass, number, node, gate) {

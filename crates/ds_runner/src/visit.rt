@@ -1,5 +1,6 @@
 //! One visit to a node: its pass is taken, stepped, and given back.
 ghost use Rattle.std.specs.Prelude.{◌≡◌, ◌<◌, ◌≤◌, ◌+◌, MatchOption};
+ghost use Rattle.ds_scratch.specs.Scratch.{Remembers};
 ghost use Rattle.ds_rule.specs.Rule.{seen};
 ghost use Rattle.ds_turnstile.specs.Turns.{Alone};
 ghost use Rattle.ds_runner.specs.Work.{Fits, IsWorker, count_of};
@@ -10,9 +11,10 @@ use crate::site::Site;
 use crate::unit::arrive;
 use crate::worker::Worker;
 use ds_base::LatchId;
-use ds_fabric::{Compute, Pass, Scratch, Step};
+use ds_fabric::{Compute, Pass, Step};
 use ds_outside::Gate;
 use ds_rule::Rows;
+use ds_scratch::Scratch;
 
 /// Takes the pass of the node, steps it, and once more where it fired and another firing is
 /// allowed, and gives it back: behind an opening the closing of the same node is mostly due. It
@@ -57,14 +59,14 @@ fn step_twice<J: Rows, C: Compute, G: Gate>(
 ) -> Fired
     requires near { node < site.now.run.nodes }
     requires alone { Alone site.now.table_id site.now.run node pass.old }
-    requires row { worker.old.scratch ≡ site.now.nets }
+    requires remembers { Remembers site.now.memory worker.old.scratch }
     requires most { 0 < most }
 
     ensures alone { Alone site.now.table_id site.now.run node pass.new }
     ensures fired { seen pass.new.view node ≡ seen pass.old.view node + count_of result }
     ensures most { count_of result ≤ most }
-    ensures same { (worker.new.turn ≡ worker.old.turn)
-        × (worker.new.scratch ≡ worker.old.scratch) }
+    ensures same { worker.new.turn ≡ worker.old.turn }
+    ensures remembers { Remembers site.now.memory worker.new.scratch }
 {
     let first = step_once(site, pass, worker.number, node, &mut worker.scratch);
     let second = if first.is_some() && most > 1 {
@@ -86,12 +88,12 @@ fn step_once<J: Rows, C: Compute, G: Gate>(
 ) -> Option<usize>
     requires near { node < site.now.run.nodes }
     requires alone { Alone site.now.table_id site.now.run node pass.old }
-    requires row { scratch.old ≡ site.now.nets }
+    requires remembers { Remembers site.now.memory scratch.old }
 
     ensures alone { Alone site.now.table_id site.now.run node pass.new }
     ensures fired { MatchOption result (seen pass.new.view node ≡ seen pass.old.view node)
         (λ _. seen pass.new.view node ≡ seen pass.old.view node + 1) }
-    ensures row { scratch.new ≡ scratch.old }
+    ensures remembers { Remembers site.now.memory scratch.new }
 {
     if !arrive(site.run, pass, number, node, site.gate) {
         return None;

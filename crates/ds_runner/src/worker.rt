@@ -1,8 +1,8 @@
 use crate::trail::Trail;
-use ds_fabric::Scratch;
+use ds_scratch::Scratch;
 use ds_turnstile::Turn;
 
-/// A worker: its number, its turn, its row to work in, and where it looks for nodes.
+/// A worker: its number, its turn, its scratch, and where it looks for nodes.
 #[derive(Drop)]
 pub struct Worker {
     pub number: u32,

@@ -15,6 +15,7 @@ use crate::drive::drive;
 use crate::gather::gather;
 use crate::gear::Gear;
 use crate::hire::hire;
+use crate::parts::work_of;
 use crate::rest::rest;
 use crate::site::Site;
 use crate::worker::Worker;
@@ -58,12 +59,12 @@ pub fn run<R: Threads + Sync, J: Rows + Sync, C: Compute + Sync, G: Gate>(
         jobs
     };
     if number > 0 {
-        let budget = budget(run, openings, jobs, quota);
         let site = Site {
             fabric: &fabric,
             run,
             gate,
         };
+        let budget = budget(&site, jobs, quota);
         share(rt, alloc, &site, &mut pass, budget)?;
     }
     let rest = rest(run, &pass, quota);
@@ -124,29 +125,28 @@ fn drive_all<R: Threads + Sync, J: Rows + Sync, C: Compute + Sync, G: Gate>(
 
 // No more workers than nodes. Twice the nodes times the vectors are the firings of the whole run,
 // and as many takes may each worker have. The looks are shared among the workers: all of them
-// together take some three times as long as all firings that there may be, which goes with the nets
-// that a node has to compute. So a worker looks on until a run is done in which each is at work for
-// a quarter of the time; where workers wait for processors, what they lose does not grow with their
-// number; and who waits for one that has ended at its quota ends soon.
-fn budget<J: Rows, C: Compute>(
-    run: &Layout<J>,
-    openings: &C,
+// together take some three times as long as all firings that there may be, which goes with the work
+// of the nodes: two looks take as long as three tables. So a worker looks on until a run is done in
+// which each is at work for a quarter of the time; where workers wait for processors, what they
+// lose does not grow with their number; and who waits for one that has ended at its quota ends
+// soon.
+fn budget<J: Rows, C: Compute, G: Gate>(
+    site: &Site<'_, '_, J, C, G>,
     jobs: u32,
     quota: Option<u64>,
 ) -> Budget
-    requires sound { IsSound run.now }
-    requires some { (0 < jobs) × (0 < run.now.nodes) }
+    requires some { (0 < jobs) × (0 < site.now.run.nodes) }
     ensures workers { (0 < result.workers) × (result.workers ≤ jobs) }
     ensures firings { result.firings ≡ quota_of quota }
 {
-    let nodes = run.nodes();
+    let nodes = site.run.nodes();
     let workers = jobs.min(nodes as u32);
     let firings = quota.unwrap_or(u64::MAX);
-    let takes = 2 * nodes as u64 * run.limit();
-    let nets = openings.nets() / nodes.max(1);
-    let each = 32 + (nets - nets / 3);
+    let takes = 2 * nodes as u64 * site.run.limit();
+    let work = work_of(site) / nodes.max(1) as u64;
+    let each = work - work / 3;
     let due = takes.min(firings.saturating_mul(workers as u64));
-    let looks = due.saturating_mul(each as u64);
+    let looks = due.saturating_mul(each);
     Budget {
         workers,
         takes,

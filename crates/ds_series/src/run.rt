@@ -1,8 +1,8 @@
 //! Tables of one kind that are set one after another.
 ghost use Rattle.std.specs.Prelude.{◌≡◌, ◌+◌, ◌-◌, ◌<◌, ◌≤◌, true, All, OnOk, drop, length, take};
-ghost use Rattle.ds_cover.specs.Bank.{IsWithin};
-ghost use Rattle.ds_series.specs.Series.{FindsKnown, IsRun, IsRunAdded, after_each, in_order};
-ghost use Rattle.ds_series.specs.Series.{own_tables, parts_of};
+ghost use Rattle.ds_cover.specs.Bank.{IsWithin, after_tables};
+ghost use Rattle.ds_series.specs.Series.{FindsKnown, IsRun, IsRunAdded, IsSeries, after_each};
+ghost use Rattle.ds_series.specs.Series.{in_order, own_tables, parts_of};
 
 use crate::lists::Lists;
 use crate::small::{set_fours, set_threes, set_twos, set_worded_threes, set_worded_twos};
@@ -89,8 +89,20 @@ pub(crate) fn set_known(run: &Run, lists: &Lists, bank: &Bank, order: &[u32], ne
     }
 }
 
+// Sets what the tables of all runs of an order drive, one after another.
+pub(crate) fn set_runs(runs: &[Run], lists: &Lists, bank: &Bank, order: &[u32], nets: &mut Row3)
+    requires places { All (λ k. k < length bank.now) order.now }
+    requires runs { IsSeries (parts_of lists.now) (in_order bank.now order.now) runs.now }
+    requires within { All (λ t. IsWithin t nets.old) bank.now }
+    ensures { nets.new ≡ after_tables bank.now nets.old order.now }
+{
+    for run in runs {
+        set_run(run, lists, bank, order, nets);
+    }
+}
+
 // Sets what the tables of a run drive.
-pub(crate) fn set_run(run: &Run, lists: &Lists, bank: &Bank, order: &[u32], nets: &mut Row3)
+fn set_run(run: &Run, lists: &Lists, bank: &Bank, order: &[u32], nets: &mut Row3)
     requires places { All (λ k. k < length bank.now) order.now }
     requires run { IsRun (parts_of lists.now) (in_order bank.now order.now) run.now }
     requires within { All (λ t. IsWithin t nets.old) bank.now }

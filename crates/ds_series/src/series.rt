@@ -4,7 +4,7 @@ ghost use Rattle.ds_cover.specs.Bank.{IsWithin, after_tables};
 ghost use Rattle.ds_series.specs.Series.{FindsKnown, IsSeries, in_order, parts_of};
 
 use crate::lists::Lists;
-use crate::run::{Run, push_run, set_known, set_run};
+use crate::run::{Run, push_run, set_known, set_runs};
 use ds_base::Row3;
 use ds_cover::Bank;
 use std::alloc::{AllocError, Global};
@@ -78,12 +78,8 @@ impl Series {
         requires within { All (λ t. IsWithin t nets.old) self.now.tables }
         ensures { nets.new ≡ after_tables self.now.tables nets.old self.now.order }
     {
-        let (bank, lists) = (&self.bank, &self.lists);
-        let order = self.order.as_slice();
         let runs = self.runs.as_slice();
-        for run in runs {
-            set_run(run, lists, bank, order, nets);
-        }
+        set_runs(runs, &self.lists, &self.bank, self.order.as_slice(), nets);
     }
 
     /// The same where each table finds its inputs known. It reads shorter words.
@@ -102,7 +98,11 @@ impl Series {
 }
 
 // The lists and runs of the tables of a bank in this order.
-fn lists_of(alloc: Global, bank: &Bank, order: &[u32]) -> Result<(Lists, Vec<Run>), AllocError>
+pub(crate) fn lists_of(
+    alloc: Global,
+    bank: &Bank,
+    order: &[u32],
+) -> Result<(Lists, Vec<Run>), AllocError>
     requires { All (λ k. k < length bank.now) order.now }
     ensures { IfOk result (λ made. IsSeries (parts_of made.0) (in_order bank.now order.now)
         made.1.items) }

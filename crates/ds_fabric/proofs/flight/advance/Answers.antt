@@ -378,15 +378,11 @@ returns-clause-keeps g c =
     (sym runs) e.noted)
 
 pub returns-in-Some-clause-same : goal.returns-in-Some-clause-same
-returns-in-Some-clause-same g c = (
-  c.in-Some.ensures.looks.run,
-  c.in-Some.ensures.looks.holds_same,
-  refl,
-)
+returns-in-Some-clause-same g c =
+    (c.in-Some.ensures.looks.run, c.in-Some.ensures.looks.holds_same)
 
 pub returns-clause-same : goal.returns-clause-same
 returns-clause-same g c = let e = c.fire-ticket.ensures in let q = c.in_default.ensures.looks in (
   ap (λ (m : Sat). m.0.run) e.me ∙ q.run,
   ap (λ (m : Sat). m.0.holds) e.me ∙ q.holds_same,
-  e.nets,
 )

@@ -4,6 +4,7 @@ use lib.ListN.{get_elem?}
 use Rattle.atomic_table.proofs.Lists.{at_last, at_longer}
 use Rattle.ds_rule.specs.Rule.{holds, seen}
 use Rattle.ds_rule.specs.declared.view.View.{View}
+use Rattle.ds_scratch.specs.Scratch.{Remembers}
 use Rattle.ds_fabric.specs.Base.{Base}
 use Rattle.ds_fabric.specs.Showing.{Showing}
 use Rattle.ds_turnstile.specs.Turns.{Alone, sum_below}
@@ -57,7 +58,7 @@ taking-preserved g c =
       record {
         table = e.same.0 ∙ i.0.table;
         run = ap (λ (x : View). x.run) e.view ∙ i.0.run;
-        nets = e.same.2 ∙ i.0.nets;
+        remembers = subst (Remembers b.memory) (sym e.same.2) i.0.remembers;
       },
       (λ k p there. i.1 k p (before k p there)),
       omega (arith, e.same.1, e.many, one.3, size, i.2),

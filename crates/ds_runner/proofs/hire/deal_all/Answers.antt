@@ -3,7 +3,7 @@ use Rattle.ds_rule.specs.Run.{Run}
 use Rattle.ds_rule.specs.Rule.{holds, seen}
 use Rattle.ds_rule.specs.declared.view.View.{View}
 use Rattle.ds_fabric.specs.Base.{Base}
-use Rattle.ds_fabric.specs.Showing.{Showing, IsDealt, IsLeft, with_nets}
+use Rattle.ds_fabric.specs.Showing.{Showing, IsDealt, IsLeft}
 use Rattle.ds_turnstile.specs.Turns.{Alone}
 use Rattle.ds_runner.proofs.Hired.{dealt_alone, lent_one, one_more_single, unfired-more}
 use Rattle.ds_runner.proofs.hire.deal_all.Goals as goal
@@ -15,7 +15,7 @@ dealing-preserved g c =
     let i = c.dealing.invariant in
     let mid : Showing = c.dealing.pass in
     let one : Showing = c.in_ok-one.one in
-    let dealt : IsDealt (with_nets 0 mid) n 1 one = subst (λ (m : ℕ). IsDealt (with_nets 0 mid) m 1 one) c.new.ensures c.in_ok-one.ensures.ok in
+    let dealt : IsDealt mid n 1 one = subst (λ (m : ℕ). IsDealt mid m 1 one) c.new.ensures c.in_ok-one.ensures.ok in
     let rest : IsLeft mid n c.deal_bare.new.pass = subst (λ (m : ℕ). IsLeft mid m c.deal_bare.new.pass) c.new.ensures c.in_ok-one.ensures.ok_left in
     let near : n < c.nodes-nodes.result = c.dealing-test.true in
     let runs : c.nodes-nodes.result ≡ b.run.nodes = c.nodes-nodes.ensures ∙ ap (λ (r : Run). r.nodes) (c.site.invariant.0 ∙ ap (λ (x : Base). x.run) c.site.view_is) in

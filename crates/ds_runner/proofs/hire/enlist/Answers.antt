@@ -1,5 +1,6 @@
-use Rattle.std.proofs.Common.{◌≡◌, ◌∙◌, ◌∷◌, [], ◌-◌, List, ap, arith, le_of_eq, length, length-append}
+use Rattle.std.proofs.Common.{◌≡◌, ◌∙◌, ◌∷◌, [], ◌-◌, List, ap, arith, le_of_eq, length, length-append, subst}
 use Rattle.ds_turnstile.specs.declared.turn_view.TurnView.{TurnView}
+use Rattle.ds_scratch.specs.Scratch.{Remembers}
 use Rattle.ds_fabric.specs.Base.{Base}
 use Rattle.ds_runner.specs.Work.{IsWithin}
 use Rattle.ds_runner.specs.declared.worker.Worker.{Worker}
@@ -17,7 +18,7 @@ hiring-preserved g c =
         belongs = e.fits.1;
         none = part_none c.hiring.turn.view c.split-own.result.view e.new;
         one = ap (λ (v : TurnView). v.parts) e.new;
-        row = c.in_ok-scratch.ensures ∙ ap (λ (b : Base). b.nets) c.site.view_is;
+        remembers = subst (λ (b : Base). Remembers b.memory c.in_ok-scratch.scratch) c.site.view_is c.in_ok-scratch.ensures;
       };
       few = le_of_eq (ap (λ (v : TurnView). v.made) e.new);
     } in (

@@ -9,6 +9,7 @@ use Rattle.ds_runner.specs.Work.{HasFrom, all_tickets, quota_of}
 use Rattle.ds_runner.proofs.Ends.{collected, ended, whole}
 use Rattle.ds_runner.proofs.Hired.{first_has, first_unfired}
 use Rattle.ds_runner.proofs.Tickets.{blank_first}
+use Rattle.ds_runner.proofs.Work.{still_belongs}
 use Rattle.ds_runner.proofs.workers.run.Given
 use Rattle.ds_runner.proofs.workers.run.Goals as goal
 use Rattle.ds_runner.proofs.workers.run.Goals.{Joined-number-gt0, then-number-gt0+in_ok-share, else-number-gt0}
@@ -45,6 +46,10 @@ rest-rest-requires-clause-all g c = (now g (goal.at.rest-rest-requires-clause-al
 
 pub complete-requires-clause-all : goal.complete-requires-clause-all
 complete-requires-clause-all g c κs within = (now g (goal.at.complete-requires-clause-all g c).Joined-number-gt0).1
+
+pub finish-requires-clause-fits : goal.finish-requires-clause-fits
+finish-requires-clause-fits g c = let n = now g (goal.at.finish-requires-clause-fits g c).Joined-number-gt0 in
+    still_belongs c.in_ok-fabric.fabric c.if-number-gt0.pass c.complete.new.pass n.0 c.complete.ensures.moved
 
 pub finish-requires-clause-all : goal.finish-requires-clause-all
 finish-requires-clause-all g c l near = let n = now g (goal.at.finish-requires-clause-all g c).Joined-number-gt0 in

@@ -1,4 +1,5 @@
 use Rattle.std.proofs.Common.{◌≡◌, ◌∙◌, ap, arith, sym, subst, true}
+use Rattle.ds_scratch.specs.Scratch.{Remembers}
 use Rattle.ds_rule.specs.Rule.{holds}
 use Rattle.ds_rule.specs.declared.view.View.{View}
 use Rattle.ds_fabric.specs.Showing.{Showing}
@@ -34,8 +35,10 @@ returns-clause-same g c = let q = c.step_node.ensures.same in let e = c.pass.vie
   holds_same = q.2 ∙ ap (λ (x : Showing). x.view.holds) e;
   many = omega (arith, q.3, ap (λ (x : Showing). x.many) e);
   room = ap (λ (x : Showing). x.room) e;
-  nets = q.4 ∙ ap (λ (x : Showing). x.nets) e;
+  remembers = λ _. c.step_node.ensures.remembers;
 }
 
-pub step_node-requires-clause-row : goal.step_node-requires-clause-row
-step_node-requires-clause-row g c = ap (λ (x : Showing). x.nets) c.pass.view_is ∙ c.requires.fits.nets
+pub step_node-requires-clause-remembers : goal.step_node-requires-clause-remembers
+step_node-requires-clause-remembers g c =
+    subst (Remembers c.args.self.now.memory) (sym (ap (λ (x : Showing). x.scratch) c.pass.view_is))
+    c.requires.fits.remembers

@@ -1,4 +1,5 @@
 use Rattle.std.proofs.Common.{◌≡◌, ◌∙◌, ap, arith, sym, subst, true}
+use Rattle.ds_scratch.specs.Scratch.{Remembers}
 use Rattle.ds_rule.specs.Rule.{holds}
 use Rattle.ds_rule.specs.declared.view.View.{View}
 use Rattle.ds_fabric.specs.Showing.{Showing}
@@ -34,5 +35,5 @@ returns-clause-same g c = let q = c.step_node.ensures.same in let e = c.pass.vie
   holds_same = q.2 ∙ ap (λ (x : Showing). x.view.holds) e;
   many = omega (arith, q.3, ap (λ (x : Showing). x.many) e);
   room = ap (λ (x : Showing). x.room) e;
-  nets = ap (λ (x : Showing). x.nets) e;
+  remembers = subst (Remembers c.args.self.now.memory) (sym (ap (λ (x : Showing). x.scratch) e));
 }

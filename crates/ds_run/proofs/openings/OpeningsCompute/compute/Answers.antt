@@ -1,23 +1,34 @@
-use Rattle.std.proofs.Common.{◌≡◌, ◌∙◌, ◌+◌, ◌≤◌, ◌++◌, ℕ, List, ap, arith, length, sym}
+use Rattle.std.proofs.Common.{◌≡◌, ◌∙◌, ◌+◌, ◌-◌, ◌<◌, ◌≤◌, ◌++◌, ℕ, List, refl, ap, arith, length, subst, sym}
 use Rattle.std.specs.Prelude.{vec_capacity, vec_len}
+use Rattle.ds_base.specs.Values.{Row}
+use Rattle.ds_cover.specs.Cover.{value_at}
 use Rattle.ds_latch.specs.Node.{nets_of}
 use Rattle.ds_opening.specs.Packed.{words_of}
+use Rattle.ds_rule.specs.Run.{Run}
 use Rattle.ds_rule.specs.Words.{width}
-use Rattle.ds_run.specs.Openings.{RunWithNets}
+use Rattle.ds_scratch.specs.Scratch.{Memory, Remembers}
+use Rattle.ds_run.specs.Openings.{RunWithMemory, memory_of}
 use Rattle.ds_run.proofs.Opened.{gives_row, opens_at, room_at}
+use Rattle.ds_run.proofs.Remembered.{noted}
 use Rattle.ds_run.proofs.openings.OpeningsCompute.compute.Goals as goal
 
 pub open-requires-clause-opening : goal.open-requires-clause-opening
 open-requires-clause-opening c =
-    let run_is = ap (λ (m : RunWithNets). m.run) c.self.view_is in
+    let run_is = ap (λ (m : RunWithMemory). m.run) c.self.view_is in
+    let memory_is = ap (λ (m : RunWithMemory). m.memory) c.self.view_is in
     let o = opens_at c.self.invariant (sym run_is) c.index-number.ensures c.requires.turn.0
-    c.requires.node c.requires.turn.1 c.as_slice-2.result.now c.index.result.now c.args.from.now
-    c.as_slice-2.ensures c.index.ensures c.requires.from in
-    (o.node, o.turn, o.opens)
+    c.requires.node c.requires.turn.1 c.as_slice.result.now c.index.result.now c.args.from.now
+    c.as_slice.ensures c.index.ensures c.requires.from in (
+      o.node,
+      o.turn,
+      memory_of c.self.inside.latches.now c.self.inside.groups c.self.inside.order.now c.self.inside.vectors.now.rows,
+      noted c.self.invariant (sym run_is) c.requires.turn.0 c.requires.turn.1 o _ refl refl refl refl c.args.scratch.now
+          (subst (λ (m : Memory). Remembers m c.args.scratch.now) (sym memory_is) c.requires.remembers),
+    )
 
 pub open-requires-clause-room : goal.open-requires-clause-room
 open-requires-clause-room c n is_node is =
-    let run_is = ap (λ (m : RunWithNets). m.run) c.self.view_is in
+    let run_is = ap (λ (m : RunWithMemory). m.run) c.self.view_is in
     let nets = nets_of c.self.inside.latches.now n in
     let wide : width c.args.self.now.run c.args.node ≡ words_of (length nets)
     = room_at c.self.invariant (sym run_is) c.index-number.ensures n is_node is in
@@ -27,10 +38,25 @@ open-requires-clause-room c n is_node is =
 
 pub returns-clause-value : goal.returns-clause-value
 returns-clause-value c =
-    let run_is = ap (λ (m : RunWithNets). m.run) c.self.view_is in
+    let run_is = ap (λ (m : RunWithMemory). m.run) c.self.view_is in
+    let memory_is = ap (λ (m : RunWithMemory). m.memory) c.self.view_is in
     let o = opens_at c.self.invariant (sym run_is) c.index-number.ensures c.requires.turn.0
-    c.requires.node c.requires.turn.1 c.as_slice-2.result.now c.index.result.now c.args.from.now
-    c.as_slice-2.ensures c.index.ensures c.requires.from in
+    c.requires.node c.requires.turn.1 c.as_slice.result.now c.index.result.now c.args.from.now
+    c.as_slice.ensures c.index.ensures c.requires.from in
     let row_is = gives_row c.self.invariant (sym run_is) c.index-number.ensures c.requires.turn.0 in
-    c.open.ensures.value o.node o.turn o.opens
+    c.open.ensures.value o.node o.turn (memory_of c.self.inside.latches.now c.self.inside.groups c.self.inside.order.now c.self.inside.vectors.now.rows)
+    (noted c.self.invariant (sym run_is) c.requires.turn.0 c.requires.turn.1 o _ refl refl refl refl c.args.scratch.now
+    (subst (λ (m : Memory). Remembers m c.args.scratch.now) (sym memory_is) c.requires.remembers))
     ∙ ap (λ (ws : List ℕ). c.args.into.now.items ++ ws) (o.gives ∙ row_is)
+
+pub returns-clause-remembers : goal.returns-clause-remembers
+returns-clause-remembers c =
+    let run_is = ap (λ (m : RunWithMemory). m.run) c.self.view_is in
+    let memory_is = ap (λ (m : RunWithMemory). m.memory) c.self.view_is in
+    let o = opens_at c.self.invariant (sym run_is) c.index-number.ensures c.requires.turn.0
+    c.requires.node c.requires.turn.1 c.as_slice.result.now c.index.result.now c.args.from.now
+    c.as_slice.ensures c.index.ensures c.requires.from in
+    subst (λ (m : Memory). Remembers m c.open.new.scratch) memory_is
+    (c.open.ensures.memory o.node o.turn (memory_of c.self.inside.latches.now c.self.inside.groups c.self.inside.order.now c.self.inside.vectors.now.rows)
+    (noted c.self.invariant (sym run_is) c.requires.turn.0 c.requires.turn.1 o _ refl refl refl refl c.args.scratch.now
+    (subst (λ (m : Memory). Remembers m c.args.scratch.now) (sym memory_is) c.requires.remembers)))

@@ -1,0 +1,327 @@
+-- Cones whose tables are in groups.
+use Rattle.std.proofs.Common.{◌≡◌, ◌≢◌, ◌∙◌, ℕ, ◌<◌, ◌≤◌, ◌==◌, Bool, true, false, not, List, []}
+use Rattle.std.proofs.Common.{length, get_or, refl, sym, ap, subst, arith, inl, inr}
+use Rattle.std.specs.Prelude.{All, AllPairs, Contains, ◌↔◌}
+use Rattle.std.specs.List.{list_any}
+use Rattle.std.proofs.lemmas.Bool.{cases_eq, cases_lt, false≢true}
+use Rattle.std.proofs.lemmas.Bool.Decides.{Decides-eqb, eqb_tells}
+use Rattle.std.proofs.lemmas.List.{get_or_default, get_or_past}
+use Rattle.std.proofs.lemmas.List.Elements.{All-contains, Contains-get_or}
+use Rattle.std.proofs.lemmas.List.Kept.{AllPairs-filter}
+use Rattle.std.proofs.lemmas.List.Sorted.{Contains-permutation, IsPermutation-sym}
+use Rattle.std.proofs.lemmas.Map.Keys.{IsDistinct-IsPermutation}
+use Rattle.std.proofs.lemmas.Map.Made.{AllPairs-from_IsDistinct, IsDistinct-from_AllPairs}
+use Rattle.std.proofs.Math.Dec.{eqb}
+use Rattle.ds_base.proofs.Lists.{cases_Contains, get_or-default}
+use Rattle.ds_design.specs.Circuit.{Circuit}
+use Rattle.ds_design.specs.Levels.{IsTableOrder}
+use Rattle.ds_design.specs.declared.design.Gate.{Gate}
+use Rattle.ds_settle.specs.Cone.{AreInOrder, IsCone, Parts as Cone, ReachesSome, net_of}
+use Rattle.ds_settle.proofs.Agree.{reaches_some_before}
+use Rattle.ds_settle.proofs.Tables.{net_is}
+use Rattle.ds_groups.specs.Classes.{AreClasses, HasTables, HaveSame}
+use Rattle.ds_cover.specs.Bank.{Driven}
+use Rattle.ds_design.specs.Banked.{IsBankOf}
+use Rattle.ds_groups.specs.Groups.{AreGroupsOf, Grouping, IsGrouped, group_of, tables_in}
+use Rattle.ds_groups.specs.Lists.{AreFound, AreLists}
+use Rattle.ds_groups.specs.Members.{AreMembers}
+use Rattle.ds_groups.specs.Ranks.{AreByRank, lists_without}
+use Rattle.ds_groups.proofs.Flat.{filter_has, flat_has, has_filter, has_flat, nothing, pairs_flat}
+use Rattle.ds_groups.proofs.Lacking.{count_same, has_true, lacks_false}
+
+-- stands for a cone where there is none
+pub no_cone : Cone
+no_cone = record { tables = []; sources = [] }
+
+-- one table reads what another drives
+abbrev pub Reads : Circuit → Gate → ℕ → ℕ → Type 0
+Reads c d a b = Contains (get_or c.tables a d).table.inputs (get_or c.tables b d).output
+
+abbrev pub IsBehind : Circuit → ℕ → ℕ → Type 0
+IsBehind c a b = (d : Gate) → ¬ Reads c d a b
+
+-- an order, by pairs
+pub order_from_pairs : (c : Circuit) (xs : List ℕ) → All (λ k. k < length c.tables) xs
+    → AllPairs (IsBehind c) xs → All (λ k. IsBehind c k k) xs → AreInOrder c xs
+order_from_pairs c xs within pairs selves = record {
+  within = within;
+  before = λ i j d below inside. elim (cases_eq i j) [
+    | inl e ↦
+        subst (λ (n : ℕ). ¬ Reads c d (get_or xs n 0) (get_or xs j 0)) (sym e) (selves j 0 inside d)
+    | inr ne ↦ pairs i j 0 (omega (below, ne, arith)) inside d
+  ];
+}
+
+-- the lists of cones have numbers below the count, each once
+module _ (cones : List Cone) (numbers : List ℕ) (count : ℕ) (lists : List (List ℕ))
+    (tables : All (HasTables (length numbers)) cones) (below : All (λ n. n < count) numbers)
+    (are : AreLists cones numbers lists) where
+  found_at : (i : ℕ) → i < length lists → AreFound (get_or cones i no_cone).tables numbers (get_or lists i [])
+  found_at i inside = (let size : length lists ≡ length cones = are.one_each in are.each i no_cone (omega (inside, size, arith)))
+
+  pub lists_below : All (λ list. All (λ g. g < count) list) lists
+  lists_below i d inside k e low =
+      let size : length lists ≡ length cones = are.one_each in
+      let near : i < length cones = omega (inside, size, arith) in
+      let list : List ℕ = get_or lists i d in
+      let has : Contains (get_or lists i []) (get_or list k e) =
+      subst (λ (xs : List ℕ). Contains xs (get_or list k e)) (get_or_default lists i d [] inside) (Contains-get_or list k e low) in
+      let (j, t, at, is, same) = ((found_at i inside).has (get_or list k e)).0 has in
+      let tables_of : HasTables (length numbers) (get_or cones i no_cone) = tables i no_cone near in
+      let there : t < length numbers = subst (λ (n : ℕ). n < length numbers) is (tables_of.within j t at) in
+      subst (λ (n : ℕ). n < count) same (below t 0 there)
+
+  pub lists_once : All (λ list. AllPairs (λ a b. a ≢ b) list) lists
+  lists_once i d inside =
+      subst (λ (xs : List ℕ). AllPairs (λ a b. a ≢ b) xs) (sym (get_or_default lists i d [] inside)) (found_at i inside).once
+
+pub have_tables : (c : Circuit) (cones : List Cone) → All (λ cone. (these : List ℕ) × IsCone c these cone) cones
+    → All (HasTables (length c.tables)) cones
+have_tables c cones are i d inside =
+    let (these, is) = are i d inside in record { within = is.order.within; once = is.once }
+
+module _ (c : Circuit) (order : List ℕ) (ordered : IsTableOrder c order) (cones : List Cone)
+    (are_cones : All (λ cone. (these : List ℕ) × IsCone c these cone) cones)
+    (numbers : List ℕ) (count : ℕ) (classes : AreClasses cones (length c.tables) numbers)
+    (below : All (λ n. n < count) numbers)
+    (groups : List (List ℕ)) (are_members : AreMembers order numbers count groups)
+    (lists : List (List ℕ)) (are_lists : AreLists cones numbers lists)
+    (sorted : List (List ℕ)) (are_ranked : AreByRank lists sorted)
+    (bank : List Driven) (is_bank : IsBankOf c.tables bank) where
+  abbrev g : Grouping
+  g = record { bank = bank; groups = groups; lists = sorted }
+
+  abbrev number : ℕ → ℕ
+  number k = get_or numbers k 0
+
+  long : length numbers ≡ length c.tables
+  long = classes.one_each
+
+  number_below : (k : ℕ) → k < length c.tables → number k < count
+  number_below k inside = below k 0 (omega (inside, long, arith))
+
+  -- the members of a group
+  member_in : (a k : ℕ) → Contains (get_or groups a []) k → (k < length c.tables) × (number k ≡ a)
+  member_in a k has = elim (cases_lt a count) [
+    | inl low ↦
+        (let (in_order, test) = filter_has (λ k. number k == a) order k
+        (subst (λ (xs : List ℕ). Contains xs k) (are_members.each a low) has) in (
+          All-contains (λ k. k < length c.tables) order k ordered.places in_order,
+          elim (eqb_tells (number k) a) [
+            | inl (is, e) ↦ e
+            | inr (is, ne) ↦ absurd (false≢true (sym is ∙ test))
+          ],
+        ))
+    | inr past ↦
+        (let size : length groups ≡ count = are_members.one_each in
+        absurd (nothing k (subst (λ (xs : List ℕ). Contains xs k)
+        (get_or_past groups a [] (omega (past, size, arith))) has)))
+  ]
+
+  member_of : (k : ℕ) → k < length c.tables → Contains (get_or groups (number k) []) k
+  member_of k inside =
+      subst (λ (xs : List ℕ). Contains xs k) (sym (are_members.each (number k) (number_below k inside)))
+      (has_filter (λ j. number j == number k) order k (ordered.all k inside) (same (number k)))
+    where
+      same : (n : ℕ) → (n == n) ≡ true
+      same n = elim (eqb_tells n n) [ inl (is, e) ↦ is | inr (is, ne) ↦ absurd (ne refl) ]
+
+  -- tables of one group are in the same cones
+  same_cones : (a b : ℕ) → a < length c.tables → b < length c.tables → number a ≡ number b
+      → HaveSame cones a b
+  same_cones a b low_a low_b e = (classes.same a b low_a low_b).0 e
+
+  module _ (i : ℕ) (inside : i < length cones) where
+    abbrev cone : Cone
+    cone = get_or cones i no_cone
+
+    abbrev list : List ℕ
+    list = get_or sorted i []
+
+    here : i < length lists
+    here = (let size : length lists ≡ length cones = are_lists.one_each in omega (inside, size, arith))
+
+    found : AreFound cone.tables numbers (get_or lists i [])
+    found = are_lists.each i no_cone inside
+
+    cone_is : (these : List ℕ) × IsCone c these cone
+    cone_is = are_cones i no_cone inside
+
+    cone_low : (k : ℕ) → Contains cone.tables k → k < length c.tables
+    cone_low k has = All-contains (λ k. k < length c.tables) cone.tables k cone_is.1.order.within has
+
+    -- a group of the list has its tables in the cone
+    listed : (k : ℕ) → k < length c.tables → Contains (get_or lists i []) (number k) → Contains cone.tables k
+    listed k low has =
+        let (j, t, at, is, e) = (found.has (number k)).0 has in
+        let in_cone : Contains cone.tables t = (j, at, is) in
+        (same_cones t k (cone_low t in_cone) low e i no_cone inside).0 in_cone
+
+    lists_it : (k : ℕ) → Contains cone.tables k → Contains (get_or lists i []) (number k)
+    lists_it k (j, at, is) = (found.has (number k)).1 (j, k, at, is, refl)
+
+    in_sorted : (a : ℕ) → Contains (get_or lists i []) a → Contains list a
+    in_sorted a has = Contains-permutation (get_or lists i []) list a (are_ranked.permuted i here) has
+
+    from_sorted : (a : ℕ) → Contains list a → Contains (get_or lists i []) a
+    from_sorted a has =
+        Contains-permutation list (get_or lists i []) a
+        (IsPermutation-sym (get_or lists i []) list (are_ranked.permuted i here)) has
+
+    same_tables : (k : ℕ) → (Contains (tables_in g list) k ↔ Contains cone.tables k)
+    same_tables k = (
+      λ has.
+          let (j, a, at, is, in_group) = flat_has (group_of g) list k has in
+          let (low, e) = member_in a k in_group in
+          listed k low (subst (Contains (get_or lists i [])) (sym e) (from_sorted a (j, at, is))),
+      λ has. has_flat (group_of g) list (number k) k (in_sorted (number k) (lists_it k has)) (member_of k (cone_low k has)),
+    )
+
+    -- what a table of a cone reads of another is in each cone that has the first
+    feeds : (d : Gate) (x y : ℕ) → x < length c.tables → y < length c.tables → Reads c d x y
+        → Contains cone.tables x → Contains cone.tables y
+    feeds d x y low_x low_y reads has =
+        let (these, is) = cone_is in
+        let reaches : ReachesSome c these (net_of c x) = (is.tables x low_x).0 has in
+        (is.tables y low_y).1 (reaches_some_before c these (net_of c y) (net_of c x) (
+          x,
+          get_or c.tables x d,
+          low_x,
+          get_or-default c.tables x (get_or c.tables x d) d low_x,
+          (subst (Contains (get_or c.tables x d).table.inputs) (sym (net_is c y d low_y)) reads, sym (net_is c x d low_x)),
+        )
+        reaches)
+
+  -- which lists lack a number
+  abbrev lacks : ℕ → List ℕ → Bool
+  lacks a xs = not (list_any (λ k. k == a) xs)
+
+  lacks_true : (a : ℕ) (xs : List ℕ) → ¬ Contains xs a → lacks a xs ≡ true
+  lacks_true a xs free = ap not (lacks_false xs a free)
+
+  lacks_not : (a : ℕ) (xs : List ℕ) → Contains xs a → lacks a xs ≡ false
+  lacks_not a xs has = ap not (has_true xs a has)
+
+  module _ (d : Gate) (x y : ℕ) (low_x : x < length c.tables) (low_y : y < length c.tables) (reads : Reads c d x y)
+      (most : lists_without lists (number x) ≤ lists_without lists (number y)) where
+    as_many : length lists ≡ length cones
+    as_many = are_lists.one_each
+
+    list_feeds : (i : ℕ) → i < length lists → Contains (get_or lists i []) (number x) → Contains (get_or lists i []) (number y)
+    list_feeds i inside has =
+        let near : i < length cones = omega (inside, as_many, arith) in
+        lists_it i near y (feeds i near d x y low_x low_y reads (listed i near x low_x has))
+
+    fewer : All (λ xs. lacks (number y) xs ≡ true → lacks (number x) xs ≡ true) lists
+    fewer i e inside is = elim (cases_Contains (get_or lists i e) (number x)) [
+      | inl has ↦
+          (let default : get_or lists i e ≡ get_or lists i [] = get_or_default lists i e [] inside in
+          let there : Contains (get_or lists i e) (number y) =
+          subst (λ (xs : List ℕ). Contains xs (number y)) (sym default)
+          (list_feeds i inside (subst (λ (xs : List ℕ). Contains xs (number x)) default has)) in
+          absurd (false≢true (sym (lacks_not (number y) (get_or lists i e) there) ∙ is)))
+      | inr free ↦ lacks_true (number x) (get_or lists i e) free
+    ]
+
+    all_lack : All (λ xs. lacks (number x) xs ≡ true → lacks (number y) xs ≡ true) lists
+    all_lack = count_same (lacks (number x)) (lacks (number y)) lists fewer most
+
+    have_same : HaveSame cones x y
+    have_same i e near =
+        let inside : i < length lists = omega (near, as_many, arith) in
+        let default : get_or cones i e ≡ get_or cones i no_cone = get_or-default cones i e no_cone near in
+        let at : (Contains (get_or cones i no_cone).tables x ↔ Contains (get_or cones i no_cone).tables y) = (
+          λ has. feeds i near d x y low_x low_y reads has,
+          λ has. listed i near x low_x (elim (cases_Contains (get_or lists i []) (number x)) [
+            | inl there ↦ there
+            | inr free ↦
+                (let lacks_y : lacks (number y) (get_or lists i []) ≡ true =
+                all_lack i [] inside (lacks_true (number x) (get_or lists i []) free) in
+                absurd (false≢true (sym (lacks_not (number y) (get_or lists i []) (lists_it i near y has)) ∙ lacks_y)))
+          ]),
+        ) in
+        subst (λ (cone : Cone). Contains cone.tables x ↔ Contains cone.tables y) (sym default) at
+
+    pub same_number : number x ≡ number y
+    same_number = (classes.same x y low_x low_y).1 have_same
+
+  flips : (x y : ℕ) → eqb x y ≡ eqb y x
+  flips x y = elim (eqb_tells x y) [
+    | inl (is, e) ↦ elim (eqb_tells y x) [ inl (at, f) ↦ is ∙ sym at | inr (at, ne) ↦ absurd (ne (sym e)) ]
+    | inr (is, ne) ↦ elim (eqb_tells y x) [ inl (at, f) ↦ absurd (ne (sym f)) | inr (at, other) ↦ is ∙ sym at ]
+  ]
+
+  order_pairs : AllPairs (IsBehind c) order
+  order_pairs i j e under inside d =
+      subst (λ (n : ℕ). ¬ Reads c d n (get_or order j e)) (get_or-default order i 0 e (omega (under, inside, arith)))
+      (subst (λ (n : ℕ). ¬ Reads c d (get_or order i 0) n) (get_or-default order j 0 e inside)
+      (ordered.before i j d (omega (under, arith)) inside))
+
+  not_self : (k : ℕ) → k < length c.tables → IsBehind c k k
+  not_self k low d =
+      let (i, inside, is) = ordered.all k low in
+      let same : get_or order i 0 ≡ k = get_or_default order i 0 k inside ∙ is in
+      subst (λ (n : ℕ). ¬ Reads c d n n) same (ordered.before i i d (omega arith) inside)
+
+  group_pairs : (a : ℕ) → AllPairs (IsBehind c) (group_of g a)
+  group_pairs a = elim (cases_lt a count) [
+    | inl low ↦
+        subst (λ (xs : List ℕ). AllPairs (IsBehind c) xs) (sym (are_members.each a low))
+        (AllPairs-filter (IsBehind c) (λ k. number k == a) order order_pairs)
+    | inr past ↦
+        (let size : length groups ≡ count = are_members.one_each in
+        subst (λ (xs : List ℕ). AllPairs (IsBehind c) xs) (sym (get_or_past groups a [] (omega (past, size, arith))))
+        (λ i j d under inside. absurd (let h : j < 0 = inside in omega (h, arith))))
+  ]
+
+  grouped : (i : ℕ) → i < length cones → IsGrouped c g (get_or cones i no_cone) (get_or sorted i [])
+  grouped i inside =
+      let list : List ℕ = get_or sorted i [] in
+      let at : i < length lists = here i inside in
+      let found_i : AreFound (get_or cones i no_cone).tables numbers (get_or lists i []) = found i inside in
+      let once : AllPairs (λ a b. a ≢ b) list =
+      AllPairs-from_IsDistinct Decides-eqb list (IsDistinct-IsPermutation eqb flips (get_or lists i []) list (are_ranked.permuted i at)
+      (IsDistinct-from_AllPairs Decides-eqb (get_or lists i []) found_i.once)) in
+      let low : (k : ℕ) → Contains (tables_in g list) k → k < length c.tables =
+      λ k has. cone_low i inside k ((same_tables i inside k).0 has) in
+      record {
+        within = λ j e near.
+            let a : ℕ = get_or list j e in
+            let (m, t, there, is, same) = (found_i.has a).0 (from_sorted i inside a (Contains-get_or list j e near)) in
+            let size : length groups ≡ count = are_members.one_each in
+            let less : number t < count = number_below t (cone_low i inside t (m, there, is)) in
+            omega (less, same, size, arith);
+        once = once;
+        order = order_from_pairs c (tables_in g list)
+            (λ j e near. low (get_or (tables_in g list) j e) (Contains-get_or (tables_in g list) j e near))
+            (pairs_flat (IsBehind c) (group_of g) list (λ j e near. group_pairs (get_or list j e))
+            (λ j m e under near x y has_x has_y d reads.
+            let (low_x, is_x) = member_in (get_or list j e) x has_x in
+            let (low_y, is_y) = member_in (get_or list m e) y has_y in
+            let up : lists_without lists (get_or list j e) ≤ lists_without lists (get_or list m e) =
+            are_ranked.rising i at j m e (omega (under, arith)) near in
+            let most : lists_without lists (number x) ≤ lists_without lists (number y) =
+            subst (λ (n : ℕ). lists_without lists n ≤ lists_without lists (number y)) (sym is_x)
+            (subst (λ (n : ℕ). lists_without lists (get_or list j e) ≤ lists_without lists n) (sym is_y) up) in
+            once j m e under near (sym is_x ∙ (same_number d x y low_x low_y reads most ∙ is_y))))
+            (λ j e near. not_self (get_or (tables_in g list) j e)
+            (low (get_or (tables_in g list) j e) (Contains-get_or (tables_in g list) j e near)));
+        same = same_tables i inside;
+      }
+
+  pub members_within : All (λ list. All (λ k. k < length bank) list) groups
+  members_within a d inside k e low =
+      let list : List ℕ = get_or groups a d in
+      let has : Contains (get_or groups a []) (get_or list k e) =
+      subst (λ (xs : List ℕ). Contains xs (get_or list k e)) (get_or_default groups a d [] inside) (Contains-get_or list k e low) in
+      subst (λ (n : ℕ). get_or list k e < n) (sym is_bank.one_each) (member_in a (get_or list k e) has).0
+
+  pub are_groups : AreGroupsOf c cones g
+  are_groups = record {
+    packed = is_bank;
+    one_each = are_ranked.one_each ∙ are_lists.one_each;
+    each = λ i d inside.
+        subst (λ (cone : Cone). IsGrouped c g cone (get_or sorted i [])) (get_or-default cones i no_cone d inside) (grouped i inside);
+    within = λ a k d inside. (member_in a (get_or (group_of g a) k d) (Contains-get_or (group_of g a) k d inside)).0;
+    apart = λ a b k has_a has_b. sym (member_in a k has_a).1 ∙ (member_in b k has_b).1;
+  }

@@ -1,0 +1,233 @@
+-- The slots of a split design, of which no two share a net.
+use Rattle.std.proofs.Common.{◌≡◌, ◌≢◌, ◌∙◌, ◌⊎◌, ℕ, zero, suc, ◌+◌, ◌-◌, ◌/◌, ◌%◌, ◌<◌, Bool, cond, List}
+use Rattle.std.proofs.Common.{[], ◌∷◌, ◌++◌, length, get_or, map, refl, sym, ap, subst, arith, inl, inr}
+use Rattle.std.specs.Prelude.{AllPairs, Contains}
+use Rattle.std.specs.List.{flat_map, range_with_len}
+use Rattle.std.proofs.lemmas.Bool.{cases_eq, cases_lt}
+use Rattle.std.proofs.lemmas.Bool.Decides.{eqb_tells}
+use Rattle.std.proofs.lemmas.List.{get_or-append-add, get_or-map, get_or_append_left, get_or_past}
+use Rattle.std.proofs.lemmas.List.{length-map}
+use Rattle.std.proofs.Common.{length-append}
+use Rattle.std.proofs.lemmas.List.Elements.{Contains-append_left, Contains-append_right, Contains-get_or}
+use Rattle.std.proofs.lemmas.List.FromFn.{get_or-map-range_with_len, length-map-range_with_len}
+use Rattle.ds_base.proofs.Lists.{Any-from_map}
+use Rattle.ds_base.proofs.Pairs.{pairs-between, pairs-left, pairs-right}
+use Rattle.ds_design.specs.Circuit.{Circuit, columns, register_nets}
+use Rattle.ds_design.specs.Levels.{table_nets}
+use Rattle.ds_groups.specs.Groups.{AreGroupsOf, Grouping, group_of}
+use Rattle.ds_latch.specs.Node.{Node, In, Out, Master, Slave, Split, IsNode, members, nets_of, nodes, number_of}
+use Rattle.ds_latch.specs.Plan.{IsSplit}
+use Rattle.ds_latch.proofs.Counts.{number_below}
+use Rattle.ds_settle.specs.Cone.{Parts as Cone, net_of, nets_of_tables}
+use Rattle.ds_settle.proofs.Tables.{net_driven, same_table}
+use Rattle.ds_opening.specs.Foreseen.{node_at}
+use Rattle.ds_opening.specs.Noted.{AreSlotsApart, learnt_nets, slots_of}
+use Rattle.ds_opening.proofs.ForeseenRows.{node_by_number}
+
+nothing : (x : ℕ) → ¬ Contains [] x
+nothing x (k, inside, is) = absurd (let h : k < 0 = inside in omega (h, arith))
+
+-- the number of the node with a number
+number_back : (l : ℕ) → number_of (node_at l) ≡ l
+number_back zero = refl
+number_back (suc zero) = refl
+number_back (suc (suc n)) = elim (eqb_tells (n % 2) 0) [
+  | inl (is, e) ↦
+      ap (λ (b : Bool). number_of (cond b (Master (n / 2)) (Slave (n / 2)))) is ∙ omega (e, arith)
+  | inr (is, ne) ↦
+      ap (λ (b : Bool). number_of (cond b (Master (n / 2)) (Slave (n / 2)))) is ∙ omega (ne, arith)
+]
+
+-- a number stands at one place of a list without repeats
+one_place : (these : List ℕ) → AllPairs (λ a b. a ≢ b) these → (j k : ℕ) → j < length these → k < length these
+    → get_or these j 0 ≡ get_or these k 0 → j ≡ k
+one_place these once j k inside within e =
+    elim (cases_eq j k) [
+      | inl same ↦ same
+      | inr ne ↦ absurd (elim (cases_lt j k) [
+        | inl below ↦ once j k 0 below within e
+        | inr above ↦ once k j 0 (omega (above, ne, arith)) inside (sym e)
+      ])
+    ]
+
+abbrev flat : List (List ℕ) → List ℕ
+flat clusters = flat_map (λ registers. registers) clusters
+
+in_flat : (clusters : List (List ℕ)) (i r : ℕ) → i < length clusters → Contains (get_or clusters i []) r → Contains (flat clusters) r
+in_flat [] i r inside has = absurd (omega (inside, arith))
+in_flat (c ∷ cs) zero r inside has = Contains-append_left c (flat cs) r has
+in_flat (c ∷ cs) (suc i) r inside has = Contains-append_right c (flat cs) r (in_flat cs i r (omega (inside, arith)) has)
+
+one_cluster : (clusters : List (List ℕ)) → AllPairs (λ a b. a ≢ b) (flat clusters) → (d i r : ℕ) → d < length clusters → i < length clusters
+    → Contains (get_or clusters d []) r → Contains (get_or clusters i []) r → d ≡ i
+one_cluster [] once d i r low inside one two = absurd (omega (low, arith))
+one_cluster (c ∷ cs) once zero zero r low inside one two = refl
+one_cluster (c ∷ cs) once zero (suc i) r low inside one two = absurd (pairs-between c (flat cs) once r one (in_flat cs i r (omega (inside, arith)) two))
+one_cluster (c ∷ cs) once (suc d) zero r low inside one two = absurd (pairs-between c (flat cs) once r two (in_flat cs d r (omega (low, arith)) one))
+one_cluster (c ∷ cs) once (suc d) (suc i) r low inside one two = ap suc (one_cluster cs (pairs-right c (flat cs) once) d i r (omega (low, arith)) (omega (inside, arith)) one two)
+
+module _ (s : Split) (split : IsSplit s) where
+  abbrev c : Circuit
+  c = s.circuit
+
+  not_both : (net : ℕ) → Contains (columns c) net → ¬ Contains (register_nets c) net
+  not_both net column register =
+      pairs-between (columns c ++ table_nets c) (register_nets c) split.accepted.one_driver net
+      (Contains-append_left (columns c) (table_nets c) net column) register
+
+  -- a register of a cluster that drives a net
+  record Register (i net : ℕ) : Type 0 where
+    place : ℕ
+    inside : i < length s.clusters
+    has : Contains (members s i) place
+    low : place < length (register_nets c)
+    is : get_or (register_nets c) place 0 ≡ net
+
+  cluster_there : (i net : ℕ) → Contains (nets_of s (Slave i)) net → i < length s.clusters
+  cluster_there i net has = elim (cases_lt i (length s.clusters)) [
+    | inl inside ↦ inside
+    | inr past ↦
+        (let none : members s i ≡ [] = get_or_past s.clusters i [] past in
+        absurd (nothing net (subst (λ (rs : List ℕ). Contains (map (λ r. get_or (register_nets c) r 0) rs) net) none has)))
+  ]
+
+  register_of : (i net : ℕ) → Contains (nets_of s (Slave i)) net → Register i net
+  register_of i net has =
+      let inside : i < length s.clusters = cluster_there i net has in
+      let (j, r, at, is_r, e) = Any-from_map (λ r. get_or (register_nets c) r 0) (members s i) net has in
+      let near : r < length c.registers = subst (λ (n : ℕ). n < length c.registers) is_r (split.within i [] inside j r at) in
+      let size : length (register_nets c) ≡ length c.registers = length-map c.registers (λ r. r.output) in
+      record {
+        place = r;
+        inside = inside;
+        has = (j, at, is_r);
+        low = omega (near, size, arith);
+        is = e;
+      }
+
+  slave_register : (i net : ℕ) → Contains (nets_of s (Slave i)) net → Contains (register_nets c) net
+  slave_register i net has =
+      let r : Register i net = register_of i net has in
+      subst (Contains (register_nets c)) r.is (Contains-get_or (register_nets c) r.place 0 r.low)
+
+  same_slave : (i j net : ℕ) → Contains (nets_of s (Slave i)) net → Contains (nets_of s (Slave j)) net → i ≡ j
+  same_slave i j net one two =
+      let r : Register i net = register_of i net one in
+      let q : Register j net = register_of j net two in
+      let once : AllPairs (λ a b. a ≢ b) (register_nets c) =
+      pairs-right (columns c ++ table_nets c) (register_nets c) split.accepted.one_driver in
+      let same : r.place ≡ q.place = one_place (register_nets c) once r.place q.place r.low q.low (r.is ∙ sym q.is) in
+      one_cluster s.clusters split.once i j q.place r.inside q.inside
+      (subst (Contains (members s i)) same r.has) q.has
+
+  -- a net is learnt of one node
+  same_learnt : (m n : Node) (net : ℕ) → Contains (learnt_nets s m) net → Contains (learnt_nets s n) net → m ≡ n
+  same_learnt In In net one two = refl
+  same_learnt In Out net one two = absurd (nothing net two)
+  same_learnt In (Master j) net one two = absurd (nothing net two)
+  same_learnt In (Slave j) net one two = absurd (not_both net one (slave_register j net two))
+  same_learnt Out n net one two = absurd (nothing net one)
+  same_learnt (Master i) n net one two = absurd (nothing net one)
+  same_learnt (Slave i) In net one two = absurd (not_both net two (slave_register i net one))
+  same_learnt (Slave i) Out net one two = absurd (nothing net two)
+  same_learnt (Slave i) (Master j) net one two = absurd (nothing net two)
+  same_learnt (Slave i) (Slave j) net one two = ap Slave (same_slave i j net one two)
+
+  -- what is learnt is driven by no table
+  learnt_free : (n : Node) (net : ℕ) → Contains (learnt_nets s n) net → ¬ Contains (table_nets c) net
+  learnt_free In net has driven =
+      pairs-between (columns c) (table_nets c)
+      (pairs-left (columns c ++ table_nets c) (register_nets c) split.accepted.one_driver) net has driven
+  learnt_free Out net has driven = nothing net has
+  learnt_free (Master i) net has driven = nothing net has
+  learnt_free (Slave i) net has driven =
+      pairs-between (columns c ++ table_nets c) (register_nets c) split.accepted.one_driver net
+      (Contains-append_right (columns c) (table_nets c) net driven) (slave_register i net has)
+
+  module _ (g : Grouping) where
+    abbrev fronts : List (List ℕ)
+    fronts = map (nets_of_tables c) g.groups
+
+    abbrev backs : List (List ℕ)
+    backs = map (λ l. learnt_nets s (node_at l)) (range_with_len 0 (nodes s))
+
+    fronts_long : length fronts ≡ length g.groups
+    fronts_long = length-map g.groups (nets_of_tables c)
+
+    backs_long : length backs ≡ nodes s
+    backs_long = length-map-range_with_len (λ l. learnt_nets s (node_at l)) 0 (nodes s)
+
+    pub slots_long : length (slots_of s g) ≡ length g.groups + nodes s
+    slots_long =
+        (let sum : length (slots_of s g) ≡ length fronts + length backs = length-append fronts backs in
+        omega (sum, fronts_long, backs_long, arith))
+
+    pub slot_of_group : (a : ℕ) → a < length g.groups → get_or (slots_of s g) a [] ≡ nets_of_tables c (group_of g a)
+    slot_of_group a low =
+        get_or_append_left fronts backs [] a (omega (low, fronts_long, arith))
+        ∙ get_or-map (nets_of_tables c) g.groups a [] [] low
+
+    slot_at : (l : ℕ) → l < nodes s → get_or (slots_of s g) (length g.groups + l) [] ≡ learnt_nets s (node_at l)
+    slot_at l low =
+        ap (λ (n : ℕ). get_or (slots_of s g) (n + l) []) (sym fronts_long)
+        ∙ (get_or-append-add fronts backs l []
+        ∙ get_or-map-range_with_len (λ l. learnt_nets s (node_at l)) 0 (nodes s) l l [] low (omega arith))
+
+    pub slot_of_node : (n : Node) → IsNode s n → get_or (slots_of s g) (length g.groups + number_of n) [] ≡ learnt_nets s n
+    slot_of_node n is_node = slot_at (number_of n) (number_below s n is_node) ∙ ap (learnt_nets s) (node_by_number n)
+
+    module _ (cones : List Cone) (are : AreGroupsOf c cones g) where
+      -- the slot of a net: a group's or a node's
+      record InGroup (a net : ℕ) : Type 0 where
+        table : ℕ
+        has : Contains (group_of g a) table
+        low : table < length c.tables
+        is : net_of c table ≡ net
+
+      record InNode (a net : ℕ) : Type 0 where
+        node : ℕ
+        is : a ≡ length g.groups + node
+        has : Contains (learnt_nets s (node_at node)) net
+
+      in_slot : (a net : ℕ) → Contains (get_or (slots_of s g) a []) net → InGroup a net ⊎ InNode a net
+      in_slot a net has = elim (cases_lt a (length g.groups)) [
+        | inl low ↦
+            (let (j, k, at, is, e) = Any-from_map (net_of c) (group_of g a) net
+            (subst (λ (xs : List ℕ). Contains xs net) (slot_of_group a low) has) in
+            inl (record {
+              table = k;
+              has = (j, at, is);
+              low = subst (λ (n : ℕ). n < length c.tables) is (are.within a j k at);
+              is = e;
+            }))
+        | inr past ↦
+            (let l : ℕ = a - length g.groups in
+            let a_is : a ≡ length g.groups + l = omega (past, arith) in
+            elim (cases_lt l (nodes s)) [
+              | inl near ↦ inr (record {
+                node = l;
+                is = a_is;
+                has = subst (λ (xs : List ℕ). Contains xs net)
+                    (ap (λ (n : ℕ). get_or (slots_of s g) n []) a_is ∙ slot_at l near) has;
+              })
+              | inr far ↦
+                  absurd (nothing net (subst (λ (xs : List ℕ). Contains xs net)
+                  (get_or_past (slots_of s g) a [] (omega (a_is, far, slots_long, arith))) has))
+            ])
+      ]
+
+      apart_in : (a b net : ℕ) → InGroup a net ⊎ InNode a net → InGroup b net ⊎ InNode b net → a ≡ b
+      apart_in a b net (inl p) (inl q) =
+          let same : p.table ≡ q.table = same_table c split.accepted p.table q.table p.low q.low (p.is ∙ sym q.is) in
+          are.apart a b q.table (subst (Contains (group_of g a)) same p.has) q.has
+      apart_in a b net (inl p) (inr q) =
+          absurd (learnt_free (node_at q.node) net q.has (subst (Contains (table_nets c)) p.is (net_driven c p.table p.low)))
+      apart_in a b net (inr p) (inl q) =
+          absurd (learnt_free (node_at p.node) net p.has (subst (Contains (table_nets c)) q.is (net_driven c q.table q.low)))
+      apart_in a b net (inr p) (inr q) =
+          let same : node_at p.node ≡ node_at q.node = same_learnt (node_at p.node) (node_at q.node) net p.has q.has in
+          let numbers : p.node ≡ q.node = sym (number_back p.node) ∙ (ap number_of same ∙ number_back q.node) in
+          p.is ∙ (ap (λ (n : ℕ). length g.groups + n) numbers ∙ sym q.is)
+
+      pub slots_apart : AreSlotsApart (slots_of s g)
+      slots_apart a b net one two = apart_in a b net (in_slot a net one) (in_slot b net two)

@@ -1,0 +1,39 @@
+use Rattle.std.proofs.Common.{◌∙◌, ◌<◌, ℕ, List, length, get_or}
+use Rattle.ds_base.specs.Values.{Row}
+use Rattle.ds_design.specs.Circuit.{Circuit}
+use Rattle.ds_groups.specs.Groups.{Grouping, group_of, tables_in}
+use Rattle.ds_scratch.specs.Scratch.{Kept, Memory, Remembers}
+use Rattle.ds_settle.specs.Cone.{nets_of_tables}
+use Rattle.ds_opening.specs.Noted.{AreFed, AreGroupSlots, IsAsKnown, IsLearnt}
+use Rattle.ds_opening.proofs.Learnt.{groups_more, rest_fed}
+use Rattle.ds_opening.proofs.opening.set_groups.Goals as goal
+
+pub loop-group-preserved : goal.loop-group-preserved
+loop-group-preserved c =
+    let circuit : Circuit = c.args.netlist.now in
+    let g : Grouping = c.args.groups.now in
+    let list : List ℕ = c.args.list.now in
+    let i : ℕ = c.loop-group.group-index in
+    let a : ℕ = get_or list i 0 in
+    let inside : i < length list = c.loop-group-test.true in
+    let old : Kept = c.args.scratch.now in
+    let mid : Kept = c.loop-group.scratch in
+    let new : Kept = c.set_group.new.scratch in
+    let one : (m : Memory) (known : Row) → AreGroupSlots circuit g m c.args.turn known
+    → AreFed circuit known (IsAsKnown known old.nets) (tables_in g list) → Remembers m old
+    → IsLearnt m known (nets_of_tables circuit (group_of g a)) mid new =
+    λ m known slots fed remembers.
+    c.set_group.ensures.value m known (slots a (c.requires.groups i 0 inside))
+    (rest_fed circuit g list i inside known mid.nets (c.loop-group.invariant.fed m known slots fed remembers)).0
+    (c.loop-group.invariant.learnt m known slots fed remembers).remembers in
+    record {
+      same = record {
+        nets = c.set_group.ensures.same.nets ∙ c.loop-group.invariant.same.nets;
+        turns = c.set_group.ensures.same.turns ∙ c.loop-group.invariant.same.turns;
+      };
+      learnt = λ m known slots fed remembers.
+          groups_more circuit g list i inside m known old mid new (c.loop-group.invariant.learnt m known slots fed remembers) (one m known slots fed remembers);
+      fed = λ m known slots fed remembers.
+          (rest_fed circuit g list i inside known mid.nets (c.loop-group.invariant.fed m known slots fed remembers)).1 new.nets
+          (one m known slots fed remembers).learns;
+    }

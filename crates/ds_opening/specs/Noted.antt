@@ -1,0 +1,102 @@
+-- Openings in a row that remembers.
+use Rattle.std.specs.Prelude.{◌≡◌, ◌⊎◌, ⊤, ℕ, ◌-◌, ◌<◌, List, [], ◌∷◌, ◌++◌, length, map, All}
+use Rattle.std.specs.Prelude.{Contains, slice_index_or}
+use Rattle.std.specs.List.{range_with_len}
+use Rattle.ds_base.specs.Values.{Row}
+use Rattle.ds_cover.specs.Cover.{value_at, value_of}
+use Rattle.ds_design.specs.Circuit.{Circuit}
+use Rattle.ds_design.specs.declared.design.Gate.{Gate}
+use Rattle.ds_groups.specs.Groups.{AreGroupsOf, Grouping, group_of}
+use Rattle.ds_latch.specs.Node.{Node, In, Out, Master, Slave, Split, nets_of, nodes}
+use Rattle.ds_scratch.specs.Scratch.{Kept, Memory, Remembers, value_in}
+use Rattle.ds_settle.specs.Cone.{Parts as Cone, net_of, nets_of_tables}
+use Rattle.ds_opening.specs.Foreseen.{node_at}
+use Rattle.ds_opening.specs.Packed.{AreLearnt, Learns}
+use Rattle.ds_opening.specs.Woven.{AreCones, IsFed, IsOpening, IsSettlingAt, Turn}
+use Rattle.ds_opening.specs.declared.opening.Opening.{Opening}
+
+-- the groups of the cones of the nodes that settle
+pub record AreConeGroups (s : Split) (g : Grouping) : Type 0 where
+  pub cones : List Cone
+  pub are_cones : AreCones s cones
+  pub are : AreGroupsOf s.circuit cones g
+
+-- the nets of a node that others learn as they settle
+abbrev pub learnt_nets : Split → Node → List ℕ
+learnt_nets s In = nets_of s In
+learnt_nets s Out = []
+learnt_nets s (Master i) = []
+learnt_nets s (Slave i) = nets_of s (Slave i)
+
+-- the slots: what the tables of each group drive, and what is learnt of each node
+abbrev pub slots_of : Split → Grouping → List (List ℕ)
+slots_of s g = map (nets_of_tables s.circuit) g.groups
+    ++ map (λ l. learnt_nets s (node_at l)) (range_with_len 0 (nodes s))
+
+-- no net is in two slots
+abbrev pub AreSlotsApart : List (List ℕ) → Type 0
+AreSlotsApart slots = (a b net : ℕ) → Contains (slice_index_or slots a []) net
+    → Contains (slice_index_or slots b []) net → a ≡ b
+
+-- a slot has these nets and no other slot has one of them, and in the turn they have known values
+pub record IsSlot (m : Memory) (turn slot : ℕ) (these : List ℕ) (known : Row) : Type 0 where
+  pub inside : slot < length m.slots
+  pub is : slice_index_or m.slots slot [] ≡ these
+  pub apart : AreSlotsApart m.slots
+  pub values : (net : ℕ) → value_in m turn net ≡ value_at known net
+
+-- each group has its slot
+abbrev pub AreGroupSlots : Circuit → Grouping → Memory → ℕ → Row → Type 0
+AreGroupSlots c g m turn known = (a : ℕ) → a < length g.groups
+    → IsSlot m turn a (nets_of_tables c (group_of g a)) known
+
+-- a net is as it is known
+abbrev pub IsAsKnown : Row → Row → ℕ → Type 0
+IsAsKnown known nets net = value_at nets net ≡ value_at known net
+
+-- as many nets and as many slots
+pub record IsAsLong (old new : Kept) : Type 0 where
+  pub nets : length new.nets ≡ length old.nets
+  pub turns : length new.turns ≡ length old.turns
+
+-- these nets are as they are known, and so is each that was so, and what is noted is remembered
+pub record IsLearnt (m : Memory) (known : Row) (these : List ℕ) (old new : Kept) : Type 0 where
+  pub remembers : Remembers m new
+  pub learns : Learns known these old.nets new.nets
+
+-- the nets of these nodes are as they are known, and what is noted is remembered
+pub record AreRowsLearnt (m : Memory) (known : Row) (bits : List (List ℕ)) (numbers : List ℕ)
+    (new : Kept) : Type 0 where
+  pub remembers : Remembers m new
+  pub learnt : AreLearnt known bits numbers new.nets
+
+-- each of these tables reads what P holds of or what an earlier one drives, and the known values
+-- are those of the tables
+abbrev pub AreFed : Circuit → Row → (ℕ → Type 0) → List ℕ → Type 0
+AreFed c known P [] = ⊤
+AreFed c known P (k ∷ ks) = ((d : Gate) → let t = slice_index_or c.tables k d in
+    (value_at known t.output ≡ value_of t.table known) × All P t.table.inputs)
+    × AreFed c known (λ net. P net ⊎ (net ≡ net_of c k)) ks
+
+-- the memory of a split design in a turn of its clocked run, which a row fits
+pub record IsMemoryOf (s : Split) (g : Grouping) (turn : ℕ) (t : Turn) (m : Memory)
+    (k : Kept) : Type 0 where
+  pub nets : m.nets ≡ length s.circuit.nets
+  pub slots : m.slots ≡ slots_of s g
+  pub values : (net : ℕ) → value_in m turn net ≡ value_at (t.nets t.opened) net
+  pub remembers : Remembers m k
+
+-- the opening of a node in a turn of a run on these vectors, in a row that remembers
+pub record IsNotedOpening (s : Split) (vectors : List Row) (g : Grouping) (o : Opening) (k : Kept)
+    (n : Node) (t : Turn) (m : Memory) : Type 0 where
+  pub some : 0 < o.turn
+  pub opening : IsOpening s vectors o.number (o.turn - 1) o.producers.now o.from.now n t
+  pub memory : IsMemoryOf s g o.turn t m k
+
+-- the same of a node that settles
+pub record IsSettlingOpening (s : Split) (g : Grouping) (o : Opening) (k : Kept)
+    (n : Node) (t : Turn) (m : Memory) : Type 0 where
+  pub some : 0 < o.turn
+  pub at : IsSettlingAt s n o.number
+  pub fed : IsFed s n o.producers.now o.from.now t
+  pub memory : IsMemoryOf s g o.turn t m k

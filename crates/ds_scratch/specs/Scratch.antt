@@ -1,0 +1,32 @@
+-- A row to work in with the turns of its slots, and what it remembers.
+use Rattle.std.specs.Prelude.{◌≡◌, ℕ, ◌-◌, ◌<◌, All, List, [], length, slice_index, slice_index_or}
+use Rattle.ds_base.specs.Values.{Row}
+use Rattle.ds_base.specs.declared.value.Value.{Value}
+use Rattle.ds_base.specs.declared.value.Value.TheVariants.{Zero}
+
+-- what a scratch shows: the value of each net, and the turn of each slot, 0 where it has none
+pub record Kept : Type 0 where
+  pub nets : Row
+  pub turns : List ℕ
+
+-- what is to be remembered: how many nets there are, which are in each slot, and the values of all
+-- nets in each turn, from turn 1 on
+pub record Memory : Type 0 where
+  pub nets : ℕ
+  pub slots : List (List ℕ)
+  pub rows : List Row
+
+-- the value of a net in a turn
+abbrev pub value_in : Memory → ℕ → ℕ → Value
+value_in m turn net = slice_index_or (slice_index_or m.rows (turn - 1) []) net Zero
+
+-- these nets hold their values of the turn
+abbrev pub HoldsTurn : Memory → Row → ℕ → List ℕ → Type 0
+HoldsTurn m nets turn slot = All (λ net. slice_index_or nets net Zero ≡ value_in m turn net) slot
+
+-- each slot that has a turn holds that turn's values
+pub record Remembers (m : Memory) (k : Kept) : Type 0 where
+  pub nets : length k.nets ≡ m.nets
+  pub turns : length k.turns ≡ length m.slots
+  pub each : (s : ℕ) → s < length m.slots → 0 < slice_index k.turns s
+      → HoldsTurn m k.nets (slice_index k.turns s) (slice_index_or m.slots s [])

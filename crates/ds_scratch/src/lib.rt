@@ -1,0 +1,16 @@
+//! A row to work in that remembers what it holds.
+//!
+//! Who computes rows of nets works in a row for all of them. A `Scratch` is such a row, and beside
+//! it a turn for each slot: a slot is some of the nets, and where its turn is not 0, these nets
+//! hold their values of that turn. So what was computed once a turn need not be computed again. A
+//! caller sees it as a `Kept`, the values and the turns; a `Memory` says which nets are in a slot
+//! and which values they have, and `Remembers` that what is kept fits it.
+//!
+//! `Scratch::of` makes one that remembers nothing yet, `is_noted` asks for the turn of a slot,
+//! `note` sets it, and `nets` and `nets_mut` lend the row. That a slot is noted only once its nets
+//! hold the values is the caller's part.
+#![tactic(auto)]
+
+mod scratch;
+
+pub use scratch::Scratch;
