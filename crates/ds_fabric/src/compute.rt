@@ -10,9 +10,9 @@ use ds_base::{LatchId, OutOfMemory};
 use ds_scratch::Scratch;
 use std::alloc::Global;
 
-/// How the row of an opening comes from the rows of its producers: the settled cones of a run.
+/// How the row of an opening comes from the rows of its producers: what settles in a run.
 pub trait Compute {
-    // the run, and how many values the row has in which a row is computed
+    // the run
     ghost run: { Self → Run };
 
     // what a scratch remembers from one call of `compute` to the next
@@ -22,8 +22,8 @@ pub trait Compute {
     fn scratch(&self, alloc: Global) -> Result<Scratch, OutOfMemory>
         ensures { IfOk result (Remembers (memory self.now)) };
 
-    /// How much work an opening of the node is beside the firing, counted in tables. A hint: it
-    /// promises nothing.
+    /// How much work an opening of the node is beside the firing where nothing is remembered,
+    /// counted in tables. A hint: it promises nothing.
     fn cost(&self, node: LatchId) -> u64
         requires node { node < (run self.now).nodes };
 

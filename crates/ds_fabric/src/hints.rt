@@ -26,7 +26,8 @@ impl<'a, J: Rows, C: Compute> Fabric<'a, J, C> {
         self.table.shared.peek(0) >= firings
     }
 
-    /// How much work an opening of the node is beside the firing, counted in tables.
+    /// How much work an opening of the node is beside the firing where nothing is remembered,
+    /// counted in tables.
     pub fn cost(&self, node: LatchId) -> u64
         requires near { node < self.now.run.nodes }
     {

@@ -22,7 +22,8 @@ pub record AreClasses (cones : List Cone) (count : ℕ) (classes : List ℕ) : T
   pub same : (a b : ℕ) → a < count → b < count
       → (slice_index classes a ≡ slice_index classes b ↔ HaveSame cones a b)
 
--- tables of a class have the same class still where these tables have both or neither
+-- two tables have the same class behind the split where they had before, and both or neither are
+-- among these
 abbrev pub IsSplitBy : List ℕ → List ℕ → List ℕ → Type 0
 IsSplitBy tables old new = (a b : ℕ) → a < length old → b < length old
     → (slice_index new a ≡ slice_index new b

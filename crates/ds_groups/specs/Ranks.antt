@@ -15,7 +15,7 @@ pub record AreLacking (lists : List (List ℕ)) (count : ℕ) (counts : List ℕ
   pub one_each : length counts ≡ count
   pub each : (g : ℕ) → g < count → slice_index counts g ≡ lists_without lists g
 
--- of the first lists so many lack a number, and of all lists behind them all
+-- so many lists lack each number, if all behind the first n lack it
 pub record AreLackingSoFar (lists : List (List ℕ)) (n count : ℕ) (counts : List ℕ) : Type 0 where
   pub one_each : length counts ≡ count
   pub each : (g : ℕ) → g < count

@@ -26,7 +26,8 @@ pub(crate) fn classes_of(
 }
 
 // Parts each class into those tables that are among these and those that are not: the first move to
-// a class of their own. `moved` has a place for each class, below it.
+// a class of their own. For a class c `moved[c]` is the class to which its tables move, where that
+// is not below `first`; what is lower stems from the cones before.
 fn split(
     classes: &mut Vec<usize>,
     moved: &mut Vec<usize>,

@@ -1,4 +1,4 @@
-//! Groups by how many cones have them.
+//! The groups of each cone by how many cones lack them, the fewest first.
 ghost use Rattle.std.specs.Prelude.{◌≡◌, ◌≢◌, ◌≤◌, ◌<◌, ◌^◌, All, AllPairs, IfOk, OnOk, List};
 ghost use Rattle.std.specs.Prelude.{length, map, ℕ};
 ghost use Rattle.std.specs.Prelude.{slice_index};
@@ -16,7 +16,7 @@ struct Rank {
     group: usize,
 }
 
-/// The same lists, each by how many of them lack what stands in it.
+/// The same lists, each sorted by how many lists lack a number, the fewest first.
 pub(crate) fn ranked(
     alloc: Global,
     lists: &Vec<Seq<usize>>,

@@ -41,10 +41,10 @@ q: -
 fired 5 of 32
 firings
 IN+ 1
-OUT+ 1
-M0+ 1
 IN- 1
+OUT+ 1
 OUT- 1
+M0+ 1
 %$ desync run toggle v --stop 18
 %= 0
 q: 10
@@ -103,7 +103,7 @@ fired 24 of 24
 %$ desync run shift v --stop 20
 %= 0
 q0: 1
-q1: 0
+q1: 01
 fired 20 of 36
 %n
 .model w

@@ -61,7 +61,7 @@ pub fn open(
     ensures value { (n : Node) (t : Turn) (m : Memory)
         → IsNotedOpening latches.now vectors.now.rows groups.now opening.now scratch.old n t m
         → into.new.items ≡ into.old.items ++ packed (taken latches.now t n) }
-    ensures memory { (n : Node) (t : Turn) (m : Memory)
+    ensures remembers { (n : Node) (t : Turn) (m : Memory)
         → IsNotedOpening latches.now vectors.now.rows groups.now opening.now scratch.old n t m
         → Remembers m scratch.new }
     ensures room { vec_capacity into.new ≡ vec_capacity into.old }
@@ -100,7 +100,7 @@ fn open_groups(
     ensures value { (n : Node) (t : Turn) (m : Memory)
         → IsSettlingOpening latches.now groups.now opening.now scratch.old n t m
         → into.new.items ≡ into.old.items ++ packed (taken latches.now t n) }
-    ensures memory { (n : Node) (t : Turn) (m : Memory)
+    ensures remembers { (n : Node) (t : Turn) (m : Memory)
         → IsSettlingOpening latches.now groups.now opening.now scratch.old n t m
         → Remembers m scratch.new }
     ensures room { vec_capacity into.new ≡ vec_capacity into.old }

@@ -125,11 +125,11 @@ fn drive_all<R: Threads + Sync, J: Rows + Sync, C: Compute + Sync, G: Gate>(
 
 // No more workers than nodes. Twice the nodes times the vectors are the firings of the whole run,
 // and as many takes may each worker have. The looks are shared among the workers: all of them
-// together take some three times as long as all firings that there may be, which goes with the work
-// of the nodes: two looks take as long as three tables. So a worker looks on until a run is done in
-// which each is at work for a quarter of the time; where workers wait for processors, what they
-// lose does not grow with their number; and who waits for one that has ended at its quota ends
-// soon.
+// together take some twice as long as all firings that there may be, which goes with the work of
+// the nodes: two looks take as long as three tables. So a worker looks on until a run is done in
+// which each is at work for a third of the time, longer where cones overlap; where workers wait for
+// processors, what they lose does not grow with their number; and who waits for one that has ended
+// at its quota ends soon.
 fn budget<J: Rows, C: Compute, G: Gate>(
     site: &Site<'_, '_, J, C, G>,
     jobs: u32,

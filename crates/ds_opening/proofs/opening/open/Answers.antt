@@ -33,9 +33,9 @@ returns-else-has_cone-clause-value c n t m o =
     c.push_all.ensures.value ∙ ap (λ ws. c.args.into.now.items ++ ws) (slave_takes c.args.latches.now c.args.vectors.now.rows c.args.opening.now.number (c.args.opening.now.turn - 1) c.if-opening-eq0.false
     (λ h. not_true c.has_cone.result c.if-has_cone.false (c.has_cone.ensures.1 h)) c.args.opening.now.producers.now c.args.opening.now.from.now n t o.opening)
 
-pub returns-then-has_cone-clause-memory : goal.returns-then-has_cone-clause-memory
-returns-then-has_cone-clause-memory c n t m o =
-    c.open_groups.ensures.memory n t m (record {
+pub returns-then-has_cone-clause-remembers : goal.returns-then-has_cone-clause-remembers
+returns-then-has_cone-clause-remembers c n t m o =
+    c.open_groups.ensures.remembers n t m (record {
       some = o.some;
       at = record {
         node = o.opening.node;

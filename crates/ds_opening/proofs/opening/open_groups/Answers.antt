@@ -100,8 +100,8 @@ returns-clause-value c n t m o =
     c.push_words.ensures.value ∙ ap (λ (r : Row). c.args.into.now.items ++ packed r)
     (ap (λ (r : Row). values_at r c.as_slice.result.now) c.nets.ensures ∙ (ap (values_at c.set_groups.new.scratch.nets) these ∙ row))
 
-pub returns-clause-memory : goal.returns-clause-memory
-returns-clause-memory c n t m o =
+pub returns-clause-remembers : goal.returns-clause-remembers
+returns-clause-remembers c n t m o =
     let known : Row = t.nets t.opened in
     let told = words c.args.latches.now c.requires.design.1 c.requires.design.0 c.bits-bits.result.now c.bits-bits.ensures.one_each c.bits-bits.ensures.nets
     c.args.groups.now c.requires.groups n c.args.opening.now.number o.at c.args.opening.now.producers.now c.args.opening.now.from.now t o.fed

@@ -57,6 +57,6 @@ returns-clause-remembers c =
     c.requires.node c.requires.turn.1 c.as_slice.result.now c.index.result.now c.args.from.now
     c.as_slice.ensures c.index.ensures c.requires.from in
     subst (λ (m : Memory). Remembers m c.open.new.scratch) memory_is
-    (c.open.ensures.memory o.node o.turn (memory_of c.self.inside.latches.now c.self.inside.groups c.self.inside.order.now c.self.inside.vectors.now.rows)
+    (c.open.ensures.remembers o.node o.turn (memory_of c.self.inside.latches.now c.self.inside.groups c.self.inside.order.now c.self.inside.vectors.now.rows)
     (noted c.self.invariant (sym run_is) c.requires.turn.0 c.requires.turn.1 o _ refl refl refl refl c.args.scratch.now
     (subst (λ (m : Memory). Remembers m c.args.scratch.now) (sym memory_is) c.requires.remembers)))
