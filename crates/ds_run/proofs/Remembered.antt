@@ -19,7 +19,7 @@ use Rattle.ds_opening.specs.Foreseen.{nets_in, state_before}
 use Rattle.ds_opening.proofs.Foreseen.{foresees_run_lem}
 use Rattle.ds_opening.specs.Noted.{IsNotedOpening}
 use Rattle.ds_opening.specs.Woven.{IsOpening}
-use Rattle.ds_opening.specs.declared.noted.Opening.{Opening}
+use Rattle.ds_opening.specs.declared.opening.Opening.{Opening}
 use Rattle.ds_run.specs.Openings.{AreOpenings, memory_of}
 use Rattle.ds_run.proofs.Opened.{Opens}
 

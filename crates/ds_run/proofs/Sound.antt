@@ -8,7 +8,7 @@ use mathlib.Core.Option.{some}
 use lib.ListN.{get_elem?}
 use Rattle.ds_base.specs.Values.{Row}
 use Rattle.ds_base.specs.declared.value.Value.TheVariants.{Zero}
-use Rattle.ds_marked.specs.Graph.{Graph, IsAsKnown}
+use Rattle.ds_marked.specs.Graph.{Graph, Agrees}
 use Rattle.ds_marked.specs.declared.marked.Arc.{Arc}
 use Rattle.ds_marked.specs.declared.marked.Event.{Event}
 use Rattle.ds_cover.specs.Cover.{value_at}
@@ -66,9 +66,9 @@ module _ (p : Planned) (vectors : List Row) (run : Run) (is : IsRunOf p vectors 
   events_are : length p.graph.events ≡ events run
   events_are = sym is.nodes_are ∙ sym (events-is run)
 
-  agreed : (counts : ℕ → ℕ) → Agreed run counts → All (IsAsKnown counts) p.graph.arcs
-  agreed counts agrees = subst (All (IsAsKnown counts)) is.arcs_are
-      (all_from_at (IsAsKnown counts) run.arcs agrees)
+  agreed : (counts : ℕ → ℕ) → Agreed run counts → All (Agrees counts) p.graph.arcs
+  agreed counts agrees = subst (All (Agrees counts)) is.arcs_are
+      (all_from_at (Agrees counts) run.arcs agrees)
 
   -- a required order is an order of the run
   order : (u v tokens : ℕ) → IsRequired p.split u v tokens → HasOrder run u v tokens
