@@ -1,7 +1,7 @@
 -- The numbers in a design of words name what is there.
-use Rattle.std.proofs.Common.{◌≡◌, ℕ, ◌+◌, ◌/◌, ◌^◌, ◌<◌, ◌≤◌, ◌==◌, List, length, map, refl, sym}
+use Rattle.std.proofs.Common.{◌≡◌, ◌≢◌, ℕ, ◌+◌, ◌-◌, ◌/◌, ◌^◌, ◌<◌, ◌≤◌, ◌==◌, List, length, map, refl, sym}
 use Rattle.std.proofs.Common.{subst, arith, length-append}
-use Rattle.std.specs.Prelude.{All, IfSome, slice_index}
+use Rattle.std.specs.Prelude.{All, AllPairs, IfSome, slice_index}
 use Rattle.std.specs.Int.{bit_at}
 use Rattle.std.specs.List.{filter, range_with_len}
 use Rattle.std.proofs.lemmas.List.{length-map}
@@ -10,8 +10,9 @@ use Rattle.std.proofs.lemmas.List.FromFn.{length-map-range_with_len}
 use Rattle.ds_base.specs.Values.{Row}
 use Rattle.ds_design.specs.InRange.{IsInRange}
 use Rattle.ds_design.specs.Rows.{AreVectors}
-use Rattle.ds_demo.specs.Demo.{demo_nets, source_of, inputs_of, marks_of, rows_of, gate_of}
-use Rattle.ds_demo.specs.Demo.{register_of, design_of, vector_of, vectors_of}
+use Rattle.ds_demo.specs.Demo.{data_net_of, demo_nets, source_of, inputs_of, marks_of, rows_of}
+use Rattle.ds_demo.specs.Demo.{gate_of, register_net, register_of, design_of, vector_of}
+use Rattle.ds_demo.specs.Demo.{vectors_of}
 use Rattle.ds_demo.proofs.Pairs.{All-two, All-three, All-made, two_differ}
 
 -- each row has three characters
@@ -62,6 +63,12 @@ in_range registers words some few =
       few_tables = omega (arith, length-map-range_with_len gate 0 registers);
       few_registers = omega (arith, length-map-range_with_len register 0 registers);
     }
+
+-- its two outputs are two nets
+pub outputs_once : (registers : ℕ) (words : List ℕ) → 1 ≤ registers
+    → AllPairs (λ a b. a ≢ b) (design_of registers words).outputs
+outputs_once registers words some =
+    two_differ (data_net_of registers 0) (register_net (registers - 1)) (λ e. absurd (omega arith))
 
 -- so wide are the rows of a table
 pub rows-fit : (rows : List (List ℕ)) (inputs : List ℕ) (function : ℕ) → rows ≡ rows_of function

@@ -82,6 +82,7 @@ impl Drop for Design {
 }
 
 impl Model for Design {
+    ghost use Rattle.std.specs.Prelude.{◌≢◌, AllPairs};
     ghost use Rattle.ds_design.specs.Circuit.{Circuit};
     ghost use Rattle.ds_design.specs.InRange.{IsInRange};
 
@@ -106,11 +107,11 @@ impl Model for Design {
           clocks = d.clocks;
           tables = d.tables;
           registers = d.registers;
-        }) };
+        }) × AllPairs (λ a b. a ≢ b) d.outputs };
 }
 
 impl Design {
-    /// Of its parts, whose numbers name what is there.
+    /// Of its parts, whose numbers name what is there and no output of which stands twice.
     pub fn of(
         name: Name,
         nets: Seq<Net>,
@@ -120,7 +121,7 @@ impl Design {
         tables: Seq<Gate>,
         registers: Seq<Register>,
     ) -> Self
-        requires { IsInRange (record {
+        requires in_range { IsInRange (record {
           name = name;
           nets = nets;
           inputs = inputs;
@@ -129,6 +130,7 @@ impl Design {
           tables = tables;
           registers = registers;
         }) }
+        requires once { AllPairs (λ a b. a ≢ b) outputs }
         ensures { result ≡ record {
           name = name;
           nets = nets;
@@ -200,6 +202,7 @@ impl Design {
     pub fn outputs(&self) -> &[NetId]
         ensures outputs { result.now ≡ self.now.outputs }
         ensures in_range { IsInRange self.now }
+        ensures once { AllPairs (λ a b. a ≢ b) self.now.outputs }
     {
         self.outputs.as_slice()
     }

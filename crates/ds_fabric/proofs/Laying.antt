@@ -1,5 +1,5 @@
 -- The words of the table and the histories, node by node, before anything has fired.
-use Rattle.std.proofs.Common.{◌≡◌, ℕ, ◌+◌, ◌*◌, ◌<◌, ◌≤◌, List, [], ◌∷◌, ◌++◌, length, get_or}
+use Rattle.std.proofs.Common.{◌≡◌, ℕ, ◌+◌, ◌*◌, ◌<◌, List, [], ◌∷◌, ◌++◌, length, get_or}
 use Rattle.std.proofs.Common.{replicate}
 use Rattle.std.proofs.Common.{sym, refl, ap, ◌∙◌, subst, arith, length-append}
 use Rattle.std.proofs.lemmas.List.{append_assoc, length-replicate}
@@ -11,8 +11,7 @@ use Rattle.ds_rule.specs.Words.{width, place, value}
 use Rattle.ds_rule.specs.Sound.{IsSound, edge_at, read_words}
 use Rattle.ds_rule.specs.Rows.{row}
 use Rattle.ds_rule.proofs.Lists.{get-first, get-second, replicate-default}
-use Rattle.ds_rule.proofs.RowLaws.{length-row, get-row, reads-into, reads-past, supply_up}
-use Rattle.ds_rule.proofs.RowLaws.{length-supply}
+use Rattle.ds_rule.proofs.RowLaws.{length-row, get-row, reads-into, reads-past}
 use Rattle.ds_rule.proofs.PlaceLaws.{start-first, start-words, first_below, place-word}
 use Rattle.ds_rule.proofs.PlaceLaws.{place_behind}
 use Rattle.ds_fabric.specs.Laid.{LaidBelow}
@@ -87,11 +86,3 @@ reads_next run ts n c w is wide long near old x h = dite (ℕ_discrete x c)
     ∙ ap (λ (y : ℕ). read_words run y (n + 1)) (sym e)))))
     (λ ne. get_or-set_other ts c x (get_or ts c 0 + w) 0 ne
     ∙ (old x h ∙ sym (reads-past run x n (λ t. ne (sym t ∙ sym is)))))
-
-pub reads_up : (run : Run) (l m n : ℕ) → m ≤ n → read_words run l m ≤ read_words run l n
-reads_up run l m n h = omega (
-  arith,
-  supply_up run l 0 m n h,
-  length-supply run l 0 m,
-  length-supply run l 0 n,
-)

@@ -6,6 +6,7 @@ pub mod Standing
 pub mod Joins
 pub mod Laying
 pub mod Chains
+pub mod Parts
 pub mod Ranges
 pub mod Spreads
 pub mod Unpacks

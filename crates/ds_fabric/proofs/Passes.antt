@@ -18,7 +18,8 @@ use Rattle.atomic_table.proofs.Lists.{at_set, set_else, at_index}
 use Rattle.ds_rule.specs.Run.{Run, events, node_of, next, turns, opens, opening, closing, opened}
 use Rattle.ds_rule.specs.Run.{count, Enabled}
 use Rattle.ds_rule.specs.Words.{width}
-use Rattle.ds_rule.specs.Rows.{supply, rows_to}
+use Rattle.ds_rule.specs.Sound.{read_words}
+use Rattle.ds_rule.specs.Rows.{rows_to}
 use Rattle.ds_rule.specs.Rule.{holds, tickets, seen}
 use Rattle.ds_rule.specs.Plays.{Sat, after_depart, after_draw, after_publish}
 use Rattle.ds_rule.specs.declared.view.View.{View}
@@ -158,7 +159,7 @@ fires_keep me me' nodes i h h' t k at is f =
         first = omega (arith, old.room.first, f.first_room);
         second = λ low. omega (arith, old.room.second low, f.second_room);
         rows = omega (arith, old.room.rows, f.rows_room);
-        from = λ n. omega (arith, old.room.from n, f.from_room);
+        from = omega (arith, old.room.from, f.from_room);
       });
     } in
     let P : Sat → Type 0 = λ m. Keeps m (set nodes i h') in
@@ -351,7 +352,7 @@ pub record Armed (run : Run) (u : View) (h : History) : Type 0 where
   pub rows : h.rows.items ≡ rows_to run h.node (opened run h.node h.fired)
   pub room : opens run (next run h.node h.fired) ≡ true
       → length h.rows.items + width run h.node ≤ vec_capacity h.rows
-  pub from : (k : ℕ) → length (supply run h.node k (length run.edges)) ≤ vec_capacity h.from
+  pub from : read_words run h.node (length run.edges) ≤ vec_capacity h.from
   pub first : next run h.node h.fired ≡ next run h.node 0
       → length h.first.items < vec_capacity h.first
   pub second : next run h.node h.fired ≢ next run h.node 0

@@ -1,6 +1,6 @@
 -- The edges of a node are those of a range.
 use Rattle.std.proofs.Common.{◌≡◌, ◌≢◌, ◌∙◌, ◌<◌, ◌≤◌, ◌+◌, ◌-◌, ℕ, zero, suc, List, [], ◌++◌}
-use Rattle.std.proofs.Common.{length, get_or}
+use Rattle.std.proofs.Common.{length, get_or, Bool, true, false}
 use Rattle.std.proofs.Common.{ap, sym, subst, arith, refl, slice_index_or}
 use mathlib.Core.Logic.{dite}
 use mathlib.Core.Option.{some}
@@ -9,11 +9,12 @@ use native.Mathlib.Decide.{dec_lt}
 use Rattle.atomic_table.proofs.Lists.{at_index}
 use Rattle.ds_rule.specs.Run.{Run}
 use Rattle.ds_rule.specs.Sound.{IsSound, edge_at}
-use Rattle.ds_rule.specs.Rows.{row, supply}
+use Rattle.ds_rule.specs.Rows.{row, supply_but}
 use Rattle.ds_rule.proofs.Lists.{at_get}
-use Rattle.ds_rule.proofs.RowLaws.{supply-past, supply-into, edge-there}
+use Rattle.ds_rule.proofs.RowLaws.{supply_but-past, supply_but-into, supply_but-known}
+use Rattle.ds_rule.proofs.RowLaws.{edge-there}
 use Rattle.ds_rule.specs.declared.layout.DataEdge.{DataEdge}
-use Rattle.ds_fabric.specs.Ranged.{IsFrom, AreFirsts}
+use Rattle.ds_fabric.specs.Ranged.{IsFrom, AreFirstEdges}
 
 -- a number that was read off a list
 pub read-off : (xs : List ℕ) (i r : ℕ) → i < length xs → r ≡ slice_index_or xs i r
@@ -21,7 +22,7 @@ pub read-off : (xs : List ℕ) (i r : ℕ) → i < length xs → r ≡ slice_ind
 read-off xs i r h is = at_get xs i r 0 (at_index xs i r h is)
 
 -- the first edge of a node, read off
-pub from_read : (run : Run) (firsts : List ℕ) (l r : ℕ) → AreFirsts run firsts → l ≤ run.nodes
+pub from_read : (run : Run) (firsts : List ℕ) (l r : ℕ) → AreFirstEdges run firsts → l ≤ run.nodes
     → r ≡ slice_index_or firsts l r → IsFrom run l r
 from_read run firsts l r a h is =
     subst (IsFrom run l) (read-off firsts l r (omega (arith, a.long)) is) (a.each l h)
@@ -39,30 +40,35 @@ pub in_range : (run : Run) (l a b i : ℕ) → IsFrom run l a → IsFrom run (l 
 in_range run l a b i p q from to = let near : i < length run.edges = omega (arith, q.near) in
     (near, (let low = q.below i to in let high = p.above i from near in omega arith))
 
-pub supply-none : (run : Run) (l k n : ℕ) → ((j : ℕ) → j < n → (edge_at run j).consumer ≢ l)
-    → supply run l k n ≡ []
-supply-none run l k zero far = refl
-supply-none run l k (suc n) far = let e : suc n ≡ n + 1 = omega arith in
-    ap (supply run l k) e ∙ (supply-past run l k n (far n (omega arith))
-    ∙ supply-none run l k n (λ j h. far j (omega arith)))
+pub supply_but-none : (run : Run) (known : ℕ → Bool) (l k n : ℕ)
+    → ((j : ℕ) → j < n → (edge_at run j).consumer ≢ l) → supply_but run known l k n ≡ []
+supply_but-none run known l k zero far = refl
+supply_but-none run known l k (suc n) far = let e : suc n ≡ n + 1 = omega arith in
+    ap (supply_but run known l k) e
+    ∙ (supply_but-past run known l k n (far n (omega arith))
+    ∙ supply_but-none run known l k n (λ j h. far j (omega arith)))
 
-pub supply-rest : (run : Run) (l k m d : ℕ)
+pub supply_but-rest : (run : Run) (known : ℕ → Bool) (l k m d : ℕ)
     → ((j : ℕ) → m ≤ j → j < m + d → (edge_at run j).consumer ≢ l)
-    → supply run l k (m + d) ≡ supply run l k m
-supply-rest run l k m zero far = let e : m + 0 ≡ m = omega arith in ap (supply run l k) e
-supply-rest run l k m (suc d) far = let e : m + suc d ≡ m + d + 1 = omega arith in
-    ap (supply run l k) e ∙ (supply-past run l k (m + d) (far (m + d) (omega arith) (omega arith))
-    ∙ supply-rest run l k m d (λ j p q. far j p (omega arith)))
+    → supply_but run known l k (m + d) ≡ supply_but run known l k m
+supply_but-rest run known l k m zero far = let e : m + 0 ≡ m = omega arith in
+    ap (supply_but run known l k) e
+supply_but-rest run known l k m (suc d) far = let e : m + suc d ≡ m + d + 1 = omega arith in
+    ap (supply_but run known l k) e
+    ∙ (supply_but-past run known l k (m + d) (far (m + d) (omega arith) (omega arith))
+    ∙ supply_but-rest run known l k m d (λ j p q. far j p (omega arith)))
 
 -- nothing is read before the range, and nothing behind it
-pub before_range : (run : Run) (l k a : ℕ) → IsFrom run l a → supply run l k a ≡ []
-before_range run l k a p = supply-none run l k a (λ j h e. (let low = p.below j h in omega arith))
+pub before_range : (run : Run) (known : ℕ → Bool) (l k a : ℕ) → IsFrom run l a
+    → supply_but run known l k a ≡ []
+before_range run known l k a p = supply_but-none run known l k a
+    (λ j h e. (let low = p.below j h in omega arith))
 
-pub behind_range : (run : Run) (l k b : ℕ) → IsFrom run (l + 1) b
-    → supply run l k (length run.edges) ≡ supply run l k b
-behind_range run l k b q = let n : ℕ = length run.edges in
+pub behind_range : (run : Run) (known : ℕ → Bool) (l k b : ℕ) → IsFrom run (l + 1) b
+    → supply_but run known l k (length run.edges) ≡ supply_but run known l k b
+behind_range run known l k b q = let n : ℕ = length run.edges in
     let e : b + (n - b) ≡ n = omega (arith, q.near) in
-    ap (supply run l k) (sym e) ∙ supply-rest run l k b (n - b) (λ j p h c.
+    ap (supply_but run known l k) (sym e) ∙ supply_but-rest run known l k b (n - b) (λ j p h c.
     (let high = q.above j p (omega (arith, q.near)) in omega arith))
 
 -- the first edge from `at` on whose consumer is not below the node
@@ -107,10 +113,13 @@ pub record EdgeOf (run : Run) (l i : ℕ) (e : DataEdge) : Type 0 where
   pub same : edge_at run i ≡ e
   pub into : e.consumer ≡ l
 
-pub edge_of : (run : Run) (es : List DataEdge) (l a b i : ℕ) (e : DataEdge) → es ≡ run.edges
-    → IsFrom run l a
-    → IsFrom run (l + 1) b → a ≤ i → i < b → e ≡ slice_index_or es i e → EdgeOf run l i e
-edge_of run es l a b i e es-is p q from to is =
+pub edge_of : (run : Run) (firsts : List ℕ) (es : List DataEdge) (l a b i : ℕ) (e : DataEdge)
+    → AreFirstEdges run firsts → l < run.nodes → a ≡ slice_index_or firsts l a
+    → b ≡ slice_index_or firsts (l + 1) b → es ≡ run.edges
+    → a ≤ i → i < b → e ≡ slice_index_or es i e → EdgeOf run l i e
+edge_of run firsts es l a b i e fs near a-is b-is es-is from to is =
+    let p = from_read run firsts l a fs (omega (arith, near)) a-is in
+    let q = from_read run firsts (l + 1) b fs (omega (arith, near)) b-is in
     let r = in_range run l a b i p q from to in
     let at : get_elem? run.edges i ≡ some e =
     subst (λ (xs : List DataEdge). get_elem? xs i ≡ some e) es-is
@@ -124,8 +133,18 @@ edge_of run es l a b i e es-is p q from to is =
     }
 
 -- what is read grows by the row of the producer
-pub grows : (run : Run) (l k i : ℕ) (e : DataEdge) → EdgeOf run l i e
-    → supply run l k (i + 1) ≡ supply run l k i ++ row run e.producer (k - e.tokens)
-grows run l k i e h =
-    supply-into run l k i (ap (λ (x : DataEdge). x.consumer) h.same ∙ h.into)
-    ∙ ap (λ (x : DataEdge). supply run l k i ++ row run x.producer (k - x.tokens)) h.same
+pub grows : (run : Run) (known : ℕ → Bool) (l k i : ℕ) (e : DataEdge) → EdgeOf run l i e
+    → known e.producer ≡ false
+    → supply_but run known l k (i + 1)
+    ≡ supply_but run known l k i ++ row run e.producer (k - e.tokens)
+grows run known l k i e h new =
+    supply_but-into run known l k i (ap (λ (x : DataEdge). x.consumer) h.same ∙ h.into)
+    (ap (λ (x : DataEdge). known x.producer) h.same ∙ new)
+    ∙ ap (λ (x : DataEdge). supply_but run known l k i ++ row run x.producer (k - x.tokens)) h.same
+
+-- or by nothing, where the row is known
+pub passes : (run : Run) (known : ℕ → Bool) (l k i : ℕ) (e : DataEdge) → EdgeOf run l i e
+    → known e.producer ≡ true
+    → supply_but run known l k (i + 1) ≡ supply_but run known l k i
+passes run known l k i e h told = supply_but-known run known l k i
+    (ap (λ (x : DataEdge). known x.producer) h.same ∙ told)

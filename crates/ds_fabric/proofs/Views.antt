@@ -7,14 +7,13 @@ use mathlib.Core.Logic.{dite}
 use mathlib.Core.Option.{some}
 use native.Mathlib.Decide.{ℕ_discrete}
 use lib.ListN.{get_elem?}
-use Rattle.ds_rule.specs.Run.{Run, node_of, turns, count}
+use Rattle.ds_rule.specs.Run.{Run, node_of, turns}
 use Rattle.ds_rule.specs.Rule.{holds, seen}
 use Rattle.ds_rule.specs.Plays.{Sat, after_look}
 use Rattle.ds_marked.specs.declared.marked.Arc.{Arc}
 use Rattle.ds_rule.specs.declared.view.View.{View}
 use Rattle.ds_rule.proofs.EventLaws.{turns_up}
-use Rattle.ds_rule.proofs.Lists.{same_at}
-use Rattle.ds_fabric.specs.Looks.{LooksOn, EnoughBelow, Lacks}
+use Rattle.ds_fabric.specs.Looks.{LooksOn, Lacks}
 
 pub looks_none : (v : View) → LooksOn v v
 looks_none v = record {
@@ -63,63 +62,6 @@ looks_more u v l r q near up own = record {
       ∙ h)) ∙ (ap (seen v) (sym t) ∙ q.own x h)))
       (λ n. seen-else v l r x n ∙ q.own x h);
 }
-
-enough_kept : (run : Run) (event turn n : ℕ) (v : View) (l r : ℕ) → l < length v.seen → seen v l ≤ r
-    → EnoughBelow run v event turn n → EnoughBelow run (after_look v l r) event turn n
-enough_kept run event turn n v l r near up enough k a h at into = omega (
-  arith,
-  enough k a h at into,
-  turns_up run a.source (seen v (node_of run a.source))
-      (seen (after_look v l r) (node_of run a.source))
-      (seen_rises v l r (node_of run a.source) near up),
-)
-
--- one more arc, which enters the event and whose source was loaded
-enough_loaded : (run : Run) (event turn n : ℕ) (v : View) (r : ℕ) (a : Arc)
-    → node_of run a.source < length v.seen → seen v (node_of run a.source) ≤ r
-    → get_elem? run.arcs n ≡ some a
-    → turn ≤ turns run a.source r + a.tokens → EnoughBelow run v event turn n
-    → EnoughBelow run (after_look v (node_of run a.source) r) event turn (n + 1)
-enough_loaded run event turn n v r a near up at here enough k b h at' into = let l : ℕ =
-    node_of run a.source in dite (ℕ_discrete k n)
-    (λ e. let t : a ≡ b = same_at run.arcs n a b at
-    (subst (λ j. get_elem? run.arcs j ≡ some b) e at') in
-    omega (
-      arith,
-      here,
-      ap (turns run a.source) (seen-here v l r l near refl),
-      ap (λ (x : Arc). x.tokens) t,
-      ap (λ (x : Arc). count run
-          (seen (after_look v l r)) x.source) t,
-    ))
-    (λ ne. enough_kept run event turn n v l r near up enough k b (omega arith) at' into)
-
--- one more arc, which does not enter the event
-pub enough_past : (run : Run) (event turn n : ℕ) (v : View) (a : Arc)
-    → get_elem? run.arcs n ≡ some a → a.target ≢ event → EnoughBelow run v event turn n
-    → EnoughBelow run v event turn (n + 1)
-enough_past run event turn n v a at apart enough k b h at' into = dite (ℕ_discrete k n)
-    (λ e. let t : a ≡ b = same_at run.arcs n a b at
-    (subst (λ j. get_elem? run.arcs j ≡ some b) e at') in
-    absurd (apart (ap (λ (x : Arc). x.target) t ∙ into)))
-    (λ ne. enough k b (omega arith) at' into)
-
--- the load of a source whose count is enough
-pub goes_on : (run : Run) (event turn n : ℕ) (u : View) (m m' : Sat) (a : Arc) (r c : ℕ)
-    → c ≡ turns run a.source r → m' ≡ (after_look m.0 (node_of run a.source) r, m.1) → LooksOn u m.0
-    → EnoughBelow run m.0 event turn n → length u.seen ≡ run.nodes
-    → node_of run a.source < run.nodes → seen m.0 (node_of run a.source) ≤ r
-    → (holds m.0 (node_of run a.source) ≡ true → r ≡ seen m.0 (node_of run a.source))
-    → get_elem? run.arcs n ≡ some a → turn ≤ c + a.tokens
-    → LooksOn u m'.0 × EnoughBelow run m'.0 event turn (n + 1)
-goes_on run event turn n u m m' a r c gave is q enough long near up own at here =
-    let l : ℕ = node_of run a.source in
-    let inside : l < length m.0.seen = omega (arith, q.seen_long) in
-    let P : Sat → Type 0 = λ x. LooksOn u x.0 × EnoughBelow run x.0 event turn (n + 1) in
-    subst P (sym is) (
-      looks_more u m.0 l r q inside up own,
-      enough_loaded run event turn n m.0 r a inside up at (omega (arith, gave, here)) enough,
-    )
 
 -- the load of a source whose count is too small
 pub gives_up : (run : Run) (event turn n : ℕ) (u : View) (m m' : Sat) (a : Arc) (r c : ℕ)

@@ -7,7 +7,7 @@ use Rattle.ds_rule.specs.Sound.{IsSound}
 use Rattle.ds_rule.specs.Words.{size}
 use Rattle.ds_rule.specs.Rows.{IsStarts}
 use Rattle.ds_rule.specs.declared.view.View.{View}
-use Rattle.ds_fabric.specs.Ranged.{AreFirsts}
+use Rattle.ds_fabric.specs.Ranged.{AreFirstEdges}
 use Rattle.ds_fabric.specs.declared.index.Index.{Index}
 
 -- a table, its run, and what a scratch remembers in which its rows are computed
@@ -27,7 +27,7 @@ pub record IsBuilt (id : TableId) (key run : Run) (index : Index) : Type 0 where
   pub over : IsOver id key run
   pub no_slot : id.slots ≡ 0
   pub started : IsStarts run index.starts.items
-  pub ranged : AreFirsts run index.firsts.items
+  pub ranged : AreFirstEdges run index.firsts.items
 
 -- the pass is live and in flight with the node's next event, and no word of it is written
 pub record IsAway (run : Run) (v : View) (l : ℕ) : Type 0 where

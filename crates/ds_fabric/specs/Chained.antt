@@ -7,21 +7,21 @@ use Rattle.ds_marked.specs.declared.marked.Arc.{Arc}
 use Rattle.ds_fabric.specs.declared.chain.Chains.{Chains}
 
 -- an arc by its number
-abbrev pub arc_at : Run → ℕ → Arc
-arc_at run n = slice_index_or run.arcs n (record { source = 0; target = 0; tokens = 0 })
+abbrev pub arc_numbered : Run → ℕ → Arc
+arc_numbered run n = slice_index_or run.arcs n (record { source = 0; target = 0; tokens = 0 })
 
 -- h is the place of the last arc into the event among the first n arcs
 pub record IsLast (run : Run) (event n h : ℕ) : Type 0 where
   pub below : h ≤ n
-  pub hit : 0 < h → (arc_at run (h - 1)).target ≡ event
-  pub none : (k : ℕ) → h ≤ k → k < n → (arc_at run k).target ≢ event
+  pub hit : 0 < h → (arc_numbered run (h - 1)).target ≡ event
+  pub none : (k : ℕ) → h ≤ k → k < n → (arc_numbered run k).target ≢ event
 
 -- the first n arcs are chained
 pub record IsChained (run : Run) (n : ℕ) (heads links : List ℕ) : Type 0 where
   pub heads_long : length heads ≡ events run
   pub links_long : length links ≡ n
   pub head : (e : ℕ) → e < events run → IsLast run e n (slice_index heads e)
-  pub link : (k : ℕ) → k < n → IsLast run (arc_at run k).target k (slice_index links k)
+  pub link : (k : ℕ) → k < n → IsLast run (arc_numbered run k).target k (slice_index links k)
 
 -- all arcs are chained
 abbrev pub AreChained : Run → Chains → Type 0

@@ -2,6 +2,7 @@
 pub mod Ranged
 pub mod Base
 pub mod Chained
+pub mod Into
 pub mod Looks
 pub mod Stepped
 pub mod Noted

@@ -20,13 +20,7 @@ pub record LooksOn (v w : View) : Type 0 where
   pub looks_up : v.looks ≤ w.looks
   pub own : (l : ℕ) → holds v l ≡ true → seen w l ≡ seen v l
 
--- what was seen is enough for this turn of the event, on the first n arcs
-abbrev pub EnoughBelow : Run → View → ℕ → ℕ → ℕ → Type 0
-EnoughBelow run w event turn n = (k : ℕ) (a : Arc) → k < n → get_elem? run.arcs k ≡ some a
-    → a.target ≡ event
-    → turn ≤ count run (seen w) a.source + a.tokens
-
--- and on all
+-- what was seen is enough for this turn of the event, on all arcs into it
 abbrev pub Enough : Run → View → ℕ → ℕ → Type 0
 Enough run w event turn = (k : ℕ) (a : Arc) → get_elem? run.arcs k ≡ some a → a.target ≡ event
     → turn ≤ count run (seen w) a.source + a.tokens
@@ -43,9 +37,3 @@ pub record Lacks (run : Run) (v w : View) (event turn arc n : ℕ) : Type 0 wher
   pub short : n + a.tokens < turn
   pub at_least : count run (seen v) a.source ≤ n
   pub own : holds v (node_of run a.source) ≡ true → n ≡ count run (seen v) a.source
-
--- and on the arcs from number n on
-abbrev pub EnoughFrom : Run → View → ℕ → ℕ → ℕ → Type 0
-EnoughFrom run w event turn n = (k : ℕ) (a : Arc) → n ≤ k → get_elem? run.arcs k ≡ some a
-    → a.target ≡ event
-    → turn ≤ count run (seen w) a.source + a.tokens

@@ -10,6 +10,6 @@ pub record IsFrom (run : Run) (node n : ℕ) : Type 0 where
   pub above : (k : ℕ) → n ≤ k → k < length run.edges → node ≤ (edge_at run k).consumer
 
 -- the first edge of each node, and one more place
-pub record AreFirsts (run : Run) (firsts : List ℕ) : Type 0 where
+pub record AreFirstEdges (run : Run) (firsts : List ℕ) : Type 0 where
   pub long : length firsts ≡ run.nodes + 1
   pub each : (l : ℕ) → l ≤ run.nodes → IsFrom run l (slice_index firsts l)

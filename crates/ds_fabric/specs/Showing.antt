@@ -7,9 +7,9 @@ use Rattle.atomic_table.specs.Seated.{TableId}
 use Rattle.ds_scratch.specs.Scratch.{Kept, Memory, Remembers}
 use Rattle.ds_rule.specs.Run.{Run, events, node_of, next, turns, closing, opened}
 use Rattle.ds_rule.specs.Words.{width}
-use Rattle.ds_rule.specs.Sound.{IsSound}
+use Rattle.ds_rule.specs.Sound.{IsSound, read_words}
 use Rattle.ds_rule.specs.Log.{places, IsLegalList, InTurn, firings, Recorded}
-use Rattle.ds_rule.specs.Rows.{supply, rows_to}
+use Rattle.ds_rule.specs.Rows.{rows_to}
 use Rattle.ds_rule.specs.Rule.{holds, tickets, seen, first_view}
 use Rattle.ds_rule.specs.Plays.{after_point, without_cut, only_cut}
 use Rattle.ds_rule.specs.declared.view.View.{View}
@@ -80,7 +80,7 @@ pub record HasRoom (run : Run) (l : ℕ) (h : History) : Type 0 where
   pub first : run.limit ≤ vec_capacity h.first
   pub second : l < run.latches → run.limit ≤ vec_capacity h.second
   pub rows : run.limit * width run l ≤ vec_capacity h.rows
-  pub from : (k : ℕ) → length (supply run l k (length run.edges)) ≤ vec_capacity h.from
+  pub from : read_words run l (length run.edges) ≤ vec_capacity h.from
 
 -- the history of a node before it fired
 pub record IsBlank (run : Run) (l : ℕ) (h : History) : Type 0 where

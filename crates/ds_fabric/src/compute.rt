@@ -1,10 +1,10 @@
 //! What a fabric asks of who computes the rows.
-ghost use Rattle.std.specs.Prelude.{◌≡◌, ◌<◌, ◌≤◌, ◌+◌, ◌++◌, ℕ, IfOk, length, vec_len};
+ghost use Rattle.std.specs.Prelude.{◌≡◌, ◌<◌, ◌≤◌, ◌+◌, ◌++◌, ℕ, Bool, IfOk, length, vec_len};
 ghost use Rattle.std.specs.Prelude.{vec_capacity};
-ghost use Rattle.ds_scratch.specs.Scratch.{Memory, Remembers};
+ghost use Rattle.ds_scratch.specs.Scratch.{Kept, Memory, Remembers};
 ghost use Rattle.ds_rule.specs.Run.{Run};
 ghost use Rattle.ds_rule.specs.Words.{width, value};
-ghost use Rattle.ds_rule.specs.Rows.{row, supply};
+ghost use Rattle.ds_rule.specs.Rows.{row, supply_but};
 
 use ds_base::{LatchId, OutOfMemory};
 use ds_scratch::Scratch;
@@ -17,6 +17,9 @@ pub trait Compute {
 
     // what a scratch remembers from one call of `compute` to the next
     ghost memory: { Self → Memory };
+
+    // whether a scratch knows the row of a producer that openings of this turn read
+    ghost knows: { Self → Kept → ℕ → ℕ → Bool };
 
     /// A scratch for `compute`, which serves one worker for all nodes and turns.
     fn scratch(&self, alloc: Global) -> Result<Scratch, OutOfMemory>
@@ -33,8 +36,15 @@ pub trait Compute {
         requires word { i < width (run self.now) node }
         ensures { result ≡ value (run self.now) node 0 i };
 
+    /// Whether this scratch knows the row of the producer that openings of this turn read:
+    /// `compute` is not handed it then.
+    fn knows(&self, producer: LatchId, turn: u64, scratch: &Scratch) -> bool
+        requires producer { producer < (run self.now).latches }
+        requires turn { 0 < turn }
+        ensures { result ≡ knows self.now scratch.now producer turn };
+
     /// The row of opening number `turn` of the node, behind what stands in `into`, from the rows
-    /// that it reads, edge by edge.
+    /// that it reads, edge by edge, without those of producers that the scratch knows.
     fn compute(
         &self,
         node: LatchId,
@@ -45,7 +55,8 @@ pub trait Compute {
     )
         requires node { node < (run self.now).latches }
         requires turn { (0 < turn) × (turn ≤ (run self.now).limit) }
-        requires from { from.now ≡ supply (run self.now) node turn (length (run self.now).edges) }
+        requires from { from.now ≡ supply_but (run self.now)
+            (λ p. knows self.now scratch.old p turn) node turn (length (run self.now).edges) }
         requires remembers { Remembers (memory self.now) scratch.old }
         requires room { vec_len into.old + width (run self.now) node ≤ vec_capacity into.old }
 

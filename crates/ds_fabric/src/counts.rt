@@ -5,10 +5,10 @@ ghost use Rattle.ds_rule.specs.Run.{events, node_of};
 ghost use Rattle.ds_rule.specs.Rule.{holds, seen};
 ghost use Rattle.ds_rule.specs.Plays.{after_look};
 ghost use Rattle.ds_fabric.specs.Base.{IsOver};
-ghost use Rattle.ds_fabric.specs.Chained.{AreChained};
+ghost use Rattle.ds_fabric.specs.Into.{AreInto};
 ghost use Rattle.ds_fabric.specs.Looks.{LooksOn, Enough, Lacks};
 
-use crate::chain::Chains;
+use crate::incoming::Incoming;
 use atomic_table::{Seat, Shared};
 use ds_rule::{Layout, Look, Order, Rows, View};
 
@@ -40,26 +40,21 @@ pub fn look<J: Rows>(
 pub fn seems_enough<J: Rows>(
     board: &Board<J>,
     run: &Layout<J>,
-    chains: &Chains,
+    incoming: &Incoming,
     event: usize,
     before: u64,
 ) -> bool
     requires table { IsOver board.now.table_id board.now.key run.now }
-    requires chains { AreChained run.now chains.now }
+    requires incoming { AreInto run.now incoming.now }
     requires near { event < events run.now }
 {
-    let arcs = run.arcs();
-    let mut at = chains.heads[event];
-    for i in 0..arcs.len() {
-        if at == 0 {
-            return true;
-        }
-        let source = arcs[at - 1].source.index();
-        let seen = run.turns(source, board.peek(run.node_of(source) + 1));
-        if seen <= before && arcs[at - 1].tokens as u64 <= before - seen {
+    let arcs = incoming.arcs.as_slice();
+    for i in incoming.starts[event]..incoming.starts[event + 1] {
+        let arc = arcs[i];
+        let seen = arc.source.turns(board.peek(arc.node as usize + 1));
+        if seen <= before && arc.tokens as u64 <= before - seen {
             return false;
         }
-        at = chains.links[at - 1];
     }
     true
 }
@@ -69,14 +64,14 @@ pub fn seems_enough<J: Rows>(
 pub fn survey<J: Rows>(
     board: &Board<J>,
     run: &Layout<J>,
-    chains: &Chains,
+    incoming: &Incoming,
     seat: &mut Seat<u8, View>,
     event: usize,
     turn: u64,
 ) -> Option<(usize, u64)>
     requires table { (seat.old.table_id ≡ board.now.table_id)
         × IsOver board.now.table_id board.now.key run.now }
-    requires chains { AreChained run.now chains.now }
+    requires incoming { AreInto run.now incoming.now }
     requires rests { (seat.old.me.0.live ≡ true) × (seat.old.me.0.stage ≡ 0)
         × (length seat.old.me.0.seen ≡ run.now.nodes) }
     requires few { (turn < 9223372036854775808) × (event < events run.now) }
@@ -87,19 +82,13 @@ pub fn survey<J: Rows>(
     ensures some { IfSome result (λ r.
         Lacks run.now seat.old.me.0 seat.new.me.0 event turn r.0 r.1) }
 {
-    let arcs = run.arcs();
-    let mut at = chains.heads[event];
-    for i in 0..arcs.len() {
-        if at == 0 {
-            return None;
+    let arcs = incoming.arcs.as_slice();
+    for i in incoming.starts[event]..incoming.starts[event + 1] {
+        let arc = arcs[i];
+        let seen = arc.source.turns(look(board, run, seat, arc.node as usize));
+        if lacks(seen, arc.tokens, turn) {
+            return Some((incoming.numbers[i] as usize, seen));
         }
-        let source = arcs[at - 1].source.index();
-        let fired = look(board, run, seat, run.node_of(source));
-        let seen = run.turns(source, fired);
-        if lacks(seen, arcs[at - 1].tokens, turn) {
-            return Some((at - 1, seen));
-        }
-        at = chains.links[at - 1];
     }
     None
 }

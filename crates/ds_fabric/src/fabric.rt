@@ -11,9 +11,9 @@ ghost use Rattle.ds_fabric.specs.Showing.{Belongs, IsBegun, IsCounted, IsDealt, 
 ghost use Rattle.ds_fabric.specs.Showing.{Stays, no_scratch};
 
 use crate::build::{histories, lay};
-use crate::chain::Chains;
 use crate::compute::Compute;
 use crate::hands::{cut, mend, shut};
+use crate::incoming::Incoming;
 use crate::index::{Index, firsts};
 use crate::pass::Pass;
 use crate::places::{alone, find, note_from, numbered, take_out};
@@ -32,7 +32,7 @@ use std::snapshot::Snapshot;
 pub struct Fabric<'a, J: Rows, C: Compute> {
     pub(crate) run: &'a Layout<J>,
     pub(crate) openings: &'a C,
-    pub(crate) chains: Chains,
+    pub(crate) incoming: Incoming,
     pub(crate) index: Index,
     pub(crate) table: Table<u8, View, Layout<J>, Order, Global>,
 }
@@ -40,7 +40,7 @@ pub struct Fabric<'a, J: Rows, C: Compute> {
 impl<'a, J: Rows, C: Compute> Model for Fabric<'a, J, C> {
     ghost use Rattle.std.specs.Prelude.{◌≡◌, length};
     ghost use Rattle.ds_fabric.specs.Base.{Base, IsBuilt};
-    ghost use Rattle.ds_fabric.specs.Chained.{AreChained};
+    ghost use Rattle.ds_fabric.specs.Into.{AreInto};
 
     ghost Value = { Base };
 
@@ -52,7 +52,7 @@ impl<'a, J: Rows, C: Compute> Model for Fabric<'a, J, C> {
 
     ghost invariant = { λ f. IsBuilt f.table.shared.table_id f.table.shared.key f.run.now f.index
         × (C.run f.openings.now ≡ f.run.now)
-        × AreChained f.run.now f.chains };
+        × AreInto f.run.now f.incoming };
 }
 
 impl<'a, J: Rows, C: Compute> Fabric<'a, J, C> {
@@ -69,7 +69,7 @@ impl<'a, J: Rows, C: Compute> Fabric<'a, J, C> {
         let (words, starts) = lay(alloc, run, openings)?;
         let firsts = firsts(alloc, run)?;
         let index = Index { starts, firsts };
-        let chains = Chains::of(alloc, run)?;
+        let incoming = Incoming::of(alloc, run)?;
         let nodes = histories(alloc, run)?;
         let places = numbered(alloc, run.nodes())?;
         let scratch = openings.scratch(alloc)?;
@@ -78,7 +78,7 @@ impl<'a, J: Rows, C: Compute> Fabric<'a, J, C> {
         let fabric = Fabric {
             run,
             openings,
-            chains,
+            incoming,
             index,
             table,
         };
@@ -226,7 +226,7 @@ impl<'a, J: Rows, C: Compute> Fabric<'a, J, C> {
         let Fabric {
             run,
             openings: _,
-            chains: _,
+            incoming: _,
             index: _,
             table,
         } = self;

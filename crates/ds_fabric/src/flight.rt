@@ -11,17 +11,18 @@ ghost use Rattle.ds_rule.specs.Rule.{holds, seen};
 ghost use Rattle.ds_rule.specs.Plays.{after_depart, after_draw, after_publish};
 ghost use Rattle.ds_fabric.specs.Base.{IsBuilt, IsAway};
 ghost use Rattle.ds_fabric.specs.Noted.{HasFired, HasRoomToNote};
-ghost use Rattle.ds_fabric.specs.Chained.{AreChained};
+ghost use Rattle.ds_fabric.specs.Into.{AreInto};
 ghost use Rattle.ds_fabric.specs.Showing.{Keeps};
 ghost use Rattle.ds_fabric.specs.Stepped.{Stepped};
 ghost use Rattle.ds_fabric.specs.declared.history.History.{History};
 ghost use Rattle.ds_fabric.specs.Flown.{HasOpened, HasRoomFor};
 
-use crate::chain::Chains;
 use crate::compute::Compute;
 use crate::counts::{Board, survey};
 use crate::history::History;
+use crate::incoming::Incoming;
 use crate::index::Index;
+use crate::known::Known;
 use crate::rows::{place_of, read_rows, write_row};
 use crate::step::Step;
 use atomic_table::Seat;
@@ -34,7 +35,7 @@ pub fn advance<J: Rows, C: Compute>(
     board: &Board<J>,
     run: &Layout<J>,
     openings: &C,
-    chains: &Chains,
+    incoming: &Incoming,
     index: &Index,
     seat: &mut Seat<u8, View>,
     history: &mut History,
@@ -42,7 +43,7 @@ pub fn advance<J: Rows, C: Compute>(
 ) -> Step
     requires table { (seat.old.table_id ≡ board.now.table_id)
         × IsBuilt board.now.table_id board.now.key run.now index.now }
-    requires chains { AreChained run.now chains.now }
+    requires incoming { AreInto run.now incoming.now }
     requires openings { (C.run openings.now ≡ run.now)
         × Remembers (C.memory openings.now) scratch.old }
     requires run { seat.old.me.0.run ≡ run.now }
@@ -65,7 +66,7 @@ pub fn advance<J: Rows, C: Compute>(
         return Step::Done;
     }
     let turn = before + 1;
-    if let Some((arc, seen)) = survey(board, run, chains, seat, event, turn) {
+    if let Some((arc, seen)) = survey(board, run, incoming, seat, event, turn) {
         let arc = ArcId::new(arc as u32);
         return Step::NotYet { arc, seen };
     }
@@ -194,7 +195,12 @@ fn open_row<J: Rows, C: Compute>(
 {
     let node = history.node;
     history.from.clear();
-    read_rows(board, run, index, seat, node, turn, &mut history.from);
+    let known = Known {
+        openings,
+        scratch: &*scratch,
+        turn,
+    };
+    read_rows(board, run, index, &known, seat, node, &mut history.from);
     let before = history.rows.len();
     let from = history.from.as_slice();
     openings.compute(

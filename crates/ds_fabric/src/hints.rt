@@ -44,6 +44,6 @@ impl<'a, J: Rows, C: Compute> Fabric<'a, J, C> {
         if before >= self.run.limit() {
             return false;
         }
-        seems_enough(&self.table.shared, self.run, &self.chains, event, before)
+        seems_enough(&self.table.shared, self.run, &self.incoming, event, before)
     }
 }

@@ -2,7 +2,7 @@
 ghost use Rattle.std.specs.Prelude.{◌≡◌, ◌<◌, ◌≤◌, ◌+◌, ℕ, List, IfOk, length, replicate};
 ghost use Rattle.ds_rule.specs.Sound.{IsSound, edge_at};
 ghost use Rattle.ds_rule.specs.Rows.{IsStarts};
-ghost use Rattle.ds_fabric.specs.Ranged.{IsFrom, AreFirsts};
+ghost use Rattle.ds_fabric.specs.Ranged.{IsFrom, AreFirstEdges};
 ghost use Rattle.ds_rule.specs.declared.layout.DataEdge.{DataEdge};
 
 use ds_base::OutOfMemory;
@@ -27,7 +27,7 @@ pub fn zeros(alloc: Global, count: usize) -> Result<Vec<usize>, OutOfMemory>
 /// The first edge of each node.
 pub fn firsts<J: Rows>(alloc: Global, run: &Layout<J>) -> Result<Vec<usize>, OutOfMemory>
     requires { IsSound run.now }
-    ensures { IfOk result (λ v. AreFirsts run.now v.items) }
+    ensures { IfOk result (λ v. AreFirstEdges run.now v.items) }
 {
     let edges = run.edges();
     let mut firsts = Vec::new(alloc);

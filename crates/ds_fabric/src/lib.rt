@@ -6,10 +6,11 @@
 //! says else which arc lacks tokens, in the pass's own scratch, and `step_in` in one that is lent,
 //! for the small passes of `deal_bare`; `finish` ends the run. A `Record` has the tickets of each
 //! event, which are the places of one legal list, and the rows of each node. How the row of a node
-//! comes from those of its producers is a `Compute`, which says what a scratch remembers. Nothing
-//! is promised of time, or of which pass fires what.
+//! comes from those of its producers is a `Compute`, which says what a scratch remembers, and which
+//! rows it knows: these are not read. Nothing is promised of time, or of which pass fires what.
 #![tactic(auto)]
 
+mod arc_in;
 mod build;
 mod chain;
 mod compute;
@@ -19,7 +20,9 @@ mod flight;
 mod hands;
 mod hints;
 mod history;
+mod incoming;
 mod index;
+mod known;
 mod pass;
 mod places;
 mod record;

@@ -4,13 +4,15 @@ ghost use Rattle.std.specs.Prelude.{ℕ, ◌≡◌, ◌<◌, ◌≤◌, ◌+◌,
 ghost use Rattle.std.specs.Prelude.{length};
 ghost use mathlib.Core.Option.{some};
 ghost use lib.ListN.{get_elem?};
-ghost use Rattle.ds_rule.specs.Sound.{IsSound};
+ghost use Rattle.ds_rule.specs.Sound.{IsSound, read_words};
 ghost use Rattle.ds_rule.specs.Words.{width, place};
-ghost use Rattle.ds_rule.specs.Rows.{row, supply, IsStarts, IsOpening};
+ghost use Rattle.ds_rule.specs.Rows.{row, supply_but, IsStarts, IsOpening};
 ghost use Rattle.ds_fabric.specs.Base.{IsOver, IsBuilt};
 
+use crate::compute::Compute;
 use crate::counts::Board;
 use crate::index::Index;
+use crate::known::Known;
 use atomic_table::Seat;
 use ds_rule::{DataEdge, Layout, Read, Rows, View, Write};
 
@@ -58,33 +60,40 @@ fn read_row<J: Rows>(
     }
 }
 
-/// Loads the rows of the node's producers, edge by edge.
-pub fn read_rows<J: Rows>(
+/// Loads the rows of the node's producers that are not known, edge by edge.
+pub fn read_rows<J: Rows, C: Compute>(
     board: &Board<J>,
     run: &Layout<J>,
     index: &Index,
+    known: &Known<C>,
     seat: &mut Seat<u8, View>,
     node: usize,
-    turn: u64,
     into: &mut Vec<u64>,
 )
     requires table { (seat.old.table_id ≡ board.now.table_id)
         × IsBuilt board.now.table_id board.now.key run.now index.now }
-    requires flight { IsOpening run.now seat.old.me.0 node turn
+    requires openings { C.run known.now.openings.now ≡ run.now }
+    requires flight { IsOpening run.now seat.old.me.0 node known.now.turn
         × (seat.old.me.0.run ≡ run.now) }
     requires room { (into.old.items ≡ [])
-        × (length (supply run.now node turn (length run.now.edges)) ≤ vec_capacity into.old) }
+        × (read_words run.now node (length run.now.edges) ≤ vec_capacity into.old) }
 
     ensures seat { (seat.new.table_id ≡ seat.old.table_id) × (seat.new.id ≡ seat.old.id)
         × (seat.new.me ≡ seat.old.me) }
-    ensures value { into.new.items ≡ supply run.now node turn (length run.now.edges) }
+    ensures value { into.new.items ≡ supply_but run.now
+        (λ p. C.knows known.now.openings.now known.now.scratch.now p known.now.turn)
+        node known.now.turn (length run.now.edges) }
     ensures room { vec_capacity into.new ≡ vec_capacity into.old }
 {
+    let turn = known.turn;
     let edges = run.edges();
     let first = index.firsts[node];
     let end = index.firsts[node + 1];
     for i in first..end {
         let edge = edges[i];
+        if known.openings.knows(edge.producer, turn, known.scratch) {
+            continue;
+        }
         let before = turn - edge.tokens as u64;
         let at = place_of(run, index.starts.as_slice(), edge.producer.index(), before);
         read_row(board, run, seat, edge, at, into, node, turn);

@@ -72,7 +72,7 @@ impl<'a, J: Rows, C: Compute> Fabric<'a, J, C> {
             &self.table.shared,
             self.run,
             self.openings,
-            &self.chains,
+            &self.incoming,
             &self.index,
             seat,
             &mut nodes[at],

@@ -1,5 +1,5 @@
 //! A register that turns over each turn, on which the tests stand.
-ghost use Rattle.std.specs.Prelude.{◌≡◌, ◌<◌, ℕ, IfOk, OnOk};
+ghost use Rattle.std.specs.Prelude.{◌≡◌, ◌<◌, ℕ, IfOk, OnOk, false};
 ghost use Rattle.ds_fabric_tests.specs.Toggle.{arc, edge, turned, toggle, one_net};
 ghost use Rattle.ds_fabric_tests.specs.Toggle.{HoldsBoth, HoldsSlave, HoldsMaster};
 
@@ -23,6 +23,8 @@ impl Compute for Toggle {
 
     ghost memory = { λ _. one_net };
 
+    ghost knows = { λ _ _ _ _. false };
+
     fn scratch(&self, alloc: Global) -> Result<Scratch, OutOfMemory> {
         Scratch::of(alloc, 1, 0)
     }
@@ -33,6 +35,10 @@ impl Compute for Toggle {
 
     fn first(&self, node: LatchId, i: usize) -> u64 {
         0
+    }
+
+    fn knows(&self, producer: LatchId, turn: u64, scratch: &Scratch) -> bool {
+        false
     }
 
     fn compute(

@@ -20,7 +20,8 @@ pub(crate) struct Kept {
 impl Kept {
     // Before the first firing, with room for so many rows.
     pub(crate) fn first(alloc: Global, latches: &Latches, limit: usize) -> Result<Self, OutOfMemory>
-        requires { nodes latches.now < 2 ^ 32 }
+        requires few { nodes latches.now < 2 ^ 32 }
+        requires short { limit < 2 ^ 32 }
         ensures nets { IfOk result (λ kept. length kept.nets ≡ length latches.now.circuit.nets) }
         ensures rows { IfOk result (λ kept. AreFirstRows latches.now kept.rows.items) }
         ensures stored { IfOk result (λ kept. AreEmpty latches.now limit kept.stored.items) }
@@ -102,14 +103,13 @@ fn set_initial(values: &Row3, registers: &[RegId], row: &mut Row3)
 
 // Nothing stored, with room for so many rows of each node.
 fn histories(alloc: Global, latches: &Latches, limit: usize) -> Result<Vec<History>, OutOfMemory>
+    requires short { limit < 2 ^ 32 }
     ensures { IfOk result (λ stored. AreEmpty latches.now limit stored.items) }
 {
     let bits = latches.bits();
     let mut stored = Vec::with_capacity(alloc, bits.len())?;
     for these in bits {
-        let Some(room) = limit.checked_mul(these.as_slice().len()) else {
-            return Err(OutOfMemory);
-        };
+        let room = limit * these.as_slice().len();
         stored.push(History::with_room(alloc, room)?)?;
     }
     Ok(stored)

@@ -1,5 +1,5 @@
 //! A flat design that is being made.
-ghost use Rattle.std.specs.Prelude.{◌≡◌, OnOk, IfOk, IfErr};
+ghost use Rattle.std.specs.Prelude.{◌≡◌, ◌≢◌, OnOk, IfOk, IfErr, AllPairs};
 ghost use Rattle.ds_design.specs.Circuit.{Circuit};
 ghost use Rattle.ds_models.specs.Source.{IsPart, IsTableText};
 ghost use Rattle.ds_flat.specs.Net.{numbered_names, net_of, number_of, with_net};
@@ -72,6 +72,7 @@ impl<'m> Draft<'m> {
         ensures inputs { IfOk result (λ h. h.inputs ≡ self.now.inputs) }
         ensures outputs { IfOk result (λ h. h.outputs ≡ self.now.outputs) }
         ensures clocks { IfOk result (λ h. h.clocks ≡ self.now.clocks) }
+        ensures once { IfOk result (λ h. AllPairs (λ a b. a ≢ b) h.outputs) }
     {
         let name = self.name.to_vec(alloc)?;
         let nets = self.nets.to_nets(alloc)?;

@@ -1,5 +1,5 @@
 //! The nets of one kind of the main model's interface.
-ghost use Rattle.std.specs.Prelude.{◌≡◌, [], OnOk, IfOk};
+ghost use Rattle.std.specs.Prelude.{◌≡◌, ◌≢◌, [], OnOk, IfOk, AllPairs};
 ghost use Rattle.ds_flat.specs.Command.{with_number, with_numbers, with_ports};
 
 use ds_base::{NetId, OutOfMemory, Seq};
@@ -55,7 +55,8 @@ impl Ports {
 
     /// The numbers.
     pub fn to_ids(&self, alloc: Global) -> Result<Seq<NetId>, OutOfMemory>
-        ensures { IfOk result (λ ids. ids ≡ self.now) }
+        ensures ids { IfOk result (λ ids. ids ≡ self.now) }
+        ensures once { IfOk result (λ ids. AllPairs (λ a b. a ≢ b) ids) }
     {
         let mut ids = Vec::with_capacity(alloc, self.numbers.len())?;
         for number in self.numbers.as_slice() {

@@ -9,8 +9,14 @@ use Rattle.std.proofs.lemmas.List.{length-set}
 use Rattle.std.proofs.lemmas.List.Elements.{All-set, Contains-append_left, Contains-get_or}
 use Rattle.std.proofs.lemmas.List.Elements.{Contains-push, Contains-push_cases}
 use Rattle.std.proofs.lemmas.List.Quantifiers.{Any-push, all_pairs_push}
+use Rattle.std.specs.List.Sorted.{IsNonDecreasing, IsPermutation}
+use Rattle.std.proofs.Math.Dec.{eqb}
+use Rattle.std.proofs.lemmas.Bool.Decides.{Decides-eqb, eqb_tells}
+use Rattle.std.proofs.lemmas.List.Sorted.{Contains-permutation, IsPermutation-sym}
+use Rattle.std.proofs.lemmas.Map.Keys.{IsDistinct-IsPermutation}
+use Rattle.std.proofs.lemmas.Map.Made.{AllPairs-from_IsDistinct, IsDistinct-from_AllPairs}
 use Rattle.ds_settle.specs.Cone.{Parts as Cone}
-use Rattle.ds_groups.specs.Lists.{AreFound, AreFoundSoFar, AreLists}
+use Rattle.ds_groups.specs.Lists.{AreFound, AreFoundSoFar, AreLists, IsListOf}
 use Rattle.ds_groups.proofs.Front.{any_cases, any_left}
 
 module _ (tables numbers before : List ℕ) (stamp : ℕ) (seen list : List ℕ)
@@ -85,7 +91,7 @@ module _ (tables numbers before : List ℕ) (stamp : ℕ) (seen list : List ℕ)
 
 -- one cone more
 pub lists_more : (cones : List Cone) (numbers : List ℕ) (lists : List (List ℕ)) (cone : Cone)
-    (list : List ℕ) → AreLists cones numbers lists → AreFound cone.tables numbers list
+    (list : List ℕ) → AreLists cones numbers lists → IsListOf cone.tables numbers list
     → AreLists (cones ++ cone ∷ []) numbers (lists ++ list ∷ [])
 lists_more cones numbers lists cone list are found = record {
   one_each =
@@ -95,8 +101,8 @@ lists_more cones numbers lists cone list are found = record {
         (let size : length lists ≡ length cones = are.one_each in
         let here : get_or (cones ++ cone ∷ []) i d ≡ cone = get_or_push cones cone d i (sym e) in
         let there : get_or (lists ++ list ∷ []) i [] ≡ list = get_or_push lists list [] i (size ∙ sym e) in
-        subst (λ (c : Cone). AreFound c.tables numbers (get_or (lists ++ list ∷ []) i [])) (sym here)
-        (subst (AreFound cone.tables numbers) (sym there) found))
+        subst (λ (c : Cone). IsListOf c.tables numbers (get_or (lists ++ list ∷ []) i [])) (sym here)
+        (subst (IsListOf cone.tables numbers) (sym there) found))
     | inr ne ↦
         (let size : length lists ≡ length cones = are.one_each in
         let low : i < length cones = omega (inside, ne, length-append cones (cone ∷ []), arith) in
@@ -104,7 +110,28 @@ lists_more cones numbers lists cone list are found = record {
         get_or_append_left cones (cone ∷ []) d i low in
         let there : get_or (lists ++ list ∷ []) i [] ≡ get_or lists i [] =
         get_or_append_left lists (list ∷ []) [] i (omega (low, size, arith)) in
-        subst (λ (c : Cone). AreFound c.tables numbers (get_or (lists ++ list ∷ []) i [])) (sym here)
-        (subst (AreFound (get_or cones i d).tables numbers) (sym there) (are.each i d low)))
+        subst (λ (c : Cone). IsListOf c.tables numbers (get_or (lists ++ list ∷ []) i [])) (sym here)
+        (subst (IsListOf (get_or cones i d).tables numbers) (sym there) (are.each i d low)))
   ];
+}
+
+flips : (x y : ℕ) → eqb x y ≡ eqb y x
+flips x y = elim (eqb_tells x y) [
+  | inl (is, e) ↦ elim (eqb_tells y x) [ inl (at, f) ↦ is ∙ sym at | inr (at, ne) ↦ absurd (ne (sym e)) ]
+  | inr (is, ne) ↦ elim (eqb_tells y x) [ inl (at, f) ↦ absurd (ne (sym f)) | inr (at, other) ↦ is ∙ sym at ]
+]
+
+-- the same, sorted
+pub found_sorted : (tables numbers list sorted : List ℕ) → AreFound tables numbers list → IsPermutation list sorted
+    → IsNonDecreasing sorted → IsListOf tables numbers sorted
+found_sorted tables numbers list sorted found permuted rising = record {
+  found = record {
+    once = AllPairs-from_IsDistinct Decides-eqb sorted (IsDistinct-IsPermutation eqb flips list sorted permuted
+        (IsDistinct-from_AllPairs Decides-eqb list found.once));
+    has = λ g. (
+      λ has. (found.has g).0 (Contains-permutation sorted list g (IsPermutation-sym list sorted permuted) has),
+      λ some. Contains-permutation list sorted g permuted ((found.has g).1 some),
+    );
+  };
+  rising = rising;
 }

@@ -8,9 +8,9 @@ use Rattle.std.proofs.lemmas.Bool.Decides.{Decides-eqb, eqb_tells}
 use Rattle.std.proofs.lemmas.List.{get_or_default, get_or_past}
 use Rattle.std.proofs.lemmas.List.Elements.{All-contains, Contains-get_or}
 use Rattle.std.proofs.lemmas.List.Kept.{AllPairs-filter}
-use Rattle.std.proofs.lemmas.List.Sorted.{Contains-permutation, IsPermutation-sym}
-use Rattle.std.proofs.lemmas.Map.Keys.{IsDistinct-IsPermutation}
-use Rattle.std.proofs.lemmas.Map.Made.{AllPairs-from_IsDistinct, IsDistinct-from_AllPairs}
+use Rattle.std.proofs.lemmas.List.Folds.{Any-from_list_any}
+use Rattle.std.proofs.lemmas.Map.Steps.{length-le_from_distinct_below}
+use Rattle.std.proofs.lemmas.Map.Made.{IsDistinct-from_AllPairs}
 use Rattle.std.proofs.Math.Dec.{eqb}
 use Rattle.ds_base.proofs.Lists.{cases_Contains, get_or-default}
 use Rattle.ds_design.specs.Circuit.{Circuit}
@@ -23,11 +23,11 @@ use Rattle.ds_groups.specs.Classes.{AreClasses, HasTables, HaveSame}
 use Rattle.ds_cover.specs.Bank.{Driven}
 use Rattle.ds_design.specs.Banked.{IsBankOf}
 use Rattle.ds_groups.specs.Groups.{AreGroupsOf, Grouping, IsGrouped, group_of, tables_in}
-use Rattle.ds_groups.specs.Lists.{AreFound, AreLists}
+use Rattle.ds_groups.specs.Lists.{AreFound, AreLists, IsListOf}
 use Rattle.ds_groups.specs.Members.{AreMembers}
-use Rattle.ds_groups.specs.Ranks.{AreByRank, lists_without}
+use Rattle.ds_groups.specs.Lacking.{AreByLacking, cones_without}
 use Rattle.ds_groups.proofs.Flat.{filter_has, flat_has, has_filter, has_flat, nothing, pairs_flat}
-use Rattle.ds_groups.proofs.Lacking.{count_same, has_true, lacks_false}
+use Rattle.ds_groups.proofs.Lacks.{count_same, has_true, lacks_false}
 
 -- stands for a cone where there is none
 pub no_cone : Cone
@@ -52,28 +52,17 @@ order_from_pairs c xs within pairs selves = record {
   ];
 }
 
--- the lists of cones have numbers below the count, each once
-module _ (cones : List Cone) (numbers : List ℕ) (count : ℕ) (lists : List (List ℕ))
-    (tables : All (HasTables (length numbers)) cones) (below : All (λ n. n < count) numbers)
-    (are : AreLists cones numbers lists) where
-  found_at : (i : ℕ) → i < length lists → AreFound (get_or cones i no_cone).tables numbers (get_or lists i [])
-  found_at i inside = (let size : length lists ≡ length cones = are.one_each in are.each i no_cone (omega (inside, size, arith)))
-
-  pub lists_below : All (λ list. All (λ g. g < count) list) lists
-  lists_below i d inside k e low =
-      let size : length lists ≡ length cones = are.one_each in
-      let near : i < length cones = omega (inside, size, arith) in
-      let list : List ℕ = get_or lists i d in
-      let has : Contains (get_or lists i []) (get_or list k e) =
-      subst (λ (xs : List ℕ). Contains xs (get_or list k e)) (get_or_default lists i d [] inside) (Contains-get_or list k e low) in
-      let (j, t, at, is, same) = ((found_at i inside).has (get_or list k e)).0 has in
-      let tables_of : HasTables (length numbers) (get_or cones i no_cone) = tables i no_cone near in
-      let there : t < length numbers = subst (λ (n : ℕ). n < length numbers) is (tables_of.within j t at) in
-      subst (λ (n : ℕ). n < count) same (below t 0 there)
-
-  pub lists_once : All (λ list. AllPairs (λ a b. a ≢ b) list) lists
-  lists_once i d inside =
-      subst (λ (xs : List ℕ). AllPairs (λ a b. a ≢ b) xs) (sym (get_or_default lists i d [] inside)) (found_at i inside).once
+-- an order that has each table once is no longer than the tables are many
+pub few_order : (count : ℕ) (order : List ℕ) → All (λ k. k < count) order → AllPairs (λ j k. j ≢ k) order
+    → length order ≤ count
+few_order count order within once =
+    length-le_from_distinct_below order count (IsDistinct-from_AllPairs Decides-eqb order once)
+    (λ q is.
+    let (k, x, inside, at, e) = Any-from_list_any (eqb q) order is in
+    elim (eqb_tells q x) [
+      | inl (yes_is, same) ↦ omega (same, at, within k x inside, arith)
+      | inr (no_is, ne) ↦ absurd (false≢true (sym no_is ∙ e))
+    ])
 
 pub have_tables : (c : Circuit) (cones : List Cone) → All (λ cone. (these : List ℕ) × IsCone c these cone) cones
     → All (HasTables (length c.tables)) cones
@@ -86,10 +75,10 @@ module _ (c : Circuit) (order : List ℕ) (ordered : IsTableOrder c order) (cone
     (below : All (λ n. n < count) numbers)
     (groups : List (List ℕ)) (are_members : AreMembers order numbers count groups)
     (lists : List (List ℕ)) (are_lists : AreLists cones numbers lists)
-    (sorted : List (List ℕ)) (are_ranked : AreByRank lists sorted)
+    (rises : AreByLacking cones numbers)
     (bank : List Driven) (is_bank : IsBankOf c.tables bank) where
   abbrev g : Grouping
-  g = record { bank = bank; groups = groups; lists = sorted }
+  g = record { bank = bank; groups = groups; lists = lists }
 
   abbrev number : ℕ → ℕ
   number k = get_or numbers k 0
@@ -136,13 +125,13 @@ module _ (c : Circuit) (order : List ℕ) (ordered : IsTableOrder c order) (cone
     cone = get_or cones i no_cone
 
     abbrev list : List ℕ
-    list = get_or sorted i []
+    list = get_or lists i []
 
-    here : i < length lists
-    here = (let size : length lists ≡ length cones = are_lists.one_each in omega (inside, size, arith))
+    list_of : IsListOf cone.tables numbers (get_or lists i [])
+    list_of = are_lists.each i no_cone inside
 
     found : AreFound cone.tables numbers (get_or lists i [])
-    found = are_lists.each i no_cone inside
+    found = list_of.found
 
     cone_is : (these : List ℕ) × IsCone c these cone
     cone_is = are_cones i no_cone inside
@@ -160,21 +149,13 @@ module _ (c : Circuit) (order : List ℕ) (ordered : IsTableOrder c order) (cone
     lists_it : (k : ℕ) → Contains cone.tables k → Contains (get_or lists i []) (number k)
     lists_it k (j, at, is) = (found.has (number k)).1 (j, k, at, is, refl)
 
-    in_sorted : (a : ℕ) → Contains (get_or lists i []) a → Contains list a
-    in_sorted a has = Contains-permutation (get_or lists i []) list a (are_ranked.permuted i here) has
-
-    from_sorted : (a : ℕ) → Contains list a → Contains (get_or lists i []) a
-    from_sorted a has =
-        Contains-permutation list (get_or lists i []) a
-        (IsPermutation-sym (get_or lists i []) list (are_ranked.permuted i here)) has
-
     same_tables : (k : ℕ) → (Contains (tables_in g list) k ↔ Contains cone.tables k)
     same_tables k = (
       λ has.
           let (j, a, at, is, in_group) = flat_has (group_of g) list k has in
           let (low, e) = member_in a k in_group in
-          listed k low (subst (Contains (get_or lists i [])) (sym e) (from_sorted a (j, at, is))),
-      λ has. has_flat (group_of g) list (number k) k (in_sorted (number k) (lists_it k has)) (member_of k (cone_low k has)),
+          listed k low (subst (Contains (get_or lists i [])) (sym e) (j, at, is)),
+      λ has. has_flat (group_of g) list (number k) k (lists_it k has) (member_of k (cone_low k has)),
     )
 
     -- what a table of a cone reads of another is in each cone that has the first
@@ -192,64 +173,46 @@ module _ (c : Circuit) (order : List ℕ) (ordered : IsTableOrder c order) (cone
         )
         reaches)
 
-  -- which lists lack a number
-  abbrev lacks : ℕ → List ℕ → Bool
-  lacks a xs = not (list_any (λ k. k == a) xs)
+  -- which cones lack a table
+  abbrev lacks : ℕ → Cone → Bool
+  lacks k cone = not (list_any (λ j. j == k) cone.tables)
 
-  lacks_true : (a : ℕ) (xs : List ℕ) → ¬ Contains xs a → lacks a xs ≡ true
-  lacks_true a xs free = ap not (lacks_false xs a free)
+  lacks_true : (k : ℕ) (cone : Cone) → ¬ Contains cone.tables k → lacks k cone ≡ true
+  lacks_true k cone free = ap not (lacks_false cone.tables k free)
 
-  lacks_not : (a : ℕ) (xs : List ℕ) → Contains xs a → lacks a xs ≡ false
-  lacks_not a xs has = ap not (has_true xs a has)
+  lacks_not : (k : ℕ) (cone : Cone) → Contains cone.tables k → lacks k cone ≡ false
+  lacks_not k cone has = ap not (has_true cone.tables k has)
 
   module _ (d : Gate) (x y : ℕ) (low_x : x < length c.tables) (low_y : y < length c.tables) (reads : Reads c d x y)
-      (most : lists_without lists (number x) ≤ lists_without lists (number y)) where
-    as_many : length lists ≡ length cones
-    as_many = are_lists.one_each
+      (most : cones_without cones x ≤ cones_without cones y) where
+    feeds_at : (i : ℕ) (e : Cone) → i < length cones → Contains (get_or cones i e).tables x → Contains (get_or cones i e).tables y
+    feeds_at i e inside =
+        subst (λ (cone : Cone). Contains cone.tables x → Contains cone.tables y) (sym (get_or-default cones i e no_cone inside))
+        (feeds i inside d x y low_x low_y reads)
 
-    list_feeds : (i : ℕ) → i < length lists → Contains (get_or lists i []) (number x) → Contains (get_or lists i []) (number y)
-    list_feeds i inside has =
-        let near : i < length cones = omega (inside, as_many, arith) in
-        lists_it i near y (feeds i near d x y low_x low_y reads (listed i near x low_x has))
-
-    fewer : All (λ xs. lacks (number y) xs ≡ true → lacks (number x) xs ≡ true) lists
-    fewer i e inside is = elim (cases_Contains (get_or lists i e) (number x)) [
+    fewer : All (λ cone. lacks y cone ≡ true → lacks x cone ≡ true) cones
+    fewer i e inside is = elim (cases_Contains (get_or cones i e).tables x) [
       | inl has ↦
-          (let default : get_or lists i e ≡ get_or lists i [] = get_or_default lists i e [] inside in
-          let there : Contains (get_or lists i e) (number y) =
-          subst (λ (xs : List ℕ). Contains xs (number y)) (sym default)
-          (list_feeds i inside (subst (λ (xs : List ℕ). Contains xs (number x)) default has)) in
-          absurd (false≢true (sym (lacks_not (number y) (get_or lists i e) there) ∙ is)))
-      | inr free ↦ lacks_true (number x) (get_or lists i e) free
+          absurd (false≢true (sym (lacks_not y (get_or cones i e) (feeds_at i e inside has)) ∙ is))
+      | inr free ↦ lacks_true x (get_or cones i e) free
     ]
 
-    all_lack : All (λ xs. lacks (number x) xs ≡ true → lacks (number y) xs ≡ true) lists
-    all_lack = count_same (lacks (number x)) (lacks (number y)) lists fewer most
+    all_lack : All (λ cone. lacks x cone ≡ true → lacks y cone ≡ true) cones
+    all_lack = count_same (lacks x) (lacks y) cones fewer most
 
     have_same : HaveSame cones x y
-    have_same i e near =
-        let inside : i < length lists = omega (near, as_many, arith) in
-        let default : get_or cones i e ≡ get_or cones i no_cone = get_or-default cones i e no_cone near in
-        let at : (Contains (get_or cones i no_cone).tables x ↔ Contains (get_or cones i no_cone).tables y) = (
-          λ has. feeds i near d x y low_x low_y reads has,
-          λ has. listed i near x low_x (elim (cases_Contains (get_or lists i []) (number x)) [
-            | inl there ↦ there
-            | inr free ↦
-                (let lacks_y : lacks (number y) (get_or lists i []) ≡ true =
-                all_lack i [] inside (lacks_true (number x) (get_or lists i []) free) in
-                absurd (false≢true (sym (lacks_not (number y) (get_or lists i []) (lists_it i near y has)) ∙ lacks_y)))
-          ]),
-        ) in
-        subst (λ (cone : Cone). Contains cone.tables x ↔ Contains cone.tables y) (sym default) at
+    have_same i e inside = (
+      feeds_at i e inside,
+      λ has. elim (cases_Contains (get_or cones i e).tables x) [
+        | inl there ↦ there
+        | inr free ↦
+            (let lacks_y : lacks y (get_or cones i e) ≡ true = all_lack i e inside (lacks_true x (get_or cones i e) free) in
+            absurd (false≢true (sym (lacks_not y (get_or cones i e) has) ∙ lacks_y)))
+      ],
+    )
 
     pub same_number : number x ≡ number y
     same_number = (classes.same x y low_x low_y).1 have_same
-
-  flips : (x y : ℕ) → eqb x y ≡ eqb y x
-  flips x y = elim (eqb_tells x y) [
-    | inl (is, e) ↦ elim (eqb_tells y x) [ inl (at, f) ↦ is ∙ sym at | inr (at, ne) ↦ absurd (ne (sym e)) ]
-    | inr (is, ne) ↦ elim (eqb_tells y x) [ inl (at, f) ↦ absurd (ne (sym f)) | inr (at, other) ↦ is ∙ sym at ]
-  ]
 
   order_pairs : AllPairs (IsBehind c) order
   order_pairs i j e under inside d =
@@ -274,36 +237,30 @@ module _ (c : Circuit) (order : List ℕ) (ordered : IsTableOrder c order) (cone
         (λ i j d under inside. absurd (let h : j < 0 = inside in omega (h, arith))))
   ]
 
-  grouped : (i : ℕ) → i < length cones → IsGrouped c g (get_or cones i no_cone) (get_or sorted i [])
+  grouped : (i : ℕ) → i < length cones → IsGrouped c g (get_or cones i no_cone) (get_or lists i [])
   grouped i inside =
-      let list : List ℕ = get_or sorted i [] in
-      let at : i < length lists = here i inside in
-      let found_i : AreFound (get_or cones i no_cone).tables numbers (get_or lists i []) = found i inside in
-      let once : AllPairs (λ a b. a ≢ b) list =
-      AllPairs-from_IsDistinct Decides-eqb list (IsDistinct-IsPermutation eqb flips (get_or lists i []) list (are_ranked.permuted i at)
-      (IsDistinct-from_AllPairs Decides-eqb (get_or lists i []) found_i.once)) in
+      let list : List ℕ = get_or lists i [] in
+      let list_i : IsListOf (get_or cones i no_cone).tables numbers (get_or lists i []) = list_of i inside in
       let low : (k : ℕ) → Contains (tables_in g list) k → k < length c.tables =
       λ k has. cone_low i inside k ((same_tables i inside k).0 has) in
       record {
         within = λ j e near.
             let a : ℕ = get_or list j e in
-            let (m, t, there, is, same) = (found_i.has a).0 (from_sorted i inside a (Contains-get_or list j e near)) in
+            let (m, t, there, is, same) = (list_i.found.has a).0 (Contains-get_or list j e near) in
             let size : length groups ≡ count = are_members.one_each in
             let less : number t < count = number_below t (cone_low i inside t (m, there, is)) in
             omega (less, same, size, arith);
-        once = once;
+        once = list_i.found.once;
         order = order_from_pairs c (tables_in g list)
             (λ j e near. low (get_or (tables_in g list) j e) (Contains-get_or (tables_in g list) j e near))
             (pairs_flat (IsBehind c) (group_of g) list (λ j e near. group_pairs (get_or list j e))
             (λ j m e under near x y has_x has_y d reads.
             let (low_x, is_x) = member_in (get_or list j e) x has_x in
             let (low_y, is_y) = member_in (get_or list m e) y has_y in
-            let up : lists_without lists (get_or list j e) ≤ lists_without lists (get_or list m e) =
-            are_ranked.rising i at j m e (omega (under, arith)) near in
-            let most : lists_without lists (number x) ≤ lists_without lists (number y) =
-            subst (λ (n : ℕ). lists_without lists n ≤ lists_without lists (number y)) (sym is_x)
-            (subst (λ (n : ℕ). lists_without lists (get_or list j e) ≤ lists_without lists n) (sym is_y) up) in
-            once j m e under near (sym is_x ∙ (same_number d x y low_x low_y reads most ∙ is_y))))
+            let up : get_or list j e ≤ get_or list m e = list_i.rising j m e (omega (under, arith)) near in
+            let most : cones_without cones x ≤ cones_without cones y =
+            rises x y (omega (low_x, long, arith)) (omega (low_y, long, arith)) (omega (up, is_x, is_y, arith)) in
+            list_i.found.once j m e under near (sym is_x ∙ (same_number d x y low_x low_y reads most ∙ is_y))))
             (λ j e near. not_self (get_or (tables_in g list) j e)
             (low (get_or (tables_in g list) j e) (Contains-get_or (tables_in g list) j e near)));
         same = same_tables i inside;
@@ -319,9 +276,9 @@ module _ (c : Circuit) (order : List ℕ) (ordered : IsTableOrder c order) (cone
   pub are_groups : AreGroupsOf c cones g
   are_groups = record {
     packed = is_bank;
-    one_each = are_ranked.one_each ∙ are_lists.one_each;
+    one_each = are_lists.one_each;
     each = λ i d inside.
-        subst (λ (cone : Cone). IsGrouped c g cone (get_or sorted i [])) (get_or-default cones i no_cone d inside) (grouped i inside);
+        subst (λ (cone : Cone). IsGrouped c g cone (get_or lists i [])) (get_or-default cones i no_cone d inside) (grouped i inside);
     within = λ a k d inside. (member_in a (get_or (group_of g a) k d) (Contains-get_or (group_of g a) k d inside)).0;
     apart = λ a b k has_a has_b. sym (member_in a k has_a).1 ∙ (member_in b k has_b).1;
   }

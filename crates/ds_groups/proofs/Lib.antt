@@ -1,7 +1,8 @@
 pub mod Front
 pub mod Moves
+pub mod Numbered
 pub mod Same
 pub mod Found
-pub mod Lacking
+pub mod Lacks
 pub mod Flat
 pub mod Grouped

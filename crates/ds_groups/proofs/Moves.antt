@@ -30,7 +30,7 @@ moved_none moved some low = record {
       absurd (omega (near, far, arith));
 }
 
-no_nil : (x : ℕ) → ¬ Contains [] x
+pub no_nil : (x : ℕ) → ¬ Contains [] x
 no_nil x (k, inside, is) = absurd (let h : k < 0 = inside in omega (h, arith))
 
 module _ (first : ℕ) (old : List ℕ) (all_low : All (λ n. n < first) old) where

@@ -49,9 +49,9 @@ classes_more cones cone count old new are size split = record {
 }
 
 -- with numbers in place of the classes
-pub classes_numbered : (cones : List Cone) (count most : ℕ) (old new : List ℕ)
-    → AreClasses cones count old → AreRenumbered old most new → AreClasses cones count new
-classes_numbered cones count most old new are is = record {
+pub classes_numbered : (cones : List Cone) (count most : ℕ) (order old new : List ℕ)
+    → AreClasses cones count old → AreRenumbered order old most new → AreClasses cones count new
+classes_numbered cones count most order old new are is = record {
   one_each = is.one_each ∙ are.one_each;
   same = λ a b low_a low_b.
       let long : length old ≡ count = are.one_each in

@@ -1,7 +1,8 @@
 -- In the order in which to read.
 pub mod Classes
+pub mod Gaps
+pub mod Lacking
 pub mod Numbers
 pub mod Members
 pub mod Lists
-pub mod Ranks
 pub mod Groups

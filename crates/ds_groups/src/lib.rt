@@ -3,15 +3,19 @@
 //! Two tables are in one group where exactly the same cones have them. So a cone is some groups,
 //! and where two cones meet, they share groups. `Groups::of` finds the groups of some cones and the
 //! list of groups of each: set one after another, the tables of these groups are those of the
-//! cone, and none reads what it or a later one drives. It takes time linear in the cones up to the
-//! sorts of their lists. Which number a group has is not promised.
+//! cone, and none reads what it or a later one drives. The groups have their numbers by how many
+//! cones lack them, the fewest first: what a table reads is in each cone that has the table, so a
+//! list in the order of numbers has each group behind those that it reads. It takes time linear in
+//! the cones up to the sorts of the tables and of the lists. Which number a group has is not
+//! promised.
 #![tactic(auto)]
 
 mod classes;
+mod gaps;
 mod groups;
+mod lacking;
 mod lists;
 mod members;
 mod numbers;
-mod ranks;
 
 pub use groups::Groups;

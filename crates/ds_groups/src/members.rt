@@ -19,7 +19,7 @@ pub(crate) fn members_of(
 {
     let mut lists = empty_lists(alloc, numbers.count)?;
     for table in order {
-        lists[numbers.of[*table as usize]].push(*table)?;
+        lists[numbers.of[*table as usize] as usize].push(*table)?;
     }
     Ok(lists)
 }

@@ -87,7 +87,8 @@ pub data IsEvent (s : Split) : ℕ → Type 0 where
   is_closing : (n : Node) → IsNode s n → IsEvent s (closing n)
   is_extra : (e : ℕ) → IsEvent s (extra_event s e)
 
-node_at : (s : Split) (l : ℕ) → l < nodes s → (n : Node) × IsNode s n × (number_of n ≡ l)
+-- the node with a number
+pub node_at : (s : Split) (l : ℕ) → l < nodes s → (n : Node) × IsNode s n × (number_of n ≡ l)
 node_at s zero below = (In, tt, refl)
 node_at s (suc zero) below = (Out, tt, refl)
 node_at s (suc (suc l)) below =

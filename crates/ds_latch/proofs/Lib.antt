@@ -3,6 +3,7 @@ pub mod Flow
 pub mod Spelt
 pub mod Stable
 pub mod Events
+pub mod Widths
 pub mod Windows
 pub mod Remade
 pub mod Rising

@@ -1,7 +1,7 @@
 //! A split design: the netlist, its clusters of registers, the nets of each node, and the data
 //! edges between nodes.
-ghost use Rattle.std.specs.Prelude.{◌≡◌, ◌≢◌, ◌+◌, ◌*◌, ◌<◌, ◌≤◌, ℕ, List, All, AllPairs, length};
-ghost use Rattle.std.specs.Prelude.{Contains, slice_index_or, []};
+ghost use Rattle.std.specs.Prelude.{◌≡◌, ◌≢◌, ◌+◌, ◌*◌, ◌<◌, ◌≤◌, ◌^◌, ℕ, List, All, AllPairs};
+ghost use Rattle.std.specs.Prelude.{Contains, length, slice_index_or, []};
 ghost use Rattle.ds_latch.specs.Node.{Node, Split, IsNode, number_of, nodes, nets_of, begun};
 ghost use Rattle.ds_latch.specs.Node.{slackened};
 ghost use Rattle.ds_latch.specs.Latches.{AreParts, HasEdges};
@@ -124,7 +124,11 @@ impl<'a> Latches<'a> {
         ensures one_each { length result.now ≡ nodes self.now }
         ensures nets { (n : Node) → IsNode self.now n
             → slice_index_or result.now (number_of n) [] ≡ nets_of self.now n }
+        ensures few { All (λ nets. length nets < 2 ^ 32) result.now }
     {
+        // The outputs are read for the fact that none stands there twice.
+        let design = self.netlist.design();
+        let _outputs = design.outputs();
         self.bits.as_slice()
     }
 

@@ -17,7 +17,7 @@ use Rattle.ds_design.specs.declared.design.Gate.{Gate}
 use Rattle.ds_settle.specs.Cone.{AreInOrder, IsCone, Parts as Cone, ReachesSome, net_of, nets_of_tables}
 use Rattle.ds_settle.proofs.Agree.{reaches_itself, reaches_some_before}
 use Rattle.ds_settle.proofs.Tables.{net_is}
-use Rattle.ds_opening.specs.Noted.{AreFed, IsAsKnown}
+use Rattle.ds_opening.specs.Noted.{FindInputs, IsAsKnown}
 use Rattle.ds_opening.specs.Packed.{Learns}
 
 module _ (c : Circuit) (these : List ℕ) (cone : Cone) (is_cone : IsCone c these cone)
@@ -66,16 +66,16 @@ module _ (c : Circuit) (these : List ℕ) (cone : Cone) (is_cone : IsCone c thes
           | inr free ↦ All-contains P cone.sources net sources ((is_cone.sources net).1 (reaches, free))
         ]
 
-    fed_rest : (rest done : List ℕ) → list ≡ done ++ rest → (P : ℕ → Type 0) → All P cone.sources
-        → ((m : ℕ) → Contains done m → P (net_of c m)) → AreFed c known P rest
-    fed_rest [] done cut P sources set = tt
-    fed_rest (k ∷ rest) done cut P sources set =
+    finds_rest : (rest done : List ℕ) → list ≡ done ++ rest → (P : ℕ → Type 0) → All P cone.sources
+        → ((m : ℕ) → Contains done m → P (net_of c m)) → FindInputs c known P rest
+    finds_rest [] done cut P sources set = tt
+    finds_rest (k ∷ rest) done cut P sources set =
         let i : ℕ = length done in
         let inside : i < length list = omega (ap (λ (xs : List ℕ). length xs) cut, length-append done (k ∷ rest), arith) in
         let here : get_or list i 0 ≡ k = ap (λ (xs : List ℕ). get_or xs i 0) cut ∙ get_or-append_seam done k rest 0 in
         let low : k < length c.tables = subst (λ (n : ℕ). n < length c.tables) here (order.within i 0 inside) in (
           λ d. (valuation.table k d low, reads done rest k cut P sources set d),
-          fed_rest rest (done ++ k ∷ []) (cut ∙ sym (append_assoc done (k ∷ []) rest))
+          finds_rest rest (done ++ k ∷ []) (cut ∙ sym (append_assoc done (k ∷ []) rest))
               (λ net. P net ⊎ (net ≡ net_of c k))
               (All-weaker P (λ net. P net ⊎ (net ≡ net_of c k)) (λ net p. inl p) cone.sources sources)
               (λ m has. elim (Contains-push_cases done k m has) [
@@ -84,8 +84,8 @@ module _ (c : Circuit) (these : List ℕ) (cone : Cone) (is_cone : IsCone c thes
               ]),
         )
 
-    pub cone_fed : (nets : Row) → All (IsAsKnown known nets) cone.sources → AreFed c known (IsAsKnown known nets) list
-    cone_fed nets sources = fed_rest list [] refl (IsAsKnown known nets) sources (λ m has. absurd (nothing m has))
+    pub cone_finds : (nets : Row) → All (IsAsKnown known nets) cone.sources → FindInputs c known (IsAsKnown known nets) list
+    cone_finds nets sources = finds_rest list [] refl (IsAsKnown known nets) sources (λ m has. absurd (nothing m has))
       where
         nothing : (x : ℕ) → ¬ Contains [] x
         nothing x (k, inside, is) = absurd (let h : k < 0 = inside in omega (h, arith))

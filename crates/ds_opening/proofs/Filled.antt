@@ -1,5 +1,5 @@
 -- Nets that take the rows of several nodes.
-use Rattle.std.proofs.Common.{◌≡◌, ◌∙◌, ℕ, zero, suc, ◌+◌, ◌<◌, ◌≤◌, List, [], ◌∷◌, ◌++◌, length, get_or, take, drop, refl, ap, sym, subst, arith, inl, inr, length-append}
+use Rattle.std.proofs.Common.{◌≡◌, ◌∙◌, ℕ, zero, suc, ◌+◌, ◌<◌, ◌≤◌, Bool, true, false, cond, List, [], ◌∷◌, ◌++◌, length, get_or, take, drop, refl, ap, sym, subst, arith, inl, inr, length-append}
 use Rattle.std.specs.Prelude.{Contains}
 use Rattle.std.specs.List.{range_with_len}
 use Rattle.std.proofs.lemmas.List.{length-map, take_more, get_or_default}
@@ -25,32 +25,49 @@ drop_front [] ys n size = rw (sym size) refl
 drop_front (x ∷ xs) ys zero size = absurd (omega (size, arith))
 drop_front (x ∷ xs) ys (suc n) size = drop_front xs ys n (omega (size, arith))
 
-module _ (bits : List (List ℕ)) (nodes : List ℕ) (k node : ℕ) (inside : k < length nodes) (node_is : node ≡ get_or nodes k node)
-    (known : Row) (rest : List ℕ) (told : rest ≡ packed_rows known bits (drop k nodes)) where
+module _ (learnt : ℕ → Bool) (bits : List (List ℕ)) (nodes : List ℕ) (k node : ℕ) (inside : k < length nodes)
+    (node_is : node ≡ get_or nodes k node) (known : Row) (rest : List ℕ)
+    (told : rest ≡ packed_rows learnt known bits (drop k nodes)) where
   -- the nets of the next node
   abbrev pub these : List ℕ
   these = get_or bits node []
 
-  front : rest ≡ packed (values_at known these) ++ packed_rows known bits (drop (k + 1) nodes)
-  front =
+  -- the words of the nodes behind it
+  abbrev behind : List ℕ
+  behind = packed_rows learnt known bits (drop (k + 1) nodes)
+
+  -- the words, where the row of the next node is learnt or is not
+  abbrev words_if : Bool → List ℕ
+  words_if is_learnt = cond is_learnt [] (packed (values_at known these)) ++ behind
+
+  next_words : rest ≡ words_if (learnt node)
+  next_words =
       let next : drop k nodes ≡ get_or nodes k node ∷ drop (suc k) nodes = drop-cons nodes k node inside in
       let up : suc k ≡ k + 1 = omega arith in
-      told ∙ (ap (packed_rows known bits) (next ∙ (ap (λ (n : ℕ). n ∷ drop (suc k) nodes) (sym node_is) ∙ ap (λ (n : ℕ). node ∷ drop n nodes) up)))
+      told ∙ (ap (packed_rows learnt known bits) (next ∙ (ap (λ (n : ℕ). n ∷ drop (suc k) nodes) (sym node_is) ∙ ap (λ (n : ℕ). node ∷ drop n nodes) up)))
 
-  size : length (packed (values_at known these)) ≡ words_of (length these)
-  size = length-packed (values_at known these) ∙ ap words_of (length-map these (value_at known))
+  -- a row that is learnt has no words
+  pub others_only : learnt node ≡ true → rest ≡ behind
+  others_only is = next_words ∙ ap words_if is
 
-  pub room : words_of (length these) ≤ length rest
-  room =
-      let long : length rest ≡ length (packed (values_at known these)) + length (packed_rows known bits (drop (k + 1) nodes)) = ap (λ (xs : List ℕ). length xs) front ∙ length-append (packed (values_at known these)) (packed_rows known bits (drop (k + 1) nodes)) in
-      let s : length (packed (values_at known these)) ≡ words_of (length these) = size in
-      omega (long, s, arith)
+  module _ (not_yet : learnt node ≡ false) where
+    front : rest ≡ packed (values_at known these) ++ behind
+    front = next_words ∙ ap words_if not_yet
 
-  pub row_is : take (words_of (length these)) rest ≡ packed (values_at known these)
-  row_is = ap (take (words_of (length these))) front ∙ take_front (packed (values_at known these)) (packed_rows known bits (drop (k + 1) nodes)) (words_of (length these)) size
+    size : length (packed (values_at known these)) ≡ words_of (length these)
+    size = length-packed (values_at known these) ∙ ap words_of (length-map these (value_at known))
 
-  pub others_are : drop (words_of (length these)) rest ≡ packed_rows known bits (drop (k + 1) nodes)
-  others_are = ap (drop (words_of (length these))) front ∙ drop_front (packed (values_at known these)) (packed_rows known bits (drop (k + 1) nodes)) (words_of (length these)) size
+    pub room : words_of (length these) ≤ length rest
+    room =
+        let long : length rest ≡ length (packed (values_at known these)) + length behind = ap (λ (xs : List ℕ). length xs) front ∙ length-append (packed (values_at known these)) behind in
+        let s : length (packed (values_at known these)) ≡ words_of (length these) = size in
+        omega (long, s, arith)
+
+    pub row_is : take (words_of (length these)) rest ≡ packed (values_at known these)
+    row_is = ap (take (words_of (length these))) front ∙ take_front (packed (values_at known these)) behind (words_of (length these)) size
+
+    pub others_are : drop (words_of (length these)) rest ≡ behind
+    others_are = ap (drop (words_of (length these))) front ∙ drop_front (packed (values_at known these)) behind (words_of (length these)) size
 
   pub learnt_more : (old new : Row) → AreLearnt known bits (take k nodes) old → Learns known these old new → AreLearnt known bits (take (k + 1) nodes) new
   learnt_more old new before learns other has =

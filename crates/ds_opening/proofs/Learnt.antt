@@ -1,5 +1,5 @@
 -- Slots that are noted, one after another.
-use Rattle.std.proofs.Common.{◌≡◌, ◌∙◌, ◌⊎◌, ℕ, ◌+◌, ◌<◌, List, [], ◌∷◌, ◌++◌, length, get_or}
+use Rattle.std.proofs.Common.{◌≡◌, ◌≢◌, ◌∙◌, ◌⊎◌, ℕ, ◌+◌, ◌<◌, List, [], ◌∷◌, ◌++◌, length, get_or}
 use Rattle.std.proofs.Common.{suc, true, refl, sym, ap, subst, arith, inl, inr}
 use Rattle.std.specs.Prelude.{All, Contains}
 use Rattle.std.proofs.Math.ListN.{set}
@@ -9,7 +9,7 @@ use Rattle.std.specs.List.{flat_map}
 use Rattle.std.proofs.lemmas.Grind.{flat_map-append}
 use Rattle.std.proofs.lemmas.List.Concat.{flat_map-cons}
 use Rattle.ds_groups.specs.Groups.{Grouping, group_of, tables_in}
-use Rattle.std.proofs.lemmas.List.{append-nil, drop_more, get_or-set_other, get_or-set_same, length-set, map-append, take_more}
+use Rattle.std.proofs.lemmas.List.{append-nil, drop_more, get_or-set_same, length-set, map-append, take_more}
 use Rattle.std.proofs.lemmas.List.Elements.{All-contains, Contains-append_cases, Contains-get_or}
 use Rattle.ds_base.specs.Values.{Row}
 use Rattle.ds_base.proofs.Lists.{Contains-head, Contains-split, Contains-tail}
@@ -23,12 +23,13 @@ use Rattle.ds_design.specs.Banked.{IsBankOf}
 use Rattle.ds_design.specs.Circuit.{Circuit}
 use Rattle.ds_design.specs.InRange.{IsInRange}
 use Rattle.ds_design.specs.declared.design.Gate.{Gate}
-use Rattle.ds_scratch.specs.Scratch.{HoldsTurn, Kept, Memory, Remembers, value_in}
+use Rattle.ds_scratch.specs.Lent.{with_nets}
+use Rattle.ds_scratch.specs.Scratch.{HoldsTurn, IsNoted, Kept, Memory, Remembers, value_in}
 use Rattle.ds_settle.specs.Cone.{net_of, nets_of_tables}
 use Rattle.ds_settle.specs.Settle.{LeavesOthers}
 use Rattle.ds_settle.proofs.SetBits.{value_at-set_other}
 use Rattle.ds_settle.proofs.Tables.{net_is}
-use Rattle.ds_opening.specs.Noted.{AreFed, IsAsKnown, IsLearnt, IsSlot}
+use Rattle.ds_opening.specs.Noted.{FindInputs, IsAsKnown, IsLearnt, IsSlot}
 use Rattle.ds_opening.specs.Packed.{Learns}
 
 -- stands for a table where there is none
@@ -57,26 +58,28 @@ module _ (m : Memory) (turn slot : ℕ) (these : List ℕ) (known : Row)
 
   module _ (nets : Row) (size : length nets ≡ length old.nets)
       (learns : Learns known these old.nets nets) (others : LeavesOthers these old.nets nets)
-      (inside : slot < length old.turns) where
-    abbrev turns : List ℕ
-    turns = set old.turns slot turn
-
+      (new : Kept) (noted : IsNoted slot turn (with_nets old nets) new) where
     holds_these : HoldsTurn m nets turn these
     holds_these k d low =
         learns (get_or these k d) (inl (Contains-get_or these k d low)) ∙ sym (at.values (get_or these k d))
 
-    holds : (s : ℕ) → s < length m.slots → 0 < get_or turns s 0
-        → HoldsTurn m nets (get_or turns s 0) (get_or m.slots s [])
+    -- another slot that is noted is noted for the turn that it had
+    kept_turn : (s : ℕ) → s ≢ slot → 0 < get_or new.turns s 0 → get_or new.turns s 0 ≡ get_or old.turns s 0
+    kept_turn s ne turned = elim (noted.others s ne) [
+      | inl same ↦ same
+      | inr lost ↦ absurd (omega (lost.0, turned, arith))
+    ]
+
+    holds : (s : ℕ) → s < length m.slots → 0 < get_or new.turns s 0
+        → HoldsTurn m nets (get_or new.turns s 0) (get_or m.slots s [])
     holds s there turned = elim (cases_eq s slot) [
       | inl e ↦
-          (let t : get_or turns s 0 ≡ turn =
-          ap (λ (n : ℕ). get_or turns n 0) e ∙ get_or-set_same old.turns slot turn 0 inside in
+          (let t : get_or new.turns s 0 ≡ turn = ap (λ (n : ℕ). get_or new.turns n 0) e ∙ noted.here in
           let is : get_or m.slots s [] ≡ these = ap (λ (n : ℕ). get_or m.slots n []) e ∙ at.is in
           subst (λ (n : ℕ). HoldsTurn m nets n (get_or m.slots s [])) (sym t)
           (subst (λ (xs : List ℕ). HoldsTurn m nets turn xs) (sym is) holds_these))
       | inr ne ↦
-          (let t : get_or turns s 0 ≡ get_or old.turns s 0 =
-          get_or-set_other old.turns slot s turn 0 ne in
+          (let t : get_or new.turns s 0 ≡ get_or old.turns s 0 = kept_turn s ne turned in
           let before : HoldsTurn m old.nets (get_or old.turns s 0) (get_or m.slots s []) =
           remembers.each s there (subst (λ (n : ℕ). 0 < n) t turned) in
           subst (λ (n : ℕ). HoldsTurn m nets n (get_or m.slots s [])) (sym t)
@@ -88,14 +91,16 @@ module _ (m : Memory) (turn slot : ℕ) (these : List ℕ) (known : Row)
     ]
 
     -- a slot is noted now
-    pub now_noted : IsLearnt m known these old (record { nets = nets; turns = turns })
+    pub now_noted : IsLearnt m known these old new
     now_noted = record {
       remembers = record {
-        nets = size ∙ remembers.nets;
-        turns = length-set old.turns slot turn ∙ remembers.turns;
-        each = holds;
+        nets = ap (λ (r : Row). length r) noted.nets ∙ (size ∙ remembers.nets);
+        turns = noted.turns ∙ remembers.turns;
+        each = λ s there turned.
+            subst (λ (r : Row). HoldsTurn m r (get_or new.turns s 0) (get_or m.slots s [])) (sym noted.nets)
+            (holds s there turned);
       };
-      learns = learns;
+      learns = subst (λ (r : Row). Learns known these old.nets r) (sym noted.nets) learns;
     }
 
 pub learnt_none : (m : Memory) (known : Row) (old : Kept) → Remembers m old → IsLearnt m known [] old old
@@ -130,24 +135,24 @@ after_long bank (k ∷ ks) nets =
     ∙ length-set nets (driven_at bank k).output (packed_value (driven_at bank k).cover nets)
 
 module _ (c : Circuit) (known : Row) where
-  pub fed_weaker : (P Q : ℕ → Type 0) → ((net : ℕ) → P net → Q net) → (ks : List ℕ)
-      → AreFed c known P ks → AreFed c known Q ks
-  fed_weaker P Q so [] fed = tt
-  fed_weaker P Q so (k ∷ ks) fed = (
-    λ d. ((fed.0 d).0, λ i e low. so (get_or (get_or c.tables k d).table.inputs i e) ((fed.0 d).1 i e low)),
-    fed_weaker (λ net. P net ⊎ (net ≡ net_of c k)) (λ net. Q net ⊎ (net ≡ net_of c k))
-        (λ net which. elim which [ inl p ↦ inl (so net p) | inr e ↦ inr e ]) ks fed.1,
+  pub finds_weaker : (P Q : ℕ → Type 0) → ((net : ℕ) → P net → Q net) → (ks : List ℕ)
+      → FindInputs c known P ks → FindInputs c known Q ks
+  finds_weaker P Q so [] finds = tt
+  finds_weaker P Q so (k ∷ ks) finds = (
+    λ d. ((finds.0 d).0, λ i e low. so (get_or (get_or c.tables k d).table.inputs i e) ((finds.0 d).1 i e low)),
+    finds_weaker (λ net. P net ⊎ (net ≡ net_of c k)) (λ net. Q net ⊎ (net ≡ net_of c k))
+        (λ net which. elim which [ inl p ↦ inl (so net p) | inr e ↦ inr e ]) ks finds.1,
   )
 
-  pub fed_front : (P : ℕ → Type 0) (xs ys : List ℕ) → AreFed c known P (xs ++ ys) → AreFed c known P xs
-  fed_front P [] ys fed = tt
-  fed_front P (k ∷ xs) ys fed = (fed.0, fed_front (λ net. P net ⊎ (net ≡ net_of c k)) xs ys fed.1)
+  pub finds_front : (P : ℕ → Type 0) (xs ys : List ℕ) → FindInputs c known P (xs ++ ys) → FindInputs c known P xs
+  finds_front P [] ys finds = tt
+  finds_front P (k ∷ xs) ys finds = (finds.0, finds_front (λ net. P net ⊎ (net ≡ net_of c k)) xs ys finds.1)
 
-  pub fed_back : (P : ℕ → Type 0) (xs ys : List ℕ) → AreFed c known P (xs ++ ys)
-      → AreFed c known (λ net. P net ⊎ Contains (nets_of_tables c xs) net) ys
-  fed_back P [] ys fed = fed_weaker P (λ net. P net ⊎ Contains [] net) (λ net p. inl p) ys fed
-  fed_back P (k ∷ xs) ys fed =
-      fed_weaker (λ net. (P net ⊎ (net ≡ net_of c k)) ⊎ Contains (nets_of_tables c xs) net)
+  pub finds_back : (P : ℕ → Type 0) (xs ys : List ℕ) → FindInputs c known P (xs ++ ys)
+      → FindInputs c known (λ net. P net ⊎ Contains (nets_of_tables c xs) net) ys
+  finds_back P [] ys finds = finds_weaker P (λ net. P net ⊎ Contains [] net) (λ net p. inl p) ys finds
+  finds_back P (k ∷ xs) ys finds =
+      finds_weaker (λ net. (P net ⊎ (net ≡ net_of c k)) ⊎ Contains (nets_of_tables c xs) net)
       (λ net. P net ⊎ Contains (nets_of_tables c (k ∷ xs)) net)
       (λ net which. elim which [
         | inl first ↦ elim first [
@@ -155,7 +160,7 @@ module _ (c : Circuit) (known : Row) where
           | inr e ↦ inr (subst (λ (n : ℕ). Contains (nets_of_tables c (k ∷ xs)) n) (sym e) (Contains-head (net_of c k) (nets_of_tables c xs)))
         ]
         | inr has ↦ inr (Contains-tail (net_of c k) (nets_of_tables c xs) net has)
-      ]) ys (fed_back (λ net. P net ⊎ (net ≡ net_of c k)) xs ys fed.1)
+      ]) ys (finds_back (λ net. P net ⊎ (net ≡ net_of c k)) xs ys finds.1)
 
   module _ (range : IsInRange c) (bank : List Driven) (banked : IsBankOf c.tables bank) where
     -- what the tables of a group set
@@ -165,7 +170,7 @@ module _ (c : Circuit) (known : Row) where
       pub others : LeavesOthers (nets_of_tables c ks) old new
 
     module _ (k : ℕ) (inside : k < length c.tables) (nets : Row) (size : length nets ≡ length c.nets)
-        (fed : (d : Gate) → (value_at known (get_or c.tables k d).output ≡ value_of (get_or c.tables k d).table known)
+        (finds : (d : Gate) → (value_at known (get_or c.tables k d).output ≡ value_of (get_or c.tables k d).table known)
         × All (IsAsKnown known nets) (get_or c.tables k d).table.inputs) where
       abbrev gate : Gate
       gate = get_or c.tables k blank
@@ -177,7 +182,7 @@ module _ (c : Circuit) (known : Row) where
       near = (let low : gate.output < length c.nets = (range.tables k blank inside).1 in omega (low, size, arith))
 
       value_is : value_of gate.table nets ≡ value_at known gate.output
-      value_is = value_agrees gate.table nets known (fed blank).1 ∙ sym (fed blank).0
+      value_is = value_agrees gate.table nets known (finds blank).1 ∙ sym (finds blank).0
 
       set_is : after_table bank nets k ≡ set nets gate.output (value_of gate.table nets)
       set_is = after_table-is c.tables bank banked nets k blank inside
@@ -212,9 +217,9 @@ module _ (c : Circuit) (known : Row) where
           ]
 
     pub all_set : (ks : List ℕ) (nets : Row) → All (λ k. k < length c.tables) ks
-        → length nets ≡ length c.nets → AreFed c known (IsAsKnown known nets) ks
+        → length nets ≡ length c.nets → FindInputs c known (IsAsKnown known nets) ks
         → AreSet ks nets (after_tables bank nets ks)
-    all_set [] nets within size fed = record {
+    all_set [] nets within size finds = record {
       size = refl;
       learns = λ net which. elim which [
         | inl has ↦ absurd (let (k, low, is) = has in let h : k < 0 = low in omega (h, arith))
@@ -222,16 +227,16 @@ module _ (c : Circuit) (known : Row) where
       ];
       others = λ net free. refl;
     }
-    all_set (k ∷ ks) nets within size fed =
+    all_set (k ∷ ks) nets within size finds =
         let inside : k < length c.tables = within 0 0 (omega arith) in
         let next : Row = after_table bank nets k in
-        let one : AreSet (k ∷ []) nets next = one_set k inside nets size fed.0 in
-        let rest : AreFed c known (IsAsKnown known next) ks =
-        fed_weaker (λ net. IsAsKnown known nets net ⊎ (net ≡ net_of c k)) (IsAsKnown known next)
+        let one : AreSet (k ∷ []) nets next = one_set k inside nets size finds.0 in
+        let rest : FindInputs c known (IsAsKnown known next) ks =
+        finds_weaker (λ net. IsAsKnown known nets net ⊎ (net ≡ net_of c k)) (IsAsKnown known next)
         (λ net which. elim which [
           | inl before ↦ one.learns net (inr before)
           | inr e ↦ one.learns net (inl (subst (λ (n : ℕ). Contains (net_of c k ∷ []) n) (sym e) (Contains-head (net_of c k) [])))
-        ]) ks fed.1 in
+        ]) ks finds.1 in
         let more : AreSet ks next (after_tables bank next ks) =
         all_set ks next (λ i d low. within (suc i) d (omega (low, arith))) (one.size ∙ size) rest in
         record {
@@ -283,17 +288,17 @@ module _ (c : Circuit) (g : Grouping) (list : List ℕ) (i : ℕ) (inside : i < 
       (learnt_more m known (nets_of_tables c (tables_in g (take i list))) (nets_of_tables c (group_of g next)) old between new first then)
 
   -- the tables of the next group, and those behind them once these are set
-  pub rest_fed : (known nets : Row) → AreFed c known (IsAsKnown known nets) (tables_in g (drop i list))
-      → AreFed c known (IsAsKnown known nets) (group_of g next)
+  pub rest_finds : (known nets : Row) → FindInputs c known (IsAsKnown known nets) (tables_in g (drop i list))
+      → FindInputs c known (IsAsKnown known nets) (group_of g next)
       × ((new : Row) → Learns known (nets_of_tables c (group_of g next)) nets new
-      → AreFed c known (IsAsKnown known new) (tables_in g (drop (i + 1) list)))
-  rest_fed known nets fed =
-      let cut : AreFed c known (IsAsKnown known nets) (group_of g next ++ tables_in g (drop (i + 1) list)) =
-      subst (λ (xs : List ℕ). AreFed c known (IsAsKnown known nets) xs) back_is fed in (
-        fed_front c known (IsAsKnown known nets) (group_of g next) (tables_in g (drop (i + 1) list)) cut,
-        λ new learns. fed_weaker c known (λ net. IsAsKnown known nets net ⊎ Contains (nets_of_tables c (group_of g next)) net)
+      → FindInputs c known (IsAsKnown known new) (tables_in g (drop (i + 1) list)))
+  rest_finds known nets finds =
+      let cut : FindInputs c known (IsAsKnown known nets) (group_of g next ++ tables_in g (drop (i + 1) list)) =
+      subst (λ (xs : List ℕ). FindInputs c known (IsAsKnown known nets) xs) back_is finds in (
+        finds_front c known (IsAsKnown known nets) (group_of g next) (tables_in g (drop (i + 1) list)) cut,
+        λ new learns. finds_weaker c known (λ net. IsAsKnown known nets net ⊎ Contains (nets_of_tables c (group_of g next)) net)
             (IsAsKnown known new)
             (λ net which. elim which [ inl before ↦ learns net (inr before) | inr has ↦ learns net (inl has) ])
             (tables_in g (drop (i + 1) list))
-            (fed_back c known (IsAsKnown known nets) (group_of g next) (tables_in g (drop (i + 1) list)) cut),
+            (finds_back c known (IsAsKnown known nets) (group_of g next) (tables_in g (drop (i + 1) list)) cut),
       )

@@ -7,6 +7,7 @@ pub mod Slaves
 pub mod Given
 pub mod Foreseen
 pub mod ForeseenRows
+pub mod LearntRows
 pub mod Learnt
 pub mod Slots
 pub mod Fed

@@ -1,5 +1,5 @@
 -- What the opening of a slave takes, and the cones of the others.
-use Rattle.std.proofs.Common.{◌≡◌, ◌≢◌, ◌⊎◌, ◌∙◌, ℕ, suc, ◌+◌, ◌-◌, ◌/◌, ◌%◌, ◌<◌, List, [], ◌∷◌, ◌++◌, length, get_or, refl, arith, ap, sym, subst, inl, inr}
+use Rattle.std.proofs.Common.{◌≡◌, ◌≢◌, ◌⊎◌, ◌∙◌, ℕ, suc, ◌+◌, ◌-◌, ◌/◌, ◌%◌, ◌<◌, Bool, false, cond, List, [], ◌∷◌, ◌++◌, length, get_or, refl, arith, ap, sym, subst, inl, inr}
 use Rattle.std.specs.Prelude.{All, AllPairs, Contains}
 use Rattle.std.proofs.lemmas.Bool.{cases_eq}
 use Rattle.std.proofs.lemmas.List.{append-nil, get_or_append_left, get_or_push, length-map}
@@ -26,13 +26,15 @@ only_one (x ∷ []) m all once has = ap (λ y. y ∷ []) (All-head (λ p. p ≡ 
 only_one (x ∷ y ∷ xs) m all once has =
     absurd (once 0 1 m (omega arith) (omega arith) (All-head (λ p. p ≡ m) x (y ∷ xs) all ∙ sym (All-head (λ p. p ≡ m) y xs (All-tail (λ p. p ≡ m) x (y ∷ xs) all))))
 
-slave_words : (s : Split) (i : ℕ) → IsNode s (Slave i) → (numbers from : List ℕ) (t : Turn) → IsFed s (Slave i) numbers from t → from ≡ packed (taken s t (Slave i))
-slave_words s i is_node numbers from t fed =
+slave_words : (s : Split) (i : ℕ) → IsNode s (Slave i) → (learnt : ℕ → Bool) → learnt (number_of (Master i)) ≡ false
+    → (numbers from : List ℕ) (t : Turn) → IsFed s (Slave i) learnt numbers from t → from ≡ packed (taken s t (Slave i))
+slave_words s i is_node learnt unlearnt numbers from t fed =
     let masters : All (λ p. p ≡ Master i) fed.producers.nodes = All-weaker (λ p. IsNode s p × IsDataEdge s p (Slave i)) (λ p. p ≡ Master i) (λ p both. master_only s p i both.1) fed.producers.nodes fed.producers.each in
     let one : fed.producers.nodes ≡ Master i ∷ [] = only_one fed.producers.nodes (Master i) masters fed.producers.once (fed.producers.all (Master i) (to_slave is_node)) in
     let number : suc t.opened - 0 ≡ suc t.opened = omega arith in
-    fed.words ∙ (ap (woven (read_of s t)) one ∙ (append-nil (packed (read_of s t (Master i)))
-    ∙ ap packed (ap (numbered s t.vectors t.state t.nets (Master i)) number)))
+    let row : List ℕ = packed (read_of s t (Master i)) in
+    fed.words ∙ (ap (woven learnt (read_of s t)) one ∙ (ap (λ (b : Bool). cond b [] row ++ []) unlearnt ∙ (append-nil row
+    ∙ ap packed (ap (numbered s t.vectors t.state t.nets (Master i)) number))))
 
 -- a node that is neither IN nor settles is a slave
 is_slave : (n : Node) → number_of n ≢ 0 → ¬ ((number_of n ≡ 1) ⊎ (number_of n % 2 ≡ 0)) → (i : ℕ) × (n ≡ Slave i)
@@ -41,8 +43,9 @@ is_slave Out some other = absurd (other (inl refl))
 is_slave (Master i) some other = absurd (other (inr (omega arith)))
 is_slave (Slave i) some other = (i, refl)
 
-module _ (s : Split) (vectors : List Row) (number opened : ℕ) (some : number ≢ 0) (other : ¬ ((number ≡ 1) ⊎ (number % 2 ≡ 0))) (numbers from : List ℕ)
-    (n : Node) (t : Turn) (o : IsOpening s vectors number opened numbers from n t) where
+module _ (s : Split) (vectors : List Row) (number opened : ℕ) (some : number ≢ 0) (other : ¬ ((number ≡ 1) ⊎ (number % 2 ≡ 0)))
+    (learnt : ℕ → Bool) (unlearnt : (i : ℕ) → learnt (number_of (Master i)) ≡ false) (numbers from : List ℕ)
+    (n : Node) (t : Turn) (o : IsOpening s vectors number opened learnt numbers from n t) where
   slave_is : (i : ℕ) × (n ≡ Slave i)
   slave_is = is_slave n (λ e. some (sym o.is ∙ e)) (subst (λ (m : ℕ). ¬ ((m ≡ 1) ⊎ (m % 2 ≡ 0))) (sym o.is) other)
 
@@ -51,8 +54,8 @@ module _ (s : Split) (vectors : List Row) (number opened : ℕ) (some : number �
   slave_takes =
       let (i, is) = slave_is in
       let node : IsNode s (Slave i) = subst (IsNode s) is o.node in
-      let fed : IsFed s (Slave i) numbers from t = subst (λ (m : Node). IsFed s m numbers from t) is o.fed in
-      slave_words s i node numbers from t fed ∙ ap (λ (m : Node). packed (taken s t m)) (sym is)
+      let fed : IsFed s (Slave i) learnt numbers from t = subst (λ (m : Node). IsFed s m learnt numbers from t) is o.fed in
+      slave_words s i node learnt (unlearnt i) numbers from t fed ∙ ap (λ (m : Node). packed (taken s t m)) (sym is)
 
   pub slave_room : length from ≡ words_of (length (nets_of s n))
   slave_room =

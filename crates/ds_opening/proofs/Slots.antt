@@ -1,10 +1,9 @@
 -- The slots of a split design, of which no two share a net.
-use Rattle.std.proofs.Common.{◌≡◌, ◌≢◌, ◌∙◌, ◌⊎◌, ℕ, zero, suc, ◌+◌, ◌-◌, ◌/◌, ◌%◌, ◌<◌, Bool, cond, List}
+use Rattle.std.proofs.Common.{◌≡◌, ◌≢◌, ◌∙◌, ◌⊎◌, ℕ, zero, suc, ◌+◌, ◌-◌, ◌*◌, ◌/◌, ◌<◌, List}
 use Rattle.std.proofs.Common.{[], ◌∷◌, ◌++◌, length, get_or, map, refl, sym, ap, subst, arith, inl, inr}
 use Rattle.std.specs.Prelude.{AllPairs, Contains}
 use Rattle.std.specs.List.{flat_map, range_with_len}
 use Rattle.std.proofs.lemmas.Bool.{cases_eq, cases_lt}
-use Rattle.std.proofs.lemmas.Bool.Decides.{eqb_tells}
 use Rattle.std.proofs.lemmas.List.{get_or-append-add, get_or-map, get_or_append_left, get_or_past}
 use Rattle.std.proofs.lemmas.List.{length-map}
 use Rattle.std.proofs.Common.{length-append}
@@ -15,28 +14,15 @@ use Rattle.ds_base.proofs.Pairs.{pairs-between, pairs-left, pairs-right}
 use Rattle.ds_design.specs.Circuit.{Circuit, columns, register_nets}
 use Rattle.ds_design.specs.Levels.{table_nets}
 use Rattle.ds_groups.specs.Groups.{AreGroupsOf, Grouping, group_of}
-use Rattle.ds_latch.specs.Node.{Node, In, Out, Master, Slave, Split, IsNode, members, nets_of, nodes, number_of}
+use Rattle.ds_latch.specs.Node.{Node, In, Out, Master, Slave, Split, IsNode, members, nets_of, number_of}
+use Rattle.ds_latch.specs.Order.{IsSource}
 use Rattle.ds_latch.specs.Plan.{IsSplit}
-use Rattle.ds_latch.proofs.Counts.{number_below}
 use Rattle.ds_settle.specs.Cone.{Parts as Cone, net_of, nets_of_tables}
 use Rattle.ds_settle.proofs.Tables.{net_driven, same_table}
-use Rattle.ds_opening.specs.Foreseen.{node_at}
-use Rattle.ds_opening.specs.Noted.{AreSlotsApart, learnt_nets, slots_of}
-use Rattle.ds_opening.proofs.ForeseenRows.{node_by_number}
+use Rattle.ds_opening.specs.Noted.{AreSlotsApart, slots_of, source_node}
 
 nothing : (x : ℕ) → ¬ Contains [] x
 nothing x (k, inside, is) = absurd (let h : k < 0 = inside in omega (h, arith))
-
--- the number of the node with a number
-number_back : (l : ℕ) → number_of (node_at l) ≡ l
-number_back zero = refl
-number_back (suc zero) = refl
-number_back (suc (suc n)) = elim (eqb_tells (n % 2) 0) [
-  | inl (is, e) ↦
-      ap (λ (b : Bool). number_of (cond b (Master (n / 2)) (Slave (n / 2)))) is ∙ omega (e, arith)
-  | inr (is, ne) ↦
-      ap (λ (b : Bool). number_of (cond b (Master (n / 2)) (Slave (n / 2)))) is ∙ omega (ne, arith)
-]
 
 -- a number stands at one place of a list without repeats
 one_place : (these : List ℕ) → AllPairs (λ a b. a ≢ b) these → (j k : ℕ) → j < length these → k < length these
@@ -121,43 +107,39 @@ module _ (s : Split) (split : IsSplit s) where
       (subst (Contains (members s i)) same r.has) q.has
 
   -- a net is learnt of one node
-  same_learnt : (m n : Node) (net : ℕ) → Contains (learnt_nets s m) net → Contains (learnt_nets s n) net → m ≡ n
-  same_learnt In In net one two = refl
-  same_learnt In Out net one two = absurd (nothing net two)
-  same_learnt In (Master j) net one two = absurd (nothing net two)
-  same_learnt In (Slave j) net one two = absurd (not_both net one (slave_register j net two))
-  same_learnt Out n net one two = absurd (nothing net one)
-  same_learnt (Master i) n net one two = absurd (nothing net one)
-  same_learnt (Slave i) In net one two = absurd (not_both net two (slave_register i net one))
-  same_learnt (Slave i) Out net one two = absurd (nothing net two)
-  same_learnt (Slave i) (Master j) net one two = absurd (nothing net two)
-  same_learnt (Slave i) (Slave j) net one two = ap Slave (same_slave i j net one two)
+  same_source : (i j net : ℕ) → Contains (nets_of s (source_node i)) net → Contains (nets_of s (source_node j)) net → i ≡ j
+  same_source zero zero net one two = refl
+  same_source zero (suc j) net one two = absurd (not_both net one (slave_register j net two))
+  same_source (suc i) zero net one two = absurd (not_both net two (slave_register i net one))
+  same_source (suc i) (suc j) net one two = ap suc (same_slave i j net one two)
 
   -- what is learnt is driven by no table
-  learnt_free : (n : Node) (net : ℕ) → Contains (learnt_nets s n) net → ¬ Contains (table_nets c) net
-  learnt_free In net has driven =
+  source_free : (i net : ℕ) → Contains (nets_of s (source_node i)) net → ¬ Contains (table_nets c) net
+  source_free zero net has driven =
       pairs-between (columns c) (table_nets c)
       (pairs-left (columns c ++ table_nets c) (register_nets c) split.accepted.one_driver) net has driven
-  learnt_free Out net has driven = nothing net has
-  learnt_free (Master i) net has driven = nothing net has
-  learnt_free (Slave i) net has driven =
+  source_free (suc i) net has driven =
       pairs-between (columns c ++ table_nets c) (register_nets c) split.accepted.one_driver net
       (Contains-append_right (columns c) (table_nets c) net driven) (slave_register i net has)
+
+  -- the nets that are learnt of one node
+  abbrev source_nets : ℕ → List ℕ
+  source_nets i = nets_of s (source_node i)
 
   module _ (g : Grouping) where
     abbrev fronts : List (List ℕ)
     fronts = map (nets_of_tables c) g.groups
 
     abbrev backs : List (List ℕ)
-    backs = map (λ l. learnt_nets s (node_at l)) (range_with_len 0 (nodes s))
+    backs = map source_nets (range_with_len 0 (length s.clusters + 1))
 
     fronts_long : length fronts ≡ length g.groups
     fronts_long = length-map g.groups (nets_of_tables c)
 
-    backs_long : length backs ≡ nodes s
-    backs_long = length-map-range_with_len (λ l. learnt_nets s (node_at l)) 0 (nodes s)
+    backs_long : length backs ≡ length s.clusters + 1
+    backs_long = length-map-range_with_len source_nets 0 (length s.clusters + 1)
 
-    pub slots_long : length (slots_of s g) ≡ length g.groups + nodes s
+    pub slots_long : length (slots_of s g) ≡ length g.groups + (length s.clusters + 1)
     slots_long =
         (let sum : length (slots_of s g) ≡ length fronts + length backs = length-append fronts backs in
         omega (sum, fronts_long, backs_long, arith))
@@ -167,29 +149,37 @@ module _ (s : Split) (split : IsSplit s) where
         get_or_append_left fronts backs [] a (omega (low, fronts_long, arith))
         ∙ get_or-map (nets_of_tables c) g.groups a [] [] low
 
-    slot_at : (l : ℕ) → l < nodes s → get_or (slots_of s g) (length g.groups + l) [] ≡ learnt_nets s (node_at l)
-    slot_at l low =
-        ap (λ (n : ℕ). get_or (slots_of s g) (n + l) []) (sym fronts_long)
-        ∙ (get_or-append-add fronts backs l []
-        ∙ get_or-map-range_with_len (λ l. learnt_nets s (node_at l)) 0 (nodes s) l l [] low (omega arith))
+    slot_at : (i : ℕ) → i < length s.clusters + 1 → get_or (slots_of s g) (length g.groups + i) [] ≡ source_nets i
+    slot_at i low =
+        ap (λ (n : ℕ). get_or (slots_of s g) (n + i) []) (sym fronts_long)
+        ∙ (get_or-append-add fronts backs i []
+        ∙ get_or-map-range_with_len source_nets 0 (length s.clusters + 1) i i [] low (omega arith))
 
-    pub slot_of_node : (n : Node) → IsNode s n → get_or (slots_of s g) (length g.groups + number_of n) [] ≡ learnt_nets s n
-    slot_of_node n is_node = slot_at (number_of n) (number_below s n is_node) ∙ ap (learnt_nets s) (node_by_number n)
+    -- the slot of IN or a slave, by the node's number
+    pub slot_of_source : (p : Node) → IsNode s p → IsSource p
+        → get_or (slots_of s g) (length g.groups + number_of p / 2) [] ≡ nets_of s p
+    slot_of_source In is_node source = slot_at 0 (omega arith)
+    slot_of_source Out is_node source = absurd source
+    slot_of_source (Master i) is_node source = absurd source
+    slot_of_source (Slave i) is_node source =
+        let place : (2 * i + 3) / 2 ≡ suc i = omega arith in
+        let inside : i < length s.clusters = is_node in
+        ap (λ (n : ℕ). get_or (slots_of s g) (length g.groups + n) []) place ∙ slot_at (suc i) (omega (inside, arith))
 
     module _ (cones : List Cone) (are : AreGroupsOf c cones g) where
-      -- the slot of a net: a group's or a node's
+      -- the slot of a net: a group's, or that of IN or a slave
       record InGroup (a net : ℕ) : Type 0 where
         table : ℕ
         has : Contains (group_of g a) table
         low : table < length c.tables
         is : net_of c table ≡ net
 
-      record InNode (a net : ℕ) : Type 0 where
-        node : ℕ
-        is : a ≡ length g.groups + node
-        has : Contains (learnt_nets s (node_at node)) net
+      record InSource (a net : ℕ) : Type 0 where
+        place : ℕ
+        is : a ≡ length g.groups + place
+        has : Contains (source_nets place) net
 
-      in_slot : (a net : ℕ) → Contains (get_or (slots_of s g) a []) net → InGroup a net ⊎ InNode a net
+      in_slot : (a net : ℕ) → Contains (get_or (slots_of s g) a []) net → InGroup a net ⊎ InSource a net
       in_slot a net has = elim (cases_lt a (length g.groups)) [
         | inl low ↦
             (let (j, k, at, is, e) = Any-from_map (net_of c) (group_of g a) net
@@ -203,9 +193,9 @@ module _ (s : Split) (split : IsSplit s) where
         | inr past ↦
             (let l : ℕ = a - length g.groups in
             let a_is : a ≡ length g.groups + l = omega (past, arith) in
-            elim (cases_lt l (nodes s)) [
+            elim (cases_lt l (length s.clusters + 1)) [
               | inl near ↦ inr (record {
-                node = l;
+                place = l;
                 is = a_is;
                 has = subst (λ (xs : List ℕ). Contains xs net)
                     (ap (λ (n : ℕ). get_or (slots_of s g) n []) a_is ∙ slot_at l near) has;
@@ -216,18 +206,16 @@ module _ (s : Split) (split : IsSplit s) where
             ])
       ]
 
-      apart_in : (a b net : ℕ) → InGroup a net ⊎ InNode a net → InGroup b net ⊎ InNode b net → a ≡ b
+      apart_in : (a b net : ℕ) → InGroup a net ⊎ InSource a net → InGroup b net ⊎ InSource b net → a ≡ b
       apart_in a b net (inl p) (inl q) =
           let same : p.table ≡ q.table = same_table c split.accepted p.table q.table p.low q.low (p.is ∙ sym q.is) in
           are.apart a b q.table (subst (Contains (group_of g a)) same p.has) q.has
       apart_in a b net (inl p) (inr q) =
-          absurd (learnt_free (node_at q.node) net q.has (subst (Contains (table_nets c)) p.is (net_driven c p.table p.low)))
+          absurd (source_free q.place net q.has (subst (Contains (table_nets c)) p.is (net_driven c p.table p.low)))
       apart_in a b net (inr p) (inl q) =
-          absurd (learnt_free (node_at p.node) net p.has (subst (Contains (table_nets c)) q.is (net_driven c q.table q.low)))
+          absurd (source_free p.place net p.has (subst (Contains (table_nets c)) q.is (net_driven c q.table q.low)))
       apart_in a b net (inr p) (inr q) =
-          let same : node_at p.node ≡ node_at q.node = same_learnt (node_at p.node) (node_at q.node) net p.has q.has in
-          let numbers : p.node ≡ q.node = sym (number_back p.node) ∙ (ap number_of same ∙ number_back q.node) in
-          p.is ∙ (ap (λ (n : ℕ). length g.groups + n) numbers ∙ sym q.is)
+          p.is ∙ (ap (λ (n : ℕ). length g.groups + n) (same_source p.place q.place net p.has q.has) ∙ sym q.is)
 
       pub slots_apart : AreSlotsApart (slots_of s g)
       slots_apart a b net one two = apart_in a b net (in_slot a net one) (in_slot b net two)

@@ -1,5 +1,5 @@
 -- What the opening of a node that settles computes is the node's next value.
-use Rattle.std.proofs.Common.{◌≡◌, ◌∙◌, ℕ, suc, ◌-◌, ◌<◌, List, [], ◌∷◌, ◌++◌, length, get_or, map, not, refl, arith, ap, sym, subst, ◌==◌}
+use Rattle.std.proofs.Common.{◌≡◌, ◌∙◌, ℕ, suc, ◌-◌, ◌<◌, Bool, cond, List, [], ◌∷◌, ◌++◌, length, get_or, map, not, refl, arith, ap, sym, subst, ◌==◌}
 use Rattle.std.specs.Prelude.{All, Contains}
 use Rattle.std.specs.List.{list_any}
 use Rattle.std.proofs.lemmas.List.{get_or-map, length-map}
@@ -57,7 +57,8 @@ no_master s i _ (to_slave inside) settling = settling
 
 module _ (s : Split) (split : IsSplit s) (bits : List (List ℕ)) (one_each : length bits ≡ nodes s)
     (nets_are : (n : Node) → IsNode s n → get_or bits (number_of n) [] ≡ nets_of s n)
-    (n : Node) (number : ℕ) (at : IsSettlingAt s n number) (numbers from : List ℕ) (t : Turn) (fed : IsFed s n numbers from t) where
+    (n : Node) (number : ℕ) (at : IsSettlingAt s n number) (learnt : ℕ → Bool) (numbers from : List ℕ) (t : Turn)
+    (fed : IsFed s n learnt numbers from t) where
   abbrev pub known : Row
   known = t.nets t.opened
 
@@ -76,17 +77,18 @@ module _ (s : Split) (split : IsSplit s) (bits : List (List ℕ)) (one_each : le
   source_value (Slave d) is_p edge =
       slave_value d is_p ∙ ap (numbered s t.vectors t.state t.nets (Slave d)) (let e : t.opened ≡ suc t.opened - 1 = omega arith in e)
 
-  weave_rows : (ps : List Node) → All (λ p. IsNode s p × IsDataEdge s p n) ps → woven (read_of s t) ps ≡ packed_rows known bits (map number_of ps)
+  weave_rows : (ps : List Node) → All (λ p. IsNode s p × IsDataEdge s p n) ps → woven learnt (read_of s t) ps ≡ packed_rows learnt known bits (map number_of ps)
   weave_rows [] each = refl
   weave_rows (p ∷ ps) each =
       let (is_p, edge) = All-head (λ p. IsNode s p × IsDataEdge s p n) p ps each in
       let row : read_of s t p ≡ values_at known (get_or bits (number_of p) []) = sym (source_value p is_p edge) ∙ ap (values_at known) (sym (nets_are p is_p)) in
-      ap (λ (r : Row). packed r ++ woven (read_of s t) ps) row
-      ∙ ap (λ (ws : List ℕ). packed (values_at known (get_or bits (number_of p) [])) ++ ws) (weave_rows ps (All-tail (λ p. IsNode s p × IsDataEdge s p n) p ps each))
+      ap (λ (r : Row). cond (learnt (number_of p)) [] (packed r) ++ woven learnt (read_of s t) ps) row
+      ∙ ap (λ (ws : List ℕ). cond (learnt (number_of p)) [] (packed (values_at known (get_or bits (number_of p) []))) ++ ws)
+      (weave_rows ps (All-tail (λ p. IsNode s p × IsDataEdge s p n) p ps each))
 
   -- the words are those of the producers' rows on the nets of the turn
-  pub from_is : from ≡ packed_rows known bits numbers
-  from_is = fed.words ∙ (weave_rows fed.producers.nodes fed.producers.each ∙ ap (packed_rows known bits) (sym fed.producers.are))
+  pub from_is : from ≡ packed_rows learnt known bits numbers
+  from_is = fed.words ∙ (weave_rows fed.producers.nodes fed.producers.each ∙ ap (packed_rows learnt known bits) (sym fed.producers.are))
 
   -- the producer with a number
   record Producer (v : ℕ) : Type 0 where
@@ -117,7 +119,7 @@ module _ (s : Split) (split : IsSplit s) (bits : List (List ℕ)) (one_each : le
       (subst (λ (m : ℕ). All (λ net. net < m) (nets_of s p.node)) (sym size) (nets_within s split range p.node p.is_node)))
 
   pub supplied : (filled : Row) → AreLearnt known bits numbers filled → IsSupplied s (numbered s t.vectors t.state t.nets) t.opened n filled
-  supplied filled learnt p is_p edge =
+  supplied filled rows p is_p edge =
       let (k, inside, is) = fed.producers.all p edge in
       let size : length numbers ≡ length fed.producers.nodes = ap (λ (ns : List ℕ). length ns) fed.producers.are ∙ length-map fed.producers.nodes number_of in
       let has : Contains numbers (number_of p) = (
@@ -127,10 +129,10 @@ module _ (s : Split) (split : IsSplit s) (bits : List (List ℕ)) (one_each : le
             ∙ (get_or-map number_of fed.producers.nodes k p (number_of p) inside ∙ ap number_of is),
       ) in
       let here : values_at filled (nets_of s p) ≡ values_at known (nets_of s p) =
-      subst (λ (these : List ℕ). values_at filled these ≡ values_at known these) (nets_are p is_p) (learnt (number_of p) has) in
+      subst (λ (these : List ℕ). values_at filled these ≡ values_at known these) (nets_are p is_p) (rows (number_of p) has) in
       here ∙ source_value p is_p edge
 
   pub value : (filled settled : Row) → AreLearnt known bits numbers filled → (cone : Parts) → IsCone s.circuit (nets_of s n) cone → IsPartSettled s.circuit cone filled settled
       → values_at settled (nets_of s n) ≡ taken s t n
-  value filled settled learnt cone is_cone part =
-      settles_next_value_lem s split t.vectors t.state t.nets fed.run n at.node at.settling t.opened fed.below cone is_cone filled settled (supplied filled learnt) part
+  value filled settled rows cone is_cone part =
+      settles_next_value_lem s split t.vectors t.state t.nets fed.run n at.node at.settling t.opened fed.below cone is_cone filled settled (supplied filled rows) part

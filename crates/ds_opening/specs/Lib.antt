@@ -4,4 +4,5 @@ pub mod Settled
 pub mod Packed
 pub mod Woven
 pub mod Foreseen
+pub mod Learnt
 pub mod Noted

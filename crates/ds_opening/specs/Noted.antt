@@ -1,16 +1,16 @@
 -- Openings in a row that remembers.
-use Rattle.std.specs.Prelude.{◌≡◌, ◌⊎◌, ⊤, ℕ, ◌-◌, ◌<◌, List, [], ◌∷◌, ◌++◌, length, map, All}
-use Rattle.std.specs.Prelude.{Contains, slice_index_or}
+use Rattle.std.specs.Prelude.{◌≡◌, ◌⊎◌, ⊤, ℕ, zero, suc, ◌+◌, ◌-◌, ◌<◌, List, [], ◌∷◌, ◌++◌}
+use Rattle.std.specs.Prelude.{length, map, All, Contains, slice_index_or}
 use Rattle.std.specs.List.{range_with_len}
 use Rattle.ds_base.specs.Values.{Row}
 use Rattle.ds_cover.specs.Cover.{value_at, value_of}
 use Rattle.ds_design.specs.Circuit.{Circuit}
 use Rattle.ds_design.specs.declared.design.Gate.{Gate}
 use Rattle.ds_groups.specs.Groups.{AreGroupsOf, Grouping, group_of}
-use Rattle.ds_latch.specs.Node.{Node, In, Out, Master, Slave, Split, nets_of, nodes}
+use Rattle.ds_latch.specs.Node.{Node, In, Slave, Split, nets_of}
 use Rattle.ds_scratch.specs.Scratch.{Kept, Memory, Remembers, value_in}
 use Rattle.ds_settle.specs.Cone.{Parts as Cone, net_of, nets_of_tables}
-use Rattle.ds_opening.specs.Foreseen.{node_at}
+use Rattle.ds_opening.specs.Learnt.{is_learnt}
 use Rattle.ds_opening.specs.Packed.{AreLearnt, Learns}
 use Rattle.ds_opening.specs.Woven.{AreCones, IsFed, IsOpening, IsSettlingAt, Turn}
 use Rattle.ds_opening.specs.declared.opening.Opening.{Opening}
@@ -21,17 +21,15 @@ pub record AreConeGroups (s : Split) (g : Grouping) : Type 0 where
   pub are_cones : AreCones s cones
   pub are : AreGroupsOf s.circuit cones g
 
--- the nets of a node that others learn as they settle
-abbrev pub learnt_nets : Split → Node → List ℕ
-learnt_nets s In = nets_of s In
-learnt_nets s Out = []
-learnt_nets s (Master i) = []
-learnt_nets s (Slave i) = nets_of s (Slave i)
+-- the nodes whose rows others learn as they settle, in the order IN, S0, S1, ..
+abbrev pub source_node : ℕ → Node
+source_node zero = In
+source_node (suc i) = Slave i
 
--- the slots: what the tables of each group drive, and what is learnt of each node
+-- the slots: what the tables of each group drive, and the nets of IN and of each slave
 abbrev pub slots_of : Split → Grouping → List (List ℕ)
 slots_of s g = map (nets_of_tables s.circuit) g.groups
-    ++ map (λ l. learnt_nets s (node_at l)) (range_with_len 0 (nodes s))
+    ++ map (λ place. nets_of s (source_node place)) (range_with_len 0 (length s.clusters + 1))
 
 -- no net is in two slots
 abbrev pub AreSlotsApart : List (List ℕ) → Type 0
@@ -72,11 +70,11 @@ pub record AreRowsLearnt (m : Memory) (known : Row) (bits : List (List ℕ)) (nu
 
 -- each of these tables reads what P holds of or what an earlier one drives, and the known values
 -- are those of the tables
-abbrev pub AreFed : Circuit → Row → (ℕ → Type 0) → List ℕ → Type 0
-AreFed c known P [] = ⊤
-AreFed c known P (k ∷ ks) = ((d : Gate) → let t = slice_index_or c.tables k d in
+abbrev pub FindInputs : Circuit → Row → (ℕ → Type 0) → List ℕ → Type 0
+FindInputs c known P [] = ⊤
+FindInputs c known P (k ∷ ks) = ((d : Gate) → let t = slice_index_or c.tables k d in
     (value_at known t.output ≡ value_of t.table known) × All P t.table.inputs)
-    × AreFed c known (λ net. P net ⊎ (net ≡ net_of c k)) ks
+    × FindInputs c known (λ net. P net ⊎ (net ≡ net_of c k)) ks
 
 -- the memory of a split design in a turn of its clocked run, which a row fits
 pub record IsMemoryOf (s : Split) (g : Grouping) (turn : ℕ) (t : Turn) (m : Memory)
@@ -86,11 +84,13 @@ pub record IsMemoryOf (s : Split) (g : Grouping) (turn : ℕ) (t : Turn) (m : Me
   pub values : (net : ℕ) → value_in m turn net ≡ value_at (t.nets t.opened) net
   pub remembers : Remembers m k
 
--- the opening of a node in a turn of a run on these vectors, in a row that remembers
+-- the opening of a node in a turn of a run on these vectors, in a row that remembers: the words of
+-- rows that are learnt in it are left out
 pub record IsNotedOpening (s : Split) (vectors : List Row) (g : Grouping) (o : Opening) (k : Kept)
     (n : Node) (t : Turn) (m : Memory) : Type 0 where
   pub some : 0 < o.turn
-  pub opening : IsOpening s vectors o.number (o.turn - 1) o.producers.now o.from.now n t
+  pub opening : IsOpening s vectors o.number (o.turn - 1) (is_learnt (length g.groups) k o.turn)
+      o.producers.now o.from.now n t
   pub memory : IsMemoryOf s g o.turn t m k
 
 -- the same of a node that settles
@@ -98,5 +98,5 @@ pub record IsSettlingOpening (s : Split) (g : Grouping) (o : Opening) (k : Kept)
     (n : Node) (t : Turn) (m : Memory) : Type 0 where
   pub some : 0 < o.turn
   pub at : IsSettlingAt s n o.number
-  pub fed : IsFed s n o.producers.now o.from.now t
+  pub fed : IsFed s n (is_learnt (length g.groups) k o.turn) o.producers.now o.from.now t
   pub memory : IsMemoryOf s g o.turn t m k

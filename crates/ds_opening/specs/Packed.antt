@@ -1,5 +1,5 @@
 -- Rows of values as words of 32 values, and nets that take their values out of words.
-use Rattle.std.specs.Prelude.{◌≡◌, ◌⊎◌, ℕ, ◌+◌, ◌/◌, ◌<◌, List}
+use Rattle.std.specs.Prelude.{◌≡◌, ◌⊎◌, ℕ, ◌+◌, ◌/◌, ◌<◌, Bool, cond, List}
 use Rattle.std.specs.Prelude.{[], ◌∷◌, ◌++◌, length, map, All, Contains, slice_index_or}
 use Rattle.std.specs.List.{range_with_len}
 use Rattle.ds_base.specs.Values.{Row}
@@ -14,11 +14,13 @@ words_of count = (count + 31) / 32
 abbrev pub packed : Row → List ℕ
 packed values = map (word_of values) (range_with_len 0 (words_of (length values)))
 
--- the words of the rows that some nodes have on known nets, one after another
-abbrev pub packed_rows : Row → List (List ℕ) → List ℕ → List ℕ
-packed_rows known bits [] = []
-packed_rows known bits (node ∷ nodes) =
-    packed (values_at known (slice_index_or bits node [])) ++ packed_rows known bits nodes
+-- the words of the rows that some nodes have on known nets, one after another, without those of
+-- nodes whose rows are learnt
+abbrev pub packed_rows : (ℕ → Bool) → Row → List (List ℕ) → List ℕ → List ℕ
+packed_rows learnt known bits [] = []
+packed_rows learnt known bits (node ∷ nodes) =
+    cond (learnt node) [] (packed (values_at known (slice_index_or bits node [])))
+    ++ packed_rows learnt known bits nodes
 
 -- these nets are as they are known, and so is every net that was so before
 abbrev pub Learns : Row → List ℕ → Row → Row → Type 0

@@ -10,13 +10,13 @@ use ds_latch::Latches;
 use ds_settle::Cone;
 use std::alloc::Global;
 
-/// The groups of the cones of OUT, M0, M1, ..
+/// The groups of the cones of OUT, M0, M1, .. The cones are taken.
 pub fn groups_of<'n>(
     alloc: Global,
     latches: &Latches<'n>,
-    cones: &[Cone],
+    cones: Vec<Cone>,
 ) -> Result<Groups<'n>, OutOfMemory>
-    requires cones { AreCones latches.now cones.now }
+    requires cones { AreCones latches.now cones.items }
     ensures ok { IfOk result (AreConeGroups latches.now) }
 {
     Groups::of(alloc, latches.netlist(), cones)

@@ -6,17 +6,20 @@
 //! words of its producers' rows: where those are the values that the orders of the edges fix, the
 //! row is the node's next value in the clocked run. It works in a row that remembers, for each
 //! group and each node, of which turn it has the values (`specs/Noted`), so who opens many nodes
-//! unpacks each row and sets each table once a turn, where no slack lets it come back to one. No
-//! graph, no counts and no place of a row come into it, so threads may share the rows as they like.
-//! `laws` has the same of the definitions alone. `open` takes no memory.
+//! unpacks each row and sets each table once a turn, where no slack lets it come back to one. Rows
+//! that are learnt so are not handed in again: `is_learnt` tells which. No graph, no counts and no
+//! place of a row come into it, so threads may share the rows as they like. `laws` has the same of
+//! the definitions alone. `open` takes no memory.
 #![tactic(auto)]
 
 mod cones;
 mod groups;
 pub mod laws;
+mod learning;
 mod opening;
 mod packed;
 
 pub use cones::cones_of;
 pub use groups::groups_of;
+pub use learning::is_learnt;
 pub use opening::{Opening, open};

@@ -1,7 +1,7 @@
 //! What the opening of a node computes, in a row that remembers what was computed in a turn.
-ghost use Rattle.std.specs.Prelude.{◌≡◌, ◌≤◌, ◌<◌, ◌+◌, ◌%◌, ◌⊎◌, ◌↔◌, ◌++◌, ℕ, All, IsTrue, []};
-ghost use Rattle.std.specs.Prelude.{◌^◌, length};
-ghost use Rattle.std.specs.Prelude.{slice_index_or, vec_capacity, vec_len};
+ghost use Rattle.std.specs.Prelude.{◌≡◌, ◌≢◌, ◌≤◌, ◌<◌, ◌+◌, ◌/◌, ◌%◌, ◌⊎◌, ◌↔◌, ◌++◌, ◌==◌, ℕ};
+ghost use Rattle.std.specs.Prelude.{◌^◌, All, AllPairs, IsTrue, [], length};
+ghost use Rattle.std.specs.Prelude.{slice_index, slice_index_or, vec_capacity, vec_len};
 ghost use Rattle.ds_base.specs.Values.{Row};
 ghost use Rattle.ds_cover.specs.Cover.{values_at};
 ghost use Rattle.ds_design.specs.Banked.{IsBankOf};
@@ -12,14 +12,16 @@ ghost use Rattle.ds_latch.specs.Node.{Node, IsNode, number_of, nets_of, nodes};
 ghost use Rattle.ds_latch.specs.Plan.{IsSplit};
 ghost use Rattle.ds_scratch.specs.Scratch.{Memory, Remembers};
 ghost use Rattle.ds_settle.specs.Cone.{nets_of_tables};
+ghost use Rattle.ds_opening.specs.Learnt.{is_learnt};
 ghost use Rattle.ds_opening.specs.Packed.{AreInside, AreLearnt, packed, packed_rows};
 ghost use Rattle.ds_opening.specs.Packed.{words_of as words_for};
-ghost use Rattle.ds_opening.specs.Noted.{AreConeGroups, AreFed, AreGroupSlots, AreRowsLearnt};
+ghost use Rattle.ds_opening.specs.Noted.{AreConeGroups, FindInputs, AreGroupSlots, AreRowsLearnt};
 ghost use Rattle.ds_opening.specs.Noted.{IsAsKnown};
 ghost use Rattle.ds_opening.specs.Noted.{IsAsLong, IsLearnt, IsNotedOpening, IsSettlingOpening};
 ghost use Rattle.ds_opening.specs.Noted.{IsSlot};
 ghost use Rattle.ds_opening.specs.Woven.{Turn, taken};
 
+use crate::learning::is_learnt_behind;
 use crate::packed::{push_all, push_row, push_words, put_values, words_of};
 use ds_base::{LatchId, NetId, Seq};
 use ds_design::{Netlist, Vectors};
@@ -28,7 +30,7 @@ use ds_latch::Latches;
 use ds_scratch::Scratch;
 
 /// The opening of the node with a number, in a turn, from 1 on: its producers, and the words of
-/// their rows, which stand one after another.
+/// their rows, which stand one after another, without those of rows that are learnt.
 #[derive(Drop)]
 pub struct Opening<'a> {
     pub number: usize,
@@ -40,8 +42,9 @@ pub struct Opening<'a> {
 /// Puts the words of the row that a node takes behind what stands in `into`, from the words of its
 /// producers' rows: of IN the next vector, of a slave the row of its master, of the others what
 /// settles. That is worked out in a row that remembers: what another node has learnt or set in this
-/// turn is not learnt or set again. The slots of the row are those of the groups, then those of the
-/// nodes. It takes no memory.
+/// turn is not learnt or set again, and the words of rows that are learnt (`is_learnt`) are not
+/// among those of the opening. The slots of the row are those of the groups, then those of IN, S0,
+/// S1, .. It takes no memory.
 pub fn open(
     latches: &Latches,
     vectors: &Vectors,
@@ -113,35 +116,45 @@ fn open_groups(
     push_words(scratch.nets(), bits[opening.number].as_slice(), into);
 }
 
-// Gives the nets of the producers the values of their rows, where they do not have them.
+// Gives the nets of the producers the values of their rows, where they do not have them: rows that
+// are learnt have no words. Behind the first so many slots stand those of the nodes. The producers
+// are IN and slaves: the slot of IN is the first, and behind it stand those of S0, S1, ..
 fn learn_rows(bits: &[Seq<NetId>], first: usize, opening: &Opening, scratch: &mut Scratch)
     requires turn { 0 < opening.now.turn }
     requires inside { All (λ node. node < length bits.now) opening.now.producers.now }
     requires within { All (λ node. AreInside (slice_index_or bits.now node []) scratch.old.nets)
         opening.now.producers.now }
-    requires slots { first + length bits.now ≤ length scratch.old.turns }
+    requires slots { All (λ node. first + node / 2 < length scratch.old.turns)
+        opening.now.producers.now }
+    requires apart { AllPairs (λ a b. a / 2 ≢ b / 2) opening.now.producers.now }
     requires few { first + length bits.now < 2 ^ 64 }
-    requires from { (known : Row)
-        × (opening.now.from.now ≡ packed_rows known bits.now opening.now.producers.now) }
+    requires from { (known : Row) × (opening.now.from.now
+        ≡ packed_rows (is_learnt first scratch.old opening.now.turn) known bits.now
+        opening.now.producers.now) }
 
     ensures value { (m : Memory) (known : Row)
-        → opening.now.from.now ≡ packed_rows known bits.now opening.now.producers.now
-        → All (λ node. IsSlot m opening.now.turn (first + node) (slice_index_or bits.now node [])
-        known) opening.now.producers.now
+        → opening.now.from.now
+        ≡ packed_rows (is_learnt first scratch.old opening.now.turn) known bits.now
+        opening.now.producers.now
+        → All (λ node. IsSlot m opening.now.turn (first + node / 2)
+        (slice_index_or bits.now node []) known) opening.now.producers.now
         → Remembers m scratch.old
         → AreRowsLearnt m known bits.now opening.now.producers.now scratch.new }
     ensures same { IsAsLong scratch.old scratch.new }
 {
     let mut rest = opening.from;
     for node in opening.producers {
+        if is_learnt_behind(first, scratch, node.index(), opening.turn) {
+            continue;
+        }
         let these = bits[node.index()].as_slice();
         let (row, others) = rest.split_at(words_of(these.len()));
-        learn_row(row, these, first + node.index(), opening.turn, scratch);
+        learn_row(row, these, first + node.index() / 2, opening.turn, scratch);
         rest = others;
     }
 }
 
-// The same of one producer.
+// Gives the nets of one producer the values of its row.
 fn learn_row(row: &[u64], these: &[NetId], slot: usize, turn: u64, scratch: &mut Scratch)
     requires turn { 0 < turn }
     requires within { AreInside these.now scratch.old.nets }
@@ -151,17 +164,16 @@ fn learn_row(row: &[u64], these: &[NetId], slot: usize, turn: u64, scratch: &mut
     ensures value { (m : Memory) (known : Row) → IsSlot m turn slot these.now known
         → row.now ≡ packed (values_at known these.now) → Remembers m scratch.old
         → IsLearnt m known these.now scratch.old scratch.new }
+    ensures others { (s : ℕ) → s ≢ slot → (slice_index scratch.new.turns s == turn)
+        ≡ (slice_index scratch.old.turns s == turn) }
     ensures same { IsAsLong scratch.old scratch.new }
 {
-    if scratch.is_noted(slot, turn) {
-        return;
-    }
     put_values(row, these, scratch.nets_mut());
     scratch.note(slot, turn);
 }
 
 // Sets the tables of these groups, one group after another, where they are not set.
-fn set_groups(netlist: &Netlist, groups: &Groups, list: &[usize], turn: u64, scratch: &mut Scratch)
+fn set_groups(netlist: &Netlist, groups: &Groups, list: &[u32], turn: u64, scratch: &mut Scratch)
     requires turn { 0 < turn }
     requires packed { IsBankOf netlist.now.tables groups.now.bank }
     requires groups { All (λ a. a < length groups.now.groups) list.now }
@@ -170,7 +182,7 @@ fn set_groups(netlist: &Netlist, groups: &Groups, list: &[usize], turn: u64, scr
     requires slots { length groups.now.groups ≤ length scratch.old.turns }
 
     ensures value { (m : Memory) (known : Row) → AreGroupSlots netlist.now groups.now m turn known
-        → AreFed netlist.now known (IsAsKnown known scratch.old.nets)
+        → FindInputs netlist.now known (IsAsKnown known scratch.old.nets)
         (tables_in groups.now list.now)
         → Remembers m scratch.old
         → IsLearnt m known (nets_of_tables netlist.now (tables_in groups.now list.now)) scratch.old
@@ -178,7 +190,7 @@ fn set_groups(netlist: &Netlist, groups: &Groups, list: &[usize], turn: u64, scr
     ensures same { IsAsLong scratch.old scratch.new }
 {
     for group in list {
-        set_group(netlist, groups, *group, turn, scratch);
+        set_group(netlist, groups, *group as usize, turn, scratch);
     }
 }
 
@@ -193,7 +205,8 @@ fn set_group(netlist: &Netlist, groups: &Groups, number: usize, turn: u64, scrat
 
     ensures value { (m : Memory) (known : Row)
         → IsSlot m turn number (nets_of_tables netlist.now (group_of groups.now number)) known
-        → AreFed netlist.now known (IsAsKnown known scratch.old.nets) (group_of groups.now number)
+        → FindInputs netlist.now known (IsAsKnown known scratch.old.nets)
+        (group_of groups.now number)
         → Remembers m scratch.old
         → IsLearnt m known (nets_of_tables netlist.now (group_of groups.now number)) scratch.old
         scratch.new }

@@ -1,6 +1,6 @@
 -- Rows of value words, word by word and edge by edge.
 use Rattle.std.proofs.Common.{◌≡◌, ℕ, zero, suc, ◌+◌, ◌-◌, ◌*◌, ◌<◌, ◌≤◌, eqb, cond, List, [], ◌∷◌}
-use Rattle.std.proofs.Common.{◌++◌, length, get_or, true}
+use Rattle.std.proofs.Common.{◌++◌, length, get_or, Bool, true, false}
 use Rattle.std.proofs.Common.{sym, refl, ap, ◌∙◌, subst, arith, length-append, eq-eqb, ne_eqb, ◌≢◌}
 use mathlib.Core.Option.{some}
 use lib.ListN.{get_elem?}
@@ -8,12 +8,12 @@ use Rattle.std.proofs.lemmas.List.{append-nil}
 use Rattle.ds_rule.specs.Run.{Run, opened}
 use Rattle.ds_rule.specs.Words.{width, place, value, size}
 use Rattle.ds_rule.specs.Sound.{edge_at, read_words}
-use Rattle.ds_rule.specs.Rows.{row, supply, rows_to, IsOpening}
+use Rattle.ds_rule.specs.Rows.{row, supply_but, rows_to, IsOpening}
 use Rattle.ds_rule.specs.Rule.{seen}
 use Rattle.ds_rule.specs.Plays.{listed}
 use Rattle.ds_rule.specs.declared.layout.DataEdge.{DataEdge}
 use Rattle.ds_rule.specs.declared.view.View.{View}
-use Rattle.ds_rule.proofs.Lists.{at_or, by_bool, length-listed, get-listed}
+use Rattle.ds_rule.proofs.Lists.{at_or, length-listed, get-listed}
 use Rattle.ds_rule.proofs.PlaceLaws.{place-word, place_inside}
 
 pub listed-next : {A : Type 0} (f : ℕ → A) (n : ℕ) → listed f (n + 1) ≡ listed f n ++ f n ∷ []
@@ -25,54 +25,70 @@ length-row run l k = length-listed (value run l k) (width run l)
 pub get-row : (run : Run) (l k i : ℕ) → i < width run l → get_or (row run l k) i 0 ≡ value run l k i
 get-row run l k i h = get-listed (value run l k) (width run l) i 0 h
 
--- one more edge of what a node reads
-pub supply-into : (run : Run) (l k n : ℕ) → (edge_at run n).consumer ≡ l
-    → supply run l k (n + 1) ≡ supply run l k n
+-- nothing on both sides
+same_both : (b : Bool) → cond {A = List ℕ} b [] [] ≡ []
+same_both true = refl
+same_both false = refl
+
+-- one more edge of what a node reads: its row is read, or it is known, or it is another node's
+pub supply_but-into : (run : Run) (known : ℕ → Bool) (l k n : ℕ) → (edge_at run n).consumer ≡ l
+    → known (edge_at run n).producer ≡ false
+    → supply_but run known l k (n + 1) ≡ supply_but run known l k n
     ++ row run (edge_at run n).producer (k - (edge_at run n).tokens)
-supply-into run l k n is = let e : n + 1 ≡ suc n = omega arith in
-    ap (supply run l k) e ∙ ap (λ b. supply run l k n
-    ++ cond b (row run (edge_at run n).producer (k - (edge_at run n).tokens)) [])
+supply_but-into run known l k n is unknown = let e : n + 1 ≡ suc n = omega arith in
+    let r : List ℕ = row run (edge_at run n).producer (k - (edge_at run n).tokens) in
+    ap (supply_but run known l k) e ∙ (ap (λ b. supply_but run known l k n
+    ++ cond b (cond (known (edge_at run n).producer) [] r) [])
     (eq-eqb (edge_at run n).consumer l is)
+    ∙ ap (λ b. supply_but run known l k n ++ cond b [] r) unknown)
 
-pub supply-past : (run : Run) (l k n : ℕ) → (edge_at run n).consumer ≢ l
-    → supply run l k (n + 1) ≡ supply run l k n
-supply-past run l k n far = let e : n + 1 ≡ suc n = omega arith in
-    ap (supply run l k) e ∙ (ap (λ b. supply run l k n
-    ++ cond b (row run (edge_at run n).producer (k - (edge_at run n).tokens)) [])
-    (ne_eqb (edge_at run n).consumer l far) ∙ append-nil (supply run l k n))
+pub supply_but-known : (run : Run) (known : ℕ → Bool) (l k n : ℕ)
+    → known (edge_at run n).producer ≡ true
+    → supply_but run known l k (n + 1) ≡ supply_but run known l k n
+supply_but-known run known l k n told = let e : n + 1 ≡ suc n = omega arith in
+    let r : List ℕ = row run (edge_at run n).producer (k - (edge_at run n).tokens) in
+    let b : Bool = eqb (edge_at run n).consumer l in
+    ap (supply_but run known l k) e ∙ (ap (λ x. supply_but run known l k n ++ cond b (cond x [] r)
+    []) told ∙ (ap (λ xs. supply_but run known l k n ++ xs) (same_both b)
+    ∙ append-nil (supply_but run known l k n)))
 
-pub supply_up : (run : Run) (l k m n : ℕ) → m ≤ n
-    → length (supply run l k m) ≤ length (supply run l k n)
-supply_up run l k m zero h = let e : m ≡ 0 = omega arith in
-    subst (λ x. length (supply run l k x) ≤ length (supply run l k 0)) (sym e)
-    (Rattle.std.proofs.Common.le_refl 0)
-supply_up run l k m (suc n) h = mathlib.Core.Logic.dite (native.Mathlib.Decide.ℕ_discrete m (suc n))
-    (λ e. subst (λ x. length (supply run l k x) ≤ length (supply run l k (suc n))) (sym e)
-    (Rattle.std.proofs.Common.le_refl (length (supply run l k (suc n)))))
-    (λ e. omega (
+pub supply_but-past : (run : Run) (known : ℕ → Bool) (l k n : ℕ) → (edge_at run n).consumer ≢ l
+    → supply_but run known l k (n + 1) ≡ supply_but run known l k n
+supply_but-past run known l k n far = let e : n + 1 ≡ suc n = omega arith in
+    let r : List ℕ = row run (edge_at run n).producer (k - (edge_at run n).tokens) in
+    ap (supply_but run known l k) e ∙ (ap (λ b. supply_but run known l k n
+    ++ cond b (cond (known (edge_at run n).producer) [] r) [])
+    (ne_eqb (edge_at run n).consumer l far) ∙ append-nil (supply_but run known l k n))
+
+-- a row that is known has no word to read
+short : (b known : Bool) (r : List ℕ) (w : ℕ) → length r ≡ w
+    → length (cond b (cond known [] r) []) ≤ cond b w 0
+short true true r w is = omega arith
+short true false r w is = omega (arith, is)
+short false known r w is = omega arith
+
+-- how many words a node reads at most, whatever the number of its opening and what is known
+pub length-supply_but : (run : Run) (known : ℕ → Bool) (l k n : ℕ)
+    → length (supply_but run known l k n) ≤ read_words run l n
+length-supply_but run known l k zero = omega arith
+length-supply_but run known l k (suc n) = let e : DataEdge = edge_at run n in
+    let r : List ℕ = row run e.producer (k - e.tokens) in omega (
       arith,
-      supply_up run l k m n (omega arith),
-      length-append (supply run l k n) (cond (eqb (edge_at run n).consumer l)
-          (row run (edge_at run n).producer (k - (edge_at run n).tokens)) []),
-    ))
-
--- how many words a node reads, whatever the number of its opening
-pub length-supply : (run : Run) (l k n : ℕ) → length (supply run l k n) ≡ read_words run l n
-length-supply run l k zero = refl
-length-supply run l k (suc n) = let e : DataEdge = edge_at run n in
-    length-append (supply run l k n) (cond (eqb e.consumer l)
-    (row run e.producer (k - e.tokens)) [])
-    ∙ omega (
-      arith,
-      length-supply run l k n,
-      by_bool (length (cond (eqb e.consumer l) (row run e.producer (k - e.tokens)) []) ≡ cond
-          (eqb e.consumer l) (width run e.producer) 0) (eqb e.consumer l)
-          (λ h. ap (λ b. length (cond b (row run e.producer (k - e.tokens)) [])) h
-          ∙ (length-row run e.producer (k - e.tokens)
-          ∙ ap (λ b. cond b (width run e.producer) 0) (sym h)))
-          (λ h. ap (λ b. length (cond b (row run e.producer (k - e.tokens)) [])) h
-          ∙ ap {B = ℕ} (λ b. cond b (width run e.producer) 0) (sym h)),
+      length-append (supply_but run known l k n)
+          (cond (eqb e.consumer l) (cond (known e.producer) [] r) []),
+      length-supply_but run known l k n,
+      short (eqb e.consumer l) (known e.producer) r (width run e.producer)
+          (length-row run e.producer (k - e.tokens)),
     )
+
+-- more edges have no fewer words
+pub reads_up : (run : Run) (l m n : ℕ) → m ≤ n → read_words run l m ≤ read_words run l n
+reads_up run l m zero h = let e : m ≡ 0 = omega arith in
+    subst (λ x. read_words run l x ≤ 0) (sym e) (Rattle.std.proofs.Common.le_refl 0)
+reads_up run l m (suc n) h = mathlib.Core.Logic.dite (native.Mathlib.Decide.ℕ_discrete m (suc n))
+    (λ e. subst (λ x. read_words run l x ≤ read_words run l (suc n)) (sym e)
+    (Rattle.std.proofs.Common.le_refl (read_words run l (suc n))))
+    (λ e. omega (arith, reads_up run l m n (omega arith)))
 
 pub reads-into : (run : Run) (l n : ℕ) → (edge_at run n).consumer ≡ l
     → read_words run l (n + 1) ≡ read_words run l n + width run (edge_at run n).producer

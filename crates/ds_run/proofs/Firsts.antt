@@ -12,6 +12,7 @@ use Rattle.ds_cover.specs.Cover.{value_at, values_at}
 use Rattle.ds_design.specs.Circuit.{register_nets}
 use Rattle.ds_latch.specs.Node.{Node, In, Out, Master, Slave, Split, IsNode, number_of, nodes}
 use Rattle.ds_latch.specs.Node.{members, nets_of}
+use Rattle.ds_latch.proofs.Events.{node_at}
 use Rattle.ds_design.specs.Rows.{Rows}
 use Rattle.ds_groups.specs.Groups.{Grouping}
 use Rattle.ds_opening.specs.Packed.{words_of}
@@ -20,7 +21,6 @@ use Rattle.ds_rule.specs.Words.{value, values_at as values_in, width}
 use Rattle.ds_rule.proofs.PlaceLaws.{width-is}
 use Rattle.ds_run.specs.Openings.{AreOpenings}
 use Rattle.ds_run.proofs.Rows.{value_of_node}
-use Rattle.ds_run.proofs.Joined.{numbered_inside}
 use Rattle.ds_run.proofs.Opened.{room_at}
 
 -- the number of zeros
@@ -92,7 +92,7 @@ module _ {s : Split} {vectors : Rows} {run : Run} {groups : Grouping} {order : L
     -- the first word of a node that is no slave
     pub first_zero : ¬ IsSlaveNumber number → 0 ≡ value asked l 0 i
     first_zero other =
-        let (n, is_node, is) = numbered_inside s l near in
+        let (n, is_node, is) = node_at s l near in
         let is_zero : value run (number_of n) 0 i ≡ 0
         = none n is_node (subst (λ (m : ℕ). ¬ IsSlaveNumber m) (number_is ∙ sym is) other) i in
         sym (ap (λ (r : Run). value r l 0 i) asked_is

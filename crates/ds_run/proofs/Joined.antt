@@ -12,7 +12,7 @@ use Rattle.std.proofs.lemmas.List.{get_or-map, length-map}
 use Rattle.std.proofs.lemmas.List.Sorted.{Contains-permutation, IsPermutation-map}
 use Rattle.std.proofs.lemmas.List.Sorted.{IsPermutation-sym}
 use Rattle.ds_base.proofs.Lists.{get_or-self}
-use Rattle.ds_latch.specs.Node.{Node, In, Out, Master, Slave, Split, IsNode, number_of, nodes}
+use Rattle.ds_latch.specs.Node.{Node, In, Out, Master, Slave, Split, number_of}
 use Rattle.ds_latch.specs.Order.{IsDataEdge, open_tokens}
 use Rattle.ds_latch.specs.Latches.{HasEdges}
 use Rattle.ds_latch.specs.declared.latches.Edge.{Edge}
@@ -36,18 +36,6 @@ numbered_node (suc (suc l)) = let (i, is) = halves l in elim is [
   | inl e ↦ (Master i, omega arith)
   | inr e ↦ (Slave i, omega arith)
 ]
-
--- a node whose number is small enough is there
-inside_node : (s : Split) (n : Node) → number_of n < nodes s → IsNode s n
-inside_node s In below = tt
-inside_node s Out below = tt
-inside_node s (Master i) below = omega arith
-inside_node s (Slave i) below = omega arith
-
--- so a small number is that of a node that is there
-pub numbered_inside : (s : Split) (l : ℕ) → l < nodes s
-    → (n : Node) × IsNode s n × (number_of n ≡ l)
-numbered_inside s l below = let (n, at) = numbered_node l in (n, inside_node s n (omega arith), at)
 
 -- an even number is no slave's
 untested : (n : ℕ) → n % 2 ≡ 0 → tokens_of n ≡ 0

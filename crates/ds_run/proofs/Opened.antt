@@ -1,23 +1,23 @@
 -- What openings compute, in the terms of the run.
 use Rattle.std.proofs.Common.{◌≡◌, ◌∙◌, ℕ, suc, ◌-◌, ◌<◌, ◌≤◌, List, [], length}
-use Rattle.std.proofs.Common.{get_or, refl, arith, ap, sym, subst}
+use Rattle.std.proofs.Common.{Bool, get_or, refl, arith, ap, sym, subst}
 use Rattle.std.proofs.lemmas.List.{get_or_default}
 use Rattle.ds_base.specs.Values.{Row}
 use Rattle.ds_latch.specs.Node.{Node, Split, IsNode, number_of, nodes}
 use Rattle.ds_latch.specs.Node.{nets_of}
 use Rattle.ds_latch.specs.Order.{IsDataEdge, open_tokens}
+use Rattle.ds_latch.proofs.Events.{node_at}
 use Rattle.ds_design.specs.Rows.{Rows}
 use Rattle.ds_groups.specs.Groups.{Grouping}
 use Rattle.ds_opening.specs.Packed.{packed, words_of}
 use Rattle.ds_opening.specs.Woven.{AreProducers, IsOpening, Turn, read_of, taken}
 use Rattle.ds_rule.specs.Run.{Run}
-use Rattle.ds_rule.specs.Rows.{row, supply}
+use Rattle.ds_rule.specs.Rows.{row, supply_but}
 use Rattle.ds_rule.specs.Words.{width}
 use Rattle.ds_rule.proofs.PlaceLaws.{width-is}
 use Rattle.ds_run.specs.Producers.{producers_in}
 use Rattle.ds_run.specs.Openings.{AreOpenings}
 use Rattle.ds_run.proofs.Rows.{row-is}
-use Rattle.ds_run.proofs.Joined.{numbered_inside}
 use Rattle.ds_run.proofs.Supplied.{producers_are, supply-woven}
 
 module _ {s : Split} {vectors : Rows} {run : Run} {groups : Grouping} {order : List ℕ}
@@ -44,23 +44,24 @@ module _ {s : Split} {vectors : Rows} {run : Run} {groups : Grouping} {order : L
       row-is w.planned w.sound p is_p (suc opened - open_tokens p) (omega arith)
 
   -- the opening of a node, and what it gives
-  pub record Opens (l opened : ℕ) (numbers from : List ℕ) : Type 0 where
+  pub record Opens (l opened : ℕ) (known : ℕ → Bool) (numbers from : List ℕ) : Type 0 where
     pub node : Node
     pub turn : Turn
-    pub opens : IsOpening s vectors.rows l opened numbers from node turn
+    pub opens : IsOpening s vectors.rows l opened known numbers from node turn
     pub gives : packed (taken s turn node) ≡ row run l (suc opened)
     pub nets_are : turn.nets turn.opened ≡ w.planned.values_are.nets opened
 
   opens_node : (n : Node) → IsNode s n → (opened : ℕ) → opened < length vectors.rows
-      → (numbers from : List ℕ) → numbers ≡ producers_in run.edges (number_of n)
-      → from ≡ supply run (number_of n) (suc opened) (length run.edges)
-      → Opens (number_of n) opened numbers from
-  opens_node n is_node opened low numbers from numbers_are from_is =
+      → (known : ℕ → Bool) (numbers from : List ℕ)
+      → numbers ≡ producers_in run.edges (number_of n)
+      → from ≡ supply_but run known (number_of n) (suc opened) (length run.edges)
+      → Opens (number_of n) opened known numbers from
+  opens_node n is_node opened low known numbers from numbers_are from_is =
       let t : Turn = turn_at opened in
       let edges = w.planned.edges_are in
       let rows = rows_are n opened low in
       let found : AreProducers s n (producers_in run.edges (number_of n))
-      = producers_are s run t n rows edges in
+      = producers_are s run known t n rows edges in
       record {
         node = n;
         turn = t;
@@ -77,7 +78,7 @@ module _ {s : Split} {vectors : Rows} {run : Run} {groups : Grouping} {order : L
               all = found.all;
               once = found.once;
             };
-            words = from_is ∙ supply-woven s run t n rows edges;
+            words = from_is ∙ supply-woven s run known t n rows edges;
           };
           same = refl;
           turn = refl;
@@ -92,27 +93,28 @@ module _ {s : Split} {vectors : Rows} {run : Run} {groups : Grouping} {order : L
     turn_is : suc (turn - 1) ≡ turn
     turn_is = omega (some, arith)
 
-    pub opens_at : l < asked.latches → turn ≤ asked.limit → (numbers item from : List ℕ)
-        → numbers ≡ item → item ≡ get_or producers number item
-        → from ≡ supply asked l turn (length asked.edges) → Opens number (turn - 1) numbers from
-    opens_at near most numbers item from lent item_is from_is =
+    pub opens_at : l < asked.latches → turn ≤ asked.limit → (known : ℕ → Bool)
+        → (numbers item from : List ℕ) → numbers ≡ item → item ≡ get_or producers number item
+        → from ≡ supply_but asked known l turn (length asked.edges)
+        → Opens number (turn - 1) known numbers from
+    opens_at near most known numbers item from lent item_is from_is =
         let latches_are : asked.latches ≡ nodes s
         = ap (λ (r : Run). r.latches) asked_is ∙ w.planned.latches_are in
         let limit_is : asked.limit ≡ length vectors.rows
         = ap (λ (r : Run). r.limit) asked_is ∙ w.planned.limit_is in
         let low : number < nodes s = omega (near, latches_are, number_is, arith) in
         let early : turn - 1 < length vectors.rows = omega (some, most, limit_is, arith) in
-        let (n, is_node, is) = numbered_inside s number low in
+        let (n, is_node, is) = node_at s number low in
         let inside : number < length producers = omega (low, w.producers_are.one_each, arith) in
         let here : numbers ≡ producers_in run.edges (number_of n)
         = lent ∙ (item_is ∙ (get_or_default producers number item [] inside
         ∙ (w.producers_are.each number low ∙ ap (producers_in run.edges) (sym is)))) in
-        let words : from ≡ supply run (number_of n) (suc (turn - 1)) (length run.edges) = from_is
-        ∙ (ap (λ (r : Run). supply r l turn (length r.edges)) asked_is
-        ∙ (ap (λ (m : ℕ). supply run m turn (length run.edges)) (sym number_is ∙ sym is)
-        ∙ ap (λ (k : ℕ). supply run (number_of n) k (length run.edges)) (sym turn_is))) in
-        subst (λ (m : ℕ). Opens m (turn - 1) numbers from) is
-        (opens_node n is_node (turn - 1) early numbers from here words)
+        let words : from ≡ supply_but run known (number_of n) (suc (turn - 1)) (length run.edges)
+        = from_is ∙ (ap (λ (r : Run). supply_but r known l turn (length r.edges)) asked_is
+        ∙ (ap (λ (m : ℕ). supply_but run known m turn (length run.edges)) (sym number_is ∙ sym is)
+        ∙ ap (λ (k : ℕ). supply_but run known (number_of n) k (length run.edges)) (sym turn_is))) in
+        subst (λ (m : ℕ). Opens m (turn - 1) known numbers from) is
+        (opens_node n is_node (turn - 1) early known numbers from here words)
 
     -- what it gives
     pub gives_row : row run number (suc (turn - 1)) ≡ row asked l turn

@@ -1,11 +1,10 @@
 -- What a scratch remembers of a run.
-use Rattle.std.proofs.Common.{◌≡◌, ◌∙◌, ℕ, suc, ◌+◌, ◌-◌, ◌<◌, ◌≤◌, List, [], length, get_or, map}
-use Rattle.std.proofs.Common.{refl, arith, ap, sym, subst}
+use Rattle.std.proofs.Common.{◌≡◌, ◌∙◌, ℕ, ◌-◌, ◌<◌, ◌≤◌, List, [], length, get_or, map}
+use Rattle.std.proofs.Common.{Bool, refl, arith, ap, sym, subst}
 use Rattle.std.specs.Prelude.{All}
 use Rattle.std.specs.List.{range_with_len}
 use Rattle.std.proofs.lemmas.List.FromFn.{get_or-map-range_with_len}
 use Rattle.ds_base.specs.Values.{Row}
-use Rattle.ds_base.specs.declared.value.Value.TheVariants.{Zero}
 use Rattle.ds_cover.specs.Cover.{value_at}
 use Rattle.ds_design.specs.Circuit.{columns}
 use Rattle.ds_design.specs.Rows.{Rows}
@@ -14,9 +13,10 @@ use Rattle.ds_design.proofs.Runs.{one_run}
 use Rattle.ds_groups.specs.Groups.{Grouping}
 use Rattle.ds_latch.specs.Node.{Split}
 use Rattle.ds_rule.specs.Run.{Run}
-use Rattle.ds_scratch.specs.Scratch.{Kept, Memory, Remembers, value_in}
+use Rattle.ds_scratch.specs.Scratch.{Kept, Remembers, value_in}
 use Rattle.ds_opening.specs.Foreseen.{nets_in, state_before}
 use Rattle.ds_opening.proofs.Foreseen.{foresees_run_lem}
+use Rattle.ds_opening.specs.Learnt.{is_learnt}
 use Rattle.ds_opening.specs.Noted.{IsNotedOpening}
 use Rattle.ds_opening.specs.Woven.{IsOpening}
 use Rattle.ds_opening.specs.declared.opening.Opening.{Opening}
@@ -52,23 +52,32 @@ module _ {s : Split} {vectors : Rows} {run : Run} {groups : Grouping} {order : L
 
   -- the opening of a node in a scratch that remembers the run
   module _ {asked : Run} (asked_is : asked ≡ run) {turn : ℕ} (some : 0 < turn) (most : turn ≤ asked.limit)
-      {number : ℕ} {numbers from : List ℕ} (o : Opens w number (turn - 1) numbers from)
+      (kept : Kept) {number : ℕ} {numbers from : List ℕ}
+      (o : Opens w number (turn - 1) (is_learnt (length groups.groups) kept turn) numbers from)
       (opening : Opening) (number_is : opening.number ≡ number) (turn_is : opening.turn ≡ turn)
       (numbers_are : opening.producers.now ≡ numbers) (from_is : opening.from.now ≡ from)
-      (kept : Kept) (remembers : Remembers (memory_of s groups order vectors.rows) kept) where
+      (remembers : Remembers (memory_of s groups order vectors.rows) kept) where
     below : turn - 1 < length vectors.rows
     below =
         let limit_is : asked.limit ≡ length vectors.rows
         = ap (λ (r : Run). r.limit) asked_is ∙ w.planned.limit_is in
         omega (some, most, limit_is, arith)
 
-    opening_is : IsOpening s vectors.rows opening.number (opening.turn - 1) opening.producers.now
-        opening.from.now o.node o.turn
+    -- the rows that are learnt for a turn
+    abbrev learnt_in : ℕ → ℕ → Bool
+    learnt_in k = is_learnt (length groups.groups) kept k
+
+    opening_is : IsOpening s vectors.rows opening.number (opening.turn - 1)
+        (learnt_in opening.turn) opening.producers.now opening.from.now o.node o.turn
     opening_is =
-        subst (λ (m : ℕ). IsOpening s vectors.rows m (opening.turn - 1) opening.producers.now opening.from.now o.node o.turn) (sym number_is)
-        (subst (λ (m : ℕ). IsOpening s vectors.rows number (m - 1) opening.producers.now opening.from.now o.node o.turn) (sym turn_is)
-        (subst (λ (xs : List ℕ). IsOpening s vectors.rows number (turn - 1) xs opening.from.now o.node o.turn) (sym numbers_are)
-        (subst (λ (xs : List ℕ). IsOpening s vectors.rows number (turn - 1) numbers xs o.node o.turn) (sym from_is) o.opens)))
+        subst (λ (m : ℕ). IsOpening s vectors.rows m (opening.turn - 1) (learnt_in opening.turn)
+        opening.producers.now opening.from.now o.node o.turn) (sym number_is)
+        (subst (λ (m : ℕ). IsOpening s vectors.rows number (m - 1) (learnt_in m)
+        opening.producers.now opening.from.now o.node o.turn) (sym turn_is)
+        (subst (λ (xs : List ℕ). IsOpening s vectors.rows number (turn - 1) (learnt_in turn) xs
+        opening.from.now o.node o.turn) (sym numbers_are)
+        (subst (λ (xs : List ℕ). IsOpening s vectors.rows number (turn - 1) (learnt_in turn)
+        numbers xs o.node o.turn) (sym from_is) o.opens)))
 
     pub noted : IsNotedOpening s vectors.rows groups opening kept o.node o.turn (memory_of s groups order vectors.rows)
     noted = record {

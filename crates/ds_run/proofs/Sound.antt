@@ -21,6 +21,7 @@ use Rattle.ds_latch.specs.Order.{open_tokens, close_tokens}
 use Rattle.ds_latch.specs.Plan.{IsController, IsPlan, Planned, split_events}
 use Rattle.ds_latch.specs.Numbered.{numbered}
 use Rattle.ds_latch.proofs.Counts.{accepted_controls, edge_differs, edge_tokens, number_below}
+use Rattle.ds_latch.proofs.Events.{node_at}
 use Rattle.ds_latch.proofs.Rising.{edge_nodes, events_long}
 use Rattle.ds_rule.specs.Run.{Run, events, node_of, opening, closing}
 use Rattle.ds_rule.specs.Words.{width, size}
@@ -33,7 +34,6 @@ use Rattle.ds_rule.proofs.EventLaws.{events-is, node_below, opening-is, closing-
 use Rattle.ds_run.specs.Layout.{IsRunOf, Joins}
 use Rattle.ds_run.specs.Laws.{IsWithin, RunsAreAccepted, RunsAreSound, RunsHaveGraphs}
 use Rattle.ds_run.proofs.Lists.{all_at, all_from_at}
-use Rattle.ds_run.proofs.Joined.{numbered_inside}
 use Rattle.ds_run.proofs.Sizes.{read_few, width_few, size_few}
 
 few_tokens : (n : Node) → open_tokens n ≤ 1
@@ -117,7 +117,7 @@ module _ (p : Planned) (vectors : List Row) (run : Run) (is : IsRunOf p vectors 
 
   closes : (l : ℕ) → l < run.latches → HasOrder run (opening l) (closing l) 0
   closes l low counts agrees =
-      let (n, is_node, at) = numbered_inside p.split l (omega (arith, is.latches_are)) in
+      let (n, is_node, at) = node_at p.split l (omega (arith, is.latches_are)) in
       omega (
         arith,
         order (node_opening n) (node_closing n) 0 (opens_first n is_node) counts agrees,
@@ -178,7 +178,7 @@ module _ (p : Planned) (vectors : List Row) (run : Run) (is : IsRunOf p vectors 
     same_length : (l k : ℕ) → l < run.nodes → k ≤ run.limit
         → length (run_values run l k) ≡ get_or run.lengths l 0
     same_length l k below low = elim (cases_lt l (nodes p.split)) [
-      | inl inside ↦ (let (n, is_node, at) = numbered_inside p.split l inside in
+      | inl inside ↦ (let (n, is_node, at) = node_at p.split l inside in
           let v = is.values_are in
           subst (λ (m : ℕ). length (run_values run m k) ≡ get_or run.lengths m 0) at
           (ap (λ (r : Row). length r) (v.of_node n is_node k (omega (arith, is.limit_is)))

@@ -16,43 +16,46 @@ use Rattle.ds_latch.proofs.Rising.{edge_nodes}
 use Rattle.ds_opening.specs.Packed.{packed}
 use Rattle.ds_opening.specs.Woven.{AreProducers, Turn, read_of, woven}
 use Rattle.ds_rule.specs.Run.{Run}
-use Rattle.ds_rule.specs.Rows.{row, supply}
+use Rattle.ds_rule.specs.Rows.{row, supply_but}
 use Rattle.ds_rule.specs.Sound.{edge_at}
 use Rattle.ds_rule.specs.declared.layout.DataEdge.{DataEdge}
 use Rattle.ds_run.specs.Layout.{AreEdges, Joins}
 use Rattle.ds_run.specs.Producers.{producers_in}
 
 -- what a node reads along an edge
-abbrev along : Run → DataEdge → ℕ → ℕ → List ℕ
-along run e l k = cond (eqb e.consumer l) (row run e.producer (k - e.tokens)) []
+abbrev along : Run → (ℕ → Bool) → DataEdge → ℕ → ℕ → List ℕ
+along run known e l k =
+    cond (eqb e.consumer l) (cond (known e.producer) [] (row run e.producer (k - e.tokens))) []
 
 -- what a node reads along some edges
-abbrev supplied : Run → List DataEdge → ℕ → ℕ → List ℕ
-supplied run [] l k = []
-supplied run (e ∷ es) l k = along run e l k ++ supplied run es l k
+abbrev supplied : Run → (ℕ → Bool) → List DataEdge → ℕ → ℕ → List ℕ
+supplied run known [] l k = []
+supplied run known (e ∷ es) l k = along run known e l k ++ supplied run known es l k
 
-supplied-append : (run : Run) (xs ys : List DataEdge) (l k : ℕ)
-    → supplied run (xs ++ ys) l k ≡ supplied run xs l k ++ supplied run ys l k
-supplied-append run [] ys l k = refl
-supplied-append run (e ∷ es) ys l k =
-    ap (λ (ws : List ℕ). along run e l k ++ ws) (supplied-append run es ys l k)
-    ∙ sym (append_assoc (along run e l k) (supplied run es l k) (supplied run ys l k))
+supplied-append : (run : Run) (known : ℕ → Bool) (xs ys : List DataEdge) (l k : ℕ)
+    → supplied run known (xs ++ ys) l k ≡ supplied run known xs l k ++ supplied run known ys l k
+supplied-append run known [] ys l k = refl
+supplied-append run known (e ∷ es) ys l k =
+    ap (λ (ws : List ℕ). along run known e l k ++ ws) (supplied-append run known es ys l k)
+    ∙ sym (append_assoc (along run known e l k) (supplied run known es l k)
+    (supplied run known ys l k))
 
 -- the edges by number, as a list
-supply-supplied : (run : Run) (l k n : ℕ) → n ≤ length run.edges
-    → supply run l k n ≡ supplied run (take n run.edges) l k
-supply-supplied run l k zero most = refl
-supply-supplied run l k (suc n) most =
+supply-supplied : (run : Run) (known : ℕ → Bool) (l k n : ℕ) → n ≤ length run.edges
+    → supply_but run known l k n ≡ supplied run known (take n run.edges) l k
+supply-supplied run known l k zero most = refl
+supply-supplied run known l k (suc n) most =
     let d : DataEdge = record { producer = 0; consumer = 0; tokens = 0 } in
     let e : DataEdge = edge_at run n in
     let up : n + 1 ≡ suc n = omega arith in
     let next : take n run.edges ++ e ∷ [] ≡ take (suc n) run.edges
     = sym (take_more run.edges n d (omega arith)) ∙ ap (λ (m : ℕ). take m run.edges) up in
-    ap (λ (ws : List ℕ). ws ++ along run e l k) (supply-supplied run l k n (omega arith))
-    ∙ (ap (λ (ws : List ℕ). supplied run (take n run.edges) l k ++ ws)
-    (sym (append-nil (along run e l k)))
-    ∙ (sym (supplied-append run (take n run.edges) (e ∷ []) l k)
-    ∙ ap (λ (es : List DataEdge). supplied run es l k) next))
+    ap (λ (ws : List ℕ). ws ++ along run known e l k)
+    (supply-supplied run known l k n (omega arith))
+    ∙ (ap (λ (ws : List ℕ). supplied run known (take n run.edges) l k ++ ws)
+    (sym (append-nil (along run known e l k)))
+    ∙ (sym (supplied-append run known (take n run.edges) (e ∷ []) l k)
+    ∙ ap (λ (es : List DataEdge). supplied run known es l k) next))
 
 -- the consumers are nodes of the split design
 pub consumers_within : (s : Split) (edges : List DataEdge) → AreEdges s edges → (count : ℕ)
@@ -69,15 +72,15 @@ Any-split P x xs (suc k, y, inside, is, p) = inr (k, y, omega (inside, arith), i
 Contains-more : (p q : Node) (ps : List Node) → Contains ps q → Contains (p ∷ ps) q
 Contains-more p q ps (k, low, is) = (suc k, omega (low, arith), is)
 
--- what a node reads in a turn
-module _ (s : Split) (run : Run) (t : Turn) (n : Node)
+-- what a node reads in a turn of the producers that are not known
+module _ (s : Split) (run : Run) (known : ℕ → Bool) (t : Turn) (n : Node)
     (rows_are : (p : Node) → IsNode s p → IsDataEdge s p n
     → row run (number_of p) (suc t.opened - open_tokens p) ≡ packed (read_of s t p)) where
   abbrev IsEdge : DataEdge → Type 0
   IsEdge e = (p c : Node) × IsDataEdge s p c × Joins p c e
 
   abbrev words_along : List DataEdge → List ℕ
-  words_along es = supplied run es (number_of n) (suc t.opened)
+  words_along es = supplied run known es (number_of n) (suc t.opened)
 
   -- the producers among some edges
   record Reads (es : List DataEdge) : Type 0 where
@@ -85,7 +88,7 @@ module _ (s : Split) (run : Run) (t : Turn) (n : Node)
     are : producers_in es (number_of n) ≡ map number_of nodes
     each : All (λ p. IsNode s p × IsDataEdge s p n) nodes
     all : (p : Node) → IsDataEdge s p n → Any (Joins p n) es → Contains nodes p
-    words : words_along es ≡ woven (read_of s t) nodes
+    words : words_along es ≡ woven known (read_of s t) nodes
 
   abbrev leads : DataEdge → Bool
   leads e = eqb e.consumer (number_of n)
@@ -97,7 +100,8 @@ module _ (s : Split) (run : Run) (t : Turn) (n : Node)
 
   abbrev words_if : DataEdge → List DataEdge → Bool → List ℕ
   words_if e es b =
-      cond b (row run e.producer (suc t.opened - e.tokens)) [] ++ words_along es
+      cond b (cond (known e.producer) [] (row run e.producer (suc t.opened - e.tokens))) []
+      ++ words_along es
 
   one_more : (e : DataEdge) (es : List DataEdge) (p : Node) → IsDataEdge s p n → Joins p n e
       → Reads es → Reads (e ∷ es)
@@ -116,11 +120,14 @@ module _ (s : Split) (run : Run) (t : Turn) (n : Node)
           | inr later ↦ Contains-more p q rest.nodes (rest.all q other later)
         ];
         words = ap (words_if e es) there
-            ∙ (ap (λ (l : ℕ). row run l (suc t.opened - e.tokens) ++ words_along es) joins.from
-            ∙ (ap (λ (m : ℕ). row run (number_of p) (suc t.opened - m) ++ words_along es)
-            joins.tokens
-            ∙ (ap (λ (ws : List ℕ). ws ++ words_along es) (rows_are p is_p edge)
-            ∙ ap (λ (ws : List ℕ). packed (read_of s t p) ++ ws) rest.words)));
+            ∙ (ap (λ (l : ℕ). cond (known l) [] (row run l (suc t.opened - e.tokens))
+            ++ words_along es) joins.from
+            ∙ (ap (λ (m : ℕ). cond (known (number_of p)) [] (row run (number_of p)
+            (suc t.opened - m)) ++ words_along es) joins.tokens
+            ∙ (ap (λ (ws : List ℕ). cond (known (number_of p)) [] ws ++ words_along es)
+            (rows_are p is_p edge)
+            ∙ ap (λ (ws : List ℕ). cond (known (number_of p)) [] (packed (read_of s t p)) ++ ws)
+            rest.words)));
       }
 
   past : (e : DataEdge) (es : List DataEdge) → e.consumer ≢ number_of n → Reads es → Reads (e ∷ es)
@@ -195,10 +202,10 @@ module _ (s : Split) (run : Run) (t : Turn) (n : Node)
         }
 
     -- the words that are read are those of their rows
-    pub supply-woven : supply run (number_of n) (suc t.opened) (length run.edges)
-        ≡ woven (read_of s t) producers_are.nodes
+    pub supply-woven : supply_but run known (number_of n) (suc t.opened) (length run.edges)
+        ≡ woven known (read_of s t) producers_are.nodes
     unfolding producers_are
     supply-woven =
         let r : Reads run.edges = reads run.edges edges_are.each in
-        supply-supplied run (number_of n) (suc t.opened) (length run.edges) (omega arith)
+        supply-supplied run known (number_of n) (suc t.opened) (length run.edges) (omega arith)
         ∙ (ap words_along (take_all (length run.edges) run.edges (omega arith)) ∙ r.words)

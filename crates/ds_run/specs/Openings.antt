@@ -19,13 +19,15 @@ use Rattle.ds_rule.specs.Sound.{IsSound}
 use Rattle.ds_run.specs.Layout.{IsRunOf}
 use Rattle.ds_run.specs.Producers.{AreProducersOf}
 
--- what a clause sees: the run, and what a scratch remembers of it
+-- what a clause sees: the run, what a scratch remembers of it, and how many groups there are, whose
+-- slots are the first
 pub record RunWithMemory : Type 0 where
   pub run : Run
   pub memory : Memory
+  pub groups : ℕ
 
--- what a scratch remembers: the nets of each group and of each node that others read, with their
--- values in each turn of the clocked run, which an order of the tables gives
+-- what a scratch remembers: the nets of each group, of IN and of each slave, with their values in
+-- each turn of the clocked run, which an order of the tables gives
 abbrev pub memory_of : Split → Grouping → List ℕ → List Row → Memory
 memory_of s g order vectors = record {
   nets = length s.circuit.nets;

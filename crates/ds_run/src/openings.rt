@@ -3,6 +3,7 @@ ghost use Rattle.std.specs.Prelude.{◌≡◌, ◌≤◌, ◌%◌, ◌↔◌, le
 ghost use Rattle.ds_design.specs.Circuit.{columns};
 ghost use Rattle.ds_design.specs.InRange.{IsInRange};
 ghost use Rattle.ds_latch.specs.Plan.{IsSplit};
+ghost use Rattle.ds_opening.specs.Learnt.{is_learnt as row_is_learnt};
 ghost use Rattle.ds_opening.specs.Noted.{AreConeGroups};
 ghost use Rattle.ds_run.specs.Layout.{IsRunOf};
 ghost use Rattle.ds_rule.specs.Sound.{IsSound};
@@ -15,7 +16,7 @@ use ds_design::Vectors;
 use ds_fabric::Compute;
 use ds_groups::Groups;
 use ds_latch::{Latches, Plan};
-use ds_opening::{Opening, cones_of, groups_of, open};
+use ds_opening::{Opening, cones_of, groups_of, is_learnt, open};
 use ds_rule::Layout;
 use ds_scratch::Scratch;
 use ds_settle::Cone;
@@ -53,6 +54,7 @@ impl<'a, 'n> Drop for Openings<'a, 'n> {
 }
 
 impl<'a, 'n> Model for Openings<'a, 'n> {
+    ghost use Rattle.std.specs.Prelude.{length};
     ghost use Rattle.ds_run.specs.Openings.{AreOpenings, RunWithMemory, memory_of};
 
     ghost Value = { RunWithMemory };
@@ -60,6 +62,7 @@ impl<'a, 'n> Model for Openings<'a, 'n> {
     ghost view = { λ w. record {
       run = w.run.now;
       memory = memory_of w.latches.now w.groups w.order.now w.vectors.now.rows;
+      groups = length w.groups.groups;
     } };
 
     ghost invariant = { λ w. AreOpenings w.latches.now w.vectors.now w.run.now w.groups
@@ -105,11 +108,13 @@ impl<'a, 'n> Compute for Openings<'a, 'n> {
 
     ghost memory = { λ w. w.memory };
 
+    ghost knows = { λ w k node turn. row_is_learnt w.groups k turn node };
+
     fn scratch(&self, alloc: Global) -> Result<Scratch, OutOfMemory> {
         let nets = self.latches.netlist().design().nets().len();
         // The edges are read for the fact that there are not too many nodes.
-        let (bits, _edges) = (self.latches.bits(), self.latches.edges());
-        Scratch::of(alloc, nets, self.groups.count() + bits.len())
+        let (clusters, _edges) = (self.latches.clusters(), self.latches.edges());
+        Scratch::of(alloc, nets, self.groups.count() + clusters.len() + 1)
     }
 
     fn cost(&self, node: LatchId) -> u64 {
@@ -128,6 +133,10 @@ impl<'a, 'n> Compute for Openings<'a, 'n> {
         } else {
             0
         }
+    }
+
+    fn knows(&self, producer: LatchId, turn: u64, scratch: &Scratch) -> bool {
+        is_learnt(&self.groups, scratch, producer.index(), turn)
     }
 
     fn compute(
@@ -162,8 +171,8 @@ fn grouped<'n>(alloc: Global, latches: &Latches<'n>) -> Result<(Groups<'n>, Vec<
     ensures { IfOk result (λ r. AreConeGroups latches.now r.0) }
 {
     let cones = cones_of(alloc, latches)?;
-    let groups = groups_of(alloc, latches, cones.as_slice())?;
     let sizes = sizes_of(alloc, cones.as_slice())?;
+    let groups = groups_of(alloc, latches, cones)?;
     Ok((groups, sizes))
 }
 

@@ -1,13 +1,24 @@
 -- A row to work in with the turns of its slots, and what it remembers.
-use Rattle.std.specs.Prelude.{◌≡◌, ℕ, ◌-◌, ◌<◌, All, List, [], length, slice_index, slice_index_or}
+use Rattle.std.specs.Prelude.{◌≡◌, ◌≢◌, ℕ, ◌-◌, ◌<◌, All, List, [], length, slice_index}
+use Rattle.std.specs.Prelude.{slice_index_or}
 use Rattle.ds_base.specs.Values.{Row}
 use Rattle.ds_base.specs.declared.value.Value.{Value}
 use Rattle.ds_base.specs.declared.value.Value.TheVariants.{Zero}
+use Rattle.ds_scratch.specs.Turns.{IsSameOrLost}
 
 -- what a scratch shows: the value of each net, and the turn of each slot, 0 where it has none
 pub record Kept : Type 0 where
   pub nets : Row
   pub turns : List ℕ
+
+-- the slot is noted for the turn over the same row; the other slots keep their turns, or have none
+-- where they had another turn than this one
+pub record IsNoted (slot turn : ℕ) (old new : Kept) : Type 0 where
+  pub nets : new.nets ≡ old.nets
+  pub turns : length new.turns ≡ length old.turns
+  pub here : slice_index new.turns slot ≡ turn
+  pub others : (s : ℕ) → s ≢ slot
+      → IsSameOrLost turn (slice_index old.turns s) (slice_index new.turns s)
 
 -- what is to be remembered: how many nets there are, which are in each slot, and the values of all
 -- nets in each turn, from turn 1 on

@@ -6,9 +6,15 @@
 //! caller sees it as a `Kept`, the values and the turns; a `Memory` says which nets are in a slot
 //! and which values they have, and `Remembers` that what is kept fits it.
 //!
-//! `Scratch::of` makes one that remembers nothing yet, `is_noted` asks for the turn of a slot,
-//! `note` sets it, and `nets` and `nets_mut` lend the row. That a slot is noted only once its nets
-//! hold the values is the caller's part.
+//! `Scratch::of` makes one that remembers nothing yet, `is_noted` asks whether a slot is noted for
+//! a turn, `note` notes it for one, and `nets` and `nets_mut` lend the row. That a slot is noted
+//! only once its nets hold the values is the caller's part.
+//!
+//! Turns count from 1, and a slot takes one byte: how many turns it comes after a base that all
+//! slots share. So turns can be kept that lie less than 256 apart. Where a turn is noted that lies
+//! further on, the base follows it, and slots of turns that lie 128 and more before it may be
+//! forgotten; where one is noted that lies further back, all others are. What is forgotten is
+//! computed again, and a slot never holds a turn that was not noted for it.
 #![tactic(auto)]
 
 mod scratch;

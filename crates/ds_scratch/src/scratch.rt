@@ -1,35 +1,49 @@
 //! The row with the turn of each slot.
-ghost use Rattle.std.specs.Prelude.{◌≡◌, ◌↔◌, ◌<◌, IfOk, IsTrue, length, replicate};
-ghost use Rattle.std.specs.Prelude.{slice_index, slice_set};
+//!
+//! A turn is a byte behind a base, which is one for all slots: 0 is none, and a byte above it the
+//! turn that comes so many after the base. So a turn that is noted has to be at most 255 after the
+//! base; where it is not, the base moves first. Forward it stops 128 before the turn, so that the
+//! next such move comes 128 turns later at the soonest, and a pass over the bytes lowers them by as
+//! much: those that fall to 0 are of turns that lie at the base or before it, and are forgotten.
+//! Backward, where a turn at the base or before it is noted, all are forgotten.
+ghost use Rattle.std.specs.Prelude.{◌≡◌, ◌↔◌, ◌+◌, ◌-◌, ◌≤◌, ◌<◌, ℕ, IfOk, IsTrue};
+ghost use Rattle.std.specs.Prelude.{length, replicate, slice_index};
 ghost use Rattle.std.specs.Borrow.{sem};
 ghost use Rattle.ds_base.specs.declared.value.Value.TheVariants.{Zero};
-ghost use Rattle.ds_scratch.specs.Scratch.{Kept, Memory, Remembers};
+ghost use Rattle.ds_scratch.specs.Scratch.{IsNoted, Kept, Memory, Remembers};
+ghost use Rattle.ds_scratch.specs.Turns.{IsSameOrLost, IsSameOrNone, noted_turn};
 ghost use Rattle.ds_scratch.specs.Lent.{LendsNets};
 
 use ds_base::{OutOfMemory, Row3};
 use std::alloc::Global;
 use std::marker::Model;
 
-/// A row with a value for each net, and a turn for each slot.
+/// A row with a value for each net, and a turn for each slot, which takes a byte.
 pub struct Scratch {
     nets: Row3,
-    turns: Vec<u64>,
+    turns: Vec<u8>,
+    base: u64,
 }
 
 impl Drop for Scratch {
     fn drop(self) {
-        let Scratch { nets: _, turns: _ } = self;
+        let Scratch {
+            nets: _,
+            turns: _,
+            base: _,
+        } = self;
     }
 }
 
 impl Model for Scratch {
     ghost use Rattle.ds_scratch.specs.Scratch.{Kept};
+    ghost use Rattle.ds_scratch.specs.Turns.{noted_turns};
 
     ghost Value = { Kept };
 
     ghost view = { λ s. record {
       nets = s.nets;
-      turns = s.turns.items;
+      turns = noted_turns s.base s.turns.items;
     } };
 }
 
@@ -45,24 +59,37 @@ impl Scratch {
     {
         Ok(Scratch {
             nets: Row3::with_len(alloc, nets)?,
-            turns: vec![in alloc; 0u64; slots]?,
+            turns: vec![in alloc; 0u8; slots]?,
+            base: 0,
         })
     }
 
-    /// Whether the slot is noted for this turn.
-    pub fn is_noted(&self, slot: usize, turn: u64) -> bool
-        requires { slot < length self.now.turns }
-        ensures { IsTrue result ↔ (slice_index self.now.turns slot ≡ turn) }
+    /// How many slots there are.
+    pub fn slots(&self) -> usize
+        ensures { result ≡ length self.now.turns }
     {
-        self.turns[slot] == turn
+        self.turns.len()
     }
 
-    /// Notes the slot for this turn, or for none where the turn is 0.
-    pub fn note(&mut self, slot: usize, turn: u64)
-        requires { slot < length self.old.turns }
-        ensures { self.new ≡ record self.old { turns = slice_set self.old.turns slot turn } }
+    /// Whether the slot is noted for this turn, which counts from 1.
+    pub fn is_noted(&self, slot: usize, turn: u64) -> bool
+        requires slot { slot < length self.now.turns }
+        requires turn { 0 < turn }
+        ensures { IsTrue result ↔ (slice_index self.now.turns slot ≡ turn) }
     {
-        self.turns[slot] = turn;
+        turn > self.base && turn - self.base == self.turns[slot] as u64
+    }
+
+    /// Notes the slot for this turn, which counts from 1. Slots of other turns may be forgotten:
+    /// those of turns 128 and more before this one, and all where this one lies so far before
+    /// another.
+    pub fn note(&mut self, slot: usize, turn: u64)
+        requires slot { slot < length self.old.turns }
+        requires turn { 0 < turn }
+        ensures { IsNoted slot turn self.old self.new }
+    {
+        self.base = base_for(turn, self.base, self.turns.as_mut_slice());
+        self.turns[slot] = (turn - self.base) as u8;
     }
 
     /// The row.
@@ -78,5 +105,43 @@ impl Scratch {
         ensures value { result.now ≡ self.old.nets }
     {
         &mut self.nets
+    }
+}
+
+// The base for a turn: the same, or where no byte stands for the turn behind it, another, behind
+// which the bytes stand for the same turns as before, or for none where they stood for another.
+fn base_for(turn: u64, base: u64, bytes: &mut [u8]) -> u64
+    requires { 0 < turn }
+    ensures turn { (result < turn) × (turn ≤ result + 255) }
+    ensures others { (s : ℕ) → IsSameOrLost turn (noted_turn base (slice_index bytes.old s))
+        (noted_turn result (slice_index bytes.new s)) }
+{
+    if turn > base && turn - base <= 255 {
+        return base;
+    }
+    let next = turn.saturating_sub(128);
+    lower(bytes, bytes_between(base, next));
+    next
+}
+
+// How far the bytes fall where the base moves to the next: as far as it moves forward, and all the
+// way down where it moves backward.
+fn bytes_between(base: u64, next: u64) -> u8
+    ensures { (byte : ℕ) → byte < 256
+        → IsSameOrNone (noted_turn base byte) (noted_turn next (byte - result)) }
+{
+    if base < next && next - base < 255 {
+        (next - base) as u8
+    } else {
+        255
+    }
+}
+
+// Lowers each byte by so much, and not below 0.
+fn lower(bytes: &mut [u8], by: u8)
+    ensures { (s : ℕ) → slice_index bytes.new s ≡ slice_index bytes.old s - by }
+{
+    for i in 0..bytes.len() {
+        bytes[i] = bytes[i].saturating_sub(by);
     }
 }

@@ -1,12 +1,11 @@
 -- A table that is added to a series.
-use Rattle.std.proofs.Common.{◌≡◌, ℕ, ◌+◌, ◌-◌, ◌<◌, ◌≤◌, true, List, [], ◌∷◌, ◌++◌, length, take, drop, get_or, map, refl, ap, arith, sym, ◌∙◌, subst, length-append, length-drop}
-use Rattle.std.proofs.lemmas.List.{drop-append-le, drop_at, length-map, length-take-le, map-append, map_push, take_all, take_more}
+use Rattle.std.proofs.Common.{◌≡◌, ℕ, ◌+◌, ◌-◌, ◌≤◌, true, List, [], ◌∷◌, ◌++◌, length, take, drop, map, refl, ap, arith, sym, ◌∙◌, subst, length-append, length-drop}
+use Rattle.std.proofs.lemmas.List.{drop-append-le, drop_at, length-map, map-append, map_push, take_all}
 use Rattle.std.proofs.Common.{append-nil}
-use Rattle.ds_cover.specs.Bank.{Driven, driven_at}
+use Rattle.ds_cover.specs.Bank.{Driven}
 use Rattle.ds_cover.specs.Kept.{IsQuick}
 use Rattle.ds_series.specs.Small.{StandsFor, WordsFor, paired, small_four, small_three, small_two, worded_three, worded_two}
-use Rattle.ds_series.specs.Series.{AreFor, AreRuns, IsAddedTo, IsOfKind, IsPart, IsRun, IsRunAdded, IsSeries, IsSmallAdded, Parts, in_order, joined, own_tables, part_of}
-use Rattle.ds_series.specs.Series.IsRunAdded.{alone, joins}
+use Rattle.ds_series.specs.Series.{AreFor, AreRuns, IsAddedTo, IsOfKind, IsPart, IsRun, IsSmallAdded, Parts, joined, own_tables, part_of}
 use Rattle.ds_cover.specs.declared.entry.Quick.{Quick}
 use Rattle.ds_series.specs.declared.run.Kind.{Kind}
 use Rattle.ds_series.specs.declared.run.Kind.TheVariants.{Twos, Threes, Fours, Others}
@@ -111,7 +110,7 @@ module _ (old new : Parts) (even : length old.nines ≡ length old.twos) (even' 
       (subst (λ ss. IsPart StandsFor ss (tables ++ others) run) (sym (map-append small_four old.fours grows.fours)) (part_longer StandsFor (map small_four old.fours) (map small_four grows.fours) tables others run low fits part))
   kind_stays run low fits Others is = is
 
-  run_stays : (run : Run) → IsRun old tables run → IsRun new (tables ++ others) run
+  pub run_stays : (run : Run) → IsRun old tables run → IsRun new (tables ++ others) run
   run_stays run is =
       let fits = is.fits in
       let l : length (tables ++ others) ≡ length tables + length others = length-append tables others in
@@ -120,6 +119,13 @@ module _ (old new : Parts) (even : length old.nines ≡ length old.twos) (even' 
 -- the lists
 abbrev lists_of : List Two → List Nine → List Three → List ℕ → List Four → Parts
 lists_of twos ws threes us fours = record { twos = twos; nines = ws; threes = threes; three_words = us; fours = fours }
+
+none_more : (twos : List Two) (ws : List Nine) (threes : List Three) (us : List ℕ) (fours : List Four) → lists_of twos ws threes us fours ≡ lists_of (twos ++ []) (ws ++ []) (threes ++ []) (us ++ []) (fours ++ [])
+none_more twos ws threes us fours = rw (append-nil twos, append-nil ws, append-nil threes, append-nil us, append-nil fours) refl
+
+-- nothing is added
+pub grows_none : (parts : Parts) → Grows parts parts
+grows_none parts = record { twos = []; nines = []; threes = []; three_words = []; fours = []; is = none_more parts.twos parts.nines parts.threes parts.three_words parts.fours }
 
 -- what is added stands for the table
 module _ (quick : Quick) (old new : Parts) (even : length old.nines ≡ length old.twos) (even' : length old.three_words ≡ length old.threes) (tables : List Driven) (t : Driven) (run : Run)
@@ -202,9 +208,6 @@ module _ (quick : Quick) (old new : Parts) (even : length old.nines ≡ length o
           kind = kind_more last.kind (subst IsAdded' (sym kind) added.kind) is_run.kind;
         }
 
-  none_more : (twos : List Two) (ws : List Nine) (threes : List Three) (us : List ℕ) (fours : List Four) → lists_of twos ws threes us fours ≡ lists_of (twos ++ []) (ws ++ []) (threes ++ []) (us ++ []) (fours ++ [])
-  none_more twos ws threes us fours = rw (append-nil twos, append-nil ws, append-nil threes, append-nil us, append-nil fours) refl
-
   grown : (kind : Kind) → IsAdded' kind → Grows old new
   grown Twos (two, word, nine, few, small, folded, worded, values, first, is) = record {
     twos = two ∷ [];
@@ -232,10 +235,10 @@ module _ (quick : Quick) (old new : Parts) (even : length old.nines ≡ length o
   }
   grown Others (first, is) = record { twos = []; nines = []; threes = []; three_words = []; fours = []; is = is ∙ none_more old.twos old.nines old.threes old.three_words old.fours }
 
-  grows : Grows old new
+  pub grows : Grows old new
   grows = grown run.kind added.kind
 
-  evens : (kind : Kind) → IsAdded' kind → (length new.nines ≡ length new.twos) × (length new.three_words ≡ length new.threes)
+  pub evens : (kind : Kind) → IsAdded' kind → (length new.nines ≡ length new.twos) × (length new.three_words ≡ length new.threes)
   evens Twos (two, word, nine, few, small, folded, worded, values, first, is) =
       subst (λ (p : Parts). (length p.nines ≡ length p.twos) × (length p.three_words ≡ length p.threes)) (sym is)
       (let a = length-append old.twos (two ∷ []) in let b = length-append old.nines (nine ∷ []) in (omega arith, even'))
@@ -247,7 +250,7 @@ module _ (quick : Quick) (old new : Parts) (even : length old.nines ≡ length o
   evens Others (first, is) =
       subst (λ (p : Parts). (length p.nines ≡ length p.twos) × (length p.three_words ≡ length p.threes)) (sym is) (even, even')
 
-  runs_alone : (at : ℕ) (runs : List Run) → AreRuns old tables at runs → AreRuns new (tables ++ t ∷ []) at (runs ++ run ∷ [])
+  pub runs_alone : (at : ℕ) (runs : List Run) → AreRuns old tables at runs → AreRuns new (tables ++ t ∷ []) at (runs ++ run ∷ [])
   runs_alone at [] are =
       let one = added.one in
       let here = added.at_is in
@@ -255,7 +258,7 @@ module _ (quick : Quick) (old new : Parts) (even : length old.nines ≡ length o
       (here ∙ sym are, run_one, omega arith)
   runs_alone at (r ∷ runs) (here, is, rest) = (here, run_stays old new even even' grows tables (t ∷ []) r is, runs_alone (at + (r.end - r.first)) runs rest)
 
-  runs_joined : (at : ℕ) (front : List Run) (last : Run) → last.end ≡ run.first → last.kind ≡ run.kind → AreRuns old tables at (front ++ last ∷ []) → AreRuns new (tables ++ t ∷ []) at (front ++ joined last run ∷ [])
+  pub runs_joined : (at : ℕ) (front : List Run) (last : Run) → last.end ≡ run.first → last.kind ≡ run.kind → AreRuns old tables at (front ++ last ∷ []) → AreRuns new (tables ++ t ∷ []) at (front ++ joined last run ∷ [])
   runs_joined at [] last meets kind (here, is, all) =
       let one = added.one in
       let low = is.low in
@@ -264,28 +267,3 @@ module _ (quick : Quick) (old new : Parts) (even : length old.nines ≡ length o
       let w : at + (last.end - last.first) ≡ length tables = all in
       (here, run_more last meets (omega arith) is kind, omega arith)
   runs_joined at (r ∷ front) last meets kind (here, is, rest) = (here, run_stays old new even even' grows tables (t ∷ []) r is, runs_joined (at + (r.end - r.first)) front last meets kind rest)
-
-  pub runs_added : (runs after : List Run) → AreRuns old tables 0 runs → IsRunAdded runs run after → AreRuns new (tables ++ t ∷ []) 0 after
-  runs_added runs after are (alone is) = subst (AreRuns new (tables ++ t ∷ []) 0) (sym is) (runs_alone 0 runs are)
-  runs_added runs after are (joins front last was kind meets is) =
-      subst (AreRuns new (tables ++ t ∷ []) 0) (sym is) (runs_joined 0 front last meets kind (subst (AreRuns old tables 0) was are))
-
--- one more table of an order
-pub more_made : (quick : Quick) (bank : List Driven) (order : List ℕ) (i k : ℕ) (old new : Parts) (run : Run) (runs runs' : List Run) → i < length order → k ≡ get_or order i k
-    → IsSmallAdded quick (driven_at bank k).cover.masks (driven_at bank k).cover.on (length (driven_at bank k).cover.inputs) i old new run → quick.output ≡ (driven_at bank k).output
-    → (quick.few ≡ true → IsQuick quick (driven_at bank k).cover) → IsSeries old (in_order bank (take i order)) runs → IsRunAdded runs run runs' → IsSeries new (in_order bank (take (i + 1) order)) runs'
-more_made quick bank order i k old new run runs runs' inside is added drives is_quick are run_added =
-    let t = driven_at bank k in
-    let before = in_order bank (take i order) in
-    let long : length (in_order bank (take i order)) ≡ i = length-map (take i order) (driven_at bank) ∙ length-take-le i order (omega arith) in
-    let added' : IsSmallAdded quick t.cover.masks t.cover.on (length t.cover.inputs) (length (in_order bank (take i order))) old new run =
-    subst (λ n. IsSmallAdded quick t.cover.masks t.cover.on (length t.cover.inputs) n old new run) (sym long) added in
-    let whole : in_order bank (take (i + 1) order) ≡ in_order bank (take i order) ++ driven_at bank k ∷ [] =
-    ap (in_order bank) (take_more order i k inside) ∙ (map_push (driven_at bank) (take i order) (get_or order i k)
-    ∙ ap (λ n. in_order bank (take i order) ++ driven_at bank n ∷ []) (sym is)) in
-    let both = evens quick old new are.twos are.threes before t run added' drives is_quick run.kind added'.kind in
-    record {
-      twos = both.0;
-      threes = both.1;
-      runs = subst (λ ts. AreRuns new ts 0 runs') (sym whole) (runs_added quick old new are.twos are.threes before t run added' drives is_quick runs runs' are.runs run_added);
-    }

@@ -5,3 +5,6 @@ pub mod Ternary
 pub mod Grown
 pub mod Known
 pub mod Ended
+pub mod Left
+pub mod Added
+pub mod Between

@@ -215,41 +215,6 @@ module _ {A W : Type 0} (f : A → W → Worded) where
   words_after xs ws tables run nets part =
       ap (λ ss. after_worded ss nets) (sym (paired-part run.first run.end xs ws)) ∙ worded_after (part_of run.first run.end (paired f xs ws)) (own_tables tables run) nets part.stands
 
--- some runs are behind, with what is left, where nothing is known
-pub record IsSetSoFar (parts : Parts) (tables : List Driven) (initial nets : Row) (runs : List Run) : Type 0 where
-  pub at : ℕ
-  pub left : AreRuns parts tables at runs
-  pub same : length nets ≡ length initial
-  pub rest : after_each tables initial ≡ after_each (drop at tables) nets
-
-pub far_none : (parts : Parts) (tables : List Driven) (nets : Row) (runs : List Run) → AreRuns parts tables 0 runs → IsSetSoFar parts tables nets nets runs
-far_none parts tables nets runs are = record { at = 0; left = are; same = refl; rest = refl }
-
-pub far_more : (parts : Parts) (tables bank : List Driven) (initial nets : Row) (runs : List Run) (i : ℕ) (d : Run) → i < length runs → tables ≡ bank
-    → IsSetSoFar parts tables initial nets (drop i runs) → (nets' : Row) → nets' ≡ after_each (own_tables bank (get_or runs i d)) nets → IsSetSoFar parts tables initial nets' (drop (i + 1) runs)
-far_more parts tables bank initial nets runs i d inside equal far nets' is' =
-    let run = get_or runs i d in
-    let runs' = drop (i + 1) runs in
-    let n : suc i ≡ i + 1 = omega arith in
-    let now : IsSetSoFar parts tables initial nets (run ∷ runs') = subst (λ rs. IsSetSoFar parts tables initial nets rs) (drop-cons runs i d inside ∙ ap (λ m. run ∷ drop m runs) n) far in
-    let is : nets' ≡ after_each (own_tables tables run) nets = is' ∙ ap (λ ts. after_each (own_tables ts run) nets) (sym equal) in
-    let count = run.end - run.first in
-    let own_is : drop now.at tables ≡ own_tables tables run ++ drop (now.at + count) tables =
-    sym (take-append-drop count (drop now.at tables)) ∙ (ap (λ ts. take count (drop now.at tables) ++ ts) (drop-drop count now.at tables)
-    ∙ ap (λ m. take count (drop m tables) ++ drop (now.at + count) tables) (sym now.left.0)) in
-    record {
-      at = now.at + count;
-      left = now.left.2;
-      same = ap length is ∙ (length-after_each (own_tables tables run) nets ∙ now.same);
-      rest = now.rest ∙ (ap (λ ts. after_each ts nets) own_is ∙ (after_each-append (own_tables tables run) (drop (now.at + count) tables) nets
-          ∙ ap (after_each (drop (now.at + count) tables)) (sym is)));
-    }
-
-pub far_whole : (parts : Parts) (tables : List Driven) (initial nets : Row) → IsSetSoFar parts tables initial nets [] → nets ≡ after_each tables initial
-far_whole parts tables initial nets now =
-    let none : drop now.at tables ≡ [] = ap (λ n. drop n tables) now.left ∙ drop-all tables in
-    sym (now.rest ∙ ap (λ ts. after_each ts nets) none)
-
 pub paired-short : {A W : Type 0} (f : A → W → Worded) (xs : List A) (ws : List W) → length (paired f xs ws) ≤ length ws
 paired-short f [] ws = omega arith
 paired-short f (x ∷ xs) [] = omega arith

@@ -101,22 +101,44 @@ AreRuns parts tables at [] = at ≡ length tables
 AreRuns parts tables at (run ∷ runs) = (run.at ≡ at) × IsRun parts tables run
     × AreRuns parts tables (at + (run.end - run.first)) runs
 
+-- the numbers of the tables of a run
+abbrev pub numbers_in : List ℕ → Run → List ℕ
+numbers_in order run = take (run.end - run.first) (drop run.at order)
+
+-- those of runs, one run after another
+abbrev pub numbers_of : List ℕ → List Run → List ℕ
+numbers_of order [] = []
+numbers_of order (run ∷ runs) = numbers_in order run ++ numbers_of order runs
+
 -- two runs that follow each other, as one
 abbrev pub joined : Run → Run → Run
 joined last run = record { kind = last.kind; at = last.at; first = last.first; end = run.end }
 
--- a run is added
-pub data IsRunAdded (before : List Run) (run : Run) (after : List Run) : Type 0 where
-  alone : after ≡ before ++ run ∷ [] → IsRunAdded before run after
-  joins : (front : List Run) (last : Run) → before ≡ front ++ last ∷ [] → last.kind ≡ run.kind
-      → last.end ≡ run.first
-      → after ≡ front ++ joined last run ∷ [] → IsRunAdded before run after
+-- a run is added; it joins none of the first ones, so many
+pub data IsRunAdded (others : ℕ) (before : List Run) (run : Run) (after : List Run) : Type 0 where
+  alone : after ≡ before ++ run ∷ [] → IsRunAdded others before run after
+  joins : (front : List Run) (last : Run) → before ≡ front ++ last ∷ [] → others ≤ length front
+      → last.kind ≡ run.kind → last.end ≡ run.first
+      → after ≡ front ++ joined last run ∷ [] → IsRunAdded others before run after
 
--- all tables, with nine values for each of two inputs, and a word for each of three
-pub record IsSeries (parts : Parts) (tables : List Driven) (all : List Run) : Type 0 where
+-- nine values for each table of two inputs, and a word for each of three
+pub record AreEven (parts : Parts) : Type 0 where
   pub twos : length parts.nines ≡ length parts.twos
   pub threes : length parts.three_words ≡ length parts.threes
-  pub runs : AreRuns parts tables 0 all
+
+-- what is a run of some tables stays one where more tables follow
+abbrev pub StayRuns : Parts → Parts → Type 0
+StayRuns old new = (tables more : List Driven) (run : Run) → IsRun old tables run
+    → IsRun new (tables ++ more) run
+
+-- the tables from a number on are added, in runs of their own
+pub record AreAdded (old new : Parts) (tables : List Driven) (start : ℕ) (before after : List Run) :
+    Type 0 where
+  pub even : AreEven new
+  pub stay : StayRuns old new
+  pub own : List Run
+  pub behind : after ≡ before ++ own
+  pub runs : AreRuns new tables start own
 
 -- a table is added to the list of its kind
 abbrev pub IsAddedTo : Quick → List Mask → Bool → ℕ → ℕ → Parts → Parts → ℕ → Kind → Type 0

@@ -1,8 +1,9 @@
 //! Tables of one kind that are set one after another.
-ghost use Rattle.std.specs.Prelude.{◌≡◌, ◌+◌, ◌-◌, ◌<◌, ◌≤◌, true, All, OnOk, drop, length, take};
+ghost use Rattle.std.specs.Prelude.{◌≡◌, ◌+◌, ◌-◌, ◌<◌, ◌≤◌, true, All, OnOk, length};
 ghost use Rattle.ds_cover.specs.Bank.{IsWithin, after_tables};
-ghost use Rattle.ds_series.specs.Series.{FindsKnown, IsRun, IsRunAdded, IsSeries, after_each};
-ghost use Rattle.ds_series.specs.Series.{in_order, own_tables, parts_of};
+ghost use Rattle.ds_series.specs.Series.{AreAdded, AreEven, FindsKnown, IsRun, IsRunAdded};
+ghost use Rattle.ds_series.specs.Series.{after_each, in_order, numbers_in, numbers_of, own_tables};
+ghost use Rattle.ds_series.specs.Series.{parts_of};
 
 use crate::lists::Lists;
 use crate::small::{set_fours, set_threes, set_twos, set_worded_threes, set_worded_twos};
@@ -36,12 +37,37 @@ pub struct Run {
     pub end: usize,
 }
 
-// Adds a run of one table: to the last run where that is of its kind and ends where it begins.
-pub(crate) fn push_run(runs: &mut Vec<Run>, run: Run) -> Result<(), AllocError>
-    ensures { OnOk result (IsRunAdded runs.old.items run runs.new.items) }
+// Adds the tables of an order from this place on to the lists of their kinds, and their runs behind
+// the runs that are there.
+pub(crate) fn add_from(
+    lists: &mut Lists,
+    runs: &mut Vec<Run>,
+    bank: &Bank,
+    order: &[u32],
+    start: usize,
+) -> Result<(), AllocError>
+    requires places { All (λ k. k < length bank.now) order.now }
+    requires start { start ≤ length order.now }
+    requires even { AreEven (parts_of lists.old) }
+    ensures { OnOk result (AreAdded (parts_of lists.old) (parts_of lists.new)
+        (in_order bank.now order.now) start runs.old.items runs.new.items) }
+{
+    let others = runs.len();
+    for at in start..order.len() {
+        let table = order[at] as usize;
+        let run = lists.add(bank.quick(table), bank, table, at)?;
+        push_run(runs, others, run)?;
+    }
+    Ok(())
+}
+
+// Adds a run of one table: to the last run where that is none of the first ones, is of its kind and
+// ends where it begins.
+fn push_run(runs: &mut Vec<Run>, others: usize, run: Run) -> Result<(), AllocError>
+    ensures { OnOk result (IsRunAdded others runs.old.items run runs.new.items) }
 {
     if let Some(last) = runs.pop() {
-        if joins(&last, &run) {
+        if runs.len() >= others && joins(&last, &run) {
             runs.push(Run {
                 kind: last.kind,
                 at: last.at,
@@ -89,12 +115,12 @@ pub(crate) fn set_known(run: &Run, lists: &Lists, bank: &Bank, order: &[u32], ne
     }
 }
 
-// Sets what the tables of all runs of an order drive, one after another.
+// Sets what the tables of these runs drive, one after another.
 pub(crate) fn set_runs(runs: &[Run], lists: &Lists, bank: &Bank, order: &[u32], nets: &mut Row3)
     requires places { All (λ k. k < length bank.now) order.now }
-    requires runs { IsSeries (parts_of lists.now) (in_order bank.now order.now) runs.now }
+    requires runs { All (IsRun (parts_of lists.now) (in_order bank.now order.now)) runs.now }
     requires within { All (λ t. IsWithin t nets.old) bank.now }
-    ensures { nets.new ≡ after_tables bank.now nets.old order.now }
+    ensures { nets.new ≡ after_tables bank.now nets.old (numbers_of order.now runs.now) }
 {
     for run in runs {
         set_run(run, lists, bank, order, nets);
@@ -124,7 +150,7 @@ fn set_run(run: &Run, lists: &Lists, bank: &Bank, order: &[u32], nets: &mut Row3
 fn own_order<'a>(run: &Run, order: &'a [u32]) -> &'a [u32]
     requires low { run.now.first ≤ run.now.end }
     requires fits { run.now.at + (run.now.end - run.now.first) ≤ length order.now }
-    ensures { result.now ≡ take (run.now.end - run.now.first) (drop run.now.at order.now) }
+    ensures { result.now ≡ numbers_in order.now run.now }
 {
     &order[run.at..run.at + (run.end - run.first)]
 }

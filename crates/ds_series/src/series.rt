@@ -1,10 +1,10 @@
 //! The tables of a bank in the order in which they are set, those of up to four inputs by kinds.
 ghost use Rattle.std.specs.Prelude.{◌≡◌, ◌<◌, length, All, IfErr, IfOk};
 ghost use Rattle.ds_cover.specs.Bank.{IsWithin, after_tables};
-ghost use Rattle.ds_series.specs.Series.{FindsKnown, IsSeries, in_order, parts_of};
+ghost use Rattle.ds_series.specs.Series.{AreRuns, FindsKnown, in_order, parts_of};
 
 use crate::lists::Lists;
-use crate::run::{Run, push_run, set_known, set_runs};
+use crate::run::{Run, add_from, set_known, set_runs};
 use ds_base::Row3;
 use ds_cover::Bank;
 use std::alloc::{AllocError, Global};
@@ -31,14 +31,14 @@ impl Drop for Series {
 
 impl Model for Series {
     ghost use Rattle.std.specs.Prelude.{◌<◌, length, All};
-    ghost use Rattle.ds_series.specs.Series.{IsSeries, Ordered, in_order, parts_of};
+    ghost use Rattle.ds_series.specs.Series.{AreRuns, Ordered, in_order, parts_of};
 
     ghost Value = { Ordered };
 
     ghost view = { λ s. record { tables = s.bank; order = s.order.items } };
 
     ghost invariant = { λ s. All (λ k. k < length s.bank) s.order.items
-        × IsSeries (parts_of s.lists) (in_order s.bank s.order.items) s.runs.items };
+        × AreRuns (parts_of s.lists) (in_order s.bank s.order.items) 0 s.runs.items };
 }
 
 impl Series {
@@ -98,21 +98,13 @@ impl Series {
 }
 
 // The lists and runs of the tables of a bank in this order.
-pub(crate) fn lists_of(
-    alloc: Global,
-    bank: &Bank,
-    order: &[u32],
-) -> Result<(Lists, Vec<Run>), AllocError>
+fn lists_of(alloc: Global, bank: &Bank, order: &[u32]) -> Result<(Lists, Vec<Run>), AllocError>
     requires { All (λ k. k < length bank.now) order.now }
-    ensures { IfOk result (λ made. IsSeries (parts_of made.0) (in_order bank.now order.now)
+    ensures { IfOk result (λ made. AreRuns (parts_of made.0) (in_order bank.now order.now) 0
         made.1.items) }
 {
     let mut lists = Lists::new(alloc);
     let mut runs = Vec::new(alloc);
-    for (at, number) in order.iter().enumerate() {
-        let table = *number as usize;
-        let run = lists.add(bank.quick(table), bank, table, at)?;
-        push_run(&mut runs, run)?;
-    }
+    add_from(&mut lists, &mut runs, bank, order, 0)?;
     Ok((lists, runs))
 }

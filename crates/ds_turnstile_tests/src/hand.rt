@@ -7,7 +7,7 @@ ghost use Rattle.ds_rule.specs.Rule.{seen};
 ghost use Rattle.ds_fabric.specs.Showing.{Showing};
 ghost use Rattle.ds_turnstile.specs.Turns.{base};
 ghost use Rattle.ds_turnstile.specs.Shown.{Misses};
-ghost use Rattle.ds_turnstile_tests.specs.Trio.{AreTrio, IsGate, IsIdle, IsFresh};
+ghost use Rattle.ds_turnstile_tests.specs.Trio.{AreTrio, IsStile, IsIdle, IsFresh};
 
 use crate::trio::Trio;
 use ds_base::{LatchId, OutOfMemory};
@@ -32,7 +32,7 @@ pub fn set_up(
     requires trio { AreTrio fabric.now passes.old.items × (base 0 passes.old.items ≡ 0) }
     requires room { 3 ≤ vec_capacity passes.old }
 
-    ensures ok { IfOk result (λ r. IsGate fabric.now r.0
+    ensures ok { IfOk result (λ r. IsStile fabric.now r.0
         × IsIdle fabric.now r.0 r.1.turn r.1.scratch × IsIdle fabric.now r.0 r.2.turn r.2.scratch) }
     ensures fresh { IfOk result (λ r. IsFresh r.1.turn.view × IsFresh r.2.turn.view) }
     ensures none { OnOk result (passes.new.items ≡ []) }
@@ -40,54 +40,54 @@ pub fn set_up(
 {
     let scratch = fabric.scratch(alloc)?;
     let spare = fabric.scratch(alloc)?;
-    let (gate, mut turn) = Turnstile::build(alloc, passes, 2)?;
-    let other = gate.split(&mut turn);
+    let (stile, mut turn) = Turnstile::build(alloc, passes, 2)?;
+    let other = stile.split(&mut turn);
     let one = Hand { turn, scratch };
     let two = Hand {
         turn: other,
         scratch: spare,
     };
-    Ok((gate, one, two))
+    Ok((stile, one, two))
 }
 
 /// Takes the pass of the node, steps it so often, and puts it back: how often the node has fired
 /// then; none where the pass is out.
 pub fn fires(
     fabric: &Fabric<Trio, Trio>,
-    gate: &Turnstile,
+    stile: &Turnstile,
     hand: &mut Hand,
     node: u32,
     times: u32,
 ) -> Option<u64>
-    requires gate { IsGate fabric.now gate.now × (node < 3) }
-    requires idle { IsIdle fabric.now gate.now hand.old.turn hand.old.scratch }
+    requires stile { IsStile fabric.now stile.now × (node < 3) }
+    requires idle { IsIdle fabric.now stile.now hand.old.turn hand.old.scratch }
 
-    ensures idle { IsIdle fabric.now gate.now hand.new.turn hand.new.scratch }
+    ensures idle { IsIdle fabric.now stile.now hand.new.turn hand.new.scratch }
     ensures missed { IfNone result (Misses hand.old.turn.view hand.new.turn.view node) }
 {
     let node = LatchId::new(node);
-    let Some(mut pass) = gate.take(&mut hand.turn, node) else {
+    let Some(mut pass) = stile.take(&mut hand.turn, node) else {
         return None;
     };
     for _ in 0..times {
         fabric.step_in(&mut pass, node, &mut hand.scratch);
     }
     let fired = pass.fired(node);
-    gate.give(&mut hand.turn, node, pass);
+    stile.give(&mut hand.turn, node, pass);
     Some(fired)
 }
 
 /// Ends the turnstile: how often each node has fired, in order. Their sum is what the hands made.
 pub fn shut(
     fabric: &Fabric<Trio, Trio>,
-    gate: Turnstile,
+    stile: Turnstile,
     one: Hand,
     two: Hand,
     passes: &mut Vec<Pass>,
 ) -> (u64, u64, u64)
-    requires gate { IsGate fabric.now gate }
-    requires idle { IsIdle fabric.now gate one.turn one.scratch
-        × IsIdle fabric.now gate two.turn two.scratch }
+    requires stile { IsStile fabric.now stile }
+    requires idle { IsIdle fabric.now stile one.turn one.scratch
+        × IsIdle fabric.now stile two.turn two.scratch }
     requires room { (passes.old.items ≡ []) × (3 ≤ vec_capacity passes.old) }
 
     ensures back { AreTrio fabric.now passes.new.items }
@@ -101,8 +101,8 @@ pub fn shut(
         turn: other,
         scratch: _,
     } = two;
-    gate.join(&mut turn, other);
-    gate.close(turn, passes);
+    stile.join(&mut turn, other);
+    stile.close(turn, passes);
     all_fired(fabric, passes)
 }
 

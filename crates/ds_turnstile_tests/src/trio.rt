@@ -1,5 +1,5 @@
 //! A run of three nodes that fire freely, on which the tests stand.
-ghost use Rattle.std.specs.Prelude.{◌≡◌, ◌<◌, ◌≤◌, ◌+◌, IfOk, OnOk, vec_capacity};
+ghost use Rattle.std.specs.Prelude.{◌≡◌, ◌<◌, ◌≤◌, ◌+◌, IfOk, OnOk, vec_capacity, false};
 ghost use Rattle.ds_turnstile.specs.Turns.{base};
 ghost use Rattle.ds_turnstile_tests.specs.Trio.{zero_rows, trio, small_memory, CarriesFrom};
 ghost use Rattle.ds_turnstile_tests.specs.Trio.{CarriesOne, AreTrio};
@@ -23,6 +23,8 @@ impl Compute for Trio {
 
     ghost memory = { λ _. small_memory };
 
+    ghost knows = { λ _ _ _ _. false };
+
     fn scratch(&self, alloc: Global) -> Result<Scratch, OutOfMemory> {
         Scratch::of(alloc, 1, 0)
     }
@@ -33,6 +35,10 @@ impl Compute for Trio {
 
     fn first(&self, node: LatchId, i: usize) -> u64 {
         0
+    }
+
+    fn knows(&self, producer: LatchId, turn: u64, scratch: &Scratch) -> bool {
+        false
     }
 
     fn compute(&self, node: LatchId, turn: u64, _: &[u64], _: &mut Scratch, into: &mut Vec<u64>) {

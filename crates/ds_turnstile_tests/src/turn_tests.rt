@@ -1,6 +1,6 @@
 //! Two turns on three nodes, on one thread and on two.
 ghost use Rattle.std.specs.Prelude.{◌≡◌, IsTrue};
-ghost use Rattle.ds_turnstile_tests.specs.Trio.{IsGate, IsIdle, IsFresh, HasMissed};
+ghost use Rattle.ds_turnstile_tests.specs.Trio.{IsStile, IsIdle, IsFresh, HasMissed};
 
 use crate::hand::{Hand, fires, set_up, shut};
 use crate::trio::{Trio, begin, layout};
@@ -11,22 +11,22 @@ use std::thread;
 use std::thread::Threads;
 
 // While the first hand has the pass of node 1, the second misses it.
-fn misses(fabric: &Fabric<Trio, Trio>, gate: &Turnstile, one: &mut Hand, two: &mut Hand) -> bool
-    requires gate { IsGate fabric.now gate.now }
-    requires one { IsIdle fabric.now gate.now one.old.turn one.old.scratch }
-    requires two { IsIdle fabric.now gate.now two.old.turn two.old.scratch
+fn misses(fabric: &Fabric<Trio, Trio>, stile: &Turnstile, one: &mut Hand, two: &mut Hand) -> bool
+    requires stile { IsStile fabric.now stile.now }
+    requires one { IsIdle fabric.now stile.now one.old.turn one.old.scratch }
+    requires two { IsIdle fabric.now stile.now two.old.turn two.old.scratch
         × IsFresh two.old.turn.view }
 
-    ensures one { IsIdle fabric.now gate.now one.new.turn one.new.scratch }
-    ensures two { IsIdle fabric.now gate.now two.new.turn two.new.scratch }
+    ensures one { IsIdle fabric.now stile.now one.new.turn one.new.scratch }
+    ensures two { IsIdle fabric.now stile.now two.new.turn two.new.scratch }
     ensures missed { IsTrue result → HasMissed two.new.turn.view 1 }
 {
     let node = LatchId::new(1);
-    let Some(pass) = gate.take(&mut one.turn, node) else {
+    let Some(pass) = stile.take(&mut one.turn, node) else {
         return false;
     };
-    let tried = fires(fabric, gate, two, 1, 1);
-    gate.give(&mut one.turn, node, pass);
+    let tried = fires(fabric, stile, two, 1, 1);
+    stile.give(&mut one.turn, node, pass);
     tried.is_none()
 }
 
@@ -38,35 +38,35 @@ fn a_node_that_is_out_is_missed(rt: HostRuntime) {
     let Ok((fabric, mut passes)) = begin(rt.alloc(), &run) else {
         panic!(rt; "memory");
     };
-    let Ok((gate, mut one, mut two)) = set_up(rt.alloc(), &fabric, &mut passes) else {
+    let Ok((stile, mut one, mut two)) = set_up(rt.alloc(), &fabric, &mut passes) else {
         panic!(rt; "memory");
     };
-    assert!(rt; misses(&fabric, &gate, &mut one, &mut two));
-    assert!(rt; gate.seems_home(LatchId::new(1)));
+    assert!(rt; misses(&fabric, &stile, &mut one, &mut two));
+    assert!(rt; stile.seems_home(LatchId::new(1)));
     assert_eq!(rt; one.turn.parts(), 1);
-    assert_eq!(rt; fires(&fabric, &gate, &mut one, 1, 2), Some(2));
-    assert_eq!(rt; fires(&fabric, &gate, &mut two, 2, 1), Some(1));
-    assert_eq!(rt; shut(&fabric, gate, one, two, &mut passes), (0, 2, 1));
+    assert_eq!(rt; fires(&fabric, &stile, &mut one, 1, 2), Some(2));
+    assert_eq!(rt; fires(&fabric, &stile, &mut two, 2, 1), Some(1));
+    assert_eq!(rt; shut(&fabric, stile, one, two, &mut passes), (0, 2, 1));
 }
 
 // Two threads, each with a hand of its own: one fires node 1 twice, the other node 2 once.
 fn both_at_once(
     rt: &impl Threads,
     fabric: &Fabric<Trio, Trio>,
-    gate: &Turnstile,
+    stile: &Turnstile,
     one: &mut Hand,
     two: &mut Hand,
 ) -> (Option<u64>, Option<u64>)
-    requires gate { IsGate fabric.now gate.now }
-    requires one { IsIdle fabric.now gate.now one.old.turn one.old.scratch }
-    requires two { IsIdle fabric.now gate.now two.old.turn two.old.scratch }
-    ensures one { IsIdle fabric.now gate.now one.new.turn one.new.scratch }
-    ensures two { IsIdle fabric.now gate.now two.new.turn two.new.scratch }
+    requires stile { IsStile fabric.now stile.now }
+    requires one { IsIdle fabric.now stile.now one.old.turn one.old.scratch }
+    requires two { IsIdle fabric.now stile.now two.old.turn two.old.scratch }
+    ensures one { IsIdle fabric.now stile.now one.new.turn one.new.scratch }
+    ensures two { IsIdle fabric.now stile.now two.new.turn two.new.scratch }
 {
     thread::join_mut(
         rt,
-        &mut || fires(fabric, gate, one, 1, 2),
-        &mut || fires(fabric, gate, two, 2, 1),
+        &mut || fires(fabric, stile, one, 1, 2),
+        &mut || fires(fabric, stile, two, 2, 1),
     )
 }
 
@@ -79,11 +79,11 @@ fn two_threads_fire_their_nodes(rt: HostRuntime) {
         let Ok((fabric, mut passes)) = begin(rt.alloc(), &run) else {
             panic!(rt; "memory");
         };
-        let Ok((gate, mut one, mut two)) = set_up(rt.alloc(), &fabric, &mut passes) else {
+        let Ok((stile, mut one, mut two)) = set_up(rt.alloc(), &fabric, &mut passes) else {
             panic!(rt; "memory");
         };
-        let both = both_at_once(&rt, &fabric, &gate, &mut one, &mut two);
+        let both = both_at_once(&rt, &fabric, &stile, &mut one, &mut two);
         assert_eq!(rt; both, (Some(2), Some(1)));
-        assert_eq!(rt; shut(&fabric, gate, one, two, &mut passes), (0, 2, 1));
+        assert_eq!(rt; shut(&fabric, stile, one, two, &mut passes), (0, 2, 1));
     }
 }

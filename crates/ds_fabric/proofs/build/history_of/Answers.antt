@@ -1,7 +1,6 @@
-use Rattle.std.proofs.Common.{◌≡◌, ◌≤◌, ℕ, ap, arith, sym, refl, ◌*◌, ◌∙◌}
+use Rattle.std.proofs.Common.{◌≡◌, ℕ, ap, arith, refl, ◌*◌, ◌∙◌}
 use Rattle.ds_rule.specs.Run.{Run}
 use Rattle.ds_rule.specs.Words.{width}
-use Rattle.ds_rule.proofs.RowLaws.{length-supply}
 use Rattle.ds_fabric.proofs.build.history_of.Goals as goal
 
 pub returns : goal.returns
@@ -18,11 +17,6 @@ returns g c = let run : Run = c.args.run.now in let w : ℕ = width run c.args.n
         first = omega (arith, c.in_ok-first.ensures.capacity, c.limit-turns.ensures);
         second = λ low. omega (arith, c.in_ok-second.ensures.capacity, c.limit-turns.ensures);
         rows = omega (arith, c.in_ok-rows.ensures.capacity, size);
-        from = λ k. omega (
-          arith,
-          c.in_ok-from.ensures.capacity,
-          c.requires.reads,
-          length-supply run c.args.node k (Rattle.std.proofs.Common.length run.edges),
-        );
+        from = omega (arith, c.in_ok-from.ensures.capacity, c.requires.reads);
       };
     }

@@ -6,8 +6,8 @@ use Rattle.ds_rule.specs.Run.{Run}
 use Rattle.ds_rule.specs.Sound.{IsSound, edge_at, read_words}
 use Rattle.ds_rule.specs.Words.{width}
 use Rattle.ds_rule.specs.declared.layout.DataEdge.{DataEdge}
-use Rattle.ds_rule.proofs.RowLaws.{reads-into}
-use Rattle.ds_fabric.proofs.Laying.{reads_next, reads_up}
+use Rattle.ds_rule.proofs.RowLaws.{reads-into, reads_up}
+use Rattle.ds_fabric.proofs.Laying.{reads_next}
 use Rattle.ds_fabric.proofs.Ranges.{edge_read}
 use Rattle.ds_fabric.proofs.build.reads.Goals as goal
 

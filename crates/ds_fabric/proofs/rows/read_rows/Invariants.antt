@@ -1,9 +1,11 @@
 use Rattle.std.proofs.Common.{◌≡◌, ◌≤◌, vec_capacity}
-use Rattle.ds_rule.specs.Rows.{supply}
+use Rattle.ds_rule.specs.Rows.{supply_but}
 use Rattle.ds_fabric.proofs.rows.read_rows.Given as goal
 
 abbrev pub invariant-loop-i : goal.invariant-loop-i
 invariant-loop-i g l = (l.seat.table_id ≡ l.fn.seat.table_id) × (l.seat.id ≡ l.fn.seat.id)
     × (l.seat.me ≡ l.fn.seat.me)
-    × (l.into.items ≡ supply l.fn.run l.fn.node l.fn.turn l.i)
+    × (l.into.items ≡ supply_but l.fn.run
+    (λ p. g.C.Compute.knows l.fn.known.openings.now l.fn.known.scratch.now p l.fn.known.turn) l.fn.node
+    l.fn.known.turn l.i)
     × (vec_capacity l.into ≡ vec_capacity l.fn.into) × (l.initial.i ≤ l.i)

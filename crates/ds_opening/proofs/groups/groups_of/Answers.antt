@@ -20,6 +20,6 @@ cone_at s cones are (suc i) d inside =
 pub of-requires : goal.of-requires
 of-requires c = record {
   cones = λ k d inside.
-      subst (λ (circuit : Circuit). (these : List ℕ) × IsCone circuit these (get_or c.args.cones.now k d))
-      (sym c.netlist.ensures.netlist) (cone_at c.args.latches.now c.args.cones.now c.requires.cones k d inside);
+      subst (λ (circuit : Circuit). (these : List ℕ) × IsCone circuit these (get_or c.args.cones.items k d))
+      (sym c.netlist.ensures.netlist) (cone_at c.args.latches.now c.args.cones.items c.requires.cones k d inside);
 }

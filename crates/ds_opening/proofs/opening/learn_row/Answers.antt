@@ -1,8 +1,7 @@
-use Rattle.std.proofs.Common.{◌≡◌, ◌∙◌, ℕ, List, length, set, sym, ap, subst}
+use Rattle.std.proofs.Common.{◌≡◌, ◌∙◌, ℕ, List, length, ap, subst}
 use Rattle.ds_base.specs.Values.{Row}
 use Rattle.ds_scratch.specs.Scratch.{Kept}
 use Rattle.ds_settle.specs.Settle.{LeavesOthers}
-use Rattle.ds_opening.specs.Noted.{IsLearnt}
 use Rattle.ds_opening.specs.Packed.{Learns}
 use Rattle.ds_opening.proofs.Learnt.{now_noted}
 use Rattle.ds_opening.proofs.opening.learn_row.Goals as goal
@@ -18,6 +17,4 @@ returns-clause-value c m known at row remembers =
     subst (λ (r : Row). Learns known these r nets) base (c.put_values.ensures.value known row) in
     let others : LeavesOthers these old.nets nets =
     subst (λ (r : Row). LeavesOthers these r nets) base c.put_values.ensures.others in
-    let is : c.note.new.self ≡ record { nets = nets; turns = set old.turns c.args.slot c.args.turn } = c.note.ensures in
-    subst (IsLearnt m known these old) (sym is)
-    (now_noted m c.args.turn c.args.slot these known at c.requires.turn old remembers nets size learns others c.requires.slot)
+    now_noted m c.args.turn c.args.slot these known at c.requires.turn old remembers nets size learns others c.note.new.self c.note.ensures

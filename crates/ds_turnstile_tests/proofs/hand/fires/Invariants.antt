@@ -5,6 +5,6 @@ use Rattle.ds_turnstile.specs.Shown.{IsPassOf}
 use Rattle.ds_turnstile_tests.proofs.hand.fires.Given as goal
 
 abbrev pub invariant-loop : goal.invariant-loop
-invariant-loop l = IsPassOf l.gate l.node-2 l.pass × Remembers l.fabric.memory l.hand.scratch
+invariant-loop l = IsPassOf l.stile l.node-2 l.pass × Remembers l.fabric.memory l.hand.scratch
     × (l.hand.turn ≡ l.initial.hand.turn)
     × (seen l.initial.pass.view l.node-2 ≤ seen l.pass.view l.node-2)

@@ -42,7 +42,7 @@ invariant_of-fabric g c = let run : Run = c.args.run.now in let b = c.in_ok-word
         ranged = c.in_ok-firsts.ensures;
       },
       c.requires.openings,
-      c.in_ok-chains.ensures,
+      c.in_ok-incoming.ensures,
     )
 
 -- the pass of all nodes

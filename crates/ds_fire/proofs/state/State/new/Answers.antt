@@ -7,13 +7,17 @@ use Rattle.ds_fire.specs.First.{AreEmpty, AreFirstRows}
 use Rattle.ds_fire.proofs.First.{first_is, first_reached, first_room, first_sound, plan_events}
 use Rattle.ds_fire.proofs.state.State.new.Goals as goal
 
-pub first-requires : goal.first-requires
-first-requires c =
+pub first-requires-clause-few : goal.first-requires-clause-few
+first-requires-clause-few c =
     let same : c.latches-latches.result.now ≡ c.args.plan.now.split = c.latches-latches.ensures in
     let graph : c.graph-graph.result.now ≡ c.args.plan.now.graph = c.graph-graph.ensures.graph in
     let enough : 2 * nodes c.args.plan.now.split ≤ length c.args.plan.now.graph.events = plan_events c.args.plan.now.split c.args.plan.now.graph c.graph-graph.ensures.accepted in
     let few : length c.args.plan.now.graph.events < 2 ^ 32 = subst (λ (g : Graph). length g.events < 2 ^ 32) graph c.events.ensures.kept.few_events in
     subst (λ (s : Split). nodes s < 2 ^ 32) (sym same) (let low : nodes c.args.plan.now.split < 2 ^ 32 = omega arith in low)
+
+pub first-requires-clause-short : goal.first-requires-clause-short
+first-requires-clause-short c =
+    let most : c.count-count.result ≤ 65536 = c.count-count.ensures.few in omega arith
 
 pub of-requires-clause-few : goal.of-requires-clause-few
 of-requires-clause-few c =

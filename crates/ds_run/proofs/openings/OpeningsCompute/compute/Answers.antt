@@ -1,28 +1,42 @@
-use Rattle.std.proofs.Common.{◌≡◌, ◌∙◌, ◌+◌, ◌-◌, ◌<◌, ◌≤◌, ◌++◌, ℕ, List, refl, ap, arith, length, subst, sym}
+use Rattle.std.proofs.Common.{◌≡◌, ◌∙◌, ◌+◌, ◌≤◌, ◌++◌, ℕ, Bool, List, refl, ap, arith, length, subst, sym}
 use Rattle.std.specs.Prelude.{vec_capacity, vec_len}
-use Rattle.ds_base.specs.Values.{Row}
-use Rattle.ds_cover.specs.Cover.{value_at}
 use Rattle.ds_latch.specs.Node.{nets_of}
+use Rattle.ds_opening.specs.Learnt.{is_learnt}
 use Rattle.ds_opening.specs.Packed.{words_of}
 use Rattle.ds_rule.specs.Run.{Run}
 use Rattle.ds_rule.specs.Words.{width}
-use Rattle.ds_scratch.specs.Scratch.{Memory, Remembers}
+use Rattle.ds_rule.specs.Rows.{supply_but}
+use Rattle.ds_scratch.specs.Scratch.{Kept, Memory, Remembers}
 use Rattle.ds_run.specs.Openings.{RunWithMemory, memory_of}
 use Rattle.ds_run.proofs.Opened.{gives_row, opens_at, room_at}
 use Rattle.ds_run.proofs.Remembered.{noted}
 use Rattle.ds_run.proofs.openings.OpeningsCompute.compute.Goals as goal
 
+-- the words, where the groups are counted
+counted : (run : Run) (count groups : ℕ) → groups ≡ count → (k : Kept) (l turn : ℕ) (from : List ℕ)
+    → from ≡ supply_but run (is_learnt count k turn) l turn (length run.edges)
+    → from ≡ supply_but run (is_learnt groups k turn) l turn (length run.edges)
+counted run count groups same k l turn from is =
+    subst (λ (n : ℕ). from ≡ supply_but run (is_learnt n k turn) l turn (length run.edges))
+    (sym same) is
+
 pub open-requires-clause-opening : goal.open-requires-clause-opening
 open-requires-clause-opening c =
     let run_is = ap (λ (m : RunWithMemory). m.run) c.self.view_is in
     let memory_is = ap (λ (m : RunWithMemory). m.memory) c.self.view_is in
+    let groups_are : length c.self.inside.groups.groups ≡ c.args.self.now.groups
+    = ap (λ (m : RunWithMemory). m.groups) c.self.view_is in
+    let learnt : ℕ → Bool
+    = is_learnt (length c.self.inside.groups.groups) c.args.scratch.now c.args.turn in
+    let from = counted c.args.self.now.run c.args.self.now.groups (length c.self.inside.groups.groups)
+    groups_are c.args.scratch.now c.args.node c.args.turn c.args.from.now c.requires.from in
     let o = opens_at c.self.invariant (sym run_is) c.index-number.ensures c.requires.turn.0
-    c.requires.node c.requires.turn.1 c.as_slice.result.now c.index.result.now c.args.from.now
-    c.as_slice.ensures c.index.ensures c.requires.from in (
+    c.requires.node c.requires.turn.1 learnt c.as_slice.result.now c.index.result.now
+    c.args.from.now c.as_slice.ensures c.index.ensures from in (
       o.node,
       o.turn,
       memory_of c.self.inside.latches.now c.self.inside.groups c.self.inside.order.now c.self.inside.vectors.now.rows,
-      noted c.self.invariant (sym run_is) c.requires.turn.0 c.requires.turn.1 o _ refl refl refl refl c.args.scratch.now
+      noted c.self.invariant (sym run_is) c.requires.turn.0 c.requires.turn.1 c.args.scratch.now o _ refl refl refl refl
           (subst (λ (m : Memory). Remembers m c.args.scratch.now) (sym memory_is) c.requires.remembers),
     )
 
@@ -40,12 +54,18 @@ pub returns-clause-value : goal.returns-clause-value
 returns-clause-value c =
     let run_is = ap (λ (m : RunWithMemory). m.run) c.self.view_is in
     let memory_is = ap (λ (m : RunWithMemory). m.memory) c.self.view_is in
+    let groups_are : length c.self.inside.groups.groups ≡ c.args.self.now.groups
+    = ap (λ (m : RunWithMemory). m.groups) c.self.view_is in
+    let learnt : ℕ → Bool
+    = is_learnt (length c.self.inside.groups.groups) c.args.scratch.now c.args.turn in
+    let from = counted c.args.self.now.run c.args.self.now.groups (length c.self.inside.groups.groups)
+    groups_are c.args.scratch.now c.args.node c.args.turn c.args.from.now c.requires.from in
     let o = opens_at c.self.invariant (sym run_is) c.index-number.ensures c.requires.turn.0
-    c.requires.node c.requires.turn.1 c.as_slice.result.now c.index.result.now c.args.from.now
-    c.as_slice.ensures c.index.ensures c.requires.from in
+    c.requires.node c.requires.turn.1 learnt c.as_slice.result.now c.index.result.now
+    c.args.from.now c.as_slice.ensures c.index.ensures from in
     let row_is = gives_row c.self.invariant (sym run_is) c.index-number.ensures c.requires.turn.0 in
     c.open.ensures.value o.node o.turn (memory_of c.self.inside.latches.now c.self.inside.groups c.self.inside.order.now c.self.inside.vectors.now.rows)
-    (noted c.self.invariant (sym run_is) c.requires.turn.0 c.requires.turn.1 o _ refl refl refl refl c.args.scratch.now
+    (noted c.self.invariant (sym run_is) c.requires.turn.0 c.requires.turn.1 c.args.scratch.now o _ refl refl refl refl
     (subst (λ (m : Memory). Remembers m c.args.scratch.now) (sym memory_is) c.requires.remembers))
     ∙ ap (λ (ws : List ℕ). c.args.into.now.items ++ ws) (o.gives ∙ row_is)
 
@@ -53,10 +73,16 @@ pub returns-clause-remembers : goal.returns-clause-remembers
 returns-clause-remembers c =
     let run_is = ap (λ (m : RunWithMemory). m.run) c.self.view_is in
     let memory_is = ap (λ (m : RunWithMemory). m.memory) c.self.view_is in
+    let groups_are : length c.self.inside.groups.groups ≡ c.args.self.now.groups
+    = ap (λ (m : RunWithMemory). m.groups) c.self.view_is in
+    let learnt : ℕ → Bool
+    = is_learnt (length c.self.inside.groups.groups) c.args.scratch.now c.args.turn in
+    let from = counted c.args.self.now.run c.args.self.now.groups (length c.self.inside.groups.groups)
+    groups_are c.args.scratch.now c.args.node c.args.turn c.args.from.now c.requires.from in
     let o = opens_at c.self.invariant (sym run_is) c.index-number.ensures c.requires.turn.0
-    c.requires.node c.requires.turn.1 c.as_slice.result.now c.index.result.now c.args.from.now
-    c.as_slice.ensures c.index.ensures c.requires.from in
+    c.requires.node c.requires.turn.1 learnt c.as_slice.result.now c.index.result.now
+    c.args.from.now c.as_slice.ensures c.index.ensures from in
     subst (λ (m : Memory). Remembers m c.open.new.scratch) memory_is
     (c.open.ensures.remembers o.node o.turn (memory_of c.self.inside.latches.now c.self.inside.groups c.self.inside.order.now c.self.inside.vectors.now.rows)
-    (noted c.self.invariant (sym run_is) c.requires.turn.0 c.requires.turn.1 o _ refl refl refl refl c.args.scratch.now
+    (noted c.self.invariant (sym run_is) c.requires.turn.0 c.requires.turn.1 c.args.scratch.now o _ refl refl refl refl
     (subst (λ (m : Memory). Remembers m c.args.scratch.now) (sym memory_is) c.requires.remembers)))

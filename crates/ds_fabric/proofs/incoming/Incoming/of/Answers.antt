@@ -1,0 +1,28 @@
+use Rattle.std.proofs.Common.{ℕ, arith, subst}
+use Rattle.ds_rule.specs.Run.{Run}
+use Rattle.ds_rule.proofs.EventLaws.{events-is}
+use Rattle.ds_fabric.specs.Into.{AreIntoBelow}
+use Rattle.ds_fabric.proofs.incoming.Incoming.of.Goals as goal
+
+pub take_in-requires-clause-near : goal.take_in-requires-clause-near
+take_in-requires-clause-near g c = omega (
+  arith,
+  c.loop-event-test.true,
+  c.nodes.ensures,
+  c.latches.ensures,
+  events-is c.args.run.now,
+)
+
+pub returns : goal.returns
+returns g c = let run : Run = c.args.run.now in
+    subst (λ (n : ℕ). AreIntoBelow run n c.loop-event.incoming.starts.items
+    c.loop-event.incoming.arcs.items c.loop-event.incoming.numbers.items)
+    (omega (
+      arith,
+      c.loop-event-test.false,
+      c.loop-event.auto.event-end,
+      c.nodes.ensures,
+      c.latches.ensures,
+      events-is run,
+    ))
+    c.loop-event.invariant

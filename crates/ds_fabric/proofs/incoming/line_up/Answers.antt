@@ -1,0 +1,69 @@
+use Rattle.std.proofs.Common.{◌≡◌, ◌<◌, ◌+◌, ◌-◌, ◌∙◌, ℕ, ap, arith, sym, subst}
+use Rattle.std.proofs.Common.{length}
+use Rattle.ds_rule.specs.Run.{Run, node_of}
+use Rattle.ds_marked.specs.declared.marked.Arc.{Arc}
+use Rattle.ds_fabric.specs.Chained.{arc_numbered, IsLast}
+use Rattle.ds_fabric.specs.Into.{IsArcIn, IsInto, IsLinedUp}
+use Rattle.ds_fabric.specs.declared.arc_in.ArcIn.{ArcIn}
+use Rattle.ds_fabric.proofs.Chains.{arc-there, same-arc, read-off}
+use Rattle.ds_fabric.proofs.Parts.{lined_none, lined_more}
+use Rattle.ds_fabric.proofs.incoming.line_up.Goals as goal
+
+pub back-init : goal.back-init
+back-init g c = let run : Run = c.args.run.now in let q = c.requires.chains in
+    let h : ℕ = c.index-at.result.now in
+    let is = read-off c.args.chains.now.heads.items c.args.event h
+    (omega (arith, q.heads_long, c.requires.near)) c.index-at.ensures in
+    let last : IsLast run c.args.event (length run.arcs) h =
+    subst (λ (x : ℕ). IsLast run c.args.event (length run.arcs) x) is
+    (q.head c.args.event c.requires.near) in (
+      last.below,
+      last.hit,
+      lined_none run c.args.event h c.args.arcs.now.items c.args.numbers.now.items c.requires.long
+          last,
+    )
+
+pub of-requires-clause-near : goal.of-requires-clause-near
+of-requires-clause-near g c = let run : Run = c.args.run.now in
+    let m : ℕ = c.back.at - 1 in
+    let below : m < length run.arcs = omega (arith, c.back.invariant.0, c.back-test.true) in
+    let same : c.index-all-number.result ≡ arc_numbered run m = c.index-all-number.is
+    ∙ same-arc run c.arcs-all.result.now m _ c.arcs-all.ensures below in
+    omega (
+      arith,
+      ap (λ (x : Arc). node_of run x.source) same,
+      (c.requires.sound.named m (arc_numbered run m) (arc-there run m below)).0,
+      c.requires.sound.few,
+    )
+
+pub back-preserved : goal.back-preserved
+back-preserved g c = let run : Run = c.args.run.now in let q = c.requires.chains in
+    let m : ℕ = c.back.at - 1 in let inv = c.back.invariant in
+    let new : ℕ = c.index-at-in-back.result.now in let x : ArcIn = c.of.result in
+    let below : m < length run.arcs = omega (arith, inv.0, c.back-test.true) in
+    let into : (arc_numbered run m).target ≡ c.args.event =
+    inv.1 (omega (arith, c.back-test.true)) in
+    let got = read-off c.args.chains.now.links.items m new
+    (omega (arith, q.links_long, below)) c.index-at-in-back.ensures in
+    let last : IsLast run c.args.event m new =
+    subst (λ (y : ℕ). IsLast run y m new) into
+    (subst (λ (y : ℕ). IsLast run (arc_numbered run m).target m y) got (q.link m below)) in
+    let same : c.index-all-number.result ≡ arc_numbered run m = c.index-all-number.is
+    ∙ same-arc run c.arcs-all.result.now m _ c.arcs-all.ensures below in
+    let entry : IsInto run c.args.event m x = record {
+      near = below;
+      enters = into;
+      says = subst (λ (a : Arc). IsArcIn run a x) same c.of.ensures;
+    } in
+    let step : m + 1 ≡ c.back.at = omega (arith, c.back-test.true) in
+    let old : IsLinedUp run c.args.event (m + 1) c.args.arcs.now.items c.args.numbers.now.items
+    c.back.arcs.items c.back.numbers.items =
+    subst (λ (y : ℕ). IsLinedUp run c.args.event y c.args.arcs.now.items
+    c.args.numbers.now.items c.back.arcs.items c.back.numbers.items) (sym step) inv.2 in (
+      omega (arith, last.below, below),
+      last.hit,
+      lined_more run c.args.event m new c.args.arcs.now.items c.back.arcs.items
+          c.push.new.self.items c.args.numbers.now.items c.back.numbers.items
+          c.push-in-back.new.self.items x entry last old c.in_ok-push.ensures.items
+          c.in_ok-push-2.ensures.items,
+    )
