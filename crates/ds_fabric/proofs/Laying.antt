@@ -76,7 +76,7 @@ laid_next run n words starts words' starts' first more sound near b first-is wor
 
 -- how many words each node reads, with one more edge
 pub reads_next : (run : Run) (ts : List ℕ) (n c w : ℕ) → c ≡ (edge_at run n).consumer
-    → w ≡ width run (edge_at run n).producer → length ts ≡ run.nodes → c < run.nodes
+    → w ≡ 1 + width run (edge_at run n).producer → length ts ≡ run.nodes → c < run.nodes
     → ((x : ℕ) → x < run.nodes → get_or ts x 0 ≡ read_words run x n)
     → (x : ℕ) → x < run.nodes → get_or (set ts c (get_or ts c 0 + w)) x 0 ≡ read_words run x (n + 1)
 reads_next run ts n c w is wide long near old x h = dite (ℕ_discrete x c)

@@ -193,7 +193,8 @@ pub goes_on : (run : Run) (event turn first i : ℕ) (numbers : List ℕ) (u : V
     (x : ArcIn) (r : ℕ) → IsSound run → IsInto run event (get_or numbers i 0) x
     → m' ≡ (after_look m.0 x.node r, m.1) → LooksOn u m.0 → EnoughIn run m.0 turn numbers first i
     → length u.seen ≡ run.nodes → seen m.0 x.node ≤ r
-    → (holds m.0 x.node ≡ true → r ≡ seen m.0 x.node) → turn ≤ fired_of x.source r + x.tokens
+    → (holds m.0 x.node ≡ true → r ≡ seen m.0 x.node)
+    → turn ≤ fired_of x.source r + (arc_numbered run (get_or numbers i 0)).tokens
     → LooksOn u m'.0 × EnoughIn run m'.0 turn numbers first (i + 1)
 goes_on run event turn first i numbers u m m' x r sound into is q enough long up own here =
     let k : ℕ = get_or numbers i 0 in let a : Arc = arc_numbered run k in let l : ℕ = x.node in
@@ -209,7 +210,6 @@ goes_on run event turn first i numbers u m m' x r sound into is q enough long up
             arith,
             here,
             into.says.turns_is r,
-            into.says.tokens_is,
             ap (turns run a.source)
                 (seen-here v l r (node_of run a.source) inside (sym into.says.node_is)),
           )))
@@ -225,7 +225,8 @@ goes_on run event turn first i numbers u m m' x r sound into is q enough long up
 pub stops : (run : Run) (event turn k : ℕ) (u : View) (m m' : Sat) (x : ArcIn) (r : ℕ)
     → IsSound run → IsInto run event k x → m' ≡ (after_look m.0 x.node r, m.1) → LooksOn u m.0
     → length u.seen ≡ run.nodes → seen m.0 x.node ≤ r
-    → (holds m.0 x.node ≡ true → r ≡ seen m.0 x.node) → fired_of x.source r + x.tokens < turn
+    → (holds m.0 x.node ≡ true → r ≡ seen m.0 x.node)
+    → fired_of x.source r + (arc_numbered run k).tokens < turn
     → LooksOn u m'.0 × Lacks run u m'.0 event turn k (fired_of x.source r)
 stops run event turn k u m m' x r sound into is q long up own short =
     let a : Arc = arc_numbered run k in let at = arc-there run k into.near in
@@ -233,8 +234,7 @@ stops run event turn k u m m' x r sound into is q long up own short =
     gives_up run event turn k u m m' a r (fired_of x.source r) (into.says.turns_is r)
     (is ∙ ap (λ (l : ℕ). (after_look m.0 l r, m.1)) same) q long (sound.named k a at).0
     (subst (λ (l : ℕ). seen m.0 l ≤ r) same up)
-    (subst (λ (l : ℕ). holds m.0 l ≡ true → r ≡ seen m.0 l) same own) at into.enters
-    (omega (arith, short, into.says.tokens_is))
+    (subst (λ (l : ℕ). holds m.0 l ≡ true → r ≡ seen m.0 l) same own) at into.enters short
 
 -- the entry at a place of the part of an event
 pub entry_into : (run : Run) (event i : ℕ) (starts numbers : List ℕ) (arcs ys : List ArcIn)

@@ -1,5 +1,5 @@
 -- The edges of a node are those of a range.
-use Rattle.std.proofs.Common.{◌≡◌, ◌≢◌, ◌∙◌, ◌<◌, ◌≤◌, ◌+◌, ◌-◌, ℕ, zero, suc, List, [], ◌++◌}
+use Rattle.std.proofs.Common.{◌≡◌, ◌≢◌, ◌∙◌, ◌<◌, ◌≤◌, ◌+◌, ◌-◌, ℕ, zero, suc, List, [], ◌∷◌, ◌++◌}
 use Rattle.std.proofs.Common.{length, get_or, Bool, true, false}
 use Rattle.std.proofs.Common.{ap, sym, subst, arith, refl, slice_index_or}
 use mathlib.Core.Logic.{dite}
@@ -40,35 +40,35 @@ pub in_range : (run : Run) (l a b i : ℕ) → IsFrom run l a → IsFrom run (l 
 in_range run l a b i p q from to = let near : i < length run.edges = omega (arith, q.near) in
     (near, (let low = q.below i to in let high = p.above i from near in omega arith))
 
-pub supply_but-none : (run : Run) (known : ℕ → Bool) (l k n : ℕ)
-    → ((j : ℕ) → j < n → (edge_at run j).consumer ≢ l) → supply_but run known l k n ≡ []
-supply_but-none run known l k zero far = refl
-supply_but-none run known l k (suc n) far = let e : suc n ≡ n + 1 = omega arith in
-    ap (supply_but run known l k) e
-    ∙ (supply_but-past run known l k n (far n (omega arith))
-    ∙ supply_but-none run known l k n (λ j h. far j (omega arith)))
+pub supply_but-none : (run : Run) (learnt : ℕ → Bool) (l k n : ℕ)
+    → ((j : ℕ) → j < n → (edge_at run j).consumer ≢ l) → supply_but run learnt l k n ≡ []
+supply_but-none run learnt l k zero far = refl
+supply_but-none run learnt l k (suc n) far = let e : suc n ≡ n + 1 = omega arith in
+    ap (supply_but run learnt l k) e
+    ∙ (supply_but-past run learnt l k n (far n (omega arith))
+    ∙ supply_but-none run learnt l k n (λ j h. far j (omega arith)))
 
-pub supply_but-rest : (run : Run) (known : ℕ → Bool) (l k m d : ℕ)
+pub supply_but-rest : (run : Run) (learnt : ℕ → Bool) (l k m d : ℕ)
     → ((j : ℕ) → m ≤ j → j < m + d → (edge_at run j).consumer ≢ l)
-    → supply_but run known l k (m + d) ≡ supply_but run known l k m
-supply_but-rest run known l k m zero far = let e : m + 0 ≡ m = omega arith in
-    ap (supply_but run known l k) e
-supply_but-rest run known l k m (suc d) far = let e : m + suc d ≡ m + d + 1 = omega arith in
-    ap (supply_but run known l k) e
-    ∙ (supply_but-past run known l k (m + d) (far (m + d) (omega arith) (omega arith))
-    ∙ supply_but-rest run known l k m d (λ j p q. far j p (omega arith)))
+    → supply_but run learnt l k (m + d) ≡ supply_but run learnt l k m
+supply_but-rest run learnt l k m zero far = let e : m + 0 ≡ m = omega arith in
+    ap (supply_but run learnt l k) e
+supply_but-rest run learnt l k m (suc d) far = let e : m + suc d ≡ m + d + 1 = omega arith in
+    ap (supply_but run learnt l k) e
+    ∙ (supply_but-past run learnt l k (m + d) (far (m + d) (omega arith) (omega arith))
+    ∙ supply_but-rest run learnt l k m d (λ j p q. far j p (omega arith)))
 
 -- nothing is read before the range, and nothing behind it
-pub before_range : (run : Run) (known : ℕ → Bool) (l k a : ℕ) → IsFrom run l a
-    → supply_but run known l k a ≡ []
-before_range run known l k a p = supply_but-none run known l k a
+pub before_range : (run : Run) (learnt : ℕ → Bool) (l k a : ℕ) → IsFrom run l a
+    → supply_but run learnt l k a ≡ []
+before_range run learnt l k a p = supply_but-none run learnt l k a
     (λ j h e. (let low = p.below j h in omega arith))
 
-pub behind_range : (run : Run) (known : ℕ → Bool) (l k b : ℕ) → IsFrom run (l + 1) b
-    → supply_but run known l k (length run.edges) ≡ supply_but run known l k b
-behind_range run known l k b q = let n : ℕ = length run.edges in
+pub behind_range : (run : Run) (learnt : ℕ → Bool) (l k b : ℕ) → IsFrom run (l + 1) b
+    → supply_but run learnt l k (length run.edges) ≡ supply_but run learnt l k b
+behind_range run learnt l k b q = let n : ℕ = length run.edges in
     let e : b + (n - b) ≡ n = omega (arith, q.near) in
-    ap (supply_but run known l k) (sym e) ∙ supply_but-rest run known l k b (n - b) (λ j p h c.
+    ap (supply_but run learnt l k) (sym e) ∙ supply_but-rest run learnt l k b (n - b) (λ j p h c.
     (let high = q.above j p (omega (arith, q.near)) in omega arith))
 
 -- the first edge from `at` on whose consumer is not below the node
@@ -132,19 +132,20 @@ edge_of run firsts es l a b i e fs near a-is b-is es-is from to is =
       into = ap (λ (x : DataEdge). x.consumer) (sym same) ∙ r.1;
     }
 
--- what is read grows by the row of the producer
-pub grows : (run : Run) (known : ℕ → Bool) (l k i : ℕ) (e : DataEdge) → EdgeOf run l i e
-    → known e.producer ≡ false
-    → supply_but run known l k (i + 1)
-    ≡ supply_but run known l k i ++ row run e.producer (k - e.tokens)
-grows run known l k i e h new =
-    supply_but-into run known l k i (ap (λ (x : DataEdge). x.consumer) h.same ∙ h.into)
-    (ap (λ (x : DataEdge). known x.producer) h.same ∙ new)
-    ∙ ap (λ (x : DataEdge). supply_but run known l k i ++ row run x.producer (k - x.tokens)) h.same
+-- what is read grows by the number of the producer and its row
+pub grows : (run : Run) (learnt : ℕ → Bool) (l k i : ℕ) (e : DataEdge) → EdgeOf run l i e
+    → learnt e.producer ≡ false
+    → supply_but run learnt l k (i + 1)
+    ≡ supply_but run learnt l k i ++ e.producer ∷ row run e.producer (k - e.tokens)
+grows run learnt l k i e h new =
+    supply_but-into run learnt l k i (ap (λ (x : DataEdge). x.consumer) h.same ∙ h.into)
+    (ap (λ (x : DataEdge). learnt x.producer) h.same ∙ new)
+    ∙ ap (λ (x : DataEdge). supply_but run learnt l k i
+    ++ x.producer ∷ row run x.producer (k - x.tokens)) h.same
 
--- or by nothing, where the row is known
-pub passes : (run : Run) (known : ℕ → Bool) (l k i : ℕ) (e : DataEdge) → EdgeOf run l i e
-    → known e.producer ≡ true
-    → supply_but run known l k (i + 1) ≡ supply_but run known l k i
-passes run known l k i e h told = supply_but-known run known l k i
-    (ap (λ (x : DataEdge). known x.producer) h.same ∙ told)
+-- or by nothing, where the row is learnt
+pub passes : (run : Run) (learnt : ℕ → Bool) (l k i : ℕ) (e : DataEdge) → EdgeOf run l i e
+    → learnt e.producer ≡ true
+    → supply_but run learnt l k (i + 1) ≡ supply_but run learnt l k i
+passes run learnt l k i e h told = supply_but-known run learnt l k i
+    (ap (λ (x : DataEdge). learnt x.producer) h.same ∙ told)

@@ -290,7 +290,7 @@ inside_new m r at node old ys ps y l o some-there e =
     )).1
 
 -- the places of all nodes, in order
-pub all_placed : (run : Run) (r : ℕ) (nodes : List History) (ps : List ℕ) → run.nodes < 2147483648
+pub all_placed : (run : Run) (r : ℕ) (nodes : List History) (ps : List ℕ) → run.nodes < 4294967296
     → r ≡ run.nodes
     → Blank run run.nodes nodes → length ps ≡ run.nodes
     → ((i : ℕ) → i < run.nodes → get_or ps i 0 ≡ i + 1)

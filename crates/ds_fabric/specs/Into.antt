@@ -1,5 +1,5 @@
 -- The arcs into each event, side by side: one list of all arcs, of which each event has a part.
-use Rattle.std.specs.Prelude.{◌≡◌, ℕ, ◌+◌, ◌/◌, ◌%◌, ◌<◌, ◌≤◌, ◌++◌, List, length, slice_index}
+use Rattle.std.specs.Prelude.{◌≡◌, ℕ, ◌+◌, ◌*◌, ◌/◌, ◌<◌, ◌≤◌, ◌++◌, List, length, slice_index}
 use mathlib.Core.Option.{some}
 use lib.ListN.{get_elem?}
 use Rattle.ds_rule.specs.Run.{Run, events, node_of, turns}
@@ -16,23 +16,24 @@ fired_of Opening f = (f + 1) / 2
 fired_of Closing f = f / 2
 fired_of Alone f = f
 
--- the same without the last firing, where the node has two events and that firing is one by itself
-abbrev pub whole_of : Source → ℕ → ℕ
-whole_of Opening f = f / 2
-whole_of Closing f = f / 2
-whole_of Alone f = f
+-- what so many tokens count beside the firings of the node
+abbrev pub ahead_of : Source → ℕ → ℕ
+ahead_of Opening t = 2 * t + 1
+ahead_of Closing t = 2 * t
+ahead_of Alone t = t
 
--- 1 where the last firing counts that was left out
-abbrev pub odd_of : Source → ℕ → ℕ
-odd_of Opening f = f % 2
-odd_of Closing f = 0
-odd_of Alone f = 0
+-- the firings of the node, with what the tokens count beside them, that are enough for so many
+-- turns
+abbrev pub least_of : Source → ℕ → ℕ
+least_of Opening n = 2 * n
+least_of Closing n = 2 * n
+least_of Alone n = n
 
 -- the entry says of the arc what the run says of it
 pub record IsArcIn (run : Run) (a : Arc) (x : ArcIn) : Type 0 where
   pub node_is : x.node ≡ node_of run a.source
   pub turns_is : (f : ℕ) → fired_of x.source f ≡ turns run a.source f
-  pub tokens_is : x.tokens ≡ a.tokens
+  pub ahead_is : x.ahead ≡ ahead_of x.source a.tokens
 
 -- the entry is that of arc k, which enters the event
 pub record IsInto (run : Run) (event k : ℕ) (x : ArcIn) : Type 0 where

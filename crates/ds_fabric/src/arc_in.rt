@@ -1,8 +1,9 @@
 //! An arc as the event that it enters looks at it: the node whose count is loaded, what its source
-//! is of that node, and the tokens.
-ghost use Rattle.std.specs.Prelude.{ℕ, ◌≡◌, ◌<◌};
+//! is of that node, and the tokens, counted in firings of the node. So a look is a load, a sum and
+//! a comparison: how often the source has fired is worked out only where it is asked for.
+ghost use Rattle.std.specs.Prelude.{ℕ, ◌≡◌, ◌↔◌, ◌<◌, ◌+◌, IsTrue};
 ghost use Rattle.ds_rule.specs.Run.{node_of, turns};
-ghost use Rattle.ds_fabric.specs.Into.{IsArcIn, fired_of, whole_of, odd_of};
+ghost use Rattle.ds_fabric.specs.Into.{IsArcIn, ahead_of, fired_of, least_of};
 
 use ds_marked::Arc;
 use ds_rule::{Layout, Rows};
@@ -15,12 +16,13 @@ pub enum Source {
     Alone,
 }
 
-/// An arc of 8 bytes, which stands beside the other arcs into its event.
+/// An arc of 8 bytes, which stands beside the other arcs into its event. `ahead` is what its tokens
+/// count beside the firings of the node.
 #[derive(Clone, Copy)]
 pub struct ArcIn {
     pub node: u32,
+    pub ahead: u16,
     pub source: Source,
-    pub tokens: u8,
 }
 
 impl Source {
@@ -40,31 +42,38 @@ impl Source {
         }
     }
 
-    /// How often such an event has fired, where its node has fired so often. No branch hangs on
-    /// what the event is.
+    /// How often such an event has fired, where its node has fired so often: a latch opens first.
     pub fn turns(self, fired: u64) -> u64
         ensures { result ≡ fired_of self fired }
     {
-        self.whole(fired) + self.odd(fired)
-    }
-
-    // Without the firing that has no other one beside it.
-    fn whole(self, fired: u64) -> u64
-        ensures { result ≡ whole_of self fired }
-    {
         match self {
+            Source::Opening => fired / 2 + fired % 2,
+            Source::Closing => fired / 2,
             Source::Alone => fired,
-            _ => fired / 2,
         }
     }
 
-    // That firing, where it counts: a latch opens first.
-    fn odd(self, fired: u64) -> u64
-        ensures { result ≡ odd_of self fired }
+    // The firings of the node, with what the tokens count beside them, that are enough for so many
+    // turns.
+    fn least(self, turns: u64) -> u64
+        requires { turns < 9223372036854775808 }
+        ensures { result ≡ least_of self turns }
     {
         match self {
-            Source::Opening => fired % 2,
-            _ => 0,
+            Source::Alone => turns,
+            _ => 2 * turns,
+        }
+    }
+
+    // What so many tokens count beside the firings of the node.
+    fn ahead(self, tokens: u8) -> u16
+        ensures { result ≡ ahead_of self tokens }
+    {
+        let many = tokens as u16;
+        match self {
+            Source::Opening => 2 * many + 1,
+            Source::Closing => 2 * many,
+            Source::Alone => many,
         }
     }
 }
@@ -78,10 +87,21 @@ impl ArcIn {
     {
         let event = arc.source.index();
         let node = run.node_of(event) as u32;
+        let source = Source::of(run, event);
         ArcIn {
             node,
-            source: Source::of(run, event),
-            tokens: arc.tokens,
+            ahead: source.ahead(arc.tokens),
+            source,
         }
+    }
+
+    /// The tokens are too few for this turn, where the node of the source has fired so often.
+    pub fn lacks(self, fired: u64, turn: u64) -> bool
+        requires { turn < 9223372036854775808 }
+        ensures { (tokens : ℕ) → self.ahead ≡ ahead_of self.source tokens
+            → IsTrue result ↔ (fired_of self.source fired + tokens < turn) }
+    {
+        let least = self.source.least(turn);
+        fired < least && (self.ahead as u64) < least - fired
     }
 }

@@ -84,7 +84,7 @@ pub fn histories<J: Rows>(alloc: Global, run: &Layout<J>) -> Result<Vec<History>
     Ok(items)
 }
 
-// How many value words each node reads.
+// How many words each node reads at most.
 fn reads<J: Rows>(alloc: Global, run: &Layout<J>) -> Result<Vec<usize>, OutOfMemory>
     requires { IsSound run.now }
     ensures { IfOk result (λ v. (length v.items ≡ run.now.nodes) × ((l : ℕ)
@@ -95,7 +95,7 @@ fn reads<J: Rows>(alloc: Global, run: &Layout<J>) -> Result<Vec<usize>, OutOfMem
     let edges = run.edges();
     for i in 0..edges.len() {
         let edge = edges[i];
-        totals[edge.consumer.index()] += run.width(edge.producer.index());
+        totals[edge.consumer.index()] += 1 + run.width(edge.producer.index());
     }
     Ok(totals)
 }

@@ -18,8 +18,8 @@ pub trait Compute {
     // what a scratch remembers from one call of `compute` to the next
     ghost memory: { Self → Memory };
 
-    // whether a scratch knows the row of a producer that openings of this turn read
-    ghost knows: { Self → Kept → ℕ → ℕ → Bool };
+    // whether a scratch has learnt the row of a producer that openings of this turn read
+    ghost has_learnt: { Self → Kept → ℕ → ℕ → Bool };
 
     /// A scratch for `compute`, which serves one worker for all nodes and turns.
     fn scratch(&self, alloc: Global) -> Result<Scratch, OutOfMemory>
@@ -36,15 +36,16 @@ pub trait Compute {
         requires word { i < width (run self.now) node }
         ensures { result ≡ value (run self.now) node 0 i };
 
-    /// Whether this scratch knows the row of the producer that openings of this turn read:
+    /// Whether this scratch has learnt the row of the producer that openings of this turn read:
     /// `compute` is not handed it then.
-    fn knows(&self, producer: LatchId, turn: u64, scratch: &Scratch) -> bool
+    fn has_learnt(&self, producer: LatchId, turn: u64, scratch: &Scratch) -> bool
         requires producer { producer < (run self.now).latches }
-        requires turn { 0 < turn }
-        ensures { result ≡ knows self.now scratch.now producer turn };
+        requires remembers { Remembers (memory self.now) scratch.now }
+        ensures { result ≡ has_learnt self.now scratch.now producer turn };
 
-    /// The row of opening number `turn` of the node, behind what stands in `into`, from the rows
-    /// that it reads, edge by edge, without those of producers that the scratch knows.
+    /// The row of opening number `turn` of the node, behind what stands in `into`, from what it
+    /// reads, edge by edge: the number of each producer whose row the scratch has not learnt, and
+    /// behind it that row.
     fn compute(
         &self,
         node: LatchId,
@@ -56,7 +57,7 @@ pub trait Compute {
         requires node { node < (run self.now).latches }
         requires turn { (0 < turn) × (turn ≤ (run self.now).limit) }
         requires from { from.now ≡ supply_but (run self.now)
-            (λ p. knows self.now scratch.old p turn) node turn (length (run self.now).edges) }
+            (λ p. has_learnt self.now scratch.old p turn) node turn (length (run self.now).edges) }
         requires remembers { Remembers (memory self.now) scratch.old }
         requires room { vec_len into.old + width (run self.now) node ≤ vec_capacity into.old }
 

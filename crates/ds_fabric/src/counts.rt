@@ -1,7 +1,8 @@
 //! Looks at the counts of nodes: with a seat, where the rule tells what was seen, and without one,
 //! where nothing is known but a hint.
-ghost use Rattle.std.specs.Prelude.{◌≡◌, ◌↔◌, ◌<◌, ◌≤◌, ◌+◌, true, IsTrue, IfSome, IfNone, length};
-ghost use Rattle.ds_rule.specs.Run.{events, node_of};
+ghost use Rattle.std.specs.Prelude.{ℕ, ◌≡◌, ◌<◌, ◌≤◌, ◌+◌, true, IfSome, IfNone, length};
+ghost use Rattle.std.specs.Prelude.{slice_index};
+ghost use Rattle.ds_rule.specs.Run.{Run, events};
 ghost use Rattle.ds_rule.specs.Rule.{holds, seen};
 ghost use Rattle.ds_rule.specs.Plays.{after_look};
 ghost use Rattle.ds_fabric.specs.Base.{IsOver};
@@ -35,28 +36,30 @@ pub fn look<J: Rows>(
     board.load::<Look>(seat, node + 1)
 }
 
-/// Plain looks at the counts, without a seat, show enough on each arc into the event, which has
-/// fired so often. A hint: it tells nothing, as the counts may have risen since.
-pub fn seems_enough<J: Rows>(
+/// The first of these arcs, which enter one event, on which plain looks at the counts, without a
+/// seat, show too few tokens for this turn. A hint: it tells nothing, as the counts may have risen
+/// since.
+pub fn lacking_between<J: Rows>(
     board: &Board<J>,
-    run: &Layout<J>,
     incoming: &Incoming,
-    event: usize,
-    before: u64,
-) -> bool
-    requires table { IsOver board.now.table_id board.now.key run.now }
-    requires incoming { AreInto run.now incoming.now }
-    requires near { event < events run.now }
+    turn: u64,
+    first: usize,
+    end: usize,
+) -> Option<usize>
+    requires inside { (run : Run) × (event : ℕ) × IsOver board.now.table_id board.now.key run
+        × AreInto run incoming.now × (event < events run)
+        × (slice_index incoming.now.starts.items event ≤ first)
+        × (end ≤ slice_index incoming.now.starts.items (event + 1)) }
+    requires few { turn < 9223372036854775808 }
 {
     let arcs = incoming.arcs.as_slice();
-    for i in incoming.starts[event]..incoming.starts[event + 1] {
+    for i in first..end {
         let arc = arcs[i];
-        let seen = arc.source.turns(board.peek(arc.node as usize + 1));
-        if seen <= before && arc.tokens as u64 <= before - seen {
-            return false;
+        if arc.lacks(board.peek(arc.node as usize + 1), turn) {
+            return Some(i);
         }
     }
-    true
+    None
 }
 
 /// Loads the counts of the event's sources, from the last arc on, up to the first that is too
@@ -85,18 +88,10 @@ pub fn survey<J: Rows>(
     let arcs = incoming.arcs.as_slice();
     for i in incoming.starts[event]..incoming.starts[event + 1] {
         let arc = arcs[i];
-        let seen = arc.source.turns(look(board, run, seat, arc.node as usize));
-        if lacks(seen, arc.tokens, turn) {
-            return Some((incoming.numbers[i] as usize, seen));
+        let fired = look(board, run, seat, arc.node as usize);
+        if arc.lacks(fired, turn) {
+            return Some((incoming.numbers[i] as usize, arc.source.turns(fired)));
         }
     }
     None
-}
-
-// The tokens are too few for this turn.
-fn lacks(seen: u64, tokens: u8, turn: u64) -> bool
-    requires { turn < 9223372036854775808 }
-    ensures { IsTrue result ↔ (seen + tokens < turn) }
-{
-    seen < turn && (tokens as u64) < turn - seen
 }

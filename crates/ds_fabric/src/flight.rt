@@ -22,7 +22,7 @@ use crate::counts::{Board, survey};
 use crate::history::History;
 use crate::incoming::Incoming;
 use crate::index::Index;
-use crate::known::Known;
+use crate::learnt::Learnt;
 use crate::rows::{place_of, read_rows, write_row};
 use crate::step::Step;
 use atomic_table::Seat;
@@ -195,12 +195,12 @@ fn open_row<J: Rows, C: Compute>(
 {
     let node = history.node;
     history.from.clear();
-    let known = Known {
+    let learnt = Learnt {
         openings,
         scratch: &*scratch,
         turn,
     };
-    read_rows(board, run, index, &known, seat, node, &mut history.from);
+    read_rows(board, run, index, &learnt, seat, node, &mut history.from);
     let before = history.rows.len();
     let from = history.from.as_slice();
     openings.compute(

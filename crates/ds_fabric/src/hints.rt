@@ -1,22 +1,31 @@
 //! Hints: what a node costs, and plain looks without a seat, which tell nothing, as what was seen
 //! may have changed since.
 ghost use Rattle.std.specs.Prelude.{◌<◌};
+ghost use Rattle.ds_rule.specs.Run.{events};
 
 use crate::compute::Compute;
-use crate::counts::seems_enough;
+use crate::counts::lacking_between;
 use crate::fabric::Fabric;
 use ds_base::LatchId;
 use ds_rule::Rows;
 
 impl<'a, J: Rows, C: Compute> Fabric<'a, J, C> {
-    /// Plain looks at the counts show enough for the next event of the node, whoever holds it. A
-    /// hint: it tells nothing, and a step alone says what may fire.
-    pub fn seems_due(&self, node: LatchId) -> bool
+    /// The place, among the arcs into the next event of the node, of one on which plain looks at
+    /// the counts show too few tokens, whoever holds the node. The looks begin at the place
+    /// `first` and go round; a node that is done lacks there for ever. None: the event seems due.
+    /// A hint: it tells nothing, as counts may have risen since, and a step alone says what may
+    /// fire.
+    pub fn seems_lacking(&self, node: LatchId, first: usize) -> Option<usize>
         requires near { node < self.now.run.nodes }
     {
         let number = node.index();
         let fired = self.table.shared.peek(number + 1);
-        self.seems_enabled(number, fired)
+        let event = self.run.next(number, fired);
+        let before = self.run.turns(event, fired);
+        if before >= self.run.limit() {
+            return Some(first);
+        }
+        self.lacking_from(event, before + 1, first)
     }
 
     /// A plain look shows a ticket drawn for each firing of the run. A hint, as the others.
@@ -34,16 +43,25 @@ impl<'a, J: Rows, C: Compute> Fabric<'a, J, C> {
         self.openings.cost(node)
     }
 
-    // The next event of the node, which has fired so often, is below its limit, and plain looks
-    // show enough for it.
-    fn seems_enabled(&self, node: usize, fired: u64) -> bool
-        requires near { node < self.now.run.nodes }
+    // The same of an event in this turn.
+    fn lacking_from(&self, event: usize, turn: u64, first: usize) -> Option<usize>
+        requires { (turn < 9223372036854775808) × (event < events self.now.run) }
     {
-        let event = self.run.next(node, fired);
-        let before = self.run.turns(event, fired);
-        if before >= self.run.limit() {
-            return false;
-        }
-        seems_enough(&self.table.shared, self.run, &self.incoming, event, before)
+        let start = self.incoming.starts[event];
+        let end = self.incoming.starts[event + 1];
+        let middle = if first < end - start {
+            start + first
+        } else {
+            start
+        };
+        let board = &self.table.shared;
+        let ahead = lacking_between(board, &self.incoming, turn, middle, end);
+        let found = if ahead.is_some() {
+            ahead
+        } else {
+            lacking_between(board, &self.incoming, turn, start, middle)
+        };
+        let at = found?;
+        Some(at.saturating_sub(start))
     }
 }

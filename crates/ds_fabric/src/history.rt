@@ -6,7 +6,7 @@ use ds_rule::{Layout, Rows};
 
 /// What a pass keeps of one node. `first` has the tickets of the openings, or of a node's one
 /// event, `second` those of the closings, `rows` the rows of the openings; `from` is room for the
-/// rows of its producers.
+/// numbers and the rows of its producers.
 #[derive(Drop)]
 pub struct History {
     pub node: usize,

@@ -7,7 +7,7 @@
 //! for the small passes of `deal_bare`; `finish` ends the run. A `Record` has the tickets of each
 //! event, which are the places of one legal list, and the rows of each node. How the row of a node
 //! comes from those of its producers is a `Compute`, which says what a scratch remembers, and which
-//! rows it knows: these are not read. Nothing is promised of time, or of which pass fires what.
+//! rows it has learnt: these are not read. Nothing is promised of time, or which pass fires what.
 #![tactic(auto)]
 
 mod arc_in;
@@ -22,14 +22,14 @@ mod hints;
 mod history;
 mod incoming;
 mod index;
-mod known;
+mod learnt;
 mod pass;
 mod places;
 mod record;
 mod rows;
-mod scratch;
 mod spread;
 mod step;
+mod step_in;
 mod words;
 
 pub use compute::Compute;

@@ -1,9 +1,10 @@
 //! The value words of rows: where they stand in the ring of a node, and how an opening reads those
 //! of its producers and writes its own.
-ghost use Rattle.std.specs.Prelude.{ℕ, ◌≡◌, ◌<◌, ◌≤◌, ◌+◌, ◌-◌, ◌++◌, [], vec_len, vec_capacity};
-ghost use Rattle.std.specs.Prelude.{length};
+ghost use Rattle.std.specs.Prelude.{ℕ, ◌≡◌, ◌<◌, ◌≤◌, ◌+◌, ◌-◌, ◌++◌, ◌∷◌, [], length};
+ghost use Rattle.std.specs.Prelude.{vec_len, vec_capacity};
 ghost use mathlib.Core.Option.{some};
 ghost use lib.ListN.{get_elem?};
+ghost use Rattle.ds_scratch.specs.Scratch.{Remembers};
 ghost use Rattle.ds_rule.specs.Sound.{IsSound, read_words};
 ghost use Rattle.ds_rule.specs.Words.{width, place};
 ghost use Rattle.ds_rule.specs.Rows.{row, supply_but, IsStarts, IsOpening};
@@ -12,7 +13,7 @@ ghost use Rattle.ds_fabric.specs.Base.{IsOver, IsBuilt};
 use crate::compute::Compute;
 use crate::counts::Board;
 use crate::index::Index;
-use crate::known::Known;
+use crate::learnt::Learnt;
 use atomic_table::Seat;
 use ds_rule::{DataEdge, Layout, Read, Rows, View, Write};
 
@@ -30,7 +31,7 @@ pub fn place_of<J: Rows>(run: &Layout<J>, starts: &[usize], node: usize, turn: u
     starts[node] + (turn % turns) as usize * run.width(node)
 }
 
-// Loads the row of a producer.
+// Puts down the number of a producer, and loads its row.
 fn read_row<J: Rows>(
     board: &Board<J>,
     run: &Layout<J>,
@@ -47,33 +48,36 @@ fn read_row<J: Rows>(
         × (seat.old.me.0.run ≡ run.now) }
     requires edge { (k : ℕ) × (get_elem? run.now.edges k ≡ some edge) × (edge.consumer ≡ node) }
     requires at { at ≡ place run.now edge.producer (turn - edge.tokens) 0 }
-    requires room { vec_len into.old + width run.now edge.producer ≤ vec_capacity into.old }
+    requires room { vec_len into.old + width run.now edge.producer < vec_capacity into.old }
 
     ensures seat { (seat.new.table_id ≡ seat.old.table_id) × (seat.new.id ≡ seat.old.id)
         × (seat.new.me ≡ seat.old.me) }
     ensures value { into.new.items
-        ≡ into.old.items ++ row run.now edge.producer (turn - edge.tokens) }
+        ≡ into.old.items ++ edge.producer ∷ row run.now edge.producer (turn - edge.tokens) }
     ensures room { vec_capacity into.new ≡ vec_capacity into.old }
 {
+    into.push_reserved(edge.producer.index() as u64);
     for i in 0..run.width(edge.producer.index()) {
         into.push_reserved(board.load::<Read>(seat, at + i));
     }
 }
 
-/// Loads the rows of the node's producers that are not known, edge by edge.
+/// Loads the rows of the node's producers that are not learnt, edge by edge, each behind the number
+/// of its producer.
 pub fn read_rows<J: Rows, C: Compute>(
     board: &Board<J>,
     run: &Layout<J>,
     index: &Index,
-    known: &Known<C>,
+    learnt: &Learnt<C>,
     seat: &mut Seat<u8, View>,
     node: usize,
     into: &mut Vec<u64>,
 )
     requires table { (seat.old.table_id ≡ board.now.table_id)
         × IsBuilt board.now.table_id board.now.key run.now index.now }
-    requires openings { C.run known.now.openings.now ≡ run.now }
-    requires flight { IsOpening run.now seat.old.me.0 node known.now.turn
+    requires openings { (C.run learnt.now.openings.now ≡ run.now)
+        × Remembers (C.memory learnt.now.openings.now) learnt.now.scratch.now }
+    requires flight { IsOpening run.now seat.old.me.0 node learnt.now.turn
         × (seat.old.me.0.run ≡ run.now) }
     requires room { (into.old.items ≡ [])
         × (read_words run.now node (length run.now.edges) ≤ vec_capacity into.old) }
@@ -81,17 +85,20 @@ pub fn read_rows<J: Rows, C: Compute>(
     ensures seat { (seat.new.table_id ≡ seat.old.table_id) × (seat.new.id ≡ seat.old.id)
         × (seat.new.me ≡ seat.old.me) }
     ensures value { into.new.items ≡ supply_but run.now
-        (λ p. C.knows known.now.openings.now known.now.scratch.now p known.now.turn)
-        node known.now.turn (length run.now.edges) }
+        (λ p. C.has_learnt learnt.now.openings.now learnt.now.scratch.now p learnt.now.turn)
+        node learnt.now.turn (length run.now.edges) }
     ensures room { vec_capacity into.new ≡ vec_capacity into.old }
 {
-    let turn = known.turn;
+    let turn = learnt.turn;
     let edges = run.edges();
     let first = index.firsts[node];
     let end = index.firsts[node + 1];
     for i in first..end {
         let edge = edges[i];
-        if known.openings.knows(edge.producer, turn, known.scratch) {
+        if learnt
+            .openings
+            .has_learnt(edge.producer, turn, learnt.scratch)
+        {
             continue;
         }
         let before = turn - edge.tokens as u64;

@@ -1,5 +1,5 @@
 //! The events of all nodes in one list, each at the place of its ticket.
-ghost use Rattle.std.specs.Prelude.{ℕ, List, ◌≡◌, ◌<◌, IfOk, length, replicate};
+ghost use Rattle.std.specs.Prelude.{ℕ, List, ◌≡◌, ◌<◌, ◌+◌, ◌*◌, IfOk, length};
 ghost use mathlib.Core.Option.{some};
 ghost use lib.ListN.{get_elem?};
 ghost use Rattle.ds_fabric.specs.Showing.{Showing, IsRecord};
@@ -31,7 +31,7 @@ pub fn spread_all(latches: usize, nodes: &[History], places: &[usize], out: &mut
 
 // Puts the events of a node at the places of their tickets.
 fn spread(latches: usize, history: &History, out: &mut [EventId])
-    requires few { (latches < 2147483648) × (history.now.node < 2147483648) }
+    requires few { (2 * latches < 4294967296) × (latches + history.now.node < 4294967296) }
     requires inside { IsInside history.now.first.items (length out.old)
         × (history.now.node < latches → IsInside history.now.second.items (length out.old)) }
     requires apart { history.now.node < latches

@@ -39,13 +39,13 @@ one_word zero = omega arith
 one_word (suc zero) = omega arith
 one_word (suc (suc l)) = omega arith
 
-picked : (b : Bool) (n : ℕ) → n ≤ 1 → cond b n 0 ≤ 1
+picked : (b : Bool) (n : ℕ) → n ≤ 2 → cond b n 0 ≤ 2
 picked true n h = h
 picked false n h = omega arith
 
 few_reads : (l : ℕ) → read_words toggle l 2 < 9223372036854775808
-few_reads l = let a = picked (0 == l) (width toggle 1) (one_word 1) in
-    let b = picked (1 == l) (width toggle 0) (one_word 0) in omega arith
+few_reads l = let a = picked (0 == l) (1 + width toggle 1) (omega (arith, one_word 1)) in
+    let b = picked (1 == l) (1 + width toggle 0) (omega (arith, one_word 0)) in omega arith
 
 orders : (k : ℕ) (e : DataEdge) → get_elem? toggle.edges k ≡ some e → HasOrders toggle e
 unfolding opening closing

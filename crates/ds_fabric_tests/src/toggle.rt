@@ -23,7 +23,7 @@ impl Compute for Toggle {
 
     ghost memory = { λ _. one_net };
 
-    ghost knows = { λ _ _ _ _. false };
+    ghost has_learnt = { λ _ _ _ _. false };
 
     fn scratch(&self, alloc: Global) -> Result<Scratch, OutOfMemory> {
         Scratch::of(alloc, 1, 0)
@@ -37,7 +37,7 @@ impl Compute for Toggle {
         0
     }
 
-    fn knows(&self, producer: LatchId, turn: u64, scratch: &Scratch) -> bool {
+    fn has_learnt(&self, producer: LatchId, turn: u64, scratch: &Scratch) -> bool {
         false
     }
 
@@ -151,11 +151,11 @@ pub fn step(fabric: &Fabric<Toggle, Toggle>, pass: &mut Pass, node: u32) -> Step
     fabric.step(pass, LatchId::new(node))
 }
 
-/// The next event of the slave seems due.
-pub fn slave_seems_due(fabric: &Fabric<Toggle, Toggle>) -> bool
+/// The next event of the slave seems due, by looks that begin at this place.
+pub fn slave_seems_due(fabric: &Fabric<Toggle, Toggle>, first: usize) -> bool
     requires { 0 < fabric.now.run.nodes }
 {
-    fabric.seems_due(LatchId::new(0))
+    fabric.seems_lacking(LatchId::new(0), first).is_none()
 }
 
 /// The end of the run.

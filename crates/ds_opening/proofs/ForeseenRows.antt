@@ -1,7 +1,8 @@
 -- Where the value of a node stands in the list of all values.
 use Rattle.std.proofs.Common.{◌≡◌, ◌∙◌, ℕ, zero, suc, ◌+◌, ◌*◌, ◌/◌, ◌%◌, ◌<◌, ◌≤◌, Bool, true}
 use Rattle.std.proofs.Common.{false, List, [], length, get_or, map, replicate, cond, ◌==◌}
-use Rattle.std.proofs.Common.{refl, ap, arith}
+use Rattle.std.proofs.Common.{refl, ap, sym, arith, ◌≢◌}
+use Rattle.std.proofs.lemmas.Bool.{eqb-false, eqb-true}
 use Rattle.std.proofs.lemmas.List.{get_or_past}
 use Rattle.std.proofs.lemmas.List.FromFn.{get_or-map-range_with_len}
 use Rattle.std.proofs.lemmas.Nat.{div-mul-add, mod-mul-add, mul-le}
@@ -49,6 +50,20 @@ node_by_number (Slave i) =
     ap node_at up
     ∙ (ap (λ (m : ℕ). cond (m == 0) (Master ((2 * i + 1) / 2)) (Slave ((2 * i + 1) / 2))) odd
     ∙ ap Slave half)
+
+-- a node has one number
+latch_number : (n : ℕ) (even : Bool) → even ≡ (n % 2 == 0)
+    → number_of (cond even (Master (n / 2)) (Slave (n / 2))) ≡ suc (suc n)
+latch_number n true e = let is : n % 2 ≡ 0 = eqb-true (n % 2) 0 (sym e) in omega (is, arith)
+latch_number n false e = let is : n % 2 ≢ 0 = eqb-false (n % 2) 0 (sym e) in omega (is, arith)
+
+number_at : (l : ℕ) → number_of (node_at l) ≡ l
+number_at zero = refl
+number_at (suc zero) = refl
+number_at (suc (suc n)) = latch_number n (n % 2 == 0) refl
+
+pub one_number : (a b : ℕ) → node_at a ≡ node_at b → a ≡ b
+one_number a b e = sym (number_at a) ∙ (ap number_of e ∙ number_at b)
 
 -- the latches of a cluster that is not there have rows of no values
 no_cluster : (s : Split) (order : List ℕ) (vectors : List Row) (master : Bool) (i k : ℕ)

@@ -1,5 +1,5 @@
 -- What the opening of a slave takes, and the cones of the others.
-use Rattle.std.proofs.Common.{◌≡◌, ◌≢◌, ◌⊎◌, ◌∙◌, ℕ, suc, ◌+◌, ◌-◌, ◌/◌, ◌%◌, ◌<◌, Bool, false, cond, List, [], ◌∷◌, ◌++◌, length, get_or, refl, arith, ap, sym, subst, inl, inr}
+use Rattle.std.proofs.Common.{◌≡◌, ◌≢◌, ◌⊎◌, ◌∙◌, ℕ, suc, ◌+◌, ◌-◌, ◌/◌, ◌%◌, ◌<◌, Bool, false, cond, List, [], ◌∷◌, ◌++◌, length, get_or, take, drop, ◌≤◌, refl, arith, ap, sym, subst, inl, inr}
 use Rattle.std.specs.Prelude.{All, AllPairs, Contains}
 use Rattle.std.proofs.lemmas.Bool.{cases_eq}
 use Rattle.std.proofs.lemmas.List.{append-nil, get_or_append_left, get_or_push, length-map}
@@ -14,7 +14,7 @@ use Rattle.ds_settle.specs.Cone.{IsCone, Parts}
 use Rattle.ds_opening.specs.Packed.{packed, words_of}
 use Rattle.ds_opening.specs.Settled.{IsSettling}
 use Rattle.ds_opening.specs.Woven.{AreCones, IsConeAt, IsFed, IsOpening, Turn, cone_place, read_of, taken, woven}
-use Rattle.ds_opening.proofs.Filled.{length-packed}
+use Rattle.ds_opening.proofs.Filled.{behind_first, length-packed}
 
 -- a slave reads its master alone
 master_only : (s : Split) (p : Node) (i : ℕ) → IsDataEdge s p (Slave i) → p ≡ Master i
@@ -26,15 +26,16 @@ only_one (x ∷ []) m all once has = ap (λ y. y ∷ []) (All-head (λ p. p ≡ 
 only_one (x ∷ y ∷ xs) m all once has =
     absurd (once 0 1 m (omega arith) (omega arith) (All-head (λ p. p ≡ m) x (y ∷ xs) all ∙ sym (All-head (λ p. p ≡ m) y xs (All-tail (λ p. p ≡ m) x (y ∷ xs) all))))
 
+-- the number of its master stands before the words
 slave_words : (s : Split) (i : ℕ) → IsNode s (Slave i) → (learnt : ℕ → Bool) → learnt (number_of (Master i)) ≡ false
-    → (numbers from : List ℕ) (t : Turn) → IsFed s (Slave i) learnt numbers from t → from ≡ packed (taken s t (Slave i))
-slave_words s i is_node learnt unlearnt numbers from t fed =
-    let masters : All (λ p. p ≡ Master i) fed.producers.nodes = All-weaker (λ p. IsNode s p × IsDataEdge s p (Slave i)) (λ p. p ≡ Master i) (λ p both. master_only s p i both.1) fed.producers.nodes fed.producers.each in
-    let one : fed.producers.nodes ≡ Master i ∷ [] = only_one fed.producers.nodes (Master i) masters fed.producers.once (fed.producers.all (Master i) (to_slave is_node)) in
+    → (from : List ℕ) (t : Turn) → IsFed s (Slave i) learnt from t → from ≡ number_of (Master i) ∷ packed (taken s t (Slave i))
+slave_words s i is_node learnt unlearnt from t fed =
+    let masters : All (λ p. p ≡ Master i) fed.nodes = All-weaker (λ p. IsNode s p × IsDataEdge s p (Slave i)) (λ p. p ≡ Master i) (λ p both. master_only s p i both.1) fed.nodes fed.producers.each in
+    let one : fed.nodes ≡ Master i ∷ [] = only_one fed.nodes (Master i) masters fed.producers.once (fed.producers.all (Master i) (to_slave is_node)) in
     let number : suc t.opened - 0 ≡ suc t.opened = omega arith in
-    let row : List ℕ = packed (read_of s t (Master i)) in
+    let row : List ℕ = number_of (Master i) ∷ packed (read_of s t (Master i)) in
     fed.words ∙ (ap (woven learnt (read_of s t)) one ∙ (ap (λ (b : Bool). cond b [] row ++ []) unlearnt ∙ (append-nil row
-    ∙ ap packed (ap (numbered s t.vectors t.state t.nets (Master i)) number))))
+    ∙ ap (λ (k : ℕ). number_of (Master i) ∷ packed (numbered s t.vectors t.state t.nets (Master i) k)) number)))
 
 -- a node that is neither IN nor settles is a slave
 is_slave : (n : Node) → number_of n ≢ 0 → ¬ ((number_of n ≡ 1) ⊎ (number_of n % 2 ≡ 0)) → (i : ℕ) × (n ≡ Slave i)
@@ -44,20 +45,30 @@ is_slave (Master i) some other = absurd (other (inr (omega arith)))
 is_slave (Slave i) some other = (i, refl)
 
 module _ (s : Split) (vectors : List Row) (number opened : ℕ) (some : number ≢ 0) (other : ¬ ((number ≡ 1) ⊎ (number % 2 ≡ 0)))
-    (learnt : ℕ → Bool) (unlearnt : (i : ℕ) → learnt (number_of (Master i)) ≡ false) (numbers from : List ℕ)
-    (n : Node) (t : Turn) (o : IsOpening s vectors number opened learnt numbers from n t) where
+    (learnt : ℕ → Bool) (unlearnt : (i : ℕ) → learnt (number_of (Master i)) ≡ false) (from : List ℕ)
+    (n : Node) (t : Turn) (o : IsOpening s vectors number opened learnt from n t) where
   slave_is : (i : ℕ) × (n ≡ Slave i)
   slave_is = is_slave n (λ e. some (sym o.is ∙ e)) (subst (λ (m : ℕ). ¬ ((m ≡ 1) ⊎ (m % 2 ≡ 0))) (sym o.is) other)
 
-  -- the words that a slave reads are those of the row that it takes
-  pub slave_takes : from ≡ packed (taken s t n)
+  fed_slave : (i : ℕ) → n ≡ Slave i → from ≡ number_of (Master i) ∷ packed (taken s t n)
+  fed_slave i is =
+      let node : IsNode s (Slave i) = subst (IsNode s) is o.node in
+      let fed : IsFed s (Slave i) learnt from t = subst (λ (m : Node). IsFed s m learnt from t) is o.fed in
+      slave_words s i node learnt (unlearnt i) from t fed ∙ ap (λ (m : Node). number_of (Master i) ∷ packed (taken s t m)) (sym is)
+
+  -- the words that a slave reads behind a number are those of the row that it takes
+  pub slave_takes : take (length from - 1) (drop 1 from) ≡ packed (taken s t n)
   slave_takes =
       let (i, is) = slave_is in
-      let node : IsNode s (Slave i) = subst (IsNode s) is o.node in
-      let fed : IsFed s (Slave i) learnt numbers from t = subst (λ (m : Node). IsFed s m learnt numbers from t) is o.fed in
-      slave_words s i node learnt (unlearnt i) numbers from t fed ∙ ap (λ (m : Node). packed (taken s t m)) (sym is)
+      behind_first (number_of (Master i)) (packed (taken s t n)) from (fed_slave i is)
 
-  pub slave_room : length from ≡ words_of (length (nets_of s n))
+  pub slave_reads : 1 ≤ length from
+  slave_reads =
+      let (i, is) = slave_is in
+      let long : length from ≡ suc (length (packed (taken s t n))) = ap (λ (ws : List ℕ). length ws) (fed_slave i is) in
+      omega (long, arith)
+
+  pub slave_room : length (take (length from - 1) (drop 1 from)) ≡ words_of (length (nets_of s n))
   slave_room =
       let (i, is) = slave_is in
       let size : length (taken s t (Slave i)) ≡ length (members s i) = length-map (members s i) (value_at (t.state (suc t.opened))) in

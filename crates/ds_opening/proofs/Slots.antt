@@ -1,5 +1,5 @@
 -- The slots of a split design, of which no two share a net.
-use Rattle.std.proofs.Common.{◌≡◌, ◌≢◌, ◌∙◌, ◌⊎◌, ℕ, zero, suc, ◌+◌, ◌-◌, ◌*◌, ◌/◌, ◌<◌, List}
+use Rattle.std.proofs.Common.{◌≡◌, ◌≢◌, ◌∙◌, ◌⊎◌, ℕ, zero, suc, ◌+◌, ◌-◌, ◌<◌, List}
 use Rattle.std.proofs.Common.{[], ◌∷◌, ◌++◌, length, get_or, map, refl, sym, ap, subst, arith, inl, inr}
 use Rattle.std.specs.Prelude.{AllPairs, Contains}
 use Rattle.std.specs.List.{flat_map, range_with_len}
@@ -14,12 +14,15 @@ use Rattle.ds_base.proofs.Pairs.{pairs-between, pairs-left, pairs-right}
 use Rattle.ds_design.specs.Circuit.{Circuit, columns, register_nets}
 use Rattle.ds_design.specs.Levels.{table_nets}
 use Rattle.ds_groups.specs.Groups.{AreGroupsOf, Grouping, group_of}
-use Rattle.ds_latch.specs.Node.{Node, In, Out, Master, Slave, Split, IsNode, members, nets_of, number_of}
+use Rattle.ds_latch.specs.Node.{Node, In, Out, Master, Slave, Split, IsNode, members, nets_of, nodes, number_of}
+use Rattle.ds_latch.proofs.Counts.{number_below}
 use Rattle.ds_latch.specs.Order.{IsSource}
 use Rattle.ds_latch.specs.Plan.{IsSplit}
 use Rattle.ds_settle.specs.Cone.{Parts as Cone, net_of, nets_of_tables}
 use Rattle.ds_settle.proofs.Tables.{net_driven, same_table}
-use Rattle.ds_opening.specs.Noted.{AreSlotsApart, slots_of, source_node}
+use Rattle.ds_opening.specs.Foreseen.{node_at}
+use Rattle.ds_opening.specs.Noted.{AreSlotsApart, learnt_nets, slots_of}
+use Rattle.ds_opening.proofs.ForeseenRows.{node_by_number, one_number}
 
 nothing : (x : ℕ) → ¬ Contains [] x
 nothing x (k, inside, is) = absurd (let h : k < 0 = inside in omega (h, arith))
@@ -107,39 +110,47 @@ module _ (s : Split) (split : IsSplit s) where
       (subst (Contains (members s i)) same r.has) q.has
 
   -- a net is learnt of one node
-  same_source : (i j net : ℕ) → Contains (nets_of s (source_node i)) net → Contains (nets_of s (source_node j)) net → i ≡ j
-  same_source zero zero net one two = refl
-  same_source zero (suc j) net one two = absurd (not_both net one (slave_register j net two))
-  same_source (suc i) zero net one two = absurd (not_both net two (slave_register i net one))
-  same_source (suc i) (suc j) net one two = ap suc (same_slave i j net one two)
+  same_source : (p q : Node) (net : ℕ) → Contains (learnt_nets s p) net → Contains (learnt_nets s q) net → p ≡ q
+  same_source In In net one two = refl
+  same_source In Out net one two = absurd (nothing net two)
+  same_source In (Master j) net one two = absurd (nothing net two)
+  same_source In (Slave j) net one two = absurd (not_both net one (slave_register j net two))
+  same_source Out q net one two = absurd (nothing net one)
+  same_source (Master i) q net one two = absurd (nothing net one)
+  same_source (Slave i) In net one two = absurd (not_both net two (slave_register i net one))
+  same_source (Slave i) Out net one two = absurd (nothing net two)
+  same_source (Slave i) (Master j) net one two = absurd (nothing net two)
+  same_source (Slave i) (Slave j) net one two = ap Slave (same_slave i j net one two)
 
   -- what is learnt is driven by no table
-  source_free : (i net : ℕ) → Contains (nets_of s (source_node i)) net → ¬ Contains (table_nets c) net
-  source_free zero net has driven =
+  source_free : (p : Node) (net : ℕ) → Contains (learnt_nets s p) net → ¬ Contains (table_nets c) net
+  source_free In net has driven =
       pairs-between (columns c) (table_nets c)
       (pairs-left (columns c ++ table_nets c) (register_nets c) split.accepted.one_driver) net has driven
-  source_free (suc i) net has driven =
+  source_free Out net has driven = absurd (nothing net has)
+  source_free (Master i) net has driven = absurd (nothing net has)
+  source_free (Slave i) net has driven =
       pairs-between (columns c ++ table_nets c) (register_nets c) split.accepted.one_driver net
       (Contains-append_right (columns c) (table_nets c) net driven) (slave_register i net has)
 
-  -- the nets that are learnt of one node
+  -- the nets that are learnt of the node with a number
   abbrev source_nets : ℕ → List ℕ
-  source_nets i = nets_of s (source_node i)
+  source_nets number = learnt_nets s (node_at number)
 
   module _ (g : Grouping) where
     abbrev fronts : List (List ℕ)
     fronts = map (nets_of_tables c) g.groups
 
     abbrev backs : List (List ℕ)
-    backs = map source_nets (range_with_len 0 (length s.clusters + 1))
+    backs = map source_nets (range_with_len 0 (nodes s))
 
     fronts_long : length fronts ≡ length g.groups
     fronts_long = length-map g.groups (nets_of_tables c)
 
-    backs_long : length backs ≡ length s.clusters + 1
-    backs_long = length-map-range_with_len source_nets 0 (length s.clusters + 1)
+    backs_long : length backs ≡ nodes s
+    backs_long = length-map-range_with_len source_nets 0 (nodes s)
 
-    pub slots_long : length (slots_of s g) ≡ length g.groups + (length s.clusters + 1)
+    pub slots_long : length (slots_of s g) ≡ length g.groups + nodes s
     slots_long =
         (let sum : length (slots_of s g) ≡ length fronts + length backs = length-append fronts backs in
         omega (sum, fronts_long, backs_long, arith))
@@ -149,22 +160,25 @@ module _ (s : Split) (split : IsSplit s) where
         get_or_append_left fronts backs [] a (omega (low, fronts_long, arith))
         ∙ get_or-map (nets_of_tables c) g.groups a [] [] low
 
-    slot_at : (i : ℕ) → i < length s.clusters + 1 → get_or (slots_of s g) (length g.groups + i) [] ≡ source_nets i
+    slot_at : (i : ℕ) → i < nodes s → get_or (slots_of s g) (length g.groups + i) [] ≡ source_nets i
     slot_at i low =
         ap (λ (n : ℕ). get_or (slots_of s g) (n + i) []) (sym fronts_long)
         ∙ (get_or-append-add fronts backs i []
-        ∙ get_or-map-range_with_len source_nets 0 (length s.clusters + 1) i i [] low (omega arith))
+        ∙ get_or-map-range_with_len source_nets 0 (nodes s) i i [] low (omega arith))
 
-    -- the slot of IN or a slave, by the node's number
+    -- the slot of a node, by its number
+    slot_of_node : (p : Node) → IsNode s p
+        → get_or (slots_of s g) (length g.groups + number_of p) [] ≡ learnt_nets s p
+    slot_of_node p is_node =
+        slot_at (number_of p) (number_below s p is_node) ∙ ap (learnt_nets s) (node_by_number p)
+
+    -- that of IN or a slave
     pub slot_of_source : (p : Node) → IsNode s p → IsSource p
-        → get_or (slots_of s g) (length g.groups + number_of p / 2) [] ≡ nets_of s p
-    slot_of_source In is_node source = slot_at 0 (omega arith)
+        → get_or (slots_of s g) (length g.groups + number_of p) [] ≡ nets_of s p
+    slot_of_source In is_node source = slot_of_node In is_node
     slot_of_source Out is_node source = absurd source
     slot_of_source (Master i) is_node source = absurd source
-    slot_of_source (Slave i) is_node source =
-        let place : (2 * i + 3) / 2 ≡ suc i = omega arith in
-        let inside : i < length s.clusters = is_node in
-        ap (λ (n : ℕ). get_or (slots_of s g) (length g.groups + n) []) place ∙ slot_at (suc i) (omega (inside, arith))
+    slot_of_source (Slave i) is_node source = slot_of_node (Slave i) is_node
 
     module _ (cones : List Cone) (are : AreGroupsOf c cones g) where
       -- the slot of a net: a group's, or that of IN or a slave
@@ -193,7 +207,7 @@ module _ (s : Split) (split : IsSplit s) where
         | inr past ↦
             (let l : ℕ = a - length g.groups in
             let a_is : a ≡ length g.groups + l = omega (past, arith) in
-            elim (cases_lt l (length s.clusters + 1)) [
+            elim (cases_lt l (nodes s)) [
               | inl near ↦ inr (record {
                 place = l;
                 is = a_is;
@@ -211,11 +225,11 @@ module _ (s : Split) (split : IsSplit s) where
           let same : p.table ≡ q.table = same_table c split.accepted p.table q.table p.low q.low (p.is ∙ sym q.is) in
           are.apart a b q.table (subst (Contains (group_of g a)) same p.has) q.has
       apart_in a b net (inl p) (inr q) =
-          absurd (source_free q.place net q.has (subst (Contains (table_nets c)) p.is (net_driven c p.table p.low)))
+          absurd (source_free (node_at q.place) net q.has (subst (Contains (table_nets c)) p.is (net_driven c p.table p.low)))
       apart_in a b net (inr p) (inl q) =
-          absurd (source_free p.place net p.has (subst (Contains (table_nets c)) q.is (net_driven c q.table q.low)))
+          absurd (source_free (node_at p.place) net p.has (subst (Contains (table_nets c)) q.is (net_driven c q.table q.low)))
       apart_in a b net (inr p) (inr q) =
-          p.is ∙ (ap (λ (n : ℕ). length g.groups + n) (same_source p.place q.place net p.has q.has) ∙ sym q.is)
+          p.is ∙ (ap (λ (n : ℕ). length g.groups + n) (one_number p.place q.place (same_source (node_at p.place) (node_at q.place) net p.has q.has)) ∙ sym q.is)
 
       pub slots_apart : AreSlotsApart (slots_of s g)
       slots_apart a b net one two = apart_in a b net (in_slot a net one) (in_slot b net two)

@@ -57,10 +57,14 @@ no_master s i _ (to_slave inside) settling = settling
 
 module _ (s : Split) (split : IsSplit s) (bits : List (List ℕ)) (one_each : length bits ≡ nodes s)
     (nets_are : (n : Node) → IsNode s n → get_or bits (number_of n) [] ≡ nets_of s n)
-    (n : Node) (number : ℕ) (at : IsSettlingAt s n number) (learnt : ℕ → Bool) (numbers from : List ℕ) (t : Turn)
-    (fed : IsFed s n learnt numbers from t) where
+    (n : Node) (number : ℕ) (at : IsSettlingAt s n number) (learnt : ℕ → Bool) (from : List ℕ) (t : Turn)
+    (fed : IsFed s n learnt from t) where
   abbrev pub known : Row
   known = t.nets t.opened
+
+  -- the numbers of the producers
+  abbrev pub numbers : List ℕ
+  numbers = map number_of fed.nodes
 
   -- the registers of a cluster, on the nets of the turn
   slave_value : (d : ℕ) → d < length s.clusters → values_at known (nets_of s (Slave d)) ≡ values_at (t.state t.opened) (members s d)
@@ -82,13 +86,13 @@ module _ (s : Split) (split : IsSplit s) (bits : List (List ℕ)) (one_each : le
   weave_rows (p ∷ ps) each =
       let (is_p, edge) = All-head (λ p. IsNode s p × IsDataEdge s p n) p ps each in
       let row : read_of s t p ≡ values_at known (get_or bits (number_of p) []) = sym (source_value p is_p edge) ∙ ap (values_at known) (sym (nets_are p is_p)) in
-      ap (λ (r : Row). cond (learnt (number_of p)) [] (packed r) ++ woven learnt (read_of s t) ps) row
-      ∙ ap (λ (ws : List ℕ). cond (learnt (number_of p)) [] (packed (values_at known (get_or bits (number_of p) []))) ++ ws)
+      ap (λ (r : Row). cond (learnt (number_of p)) [] (number_of p ∷ packed r) ++ woven learnt (read_of s t) ps) row
+      ∙ ap (λ (ws : List ℕ). cond (learnt (number_of p)) [] (number_of p ∷ packed (values_at known (get_or bits (number_of p) []))) ++ ws)
       (weave_rows ps (All-tail (λ p. IsNode s p × IsDataEdge s p n) p ps each))
 
   -- the words are those of the producers' rows on the nets of the turn
   pub from_is : from ≡ packed_rows learnt known bits numbers
-  from_is = fed.words ∙ (weave_rows fed.producers.nodes fed.producers.each ∙ ap (packed_rows learnt known bits) (sym fed.producers.are))
+  from_is = fed.words ∙ weave_rows fed.nodes fed.producers.each
 
   -- the producer with a number
   record Producer (v : ℕ) : Type 0 where
@@ -98,11 +102,10 @@ module _ (s : Split) (split : IsSplit s) (bits : List (List ℕ)) (one_each : le
 
   producer : (k d : ℕ) → k < length numbers → Producer (get_or numbers k d)
   producer k d inside =
-      let size : length numbers ≡ length fed.producers.nodes = ap (λ (ns : List ℕ). length ns) fed.producers.are ∙ length-map fed.producers.nodes number_of in
-      let low : k < length fed.producers.nodes = omega (size, inside, arith) in record {
-        node = get_or fed.producers.nodes k In;
+      let low : k < length fed.nodes = omega (length-map fed.nodes number_of, inside, arith) in record {
+        node = get_or fed.nodes k In;
         is_node = (fed.producers.each k In low).0;
-        is = ap (λ (ns : List ℕ). get_or ns k d) fed.producers.are ∙ get_or-map number_of fed.producers.nodes k In d low;
+        is = get_or-map number_of fed.nodes k In d low;
       }
 
   pub numbers_inside : All (λ node. node < length bits) numbers
@@ -121,12 +124,10 @@ module _ (s : Split) (split : IsSplit s) (bits : List (List ℕ)) (one_each : le
   pub supplied : (filled : Row) → AreLearnt known bits numbers filled → IsSupplied s (numbered s t.vectors t.state t.nets) t.opened n filled
   supplied filled rows p is_p edge =
       let (k, inside, is) = fed.producers.all p edge in
-      let size : length numbers ≡ length fed.producers.nodes = ap (λ (ns : List ℕ). length ns) fed.producers.are ∙ length-map fed.producers.nodes number_of in
       let has : Contains numbers (number_of p) = (
         k,
-        omega (size, inside, arith),
-        ap (λ (ns : List ℕ). get_or ns k (number_of p)) fed.producers.are
-            ∙ (get_or-map number_of fed.producers.nodes k p (number_of p) inside ∙ ap number_of is),
+        omega (length-map fed.nodes number_of, inside, arith),
+        get_or-map number_of fed.nodes k p (number_of p) inside ∙ ap number_of is,
       ) in
       let here : values_at filled (nets_of s p) ≡ values_at known (nets_of s p) =
       subst (λ (these : List ℕ). values_at filled these ≡ values_at known these) (nets_are p is_p) (rows (number_of p) has) in

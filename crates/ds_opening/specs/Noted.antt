@@ -1,5 +1,5 @@
 -- Openings in a row that remembers.
-use Rattle.std.specs.Prelude.{◌≡◌, ◌⊎◌, ⊤, ℕ, zero, suc, ◌+◌, ◌-◌, ◌<◌, List, [], ◌∷◌, ◌++◌}
+use Rattle.std.specs.Prelude.{◌≡◌, ◌⊎◌, ⊤, ℕ, ◌+◌, ◌-◌, ◌<◌, List, [], ◌∷◌, ◌++◌}
 use Rattle.std.specs.Prelude.{length, map, All, Contains, slice_index_or}
 use Rattle.std.specs.List.{range_with_len}
 use Rattle.ds_base.specs.Values.{Row}
@@ -7,11 +7,12 @@ use Rattle.ds_cover.specs.Cover.{value_at, value_of}
 use Rattle.ds_design.specs.Circuit.{Circuit}
 use Rattle.ds_design.specs.declared.design.Gate.{Gate}
 use Rattle.ds_groups.specs.Groups.{AreGroupsOf, Grouping, group_of}
-use Rattle.ds_latch.specs.Node.{Node, In, Slave, Split, nets_of}
+use Rattle.ds_latch.specs.Node.{Node, In, Out, Master, Slave, Split, nets_of, nodes}
 use Rattle.ds_scratch.specs.Scratch.{Kept, Memory, Remembers, value_in}
 use Rattle.ds_settle.specs.Cone.{Parts as Cone, net_of, nets_of_tables}
+use Rattle.ds_opening.specs.Foreseen.{node_at}
 use Rattle.ds_opening.specs.Learnt.{is_learnt}
-use Rattle.ds_opening.specs.Packed.{AreLearnt, Learns}
+use Rattle.ds_opening.specs.Packed.{AreInside, AreLearnt, Learns, packed_rows}
 use Rattle.ds_opening.specs.Woven.{AreCones, IsFed, IsOpening, IsSettlingAt, Turn}
 use Rattle.ds_opening.specs.declared.opening.Opening.{Opening}
 
@@ -21,15 +22,17 @@ pub record AreConeGroups (s : Split) (g : Grouping) : Type 0 where
   pub are_cones : AreCones s cones
   pub are : AreGroupsOf s.circuit cones g
 
--- the nodes whose rows others learn as they settle, in the order IN, S0, S1, ..
-abbrev pub source_node : ℕ → Node
-source_node zero = In
-source_node (suc i) = Slave i
+-- what others learn of a node as they settle: the nets of IN and of a slave
+abbrev pub learnt_nets : Split → Node → List ℕ
+learnt_nets s In = nets_of s In
+learnt_nets s Out = []
+learnt_nets s (Master i) = []
+learnt_nets s (Slave i) = nets_of s (Slave i)
 
--- the slots: what the tables of each group drive, and the nets of IN and of each slave
+-- the slots: what the tables of each group drive, and what others learn of each node
 abbrev pub slots_of : Split → Grouping → List (List ℕ)
 slots_of s g = map (nets_of_tables s.circuit) g.groups
-    ++ map (λ place. nets_of s (source_node place)) (range_with_len 0 (length s.clusters + 1))
+    ++ map (λ number. learnt_nets s (node_at number)) (range_with_len 0 (nodes s))
 
 -- no net is in two slots
 abbrev pub AreSlotsApart : List (List ℕ) → Type 0
@@ -68,6 +71,15 @@ pub record AreRowsLearnt (m : Memory) (known : Row) (bits : List (List ℕ)) (nu
   pub remembers : Remembers m new
   pub learnt : AreLearnt known bits numbers new.nets
 
+-- the opening reads the rows of those of these nodes that are not learnt, on known nets, and each
+-- node has its slot
+pub record AreReadRows (bits : List (List ℕ)) (first : ℕ) (o : Opening) (k : Kept) (known : Row)
+    (nodes : List ℕ) : Type 0 where
+  pub from : o.from.now ≡ packed_rows (is_learnt first k o.turn) known bits nodes
+  pub inside : All (λ node. node < length bits) nodes
+  pub within : All (λ node. AreInside (slice_index_or bits node []) k.nets) nodes
+  pub slots : All (λ node. first + node < length k.turns) nodes
+
 -- each of these tables reads what P holds of or what an earlier one drives, and the known values
 -- are those of the tables
 abbrev pub FindInputs : Circuit → Row → (ℕ → Type 0) → List ℕ → Type 0
@@ -90,7 +102,7 @@ pub record IsNotedOpening (s : Split) (vectors : List Row) (g : Grouping) (o : O
     (n : Node) (t : Turn) (m : Memory) : Type 0 where
   pub some : 0 < o.turn
   pub opening : IsOpening s vectors o.number (o.turn - 1) (is_learnt (length g.groups) k o.turn)
-      o.producers.now o.from.now n t
+      o.from.now n t
   pub memory : IsMemoryOf s g o.turn t m k
 
 -- the same of a node that settles
@@ -98,5 +110,5 @@ pub record IsSettlingOpening (s : Split) (g : Grouping) (o : Opening) (k : Kept)
     (n : Node) (t : Turn) (m : Memory) : Type 0 where
   pub some : 0 < o.turn
   pub at : IsSettlingAt s n o.number
-  pub fed : IsFed s n (is_learnt (length g.groups) k o.turn) o.producers.now o.from.now t
+  pub fed : IsFed s n (is_learnt (length g.groups) k o.turn) o.from.now t
   pub memory : IsMemoryOf s g o.turn t m k

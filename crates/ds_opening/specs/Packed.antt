@@ -14,12 +14,12 @@ words_of count = (count + 31) / 32
 abbrev pub packed : Row → List ℕ
 packed values = map (word_of values) (range_with_len 0 (words_of (length values)))
 
--- the words of the rows that some nodes have on known nets, one after another, without those of
--- nodes whose rows are learnt
+-- of some nodes, one after another, the number and the words of the row that it has on known nets,
+-- without nodes whose rows are learnt
 abbrev pub packed_rows : (ℕ → Bool) → Row → List (List ℕ) → List ℕ → List ℕ
 packed_rows learnt known bits [] = []
 packed_rows learnt known bits (node ∷ nodes) =
-    cond (learnt node) [] (packed (values_at known (slice_index_or bits node [])))
+    cond (learnt node) [] (node ∷ packed (values_at known (slice_index_or bits node [])))
     ++ packed_rows learnt known bits nodes
 
 -- these nets are as they are known, and so is every net that was so before

@@ -1,6 +1,6 @@
 -- What the openings of the nodes compute, turn by turn.
 use Rattle.std.specs.Prelude.{◌≡◌, ◌≢◌, ℕ, suc, ◌+◌, ◌-◌, ◌<◌, Bool, cond}
-use Rattle.std.specs.Prelude.{List, [], ◌∷◌, ◌++◌, length, map, All, AllPairs, Contains}
+use Rattle.std.specs.Prelude.{List, [], ◌∷◌, ◌++◌, length, All, AllPairs, Contains}
 use Rattle.std.specs.Prelude.{slice_index_or}
 use Rattle.ds_base.specs.Values.{Row}
 use Rattle.ds_design.specs.Run.{IsRun}
@@ -11,12 +11,12 @@ use Rattle.ds_settle.specs.Cone.{IsCone, Parts as Cone}
 use Rattle.ds_opening.specs.Packed.{packed}
 use Rattle.ds_opening.specs.Settled.{IsSettling}
 
--- the words of the rows of some nodes, one after another, without those of nodes whose rows are
--- learnt
+-- of some nodes, one after another, the number and the words of the row, without nodes whose rows
+-- are learnt
 abbrev pub woven : (ℕ → Bool) → (Node → Row) → List Node → List ℕ
 woven learnt rows [] = []
 woven learnt rows (p ∷ ps) =
-    cond (learnt (number_of p)) [] (packed (rows p)) ++ woven learnt rows ps
+    cond (learnt (number_of p)) [] (number_of p ∷ packed (rows p)) ++ woven learnt rows ps
 
 -- a clocked run, and how often a node has opened in it
 pub record Turn : Type 0 where
@@ -39,21 +39,20 @@ pub record IsSettlingAt (s : Split) (n : Node) (number : ℕ) : Type 0 where
   pub settling : IsSettling n
   pub is : number_of n ≡ number
 
--- these are the numbers of a node's producers, each once
-pub record AreProducers (s : Split) (n : Node) (numbers : List ℕ) : Type 0 where
-  pub nodes : List Node
-  pub are : numbers ≡ map number_of nodes
+-- a node's producers, each once
+pub record AreProducers (s : Split) (n : Node) (nodes : List Node) : Type 0 where
   pub each : All (λ p. IsNode s p × IsDataEdge s p n) nodes
   pub all : (p : Node) → IsDataEdge s p n → Contains nodes p
   pub once : AllPairs (λ p q. p ≢ q) nodes
 
--- words that a node reads in a turn of its producers whose rows are not learnt
-pub record IsFed (s : Split) (n : Node) (learnt : ℕ → Bool) (numbers from : List ℕ) (t : Turn) :
+-- what a node reads in a turn of its producers whose rows are not learnt
+pub record IsFed (s : Split) (n : Node) (learnt : ℕ → Bool) (from : List ℕ) (t : Turn) :
     Type 0 where
   pub run : IsRun s.circuit s.initial t.vectors t.state t.nets
   pub below : t.opened < length t.vectors
-  pub producers : AreProducers s n numbers
-  pub words : from ≡ woven learnt (read_of s t) producers.nodes
+  pub nodes : List Node
+  pub producers : AreProducers s n nodes
+  pub words : from ≡ woven learnt (read_of s t) nodes
 
 -- the cone of the node with this number, where it settles
 abbrev pub IsConeAt : Split → ℕ → Cone → Type 0
@@ -61,10 +60,10 @@ IsConeAt s number cone = (n : Node) → IsSettlingAt s n number → IsCone s.cir
 
 -- the opening of the node with this number in a turn of a run on these vectors
 pub record IsOpening (s : Split) (vectors : List Row) (number opened : ℕ) (learnt : ℕ → Bool)
-    (numbers from : List ℕ) (n : Node) (t : Turn) : Type 0 where
+    (from : List ℕ) (n : Node) (t : Turn) : Type 0 where
   pub node : IsNode s n
   pub is : number_of n ≡ number
-  pub fed : IsFed s n learnt numbers from t
+  pub fed : IsFed s n learnt from t
   pub same : t.vectors ≡ vectors
   pub turn : t.opened ≡ opened
 

@@ -1,50 +1,47 @@
 //! What the opening of a node computes, in a row that remembers what was computed in a turn.
-ghost use Rattle.std.specs.Prelude.{◌≡◌, ◌≢◌, ◌≤◌, ◌<◌, ◌+◌, ◌/◌, ◌%◌, ◌⊎◌, ◌↔◌, ◌++◌, ◌==◌, ℕ};
-ghost use Rattle.std.specs.Prelude.{◌^◌, All, AllPairs, IsTrue, [], length};
-ghost use Rattle.std.specs.Prelude.{slice_index, slice_index_or, vec_capacity, vec_len};
+ghost use Rattle.std.specs.Prelude.{◌≡◌, ◌≤◌, ◌<◌, ◌+◌, ◌%◌, ◌⊎◌, ◌↔◌, ◌++◌, ℕ};
+ghost use Rattle.std.specs.Prelude.{◌^◌, All, IsTrue, List, [], length};
+ghost use Rattle.std.specs.Prelude.{slice_index_or, vec_capacity, vec_len};
 ghost use Rattle.ds_base.specs.Values.{Row};
 ghost use Rattle.ds_cover.specs.Cover.{values_at};
 ghost use Rattle.ds_design.specs.Banked.{IsBankOf};
 ghost use Rattle.ds_design.specs.InRange.{IsInRange};
 ghost use Rattle.ds_design.specs.Circuit.{columns};
 ghost use Rattle.ds_groups.specs.Groups.{group_of, tables_in};
-ghost use Rattle.ds_latch.specs.Node.{Node, IsNode, number_of, nets_of, nodes};
+ghost use Rattle.ds_latch.specs.Node.{Node, IsNode, number_of, nets_of};
 ghost use Rattle.ds_latch.specs.Plan.{IsSplit};
 ghost use Rattle.ds_scratch.specs.Scratch.{Memory, Remembers};
 ghost use Rattle.ds_settle.specs.Cone.{nets_of_tables};
-ghost use Rattle.ds_opening.specs.Learnt.{is_learnt};
-ghost use Rattle.ds_opening.specs.Packed.{AreInside, AreLearnt, packed, packed_rows};
+ghost use Rattle.ds_opening.specs.Packed.{AreInside, packed};
 ghost use Rattle.ds_opening.specs.Packed.{words_of as words_for};
 ghost use Rattle.ds_opening.specs.Noted.{AreConeGroups, FindInputs, AreGroupSlots, AreRowsLearnt};
 ghost use Rattle.ds_opening.specs.Noted.{IsAsKnown};
 ghost use Rattle.ds_opening.specs.Noted.{IsAsLong, IsLearnt, IsNotedOpening, IsSettlingOpening};
-ghost use Rattle.ds_opening.specs.Noted.{IsSlot};
+ghost use Rattle.ds_opening.specs.Noted.{AreReadRows, IsSlot};
 ghost use Rattle.ds_opening.specs.Woven.{Turn, taken};
 
-use crate::learning::is_learnt_behind;
 use crate::packed::{push_all, push_row, push_words, put_values, words_of};
-use ds_base::{LatchId, NetId, Seq};
+use ds_base::{NetId, Seq};
 use ds_design::{Netlist, Vectors};
 use ds_groups::Groups;
 use ds_latch::Latches;
 use ds_scratch::Scratch;
 
-/// The opening of the node with a number, in a turn, from 1 on: its producers, and the words of
-/// their rows, which stand one after another, without those of rows that are learnt.
+/// The opening of the node with a number, in a turn, from 1 on, and what it reads: of each producer
+/// whose row is not learnt its number, and behind it the words of its row.
 #[derive(Drop)]
 pub struct Opening<'a> {
     pub number: usize,
     pub turn: u64,
-    pub producers: &'a [LatchId],
     pub from: &'a [u64],
 }
 
 /// Puts the words of the row that a node takes behind what stands in `into`, from the words of its
 /// producers' rows: of IN the next vector, of a slave the row of its master, of the others what
 /// settles. That is worked out in a row that remembers: what another node has learnt or set in this
-/// turn is not learnt or set again, and the words of rows that are learnt (`is_learnt`) are not
-/// among those of the opening. The slots of the row are those of the groups, then those of IN, S0,
-/// S1, .. It takes no memory.
+/// turn is not learnt or set again, and rows that are learnt (`is_learnt`) are not among those of
+/// the opening. The slots of the row are those of the groups, then one of each node: IN and the
+/// slaves are learnt. It takes no memory.
 pub fn open(
     latches: &Latches,
     vectors: &Vectors,
@@ -74,7 +71,9 @@ pub fn open(
     } else if has_cone(opening.number) {
         open_groups(latches, groups, opening, scratch, into);
     } else {
-        push_all(opening.from, into);
+        // The number of its master stands before the words.
+        let words = &opening.from[1..];
+        push_all(words, into);
     }
 }
 
@@ -116,40 +115,28 @@ fn open_groups(
     push_words(scratch.nets(), bits[opening.number].as_slice(), into);
 }
 
-// Gives the nets of the producers the values of their rows, where they do not have them: rows that
-// are learnt have no words. Behind the first so many slots stand those of the nodes. The producers
-// are IN and slaves: the slot of IN is the first, and behind it stand those of S0, S1, ..
+// Gives the nets of the producers the values of the rows that were read. Behind the first so many
+// slots stand those of the nodes.
 fn learn_rows(bits: &[Seq<NetId>], first: usize, opening: &Opening, scratch: &mut Scratch)
     requires turn { 0 < opening.now.turn }
-    requires inside { All (λ node. node < length bits.now) opening.now.producers.now }
-    requires within { All (λ node. AreInside (slice_index_or bits.now node []) scratch.old.nets)
-        opening.now.producers.now }
-    requires slots { All (λ node. first + node / 2 < length scratch.old.turns)
-        opening.now.producers.now }
-    requires apart { AllPairs (λ a b. a / 2 ≢ b / 2) opening.now.producers.now }
-    requires few { first + length bits.now < 2 ^ 64 }
-    requires from { (known : Row) × (opening.now.from.now
-        ≡ packed_rows (is_learnt first scratch.old opening.now.turn) known bits.now
-        opening.now.producers.now) }
+    requires few { (first < 2 ^ 63) × (length bits.now < 2 ^ 32) }
+    requires read { (known : Row) × (nodes : List ℕ)
+        × AreReadRows bits.now first opening.now scratch.old known nodes }
 
-    ensures value { (m : Memory) (known : Row)
-        → opening.now.from.now
-        ≡ packed_rows (is_learnt first scratch.old opening.now.turn) known bits.now
-        opening.now.producers.now
-        → All (λ node. IsSlot m opening.now.turn (first + node / 2)
-        (slice_index_or bits.now node []) known) opening.now.producers.now
+    ensures value { (m : Memory) (known : Row) (nodes : List ℕ)
+        → AreReadRows bits.now first opening.now scratch.old known nodes
+        → All (λ node. IsSlot m opening.now.turn (first + node)
+        (slice_index_or bits.now node []) known) nodes
         → Remembers m scratch.old
-        → AreRowsLearnt m known bits.now opening.now.producers.now scratch.new }
+        → AreRowsLearnt m known bits.now nodes scratch.new }
     ensures same { IsAsLong scratch.old scratch.new }
 {
     let mut rest = opening.from;
-    for node in opening.producers {
-        if is_learnt_behind(first, scratch, node.index(), opening.turn) {
-            continue;
-        }
-        let these = bits[node.index()].as_slice();
-        let (row, others) = rest.split_at(words_of(these.len()));
-        learn_row(row, these, first + node.index() / 2, opening.turn, scratch);
+    'rows: while rest.len() > 0 {
+        let node = rest[0] as usize;
+        let these = bits[node].as_slice();
+        let (row, others) = rest[1..].split_at(words_of(these.len()));
+        learn_row(row, these, first + node, opening.turn, scratch);
         rest = others;
     }
 }
@@ -164,8 +151,6 @@ fn learn_row(row: &[u64], these: &[NetId], slot: usize, turn: u64, scratch: &mut
     ensures value { (m : Memory) (known : Row) → IsSlot m turn slot these.now known
         → row.now ≡ packed (values_at known these.now) → Remembers m scratch.old
         → IsLearnt m known these.now scratch.old scratch.new }
-    ensures others { (s : ℕ) → s ≢ slot → (slice_index scratch.new.turns s == turn)
-        ≡ (slice_index scratch.old.turns s == turn) }
     ensures same { IsAsLong scratch.old scratch.new }
 {
     put_values(row, these, scratch.nets_mut());

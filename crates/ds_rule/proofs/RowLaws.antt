@@ -34,9 +34,9 @@ same_both false = refl
 pub supply_but-into : (run : Run) (known : ℕ → Bool) (l k n : ℕ) → (edge_at run n).consumer ≡ l
     → known (edge_at run n).producer ≡ false
     → supply_but run known l k (n + 1) ≡ supply_but run known l k n
-    ++ row run (edge_at run n).producer (k - (edge_at run n).tokens)
+    ++ (edge_at run n).producer ∷ row run (edge_at run n).producer (k - (edge_at run n).tokens)
 supply_but-into run known l k n is unknown = let e : n + 1 ≡ suc n = omega arith in
-    let r : List ℕ = row run (edge_at run n).producer (k - (edge_at run n).tokens) in
+    let r : List ℕ = (edge_at run n).producer ∷ row run (edge_at run n).producer (k - (edge_at run n).tokens) in
     ap (supply_but run known l k) e ∙ (ap (λ b. supply_but run known l k n
     ++ cond b (cond (known (edge_at run n).producer) [] r) [])
     (eq-eqb (edge_at run n).consumer l is)
@@ -46,7 +46,7 @@ pub supply_but-known : (run : Run) (known : ℕ → Bool) (l k n : ℕ)
     → known (edge_at run n).producer ≡ true
     → supply_but run known l k (n + 1) ≡ supply_but run known l k n
 supply_but-known run known l k n told = let e : n + 1 ≡ suc n = omega arith in
-    let r : List ℕ = row run (edge_at run n).producer (k - (edge_at run n).tokens) in
+    let r : List ℕ = (edge_at run n).producer ∷ row run (edge_at run n).producer (k - (edge_at run n).tokens) in
     let b : Bool = eqb (edge_at run n).consumer l in
     ap (supply_but run known l k) e ∙ (ap (λ x. supply_but run known l k n ++ cond b (cond x [] r)
     []) told ∙ (ap (λ xs. supply_but run known l k n ++ xs) (same_both b)
@@ -55,7 +55,7 @@ supply_but-known run known l k n told = let e : n + 1 ≡ suc n = omega arith in
 pub supply_but-past : (run : Run) (known : ℕ → Bool) (l k n : ℕ) → (edge_at run n).consumer ≢ l
     → supply_but run known l k (n + 1) ≡ supply_but run known l k n
 supply_but-past run known l k n far = let e : n + 1 ≡ suc n = omega arith in
-    let r : List ℕ = row run (edge_at run n).producer (k - (edge_at run n).tokens) in
+    let r : List ℕ = (edge_at run n).producer ∷ row run (edge_at run n).producer (k - (edge_at run n).tokens) in
     ap (supply_but run known l k) e ∙ (ap (λ b. supply_but run known l k n
     ++ cond b (cond (known (edge_at run n).producer) [] r) [])
     (ne_eqb (edge_at run n).consumer l far) ∙ append-nil (supply_but run known l k n))
@@ -72,13 +72,13 @@ pub length-supply_but : (run : Run) (known : ℕ → Bool) (l k n : ℕ)
     → length (supply_but run known l k n) ≤ read_words run l n
 length-supply_but run known l k zero = omega arith
 length-supply_but run known l k (suc n) = let e : DataEdge = edge_at run n in
-    let r : List ℕ = row run e.producer (k - e.tokens) in omega (
+    let r : List ℕ = e.producer ∷ row run e.producer (k - e.tokens) in omega (
       arith,
       length-append (supply_but run known l k n)
           (cond (eqb e.consumer l) (cond (known e.producer) [] r) []),
       length-supply_but run known l k n,
-      short (eqb e.consumer l) (known e.producer) r (width run e.producer)
-          (length-row run e.producer (k - e.tokens)),
+      short (eqb e.consumer l) (known e.producer) r (1 + width run e.producer)
+          (omega (arith, length-row run e.producer (k - e.tokens))),
     )
 
 -- more edges have no fewer words
@@ -91,16 +91,16 @@ reads_up run l m (suc n) h = mathlib.Core.Logic.dite (native.Mathlib.Decide.ℕ_
     (λ e. omega (arith, reads_up run l m n (omega arith)))
 
 pub reads-into : (run : Run) (l n : ℕ) → (edge_at run n).consumer ≡ l
-    → read_words run l (n + 1) ≡ read_words run l n + width run (edge_at run n).producer
+    → read_words run l (n + 1) ≡ read_words run l n + (1 + width run (edge_at run n).producer)
 reads-into run l n is = let e : n + 1 ≡ suc n = omega arith in
     ap (read_words run l) e ∙ ap {B = ℕ} (λ b. read_words run l n + cond b
-    (width run (edge_at run n).producer) 0) (eq-eqb (edge_at run n).consumer l is)
+    (1 + width run (edge_at run n).producer) 0) (eq-eqb (edge_at run n).consumer l is)
 
 pub reads-past : (run : Run) (l n : ℕ) → (edge_at run n).consumer ≢ l
     → read_words run l (n + 1) ≡ read_words run l n
 reads-past run l n far = let e : n + 1 ≡ suc n = omega arith in
     ap (read_words run l) e ∙ (ap {B = ℕ} (λ b. read_words run l n + cond b
-    (width run (edge_at run n).producer) 0) (ne_eqb (edge_at run n).consumer l far)
+    (1 + width run (edge_at run n).producer) 0) (ne_eqb (edge_at run n).consumer l far)
     ∙ omega arith)
 
 -- the rows of k values have k times the words of one

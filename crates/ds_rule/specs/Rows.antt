@@ -1,6 +1,6 @@
 -- Rows of value words: of one value, of all producers of a node, and of all values of a node.
-use Rattle.std.specs.Prelude.{◌≡◌, ℕ, ◌+◌, ◌-◌, ◌<◌, List, [], ◌++◌, length, cond, ◌==◌, zero, suc}
-use Rattle.std.specs.Prelude.{slice_index, Bool, true}
+use Rattle.std.specs.Prelude.{◌≡◌, ℕ, ◌+◌, ◌-◌, ◌<◌, List, [], ◌∷◌, ◌++◌, length, cond, ◌==◌}
+use Rattle.std.specs.Prelude.{slice_index, Bool, suc, true, zero}
 use Rattle.ds_rule.specs.Run.{Run, opens, opened}
 use Rattle.ds_rule.specs.Words.{width, place, value}
 use Rattle.ds_rule.specs.Sound.{edge_at}
@@ -12,13 +12,13 @@ use Rattle.ds_rule.specs.declared.view.View.{View}
 abbrev pub row : Run → ℕ → ℕ → List ℕ
 row run l k = listed (value run l k) (width run l)
 
--- what opening number k of a node reads along the first n edges: the rows of its producers that are
--- not known
+-- what opening number k of a node reads along the first n edges: of each producer whose row is not
+-- learnt its number, and behind it its row
 abbrev pub supply_but : Run → (ℕ → Bool) → ℕ → ℕ → ℕ → List ℕ
-supply_but run known l k zero = []
-supply_but run known l k (suc n) = supply_but run known l k n
-    ++ cond ((edge_at run n).consumer == l) (cond (known (edge_at run n).producer) []
-    (row run (edge_at run n).producer (k - (edge_at run n).tokens))) []
+supply_but run learnt l k zero = []
+supply_but run learnt l k (suc n) = supply_but run learnt l k n
+    ++ cond ((edge_at run n).consumer == l) (cond (learnt (edge_at run n).producer) []
+    ((edge_at run n).producer ∷ row run (edge_at run n).producer (k - (edge_at run n).tokens))) []
 
 -- the rows of the values 1 to k of a node, one after another
 abbrev pub rows_to : Run → ℕ → ℕ → List ℕ

@@ -12,11 +12,13 @@ use Rattle.ds_rule.specs.Words.{width, size, values_at}
 abbrev pub edge_at : Run → ℕ → DataEdge
 edge_at run n = slice_index_or run.edges n (record { producer = 0; consumer = 0; tokens = 0 })
 
--- how many value words a node reads along the first n edges
+-- how many words a node reads at most along the first n edges: of each producer its number and its
+-- row
 abbrev pub read_words : Run → ℕ → ℕ → ℕ
 read_words run l zero = 0
 read_words run l (suc n) =
-    read_words run l n + cond ((edge_at run n).consumer == l) (width run (edge_at run n).producer) 0
+    read_words run l n
+    + cond ((edge_at run n).consumer == l) (1 + width run (edge_at run n).producer) 0
 
 -- counts of events that agree with each arc
 abbrev pub Agreed : Run → (ℕ → ℕ) → Type 0
@@ -40,7 +42,7 @@ pub record HasOrders (run : Run) (e : DataEdge) : Type 0 where
 
 -- what a run must meet; the limits of a plan give the numbers
 pub record IsSound (run : Run) : Type 0 where
-  pub few : run.nodes < 2147483648
+  pub few : run.nodes + run.latches < 4294967296
   pub few_arcs : length run.arcs < 4294967296
   pub short : run.limit < 4611686018427387904
   pub near : run.slack < 4611686018427387904

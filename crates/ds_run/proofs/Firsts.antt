@@ -53,8 +53,7 @@ abbrev pub IsSlaveNumber : ℕ → Type 0
 IsSlaveNumber number = (3 ≤ number) × (number % 2 ≡ 1)
 
 module _ {s : Split} {vectors : Rows} {run : Run} {groups : Grouping} {order : List ℕ}
-    {producers : List (List ℕ)} {starts : List Row}
-    (w : AreOpenings s vectors run groups order producers starts) where
+    {starts : List Row} (w : AreOpenings s vectors run groups order starts) where
   -- a node that has words is one of the split design
   low : (l i : ℕ) → i < width run l → l < nodes s
   low l i inside =

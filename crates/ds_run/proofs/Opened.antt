@@ -1,7 +1,6 @@
 -- What openings compute, in the terms of the run.
 use Rattle.std.proofs.Common.{◌≡◌, ◌∙◌, ℕ, suc, ◌-◌, ◌<◌, ◌≤◌, List, [], length}
 use Rattle.std.proofs.Common.{Bool, get_or, refl, arith, ap, sym, subst}
-use Rattle.std.proofs.lemmas.List.{get_or_default}
 use Rattle.ds_base.specs.Values.{Row}
 use Rattle.ds_latch.specs.Node.{Node, Split, IsNode, number_of, nodes}
 use Rattle.ds_latch.specs.Node.{nets_of}
@@ -10,19 +9,17 @@ use Rattle.ds_latch.proofs.Events.{node_at}
 use Rattle.ds_design.specs.Rows.{Rows}
 use Rattle.ds_groups.specs.Groups.{Grouping}
 use Rattle.ds_opening.specs.Packed.{packed, words_of}
-use Rattle.ds_opening.specs.Woven.{AreProducers, IsOpening, Turn, read_of, taken}
+use Rattle.ds_opening.specs.Woven.{IsOpening, Turn, read_of, taken}
 use Rattle.ds_rule.specs.Run.{Run}
 use Rattle.ds_rule.specs.Rows.{row, supply_but}
 use Rattle.ds_rule.specs.Words.{width}
 use Rattle.ds_rule.proofs.PlaceLaws.{width-is}
-use Rattle.ds_run.specs.Producers.{producers_in}
 use Rattle.ds_run.specs.Openings.{AreOpenings}
 use Rattle.ds_run.proofs.Rows.{row-is}
-use Rattle.ds_run.proofs.Supplied.{producers_are, supply-woven}
+use Rattle.ds_run.proofs.Supplied.{producers, producers_are, supply-woven}
 
 module _ {s : Split} {vectors : Rows} {run : Run} {groups : Grouping} {order : List ℕ}
-    {producers : List (List ℕ)} {starts : List Row}
-    (w : AreOpenings s vectors run groups order producers starts) where
+    {starts : List Row} (w : AreOpenings s vectors run groups order starts) where
   -- a turn of the clocked run
   abbrev turn_at : ℕ → Turn
   turn_at opened = record {
@@ -44,24 +41,21 @@ module _ {s : Split} {vectors : Rows} {run : Run} {groups : Grouping} {order : L
       row-is w.planned w.sound p is_p (suc opened - open_tokens p) (omega arith)
 
   -- the opening of a node, and what it gives
-  pub record Opens (l opened : ℕ) (known : ℕ → Bool) (numbers from : List ℕ) : Type 0 where
+  pub record Opens (l opened : ℕ) (known : ℕ → Bool) (from : List ℕ) : Type 0 where
     pub node : Node
     pub turn : Turn
-    pub opens : IsOpening s vectors.rows l opened known numbers from node turn
+    pub opens : IsOpening s vectors.rows l opened known from node turn
     pub gives : packed (taken s turn node) ≡ row run l (suc opened)
     pub nets_are : turn.nets turn.opened ≡ w.planned.values_are.nets opened
 
   opens_node : (n : Node) → IsNode s n → (opened : ℕ) → opened < length vectors.rows
-      → (known : ℕ → Bool) (numbers from : List ℕ)
-      → numbers ≡ producers_in run.edges (number_of n)
+      → (known : ℕ → Bool) (from : List ℕ)
       → from ≡ supply_but run known (number_of n) (suc opened) (length run.edges)
-      → Opens (number_of n) opened known numbers from
-  opens_node n is_node opened low known numbers from numbers_are from_is =
+      → Opens (number_of n) opened known from
+  opens_node n is_node opened low known from from_is =
       let t : Turn = turn_at opened in
       let edges = w.planned.edges_are in
       let rows = rows_are n opened low in
-      let found : AreProducers s n (producers_in run.edges (number_of n))
-      = producers_are s run known t n rows edges in
       record {
         node = n;
         turn = t;
@@ -71,13 +65,8 @@ module _ {s : Split} {vectors : Rows} {run : Run} {groups : Grouping} {order : L
           fed = record {
             run = w.planned.values_are.clocked;
             below = low;
-            producers = record {
-              nodes = found.nodes;
-              are = numbers_are ∙ found.are;
-              each = found.each;
-              all = found.all;
-              once = found.once;
-            };
+            nodes = producers s run known t n rows edges;
+            producers = producers_are s run known t n rows edges;
             words = from_is ∙ supply-woven s run known t n rows edges;
           };
           same = refl;
@@ -94,10 +83,9 @@ module _ {s : Split} {vectors : Rows} {run : Run} {groups : Grouping} {order : L
     turn_is = omega (some, arith)
 
     pub opens_at : l < asked.latches → turn ≤ asked.limit → (known : ℕ → Bool)
-        → (numbers item from : List ℕ) → numbers ≡ item → item ≡ get_or producers number item
-        → from ≡ supply_but asked known l turn (length asked.edges)
-        → Opens number (turn - 1) known numbers from
-    opens_at near most known numbers item from lent item_is from_is =
+        → (from : List ℕ) → from ≡ supply_but asked known l turn (length asked.edges)
+        → Opens number (turn - 1) known from
+    opens_at near most known from from_is =
         let latches_are : asked.latches ≡ nodes s
         = ap (λ (r : Run). r.latches) asked_is ∙ w.planned.latches_are in
         let limit_is : asked.limit ≡ length vectors.rows
@@ -105,16 +93,12 @@ module _ {s : Split} {vectors : Rows} {run : Run} {groups : Grouping} {order : L
         let low : number < nodes s = omega (near, latches_are, number_is, arith) in
         let early : turn - 1 < length vectors.rows = omega (some, most, limit_is, arith) in
         let (n, is_node, is) = node_at s number low in
-        let inside : number < length producers = omega (low, w.producers_are.one_each, arith) in
-        let here : numbers ≡ producers_in run.edges (number_of n)
-        = lent ∙ (item_is ∙ (get_or_default producers number item [] inside
-        ∙ (w.producers_are.each number low ∙ ap (producers_in run.edges) (sym is)))) in
         let words : from ≡ supply_but run known (number_of n) (suc (turn - 1)) (length run.edges)
         = from_is ∙ (ap (λ (r : Run). supply_but r known l turn (length r.edges)) asked_is
         ∙ (ap (λ (m : ℕ). supply_but run known m turn (length run.edges)) (sym number_is ∙ sym is)
         ∙ ap (λ (k : ℕ). supply_but run known (number_of n) k (length run.edges)) (sym turn_is))) in
-        subst (λ (m : ℕ). Opens m (turn - 1) known numbers from) is
-        (opens_node n is_node (turn - 1) early known numbers from here words)
+        subst (λ (m : ℕ). Opens m (turn - 1) known from) is
+        (opens_node n is_node (turn - 1) early known from words)
 
     -- what it gives
     pub gives_row : row run number (suc (turn - 1)) ≡ row asked l turn

@@ -24,8 +24,7 @@ use Rattle.ds_run.specs.Openings.{AreOpenings, memory_of}
 use Rattle.ds_run.proofs.Opened.{Opens}
 
 module _ {s : Split} {vectors : Rows} {run : Run} {groups : Grouping} {order : List ℕ}
-    {producers : List (List ℕ)} {starts : List Row}
-    (w : AreOpenings s vectors run groups order producers starts) where
+    {starts : List Row} (w : AreOpenings s vectors run groups order starts) where
   wide : All (λ vector. length vector ≡ length (columns s.circuit)) vectors.rows
   wide k d inside = w.one_width k d inside ∙ w.width
 
@@ -52,10 +51,10 @@ module _ {s : Split} {vectors : Rows} {run : Run} {groups : Grouping} {order : L
 
   -- the opening of a node in a scratch that remembers the run
   module _ {asked : Run} (asked_is : asked ≡ run) {turn : ℕ} (some : 0 < turn) (most : turn ≤ asked.limit)
-      (kept : Kept) {number : ℕ} {numbers from : List ℕ}
-      (o : Opens w number (turn - 1) (is_learnt (length groups.groups) kept turn) numbers from)
+      (kept : Kept) {number : ℕ} {from : List ℕ}
+      (o : Opens w number (turn - 1) (is_learnt (length groups.groups) kept turn) from)
       (opening : Opening) (number_is : opening.number ≡ number) (turn_is : opening.turn ≡ turn)
-      (numbers_are : opening.producers.now ≡ numbers) (from_is : opening.from.now ≡ from)
+      (from_is : opening.from.now ≡ from)
       (remembers : Remembers (memory_of s groups order vectors.rows) kept) where
     below : turn - 1 < length vectors.rows
     below =
@@ -68,16 +67,14 @@ module _ {s : Split} {vectors : Rows} {run : Run} {groups : Grouping} {order : L
     learnt_in k = is_learnt (length groups.groups) kept k
 
     opening_is : IsOpening s vectors.rows opening.number (opening.turn - 1)
-        (learnt_in opening.turn) opening.producers.now opening.from.now o.node o.turn
+        (learnt_in opening.turn) opening.from.now o.node o.turn
     opening_is =
         subst (λ (m : ℕ). IsOpening s vectors.rows m (opening.turn - 1) (learnt_in opening.turn)
-        opening.producers.now opening.from.now o.node o.turn) (sym number_is)
+        opening.from.now o.node o.turn) (sym number_is)
         (subst (λ (m : ℕ). IsOpening s vectors.rows number (m - 1) (learnt_in m)
-        opening.producers.now opening.from.now o.node o.turn) (sym turn_is)
-        (subst (λ (xs : List ℕ). IsOpening s vectors.rows number (turn - 1) (learnt_in turn) xs
-        opening.from.now o.node o.turn) (sym numbers_are)
+        opening.from.now o.node o.turn) (sym turn_is)
         (subst (λ (xs : List ℕ). IsOpening s vectors.rows number (turn - 1) (learnt_in turn)
-        numbers xs o.node o.turn) (sym from_is) o.opens)))
+        xs o.node o.turn) (sym from_is) o.opens))
 
     pub noted : IsNotedOpening s vectors.rows groups opening kept o.node o.turn (memory_of s groups order vectors.rows)
     noted = record {

@@ -32,13 +32,13 @@ module _ (run : Run) (few : All (λ n. n < 2 ^ 32) run.lengths) where
   pub width_few : (l : ℕ) → width run l ≤ 134217728
   width_few l = omega (arith, length_few l, width-is run l)
 
-  pub read_few : (l n : ℕ) → read_words run l n ≤ n * 134217728
+  pub read_few : (l n : ℕ) → read_words run l n ≤ n * 134217729
   read_few l zero = omega arith
   read_few l (suc n) =
       let w : ℕ = width run (edge_at run n).producer in
-      let more : (b : Bool) → cond b w 0 ≤ 134217728
-      = λ b. elim b as (λ b. cond b w 0 ≤ 134217728) [
-        | true ↦ width_few (edge_at run n).producer
+      let more : (b : Bool) → cond b (1 + w) 0 ≤ 134217729
+      = λ b. elim b as (λ b. cond b (1 + w) 0 ≤ 134217729) [
+        | true ↦ omega (arith, width_few (edge_at run n).producer)
         | false ↦ omega arith
       ] in
       omega (arith, read_few l n, more (eqb (edge_at run n).consumer l))

@@ -194,20 +194,20 @@ module _ (p : Planned) (vectors : List Row) (run : Run) (is : IsRunOf p vectors 
       arith,
       size_few run (nodes p.split) is.lengths_are.few is.lengths_are.of_extra
           (omega (arith, within.low, is.slack_is)),
-      within.few_nodes,
+      within.few_events,
       within.few_edges,
     )
 
     pub run_sound : IsSound run
     run_sound = record {
-      few = within.few_nodes;
+      few = within.few_events;
       few_arcs = omega (arith, within.few_arcs, ap (λ (arcs : List Arc). length arcs) is.arcs_are);
       short = omega (arith, within.few_vectors, is.limit_is);
       near = omega (arith, within.low, is.slack_is);
       among = among;
       narrow = omega (
         arith,
-        within.few_nodes,
+        within.few_events,
         mul-le-mul_left {m = 2 * run.limit} {n = 131072} run.nodes
             (omega (arith, within.few_vectors, is.limit_is)),
       );

@@ -20,12 +20,16 @@ use Rattle.ds_rule.specs.Rows.{row, supply_but}
 use Rattle.ds_rule.specs.Sound.{edge_at}
 use Rattle.ds_rule.specs.declared.layout.DataEdge.{DataEdge}
 use Rattle.ds_run.specs.Layout.{AreEdges, Joins}
-use Rattle.ds_run.specs.Producers.{producers_in}
+
+-- the producers of the node with a number
+abbrev producers_in : List DataEdge → ℕ → List ℕ
+producers_in edges l = map (λ e. e.producer) (filter (λ e. eqb e.consumer l) edges)
 
 -- what a node reads along an edge
 abbrev along : Run → (ℕ → Bool) → DataEdge → ℕ → ℕ → List ℕ
 along run known e l k =
-    cond (eqb e.consumer l) (cond (known e.producer) [] (row run e.producer (k - e.tokens))) []
+    cond (eqb e.consumer l)
+    (cond (known e.producer) [] (e.producer ∷ row run e.producer (k - e.tokens))) []
 
 -- what a node reads along some edges
 abbrev supplied : Run → (ℕ → Bool) → List DataEdge → ℕ → ℕ → List ℕ
@@ -57,14 +61,6 @@ supply-supplied run known l k (suc n) most =
     ∙ (sym (supplied-append run known (take n run.edges) (e ∷ []) l k)
     ∙ ap (λ (es : List DataEdge). supplied run known es l k) next))
 
--- the consumers are nodes of the split design
-pub consumers_within : (s : Split) (edges : List DataEdge) → AreEdges s edges → (count : ℕ)
-    → count ≡ nodes s → All (λ e. e.consumer < count) edges
-consumers_within s edges are count count_is k d inside =
-    let (p, c, edge, joins) = are.each k d inside in
-    let low : number_of c < nodes s = number_below s c (edge_nodes s p c edge).1 in
-    omega (low, joins.into, count_is, arith)
-
 Any-split : {X : Type 0} (P : X → Type 0) (x : X) (xs : List X) → Any P (x ∷ xs) → P x ⊎ Any P xs
 Any-split P x xs (zero, y, inside, is, p) = inl (subst P (sym is) p)
 Any-split P x xs (suc k, y, inside, is, p) = inr (k, y, omega (inside, arith), is, p)
@@ -72,7 +68,7 @@ Any-split P x xs (suc k, y, inside, is, p) = inr (k, y, omega (inside, arith), i
 Contains-more : (p q : Node) (ps : List Node) → Contains ps q → Contains (p ∷ ps) q
 Contains-more p q ps (k, low, is) = (suc k, omega (low, arith), is)
 
--- what a node reads in a turn of the producers that are not known
+-- what a node reads in a turn of the producers whose rows are not learnt
 module _ (s : Split) (run : Run) (known : ℕ → Bool) (t : Turn) (n : Node)
     (rows_are : (p : Node) → IsNode s p → IsDataEdge s p n
     → row run (number_of p) (suc t.opened - open_tokens p) ≡ packed (read_of s t p)) where
@@ -100,8 +96,8 @@ module _ (s : Split) (run : Run) (known : ℕ → Bool) (t : Turn) (n : Node)
 
   abbrev words_if : DataEdge → List DataEdge → Bool → List ℕ
   words_if e es b =
-      cond b (cond (known e.producer) [] (row run e.producer (suc t.opened - e.tokens))) []
-      ++ words_along es
+      cond b (cond (known e.producer) []
+      (e.producer ∷ row run e.producer (suc t.opened - e.tokens))) [] ++ words_along es
 
   one_more : (e : DataEdge) (es : List DataEdge) (p : Node) → IsDataEdge s p n → Joins p n e
       → Reads es → Reads (e ∷ es)
@@ -120,14 +116,14 @@ module _ (s : Split) (run : Run) (known : ℕ → Bool) (t : Turn) (n : Node)
           | inr later ↦ Contains-more p q rest.nodes (rest.all q other later)
         ];
         words = ap (words_if e es) there
-            ∙ (ap (λ (l : ℕ). cond (known l) [] (row run l (suc t.opened - e.tokens))
+            ∙ (ap (λ (l : ℕ). cond (known l) [] (l ∷ row run l (suc t.opened - e.tokens))
             ++ words_along es) joins.from
-            ∙ (ap (λ (m : ℕ). cond (known (number_of p)) [] (row run (number_of p)
+            ∙ (ap (λ (m : ℕ). cond (known (number_of p)) [] (number_of p ∷ row run (number_of p)
             (suc t.opened - m)) ++ words_along es) joins.tokens
-            ∙ (ap (λ (ws : List ℕ). cond (known (number_of p)) [] ws ++ words_along es)
-            (rows_are p is_p edge)
-            ∙ ap (λ (ws : List ℕ). cond (known (number_of p)) [] (packed (read_of s t p)) ++ ws)
-            rest.words)));
+            ∙ (ap (λ (ws : List ℕ). cond (known (number_of p)) [] (number_of p ∷ ws)
+            ++ words_along es) (rows_are p is_p edge)
+            ∙ ap (λ (ws : List ℕ). cond (known (number_of p)) []
+            (number_of p ∷ packed (read_of s t p)) ++ ws) rest.words)));
       }
 
   past : (e : DataEdge) (es : List DataEdge) → e.consumer ≢ number_of n → Reads es → Reads (e ∷ es)
@@ -189,13 +185,19 @@ module _ (s : Split) (run : Run) (known : ℕ → Bool) (t : Turn) (n : Node)
       ]
 
   module _ (edges_are : AreEdges s run.edges) where
-    -- the producers that are found are those of the node
-    pub producers_are : AreProducers s n (producers_in run.edges (number_of n))
+    found : Reads run.edges
+    found = reads run.edges edges_are.each
+
+    -- the producers that are found
+    pub producers : List Node
+    producers = found.nodes
+
+    -- these are those of the node
+    pub producers_are : AreProducers s n producers
+    unfolding producers
     producers_are =
-        let r : Reads run.edges = reads run.edges edges_are.each in
+        let r : Reads run.edges = found in
         record {
-          nodes = r.nodes;
-          are = r.are;
           each = r.each;
           all = λ p edge. r.all p edge (edges_are.all p n edge);
           once = apart run.edges edges_are.once r.nodes r.are;
@@ -203,9 +205,9 @@ module _ (s : Split) (run : Run) (known : ℕ → Bool) (t : Turn) (n : Node)
 
     -- the words that are read are those of their rows
     pub supply-woven : supply_but run known (number_of n) (suc t.opened) (length run.edges)
-        ≡ woven known (read_of s t) producers_are.nodes
-    unfolding producers_are
+        ≡ woven known (read_of s t) producers
+    unfolding producers
     supply-woven =
-        let r : Reads run.edges = reads run.edges edges_are.each in
+        let r : Reads run.edges = found in
         supply-supplied run known (number_of n) (suc t.opened) (length run.edges) (omega arith)
         ∙ (ap words_along (take_all (length run.edges) run.edges (omega arith)) ∙ r.words)

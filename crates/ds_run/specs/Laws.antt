@@ -16,7 +16,7 @@ pub record IsWithin (p : Planned) (vectors : List Row) (run : Run) : Type 0 wher
   pub few_vectors : length vectors ≤ 65536
   pub few_edges : 2 * nodes p.split + 2 * length run.edges ≤ 1048576
   pub low : p.split.slack ≤ 15
-  pub few_nodes : run.nodes < 2 ^ 31
+  pub few_events : run.nodes + run.latches < 2 ^ 32
   pub few_arcs : length p.graph.arcs < 2 ^ 32
 
 -- the run of a plan is sound

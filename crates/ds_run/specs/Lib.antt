@@ -2,7 +2,6 @@
 pub mod Layout
 pub mod Tokened
 pub mod Laws
-pub mod Producers
 pub mod Openings
 pub mod Played
 pub mod Halted

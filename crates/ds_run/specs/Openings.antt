@@ -7,7 +7,7 @@ use Rattle.ds_marked.specs.Graph.{Graph}
 use Rattle.ds_design.specs.Circuit.{columns}
 use Rattle.ds_design.specs.InRange.{IsInRange}
 use Rattle.ds_design.specs.Levels.{IsTableOrder}
-use Rattle.ds_latch.specs.Node.{Split, nodes}
+use Rattle.ds_latch.specs.Node.{Split}
 use Rattle.ds_latch.specs.Plan.{IsSplit}
 use Rattle.ds_design.specs.Rows.{Rows}
 use Rattle.ds_groups.specs.Groups.{Grouping}
@@ -17,7 +17,6 @@ use Rattle.ds_opening.specs.Noted.{AreConeGroups, slots_of}
 use Rattle.ds_rule.specs.Run.{Run}
 use Rattle.ds_rule.specs.Sound.{IsSound}
 use Rattle.ds_run.specs.Layout.{IsRunOf}
-use Rattle.ds_run.specs.Producers.{AreProducersOf}
 
 -- what a clause sees: the run, what a scratch remembers of it, and how many groups there are, whose
 -- slots are the first
@@ -35,9 +34,9 @@ memory_of s g order vectors = record {
   rows = map (nets_in s.circuit order s.initial vectors) (range_with_len 0 (length vectors));
 }
 
--- groups, producers and first rows of slaves belong to a run of this split design on these vectors
+-- groups and first rows of slaves belong to a run of this split design on these vectors
 pub record AreOpenings (s : Split) (vectors : Rows) (run : Run) (groups : Grouping)
-    (order : List ℕ) (producers : List (List ℕ)) (starts : List Row) : Type 0 where
+    (order : List ℕ) (starts : List Row) : Type 0 where
   pub range : IsInRange s.circuit
   pub split : IsSplit s
   pub width : vectors.width ≡ length (columns s.circuit)
@@ -47,5 +46,4 @@ pub record AreOpenings (s : Split) (vectors : Rows) (run : Run) (groups : Groupi
   pub planned : IsRunOf (record { split = s; graph = graph }) vectors.rows run
   pub sound : IsSound run
   pub groups_are : AreConeGroups s groups
-  pub producers_are : AreProducersOf run.edges (nodes s) producers
   pub starts_are : starts ≡ map (values_at s.initial) s.clusters

@@ -30,10 +30,6 @@ pub fn layout_of<'a, 'n>(
     // A node of the design has two events; an extra event is a node of its own, behind them.
     let latches = split.bits().len();
     let nodes = graph.events().len() - latches;
-    // No graph with so many nodes would find a place in memory.
-    if nodes >= 2_147_483_648 {
-        return Err(OutOfMemory);
-    }
     let arcs = graph.arcs().to_vec(alloc)?;
     let edges = edges_of(alloc, split)?;
     let lengths = lengths_of(alloc, split, nodes)?;

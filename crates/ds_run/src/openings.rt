@@ -9,9 +9,8 @@ ghost use Rattle.ds_run.specs.Layout.{IsRunOf};
 ghost use Rattle.ds_rule.specs.Sound.{IsSound};
 
 use crate::foreseen::Foreseen;
-use crate::producers::producers_of;
 use crate::starts::starts_of;
-use ds_base::{LatchId, OutOfMemory, Row3, Seq};
+use ds_base::{LatchId, OutOfMemory, Row3};
 use ds_design::Vectors;
 use ds_fabric::Compute;
 use ds_groups::Groups;
@@ -23,8 +22,8 @@ use ds_settle::Cone;
 use std::alloc::{AllocError, Global};
 use std::marker::Model;
 
-/// Computes the rows of a run from its plan: the groups of the tables that the nodes settle, the
-/// nodes that each node reads, and the rows that the slaves start with.
+/// Computes the rows of a run from its plan: the groups of the tables that the nodes settle, and
+/// the rows that the slaves start with.
 pub struct Openings<'a, 'n> {
     run: &'a Layout<Foreseen<'a, 'n>>,
     latches: &'a Latches<'n>,
@@ -34,7 +33,6 @@ pub struct Openings<'a, 'n> {
     sizes: Vec<u64>,
     // The places of the tables, each behind those that it reads. Contracts alone read them.
     order: &'n [u32],
-    producers: Vec<Seq<LatchId>>,
     starts: Vec<Row3>,
 }
 
@@ -47,7 +45,6 @@ impl<'a, 'n> Drop for Openings<'a, 'n> {
             groups: _,
             sizes: _,
             order: _,
-            producers: _,
             starts: _,
         } = self;
     }
@@ -66,7 +63,7 @@ impl<'a, 'n> Model for Openings<'a, 'n> {
     } };
 
     ghost invariant = { λ w. AreOpenings w.latches.now w.vectors.now w.run.now w.groups
-        w.order.now w.producers.items w.starts.items };
+        w.order.now w.starts.items };
 }
 
 impl<'a, 'n> Openings<'a, 'n> {
@@ -88,7 +85,6 @@ impl<'a, 'n> Openings<'a, 'n> {
         let (_design, order) = (latches.netlist().design(), latches.netlist().order());
         let _count = vectors.count();
         let (groups, sizes) = grouped(alloc, latches)?;
-        let producers = producers_of(alloc, run.edges(), run.latches())?;
         let starts = starts_of(alloc, latches.initial(), latches.clusters())?;
         Ok(Openings {
             run,
@@ -97,7 +93,6 @@ impl<'a, 'n> Openings<'a, 'n> {
             groups,
             sizes,
             order,
-            producers,
             starts,
         })
     }
@@ -108,13 +103,13 @@ impl<'a, 'n> Compute for Openings<'a, 'n> {
 
     ghost memory = { λ w. w.memory };
 
-    ghost knows = { λ w k node turn. row_is_learnt w.groups k turn node };
+    ghost has_learnt = { λ w k node turn. row_is_learnt w.groups k turn node };
 
     fn scratch(&self, alloc: Global) -> Result<Scratch, OutOfMemory> {
         let nets = self.latches.netlist().design().nets().len();
         // The edges are read for the fact that there are not too many nodes.
-        let (clusters, _edges) = (self.latches.clusters(), self.latches.edges());
-        Scratch::of(alloc, nets, self.groups.count() + clusters.len() + 1)
+        let (nodes, _edges) = (self.latches.bits().len(), self.latches.edges());
+        Scratch::of(alloc, nets, self.groups.count() + nodes)
     }
 
     fn cost(&self, node: LatchId) -> u64 {
@@ -135,7 +130,7 @@ impl<'a, 'n> Compute for Openings<'a, 'n> {
         }
     }
 
-    fn knows(&self, producer: LatchId, turn: u64, scratch: &Scratch) -> bool {
+    fn has_learnt(&self, producer: LatchId, turn: u64, scratch: &Scratch) -> bool {
         is_learnt(&self.groups, scratch, producer.index(), turn)
     }
 
@@ -148,12 +143,7 @@ impl<'a, 'n> Compute for Openings<'a, 'n> {
         into: &mut Vec<u64>,
     ) {
         let number = node.index();
-        let opening = Opening {
-            number,
-            turn,
-            producers: self.producers[number].as_slice(),
-            from,
-        };
+        let opening = Opening { number, turn, from };
         open(
             self.latches,
             self.vectors,

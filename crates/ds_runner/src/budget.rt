@@ -10,8 +10,6 @@ pub struct Budget {
     pub firings: u64,
     /// The most looks at nodes in rounds without a take.
     pub looks: u64,
-    /// The rounds without a take in a row, so far.
-    pub dry: u64,
 }
 
 impl Budget {

@@ -5,20 +5,16 @@ ghost use Rattle.ds_runner.specs.Work.{Fits, IsWorker, IsWithin, Waits};
 use crate::budget::Budget;
 use crate::fired::Fired;
 use crate::gear::Gear;
-use crate::hints::Hints;
 use crate::search::search;
 use crate::site::Site;
 use crate::targets::tell_targets;
+use crate::trail::Trail;
 use crate::visit::visit;
 use crate::worker::Worker;
 use ds_fabric::Compute;
 use ds_outside::Gate;
 use ds_rule::Rows;
-use std::hint::spin_loop;
 use std::thread;
-
-// Each so manieth round without a take in a row lets others go first.
-const YIELDS: u64 = 16;
 
 /// Visits one node after another, within the budget.
 pub fn drive<J: Rows, C: Compute, G: Gate>(
@@ -35,7 +31,6 @@ pub fn drive<J: Rows, C: Compute, G: Gate>(
     'visits: while left.takes > 0 && left.firings > 0 {
         if let Some(fired) = visit_next(site, gear, worker, left.firings) {
             left.take(fired);
-            left.dry = 0;
         } else if !wait(site, worker, &mut left) {
             return;
         }
@@ -62,7 +57,7 @@ fn visit_next<J: Rows, C: Compute, G: Gate>(
     };
     let fired = visit(site, gear, worker, node, most);
     if !worker.trail.soon {
-        tell_all(site, gear, &mut worker.trail.hints, fired);
+        tell_all(site, gear, &mut worker.trail, fired);
     }
     Some(fired.count())
 }
@@ -71,20 +66,21 @@ fn visit_next<J: Rows, C: Compute, G: Gate>(
 fn tell_all<J: Rows, C: Compute, G: Gate>(
     site: &Site<'_, '_, J, C, G>,
     gear: &Gear,
-    hints: &mut Hints,
+    trail: &mut Trail,
     fired: Fired,
 )
     requires fits { Fits site.now gear.now.stile }
 {
     if let Some(event) = fired.first {
-        tell_targets(site, gear, hints, event);
+        tell_targets(site, gear, trail, event);
     }
     if let Some(event) = fired.second {
-        tell_targets(site, gear, hints, event);
+        tell_targets(site, gear, trail, event);
     }
 }
 
-// Passes some time after a look at all nodes. False: the worker ends.
+// Lets others go first after a look at all nodes without a take: who has what it waits for may want
+// its processor. False: the worker ends.
 fn wait<J: Rows, C: Compute, G: Gate>(
     site: &Site<'_, '_, J, C, G>,
     worker: &Worker,
@@ -101,11 +97,6 @@ fn wait<J: Rows, C: Compute, G: Gate>(
         return false;
     }
     left.looks -= looks + 1;
-    left.dry = left.dry.saturating_add(1);
-    if left.dry % YIELDS == 0 {
-        thread::yield_now();
-    } else {
-        spin_loop();
-    }
+    thread::yield_now();
     true
 }

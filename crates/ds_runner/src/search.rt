@@ -5,7 +5,6 @@ ghost use Rattle.std.specs.Prelude.{◌<◌, IsTrue, IfSome};
 ghost use Rattle.ds_runner.specs.Work.{Fits};
 
 use crate::gear::Gear;
-use crate::hints::Hints;
 use crate::ring::Ring;
 use crate::site::Site;
 use crate::trail::Trail;
@@ -32,50 +31,60 @@ pub fn search<J: Rows, C: Compute, G: Gate>(
     ensures near { IfSome result (λ n. n < site.now.run.nodes) }
 {
     trail.soon = false;
-    if let Some(node) = hinted(site, gear, &mut trail.hints) {
+    if let Some(node) = hinted(site, gear, trail) {
         return Some(node);
     }
-    if let Some(node) = next_due(site, gear, &mut trail.part) {
+    let lacking = trail.lacking.as_mut_slice();
+    if let Some(node) = next_due(site, gear, lacking, &mut trail.part) {
         trail.soon = trail.part.looks < SOON;
         return Some(node);
     }
-    if let Some(node) = stolen(site, gear, number) {
+    if let Some(node) = stolen(site, gear, lacking, number) {
         return Some(node);
     }
-    next_due(site, gear, &mut trail.all)
+    next_due(site, gear, lacking, &mut trail.all)
 }
 
-/// By plain looks the pass of the node is at home, and its next event may fire. A number that is no
-/// node's is not due.
+/// By plain looks the pass of the node is at home, and its next event may fire. What it lacks is
+/// kept for the next look. A number that is no node's is not due.
 pub fn is_due<J: Rows, C: Compute, G: Gate>(
     site: &Site<'_, '_, J, C, G>,
     gear: &Gear,
+    lacking: &mut [u8],
     node: usize,
 ) -> bool
     requires fits { Fits site.now gear.now.stile }
     ensures near { IsTrue result → node < site.now.run.nodes }
 {
-    if node >= site.run.nodes() {
+    if node >= site.run.nodes() || node >= lacking.len() {
         return false;
     }
     let latch = LatchId::new(node as u32);
-    gear.stile.seems_home(latch) && site.fabric.seems_due(latch)
+    if !gear.stile.seems_home(latch) {
+        return false;
+    }
+    let Some(at) = site.fabric.seems_lacking(latch, lacking[node] as usize) else {
+        return true;
+    };
+    lacking[node] = at.min(255) as u8;
+    false
 }
 
 // The latest hint that still seems due.
 fn hinted<J: Rows, C: Compute, G: Gate>(
     site: &Site<'_, '_, J, C, G>,
     gear: &Gear,
-    hints: &mut Hints,
+    trail: &mut Trail,
 ) -> Option<usize>
     requires fits { Fits site.now gear.now.stile }
     ensures near { IfSome result (λ n. n < site.now.run.nodes) }
 {
     for _ in 0..HINTS {
-        let Some(hint) = hints.pop() else {
+        let Some(hint) = trail.hints.pop() else {
             return None;
         };
-        if is_due(site, gear, hint as usize) {
+        let lacking = trail.lacking.as_mut_slice();
+        if is_due(site, gear, lacking, hint as usize) {
             return Some(hint as usize);
         }
     }
@@ -86,6 +95,7 @@ fn hinted<J: Rows, C: Compute, G: Gate>(
 fn next_due<J: Rows, C: Compute, G: Gate>(
     site: &Site<'_, '_, J, C, G>,
     gear: &Gear,
+    lacking: &mut [u8],
     ring: &mut Ring,
 ) -> Option<usize>
     requires fits { Fits site.now gear.now.stile }
@@ -93,7 +103,7 @@ fn next_due<J: Rows, C: Compute, G: Gate>(
 {
     for looks in 0..ring.count() {
         let node = ring.step();
-        if is_due(site, gear, node) {
+        if is_due(site, gear, lacking, node) {
             ring.looks = looks;
             return Some(node);
         }
@@ -105,6 +115,7 @@ fn next_due<J: Rows, C: Compute, G: Gate>(
 fn stolen<J: Rows, C: Compute, G: Gate>(
     site: &Site<'_, '_, J, C, G>,
     gear: &Gear,
+    lacking: &mut [u8],
     number: u32,
 ) -> Option<usize>
     requires fits { Fits site.now gear.now.stile }
@@ -119,7 +130,7 @@ fn stolen<J: Rows, C: Compute, G: Gate>(
             i - workers.saturating_sub(own)
         };
         if let Some(hint) = steal_from(gear, other, own) {
-            if is_due(site, gear, hint as usize) {
+            if is_due(site, gear, lacking, hint as usize) {
                 return Some(hint as usize);
             }
         }

@@ -4,9 +4,9 @@ ghost use Rattle.ds_runner.specs.Work.{Fits};
 ghost use Rattle.ds_rule.specs.Sound.{IsSound};
 
 use crate::gear::Gear;
-use crate::hints::Hints;
 use crate::search::is_due;
 use crate::site::Site;
+use crate::trail::Trail;
 use ds_base::OutOfMemory;
 use ds_fabric::Compute;
 use ds_outside::Gate;
@@ -20,7 +20,7 @@ const TARGETS: usize = 64;
 pub fn tell_targets<J: Rows, C: Compute, G: Gate>(
     site: &Site<'_, '_, J, C, G>,
     gear: &Gear,
-    hints: &mut Hints,
+    trail: &mut Trail,
     event: usize,
 )
     requires fits { Fits site.now gear.now.stile }
@@ -35,8 +35,8 @@ pub fn tell_targets<J: Rows, C: Compute, G: Gate>(
             return;
         }
         let node = site.run.node_of(arcs[k].target.index());
-        if is_due(site, gear, node) {
-            hints.push(node as u32);
+        if is_due(site, gear, trail.lacking.as_mut_slice(), node) {
+            trail.hints.push(node as u32);
         }
     }
 }

@@ -152,6 +152,5 @@ fn budget<J: Rows, C: Compute, G: Gate>(
         takes,
         firings,
         looks: looks / workers.max(1) as u64,
-        dry: 0,
     }
 }

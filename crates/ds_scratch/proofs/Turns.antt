@@ -1,5 +1,5 @@
 -- Turns as bytes behind a base.
-use Rattle.std.proofs.Common.{◌≡◌, ◌∙◌, ℕ, zero, suc, ◌-◌, ◌<◌, List, ◌∷◌, length, get_or, set, replicate, refl, sym, ap, subst, arith}
+use Rattle.std.proofs.Common.{◌≡◌, ◌∙◌, ℕ, zero, suc, ◌-◌, ◌<◌, ◌≤◌, List, ◌∷◌, length, get_or, set, replicate, refl, sym, ap, subst, arith}
 use Rattle.std.proofs.Math.ListN.{get_or-map}
 use Rattle.std.proofs.lemmas.List.{get_or-replicate, get_or-set_other, get_or-set_same, length-map, length-replicate, length-set}
 use Rattle.ds_base.specs.Values.{Row}
@@ -14,15 +14,15 @@ kept nets base bytes = record { nets = nets; turns = noted_turns base bytes }
 pub turn_at : (base : ℕ) (bytes : List ℕ) (s : ℕ) → get_or (noted_turns base bytes) s 0 ≡ noted_turn base (get_or bytes s 0)
 turn_at base bytes s = get_or-map (noted_turn base) bytes s 0
 
--- no turn at the base or before it is noted
-pub noted_above : (base byte turn : ℕ) → 0 < turn → noted_turn base byte ≡ turn → base < turn
-noted_above base zero turn some is = absurd (omega (some, is, arith))
-noted_above base (suc n) turn some is = omega (is, arith)
+-- the base lies before the turn, or both are 0
+abbrev pub IsBehind : ℕ → ℕ → Type 0
+IsBehind base turn = (0 < turn → base < turn) × (base ≤ turn)
 
--- a byte above 0 stands for the turn that comes so many after the base
-pub noted_here : (base byte turn : ℕ) → base < turn → byte ≡ turn - base → noted_turn base byte ≡ turn
-noted_here base zero turn above is = absurd (omega (above, is, arith))
-noted_here base (suc n) turn above is = omega (above, is, arith)
+-- the byte of a turn stands for it behind such a base
+pub noted_here : (base byte turn : ℕ) → IsBehind base turn → byte ≡ turn - base → noted_turn base byte ≡ turn
+noted_here base zero zero behind is = refl
+noted_here base zero (suc t) behind is = absurd (let above : base < suc t = behind.0 (omega arith) in omega (above, is, arith))
+noted_here base (suc n) turn behind is = omega (behind.1, is, arith)
 
 -- zeros are no turns
 pub no_turns : (base n : ℕ) → noted_turns base (replicate n 0) ≡ replicate n 0
@@ -44,14 +44,14 @@ no_memory nets slots m nets_are slots_are = record {
 
 -- a slot whose byte is set once the base has moved is noted
 pub now_noted : (nets : Row) (base next slot turn : ℕ) (old moved : List ℕ) → slot < length old
-    → length moved ≡ length old → next < turn
+    → length moved ≡ length old → IsBehind next turn
     → ((s : ℕ) → IsSameOrLost turn (noted_turn base (get_or old s 0)) (noted_turn next (get_or moved s 0)))
     → IsNoted slot turn (kept nets base old) (kept nets next (set moved slot (turn - next)))
-now_noted nets base next slot turn old moved inside same above others = record {
+now_noted nets base next slot turn old moved inside same behind others = record {
   nets = refl;
   turns = length-map bytes (noted_turn next) ∙ (length-set moved slot (turn - next) ∙ (same ∙ sym (length-map old (noted_turn base))));
   here = turn_at next bytes slot
-      ∙ noted_here next (get_or bytes slot 0) turn above (get_or-set_same moved slot (turn - next) 0 (omega (inside, same, arith)));
+      ∙ noted_here next (get_or bytes slot 0) turn behind (get_or-set_same moved slot (turn - next) 0 (omega (inside, same, arith)));
   others = λ s other.
       subst (λ (before : ℕ). IsSameOrLost turn before (get_or (noted_turns next bytes) s 0)) (sym (turn_at base old s))
       (subst (IsSameOrLost turn (noted_turn base (get_or old s 0)))

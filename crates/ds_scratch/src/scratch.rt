@@ -71,21 +71,24 @@ impl Scratch {
         self.turns.len()
     }
 
-    /// Whether the slot is noted for this turn, which counts from 1.
+    /// Whether the slot is noted for this turn; turns count from 1, and 0 is none.
     pub fn is_noted(&self, slot: usize, turn: u64) -> bool
-        requires slot { slot < length self.now.turns }
-        requires turn { 0 < turn }
+        requires { slot < length self.now.turns }
         ensures { IsTrue result ↔ (slice_index self.now.turns slot ≡ turn) }
     {
-        turn > self.base && turn - self.base == self.turns[slot] as u64
+        let byte = self.turns[slot] as u64;
+        if turn > self.base {
+            turn - self.base == byte
+        } else {
+            turn == 0 && byte == 0
+        }
     }
 
-    /// Notes the slot for this turn, which counts from 1. Slots of other turns may be forgotten:
-    /// those of turns 128 and more before this one, and all where this one lies so far before
-    /// another.
+    /// Notes the slot for this turn, or for none where the turn is 0. Slots of other turns may be
+    /// forgotten: those of turns 128 and more before this one, and all where this one lies so far
+    /// before another.
     pub fn note(&mut self, slot: usize, turn: u64)
-        requires slot { slot < length self.old.turns }
-        requires turn { 0 < turn }
+        requires { slot < length self.old.turns }
         ensures { IsNoted slot turn self.old self.new }
     {
         self.base = base_for(turn, self.base, self.turns.as_mut_slice());
@@ -111,8 +114,7 @@ impl Scratch {
 // The base for a turn: the same, or where no byte stands for the turn behind it, another, behind
 // which the bytes stand for the same turns as before, or for none where they stood for another.
 fn base_for(turn: u64, base: u64, bytes: &mut [u8]) -> u64
-    requires { 0 < turn }
-    ensures turn { (result < turn) × (turn ≤ result + 255) }
+    ensures turn { (0 < turn → result < turn) × (result ≤ turn) × (turn ≤ result + 255) }
     ensures others { (s : ℕ) → IsSameOrLost turn (noted_turn base (slice_index bytes.old s))
         (noted_turn result (slice_index bytes.new s)) }
 {

@@ -23,7 +23,7 @@ impl Compute for Trio {
 
     ghost memory = { λ _. small_memory };
 
-    ghost knows = { λ _ _ _ _. false };
+    ghost has_learnt = { λ _ _ _ _. false };
 
     fn scratch(&self, alloc: Global) -> Result<Scratch, OutOfMemory> {
         Scratch::of(alloc, 1, 0)
@@ -37,7 +37,7 @@ impl Compute for Trio {
         0
     }
 
-    fn knows(&self, producer: LatchId, turn: u64, scratch: &Scratch) -> bool {
+    fn has_learnt(&self, producer: LatchId, turn: u64, scratch: &Scratch) -> bool {
         false
     }
 

@@ -27,7 +27,7 @@ width-i-end-requires g c = let q = c.requires.table.1 in let h = c.requires.edge
       arith,
       producer_near c.args.run.now q.sound c.args.edge (h.0, h.1, refl),
       q.sound.rows_of_all,
-      c.index.ensures,
+      c.index-2.ensures,
     )
 
 pub overflow_add-at : goal.overflow_add-at
@@ -42,7 +42,7 @@ overflow_add-at g c = let q = c.requires.table.1 in let h = c.requires.edge in
       c.loop-i-test.true,
       c.loop-i.auto.i-end,
       (c.width-i-end.ensures
-          ∙ ap (width c.args.run.now) c.index.ensures),
+          ∙ ap (width c.args.run.now) c.index-2.ensures),
     )
 
 pub load-requires : goal.load-requires
@@ -61,7 +61,7 @@ load-requires g c = let q = c.requires.table.1 in let run : Run = c.args.run.now
         c.loop-i-test.true,
         c.loop-i.auto.i-end,
         (c.width-i-end.ensures
-            ∙ ap (width c.args.run.now) c.index.ensures),
+            ∙ ap (width c.args.run.now) c.index-2.ensures),
       ),
       subst (λ r. P r c.loop-i.seat.me) (sym q.keyed) (subst (P run) (sym c.loop-i.invariant.2)
           (reads run n c.loop-i.seat.id c.args.seat.now.me j o.live
@@ -69,19 +69,32 @@ load-requires g c = let q = c.requires.table.1 in let run : Run = c.args.run.now
     )
 
 pub push_reserved-requires : goal.push_reserved-requires
-push_reserved-requires g c = let inv = c.loop-i.invariant in
+push_reserved-requires g c = omega (arith, c.requires.room)
+
+pub loop-i-init : goal.loop-i-init
+loop-i-init g c = (
+  refl,
+  refl,
+  refl,
+  c.push_reserved.ensures.items
+      ∙ ap (λ (x : ℕ). c.args.into.now.items ++ x ∷ []) c.index.ensures,
+  c.push_reserved.ensures.capacity,
+)
+
+pub push_reserved-requires-in-loop-i : goal.push_reserved-requires-in-loop-i
+push_reserved-requires-in-loop-i g c = let inv = c.loop-i.invariant in
     let f : ℕ → ℕ = value c.args.run.now c.args.edge.producer
     (c.args.turn - c.args.edge.tokens) in
     omega (
       arith,
       ap length inv.3,
-      length-append c.args.into.now.items (listed f c.loop-i.i),
+      length-append c.args.into.now.items (c.args.edge.producer ∷ listed f c.loop-i.i),
       length-listed f c.loop-i.i,
       inv.4,
       c.requires.room,
       c.loop-i-test.true,
       c.loop-i.auto.i-end,
-      (c.width-i-end.ensures ∙ ap (width c.args.run.now) c.index.ensures),
+      (c.width-i-end.ensures ∙ ap (width c.args.run.now) c.index-2.ensures),
     )
 
 pub loop-i-preserved : goal.loop-i-preserved
@@ -89,7 +102,7 @@ loop-i-preserved g c = let inv = c.loop-i.invariant in let e = c.load.ensures in
     let run : Run = c.args.run.now in let h = c.requires.edge in let o = c.requires.flight.0 in
     let k : ℕ = c.args.turn - c.args.edge.tokens in
     let f : ℕ → ℕ = value run c.args.edge.producer k in let i : ℕ = c.loop-i.i in
-    let r : ℕ = c.load.result in let j : ℕ = c.args.at + i in
+    let r : ℕ = c.load.result in let p : ℕ = c.args.edge.producer in let j : ℕ = c.args.at + i in
     let T : Sat → Type 0 = λ m. (n : ℕ) (e : DataEdge) (i : ℕ) → get_elem? m.0.run.edges n ≡ some e
     → e.consumer ≡ m.0.node → i < width m.0.run e.producer
     → j ≡ place m.0.run e.producer (opened m.0.run m.0.node (seen m.0 m.0.node) + 1 - e.tokens) i
@@ -100,15 +113,26 @@ loop-i-preserved g c = let inv = c.loop-i.invariant in let e = c.load.ensures in
       arith,
       c.loop-i-test.true,
       c.loop-i.auto.i-end,
-      (c.width-i-end.ensures ∙ ap (width c.args.run.now) c.index.ensures),
+      (c.width-i-end.ensures ∙ ap (width c.args.run.now) c.index-2.ensures),
     ))
     (omega (arith, c.requires.at, place-word run c.args.edge.producer k i)) in (
       e.0 ∙ inv.0,
       e.1 ∙ inv.1,
       e.2.0 ∙ inv.2,
-      c.push_reserved.ensures.items ∙ (ap (λ (xs : List ℕ). xs ++ r ∷ []) inv.3
-          ∙ (append_assoc c.args.into.now.items (listed f i) (r ∷ [])
+      c.push_reserved-in-loop-i.ensures.items ∙ (ap (λ (xs : List ℕ). xs ++ r ∷ []) inv.3
+          ∙ (append_assoc c.args.into.now.items (p ∷ listed f i) (r ∷ [])
           ∙ ap (λ (xs : List ℕ). c.args.into.now.items
-          ++ xs) (ap (λ (x : ℕ). listed f i ++ x ∷ []) is ∙ sym (listed-next f i)))),
-      c.push_reserved.ensures.capacity ∙ inv.4,
+          ++ p ∷ xs) (ap (λ (x : ℕ). listed f i ++ x ∷ []) is ∙ sym (listed-next f i)))),
+      c.push_reserved-in-loop-i.ensures.capacity ∙ inv.4,
     )
+
+pub returns-clause-value : goal.returns-clause-value
+returns-clause-value g c = let p : ℕ = c.args.edge.producer in
+    let f : ℕ → ℕ = value c.args.run.now p (c.args.turn - c.args.edge.tokens) in
+    let end : c.loop-i.i ≡ width c.args.run.now p = omega (
+      arith,
+      c.loop-i-test.false,
+      c.loop-i.auto.i-end,
+      (c.width-i-end.ensures ∙ ap (width c.args.run.now) c.index-2.ensures),
+    ) in
+    c.loop-i.invariant.3 ∙ ap (λ (n : ℕ). c.args.into.now.items ++ p ∷ listed f n) end

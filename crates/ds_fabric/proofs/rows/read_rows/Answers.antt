@@ -1,4 +1,4 @@
-use Rattle.std.proofs.Common.{◌≡◌, ◌<◌, ◌≤◌, ◌+◌, ◌-◌, ◌++◌, ◌∙◌, ℕ, List, ap, arith, sym, length}
+use Rattle.std.proofs.Common.{◌≡◌, ◌<◌, ◌≤◌, ◌+◌, ◌-◌, ◌++◌, ◌∷◌, ◌∙◌, ℕ, List, ap, arith, sym, length}
 use Rattle.std.proofs.Common.{slice_index_or, vec_capacity, length-append, refl, Bool, true, false}
 use Rattle.ds_rule.specs.Run.{Run}
 use Rattle.ds_rule.specs.Rows.{row, supply_but}
@@ -22,34 +22,34 @@ index-end-requires g c = let q = c.requires.table.1.ranged in
 pub loop-i-init : goal.loop-i-init
 loop-i-init g c = let run : Run = c.args.run.now in let q = c.requires.table.1 in
     let o = c.requires.flight.0 in let l : ℕ = c.args.node in
-    let k : ℕ = c.args.known.now.turn in
-    let known : ℕ → Bool = λ p. g.C.Compute.knows c.args.known.now.openings.now
-    c.args.known.now.scratch.now p k in
+    let k : ℕ = c.args.learnt.now.turn in
+    let learnt : ℕ → Bool = λ p. g.C.Compute.has_learnt c.args.learnt.now.openings.now
+    c.args.learnt.now.scratch.now p k in
     let p = from_read run c.args.index.now.firsts.items l c.index-first.result.now q.ranged (omega (arith, o.near)) c.index-first.ensures in (
       refl,
       refl,
       refl,
-      c.requires.room.0 ∙ sym (before_range run known l k c.index-first.result.now p),
+      c.requires.room.0 ∙ sym (before_range run learnt l k c.index-first.result.now p),
       refl,
       Rattle.std.proofs.Common.le_refl _,
     )
 
-pub knows-requires-clause-producer : goal.knows-requires-clause-producer
-knows-requires-clause-producer g c = let run : Run = c.args.run.now in let q = c.requires.table.1 in
+pub has_learnt-requires-clause-producer : goal.has_learnt-requires-clause-producer
+has_learnt-requires-clause-producer g c = let run : Run = c.args.run.now in let q = c.requires.table.1 in
     let o = c.requires.flight.0 in let inv = c.loop-i.invariant in
-    let l : ℕ = c.args.node in let k : ℕ = c.args.known.now.turn in let i : ℕ = c.loop-i.i in
+    let l : ℕ = c.args.node in let k : ℕ = c.args.learnt.now.turn in let i : ℕ = c.loop-i.i in
     let e : DataEdge = c.index-edges-i.result in
     let h = edge_of run c.args.index.now.firsts.items c.edges-edges.result.now l c.index-first.result.now c.index-end.result.now i e q.ranged o.near c.index-first.ensures c.index-end.ensures c.edges-edges.ensures inv.5 c.loop-i-test.true c.index-edges-i.is in
     let d = q.over.sound.orders i e h.at in
-    omega (arith, d.from, ap (λ (x : Run). x.latches) c.requires.openings)
+    omega (arith, d.from, ap (λ (x : Run). x.latches) c.requires.openings.0)
 
-pub knows-requires-clause-turn : goal.knows-requires-clause-turn
-knows-requires-clause-turn g c = omega (arith, c.requires.flight.0.number)
+pub has_learnt-requires-clause-remembers : goal.has_learnt-requires-clause-remembers
+has_learnt-requires-clause-remembers g c = c.requires.openings.1
 
 pub overflow_sub-before : goal.overflow_sub-before
 overflow_sub-before g c = let run : Run = c.args.run.now in let q = c.requires.table.1 in
     let o = c.requires.flight.0 in let inv = c.loop-i.invariant in
-    let l : ℕ = c.args.node in let k : ℕ = c.args.known.now.turn in let i : ℕ = c.loop-i.i in
+    let l : ℕ = c.args.node in let k : ℕ = c.args.learnt.now.turn in let i : ℕ = c.loop-i.i in
     let e : DataEdge = c.index-edges-i.result in
     let h = edge_of run c.args.index.now.firsts.items c.edges-edges.result.now l c.index-first.result.now c.index-end.result.now i e q.ranged o.near c.index-first.ensures c.index-end.ensures c.edges-edges.ensures inv.5 c.loop-i-test.true c.index-edges-i.is in
     let d = q.over.sound.orders i e h.at in omega (arith, d.tokens_few, o.number)
@@ -57,7 +57,7 @@ overflow_sub-before g c = let run : Run = c.args.run.now in let q = c.requires.t
 pub place_of-at-requires-clause-near : goal.place_of-at-requires-clause-near
 place_of-at-requires-clause-near g c = let run : Run = c.args.run.now in let q = c.requires.table.1 in
     let o = c.requires.flight.0 in let inv = c.loop-i.invariant in
-    let l : ℕ = c.args.node in let k : ℕ = c.args.known.now.turn in let i : ℕ = c.loop-i.i in
+    let l : ℕ = c.args.node in let k : ℕ = c.args.learnt.now.turn in let i : ℕ = c.loop-i.i in
     let e : DataEdge = c.index-edges-i.result in
     let h = edge_of run c.args.index.now.firsts.items c.edges-edges.result.now l c.index-first.result.now c.index-end.result.now i e q.ranged o.near c.index-first.ensures c.index-end.ensures c.edges-edges.ensures inv.5 c.loop-i-test.true c.index-edges-i.is in
     let d = q.over.sound.orders i e h.at in
@@ -66,7 +66,7 @@ place_of-at-requires-clause-near g c = let run : Run = c.args.run.now in let q =
 pub read_row-requires-clause-edge : goal.read_row-requires-clause-edge
 read_row-requires-clause-edge g c = let run : Run = c.args.run.now in let q = c.requires.table.1 in
     let o = c.requires.flight.0 in let inv = c.loop-i.invariant in
-    let l : ℕ = c.args.node in let k : ℕ = c.args.known.now.turn in let i : ℕ = c.loop-i.i in
+    let l : ℕ = c.args.node in let k : ℕ = c.args.learnt.now.turn in let i : ℕ = c.loop-i.i in
     let e : DataEdge = c.index-edges-i.result in
     let h = edge_of run c.args.index.now.firsts.items c.edges-edges.result.now l c.index-first.result.now c.index-end.result.now i e q.ranged o.near c.index-first.ensures c.index-end.ensures c.edges-edges.ensures inv.5 c.loop-i-test.true c.index-edges-i.is in
     (i, h.at, h.into)
@@ -74,19 +74,19 @@ read_row-requires-clause-edge g c = let run : Run = c.args.run.now in let q = c.
 pub read_row-requires-clause-room : goal.read_row-requires-clause-room
 read_row-requires-clause-room g c = let run : Run = c.args.run.now in let q = c.requires.table.1 in
     let o = c.requires.flight.0 in let inv = c.loop-i.invariant in
-    let l : ℕ = c.args.node in let k : ℕ = c.args.known.now.turn in let i : ℕ = c.loop-i.i in
+    let l : ℕ = c.args.node in let k : ℕ = c.args.learnt.now.turn in let i : ℕ = c.loop-i.i in
     let e : DataEdge = c.index-edges-i.result in
     let h = edge_of run c.args.index.now.firsts.items c.edges-edges.result.now l c.index-first.result.now c.index-end.result.now i e q.ranged o.near c.index-first.ensures c.index-end.ensures c.edges-edges.ensures inv.5 c.loop-i-test.true c.index-edges-i.is in
-    let known : ℕ → Bool = λ p. g.C.Compute.knows c.args.known.now.openings.now
-    c.args.known.now.scratch.now p k in
-    let more = grows run known l k i e h (sym c.if-knows.ensures) in
+    let learnt : ℕ → Bool = λ p. g.C.Compute.has_learnt c.args.learnt.now.openings.now
+    c.args.learnt.now.scratch.now p k in
+    let more = grows run learnt l k i e h (sym c.if-has_learnt.ensures) in
     omega (
       arith,
       ap (λ (xs : List ℕ). length xs) inv.3,
       ap (λ (xs : List ℕ). length xs) more,
-      length-append (supply_but run known l k i) (row run e.producer (k - e.tokens)),
+      length-append (supply_but run learnt l k i) (e.producer ∷ row run e.producer (k - e.tokens)),
       length-row run e.producer (k - e.tokens),
-      length-supply_but run known l k (i + 1),
+      length-supply_but run learnt l k (i + 1),
       reads_up run l (i + 1) (length run.edges) (omega (arith, h.near)),
       inv.4,
       c.requires.room.1,
@@ -95,33 +95,33 @@ read_row-requires-clause-room g c = let run : Run = c.args.run.now in let q = c.
 pub loop-i-preserved : goal.loop-i-preserved
 loop-i-preserved g c = let run : Run = c.args.run.now in let q = c.requires.table.1 in
     let o = c.requires.flight.0 in let inv = c.loop-i.invariant in
-    let l : ℕ = c.args.node in let k : ℕ = c.args.known.now.turn in let i : ℕ = c.loop-i.i in
+    let l : ℕ = c.args.node in let k : ℕ = c.args.learnt.now.turn in let i : ℕ = c.loop-i.i in
     let e : DataEdge = c.index-edges-i.result in
     let h = edge_of run c.args.index.now.firsts.items c.edges-edges.result.now l c.index-first.result.now c.index-end.result.now i e q.ranged o.near c.index-first.ensures c.index-end.ensures c.edges-edges.ensures inv.5 c.loop-i-test.true c.index-edges-i.is in
-    let known : ℕ → Bool = λ p. g.C.Compute.knows c.args.known.now.openings.now
-    c.args.known.now.scratch.now p k in
+    let learnt : ℕ → Bool = λ p. g.C.Compute.has_learnt c.args.learnt.now.openings.now
+    c.args.learnt.now.scratch.now p k in
     let r = c.read_row.ensures in (
       r.seat.0 ∙ inv.0,
       r.seat.1 ∙ inv.1,
       r.seat.2 ∙ inv.2,
-      r.value ∙ (ap (λ (xs : List ℕ). xs ++ row run e.producer (k - e.tokens)) inv.3
-          ∙ sym (grows run known l k i e h (sym c.if-knows.ensures))),
+      r.value ∙ (ap (λ (xs : List ℕ). xs ++ e.producer ∷ row run e.producer (k - e.tokens)) inv.3
+          ∙ sym (grows run learnt l k i e h (sym c.if-has_learnt.ensures))),
       r.room ∙ inv.4,
       omega (arith, inv.5),
     )
 
-pub loop-i-preserved-then-knows : goal.loop-i-preserved-then-knows
-loop-i-preserved-then-knows g c = let run : Run = c.args.run.now in let q = c.requires.table.1 in
+pub loop-i-preserved-then-has_learnt : goal.loop-i-preserved-then-has_learnt
+loop-i-preserved-then-has_learnt g c = let run : Run = c.args.run.now in let q = c.requires.table.1 in
     let o = c.requires.flight.0 in let inv = c.loop-i.invariant in
-    let l : ℕ = c.args.node in let k : ℕ = c.args.known.now.turn in let i : ℕ = c.loop-i.i in
+    let l : ℕ = c.args.node in let k : ℕ = c.args.learnt.now.turn in let i : ℕ = c.loop-i.i in
     let e : DataEdge = c.index-edges-i.result in
     let h = edge_of run c.args.index.now.firsts.items c.edges-edges.result.now l c.index-first.result.now c.index-end.result.now i e q.ranged o.near c.index-first.ensures c.index-end.ensures c.edges-edges.ensures inv.5 c.loop-i-test.true c.index-edges-i.is in
-    let known : ℕ → Bool = λ p. g.C.Compute.knows c.args.known.now.openings.now
-    c.args.known.now.scratch.now p k in (
+    let learnt : ℕ → Bool = λ p. g.C.Compute.has_learnt c.args.learnt.now.openings.now
+    c.args.learnt.now.scratch.now p k in (
       inv.0,
       inv.1,
       inv.2,
-      inv.3 ∙ sym (passes run known l k i e h (sym c.if-knows.ensures)),
+      inv.3 ∙ sym (passes run learnt l k i e h (sym c.if-has_learnt.ensures)),
       inv.4,
       omega (arith, inv.5),
     )
@@ -129,9 +129,9 @@ loop-i-preserved-then-knows g c = let run : Run = c.args.run.now in let q = c.re
 pub returns-clause-value : goal.returns-clause-value
 returns-clause-value g c = let run : Run = c.args.run.now in let q = c.requires.table.1 in
     let o = c.requires.flight.0 in let l : ℕ = c.args.node in
-    let k : ℕ = c.args.known.now.turn in
-    let known : ℕ → Bool = λ p. g.C.Compute.knows c.args.known.now.openings.now
-    c.args.known.now.scratch.now p k in
+    let k : ℕ = c.args.learnt.now.turn in
+    let learnt : ℕ → Bool = λ p. g.C.Compute.has_learnt c.args.learnt.now.openings.now
+    c.args.learnt.now.scratch.now p k in
     let from = from_read run c.args.index.now.firsts.items l c.index-first.result.now q.ranged
     (omega (arith, o.near)) c.index-first.ensures in
     let to = from_read run c.args.index.now.firsts.items (l + 1) c.index-end.result.now q.ranged
@@ -144,5 +144,5 @@ returns-clause-value g c = let run : Run = c.args.run.now in let q = c.requires.
       c.loop-i.invariant.5,
       in_order run l c.index-first.result.now c.index-end.result.now from to,
     ) in
-    c.loop-i.invariant.3 ∙ (ap (supply_but run known l k) e
-    ∙ sym (behind_range run known l k c.index-end.result.now to))
+    c.loop-i.invariant.3 ∙ (ap (supply_but run learnt l k) e
+    ∙ sym (behind_range run learnt l k c.index-end.result.now to))

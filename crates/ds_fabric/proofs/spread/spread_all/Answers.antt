@@ -20,6 +20,7 @@ spread-requires-clause-few c = let q = c.requires.1 in let h : History = c.index
         arith,
         has_below c.requires.0.view.holds h.node (q.keeps.listed c.loop-i.i h at).has,
         q.keeps.held_long,
+        q.latches_is,
         q.sound.few,
       ),
     )

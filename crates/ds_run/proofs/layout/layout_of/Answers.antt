@@ -152,7 +152,12 @@ within c = record {
     ap (λ (r : Run). length r.edges) (of_is c),
   );
   low = omega (arith, c.slack.ensures.low, ap (λ (s : Split). s.slack) (split_is c));
-  few_nodes = omega (arith, c.if-nodes-ge2147483648.false, ap (λ (r : Run). r.nodes) (of_is c));
+  few_events = omega (
+    arith,
+    nodes_are c,
+    c.arcs.ensures.kept.few_events,
+    ap (λ (g : Graph). length g.events) c.graph-graph.ensures.graph,
+  );
   few_arcs = omega (
     arith,
     c.arcs.ensures.kept.few_arcs,

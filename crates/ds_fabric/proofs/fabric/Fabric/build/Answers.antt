@@ -54,7 +54,7 @@ begun : (run : Run) (me : Sat) (room capacity n : ℕ) (nodes : List History) (p
 begun run me room capacity n nodes ps sound is blank room-is roomy n-is long each = record {
   keeps = first_keeps run me nodes sound is blank;
   indexed = subst (λ (m : Sat). IsIndexed m.0.run.nodes room (length nodes) nodes ps) (sym is)
-      (all_placed run room nodes ps sound.few room-is blank (long
+      (all_placed run room nodes ps (omega (arith, sound.few)) room-is blank (long
       ∙ n-is) (λ i h. each i (omega arith)));
   roomy = omega arith;
   few = omega (arith, sound.few);

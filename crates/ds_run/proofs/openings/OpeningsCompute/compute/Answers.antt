@@ -31,12 +31,12 @@ open-requires-clause-opening c =
     let from = counted c.args.self.now.run c.args.self.now.groups (length c.self.inside.groups.groups)
     groups_are c.args.scratch.now c.args.node c.args.turn c.args.from.now c.requires.from in
     let o = opens_at c.self.invariant (sym run_is) c.index-number.ensures c.requires.turn.0
-    c.requires.node c.requires.turn.1 learnt c.as_slice.result.now c.index.result.now
-    c.args.from.now c.as_slice.ensures c.index.ensures from in (
+    c.requires.node c.requires.turn.1 learnt
+    c.args.from.now from in (
       o.node,
       o.turn,
       memory_of c.self.inside.latches.now c.self.inside.groups c.self.inside.order.now c.self.inside.vectors.now.rows,
-      noted c.self.invariant (sym run_is) c.requires.turn.0 c.requires.turn.1 c.args.scratch.now o _ refl refl refl refl
+      noted c.self.invariant (sym run_is) c.requires.turn.0 c.requires.turn.1 c.args.scratch.now o _ refl refl refl
           (subst (λ (m : Memory). Remembers m c.args.scratch.now) (sym memory_is) c.requires.remembers),
     )
 
@@ -61,11 +61,11 @@ returns-clause-value c =
     let from = counted c.args.self.now.run c.args.self.now.groups (length c.self.inside.groups.groups)
     groups_are c.args.scratch.now c.args.node c.args.turn c.args.from.now c.requires.from in
     let o = opens_at c.self.invariant (sym run_is) c.index-number.ensures c.requires.turn.0
-    c.requires.node c.requires.turn.1 learnt c.as_slice.result.now c.index.result.now
-    c.args.from.now c.as_slice.ensures c.index.ensures from in
+    c.requires.node c.requires.turn.1 learnt
+    c.args.from.now from in
     let row_is = gives_row c.self.invariant (sym run_is) c.index-number.ensures c.requires.turn.0 in
     c.open.ensures.value o.node o.turn (memory_of c.self.inside.latches.now c.self.inside.groups c.self.inside.order.now c.self.inside.vectors.now.rows)
-    (noted c.self.invariant (sym run_is) c.requires.turn.0 c.requires.turn.1 c.args.scratch.now o _ refl refl refl refl
+    (noted c.self.invariant (sym run_is) c.requires.turn.0 c.requires.turn.1 c.args.scratch.now o _ refl refl refl
     (subst (λ (m : Memory). Remembers m c.args.scratch.now) (sym memory_is) c.requires.remembers))
     ∙ ap (λ (ws : List ℕ). c.args.into.now.items ++ ws) (o.gives ∙ row_is)
 
@@ -80,9 +80,9 @@ returns-clause-remembers c =
     let from = counted c.args.self.now.run c.args.self.now.groups (length c.self.inside.groups.groups)
     groups_are c.args.scratch.now c.args.node c.args.turn c.args.from.now c.requires.from in
     let o = opens_at c.self.invariant (sym run_is) c.index-number.ensures c.requires.turn.0
-    c.requires.node c.requires.turn.1 learnt c.as_slice.result.now c.index.result.now
-    c.args.from.now c.as_slice.ensures c.index.ensures from in
+    c.requires.node c.requires.turn.1 learnt
+    c.args.from.now from in
     subst (λ (m : Memory). Remembers m c.open.new.scratch) memory_is
     (c.open.ensures.remembers o.node o.turn (memory_of c.self.inside.latches.now c.self.inside.groups c.self.inside.order.now c.self.inside.vectors.now.rows)
-    (noted c.self.invariant (sym run_is) c.requires.turn.0 c.requires.turn.1 c.args.scratch.now o _ refl refl refl refl
+    (noted c.self.invariant (sym run_is) c.requires.turn.0 c.requires.turn.1 c.args.scratch.now o _ refl refl refl
     (subst (λ (m : Memory). Remembers m c.args.scratch.now) (sym memory_is) c.requires.remembers)))

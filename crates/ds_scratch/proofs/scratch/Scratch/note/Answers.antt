@@ -19,11 +19,11 @@ returns c =
     let inside : c.args.slot < length old =
     (let long : length (noted_turns base old) ≡ length c.args.self.now.turns = ap (λ (k : Kept). length k.turns) view in
     let size : length (noted_turns base old) ≡ length old = length-map old (noted_turn base) in
-    omega (c.requires.slot, long, size, arith)) in
+    omega (c.requires, long, size, arith)) in
     let others : (s : ℕ) → IsSameOrLost c.args.turn (noted_turn base (get_or old s 0)) (noted_turn next (get_or moved s 0)) =
     λ s. subst (λ (bytes : List ℕ). IsSameOrLost c.args.turn (noted_turn base (get_or bytes s 0)) (noted_turn next (get_or moved s 0))) lent
     (c.base_for-self-inside.ensures.others s) in
-    let noted = now_noted c.self.inside.nets base next c.args.slot c.args.turn old moved inside same c.base_for-self-inside.ensures.turn.0 others in
+    let noted = now_noted c.self.inside.nets base next c.args.slot c.args.turn old moved inside same (c.base_for-self-inside.ensures.turn.0, c.base_for-self-inside.ensures.turn.1) others in
     subst (λ (bytes : List ℕ). IsNoted c.args.slot c.args.turn c.args.self.now
     (kept c.self.inside.nets next (set bytes c.args.slot (c.args.turn - next))))
     (sym (with_items_is c.self.inside.turns moved full))

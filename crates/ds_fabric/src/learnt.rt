@@ -1,9 +1,9 @@
 use crate::compute::Compute;
 use ds_scratch::Scratch;
 
-/// What an opening of this turn need not read: the rows that the scratch knows.
+/// The rows that a scratch has learnt for this turn: an opening of the turn need not read them.
 #[derive(Drop)]
-pub struct Known<'a, C: Compute> {
+pub struct Learnt<'a, C: Compute> {
     pub openings: &'a C,
     pub scratch: &'a Scratch,
     pub turn: u64,

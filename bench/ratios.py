@@ -1,0 +1,122 @@
+#!/usr/bin/env python3
+"""Prints how long a turn of `desync run` takes beside one of `desync clock`, and a firing of `demo`.
+
+The netlists are those of workers.py with a cluster for each bus, and a multiplier and a pipeline
+with a cluster for each register. A turn is what a run with twice the vectors takes longer, so what
+is read and laid out once does not count. For each netlist there are the microseconds of a turn of
+`clock` and of `run` by one worker, how many times the one is the other, and what four, eight and 64
+workers take where one takes 1; for `demo` the nanoseconds of a firing by one worker, cones and
+printing with it. Each figure is of the median times of `--times` runs turn about; the exit status
+is 1 where the runs of a netlist write different bytes.
+"""
+
+import argparse
+import os
+import statistics
+import subprocess
+import sys
+import tempfile
+import time
+
+import workers
+
+EACH = "with a cluster for each register"
+DEMOS = [(64, 10000), (1024, 625), (4096, 160)]
+
+
+def seconds_of(words):
+    """The bytes that a command writes, and its seconds by the clock."""
+    begin = time.monotonic()
+    text = subprocess.run(words, stdout=subprocess.PIPE, check=True).stdout
+    return text, time.monotonic() - begin
+
+
+def halved(files):
+    """The files with the first half of the vectors, and how many these are."""
+    with open(files[1]) as file:
+        lines = file.readlines()
+    half = files[1] + ".half"
+    with open(half, "w") as file:
+        file.writelines(lines[: len(lines) // 2])
+    return [files[0], half], len(lines) // 2
+
+
+def kinds_of(clusters, jobs):
+    """The commands that are compared: clock, and run by each number of workers."""
+    yield "clock", lambda files: ["clock"] + files
+    for count in jobs:
+        yield count, lambda files, n=count: ["run"] + files + clusters + ["--jobs", str(n)]
+
+
+def turns_of(program, files, clusters, given):
+    """Kind -> the microseconds of a turn; and whether all wrote the same bytes."""
+    half, turns = halved(files)
+    kinds = dict(kinds_of(clusters, given.jobs))
+    times, texts = {kind: ([], []) for kind in kinds}, set()
+    for _ in range(given.times):
+        for kind, words in kinds.items():
+            for place, some in enumerate((half, files)):
+                text, seconds = seconds_of([program] + words(some))
+                times[kind][place].append(seconds)
+                if place:
+                    texts.add(text)
+    middle = statistics.median
+    each = {kind: (middle(long) - middle(short)) / turns for kind, (short, long) in times.items()}
+    return {kind: 1e6 * seconds for kind, seconds in each.items()}, len(texts) == 1
+
+
+def netlists(folder, turns):
+    """A name, the files, and the words that say which clusters."""
+    bus = ["--clusters", "bus"]
+    yield "40 clusters, 10,000 tables", workers.pipeline(folder, turns, 25, 40, 10), bus
+    yield "25 clusters, 10,000 tables", workers.pipeline(folder, turns, 20, 25, 20), bus
+    for name, many, told in workers.CIRCUITS:
+        yield name + told, workers.circuit(folder, turns // many, name), bus
+    small = os.path.join(folder, "each")
+    os.mkdir(small)
+    yield "mul32, " + EACH, workers.circuit(small, turns // 20, "mul32"), []
+    yield "1,000 registers, " + EACH, workers.pipeline(small, turns // 20, 25, 40, 10), []
+
+
+def firing_of(program, registers, turns, times):
+    """The nanoseconds of a firing of `demo` by one worker."""
+    words = [program, "demo", "1", str(registers)]
+    short, long = (
+        statistics.median(
+            seconds_of(words + [str(count), "--jobs", "1"])[1] for _ in range(times)
+        )
+        for count in (turns, 2 * turns)
+    )
+    return 1e9 * (long - short) / (turns * 2 * (2 * registers + 2))
+
+
+def main():
+    parser = argparse.ArgumentParser(description=__doc__.split("\n")[0])
+    parser.add_argument("--times", type=int, default=5, help="runs of each command")
+    parser.add_argument("--turns", type=int, default=10000, help="vectors of wide clusters")
+    parser.add_argument("--jobs", type=int, nargs="+", default=[1, 4, 8, 64], help="workers")
+    parser.add_argument("--program", default=workers.PROGRAM, help="the built desync")
+    given = parser.parse_args()
+    program, well = os.path.abspath(given.program), True
+    first = given.jobs[0]
+    head = ["Netlist", "clock", "run, %d" % first, "ratio"]
+    head += ["%d to %d" % (count, first) for count in given.jobs[1:]]
+    print("| %s |\n|%s" % (" | ".join(head), "---|" * len(head)))
+    with tempfile.TemporaryDirectory() as folder:
+        for name, files, clusters in netlists(folder, given.turns):
+            turn, same = turns_of(program, files, clusters, given)
+            cells = ["%.1f" % turn["clock"], "%.1f" % turn[first]]
+            cells += ["%.2f" % (turn[first] / turn["clock"])]
+            cells += ["%.2f" % (turn[count] / turn[first]) for count in given.jobs[1:]]
+            print("| %s |" % " | ".join([name] + cells), flush=True)
+            well = well and same
+            if not same:
+                print("| %s | DIFFERENT BYTES |" % name, flush=True)
+    for registers, turns in DEMOS:
+        spent = firing_of(program, registers, turns, given.times)
+        print("demo 1 %d: %.0f nanoseconds a firing" % (registers, spent), flush=True)
+    sys.exit(0 if well else 1)
+
+
+if __name__ == "__main__":
+    main()

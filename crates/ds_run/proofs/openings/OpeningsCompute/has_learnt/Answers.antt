@@ -1,0 +1,33 @@
+use Rattle.std.proofs.Common.{◌≡◌, ◌∙◌, ap, arith, length, sym}
+use Rattle.ds_latch.specs.Node.{Split, nodes}
+use Rattle.ds_rule.specs.Run.{Run}
+use Rattle.ds_scratch.specs.Scratch.{Memory}
+use Rattle.ds_opening.specs.Learnt.{is_learnt}
+use Rattle.ds_opening.proofs.Slots.{slots_long}
+use Rattle.ds_run.specs.Openings.{RunWithMemory, memory_of}
+use Rattle.ds_run.proofs.openings.OpeningsCompute.has_learnt.Goals as goal
+
+pub is_learnt-requires : goal.is_learnt-requires
+is_learnt-requires c =
+    let s : Split = c.self.inside.latches.now in
+    let m : Memory = memory_of s c.self.inside.groups c.self.inside.order.now c.self.inside.vectors.now.rows in
+    let memory_is : m ≡ c.args.self.now.memory = ap (λ (x : RunWithMemory). x.memory) c.self.view_is in
+    let run_is = ap (λ (x : RunWithMemory). x.run) c.self.view_is in
+    let latches : c.args.self.now.run.latches ≡ nodes s =
+    ap (λ (r : Run). r.latches) (sym run_is) ∙ c.self.invariant.planned.latches_are in
+    omega (
+      arith,
+      c.requires.producer,
+      c.index.ensures,
+      latches,
+      c.requires.remembers.turns,
+      ap (λ (x : Memory). length x.slots) memory_is,
+      slots_long s c.self.invariant.split c.self.inside.groups,
+    )
+
+pub returns : goal.returns
+returns c =
+    c.is_learnt.ensures
+    ∙ (ap (λ (m : RunWithMemory). is_learnt m.groups c.args.scratch.now c.args.turn c.index.result)
+    c.self.view_is
+    ∙ ap (is_learnt c.args.self.now.groups c.args.scratch.now c.args.turn) c.index.ensures)
