@@ -8,8 +8,8 @@ refusal is to end:
 
 - memory: status 4, `desync: out of memory`, and nothing on the output; what is refused may also be
   a thread's or a hint's, which nobody misses; and once more with each write to the error output
-  refused: the same status and output, and no line; behind the first 512 pieces of a command this
-  is tried at each sixteenth;
+  refused: the same status and output, with several workers those of this run or of the good one,
+  and no line; behind the first 512 pieces of a command this is tried at each sixteenth;
 - a read: status 3, the line names a file of the command, and nothing is on the output; an output
   that is written while it is read has whole windows of vectors;
 - a write: status 5, `desync: cannot write`, and a first part of the output; where the error output
@@ -35,6 +35,7 @@ WINDOW = 4096
 KINDS = ("memory", "read", "write", "thread")
 # Up to which piece of memory each one is also refused unheard, and which of those behind it.
 EACH, STEP = 512, 16
+OUT_OF_MEMORY = b"desync: out of memory\n"
 TOGGLE = """.model toggle
 .inputs t
 .outputs q
@@ -143,8 +144,7 @@ def is_right(kind, words, good, run):
     if run.is_as(good):
         return True
     if kind == "memory":
-        line = b"desync: out of memory\n"
-        return run.status == 4 and run.err == line and run.out in wholes(good.out)
+        return run.status == 4 and run.err == OUT_OF_MEMORY and run.out in wholes(good.out)
     if kind == "read":
         lines = {f"desync: cannot read {word[1:]}\n".encode() for word in words if word[0] == ":"}
         return run.status == 3 and run.err in lines and run.out in wholes(good.out)
@@ -154,6 +154,16 @@ def is_right(kind, words, good, run):
         line = b"desync: cannot write\n"
         return run.status == 5 and run.err == line and run.is_part_of(good)
     return False
+
+
+def is_right_unheard(words, good, run):
+    """The same of memory in a run whose error output is refused too. With several workers the piece
+    with this number may be a hint's in one run and the caller's in the next, so it need not end as
+    the run did that was heard."""
+    if "--jobs" not in words or run.err:
+        return False
+    run.err = good.err if run.status == good.status else OUT_OF_MEMORY
+    return is_right("memory", words, good, run)
 
 
 def refused(program, folder, library, words, good):
@@ -170,7 +180,7 @@ def refused(program, folder, library, words, good):
                 raise SystemExit(f"{' '.join(plain)}: {kind} {at}: {run}")
             if kind == "memory" and (at <= EACH or at % STEP == 0):
                 unheard = Run(program, folder, plain, dict(around, REFUSE_TO="2").items())
-                if not unheard.is_unheard(run):
+                if not (unheard.is_unheard(run) or is_right_unheard(words, good, unheard)):
                     raise SystemExit(f"{' '.join(plain)}: {kind} {at}, unheard: {unheard}")
             if not os.path.exists(met):
                 break
