@@ -6,13 +6,12 @@ with a cluster for each register. A turn is what a run with twice the vectors ta
 is read and laid out once does not count. For each netlist there are the microseconds of a turn of
 `clock` and of `run` by one worker, how many times the one is the other, and what four, eight and 64
 workers take where one takes 1; for `demo` the nanoseconds of a firing by one worker, cones and
-printing with it. Each figure is of the median times of `--times` runs turn about; the exit status
-is 1 where the runs of a netlist write different bytes.
+printing with it. Each figure is of the least times of `--times` runs turn about, since other work
+on the machine only adds; the exit status is 1 where the runs of a netlist write different bytes.
 """
 
 import argparse
 import os
-import statistics
 import subprocess
 import sys
 import tempfile
@@ -60,8 +59,7 @@ def turns_of(program, files, clusters, given):
                 times[kind][place].append(seconds)
                 if place:
                     texts.add(text)
-    middle = statistics.median
-    each = {kind: (middle(long) - middle(short)) / turns for kind, (short, long) in times.items()}
+    each = {kind: (min(long) - min(short)) / turns for kind, (short, long) in times.items()}
     return {kind: 1e6 * seconds for kind, seconds in each.items()}, len(texts) == 1
 
 
@@ -82,9 +80,7 @@ def firing_of(program, registers, turns, times):
     """The nanoseconds of a firing of `demo` by one worker."""
     words = [program, "demo", "1", str(registers)]
     short, long = (
-        statistics.median(
-            seconds_of(words + [str(count), "--jobs", "1"])[1] for _ in range(times)
-        )
+        min(seconds_of(words + [str(count), "--jobs", "1"])[1] for _ in range(times))
         for count in (turns, 2 * turns)
     )
     return 1e9 * (long - short) / (turns * 2 * (2 * registers + 2))

@@ -1,28 +1,12 @@
 -- Events that are put in the order of their ranks are all there.
-use Rattle.std.proofs.Common.{◌≡◌, inl, inr, ℕ, ◌+◌, ◌<◌, List, [], ◌∷◌, ◌++◌, length, get_or, map, sym, ◌∙◌, ap, subst, arith, length-append, Contains, IsPermutation}
+use Rattle.std.proofs.Common.{◌≡◌, inl, inr, ℕ, ◌+◌, ◌<◌, List, [], ◌∷◌, ◌++◌, length, get_or, map, sym, ◌∙◌, ap, subst, arith, Contains, IsPermutation}
 use Rattle.std.proofs.lemmas.Bool.{cases_eq}
-use Rattle.std.proofs.lemmas.List.{get_or-map, length-map, get_or_append_left, get_or_push}
+use Rattle.std.proofs.lemmas.List.{get_or-map, length-map}
 use Rattle.std.proofs.lemmas.List.Elements.{Contains-append_left, Contains-push}
 use Rattle.std.proofs.lemmas.List.Sorted.{Contains-permutation}
 use Rattle.ds_base.proofs.Lists.{get_or-self}
 use Rattle.ds_accept.specs.Ranked.{AreRanked}
 use Rattle.ds_accept.specs.declared.ranked.Ranked.{Ranked}
-
--- an event more
-pub ranked_more : (events : ℕ) (all : List Ranked) (x : Ranked) → x.event ≡ events → AreRanked events all → AreRanked (events + 1) (all ++ x ∷ [])
-ranked_more events all x is are = record {
-  one_each = length-append all (x ∷ []) ∙ ap (λ (n : ℕ). n + 1) are.one_each;
-  at = λ v low d. elim (cases_eq v events) [
-    | inl last ↦ (
-        let size : length all ≡ events = are.one_each in
-        let here : get_or (all ++ x ∷ []) v d ≡ x = get_or_push all x d v (omega (size, last, arith)) in
-        ap (λ (r : Ranked). r.event) here ∙ (is ∙ sym last))
-    | inr early ↦ (
-        let size : length all ≡ events = are.one_each in
-        let here : get_or (all ++ x ∷ []) v d ≡ get_or all v d = get_or_append_left all (x ∷ []) d v (omega (size, low, early, arith)) in
-        ap (λ (r : Ranked). r.event) here ∙ are.at v (omega (low, early, arith)) d)
-  ];
-}
 
 -- each event stands among those that are put in another order
 pub all_ranked : (events : ℕ) (all sorted : List Ranked) (order : List ℕ) → AreRanked events all → IsPermutation all sorted

@@ -29,6 +29,3 @@ any_place test (x ∷ xs) = elim (cases_Bool (test x)) [
 
 pub place_inside : {X : Type 0} (test : X → Bool) (xs : List X) → list_any test xs ≡ true → position_or_len test xs < length xs
 place_inside test xs is = ltb-true _ _ (any_place test xs ∙ is)
-
-pub place_outside : {X : Type 0} (test : X → Bool) (xs : List X) → list_any test xs ≡ false → length xs ≤ position_or_len test xs
-place_outside test xs is = ltb-false _ _ (any_place test xs ∙ is)

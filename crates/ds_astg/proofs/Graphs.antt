@@ -1,5 +1,5 @@
 -- The graph of names and places.
-use Rattle.std.proofs.Common.{◌≡◌, ◌≢◌, ℕ, zero, suc, ◌+◌, ◌<◌, ◌≤◌, true, false, not, List, [], ◌∷◌, ◌++◌, length, get_or, take, drop, slice_get, append_assoc, map, refl, sym, ◌∙◌, ap, subst, arith, inl, inr, All, AllPairs, Option, None, Some, IfSome, is_some, ◌&&◌, Result, Ok, Err, IfOk}
+use Rattle.std.proofs.Common.{◌≡◌, ◌≢◌, ℕ, zero, suc, ◌+◌, ◌<◌, ◌≤◌, false, not, List, [], ◌∷◌, ◌++◌, length, get_or, take, drop, slice_get, append_assoc, map, refl, sym, ◌∙◌, ap, subst, arith, inl, inr, All, AllPairs, Option, None, Some, IfSome, is_some, ◌&&◌, Result, Ok, Err, IfOk}
 use Rattle.std.proofs.Math.Seq.{drop-cons}
 use Rattle.std.proofs.lemmas.Bool.{cases_Bool}
 use Rattle.std.proofs.lemmas.List.{append-nil, length-append, length-map}
@@ -27,12 +27,6 @@ pub lacking-next : (keys : List Key) (places : List Place) (i : ℕ) → i < len
 lacking-next keys places i key place whole =
     let e : i + 1 ≡ suc i = omega arith in
     rw (drop-cons keys i (Between 0 0) key, drop-cons places i (named 0) place, e) (rw whole refl)
-
--- the first of them lacks something
-pub lacking-here : (keys : List Key) (places : List Place) (i : ℕ) (place : Place) → i < length keys → i < length places → place ≡ get_or places i (named 0)
-    → lacks place ≡ true → lacking (drop i keys) (drop i places) ≡ Some (record { line = place.line; kind = NotMarkedGraph (name_of (get_or keys i (Between 0 0))) })
-lacking-here keys places i place key inside is lacks_one =
-    rw (drop-cons keys i (Between 0 0) key, drop-cons places i (named 0) inside, ← is) (rw lacks_one refl)
 
 -- no place lacks anything
 whole_first : (key : Key) (keys : List Key) (place : Place) (places : List Place) → lacking (key ∷ keys) (place ∷ places) ≡ None → lacks place ≡ false

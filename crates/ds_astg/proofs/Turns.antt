@@ -2,7 +2,7 @@
 use Rattle.std.proofs.Common.{◌≡◌, ℕ, suc, ◌+◌, ◌<◌, List, [], length, get_or, drop, Result, Ok, refl, sym, ◌∙◌, ap, subst, arith, Bor}
 use Rattle.std.proofs.lemmas.List.{length-map}
 use Rattle.ds_astg.specs.Word.{word_at}
-use Rattle.std.proofs.Math.Seq.{drop-cons, drop-length}
+use Rattle.std.proofs.Math.Seq.{drop-cons}
 use Rattle.ds_astg.specs.Turn.{then_do, all_of}
 use Rattle.ds_astg.specs.Steps.{IsKind, texts}
 use Rattle.ds_astg.specs.declared.fault.AstgKind.{AstgKind}
@@ -33,11 +33,6 @@ module _ {X S : Type 0} (step : X → S → Result S AstgKind) (xs : List X) (i 
   turn_ok next is = here ∙ (then_ok (step (get_or xs i d) s) next (all_of step (drop (suc i) xs)) is
       ∙ ap (λ (k : ℕ). all_of step (drop k xs) next) (let e : suc i ≡ i + 1 = omega arith in e))
 
--- behind the last
-pub turns_end : {X S : Type 0} (step : X → S → Result S AstgKind) (xs : List X) (i : ℕ) (s : S) (all : Result S AstgKind)
-    → i ≡ length xs → all ≡ all_of step (drop i xs) s → all ≡ Ok s
-turns_end step xs i s all e so_far = so_far ∙ (ap (λ (k : ℕ). all_of step (drop k xs) s) e ∙ ap (λ ys. all_of step ys s) (drop-length xs))
-
 -- the same over words that references point to
 module _ {S : Type 0} (step : List ℕ → S → Result S AstgKind) (words : List (Bor (List ℕ))) (i : ℕ) (word : List ℕ) (s : S) (all : Result S AstgKind)
     (inside : i < length words) (is : word ≡ word_at (texts words) i) (so_far : all ≡ all_of step (drop i (texts words)) s) where
@@ -49,7 +44,3 @@ module _ {S : Type 0} (step : List ℕ → S → Result S AstgKind) (words : Lis
 
   pub word_ok : (next : S) → step word s ≡ Ok next → all ≡ all_of step (drop (i + 1) (texts words)) next
   word_ok next done = turn_ok step (texts words) i [] s all within so_far next (subst (λ (w : List ℕ). step w s ≡ Ok next) is done)
-
-pub words_end : {S : Type 0} (step : List ℕ → S → Result S AstgKind) (words : List (Bor (List ℕ))) (i : ℕ) (s : S) (all : Result S AstgKind)
-    → i ≡ length words → all ≡ all_of step (drop i (texts words)) s → all ≡ Ok s
-words_end step words i s all e so_far = turns_end step (texts words) i s all (e ∙ sym (length-map words (λ (w : Bor (List ℕ)). w.now))) so_far

@@ -9,8 +9,8 @@ use Rattle.ds_base.specs.Values.{AreKnown, Row, either}
 use Rattle.ds_base.specs.declared.value.Value.{Value}
 use Rattle.ds_base.specs.declared.value.Value.TheVariants.{Zero, One, Unknown}
 use Rattle.ds_cover.specs.Cover.{signed, value_at, values_at}
-use Rattle.ds_cover.specs.Packed.{bits_by, contradicted, doubted, mask_value, masks_value, one_bit, unknown_bit, verdict, words_of}
-use Rattle.ds_cover.specs.Kept.{AreThree, IsQuick, IsSingle, IsTruth, bit_value, singles_value, six_nets}
+use Rattle.ds_cover.specs.Packed.{bits_by, contradicted, doubted, mask_value, masks_value, unknown_bit, verdict, words_of}
+use Rattle.ds_cover.specs.Kept.{AreThree, IsQuick, IsSingle, IsTruth, singles_value, six_nets}
 use Rattle.ds_cover.specs.declared.entry.Quick.{Quick}
 use Rattle.ds_cover.specs.declared.mask.Mask.{Mask}
 use Rattle.ds_cover.specs.declared.word.Word.{Word}
@@ -24,11 +24,6 @@ zero_known e = cc
 
 one_known : Known One
 one_known e = cc
-
-pub bit_back : (value : Value) → Known value → bit_value (one_bit value) ≡ value
-bit_back Zero known = refl
-bit_back One known = refl
-bit_back Unknown known = absurd (known refl)
 
 pub either_known : (a b : Value) → Known a → Known b → Known (either a b)
 either_known Zero b p q = q

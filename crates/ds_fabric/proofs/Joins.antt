@@ -12,15 +12,15 @@ use mathlib.Core.Option.{some}
 use native.Mathlib.Decide.{ℕ_discrete, dec_lt}
 use lib.ListN.{get_elem?}
 use Rattle.atomic_table.proofs.Lists.{at_longer}
-use Rattle.ds_rule.specs.Run.{Run, events, node_of, turns, opened}
+use Rattle.ds_rule.specs.Run.{Run, events, node_of, turns}
 use Rattle.ds_rule.specs.Sound.{IsSound}
-use Rattle.ds_rule.specs.Rows.{rows_to}
+use Rattle.ds_fabric.specs.Told.{stride_of, turns_told}
 use Rattle.ds_rule.specs.Rule.{holds, tickets, seen, first_view}
 use Rattle.ds_rule.specs.Plays.{Sat, after_point, without_cut, only_cut, both}
 use Rattle.ds_rule.specs.declared.view.View.{View}
 use Rattle.ds_rule.proofs.Lists.{same_at, at_below, there_is, replicate-default, held_inside}
 use Rattle.ds_rule.proofs.Lists.{has_below, alone, by_bool, at_either, at_second, length-listed}
-use Rattle.ds_rule.proofs.EventLaws.{turns_apart, turns-none, opened-none, event_below}
+use Rattle.ds_rule.proofs.EventLaws.{turns_apart, turns-none, event_below}
 use Rattle.ds_rule.proofs.Hands.{both-holds, both-tickets}
 use Rattle.ds_fabric.specs.declared.history.History.{History}
 use Rattle.std.proofs.Common.{◌≤◌, length-append}
@@ -56,10 +56,8 @@ first_keeps run me nodes sound is blank =
               blank.long,
             )));
         fired = b.fired ∙ sym (zero-seen h.node);
-        first = none _ ∙ sym b.first;
-        second = λ low. none _ ∙ sym b.second;
-        rows = b.rows ∙ ap (rows_to run h.node) (sym (ap (opened run h.node) (zero-seen h.node)
-            ∙ opened-none run h.node));
+        stride = b.stride ∙ ap (stride_of run) (sym b.node);
+        turns = b.turns ∙ sym (ap (turns_told run (tickets v) h.node) (zero-seen h.node));
         room = subst (λ (y : ℕ). Rattle.ds_fabric.specs.Showing.HasRoom run y h)
             (sym b.node) b.room;
       };

@@ -1,6 +1,8 @@
 -- What a pass knows and keeps, then the parts of a fabric, then the record.
 pub mod Views
+pub mod Turns
 pub mod Passes
+pub mod Tickets
 pub mod Finds
 pub mod Standing
 pub mod Joins

@@ -1,40 +1,34 @@
 -- What a pass has in memory, beside its view, through loads and firings.
-use Rattle.std.proofs.Common.{◌≡◌, ℕ, suc, ◌+◌, ◌-◌, ◌*◌, ◌<◌, ◌≤◌, ◌≢◌, Bool, true, false, List}
+use Rattle.std.proofs.Common.{◌≡◌, ℕ, suc, ◌+◌, ◌<◌, ◌≤◌, ◌≢◌, true, List}
 use Rattle.std.proofs.Common.{[], ◌∷◌, ◌++◌, length}
-use Rattle.std.proofs.Common.{get_or, set, sym, refl, ap, ◌∙◌, subst, arith, le_trans, le_refl}
+use Rattle.std.proofs.Common.{get_or, set, sym, refl, ap, ◌∙◌, subst, arith, le_trans}
 use Rattle.std.proofs.Common.{le_of_eq, length-set}
 use Rattle.std.proofs.Common.{get_or-set_other, get_or-set_same, length-append, vec_capacity}
 use Rattle.std.proofs.Common.{⊎_elim}
-use Rattle.std.proofs.Common.{zero, ◌/◌, ◌%◌, ◌⊎◌, inl, inr, take}
-use Rattle.std.proofs.Math.Seq.{take-append_seam}
-use Rattle.std.proofs.Math.Nat.{mul-le-mul_right, mul-div_cancel_left}
-use Rattle.ds_rule.specs.Rows.{row}
-use Rattle.ds_rule.proofs.EventLaws.{next-low, turns-low, opened-low, closing-is}
+use Rattle.std.proofs.Common.{zero, ◌/◌}
+use Rattle.ds_rule.proofs.EventLaws.{opened-low}
 use mathlib.Core.Logic.{dite}
 use mathlib.Core.Option.{some}
 use native.Mathlib.Decide.{ℕ_discrete}
 use lib.ListN.{get_elem?}
 use Rattle.atomic_table.proofs.Lists.{at_set, set_else, at_index}
-use Rattle.ds_rule.specs.Run.{Run, events, node_of, next, turns, opens, opening, closing, opened}
+use Rattle.ds_rule.specs.Run.{Run, events, node_of, next, turns, opens, opening, opened}
 use Rattle.ds_rule.specs.Run.{count, Enabled}
-use Rattle.ds_rule.specs.Words.{width}
 use Rattle.ds_rule.specs.Sound.{read_words}
-use Rattle.ds_rule.specs.Rows.{rows_to}
 use Rattle.ds_rule.specs.Rule.{holds, tickets, seen}
 use Rattle.ds_rule.specs.Plays.{Sat, after_depart, after_draw, after_publish}
 use Rattle.ds_rule.specs.declared.view.View.{View}
 use Rattle.ds_rule.proofs.Lists.{same_at, set_there, apart_set, at_below, has_below}
-use Rattle.ds_rule.proofs.EventLaws.{node-next, node-closing, turns-next, turns-other, turns_up}
-use Rattle.ds_rule.proofs.EventLaws.{event_below, events_of, closing_apart}
+use Rattle.ds_rule.proofs.EventLaws.{node-next, turns-next, turns-other, turns_up, event_below}
 use Rattle.ds_rule.proofs.EventLaws.{even_opens, next-opens, turns-opening, node-opening}
-use Rattle.ds_rule.proofs.RowLaws.{length-rows, rows-next}
 use Rattle.ds_fabric.specs.declared.history.History.{History}
 use Rattle.ds_fabric.specs.Looks.{LooksOn, Enough}
-use Rattle.ds_fabric.specs.Noted.{HasFired, HasRoomToNote}
-use Rattle.ds_fabric.specs.Flown.{HasOpened}
+use Rattle.ds_fabric.specs.Told.{stride_of, new_row, turns_told}
+use Rattle.ds_fabric.specs.Noted.{HasFired}
 use Rattle.ds_fabric.specs.Showing.{HasRoom, Tells, Keeps}
 use Rattle.ds_fabric.specs.Stepped.{Fires, done}
 use Rattle.ds_fabric.proofs.Views.{has_after}
+use Rattle.ds_fabric.proofs.Turns.{told_same, told_fires, told_fits}
 
 -- the history of a node, beside another view that says the same of the node
 pub tells_moved : (v w : View) (h : History) → Tells v h → w.run ≡ v.run → holds w h.node ≡ true
@@ -43,12 +37,12 @@ pub tells_moved : (v w : View) (h : History) → Tells v h → w.run ≡ v.run �
 tells_moved v w h t run has same ticks = let l : ℕ = h.node in record {
   has = has;
   fired = t.fired ∙ sym same;
-  first = ap (λ (r : Run). tickets w (next r l 0)) run
-      ∙ (ticks (next v.run l 0) (node-next v.run l 0) ∙ t.first);
-  second = λ low. let low' : l < v.run.latches = subst (λ (r : Run). l < r.latches) run low in
-      ticks (closing l) (node-closing v.run l low') ∙ t.second low';
-  rows = t.rows ∙ sym (ap (λ (r : Run). rows_to r l (opened r l (seen w l))) run
-      ∙ ap (λ (s : ℕ). rows_to v.run l (opened v.run l s)) same);
+  stride = t.stride ∙ ap (λ (r : Run). stride_of r l) (sym run);
+  turns = t.turns ∙ sym (ap (λ (r : Run). turns_told r (tickets w) l (seen w l)) run
+      ∙ (ap (turns_told v.run (tickets w) l) same
+      ∙ told_same v.run (tickets v) (tickets w) l (seen v l) (λ g _.
+      ap (λ (ts : List ℕ). get_or ts (turns v.run (next v.run l g) g) 0)
+      (ticks (next v.run l g) (node-next v.run l g)))));
   room = subst (λ (r : Run). HasRoom r l h) (sym run) t.room;
 }
 
@@ -130,7 +124,8 @@ fires_keep me me' nodes i h h' t k at is f =
       k.seen_long,
       near-node me nodes l k old.has,
     ) in
-    let E-is : next R l h.fired ≡ E = ap (next R l) old.fired in
+    let counted : turns R E (seen v l) ≡ length (tickets v E) =
+    ap (λ (y : ℕ). turns R E (seen v y)) (sym of-l) ∙ k.counts E (ap (holds v) of-l ∙ old.has) in
     let far : (x e : ℕ) → x ≢ l → node_of R e ≡ x
     → tickets w e ≡ tickets v e = λ x e n on. tickets-else v l t e
     (λ z. n (sym on ∙ (ap (node_of R) z ∙ of-l))) in
@@ -138,27 +133,15 @@ fires_keep me me' nodes i h h' t k at is f =
       has = ap (holds v) f.node ∙ old.has;
       fired = f.fired ∙ (ap (λ (x : ℕ). x + 1) old.fired
           ∙ sym (seen-landed v l t h'.node near-l f.node));
-      first = ap (λ (x : ℕ). tickets w (next R x 0)) f.node ∙ dite (ℕ_discrete E (next R l 0))
-          (λ e. let g = f.first (E-is ∙ e) in tickets-landed v l t (next R l 0) near-E (sym e)
-          ∙ (ap (λ (x : ℕ). tickets v x ++ t ∷ []) e
-          ∙ (ap (λ ts. ts ++ t ∷ []) old.first ∙ sym g.0)))
-          (λ e. let g = f.second (λ z. e (sym E-is ∙ z)) in
-          tickets-else v l t (next R l 0) (λ z. e (sym z)) ∙ (old.first ∙ sym g.1));
-      second = λ low'. let low : l < R.latches = omega (arith, low', f.node) in
-          ap (λ (x : ℕ). tickets w (closing x)) f.node ∙ dite (ℕ_discrete E (next R l 0))
-          (λ e. let g = f.first (E-is ∙ e) in tickets-else v l t (closing l)
-          (λ z. closing_apart R l low (z ∙ e)) ∙ (old.second low ∙ sym g.1))
-          (λ e. let g = f.second (λ z. e (sym E-is ∙ z)) in let c = (events_of R l E of-l e).1 in
-          tickets-landed v l t (closing l) near-E (sym c)
-          ∙ (ap (λ (x : ℕ). tickets v x ++ t ∷ []) c
-          ∙ (ap (λ ts. ts ++ t ∷ []) (old.second low) ∙ sym g.0)));
-      rows = f.rows ∙ (ap (λ (x : ℕ). rows_to R l (opened R l (x + 1))) old.fired
-          ∙ (ap (λ (x : ℕ). rows_to R l (opened R l x)) (sym (seen-landed v l t l near-l refl))
-          ∙ ap (λ (x : ℕ). rows_to R x (opened R x (seen w x))) (sym f.node)));
+      stride = f.stride ∙ (old.stride ∙ ap (stride_of R) (sym f.node));
+      turns = f.turns ∙ (ap (λ (xs : List ℕ). (xs ++ new_row R l h.fired) ++ t ∷ []) old.turns
+          ∙ (ap (λ (x : ℕ). (turns_told R (tickets v) l (seen v l) ++ new_row R l x) ++ t ∷ []) old.fired
+          ∙ (sym (told_fires R (tickets v) (tickets w) l (seen v l) t counted
+          (tickets-landed v l t E near-E refl) (λ e n. tickets-else v l t e n))
+          ∙ (ap (turns_told R (tickets w) l) (sym (seen-landed v l t l near-l refl))
+          ∙ ap (λ (x : ℕ). turns_told R (tickets w) x (seen w x)) (sym f.node)))));
       room = subst (λ (x : ℕ). HasRoom R x h') (sym f.node) (record {
-        first = omega (arith, old.room.first, f.first_room);
-        second = λ low. omega (arith, old.room.second low, f.second_room);
-        rows = omega (arith, old.room.rows, f.rows_room);
+        turns = omega (arith, old.room.turns, f.turns_room);
         from = omega (arith, old.room.from, f.from_room);
       });
     } in
@@ -173,14 +156,11 @@ fires_keep me me' nodes i h h' t k at is f =
       among = k.among;
       counts = λ e hx. let x : ℕ = node_of R e in dite (ℕ_discrete x l)
           (λ on. ap (turns R e) (seen-landed v l t x near-l on) ∙ dite (ℕ_discrete e E)
-          (λ z. let c = k.counts E (ap (holds v) of-l ∙ old.has) in
-          let c' : turns R E (seen v l) ≡ length (tickets v E) =
-          ap (λ (y : ℕ). turns R E (seen v y)) (sym of-l) ∙ c in
-          omega (
+          (λ z. omega (
             arith,
             ap (λ (y : ℕ). turns R y (seen v l + 1)) z,
             turns-next R l (seen v l),
-            c',
+            counted,
             ap length (tickets-landed v l t e near-E z),
             length-append (tickets v E) (t ∷ []),
           ))
@@ -292,56 +272,17 @@ is_ready run u l event turn event_is turn_is within enough =
       λ k a at into. omega (arith, n, same, turn_is, enough k a at (into ∙ sym event_is)),
     )
 
--- there is room for the ticket of the next event
-pub room_first : (me : Sat) (nodes : List History) (h : History) → Keeps me nodes → Tells me.0 h
-    → turns me.0.run (coming me.0 h.node) (seen me.0 h.node) < me.0.run.limit
-    → coming me.0 h.node ≡ next me.0.run h.node 0 → length h.first.items < vec_capacity h.first
-room_first me nodes h k t below e = let v : View = me.0 in let l : ℕ = h.node in
-    let R : Run = v.run in let E : ℕ = coming v l in
-    let n = node-next R l (seen v l) in let c = k.counts E (ap (holds v) n ∙ t.has) in
-    omega (
-      arith,
-      c,
-      ap (λ (x : ℕ). turns R E (seen v x)) n,
-      ap (λ (x : ℕ). length (tickets v x)) e,
-      ap length t.first,
-      t.room.first,
-    )
-
-pub room_second : (me : Sat) (nodes : List History) (h : History) → Keeps me nodes → Tells me.0 h
-    → turns me.0.run (coming me.0 h.node) (seen me.0 h.node) < me.0.run.limit
-    → coming me.0 h.node ≢ next me.0.run h.node 0 → length h.second.items < vec_capacity h.second
-room_second me nodes h k t below e = let v : View = me.0 in let l : ℕ = h.node in
-    let R : Run = v.run in let E : ℕ = coming v l in
-    let n = node-next R l (seen v l) in let c = k.counts E (ap (holds v) n ∙ t.has) in
-    let o = events_of R l E n e in
-    omega (
-      arith,
-      c,
-      ap (λ (x : ℕ). turns R E (seen v x)) n,
-      ap (λ (x : ℕ). length (tickets v x)) o.1,
-      ap length (t.second o.0),
-      t.room.second o.0,
-    )
-
--- and for the row of the next opening
-pub room_row : (v : View) (h : History) → Tells v h
+-- there is room for what the next event tells
+pub room_next : (v : View) (h : History) → Tells v h
     → turns v.run (coming v h.node) (seen v h.node) < v.run.limit
-    → opens v.run (coming v h.node) ≡ true
-    → length h.rows.items + width v.run h.node ≤ vec_capacity h.rows
-room_row v h t below o = let l : ℕ = h.node in let R : Run = v.run in let w : ℕ = width R l in
-    let K : ℕ = opened R l (seen v l) in
-    let e = next-opens R l (seen v l) o in let low = (even_opens R l (seen v l) o).0 in
-    let is : turns R (coming v l) (seen v l) ≡ K = ap (λ (x : ℕ). turns R x (seen v l)) e
-    ∙ turns-opening R l (seen v l) low in
-    omega (
-      arith,
-      ap length t.rows,
-      length-rows R l K,
-      mul-le-mul_right {m = suc K} {n = R.limit} w (omega arith),
-      Rattle.std.proofs.Common.suc-mul K w,
-      t.room.rows,
-    )
+    → length h.turns.items + length (new_row v.run h.node h.fired) < vec_capacity h.turns
+room_next v h t below = let l : ℕ = h.node in omega (
+  arith,
+  told_fits v.run (tickets v) l (seen v l) below,
+  ap length t.turns,
+  ap (λ (x : ℕ). length (new_row v.run l x)) t.fired,
+  t.room.turns,
+)
 
 -- all that the flight of a node's next event asks
 pub record Armed (run : Run) (u : View) (h : History) : Type 0 where
@@ -349,14 +290,8 @@ pub record Armed (run : Run) (u : View) (h : History) : Type 0 where
   pub near : h.node < run.nodes
   pub fired : h.fired ≡ seen u h.node
   pub ready : Enabled run (seen u) (next run h.node h.fired)
-  pub rows : h.rows.items ≡ rows_to run h.node (opened run h.node h.fired)
-  pub room : opens run (next run h.node h.fired) ≡ true
-      → length h.rows.items + width run h.node ≤ vec_capacity h.rows
+  pub room : length h.turns.items + length (new_row run h.node h.fired) < vec_capacity h.turns
   pub from : read_words run h.node (length run.edges) ≤ vec_capacity h.from
-  pub first : next run h.node h.fired ≡ next run h.node 0
-      → length h.first.items < vec_capacity h.first
-  pub second : next run h.node h.fired ≢ next run h.node 0
-      → length h.second.items < vec_capacity h.second
 
 pub armed : (run : Run) (me : Sat) (nodes : List History) (h : History) (event turn : ℕ)
     → me.0.run ≡ run → Keeps me nodes → Tells me.0 h
@@ -382,76 +317,9 @@ armed run me nodes h event turn run_is k t e n within enough =
       ready = subst (λ (x : ℕ). Enabled R (seen u) x) (sym E-is)
           (is_ready R u l event turn (e ∙ E-is) (n ∙ ap
           (λ (x : ℕ). turns R event x + 1) t.fired) within enough);
-      rows = t.rows ∙ ap (λ (x : ℕ). rows_to R l (opened R l x)) (sym t.fired);
-      room = λ o. room_row u h t below (ap (opens R) (sym E-is) ∙ o);
+      room = room_next u h t below;
       from = t.room.from;
-      first = λ z. room_first me nodes h k t below (sym E-is ∙ z);
-      second = λ z. room_second me nodes h k t below (λ y. z (E-is ∙ y));
     }) e n within enough
-
--- the same history, found twice
-pub found_same : (me me' : Sat) (nodes : List History) (i node : ℕ) (g h : History)
-    → Found me nodes i node g → Found me' nodes i node h → g ≡ h
-found_same me me' nodes i node g h f f' = same_at nodes i g h f.at f'.at
-
--- a latch has opened as often as it closed, or once more; its rows are those of its openings
-pub record Opened (v : View) (h : History) : Type 0 where
-  pub number : ℕ
-  pub rows : h.rows.items ≡ rows_to v.run h.node number
-  pub first : length h.first.items ≡ number
-  pub second : length h.second.items ≡ length (tickets v (closing h.node))
-  pub close : (number ≡ length h.second.items) ⊎ (number ≡ length h.second.items + 1)
-
-pub opened_once : (me : Sat) (nodes : List History) (h : History) → Keeps me nodes → Tells me.0 h
-    → h.node < me.0.run.latches → Opened me.0 h
-opened_once me nodes h k t low = let v : View = me.0 in let l : ℕ = h.node in let R : Run = v.run in
-    let f : ℕ = seen v l in
-    let a = k.counts (next R l 0) (ap (holds v) (node-next R l 0) ∙ t.has) in
-    let b = k.counts (closing l) (ap (holds v) (node-closing R l low) ∙ t.has) in
-    let first : turns R (next R l 0) f ≡ length h.first.items =
-    ap (λ (x : ℕ). turns R (next R l 0) (seen v x)) (sym (node-next R l 0))
-    ∙ (a ∙ ap length t.first) in
-    let second : turns R (closing l) f ≡ length h.second.items =
-    ap (λ (x : ℕ). turns R (closing l) (seen v x)) (sym (node-closing R l low))
-    ∙ (b ∙ ap length (t.second low)) in
-    let n0 = next-low R l 0 low in let n1 = closing-is l in
-    let p = turns-low R (next R l 0) f (omega arith) in
-    let q = turns-low R (closing l) f (omega arith) in let o = opened-low R l f low in
-    let e0 : next R l 0 % 2 ≡ 0 = omega arith in let e1 : closing l % 2 ≡ 1 = omega arith in
-    record {
-      number = opened R l f;
-      rows = t.rows;
-      first = omega arith;
-      second = ap length (sym (t.second low));
-      close = dite (ℕ_discrete (f % 2) 0) (λ even. inl (omega arith)) (λ odd. inr (omega arith));
-    }
-
--- the rows of all openings but the last
-pub rows_before : (run : Run) (l k : ℕ) (xs : List ℕ) → xs ≡ rows_to run l (k + 1)
-    → take (length xs - length xs / (k + 1)) xs ≡ rows_to run l k
-rows_before run l k xs is = let w : ℕ = width run l in let r : List ℕ = rows_to run l k in
-    let long : length xs ≡ (k + 1) * w = ap length is ∙ length-rows run l (k + 1) in
-    let share : length xs / (k + 1) ≡ w = ap (λ (x : ℕ). x / (k + 1)) long
-    ∙ mul-div_cancel_left w {n = k + 1} (omega arith) in
-    let less : length xs - length xs / (k + 1) ≡ length r = let e : (k + 1) * w ≡ k * w + w =
-    (let s : k + 1 ≡ suc k = omega arith in ap (λ (x : ℕ). x * w) s
-    ∙ omega (arith, Rattle.std.proofs.Common.suc-mul k w)) in
-    omega (arith, length-rows run l k) in
-    ap (λ (n : ℕ). take n xs) less ∙ (ap (take (length r)) (is ∙ rows-next run l k)
-    ∙ take-append_seam r (row run l (k + 1)))
-
--- there is still room for the ticket after the flight of an opening
-pub room_kept : (run : Run) (g h : History) → HasOpened g h → HasRoomToNote run g
-    → HasRoomToNote run h
-room_kept run g h s r =
-    let e : next run h.node h.fired ≡ next run g.node g.fired =
-    ap (λ (x : ℕ). next run x h.fired) s.node ∙ ap (next run g.node) s.fired in
-    let z : next run h.node 0 ≡ next run g.node 0 = ap (λ (x : ℕ). next run x 0) s.node in record {
-      first = λ a. subst (λ v. Rattle.std.proofs.Common.vec_len v < vec_capacity v) (sym s.first)
-          (r.first (sym e ∙ (a ∙ z)));
-      second = λ a. subst (λ v. Rattle.std.proofs.Common.vec_len v < vec_capacity v) (sym s.second)
-          (r.second (λ b. a (e ∙ (b ∙ sym z))));
-    }
 
 -- an opening that is enabled is one of a latch, and of no turn past the limit
 pub within : (run : Run) (v : View) (l f : ℕ) → f ≡ seen v l → opens run (next run l f) ≡ true

@@ -81,14 +81,6 @@ stops run node i sound near before here = record {
   above = λ k p h. (let up = sound.by_consumer i k p h in omega arith);
 }
 
-pub runs_out : (run : Run) (node i : ℕ) → i ≡ length run.edges
-    → ((k : ℕ) → k < i → (edge_at run k).consumer < node) → IsFrom run node i
-runs_out run node i end before = record {
-  near = omega arith;
-  below = before;
-  above = λ k p h. absurd (omega arith);
-}
-
 -- an edge that was read
 pub edge_read : (run : Run) (es : List DataEdge) (i : ℕ) (e : DataEdge) → es ≡ run.edges
     → i < length es

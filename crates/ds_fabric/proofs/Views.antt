@@ -1,6 +1,6 @@
 -- What loads change in a view, and what a search for missing tokens tells.
 use Rattle.std.proofs.Common.{◌≡◌, ℕ, ◌+◌, ◌<◌, ◌≤◌, ◌≢◌, Bool, true, false, List, length}
-use Rattle.std.proofs.Common.{get_or, sym, refl, ap, ◌∙◌, subst, arith, le_trans, le_refl}
+use Rattle.std.proofs.Common.{get_or, sym, refl, ap, ◌∙◌, subst, arith, le_trans}
 use Rattle.std.proofs.Common.{length-set}
 use Rattle.std.proofs.Common.{get_or-set_other, get_or-set_same}
 use mathlib.Core.Logic.{dite}
@@ -14,20 +14,6 @@ use Rattle.ds_marked.specs.declared.marked.Arc.{Arc}
 use Rattle.ds_rule.specs.declared.view.View.{View}
 use Rattle.ds_rule.proofs.EventLaws.{turns_up}
 use Rattle.ds_fabric.specs.Looks.{LooksOn, Lacks}
-
-pub looks_none : (v : View) → LooksOn v v
-looks_none v = record {
-  live = refl;
-  run = refl;
-  holds_same = refl;
-  tickets_same = refl;
-  drawn = refl;
-  stage = refl;
-  seen_long = refl;
-  seen_up = λ l. le_refl _;
-  looks_up = le_refl _;
-  own = λ l h. refl;
-}
 
 pub seen-here : (v : View) (l r x : ℕ) → l < length v.seen → x ≡ l → seen (after_look v l r) x ≡ r
 seen-here v l r x near e = ap (seen (after_look v l r)) e ∙ get_or-set_same v.seen l r 0 near

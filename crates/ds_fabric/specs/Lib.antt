@@ -5,6 +5,7 @@ pub mod Chained
 pub mod Into
 pub mod Looks
 pub mod Stepped
+pub mod Told
 pub mod Noted
 pub mod Laid
 pub mod Flown

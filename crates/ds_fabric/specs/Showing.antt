@@ -5,15 +5,14 @@ use lib.ListN.{get_elem?}
 use Rattle.atomic_table.specs.Table.{Me}
 use Rattle.atomic_table.specs.Seated.{TableId}
 use Rattle.ds_scratch.specs.Scratch.{Kept, Memory, Remembers}
-use Rattle.ds_rule.specs.Run.{Run, events, node_of, next, turns, closing, opened}
-use Rattle.ds_rule.specs.Words.{width}
+use Rattle.ds_rule.specs.Run.{Run, events, node_of, turns}
 use Rattle.ds_rule.specs.Sound.{IsSound, read_words}
 use Rattle.ds_rule.specs.Log.{places, IsLegalList, InTurn, firings, Recorded}
-use Rattle.ds_rule.specs.Rows.{rows_to}
 use Rattle.ds_rule.specs.Rule.{holds, tickets, seen, first_view}
 use Rattle.ds_rule.specs.Plays.{after_point, without_cut, only_cut}
 use Rattle.ds_rule.specs.declared.view.View.{View}
 use Rattle.ds_fabric.specs.Base.{Base}
+use Rattle.ds_fabric.specs.Told.{stride_of, turns_told}
 use Rattle.ds_fabric.specs.Indexed.{IsOneEach, IsIndexed}
 use Rattle.ds_fabric.specs.declared.history.History.{History}
 
@@ -77,18 +76,15 @@ pub record IsLeft (old : Showing) (node : ℕ) (p : Showing) : Type 0 where
 
 -- the room of the history of a node
 pub record HasRoom (run : Run) (l : ℕ) (h : History) : Type 0 where
-  pub first : run.limit ≤ vec_capacity h.first
-  pub second : l < run.latches → run.limit ≤ vec_capacity h.second
-  pub rows : run.limit * width run l ≤ vec_capacity h.rows
+  pub turns : run.limit * stride_of run l ≤ vec_capacity h.turns
   pub from : read_words run l (length run.edges) ≤ vec_capacity h.from
 
 -- the history of a node before it fired
 pub record IsBlank (run : Run) (l : ℕ) (h : History) : Type 0 where
   pub node : h.node ≡ l
   pub fired : h.fired ≡ 0
-  pub first : h.first.items ≡ []
-  pub second : h.second.items ≡ []
-  pub rows : h.rows.items ≡ []
+  pub stride : h.stride ≡ stride_of run l
+  pub turns : h.turns.items ≡ []
   pub room : HasRoom run l h
 
 -- the histories of the first n nodes in order, before they fired
@@ -96,14 +92,13 @@ pub record Blank (run : Run) (n : ℕ) (items : List History) : Type 0 where
   pub long : length items ≡ n
   pub each : (i : ℕ) (h : History) → get_elem? items i ≡ some h → IsBlank run i h
 
--- the history of a node that a pass holds: its firings, the tickets of its events, the rows of its
--- openings
+-- the history of a node that a pass holds: its firings, and turn by turn the rows of its openings
+-- and the tickets of its events
 pub record Tells (v : View) (h : History) : Type 0 where
   pub has : holds v h.node ≡ true
   pub fired : h.fired ≡ seen v h.node
-  pub first : tickets v (next v.run h.node 0) ≡ h.first.items
-  pub second : h.node < v.run.latches → tickets v (closing h.node) ≡ h.second.items
-  pub rows : h.rows.items ≡ rows_to v.run h.node (opened v.run h.node (seen v h.node))
+  pub stride : h.stride ≡ stride_of v.run h.node
+  pub turns : h.turns.items ≡ turns_told v.run (tickets v) h.node (seen v h.node)
   pub room : HasRoom v.run h.node h
 
 -- each event that is held has a ticket for each firing
@@ -148,6 +143,15 @@ pub record IsRecord (p : Showing) (nodes : List History) (places : List ℕ)
   pub sound : IsSound p.view.run
   pub latches_is : latches ≡ p.view.run.latches
   pub recorded : Recorded p.view.run (tickets p.view) many
+
+-- the history of the node, out of a record: it has a ticket for each firing, and no event of it
+-- fired more often than the limit says
+pub record IsTold (v : View) (node : ℕ) (h : History) : Type 0 where
+  pub node_is : h.node ≡ node
+  pub tells : Tells v h
+  pub counts : IsCounted v
+  pub sound : IsSound v.run
+  pub most : (e : ℕ) → node_of v.run e ≡ node → length (tickets v e) ≤ v.run.limit
 
 -- the events by rising ticket: one legal list of which the tickets are the places
 pub record IsFired (run : Run) (tickets : ℕ → List ℕ) (items : List ℕ) : Type 0 where

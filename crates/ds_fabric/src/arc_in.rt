@@ -1,6 +1,7 @@
 //! An arc as the event that it enters looks at it: the node whose count is loaded, what its source
-//! is of that node, and the tokens, counted in firings of the node. So a look is a load, a sum and
-//! a comparison: how often the source has fired is worked out only where it is asked for.
+//! is of that node, and the tokens, counted in firings of the node. So a look is a load, a
+//! difference and two comparisons: how often the source has fired is worked out only where it is
+//! asked for.
 ghost use Rattle.std.specs.Prelude.{ℕ, ◌≡◌, ◌↔◌, ◌<◌, ◌+◌, IsTrue};
 ghost use Rattle.ds_rule.specs.Run.{node_of, turns};
 ghost use Rattle.ds_fabric.specs.Into.{IsArcIn, ahead_of, fired_of, least_of};

@@ -7,6 +7,7 @@ ghost use Rattle.ds_rule.specs.Words.{width};
 ghost use Rattle.ds_rule.specs.Rows.{row};
 ghost use Rattle.ds_fabric.specs.Laid.{LaidBelow};
 ghost use Rattle.ds_fabric.specs.Showing.{Blank, IsBlank};
+ghost use Rattle.ds_fabric.specs.Told.{stride_of};
 
 use crate::compute::Compute;
 use crate::history::History;
@@ -112,17 +113,27 @@ fn history_of<J: Rows>(
     requires reads { reads ≡ read_words run.now node (length run.now.edges) }
     ensures { IfOk result (λ h. IsBlank run.now node h) }
 {
-    let turns = run.limit() as usize;
-    let first = Vec::with_capacity(alloc, turns)?;
-    let second = Vec::with_capacity(alloc, turns)?;
-    let rows = Vec::with_capacity(alloc, turns * run.width(node))?;
+    let stride = stride_of(run, node);
+    let turns = Vec::with_capacity(alloc, run.limit() as usize * stride)?;
     let from = Vec::with_capacity(alloc, reads)?;
     Ok(History {
         node,
         fired: 0,
-        first,
-        second,
-        rows,
+        stride,
+        turns,
         from,
     })
+}
+
+// How many words a turn of the node takes: of a latch a row and two tickets.
+fn stride_of<J: Rows>(run: &Layout<J>, node: usize) -> usize
+    requires sound { IsSound run.now }
+    requires near { node < run.now.nodes }
+    ensures { result ≡ stride_of run.now node }
+{
+    if node < run.latches() {
+        run.width(node) + 2
+    } else {
+        1
+    }
 }

@@ -1,21 +1,23 @@
-//! The firing of one event, which the rule calls a flight: its node departs, its sources are looked
-//! at, rows are read and the new one is written, a ticket is drawn, and the count is published.
+//! The firing of one event: its sources are looked at, and where they show enough, its node departs
+//! on what the rule calls a flight: rows are read and the new one is written, a ticket is drawn,
+//! and the count is published.
 ghost use Rattle.std.specs.Prelude.{ℕ, List, ◌≡◌, ◌<◌, ◌≤◌, ◌+◌, ◌++◌, true, length, slice_set};
 ghost use mathlib.Core.Option.{some};
 ghost use lib.ListN.{get_elem?};
 ghost use Rattle.ds_scratch.specs.Scratch.{Remembers};
-ghost use Rattle.ds_rule.specs.Run.{next, opens, opened, Enabled};
+ghost use Rattle.ds_rule.specs.Run.{next, opens, Enabled};
 ghost use Rattle.ds_rule.specs.Words.{width};
-ghost use Rattle.ds_rule.specs.Rows.{row, rows_to, IsOpening};
+ghost use Rattle.ds_rule.specs.Rows.{row, IsOpening};
 ghost use Rattle.ds_rule.specs.Rule.{holds, seen};
 ghost use Rattle.ds_rule.specs.Plays.{after_depart, after_draw, after_publish};
 ghost use Rattle.ds_fabric.specs.Base.{IsBuilt, IsAway};
-ghost use Rattle.ds_fabric.specs.Noted.{HasFired, HasRoomToNote};
+ghost use Rattle.ds_fabric.specs.Told.{new_row};
+ghost use Rattle.ds_fabric.specs.Noted.{HasFired};
 ghost use Rattle.ds_fabric.specs.Into.{AreInto};
 ghost use Rattle.ds_fabric.specs.Showing.{Keeps};
 ghost use Rattle.ds_fabric.specs.Stepped.{Stepped};
 ghost use Rattle.ds_fabric.specs.declared.history.History.{History};
-ghost use Rattle.ds_fabric.specs.Flown.{HasOpened, HasRoomFor};
+ghost use Rattle.ds_fabric.specs.Flown.{HasOpened, HasRoomFor, HasRoomToFire};
 
 use crate::compute::Compute;
 use crate::counts::{Board, survey};
@@ -100,11 +102,7 @@ fn fire<J: Rows, C: Compute>(
         × (history.old.fired ≡ seen seat.old.me.0 history.old.node) }
     requires ready { Enabled run.now (seen seat.old.me.0)
         (next run.now history.old.node history.old.fired) }
-    requires rows { history.old.rows.items
-        ≡ rows_to run.now history.old.node (opened run.now history.old.node history.old.fired) }
-    requires room { opens run.now (next run.now history.old.node history.old.fired) ≡ true
-        → HasRoomFor run.now history.old }
-    requires note { HasRoomToNote run.now history.old }
+    requires room { HasRoomToFire run.now history.old }
 
     ensures table { (seat.new.table_id ≡ seat.old.table_id) × (seat.new.id ≡ seat.old.id) }
     ensures me { seat.new.me
@@ -121,7 +119,7 @@ fn fire<J: Rows, C: Compute>(
     prepare(board, run, openings, index, seat, history, scratch);
     let ticket = board.fetch_add::<Draw>(seat, 0, 1);
     board.store::<Publish>(seat, word, history.fired + 1);
-    history.note(run, ticket);
+    history.note(ticket);
     ticket
 }
 
@@ -144,18 +142,14 @@ fn prepare<J: Rows, C: Compute>(
         × (history.old.node < run.now.nodes) }
     requires ready { Enabled run.now (seen seat.old.me.0)
         (next run.now history.old.node history.old.fired) }
-    requires rows { history.old.rows.items
-        ≡ rows_to run.now history.old.node (opened run.now history.old.node history.old.fired) }
-    requires room { opens run.now (next run.now history.old.node history.old.fired) ≡ true
-        → HasRoomFor run.now history.old }
+    requires room { HasRoomToFire run.now history.old }
 
     ensures seat { (seat.new.table_id ≡ seat.old.table_id) × (seat.new.id ≡ seat.old.id) }
     ensures me { (n : ℕ) × (seat.new.me ≡ (record seat.old.me.0 { written = n }, seat.old.me.1))
         × (opens run.now (next run.now history.old.node history.old.fired) ≡ true
         → width run.now history.old.node ≤ n) }
-    ensures rows { history.new.rows.items
-        ≡ rows_to run.now history.old.node
-        (opened run.now history.old.node (history.old.fired + 1)) }
+    ensures turns { history.new.turns.items
+        ≡ history.old.turns.items ++ new_row run.now history.old.node history.old.fired }
     ensures same { HasOpened history.old history.new }
     ensures remembers { Remembers (C.memory openings.now) scratch.new }
 {
@@ -188,8 +182,8 @@ fn open_row<J: Rows, C: Compute>(
     ensures seat { (seat.new.table_id ≡ seat.old.table_id) × (seat.new.id ≡ seat.old.id) }
     ensures me { seat.new.me
         ≡ (record seat.old.me.0 { written = width run.now history.old.node }, seat.old.me.1) }
-    ensures value { history.new.rows.items
-        ≡ history.old.rows.items ++ row run.now history.old.node turn }
+    ensures value { history.new.turns.items
+        ≡ history.old.turns.items ++ row run.now history.old.node turn }
     ensures same { HasOpened history.old history.new }
     ensures remembers { Remembers (C.memory openings.now) scratch.new }
 {
@@ -201,16 +195,16 @@ fn open_row<J: Rows, C: Compute>(
         turn,
     };
     read_rows(board, run, index, &learnt, seat, node, &mut history.from);
-    let before = history.rows.len();
+    let before = history.turns.len();
     let from = history.from.as_slice();
     openings.compute(
         LatchId::new(node as u32),
         turn,
         from,
         scratch,
-        &mut history.rows,
+        &mut history.turns,
     );
     let at = place_of(run, index.starts.as_slice(), node, turn);
-    let words = &history.rows.as_slice()[before..];
+    let words = &history.turns.as_slice()[before..];
     write_row(board, run, seat, at, words, node, turn);
 }

@@ -1,34 +1,43 @@
-ghost use Rattle.std.specs.Prelude.{◌≡◌, ◌≢◌, ◌<◌, ◌+◌, ◌++◌, ◌∷◌, [], vec_len, vec_capacity};
-ghost use Rattle.ds_rule.specs.Run.{next};
+//! The history of a node: what its firings told, turn by turn, in one list.
+ghost use Rattle.std.specs.Prelude.{◌≡◌, ◌<◌, ◌+◌};
+ghost use Rattle.ds_rule.specs.Run.{Run, turns};
+ghost use Rattle.ds_fabric.specs.Told.{StandsIn, ticket_in};
 ghost use Rattle.ds_fabric.specs.Noted.{HasNoted, HasRoomToNote};
 
-use ds_rule::{Layout, Rows};
+use crate::events::ticket_place;
 
-/// What a pass keeps of one node. `first` has the tickets of the openings, or of a node's one
-/// event, `second` those of the closings, `rows` the rows of the openings; `from` is room for the
-/// numbers and the rows of its producers.
+/// What a pass keeps of one node. `turns` has what its firings told, turn by turn, `stride` words a
+/// turn: of a latch the row of the opening, its ticket, and that of the closing, of another node
+/// the ticket of its one event. `from` is room for the numbers and the rows of its producers.
 #[derive(Drop)]
 pub struct History {
     pub node: usize,
     pub fired: u64,
-    pub first: Vec<u64>,
-    pub second: Vec<u64>,
-    pub rows: Vec<u64>,
+    pub stride: usize,
+    pub turns: Vec<u64>,
     pub from: Vec<u64>,
 }
 
 impl History {
     /// Keeps the ticket of the node's next event.
-    pub fn note<J: Rows>(&mut self, run: &Layout<J>, ticket: u64)
+    pub fn note(&mut self, ticket: u64)
         requires few { self.old.fired + 1 < 18446744073709551616 }
-        requires room { HasRoomToNote run.now self.old }
-        ensures { HasNoted run.now self.old self.new ticket }
+        requires room { HasRoomToNote self.old }
+        ensures { HasNoted self.old self.new ticket }
     {
-        if run.closes_next(self.node, self.fired) {
-            self.second.push_reserved(ticket);
-        } else {
-            self.first.push_reserved(ticket);
-        }
+        self.turns.push_reserved(ticket);
         self.fired += 1;
+    }
+
+    /// The ticket of firing number k, from 0, of an event of the node.
+    pub fn ticket(&self, latches: usize, event: usize, k: usize) -> u64
+        requires few { latches < 4294967296 }
+        requires stands { (run : Run) × (latches ≡ run.latches) × StandsIn run self.now event
+            × (k < turns run event self.now.fired) }
+        ensures { (run : Run) → latches ≡ run.latches → result ≡ ticket_in run self.now event k }
+    {
+        let turns = self.turns.as_slice();
+        let first = ticket_place(latches, event, self.stride);
+        turns[k * self.stride + first]
     }
 }

@@ -15,6 +15,7 @@ mod build;
 mod chain;
 mod compute;
 mod counts;
+mod events;
 mod fabric;
 mod flight;
 mod hands;

@@ -1,13 +1,13 @@
 //! What a run leaves: the events in the order of their tickets, each event's tickets, and the rows
 //! that each node has stored.
-ghost use Rattle.std.specs.Prelude.{ℕ, ◌≡◌, ◌<◌, ◌≤◌, ◌+◌, IsTrue, IfOk, length, slice_index};
-ghost use Rattle.ds_rule.specs.Run.{Run, node_of, next, closing, events};
+ghost use Rattle.std.specs.Prelude.{◌≡◌, ◌<◌, ◌≤◌, ◌+◌, IfOk, length, slice_index};
+ghost use Rattle.ds_rule.specs.Run.{closing, events};
 ghost use Rattle.ds_rule.specs.Sound.{IsSound};
-ghost use Rattle.ds_rule.specs.Words.{values_at};
-ghost use Rattle.ds_rule.specs.Rows.{rows_to};
+ghost use Rattle.ds_rule.specs.Words.{width, value, values_at};
 ghost use Rattle.ds_rule.specs.Rule.{tickets};
-ghost use Rattle.ds_fabric.specs.Showing.{IsFired};
+ghost use Rattle.ds_fabric.specs.Showing.{IsFired, IsTold};
 
+use crate::events::{home, turns_of};
 use crate::history::History;
 use crate::pass::Pass;
 use crate::places::find;
@@ -47,21 +47,15 @@ impl Record {
         self.many
     }
 
-    /// The tickets of an event's firings, in order.
-    pub fn tickets(&self, event: EventId) -> &[u64]
-        requires { event < events self.now.shown.view.run }
-        ensures { result.now ≡ tickets self.now.shown.view event }
+    /// The ticket of firing number k, from 0, of an event.
+    pub fn ticket(&self, event: EventId, k: usize) -> u64
+        requires near { event < events self.now.shown.view.run }
+        requires fired { k < length (tickets self.now.shown.view event) }
+        ensures { result ≡ slice_index (tickets self.now.shown.view event) k }
     {
         let number = event.index();
-        let node = home(self.latches, number);
-        let nodes = self.nodes.as_slice();
-        let at = find(nodes, self.places.as_slice(), node);
-        let history = &self.nodes[at];
-        if closes(self.latches, number) {
-            history.second.as_slice()
-        } else {
-            history.first.as_slice()
-        }
+        let history = self.history(home(self.latches, number));
+        history.ticket(self.latches, number, k)
     }
 
     /// How often the event fired.
@@ -69,30 +63,32 @@ impl Record {
         requires { event < events self.now.shown.view.run }
         ensures { result ≡ length (tickets self.now.shown.view event) }
     {
-        self.tickets(event).len() as u64
+        let number = event.index();
+        let history = self.history(home(self.latches, number));
+        turns_of(self.latches, number, history.fired)
     }
 
-    /// The value words of the rows that the latch has stored, one row after another: one for each
-    /// time that it closed.
-    pub fn stored(&self, node: LatchId) -> &[u64]
+    /// How many rows the latch has stored: one for each time that it closed.
+    pub fn stored(&self, node: LatchId) -> usize
         requires { node < self.now.shown.view.run.latches }
-        ensures value { result.now ≡ rows_to self.now.shown.view.run node
-            (length (tickets self.now.shown.view (closing node))) }
+        ensures value { result ≡ length (tickets self.now.shown.view (closing node)) }
         ensures sound { IsSound self.now.shown.view.run }
-        ensures most { length (tickets self.now.shown.view (closing node))
-            ≤ self.now.shown.view.run.limit }
+        ensures most { result ≤ self.now.shown.view.run.limit }
     {
-        let number = node.index();
-        let nodes = self.nodes.as_slice();
-        let at = find(nodes, self.places.as_slice(), number);
-        let history = &self.nodes[at];
-        let rows = history.rows.as_slice();
-        let opened = history.first.len();
-        if history.second.len() == opened {
-            return rows;
-        }
-        let open = rows.len() / opened;
-        &rows[..rows.len() - open]
+        let history = self.history(node.index());
+        (history.fired / 2) as usize
+    }
+
+    /// Value word i of stored row number k, from 0.
+    pub fn word(&self, node: LatchId, k: usize, i: usize) -> u64
+        requires near { node < self.now.shown.view.run.latches }
+        requires stored { k < length (tickets self.now.shown.view (closing node)) }
+        requires inside { i < width self.now.shown.view.run node }
+        ensures { result ≡ value self.now.shown.view.run node (k + 1) i }
+    {
+        let history = self.history(node.index());
+        let turns = history.turns.as_slice();
+        turns[k * history.stride + i]
     }
 
     /// The values of stored row number k, from 0.
@@ -103,9 +99,20 @@ impl Record {
         ensures { into.new ≡ values_at self.now.shown.view.run node (k + 1) }
     {
         let width = words_of(into.len());
-        let rows = self.stored(node);
-        let from = k * width;
-        unpack(&rows[from..from + width], into);
+        let history = self.history(node.index());
+        let turns = history.turns.as_slice();
+        let from = k * history.stride;
+        unpack(&turns[from..from + width], into);
+    }
+
+    // The history of a node. The run is sound, for a caller too.
+    fn history(&self, node: usize) -> &History
+        requires { IsSound self.now.shown.view.run → node < self.now.shown.view.run.nodes }
+        ensures { IsTold self.now.shown.view node result.now }
+    {
+        let nodes = self.nodes.as_slice();
+        let at = find(nodes, self.places.as_slice(), node);
+        &self.nodes[at]
     }
 
     /// The events by rising ticket.
@@ -121,32 +128,5 @@ impl Record {
             out.as_mut_slice(),
         );
         Ok(out)
-    }
-}
-
-// The node of an event.
-fn home(latches: usize, event: usize) -> usize
-    requires { latches < 4294967296 }
-    ensures { (run : Run) → latches ≡ run.latches → result ≡ node_of run event }
-{
-    if event < 2 * latches {
-        event / 2
-    } else {
-        event - latches
-    }
-}
-
-// The event is the closing of a latch, and not the first event of its node.
-fn closes(latches: usize, event: usize) -> bool
-    requires { latches < 4294967296 }
-    ensures closing { IsTrue result → (run : Run) → latches ≡ run.latches
-        → (node_of run event < run.latches) × (event ≡ closing (node_of run event)) }
-    ensures first { (IsTrue result → ⊥) → (run : Run) → latches ≡ run.latches
-        → event ≡ next run (node_of run event) 0 }
-{
-    if event < 2 * latches {
-        if event % 2 == 0 { false } else { true }
-    } else {
-        false
     }
 }

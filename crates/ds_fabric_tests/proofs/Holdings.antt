@@ -1,11 +1,10 @@
 -- Passes of the fabric of the tests: which nodes they hold after each call.
 use Rattle.std.proofs.Common.{◌≡◌, ◌<◌, ◌+◌, ◌||◌, ℕ, zero, suc, List, Bool, true, false}
-use Rattle.std.proofs.Common.{length, get_or, set, replicate, [], ◌∷◌, sym, refl, ap, ◌∙◌, subst}
+use Rattle.std.proofs.Common.{length, get_or, set, replicate, [], ◌∷◌, sym, ap, ◌∙◌, subst}
 use Rattle.std.proofs.Common.{arith}
 use Rattle.ds_rule.specs.Run.{Run, events}
 use Rattle.ds_rule.proofs.EventLaws.{events-is}
 use Rattle.ds_rule.specs.Rule.{holds}
-use Rattle.ds_rule.specs.Plays.{listed, both}
 use Rattle.ds_rule.specs.declared.view.View.{View}
 use Rattle.ds_scratch.specs.Scratch.{Remembers}
 use Rattle.ds_fabric.specs.Base.{Base}
@@ -16,12 +15,6 @@ use Rattle.ds_fabric_tests.specs.Toggle.{toggle, Holding, HoldsBoth, HoldsSlave,
 pub held : (held : List Bool) (many room : ℕ) (f : Base) (p : Showing)
     → Holding held many room f p → (l : ℕ) → get_or held l false ≡ true → holds p.view l ≡ true
 held hs many room f p h l is = ap (λ (xs : List Bool). get_or xs l false) h.held_are ∙ is
-
-pub held_both : (f : Base) (p : Showing) → HoldsBoth f p → (l : ℕ) → l < 2
-    → holds p.view l ≡ true
-held_both f p h zero near = held (true ∷ true ∷ []) 2 2 f p h 0 refl
-held_both f p h (suc zero) near = held (true ∷ true ∷ []) 2 2 f p h 1 refl
-held_both f p h (suc (suc l)) near = absurd (omega arith)
 
 -- the first pass
 pub begun : (run : Run) (f : Base) (p : Showing) → run ≡ toggle → IsBegun run f p → HoldsBoth f p
@@ -77,28 +70,6 @@ left f old p h d = record {
   many_are = omega (arith, d.many, h.many_are);
   room_is = d.room ∙ h.room_is;
 }
-
--- the slave's pass with the master's
-pub united : (f : Base) (old other p : Showing) → HoldsSlave f old → HoldsMaster f other
-    → p.table_id ≡ old.table_id → p.room ≡ old.room → p.scratch ≡ old.scratch
-    → p.many ≡ old.many + other.many → p.view ≡ both old.view other.view → HoldsBoth f p
-united f old other p a b table room scratch many view =
-    let v : View = old.view in let w : View = other.view in record {
-      run_is = a.run_is;
-      belongs = record {
-        table = table ∙ a.belongs.table;
-        run = ap (λ (x : View). x.run) view ∙ a.belongs.run;
-        remembers = subst (Remembers f.memory) (sym scratch) a.belongs.remembers;
-      };
-      held_are = ap (λ (x : View). x.holds) view
-          ∙ (ap (λ (r : Run). listed (λ l. holds v l || holds w l) r.nodes)
-          (a.belongs.run ∙ a.run_is)
-          ∙ (ap (λ (xs : List Bool). listed (λ l. get_or xs l false || holds w l) 2) a.held_are
-          ∙ ap (λ (xs : List Bool). listed
-          (λ l. get_or (true ∷ false ∷ []) l false || get_or xs l false) 2) b.held_are));
-      many_are = omega (arith, many, a.many_are, b.many_are);
-      room_is = room ∙ a.room_is;
-    }
 
 -- the events and the rows of the run
 pub few_events : (run : Run) (e : ℕ) → run ≡ toggle → e < 4 → e < events run

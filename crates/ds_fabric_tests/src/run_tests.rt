@@ -95,21 +95,43 @@ fn a_latch_stores_when_it_closes(rt: HostRuntime) {
     let Ok(run) = layout(rt.alloc()) else {
         panic!(rt; "memory");
     };
+    let one = Some(1);
+    let zero = Some(0);
     for (many, slave, master) in [
-        (0, 0, 0),
-        (1, 0, 0),
-        (2, 0, 1),
-        (3, 0, 1),
-        (4, 1, 1),
-        (7, 1, 2),
-        (8, 2, 2),
+        (0, (None, None), (None, None)),
+        (1, (None, None), (None, None)),
+        (2, (None, None), (one, None)),
+        (3, (None, None), (one, None)),
+        (4, (one, None), (one, None)),
+        (7, (one, None), (one, zero)),
+        (8, (one, zero), (one, zero)),
     ] {
         let Some(record) = record_of(rt.alloc(), &run, many) else {
             panic!(rt; "firings");
         };
-        let words = [1, 0];
-        assert_eq!(rt; record.stored(LatchId::new(0)), &words[..slave], "{many}");
-        assert_eq!(rt; record.stored(LatchId::new(1)), &words[..master], "{many}");
+        assert_eq!(rt; words_of(&record, 0), slave, "{many}");
+        assert_eq!(rt; words_of(&record, 1), master, "{many}");
+    }
+}
+
+// The words of both rows that a latch may store.
+fn words_of(from: &Record, node: u32) -> (Option<u64>, Option<u64>)
+    requires run { from.now.shown.view.run ≡ toggle }
+    requires node { node < 2 }
+{
+    (word_of(from, node, 0), word_of(from, node, 1))
+}
+
+// The word of a row; none where it is not stored.
+fn word_of(from: &Record, node: u32, k: usize) -> Option<u64>
+    requires run { from.now.shown.view.run ≡ toggle }
+    requires node { node < 2 }
+{
+    let node = LatchId::new(node);
+    if from.stored(node) <= k {
+        None
+    } else {
+        Some(from.word(node, k, 0))
     }
 }
 

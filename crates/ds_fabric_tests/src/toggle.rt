@@ -181,5 +181,14 @@ pub fn has(from: &Record, event: u32, tickets: &[u64]) -> bool
     requires event { event < 4 }
 {
     let event = EventId::new(event);
-    from.tickets(event) == tickets && from.count(event) == tickets.len() as u64
+    let count = from.count(event);
+    if count != tickets.len() as u64 {
+        return false;
+    }
+    for k in 0..tickets.len() {
+        if from.ticket(event, k) != tickets[k] {
+            return false;
+        }
+    }
+    true
 }

@@ -9,8 +9,7 @@ use Rattle.ds_base.specs.Values.{Row}
 use Rattle.ds_base.specs.declared.value.Value.{Value}
 use Rattle.ds_base.specs.declared.value.Value.TheVariants.{Zero}
 use Rattle.ds_cover.specs.Cover.{value_at, values_at}
-use Rattle.ds_design.specs.Circuit.{columns, data_nets, register_nets}
-use Rattle.ds_design.specs.Run.{row_at}
+use Rattle.ds_design.specs.Circuit.{data_nets, register_nets}
 use Rattle.ds_latch.specs.Node.{Node, In, Out, Master, Slave, Split, IsNode, number_of, nodes, place_of, members, nets_of}
 use Rattle.ds_latch.specs.Firing.{IsSettled, opening_read}
 use Rattle.ds_latch.proofs.Counts.{number_below, same_node}
@@ -21,7 +20,7 @@ use Rattle.ds_fire.specs.History.{Stored}
 use Rattle.ds_fire.specs.Turn.{ArePlaces, AreRows, IsClosed, IsLoaded, IsOpened, IsThere, Opens, home_index, home_value, rooms_of, values_of}
 use Rattle.ds_fire.specs.declared.homes.Home.{Home}
 use Rattle.ds_fire.specs.declared.places.Places.{Places}
-use Rattle.ds_fire.proofs.Settles.{home_place, place_low, read, takes_settled, zeroth}
+use Rattle.ds_fire.proofs.Settles.{home_place, place_low, read, takes_settled}
 use Rattle.ds_fire.proofs.Shown.{index_inside}
 
 -- each number is that of a node
@@ -90,14 +89,6 @@ home_there s rows are opened places at net home (p, source, is_p, (node, inside,
       row = omega arith;
       bit = subst (λ (k : ℕ). home.bit < length (get_or rows k [])) (sym index) (subst (λ (k : ℕ). home.bit < k) (sym wide) inside);
     }
-
-pub opened_in : (s : Split) (vectors rows rows' : List Row) (opened place : ℕ) (row : Row) → place ≡ place_of s (opened + 1) → row ≡ row_at vectors opened → length row ≡ length (columns s.circuit) → rows' ≡ set rows place row → IsOpened s vectors opened In rows rows'
-opened_in s vectors rows rows' opened place row at is wide puts = record {
-  row = row;
-  takes = is;
-  width = wide;
-  puts = puts ∙ ap (λ (k : ℕ). set rows k row) (at ∙ sym (zeroth s (place_of s (opened + 1))));
-}
 
 master_before : (s : Split) (i place : ℕ) → row_index s (number_of (Slave i)) place ≡ row_index s (number_of (Master i)) place + (s.slack + 1)
 master_before s i place =

@@ -1,7 +1,7 @@
 -- Without slack, what open nodes make of what the nodes hold is what they hold.
-use Rattle.std.proofs.Common.{◌≡◌, ◌≢◌, ◌∙◌, ℕ, ◌+◌, ◌*◌, ◌%◌, ◌<◌, ◌≤◌, Bool, true, List, length, get_or, arith, ap, sym, subst, refl}
-use Rattle.std.specs.Prelude.{IsTrue, ◌↔◌}
-use Rattle.std.proofs.lemmas.Bool.{eqb-true, eq-eqb}
+use Rattle.std.proofs.Common.{◌≡◌, ◌≢◌, ◌∙◌, ℕ, ◌+◌, ◌*◌, ◌%◌, ◌<◌, ◌≤◌, true, List, length, get_or, arith, ap, sym, subst, refl}
+use Rattle.std.specs.Prelude.{◌↔◌}
+use Rattle.std.proofs.lemmas.Bool.{eqb-true}
 use Rattle.std.proofs.lemmas.List.{length-map}
 use Rattle.ds_base.specs.Values.{Row}
 use Rattle.ds_design.specs.Circuit.{data_nets, register_nets}
@@ -33,17 +33,6 @@ open_shown kept now shows n is =
     shows.counts (opening n)
     ∙ (eqb-true (count_of kept (opening n)) (count_of kept (closing n) + 1) is
     ∙ ap (λ (k : ℕ). k + 1) (sym (shows.counts (closing n))))
-
-shown_open : (kept : Snapshot) (now : State) → Shows kept now → (n : Node) → IsOpen now n → is_open kept n ≡ true
-shown_open kept now shows n is =
-    eq-eqb (count_of kept (opening n)) (count_of kept (closing n) + 1)
-    (sym (shows.counts (opening n)) ∙ (is ∙ ap (λ (k : ℕ). k + 1) (shows.counts (closing n))))
-
-pub open_both : (kept : Snapshot) (n : Node) (b : Bool) → b ≡ is_open kept n → (now : State) → Shows kept now → IsTrue b ↔ IsOpen now n
-open_both kept n b is now shows = (
-  λ e. open_shown kept now shows n (sym is ∙ e),
-  λ o. is ∙ shown_open kept now shows n o,
-)
 
 -- states with the same counts, of nodes that show the same, make the same
 makes_same : (s : Split) (vectors : List Row) (now now' : State) → ((v : ℕ) → now.count v ≡ now'.count v) → (shown shown' : Node → Row) → ((p : Node) → IsNode s p → shown p ≡ shown' p)
@@ -155,33 +144,6 @@ master_wide kept sound i is_node =
     held_wide kept sound (Master i) is_node
     ∙ (length-map (members (split_of kept) i) (λ r. get_or (data_nets (split_of kept).circuit) r 0)
     ∙ sym (length-map (members (split_of kept) i) (λ r. get_or (register_nets (split_of kept).circuit) r 0)))
-
--- what the nodes take, by their numbers
-pub takes_vector : (kept : Snapshot) (n : Node) → number_of n ≡ 0 → (row : Row) → row ≡ row_at kept.vectors (count_of kept (closing In)) → TakesFrom (split_of kept) kept.vectors (count_of kept (closing n)) (held_row kept) n row
-takes_vector kept In e row is = is
-takes_vector kept Out e row is = absurd (omega (arith, e))
-takes_vector kept (Master i) e row is = absurd (omega (arith, e))
-takes_vector kept (Slave i) e row is = absurd (omega (arith, e))
-
-pub takes_cone : (kept : Snapshot) (n : Node) → IsSettling n → (row : Row) → IsSettled (split_of kept) (held_row kept) n row → TakesFrom (split_of kept) kept.vectors (count_of kept (closing n)) (held_row kept) n row
-takes_cone kept In settling row is = absurd settling
-takes_cone kept Out settling row is = is
-takes_cone kept (Master i) settling row is = is
-takes_cone kept (Slave i) settling row is = absurd settling
-
-pub takes_master : (kept : Snapshot) (n : Node) → IsNode (split_of kept) n → number_of n % 2 ≢ 0 → number_of n ≢ 1 → (row : Row)
-    → ((i : ℕ) → IsNode (split_of kept) (Slave i) → number_of (Slave i) ≡ number_of n → row ≡ held_row kept (Master i)) → TakesFrom (split_of kept) kept.vectors (count_of kept (closing n)) (held_row kept) n row
-takes_master kept In is_node odd other row is = absurd (odd refl)
-takes_master kept Out is_node odd other row is = absurd (other refl)
-takes_master kept (Master i) is_node odd other row is = absurd (odd (let e : (2 * i + 2) % 2 ≡ 0 = omega arith in e))
-takes_master kept (Slave i) is_node odd other row is = is i is_node refl
-
--- the nodes that settle, by their numbers
-pub even_settles : (n : Node) → number_of n ≢ 0 → number_of n % 2 ≡ 0 → IsSettling n
-even_settles In some even = absurd (some refl)
-even_settles Out some even = tt
-even_settles (Master i) some even = tt
-even_settles (Slave i) some even = absurd (let e : (2 * i + 3) % 2 ≡ 1 = omega arith in omega (arith, even))
 
 pub first_settles : (n : Node) → number_of n ≡ 1 → IsSettling n
 first_settles In e = absurd (omega (arith, e))

@@ -1,7 +1,6 @@
 -- Designs that have grown, and the limits that they pass.
-use Rattle.std.proofs.Common.{◌≡◌, ℕ, ◌≤◌, List, length, Option, None, Some, Ok, refl, sym, ap, ◌∙◌, nat_lt, Bool, true, inl, inr, if◌then◌else◌}
+use Rattle.std.proofs.Common.{◌≡◌, ℕ, ◌≤◌, List, length, Option, None, Some, Ok, refl, sym, ap, ◌∙◌, nat_lt, inl, inr, if◌then◌else◌}
 use Rattle.std.proofs.lemmas.Bool.{cases_Bool, ltb-false}
-use Rattle.std.proofs.lemmas.Bool.Decides.{Decides-ltb}
 use Rattle.ds_base.specs.declared.number.Limit.{Limit}
 use Rattle.ds_base.specs.declared.number.Limit.TheVariants.{Nets, Tables, Registers}
 use Rattle.ds_design.specs.declared.design.Net.{Net}
@@ -13,12 +12,9 @@ use Rattle.ds_models.specs.declared.blif.UseText.{UseText}
 use Rattle.ds_design.specs.Circuit.{Circuit}
 use Rattle.ds_flat.specs.declared.fault.FlatKind.TheVariants.{TooMany}
 use Rattle.ds_flat.specs.declared.fault.FlatRefusal.{FlatRefusal}
-use Rattle.ds_flat.specs.declared.fault.Stop.{Stop}
-use Rattle.ds_flat.specs.declared.fault.Stop.TheVariants.{TooManyNets, Memory}
 use Rattle.ds_flat.specs.Net.{Scope, numbered_names}
 use Rattle.ds_flat.specs.Copies.{Opened, passed_limit, unless_passed, opened_within, next_copy, actuals_in}
-use Rattle.ds_flat.specs.Keys.{IsStop}
-use Rattle.ds_flat.specs.Run.{IsFault, IsRefusal, refusal_of}
+use Rattle.ds_flat.specs.Run.{IsFault, IsRefusal}
 use Rattle.ds_flat.proofs.Uses.{refused}
 
 -- a design with the nets of a use
@@ -52,14 +48,6 @@ pub limit_fault : (path : List (List ℕ)) (scope : Scope) (call : UseText) (mod
 limit_fault path scope call model copies design after line limit refusal grown is given =
     let o : Opened = next_copy path scope call model (record { copies = copies; design = design }) in
     passed_fault o.flat.design line o limit refusal (is ∙ ap passed_limit grown) given
-
--- numbering stopped on a line
-pub stopped_fault : {A : Type 0} (c : Circuit) (line : ℕ) (value : A) (stop : Stop)
-    → IsStop stop c.nets → IsFault (refusal_of stop line) (unless_passed (passed_limit c) line value)
-stopped_fault {A} c line value TooManyNets is =
-    let e : nat_lt 65536 (length c.nets) ≡ true = (Decides-ltb 65536 (length c.nets)).1 is in
-    ap (λ (b : Bool). unless_passed (if b then Some Nets else (if nat_lt 65536 (length c.tables) then Some Tables else (if nat_lt 16384 (length c.registers) then Some Registers else None))) line value) e
-stopped_fault c line value Memory is = tt
 
 -- what is within the limits is given as it is, and has few nets, tables and registers
 pub record WithinLimits (c : Circuit) : Type 0 where

@@ -2,13 +2,11 @@
 use Rattle.std.proofs.Common.{◌≡◌, ℕ, suc, ◌+◌, ◌<◌, ◌≤◌, List, [], ◌∷◌, ◌++◌, map, length}
 use Rattle.std.proofs.Common.{sym, ap, ◌∙◌, inl, inr, arith, Option, None, Some, subst, length-append, get_or, drop, add-one, append_assoc}
 use Rattle.std.proofs.Math.Seq.{drop-cons}
-use Rattle.std.specs.Prelude.{All, slice_index_or}
+use Rattle.std.specs.Prelude.{slice_index_or}
 use Rattle.std.proofs.lemmas.Bool.{cases_Bool}
 use Rattle.ds_design.specs.declared.design.Net.{Net}
-use Rattle.ds_models.specs.declared.blif.TableText.{TableText}
 use Rattle.std.specs.Option.{option_map}
 use Rattle.ds_models.specs.declared.blif.LatchText.{LatchText}
-use Rattle.ds_models.specs.Source.{IsTableText}
 use Rattle.ds_flat.specs.declared.fault.Stop.{Stop}
 use Rattle.ds_flat.specs.declared.fault.Stop.TheVariants.{TooManyNets, Memory}
 use Rattle.ds_flat.specs.Net.{Scope, Numbered, has_net, number_of, with_net, net_of, numbered, numbered_names}
@@ -111,41 +109,3 @@ pub latch_grows : (nets : List Net) (data_key output_key : Net) (control : Optio
 latch_grows nets data_key output_key None = omega arith
 latch_grows nets data_key output_key (Some net) =
     length-with_net (with_net (with_net nets data_key) output_key) net
-
--- a stop at the data net, at the output, at the control
-pub stop_one : (stop : Stop) (scope : Scope) (nets : List Net) (text : LatchText)
-    → IsStop stop (with_net nets (net_of scope text.data_net))
-    → IsStop stop (latch_names scope nets text).nets
-stop_one stop scope nets text is =
-    let longer = length-with_net (with_net nets (net_of scope text.data_net)) (net_of scope
-    text.output) in
-    let long = latch_grows nets (net_of scope text.data_net) (net_of scope text.output) (option_map
-    (net_of scope) text.control) in
-    stop_grows stop _ _ (omega arith) is
-
-pub stop_two : (stop : Stop) (scope : Scope) (nets one : List Net) (text : LatchText)
-    → one ≡ with_net nets (net_of scope text.data_net)
-    → IsStop stop (with_net one (net_of scope text.output))
-    → IsStop stop (latch_names scope nets text).nets
-stop_two stop scope nets one text added is =
-    stop_grows stop _ _ (latch_grows nets (net_of scope text.data_net) (net_of scope text.output)
-    (option_map (net_of scope) text.control))
-    (subst (λ (ns : List Net). IsStop stop (with_net ns (net_of scope text.output))) added is)
-
-pub stop_three : (stop : Stop) (scope : Scope) (nets one two : List Net) (text : LatchText)
-    (name : List ℕ) → one ≡ with_net nets (net_of scope text.data_net)
-    → two ≡ with_net one (net_of scope text.output) → text.control ≡ Some name
-    → IsStop stop (with_net two (net_of scope name))
-    → IsStop stop (latch_names scope nets text).nets
-stop_three stop scope nets one two text name n1 n2 control is =
-    subst (λ (c : Option (List ℕ)). IsStop stop (numbered_latch nets (net_of scope text.data_net)
-    (net_of scope text.output) (option_map (net_of scope) c)).nets) (sym control)
-    (subst (λ (ns : List Net). IsStop stop (with_net ns (net_of scope name)))
-    (n2 ∙ ap (λ (ns : List Net). with_net ns (net_of scope text.output)) n1) is)
-
--- rows fit the numbers of their table's inputs
-pub rows_fit : (text : TableText) (rows : List (List ℕ)) (n : ℕ) → IsTableText text
-    → rows ≡ text.rows → n ≡ length text.inputs → All (λ row. length row ≡ n) rows
-rows_fit text rows n fits same long k d inside =
-    ap (λ (rs : List (List ℕ)). length (get_or rs k d)) same
-    ∙ ((fits k d (subst (λ (rs : List (List ℕ)). k < length rs) same inside)).0 ∙ sym long)

@@ -17,10 +17,6 @@ pub bind-assoc : {A B C : Type 0} (r : Result A FlatFault) (f : A → Result B F
 bind-assoc (Ok x) f g = refl
 bind-assoc (Err e) f g = refl
 
-pub bind-ok : {A : Type 0} (r : Result A FlatFault) → (r >>= λ x. Ok x) ≡ r
-bind-ok (Ok x) = refl
-bind-ok (Err e) = refl
-
 -- a fault stays the fault of what would follow
 pub fault_bind : {A B : Type 0} (e : FlatRefusal) (r : Result A FlatFault)
     (f : A → Result B FlatFault) → IsFault e r → IsFault e (r >>= f)
@@ -73,17 +69,6 @@ after_take-use models frame frames flat command call is few =
     command u flat >>= run_frames models (frame ∷ frames)) is
     ∙ (ap (λ d. (r >>= expand d models) >>= run_frames models (frame ∷ frames)) deep
     ∙ opened_first models (65535 - length frames) (frame ∷ frames) r deeper)
-
--- a fault of the use is the fault of the command
-pub taken_fault : (models : List BlifModel) (frame : Frame) (frames : List Frame) (flat : Flat)
-    (command : Command) (call : UseText) (e : FlatRefusal) → use_in command.part ≡ Some call
-    → IsFault e (open_use models frame.path frame.scope command.line call flat)
-    → IsFault e (after_take models (frame ∷ frames) flat command)
-taken_fault models frame frames flat command call e is fault =
-    let d : ℕ = 65536 - length frames in
-    let r : Result Opened FlatFault = open_use models frame.path frame.scope command.line call flat in
-    rw is (fault_bind e (r >>= expand d models) (run_frames models (frame ∷ frames)) (fault_bind e r
-    (expand d models) fault))
 
 -- another command is taken
 pub taken_part : (models : List BlifModel) (frame : Frame) (frames : List Frame) (flat next : Flat)

@@ -12,7 +12,7 @@ use Rattle.std.proofs.lemmas.List.{get_or-map, get_or-set_other, get_or-set_same
 use Rattle.std.proofs.lemmas.List.{map-id}
 use Rattle.std.proofs.lemmas.List.Elements.{All-cons, All-contains, All-head, All-map, All-tail, Contains-append_left}
 use Rattle.std.proofs.lemmas.List.Elements.{Contains-get_or, Contains-push, Contains-push_cases}
-use Rattle.std.proofs.lemmas.List.Folds.{Any-from_list_any, list_any-from_Any, list_any_none}
+use Rattle.std.proofs.lemmas.List.Folds.{list_any-from_Any, list_any_none}
 use Rattle.std.proofs.lemmas.List.Sorted.{All-permutation, IsPermutation-map}
 use Rattle.std.proofs.lemmas.List.Sums.{count_by_more_no, count_by_more_yes, sum_by-cons}
 use Rattle.std.proofs.lemmas.Simd.{map-map}
@@ -28,14 +28,6 @@ is_same g = elim (eqb_tells g g) [ inl (is, e) ↦ is | inr (is, ne) ↦ absurd 
 
 pub has_true : (list : List ℕ) (g : ℕ) → Contains list g → list_any (λ k. k == g) list ≡ true
 has_true list g (k, inside, is) = list_any-from_Any (λ k. k == g) list (k, g, inside, is, is_same g)
-
-pub true_has : (list : List ℕ) (g : ℕ) → list_any (λ k. k == g) list ≡ true → Contains list g
-true_has list g is =
-    let (k, x, inside, at, e) = Any-from_list_any (λ k. k == g) list is in
-    elim (eqb_tells x g) [
-      | inl (yes_is, same) ↦ subst (Contains list) same (k, inside, at)
-      | inr (no_is, ne) ↦ absurd (false≢true (sym no_is ∙ e))
-    ]
 
 pub lacks_false : (list : List ℕ) (g : ℕ) → ¬ Contains list g → list_any (λ k. k == g) list ≡ false
 lacks_false list g free = list_any_none (λ k. k == g) list (λ k d inside.

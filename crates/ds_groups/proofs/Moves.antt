@@ -18,18 +18,6 @@ at_any P xs all zero k = elim (cases_lt k (length xs)) [
   | inr past ↦ subst P (sym (get_or_past xs k 0 past)) zero
 ]
 
--- before the first table
-pub moved_none : (moved : List ℕ) → 0 < length moved → All (λ n. n < length moved) moved
-    → AreMoved (length moved) moved
-moved_none moved some low = record {
-  some = some;
-  longer = omega arith;
-  low = low;
-  apart = λ p q low_p low_q far same.
-      let near : get_or moved p 0 < length moved = low p 0 low_p in
-      absurd (omega (near, far, arith));
-}
-
 pub no_nil : (x : ℕ) → ¬ Contains [] x
 no_nil x (k, inside, is) = absurd (let h : k < 0 = inside in omega (h, arith))
 

@@ -1,37 +1,16 @@
 -- Classes get their places one after another, and numbers by these.
-use Rattle.std.proofs.Common.{◌≡◌, ◌≢◌, ◌∙◌, ℕ, ◌+◌, ◌<◌, ◌≤◌, List, [], ◌∷◌, ◌++◌, length, get_or, replicate}
+use Rattle.std.proofs.Common.{◌≡◌, ◌≢◌, ◌∙◌, ℕ, ◌+◌, ◌<◌, ◌≤◌, List, [], ◌∷◌, ◌++◌, length, get_or}
 use Rattle.std.proofs.Common.{refl, sym, ap, subst, arith, inl, inr, length-append}
 use Rattle.std.specs.Prelude.{All, Contains}
 use Rattle.std.specs.List.Sorted.{IsNonDecreasingBy}
 use Rattle.std.proofs.Math.ListN.{set}
-use Rattle.std.proofs.lemmas.Bool.{cases_eq, cases_lt}
-use Rattle.std.proofs.lemmas.List.{get_or-replicate, get_or-set_other, get_or-set_same, get_or_append_left, get_or_past, get_or_push, length-replicate, length-set}
+use Rattle.std.proofs.lemmas.Bool.{cases_eq}
+use Rattle.std.proofs.lemmas.List.{get_or-set_other, get_or-set_same, get_or_append_left, get_or_push, length-set}
 use Rattle.std.proofs.lemmas.List.Elements.{Contains-append_left, Contains-push_cases}
 use Rattle.std.proofs.lemmas.List.Quantifiers.{Any-push}
 use Rattle.ds_base.proofs.Lists.{get_or-default}
 use Rattle.ds_groups.specs.Numbers.{AreRenumbered, AreOneLess, ArePlaces}
 use Rattle.ds_groups.proofs.Front.{any_left}
-use Rattle.ds_groups.proofs.Moves.{no_nil}
-
-get_or-zeros : (count p : ℕ) → get_or {A = ℕ} (replicate count 0) p 0 ≡ 0
-get_or-zeros count p = elim (cases_lt p count) [
-  | inl low ↦ get_or-replicate count p 0 0 low
-  | inr past ↦
-      (let size : length (replicate {A = ℕ} count 0) ≡ count = length-replicate {A = ℕ} count 0 in
-      get_or_past (replicate {A = ℕ} count 0) p 0 (omega (past, size, arith)))
-]
-
--- before the first table
-pub places_none : (classes : List ℕ) (count : ℕ) → ArePlaces [] classes count (replicate count 0) 0
-places_none classes count = record {
-  long = length-replicate count 0;
-  low = λ p. omega (get_or-zeros count p, arith);
-  few = omega arith;
-  apart = λ p q some e. absurd (omega (get_or-zeros count p, some, arith));
-  come = λ k has. absurd (no_nil k has);
-  stem = λ p some. absurd (omega (get_or-zeros count p, some, arith));
-  rising = λ n up same a b has_a has_b low. absurd (no_nil a has_a);
-}
 
 -- what rises along a list rises along its front, up to what comes next
 front_rises : (n : ℕ → ℕ) (xs : List ℕ) (x : ℕ) → IsNonDecreasingBy n (xs ++ x ∷ []) → IsNonDecreasingBy n xs

@@ -1,10 +1,9 @@
 -- Which tables the same cones have, cone by cone.
-use Rattle.std.proofs.Common.{◌≡◌, ◌∙◌, ℕ, List, [], ◌∷◌, ◌++◌, length, replicate}
-use Rattle.std.proofs.Common.{sym, arith, subst, ◌+◌}
+use Rattle.std.proofs.Common.{◌≡◌, ◌∙◌, ℕ, List, [], ◌∷◌, ◌++◌, length}
+use Rattle.std.proofs.Common.{arith, subst, ◌+◌}
 use Rattle.std.specs.Prelude.{All}
-use Rattle.std.proofs.lemmas.List.{get_or-append-add, get_or-replicate, get_or_append_left}
-use Rattle.std.proofs.lemmas.List.{length-replicate}
-use Rattle.std.proofs.lemmas.List.Elements.{All-nil, All-push}
+use Rattle.std.proofs.lemmas.List.{get_or-append-add, get_or_append_left}
+use Rattle.std.proofs.lemmas.List.Elements.{All-push}
 use Rattle.std.proofs.Common.{length-append}
 use Rattle.ds_settle.specs.Cone.{Parts as Cone}
 use Rattle.ds_groups.specs.Classes.{AreBoth, AreClasses, IsSplitBy}
@@ -19,16 +18,6 @@ all_last : {X : Type 0} (P : X → Type 0) (xs : List X) (x : X) → All P (xs +
 all_last P xs x all =
     subst P (get_or-append-add xs (x ∷ []) 0 x)
     (all (length xs + 0) x (omega (length-append xs (x ∷ []), arith)))
-
--- before the first cone
-pub classes_none : (count : ℕ) → AreClasses [] count (replicate count 0)
-classes_none count = record {
-  one_each = length-replicate count 0;
-  same = λ a b low_a low_b. (
-    λ e. All-nil (λ cone. AreBoth cone.tables a b),
-    λ all. get_or-replicate count a 0 0 low_a ∙ sym (get_or-replicate count b 0 0 low_b),
-  );
-}
 
 -- one cone more
 pub classes_more : (cones : List Cone) (cone : Cone) (count : ℕ) (old new : List ℕ)

@@ -1,16 +1,12 @@
 -- A joined line has the words of its parts.
 use Rattle.std.proofs.Common.{◌≡◌, ℕ, ◌+◌, Bool, true, List, [], ◌∷◌, ◌++◌, refl, sym}
 use Rattle.std.proofs.Common.{ap, ◌∙◌, append_assoc, inl, inr}
-use Rattle.std.specs.List.{slice_split, onto_first, filter, flat_map}
+use Rattle.std.specs.List.{slice_split, filter, flat_map}
 use Rattle.std.proofs.lemmas.Bool.{cases_Bool}
 use Rattle.std.proofs.lemmas.List.{append-nil}
 use Rattle.ds_lines.specs.Line.{Line, line_of, lines_from, lines_of, uncommented, trimmed, joins}
 use Rattle.ds_lines.specs.Line.{words_in, words_of, is_blank, is_some, is_newline}
 use Rattle.ds_lines.specs.Joined.{Text, joined_to, joined, line_in_text, joined_lines}
-
-onto_first-append : (byte : ℕ) (part : List ℕ) (parts more : List (List ℕ)) → onto_first byte ((part
-    ∷ parts) ++ more) ≡ onto_first byte (part ∷ parts) ++ more
-onto_first-append byte part parts more = refl
 
 -- a split has a first part
 split_some : (p : ℕ → Bool) (bytes : List ℕ) → (part : List ℕ) × (parts : List (List ℕ)) ×

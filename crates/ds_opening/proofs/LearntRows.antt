@@ -4,10 +4,10 @@ use Rattle.std.proofs.Common.{get_or, refl, ap, ne_eqb, arith, ◌&&◌, ◌||�
 use Rattle.std.proofs.lemmas.Bool.{and_right, eqb-true, false≢true}
 use Rattle.ds_latch.specs.Node.{Master, number_of}
 use Rattle.ds_scratch.specs.Scratch.{Kept}
-use Rattle.ds_opening.specs.Learnt.{is_learnt, is_source}
+use Rattle.ds_opening.specs.Learnt.{is_learnt, is_no_master}
 
 -- no row of a master is learnt
-master_is_none : (i : ℕ) → is_source (number_of (Master i)) ≡ false
+master_is_none : (i : ℕ) → is_no_master (number_of (Master i)) ≡ false
 master_is_none i =
     let node : ℕ = 2 * i + 2 in
     ap (λ (b : Bool). b || eqb node 0) (ne_eqb (node % 2) 1 (λ e. absurd (omega (e, arith))))
@@ -15,7 +15,7 @@ master_is_none i =
 
 pub master_unlearnt : (first : ℕ) (k : Kept) (turn i : ℕ) → is_learnt first k turn (number_of (Master i)) ≡ false
 master_unlearnt first k turn i =
-    and_right (eqb (get_or k.turns (first + number_of (Master i)) 0) turn) (is_source (number_of (Master i)))
+    and_right (eqb (get_or k.turns (first + number_of (Master i)) 0) turn) (is_no_master (number_of (Master i)))
     (master_is_none i)
 
 front : (x y : Bool) → (x && y) ≡ true → x ≡ true
@@ -27,4 +27,4 @@ pub slot_noted : (first : ℕ) (k : Kept) (turn node : ℕ) → is_learnt first 
     → get_or k.turns (first + node) 0 ≡ turn
 slot_noted first k turn node is =
     let noted : ℕ = get_or k.turns (first + node) 0 in
-    eqb-true noted turn (front (eqb noted turn) (is_source node) is)
+    eqb-true noted turn (front (eqb noted turn) (is_no_master node) is)

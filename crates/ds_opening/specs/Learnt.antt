@@ -4,10 +4,10 @@ use Rattle.ds_scratch.specs.Scratch.{Kept}
 
 -- whether the node with this number is no master: the others learn the rows of IN and of slaves as
 -- they settle, and nobody reads OUT
-abbrev pub is_source : ℕ → Bool
-is_source node = (node % 2 == 1) || (node == 0)
+abbrev pub is_no_master : ℕ → Bool
+is_no_master node = (node % 2 == 1) || (node == 0)
 
 -- whether the row of a node is learnt for a turn: its slot, which stands behind the first so many,
 -- those of the groups, is noted for the turn, and it is no master
 abbrev pub is_learnt : ℕ → Kept → ℕ → ℕ → Bool
-is_learnt first k turn node = (slice_index k.turns (first + node) == turn) && is_source node
+is_learnt first k turn node = (slice_index k.turns (first + node) == turn) && is_no_master node

@@ -1,7 +1,7 @@
 //! Whether the row of a node is learnt in a scratch, whose slots are those of the groups, and
 //! behind them one of each node.
 ghost use Rattle.std.specs.Prelude.{◌≡◌, ◌+◌, ◌<◌, length};
-ghost use Rattle.ds_opening.specs.Learnt.{is_learnt as learnt_row, is_source as source_node};
+ghost use Rattle.ds_opening.specs.Learnt.{is_learnt as learnt_row, is_no_master as no_master};
 
 use ds_groups::Groups;
 use ds_scratch::Scratch;
@@ -14,12 +14,12 @@ pub fn is_learnt(groups: &Groups, scratch: &Scratch, node: usize, turn: u64) -> 
 {
     // The slots are counted for the fact that there are not too many.
     let _slots = scratch.slots();
-    scratch.is_noted(groups.count() + node, turn) && is_source(node)
+    scratch.is_noted(groups.count() + node, turn) && is_no_master(node)
 }
 
 // Whether the node with this number is no master.
-fn is_source(node: usize) -> bool
-    ensures { result ≡ source_node node }
+fn is_no_master(node: usize) -> bool
+    ensures { result ≡ no_master node }
 {
     node % 2 == 1 || node == 0
 }

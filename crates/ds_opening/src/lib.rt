@@ -3,13 +3,13 @@
 //! A row is seen as the list of its values, and its words, 32 values each, as `packed` of it.
 //! `cones_of` finds the cone of each node that settles, `groups_of` the groups of tables that
 //! exactly the same cones have. `open` computes the words of the row that a node takes, from the
-//! words of its producers' rows: where those are the values that the orders of the edges fix, the
-//! row is the node's next value in the clocked run. It works in a row that remembers, for each
-//! group and each node, of which turn it has the values (`specs/Noted`), so who opens many nodes
-//! unpacks each row and sets each table once a turn, where no slack lets it come back to one. Rows
-//! that are learnt so are not handed in again: `is_learnt` tells which. No graph, no counts and no
-//! place of a row come into it, so threads may share the rows as they like. `laws` has the same of
-//! the definitions alone. `open` takes no memory.
+//! words of its producers' rows, each behind its producer's number: where those are the values that
+//! the orders of the edges fix, the row is the node's next value in the clocked run. It works in a
+//! row that remembers, for each group and each node, of which turn it has the values
+//! (`specs/Noted`), so who opens many nodes unpacks each row and sets each table once a turn, where
+//! no slack lets it come back to one. Rows that are learnt so are not handed in again: `is_learnt`
+//! tells which. No graph, no counts and no place of a row come into it, so threads may share the
+//! rows as they like. `laws` has the same of the definitions alone. `open` takes no memory.
 #![tactic(auto)]
 
 mod cones;

@@ -1,5 +1,5 @@
 -- The edges of the arcs without tokens are these arcs.
-use Rattle.std.proofs.Common.{◌≡◌, ◌≢◌, ◌∙◌, ◌<◌, ◌≤◌, ℕ, List, [], ◌∷◌, ◌++◌, length, arith, refl, zero, suc, sym, ap, subst, inl, inr}
+use Rattle.std.proofs.Common.{◌≡◌, ◌≢◌, ◌∙◌, ◌<◌, ◌≤◌, ℕ, List, [], ◌∷◌, ◌++◌, arith, refl, zero, suc, sym, ap, subst, inl, inr}
 use Rattle.std.specs.List.{All, Any}
 use Rattle.std.proofs.lemmas.Bool.{cases_eq}
 use Rattle.ds_marked.specs.declared.marked.Arc.{Arc}
@@ -32,14 +32,6 @@ free_join (arc ∷ xs) ys = elim (cases_eq arc.tokens 0) [
       ∙ ap (λ (es : List Edge). es ++ free_part ys) (sym (free_yes arc xs e))
   | inr ne ↦ free_no arc (xs ++ ys) ne ∙ free_join xs ys
       ∙ ap (λ (es : List Edge). es ++ free_part ys) (sym (free_no arc xs ne))
-]
-
--- there are no more edges than arcs
-pub free_few : (arcs : List Arc) → length (free_part arcs) ≤ length arcs
-free_few [] = omega arith
-free_few (arc ∷ arcs) = elim (cases_eq arc.tokens 0) [
-  | inl e ↦ rw (free_yes arc arcs e) (let rest = free_few arcs in omega arith)
-  | inr ne ↦ rw (free_no arc arcs ne) (let rest = free_few arcs in omega arith)
 ]
 
 -- an edge behind the first one

@@ -239,21 +239,6 @@ even_opens run l f h = let o = opens_low run (next run l f) h in dite (dec_lt l 
     (λ low. let n = next-low run l f low in (low, omega arith)) (λ high. let n =
     next-high run l f (omega arith) in absurd (omega arith))
 
--- the events of a node: its first, and the closing of a latch
-pub next-even : (run : Run) (l f : ℕ) → f % 2 ≡ 0 → next run l f ≡ next run l 0
-next-even run l f even = dite (dec_lt l run.latches)
-    (λ low. omega (arith, next-low run l f low, next-low run l 0 low))
-    (λ high. next-high run l f (omega arith) ∙ sym (next-high run l 0 (omega arith)))
-
-pub next-high-first : (run : Run) (l f : ℕ) → run.latches ≤ l → next run l f ≡ next run l 0
-next-high-first run l f high = next-high run l f high ∙ sym (next-high run l 0 high)
-
-pub next-odd : (run : Run) (l f : ℕ) → l < run.latches → f % 2 ≡ 1 → next run l f ≡ closing l
-next-odd run l f low odd = omega (arith, next-low run l f low, closing-is l)
-
-pub closing_apart : (run : Run) (l : ℕ) → l < run.latches → closing l ≢ next run l 0
-closing_apart run l low e = omega (arith, next-low run l 0 low, closing-is l)
-
 pub events_of : (run : Run) (l e : ℕ) → node_of run e ≡ l → e ≢ next run l 0 → (l < run.latches)
     × (e ≡ closing l)
 events_of run l e here apart = dite (dec_lt e (2 * run.latches))
@@ -262,20 +247,6 @@ events_of run l e here apart = dite (dec_lt e (2 * run.latches))
     (low-l, omega (arith, closing-is l)))
     (λ high. let h = node-high run e (omega arith) in
     absurd (apart (sym (next-high run l 0 (omega arith) ∙ omega arith))))
-
--- the closing of a latch is not its first event
-pub closes_odd : (run : Run) (l f : ℕ) → l < run.latches → f % 2 ≡ 1 → next run l f ≢ next run l 0
-closes_odd run l f low odd e = closing_apart run l low (sym (next-odd run l f low odd) ∙ e)
-
-pub odd_closes : (run : Run) (l f : ℕ) → next run l f ≢ next run l 0 → (l < run.latches)
-    × (f % 2 ≡ 1)
-odd_closes run l f apart = dite (dec_lt l run.latches)
-    (λ low. (
-      low,
-      dite (ℕ_discrete (f % 2) 0) (λ even. absurd (apart (next-even run l f even)))
-          (λ n. omega arith),
-    ))
-    (λ high. absurd (apart (next-high-first run l f (omega arith))))
 
 pub events-is : (run : Run) → events run ≡ run.nodes + run.latches
 unfolding events

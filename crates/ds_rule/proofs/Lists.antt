@@ -126,25 +126,6 @@ skip zero j = suc j
 skip (suc i) zero = zero
 skip (suc i) (suc j) = suc (skip i j)
 
-pub skip-ne : (i j : ℕ) → skip i j ≢ i
-skip-ne zero j e = omega arith
-skip-ne (suc i) zero e = omega arith
-skip-ne (suc i) (suc j) e = skip-ne i j (omega arith)
-
-pub skip_apart : (i j k : ℕ) → skip i j ≡ skip i k → j ≡ k
-skip_apart zero j k e = omega arith
-skip_apart (suc i) zero zero e = refl
-skip_apart (suc i) zero (suc k) e = absurd (omega arith)
-skip_apart (suc i) (suc j) zero e = absurd (omega arith)
-skip_apart (suc i) (suc j) (suc k) e = ap suc (skip_apart i j k (omega arith))
-
--- each other place is still there
-pub unskip : (i k : ℕ) → k ≢ i → (j : ℕ) × (skip i j ≡ k)
-unskip zero zero n = absurd (n refl)
-unskip zero (suc k) n = (k, refl)
-unskip (suc i) zero n = (zero, refl)
-unskip (suc i) (suc k) n = let r = unskip i k (λ e. n (ap suc e)) in (suc r.0, ap suc r.1)
-
 module _ {A : Type 0} where
   pub at_removed : (l : List A) (i j : ℕ) → i < length l
       → get_elem? (take i l ++ drop (suc i) l) j ≡ get_elem? l (skip i j)

@@ -6,15 +6,15 @@ use mathlib.Core.Option.{some}
 use lib.ListN.{get_elem?}
 use Rattle.std.proofs.lemmas.List.{append-nil}
 use Rattle.ds_rule.specs.Run.{Run, opened}
-use Rattle.ds_rule.specs.Words.{width, place, value, size}
+use Rattle.ds_rule.specs.Words.{width, place, value}
 use Rattle.ds_rule.specs.Sound.{edge_at, read_words}
-use Rattle.ds_rule.specs.Rows.{row, supply_but, rows_to, IsOpening}
+use Rattle.ds_rule.specs.Rows.{row, supply_but, IsOpening}
 use Rattle.ds_rule.specs.Rule.{seen}
 use Rattle.ds_rule.specs.Plays.{listed}
 use Rattle.ds_rule.specs.declared.layout.DataEdge.{DataEdge}
 use Rattle.ds_rule.specs.declared.view.View.{View}
 use Rattle.ds_rule.proofs.Lists.{at_or, length-listed, get-listed}
-use Rattle.ds_rule.proofs.PlaceLaws.{place-word, place_inside}
+use Rattle.ds_rule.proofs.PlaceLaws.{place-word}
 
 pub listed-next : {A : Type 0} (f : ℕ → A) (n : ℕ) → listed f (n + 1) ≡ listed f n ++ f n ∷ []
 listed-next f n = let e : n + 1 ≡ suc n = omega arith in ap (listed f) e
@@ -103,28 +103,9 @@ reads-past run l n far = let e : n + 1 ≡ suc n = omega arith in
     (1 + width run (edge_at run n).producer) 0) (ne_eqb (edge_at run n).consumer l far)
     ∙ omega arith)
 
--- the rows of k values have k times the words of one
-pub length-rows : (run : Run) (l k : ℕ) → length (rows_to run l k) ≡ k * width run l
-length-rows run l zero = sym (Rattle.std.proofs.Common.zero-mul (width run l))
-length-rows run l (suc k) = length-append (rows_to run l k) (row run l (suc k))
-    ∙ omega (
-      arith,
-      length-rows run l k,
-      length-row run l (suc k),
-      Rattle.std.proofs.Common.suc-mul k (width run l),
-    )
-
 pub edge-there : (run : Run) (n : ℕ) → n < length run.edges
     → get_elem? run.edges n ≡ some (edge_at run n)
 edge-there run n h = at_or run.edges n (record { producer = 0; consumer = 0; tokens = 0 }) h
-
-pub rows-next : (run : Run) (l k : ℕ) → rows_to run l (k + 1) ≡ rows_to run l k ++ row run l (k + 1)
-rows-next run l k = let e : k + 1 ≡ suc k = omega arith in
-    ap (rows_to run l) e ∙ ap (λ (x : ℕ). rows_to run l k ++ row run l x) (sym e)
-
-pub word_inside : (run : Run) (l k i : ℕ) → l < run.nodes → i < width run l
-    → place run l k 0 + i < size run
-word_inside run l k i h h' = omega (arith, place-word run l k i, place_inside run l k i h h')
 
 -- the number of the opening in flight, at the pass's own node
 pub number-is : (run : Run) (v : View) (l k : ℕ) → IsOpening run v l k

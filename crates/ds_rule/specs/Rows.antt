@@ -20,11 +20,6 @@ supply_but run learnt l k (suc n) = supply_but run learnt l k n
     ++ cond ((edge_at run n).consumer == l) (cond (learnt (edge_at run n).producer) []
     ((edge_at run n).producer ∷ row run (edge_at run n).producer (k - (edge_at run n).tokens))) []
 
--- the rows of the values 1 to k of a node, one after another
-abbrev pub rows_to : Run → ℕ → ℕ → List ℕ
-rows_to run l zero = []
-rows_to run l (suc k) = rows_to run l k ++ row run l (suc k)
-
 -- where the value words of each node begin
 abbrev pub IsStarts : Run → List ℕ → Type 0
 IsStarts run starts = (length starts ≡ run.nodes) × ((l : ℕ) → l < run.nodes

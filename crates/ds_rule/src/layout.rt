@@ -1,6 +1,6 @@
 //! What a run is of: events, arcs and data edges by number, the widths of rows, and how often each
 //! event fires. Of the values proofs know, and code does not.
-ghost use Rattle.std.specs.Prelude.{◌≡◌, ◌≢◌, ◌↔◌, ◌<◌, ℕ, List, length, IsTrue, true};
+ghost use Rattle.std.specs.Prelude.{◌≡◌, ◌↔◌, ◌<◌, ℕ, List, length, IsTrue, true};
 ghost use Rattle.ds_base.specs.Values.{Row};
 ghost use Rattle.ds_rule.specs.Run.{Run, node_of, next, turns, opens};
 ghost use Rattle.ds_rule.specs.Words.{width};
@@ -181,17 +181,6 @@ impl<J: Rows> Layout<J> {
     {
         if node < self.latches {
             if fired % 2 == 0 { true } else { false }
-        } else {
-            false
-        }
-    }
-
-    /// The node's next event is not its first one, but the closing of a latch.
-    pub fn closes_next(&self, node: usize, fired: u64) -> bool
-        ensures { IsTrue result ↔ (next self.now node fired ≢ next self.now node 0) }
-    {
-        if node < self.latches {
-            if fired % 2 == 0 { false } else { true }
         } else {
             false
         }

@@ -1,6 +1,6 @@
 -- Lemmas of passes and rounds.
 use Rattle.std.proofs.Common.{◌≡◌, ℕ, ◌+◌, ◌-◌, ◌*◌, cond, Bool, ◌<◌, ◌≤◌, true, false, List, [], ◌∷◌, ◌++◌, length}
-use Rattle.std.proofs.Common.{get_or, sym, refl, ap, ◌∙◌, subst, arith, le_refl, le_trans, le_of_eq, replicate, ◌||◌, ⊎_elim, inl, inr}
+use Rattle.std.proofs.Common.{sym, refl, ap, ◌∙◌, subst, arith, le_trans, replicate, ◌||◌, ⊎_elim, inl, inr}
 use Rattle.std.proofs.Common.{zero, suc, take, drop, get_or-set_other, get_or-set_same}
 use Rattle.std.proofs.lemmas.List.{length-replicate}
 use Rattle.std.proofs.Math.Seq.{drop-nil}
@@ -19,31 +19,14 @@ use Rattle.ds_rule.proofs.EventLaws.{node-next, fired_most, event_below}
 use Rattle.ds_rule.proofs.Lists.{has_below, get-listed}
 use Rattle.ds_scratch.specs.Scratch.{Memory}
 use Rattle.ds_fabric.specs.Base.{Base}
-use Rattle.ds_fabric.specs.Showing.{Showing, Belongs, Stays}
+use Rattle.ds_fabric.specs.Showing.{Showing, Belongs}
 use Rattle.ds_fabric.specs.Stepped.{Stepped}
 use Rattle.ds_fabric.specs.declared.step.Step.{Step}
 use Rattle.ds_fabric.specs.declared.step.Step.TheVariants.{Fired, NotYet, Done}
-use Rattle.ds_runner.specs.Work.{HasBetween, HasFrom, Moved}
+use Rattle.ds_runner.specs.Work.{HasFrom, Moved}
 use Rattle.ds_runner.specs.Work.{left, Advances, AdvancesBelow}
 use Rattle.ds_turnstile.specs.Turns.{sum_below}
 use Rattle.ds_turnstile.proofs.Wheels.{sum_same}
-
--- what a pass has seen only rises in a step
-pub steps_up : (run : Run) (v : View) (l : ℕ) (r : Step) (w : View) → Stepped run v l r w → (x : ℕ) → seen v x ≤ seen w x
-steps_up run v l (Fired event turn ticket) w s x = s.seen_up x
-steps_up run v l (NotYet arc n) w s x = s.0.seen_up x
-steps_up run v l Done w s x = le_of_eq (ap (λ (y : View). seen y x) (sym s.0))
-
-pub not_moved : (m : Memory) (p : Showing) → Moved m p p
-not_moved m p = record {
-  table = refl;
-  many = refl;
-  room = refl;
-  remembers = λ r. r;
-  run = refl;
-  holds_same = refl;
-  up = λ x. le_refl _;
-}
 
 pub moved_on : (o : Memory) (p q r : Showing) → Moved o p q → Moved o q r → Moved o p r
 moved_on o p q r m n = record {
@@ -56,27 +39,12 @@ moved_on o p q r m n = record {
   up = λ x. le_trans (m.up x) (n.up x);
 }
 
--- a step moves a pass
-pub step_moves : (m : Memory) (run : Run) (p q : Showing) (l : ℕ) (r : Step) → Stays m p q → Stepped run p.view l r q.view → Moved m p q
-step_moves m run p q l r s st = record {
-  table = s.table;
-  many = s.many;
-  room = s.room;
-  remembers = s.remembers;
-  run = s.run;
-  holds_same = s.holds_same;
-  up = steps_up run p.view l r q.view st;
-}
-
 pub still_belongs : (b : Base) (p q : Showing) → Belongs b p → Moved b.memory p q → Belongs b q
 still_belongs b p q h m = record {
   table = m.table ∙ h.table;
   run = m.run ∙ h.run;
   remembers = m.remembers h.remembers;
 }
-
-pub still_has : (o : Memory) (p q : Showing) (first last : ℕ) → HasBetween p.view first last → Moved o p q → HasBetween q.view first last
-still_has o p q first last h m l near far = ap (λ hs. get_or hs l false) m.holds_same ∙ h l near far
 
 -- after a node left, what is held is what was held but for it
 pub without_has : (v : View) (node : ℕ) → HasFrom v node → HasFrom (without_cut (after_point v node)) (node + 1)
@@ -194,12 +162,6 @@ one_more_node run v u w n false false sound near h a = (
 pub not_more : (run : Run) (u w : View) (n : ℕ) (r : Bool) → Advances run u n w r → left run w ≤ left run u
 not_more run u w n true a = omega (arith, a)
 not_more run u w n false a = (let s = same_left run u w a.0 in omega (arith, s))
-
--- where a node fired, less is left than at the start of the round
-pub less_left : (run : Run) (v u w : View) (n : ℕ) (b r : Bool) → Round run v n u b → Advances run u n w r → r ≡ true
-    → left run w < left run v
-less_left run v u w n b true h a is = omega (arith, a, h.1)
-less_left run v u w n b false h a is = absurd (false≢true is)
 
 -- where a round fires nothing, every event has fired as often as it may
 pub rounds_end : (run : Run) → IsSound run → IsAccepted run → (v w : View) (b : Bool) → AdvancesBelow run v run.nodes w b

@@ -128,7 +128,7 @@ fn trail_of(alloc: Global, first: usize, end: usize, nodes: usize) -> Result<Tra
         hints,
         part: Ring::over(first, end),
         all: Ring::over(0, nodes),
-        lacking: vec![in alloc; 0u8; nodes]?,
+        begins: vec![in alloc; 0u8; nodes]?,
         soon: false,
     })
 }

@@ -1,5 +1,6 @@
-//! The nodes shared out: each worker has a part of them, in which it looks first. By the hints of
-//! the run all parts take about the same work, where cones do not overlap.
+//! The nodes shared out: each worker has a part of them, in which it looks where its own hints name
+//! no node that is due. By the hints of the run all parts take about the same work, where cones do
+//! not overlap.
 ghost use Rattle.std.specs.Prelude.{◌≡◌, ◌<◌, ◌≤◌, IfOk};
 ghost use Rattle.ds_runner.specs.Parts.{AreBorders};
 

@@ -34,15 +34,15 @@ pub fn search<J: Rows, C: Compute, G: Gate>(
     if let Some(node) = hinted(site, gear, trail) {
         return Some(node);
     }
-    let lacking = trail.lacking.as_mut_slice();
-    if let Some(node) = next_due(site, gear, lacking, &mut trail.part) {
+    let begins = trail.begins.as_mut_slice();
+    if let Some(node) = next_due(site, gear, begins, &mut trail.part) {
         trail.soon = trail.part.looks < SOON;
         return Some(node);
     }
-    if let Some(node) = stolen(site, gear, lacking, number) {
+    if let Some(node) = stolen(site, gear, begins, number) {
         return Some(node);
     }
-    next_due(site, gear, lacking, &mut trail.all)
+    next_due(site, gear, begins, &mut trail.all)
 }
 
 /// By plain looks the pass of the node is at home, and its next event may fire. What it lacks is
@@ -50,23 +50,23 @@ pub fn search<J: Rows, C: Compute, G: Gate>(
 pub fn is_due<J: Rows, C: Compute, G: Gate>(
     site: &Site<'_, '_, J, C, G>,
     gear: &Gear,
-    lacking: &mut [u8],
+    begins: &mut [u8],
     node: usize,
 ) -> bool
     requires fits { Fits site.now gear.now.stile }
     ensures near { IsTrue result → node < site.now.run.nodes }
 {
-    if node >= site.run.nodes() || node >= lacking.len() {
+    if node >= site.run.nodes() || node >= begins.len() {
         return false;
     }
     let latch = LatchId::new(node as u32);
     if !gear.stile.seems_home(latch) {
         return false;
     }
-    let Some(at) = site.fabric.seems_lacking(latch, lacking[node] as usize) else {
+    let Some(at) = site.fabric.seems_lacking(latch, begins[node] as usize) else {
         return true;
     };
-    lacking[node] = at.min(255) as u8;
+    begins[node] = at.min(255) as u8;
     false
 }
 
@@ -83,8 +83,8 @@ fn hinted<J: Rows, C: Compute, G: Gate>(
         let Some(hint) = trail.hints.pop() else {
             return None;
         };
-        let lacking = trail.lacking.as_mut_slice();
-        if is_due(site, gear, lacking, hint as usize) {
+        let begins = trail.begins.as_mut_slice();
+        if is_due(site, gear, begins, hint as usize) {
             return Some(hint as usize);
         }
     }
@@ -95,7 +95,7 @@ fn hinted<J: Rows, C: Compute, G: Gate>(
 fn next_due<J: Rows, C: Compute, G: Gate>(
     site: &Site<'_, '_, J, C, G>,
     gear: &Gear,
-    lacking: &mut [u8],
+    begins: &mut [u8],
     ring: &mut Ring,
 ) -> Option<usize>
     requires fits { Fits site.now gear.now.stile }
@@ -103,7 +103,7 @@ fn next_due<J: Rows, C: Compute, G: Gate>(
 {
     for looks in 0..ring.count() {
         let node = ring.step();
-        if is_due(site, gear, lacking, node) {
+        if is_due(site, gear, begins, node) {
             ring.looks = looks;
             return Some(node);
         }
@@ -115,7 +115,7 @@ fn next_due<J: Rows, C: Compute, G: Gate>(
 fn stolen<J: Rows, C: Compute, G: Gate>(
     site: &Site<'_, '_, J, C, G>,
     gear: &Gear,
-    lacking: &mut [u8],
+    begins: &mut [u8],
     number: u32,
 ) -> Option<usize>
     requires fits { Fits site.now gear.now.stile }
@@ -130,7 +130,7 @@ fn stolen<J: Rows, C: Compute, G: Gate>(
             i - workers.saturating_sub(own)
         };
         if let Some(hint) = steal_from(gear, other, own) {
-            if is_due(site, gear, lacking, hint as usize) {
+            if is_due(site, gear, begins, hint as usize) {
                 return Some(hint as usize);
             }
         }

@@ -35,7 +35,7 @@ pub fn tell_targets<J: Rows, C: Compute, G: Gate>(
             return;
         }
         let node = site.run.node_of(arcs[k].target.index());
-        if is_due(site, gear, trail.lacking.as_mut_slice(), node) {
+        if is_due(site, gear, trail.begins.as_mut_slice(), node) {
             trail.hints.push(node as u32);
         }
     }

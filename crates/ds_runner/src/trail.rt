@@ -11,7 +11,7 @@ pub struct Trail {
     /// For each node the place, among the arcs into its next event, of the one that lacked tokens
     /// at the last look: the next look begins there, and mostly ends there too. The last place
     /// that a byte has stands for all behind it.
-    pub lacking: Vec<u8>,
+    pub begins: Vec<u8>,
     /// The node found last is of the own part, and was found soon.
     pub soon: bool,
 }

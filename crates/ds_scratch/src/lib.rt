@@ -11,7 +11,7 @@
 //! only once its nets hold the values is the caller's part.
 //!
 //! Turns count from 1, and a slot takes one byte: how many turns it comes after a base that all
-//! slots share. So turns can be kept that lie less than 256 apart. Where a turn is noted that lies
+//! slots share. So turns can be kept that lie less than 255 apart. Where a turn is noted that lies
 //! further on, the base follows it, and slots of turns that lie 128 and more before it may be
 //! forgotten; where one is noted that lies further back, all others are. What is forgotten is
 //! computed again, and a slot never holds a turn that was not noted for it.

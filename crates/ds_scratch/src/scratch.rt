@@ -84,9 +84,9 @@ impl Scratch {
         }
     }
 
-    /// Notes the slot for this turn, or for none where the turn is 0. Slots of other turns may be
-    /// forgotten: those of turns 128 and more before this one, and all where this one lies so far
-    /// before another.
+    /// Notes the slot for this turn. Slots of other turns may be forgotten: those of turns 128 and
+    /// more before this one, and all where this one lies so far before another. Turn 0 is none:
+    /// where it is noted, all slots are forgotten.
     pub fn note(&mut self, slot: usize, turn: u64)
         requires { slot < length self.old.turns }
         ensures { IsNoted slot turn self.old self.new }

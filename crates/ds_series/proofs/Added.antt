@@ -8,17 +8,7 @@ use Rattle.ds_cover.specs.declared.entry.Quick.{Quick}
 use Rattle.ds_series.specs.Series.{AreAdded, AreEven, AreRuns, IsRun, IsRunAdded, IsSmallAdded, Parts, in_order, joined}
 use Rattle.ds_series.specs.Series.IsRunAdded.{alone, joins}
 use Rattle.ds_series.specs.declared.run.Run.{Run}
-use Rattle.ds_series.proofs.Grown.{evens, grows, grows_none, run_stays, runs_alone, runs_joined}
-
--- no table is added
-pub added_none : (parts : Parts) (tables : List Driven) (start : ℕ) (runs : List Run) → AreEven parts → start ≡ length tables → AreAdded parts parts tables start runs runs
-added_none parts tables start runs even at = record {
-  even = even;
-  stay = λ these more run is. run_stays parts parts even.twos even.threes (grows_none parts) these more run is;
-  own = [];
-  behind = sym (append-nil runs);
-  runs = at;
-}
+use Rattle.ds_series.proofs.Grown.{evens, grows, run_stays, runs_alone, runs_joined}
 
 -- the last of some runs behind others is one of theirs
 module _ (before own front : List Run) (last : Run) (is : before ++ own ≡ front ++ last ∷ []) (low : length before ≤ length front) where

@@ -26,13 +26,6 @@ finds-split (t ∷ these) those nets (here, rest) =
     let (a, b) = finds-split these those (set nets t.output (packed_value t.cover nets)) rest in
     ((here, a), b)
 
-within-longer : (tables : List Driven) (nets other : Row) → length other ≡ length nets → All (λ t. IsWithin t nets) tables → All (λ t. IsWithin t other) tables
-within-longer tables nets other same within k d inside =
-    let w = within k d inside in record {
-      inputs = subst (λ n. All (λ net. net < n) (get_or tables k d).cover.inputs) (sym same) w.inputs;
-      output = (let o = w.output in omega arith);
-    }
-
 -- small tables are within where the tables are that they stand for
 pub smalls_within : (smalls : List Small) (tables : List Driven) (nets : Row) → AreFor StandsFor smalls tables → All (λ t. IsWithin t nets) tables → All (λ s. IsSmallWithin s nets) smalls
 smalls_within [] tables nets stand within = λ k d inside. absurd (let h : k < 0 = inside in omega arith)
@@ -91,9 +84,6 @@ pub record IsSetTo (parts : Parts) (tables : List Driven) (initial nets : Row) (
   pub same : length nets ≡ length initial
   pub known : FindsKnown (drop at tables) nets
   pub rest : after_each tables initial ≡ after_each (drop at tables) nets
-
-pub set_none : (parts : Parts) (tables : List Driven) (nets : Row) (runs : List Run) → AreRuns parts tables 0 runs → FindsKnown tables nets → IsSetTo parts tables nets nets runs
-set_none parts tables nets runs are known = record { at = 0; left = are; same = refl; known = known; rest = refl }
 
 module _ (parts : Parts) (tables : List Driven) (initial nets : Row) (run : Run) (runs : List Run) (now : IsSetTo parts tables initial nets (run ∷ runs)) where
   abbrev count : ℕ

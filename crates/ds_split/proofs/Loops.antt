@@ -123,7 +123,3 @@ no_groups belong = record {
   rising = λ i j k d below inside. absurd (let e : length (group [] i) ≡ 0 = ap length (get_or_past {X = List ℕ} [] i [] (omega arith)) in omega arith);
   by_first = λ i j below low. absurd (omega arith);
 }
-
--- nor a bus
-pub no_buses : (c : Circuit) → DriveBuses c [] []
-no_buses c = record { one_each = refl; same = λ i r is. absurd (let low : i < 0 = in_group [] i r is in omega arith) }

@@ -13,14 +13,6 @@ use Rattle.ds_split.specs.Nets.{AreProducersBelow, AreProducers, IsMarked}
 use Rattle.ds_split.proofs.Searching.{IsFirst, seen_set}
 use Rattle.ds_split.proofs.Sources.{one_producer}
 
--- nothing is marked yet
-pub mark_none : (nets : List ℕ) (mark : ℕ) (old : List ℕ) → IsMarked (IsFirst nets 0) mark old old
-mark_none nets mark old = record {
-  same_length = refl;
-  marked = λ net means. absurd (let h : means.0 < 0 = means.1 in omega arith);
-  others = λ net other. refl;
-}
-
 -- one net more
 pub mark_more : (nets : List ℕ) (i mark : ℕ) (old now : List ℕ) → get_or nets i 0 < length now
     → IsMarked (IsFirst nets i) mark old now → IsMarked (IsFirst nets (i + 1)) mark old (set now (get_or nets i 0) mark)

@@ -133,17 +133,6 @@ module _ (consumer : ℕ) (f : Found) (at : IsAt consumer f) (net : ℕ) where
         ];
       }
 
--- nothing is met yet
-pub met_nothing : (consumer : ℕ) (f : Found) (Means : ℕ → Type 0) → IsAt consumer f → ((n : ℕ) → ¬ Means n) → HasMet consumer f Means f
-met_nothing consumer f Means at nothing = record {
-  at = at;
-  same_producers = refl;
-  same_room = refl;
-  kept = λ e there. there;
-  found = λ other m means label. absurd (nothing other means);
-  only = λ e there. inl there;
-}
-
 -- what is met, and then more, is all that is meant
 pub met_then : (consumer : ℕ) (f g h : Found) (One More All : ℕ → Type 0)
     → HasMet consumer f One g → HasMet consumer g More h

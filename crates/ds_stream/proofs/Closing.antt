@@ -39,10 +39,6 @@ closes_with f row size lines missing short some none is =
     closes_row f.width f.most size (f.missing - 1) f.behind f.seen f.first f.rows row (words_in f.line) (record { place = f.place; lines = f.lines }) lines some none is short
     ∙ ap (λ (n : ℕ). with_front f.rows (window f.width f.most size n f.behind f.seen (last_line f ++ lines))) one
 
--- a line that gives no row
-pub closes_none : (f : Filled) (size : ℕ) (lines : List Placed) → words_in f.line ≡ [] → on_lines f size lines ≡ on_lines f size (last_line f ++ lines)
-closes_none f size lines none = rw none refl
-
 -- a line that has a fault
 pub closes_fault : (f : Filled) (kind : StreamKind) (size : ℕ) (lines : List Placed) → 0 < f.missing → f.place ≤ 281474976710656
     → is_some (words_in f.line) ≡ true → fault_under f.most f.width f.seen (words_in f.line) ≡ Some kind

@@ -362,15 +362,6 @@ pub joins_told : (comment joined : Bool) (line : List ℕ) → list_any is_hash 
 unfolding joins
 joins_told comment joined line plain = ap is_joined (told_hash comment joined line plain) ∙ told_joined joined line
 
-pub full_told : (width : ℕ) (joined : Bool) (line : List ℕ) → IsFull width line → IsFull width (told_line false joined line)
-full_told width false line full = full
-full_told width true line full = full_more width line (92 ∷ []) full (plain_told true line full.begun.plain)
-
--- a line that is told and not full has no `\` behind it
-pub not_joined : (width : ℕ) (joined : Bool) (line : List ℕ) → (joined ≡ true → IsFull width line) → (1 < length line → width < length line → ⊥) → joined ≡ false
-not_joined width false line full short = refl
-not_joined width true line full short = absurd (short (full refl).several (full refl).wide)
-
 pub begun_take : (n : ℕ) (line : List ℕ) → IsBegun line → IsBegun (take n line)
 begun_take zero line begun = record { plain = refl; begins = refl }
 begun_take (suc n) line begun = record { plain = plain_front (suc n) line begun.plain; begins = ap is_blank (begins-take n line) ∙ begun.begins }

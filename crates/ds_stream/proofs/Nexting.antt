@@ -262,12 +262,6 @@ pub never_unread : (why : NextFault) (f g : Filled) (taken : List ℕ) → Takes
 never_unread why f g taken takes is =
     subst (λ (w : NextFault). TellsWhy w (on_text f (f.place + length taken + 0) (taken ++ [])).stop) is (takes (f.place + length taken + 0) [] refl)
 
--- nothing was given, which fits what is held
-pub fits_at_first : (width most : ℕ) (held : Held) → FitsHeld held (record { width = width; most = most; given = 0; behind = beginning })
-fits_at_first width most untold = tt
-fits_at_first width most absent = tt
-fits_at_first width most (bytes text) = record { given = refl; behind = refl }
-
 -- what is given fits again
 pub fits_behind : (h : Held) (shown : Shown) (count : ℕ) (after : Shown) (rows : List Row) → GivesHeld h shown count after rows → FitsHeld h after
 fits_behind untold shown count after rows gives = tt

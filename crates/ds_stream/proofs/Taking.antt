@@ -137,10 +137,6 @@ close_taken f g u size rest ends closes first line place lines =
     let two : f.lines + 2 ≡ f.lines + 1 + 1 = omega arith in
     rw (ends, two) (rw (first, line, place, lines) (closes size (placed_in (f.lines + 1 + 1) [] [] (f.place + 1) (f.lines + 1) rest)))
 
-pub close_refused : (f g : Filled) (why : NextFault) (size : ℕ) (rest : List ℕ) → joins f.line ≡ false → ClosesLine (Err why) (record f { place = f.place + 1; lines = f.lines + 1 }) g
-    → TellsWhy why (on_text f size (10 ∷ rest)).stop
-close_refused f g why size rest ends closes = rw ends (closes size (placed_in (f.lines + 2) [] [] (f.place + 1) (f.lines + 1) rest))
-
 pub not_newline : (byte : ℕ) → (byte ≡ 10 → ⊥) → is_newline byte ≡ false
 not_newline byte other = elim (cases_Bool (is_newline byte)) [
   | inl here ↦ absurd (other (eqb-true byte 10 here))

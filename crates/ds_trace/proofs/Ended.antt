@@ -20,7 +20,7 @@ use Rattle.ds_clocked.specs.Appends.{AppendsLines}
 use Rattle.ds_clocked.proofs.Turns.{whole_trace}
 use Rattle.ds_marked.specs.Log.{IsLog}
 use Rattle.ds_trace.proofs.Logged.{legal_events}
-use Rattle.ds_trace.specs.Logged.{HasLog, IsLogOf, IsLogText, IsLonger, Listed, LogGrows}
+use Rattle.ds_trace.specs.Logged.{HasLog, IsLogOf, IsLogText, IsLonger, Listed}
 use Rattle.ds_trace.specs.Logged.{WritesLog}
 use Rattle.ds_trace.specs.Ended.{AreWindows, IsKnownLog, IsSomeLog, WrittenWindow}
 use Rattle.ds_trace.specs.Laws.{EndSpellsRun, LogsGoOn, WindowsSpellRun}
@@ -132,17 +132,6 @@ pub no_lines : (c : Circuit) (first : ℕ) (start : Row) (vectors : List Row) (l
 no_lines c first start [] last w none is =
     ([], (refl, is), (nothing answered w 0).on_ok.ok)
 no_lines c first start (v ∷ vectors) last w none is = absurd (omega (none, arith))
-
--- and a log stays
-pub log_stays : (g : Graph) (turns : ℕ) (log : Option Listed) → turns ≡ 0
-    → LogGrows g turns log log
-log_stays g turns None none = refl
-log_stays g turns (Some log) none = (
-  [],
-  subst (λ (n : ℕ). IsWindow g (record { turns = n; firings = [] })) (sym none)
-      (record { legal = tt; full = λ v inside. refl }),
-  ap (λ (xs : List ℕ). record { events = xs; kinds = log.kinds }) (sym (append-nil log.events)),
-)
 
 -- the registers after some lines are as many as before
 pub last_long : (c : Circuit) (turn : ℕ) (start : Row) (vectors : List Row) (lines : List ℕ)

@@ -1,12 +1,11 @@
 -- Registers that are put together from the rows of clusters.
-use Rattle.std.proofs.Common.{◌≡◌, ◌∙◌, ℕ, ◌+◌, ◌<◌, List, [], ◌∷◌, ◌++◌, length, get_or, inl}
+use Rattle.std.proofs.Common.{◌≡◌, ◌∙◌, ℕ, ◌+◌, ◌<◌, List, [], length, get_or, inl}
 use Rattle.std.proofs.Common.{inr, arith, ap, sym, subst}
 use Rattle.std.specs.Prelude.{Contains}
 use Rattle.std.proofs.Math.ListN.{set}
 use Rattle.std.proofs.lemmas.Bool.{cases_eq, cases_lt}
-use Rattle.std.proofs.lemmas.List.{get_or-map, get_or_append_left, get_or_push, get_or-set_other}
+use Rattle.std.proofs.lemmas.List.{get_or-map, get_or-set_other}
 use Rattle.std.proofs.lemmas.List.{get_or-set_same, get_or_default, get_or_past, length-set}
-use Rattle.std.proofs.lemmas.List.{length_push}
 use Rattle.ds_base.proofs.Lists.{lists_same}
 use Rattle.ds_base.specs.Values.{Row}
 use Rattle.ds_base.specs.declared.value.Value.{Value}
@@ -98,20 +97,5 @@ slaves_set s count rows i row are inside long = record {
         subst (λ (n : ℕ). length (get_or (set rows i row) n []) ≡ length (members s n)) (sym e)
         (ap length (get_or-set_same rows i row [] (omega (arith, are.one_each))) ∙ long)
     | inr ne ↦ ap length (get_or-set_other rows i j row [] ne) ∙ are.wide j below
-  ];
-}
-
--- and one more
-pub slaves_more : (s : Split) (count : ℕ) (rows : List Row) (row : Row) → AreSlaves s count rows
-    → length row ≡ length (members s count)
-    → AreSlaves s (count + 1) (rows ++ row ∷ [])
-slaves_more s count rows row are long = record {
-  one_each = length_push rows row ∙ ap (λ (n : ℕ). n + 1) are.one_each;
-  wide = λ j below. elim (cases_eq j count) [
-    | inl e ↦
-        subst (λ (n : ℕ). length (get_or (rows ++ row ∷ []) n []) ≡ length (members s n)) (sym e)
-        (ap length (get_or_push rows row [] count are.one_each) ∙ long)
-    | inr ne ↦ ap length (get_or_append_left rows (row ∷ []) [] j (omega (arith, are.one_each)))
-        ∙ are.wide j (omega arith)
   ];
 }

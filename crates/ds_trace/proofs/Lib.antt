@@ -5,4 +5,5 @@ pub mod Logged
 pub mod Summed
 pub mod Fired
 pub mod Ended
+pub mod Pieces
 pub mod Stops

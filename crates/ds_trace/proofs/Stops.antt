@@ -1,15 +1,11 @@
 -- What a stopped run left is written as its text.
-use Rattle.std.proofs.Common.{◌≡◌, ◌∙◌, ℕ, zero, suc, ◌+◌, ◌*◌, ◌<◌, ◌≤◌, Bool, true, false}
-use Rattle.std.proofs.Common.{List, [], ◌∷◌, ◌++◌, get_or, length, map, Option, None, Some}
+use Rattle.std.proofs.Common.{◌≡◌, ◌∙◌, ℕ, ◌*◌, ◌<◌, ◌≤◌, Bool, true, false}
+use Rattle.std.proofs.Common.{List, ◌++◌, get_or, length, Option, None, Some}
 use Rattle.std.proofs.Common.{refl, ap, sym, subst, arith, Result, Ok, Err}
 use Rattle.std.specs.Prelude.{min, slice_index_or, OnOk}
-use Rattle.std.specs.Int.{div_ceil}
 use Rattle.std.specs.List.{flat_map, range_with_len}
-use Rattle.std.proofs.lemmas.List.{append-nil, get_or_default, length-map}
-use Rattle.std.proofs.lemmas.List.Concat.{flat_map-append}
-use Rattle.std.proofs.lemmas.List.FromFn.{map-range_with_len_more}
+use Rattle.std.proofs.lemmas.List.{get_or_default, length-map}
 use Rattle.ds_base.specs.Values.{Row}
-use Rattle.ds_base.specs.Word.{word_of}
 use Rattle.ds_design.specs.Circuit.{Circuit, register_nets}
 use Rattle.ds_latch.specs.Firing.{State}
 use Rattle.ds_latch.specs.Headline.{values_stored}
@@ -17,14 +13,12 @@ use Rattle.ds_latch.specs.Node.{Slave, Split, members, number_of}
 use Rattle.ds_latch.specs.Plan.{Planned}
 use Rattle.ds_fire.proofs.Lawful.{range_agree}
 use Rattle.ds_rows.specs.Homes.{AreHomes, IsHome, no_home}
-use Rattle.ds_rows.specs.Log.{at_place, fired_line, stored_text, value_words}
+use Rattle.ds_rows.specs.Log.{at_place, fired_line, stored_text}
 use Rattle.ds_rows.specs.Nets.{register_of}
 use Rattle.ds_rows.specs.StateText.{IsStateText}
 use Rattle.ds_rows.specs.declared.homes.Home.{Home}
-use Rattle.ds_rule.specs.Run.{Run, closing}
-use Rattle.ds_rule.specs.Rows.{row, rows_to}
 use Rattle.ds_rule.specs.Rule.{tickets}
-use Rattle.ds_rule.specs.Words.{values_at, width, words_of}
+use Rattle.ds_rule.specs.Words.{words_of}
 use Rattle.ds_rule.proofs.PlaceLaws.{width-is}
 use Rattle.ds_fabric.specs.Showing.{IsFired, Recorder}
 use Rattle.ds_run.specs.Halted.{IsHalted, most_firings}
@@ -33,7 +27,6 @@ use Rattle.ds_run.specs.Stored.{IsRecorded, rows_told}
 use Rattle.ds_run.proofs.Fired.{records_store_as_fired_lem}
 use Rattle.ds_run.proofs.Firings.{records_are_legal_lem}
 use Rattle.ds_run.proofs.Records.{record_near, record_fired}
-use Rattle.ds_run.proofs.Rows.{row-words}
 use Rattle.ds_trace.specs.Ended.{IsKnownLog, IsLogPart}
 use Rattle.ds_trace.specs.Left.{HasWords, IsLogLeft, IsLeftOf, home_line}
 use Rattle.ds_trace.specs.Left.{AppendsLeft, AppendsLeftPart, homes_text}
@@ -42,38 +35,15 @@ use Rattle.ds_trace.specs.Stopped.{AppendsStopped, AppendsStoppedPart, IsLogBehi
 use Rattle.ds_trace.specs.declared.left.Left.{Left}
 use Rattle.ds_trace.proofs.Logged.{legal_events}
 
--- the words of the values 1 to n of a node are those of the rows of these values
-rows-words : (run : Run) (l n w : ℕ) → width run l ≡ w
-    → rows_to run l n ≡ value_words w (map (values_at run l) (range_with_len 1 n))
-rows-words run l zero w wide = refl
-rows-words run l (suc n) w wide =
-    let words : Row → List ℕ = λ values. map (word_of values) (range_with_len 0 w) in
-    let rows : List Row = map (values_at run l) (range_with_len 1 n) in
-    let last : Row = values_at run l (suc n) in
-    let up : n + 1 ≡ suc n = omega arith in
-    let more : map (values_at run l) (range_with_len 1 (suc n)) ≡ rows ++ last ∷ [] =
-    ap (λ (m : ℕ). map (values_at run l) (range_with_len 1 m)) (sym up)
-    ∙ map-range_with_len_more (values_at run l) 1 n (suc n) (omega arith) in
-    let one : row run l (suc n) ≡ words last =
-    row-words run l (suc n)
-    ∙ ap (λ (m : ℕ). map (word_of last) (range_with_len 0 m)) wide in
-    ap (λ (ws : List ℕ). ws ++ row run l (suc n)) (rows-words run l n w wide)
-    ∙ (ap (λ (ws : List ℕ). value_words w rows ++ ws) (one ∙ sym (append-nil (words last)))
-    ∙ (sym (flat_map-append words rows (last ∷ []))
-    ∙ ap (λ (these : List Row). value_words w these) (sym more)))
-
 -- a record has the words of each slave
 pub has_words : (p : Planned) (vectors : List Row) (r : Recorder) → IsRecordOf p vectors r
     → HasWords p.split r
 has_words p vectors r is = record {
   near = λ i inside. record_near p vectors r is (Slave i) inside;
-  words = λ i inside.
-      rows-words r.shown.view.run (number_of (Slave i))
-      (length (tickets r.shown.view (closing (number_of (Slave i)))))
-      (words_of (length (members p.split i)))
-      (width-is r.shown.view.run (number_of (Slave i))
+  wide = λ i inside.
+      width-is r.shown.view.run (number_of (Slave i))
       ∙ ap words_of (is.planned.lengths_are.of_node (Slave i) inside
-      ∙ length-map (members p.split i) (λ q. slice_index_or (register_nets p.split.circuit) q 0)));
+      ∙ length-map (members p.split i) (λ q. slice_index_or (register_nets p.split.circuit) q 0));
 }
 
 -- the line of a register that has a home is what firing stores of it
@@ -223,22 +193,6 @@ home_at s homes are r inside home is =
       same,
     )
 
--- so many registers are read of a cluster
-pub cluster_wide : (s : Split) (clusters : List (List ℕ)) (i : ℕ) (registers : List ℕ)
-    → clusters ≡ s.clusters → i < length s.clusters → registers ≡ get_or clusters i registers
-    → length registers ≡ length (members s i)
-cluster_wide s clusters i registers are inside is =
-    ap length (is ∙ (ap (λ (cs : List (List ℕ)). get_or cs i registers) are
-    ∙ get_or_default s.clusters i registers [] inside))
-
--- as many words as so many values take
-pub div_ceil-words : (n : ℕ) → div_ceil n 32 ≡ words_of n
-div_ceil-words n = omega arith
-
--- a place of a row is one of its words
-pub place_inside : (place n w : ℕ) → place < n → w ≡ div_ceil n 32 → place < 32 * w
-place_inside place n w inside is = omega (arith, inside, is)
-
 -- the line of a register, by the home that is read
 pub line_is : (s : Split) (r : Recorder) (homes : List Home) (register : ℕ) (c : Circuit)
     (home : Home) → c ≡ s.circuit → home ≡ slice_index_or homes register no_home
@@ -249,14 +203,3 @@ line_is s r homes register c home circuit same =
     (at_place home.place (rows_told r (Slave home.cluster)))) circuit
     ∙ ap (λ (h : Home). stored_text (register_of s.circuit register)
     (at_place h.place (rows_told r (Slave h.cluster)))) same
-
--- the words that a record has of a slave are those of the rows that it tells
-pub words_told : (s : Split) (r : Recorder) → HasWords s r → (i node w : ℕ) (words : List ℕ)
-    → i < length s.clusters → node ≡ number_of (Slave i) → w ≡ words_of (length (members s i))
-    → words ≡ rows_to r.shown.view.run node (length (tickets r.shown.view (closing node)))
-    → words ≡ value_words w (rows_told r (Slave i))
-words_told s r has i node w words inside node_is wide told =
-    told
-    ∙ (ap (λ (l : ℕ). rows_to r.shown.view.run l (length (tickets r.shown.view (closing l)))) node_is
-    ∙ (has.words i inside
-    ∙ ap (λ (v : ℕ). value_words v (rows_told r (Slave i))) (sym wide)))

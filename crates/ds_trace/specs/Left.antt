@@ -10,13 +10,11 @@ use Rattle.ds_outside.specs.Fault.{Rose}
 use Rattle.ds_outside.specs.Written.{appended, AppendsPart}
 use Rattle.ds_outside.specs.Writes.{Writes}
 use Rattle.ds_rows.specs.Homes.{AreHomes, no_home}
-use Rattle.ds_rows.specs.Log.{at_place, fired_line, stored_text, value_words}
+use Rattle.ds_rows.specs.Log.{at_place, fired_line, stored_text}
 use Rattle.ds_rows.specs.Nets.{register_of}
 use Rattle.ds_rows.specs.declared.homes.Home.{Home}
-use Rattle.ds_rule.specs.Run.{closing}
-use Rattle.ds_rule.specs.Rows.{rows_to}
 use Rattle.ds_rule.specs.Rule.{tickets}
-use Rattle.ds_rule.specs.Words.{words_of}
+use Rattle.ds_rule.specs.Words.{width, words_of}
 use Rattle.ds_fabric.specs.Showing.{IsFired, Recorder}
 use Rattle.ds_run.specs.Halted.{IsHalted, most_firings}
 use Rattle.ds_run.specs.Stored.{rows_told}
@@ -45,13 +43,11 @@ pub record IsLeftOf (wanted : Bool) (stop jobs : ℕ) (p : Planned) (vectors : L
   pub homes : AreHomes p.split left.homes.items
   pub log : IsLogLeft wanted p.graph left.fired left.log
 
--- of each slave a record has the value words of the rows that it tells
+-- each slave is a latch of the record, whose rows have a word for each 32 of its registers
 pub record HasWords (s : Split) (r : Recorder) : Type 0 where
   pub near : (i : ℕ) → i < length s.clusters → number_of (Slave i) < r.shown.view.run.latches
-  pub words : (i : ℕ) → i < length s.clusters
-      → rows_to r.shown.view.run (number_of (Slave i))
-      (length (tickets r.shown.view (closing (number_of (Slave i)))))
-      ≡ value_words (words_of (length (members s i))) (rows_told r (Slave i))
+  pub wide : (i : ℕ) → i < length s.clusters
+      → width r.shown.view.run (number_of (Slave i)) ≡ words_of (length (members s i))
 
 -- the line of a register, by where the registers stand
 abbrev pub home_line : Split → Recorder → List Home → ℕ → List ℕ

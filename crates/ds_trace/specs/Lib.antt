@@ -5,6 +5,7 @@ pub mod Ended
 pub mod Laws
 pub mod Appends
 pub mod Stopped
+pub mod Latched
 pub mod Left
 pub mod Line
 pub mod Summed

@@ -22,6 +22,7 @@ mod line_text;
 mod log;
 mod played;
 mod stopped;
+mod stored;
 mod sums;
 mod trace;
 mod window;

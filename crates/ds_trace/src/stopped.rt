@@ -14,11 +14,12 @@ use crate::end::put_log;
 use crate::fault::RunFault;
 use crate::halt::Halt;
 use crate::left::Left;
+use crate::stored::put_values;
 use ds_base::LatchId;
 use ds_design::Vectors;
 use ds_latch::{Latches, Plan};
 use ds_outside::{Behind, Buffered, Gate, Lent, Sink, WriteFault};
-use ds_rows::{put, put_fired, put_register_name, put_stored};
+use ds_rows::{put, put_fired, put_register_name};
 use ds_run::Workers;
 use std::alloc::Global;
 use std::marker::Brand;
@@ -136,18 +137,11 @@ fn put_register<O: Sink>(
         (O.faults out.new) (home_line latches.now left.now.fired left.now.homes.items r) }
 {
     // The edges are read for the fact that nodes are few, so that a number of one fits.
-    let (_edges, clusters) = (latches.edges(), latches.clusters());
+    let _edges = latches.edges();
     let home = left.homes[r];
-    let words_a_row = clusters[home.cluster].as_slice().len().div_ceil(32);
     let slave = LatchId::new(2 * home.cluster as u32 + 3);
     let so_far = put_register_name(so_far, latches.netlist().design(), r, out);
     let so_far = put(so_far, b": ", out);
-    let so_far = put_stored(
-        so_far,
-        left.fired.stored(slave),
-        words_a_row,
-        home.place,
-        out,
-    );
+    let so_far = put_values(so_far, &left.fired, slave, home.place, out);
     put(so_far, b"\n", out)
 }

@@ -180,11 +180,6 @@ module _ (arcs : List Arc) (events levels level : ℕ) (arc : Arc) (old : List �
     stays = λ e. subst (λ (masks : List ℕ). IsClosedAt events levels masks level arc) (sym (same (equal e))) (closed (equal e));
   })
 
--- an arc with too many tokens
-pub step_past : (arcs : List Arc) (events levels level : ℕ) (arc : Arc) (masks : List ℕ) → levels ≤ level + arc.tokens
-    → IsSwept arcs events levels (λ masks. IsClosedAt events levels masks level arc) masks masks false
-step_past arcs events levels level arc masks past = step_none arcs events levels (λ masks. IsClosedAt events levels masks level arc) masks (λ low. absurd (omega arith))
-
 -- the same, at places that are given by equations
 pub step_arc_at : (arcs : List Arc) (events levels level : ℕ) (arc : Arc) (old : List ℕ) (in_arcs : Contains arcs arc) → arc.source < events → arc.target < events
     → length old ≡ levels * events → level + arc.tokens < levels

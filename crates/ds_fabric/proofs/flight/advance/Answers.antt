@@ -254,27 +254,6 @@ fire-ticket-requires-clause-ready g c =
     (omega (arith, c.if-before-limit.false, c.limit.ensures)) q.none in
     a.ready
 
-pub fire-ticket-requires-clause-rows : goal.fire-ticket-requires-clause-rows
-fire-ticket-requires-clause-rows g c =
-    let run : Run = c.args.run.now in let me : Sat = c.args.seat.now.me in let v : View = me.0 in
-    let h : History = c.args.history.now in let l : ℕ = h.node in
-    let nodes : List History = c.requires.keeps.0 in let i : ℕ = c.requires.keeps.1 in
-    let k = c.requires.keeps.2 in let at = c.requires.keeps.3 in
-    let tells = k.listed i h at in let sound = c.requires.table.1.over.sound in
-    let near : l < run.nodes = omega (
-      arith,
-      near-node me nodes l k tells.has,
-      ap (λ (r : Run). r.nodes) c.requires.run,
-    ) in
-    let me' : Sat = c.survey.new.seat.me in let q = c.in_default.ensures in
-    let k' = looks_keep me me' nodes k q.looks q.table.1 in let tells' = k'.listed i h at in
-    let runs : me'.0.run ≡ run = q.looks.run ∙ c.requires.run in
-    let a = armed run me' nodes h c.next-event.result
-    (c.turns-before.result + 1) runs k' tells' c.next-event.ensures
-    (ap (λ (x : ℕ). x + 1) c.turns-before.ensures)
-    (omega (arith, c.if-before-limit.false, c.limit.ensures)) q.none in
-    a.rows
-
 pub fire-ticket-requires-clause-room : goal.fire-ticket-requires-clause-room
 fire-ticket-requires-clause-room g c =
     let run : Run = c.args.run.now in let me : Sat = c.args.seat.now.me in let v : View = me.0 in
@@ -294,28 +273,7 @@ fire-ticket-requires-clause-room g c =
     (c.turns-before.result + 1) runs k' tells' c.next-event.ensures
     (ap (λ (x : ℕ). x + 1) c.turns-before.ensures)
     (omega (arith, c.if-before-limit.false, c.limit.ensures)) q.none in
-    λ o. record { rows = omega (arith, a.room o); from = a.from }
-
-pub fire-ticket-requires-clause-note : goal.fire-ticket-requires-clause-note
-fire-ticket-requires-clause-note g c =
-    let run : Run = c.args.run.now in let me : Sat = c.args.seat.now.me in let v : View = me.0 in
-    let h : History = c.args.history.now in let l : ℕ = h.node in
-    let nodes : List History = c.requires.keeps.0 in let i : ℕ = c.requires.keeps.1 in
-    let k = c.requires.keeps.2 in let at = c.requires.keeps.3 in
-    let tells = k.listed i h at in let sound = c.requires.table.1.over.sound in
-    let near : l < run.nodes = omega (
-      arith,
-      near-node me nodes l k tells.has,
-      ap (λ (r : Run). r.nodes) c.requires.run,
-    ) in
-    let me' : Sat = c.survey.new.seat.me in let q = c.in_default.ensures in
-    let k' = looks_keep me me' nodes k q.looks q.table.1 in let tells' = k'.listed i h at in
-    let runs : me'.0.run ≡ run = q.looks.run ∙ c.requires.run in
-    let a = armed run me' nodes h c.next-event.result
-    (c.turns-before.result + 1) runs k' tells' c.next-event.ensures
-    (ap (λ (x : ℕ). x + 1) c.turns-before.ensures)
-    (omega (arith, c.if-before-limit.false, c.limit.ensures)) q.none in
-    record { first = λ z. omega (arith, a.first z); second = λ z. omega (arith, a.second z) }
+    record { turns = omega (arith, a.room); from = a.from }
 
 pub returns-clause-step : goal.returns-clause-step
 returns-clause-step g c =

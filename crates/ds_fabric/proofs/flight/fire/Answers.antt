@@ -1,4 +1,5 @@
 use Rattle.std.proofs.Common.{◌≡◌, ◌<◌, ◌+◌, ◌-◌, ◌%◌, ◌^◌, ◌∙◌, ℕ, ap, arith, sym, subst, refl}
+use Rattle.std.proofs.Common.{length, length-append}
 use mathlib.Core.Option.{none}
 use Rattle.atomic_table.specs.Table.{step, Allows}
 use Rattle.ds_rule.specs.Run.{Run, next, turns, opens, Enabled}
@@ -11,7 +12,7 @@ use Rattle.ds_rule.proofs.Looks.{departs}
 use Rattle.ds_rule.proofs.Draws.{draws}
 use Rattle.ds_rule.proofs.Publishes.{publishes}
 use Rattle.ds_fabric.specs.Base.{IsAway}
-use Rattle.ds_fabric.proofs.Passes.{room_kept}
+use Rattle.ds_fabric.specs.Told.{new_row}
 use Rattle.ds_fabric.proofs.flight.fire.Goals as goal
 
 -- the firings of the node stay far below 64 bits
@@ -136,5 +137,11 @@ prepare-requires-clause-ready g c = let l : ℕ = c.args.history.now.node in
     (sym left) c.requires.ready
 
 pub note-requires-clause-room : goal.note-requires-clause-room
-note-requires-clause-room g c =
-    room_kept c.args.run.now c.args.history.now c.prepare.new.history c.prepare.ensures.same c.requires.note
+note-requires-clause-room g c = let q = c.prepare.ensures in omega (
+  arith,
+  ap length q.turns,
+  length-append c.args.history.now.turns.items
+      (new_row c.args.run.now c.args.history.now.node c.args.history.now.fired),
+  q.same.turns_room,
+  c.requires.room.turns,
+)

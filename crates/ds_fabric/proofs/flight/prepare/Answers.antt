@@ -1,14 +1,16 @@
 use Rattle.std.proofs.Common.{rules, ◌≡◌, ◌+◌, ◌/◌, ◌%◌, ◌++◌, ◌∙◌, ℕ, List, ap, arith, sym, subst}
-use Rattle.std.proofs.Common.{refl, true, false}
+use Rattle.std.proofs.Common.{refl, true, false, []}
 use Rattle.std.proofs.lemmas.Bool.{false≢true}
 use Rattle.ds_rule.specs.Run.{Run, next, opens, opened}
-use Rattle.ds_rule.specs.Rows.{row, rows_to}
+use Rattle.ds_rule.specs.Rows.{row}
 use Rattle.ds_rule.specs.Rule.{seen}
 use Rattle.ds_rule.specs.declared.view.View.{View}
 use Rattle.ds_rule.proofs.Lists.{by_bool}
-use Rattle.ds_rule.proofs.EventLaws.{even_opens, opened-low, opened-opens, opened-else}
-use Rattle.ds_rule.proofs.RowLaws.{rows-next}
+use Rattle.std.proofs.lemmas.List.{append-nil}
+use Rattle.ds_rule.proofs.EventLaws.{even_opens, opened-low}
+use Rattle.ds_fabric.specs.Told.{new_row}
 use Rattle.ds_fabric.proofs.Passes.{within}
+use Rattle.ds_fabric.proofs.Turns.{length-even, new_row-opens, new_row-else}
 use Rattle.ds_fabric.proofs.flight.prepare.Goals as goal
 
 -- half the firings are openings, where the next event is one
@@ -37,13 +39,21 @@ open_row-requires-clause-within g c =
     within c.args.run.now c.args.seat.now.me.0 c.args.history.now.node c.args.history.now.fired
     c.requires.flight.1 (c.if-opens_next.ensures.0 refl) c.requires.ready
 
-pub returns-then-opens_next-clause-rows : goal.returns-then-opens_next-clause-rows
-returns-then-opens_next-clause-rows g c = let run : Run = c.args.run.now in
+pub open_row-requires-clause-room : goal.open_row-requires-clause-room
+open_row-requires-clause-room g c = let run : Run = c.args.run.now in
     let l : ℕ = c.args.history.now.node in let f : ℕ = c.args.history.now.fired in
-    let h = c.if-opens_next.ensures.0 refl in let k : ℕ = opened run l f in
-    c.open_row.ensures.value ∙ (ap (λ (xs : List ℕ). xs ++ row run l (f / 2 + 1)) c.requires.rows
-    ∙ (ap (λ (x : ℕ). rows_to run l k ++ row run l x) (half run l f h)
-    ∙ (sym (rows-next run l k) ∙ ap (rows_to run l) (sym (opened-opens run l f h)))))
+    let even = even_opens run l f (c.if-opens_next.ensures.0 refl) in record {
+      turns = omega (arith, length-even run l f even.0 even.1, c.requires.room.turns);
+      from = c.requires.room.from;
+    }
+
+pub returns-then-opens_next-clause-turns : goal.returns-then-opens_next-clause-turns
+returns-then-opens_next-clause-turns g c = let run : Run = c.args.run.now in
+    let l : ℕ = c.args.history.now.node in let f : ℕ = c.args.history.now.fired in
+    let h = c.if-opens_next.ensures.0 refl in
+    c.open_row.ensures.value
+    ∙ ap (λ (xs : List ℕ). c.args.history.now.turns.items ++ xs)
+    (ap (row run l) (half run l f h) ∙ sym (new_row-opens run l f h))
 
 pub returns-then-opens_next-clause-me : goal.returns-then-opens_next-clause-me
 returns-then-opens_next-clause-me g c = (
@@ -62,9 +72,10 @@ returns-else-opens_next-clause-me g c = (
   λ h. absurd (false≢true (c.if-opens_next.ensures.1 h)),
 )
 
-pub returns-else-opens_next-clause-rows : goal.returns-else-opens_next-clause-rows
-returns-else-opens_next-clause-rows g c = let run : Run = c.args.run.now in
+pub returns-else-opens_next-clause-turns : goal.returns-else-opens_next-clause-turns
+returns-else-opens_next-clause-turns g c = let run : Run = c.args.run.now in
     let l : ℕ = c.args.history.now.node in let f : ℕ = c.args.history.now.fired in
-    c.requires.rows ∙ ap (rows_to run l) (by_bool (opened run l f ≡ opened run l (f + 1))
-    (opens run (next run l f)) (λ h. absurd (false≢true (c.if-opens_next.ensures.1 h)))
-    (λ h. sym (opened-else run l f h)))
+    let old : List ℕ = c.args.history.now.turns.items in
+    let none : new_row run l f ≡ [] = by_bool (new_row run l f ≡ []) (opens run (next run l f))
+    (λ h. absurd (false≢true (c.if-opens_next.ensures.1 h))) (λ h. new_row-else run l f h) in
+    sym (ap (λ (xs : List ℕ). old ++ xs) none ∙ append-nil old)

@@ -1,46 +1,47 @@
-use Rattle.std.proofs.Common.{◌≡◌, ℕ, List, slice_index_or, set, sym, ap, ◌∙◌, arith, subst}
-use Rattle.std.proofs.Common.{length-set}
+use Rattle.std.proofs.Common.{◌≡◌, ◌∙◌, ◌<◌, ℕ, List, set, sym, ap, arith, subst, length-set}
 use mathlib.Core.Logic.{dite}
 use mathlib.Core.Option.{some}
 use native.Mathlib.Decide.{ℕ_discrete}
 use lib.ListN.{get_elem?}
 use Rattle.atomic_table.proofs.Lists.{set_here, set_else}
-use Rattle.ds_rule.proofs.Lists.{at_or, at_below, same_at}
+use Rattle.ds_rule.specs.Run.{Run, turns}
+use Rattle.ds_fabric.specs.Told.{StandsIn, ticket_in}
+use Rattle.ds_fabric.specs.declared.history.History.{History}
 use Rattle.ds_fabric.proofs.spread.put.Goals as goal
 
-pub bounds-out-tickets : goal.bounds-out-tickets
-bounds-out-tickets c = omega (
-  arith,
-  c.requires.inside c.loop-i.i
-      (slice_index_or c.args.tickets.now c.loop-i.i 0)
-      (at_or c.args.tickets.now c.loop-i.i 0 c.loop-i-test.true),
-  c.loop-i.invariant.0,
-)
-
-pub loop-i-preserved : goal.loop-i-preserved
-loop-i-preserved c = let ts : List ℕ = c.args.tickets.now in let i : ℕ = c.loop-i.i in
-    let p : ℕ = slice_index_or ts i 0 in let out : List ℕ = c.loop-i.out in
-    let e : ℕ = c.args.event in let inv = c.loop-i.invariant in
-    let at : get_elem? ts i ≡ some p = at_or ts i 0 c.loop-i-test.true in
-    let here : get_elem? (set out p e) p ≡ some e =
-    set_here out p e (omega (arith, c.requires.inside i p at, inv.0)) in (
-      length-set out p e ∙ inv.0,
-      λ k t h a. dite (ℕ_discrete t p) (λ is. subst (λ (x : ℕ). get_elem? (set out p e) x ≡ some e)
-          (sym is) here)
-          (λ n. set_else out p t e n ∙ inv.1 k t (dite (ℕ_discrete k i)
-          (λ is. absurd (n (same_at ts i t p (subst
-          (λ (x : ℕ). get_elem? ts x ≡ some t) is a) at))) (λ ne. omega arith)) a),
-      λ t x a no. set_else out p t e (λ is. no i (at ∙ ap some (sym is))) ∙ inv.2 t x a no,
+pub ticket-requires-clause-stands : goal.ticket-requires-clause-stands
+ticket-requires-clause-stands c = let h : History = c.args.history.now in
+    let (run, is, inside) = c.requires.inside in (
+      run,
+      is,
+      subst (λ (x : ℕ). StandsIn run h x) (sym c.index-number.ensures) inside.stands,
+      omega (arith, c.loop-k-test.true, c.turns_of-k-end.ensures run is),
     )
 
-pub returns-clause-filled : goal.returns-clause-filled
-returns-clause-filled c k t a = c.loop-i.invariant.1 k t
-    (omega (arith, at_below c.args.tickets.now k t a, c.loop-i-test.false, c.loop-i.auto.i-end)) a
-
-pub offset_bounds-out-tickets : goal.offset_bounds-out-tickets
-offset_bounds-out-tickets c = omega (
-  arith,
-  c.requires.inside c.loop-i.i (slice_index_or c.args.tickets.now c.loop-i.i 0)
-      (at_or c.args.tickets.now c.loop-i.i 0 c.loop-i-test.true),
-  c.requires.few,
-)
+pub loop-k-preserved : goal.loop-k-preserved
+loop-k-preserved c = let h : History = c.args.history.now in let k : ℕ = c.loop-k.k in
+    let e : ℕ = c.args.event in let out : List ℕ = c.loop-k.out in let inv = c.loop-k.invariant in
+    let p : ℕ = c.ticket.result in
+    let is-p : (run : Run) → c.args.latches ≡ run.latches → ticket_in run h e k ≡ p = λ run is.
+    sym (c.ticket.ensures run is ∙ ap (λ (x : ℕ). ticket_in run h x k) c.index-number.ensures) in
+    let below : (run : Run) → c.args.latches ≡ run.latches → k < turns run e h.fired = λ run is.
+    omega (
+      arith,
+      c.loop-k-test.true,
+      c.turns_of-k-end.ensures run is,
+      ap (λ (x : ℕ). turns run x h.fired) c.index-number.ensures,
+    ) in
+    let (run0, is0, inside) = c.requires.inside in
+    let near = inside.below k (below run0 is0) in
+    let here : get_elem? (set out p e) p ≡ some e =
+    set_here out p e (omega (arith, near, is-p run0 is0, inv.0)) in (
+      length-set out p e ∙ inv.0,
+      λ run is j up. dite (ℕ_discrete (ticket_in run h e j) p)
+          (λ same. subst (λ (x : ℕ). get_elem? (set out p e) x ≡ some e) (sym same) here)
+          (λ far. set_else out p (ticket_in run h e j) e far ∙ inv.1 run is j
+          (dite (ℕ_discrete j k)
+          (λ z. absurd (far (ap (ticket_in run h e) z ∙ is-p run is)))
+          (λ n. omega arith))),
+      λ run is t x at nowhere. set_else out p t e
+          (λ z. nowhere k (below run is) (is-p run is ∙ sym z)) ∙ inv.2 run is t x at nowhere,
+    )

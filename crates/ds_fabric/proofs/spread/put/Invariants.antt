@@ -1,11 +1,14 @@
 use Rattle.std.proofs.Common.{◌≡◌, ◌<◌, ℕ, length}
 use mathlib.Core.Option.{some}
 use lib.ListN.{get_elem?}
+use Rattle.ds_rule.specs.Run.{Run}
+use Rattle.ds_fabric.specs.Told.{ticket_in}
+use Rattle.ds_fabric.specs.Spread.{IsKept}
 use Rattle.ds_fabric.proofs.spread.put.Given as goal
 
-abbrev pub invariant-loop-i : goal.invariant-loop-i
-invariant-loop-i l = (length l.out ≡ length l.fn.out)
-    × ((k t : ℕ) → k < l.i → get_elem? l.fn.tickets k ≡ some t
-    → get_elem? l.out t ≡ some l.fn.event)
-    × ((t x : ℕ) → get_elem? l.fn.out t ≡ some x → ((k : ℕ) → get_elem? l.fn.tickets k ≡ some t → ⊥)
-    → get_elem? l.out t ≡ some x)
+-- what was put stands, and what was elsewhere stays
+abbrev pub invariant-loop-k : goal.invariant-loop-k
+invariant-loop-k l = (length l.out ≡ length l.fn.out)
+    × ((run : Run) → l.fn.latches ≡ run.latches → (j : ℕ) → j < l.k
+    → get_elem? l.out (ticket_in run l.fn.history l.fn.event j) ≡ some l.fn.event)
+    × ((run : Run) → l.fn.latches ≡ run.latches → IsKept run l.fn.history l.fn.event l.fn.out l.out)

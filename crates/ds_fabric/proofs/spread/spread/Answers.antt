@@ -1,41 +1,114 @@
 use Rattle.std.proofs.Common.{◌∙◌, ◌≡◌, ◌<◌, ◌≤◌, ◌+◌, ◌*◌, ℕ, sym, arith, subst}
+use Rattle.std.proofs.Common.{◌⊎◌, inl, inr, ⊎_elim, ◌%◌}
+use mathlib.Core.Logic.{dite}
 use mathlib.Core.Option.{some}
+use native.Mathlib.Decide.{ℕ_discrete, dec_lt}
 use lib.ListN.{get_elem?}
-use Rattle.ds_rule.specs.Run.{Run, next}
-use Rattle.ds_rule.proofs.EventLaws.{next-low, next-high, closing-is}
+use Rattle.ds_rule.specs.Run.{Run, node_of, turns}
+use Rattle.ds_rule.proofs.EventLaws.{node-low, node-high}
+use Rattle.ds_fabric.specs.Told.{ticket_in}
+use Rattle.ds_fabric.specs.Spread.{IsInside}
+use Rattle.ds_fabric.specs.declared.history.History.{History}
 use Rattle.ds_fabric.proofs.spread.spread.Goals as goal
 
--- the first event of a latch, and of another node
-low-first : (run : Run) (l n : ℕ) → n ≡ run.latches → l < n → 2 * l ≡ next run l 0
-low-first run l n is h = omega (arith, next-low run l 0 (omega arith))
+-- the node of each event that is put
+first-here : (run : Run) (l n e : ℕ) → n ≡ run.latches → l < n → e ≡ 2 * l → node_of run e ≡ l
+first-here run l n e is low e-is = omega (arith, node-low run e (omega arith))
 
-high-first : (run : Run) (l n : ℕ) → n ≡ run.latches → n ≤ l → l + n ≡ next run l 0
-high-first run l n is h = omega (arith, next-high run l 0 (omega arith))
+second-here : (run : Run) (l n e : ℕ) → n ≡ run.latches → l < n → e ≡ 2 * l + 1
+    → node_of run e ≡ l
+second-here run l n e is low e-is = omega (arith, node-low run e (omega arith))
+
+one-here : (run : Run) (l n e : ℕ) → n ≡ run.latches → n ≤ l → e ≡ l + n → node_of run e ≡ l
+one-here run l n e is high e-is = omega (arith, node-high run e (omega arith))
+
+-- and there are no others
+two-alone : (run : Run) (l n e : ℕ) → n ≡ run.latches → l < n → node_of run e ≡ l
+    → (e ≡ 2 * l) ⊎ (e ≡ 2 * l + 1)
+two-alone run l n e is low here = dite (dec_lt e (2 * run.latches))
+    (λ y. let h = node-low run e y in
+    dite (ℕ_discrete (e % 2) 0) (λ even. inl (omega arith)) (λ odd. inr (omega arith)))
+    (λ n. absurd (omega (arith, node-high run e (omega arith))))
+
+one-alone : (run : Run) (l n e : ℕ) → n ≡ run.latches → n ≤ l → node_of run e ≡ l → e ≡ l + n
+one-alone run l n e is high here = dite (dec_lt e (2 * run.latches))
+    (λ y. absurd (omega (arith, node-low run e y)))
+    (λ n. omega (arith, node-high run e (omega arith)))
+
+pub put-requires-clause-inside : goal.put-requires-clause-inside
+put-requires-clause-inside c = let (run, can) = c.requires.can in (
+  run,
+  can.latches_is,
+  can.inside c.new.result (first-here run c.args.history.now.node
+      c.args.latches c.new.result can.latches_is c.if-history-latches.true c.new.ensures),
+)
+
+pub put-requires-then-history-latches-clause-inside : goal.put-requires-then-history-latches-clause-inside
+put-requires-then-history-latches-clause-inside c = let (run, can) = c.requires.can in
+    let e : ℕ = c.new-then-history-latches.result in (
+      run,
+      can.latches_is,
+      subst (λ (x : ℕ). IsInside run c.args.history.now e x) (sym c.put.ensures.long)
+          (can.inside e (second-here run c.args.history.now.node c.args.latches e can.latches_is
+          c.if-history-latches.true c.new-then-history-latches.ensures)),
+    )
+
+pub put-requires-else-history-latches-clause-inside : goal.put-requires-else-history-latches-clause-inside
+put-requires-else-history-latches-clause-inside c = let (run, can) = c.requires.can in
+    let e : ℕ = c.new-else-history-latches.result in (
+      run,
+      can.latches_is,
+      can.inside e (one-here run c.args.history.now.node c.args.latches e
+          can.latches_is (omega (arith, c.if-history-latches.false)) c.new-else-history-latches.ensures),
+    )
 
 pub returns-then-history-latches-clause-filled : goal.returns-then-history-latches-clause-filled
-returns-then-history-latches-clause-filled c = let l : ℕ = c.args.history.now.node in
-    let low = c.if-history-latches.true in record {
-      first = λ run is k t a. subst (λ (x : ℕ). get_elem? c.put-then-history-latches.new.out t ≡ some x)
-          (c.new.ensures ∙ low-first run l c.args.latches is low)
-          (c.put-then-history-latches.ensures.others t c.new.result
-          (c.put.ensures.filled k t (subst (λ xs. get_elem? xs k ≡ some t)
-          (sym c.as_slice.ensures.value) a))
-          (λ j b. c.requires.apart low k j t a (subst
-          (λ xs. get_elem? xs j ≡ some t) c.as_slice-then-history-latches.ensures.value b)));
-      second = λ h k t a. subst (λ (x : ℕ). get_elem? c.put-then-history-latches.new.out t ≡ some x)
-          (c.new-then-history-latches.ensures ∙ sym (closing-is l))
-          (c.put-then-history-latches.ensures.filled k t
-          (subst (λ xs. get_elem? xs k ≡ some t)
-          (sym c.as_slice-then-history-latches.ensures.value) a));
-    }
+returns-then-history-latches-clause-filled c run can e here k below =
+    let h : History = c.args.history.now in let l : ℕ = h.node in let n : ℕ = c.args.latches in
+    let d : ℕ = c.new.result in let d' : ℕ = c.new-then-history-latches.result in
+    let low = c.if-history-latches.true in
+    let on = first-here run l n d can.latches_is low c.new.ensures in
+    let on' = second-here run l n d' can.latches_is low c.new-then-history-latches.ensures in
+    ⊎_elim
+    (λ first. let is : e ≡ d = first ∙ sym c.new.ensures in
+    c.put-then-history-latches.ensures.kept run can.latches_is (ticket_in run h e k) e
+    (subst (λ (x : ℕ). get_elem? c.put.new.out (ticket_in run h x k) ≡ some x) (sym is)
+    (c.put.ensures.filled run can.latches_is k
+    (subst (λ (x : ℕ). k < turns run x h.fired) is below)))
+    (λ m below-m same. can.apart d' e on' here
+    (λ z. omega (arith, z, first, c.new-then-history-latches.ensures)) m k below-m below same))
+    (λ second. let is : e ≡ d' = second ∙ sym c.new-then-history-latches.ensures in
+    subst (λ (x : ℕ). get_elem? c.put-then-history-latches.new.out (ticket_in run h x k) ≡ some x)
+    (sym is) (c.put-then-history-latches.ensures.filled run can.latches_is k
+    (subst (λ (x : ℕ). k < turns run x h.fired) is below)))
+    (two-alone run l n e can.latches_is low here)
+
+pub returns-then-history-latches-clause-kept : goal.returns-then-history-latches-clause-kept
+returns-then-history-latches-clause-kept c run is t x at nowhere =
+    let l : ℕ = c.args.history.now.node in let n : ℕ = c.args.latches in
+    let d : ℕ = c.new.result in let d' : ℕ = c.new-then-history-latches.result in
+    let low = c.if-history-latches.true in
+    c.put-then-history-latches.ensures.kept run is t x
+    (c.put.ensures.kept run is t x at
+    (λ k below. nowhere d k (first-here run l n d is low c.new.ensures) below))
+    (λ k below. nowhere d' k
+    (second-here run l n d' is low c.new-then-history-latches.ensures) below)
 
 pub returns-else-history-latches-clause-filled : goal.returns-else-history-latches-clause-filled
-returns-else-history-latches-clause-filled c = let l : ℕ = c.args.history.now.node in record {
-  first = λ run is k t a. subst (λ (x : ℕ). get_elem? c.put-else-history-latches.new.out t ≡ some x)
-      (c.new-else-history-latches.ensures
-      ∙ high-first run l c.args.latches is c.if-history-latches.false)
-      (c.put-else-history-latches.ensures.filled k t
-      (subst (λ xs. get_elem? xs k ≡ some t)
-      (sym c.as_slice-else-history-latches.ensures.value) a));
-  second = λ h. absurd (omega (arith, c.if-history-latches.false));
-}
+returns-else-history-latches-clause-filled c run can e here k below =
+    let h : History = c.args.history.now in let l : ℕ = h.node in let n : ℕ = c.args.latches in
+    let d : ℕ = c.new-else-history-latches.result in
+    let high : n ≤ l = omega (arith, c.if-history-latches.false) in
+    let is : e ≡ d = one-alone run l n e can.latches_is high here
+    ∙ sym c.new-else-history-latches.ensures in
+    subst (λ (x : ℕ). get_elem? c.put-else-history-latches.new.out (ticket_in run h x k) ≡ some x)
+    (sym is) (c.put-else-history-latches.ensures.filled run can.latches_is k
+    (subst (λ (x : ℕ). k < turns run x h.fired) is below))
+
+pub returns-else-history-latches-clause-kept : goal.returns-else-history-latches-clause-kept
+returns-else-history-latches-clause-kept c run is t x at nowhere =
+    let l : ℕ = c.args.history.now.node in let n : ℕ = c.args.latches in
+    let d : ℕ = c.new-else-history-latches.result in
+    let high : n ≤ l = omega (arith, c.if-history-latches.false) in
+    c.put-else-history-latches.ensures.kept run is t x at
+    (λ k below. nowhere d k (one-here run l n d is high c.new-else-history-latches.ensures) below)

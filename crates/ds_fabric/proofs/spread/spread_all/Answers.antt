@@ -1,15 +1,13 @@
-use Rattle.std.proofs.Common.{◌≡◌, ◌<◌, ◌∙◌, ℕ, List, length, sym, arith, subst}
+use Rattle.std.proofs.Common.{◌≡◌, ◌∙◌, ℕ, length, sym, arith, subst}
 use mathlib.Core.Logic.{dite}
 use mathlib.Core.Option.{some}
 use native.Mathlib.Decide.{ℕ_discrete}
 use lib.ListN.{get_elem?}
 use Rattle.atomic_table.proofs.Lists.{at_index}
-use Rattle.ds_rule.specs.Run.{next, closing}
 use Rattle.ds_rule.proofs.Lists.{at_below, same_at, has_below}
-use Rattle.ds_rule.proofs.EventLaws.{closing_apart}
-use Rattle.ds_fabric.specs.Spread.{IsInside, HasSpread}
+use Rattle.ds_fabric.specs.Spread.{CanSpread, HasSpread}
 use Rattle.ds_fabric.specs.declared.history.History.{History}
-use Rattle.ds_fabric.proofs.Spreads.{first-places, second-places, inside, events_apart, stays}
+use Rattle.ds_fabric.proofs.Spreads.{can_spread, stays}
 use Rattle.ds_fabric.proofs.spread.spread_all.Goals as goal
 
 pub spread-requires-clause-few : goal.spread-requires-clause-few
@@ -25,49 +23,32 @@ spread-requires-clause-few c = let q = c.requires.1 in let h : History = c.index
       ),
     )
 
-pub spread-requires-clause-inside : goal.spread-requires-clause-inside
-spread-requires-clause-inside c = let p = c.requires.0 in let q = c.requires.1 in
+pub spread-requires-clause-can : goal.spread-requires-clause-can
+spread-requires-clause-can c = let p = c.requires.0 in let q = c.requires.1 in
     let h : History = c.index-nodes-i.result in let i : ℕ = c.loop-i.i in
     let at = at_index c.args.nodes.now i h c.loop-i-test.true c.index-nodes-i.is in
-    let n : ℕ = length c.args.out.now in
-    let P : List ℕ → ℕ → Type 0 = IsInside in (
-      subst (P h.first.items) (sym c.loop-i.invariant.0)
-          (inside p c.args.nodes.now c.args.places.now c.args.latches n q
-          (next p.view.run h.node 0) h.first.items
-          (first-places p c.args.nodes.now c.args.places.now c.args.latches n q i h at)),
-      λ low. subst (P h.second.items) (sym c.loop-i.invariant.0)
-          (inside p c.args.nodes.now c.args.places.now c.args.latches n q
-          (closing h.node) h.second.items
-          (second-places p c.args.nodes.now c.args.places.now c.args.latches n q i h at
-          (omega (arith, q.latches_is)))),
+    let n : ℕ = length c.args.out.now in (
+      p.view.run,
+      subst (λ (x : ℕ). CanSpread c.args.latches x p.view.run h) (sym c.loop-i.invariant.0)
+          (can_spread p c.args.nodes.now c.args.places.now c.args.latches n q i h at),
     )
 
-pub spread-requires-clause-apart : goal.spread-requires-clause-apart
-spread-requires-clause-apart c low = let p = c.requires.0 in let q = c.requires.1 in
-    let h : History = c.index-nodes-i.result in let i : ℕ = c.loop-i.i in
-    let at = at_index c.args.nodes.now i h c.loop-i-test.true c.index-nodes-i.is in
-    let n : ℕ = length c.args.out.now in let low' : h.node < p.view.run.latches =
-    omega (arith, q.latches_is) in
-    events_apart p c.args.nodes.now c.args.places.now c.args.latches n q (next p.view.run h.node 0)
-    (closing h.node) h.first.items h.second.items
-    (λ e. closing_apart p.view.run h.node low' (sym e))
-    (first-places p c.args.nodes.now c.args.places.now c.args.latches n q i h at)
-    (second-places p c.args.nodes.now c.args.places.now c.args.latches n q i h at low')
-
 pub loop-i-preserved : goal.loop-i-preserved
-loop-i-preserved c = let p = c.requires.0 in let q = c.requires.1 in
-    let h : History = c.index-nodes-i.result in let i : ℕ = c.loop-i.i in
+loop-i-preserved c = let h : History = c.index-nodes-i.result in let i : ℕ = c.loop-i.i in
     let inv = c.loop-i.invariant in
     let at = at_index c.args.nodes.now i h c.loop-i-test.true c.index-nodes-i.is in
     let n : ℕ = length c.args.out.now in (
       c.spread.ensures.long ∙ inv.0,
-      λ j g below at'. dite (ℕ_discrete j i)
-          (λ e. subst (λ (x : History). HasSpread c.args.latches x c.spread.new.out)
+      λ p q j g below at'. let can = subst (λ (x : ℕ). CanSpread c.args.latches x p.view.run h)
+          (sym inv.0) (can_spread p c.args.nodes.now c.args.places.now c.args.latches n q i h at) in
+          dite (ℕ_discrete j i)
+          (λ e. subst (λ (x : History). HasSpread p.view.run x c.spread.new.out)
           (same_at c.args.nodes.now i h g at (subst
-          (λ (x : ℕ). get_elem? c.args.nodes.now x ≡ some g) e at')) c.spread.ensures.filled)
-          (λ ne. stays p c.args.nodes.now c.args.places.now c.args.latches n q j i g h c.loop-i.out c.spread.new.out ne at' at (inv.1 j g (omega arith) at') c.spread.ensures.kept),
+          (λ (x : ℕ). get_elem? c.args.nodes.now x ≡ some g) e at'))
+          (c.spread.ensures.filled p.view.run can))
+          (λ ne. stays p c.args.nodes.now c.args.places.now c.args.latches n q j i g h c.loop-i.out c.spread.new.out ne at' at (inv.1 p q j g (omega arith) at') (c.spread.ensures.kept p.view.run q.latches_is)),
     )
 
 pub returns-clause-filled : goal.returns-clause-filled
-returns-clause-filled c j g at = c.loop-i.invariant.1 j g
+returns-clause-filled c p q j g at = c.loop-i.invariant.1 p q j g
     (omega (arith, at_below c.args.nodes.now j g at, c.loop-i-test.false, c.loop-i.auto.i-end)) at

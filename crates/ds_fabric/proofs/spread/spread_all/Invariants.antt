@@ -1,11 +1,13 @@
 use Rattle.std.proofs.Common.{◌≡◌, ◌<◌, ℕ, length}
 use mathlib.Core.Option.{some}
 use lib.ListN.{get_elem?}
+use Rattle.ds_fabric.specs.Showing.{Showing, IsRecord}
 use Rattle.ds_fabric.specs.Spread.{HasSpread}
 use Rattle.ds_fabric.specs.declared.history.History.{History}
 use Rattle.ds_fabric.proofs.spread.spread_all.Given as goal
 
 abbrev pub invariant-loop-i : goal.invariant-loop-i
 invariant-loop-i l = (length l.out ≡ length l.fn.out)
-    × ((i : ℕ) (h : History) → i < l.i → get_elem? l.fn.nodes i ≡ some h
-    → HasSpread l.fn.latches h l.out)
+    × ((p : Showing) → IsRecord p l.fn.nodes l.fn.places l.fn.latches (length l.fn.out)
+    → (i : ℕ) (h : History) → i < l.i → get_elem? l.fn.nodes i ≡ some h
+    → HasSpread p.view.run h l.out)

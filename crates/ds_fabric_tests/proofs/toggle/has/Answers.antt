@@ -2,10 +2,12 @@ use Rattle.std.proofs.Common.{arith}
 use Rattle.ds_fabric_tests.proofs.Holdings.{few_events}
 use Rattle.ds_fabric_tests.proofs.toggle.has.Goals as goal
 
-pub tickets-requires : goal.tickets-requires
-tickets-requires c = few_events c.args.from.now.shown.view.run c.new-event.result c.requires.run
+pub ticket-requires-clause-near : goal.ticket-requires-clause-near
+ticket-requires-clause-near c =
+    few_events c.args.from.now.shown.view.run c.new-event.result c.requires.run
     (omega (arith, c.new-event.ensures, c.requires.event))
 
-pub count-requires : goal.count-requires
-count-requires c = few_events c.args.from.now.shown.view.run c.new-event.result c.requires.run
+pub count-count-requires : goal.count-count-requires
+count-count-requires c =
+    few_events c.args.from.now.shown.view.run c.new-event.result c.requires.run
     (omega (arith, c.new-event.ensures, c.requires.event))

@@ -1,0 +1,29 @@
+use Rattle.std.proofs.Common.{◌≡◌, ◌∙◌, ℕ, ap, arith, sym, length}
+use Rattle.ds_rule.specs.Run.{Run, node_of}
+use Rattle.ds_rule.specs.Rule.{tickets}
+use Rattle.ds_rule.specs.declared.view.View.{View}
+use Rattle.ds_rule.proofs.EventLaws.{node_below}
+use Rattle.ds_fabric.specs.Showing.{Recorder}
+use Rattle.ds_fabric.proofs.Tickets.{counted}
+use Rattle.ds_fabric.proofs.record.Record.count.Goals as goal
+
+pub history-history-requires : goal.history-history-requires
+history-history-requires c = let v : View = c.args.self.now.shown.view in let run : Run = v.run in
+    let few : c.self.inside.latches ≡ run.latches = c.self.invariant.latches_is
+    ∙ ap (λ (x : Recorder). x.shown.view.run.latches) c.self.view_is in
+    λ sound. omega (
+      arith,
+      c.home.ensures run few,
+      ap (node_of run) c.index-number.ensures,
+      node_below run c.args.event sound.among c.requires,
+    )
+
+pub returns : goal.returns
+returns c = let v : View = c.args.self.now.shown.view in let run : Run = v.run in
+    let few : c.self.inside.latches ≡ run.latches = c.self.invariant.latches_is
+    ∙ ap (λ (x : Recorder). x.shown.view.run.latches) c.self.view_is in
+    let h = c.history-history.result.now in let i = c.history-history.ensures in
+    c.turns_of.ensures run few
+    ∙ (counted v h c.index-number.result i.counts i.tells
+    (sym (c.home.ensures run few) ∙ sym i.node_is)
+    ∙ ap (λ (e : ℕ). length (tickets v e)) c.index-number.ensures)
