@@ -6,8 +6,9 @@ word. `mul32` multiplies two words of 32 bits in an array of adders, with regist
 sixth row. `sha` has twelve rounds of SHA-256 with registers behind each, and schedules the words of
 the message beside them. `cpu` is a processor of sixteen words of 32 bits, which takes its
 instructions from the columns: it reads, computes and writes back, a turn each. As a mapper does, it
-leaves out what is constant or is read by nothing. It writes PREFIX.blif and PREFIX.vec, and prints
-how many tables and registers there are. The same words and seed make the same files.
+leaves out what is constant or is read by nothing. With `--hold N` about N vectors in a hundred are
+the one before. It writes PREFIX.blif and PREFIX.vec, and prints how many tables and registers there
+are. The same words and seed make the same files.
 """
 
 import argparse
@@ -241,12 +242,12 @@ def counter(it, op, left, near):
 CIRCUITS = {"mul32": mul32, "sha": sha, "cpu": cpu}
 
 
-def make(prefix, seed, turns, name):
+def make(prefix, seed, turns, name, hold=0):
     """Writes both files; the circuit."""
     it = Circuit()
     CIRCUITS[name](it)
     it.sweep()
-    vectors = make_netlist.vectors(random.Random(seed), len(it.inputs), turns)
+    vectors = make_netlist.vectors(random.Random(seed), len(it.inputs), turns, hold)
     for end, text in ((".blif", it.lines(name)), (".vec", vectors)):
         with open(prefix + end, "w") as file:
             file.writelines(line + "\n" for line in text)
@@ -259,9 +260,10 @@ def main():
     parser.add_argument("--seed", type=int, default=1)
     number_of = make_netlist.at_least(0)
     parser.add_argument("--turns", type=number_of, default=1000, help="how many vectors")
+    parser.add_argument("--hold", type=number_of, default=0, help="how many of a hundred stay")
     parser.add_argument("circuit", choices=sorted(CIRCUITS))
     asked = parser.parse_args()
-    it = make(asked.prefix, asked.seed, asked.turns, asked.circuit)
+    it = make(asked.prefix, asked.seed, asked.turns, asked.circuit, asked.hold)
     print("%d tables, %d registers" % (len(it.tables), len(it.registers)))
 
 

@@ -6,7 +6,8 @@ among two columns and all registers. `pipeline` has stages of registers of a giv
 levels of exclusive ors and ands between one stage and the next; `stages` is the same with a width
 for each stage. `mapped` has random tables of two
 to four inputs, as a mapper to tables of four inputs leaves them, and a register behind every tenth.
-It writes PREFIX.blif and PREFIX.vec. The same words and seed make the same files.
+With `--hold N` about N vectors in a hundred are the one before. It writes PREFIX.blif and
+PREFIX.vec. The same words and seed make the same files.
 """
 
 import argparse
@@ -89,13 +90,16 @@ def mapped(draw, tables):
     yield ".end"
 
 
-def vectors(draw, width, turns):
-    """Random bits."""
+def vectors(draw, width, turns, hold=0):
+    """Random bits, or in some turns of a hundred those of the turn before."""
+    vector = None
     for _ in range(turns):
-        yield format(draw.getrandbits(width), "0%db" % width)
+        if vector is None or not hold or draw.randrange(100) >= hold:
+            vector = format(draw.getrandbits(width), "0%db" % width)
+        yield vector
 
 
-def make(prefix, seed, turns, kind, sizes):
+def make(prefix, seed, turns, kind, sizes, hold=0):
     """Writes both files."""
     draw = random.Random(seed)
     if kind == "random":
@@ -106,7 +110,7 @@ def make(prefix, seed, turns, kind, sizes):
         lines, width = staged(draw, *sizes), sizes[1][0]
     else:
         lines, width = pipeline(draw, *sizes), sizes[0]
-    for name, text in ((".blif", list(lines)), (".vec", list(vectors(draw, width, turns)))):
+    for name, text in ((".blif", list(lines)), (".vec", list(vectors(draw, width, turns, hold)))):
         with open(prefix + name, "w") as file:
             file.writelines(line + "\n" for line in text)
 
@@ -127,6 +131,7 @@ def main():
     parser.add_argument("prefix", help="the files are PREFIX.blif and PREFIX.vec")
     parser.add_argument("--seed", type=int, default=1)
     parser.add_argument("--turns", type=at_least(0), default=1000, help="how many vectors")
+    parser.add_argument("--hold", type=at_least(0), default=0, help="how many of a hundred stay")
     kinds = parser.add_subparsers(dest="kind", required=True)
     one = kinds.add_parser("random")
     one.add_argument("registers", type=at_least(1))
@@ -140,7 +145,7 @@ def main():
     three.add_argument("tables", type=at_least(10))
     asked = parser.parse_args()
     sizes = [getattr(asked, name) for name in SIZES[asked.kind]]
-    make(asked.prefix, asked.seed, asked.turns, asked.kind, sizes)
+    make(asked.prefix, asked.seed, asked.turns, asked.kind, sizes, asked.hold)
 
 
 if __name__ == "__main__":

@@ -1,7 +1,8 @@
 //! What the other crates share: values, rows of values, numbers of parts, names and small lists.
 //!
-//! A value is zero, one or unknown, with `and`, `or` and `not` over the three. `Row3` is a row of
-//! them, which a caller sees as a list; `word` gives 32 of its values as a number. `NetId` and the
+//! A value is zero, one or unknown, with `and`, `or` and `not` over the three, and two bits, its
+//! `code`, in a word. `Row3` is a row of values, which a caller sees as a list; `word` gives 32 of
+//! them as a number. `NetId` and the
 //! other ids are numbers from 0 that are not mixed up. `Seq` is a list that is a part of another
 //! value, and a `Name` is one of bytes. `Limit` says how many of what there may be.
 //!

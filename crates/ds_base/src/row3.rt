@@ -1,7 +1,7 @@
 //! A row of values: one value a net, register or column, as each turn reads and writes it.
 ghost use Rattle.std.specs.Prelude.{◌≡◌, ◌↔◌, ◌*◌, ◌<◌, ◌≤◌, IsTrue, length, replicate};
 ghost use Rattle.std.specs.Prelude.{slice_index_or, slice_set, IfOk};
-ghost use Rattle.ds_base.specs.Word.{number_of_values, word_of, code_of};
+ghost use Rattle.ds_base.specs.Word.{number_of_values, word_of};
 ghost use Rattle.std.specs.Borrow.{sem};
 ghost use Rattle.ds_base.specs.Lent.{LendsValues};
 ghost use Rattle.ds_base.specs.Values.{AreKnown, Row};
@@ -122,21 +122,9 @@ fn word_from(values: &[Value]) -> u64
 {
     let mut word = 0;
     for i in (0..values.len()).rev() {
-        word = code(values[i]) + 4 * word;
+        word = values[i].code() + 4 * word;
     }
     word
-}
-
-// The two bits of a value.
-fn code(value: Value) -> u64
-    ensures code { result ≡ code_of value }
-    ensures two_bits { result ≤ 2 }
-{
-    match value {
-        Value::Zero => 0,
-        Value::One => 1,
-        Value::Unknown => 2,
-    }
 }
 
 #[cfg(test)]

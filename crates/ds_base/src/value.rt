@@ -1,6 +1,7 @@
 //! Zero, one and unknown, and what a gate makes of them.
-ghost use Rattle.std.specs.Prelude.{◌≡◌};
+ghost use Rattle.std.specs.Prelude.{◌≡◌, ◌≤◌};
 ghost use Rattle.ds_base.specs.Values.{both, either, inverse};
+ghost use Rattle.ds_base.specs.Word.{code_of};
 
 /// What a net carries: zero, one, or a value that is not known.
 #[derive(Clone, Copy, Debug, PartialEq, Eq)]
@@ -41,6 +42,29 @@ impl Value {
             Value::Zero => Value::One,
             Value::One => Value::Zero,
             Value::Unknown => Value::Unknown,
+        }
+    }
+
+    /// Its two bits in a word.
+    pub fn code(self) -> u64
+        ensures code { result ≡ code_of self }
+        ensures two_bits { result ≤ 2 }
+    {
+        match self {
+            Value::Zero => 0,
+            Value::One => 1,
+            Value::Unknown => 2,
+        }
+    }
+
+    /// The value with these two bits.
+    pub fn of_code(code: u64) -> Value
+        ensures { (value : Value) → code ≡ code_of value → result ≡ value }
+    {
+        match code {
+            0 => Value::Zero,
+            1 => Value::One,
+            _ => Value::Unknown,
         }
     }
 }

@@ -1,6 +1,5 @@
 //! The value of a table that a bank keeps.
 ghost use Rattle.std.specs.Prelude.{◌≡◌, ◌<◌, ◌≤◌, true, All, IfSome, drop, length, take};
-ghost use Rattle.ds_base.specs.Word.{code_of};
 ghost use Rattle.ds_cover.specs.Cover.{values_at};
 ghost use Rattle.ds_cover.specs.Kept.{AreThree, IsKept, bit_value, driven_in, quick_bit};
 ghost use Rattle.ds_base.specs.Values.{AreKnown};
@@ -57,9 +56,9 @@ fn three_value(quick: &Quick, nets: &[Value]) -> Option<Value>
     ensures known { IfSome result (λ _. AreKnown (values_at nets.now quick.now.nets)) }
     ensures value { IfSome result (λ value. value ≡ quick_bit quick.now nets.now) }
 {
-    let a = code(value_in(nets, quick.nets[0].index()));
-    let b = code(value_in(nets, quick.nets[1].index()));
-    let c = code(value_in(nets, quick.nets[2].index()));
+    let a = value_in(nets, quick.nets[0].index()).code();
+    let b = value_in(nets, quick.nets[1].index()).code();
+    let c = value_in(nets, quick.nets[2].index()).code();
     if a | b | c > 1 {
         return None;
     }
@@ -73,12 +72,12 @@ fn six_value(quick: &Quick, nets: &[Value]) -> Option<Value>
     ensures known { IfSome result (λ _. AreKnown (values_at nets.now quick.now.nets)) }
     ensures value { IfSome result (λ value. value ≡ quick_bit quick.now nets.now) }
 {
-    let a = code(value_in(nets, quick.nets[0].index()));
-    let b = code(value_in(nets, quick.nets[1].index()));
-    let c = code(value_in(nets, quick.nets[2].index()));
-    let d = code(value_in(nets, quick.nets[3].index()));
-    let e = code(value_in(nets, quick.nets[4].index()));
-    let f = code(value_in(nets, quick.nets[5].index()));
+    let a = value_in(nets, quick.nets[0].index()).code();
+    let b = value_in(nets, quick.nets[1].index()).code();
+    let c = value_in(nets, quick.nets[2].index()).code();
+    let d = value_in(nets, quick.nets[3].index()).code();
+    let e = value_in(nets, quick.nets[4].index()).code();
+    let f = value_in(nets, quick.nets[5].index()).code();
     if a | b | c | d | e | f > 1 {
         return None;
     }
@@ -91,18 +90,6 @@ pub fn value_of_bit(bit: u64) -> Value
     ensures { result ≡ bit_value bit }
 {
     if bit == 0 { Value::Zero } else { Value::One }
-}
-
-/// The number of a value: 2 where it is not known.
-pub fn code(value: Value) -> u64
-    ensures code { result ≡ code_of value }
-    ensures few { result ≤ 2 }
-{
-    match value {
-        Value::Zero => 0,
-        Value::One => 1,
-        Value::Unknown => 2,
-    }
 }
 
 // The value by the masks of the rows.

@@ -30,6 +30,6 @@ mod word;
 
 pub use bank::Bank;
 pub use entry::Quick;
-pub use entry_value::{code, value_of_bit};
+pub use entry_value::value_of_bit;
 pub use packed::Packed;
 pub use table::Table;

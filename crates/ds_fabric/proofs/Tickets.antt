@@ -1,8 +1,10 @@
 -- The tickets of an event, and the words of a row, as the history of a node has them.
-use Rattle.std.proofs.Common.{◌≡◌, ℕ, ◌+◌, ◌*◌, ◌/◌, ◌<◌, ◌≤◌, List, length, get_or, sym, ap, ◌∙◌, arith}
+use Rattle.std.proofs.Common.{◌≡◌, ℕ, ◌+◌, ◌*◌, ◌/◌, ◌<◌, ◌≤◌, List, [], length, get_or, sym, ap}
+use Rattle.std.proofs.Common.{◌∙◌, arith}
+use Rattle.std.proofs.lemmas.List.{get_or_past}
 use mathlib.Core.Logic.{dite}
 use native.Mathlib.Decide.{dec_lt}
-use Rattle.ds_rule.specs.Run.{node_of, turns, closing}
+use Rattle.ds_rule.specs.Run.{events, node_of, turns, closing}
 use Rattle.ds_rule.specs.Words.{width, value}
 use Rattle.ds_rule.specs.Rule.{holds, tickets, seen}
 use Rattle.ds_rule.specs.declared.view.View.{View}
@@ -63,6 +65,13 @@ word_read v h k i t low below inside = let l : ℕ = h.node in let is = closing-
     ∙ (ap (λ (x : ℕ). get_or (turns_told v.run (tickets v) l (seen v l)) (x + i) 0) at
     ∙ word_stands v.run (tickets v) l k (seen v l) i low
     (omega (arith, below, turns-low v.run (closing l) h.fired (omega arith), t.fired)) inside)
+
+-- an event that has a ticket is one of the run
+pub ticket_inside : (v : View) (e k : ℕ) → length v.tickets ≡ events v.run
+    → k < length (tickets v e) → e < events v.run
+ticket_inside v e k long below = dite (dec_lt e (events v.run)) (λ low. low)
+    (λ high. let none = get_or_past v.tickets e [] (omega (arith, long)) in
+    absurd (omega (arith, below, ap (λ (xs : List ℕ). length xs) none)))
 
 -- the ticket of a firing, of a history out of a record
 pub ticket_told : (v : View) (l event number k : ℕ) (h : History) → IsTold v l h → number ≡ event

@@ -1,6 +1,5 @@
 -- For each event, the arcs into it: the last one at its head, and from each arc the one before. A
--- place is one more
--- than an arc's number, and 0 where there is none.
+-- place is one more than an arc's number, and 0 where there is none.
 use Rattle.std.specs.Prelude.{◌≡◌, ◌≢◌, ℕ, ◌-◌, ◌<◌, ◌≤◌, List, length, slice_index, slice_index_or}
 use Rattle.ds_rule.specs.Run.{Run, events}
 use Rattle.ds_marked.specs.declared.marked.Arc.{Arc}

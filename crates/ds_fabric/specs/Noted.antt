@@ -1,5 +1,5 @@
 -- A ticket more in the history of a node.
-use Rattle.std.specs.Prelude.{◌≡◌, ℕ, ◌+◌, ◌<◌, ◌++◌, ◌∷◌, [], vec_len, vec_capacity}
+use Rattle.std.specs.Prelude.{◌≡◌, ℕ, ◌+◌, ◌<◌, ◌++◌, ◌∷◌, [], List, vec_len, vec_capacity}
 use Rattle.ds_rule.specs.Run.{Run}
 use Rattle.ds_fabric.specs.Told.{new_row}
 use Rattle.ds_fabric.specs.declared.history.History.{History}
@@ -8,20 +8,19 @@ use Rattle.ds_fabric.specs.declared.history.History.{History}
 abbrev pub HasRoomToNote : History → Type 0
 HasRoomToNote h = vec_len h.turns < vec_capacity h.turns
 
--- the node's next event has the ticket, and all else is as it was
-pub record HasNoted (g h : History) (ticket : ℕ) : Type 0 where
+-- the node's next event has the ticket, and these words stand before it; the room is as it was
+pub record HasTold (words : List ℕ) (g h : History) (ticket : ℕ) : Type 0 where
   pub node : h.node ≡ g.node
   pub fired : h.fired ≡ g.fired + 1
   pub stride : h.stride ≡ g.stride
-  pub turns : h.turns.items ≡ g.turns.items ++ ticket ∷ []
+  pub turns : h.turns.items ≡ (g.turns.items ++ words) ++ ticket ∷ []
   pub turns_room : vec_capacity h.turns ≡ vec_capacity g.turns
   pub from_room : vec_capacity h.from ≡ vec_capacity g.from
 
--- the same, and a row more before it where the event is an opening
-pub record HasFired (run : Run) (g h : History) (ticket : ℕ) : Type 0 where
-  pub node : h.node ≡ g.node
-  pub fired : h.fired ≡ g.fired + 1
-  pub stride : h.stride ≡ g.stride
-  pub turns : h.turns.items ≡ (g.turns.items ++ new_row run g.node g.fired) ++ ticket ∷ []
-  pub turns_room : vec_capacity h.turns ≡ vec_capacity g.turns
-  pub from_room : vec_capacity h.from ≡ vec_capacity g.from
+-- it has the ticket alone
+abbrev pub HasNoted : History → History → ℕ → Type 0
+HasNoted = HasTold []
+
+-- it has the ticket, and before it a row where the event is an opening
+abbrev pub HasFired : Run → History → History → ℕ → Type 0
+HasFired run g = HasTold (new_row run g.node g.fired) g

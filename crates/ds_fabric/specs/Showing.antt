@@ -7,7 +7,7 @@ use Rattle.atomic_table.specs.Seated.{TableId}
 use Rattle.ds_scratch.specs.Scratch.{Kept, Memory, Remembers}
 use Rattle.ds_rule.specs.Run.{Run, events, node_of, turns}
 use Rattle.ds_rule.specs.Sound.{IsSound, read_words}
-use Rattle.ds_rule.specs.Log.{places, IsLegalList, InTurn, firings, Recorded}
+use Rattle.ds_rule.specs.Log.{firings, Recorded}
 use Rattle.ds_rule.specs.Rule.{holds, tickets, seen, first_view}
 use Rattle.ds_rule.specs.Plays.{after_point, without_cut, only_cut}
 use Rattle.ds_rule.specs.declared.view.View.{View}
@@ -39,7 +39,7 @@ pub record IsOf (f : Base) (p : Showing) : Type 0 where
 
 -- the scratch of a bare pass: of no net
 abbrev pub no_scratch : Kept
-no_scratch = record { nets = []; turns = [] }
+no_scratch = record { nets = []; turns = []; stayed = [] }
 
 -- only what the pass knows is other than before, and what its scratch has; that remembers this, if
 -- it did before
@@ -153,10 +153,7 @@ pub record IsTold (v : View) (node : ℕ) (h : History) : Type 0 where
   pub sound : IsSound v.run
   pub most : (e : ℕ) → node_of v.run e ≡ node → length (tickets v e) ≤ v.run.limit
 
--- the events by rising ticket: one legal list of which the tickets are the places
+-- the events by rising ticket: those of the one legal list of which the tickets are the places
 pub record IsFired (run : Run) (tickets : ℕ → List ℕ) (items : List ℕ) : Type 0 where
-  pub log : List ℕ
-  pub legal : IsLegalList run log
-  pub in_turn : InTurn run log
-  pub all : (e : ℕ) → node_of run e < run.nodes → tickets e ≡ places e log
-  pub is : items ≡ firings log
+  pub recorded : Recorded run tickets (length items)
+  pub is : items ≡ firings recorded.log

@@ -29,10 +29,9 @@ pub struct ArcIn {
 impl Source {
     /// What an event of the run is.
     pub fn of<J: Rows>(run: &Layout<J>, event: usize) -> Source
-        requires { run.now.latches < 4294967296 }
         ensures { (fired : ℕ) → fired_of result fired ≡ turns run.now event fired }
     {
-        if event < 2 * run.latches() {
+        if event / 2 < run.latches() {
             if event % 2 == 0 {
                 Source::Opening
             } else {

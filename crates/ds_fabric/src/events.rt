@@ -6,10 +6,9 @@ ghost use Rattle.ds_fabric.specs.Told.{ticket_place};
 
 /// The node of an event.
 pub fn home(latches: usize, event: usize) -> usize
-    requires { latches < 4294967296 }
     ensures { (run : Run) → latches ≡ run.latches → result ≡ node_of run event }
 {
-    if event < 2 * latches {
+    if event / 2 < latches {
         event / 2
     } else {
         event - latches
@@ -18,33 +17,25 @@ pub fn home(latches: usize, event: usize) -> usize
 
 /// How often the event has fired, where its node has fired so often.
 pub fn turns_of(latches: usize, event: usize, fired: u64) -> u64
-    requires { latches < 4294967296 }
     ensures { (run : Run) → latches ≡ run.latches → result ≡ turns run event fired }
 {
-    if event < 2 * latches {
-        if event % 2 == 0 {
-            fired / 2 + fired % 2
-        } else {
-            fired / 2
-        }
-    } else {
+    if event / 2 >= latches {
         fired
+    } else if event % 2 == 0 {
+        fired / 2 + fired % 2
+    } else {
+        fired / 2
     }
 }
 
 /// Where in a turn of so many words the ticket of the event stands.
 pub fn ticket_place(latches: usize, event: usize, stride: usize) -> usize
-    requires few { latches < 4294967296 }
     requires wide { 0 < stride }
     requires wider { (run : Run) × (latches ≡ run.latches) × (opens run event ≡ true → 1 < stride) }
     ensures { (run : Run) → latches ≡ run.latches → result ≡ ticket_place run event stride }
 {
-    if event < 2 * latches {
-        if event % 2 == 0 {
-            stride - 2
-        } else {
-            stride - 1
-        }
+    if event / 2 < latches && event % 2 == 0 {
+        stride - 2
     } else {
         stride - 1
     }

@@ -118,7 +118,7 @@ impl<'a, J: Rows, C: Compute> Fabric<'a, J, C> {
         node: LatchId,
         room: u32,
     ) -> Result<Pass, OutOfMemory>
-        requires fits { Belongs self.now pass.old }
+        requires fits { IsOf self.now pass.old }
         requires held { holds pass.old.view node ≡ true }
         requires room { 0 < room }
 
@@ -188,7 +188,7 @@ impl<'a, J: Rows, C: Compute> Fabric<'a, J, C> {
 
     /// The first pass takes in the nodes of the second.
     pub fn gather(&self, pass: &mut Pass, other: Pass)
-        requires fits { Belongs self.now pass.old }
+        requires fits { IsOf self.now pass.old }
         requires other { IsOf self.now other }
         requires room { pass.old.many + other.many ≤ pass.old.room }
 
@@ -215,7 +215,7 @@ impl<'a, J: Rows, C: Compute> Fabric<'a, J, C> {
 
     /// Ends the run. The pass holds all nodes.
     pub fn finish(self, pass: Pass) -> Record
-        requires fits { Belongs self pass }
+        requires fits { IsOf self pass }
         requires all { (l : ℕ) → l < self.run.nodes → holds pass.view l ≡ true }
 
         ensures same { result.shown ≡ pass }

@@ -43,7 +43,7 @@ impl<'a, J: Rows, C: Compute> Fabric<'a, J, C> {
         self.openings.cost(node)
     }
 
-    // The same of an event in this turn.
+    // The place of an arc into this event that lacks tokens for this turn.
     fn lacking_from(&self, event: usize, turn: u64, first: usize) -> Option<usize>
         requires { (turn < 9223372036854775808) × (event < events self.now.run) }
     {

@@ -31,8 +31,7 @@ impl History {
 
     /// The ticket of firing number k, from 0, of an event of the node.
     pub fn ticket(&self, latches: usize, event: usize, k: usize) -> u64
-        requires few { latches < 4294967296 }
-        requires stands { (run : Run) × (latches ≡ run.latches) × StandsIn run self.now event
+        requires { (run : Run) × (latches ≡ run.latches) × StandsIn run self.now event
             × (k < turns run event self.now.fired) }
         ensures { (run : Run) → latches ≡ run.latches → result ≡ ticket_in run self.now event k }
     {

@@ -49,8 +49,7 @@ impl Record {
 
     /// The ticket of firing number k, from 0, of an event.
     pub fn ticket(&self, event: EventId, k: usize) -> u64
-        requires near { event < events self.now.shown.view.run }
-        requires fired { k < length (tickets self.now.shown.view event) }
+        requires { k < length (tickets self.now.shown.view event) }
         ensures { result ≡ slice_index (tickets self.now.shown.view event) k }
     {
         let number = event.index();
@@ -117,8 +116,9 @@ impl Record {
 
     /// The events by rising ticket.
     pub fn firings(&self, alloc: Global) -> Result<Vec<EventId>, OutOfMemory>
-        ensures { IfOk result (λ v.
+        ensures ok { IfOk result (λ v.
             IsFired self.now.shown.view.run (tickets self.now.shown.view) v.items) }
+        ensures ok_long { IfOk result (λ v. length v.items ≡ self.now.many) }
     {
         let mut out = no_events(alloc, self.many as usize)?;
         spread_all(

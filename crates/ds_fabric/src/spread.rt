@@ -54,8 +54,7 @@ fn spread(latches: usize, history: &History, out: &mut [EventId])
 
 // Puts the event at the places of its tickets.
 fn put(latches: usize, history: &History, event: EventId, out: &mut [EventId])
-    requires few { latches < 4294967296 }
-    requires inside { (run : Run) × (latches ≡ run.latches)
+    requires { (run : Run) × (latches ≡ run.latches)
         × IsInside run history.now event (length out.old) }
 
     ensures long { length out.new ≡ length out.old }

@@ -1,9 +1,8 @@
 //! Values and words: 32 values a word, two bits each.
 ghost use Rattle.std.specs.Prelude.{ℕ, ◌≡◌, ◌<◌, ◌≤◌, ◌+◌, ◌*◌, ◌%◌, ◌/◌, length, slice_index};
-ghost use Rattle.std.specs.Prelude.{slice_index_or, min};
+ghost use Rattle.std.specs.Prelude.{slice_index_or};
 ghost use Rattle.ds_base.specs.Values.{Row};
-ghost use Rattle.ds_base.specs.Word.{word_of, code_of};
-ghost use Rattle.ds_base.specs.declared.value.Value.{Value};
+ghost use Rattle.ds_base.specs.Word.{word_of};
 ghost use Rattle.ds_base.specs.declared.value.Value.TheVariants.{Zero};
 ghost use Rattle.ds_rule.specs.Words.{words_of};
 ghost use Rattle.ds_fabric.specs.Unpacked.{IsPacked, HasWord};
@@ -43,26 +42,8 @@ fn set_word(row: &mut Row3, i: usize, word: u64)
     ensures length { length row.new ≡ length row.old }
 {
     let mut rest = word;
-    for j in 0..at_most_32(row.len() - 32 * i) {
-        row.set(32 * i + j, value_of(rest % 4));
+    for j in 0..(row.len() - 32 * i).min(32) {
+        row.set(32 * i + j, Value::of_code(rest % 4));
         rest /= 4;
-    }
-}
-
-// As many, but no more than a word has.
-fn at_most_32(count: usize) -> usize
-    ensures { result ≡ min count 32 }
-{
-    if count < 32 { count } else { 32 }
-}
-
-// The value with this code.
-fn value_of(code: u64) -> Value
-    ensures { (value : Value) → code ≡ code_of value → result ≡ value }
-{
-    match code {
-        0 => Value::Zero,
-        1 => Value::One,
-        _ => Value::Unknown,
     }
 }

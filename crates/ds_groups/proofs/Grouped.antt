@@ -6,7 +6,7 @@ use Rattle.std.specs.List.{list_any}
 use Rattle.std.proofs.lemmas.Bool.{cases_eq, cases_lt, false≢true}
 use Rattle.std.proofs.lemmas.Bool.Decides.{Decides-eqb, eqb_tells}
 use Rattle.std.proofs.lemmas.List.{get_or_default, get_or_past}
-use Rattle.std.proofs.lemmas.List.Elements.{All-contains, Contains-get_or}
+use Rattle.std.proofs.lemmas.List.Elements.{All-contains, All-filter, Contains-get_or}
 use Rattle.std.proofs.lemmas.List.Kept.{AllPairs-filter}
 use Rattle.std.proofs.lemmas.List.Folds.{Any-from_list_any}
 use Rattle.std.proofs.lemmas.Map.Steps.{length-le_from_distinct_below}
@@ -24,7 +24,7 @@ use Rattle.ds_cover.specs.Bank.{Driven}
 use Rattle.ds_design.specs.Banked.{IsBankOf}
 use Rattle.ds_groups.specs.Groups.{AreGroupsOf, Grouping, IsGrouped, group_of, tables_in}
 use Rattle.ds_groups.specs.Lists.{AreFound, AreLists, IsListOf}
-use Rattle.ds_groups.specs.Members.{AreMembers}
+use Rattle.ds_groups.specs.Members.{AreMembers, with_number}
 use Rattle.ds_groups.specs.Lacking.{AreByLacking, cones_without}
 use Rattle.ds_groups.proofs.Flat.{filter_has, flat_has, has_filter, has_flat, nothing, pairs_flat}
 use Rattle.ds_groups.proofs.Lacks.{count_same, has_true, lacks_false}
@@ -69,6 +69,17 @@ pub have_tables : (c : Circuit) (cones : List Cone) → All (λ cone. (these : L
 have_tables c cones are i d inside =
     let (these, is) = are i d inside in record { within = is.order.within; once = is.once }
 
+-- the members of groups are tables
+pub members_within : (c : Circuit) (order : List ℕ) → IsTableOrder c order → (numbers : List ℕ) (count : ℕ)
+    (groups : List (List ℕ)) → AreMembers order numbers count groups
+    → All (λ these. All (λ k. k < length c.tables) these) groups
+members_within c order ordered numbers count groups are a d inside =
+    let size : length groups ≡ count = are.one_each in
+    let these : get_or groups a d ≡ with_number order numbers a =
+    get_or-default groups a d [] inside ∙ are.each a (omega (inside, size, arith)) in
+    subst (λ (xs : List ℕ). All (λ k. k < length c.tables) xs) (sym these)
+    (All-filter (λ k. get_or numbers k 0 == a) (λ k. k < length c.tables) order ordered.places)
+
 module _ (c : Circuit) (order : List ℕ) (ordered : IsTableOrder c order) (cones : List Cone)
     (are_cones : All (λ cone. (these : List ℕ) × IsCone c these cone) cones)
     (numbers : List ℕ) (count : ℕ) (classes : AreClasses cones (length c.tables) numbers)
@@ -76,9 +87,9 @@ module _ (c : Circuit) (order : List ℕ) (ordered : IsTableOrder c order) (cone
     (groups : List (List ℕ)) (are_members : AreMembers order numbers count groups)
     (lists : List (List ℕ)) (are_lists : AreLists cones numbers lists)
     (rises : AreByLacking cones numbers)
-    (bank : List Driven) (is_bank : IsBankOf c.tables bank) where
+    (bank : List Driven) (is_bank : IsBankOf c.tables bank) (read : List (List ℕ)) where
   abbrev g : Grouping
-  g = record { bank = bank; groups = groups; lists = lists }
+  g = record { bank = bank; groups = groups; lists = lists; reads = read }
 
   abbrev number : ℕ → ℕ
   number k = get_or numbers k 0
@@ -265,13 +276,6 @@ module _ (c : Circuit) (order : List ℕ) (ordered : IsTableOrder c order) (cone
             (low (get_or (tables_in g list) j e) (Contains-get_or (tables_in g list) j e near)));
         same = same_tables i inside;
       }
-
-  pub members_within : All (λ list. All (λ k. k < length bank) list) groups
-  members_within a d inside k e low =
-      let list : List ℕ = get_or groups a d in
-      let has : Contains (get_or groups a []) (get_or list k e) =
-      subst (λ (xs : List ℕ). Contains xs (get_or list k e)) (get_or_default groups a d [] inside) (Contains-get_or list k e low) in
-      subst (λ (n : ℕ). get_or list k e < n) (sym is_bank.one_each) (member_in a (get_or list k e) has).0
 
   pub are_groups : AreGroupsOf c cones g
   are_groups = record {

@@ -6,3 +6,5 @@ pub mod Found
 pub mod Lacks
 pub mod Flat
 pub mod Grouped
+pub mod Housed
+pub mod Searched

@@ -7,11 +7,13 @@ use Rattle.ds_design.specs.Banked.{IsBankOf}
 use Rattle.ds_design.specs.Circuit.{Circuit}
 use Rattle.ds_settle.specs.Cone.{AreInOrder, Parts as Cone}
 
--- the packed tables, the numbers of those of each group, and the numbers of each cone's groups
+-- the packed tables, the numbers of those of each group, the numbers of each cone's groups, and the
+-- slots that each group reads
 pub record Grouping : Type 0 where
   pub bank : List Driven
   pub groups : List (List ℕ)
   pub lists : List (List ℕ)
+  pub reads : List (List ℕ)
 
 -- the tables of a group
 abbrev pub group_of : Grouping → ℕ → List ℕ

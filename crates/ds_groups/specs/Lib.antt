@@ -6,3 +6,6 @@ pub mod Numbers
 pub mod Members
 pub mod Lists
 pub mod Groups
+pub mod Reads
+pub mod Homes
+pub mod Seen

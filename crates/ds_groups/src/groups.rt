@@ -1,4 +1,4 @@
-//! Groups of tables, and the groups of each cone.
+//! Groups of tables, the groups of each cone, and the slots that each group reads.
 ghost use Rattle.std.specs.Prelude.{◌≡◌, ◌<◌, ◌^◌, ℕ, All, Contains, IfOk, List, [], length};
 ghost use Rattle.std.specs.Prelude.{slice_index_or};
 ghost use Rattle.ds_cover.specs.Bank.{IsWithin, after_tables};
@@ -6,24 +6,28 @@ ghost use Rattle.ds_settle.specs.Cone.{IsCone};
 ghost use Rattle.ds_groups.specs.Classes.{AreClasses, HasTables};
 ghost use Rattle.ds_groups.specs.Groups.{AreGroupsOf, group_of};
 ghost use Rattle.ds_groups.specs.Lacking.{AreByLacking};
+ghost use Rattle.ds_groups.specs.Reads.{AreReads};
 
 use crate::classes::classes_of;
 use crate::lacking::by_lacking;
 use crate::lists::lists_of;
 use crate::members::members_of;
 use crate::numbers::{Numbers, numbered};
-use ds_base::{OutOfMemory, Row3, Seq};
+use crate::reads::{are_large, reads_of};
+use ds_base::{NetId, OutOfMemory, Row3, Seq};
 use ds_design::Netlist;
 use ds_series::Selections;
 use ds_settle::Cone;
 use std::alloc::Global;
 use std::marker::Model;
 
-/// The tables of each group, ready to be set, and the numbers of each cone's groups. Contracts see
-/// the packed tables of the netlist and both lists.
+/// The tables of each group, ready to be set, the numbers of each cone's groups, and the slots that
+/// each group reads. Contracts see the packed tables of the netlist and the three lists.
 pub struct Groups<'n> {
     selections: Selections<'n>,
     lists: Vec<Seq<u32>>,
+    reads: Vec<Seq<usize>>,
+    looks: bool,
 }
 
 impl<'n> Drop for Groups<'n> {
@@ -31,6 +35,8 @@ impl<'n> Drop for Groups<'n> {
         let Groups {
             selections: _,
             lists: _,
+            reads: _,
+            looks: _,
         } = self;
     }
 }
@@ -44,25 +50,43 @@ impl<'n> Model for Groups<'n> {
       bank = g.selections.tables;
       groups = g.selections.lists;
       lists = g.lists.items;
+      reads = g.reads.items;
     } };
 }
 
 impl<'n> Groups<'n> {
-    /// The groups of the tables of these cones. The cones are taken, so that none of them is kept
-    /// once the lists of groups are there.
-    pub fn of(alloc: Global, netlist: &'n Netlist, cones: Vec<Cone>) -> Result<Self, OutOfMemory>
+    /// The groups of the tables of these cones. What a group drives is the slot with its number,
+    /// and these other lists of nets are the slots behind. The cones are taken, so that none of
+    /// them is kept once the lists of groups are there.
+    pub fn of(
+        alloc: Global,
+        netlist: &'n Netlist,
+        cones: Vec<Cone>,
+        others: &[Seq<NetId>],
+    ) -> Result<Self, OutOfMemory>
         requires cones { All (λ cone. (these : List ℕ) × IsCone netlist.now these cone)
             cones.items }
+        requires others { All (λ these. All (λ net. net < length netlist.now.nets) these)
+            others.now }
         ensures ok { IfOk result (AreGroupsOf netlist.now cones.items) }
+        ensures reads { IfOk result (AreReads netlist.now others.now) }
     {
-        let tables = netlist.design().tables().len();
+        let design = netlist.design();
+        let tables = design.tables().len();
         let order = netlist.order();
         let numbers = numbers_of(alloc, cones.as_slice(), order, tables)?;
         let lists = lists_of(alloc, cones.as_slice(), &numbers)?;
         drop(cones);
         let groups = members_of(alloc, order, &numbers)?;
+        drop(numbers);
+        let reads = reads_of(alloc, design, groups.as_slice(), others)?;
         let selections = Selections::of(alloc, netlist.bank(), groups.as_slice())?;
-        Ok(Groups { selections, lists })
+        Ok(Groups {
+            selections,
+            lists,
+            reads,
+            looks: are_large(groups.len(), tables),
+        })
     }
 
     /// How many groups there are.
@@ -88,6 +112,20 @@ impl<'n> Groups<'n> {
         ensures { result.now ≡ slice_index_or self.now.lists cone [] }
     {
         self.lists[cone].as_slice()
+    }
+
+    /// Whether some group may have a list of what it reads.
+    pub fn looks(&self) -> bool {
+        self.looks
+    }
+
+    /// The slots that a group reads, each once and not its own. Where there are none, the group may
+    /// read what is in no slot.
+    pub fn reads(&self, number: usize) -> &[usize]
+        requires { number < length self.now.reads }
+        ensures { result.now ≡ slice_index_or self.now.reads number [] }
+    {
+        self.reads[number].as_slice()
     }
 }
 

@@ -1,6 +1,6 @@
 -- Slots that are noted, one after another.
-use Rattle.std.proofs.Common.{◌≡◌, ◌≢◌, ◌∙◌, ◌⊎◌, ℕ, ◌+◌, ◌<◌, List, [], ◌∷◌, ◌++◌, length, get_or}
-use Rattle.std.proofs.Common.{suc, true, refl, sym, ap, subst, arith, inl, inr}
+use Rattle.std.proofs.Common.{◌≡◌, ◌≢◌, ◌∙◌, ◌⊎◌, ℕ, ◌+◌, ◌-◌, ◌<◌, List, [], ◌∷◌, ◌++◌, length}
+use Rattle.std.proofs.Common.{Bool, false, get_or, suc, true, refl, sym, ap, subst, arith, inl, inr}
 use Rattle.std.specs.Prelude.{All, Contains}
 use Rattle.std.proofs.Math.ListN.{set}
 use Rattle.std.proofs.lemmas.Bool.{cases_eq}
@@ -9,7 +9,8 @@ use Rattle.std.specs.List.{flat_map}
 use Rattle.std.proofs.lemmas.Grind.{flat_map-append}
 use Rattle.std.proofs.lemmas.List.Concat.{flat_map-cons}
 use Rattle.ds_groups.specs.Groups.{Grouping, group_of, tables_in}
-use Rattle.std.proofs.lemmas.List.{append-nil, drop_more, get_or-set_same, length-set, map-append, take_more}
+use Rattle.std.proofs.lemmas.List.{append-nil, drop_more, get_or-set_other, get_or-set_same}
+use Rattle.std.proofs.lemmas.List.{length-set, map-append, take_more}
 use Rattle.std.proofs.lemmas.List.Elements.{All-contains, Contains-append_cases, Contains-get_or}
 use Rattle.ds_base.specs.Values.{Row}
 use Rattle.ds_base.proofs.Lists.{Contains-head, Contains-split, Contains-tail}
@@ -30,10 +31,10 @@ use Rattle.ds_settle.specs.Settle.{LeavesOthers}
 use Rattle.ds_settle.proofs.SetBits.{value_at-set_other}
 use Rattle.ds_settle.proofs.Tables.{net_is}
 use Rattle.ds_opening.specs.Noted.{FindInputs, IsAsKnown, IsLearnt, IsSlot}
-use Rattle.ds_opening.specs.Packed.{Learns}
+use Rattle.ds_opening.specs.Packed.{AreAsBefore, Learns}
 
 -- stands for a table where there is none
-blank : Gate
+pub blank : Gate
 blank = record { table = record { inputs = []; rows = []; on = true }; output = 0; line = 0 }
 
 module _ (m : Memory) (turn slot : ℕ) (these : List ℕ) (known : Row)
@@ -56,9 +57,21 @@ module _ (m : Memory) (turn slot : ℕ) (these : List ℕ) (known : Row)
         ];
       }
 
+  -- a slot that was noted for the turn before holds its values while they are as before
+  pub held_before : 1 < turn → get_or old.turns slot 0 ≡ turn - 1 → (nets : Row)
+      → AreAsBefore old.nets nets → HoldsTurn m nets (turn - 1) these
+  held_before later is nets as_before k d low =
+      let held : HoldsTurn m old.nets (get_or old.turns slot 0) (get_or m.slots slot []) =
+      remembers.each slot at.inside (omega (is, later, arith)) in
+      let here : HoldsTurn m old.nets (turn - 1) these =
+      subst (λ (xs : List ℕ). HoldsTurn m old.nets (turn - 1) xs) at.is
+      (subst (λ (n : ℕ). HoldsTurn m old.nets n (get_or m.slots slot [])) is held) in
+      as_before (get_or these k d) ∙ here k d low
+
   module _ (nets : Row) (size : length nets ≡ length old.nets)
       (learns : Learns known these old.nets nets) (others : LeavesOthers these old.nets nets)
-      (new : Kept) (noted : IsNoted slot turn (with_nets old nets) new) where
+      (stays : Bool) (held : stays ≡ true → 1 < turn → HoldsTurn m nets (turn - 1) these)
+      (new : Kept) (noted : IsNoted slot turn stays (with_nets old nets) new) where
     holds_these : HoldsTurn m nets turn these
     holds_these k d low =
         learns (get_or these k d) (inl (Contains-get_or these k d low)) ∙ sym (at.values (get_or these k d))
@@ -69,6 +82,15 @@ module _ (m : Memory) (turn slot : ℕ) (these : List ℕ) (known : Row)
       | inl same ↦ same
       | inr lost ↦ absurd (omega (lost.0, turned, arith))
     ]
+
+    -- another slot holds what it held
+    holds_on : (s turned : ℕ) → s ≢ slot → HoldsTurn m old.nets turned (get_or m.slots s [])
+        → HoldsTurn m nets turned (get_or m.slots s [])
+    holds_on s turned ne before k d low =
+        let net : ℕ = get_or (get_or m.slots s []) k d in
+        let has : Contains (get_or m.slots s []) net = Contains-get_or (get_or m.slots s []) k d low in
+        others net (λ this. ne (at.apart s slot net has (subst (λ (xs : List ℕ). Contains xs net) (sym at.is) this)))
+        ∙ before k d low
 
     holds : (s : ℕ) → s < length m.slots → 0 < get_or new.turns s 0
         → HoldsTurn m nets (get_or new.turns s 0) (get_or m.slots s [])
@@ -83,11 +105,35 @@ module _ (m : Memory) (turn slot : ℕ) (these : List ℕ) (known : Row)
           let before : HoldsTurn m old.nets (get_or old.turns s 0) (get_or m.slots s []) =
           remembers.each s there (subst (λ (n : ℕ). 0 < n) t turned) in
           subst (λ (n : ℕ). HoldsTurn m nets n (get_or m.slots s [])) (sym t)
-          (λ k d low.
-          let net : ℕ = get_or (get_or m.slots s []) k d in
-          let has : Contains (get_or m.slots s []) net = Contains-get_or (get_or m.slots s []) k d low in
-          others net (λ this. ne (at.apart s slot net has (subst (λ (xs : List ℕ). Contains xs net) (sym at.is) this)))
-          ∙ before k d low))
+          (holds_on s (get_or old.turns s 0) ne before))
+    ]
+
+    has_flag : slot < length old.stayed
+    has_flag = (let long : length old.stayed ≡ length m.slots = remembers.stayed in omega (at.inside, long, arith))
+
+    -- a slot that has stayed holds the values of the turn before
+    holds_before : (s : ℕ) → s < length m.slots → 1 < get_or new.turns s 0
+        → get_or new.stayed s false ≡ true
+        → HoldsTurn m nets (get_or new.turns s 0 - 1) (get_or m.slots s [])
+    holds_before s there turned is = elim (cases_eq s slot) [
+      | inl e ↦
+          (let t : get_or new.turns s 0 ≡ turn = ap (λ (n : ℕ). get_or new.turns n 0) e ∙ noted.here in
+          let list : get_or m.slots s [] ≡ these = ap (λ (n : ℕ). get_or m.slots n []) e ∙ at.is in
+          let stayed : stays ≡ true =
+          sym (get_or-set_same old.stayed slot stays false has_flag)
+          ∙ (ap (λ (bs : List Bool). get_or bs slot false) (sym noted.stayed)
+          ∙ (ap (λ (n : ℕ). get_or new.stayed n false) (sym e) ∙ is)) in
+          subst (λ (n : ℕ). HoldsTurn m nets (n - 1) (get_or m.slots s [])) (sym t)
+          (subst (λ (xs : List ℕ). HoldsTurn m nets (turn - 1) xs) (sym list)
+          (held stayed (subst (λ (n : ℕ). 1 < n) t turned))))
+      | inr ne ↦
+          (let t : get_or new.turns s 0 ≡ get_or old.turns s 0 = kept_turn s ne (omega (turned, arith)) in
+          let stayed : get_or old.stayed s false ≡ true =
+          sym (get_or-set_other old.stayed slot s stays false ne)
+          ∙ (ap (λ (bs : List Bool). get_or bs s false) (sym noted.stayed) ∙ is) in
+          subst (λ (n : ℕ). HoldsTurn m nets (n - 1) (get_or m.slots s [])) (sym t)
+          (holds_on s (get_or old.turns s 0 - 1) ne
+          (remembers.before s there (subst (λ (n : ℕ). 1 < n) t turned) stayed)))
     ]
 
     -- a slot is noted now
@@ -96,9 +142,14 @@ module _ (m : Memory) (turn slot : ℕ) (these : List ℕ) (known : Row)
       remembers = record {
         nets = ap (λ (r : Row). length r) noted.nets ∙ (size ∙ remembers.nets);
         turns = noted.turns ∙ remembers.turns;
+        stayed = ap (λ (bs : List Bool). length bs) noted.stayed
+            ∙ (length-set old.stayed slot stays ∙ remembers.stayed);
         each = λ s there turned.
             subst (λ (r : Row). HoldsTurn m r (get_or new.turns s 0) (get_or m.slots s [])) (sym noted.nets)
             (holds s there turned);
+        before = λ s there turned is.
+            subst (λ (r : Row). HoldsTurn m r (get_or new.turns s 0 - 1) (get_or m.slots s [])) (sym noted.nets)
+            (holds_before s there turned is);
       };
       learns = subst (λ (r : Row). Learns known these old.nets r) (sym noted.nets) learns;
     }

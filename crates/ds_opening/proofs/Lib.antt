@@ -9,6 +9,7 @@ pub mod Foreseen
 pub mod ForeseenRows
 pub mod LearntRows
 pub mod Learnt
+pub mod Stayed
 pub mod Slots
 pub mod Fed
 pub mod Noting

@@ -1,11 +1,19 @@
 -- The opening of a node that settles, in a row that remembers.
-use Rattle.std.proofs.Common.{◌≡◌, ◌∙◌, ℕ, ◌+◌, ◌/◌, ◌<◌, Bool, List, [], length}
+use Rattle.std.proofs.Common.{◌≡◌, ◌∙◌, ℕ, ◌+◌, ◌-◌, ◌/◌, ◌<◌, Bool, List, [], length}
 use Rattle.std.proofs.Common.{get_or, map, sym, ap}
 use Rattle.std.proofs.Common.{subst, arith}
 use Rattle.std.specs.Prelude.{All, Contains}
 use Rattle.std.proofs.lemmas.List.{get_or-map, length-map}
+use Rattle.std.proofs.lemmas.List.Elements.{All-contains}
+use Rattle.std.proofs.lemmas.List.FromFn.{length-map-range_with_len}
 use Rattle.ds_base.specs.Values.{Row}
-use Rattle.ds_cover.specs.Cover.{values_at}
+use Rattle.ds_cover.specs.Cover.{value_at, values_at}
+use Rattle.ds_cover.proofs.Keeps.{value_agrees}
+use Rattle.ds_design.specs.declared.design.Gate.{Gate}
+use Rattle.ds_groups.specs.Reads.{ReadFrom}
+use Rattle.ds_opening.specs.Foreseen.{node_at}
+use Rattle.ds_opening.specs.Noted.{AreDriven, AreGroupsBefore, HasReads, all_learnt_nets, learnt_nets}
+use Rattle.ds_opening.specs.Noted.{nets_of_turn}
 use Rattle.ds_design.specs.Circuit.{Circuit}
 use Rattle.ds_design.specs.InRange.{IsInRange}
 use Rattle.ds_design.specs.Run.{row_at}
@@ -125,6 +133,44 @@ module _ {s : Split} (split : IsSplit s) (range : IsInRange s.circuit)
     values = opens.memory.values;
   }
 
+  -- there is a slot for each that a group reads
+  others_long : length (all_learnt_nets s) ≡ nodes s
+  others_long = length-map-range_with_len (λ number. learnt_nets s (node_at number)) 0 (nodes s)
+
+  pub has_reads : HasReads g k
+  has_reads = record {
+    one_each = are.reads.one_each;
+    groups = omega (opens.memory.remembers.turns, slots_are_long, arith);
+    stayed = omega (opens.memory.remembers.stayed, opens.memory.remembers.turns, arith);
+    slots = λ a i d low.
+        let near : get_or (get_or g.reads a []) i d < length g.groups + length (all_learnt_nets s) =
+        are.reads.within a i d low in
+        omega (near, others_long, opens.memory.remembers.turns, slots_are_long, arith);
+  }
+
+  -- the nets of the turn before, as the clocked run has them
+  before_is : 1 < o.turn → (net : ℕ)
+      → value_at (nets_of_turn m (o.turn - 1)) net ≡ value_at (t.nets (t.opened - 1)) net
+  before_is later net = opens.memory.before later net
+
+  drove : 1 < o.turn → (a : ℕ) → AreDriven s.circuit (nets_of_turn m (o.turn - 1)) (group_of g a)
+  drove later a k d has =
+      let earlier : t.opened - 1 < length t.vectors = omega (opens.fed.below, arith) in
+      let inside : k < length s.circuit.tables =
+      All-contains (λ n. n < length s.circuit.tables) (group_of g a) k (are.are.within a) has in
+      let gate : Gate = get_or s.circuit.tables k d in
+      before_is later gate.output
+      ∙ ((opens.fed.run.settles (t.opened - 1) earlier).table k d inside
+      ∙ sym (value_agrees gate.table (nets_of_turn m (o.turn - 1)) (t.nets (t.opened - 1))
+      (λ i e low. before_is later (get_or gate.table.inputs i e))))
+
+  pub groups_before : AreGroupsBefore s.circuit g m o.turn
+  groups_before a low = record {
+    reads = λ some. subst (λ (slots : List (List ℕ)). ReadFrom s.circuit slots a (get_or g.reads a []) (group_of g a))
+        (sym opens.memory.slots) (are.reads.each a some);
+    driven = λ later. drove later a;
+  }
+
   pub group_slots : AreGroupSlots s.circuit g m o.turn known
   group_slots a low = slot_is a (nets_of_tables s.circuit (group_of g a)) (omega (low, arith)) (slot_of_group s split g a low)
 
@@ -178,7 +224,7 @@ module _ {s : Split} (split : IsSplit s) (range : IsInRange s.circuit)
 
     -- what setting the groups of a list gives
     abbrev pub Sets : Kept → Circuit → List ℕ → Type 0
-    Sets settled net xs = AreGroupSlots net g m o.turn known
+    Sets settled net xs = AreGroupSlots net g m o.turn known → AreGroupsBefore net g m o.turn
         → FindInputs net known (IsAsKnown known filled.nets) (tables_in g xs) → Remembers m filled
         → IsLearnt m known (nets_of_tables net (tables_in g xs)) filled settled
 
@@ -186,4 +232,4 @@ module _ {s : Split} (split : IsSplit s) (range : IsInRange s.circuit)
         → Sets settled net xs → IsLearnt m known (nets_of_tables s.circuit (tables_in g list)) filled settled
     settled_is settled net net_is xs xs_is sets =
         subst (λ (c : Circuit). Sets settled c list) net_is (subst (Sets settled net) xs_is sets)
-        group_slots list_finds rows.remembers
+        group_slots groups_before list_finds rows.remembers

@@ -1,23 +1,27 @@
 -- Words of values, written and read back.
-use Rattle.std.proofs.Common.{◌≡◌, ◌≢◌, ◌∙◌, ℕ, zero, suc, ◌+◌, ◌-◌, ◌*◌, ◌/◌, ◌%◌, ◌^◌, ◌<◌, ◌≤◌, List, [], ◌∷◌, ◌++◌, length, get_or, map, take, drop, refl, ap, sym, subst, arith, inl, inr, set}
+use Rattle.std.proofs.Common.{◌≡◌, ◌≢◌, ◌∙◌, ℕ, zero, suc, ◌+◌, ◌-◌, ◌*◌, ◌/◌, ◌%◌, ◌^◌, ◌<◌, ◌≤◌}
+use Rattle.std.proofs.Common.{List, [], ◌∷◌, ◌++◌, length, get_or, map, take, drop, refl, ap, sym}
+use Rattle.std.proofs.Common.{subst, arith, inl, inr, set}
 use Rattle.std.specs.List.{range_with_len}
-use Rattle.std.proofs.lemmas.List.{get_or-drop, get_or-take, length-drop, length-take, length-map, get_or-map, get_or-set_other, get_or-set_same, take-map, take_all, take_more, append_assoc}
-use Rattle.std.specs.Prelude.{Contains}
+use Rattle.std.proofs.lemmas.List.{length-map, get_or-map, get_or-set_other, get_or-set_same}
+use Rattle.std.proofs.lemmas.List.{take-map, take_all, take_more, take_rest, append_assoc}
+use Rattle.std.specs.Prelude.{All, Contains}
 use Rattle.std.proofs.lemmas.Bool.{cases_eq}
-use Rattle.std.proofs.lemmas.List.Elements.{Contains-append_cases, Contains-append_left, Contains-push}
+use Rattle.std.proofs.lemmas.List.Elements.{All-drop, All-take, Contains-append_cases}
+use Rattle.std.proofs.lemmas.List.Elements.{Contains-append_left, Contains-append_right}
+use Rattle.std.proofs.lemmas.List.Elements.{Contains-push}
 use Rattle.ds_settle.specs.Settle.{LeavesOthers}
 use Rattle.ds_settle.proofs.SetBits.{value_at-set_other}
-use Rattle.std.proofs.lemmas.List.FromFn.{get_or-map-range_with_len, map-range_with_len_more}
-use Rattle.std.proofs.lemmas.Nat.{div-mul-add, mod-mul-add}
-use Rattle.std.proofs.lemmas.Grind.{pow_more}
-use Rattle.std.proofs.Math.Nat.{div-div-eq-div-mul}
+use Rattle.std.proofs.lemmas.List.FromFn.{get_or-map-range_with_len}
+use Rattle.std.proofs.lemmas.List.FromFn.{length-map-range_with_len, map-range_with_len_more}
+use Rattle.std.proofs.Math.Seq.{take-add}
 use Rattle.ds_base.specs.Values.{Row}
 use Rattle.ds_base.specs.Word.{code_of, number_of_values, word_of}
 use Rattle.ds_base.specs.declared.value.Value.{Value}
 use Rattle.ds_base.specs.declared.value.Value.TheVariants.{Zero}
 use Rattle.ds_base.proofs.Words.{code_of-few, number_of_values-drop_room, number_of_values-one_more}
 use Rattle.ds_cover.specs.Cover.{value_at, values_at}
-use Rattle.ds_opening.specs.Packed.{Learns, packed, words_of}
+use Rattle.ds_opening.specs.Packed.{AreAsBefore, Learns, packed, words_of}
 
 drop_map : {X Y : Type 0} (f : X → Y) (n : ℕ) (xs : List X) → drop n (map f xs) ≡ map f (drop n xs)
 drop_map f zero xs = refl
@@ -44,61 +48,48 @@ one_more nets these i net code word value some most net_is value_is code_is is =
     omega (more, same, is, arith)
 
 -- a part of the nets, as a part of the values
-part : (nets : Row) (these : List ℕ) (n i : ℕ) → values_at nets (take n (drop i these)) ≡ take n (drop i (values_at nets these))
-part nets these n i = sym (take-map (value_at nets) n (drop i these)) ∙ ap (take n) (sym (drop_map (value_at nets) i these))
+values_at-part : (nets : Row) (these : List ℕ) (n i : ℕ)
+    → values_at nets (take n (drop i these)) ≡ take n (drop i (values_at nets these))
+values_at-part nets these n i = sym (take-map (value_at nets) n (drop i these))
+    ∙ ap (take n) (sym (drop_map (value_at nets) i these))
 
--- the last word of some nets, which has fewer than 32 values
-pub last_word : (nets : Row) (these : List ℕ) (i : ℕ) → length (take (length these - 32 * i) (drop (32 * i) these)) < 32
-    → number_of_values (values_at nets (take (length these - 32 * i) (drop (32 * i) these))) ≡ word_of (values_at nets these) i
-last_word nets these i short =
-    let size : length (values_at nets these) ≡ length these = length-map these (value_at nets) in
-    let whole : take (length these - 32 * i) (drop (32 * i) these) ≡ drop (32 * i) these = take_all (length these - 32 * i) (drop (32 * i) these) (rw length-drop (omega arith)) in
-    let few : length (drop (32 * i) these) < 32 = rw whole at short in
-    let few_values : length (drop (32 * i) (values_at nets these)) ≤ 32 = rw (drop_map (value_at nets) (32 * i) these, length-map (drop (32 * i) these) (value_at nets)) (omega (few, arith)) in
-    ap (λ (xs : List ℕ). number_of_values (values_at nets xs)) whole ∙ (ap number_of_values (sym (drop_map (value_at nets) (32 * i) these))
-    ∙ ap number_of_values (sym (take_all 32 (drop (32 * i) (values_at nets these)) few_values)))
+-- what is left of some nets, where that is no whole word
+pub short_part : (these : List ℕ) (i : ℕ)
+    → length (take (length these - i) (drop i these)) < 32
+    → take (length these - i) (drop i these) ≡ take 32 (drop i these)
+short_part these i short =
+    let few : length (drop i these) < 32 = rw (take_rest these i) at short in
+    take_rest these i ∙ sym (take_all 32 (drop i these) (omega (few, arith)))
 
--- a word of some nets with nets behind it
-pub full_word : (nets : Row) (these : List ℕ) (i : ℕ)
-    → number_of_values (values_at nets (take 32 (take (length these - 32 * i) (drop (32 * i) these)))) ≡ word_of (values_at nets these) i
-full_word nets these i =
-    let whole : take (length these - 32 * i) (drop (32 * i) these) ≡ drop (32 * i) these = take_all (length these - 32 * i) (drop (32 * i) these) (rw length-drop (omega arith)) in
-    ap (λ (xs : List ℕ). number_of_values (values_at nets (take 32 xs))) whole ∙ ap number_of_values (part nets these 32 (32 * i))
+-- the nets of a word have places in a row, where all nets have
+pub part_within : (these part : List ℕ) (i size : ℕ) → part ≡ take 32 (drop (32 * i) these)
+    → All (λ net. net < size) these → All (λ net. net < size) part
+part_within these part i size is within =
+    subst (λ (xs : List ℕ). All (λ net. net < size) xs) (sym is)
+    (All-take (λ net. net < size) 32 (drop (32 * i) these)
+    (All-drop (λ net. net < size) (32 * i) these within))
 
--- the two bits of a value in the number of some
-digit : (values : Row) (j : ℕ) → j < length values → number_of_values values / 2 ^ (2 * j) % 4 ≡ code_of (get_or values j Zero)
-digit [] j inside = absurd (omega arith)
-digit (v ∷ values) zero inside =
-    let few : code_of v ≤ 2 = code_of-few v in
-    let none : 2 * 0 ≡ 0 = omega arith in
-    let split : code_of v + 4 * number_of_values values ≡ number_of_values values * 4 + code_of v = omega arith in
-    let all : (code_of v + 4 * number_of_values values) / 2 ^ (2 * 0) ≡ code_of v + 4 * number_of_values values = ap (λ (n : ℕ). (code_of v + 4 * number_of_values values) / 2 ^ n) none ∙ (let e : (code_of v + 4 * number_of_values values) / 1 ≡ code_of v + 4 * number_of_values values = omega arith in e) in
-    ap (λ (n : ℕ). n % 4) (all ∙ split) ∙ mod-mul-add (number_of_values values) 4 (code_of v) (omega (few, arith))
-digit (v ∷ values) (suc j) inside =
-    let few : code_of v ≤ 2 = code_of-few v in
-    let split : code_of v + 4 * number_of_values values ≡ number_of_values values * 4 + code_of v = omega arith in
-    let quarter : (code_of v + 4 * number_of_values values) / 4 ≡ number_of_values values = ap (λ (n : ℕ). n / 4) split ∙ div-mul-add (number_of_values values) 4 (code_of v) (omega (few, arith)) in
-    let up : 2 * suc j ≡ 2 * j + 1 + 1 = omega arith in
-    let one : 2 ^ (2 * j + 1 + 1) ≡ 2 ^ (2 * j + 1) * 2 = pow_more 2 (2 * j + 1) in
-    let two : 2 ^ (2 * j + 1) ≡ 2 ^ (2 * j) * 2 = pow_more 2 (2 * j) in
-    let power : 2 ^ (2 * suc j) ≡ 4 * 2 ^ (2 * j) = ap (λ (n : ℕ). 2 ^ n) up ∙ (let e : 2 ^ (2 * j + 1 + 1) ≡ 4 * 2 ^ (2 * j) = omega (one, two, arith) in e) in
-    ap (λ (n : ℕ). (code_of v + 4 * number_of_values values) / n % 4) power
-    ∙ (ap (λ (n : ℕ). n % 4) (sym (div-div-eq-div-mul (code_of v + 4 * number_of_values values) 4 (2 ^ (2 * j)))
-    ∙ ap (λ (n : ℕ). n / 2 ^ (2 * j)) quarter) ∙ digit values j (omega arith))
+-- the number of a part of the nets, as a word of all
+pub number_of_part : (nets : Row) (these part : List ℕ) (i : ℕ)
+    → part ≡ take 32 (drop (32 * i) these)
+    → number_of_values (values_at nets part) ≡ word_of (values_at nets these) i
+number_of_part nets these part i is =
+    ap (λ (xs : List ℕ). number_of_values (values_at nets xs)) is
+    ∙ ap number_of_values (values_at-part nets these 32 (32 * i))
 
--- a value is read back from the words of its row
-pub read_back : (words : List ℕ) (values : Row) (i : ℕ) → words ≡ packed values → i < length values
-    → get_or words (i / 32) 0 / 2 ^ (2 * (i % 32)) % 4 ≡ code_of (get_or values i Zero)
-read_back words values i is inside =
-    let cut : 32 * (i / 32) + i % 32 ≡ i = omega arith in
-    let small : i % 32 < 32 = omega arith in
-    let near : i / 32 < words_of (length values) = omega arith in
-    let word : get_or words (i / 32) 0 ≡ word_of values (i / 32) = ap (λ (ws : List ℕ). get_or ws (i / 32) 0) is
-    ∙ get_or-map-range_with_len (word_of values) 0 (words_of (length values)) (i / 32) (i / 32) 0 near (omega arith) in
-    let here : i % 32 < length (take 32 (drop (32 * (i / 32)) values)) = rw (length-take, length-drop) (omega (cut, small, inside, arith)) in
-    let value : get_or (take 32 (drop (32 * (i / 32)) values)) (i % 32) Zero ≡ get_or values i Zero =
-    get_or-take 32 (drop (32 * (i / 32)) values) (i % 32) Zero small ∙ (get_or-drop (32 * (i / 32)) values (i % 32) Zero ∙ ap (λ (n : ℕ). get_or values n Zero) cut) in
-    ap (λ (n : ℕ). n / 2 ^ (2 * (i % 32)) % 4) word ∙ (digit (take 32 (drop (32 * (i / 32)) values)) (i % 32) here ∙ ap code_of value)
+-- a word of known nets, as the number of its part of them
+pub word_is_number : (known : Row) (words these part : List ℕ) (i : ℕ)
+    → words ≡ packed (values_at known these) → i < length words
+    → part ≡ take 32 (drop (32 * i) these)
+    → get_or words i 0 ≡ number_of_values (values_at known part)
+word_is_number known words these part i words_are inside part_is =
+    let row : Row = values_at known these in
+    let many : length words ≡ words_of (length row) = ap (λ (ws : List ℕ). length ws) words_are
+    ∙ length-map-range_with_len (word_of row) 0 (words_of (length row)) in
+    let near : i < words_of (length row) = omega (many, inside, arith) in
+    ap (λ (ws : List ℕ). get_or ws i 0) words_are
+    ∙ (get_or-map-range_with_len (word_of row) 0 (words_of (length row)) i i 0 near (omega arith)
+    ∙ sym (number_of_part known these part i part_is))
 
 -- one word more
 pub word_more : (values : Row) (old items new : List ℕ) (i word : ℕ) → items ≡ old ++ map (word_of values) (range_with_len 0 i)
@@ -107,6 +98,21 @@ word_more values old items new i word items_are word_is is =
     is ∙ (ap (λ (xs : List ℕ). xs ++ word ∷ []) items_are ∙ (ap (λ (w : ℕ). (old ++ map (word_of values) (range_with_len 0 i)) ++ w ∷ []) word_is
     ∙ (append_assoc old (map (word_of values) (range_with_len 0 i)) (word_of values i ∷ [])
     ∙ ap (λ (xs : List ℕ). old ++ xs) (sym (map-range_with_len_more (word_of values) 0 i i (omega arith))))))
+
+-- the lowest value of a number, and the number of the others
+pub lowest : (values : Row) (i rest : ℕ) → i < length values
+    → rest ≡ number_of_values (drop i values)
+    → (rest % 4 ≡ code_of (get_or values i Zero))
+    × (rest / 4 ≡ number_of_values (drop (i + 1) values))
+lowest values i rest inside is =
+    let few : code_of (get_or values i Zero) ≤ 2 = code_of-few (get_or values i Zero) in
+    let back : i + 1 - 1 ≡ i = omega arith in
+    let more : number_of_values (drop i values)
+    ≡ code_of (get_or values i Zero) + 4 * number_of_values (drop (i + 1) values)
+    = subst (λ (n : ℕ). number_of_values (drop n values)
+    ≡ code_of (get_or values n Zero) + 4 * number_of_values (drop (i + 1) values)) back
+    (number_of_values-one_more values (i + 1) (omega arith) (omega arith)) in
+    (omega (few, more, is, arith), omega (few, more, is, arith))
 
 -- one net more is as it is known
 pub learns_more : (known : Row) (these : List ℕ) (i net : ℕ) (old row new : Row) (value : Value) → i < length these → net ≡ get_or these i net
@@ -146,5 +152,46 @@ others_more these i net old row new value inside net_is is before other free =
     ap (λ (r : Row). value_at r other) is ∙ (value_at-set_other row net other value not_here
     ∙ before other (λ has. free (subst (λ (xs : List ℕ). Contains xs other) (sym split) (Contains-append_left (take i these) (get_or these i net ∷ []) other has))))
 
-pub all_others : (these : List ℕ) (i : ℕ) (old new : Row) → length these ≤ i → LeavesOthers (take i these) old new → LeavesOthers these old new
-all_others these i old new past others = subst (λ (xs : List ℕ). LeavesOthers xs old new) (take_all i these past) others
+-- the nets of one word more
+pub take-part : (these part : List ℕ) (i : ℕ) → part ≡ take 32 (drop (32 * i) these)
+    → take (32 * (i + 1)) these ≡ take (32 * i) these ++ part
+take-part these part i is =
+    let up : 32 * (i + 1) ≡ 32 * i + 32 = omega arith in
+    ap (λ (n : ℕ). take n these) up ∙ (take-add (32 * i) 32 these
+    ∙ ap (λ (xs : List ℕ). take (32 * i) these ++ xs) (sym is))
+
+-- the nets of one word more are as they are known
+pub learns_part : (known : Row) (these part : List ℕ) (i : ℕ) (old row new : Row)
+    → part ≡ take 32 (drop (32 * i) these)
+    → Learns known (take (32 * i) these) old row → Learns known part row new
+    → Learns known (take (32 * (i + 1)) these) old new
+learns_part known these part i old row new is first then net which =
+    then net (elim which [
+      | inl there ↦ elim (Contains-append_cases (take (32 * i) these) part net
+          (subst (λ (xs : List ℕ). Contains xs net) (take-part these part i is) there)) [
+            | inl early ↦ inr (first net (inl early))
+            | inr late ↦ inl late
+          ]
+      | inr before ↦ inr (first net (inr before))
+    ])
+
+-- the nets of one word more, and the others as they were
+pub others_part : (these part : List ℕ) (i : ℕ) (old row new : Row)
+    → part ≡ take 32 (drop (32 * i) these)
+    → LeavesOthers (take (32 * i) these) old row → LeavesOthers part row new
+    → LeavesOthers (take (32 * (i + 1)) these) old new
+others_part these part i old row new is first then net free =
+    let all : take (32 * (i + 1)) these ≡ take (32 * i) these ++ part = take-part these part i is in
+    then net (λ has. free (subst (λ (xs : List ℕ). Contains xs net) (sym all)
+    (Contains-append_right (take (32 * i) these) part net has)))
+    ∙ first net (λ has. free (subst (λ (xs : List ℕ). Contains xs net) (sym all)
+    (Contains-append_left (take (32 * i) these) part net has)))
+
+-- a net that is given the value that it has leaves all as before
+pub set_again : (row : Row) (at : ℕ) (value : Value) → at < length row → value_at row at ≡ value
+    → AreAsBefore row (set row at value)
+set_again row at value inside has net = elim (cases_eq net at) [
+  | inl e ↦ ap (value_at (set row at value)) e
+      ∙ (get_or-set_same row at value Zero inside ∙ (sym has ∙ sym (ap (value_at row) e)))
+  | inr ne ↦ value_at-set_other row at net value ne
+]

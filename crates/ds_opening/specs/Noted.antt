@@ -1,12 +1,14 @@
 -- Openings in a row that remembers.
-use Rattle.std.specs.Prelude.{◌≡◌, ◌⊎◌, ⊤, ℕ, ◌+◌, ◌-◌, ◌<◌, List, [], ◌∷◌, ◌++◌}
-use Rattle.std.specs.Prelude.{length, map, All, Contains, slice_index_or}
+use Rattle.std.specs.Prelude.{◌≡◌, ◌⊎◌, ⊤, ℕ, ◌+◌, ◌-◌, ◌<◌, ◌≤◌, List, [], ◌∷◌}
+use Rattle.std.specs.Prelude.{false, length, map, true, All, Contains, slice_index}
+use Rattle.std.specs.Prelude.{slice_index_or}
 use Rattle.std.specs.List.{range_with_len}
 use Rattle.ds_base.specs.Values.{Row}
 use Rattle.ds_cover.specs.Cover.{value_at, value_of}
 use Rattle.ds_design.specs.Circuit.{Circuit}
 use Rattle.ds_design.specs.declared.design.Gate.{Gate}
 use Rattle.ds_groups.specs.Groups.{AreGroupsOf, Grouping, group_of}
+use Rattle.ds_groups.specs.Reads.{AreReads, ReadFrom, slots_with}
 use Rattle.ds_latch.specs.Node.{Node, In, Out, Master, Slave, Split, nets_of, nodes}
 use Rattle.ds_scratch.specs.Scratch.{Kept, Memory, Remembers, value_in}
 use Rattle.ds_settle.specs.Cone.{Parts as Cone, net_of, nets_of_tables}
@@ -16,12 +18,6 @@ use Rattle.ds_opening.specs.Packed.{AreInside, AreLearnt, Learns, packed_rows}
 use Rattle.ds_opening.specs.Woven.{AreCones, IsFed, IsOpening, IsSettlingAt, Turn}
 use Rattle.ds_opening.specs.declared.opening.Opening.{Opening}
 
--- the groups of the cones of the nodes that settle
-pub record AreConeGroups (s : Split) (g : Grouping) : Type 0 where
-  pub cones : List Cone
-  pub are_cones : AreCones s cones
-  pub are : AreGroupsOf s.circuit cones g
-
 -- what others learn of a node as they settle: the nets of IN and of a slave
 abbrev pub learnt_nets : Split → Node → List ℕ
 learnt_nets s In = nets_of s In
@@ -29,10 +25,20 @@ learnt_nets s Out = []
 learnt_nets s (Master i) = []
 learnt_nets s (Slave i) = nets_of s (Slave i)
 
+-- the same of each node
+abbrev pub all_learnt_nets : Split → List (List ℕ)
+all_learnt_nets s = map (λ number. learnt_nets s (node_at number)) (range_with_len 0 (nodes s))
+
+-- the groups of the cones of the nodes that settle, and the slots that each group reads
+pub record AreConeGroups (s : Split) (g : Grouping) : Type 0 where
+  pub cones : List Cone
+  pub are_cones : AreCones s cones
+  pub are : AreGroupsOf s.circuit cones g
+  pub reads : AreReads s.circuit (all_learnt_nets s) g
+
 -- the slots: what the tables of each group drive, and what others learn of each node
 abbrev pub slots_of : Split → Grouping → List (List ℕ)
-slots_of s g = map (nets_of_tables s.circuit) g.groups
-    ++ map (λ number. learnt_nets s (node_at number)) (range_with_len 0 (nodes s))
+slots_of s g = slots_with s.circuit g (all_learnt_nets s)
 
 -- no net is in two slots
 abbrev pub AreSlotsApart : List (List ℕ) → Type 0
@@ -51,6 +57,18 @@ abbrev pub AreGroupSlots : Circuit → Grouping → Memory → ℕ → Row → T
 AreGroupSlots c g m turn known = (a : ℕ) → a < length g.groups
     → IsSlot m turn a (nets_of_tables c (group_of g a)) known
 
+-- there are slots, and all are noted for this turn and as ones that have stayed
+pub record HaveStayed (turn : ℕ) (k : Kept) (slots : List ℕ) : Type 0 where
+  pub some : 0 < length slots
+  pub each : All (λ s. (slice_index k.turns s ≡ turn) × (slice_index_or k.stayed s false ≡ true))
+      slots
+
+-- a group is noted for the turn before, and what it reads has stayed since
+pub record KeepsGroup (g : Grouping) (turn a : ℕ) (k : Kept) : Type 0 where
+  pub later : 1 < turn
+  pub noted : slice_index k.turns a ≡ turn - 1
+  pub stayed : HaveStayed turn k (slice_index_or g.reads a [])
+
 -- a net is as it is known
 abbrev pub IsAsKnown : Row → Row → ℕ → Type 0
 IsAsKnown known nets net = value_at nets net ≡ value_at known net
@@ -59,6 +77,34 @@ IsAsKnown known nets net = value_at nets net ≡ value_at known net
 pub record IsAsLong (old new : Kept) : Type 0 where
   pub nets : length new.nets ≡ length old.nets
   pub turns : length new.turns ≡ length old.turns
+  pub stayed : length new.stayed ≡ length old.stayed
+
+-- the values of all nets in a turn
+abbrev pub nets_of_turn : Memory → ℕ → Row
+nets_of_turn m turn = slice_index_or m.rows (turn - 1) []
+
+-- in the turn each of these tables drove what it computes
+abbrev pub AreDriven : Circuit → Row → List ℕ → Type 0
+AreDriven c nets tables = (k : ℕ) (d : Gate) → Contains tables k
+    → let t = slice_index_or c.tables k d in value_at nets t.output ≡ value_of t.table nets
+
+-- where a group has a list of slots, what it reads is in these; and in the turn before its tables
+-- drove what they compute
+pub record IsGroupBefore (c : Circuit) (g : Grouping) (m : Memory) (turn a : ℕ) : Type 0 where
+  pub reads : 0 < length (slice_index_or g.reads a [])
+      → ReadFrom c m.slots a (slice_index_or g.reads a []) (group_of g a)
+  pub driven : 1 < turn → AreDriven c (nets_of_turn m (turn - 1)) (group_of g a)
+
+-- the same of each group
+abbrev pub AreGroupsBefore : Circuit → Grouping → Memory → ℕ → Type 0
+AreGroupsBefore c g m turn = (a : ℕ) → a < length g.groups → IsGroupBefore c g m turn a
+
+-- each group has a list of slots, and these are there
+pub record HasReads (g : Grouping) (k : Kept) : Type 0 where
+  pub one_each : length g.reads ≡ length g.groups
+  pub groups : length g.groups ≤ length k.turns
+  pub stayed : length k.stayed ≡ length k.turns
+  pub slots : (a : ℕ) → All (λ s. s < length k.turns) (slice_index_or g.reads a [])
 
 -- these nets are as they are known, and so is each that was so, and what is noted is remembered
 pub record IsLearnt (m : Memory) (known : Row) (these : List ℕ) (old new : Kept) : Type 0 where
@@ -94,6 +140,8 @@ pub record IsMemoryOf (s : Split) (g : Grouping) (turn : ℕ) (t : Turn) (m : Me
   pub nets : m.nets ≡ length s.circuit.nets
   pub slots : m.slots ≡ slots_of s g
   pub values : (net : ℕ) → value_in m turn net ≡ value_at (t.nets t.opened) net
+  pub before : 1 < turn → (net : ℕ)
+      → value_in m (turn - 1) net ≡ value_at (t.nets (t.opened - 1)) net
   pub remembers : Remembers m k
 
 -- the opening of a node in a turn of a run on these vectors, in a row that remembers: the words of

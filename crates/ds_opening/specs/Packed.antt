@@ -28,6 +28,10 @@ Learns known these old new = (net : ℕ)
     → Contains these net ⊎ (value_at old net ≡ value_at known net)
     → value_at new net ≡ value_at known net
 
+-- each net has the value that it had
+abbrev pub AreAsBefore : Row → Row → Type 0
+AreAsBefore old new = (net : ℕ) → value_at new net ≡ value_at old net
+
 -- the nets of these nodes are as they are known
 abbrev pub AreLearnt : Row → List (List ℕ) → List ℕ → Row → Type 0
 AreLearnt known bits nodes new = (node : ℕ) → Contains nodes node

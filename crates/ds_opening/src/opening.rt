@@ -10,12 +10,13 @@ ghost use Rattle.ds_design.specs.Circuit.{columns};
 ghost use Rattle.ds_groups.specs.Groups.{group_of, tables_in};
 ghost use Rattle.ds_latch.specs.Node.{Node, IsNode, number_of, nets_of};
 ghost use Rattle.ds_latch.specs.Plan.{IsSplit};
-ghost use Rattle.ds_scratch.specs.Scratch.{Memory, Remembers};
+ghost use Rattle.ds_scratch.specs.Scratch.{HasSlot, Memory, Remembers};
 ghost use Rattle.ds_settle.specs.Cone.{nets_of_tables};
 ghost use Rattle.ds_opening.specs.Packed.{AreInside, packed};
 ghost use Rattle.ds_opening.specs.Packed.{words_of as words_for};
 ghost use Rattle.ds_opening.specs.Noted.{AreConeGroups, FindInputs, AreGroupSlots, AreRowsLearnt};
-ghost use Rattle.ds_opening.specs.Noted.{IsAsKnown};
+ghost use Rattle.ds_opening.specs.Noted.{AreGroupsBefore, HasReads, HaveStayed, IsAsKnown};
+ghost use Rattle.ds_opening.specs.Noted.{IsGroupBefore, KeepsGroup};
 ghost use Rattle.ds_opening.specs.Noted.{IsAsLong, IsLearnt, IsNotedOpening, IsSettlingOpening};
 ghost use Rattle.ds_opening.specs.Noted.{AreReadRows, IsSlot};
 ghost use Rattle.ds_opening.specs.Woven.{Turn, taken};
@@ -40,8 +41,9 @@ pub struct Opening<'a> {
 /// producers' rows: of IN the next vector, of a slave the row of its master, of the others what
 /// settles. That is worked out in a row that remembers: what another node has learnt or set in this
 /// turn is not learnt or set again, and rows that are learnt (`is_learnt`) are not among those of
-/// the opening. The slots of the row are those of the groups, then one of each node: IN and the
-/// slaves are learnt. It takes no memory.
+/// the opening. A group that reads nothing but what has stayed since the turn before keeps its
+/// values. The slots of the row are those of the groups, then one of each node: IN and the slaves
+/// are learnt. It takes no memory.
 pub fn open(
     latches: &Latches,
     vectors: &Vectors,
@@ -119,6 +121,7 @@ fn open_groups(
 // slots stand those of the nodes.
 fn learn_rows(bits: &[Seq<NetId>], first: usize, opening: &Opening, scratch: &mut Scratch)
     requires turn { 0 < opening.now.turn }
+    requires slots { length scratch.old.stayed ≡ length scratch.old.turns }
     requires few { (first < 2 ^ 63) × (length bits.now < 2 ^ 32) }
     requires read { (known : Row) × (nodes : List ℕ)
         × AreReadRows bits.now first opening.now scratch.old known nodes }
@@ -141,11 +144,12 @@ fn learn_rows(bits: &[Seq<NetId>], first: usize, opening: &Opening, scratch: &mu
     }
 }
 
-// Gives the nets of one producer the values of its row.
+// Gives the nets of one producer the values of its row. The slot has stayed where they had them, as
+// those of the turn before.
 fn learn_row(row: &[u64], these: &[NetId], slot: usize, turn: u64, scratch: &mut Scratch)
     requires turn { 0 < turn }
     requires within { AreInside these.now scratch.old.nets }
-    requires slot { slot < length scratch.old.turns }
+    requires slot { HasSlot slot scratch.old }
     requires words { length row.now ≡ words_for (length these.now) }
 
     ensures value { (m : Memory) (known : Row) → IsSlot m turn slot these.now known
@@ -153,8 +157,9 @@ fn learn_row(row: &[u64], these: &[NetId], slot: usize, turn: u64, scratch: &mut
         → IsLearnt m known these.now scratch.old scratch.new }
     ensures same { IsAsLong scratch.old scratch.new }
 {
-    put_values(row, these, scratch.nets_mut());
-    scratch.note(slot, turn);
+    let was_noted = scratch.is_noted(slot, turn - 1);
+    let stayed = put_values(row, these, scratch.nets_mut()) && was_noted;
+    scratch.note(slot, turn, stayed);
 }
 
 // Sets the tables of these groups, one group after another, where they are not set.
@@ -164,9 +169,10 @@ fn set_groups(netlist: &Netlist, groups: &Groups, list: &[u32], turn: u64, scrat
     requires groups { All (λ a. a < length groups.now.groups) list.now }
     requires tables { (a : ℕ) → All (λ k. k < length netlist.now.tables) (group_of groups.now a) }
     requires nets { length scratch.old.nets ≡ length netlist.now.nets }
-    requires slots { length groups.now.groups ≤ length scratch.old.turns }
+    requires slots { HasReads groups.now scratch.old }
 
     ensures value { (m : Memory) (known : Row) → AreGroupSlots netlist.now groups.now m turn known
+        → AreGroupsBefore netlist.now groups.now m turn
         → FindInputs netlist.now known (IsAsKnown known scratch.old.nets)
         (tables_in groups.now list.now)
         → Remembers m scratch.old
@@ -179,17 +185,18 @@ fn set_groups(netlist: &Netlist, groups: &Groups, list: &[u32], turn: u64, scrat
     }
 }
 
-// The same of one group.
+// The same of one group. Where all that it reads has stayed, it keeps its values.
 fn set_group(netlist: &Netlist, groups: &Groups, number: usize, turn: u64, scratch: &mut Scratch)
     requires turn { 0 < turn }
     requires packed { IsBankOf netlist.now.tables groups.now.bank }
     requires number { number < length groups.now.groups }
     requires tables { All (λ k. k < length netlist.now.tables) (group_of groups.now number) }
     requires nets { length scratch.old.nets ≡ length netlist.now.nets }
-    requires slot { number < length scratch.old.turns }
+    requires slots { HasReads groups.now scratch.old }
 
     ensures value { (m : Memory) (known : Row)
         → IsSlot m turn number (nets_of_tables netlist.now (group_of groups.now number)) known
+        → IsGroupBefore netlist.now groups.now m turn number
         → FindInputs netlist.now known (IsAsKnown known scratch.old.nets)
         (group_of groups.now number)
         → Remembers m scratch.old
@@ -201,6 +208,35 @@ fn set_group(netlist: &Netlist, groups: &Groups, number: usize, turn: u64, scrat
         return;
     }
     let _design = netlist.design();
-    groups.set(number, scratch.nets_mut());
-    scratch.note(number, turn);
+    if keeps(groups, number, turn, scratch) {
+        scratch.note(number, turn, true);
+    } else {
+        groups.set(number, scratch.nets_mut());
+        scratch.note(number, turn, false);
+    }
+}
+
+// Whether a group is noted for the turn before, and all that it reads has stayed since.
+fn keeps(groups: &Groups, number: usize, turn: u64, scratch: &Scratch) -> bool
+    requires number { number < length groups.now.groups }
+    requires slots { HasReads groups.now scratch.now }
+    ensures { IsTrue result → KeepsGroup groups.now turn number scratch.now }
+{
+    groups.looks()
+        && turn > 1
+        && have_stayed(groups.reads(number), turn, scratch)
+        && scratch.is_noted(number, turn - 1)
+}
+
+// Whether there are slots, and each has stayed in this turn.
+fn have_stayed(slots: &[usize], turn: u64, scratch: &Scratch) -> bool
+    requires { All (λ s. HasSlot s scratch.now) slots.now }
+    ensures { IsTrue result → HaveStayed turn scratch.now slots.now }
+{
+    for slot in slots {
+        if !scratch.has_stayed(*slot, turn) {
+            return false;
+        }
+    }
+    slots.len() > 0
 }

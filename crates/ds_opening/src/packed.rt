@@ -1,13 +1,11 @@
 //! Rows of nets as words of 32 values.
-ghost use Rattle.std.specs.Prelude.{◌≡◌, ◌≤◌, ◌<◌, ◌+◌, ◌*◌};
-ghost use Rattle.std.specs.Prelude.{◌++◌, length, slice_index_or, All, vec_len, vec_capacity};
+ghost use Rattle.std.specs.Prelude.{◌≡◌, ◌≤◌, ◌<◌, ◌+◌, ◌*◌, IsTrue, ℕ};
+ghost use Rattle.std.specs.Prelude.{◌++◌, length, take, drop, All, vec_len, vec_capacity};
 ghost use Rattle.ds_base.specs.Values.{Row};
-ghost use Rattle.ds_base.specs.Word.{code_of, number_of_values, word_of};
-ghost use Rattle.ds_base.specs.declared.value.Value.{Value};
-ghost use Rattle.ds_base.specs.declared.value.Value.TheVariants.{Zero};
+ghost use Rattle.ds_base.specs.Word.{number_of_values, word_of};
 ghost use Rattle.ds_cover.specs.Cover.{values_at};
 ghost use Rattle.ds_settle.specs.Settle.{LeavesOthers};
-ghost use Rattle.ds_opening.specs.Packed.{Learns, packed, words_of as words_for};
+ghost use Rattle.ds_opening.specs.Packed.{AreAsBefore, Learns, packed, words_of as words_for};
 
 use ds_base::{NetId, Row3, Value};
 
@@ -62,12 +60,7 @@ fn word_at(nets: &Row3, these: &[NetId], i: usize) -> u64
     requires inside { 32 * i < length these.now }
     ensures { result ≡ word_of (values_at nets.now these.now) i }
 {
-    let rest = &these[32 * i..];
-    if rest.len() < 32 {
-        word_from(nets, rest)
-    } else {
-        word_from(nets, &rest[..32])
-    }
+    word_from(nets, nets_of_word(these, i))
 }
 
 // The number of these nets' values, the first of them the lowest.
@@ -78,54 +71,62 @@ fn word_from(nets: &Row3, these: &[NetId]) -> u64
 {
     let mut word = 0;
     for i in (0..these.len()).rev() {
-        word = code(nets.value(these[i].index())) + 4 * word;
+        word = nets.value(these[i].index()).code() + 4 * word;
     }
     word
 }
 
-// The two bits of a value.
-fn code(value: Value) -> u64
-    ensures code { result ≡ code_of value }
-    ensures two_bits { result ≤ 2 }
-{
-    match value {
-        Value::Zero => 0,
-        Value::One => 1,
-        Value::Unknown => 2,
-    }
-}
-
-// Gives these nets the values that stand in words.
-pub(crate) fn put_values(words: &[u64], these: &[NetId], nets: &mut Row3)
+// Gives these nets the values that stand in words. Tells whether they had them before.
+pub(crate) fn put_values(words: &[u64], these: &[NetId], nets: &mut Row3) -> bool
     requires within { All (λ net. net < length nets.old) these.now }
     requires words { length words.now ≡ words_for (length these.now) }
     ensures value { (known : Row) → words.now ≡ packed (values_at known these.now)
         → Learns known these.now nets.old nets.new }
     ensures others { LeavesOthers these.now nets.old nets.new }
     ensures same { length nets.new ≡ length nets.old }
+    ensures stayed { IsTrue result → AreAsBefore nets.old nets.new }
 {
-    for (i, net) in these.iter().enumerate() {
-        nets.set(net.index(), value_in(words, i));
+    // Most rows are one word.
+    if words.len() == 1 {
+        return put_word(words[0], these, nets);
     }
+    let mut stayed = true;
+    for i in 0..words.len() {
+        if !put_word(words[i], nets_of_word(these, i), nets) {
+            stayed = false;
+        }
+    }
+    stayed
 }
 
-// Value i of the words.
-fn value_in(words: &[u64], i: usize) -> Value
-    requires { i < 32 * length words.now }
-    ensures { (values : Row) → words.now ≡ packed values → i < length values
-        → result ≡ slice_index_or values i Zero }
+// Gives these nets the values that stand in a word, the first of them the lowest. Tells whether
+// they had them before.
+fn put_word(word: u64, these: &[NetId], nets: &mut Row3) -> bool
+    requires within { All (λ net. net < length nets.old) these.now }
+    ensures value { (known : Row) → word ≡ number_of_values (values_at known these.now)
+        → Learns known these.now nets.old nets.new }
+    ensures others { LeavesOthers these.now nets.old nets.new }
+    ensures same { length nets.new ≡ length nets.old }
+    ensures stayed { IsTrue result → AreAsBefore nets.old nets.new }
 {
-    let word = words[i / 32] >> (2 * (i % 32));
-    value_of(word % 4)
+    let mut rest = word;
+    let mut stayed = true;
+    for net in these {
+        let code = rest % 4;
+        if nets.value(net.index()).code() != code {
+            stayed = false;
+        }
+        nets.set(net.index(), Value::of_code(code));
+        rest /= 4;
+    }
+    stayed
 }
 
-// The value with this code.
-fn value_of(code: u64) -> Value
-    ensures { (value : Value) → code ≡ code_of value → result ≡ value }
+// The nets of word i: 32 of them, or as many as are left.
+fn nets_of_word(these: &[NetId], i: usize) -> &[NetId]
+    requires { 32 * i < length these.now }
+    ensures { result.now ≡ take 32 (drop (32 * i) these.now) }
 {
-    match code {
-        0 => Value::Zero,
-        1 => Value::One,
-        _ => Value::Unknown,
-    }
+    let rest = &these[32 * i..];
+    if rest.len() < 32 { rest } else { &rest[..32] }
 }

@@ -1,4 +1,5 @@
--- Rows of value words: of one value, of all producers of a node, and of all values of a node.
+-- Rows of value words: of one value, and of all producers of a node; where they begin, and when
+-- one is written.
 use Rattle.std.specs.Prelude.{◌≡◌, ℕ, ◌+◌, ◌-◌, ◌<◌, List, [], ◌∷◌, ◌++◌, length, cond, ◌==◌}
 use Rattle.std.specs.Prelude.{slice_index, Bool, suc, true, zero}
 use Rattle.ds_rule.specs.Run.{Run, opens, opened}

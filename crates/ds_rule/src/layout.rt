@@ -179,11 +179,7 @@ impl<J: Rows> Layout<J> {
     pub fn opens_next(&self, node: usize, fired: u64) -> bool
         ensures { IsTrue result ↔ (opens self.now (next self.now node fired) ≡ true) }
     {
-        if node < self.latches {
-            if fired % 2 == 0 { true } else { false }
-        } else {
-            false
-        }
+        node < self.latches && fired % 2 == 0
     }
 
     /// How often the event has fired, where its node has fired so often.

@@ -4,9 +4,9 @@
 //! words of the nodes, of 32 values each. A pass, which is a seat of `atomic_table`, holds nodes.
 //! It loads counts, begins the flight of an event that is enabled at what it saw, reads and writes
 //! value words, draws a ticket and publishes. The rule, `Lawful`, says that the events that drew
-//! are one legal list, and that each value word is of the number that the counts show. Each step
-//! has a `Play`, which is what it tells, and a law in `proofs` by which it keeps the rule.
-//! Nothing is said of time, or of which pass fires what.
+//! are one legal list, and that each value word is that of the latest opening in its place, or of
+//! the one being written there. Each step has a `Play`, which is what it tells, and a law in
+//! `proofs` by which it keeps the rule. Nothing is said of time, or of which pass fires what.
 #![tactic(auto)]
 
 pub mod laws;

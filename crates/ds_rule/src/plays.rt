@@ -84,7 +84,7 @@ impl Join<View> for Gather {
     ghost spent = { spent };
 }
 
-/// A load after a `Gather`, which shows that no node was held twice.
+/// A load after a `Gather`, which shows that no node stood twice among those it holds.
 pub struct Learn;
 
 impl Play<u8, View> for Learn {

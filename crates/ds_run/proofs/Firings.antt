@@ -9,7 +9,7 @@ use Rattle.ds_rule.specs.Rule.{tickets}
 use Rattle.ds_rule.specs.Run.{Run, node_of}
 use Rattle.ds_rule.proofs.EventLaws.{node_below}
 use Rattle.ds_rule.proofs.Legal.{logs_are_legal}
-use Rattle.ds_rule.proofs.Logs.{length-firings, length-places}
+use Rattle.ds_rule.proofs.Logs.{length-places}
 use Rattle.ds_fabric.specs.Showing.{IsFired, Recorder}
 use Rattle.ds_run.proofs.Records.{same_long}
 use Rattle.ds_run.proofs.Sound.{run_graph}
@@ -25,9 +25,9 @@ pub fired_counts : (p : Planned) (vectors : List Row) (r : Recorder) → IsPlan 
     → counts_after (λ _. 0) items v ≡ length (tickets r.shown.view v))
 fired_counts p vectors r plan is items fired =
     let run : Run = r.shown.view.run in
-    let log : List ℕ = fired.log in
+    let recorded = fired.recorded in let log : List ℕ = recorded.log in
     let graph : IsGraphOf p.graph run = run_graph p vectors run is plan in
-    let law = logs_are_legal p.graph run graph log fired.legal fired.in_turn in
+    let law = logs_are_legal p.graph run graph log recorded.legal recorded.in_turn in
     let legal : IsLegal p.graph (length vectors) (firings log)
     = subst (λ (n : ℕ). IsLegal p.graph n (firings log)) is.limit_is law.0 in (
       subst (λ (xs : List ℕ). IsLegal p.graph (length vectors) xs) (sym fired.is) legal,
@@ -37,18 +37,17 @@ fired_counts p vectors r plan is items fired =
           = node_below run v graph.among (omega (event, graph.events_are, arith)) in
           ap (λ (xs : List ℕ). counts_after (λ _. 0) xs v) fired.is
           ∙ (law.1 v ∙ (sym (length-places v log)
-          ∙ ap (λ (xs : List ℕ). length xs) (sym (fired.all v near)))),
+          ∙ ap (λ (xs : List ℕ). length xs) (sym (recorded.all v near)))),
     )
 
 pub records_are_legal_lem : RecordsAreLegal
 records_are_legal_lem p vectors r is items fired =
-    let run : Run = r.shown.view.run in (
+    let run : Run = r.shown.view.run in let one = fired.recorded in (
       (fired_counts p vectors r is.accepted is.planned items fired).0,
-      ap (λ (xs : List ℕ). length xs) fired.is
-          ∙ (length-firings fired.log
-          ∙ (same_long run fired.log is.recorded.log fired.in_turn is.recorded.in_turn
-          (λ e near. sym (fired.all e near) ∙ is.recorded.all e near)
-          ∙ sym is.recorded.long)),
+      one.long
+          ∙ (same_long run one.log is.recorded.log one.in_turn is.recorded.in_turn
+          (λ e near. sym (one.all e near) ∙ is.recorded.all e near)
+          ∙ sym is.recorded.long),
     )
 
 pub firings_are_legal_lem : FiringsAreLegal

@@ -1,6 +1,6 @@
 -- What openings compute, in the terms of the run.
-use Rattle.std.proofs.Common.{◌≡◌, ◌∙◌, ℕ, suc, ◌-◌, ◌<◌, ◌≤◌, List, [], length}
-use Rattle.std.proofs.Common.{Bool, get_or, refl, arith, ap, sym, subst}
+use Rattle.std.proofs.Common.{◌≡◌, ◌∙◌, ℕ, suc, ◌-◌, ◌<◌, ◌≤◌, List, length}
+use Rattle.std.proofs.Common.{Bool, refl, arith, ap, sym, subst}
 use Rattle.ds_base.specs.Values.{Row}
 use Rattle.ds_latch.specs.Node.{Node, Split, IsNode, number_of, nodes}
 use Rattle.ds_latch.specs.Node.{nets_of}
@@ -46,7 +46,8 @@ module _ {s : Split} {vectors : Rows} {run : Run} {groups : Grouping} {order : L
     pub turn : Turn
     pub opens : IsOpening s vectors.rows l opened known from node turn
     pub gives : packed (taken s turn node) ≡ row run l (suc opened)
-    pub nets_are : turn.nets turn.opened ≡ w.planned.values_are.nets opened
+    pub nets_are : (j : ℕ) → turn.nets j ≡ w.planned.values_are.nets j
+    pub opened_is : turn.opened ≡ opened
 
   opens_node : (n : Node) → IsNode s n → (opened : ℕ) → opened < length vectors.rows
       → (known : ℕ → Bool) (from : List ℕ)
@@ -73,7 +74,8 @@ module _ {s : Split} {vectors : Rows} {run : Run} {groups : Grouping} {order : L
           turn = refl;
         };
         gives = sym (row-is w.planned w.sound n is_node (suc opened) (omega arith));
-        nets_are = refl;
+        nets_are = λ j. refl;
+        opened_is = refl;
       }
 
   -- the opening of the node with a number, as it is asked for

@@ -13,7 +13,7 @@ use Rattle.ds_rule.specs.Run.{Run, node_of}
 use Rattle.ds_rule.specs.Log.{InTurn, firings, places, times}
 use Rattle.ds_rule.specs.Rule.{tickets}
 use Rattle.ds_rule.proofs.Lists.{at_below}
-use Rattle.ds_rule.proofs.Logs.{drawn, length-places, node_inside, ticket_below}
+use Rattle.ds_rule.proofs.Logs.{drawn, length-firings, length-places, node_inside, ticket_below}
 use Rattle.ds_fabric.specs.Showing.{IsFired, Recorder}
 use Rattle.ds_run.specs.Played.{IsPlayed, IsRecordOf}
 
@@ -32,10 +32,13 @@ pub record_fired : (p : Planned) (vectors : List Row) (r : Recorder) → IsRecor
 record_fired p vectors r is = (
   firings is.recorded.log,
   record {
-    log = is.recorded.log;
-    legal = is.recorded.legal;
-    in_turn = is.recorded.in_turn;
-    all = is.recorded.all;
+    recorded = record {
+      log = is.recorded.log;
+      long = length-firings is.recorded.log;
+      legal = is.recorded.legal;
+      in_turn = is.recorded.in_turn;
+      all = is.recorded.all;
+    };
     is = refl;
   },
 )

@@ -76,6 +76,9 @@ module _ {s : Split} {vectors : Rows} {run : Run} {groups : Grouping} {order : L
         (subst (λ (xs : List ℕ). IsOpening s vectors.rows number (turn - 1) (learnt_in turn)
         xs o.node o.turn) (sym from_is) o.opens))
 
+    nets_in_run : (k : ℕ) → o.turn.opened ≡ k → w.planned.values_are.nets k ≡ o.turn.nets o.turn.opened
+    nets_in_run k is = sym (o.nets_are k) ∙ ap o.turn.nets (sym is)
+
     pub noted : IsNotedOpening s vectors.rows groups opening kept o.node o.turn (memory_of s groups order vectors.rows)
     noted = record {
       some = subst (λ (m : ℕ). 0 < m) (sym turn_is) some;
@@ -85,7 +88,12 @@ module _ {s : Split} {vectors : Rows} {run : Run} {groups : Grouping} {order : L
         slots = refl;
         values = λ net.
             ap (λ (m : ℕ). value_in (memory_of s groups order vectors.rows) m net) turn_is
-            ∙ (remembered turn below net ∙ ap (λ (r : Row). value_at r net) (sym o.nets_are));
+            ∙ (remembered turn below net ∙ ap (λ (r : Row). value_at r net) (nets_in_run (turn - 1) o.opened_is));
+        before = λ later net.
+            ap (λ (m : ℕ). value_in (memory_of s groups order vectors.rows) (m - 1) net) turn_is
+            ∙ (remembered (turn - 1) (omega (below, arith)) net
+            ∙ ap (λ (r : Row). value_at r net)
+            (sym (o.nets_are (turn - 1 - 1)) ∙ ap (λ (k : ℕ). o.turn.nets (k - 1)) (sym o.opened_is)));
         remembers = remembers;
       };
     }

@@ -11,8 +11,8 @@ use Rattle.ds_run.specs.Played.{IsRecordOf}
 abbrev pub most_firings : Planned → List Row → ℕ
 most_firings p vectors = length p.graph.events * length vectors
 
--- the record of a run of which each worker fires so many events, or fewer where no more are left:
--- so many have fired as one worker is to fire, or all
+-- the record of a run of which each worker fires at most so many events: in all at least so many
+-- have fired, or all that there are
 pub record IsHalted (stop jobs : ℕ) (p : Planned) (vectors : List Row) (r : Recorder) :
     Type 0 where
   pub record_is : IsRecordOf p vectors r

@@ -14,10 +14,14 @@ use Rattle.ds_fabric.specs.Showing.{IsBegun, IsFired, Recorder, Showing}
 use Rattle.ds_run.specs.Layout.{IsRunOf}
 use Rattle.ds_run.specs.Played.{IsPlayed, IsRecordOf}
 
--- the rows that a record tells of a node, one for each of its closings
+-- the rows that a latch has stored, one for each of its closings
+abbrev pub rows_stored : Recorder → ℕ → List Row
+rows_stored r l = map (values_at r.shown.view.run l)
+    (range_with_len 1 (length (tickets r.shown.view (closing l))))
+
+-- those that a record tells of a node
 abbrev pub rows_told : Recorder → Node → List Row
-rows_told r n = map (values_at r.shown.view.run (number_of n))
-    (range_with_len 1 (length (tickets r.shown.view (closing (number_of n)))))
+rows_told r n = rows_stored r (number_of n)
 
 -- a state that firing reaches by a list from the first one, and that has stored what a record tells
 pub record IsRecorded (s : Split) (vectors : List Row) (r : Recorder) (events : List ℕ)

@@ -29,8 +29,8 @@ pub fn run<R: Threads + Sync, G: Gate>(
     work(alloc, plan, vectors, workers, None)
 }
 
-/// Fires events of a plan until each worker has fired so many, or all have fired once a vector; if
-/// fewer have then fired in all than one worker was to fire, the caller goes on until so many have.
+/// Fires events of a plan, each worker at most so many, and in all at least so many, or all that
+/// there are.
 /// Want of memory is the only fault.
 pub fn run_to<R: Threads + Sync, G: Gate>(
     alloc: Global,

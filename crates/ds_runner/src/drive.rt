@@ -52,9 +52,7 @@ fn visit_next<J: Rows, C: Compute, G: Gate>(
         (λ fired. (worker.new.turn.view.made ≡ worker.old.turn.view.made + fired)
         × (fired ≤ most)) }
 {
-    let Some(node) = search(site, gear, worker.number, &mut worker.trail) else {
-        return None;
-    };
+    let node = search(site, gear, worker.number, &mut worker.trail)?;
     let fired = visit(site, gear, worker, node, most);
     if !worker.trail.soon {
         tell_all(site, gear, &mut worker.trail, fired);

@@ -2,7 +2,7 @@
 ghost use Rattle.std.specs.Prelude.{◌≡◌};
 
 /// A round over the nodes from `first` up to but not including `end`, which begins again at its
-/// end. `at` comes next; `looks` counts those that the last search passed over.
+/// end. `at` comes next; `looks` counts those that the last search that found one passed over.
 #[derive(Clone, Copy)]
 pub struct Ring {
     pub first: usize,

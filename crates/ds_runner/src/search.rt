@@ -80,9 +80,7 @@ fn hinted<J: Rows, C: Compute, G: Gate>(
     ensures near { IfSome result (λ n. n < site.now.run.nodes) }
 {
     for _ in 0..HINTS {
-        let Some(hint) = trail.hints.pop() else {
-            return None;
-        };
+        let hint = trail.hints.pop()?;
         let begins = trail.begins.as_mut_slice();
         if is_due(site, gear, begins, hint as usize) {
             return Some(hint as usize);

@@ -41,8 +41,8 @@ pub fn tell_targets<J: Rows, C: Compute, G: Gate>(
     }
 }
 
-/// For each event the number of the first arc from it, or how many arcs there are where the arc
-/// with this number is not from it. The arcs of an event stand together.
+/// For each event the number of the first arc from it, or the number of all arcs where none is from
+/// it. The arcs of an event stand together.
 pub fn arcs_from<J: Rows>(alloc: Global, run: &Layout<J>) -> Result<Vec<usize>, OutOfMemory>
     requires { IsSound run.now }
 {

@@ -1,4 +1,4 @@
-//! One visit to a node, the gate before it included.
+//! One step of a node, the gate before it included.
 ghost use Rattle.std.specs.Prelude.{◌≡◌, ◌<◌, ◌≤◌, ℕ, true, false};
 ghost use Rattle.ds_rule.specs.Run.{next, turns};
 ghost use Rattle.ds_rule.specs.Rule.{holds, seen};

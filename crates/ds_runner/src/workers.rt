@@ -27,13 +27,13 @@ use std::alloc::Global;
 use std::thread;
 use std::thread::Threads;
 
-/// Fires every event of a run as often as it may, with so many workers, from 1 to 64; or with a
-/// quota until about that many events have fired.
+/// Fires every event of a run as often as it may, with so many workers, from 1 to 64, but no more
+/// than nodes; or with a quota until about that many events have fired.
 ///
 /// A worker calls the gate before it steps a node that is not done, with its number, the event that
-/// the node fires next, and its turn, from 1 on. With one job the caller is worker 0. With more the
-/// caller, which fires what is left in the end, has the number `jobs`. No fault comes of a thread
-/// that cannot be started: its work is done by another.
+/// the node fires next, and its turn, from 1 on. With one job, or one node, the caller is worker 0.
+/// Else the caller, which fires what is left in the end, has the number `jobs`. No fault comes of a
+/// thread that cannot be started: its work is done by another.
 ///
 /// A quota is how often each worker fires at most. The caller fires only while fewer have fired in
 /// all. A step that does not fire counts nothing.
@@ -123,10 +123,10 @@ fn drive_all<R: Threads + Sync, J: Rows + Sync, C: Compute + Sync, G: Gate>(
     );
 }
 
-// No more workers than nodes. Twice the nodes times the vectors are the firings of the whole run,
-// and as many takes may each worker have. The looks are shared among the workers: all of them
-// together take some twice as long as all firings that there may be, which goes with the work of
-// the nodes: two looks take as long as three tables. So a worker looks on until a run is done in
+// No more workers than nodes. Twice the nodes times the vectors are at least the firings of the
+// whole run, and as many takes may each worker have. The looks are shared among the workers: all of
+// them together take some twice as long as all firings that there may be, which goes with the work
+// of the nodes: two looks take as long as three tables. So a worker looks on until a run is done in
 // which each is at work for a third of the time, longer where cones overlap; where workers wait for
 // processors, what they lose does not grow with their number; and who waits for one that has ended
 // at its quota ends soon.
@@ -143,14 +143,13 @@ fn budget<J: Rows, C: Compute, G: Gate>(
     let workers = jobs.min(nodes as u32);
     let firings = quota.unwrap_or(u64::MAX);
     let takes = 2 * nodes as u64 * site.run.limit();
-    let work = work_of(site) / nodes.max(1) as u64;
+    let work = work_of(site) / nodes as u64;
     let each = work - work / 3;
     let due = takes.min(firings.saturating_mul(workers as u64));
-    let looks = due.saturating_mul(each);
     Budget {
         workers,
         takes,
         firings,
-        looks: looks / workers.max(1) as u64,
+        looks: due.saturating_mul(each) / workers as u64,
     }
 }

@@ -1,5 +1,5 @@
 -- Turns as bytes behind a base.
-use Rattle.std.proofs.Common.{◌≡◌, ◌∙◌, ℕ, zero, suc, ◌-◌, ◌<◌, ◌≤◌, List, ◌∷◌, length, get_or, set, replicate, refl, sym, ap, subst, arith}
+use Rattle.std.proofs.Common.{◌≡◌, ◌∙◌, ℕ, zero, suc, ◌-◌, ◌<◌, ◌≤◌, List, ◌∷◌, length, get_or, set, replicate, refl, sym, ap, subst, arith, Bool, false}
 use Rattle.std.proofs.Math.ListN.{get_or-map}
 use Rattle.std.proofs.lemmas.List.{get_or-replicate, get_or-set_other, get_or-set_same, length-map, length-replicate, length-set}
 use Rattle.ds_base.specs.Values.{Row}
@@ -7,8 +7,12 @@ use Rattle.ds_scratch.specs.Scratch.{IsNoted, Kept, Memory, Remembers}
 use Rattle.ds_scratch.specs.Turns.{IsSameOrLost, noted_turn, noted_turns}
 
 -- a row beside the turns of bytes
-abbrev pub kept : Row → ℕ → List ℕ → Kept
-kept nets base bytes = record { nets = nets; turns = noted_turns base bytes }
+abbrev pub kept : Row → ℕ → List ℕ → List Bool → Kept
+kept nets base bytes stayed = record {
+  nets = nets;
+  turns = noted_turns base bytes;
+  stayed = stayed;
+}
 
 -- a turn of a slot is that of its byte
 pub turn_at : (base : ℕ) (bytes : List ℕ) (s : ℕ) → get_or (noted_turns base bytes) s 0 ≡ noted_turn base (get_or bytes s 0)
@@ -31,24 +35,35 @@ no_turns base (suc n) = ap (λ (turns : List ℕ). 0 ∷ turns) (no_turns base n
 
 -- nothing is remembered of no turns
 pub no_memory : (nets : Row) (slots : ℕ) (m : Memory) → length nets ≡ m.nets → length m.slots ≡ slots
-    → Remembers m (record { nets = nets; turns = replicate slots 0 })
+    → Remembers m (record {
+      nets = nets;
+      turns = replicate slots 0;
+      stayed = replicate slots false;
+    })
 no_memory nets slots m nets_are slots_are = record {
   nets = nets_are;
   turns = length-replicate slots 0 ∙ sym slots_are;
-  each = λ s inside some.
-      absurd (let none : get_or none_noted s 0 ≡ 0 = get_or-replicate slots s 0 0 (omega (inside, slots_are, arith)) in omega (none, some, arith));
+  stayed = length-replicate slots false ∙ sym slots_are;
+  each = λ s inside some. absurd (omega (none s inside, some, arith));
+  before = λ s inside some is. absurd (omega (none s inside, some, arith));
 }
   where
-    none_noted : List ℕ
-    none_noted = replicate slots 0
+    zeros : List ℕ
+    zeros = replicate slots 0
+
+    none : (s : ℕ) → s < length m.slots → get_or zeros s 0 ≡ 0
+    none s inside = get_or-replicate slots s 0 0 (omega (inside, slots_are, arith))
 
 -- a slot whose byte is set once the base has moved is noted
-pub now_noted : (nets : Row) (base next slot turn : ℕ) (old moved : List ℕ) → slot < length old
+pub now_noted : (nets : Row) (base next slot turn : ℕ) (old moved : List ℕ)
+    (flags : List Bool) (stayed : Bool) → slot < length old
     → length moved ≡ length old → IsBehind next turn
     → ((s : ℕ) → IsSameOrLost turn (noted_turn base (get_or old s 0)) (noted_turn next (get_or moved s 0)))
-    → IsNoted slot turn (kept nets base old) (kept nets next (set moved slot (turn - next)))
-now_noted nets base next slot turn old moved inside same behind others = record {
+    → IsNoted slot turn stayed (kept nets base old flags)
+    (kept nets next (set moved slot (turn - next)) (set flags slot stayed))
+now_noted nets base next slot turn old moved flags stayed inside same behind others = record {
   nets = refl;
+  stayed = refl;
   turns = length-map bytes (noted_turn next) ∙ (length-set moved slot (turn - next) ∙ (same ∙ sym (length-map old (noted_turn base))));
   here = turn_at next bytes slot
       ∙ noted_here next (get_or bytes slot 0) turn behind (get_or-set_same moved slot (turn - next) 0 (omega (inside, same, arith)));

@@ -8,11 +8,13 @@
 //!
 //! `Scratch::of` makes one that remembers nothing yet, `is_noted` asks whether a slot is noted for
 //! a turn, `note` notes it for one, and `nets` and `nets_mut` lend the row. That a slot is noted
-//! only once its nets hold the values is the caller's part.
+//! only once its nets hold the values is the caller's part. Who notes a slot says also whether it
+//! has stayed, which is that its values are those of the turn before too; `has_stayed` asks that,
+//! so that what is computed of slots that have stayed need not be computed again.
 //!
-//! Turns count from 1, and a slot takes one byte: how many turns it comes after a base that all
-//! slots share. So turns can be kept that lie less than 255 apart. Where a turn is noted that lies
-//! further on, the base follows it, and slots of turns that lie 128 and more before it may be
+//! Turns count from 1, and a slot's turn takes one byte: how many turns it comes after a base that
+//! all slots share. So turns can be kept that lie less than 255 apart. Where a turn is noted that
+//! lies further on, the base follows it, and slots of turns that lie 128 and more before it may be
 //! forgotten; where one is noted that lies further back, all others are. What is forgotten is
 //! computed again, and a slot never holds a turn that was not noted for it.
 #![tactic(auto)]

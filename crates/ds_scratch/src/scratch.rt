@@ -7,10 +7,10 @@
 //! much: those that fall to 0 are of turns that lie at the base or before it, and are forgotten.
 //! Backward, where a turn at the base or before it is noted, all are forgotten.
 ghost use Rattle.std.specs.Prelude.{◌≡◌, ◌↔◌, ◌+◌, ◌-◌, ◌≤◌, ◌<◌, ℕ, IfOk, IsTrue};
-ghost use Rattle.std.specs.Prelude.{length, replicate, slice_index};
+ghost use Rattle.std.specs.Prelude.{false, length, replicate, slice_index, slice_index_or, true};
 ghost use Rattle.std.specs.Borrow.{sem};
 ghost use Rattle.ds_base.specs.declared.value.Value.TheVariants.{Zero};
-ghost use Rattle.ds_scratch.specs.Scratch.{IsNoted, Kept, Memory, Remembers};
+ghost use Rattle.ds_scratch.specs.Scratch.{HasSlot, IsNoted, Kept, Memory, Remembers};
 ghost use Rattle.ds_scratch.specs.Turns.{IsSameOrLost, IsSameOrNone, noted_turn};
 ghost use Rattle.ds_scratch.specs.Lent.{LendsNets};
 
@@ -18,11 +18,13 @@ use ds_base::{OutOfMemory, Row3};
 use std::alloc::Global;
 use std::marker::Model;
 
-/// A row with a value for each net, and a turn for each slot, which takes a byte.
+/// A row with a value for each net, and for each slot a turn, which takes a byte, and whether its
+/// values are those of the turn before too.
 pub struct Scratch {
     nets: Row3,
     turns: Vec<u8>,
     base: u64,
+    stayed: Vec<bool>,
 }
 
 impl Drop for Scratch {
@@ -31,6 +33,7 @@ impl Drop for Scratch {
             nets: _,
             turns: _,
             base: _,
+            stayed: _,
         } = self;
     }
 }
@@ -44,6 +47,7 @@ impl Model for Scratch {
     ghost view = { λ s. record {
       nets = s.nets;
       turns = noted_turns s.base s.turns.items;
+      stayed = s.stayed.items;
     } };
 }
 
@@ -53,6 +57,7 @@ impl Scratch {
         ensures ok { IfOk result (λ s. s ≡ record {
           nets = replicate nets Zero;
           turns = replicate slots 0;
+          stayed = replicate slots false;
         }) }
         ensures remembers { IfOk result (λ s. (m : Memory) → m.nets ≡ nets
             → length m.slots ≡ slots → Remembers m s) }
@@ -61,6 +66,7 @@ impl Scratch {
             nets: Row3::with_len(alloc, nets)?,
             turns: vec![in alloc; 0u8; slots]?,
             base: 0,
+            stayed: vec![in alloc; false; slots]?,
         })
     }
 
@@ -84,15 +90,26 @@ impl Scratch {
         }
     }
 
+    /// Whether the slot is noted for this turn and as one that has stayed.
+    pub fn has_stayed(&self, slot: usize, turn: u64) -> bool
+        requires { HasSlot slot self.now }
+        ensures { IsTrue result ↔ ((slice_index self.now.turns slot ≡ turn)
+            × (slice_index_or self.now.stayed slot false ≡ true)) }
+    {
+        self.stayed[slot] && self.is_noted(slot, turn)
+    }
+
     /// Notes the slot for this turn. Slots of other turns may be forgotten: those of turns 128 and
     /// more before this one, and all where this one lies so far before another. Turn 0 is none:
-    /// where it is noted, all slots are forgotten.
-    pub fn note(&mut self, slot: usize, turn: u64)
-        requires { slot < length self.old.turns }
-        ensures { IsNoted slot turn self.old self.new }
+    /// where it is noted, all slots are forgotten. `stayed` says that its values are those of the
+    /// turn before too.
+    pub fn note(&mut self, slot: usize, turn: u64, stayed: bool)
+        requires { HasSlot slot self.old }
+        ensures { IsNoted slot turn stayed self.old self.new }
     {
         self.base = base_for(turn, self.base, self.turns.as_mut_slice());
         self.turns[slot] = (turn - self.base) as u8;
+        self.stayed[slot] = stayed;
     }
 
     /// The row.

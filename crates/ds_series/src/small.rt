@@ -18,7 +18,7 @@ ghost use Rattle.ds_series.specs.Small.{
 
 use crate::nine::{Nine, value_in};
 use ds_base::{NetId, Row3, Value};
-use ds_cover::{Quick, code, value_of_bit};
+use ds_cover::{Quick, value_of_bit};
 
 /// A table of one or two inputs.
 #[derive(Clone, Copy)]
@@ -70,8 +70,8 @@ impl Two {
         requires { All (λ net. net < length nets.now) self.now.nets }
         ensures { result ≡ small_value (small_two self.now) nets.now }
     {
-        let a = code(nets[self.nets[0].index()]);
-        let b = code(nets[self.nets[1].index()]);
+        let a = nets[self.nets[0].index()].code();
+        let b = nets[self.nets[1].index()].code();
         let place = a + 2 * b;
         value_of_bit((u64::from(self.truth) >> place) & 1)
     }
@@ -81,8 +81,8 @@ impl Two {
         requires { All (λ net. net < length nets.now) self.now.nets }
         ensures { result ≡ worded_value (worded_two self.now nine.now) nets.now }
     {
-        let a = code(nets[self.nets[0].index()]);
-        let b = code(nets[self.nets[1].index()]);
+        let a = nets[self.nets[0].index()].code();
+        let b = nets[self.nets[1].index()].code();
         let place = a + 3 * b;
         nine.values[place as usize]
     }
@@ -105,9 +105,9 @@ impl Three {
         requires { All (λ net. net < length nets.now) self.now.nets }
         ensures { result ≡ small_value (small_three self.now) nets.now }
     {
-        let a = code(nets[self.nets[0].index()]);
-        let b = code(nets[self.nets[1].index()]);
-        let c = code(nets[self.nets[2].index()]);
+        let a = nets[self.nets[0].index()].code();
+        let b = nets[self.nets[1].index()].code();
+        let c = nets[self.nets[2].index()].code();
         let place = a + 2 * (b + 2 * c);
         value_of_bit((u64::from(self.truth) >> place) & 1)
     }
@@ -117,9 +117,9 @@ impl Three {
         requires { All (λ net. net < length nets.now) self.now.nets }
         ensures { result ≡ worded_value (worded_three self.now word) nets.now }
     {
-        let a = code(nets[self.nets[0].index()]);
-        let b = code(nets[self.nets[1].index()]);
-        let c = code(nets[self.nets[2].index()]);
+        let a = nets[self.nets[0].index()].code();
+        let b = nets[self.nets[1].index()].code();
+        let c = nets[self.nets[2].index()].code();
         let place = a + 3 * b + 9 * c;
         value_in(word, place)
     }
@@ -142,10 +142,10 @@ impl Four {
         requires { All (λ net. net < length nets.now) self.now.nets }
         ensures { result ≡ small_value (small_four self.now) nets.now }
     {
-        let a = code(nets[self.nets[0].index()]);
-        let b = code(nets[self.nets[1].index()]);
-        let c = code(nets[self.nets[2].index()]);
-        let d = code(nets[self.nets[3].index()]);
+        let a = nets[self.nets[0].index()].code();
+        let b = nets[self.nets[1].index()].code();
+        let c = nets[self.nets[2].index()].code();
+        let d = nets[self.nets[3].index()].code();
         let place = a + 2 * (b + 2 * (c + 2 * d));
         value_of_bit((u64::from(self.truth) >> place) & 1)
     }

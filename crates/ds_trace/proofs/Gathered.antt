@@ -1,13 +1,15 @@
 -- Registers that are put together from the rows of clusters.
-use Rattle.std.proofs.Common.{◌≡◌, ◌∙◌, ℕ, ◌+◌, ◌<◌, List, [], length, get_or, inl}
-use Rattle.std.proofs.Common.{inr, arith, ap, sym, subst}
+use Rattle.std.proofs.Common.{◌≡◌, ◌≢◌, ◌∙◌, ◌⊎◌, ◌+◌, ◌/◌, ◌%◌, ◌<◌, ◌≤◌, ◌∷◌, ℕ, List}
+use Rattle.std.proofs.Common.{[], zero, suc, length, take, drop, inl, inr, arith, ap, sym, subst}
 use Rattle.std.specs.Prelude.{Contains}
 use Rattle.std.proofs.Math.ListN.{set}
 use Rattle.std.proofs.lemmas.Bool.{cases_eq, cases_lt}
-use Rattle.std.proofs.lemmas.List.{get_or-map, get_or-set_other}
-use Rattle.std.proofs.lemmas.List.{get_or-set_same, get_or_default, get_or_past, length-set}
+use Rattle.std.proofs.lemmas.List.{get_or-set_other, get_or-set_same, get_or_default, get_or_past}
+use Rattle.std.proofs.lemmas.List.{drop-map, take-append-drop, take-map}
+use Rattle.std.proofs.lemmas.List.Elements.{Contains-append_cases}
 use Rattle.ds_base.proofs.Lists.{lists_same}
 use Rattle.ds_base.specs.Values.{Row}
+use Rattle.ds_base.specs.Word.{code_of, number_of_values}
 use Rattle.ds_base.specs.declared.value.Value.{Value}
 use Rattle.ds_base.specs.declared.value.Value.TheVariants.{Zero}
 use Rattle.ds_cover.specs.Cover.{value_at, values_at}
@@ -16,40 +18,63 @@ use Rattle.ds_latch.specs.Plan.{IsSplit}
 use Rattle.ds_latch.specs.Firing.{AreRegisters}
 use Rattle.ds_rule.specs.Run.{Run}
 use Rattle.ds_rule.specs.Words.{values_at as stored_at}
-use Rattle.ds_trace.specs.Line.{AreSlaves, AreSpread}
+use Rattle.ds_fabric.proofs.Unpacks.{code_small}
+use Rattle.ds_trace.specs.Line.{AreSpread}
 
--- a value put where it is right leaves what was right
-pub set_right : (old row : Row) (x : ℕ) (value : Value) → x < length old → value ≡ value_at row x
-    → (r : ℕ) → value_at old r ≡ value_at row r → value_at (set old x value) r ≡ value_at row r
-set_right old row x value inside is r right =
-    elim (cases_eq r x) [
-      | inl e ↦
-          ap (λ (y : ℕ). value_at (set old x value) y) e
-          ∙ (get_or-set_same old x value Zero inside ∙ (is ∙ ap (value_at row) (sym e)))
-      | inr ne ↦ get_or-set_other old x r value Zero ne ∙ right
-    ]
+-- what stands among some registers and is not the first stands behind it
+behind : (x : ℕ) (these : List ℕ) (r : ℕ) → r ≢ x → Contains (x ∷ these) r → Contains these r
+behind x these r ne has = elim (Contains-append_cases (x ∷ []) these r has) [
+  | inl (zero, inside, at) ↦ absurd (ne (sym at))
+  | inl (suc k, inside, at) ↦ absurd (omega arith)
+  | inr there ↦ there
+]
 
--- which value goes to a register
-pub value_goes : (row values : Row) (these : List ℕ) (j : ℕ) → values_at row these ≡ values
-    → j < length these
-    → get_or values j Zero ≡ value_at row (get_or these j 0)
-value_goes row values these j shown inside =
-    ap (λ (xs : Row). get_or xs j Zero) (sym shown)
-    ∙ get_or-map (value_at row) these j 0 Zero inside
+-- one register more has its value, the lowest of a number
+pub one_value : (row old : Row) (x : ℕ) (these : List ℕ) (rest : ℕ) (value : Value)
+    → x < length old → rest ≡ number_of_values (values_at row (x ∷ these))
+    → ((v : Value) → rest % 4 ≡ code_of v → value ≡ v)
+    → (rest / 4 ≡ number_of_values (values_at row these))
+    × ((r : ℕ) → Contains (x ∷ these) r ⊎ (value_at old r ≡ value_at row r)
+    → Contains these r ⊎ (value_at (set old x value) r ≡ value_at row r))
+one_value row old x these rest value inside number code =
+    let small : code_of (value_at row x) ≤ 2 = code_small (value_at row x) in
+    let is : value ≡ value_at row x = code (value_at row x) (omega arith) in (
+      omega arith,
+      λ r either.
+          elim (cases_eq r x) [
+            | inl e ↦ inr (ap (λ (y : ℕ). value_at (set old x value) y) e
+                ∙ (get_or-set_same old x value Zero inside ∙ (is ∙ ap (value_at row) (sym e))))
+            | inr ne ↦
+                elim either [
+                  | inl has ↦ inl (behind x these r ne has)
+                  | inr was ↦ inr (get_or-set_other old x r value Zero ne ∙ was)
+                ]
+          ],
+    )
 
--- one register more has its value
-pub one_value : (old row : Row) (these : List ℕ) (j x : ℕ) (value : Value) → x < length old
-    → x ≡ get_or these j 0 → value ≡ value_at row x
-    → ((i : ℕ) → i < j → value_at old (get_or these i 0) ≡ value_at row (get_or these i 0))
-    → (i : ℕ) → i < j + 1 → value_at (set old x value) (get_or these i 0)
-    ≡ value_at row (get_or these i 0)
-one_value old row these j x value inside at is right i below =
-    elim (cases_eq i j) [
-      | inl e ↦
-          (let same : get_or these i 0 ≡ x = ap (λ (n : ℕ). get_or these n 0) e ∙ sym at in
-          subst (λ (y : ℕ). value_at (set old x value) y ≡ value_at row y) (sym same)
-          (get_or-set_same old x value Zero inside ∙ is))
-      | inr ne ↦ set_right old row x value inside is (get_or these i 0) (right i (omega arith))
+-- a row that has these values at some registers has a part of them at that part
+pub part_shown : (row values : Row) (these : List ℕ) (n a : ℕ) → values_at row these ≡ values
+    → values_at row (take n (drop a these)) ≡ take n (drop a values)
+part_shown row values these n a shown =
+    sym (take-map (value_at row) n (drop a these))
+    ∙ (ap (take n) (sym (drop-map (value_at row) a these))
+    ∙ ap (λ (xs : Row). take n (drop a xs)) shown)
+
+-- the first registers of some get the lowest values of a number
+pub one_word : (row old new : Row) (rest : List ℕ) (n : ℕ)
+    → ((r : ℕ) → Contains (take n rest) r ⊎ (value_at old r ≡ value_at row r)
+    → value_at new r ≡ value_at row r)
+    → (r : ℕ) → Contains rest r ⊎ (value_at old r ≡ value_at row r)
+    → Contains (drop n rest) r ⊎ (value_at new r ≡ value_at row r)
+one_word row old new rest n spread r either =
+    elim either [
+      | inl has ↦
+          elim (Contains-append_cases (take n rest) (drop n rest) r
+          (subst (λ (xs : List ℕ). Contains xs r) (sym (take-append-drop n rest)) has)) [
+            | inl here ↦ inr (spread r (inl here))
+            | inr there ↦ inl there
+          ]
+      | inr was ↦ inr (spread r (inr was))
     ]
 
 -- one cluster more is right
@@ -85,17 +110,3 @@ gathered_all s split row other long long' right =
       | inr past ↦ get_or_past row r Zero (omega arith)
           ∙ sym (get_or_past other r Zero (omega arith))
     ])
-
--- a row that is as long as its cluster takes the place of another
-pub slaves_set : (s : Split) (count : ℕ) (rows : List Row) (i : ℕ) (row : Row)
-    → AreSlaves s count rows → i < count → length row ≡ length (members s i)
-    → AreSlaves s count (set rows i row)
-slaves_set s count rows i row are inside long = record {
-  one_each = length-set rows i row ∙ are.one_each;
-  wide = λ j below. elim (cases_eq j i) [
-    | inl e ↦
-        subst (λ (n : ℕ). length (get_or (set rows i row) n []) ≡ length (members s n)) (sym e)
-        (ap length (get_or-set_same rows i row [] (omega (arith, are.one_each))) ∙ long)
-    | inr ne ↦ ap length (get_or-set_other rows i j row [] ne) ∙ are.wide j below
-  ];
-}

@@ -24,16 +24,11 @@ use Rattle.ds_run.proofs.Played.{outputs_are, registers_are}
 -- a line with other outputs, of a split design that is known
 line_with : (s t : Split) (line : Line) (outputs : Row) → t ≡ s → HasLine s line
     → length outputs ≡ length s.circuit.outputs
-    → HasLine t (record { outputs = outputs; registers = line.registers; slaves = line.slaves })
+    → HasLine t (record { outputs = outputs; registers = line.registers })
 line_with s t line outputs same has long =
-    let with : Line = record {
-      outputs = outputs;
-      registers = line.registers;
-      slaves =
-          line.slaves;
-    } in
+    let with : Line = record { outputs = outputs; registers = line.registers } in
     subst (λ (q : Split). HasLine q with) (sym same)
-    (record { outputs = long; registers = has.registers; slaves = has.slaves })
+    (record { outputs = long; registers = has.registers })
 
 module _ (p : Planned) (vectors : List Row) (r : Recorder) (played : IsPlayed p vectors r)
     (k : ℕ) (below : k < length vectors) where
@@ -55,7 +50,7 @@ module _ (p : Planned) (vectors : List Row) (r : Recorder) (played : IsPlayed p 
 
   pub line_read : (t : Split) (line : Line) (n : ℕ) (row : Row) → t ≡ p.split
       → HasLine p.split line → n ≡ 1 → row ≡ stored_at r.shown.view.run n (k + 1)
-      → HasLine t (record { outputs = row; registers = line.registers; slaves = line.slaves })
+      → HasLine t (record { outputs = row; registers = line.registers })
   line_read t line n row same has at is =
       line_with p.split t line row same has (outputs_long n row at is)
 

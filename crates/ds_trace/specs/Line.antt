@@ -1,23 +1,17 @@
 -- The rows that a line of a trace is written from.
-use Rattle.std.specs.Prelude.{◌≡◌, ◌⊎◌, ℕ, ◌+◌, ◌<◌, List, [], length, Contains, slice_index_or}
+use Rattle.std.specs.Prelude.{◌≡◌, ◌⊎◌, ℕ, ◌+◌, List, length, Contains}
 use Rattle.ds_base.specs.Values.{Row}
 use Rattle.ds_cover.specs.Cover.{value_at, values_at}
-use Rattle.ds_latch.specs.Node.{Split, members, number_of}
+use Rattle.ds_latch.specs.Node.{Split, number_of}
 use Rattle.ds_latch.specs.Firing.{AreRegisters}
 use Rattle.ds_rule.specs.Run.{Run}
 use Rattle.ds_rule.specs.Words.{values_at as stored_at}
 use Rattle.ds_trace.specs.declared.line.Line.{Line}
 
--- so many rows, each as long as the cluster with its number
-pub record AreSlaves (s : Split) (count : ℕ) (rows : List Row) : Type 0 where
-  pub one_each : length rows ≡ count
-  pub wide : (i : ℕ) → i < count → length (slice_index_or rows i []) ≡ length (members s i)
-
 -- each row of a line has its length
 pub record HasLine (s : Split) (line : Line) : Type 0 where
   pub outputs : length line.outputs ≡ length s.circuit.outputs
   pub registers : length line.registers ≡ length s.circuit.registers
-  pub slaves : AreSlaves s (length s.clusters) line.slaves.items
 
 -- these registers got these values: beside any row that has the values there, each of them agrees
 -- with that row, and so does each register that agreed before

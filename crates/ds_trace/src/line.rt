@@ -1,22 +1,25 @@
 //! The rows that a line of a trace is written from.
-ghost use Rattle.std.specs.Prelude.{◌≡◌, ◌<◌, ◌+◌, All, length, IfOk};
+ghost use Rattle.std.specs.Prelude.{◌≡◌, ◌<◌, ◌+◌, All, length, slice_index, IfOk};
+ghost use Rattle.ds_base.specs.Values.{Row};
+ghost use Rattle.ds_base.specs.Word.{number_of_values};
+ghost use Rattle.ds_rule.specs.Run.{closing};
+ghost use Rattle.ds_rule.specs.Rule.{tickets};
+ghost use Rattle.ds_rule.specs.Words.{values_at};
 ghost use Rattle.ds_run.specs.Played.{HasSlaves};
-ghost use Rattle.ds_trace.specs.Line.{AreSlaves, AreSpread, HasLine, IsGathered};
+ghost use Rattle.ds_trace.specs.Line.{AreSpread, HasLine, IsGathered};
 
-use ds_base::{LatchId, OutOfMemory, RegId, Row3};
+use ds_base::{LatchId, OutOfMemory, RegId, Row3, Value};
 use ds_fabric::Record;
 use ds_latch::Latches;
 use std::alloc::Global;
 
-/// The rows of a line, and those of the slaves from which its registers come.
+/// The rows of a line.
 #[derive(Drop)]
 pub struct Line {
     /// The outputs in a turn.
     pub outputs: Row3,
     /// The registers before it.
     pub registers: Row3,
-    // For each cluster as many values as it has registers.
-    pub slaves: Vec<Row3>,
 }
 
 impl Line {
@@ -31,22 +34,8 @@ impl Line {
         Ok(Line {
             outputs: Row3::with_len(alloc, design.outputs().len())?,
             registers,
-            slaves: slaves_of(alloc, latches)?,
         })
     }
-}
-
-// A row for each cluster.
-fn slaves_of(alloc: Global, latches: &Latches<'_>) -> Result<Vec<Row3>, OutOfMemory>
-    ensures { IfOk result
-        (λ rows. AreSlaves latches.now (length latches.now.clusters) rows.items) }
-{
-    let clusters = latches.clusters();
-    let mut rows = Vec::with_capacity(alloc, clusters.len())?;
-    for i in 0..clusters.len() {
-        rows.push(Row3::with_len(alloc, clusters[i].as_slice().len())?)?;
-    }
-    Ok(rows)
 }
 
 /// The registers after a turn, from what the slaves have stored in it.
@@ -61,18 +50,38 @@ pub fn gather(latches: &Latches<'_>, fired: &Record, k: usize, line: &mut Line)
     let (_edges, clusters) = (latches.edges(), latches.clusters());
     for i in 0..clusters.len() {
         let slave = LatchId::new(2 * i as u32 + 3);
-        fired.row(slave, k, &mut line.slaves[i]);
-        spread(&line.slaves[i], clusters[i].as_slice(), &mut line.registers);
+        spread_row(fired, slave, k, clusters[i].as_slice(), &mut line.registers);
     }
 }
 
-// Each value goes to its register.
-fn spread(values: &Row3, members: &[RegId], registers: &mut Row3)
-    requires one_each { length values.now ≡ length members.now }
+// Each value of the row that a slave has stored goes to its register, a word at a time.
+fn spread_row(fired: &Record, slave: LatchId, k: usize, members: &[RegId], registers: &mut Row3)
+    requires near { slave < fired.now.shown.view.run.latches }
+    requires stored { k < length (tickets fired.now.shown.view (closing slave)) }
+    requires wide { slice_index fired.now.shown.view.run.lengths slave ≡ length members.now }
     requires within { All (λ r. r < length registers.old) members.now }
-    ensures { AreSpread members.now values.now registers.old registers.new }
+    ensures { AreSpread members.now (values_at fired.now.shown.view.run slave (k + 1))
+        registers.old registers.new }
 {
-    for (j, register) in members.iter().enumerate() {
-        registers.set(register.index(), values.value(j));
+    let mut rest = members;
+    let mut i = 0;
+    'words: while !rest.is_empty() {
+        let (these, others) = rest.split_at(rest.len().min(32));
+        spread_word(fired.word(slave, k, i), these, registers);
+        rest = others;
+        i += 1;
+    }
+}
+
+// Each value of a word goes to its register.
+fn spread_word(word: u64, members: &[RegId], registers: &mut Row3)
+    requires { All (λ r. r < length registers.old) members.now }
+    ensures { (values : Row) → word ≡ number_of_values values
+        → AreSpread members.now values registers.old registers.new }
+{
+    let mut rest = word;
+    for register in members {
+        registers.set(register.index(), Value::of_code(rest % 4));
+        rest /= 4;
     }
 }

@@ -111,7 +111,7 @@ pub record Turning (k : Key) (s : State Slot TurnView) : Type 0 where
   pub outs : (id : ℕ) (v : TurnView) (l : ℕ) → get_elem? s.views id ≡ some v → v.live ≡ true
       → has_out v l ≡ true → (l < nodes k) × (slice_index s.words l ≡ 1) × (owner l ≡ id)
       × (taken v l ≡ fires l)
-  -- each turn that is live is one of these nodes, and has a part
+  -- each turn that is live is of this many nodes, and has a part
   pub long : (id : ℕ) (v : TurnView) → get_elem? s.views id ≡ some v → v.live ≡ true
       → (length v.out ≡ nodes k) × (length v.taken ≡ nodes k) × (0 < v.parts)
       × (v.fabric ≡ fabric k) × (v.run ≡ run k)

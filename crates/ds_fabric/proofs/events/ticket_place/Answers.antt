@@ -4,6 +4,7 @@ use Rattle.ds_rule.specs.Run.{Run, opens}
 use Rattle.ds_rule.proofs.EventLaws.{opens-low, opens-high}
 use Rattle.ds_fabric.specs.Told.{ticket_place}
 use Rattle.ds_fabric.proofs.events.ticket_place.Goals as goal
+use Rattle.ds_fabric.proofs.events.ticket_place.Goals.{else-event-latches-via-then-event-latches+else-event-eq0, else-event-latches-via-else-event-latches}
 
 place : (run : Run) (e s : ℕ) (b : Bool) → opens run e ≡ b
     → ticket_place run e s ≡ cond b (s - 2) (s - 1)
@@ -22,11 +23,11 @@ pub returns-then-event-eq0 : goal.returns-then-event-eq0
 returns-then-event-eq0 c = λ run is. sym (place run c.args.event c.args.stride true
     (yes-opens run c.args.event (omega (arith, c.if-event-latches.true)) c.if-event-eq0.true))
 
-pub returns-else-event-eq0 : goal.returns-else-event-eq0
-returns-else-event-eq0 c = λ run is. sym (place run c.args.event c.args.stride false
-    (opens-low run c.args.event (omega (arith, c.if-event-latches.true))
-    ∙ ne_eqb (c.args.event % 2) 0 c.if-event-eq0.false))
-
 pub returns-else-event-latches : goal.returns-else-event-latches
-returns-else-event-latches c = λ run is. sym (place run c.args.event c.args.stride false
-    (opens-high run c.args.event (omega (arith, c.if-event-latches.false))))
+returns-else-event-latches c = λ run is. sym (place run c.args.event c.args.stride false (elim c.else-event-latches.branch [
+  | else-event-latches-via-then-event-latches+else-event-eq0 w ↦
+      opens-low run c.args.event (omega (arith, w.if-event-latches.true))
+      ∙ ne_eqb (c.args.event % 2) 0 w.if-event-eq0.false
+  | else-event-latches-via-else-event-latches w ↦
+      opens-high run c.args.event (omega (arith, w.if-event-latches.false))
+]))

@@ -9,9 +9,9 @@ use Rattle.ds_fabric.specs.Told.{StandsIn, ticket_in}
 use Rattle.ds_fabric.specs.declared.history.History.{History}
 use Rattle.ds_fabric.proofs.spread.put.Goals as goal
 
-pub ticket-requires-clause-stands : goal.ticket-requires-clause-stands
-ticket-requires-clause-stands c = let h : History = c.args.history.now in
-    let (run, is, inside) = c.requires.inside in (
+pub ticket-requires : goal.ticket-requires
+ticket-requires c = let h : History = c.args.history.now in
+    let (run, is, inside) = c.requires in (
       run,
       is,
       subst (λ (x : ℕ). StandsIn run h x) (sym c.index-number.ensures) inside.stands,
@@ -31,7 +31,7 @@ loop-k-preserved c = let h : History = c.args.history.now in let k : ℕ = c.loo
       c.turns_of-k-end.ensures run is,
       ap (λ (x : ℕ). turns run x h.fired) c.index-number.ensures,
     ) in
-    let (run0, is0, inside) = c.requires.inside in
+    let (run0, is0, inside) = c.requires in
     let near = inside.below k (below run0 is0) in
     let here : get_elem? (set out p e) p ≡ some e =
     set_here out p e (omega (arith, near, is-p run0 is0, inv.0)) in (

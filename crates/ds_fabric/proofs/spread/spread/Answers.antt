@@ -35,16 +35,16 @@ one-alone run l n e is high here = dite (dec_lt e (2 * run.latches))
     (λ y. absurd (omega (arith, node-low run e y)))
     (λ n. omega (arith, node-high run e (omega arith)))
 
-pub put-requires-clause-inside : goal.put-requires-clause-inside
-put-requires-clause-inside c = let (run, can) = c.requires.can in (
+pub put-requires : goal.put-requires
+put-requires c = let (run, can) = c.requires.can in (
   run,
   can.latches_is,
   can.inside c.new.result (first-here run c.args.history.now.node
       c.args.latches c.new.result can.latches_is c.if-history-latches.true c.new.ensures),
 )
 
-pub put-requires-then-history-latches-clause-inside : goal.put-requires-then-history-latches-clause-inside
-put-requires-then-history-latches-clause-inside c = let (run, can) = c.requires.can in
+pub put-requires-then-history-latches : goal.put-requires-then-history-latches
+put-requires-then-history-latches c = let (run, can) = c.requires.can in
     let e : ℕ = c.new-then-history-latches.result in (
       run,
       can.latches_is,
@@ -53,8 +53,8 @@ put-requires-then-history-latches-clause-inside c = let (run, can) = c.requires.
           c.if-history-latches.true c.new-then-history-latches.ensures)),
     )
 
-pub put-requires-else-history-latches-clause-inside : goal.put-requires-else-history-latches-clause-inside
-put-requires-else-history-latches-clause-inside c = let (run, can) = c.requires.can in
+pub put-requires-else-history-latches : goal.put-requires-else-history-latches
+put-requires-else-history-latches c = let (run, can) = c.requires.can in
     let e : ℕ = c.new-else-history-latches.result in (
       run,
       can.latches_is,

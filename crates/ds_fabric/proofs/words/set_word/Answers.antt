@@ -8,21 +8,21 @@ use Rattle.ds_fabric.proofs.words.set_word.Goals as goal
 pub loop-j-preserved : goal.loop-j-preserved
 loop-j-preserved c = let inv = c.loop-j.invariant in let j : ℕ = c.loop-j.j in
     let a : ℕ = 32 * c.args.i in let row : List Value = c.loop-j.row in
-    let v : Value = c.value_of.result in let is : c.set.new.self ≡ Rattle.std.proofs.Common.set row
+    let v : Value = c.of_code.result in let is : c.set.new.self ≡ Rattle.std.proofs.Common.set row
     (a + j) v = c.set.ensures in
     let low : (j < 32) × (a + j < length c.args.row.now) = (
       omega (
         arith,
         c.loop-j-test.true,
         c.loop-j.auto.j-end,
-        c.at_most_32-j-end.ensures,
+        c.min-j-end.ensures,
         c.len.ensures,
       ),
       omega (
         arith,
         c.loop-j-test.true,
         c.loop-j.auto.j-end,
-        c.at_most_32-j-end.ensures,
+        c.min-j-end.ensures,
         c.len.ensures,
       ),
     ) in (
@@ -31,5 +31,5 @@ loop-j-preserved c = let inv = c.loop-j.invariant in let j : ℕ = c.loop-j.j in
           ∙ (get_or-set_other row (a + j) k v Zero (λ e. omega (arith, e)) ∙ inv.1 k h)),
       (λ values same word. let q = inv.2 values same word in
           one_set values row c.set.new.self a j c.loop-j.rest v (omega (arith, low.1, same)) low.0
-          (inv.0 ∙ sym same) is c.value_of.ensures q.0 q.1),
+          (inv.0 ∙ sym same) is c.of_code.ensures q.0 q.1),
     )

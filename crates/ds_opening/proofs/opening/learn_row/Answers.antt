@@ -1,9 +1,10 @@
-use Rattle.std.proofs.Common.{◌≡◌, ◌∙◌, ℕ, List, length, ap, subst}
+use Rattle.std.proofs.Common.{◌≡◌, ◌∙◌, ◌-◌, ◌<◌, ℕ, List, length, ap, subst, sym, true}
 use Rattle.ds_base.specs.Values.{Row}
-use Rattle.ds_scratch.specs.Scratch.{Kept}
+use Rattle.ds_scratch.specs.Scratch.{HoldsTurn, Kept}
 use Rattle.ds_settle.specs.Settle.{LeavesOthers}
-use Rattle.ds_opening.specs.Packed.{Learns}
-use Rattle.ds_opening.proofs.Learnt.{now_noted}
+use Rattle.ds_opening.specs.Packed.{AreAsBefore, Learns}
+use Rattle.ds_opening.proofs.Learnt.{held_before, now_noted}
+use Rattle.ds_opening.proofs.opening.learn_row.Goals.{then-put_values, else-put_values}
 use Rattle.ds_opening.proofs.opening.learn_row.Goals as goal
 
 pub returns-clause-value : goal.returns-clause-value
@@ -17,4 +18,13 @@ returns-clause-value c m known at row remembers =
     subst (λ (r : Row). Learns known these r nets) base (c.put_values.ensures.value known row) in
     let others : LeavesOthers these old.nets nets =
     subst (λ (r : Row). LeavesOthers these r nets) base c.put_values.ensures.others in
-    now_noted m c.args.turn c.args.slot these known at c.requires.turn old remembers nets size learns others c.note.new.self c.note.ensures
+    let held : c.if-put_values.stayed ≡ true → 1 < c.args.turn → HoldsTurn m nets (c.args.turn - 1) these =
+    λ so later. elim c.if-put_values.branch [
+      | then-put_values w ↦
+          held_before m c.args.turn c.args.slot these known at c.requires.turn old remembers later
+          (c.is_noted-was_noted.ensures.0 (sym w.stayed-is ∙ so)) nets
+          (subst (λ (r : Row). AreAsBefore r nets) base (c.put_values.ensures.stayed w.if-put_values.true))
+      | else-put_values w ↦ absurd (cc)
+    ] in
+    now_noted m c.args.turn c.args.slot these known at c.requires.turn old remembers nets size learns others
+    c.if-put_values.stayed held c.note.new.self c.note.ensures

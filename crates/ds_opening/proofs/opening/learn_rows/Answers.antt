@@ -7,7 +7,7 @@ use Rattle.ds_opening.proofs.opening.learn_rows.Goals as goal
 
 pub rows-init : goal.rows-init
 rows-init c = record {
-  same = record { nets = refl; turns = refl };
+  same = record { nets = refl; turns = refl; stayed = refl };
   read = λ known nodes reads. read_first reads;
 }
 
@@ -60,13 +60,17 @@ learn_row-requires-clause-slot c =
     let (known, nodes, reads) = c.requires.read in
     let near : c.args.first + get_or c.rows.rest.now 0 0 < length c.args.scratch.now.turns =
     of_next reads (c.rows.invariant.read known nodes reads) c.rows-test.true (λ n. c.args.first + n < length c.args.scratch.now.turns) reads.slots in
-    omega (near, c.rows.invariant.same.turns, arith)
+    record {
+      turn = omega (near, c.rows.invariant.same.turns, arith);
+      stayed = omega (near, c.rows.invariant.same.stayed, c.requires.slots, arith);
+    }
 
 pub rows-preserved : goal.rows-preserved
 rows-preserved c = record {
   same = record {
     nets = c.learn_row.ensures.same.nets ∙ c.rows.invariant.same.nets;
     turns = c.learn_row.ensures.same.turns ∙ c.rows.invariant.same.turns;
+    stayed = c.learn_row.ensures.same.stayed ∙ c.rows.invariant.same.stayed;
   };
   read = λ known nodes reads.
       let bits : List (List ℕ) = c.args.bits.now in

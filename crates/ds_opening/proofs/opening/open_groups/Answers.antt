@@ -8,9 +8,22 @@ use Rattle.ds_opening.specs.Noted.{AreRowsLearnt}
 use Rattle.ds_opening.specs.Packed.{packed}
 use Rattle.ds_opening.specs.Woven.{taken}
 use Rattle.ds_opening.proofs.Filled.{lent}
-use Rattle.ds_opening.proofs.Noting.{grouped, node_slots, numbers, reads, settled_is, value}
+use Rattle.ds_opening.proofs.Noting.{grouped, has_reads, node_slots, numbers, reads, settled_is, value}
+use Rattle.ds_opening.proofs.Stayed.{reads_on}
 use Rattle.ds_opening.proofs.Woven.{nets_within}
 use Rattle.ds_opening.proofs.opening.open_groups.Goals as goal
+
+pub learn_rows-requires-clause-slots : goal.learn_rows-requires-clause-slots
+learn_rows-requires-clause-slots c =
+    let (n, t, m, o) = c.requires.settling in
+    omega (o.memory.remembers.stayed, o.memory.remembers.turns, arith)
+
+pub set_groups-requires-clause-slots : goal.set_groups-requires-clause-slots
+set_groups-requires-clause-slots c =
+    let (n, t, m, o) = c.requires.settling in
+    reads_on c.args.groups.now c.args.scratch.now c.learn_rows.new.scratch c.learn_rows.ensures.same.turns
+    c.learn_rows.ensures.same.stayed
+    (has_reads c.requires.design.1 c.requires.design.0 c.bits-bits.result.now c.bits-bits.ensures.one_each c.bits-bits.ensures.nets c.requires.groups o)
 
 pub learn_rows-requires-clause-few : goal.learn_rows-requires-clause-few
 learn_rows-requires-clause-few c =

@@ -4,9 +4,16 @@ use Rattle.ds_design.specs.Circuit.{Circuit}
 use Rattle.ds_groups.specs.Groups.{Grouping, group_of, tables_in}
 use Rattle.ds_scratch.specs.Scratch.{Kept, Memory, Remembers}
 use Rattle.ds_settle.specs.Cone.{nets_of_tables}
-use Rattle.ds_opening.specs.Noted.{FindInputs, AreGroupSlots, IsAsKnown, IsLearnt}
+use Rattle.ds_opening.specs.Noted.{FindInputs, AreGroupSlots, AreGroupsBefore, IsAsKnown}
+use Rattle.ds_opening.specs.Noted.{IsLearnt}
 use Rattle.ds_opening.proofs.Learnt.{groups_more, rest_finds}
+use Rattle.ds_opening.proofs.Stayed.{reads_on}
 use Rattle.ds_opening.proofs.opening.set_groups.Goals as goal
+
+pub set_group-requires-clause-slots : goal.set_group-requires-clause-slots
+set_group-requires-clause-slots c =
+    reads_on c.args.groups.now c.args.scratch.now c.loop-group.scratch c.loop-group.invariant.same.turns
+    c.loop-group.invariant.same.stayed c.requires.slots
 
 pub loop-group-preserved : goal.loop-group-preserved
 loop-group-preserved c =
@@ -20,20 +27,23 @@ loop-group-preserved c =
     let mid : Kept = c.loop-group.scratch in
     let new : Kept = c.set_group.new.scratch in
     let one : (m : Memory) (known : Row) → AreGroupSlots circuit g m c.args.turn known
+    → AreGroupsBefore circuit g m c.args.turn
     → FindInputs circuit known (IsAsKnown known old.nets) (tables_in g list) → Remembers m old
     → IsLearnt m known (nets_of_tables circuit (group_of g a)) mid new =
-    λ m known slots finds remembers.
-    c.set_group.ensures.value m known (slots a (c.requires.groups i 0 inside))
-    (rest_finds circuit g list i inside known mid.nets (c.loop-group.invariant.finds m known slots finds remembers)).0
-    (c.loop-group.invariant.learnt m known slots finds remembers).remembers in
+    λ m known slots was finds remembers.
+    c.set_group.ensures.value m known (slots a (c.requires.groups i 0 inside)) (was a (c.requires.groups i 0 inside))
+    (rest_finds circuit g list i inside known mid.nets (c.loop-group.invariant.finds m known slots was finds remembers)).0
+    (c.loop-group.invariant.learnt m known slots was finds remembers).remembers in
     record {
       same = record {
         nets = c.set_group.ensures.same.nets ∙ c.loop-group.invariant.same.nets;
         turns = c.set_group.ensures.same.turns ∙ c.loop-group.invariant.same.turns;
+        stayed = c.set_group.ensures.same.stayed ∙ c.loop-group.invariant.same.stayed;
       };
-      learnt = λ m known slots finds remembers.
-          groups_more circuit g list i inside m known old mid new (c.loop-group.invariant.learnt m known slots finds remembers) (one m known slots finds remembers);
-      finds = λ m known slots finds remembers.
-          (rest_finds circuit g list i inside known mid.nets (c.loop-group.invariant.finds m known slots finds remembers)).1 new.nets
-          (one m known slots finds remembers).learns;
+      learnt = λ m known slots was finds remembers.
+          groups_more circuit g list i inside m known old mid new
+          (c.loop-group.invariant.learnt m known slots was finds remembers) (one m known slots was finds remembers);
+      finds = λ m known slots was finds remembers.
+          (rest_finds circuit g list i inside known mid.nets (c.loop-group.invariant.finds m known slots was finds remembers)).1 new.nets
+          (one m known slots was finds remembers).learns;
     }

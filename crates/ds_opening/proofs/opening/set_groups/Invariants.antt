@@ -3,18 +3,21 @@ use Rattle.ds_base.specs.Values.{Row}
 use Rattle.ds_groups.specs.Groups.{tables_in}
 use Rattle.ds_scratch.specs.Scratch.{Memory, Remembers}
 use Rattle.ds_settle.specs.Cone.{nets_of_tables}
-use Rattle.ds_opening.specs.Noted.{FindInputs, AreGroupSlots, IsAsKnown, IsAsLong, IsLearnt}
+use Rattle.ds_opening.specs.Noted.{FindInputs, AreGroupSlots, AreGroupsBefore, IsAsKnown}
+use Rattle.ds_opening.specs.Noted.{IsAsLong, IsLearnt}
 use Rattle.ds_opening.proofs.opening.set_groups.Given as goal
 
 abbrev pub invariant-loop-group : goal.invariant-loop-group
 invariant-loop-group l = record {
   same : IsAsLong l.fn.scratch l.scratch;
   learnt : (m : Memory) (known : Row) → AreGroupSlots l.netlist l.groups m l.turn known
+      → AreGroupsBefore l.netlist l.groups m l.turn
       → FindInputs l.netlist known (IsAsKnown known l.fn.scratch.nets) (tables_in l.groups l.list)
       → Remembers m l.fn.scratch
       → IsLearnt m known (nets_of_tables l.netlist (tables_in l.groups (take l.group-index l.list)))
       l.fn.scratch l.scratch;
   finds : (m : Memory) (known : Row) → AreGroupSlots l.netlist l.groups m l.turn known
+      → AreGroupsBefore l.netlist l.groups m l.turn
       → FindInputs l.netlist known (IsAsKnown known l.fn.scratch.nets) (tables_in l.groups l.list)
       → Remembers m l.fn.scratch
       → FindInputs l.netlist known (IsAsKnown known l.scratch.nets)

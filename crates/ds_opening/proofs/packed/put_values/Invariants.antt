@@ -1,13 +1,16 @@
-use Rattle.std.proofs.Common.{◌≡◌, length, take}
+use Rattle.std.proofs.Common.{◌≡◌, ◌*◌, length, take}
 use Rattle.ds_base.specs.Values.{Row}
 use Rattle.ds_cover.specs.Cover.{values_at}
-use Rattle.ds_opening.specs.Packed.{Learns, packed}
+use Rattle.std.specs.Prelude.{IsTrue}
+use Rattle.ds_opening.specs.Packed.{AreAsBefore, Learns, packed}
 use Rattle.ds_settle.specs.Settle.{LeavesOthers}
 use Rattle.ds_opening.proofs.packed.put_values.Given as goal
 
 abbrev pub invariant-loop-i : goal.invariant-loop-i
 invariant-loop-i l = record {
   same : length l.nets ≡ length l.fn.nets;
-  learns : (known : Row) → l.words ≡ packed (values_at known l.these) → Learns known (take l.i l.these) l.fn.nets l.nets;
-  others : LeavesOthers (take l.i l.these) l.fn.nets l.nets;
+  learns : (known : Row) → l.words ≡ packed (values_at known l.these)
+      → Learns known (take (32 * l.i) l.these) l.fn.nets l.nets;
+  others : LeavesOthers (take (32 * l.i) l.these) l.fn.nets l.nets;
+  stayed : IsTrue l.stayed → AreAsBefore l.fn.nets l.nets;
 }

@@ -1,9 +1,10 @@
-use Rattle.std.proofs.Common.{◌∙◌}
-use Rattle.ds_opening.proofs.Packs.{full_word, last_word}
+use Rattle.std.proofs.Common.{◌∙◌, arith, length-take}
+use Rattle.ds_opening.proofs.Packs.{number_of_part}
 use Rattle.ds_opening.proofs.packed.word_at.Goals as goal
 
-pub returns-then-rest-lt32 : goal.returns-then-rest-lt32
-returns-then-rest-lt32 c = c.word_from.ensures ∙ last_word c.args.nets.now c.args.these.now c.args.i c.if-rest-lt32.true
+pub word_from-requires-clause-few : goal.word_from-requires-clause-few
+word_from-requires-clause-few c = rw (c.nets_of_word.ensures, length-take) (omega arith)
 
-pub returns-else-rest-lt32 : goal.returns-else-rest-lt32
-returns-else-rest-lt32 c = c.word_from-else-rest-lt32.ensures ∙ full_word c.args.nets.now c.args.these.now c.args.i
+pub returns : goal.returns
+returns c = c.word_from.ensures ∙ number_of_part c.args.nets.now c.args.these.now
+    c.nets_of_word.result.now c.args.i c.nets_of_word.ensures

@@ -49,7 +49,8 @@ complete-requires-clause-all g c κs within = (now g (goal.at.complete-requires-
 
 pub finish-requires-clause-fits : goal.finish-requires-clause-fits
 finish-requires-clause-fits g c = let n = now g (goal.at.finish-requires-clause-fits g c).Joined-number-gt0 in
-    still_belongs c.in_ok-fabric.fabric c.if-number-gt0.pass c.complete.new.pass n.0 c.complete.ensures.moved
+    let b = still_belongs c.in_ok-fabric.fabric c.if-number-gt0.pass c.complete.new.pass n.0 c.complete.ensures.moved in
+    record { table = b.table; run = b.run }
 
 pub finish-requires-clause-all : goal.finish-requires-clause-all
 finish-requires-clause-all g c l near = let n = now g (goal.at.finish-requires-clause-all g c).Joined-number-gt0 in

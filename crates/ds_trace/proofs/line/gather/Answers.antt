@@ -1,13 +1,13 @@
 use Rattle.std.proofs.Common.{◌≡◌, ◌∙◌, ◌<◌, ◌+◌, ℕ, List, [], length, get_or, ap, arith}
-use Rattle.std.proofs.lemmas.List.{get_or_default, get_or-set_same}
+use Rattle.std.proofs.lemmas.List.{get_or_default}
 use Rattle.ds_latch.specs.Node.{Slave, Split, members, number_of}
 use Rattle.ds_rule.specs.Run.{Run}
 use Rattle.ds_rule.specs.Words.{values_at as stored_at}
-use Rattle.ds_trace.proofs.Gathered.{gathered_all, one_cluster, slaves_set}
+use Rattle.ds_trace.proofs.Gathered.{gathered_all, one_cluster}
 use Rattle.ds_trace.proofs.line.gather.Goals as goal
 
-pub row-requires-clause-stored : goal.row-requires-clause-stored
-row-requires-clause-stored c =
+pub spread_row-requires-clause-stored : goal.spread_row-requires-clause-stored
+spread_row-requires-clause-stored c =
     let low : c.loop-i.i < length c.args.latches.now.clusters =
     omega (arith, ap length c.clusters-clusters.ensures.clusters) in
     let stored = c.requires.rows.stored c.loop-i.i low c.args.k (omega arith) in
@@ -22,34 +22,24 @@ loop-i-preserved c =
     let cluster : List ℕ = c.index-clusters-i.result in
     let low : c.loop-i.i < length c.args.latches.now.clusters =
     omega (arith, ap length c.clusters-clusters.ensures.clusters) in
-    let these : List ℕ = c.as_slice.result.now in
     let are : c.as_slice.result.now ≡ members c.args.latches.now c.loop-i.i =
     c.as_slice.ensures
     ∙ (c.index-clusters-i.is
     ∙ (ap (λ (cs : List (List ℕ)). get_or cs i cluster) c.clusters-clusters.ensures.clusters
     ∙ get_or_default s.clusters i cluster [] low)) in
-    let row : c.row.new.into ≡ stored_at c.args.fired.now.shown.view.run
-    (number_of (Slave c.loop-i.i)) (c.args.k + 1) =
-    c.row.ensures ∙ ap (λ (n : ℕ). stored_at run n (k + 1)) c.new-slave.ensures in
-    let long : length c.row.new.into ≡ length (members c.args.latches.now c.loop-i.i) =
-    ap length row ∙ c.requires.rows.full i low k (omega arith) in
-    let wide : c.loop-i.i < length c.loop-i.line.slaves.items =
-    omega (arith, c.loop-i.invariant.line.slaves.one_each) in
-    let part : c.index.result.now
+    let row : stored_at c.args.fired.now.shown.view.run c.new-slave.result (c.args.k + 1)
     ≡ stored_at c.args.fired.now.shown.view.run (number_of (Slave c.loop-i.i)) (c.args.k + 1) =
-    c.index.ensures ∙ (get_or-set_same c.loop-i.line.slaves.items i c.row.new.into
-    c.index.result.now wide ∙ row) in
+    ap (λ (n : ℕ). stored_at run n (k + 1)) c.new-slave.ensures in
     record {
       line = record {
         outputs = c.loop-i.invariant.line.outputs;
-        registers = c.spread.ensures.0 ∙ c.loop-i.invariant.line.registers;
-        slaves = slaves_set s (length s.clusters) c.loop-i.line.slaves.items i c.row.new.into
-            c.loop-i.invariant.line.slaves low long;
+        registers = c.spread_row.ensures.0 ∙ c.loop-i.invariant.line.registers;
       };
       outputs = c.loop-i.invariant.outputs;
       right = λ other shows.
-          one_cluster s run k i low these are c.index.result.now part c.loop-i.line.registers
-          c.spread.new.registers c.spread.ensures other shows
+          one_cluster s run k i low c.as_slice.result.now are
+          (stored_at run c.new-slave.result (k + 1)) row c.loop-i.line.registers
+          c.spread_row.new.registers c.spread_row.ensures other shows
           (c.loop-i.invariant.right other shows);
     }
 

@@ -5,7 +5,7 @@ use Rattle.ds_fabric.proofs.history.History.ticket.Goals as goal
 -- the ticket stands where it is read
 stands : (c : goal.After-ticket_place-first) → c.args.k * c.args.self.now.stride
     + c.ticket_place-first.result < length c.as_slice-turns.result.now
-stands c = let (run, is, in_it, below) = c.requires.stands in omega (
+stands c = let (run, is, in_it, below) = c.requires in omega (
   arith,
   in_it.there c.args.k below,
   c.ticket_place-first.ensures run is,
@@ -19,7 +19,7 @@ pub overflow_add-result : goal.overflow_add-result
 overflow_add-result c = omega (arith, stands c)
 
 pub bounds-turns-k : goal.bounds-turns-k
-bounds-turns-k c = let (run, is, in_it, below) = c.requires.stands in omega (
+bounds-turns-k c = let (run, is, in_it, below) = c.requires in omega (
   arith,
   in_it.there c.args.k below,
   c.ticket_place-first.ensures run is,

@@ -9,21 +9,21 @@ use Rattle.ds_fabric.proofs.record.Record.count.Goals as goal
 
 pub history-history-requires : goal.history-history-requires
 history-history-requires c = let v : View = c.args.self.now.shown.view in let run : Run = v.run in
-    let few : c.self.inside.latches ≡ run.latches = c.self.invariant.latches_is
+    let same : c.self.inside.latches ≡ v.run.latches = c.self.invariant.latches_is
     ∙ ap (λ (x : Recorder). x.shown.view.run.latches) c.self.view_is in
     λ sound. omega (
       arith,
-      c.home.ensures run few,
+      c.home.ensures run same,
       ap (node_of run) c.index-number.ensures,
       node_below run c.args.event sound.among c.requires,
     )
 
 pub returns : goal.returns
 returns c = let v : View = c.args.self.now.shown.view in let run : Run = v.run in
-    let few : c.self.inside.latches ≡ run.latches = c.self.invariant.latches_is
+    let same : c.self.inside.latches ≡ v.run.latches = c.self.invariant.latches_is
     ∙ ap (λ (x : Recorder). x.shown.view.run.latches) c.self.view_is in
     let h = c.history-history.result.now in let i = c.history-history.ensures in
-    c.turns_of.ensures run few
+    c.turns_of.ensures run same
     ∙ (counted v h c.index-number.result i.counts i.tells
-    (sym (c.home.ensures run few) ∙ sym i.node_is)
+    (sym (c.home.ensures run same) ∙ sym i.node_is)
     ∙ ap (λ (e : ℕ). length (tickets v e)) c.index-number.ensures)

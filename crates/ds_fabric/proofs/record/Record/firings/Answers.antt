@@ -17,8 +17,8 @@ record_same p ns zs ps qs latches n m a b e q =
     (subst (λ (ys : List ℕ). IsRecord p zs ys latches n) (sym b)
     (subst (λ (x : ℕ). IsRecord p zs qs latches x) (sym e) q))
 
-pub returns : goal.returns
-returns c = let p : Showing = c.self.inside.shown.value in let q = c.self.invariant in
+pub returns-clause-ok : goal.returns-clause-ok
+returns-clause-ok c = let p : Showing = c.self.inside.shown.value in let q = c.self.invariant in
     let new : List ℕ = c.spread_all.new.out in
     let nodes : List History = c.self.inside.nodes.items in
     let out : List ℕ = c.in_ok-out.out.items in
@@ -40,9 +40,20 @@ returns c = let p : Showing = c.self.inside.shown.value in let q = c.self.invari
     (long ∙ many) all in
     subst (λ (x : Recorder). IsFired x.shown.view.run (tickets x.shown.view)
     (take c.in_ok-out.out.len (new ++ drop (length new) out))) c.self.view_is (record {
-      log = q.recorded.log;
-      legal = q.recorded.legal;
-      in_turn = q.recorded.in_turn;
-      all = q.recorded.all;
+      recorded = record {
+        log = q.recorded.log;
+        long = ap (λ (xs : List ℕ). length xs) same ∙ (long ∙ (many ∙ q.recorded.long));
+        legal = q.recorded.legal;
+        in_turn = q.recorded.in_turn;
+        all = q.recorded.all;
+      };
       is = same ∙ is;
     })
+
+pub returns-clause-ok_long : goal.returns-clause-ok_long
+returns-clause-ok_long c = let new : List ℕ = c.spread_all.new.out in
+    let out : List ℕ = c.in_ok-out.out.items in
+    let long : length new ≡ length out = c.spread_all.ensures.long
+    ∙ ap (λ (xs : List ℕ). length xs) c.as_mut_slice.ensures.value in
+    ap (λ (xs : List ℕ). length xs) (written c.in_ok-out.out.len out new (omega (arith, long)))
+    ∙ (long ∙ (c.in_ok-out.ensures ∙ ap (λ (x : Recorder). x.many) c.self.view_is))

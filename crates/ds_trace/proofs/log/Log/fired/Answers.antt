@@ -6,7 +6,7 @@ use Rattle.ds_trace.proofs.log.Log.fired.Goals as goal
 
 pub returns : goal.returns
 returns c = record {
-  listed = c.in_ok-firings.ensures;
+  listed = c.in_ok-firings.ensures.ok;
   kinds = ap length c.in_ok-zero.ensures
       ∙ (length-replicate (length c.events.result.now) 0
       ∙ (ap (λ (es : List Event). length es) c.events.ensures.events

@@ -8,7 +8,7 @@ returns-clause-ok c =
     c.args.played.now.vectors.now.rows
     c.args.played.now.fired.now c.requires.played.accepted c.requires.played.planned
     c.requires.played.whole
-    c.in_ok-fired.fired.items c.in_ok-fired.ensures in (
+    c.in_ok-fired.fired.items c.in_ok-fired.ensures.ok in (
       c.in_ok-fired.fired.items,
       record { legal = legal; full = full },
       log_grown c.args.self.now c.self.inside.events.items c.extend_from_slice.new.self.items
