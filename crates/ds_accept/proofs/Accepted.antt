@@ -8,7 +8,7 @@ use Rattle.ds_marked.specs.declared.marked.Event.{Event}
 use Rattle.ds_latch.specs.Node.{Split}
 use Rattle.ds_latch.specs.Plan.{split_events}
 use Rattle.ds_control.proofs.Named.{events_once}
-use Rattle.ds_accept.specs.Accept.{AreThere, StandsAt, extra_events}
+use Rattle.ds_accept.specs.Accept.{AreThere, EventStandsAt, extra_events}
 use Rattle.ds_accept.specs.Laws.{AcceptableIsAccepted}
 use Rattle.ds_accept.specs.Steps.{moved}
 use Rattle.ds_accept.proofs.Moved.{plan, reorders}
@@ -35,7 +35,7 @@ module _ (events others : List Event) (there : All (Contains others) events) whe
 pub place_in : (s : Split) (g : Graph) → AreThere s g → ℕ → ℕ
 place_in s g there v = place_by (split_events s) g.events there v (cases_lt v (length (split_events s)))
 
-pub placed_in : (s : Split) (g : Graph) (there : AreThere s g) (v : ℕ) → v < length (split_events s) → StandsAt s g v (place_in s g there v)
+pub placed_in : (s : Split) (g : Graph) (there : AreThere s g) (v : ℕ) → v < length (split_events s) → EventStandsAt s g v (place_in s g there v)
 unfolding place_in
 placed_in s g there v low = record {
   number = low;

@@ -12,9 +12,9 @@ use Rattle.ds_marked.specs.declared.marked.Event.{Event}
 use Rattle.ds_latch.specs.Node.{Split}
 use Rattle.ds_latch.specs.Plan.{IsPlan, split_events}
 use Rattle.ds_control.specs.Control.{AreOrders}
-use Rattle.ds_accept.specs.Accept.{AreGiven, AreThere, StandsAt, extra_events, others_of}
+use Rattle.ds_accept.specs.Accept.{AreGiven, AreThere, EventStandsAt, extra_events, others_of}
 use Rattle.ds_accept.specs.Fault.{IsAcceptFault, IsFirstMissing, IsFirstWithout}
-use Rattle.ds_accept.specs.Steps.{AreAsked, ArePlaces, AreLeft, AreWalked, IsLacking, IsMoved, IsOrdered, IsUnmet, moved}
+use Rattle.ds_accept.specs.Steps.{AreAsked, AreEventPlaces, AreLeft, AreWalked, IsLacking, IsMoved, IsOrdered, IsUnmet, moved}
 use Rattle.ds_accept.specs.declared.fault.AcceptFault.{AcceptFault}
 use Rattle.ds_accept.specs.declared.fault.AcceptFault.TheVariants.{MissingEvent, MissingOrder, TokenFreeCycle, Memory}
 use Rattle.ds_accept.proofs.Moved.{acceptable, given, missing, plan, reorders, there}
@@ -37,7 +37,7 @@ pub record Facts (s : Split) (g required : Graph) : Type 0 where
   pub kept : IsKept required × IsKept g
 
 -- events that have places stand there
-pub required_there : (required events : List Event) (places : List ℕ) → ArePlaces required events places → All (Contains events) required
+pub required_there : (required events : List Event) (places : List ℕ) → AreEventPlaces required events places → All (Contains events) required
 required_there required events places are v d inside =
     (slice_index places v, are.inside v 0 (rw are.one_each inside), are.same v (get_or required v d) inside ∙ get_or-self required v d inside)
 
@@ -57,8 +57,8 @@ module _ (s : Split) (g required : Graph) (f : Facts s g required) where
   once : AllPairs (λ a b. a ≢ b) (split_events s)
   once = subst (AllPairs (λ a b. a ≢ b)) f.events f.kept.0.once
 
-  module _ (places : List ℕ) (are : ArePlaces required.events g.events places) where
-    placed : (v : ℕ) → v < length (split_events s) → StandsAt s g v (slice_index places v)
+  module _ (places : List ℕ) (are : AreEventPlaces required.events g.events places) where
+    placed : (v : ℕ) → v < length (split_events s) → EventStandsAt s g v (slice_index places v)
     placed v low =
         let inside : v < length required.events = subst (λ (es : List Event). v < length es) (sym f.events) low in record {
           number = low;

@@ -13,7 +13,7 @@ use Rattle.ds_marked.specs.declared.marked.Kind.{Kind}
 use Rattle.ds_marked.specs.declared.marked.Kind.TheVariants.{Rise, Fall, Dummy}
 use Rattle.ds_accept.specs.declared.numbers.Key.{Key}
 use Rattle.ds_accept.specs.contracts.numbers.KeyPartialEq.TheImpl as key_eq
-use Rattle.ds_accept.specs.Codes.{Code, code_of, key_code, sign_of, IsMissingCode, StandsAtCode}
+use Rattle.ds_accept.specs.Codes.{Code, event_code, key_code, sign_of, IsMissingCode, StandsAtCode}
 
 -- whether two keys are equal
 abbrev pub same_key : Key → Key → Bool
@@ -46,7 +46,7 @@ same_kind Dummy Fall e = absurd (omega (arith, e))
 same_kind Dummy Dummy e = refl
 
 -- a code is that of one event
-pub one_event : (a b : Event) → code_of a ≡ code_of b → a ≡ b
+pub one_event : (a b : Event) → event_code a ≡ event_code b → a ≡ b
 one_event a b e =
     let signal : a.signal ≡ b.signal = ap (λ (c : Code). c.signal) e in
     let kind : a.kind ≡ b.kind = same_kind a.kind b.kind (ap (λ (c : Code). c.sign) e) in
@@ -116,23 +116,23 @@ module _ (key : Key) (keys : List Key) (codes : List Code) (view : map key_code 
       ]
 
 module _ (events : List Event) (once : AllPairs (λ a b. a ≢ b) events) (i : ℕ) (inside : i < length events)
-    (keys : List Key) (view : map key_code keys ≡ map code_of (take i events)) where
+    (keys : List Key) (view : map key_code keys ≡ map event_code (take i events)) where
   -- the keys of one event more
-  pub one_more : (e : Event) → e ≡ get_or events i e → (key : Key) → key_code key ≡ code_of e → (all : List Key)
+  pub one_more : (e : Event) → e ≡ get_or events i e → (key : Key) → key_code key ≡ event_code e → (all : List Key)
       → all ≡ (if list_any (same_key key) keys then keys else keys ++ key ∷ [])
-      → map key_code all ≡ map code_of (take (i + 1) events)
+      → map key_code all ≡ map event_code (take (i + 1) events)
   one_more e is key key_is all all_is = elim (cases_Bool (list_any (same_key key) keys)) [
     | inl there ↦ absurd (
         let (k, low, same) = any_there key keys there in
-        let size : length keys ≡ i = sym (length-map keys key_code) ∙ (ap (λ (cs : List Code). length cs) view ∙ (length-map (take i events) code_of ∙ length-take-le i events (omega arith))) in
+        let size : length keys ≡ i = sym (length-map keys key_code) ∙ (ap (λ (cs : List Code). length cs) view ∙ (length-map (take i events) event_code ∙ length-take-le i events (omega arith))) in
         let below : k < i = rw size at low in
         let in_take : k < length (take i events) = rw (length-take-le i events (omega arith)) below in
-        let code : key_code (get_or keys k key) ≡ code_of (get_or events k e) =
-        sym (get_or-map key_code keys k key (code_of e) low) ∙ (ap (λ (cs : List Code). get_or cs k (code_of e)) view ∙ (get_or-map code_of (take i events) k e (code_of e) in_take ∙ ap code_of (get_or-take i events k e below))) in
+        let code : key_code (get_or keys k key) ≡ event_code (get_or events k e) =
+        sym (get_or-map key_code keys k key (event_code e) low) ∙ (ap (λ (cs : List Code). get_or cs k (event_code e)) view ∙ (get_or-map event_code (take i events) k e (event_code e) in_take ∙ ap event_code (get_or-take i events k e below))) in
         let events_same : get_or events k e ≡ e = one_event (get_or events k e) e (sym code ∙ (same ∙ key_is)) in
         once k i e below inside (events_same ∙ is))
     | inr fresh ↦ (
         let longer : all ≡ keys ++ key ∷ [] = all_is ∙ rw fresh refl in
         ap (λ (ks : List Key). map key_code ks) longer ∙ (map-append key_code keys (key ∷ []) ∙ (ap (λ (cs : List Code). cs ++ key_code key ∷ []) view
-        ∙ (ap (λ (c : Code). map code_of (take i events) ++ c ∷ []) (key_is ∙ ap code_of is) ∙ sym (map_more code_of events i e inside)))))
+        ∙ (ap (λ (c : Code). map event_code (take i events) ++ c ∷ []) (key_is ∙ ap event_code is) ∙ sym (map_more event_code events i e inside)))))
   ]

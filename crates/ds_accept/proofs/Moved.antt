@@ -14,7 +14,7 @@ use Rattle.ds_latch.specs.Plan.{IsPlan, IsSplit, Reorders, split_events}
 use Rattle.ds_control.specs.Control.{AreOrders}
 use Rattle.ds_rank.specs.Rank.{AreRanks}
 use Rattle.ds_walk.specs.Given.{IsFirstUnmet, IsGiven}
-use Rattle.ds_accept.specs.Accept.{AreGiven, AreThere, Gives, IsAcceptable, StandsAt, extra_events}
+use Rattle.ds_accept.specs.Accept.{AreGiven, AreThere, GivesOrder, IsAcceptable, EventStandsAt, extra_events}
 use Rattle.ds_accept.specs.Fault.{IsFirstMissing, StandsFirst}
 use Rattle.ds_accept.specs.Steps.{AreLeft, IsArcWithin, IsGivenBy, moved}
 use Rattle.ds_accept.proofs.Counted.{no_more, one_place, some_event}
@@ -23,11 +23,11 @@ use Rattle.ds_accept.proofs.Others.{all_once, all_within}
 
 module _ (s : Split) (g to : Graph) (number place : ℕ → ℕ) (kept : IsKept g) (once : AllPairs (λ a b. a ≢ b) (split_events s))
     (numbered : (p : ℕ) (d : Event) → p < length g.events → (number p < length to.events) × (get_or to.events (number p) d ≡ get_or g.events p d))
-    (placed : (v : ℕ) → v < length (split_events s) → StandsAt s g v (place v))
+    (placed : (v : ℕ) → v < length (split_events s) → EventStandsAt s g v (place v))
     (events : to.events ≡ split_events s ++ extra_events s g) (arcs : IsPermutation (map (moved number) g.arcs) to.arcs) where
   pub there : AreThere s g
   there v d inside =
-      let at : StandsAt s g v (place v) = placed v inside in
+      let at : EventStandsAt s g v (place v) = placed v inside in
       (place v, at.inside, at.event (get_or (split_events s) v d) ∙ get_or-self (split_events s) v d inside)
 
   to_once : AllPairs (λ a b. a ≢ b) to.events
@@ -41,14 +41,14 @@ module _ (s : Split) (g to : Graph) (number place : ℕ → ℕ) (kept : IsKept 
         ap (λ (es : List Event). get_or es v d) events ∙ get_or_append_left (split_events s) (extra_events s g) d v low,
       )
 
-  number_is : (v p : ℕ) → StandsAt s g v p → number p ≡ v
+  number_is : (v p : ℕ) → EventStandsAt s g v p → number p ≡ v
   number_is v p at =
       let (low, same) = numbered p some_event at.inside in
       let (also, is) = stands_first v some_event at.number in
       one_place to.events to_once (number p) v some_event low also (same ∙ (at.event some_event ∙ sym is))
 
   -- and the other way round
-  number_at : (v p : ℕ) → v < length (split_events s) → p < length g.events → number p ≡ v → StandsAt s g v p
+  number_at : (v p : ℕ) → v < length (split_events s) → p < length g.events → number p ≡ v → EventStandsAt s g v p
   number_at v p low inside is = record {
     number = low;
     inside = inside;
@@ -73,7 +73,7 @@ module _ (s : Split) (g to : Graph) (number place : ℕ → ℕ) (kept : IsKept 
   walk_down _ _ _ (along {u} {v} {w} {sum} {tokens} walk arc) = along (walk_down u v sum walk) (arc_down v w tokens arc)
 
   -- what the graph gives, a walk of the other gives
-  down : (u v tokens : ℕ) → Gives s g u v tokens → (sum : ℕ) × Walk to u v sum × (sum ≤ tokens)
+  down : (u v tokens : ℕ) → GivesOrder s g u v tokens → (sum : ℕ) × Walk to u v sum × (sum ≤ tokens)
   down u v tokens gives = (
     gives.sum,
     subst (λ (x : ℕ). Walk to x v gives.sum) (number_is u gives.from gives.source)
@@ -82,7 +82,7 @@ module _ (s : Split) (g to : Graph) (number place : ℕ → ℕ) (kept : IsKept 
   )
 
   -- what an arc of the other gives, the graph gives
-  up : (u v tokens : ℕ) → u < length (split_events s) → v < length (split_events s) → Any (IsArcWithin u v tokens) to.arcs → Gives s g u v tokens
+  up : (u v tokens : ℕ) → u < length (split_events s) → v < length (split_events s) → Any (IsArcWithin u v tokens) to.arcs → GivesOrder s g u v tokens
   up u v tokens u_low v_low (j, arc, low, is, (source, target, few)) =
       let (k, below, same) = Contains-permutation to.arcs (map (moved number) g.arcs) arc (IsPermutation-sym (map (moved number) g.arcs) to.arcs arcs) (j, low, is) in
       let inside : k < length g.arcs = rw (length-map g.arcs (moved number)) at below in
@@ -101,7 +101,7 @@ module _ (s : Split) (g to : Graph) (number place : ℕ → ℕ) (kept : IsKept 
 
   -- an order that a walk gives
   walked : (order : Arc) → (order.source < length (split_events s)) × (order.target < length (split_events s))
-      → IsGiven g (moved place order) → Gives s g order.source order.target order.tokens
+      → IsGiven g (moved place order) → GivesOrder s g order.source order.target order.tokens
   walked order ends (sum, few, walk) = record {
     from = place order.source;
     to = place order.target;
@@ -112,13 +112,13 @@ module _ (s : Split) (g to : Graph) (number place : ℕ → ℕ) (kept : IsKept 
     few = few;
   }
 
-  place_at : (v p : ℕ) → StandsAt s g v p → p ≡ place v
+  place_at : (v p : ℕ) → EventStandsAt s g v p → p ≡ place v
   place_at v p at =
-      let own : StandsAt s g v (place v) = placed v at.number in
+      let own : EventStandsAt s g v (place v) = placed v at.number in
       one_place g.events kept.once p (place v) some_event at.inside own.inside (at.event some_event ∙ sym (own.event some_event))
 
   -- and the other way round
-  by_walk : (order : Arc) → Gives s g order.source order.target order.tokens → IsGiven g (moved place order)
+  by_walk : (order : Arc) → GivesOrder s g order.source order.target order.tokens → IsGiven g (moved place order)
   by_walk order gives = (
     gives.sum,
     gives.few,
@@ -186,10 +186,10 @@ module _ (s : Split) (g to : Graph) (number place : ℕ → ℕ) (kept : IsKept 
 
   -- an order by the parts of its arc
   by_parts : (arc : Arc) (u v tokens : ℕ) → arc.source ≡ u → arc.target ≡ v → arc.tokens ≡ tokens
-      → Gives s g arc.source arc.target arc.tokens → Gives s g u v tokens
+      → GivesOrder s g arc.source arc.target arc.tokens → GivesOrder s g u v tokens
   by_parts arc u v tokens su tv kt gives =
-      subst (λ (u : ℕ). Gives s g u v tokens) su (subst (λ (v : ℕ). Gives s g arc.source v tokens) tv
-      (subst (λ (t : ℕ). Gives s g arc.source arc.target t) kt gives))
+      subst (λ (u : ℕ). GivesOrder s g u v tokens) su (subst (λ (v : ℕ). GivesOrder s g arc.source v tokens) tv
+      (subst (λ (t : ℕ). GivesOrder s g arc.source arc.target t) kt gives))
 
   module _ (required : Graph) (orders : AreOrders s required) (sorted : AllPairs StandsBefore required.arcs)
       (inside_required : AreEnds (length (split_events s)) required.arcs) (left : List Arc) (are : AreLeft required.arcs to.arcs left) where
@@ -206,7 +206,7 @@ module _ (s : Split) (g to : Graph) (number place : ℕ → ℕ) (kept : IsKept 
 
     -- an order that is left is given where the walk of its places is
     given_left : (k : ℕ) (d : Arc) → k < length left → IsGiven g (get_or (map (moved place) left) k (moved place d))
-        → Gives s g (get_or left k d).source (get_or left k d).target (get_or left k d).tokens
+        → GivesOrder s g (get_or left k d).source (get_or left k d).target (get_or left k d).tokens
     given_left k d inside is = walked (get_or left k d) (left_ends k d inside)
         (subst (IsGiven g) (get_or-map (moved place) left k d (moved place d) inside) is)
 
@@ -216,7 +216,7 @@ module _ (s : Split) (g to : Graph) (number place : ℕ → ℕ) (kept : IsKept 
         let low : (arc.source < length (split_events s)) × (arc.target < length (split_events s)) = required_ends arc (k, inside, is) in
         by_parts arc u v tokens su tv kt (elim (All-contains (λ o. IsGivenBy to.arcs o ⊎ Contains left o) required.arcs arc are.others (k, inside, is)) [
           | inl by ↦ up arc.source arc.target arc.tokens low.0 low.1 by
-          | inr (j, near, at) ↦ subst (λ (x : Arc). Gives s g x.source x.target x.tokens) at
+          | inr (j, near, at) ↦ subst (λ (x : Arc). GivesOrder s g x.source x.target x.tokens) at
               (given_left j arc near (all j (moved place arc) (rw (length-map left (moved place)) near)))
         ])
 
@@ -268,6 +268,6 @@ module _ (s : Split) (g to : Graph) (number place : ℕ → ℕ) (kept : IsKept 
                 | inr (j, near, at) ↦ (
                     let first : StandsFirst arc.source arc.target order.source order.target = rw (su, tv) less in
                     let below : j < k = earlier k j order arc inside own near at first in
-                    subst (λ (x : Arc). Gives s g x.source x.target x.tokens) at (given_left j arc near (before j (moved place arc) (omega arith) below)))
+                    subst (λ (x : Arc). GivesOrder s g x.source x.target x.tokens) at (given_left j arc near (before j (moved place arc) (omega arith) below)))
               ]);
         }

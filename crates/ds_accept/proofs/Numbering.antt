@@ -9,8 +9,8 @@ use Rattle.ds_marked.specs.Graph.{Graph, AreEnds, IsKept}
 use Rattle.ds_marked.specs.declared.marked.Arc.{Arc}
 use Rattle.ds_marked.specs.declared.marked.Event.{Event}
 use Rattle.ds_accept.specs.Accept.{others_of}
-use Rattle.ds_accept.specs.Codes.{code_of, IsMissingCode, StandsAtCode}
-use Rattle.ds_accept.specs.Steps.{AreNumbered, ArePlaces, IsMoved, IsNumberOf, moved}
+use Rattle.ds_accept.specs.Codes.{event_code, IsMissingCode, StandsAtCode}
+use Rattle.ds_accept.specs.Steps.{AreEventsNumbered, AreEventPlaces, IsMoved, IsNumberOf, moved}
 use Rattle.ds_accept.specs.declared.numbered.Numbered.{Numbered}
 use Rattle.ds_accept.proofs.Others.{all_fit, all_once, has, stands as in_list, stands_in}
 use Rattle.ds_accept.proofs.Placed.{ArePlacedTo, Stands, all_placed, missing, moved_ends, one_more_at, stands, with_more}
@@ -43,7 +43,7 @@ module _ (known graph : List Event) (k : ℕ) (e : Event) (low : k < length grap
   ]
 
   module _ (events : List Event) (numbers : List ℕ) (before : AreNumberedTo known graph events k numbers) where
-    kept_so : (n : ℕ) → StandsAtCode (map code_of known) (code_of e) n → AreNumberedTo known graph events (k + 1) (numbers ++ n ∷ [])
+    kept_so : (n : ℕ) → StandsAtCode (map event_code known) (event_code e) n → AreNumberedTo known graph events (k + 1) (numbers ++ n ∷ [])
     kept_so n code =
         let at : Stands known e n = stands known e n code in
         let there : Contains known e = (n, at.inside, at.is e) in
@@ -56,7 +56,7 @@ module _ (known graph : List Event) (k : ℕ) (e : Event) (low : k < length grap
           placed = one_more_at graph events k numbers before.placed low e is n also;
         }
 
-    put_behind : (n : ℕ) → IsMissingCode (map code_of known) (code_of e) → n ≡ length events
+    put_behind : (n : ℕ) → IsMissingCode (map event_code known) (event_code e) → n ≡ length events
         → AreNumberedTo known graph (events ++ e ∷ []) (k + 1) (numbers ++ n ∷ [])
     put_behind n none last =
         let size : length (events ++ e ∷ []) ≡ length events + 1 = length-append events (e ∷ []) in
@@ -67,12 +67,12 @@ module _ (known graph : List Event) (k : ℕ) (e : Event) (low : k < length grap
         }
 
     -- an event more has its number
-    pub one_more : (more : List Event) (n : ℕ) → IsNumberOf (map code_of known) e events more n → AreNumberedTo known graph more (k + 1) (numbers ++ n ∷ [])
+    pub one_more : (more : List Event) (n : ℕ) → IsNumberOf (map event_code known) e events more n → AreNumberedTo known graph more (k + 1) (numbers ++ n ∷ [])
     one_more more n (inl (code, same)) = subst (λ (es : List Event). AreNumberedTo known graph es (k + 1) (numbers ++ n ∷ [])) (sym same) (kept_so n code)
     one_more more n (inr (none, longer, last)) = subst (λ (es : List Event). AreNumberedTo known graph es (k + 1) (numbers ++ n ∷ [])) (sym longer) (put_behind n none last)
 
     -- and there is room for it
-    pub in_room : length known + length (others_of known graph) < 2 ^ 32 → (more : List Event) (n : ℕ) → IsNumberOf (map code_of known) e events more n → n < 2 ^ 32
+    pub in_room : length known + length (others_of known graph) < 2 ^ 32 → (more : List Event) (n : ℕ) → IsNumberOf (map event_code known) e events more n → n < 2 ^ 32
     in_room few more n number =
         let all : others_of known graph ≡ others_of known (take k graph) ++ others_of known (drop k graph)
         = ap (λ (es : List Event). others_of known es) (sym (take-append-drop k graph)) ∙ filter-append (is_other known) (take k graph) (drop k graph) in
@@ -81,19 +81,19 @@ module _ (known graph : List Event) (k : ℕ) (e : Event) (low : k < length grap
         let size : length events ≡ length known + length (others_of known (take k graph)) = ap (λ (es : List Event). length es) before.same ∙ length-append known (others_of known (take k graph)) in
         elim number [
           | inl (code, same) ↦ (
-              let inside : n < length (map code_of known) = code.inside in
-              let below : n < length known = rw (length-map known code_of) at inside in
+              let inside : n < length (map event_code known) = code.inside in
+              let below : n < length known = rw (length-map known event_code) at inside in
               omega (below, few, arith))
           | inr (none, longer, last) ↦ omega (last, size, sum, few, arith)
         ]
 
 -- all events have numbers
 pub all_numbered : (known graph events : List Event) (k : ℕ) (numbers : List ℕ) → k ≡ length graph → AreNumberedTo known graph events k numbers
-    → (all : Numbered) → all.events ≡ events → all.numbers.items ≡ numbers → AreNumbered known graph all
+    → (all : Numbered) → all.events ≡ events → all.numbers.items ≡ numbers → AreEventsNumbered known graph all
 all_numbered known graph events k numbers end are all events_are numbers_are = record {
   same = events_are ∙ (are.same ∙ ap (λ (es : List Event). known ++ others_of known es) (take_all k graph (omega (end, arith))));
-  places = subst (λ (ns : List ℕ). ArePlaces graph all.events ns) (sym numbers_are)
-      (subst (λ (es : List Event). ArePlaces graph es numbers) (sym events_are) (all_placed graph events k numbers are.placed end));
+  places = subst (λ (ns : List ℕ). AreEventPlaces graph all.events ns) (sym numbers_are)
+      (subst (λ (es : List Event). AreEventPlaces graph es numbers) (sym events_are) (all_placed graph events k numbers are.placed end));
 }
 
 -- at first none has
@@ -115,7 +115,7 @@ module _ (g required : Graph) (kept : IsKept g) (also : IsKept required) (there 
       let few : length g.events < 2 ^ 32 = kept.few_events in
       omega (fit, few, arith)
 
-  module _ (events : List Event) (numbers : List ℕ) (same : events ≡ required.events ++ others_of required.events g.events) (places : ArePlaces g.events events numbers)
+  module _ (events : List Event) (numbers : List ℕ) (same : events ≡ required.events ++ others_of required.events g.events) (places : AreEventPlaces g.events events numbers)
       (arcs : List Arc) (are : arcs ≡ map (moved (slice_index numbers)) g.arcs) where
     -- and the graph of them can be made
     pub made_ends : AreEnds (length events) arcs
@@ -136,7 +136,7 @@ module _ (g required : Graph) (kept : IsKept g) (also : IsKept required) (there 
     is_moved to events_are permuted to_kept = record {
       events = events_are ∙ same;
       numbers = numbers;
-      are = subst (λ (es : List Event). ArePlaces g.events es numbers) (sym events_are) places;
+      are = subst (λ (es : List Event). AreEventPlaces g.events es numbers) (sym events_are) places;
       arcs = subst (λ (xs : List Arc). IsPermutation xs to.arcs) are permuted;
       kept = to_kept;
     }

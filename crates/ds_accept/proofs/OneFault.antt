@@ -9,11 +9,11 @@ use Rattle.ds_latch.specs.Node.{Split}
 use Rattle.ds_latch.specs.Order.{IsRequired, opens_first, closes_before_next, after_producer, before_reuse, open_tokens, close_tokens}
 use Rattle.ds_latch.specs.Plan.{split_events}
 use Rattle.ds_latch.proofs.Counts.{edge_differs, same_node}
-use Rattle.ds_accept.specs.Accept.{StandsAt}
+use Rattle.ds_accept.specs.Accept.{EventStandsAt}
 use Rattle.ds_walk.proofs.Least.{one_list_of_sums_lem}
 use Rattle.ds_walk.specs.Sums.{AreLeastSums}
 use Rattle.ds_accept.specs.Fault.{IsFirstMissing, IsFirstWithout, ShowsLeast, StandsFirst}
-use Rattle.ds_accept.specs.Laws.{OneFault}
+use Rattle.ds_accept.specs.Laws.{OneAcceptFault}
 use Rattle.ds_accept.specs.declared.fault.AcceptFault.TheVariants.{MissingEvent, MissingOrder, TokenFreeCycle, Memory}
 use Rattle.ds_accept.proofs.Counted.{one_place, some_event}
 
@@ -48,7 +48,7 @@ same_tokens s _ _ _ _ _ _ (before_reuse p c edge) (before_reuse q d other) e f =
 
 module _ (s : Split) (g : Graph) (kept : IsKept g) where
   -- an event of the design has one place
-  place_once : (u v p q : ℕ) → u ≡ v → StandsAt s g u p → StandsAt s g v q → p ≡ q
+  place_once : (u v p q : ℕ) → u ≡ v → EventStandsAt s g u p → EventStandsAt s g v q → p ≡ q
   place_once u v p q e one other =
       one_place g.events kept.once p q some_event one.inside other.inside
       (one.event some_event ∙ (ap (λ (n : ℕ). get_or (split_events s) n some_event) e ∙ sym (other.event some_event)))
@@ -93,7 +93,7 @@ module _ (s : Split) (g : Graph) (kept : IsKept g) where
   same_event : (k m : ℕ) (e f : Event) → k ≡ m → HoldsAt (λ x. x ≡ e) (split_events s) k → HoldsAt (λ x. x ≡ f) (split_events s) m → e ≡ f
   same_event k m e f same is at = sym (is some_event) ∙ (ap (λ (n : ℕ). get_or (split_events s) n some_event) same ∙ at some_event)
 
-pub one_fault_lem : OneFault
+pub one_fault_lem : OneAcceptFault
 one_fault_lem s g (MissingEvent e) (MissingEvent f) kept some more (k, first, is) (m, second, at) =
     inl (ap MissingEvent (same_event s g kept k m e f (first_once (Contains g.events) (split_events s) some_event k m first second) is at))
 one_fault_lem s g (MissingEvent e) (MissingOrder from to t least numbers) kept some more (k, first, is) (there, second, shows) =

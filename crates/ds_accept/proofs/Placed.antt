@@ -5,9 +5,9 @@ use Rattle.std.proofs.lemmas.List.{get_or-map, get_or_default, length-map, get_o
 use Rattle.std.proofs.lemmas.List.Elements.{All-push, All-map}
 use Rattle.ds_base.proofs.Lists.{get_or-self}
 use Rattle.ds_marked.specs.declared.marked.Event.{Event}
-use Rattle.ds_accept.specs.Codes.{code_of, IsMissingCode, StandsAtCode}
+use Rattle.ds_accept.specs.Codes.{event_code, IsMissingCode, StandsAtCode}
 use Rattle.ds_accept.specs.Fault.{IsFirstWithout}
-use Rattle.ds_accept.specs.Steps.{ArePlaces, moved}
+use Rattle.ds_accept.specs.Steps.{AreEventPlaces, moved}
 use Rattle.ds_marked.specs.Graph.{Graph, AreEnds}
 use Rattle.ds_marked.specs.declared.marked.Arc.{Arc}
 use Rattle.ds_accept.proofs.Keys.{one_event}
@@ -18,23 +18,23 @@ pub record ArePlacedTo (events others : List Event) (k : ℕ) (places : List ℕ
   pub inside : All (λ place. place < length others) places
   pub same : (j : ℕ) (d : Event) → j < k → get_or others (slice_index places j) d ≡ get_or events j d
 
-pub missing : (others : List Event) (e : Event) → IsMissingCode (map code_of others) (code_of e) → ¬ Contains others e
+pub missing : (others : List Event) (e : Event) → IsMissingCode (map event_code others) (event_code e) → ¬ Contains others e
 missing others e none (j, inside, is) =
-    none j (rw (length-map others code_of) inside) (code_of e) (get_or-map code_of others j e (code_of e) inside ∙ ap code_of is)
+    none j (rw (length-map others event_code) inside) (event_code e) (get_or-map event_code others j e (event_code e) inside ∙ ap event_code is)
 
 -- a place of an event
 pub record Stands (others : List Event) (e : Event) (place : ℕ) : Type 0 where
   pub inside : place < length others
   pub is : (d : Event) → get_or others place d ≡ e
 
-pub stands : (others : List Event) (e : Event) (place : ℕ) → StandsAtCode (map code_of others) (code_of e) place → Stands others e place
+pub stands : (others : List Event) (e : Event) (place : ℕ) → StandsAtCode (map event_code others) (event_code e) place → Stands others e place
 stands others e place code =
-    let low : place < length (map code_of others) = code.inside in
-    let inside : place < length others = rw (length-map others code_of) at low in
-    record { inside = inside; is = λ d. one_event (get_or others place d) e (sym (get_or-map code_of others place d (code_of d) inside) ∙ code.is (code_of d)) }
+    let low : place < length (map event_code others) = code.inside in
+    let inside : place < length others = rw (length-map others event_code) at low in
+    record { inside = inside; is = λ d. one_event (get_or others place d) e (sym (get_or-map event_code others place d (event_code d) inside) ∙ code.is (event_code d)) }
 
 module _ (events others : List Event) (k : ℕ) (places : List ℕ) (placed : ArePlacedTo events others k places) where
-  pub no_place : k < length events → (e : Event) → e ≡ get_or events k e → IsMissingCode (map code_of others) (code_of e)
+  pub no_place : k < length events → (e : Event) → e ≡ get_or events k e → IsMissingCode (map event_code others) (event_code e)
       → IsFirstWithout (Contains others) events k
   no_place inside e is none = record {
     inside = inside;
@@ -68,7 +68,7 @@ module _ (events others : List Event) (k : ℕ) (places : List ℕ) (placed : Ar
     same = one_place place e at is inside;
   }
 
-  pub one_more : k < length events → (e : Event) → e ≡ get_or events k e → (place : ℕ) → StandsAtCode (map code_of others) (code_of e) place
+  pub one_more : k < length events → (e : Event) → e ≡ get_or events k e → (place : ℕ) → StandsAtCode (map event_code others) (event_code e) place
       → ArePlacedTo events others (k + 1) (places ++ place ∷ [])
   one_more inside e is place code = one_more_at inside e is place (stands others e place code)
 
@@ -84,7 +84,7 @@ module _ (events others : List Event) (k : ℕ) (places : List ℕ) (placed : Ar
             get_or_append_left others more d (slice_index places j) below ∙ placed.same j d low;
       }
 
-pub all_placed : (events others : List Event) (k : ℕ) (places : List ℕ) → ArePlacedTo events others k places → k ≡ length events → ArePlaces events others places
+pub all_placed : (events others : List Event) (k : ℕ) (places : List ℕ) → ArePlacedTo events others k places → k ≡ length events → AreEventPlaces events others places
 all_placed events others k places placed all = record {
   one_each = placed.one_each ∙ all;
   inside = placed.inside;
@@ -92,7 +92,7 @@ all_placed events others k places placed all = record {
 }
 
 -- arcs with other numbers join events again
-pub moved_ends : (g : Graph) (events : List Event) (numbers : List ℕ) → ArePlaces g.events events numbers → AreEnds (length g.events) g.arcs
+pub moved_ends : (g : Graph) (events : List Event) (numbers : List ℕ) → AreEventPlaces g.events events numbers → AreEnds (length g.events) g.arcs
     → (arcs : List Arc) → arcs ≡ map (moved (slice_index numbers)) g.arcs → (same : List Event) → same ≡ events → AreEnds (length same) arcs
 moved_ends g events numbers placed ends arcs arcs_are same is =
     subst (λ (xs : List Event). AreEnds (length xs) arcs) (sym is) (subst (AreEnds (length events)) (sym arcs_are)

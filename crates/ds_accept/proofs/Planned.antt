@@ -8,12 +8,12 @@ use Rattle.ds_marked.specs.declared.marked.Event.{Event}
 use Rattle.ds_latch.specs.Node.{Split, nodes}
 use Rattle.ds_latch.specs.Plan.{IsPlan, split_events}
 use Rattle.ds_latch.proofs.Rising.{events_long, required_inside}
-use Rattle.ds_accept.specs.Accept.{StandsAt}
+use Rattle.ds_accept.specs.Accept.{EventStandsAt}
 use Rattle.ds_accept.specs.Laws.{PlansAreAcceptable}
 
 module _ (s : Split) (g : Graph) (plan : IsPlan s g) where
   -- each event of a node stands at its own place
-  stands : (v : ℕ) → v < 2 * nodes s → StandsAt s g v v
+  stands : (v : ℕ) → v < 2 * nodes s → EventStandsAt s g v v
   stands v low =
       let own : length (split_events s) ≡ 2 * nodes s = events_long s in
       let number : v < length (split_events s) = omega (own, low, arith) in

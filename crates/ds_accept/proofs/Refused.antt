@@ -8,7 +8,7 @@ use Rattle.ds_latch.specs.Node.{Split}
 use Rattle.ds_accept.specs.Accept.{IsAcceptable}
 use Rattle.ds_accept.specs.Fault.{IsAcceptFault}
 use Rattle.ds_accept.specs.declared.fault.AcceptFault.{AcceptFault}
-use Rattle.ds_accept.specs.Laws.{FaultsAreRefused}
+use Rattle.ds_accept.specs.Laws.{AcceptFaultsAreRefused}
 use Rattle.ds_accept.specs.declared.fault.AcceptFault.TheVariants.{MissingEvent, MissingOrder, TokenFreeCycle, Memory}
 use Rattle.ds_accept.proofs.Counted.{some_event}
 
@@ -31,7 +31,7 @@ free_rises g rank rises u v (k, arc, inside, is, (source, target, free)) =
     let up : arc.tokens ≡ 0 → rank arc.source < rank arc.target = subst (λ (a : Arc). a.tokens ≡ 0 → rank a.source < rank a.target) is (rises k arc inside) in
     rw (← source, ← target) (up free)
 
-pub faults_are_refused_lem : FaultsAreRefused
+pub faults_are_refused_lem : AcceptFaultsAreRefused
 faults_are_refused_lem s g (MissingEvent event) some (k, first, is) acc = first.without some_event (acc.there k some_event first.inside)
 faults_are_refused_lem s g (MissingOrder from to tokens least numbers) some (there, first, shows) acc = first.lacks (acc.given first.u first.v tokens first.required)
 faults_are_refused_lem s g (TokenFreeCycle events) some (there, given, cycle) acc =

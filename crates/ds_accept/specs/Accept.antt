@@ -24,18 +24,18 @@ abbrev pub extra_events : Split → Graph → List Event
 extra_events s g = others_of (split_events s) g.events
 
 -- the event of the design with this number stands at this place of the graph
-pub record StandsAt (s : Split) (g : Graph) (v place : ℕ) : Type 0 where
+pub record EventStandsAt (s : Split) (g : Graph) (v place : ℕ) : Type 0 where
   pub number : v < length (split_events s)
   pub inside : place < length g.events
   pub event : (d : Event) → slice_index_or g.events place d ≡ slice_index_or (split_events s) v d
 
 -- the graph gives an order of the design: the tokens along some walk from its source to its target
 -- sum to at most its own
-pub record Gives (s : Split) (g : Graph) (u v tokens : ℕ) : Type 0 where
+pub record GivesOrder (s : Split) (g : Graph) (u v tokens : ℕ) : Type 0 where
   pub from : ℕ
   pub to : ℕ
-  pub source : StandsAt s g u from
-  pub target : StandsAt s g v to
+  pub source : EventStandsAt s g u from
+  pub target : EventStandsAt s g v to
   pub sum : ℕ
   pub walk : Walk g from to sum
   pub few : sum ≤ tokens
@@ -46,7 +46,7 @@ AreThere s g = All (Contains g.events) (split_events s)
 
 -- the graph gives each required order
 abbrev pub AreGiven : Split → Graph → Type 0
-AreGiven s g = (u v tokens : ℕ) → IsRequired s u v tokens → Gives s g u v tokens
+AreGiven s g = (u v tokens : ℕ) → IsRequired s u v tokens → GivesOrder s g u v tokens
 
 -- the events of the nodes are there, each required order is given, and some numbering rises along
 -- each arc without tokens; of further events nothing is asked

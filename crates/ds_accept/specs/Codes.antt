@@ -18,8 +18,8 @@ sign_of Fall = 1
 sign_of Dummy = 2
 
 -- the code of an event
-abbrev pub code_of : Event → Code
-code_of event = record { signal = event.signal; sign = sign_of event.kind }
+abbrev pub event_code : Event → Code
+event_code event = record { signal = event.signal; sign = sign_of event.kind }
 
 -- the code that a key stands for
 abbrev pub key_code : Key → Code

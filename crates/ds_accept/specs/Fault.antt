@@ -9,7 +9,7 @@ use Rattle.ds_latch.specs.Plan.{split_events}
 use Rattle.ds_order.specs.Order.{IsCycle}
 use Rattle.ds_rank.specs.Rank.{HasFreeArc}
 use Rattle.ds_walk.specs.Sums.{AreLeastSums}
-use Rattle.ds_accept.specs.Accept.{AreThere, AreGiven, Gives, StandsAt}
+use Rattle.ds_accept.specs.Accept.{AreThere, AreGiven, GivesOrder, EventStandsAt}
 use Rattle.ds_accept.specs.declared.fault.AcceptFault.{AcceptFault}
 use Rattle.ds_accept.specs.declared.fault.AcceptFault.TheVariants.{MissingEvent}
 use Rattle.ds_accept.specs.declared.fault.AcceptFault.TheVariants.{MissingOrder, TokenFreeCycle}
@@ -30,11 +30,11 @@ pub record IsFirstMissing (s : Split) (g : Graph) (from to tokens : ℕ) : Type 
   pub u : ℕ
   pub v : ℕ
   pub required : IsRequired s u v tokens
-  pub source : StandsAt s g u from
-  pub target : StandsAt s g v to
-  pub lacks : ¬ Gives s g u v tokens
+  pub source : EventStandsAt s g u from
+  pub target : EventStandsAt s g v to
+  pub lacks : ¬ GivesOrder s g u v tokens
   pub before : (u' v' tokens' : ℕ) → IsRequired s u' v' tokens' → StandsFirst u' v' u v
-      → Gives s g u' v' tokens'
+      → GivesOrder s g u' v' tokens'
 
 -- how few tokens there are along walks from one event to another, none where there is no walk; the
 -- numbers, the same for all events, show it

@@ -9,8 +9,8 @@ use Rattle.ds_accept.specs.declared.fault.AcceptFault.{AcceptFault}
 use Rattle.ds_accept.specs.declared.fault.AcceptFault.TheVariants.{Memory, TokenFreeCycle}
 
 -- a graph with a fault is not acceptable
-abbrev pub FaultsAreRefused : Type 0
-FaultsAreRefused = (s : Split) (g : Graph) (fault : AcceptFault) → fault ≢ Memory
+abbrev pub AcceptFaultsAreRefused : Type 0
+AcceptFaultsAreRefused = (s : Split) (g : Graph) (fault : AcceptFault) → fault ≢ Memory
     → IsAcceptFault s g fault → ¬ IsAcceptable s g
 
 -- an acceptable graph is a plan's once the events of the nodes stand first, in their order
@@ -29,12 +29,12 @@ OnePlan = (s : Split) (g : Graph) (one other : Planned) → IsKept g → IsKept 
     → IsPlanOf s g one → IsPlanOf s g other → one ≡ other
 
 -- the fault shows a cycle
-abbrev pub ShowsCycle : AcceptFault → Type 0
-ShowsCycle fault = (events : List ℕ) × (fault ≡ TokenFreeCycle events)
+abbrev pub ShowsTokenFreeCycle : AcceptFault → Type 0
+ShowsTokenFreeCycle fault = (events : List ℕ) × (fault ≡ TokenFreeCycle events)
 
 -- two faults of a graph are the same, or both show a cycle
-abbrev pub OneFault : Type 0
-OneFault = (s : Split) (g : Graph) (one other : AcceptFault) → IsKept g → one ≢ Memory
+abbrev pub OneAcceptFault : Type 0
+OneAcceptFault = (s : Split) (g : Graph) (one other : AcceptFault) → IsKept g → one ≢ Memory
     → other ≢ Memory
     → IsAcceptFault s g one → IsAcceptFault s g other
-    → (one ≡ other) ⊎ (ShowsCycle one × ShowsCycle other)
+    → (one ≡ other) ⊎ (ShowsTokenFreeCycle one × ShowsTokenFreeCycle other)

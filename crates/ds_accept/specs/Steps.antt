@@ -12,7 +12,7 @@ use Rattle.ds_walk.specs.Given.{IsFirstUnmet, IsGiven}
 use Rattle.ds_latch.specs.Node.{Split}
 use Rattle.ds_latch.specs.Plan.{IsPlan, Reorders, split_events}
 use Rattle.ds_accept.specs.Accept.{IsAcceptable, extra_events, others_of}
-use Rattle.ds_accept.specs.Codes.{Code, code_of, IsMissingCode, StandsAtCode}
+use Rattle.ds_accept.specs.Codes.{Code, event_code, IsMissingCode, StandsAtCode}
 use Rattle.ds_accept.specs.Fault.{IsFirstWithout, ShowsLeast}
 use Rattle.ds_accept.specs.declared.fault.AcceptFault.{AcceptFault}
 use Rattle.ds_accept.specs.declared.fault.AcceptFault.TheVariants as fault
@@ -21,16 +21,16 @@ use Rattle.ds_accept.specs.declared.places.Stop.{Stop}
 use Rattle.ds_accept.specs.declared.places.Stop.TheVariants.{First, Memory}
 
 -- for each event of a list its place in another
-pub record ArePlaces (events others : List Event) (places : List ℕ) : Type 0 where
+pub record AreEventPlaces (events others : List Event) (places : List ℕ) : Type 0 where
   pub one_each : length places ≡ length events
   pub inside : All (λ place. place < length others) places
   pub same : (k : ℕ) (d : Event) → k < length events
       → slice_index_or others (slice_index places k) d ≡ slice_index_or events k d
 
 -- the first event that has no place, or want of memory
-abbrev pub IsStop : List Event → List Event → Stop → Type 0
-IsStop events others (First k) = IsFirstWithout (Contains others) events k
-IsStop events others Memory = ⊤
+abbrev pub IsPlacingStop : List Event → List Event → Stop → Type 0
+IsPlacingStop events others (First k) = IsFirstWithout (Contains others) events k
+IsPlacingStop events others Memory = ⊤
 
 -- an arc with its ends at other places
 abbrev pub moved : (ℕ → ℕ) → Arc → Arc
@@ -100,21 +100,21 @@ IsLacking required events fault.Memory = ⊤
 -- events, where it is put
 abbrev pub IsNumberOf : List Code → Event → List Event → List Event → ℕ → Type 0
 IsNumberOf codes event events more number =
-    (StandsAtCode codes (code_of event) number × (more ≡ events))
-    ⊎ (IsMissingCode codes (code_of event) × (more ≡ events ++ event ∷ [])
+    (StandsAtCode codes (event_code event) number × (more ≡ events))
+    ⊎ (IsMissingCode codes (event_code event) × (more ≡ events ++ event ∷ [])
     × (number ≡ length events))
 
 -- these events first, then the others of a list, and for each of the list its place among these
-pub record AreNumbered (known events : List Event) (all : Numbered) : Type 0 where
+pub record AreEventsNumbered (known events : List Event) (all : Numbered) : Type 0 where
   pub same : all.events ≡ known ++ others_of known events
-  pub places : ArePlaces events all.events all.numbers.items
+  pub places : AreEventPlaces events all.events all.numbers.items
 
 -- a graph with these events first and then all others of another one, and the arcs of that one
 -- between their places
 pub record IsMoved (g : Graph) (known : List Event) (to : Graph) : Type 0 where
   pub events : to.events ≡ known ++ others_of known g.events
   pub numbers : List ℕ
-  pub are : ArePlaces g.events to.events numbers
+  pub are : AreEventPlaces g.events to.events numbers
   pub arcs : IsPermutation (map (moved (slice_index numbers)) g.arcs) to.arcs
   pub kept : IsKept to
 

@@ -1,7 +1,7 @@
 //! The events of the nodes against those of the graph.
 ghost use Rattle.std.specs.Prelude.{◌≡◌, ◌⊎◌, MatchResult};
 ghost use Rattle.ds_marked.specs.Graph.{IsKept};
-ghost use Rattle.ds_accept.specs.Steps.{ArePlaces, IsLacking};
+ghost use Rattle.ds_accept.specs.Steps.{AreEventPlaces, IsLacking};
 ghost use Rattle.ds_accept.specs.declared.fault.AcceptFault.TheVariants.{Memory, MissingEvent};
 
 use crate::AcceptFault;
@@ -18,7 +18,7 @@ pub(crate) fn places_of(
     graph: &Marked,
 ) -> Result<Vec<EventId>, AcceptFault>
     ensures value { MatchResult result
-        (λ v. ArePlaces required.now.events graph.now.events v.items)
+        (λ v. AreEventPlaces required.now.events graph.now.events v.items)
         (IsLacking required.now.events graph.now.events) }
     ensures kept { IsKept required.now × IsKept graph.now }
 {

@@ -1,10 +1,11 @@
 //! Laws of the definitions, each the contract of a function that does nothing.
-ghost use Rattle.ds_accept.specs.Laws.{AcceptableIsAccepted, FaultsAreRefused, OneFault, OnePlan};
+ghost use Rattle.ds_accept.specs.Laws.{AcceptableIsAccepted, AcceptFaultsAreRefused};
+ghost use Rattle.ds_accept.specs.Laws.{OneAcceptFault, OnePlan};
 ghost use Rattle.ds_accept.specs.Laws.{PlansAreAcceptable};
 
 /// A graph that has a fault is not acceptable.
 pub fn faults_are_refused()
-    ensures { FaultsAreRefused }
+    ensures { AcceptFaultsAreRefused }
 {}
 
 /// An acceptable graph is accepted once the events of the nodes stand first, in their order.
@@ -24,5 +25,5 @@ pub fn one_plan()
 
 /// Two faults of one graph are the same fault, or both are cycles.
 pub fn one_fault()
-    ensures { OneFault }
+    ensures { OneAcceptFault }
 {}

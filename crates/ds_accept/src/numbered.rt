@@ -1,7 +1,7 @@
 //! The events of a graph with those of the nodes first.
 ghost use Rattle.std.specs.Prelude.{◌≢◌, ◌+◌, ◌<◌, ◌^◌, length, AllPairs, IfOk};
 ghost use Rattle.ds_accept.specs.Accept.{others_of};
-ghost use Rattle.ds_accept.specs.Steps.{AreNumbered, IsNumberOf};
+ghost use Rattle.ds_accept.specs.Steps.{AreEventsNumbered, IsNumberOf};
 
 use crate::numbers::Numbers;
 use crate::renumber::{copies, copy};
@@ -25,7 +25,7 @@ pub(crate) fn numbers_of(
 ) -> Result<Numbered, OutOfMemory>
     requires once { AllPairs (λ a b. a ≢ b) known.now }
     requires few { length known.now + length (others_of known.now graph.now) < 2 ^ 32 }
-    ensures { IfOk result (AreNumbered known.now graph.now) }
+    ensures { IfOk result (AreEventsNumbered known.now graph.now) }
 {
     let places = Numbers::of(alloc, known)?;
     let mut events = copies(alloc, known)?;

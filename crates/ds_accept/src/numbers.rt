@@ -1,6 +1,6 @@
 //! Events of a list, found by their hash.
 ghost use Rattle.std.specs.Prelude.{◌≡◌, ◌≢◌, AllPairs, IfOk, MatchOption, map};
-ghost use Rattle.ds_accept.specs.Codes.{code_of, key_code, sign_of, IsMissingCode, StandsAtCode};
+ghost use Rattle.ds_accept.specs.Codes.{event_code, key_code, sign_of, IsMissingCode, StandsAtCode};
 
 use ds_base::OutOfMemory;
 use ds_marked::{Event, Kind};
@@ -39,7 +39,7 @@ impl<'a> Numbers<'a> {
     /// Of events, none of which stands there twice.
     pub fn of(alloc: Global, events: &'a [Event]) -> Result<Self, OutOfMemory>
         requires { AllPairs (λ a b. a ≢ b) events.now }
-        ensures { IfOk result (λ n. n ≡ map code_of events.now) }
+        ensures { IfOk result (λ n. n ≡ map event_code events.now) }
     {
         let mut keys = IndexSet::new(alloc);
         for event in events {
@@ -50,8 +50,8 @@ impl<'a> Numbers<'a> {
 
     /// The place of an event.
     pub fn place(&self, event: &Event) -> Option<usize>
-        ensures { MatchOption result (IsMissingCode self.now (code_of event.now))
-            (StandsAtCode self.now (code_of event.now)) }
+        ensures { MatchOption result (IsMissingCode self.now (event_code event.now))
+            (StandsAtCode self.now (event_code event.now)) }
     {
         self.keys.get_index_of(&key_of(event))
     }
@@ -59,7 +59,7 @@ impl<'a> Numbers<'a> {
 
 // The key of an event.
 fn key_of(event: &Event) -> Key<'_>
-    ensures { key_code result ≡ code_of event.now }
+    ensures { key_code result ≡ event_code event.now }
 {
     Key {
         signal: event.signal.as_slice(),

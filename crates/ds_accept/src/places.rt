@@ -1,6 +1,6 @@
 //! The place of each event of one list in another.
 ghost use Rattle.std.specs.Prelude.{◌≢◌, ◌<◌, ◌^◌, length, AllPairs, MatchResult};
-ghost use Rattle.ds_accept.specs.Steps.{ArePlaces, IsStop};
+ghost use Rattle.ds_accept.specs.Steps.{AreEventPlaces, IsPlacingStop};
 
 use crate::numbers::Numbers;
 use ds_base::{EventId, OutOfMemory};
@@ -22,8 +22,8 @@ pub(crate) fn places_in(
 ) -> Result<Vec<EventId>, Stop>
     requires once { AllPairs (λ a b. a ≢ b) others.now }
     requires few { length others.now < 2 ^ 32 }
-    ensures { MatchResult result (λ v. ArePlaces events.now others.now v.items)
-        (IsStop events.now others.now) }
+    ensures { MatchResult result (λ v. AreEventPlaces events.now others.now v.items)
+        (IsPlacingStop events.now others.now) }
 {
     let Ok(numbers) = Numbers::of(alloc, others) else {
         return Err(Stop::Memory);

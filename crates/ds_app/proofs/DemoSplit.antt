@@ -23,7 +23,7 @@ use Rattle.ds_latch.proofs.Counts.{number_below}
 use Rattle.ds_split.specs.Cluster.{IsClustering}
 use Rattle.ds_split.specs.Nets.{IsProducer}
 use Rattle.ds_split.specs.Search.{edge_of}
-use Rattle.ds_split.specs.Split.{HasTooManyOrders, split_of}
+use Rattle.ds_split.specs.Split.{HasTooManyOrders, split_into}
 use Rattle.ds_split.proofs.Pigeons.{few_different}
 use Rattle.ds_split.proofs.Sources.{no_table, one_producer}
 use Rattle.ds_netlist.specs.Fault.{IsNetFault}
@@ -31,7 +31,7 @@ use Rattle.ds_netlist.specs.declared.fault.NetFault.{NetFault}
 use Rattle.ds_netlist.specs.declared.fault.NetFault.TheVariants as net
 use Rattle.ds_netlist.proofs.Refused.{faults_are_refused_lem}
 use Rattle.ds_stage.specs.SplitStage.{split_stage}
-use Rattle.ds_demo.specs.Demo.{demo_design, design_of, gate_of, inputs_of, register_of, words_of}
+use Rattle.ds_demo.specs.Demo.{demo_design, design_of, gate_of, inputs_of, demo_register, seed_words}
 use Rattle.ds_demo.proofs.Accepts.{accepted, two_columns}
 use Rattle.ds_demo.proofs.Ranges.{inputs-hold}
 
@@ -62,13 +62,13 @@ module _ (n : ℕ) (words : List ℕ) (some : 1 ≤ n) (few : n ≤ 4096) (clust
   c = design_of n words
 
   abbrev s : Split
-  s = split_of c clusters
+  s = split_into c clusters
 
   abbrev gate_at : ℕ → Gate
   gate_at j = gate_of n j (slice_index words j)
 
   abbrev register_at : ℕ → Register
-  register_at j = register_of n j (slice_index words j)
+  register_at j = demo_register n j (slice_index words j)
 
   -- there are so many registers
   registers_long : length c.registers ≡ n
@@ -302,13 +302,13 @@ pub made_not_refused : (seed registers : ℕ) → 1 ≤ registers → registers 
     → (line : List ℕ) → ¬ (split_stage file Each d).refused line
 unfolding demo_design
 made_not_refused seed registers some few file d is line refused =
-    not_refused registers (words_of registers seed) some few file line (subst (λ (e : Circuit). (split_stage file Each e).refused line) is refused)
+    not_refused registers (seed_words registers seed) some few file line (subst (λ (e : Circuit). (split_stage file Each e).refused line) is refused)
 
 -- and the design is accepted
 pub made_accepted : (seed registers : ℕ) → 1 ≤ registers → (d : Circuit) → d ≡ demo_design seed registers → IsAccepted d
 unfolding demo_design
 made_accepted seed registers some d is =
-    subst (λ (e : Circuit). IsAccepted e) (sym is) (accepted registers (words_of registers seed) some)
+    subst (λ (e : Circuit). IsAccepted e) (sym is) (accepted registers (seed_words registers seed) some)
 
 -- nothing but want of memory is a fault of a design that is accepted
 pub only_memory : (d : Circuit) (fault : NetFault) → IsAccepted d → IsNetFault d fault → fault ≡ net.Memory

@@ -6,6 +6,7 @@ pub mod Answered
 pub mod Interleaved
 pub mod Whole
 pub mod Replayed
+pub mod PlannedEnds
 pub mod ReplayEnds
 pub mod WindowEnds
 pub mod ClockEnds

@@ -4,7 +4,7 @@ ghost use Rattle.ds_outside.specs.Writes.{GoesOn, Writes};
 ghost use Rattle.ds_rows.specs.Log.{firing_text};
 ghost use Rattle.ds_rank.specs.Rank.{AreRanks};
 ghost use Rattle.ds_cmd.specs.declared.job.Job.TheVariants.{Accept};
-ghost use Rattle.ds_stage.specs.Ends.{Ends, Never, Output, RoseIn};
+ghost use Rattle.ds_stage.specs.Ends.{Ends, Never, RoseIn, output_between};
 ghost use Rattle.ds_stage.specs.AcceptStage.{rank_lines, ranks_stage, ranks_text};
 ghost use Rattle.ds_app.specs.Job.{stages_of};
 
@@ -36,12 +36,8 @@ pub fn accept<F: Files, O: Sink>(
 ) -> Result<(), Stop>
     ensures value { Ends (stages_of (F.held files.old)
         (Accept job.now.net.now job.now.graph.now job.now.clusters))
-        (RoseIn (F.faults files.old) (F.faults files.new)) (record {
-          old = O.written out.old;
-          new = O.written out.new;
-          before = O.faults out.old;
-          now = O.faults out.new;
-        }) result }
+        (RoseIn (F.faults files.old) (F.faults files.new))
+        (output_between O.written O.faults out.old out.new) result }
 
     ensures same_held { F.held files.new ≡ F.held files.old }
 {
@@ -54,12 +50,8 @@ pub fn accept<F: Files, O: Sink>(
 
 // Writes `accepted`, and a line for each event of a plan, in order: the event and its rank.
 fn write_accepted<O: Sink>(alloc: Global, plan: &Plan<'_>, out: &mut O) -> Result<(), Stop>
-    ensures { Ends (ranks_stage plan.now) Never (record {
-      old = O.written out.old;
-      new = O.written out.new;
-      before = O.faults out.old;
-      now = O.faults out.new;
-    }) result }
+    ensures { Ends (ranks_stage plan.now) Never
+        (output_between O.written O.faults out.old out.new) result }
 {
     let ranks = ranks_of(alloc, plan)?;
     let (_, result) = write_behind::<O, Brand>(plan, &ranks, Lent { sink: out });

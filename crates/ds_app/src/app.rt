@@ -1,7 +1,7 @@
 //! The top call, and which command does a job.
 ghost use Rattle.std.specs.Prelude.{◌≡◌, map};
 ghost use Rattle.ds_cmd.specs.Allowed.{AreAllowed};
-ghost use Rattle.ds_stage.specs.Ends.{Ends, Output, RoseIn};
+ghost use Rattle.ds_stage.specs.Ends.{Ends, RoseIn, output_between};
 ghost use Rattle.ds_app.specs.Interleavings.{Interleavings};
 ghost use Rattle.ds_app.specs.Job.{stages_of};
 ghost use Rattle.ds_app.specs.Status.{Call, IsAnswered, Reports, SaysStop, SaysUsage};
@@ -47,18 +47,8 @@ pub fn desync_main<R: AllocGlobal + Threads + Sync, F: Files, O: Sink, E: Sink, 
       held = F.held files.old;
       before = F.faults files.old;
       now = F.faults files.new;
-      out = record {
-        old = O.written out.old;
-        new = O.written out.new;
-        before = O.faults out.old;
-        now = O.faults out.new;
-      };
-      err = record {
-        old = E.written err.old;
-        new = E.written err.new;
-        before = E.faults err.old;
-        now = E.faults err.new;
-      };
+      out = output_between O.written O.faults out.old out.new;
+      err = output_between E.written E.faults err.old err.new;
     }) result }
 
     // Where the words are no command line, nothing is read.
@@ -90,12 +80,8 @@ fn do_job<R: AllocGlobal + Threads + Sync, G: Gate, F: Files, O: Sink>(
 ) -> Result<(), Stop>
     requires { AreAllowed job.now }
     ensures value { Ends (stages_of (F.held files.old) job.now)
-        (RoseIn (F.faults files.old) (F.faults files.new)) (record {
-          old = O.written out.old;
-          new = O.written out.new;
-          before = O.faults out.old;
-          now = O.faults out.new;
-        }) result }
+        (RoseIn (F.faults files.old) (F.faults files.new))
+        (output_between O.written O.faults out.old out.new) result }
 
     ensures same_held { F.held files.new ≡ F.held files.old }
 {
@@ -200,12 +186,7 @@ fn do_job<R: AllocGlobal + Threads + Sync, G: Gate, F: Files, O: Sink>(
 
 // Says that the words are no command line, and answers the status.
 fn say_usage<E: Sink>(fault: UsageFault, err: &mut E) -> u8
-    ensures { SaysUsage fault (record {
-      old = E.written err.old;
-      new = E.written err.new;
-      before = E.faults err.old;
-      now = E.faults err.new;
-    }) result }
+    ensures { SaysUsage fault (output_between E.written E.faults err.old err.new) result }
 {
     match fault {
         UsageFault::Line | UsageFault::Number | UsageFault::Mode => {
@@ -221,12 +202,7 @@ fn say_usage<E: Sink>(fault: UsageFault, err: &mut E) -> u8
 
 // Says why a job ended, and answers the status.
 fn say_stop<E: Sink>(stop: &Stop, err: &mut E) -> u8
-    ensures { SaysStop stop.now (record {
-      old = E.written err.old;
-      new = E.written err.new;
-      before = E.faults err.old;
-      now = E.faults err.new;
-    }) result }
+    ensures { SaysStop stop.now (output_between E.written E.faults err.old err.new) result }
 {
     match stop {
         Stop::Refused(line) => {
@@ -250,12 +226,7 @@ fn say_stop<E: Sink>(stop: &Stop, err: &mut E) -> u8
 
 // Writes a line, or as much of it as can be written.
 fn say<E: Sink>(line: &[u8], err: &mut E)
-    ensures { Reports (record {
-      old = E.written err.old;
-      new = E.written err.new;
-      before = E.faults err.old;
-      now = E.faults err.new;
-    }) line.now }
+    ensures { Reports (output_between E.written E.faults err.old err.new) line.now }
 {
     match write_all(err, line) {
         Ok(()) | Err(_) => {}

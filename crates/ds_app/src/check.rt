@@ -1,7 +1,7 @@
 //! `check`: the report on a netlist.
 ghost use Rattle.std.specs.Prelude.{◌≡◌};
 ghost use Rattle.ds_cmd.specs.declared.job.Job.TheVariants.{Check};
-ghost use Rattle.ds_stage.specs.Ends.{Ends, Output, RoseIn};
+ghost use Rattle.ds_stage.specs.Ends.{Ends, RoseIn, output_between};
 ghost use Rattle.ds_app.specs.Job.{stages_of};
 
 use ds_outside::{Files, Sink};
@@ -17,12 +17,8 @@ pub fn check<F: Files, O: Sink>(
     out: &mut O,
 ) -> Result<(), Stop>
     ensures value { Ends (stages_of (F.held files.old) (Check net.now))
-        (RoseIn (F.faults files.old) (F.faults files.new)) (record {
-          old = O.written out.old;
-          new = O.written out.new;
-          before = O.faults out.old;
-          now = O.faults out.new;
-        }) result }
+        (RoseIn (F.faults files.old) (F.faults files.new))
+        (output_between O.written O.faults out.old out.new) result }
 
     ensures same_held { F.held files.new ≡ F.held files.old }
 {

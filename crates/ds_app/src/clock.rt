@@ -4,7 +4,7 @@ ghost use Rattle.ds_design.specs.Accepted.{IsAccepted};
 ghost use Rattle.ds_design.specs.Circuit.{initial_row};
 ghost use Rattle.ds_design.specs.InRange.{IsInRange};
 ghost use Rattle.ds_cmd.specs.declared.job.Job.TheVariants.{Clock};
-ghost use Rattle.ds_stage.specs.Ends.{Ends, Output, RoseIn};
+ghost use Rattle.ds_stage.specs.Ends.{Ends, RoseIn, output_between};
 ghost use Rattle.ds_app.specs.Job.{clock_stage, stages_of};
 
 use ds_base::{OutOfMemory, Row3};
@@ -31,12 +31,8 @@ pub fn clock<F: Files, O: Sink>(
     out: &mut O,
 ) -> Result<(), Stop>
     ensures value { Ends (stages_of (F.held files.old) (Clock net.now vec.now))
-        (RoseIn (F.faults files.old) (F.faults files.new)) (record {
-          old = O.written out.old;
-          new = O.written out.new;
-          before = O.faults out.old;
-          now = O.faults out.new;
-        }) result }
+        (RoseIn (F.faults files.old) (F.faults files.new))
+        (output_between O.written O.faults out.old out.new) result }
 
     ensures same_held { F.held files.new ≡ F.held files.old }
 {
@@ -54,12 +50,8 @@ fn write_clocked<F: Files, O: Sink>(
     out: &mut O,
 ) -> Result<(), Stop>
     ensures value { Ends (clock_stage (F.held files.old) vec.now netlist.now)
-        (RoseIn (F.faults files.old) (F.faults files.new)) (record {
-          old = O.written out.old;
-          new = O.written out.new;
-          before = O.faults out.old;
-          now = O.faults out.new;
-        }) result }
+        (RoseIn (F.faults files.old) (F.faults files.new))
+        (output_between O.written O.faults out.old out.new) result }
 
     ensures same_held { F.held files.new ≡ F.held files.old }
 {

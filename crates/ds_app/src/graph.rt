@@ -3,7 +3,7 @@ ghost use Rattle.std.specs.Prelude.{◌≡◌};
 ghost use Rattle.ds_outside.specs.Writes.{Writes};
 ghost use Rattle.ds_astg.specs.Text.{graph_text};
 ghost use Rattle.ds_cmd.specs.declared.job.Job.TheVariants.{Graph};
-ghost use Rattle.ds_stage.specs.Ends.{Ends, Never, Output, RoseIn};
+ghost use Rattle.ds_stage.specs.Ends.{Ends, Never, RoseIn, output_between};
 ghost use Rattle.ds_stage.specs.GraphStage.{controller_stage, drawn_stage};
 ghost use Rattle.ds_app.specs.Job.{stages_of};
 
@@ -35,12 +35,8 @@ pub fn graph<F: Files, O: Sink>(
 ) -> Result<(), Stop>
     ensures value { Ends (stages_of (F.held files.old)
         (Graph job.now.net.now job.now.clusters job.now.shake))
-        (RoseIn (F.faults files.old) (F.faults files.new)) (record {
-          old = O.written out.old;
-          new = O.written out.new;
-          before = O.faults out.old;
-          now = O.faults out.new;
-        }) result }
+        (RoseIn (F.faults files.old) (F.faults files.new))
+        (output_between O.written O.faults out.old out.new) result }
 
     ensures same_held { F.held files.new ≡ F.held files.old }
 {
@@ -59,12 +55,8 @@ fn draw<O: Sink>(
     shake: bool,
     out: &mut O,
 ) -> Result<(), Stop>
-    ensures { Ends (controller_stage file.now shake latches.now) Never (record {
-      old = O.written out.old;
-      new = O.written out.new;
-      before = O.faults out.old;
-      now = O.faults out.new;
-    }) result }
+    ensures { Ends (controller_stage file.now shake latches.now) Never
+        (output_between O.written O.faults out.old out.new) result }
 {
     let graph = wanted_graph(alloc, file, latches, shake)?;
     write_graph(latches, &graph, out)
@@ -72,12 +64,8 @@ fn draw<O: Sink>(
 
 // Writes a graph of a split netlist, under the name of its main model.
 fn write_graph<O: Sink>(latches: &Latches<'_>, graph: &Marked, out: &mut O) -> Result<(), Stop>
-    ensures { Ends (drawn_stage latches.now graph.now) Never (record {
-      old = O.written out.old;
-      new = O.written out.new;
-      before = O.faults out.old;
-      now = O.faults out.new;
-    }) result }
+    ensures { Ends (drawn_stage latches.now graph.now) Never
+        (output_between O.written O.faults out.old out.new) result }
 {
     // Lent for the fact that nodes are few.
     let _edges = latches.edges();

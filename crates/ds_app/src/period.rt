@@ -2,7 +2,7 @@
 ghost use Rattle.std.specs.Prelude.{◌≡◌, length};
 ghost use Rattle.ds_cmd.specs.declared.job.Job.TheVariants.{Period};
 ghost use Rattle.ds_period.specs.Controller.{HasPeriod};
-ghost use Rattle.ds_stage.specs.Ends.{Ends, Never, Output, RoseIn};
+ghost use Rattle.ds_stage.specs.Ends.{Ends, Never, RoseIn, output_between};
 ghost use Rattle.ds_stage.specs.PeriodStage.{IsPeriodText, measured_stage};
 ghost use Rattle.ds_stage.specs.Stage.{giving};
 ghost use Rattle.ds_app.specs.Job.{stages_of};
@@ -36,12 +36,8 @@ pub fn period<F: Files, O: Sink>(
 ) -> Result<(), Stop>
     ensures value { Ends (stages_of (F.held files.old)
         (Period job.now.net.now job.now.delays.now job.now.clusters))
-        (RoseIn (F.faults files.old) (F.faults files.new)) (record {
-          old = O.written out.old;
-          new = O.written out.new;
-          before = O.faults out.old;
-          now = O.faults out.new;
-        }) result }
+        (RoseIn (F.faults files.old) (F.faults files.new))
+        (output_between O.written O.faults out.old out.new) result }
 
     ensures same_held { F.held files.new ≡ F.held files.old }
 {
@@ -61,12 +57,8 @@ fn measure<F: Files, O: Sink>(
     out: &mut O,
 ) -> Result<(), Stop>
     ensures value { Ends (measured_stage (F.held files.old) delays.now latches.now)
-        (RoseIn (F.faults files.old) (F.faults files.new)) (record {
-          old = O.written out.old;
-          new = O.written out.new;
-          before = O.faults out.old;
-          now = O.faults out.new;
-        }) result }
+        (RoseIn (F.faults files.old) (F.faults files.new))
+        (output_between O.written O.faults out.old out.new) result }
 
     ensures same_held { F.held files.new ≡ F.held files.old }
 {
@@ -84,12 +76,8 @@ fn write_period<O: Sink>(
 ) -> Result<(), Stop>
     requires one_each { length delays.now ≡ length graph.now.arcs }
     requires period { HasPeriod graph.now }
-    ensures { Ends (giving (IsPeriodText graph.now delays.now)) Never (record {
-      old = O.written out.old;
-      new = O.written out.new;
-      before = O.faults out.old;
-      now = O.faults out.new;
-    }) result }
+    ensures { Ends (giving (IsPeriodText graph.now delays.now)) Never
+        (output_between O.written O.faults out.old out.new) result }
 {
     let period = ds_period::period(alloc, graph, delays)?;
     let text = period_text(alloc, graph, &period)?;

@@ -1,7 +1,7 @@
 //! `replay`: the firings of a log fired again.
 ghost use Rattle.std.specs.Prelude.{◌≡◌, ◌≤◌, true};
 ghost use Rattle.ds_cmd.specs.declared.job.Job.TheVariants.{Replay};
-ghost use Rattle.ds_stage.specs.Ends.{Ends, Output, RoseIn};
+ghost use Rattle.ds_stage.specs.Ends.{Ends, RoseIn, output_between};
 ghost use Rattle.ds_app.specs.Job.{stages_of};
 
 use ds_base::Mode;
@@ -40,12 +40,8 @@ pub fn replay<F: Files, O: Sink>(
     ensures value { Ends (stages_of (F.held files.old) (Replay job.now.net.now job.now.vec.now
         job.now.log.now job.now.graph.now job.now.clusters job.now.slack
         job.now.transparent))
-        (RoseIn (F.faults files.old) (F.faults files.new)) (record {
-          old = O.written out.old;
-          new = O.written out.new;
-          before = O.faults out.old;
-          now = O.faults out.new;
-        }) result }
+        (RoseIn (F.faults files.old) (F.faults files.new))
+        (output_between O.written O.faults out.old out.new) result }
 
     ensures same_held { F.held files.new ≡ F.held files.old }
 {

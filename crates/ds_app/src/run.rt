@@ -4,7 +4,7 @@ ghost use Rattle.ds_design.specs.Circuit.{initial_row};
 ghost use Rattle.ds_cmd.specs.declared.job.Job.TheVariants.{Run};
 ghost use Rattle.ds_trace.specs.Ended.{IsSomeLog, WritesEnd};
 ghost use Rattle.ds_trace.specs.Logged.{IsLogOf};
-ghost use Rattle.ds_stage.specs.Ends.{Ends, Output, RoseIn};
+ghost use Rattle.ds_stage.specs.Ends.{Ends, RoseIn, output_between};
 ghost use Rattle.ds_stage.specs.StreamStage.{most_vectors as most_vectors_of};
 ghost use Rattle.ds_app.specs.Job.{stages_of};
 ghost use Rattle.ds_app.specs.RunStage.{planned_run_stage, streamed_run_stage};
@@ -52,12 +52,8 @@ pub fn run<R: AllocGlobal + Threads + Sync, G: Gate, F: Files, O: Sink>(
     requires slack { job.now.slack ≤ 15 }
     ensures value { Ends (stages_of (F.held files.old) (Run job.now.net.now job.now.vec.now
         job.now.graph.now job.now.clusters job.now.jobs job.now.log job.now.slack job.now.stop))
-        (RoseIn (F.faults files.old) (F.faults files.new)) (record {
-          old = O.written out.old;
-          new = O.written out.new;
-          before = O.faults out.old;
-          now = O.faults out.new;
-        }) result }
+        (RoseIn (F.faults files.old) (F.faults files.new))
+        (output_between O.written O.faults out.old out.new) result }
 
     ensures same_held { F.held files.new ≡ F.held files.old }
 {
@@ -90,12 +86,8 @@ fn run_planned<R: AllocGlobal + Threads + Sync, G: Gate, F: Files, O: Sink>(
     requires jobs { (0 < workers.now.jobs) × (workers.now.jobs ≤ 64) }
     ensures value { Ends (planned_run_stage (F.held files.old) job.now.vec.now job.now.log
         workers.now.jobs job.now.stop plan.old.split.circuit plan.old)
-        (RoseIn (F.faults files.old) (F.faults files.new)) (record {
-          old = O.written out.old;
-          new = O.written out.new;
-          before = O.faults out.old;
-          now = O.faults out.new;
-        }) result }
+        (RoseIn (F.faults files.old) (F.faults files.new))
+        (output_between O.written O.faults out.old out.new) result }
 
     ensures same_held { F.held files.new ≡ F.held files.old }
 {
@@ -121,12 +113,7 @@ fn write_traced<R: AllocGlobal + Threads + Sync, G: Gate, F: Files, O: Sink>(
     requires jobs { (0 < workers.now.jobs) × (workers.now.jobs ≤ 64) }
     ensures value { Ends (streamed_run_stage (F.held files.old) job.now.vec.now job.now.log
         plan.old.split.circuit plan.old) (RoseIn (F.faults files.old) (F.faults files.new))
-        (record {
-          old = O.written out.old;
-          new = O.written out.new;
-          before = O.faults out.old;
-          now = O.faults out.new;
-        }) result }
+        (output_between O.written O.faults out.old out.new) result }
 
     ensures same_held { F.held files.new ≡ F.held files.old }
 {

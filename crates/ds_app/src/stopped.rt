@@ -2,7 +2,7 @@
 ghost use Rattle.std.specs.Prelude.{◌≡◌, ◌≤◌, ◌<◌, length};
 ghost use Rattle.ds_design.specs.Circuit.{columns};
 ghost use Rattle.ds_trace.specs.Stopped.{IsStoppedText};
-ghost use Rattle.ds_stage.specs.Ends.{Ends, Never, Output, RoseIn};
+ghost use Rattle.ds_stage.specs.Ends.{Ends, Never, RoseIn, output_between};
 ghost use Rattle.ds_stage.specs.Stage.{giving};
 ghost use Rattle.ds_app.specs.RunStage.{stopped_run_stage};
 
@@ -34,12 +34,8 @@ pub fn write_at_stop<R: AllocGlobal + Threads + Sync, G: Gate, F: Files, O: Sink
     requires jobs { (0 < workers.now.jobs) × (workers.now.jobs ≤ 64) }
     ensures value { Ends (stopped_run_stage (F.held files.old) job.now.vec.now job.now.log
         workers.now.jobs planned.now.stop planned.now.plan.now.split.circuit planned.now.plan.now)
-        (RoseIn (F.faults files.old) (F.faults files.new)) (record {
-          old = O.written out.old;
-          new = O.written out.new;
-          before = O.faults out.old;
-          now = O.faults out.new;
-        }) result }
+        (RoseIn (F.faults files.old) (F.faults files.new))
+        (output_between O.written O.faults out.old out.new) result }
 
     ensures same_held { F.held files.new ≡ F.held files.old }
 {
@@ -66,12 +62,8 @@ fn write_halted<R: AllocGlobal + Threads + Sync, G: Gate, O: Sink>(
         ≡ length (columns halt.now.plan.now.split.circuit) }
     requires jobs { (0 < workers.now.jobs) × (workers.now.jobs ≤ 64) }
     ensures value { Ends (giving (IsStoppedText log halt.now.stop workers.now.jobs
-        halt.now.plan.now halt.now.vectors.now.rows)) Never (record {
-          old = O.written out.old;
-          new = O.written out.new;
-          before = O.faults out.old;
-          now = O.faults out.new;
-        }) result }
+        halt.now.plan.now halt.now.vectors.now.rows)) Never
+        (output_between O.written O.faults out.old out.new) result }
 {
     match write_stopped(workers.threads.alloc(), halt, workers, log, out) {
         Ok(()) => Ok(()),

@@ -1,9 +1,9 @@
 -- Words between braces.
 use Rattle.std.proofs.Common.{◌≡◌, ℕ, ◌-◌, List, length, drop, slice_set, Some, refl, sym, ◌∙◌, ap, Bor}
 use Rattle.std.proofs.lemmas.List.{map-set, length-map}
-use Rattle.ds_astg.specs.Word.{word_at, first_byte, last_byte, without_last}
+use Rattle.ds_lines.specs.Words.{texts, word_at}
+use Rattle.ds_astg.specs.Word.{first_byte, last_byte, without_last}
 use Rattle.ds_astg.specs.Marking.{closed, entries_of, last_word}
-use Rattle.ds_astg.specs.Steps.{texts}
 
 texts-set : (words : List (Bor (List ℕ))) (k : ℕ) (word : Bor (List ℕ)) → texts (slice_set words k word) ≡ slice_set (texts words) k word.now
 texts-set words k word = map-set (λ (w : Bor (List ℕ)). w.now) words k word

@@ -6,7 +6,7 @@ use Rattle.std.proofs.lemmas.List.Sums.{position_or_len_is}
 use Rattle.std.proofs.lemmas.List.Folds.{list_any_at, list_any_none}
 use Rattle.std.proofs.Math.Seq.{get_or-append_seam}
 use Rattle.ds_marked.specs.Graph.{Graph}
-use Rattle.ds_astg.specs.Place.{Places, key_eq, named, number_of, has_place, place_at, with_place_at, with_new, with_place}
+use Rattle.ds_astg.specs.Place.{Places, key_eq, named, number_of_place, has_place, place_at, with_place_at, with_new, with_place}
 use Rattle.ds_astg.specs.Place.Key.{Between}
 use Rattle.ds_astg.specs.Text.{arc_at}
 use Rattle.ds_astg.specs.Written.{IsReadable}
@@ -25,7 +25,7 @@ pub record Built (g : Graph) (m : ℕ) (target tokens : ℕ → Option ℕ) (ps 
 module _ (signals : List (List ℕ)) (g : Graph) (readable : IsReadable signals g) (target tokens : ℕ → Option ℕ) where
   module _ (m : ℕ) (ps : Places) (built : Built g m target tokens ps) where
     -- a place that stands there
-    pub number_is : m ≤ length g.arcs → (k : ℕ) → k < m → number_of ps (key_at g k) ≡ k
+    pub number_is : m ≤ length g.arcs → (k : ℕ) → k < m → number_of_place ps (key_at g k) ≡ k
     number_is most k inside = position_or_len_is (key_eq (key_at g k)) ps.keys k (Between 0 0) (omega (arith, built.key_count, inside))
         (λ j less. ap (key_eq (key_at g k)) (built.keys j (omega (arith, less, inside))) ∙ keys_differ g readable.kept readable.few_arcs j k less (omega (arith, inside, most)))
         (λ low. ap (key_eq (key_at g k)) (built.keys k inside) ∙ key_itself (key_at g k))

@@ -8,9 +8,9 @@ use Rattle.ds_marked.specs.declared.marked.Arc.{Arc}
 use Rattle.ds_astg.specs.Word.{is_byte, is_reserved, has_slash, has_reserved, is_signed}
 use Rattle.ds_astg.specs.Turn.{then_do, all_of}
 use Rattle.ds_astg.specs.Signals.{Declared}
-use Rattle.ds_astg.specs.Node.{node_of, node_by, event_in}
+use Rattle.ds_astg.specs.Node.{node_of_word, node_by, event_in}
 use Rattle.ds_astg.specs.Node.Node.{Event as EventNode, Place as PlaceNode}
-use Rattle.ds_astg.specs.Place.{Places, Key, number_of, has_place, place_at, with_place_at}
+use Rattle.ds_astg.specs.Place.{Places, Key, number_of_place, has_place, place_at, with_place_at}
 use Rattle.ds_astg.specs.Place.Key.{Named, Between}
 use Rattle.ds_astg.specs.Marking.{key_in, place_text, mark, mark_key, with_tokens}
 use Rattle.ds_marked.specs.Log.{text_of_event}
@@ -26,7 +26,7 @@ use Rattle.ds_astg.proofs.EventLines.{no_tokens, all_of-append}
 use Rattle.ds_astg.proofs.PlaceLines.{full_target, entry_tokens, marked_tokens, built_same, same_below}
 
 -- what a word is that is read as an event
-node_event : (signals : Declared) (word : List ℕ) (v : ℕ) → node_of signals word ≡ Ok (EventNode v) → (has_reserved word ≡ false) × (event_in signals word ≡ Some v)
+node_event : (signals : Declared) (word : List ℕ) (v : ℕ) → node_of_word signals word ≡ Ok (EventNode v) → (has_reserved word ≡ false) × (event_in signals word ≡ Some v)
 node_event signals word v is = go (has_slash word) (has_reserved word) (event_in signals word) is
   where
     no_node : (c : Bool) → (if c then Err (UnknownSignal word) else Ok (PlaceNode word)) ≡ Ok (EventNode v) → ⊥
@@ -115,7 +115,7 @@ module _ (signals : List (List ℕ)) (g : Graph) (readable : IsReadable signals 
       let (key_is, free) = entry_key j inside in
       let (text_is, tokens_is) = tokens_are_read (entry_name g j) tokens free (ltb-true _ _ some) (readable.tokens j none inside) in
       let has : has_place ps (key_at g j) ≡ true = stands_there signals g readable (full_target g) (marked_tokens g j) n ps built j inside in
-      let number : number_of ps (key_at g j) ≡ j = number_is signals g readable (full_target g) (marked_tokens g j) n ps built (omega arith) j inside in
+      let number : number_of_place ps (key_at g j) ≡ j = number_is signals g readable (full_target g) (marked_tokens g j) n ps built (omega arith) j inside in
       let bare : (place_at ps j).tokens ≡ None = built.marks j inside ∙ (let h : marked_tokens g j j ≡ None = rw (le-ltb j j (omega arith)) refl in h) in
       let key : key_in (plain signals) (place_text entry) ≡ Some (key_at g j) = ap (key_in (plain signals)) text_is ∙ key_is in
       let by : mark (plain signals) entry ps ≡ mark_key entry (key_at g j) tokens ps = rw (entry_some j (tokens_text tokens), key, tokens_is) refl in

@@ -7,9 +7,9 @@ use Rattle.std.proofs.Math.Seq.{get_or-append_seam}
 use Rattle.ds_marked.specs.Graph.{Graph}
 use Rattle.ds_marked.specs.declared.marked.Arc.{Arc}
 use Rattle.ds_astg.specs.Turn.{then_do, all_of}
-use Rattle.ds_astg.specs.Node.{node_of}
+use Rattle.ds_astg.specs.Node.{node_of_word}
 use Rattle.ds_astg.specs.Node.Node.{Event as EventNode, Place as PlaceNode}
-use Rattle.ds_astg.specs.Place.{Places, Key, key_eq, named, between, number_of, place_at, with_place_at, with_new, with_place}
+use Rattle.ds_astg.specs.Place.{Places, Key, key_eq, named, between, number_of_place, place_at, with_place_at, with_new, with_place}
 use Rattle.ds_astg.specs.Place.Key.{Named, Between}
 use Rattle.ds_astg.specs.Links.{link_word, into_place, with_source, from_event}
 use Rattle.ds_marked.specs.Log.{text_of_event}
@@ -56,11 +56,11 @@ module _ (signals : List (List ℕ)) (g : Graph) (readable : IsReadable signals 
             let key_is : key_at g k ≡ Named name = rw further refl in
             let word_is : target_word g k ≡ name = rw further refl in
             let all = with_new ps (key_at g k) (named line) in
-            let read : node_of (plain signals) name ≡ Ok (PlaceNode name) = places_are_read (plain signals) k (omega (arith, next, readable.few_arcs)) (no_dummy signals (place_name k)) in
+            let read : node_of_word (plain signals) name ≡ Ok (PlaceNode name) = places_are_read (plain signals) k (omega (arith, next, readable.few_arcs)) (no_dummy signals (place_name k)) in
             let size : length ps.places ≡ k = built.place_count in
             let add : with_place (Named name) (named line) ps ≡ Ok all = subst (λ (key : Key). with_place key (named line) ps ≡ Ok all) key_is
             (added_next signals g readable (first_target g) no_tokens k ps built next (named line)) in
-            let number : number_of all (Named name) ≡ k = ap (number_of all) (sym key_is) ∙ number_last k ps built next in
+            let number : number_of_place all (Named name) ≡ k = ap (number_of_place all) (sym key_is) ∙ number_last k ps built next in
             let at : place_at all k ≡ named line = ap (λ (n : ℕ). get_or (ps.places ++ named line ∷ []) n (named 0)) (sym size) ∙ get_or-append_seam ps.places (named line) [] (named 0) in
             let put : with_source k name s all ≡ Ok (with_place_at all k (from_event (named line) s)) = rw at refl in
             let last : with_place_at all k (from_event (named line) s) ≡ with_new ps (key_at g k) (from_event (named line) s) =
@@ -76,7 +76,7 @@ module _ (signals : List (List ℕ)) (g : Graph) (readable : IsReadable signals 
             let key_is : key_at g k ≡ Between s t = rw first refl in
             let word_is : target_word g k ≡ text_of_event g t = rw first refl in
             let place = between line s t in
-            let read : node_of (plain signals) (text_of_event g t) ≡ Ok (EventNode t) = texts_read signals g readable t ends.1 in
+            let read : node_of_word (plain signals) (text_of_event g t) ≡ Ok (EventNode t) = texts_read signals g readable t ends.1 in
             let add : with_place (Between s t) place ps ≡ Ok (with_new ps (key_at g k) place) =
             subst (λ (key : Key). with_place key place ps ≡ Ok (with_new ps (key_at g k) place)) key_is
             (added_next signals g readable (first_target g) no_tokens k ps built next place) in (
@@ -86,7 +86,7 @@ module _ (signals : List (List ℕ)) (g : Graph) (readable : IsReadable signals 
             ))
       ]
     where
-      number_last : (k : ℕ) (ps : Places) → Built g k (first_target g) no_tokens ps → k < length g.arcs → number_of (with_new ps (key_at g k) (named line)) (key_at g k) ≡ k
+      number_last : (k : ℕ) (ps : Places) → Built g k (first_target g) no_tokens ps → k < length g.arcs → number_of_place (with_new ps (key_at g k) (named line)) (key_at g k) ≡ k
       number_last k ps built next = position_or_len_is (key_eq (key_at g k)) (ps.keys ++ key_at g k ∷ []) k (Between 0 0)
           (let l = length-append ps.keys (key_at g k ∷ []) in omega (arith, l, built.key_count))
           (λ j less. ap (key_eq (key_at g k)) (get_or_append_left ps.keys (key_at g k ∷ []) (Between 0 0) j (omega (arith, less, built.key_count)) ∙ built.keys j less)

@@ -12,7 +12,7 @@ use Rattle.ds_marked.specs.declared.marked.Kind.TheVariants.{Rise, Fall}
 use Rattle.ds_astg.specs.Pieces.{all_below, line_with}
 use Rattle.ds_marked.specs.Log.{text_of_event}
 use Rattle.ds_astg.specs.Text.{arc_at, is_further, place_name, entry_name, tokens_text, arc_text, event_line, place_line, entry_text, signal_of, signals_text, graph_text}
-use Rattle.ds_astg.specs.Read.{graph_of, events_of}
+use Rattle.ds_astg.specs.Read.{graph_of_lines, events_of_signal}
 use Rattle.ds_astg.specs.Written.{IsReadable, WrittenTextIsRead, graph_words, rest_lines, body_lines, marking_words, lists_below, target_word, arc_words, line_behind, event_lines, place_lines, entry_words}
 use Rattle.ds_astg.proofs.Whole.{written_is_read}
 
@@ -81,22 +81,22 @@ entry_is g k = elim (cases_Bool (ltb 0 (arc_at g k).tokens)) [
 ]
 
 -- the events of the first signals, and those behind them
-first_events : (own : ℕ) (signals : List (List ℕ)) → take (2 * own) (flat_map events_of signals) ≡ flat_map events_of (take own signals)
+first_events : (own : ℕ) (signals : List (List ℕ)) → take (2 * own) (flat_map events_of_signal signals) ≡ flat_map events_of_signal (take own signals)
 first_events zero signals = refl
 first_events (suc own) [] = take-nil (2 * suc own)
 first_events (suc own) (signal ∷ signals) =
     let e : 2 * suc own ≡ suc (suc (2 * own)) = omega arith in
-    ap (λ (n : ℕ). take n (flat_map events_of (signal ∷ signals))) e
+    ap (λ (n : ℕ). take n (flat_map events_of_signal (signal ∷ signals))) e
     ∙ ap (λ (es : List Event). record { signal = signal; kind = Rise } ∷ record { signal = signal; kind = Fall } ∷ es) (first_events own signals)
 
-further_events : (own : ℕ) (signals : List (List ℕ)) → drop (2 * own) (flat_map events_of signals) ≡ flat_map events_of (drop own signals)
+further_events : (own : ℕ) (signals : List (List ℕ)) → drop (2 * own) (flat_map events_of_signal signals) ≡ flat_map events_of_signal (drop own signals)
 further_events zero signals = refl
 further_events (suc own) [] = drop-nil (2 * suc own)
 further_events (suc own) (signal ∷ signals) =
     let e : 2 * suc own ≡ suc (suc (2 * own)) = omega arith in
-    ap (λ (n : ℕ). drop n (flat_map events_of (signal ∷ signals))) e ∙ further_events own signals
+    ap (λ (n : ℕ). drop n (flat_map events_of_signal (signal ∷ signals))) e ∙ further_events own signals
 
-signals_are : (signals : List (List ℕ)) → flat_map signal_of (flat_map events_of signals) ≡ spaced signals
+signals_are : (signals : List (List ℕ)) → flat_map signal_of (flat_map events_of_signal signals) ≡ spaced signals
 unfolding spaced
 signals_are [] = refl
 signals_are (signal ∷ signals) = ap (λ (t : List ℕ). 32 ∷ (signal ++ t)) (signals_are signals)
@@ -197,5 +197,5 @@ text_is name own signals g readable =
 
 pub written_text_is_read : WrittenTextIsRead
 written_text_is_read name own signals g readable plain =
-    ap (λ (t : List ℕ). graph_of (lines_of t)) (text_is name own signals g readable)
-    ∙ (ap graph_of (lines_of-text_of (graph_words name own signals g) plain) ∙ written_is_read name own signals g readable)
+    ap (λ (t : List ℕ). graph_of_lines (lines_of t)) (text_is name own signals g readable)
+    ∙ (ap graph_of_lines (lines_of-text_of (graph_words name own signals g) plain) ∙ written_is_read name own signals g readable)

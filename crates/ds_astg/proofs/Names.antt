@@ -15,13 +15,13 @@ use Rattle.ds_marked.specs.declared.marked.Kind.TheVariants.{Rise}
 use Rattle.ds_marked.specs.Log.{event_text, sign, text_of_event}
 use Rattle.ds_astg.specs.Signals.{Declared, first_event, role_of}
 use Rattle.ds_astg.specs.declared.role.Role.TheVariants.{Signal, Dummy}
-use Rattle.ds_astg.specs.Node.{node_of}
+use Rattle.ds_astg.specs.Node.{node_of_word}
 use Rattle.ds_astg.specs.Node.Node.{Event as EventNode}
 use Rattle.ds_astg.specs.Place.{Key, key_eq}
 use Rattle.ds_astg.specs.Place.Key.{Named, Between}
-use Rattle.ds_astg.specs.Read.{all_events, events_of}
+use Rattle.ds_astg.specs.Read.{all_events, events_of_signal}
 use Rattle.ds_astg.specs.Word.{first_byte, is_signal}
-use Rattle.ds_astg.specs.Line.{head_of}
+use Rattle.ds_astg.specs.Line.{graph_head_of}
 use Rattle.ds_astg.specs.declared.head.Head.TheVariants.{Body}
 use Rattle.ds_astg.specs.Marking.{value_from}
 use Rattle.ds_astg.specs.Text.{arc_at, is_further, place_name}
@@ -49,8 +49,8 @@ abbrev pub key_at : Graph → ℕ → Key
 key_at g k = if is_further g k then Named (place_name k) else Between (arc_at g k).source (arc_at g k).target
 
 -- a word that does not begin with a dot
-pub body_is : (word : List ℕ) → first_byte word ≢ 46 → head_of word ≡ Body
-unfolding head_of
+pub body_is : (word : List ℕ) → first_byte word ≢ 46 → graph_head_of word ≡ Body
+unfolding graph_head_of
 body_is word ne = elim (cases_Bool (first_byte word == 46)) [
   | inl e ↦ absurd (ne (eqb-true _ _ e))
   | inr e ↦ rw e refl
@@ -64,9 +64,9 @@ first_of (byte ∷ word) more some = refl
 abbrev pub plain : List (List ℕ) → Declared
 plain signals = record { names = signals; roles = map (λ _. Signal) signals }
 
-pub plain_events : (signals : List (List ℕ)) → flat_map events_of signals ≡ all_events signals (map (λ _. Signal) signals)
+pub plain_events : (signals : List (List ℕ)) → flat_map events_of_signal signals ≡ all_events signals (map (λ _. Signal) signals)
 plain_events [] = refl
-plain_events (signal ∷ signals) = ap (λ (es : List Event). events_of signal ++ es) (plain_events signals)
+plain_events (signal ∷ signals) = ap (λ (es : List Event). events_of_signal signal ++ es) (plain_events signals)
 
 pub no_dummy : (signals : List (List ℕ)) (name : List ℕ) → role_of (plain signals) name ≢ Some Dummy
 no_dummy signals name is = other (slice_get signals (place_of_name signals name)) (sym (slice_get-map (λ (_ : List ℕ). Signal) signals (place_of_name signals name)) ∙ is)
@@ -97,17 +97,17 @@ module _ (signals : List (List ℕ)) (g : Graph) (readable : IsReadable signals 
       (i, less, signal_is role (first_event (map (λ _. Signal) signals) i) (get_or signals i []) v event one)
 
   -- the text of an event of signals
-  pub texts_read : node_of (plain signals) (text_of_event g v) ≡ Ok (EventNode v)
+  pub texts_read : node_of_word (plain signals) (text_of_event g v) ≡ Ok (EventNode v)
   texts_read =
       let (i, less, is) = signal_at in
-      ap (node_of (plain signals)) text_is ∙ events_are_read (plain signals) v event readable.distinct listed (ap is_signal is ∙ readable.names i [] less)
+      ap (node_of_word (plain signals)) text_is ∙ events_are_read (plain signals) v event readable.distinct listed (ap is_signal is ∙ readable.names i [] less)
 
   -- it does not begin with a dot
-  pub dotless : head_of (text_of_event g v) ≡ Body
+  pub dotless : graph_head_of (text_of_event g v) ≡ Body
   dotless =
       let (i, less, is) = signal_at in
       let some : 0 < length event.signal = subst (λ (s : List ℕ). 0 < length s) (sym is) (readable.some i [] less) in
-      ap head_of text_is ∙ body_is (event_text event) (λ e. readable.undotted i [] less
+      ap graph_head_of text_is ∙ body_is (event_text event) (λ e. readable.undotted i [] less
       (ap first_byte (sym is) ∙ (sym (first_of event.signal (sign event.kind) some) ∙ e)))
 
 pub le_source : (a b : Arc) → StandsBefore a b → a.source ≤ b.source

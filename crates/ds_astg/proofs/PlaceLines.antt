@@ -4,9 +4,9 @@ use Rattle.std.proofs.lemmas.Bool.{cases_Bool, cases_lt, cases_eq, lt-ltb, le-lt
 use Rattle.ds_marked.specs.Graph.{Graph}
 use Rattle.ds_marked.specs.declared.marked.Arc.{Arc}
 use Rattle.ds_astg.specs.Turn.{then_do, all_of}
-use Rattle.ds_astg.specs.Node.{node_of}
+use Rattle.ds_astg.specs.Node.{node_of_word}
 use Rattle.ds_astg.specs.Node.Node.{Event as EventNode, Place as PlaceNode}
-use Rattle.ds_astg.specs.Place.{Places, named, number_of, has_place, place_at, with_place_at, with_place}
+use Rattle.ds_astg.specs.Place.{Places, named, number_of_place, has_place, place_at, with_place_at, with_place}
 use Rattle.ds_astg.specs.Place.Key.{Named}
 use Rattle.ds_astg.specs.Links.{link_word, link_words, with_target, to_event, graph_line}
 use Rattle.ds_marked.specs.Log.{text_of_event}
@@ -64,14 +64,14 @@ module _ (signals : List (List ℕ)) (g : Graph) (readable : IsReadable signals 
       let none : Arc = record { source = 0; target = 0; tokens = 0 } in
       let ends = readable.kept.ends j none inside in
       let key_is : key_at g j ≡ Named name = rw further refl in
-      let read : node_of (plain signals) name ≡ Ok (PlaceNode name) = places_are_read (plain signals) j (omega (arith, inside, readable.few_arcs)) (no_dummy signals (place_name j)) in
-      let event : node_of (plain signals) (text_of_event g t) ≡ Ok (EventNode t) = texts_read signals g readable t ends.1 in
+      let read : node_of_word (plain signals) name ≡ Ok (PlaceNode name) = places_are_read (plain signals) j (omega (arith, inside, readable.few_arcs)) (no_dummy signals (place_name j)) in
+      let event : node_of_word (plain signals) (text_of_event g t) ≡ Ok (EventNode t) = texts_read signals g readable t ends.1 in
       let has : has_place ps (Named name) ≡ true = ap (has_place ps) (sym key_is) ∙ stands_there signals g readable (placed_target g j) no_tokens n ps built j inside in
-      let number : number_of ps (Named name) ≡ j = ap (number_of ps) (sym key_is) ∙ number_is signals g readable (placed_target g j) no_tokens n ps built (omega arith) j inside in
+      let number : number_of_place ps (Named name) ≡ j = ap (number_of_place ps) (sym key_is) ∙ number_is signals g readable (placed_target g j) no_tokens n ps built (omega arith) j inside in
       let lacks : (place_at ps j).target ≡ None = built.targets j inside ∙ (let f : placed_target g j j ≡ first_target g j = rw (le-ltb j j (omega arith)) refl in f ∙ rw further refl) in
       let stays : with_place (Named name) (named line) ps ≡ Ok ps = rw has refl in
       let put : with_target j name t ps ≡ Ok (with_place_at ps j (to_event (place_at ps j) t)) = rw lacks refl in
-      let one : link_word (plain signals) line (PlaceNode name) (text_of_event g t) ps ≡ with_target (number_of ps (Named name)) name t ps = rw event refl in
+      let one : link_word (plain signals) line (PlaceNode name) (text_of_event g t) ps ≡ with_target (number_of_place ps (Named name)) name t ps = rw event refl in
       let done : link_word (plain signals) line (PlaceNode name) (text_of_event g t) ps ≡ Ok (with_place_at ps j (to_event (place_at ps j) t)) = one ∙ (ap (λ (k : ℕ). with_target k name t ps) number ∙ put) in
       let all : link_words (plain signals) line (PlaceNode name) (text_of_event g t ∷ []) ps ≡ Ok (with_place_at ps j (to_event (place_at ps j) t)) =
       ap (λ (r : Result Places AstgKind). then_do r (all_of (link_word (plain signals) line (PlaceNode name)) [])) done in

@@ -1,12 +1,12 @@
 -- Lines one after another.
 use Rattle.std.proofs.Common.{◌≡◌, ℕ, suc, ◌+◌, ◌<◌, List, [], ◌∷◌, length, drop, false, true, Result, Ok, Err, refl, sym, ◌∙◌, ap, arith}
 use Rattle.std.proofs.Math.Seq.{drop-cons}
+use Rattle.ds_lines.specs.Words.{word_at}
 use Rattle.ds_lines.specs.Line.{Line, line_or_none}
 use Rattle.ds_marked.specs.Graph.{Graph}
-use Rattle.ds_astg.specs.Word.{word_at}
-use Rattle.ds_astg.specs.Line.{State, head_of, step_line}
+use Rattle.ds_astg.specs.Line.{State, graph_head_of, step_line}
 use Rattle.ds_astg.specs.Read.{ends, behind, end_of, graph_from}
-use Rattle.ds_astg.specs.Steps.{IsFirst, IsLineFault}
+use Rattle.ds_astg.specs.Steps.{IsFirstGraphFault, IsLineFault}
 use Rattle.ds_astg.specs.declared.head.Head.{Head}
 use Rattle.ds_astg.specs.declared.fault.AstgFault.{AstgFault}
 use Rattle.ds_astg.specs.declared.fault.AstgKind.{AstgKind}
@@ -14,16 +14,16 @@ use Rattle.ds_astg.specs.declared.fault.AstgRefusal.{AstgRefusal}
 use Rattle.ds_astg.specs.declared.fault.AstgRefusal.TheVariants.{Memory as NoMemory, Fault}
 
 module _ (lines : List Line) (i : ℕ) (state : State) (all : Result Graph AstgFault) (head : Head)
-    (inside : i < length lines) (so_far : all ≡ graph_from (drop i lines) state) (is : head ≡ head_of (word_at (line_or_none lines i).words 0)) where
+    (inside : i < length lines) (so_far : all ≡ graph_from (drop i lines) state) (is : head ≡ graph_head_of (word_at (line_or_none lines i).words 0)) where
   here : all ≡ graph_from (line_or_none lines i ∷ drop (suc i) lines) state
   here = so_far ∙ ap (λ (ls : List Line). graph_from ls state) (drop-cons lines i (record { number = 0; words = [] }) inside)
 
   -- the last line that is read
   pub line_ends : ends head ≡ true → all ≡ end_of state
-  line_ends e = here ∙ (let h : ends (head_of (word_at (line_or_none lines i).words 0)) ≡ true = sym (ap ends is) ∙ e in rw h refl)
+  line_ends e = here ∙ (let h : ends (graph_head_of (word_at (line_or_none lines i).words 0)) ≡ true = sym (ap ends is) ∙ e in rw h refl)
 
   goes_on : ends head ≡ false → all ≡ behind (line_or_none lines i).number (step_line head (line_or_none lines i) state) (graph_from (drop (suc i) lines))
-  goes_on e = here ∙ (let h : ends (head_of (word_at (line_or_none lines i).words 0)) ≡ false = sym (ap ends is) ∙ e in
+  goes_on e = here ∙ (let h : ends (graph_head_of (word_at (line_or_none lines i).words 0)) ≡ false = sym (ap ends is) ∙ e in
       rw h (ap (λ (k : Head). behind (line_or_none lines i).number (step_line k (line_or_none lines i) state) (graph_from (drop (suc i) lines))) (sym is)))
 
   -- a line without a fault
@@ -32,7 +32,7 @@ module _ (lines : List Line) (i : ℕ) (state : State) (all : Result Graph AstgF
       ∙ ap (λ (k : ℕ). graph_from (drop k lines) next) (let h : suc i ≡ i + 1 = omega arith in h))
 
   -- the first line with a fault
-  pub line_fault : ends head ≡ false → (e : AstgRefusal) → IsLineFault (line_or_none lines i).number (step_line head (line_or_none lines i) state) e → IsFirst e all
+  pub line_fault : ends head ≡ false → (e : AstgRefusal) → IsLineFault (line_or_none lines i).number (step_line head (line_or_none lines i) state) e → IsFirstGraphFault e all
   line_fault e NoMemory fault = tt
   line_fault e (Fault first) (number, kind) = goes_on e
       ∙ (ap (λ (r : Result State AstgKind). behind (line_or_none lines i).number r (graph_from (drop (suc i) lines))) kind

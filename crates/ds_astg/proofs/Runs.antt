@@ -1,15 +1,15 @@
 -- Lines of the graph part, one after another.
 use Rattle.std.proofs.Common.{◌≡◌, ℕ, zero, suc, ◌+◌, ◌<◌, ◌≤◌, false, List, [], ◌∷◌, ◌++◌, length, refl, sym, ◌∙◌, subst, arith, inl, inr, Ok, nat_lt}
 use Rattle.std.proofs.lemmas.Bool.{cases_eq, le-ltb}
+use Rattle.ds_lines.specs.Words.{word_at}
 use Rattle.ds_marked.specs.Graph.{Graph}
-use Rattle.ds_astg.specs.Word.{word_at}
 use Rattle.ds_astg.specs.Turn.{all_of}
 use Rattle.ds_astg.specs.Signals.{Declared}
-use Rattle.ds_astg.specs.Node.{node_of}
+use Rattle.ds_astg.specs.Node.{node_of_word}
 use Rattle.ds_astg.specs.Node.Node.{Event as EventNode}
 use Rattle.ds_astg.specs.Place.{Places, no_places}
 use Rattle.ds_astg.specs.Links.{link_word, graph_line}
-use Rattle.ds_astg.specs.Line.{head_of}
+use Rattle.ds_astg.specs.Line.{graph_head_of}
 use Rattle.ds_astg.specs.declared.head.Head.TheVariants.{Body}
 use Rattle.ds_marked.specs.Log.{text_of_event}
 use Rattle.ds_astg.specs.Text.{arc_at}
@@ -23,7 +23,7 @@ use Rattle.ds_astg.proofs.EventLines.{IsPrefix, first_target, no_tokens, targets
 abbrev pub Runs : Declared → ℕ → List (List (List ℕ)) → Places → Places → Type 0
 Runs signals n [] ps qs = ps ≡ qs
 Runs signals n (words ∷ lines) ps qs =
-    (rs : Places) × (head_of (word_at words 0) ≡ Body) × (graph_line signals n words ps ≡ Ok rs) × Runs signals (n + 1) lines rs qs
+    (rs : Places) × (graph_head_of (word_at words 0) ≡ Body) × (graph_line signals n words ps ≡ Ok rs) × Runs signals (n + 1) lines rs qs
 
 pub runs_append : (signals : Declared) (n : ℕ) (xs ys : List (List (List ℕ))) (ps qs rs : Places) → Runs signals n xs ps qs → Runs signals (n + length xs) ys qs rs
     → Runs signals n (xs ++ ys) ps rs
@@ -38,7 +38,7 @@ runs_append signals n (words ∷ xs) ys ps qs rs (next, body, one, rest) second 
 )
 
 -- a line of an event
-pub line_run : (signals : Declared) (n v : ℕ) (word : List ℕ) (words : List (List ℕ)) (ps qs : Places) → head_of word ≡ Body → node_of signals word ≡ Ok (EventNode v)
+pub line_run : (signals : Declared) (n v : ℕ) (word : List ℕ) (words : List (List ℕ)) (ps qs : Places) → graph_head_of word ≡ Body → node_of_word signals word ≡ Ok (EventNode v)
     → all_of (link_word signals n (EventNode v)) words ps ≡ Ok qs → Runs signals n (line_behind word words) ps qs
 line_run signals n v word [] ps qs body read run = one_value ps qs run
 line_run signals n v word (next ∷ words) ps qs body read run = (

@@ -3,22 +3,23 @@ use Rattle.std.proofs.Common.{◌≡◌, ◌⊎◌, ℕ, ◌+◌, ◌*◌, ◌<�
 use Rattle.std.proofs.lemmas.Bool.{cases_Bool, cases_lt}
 use Rattle.std.proofs.lemmas.List.{length-append, length-set, get_or_past}
 use Rattle.std.proofs.lemmas.List.Elements.{All-cons, All-set, All-append}
+use Rattle.ds_lines.specs.Words.{word_at}
 use Rattle.ds_names.specs.Names.{has_name, place_of_name}
-use Rattle.ds_astg.specs.Word.{is_signed, fall_of, last_byte, word_at, has_slash, has_reserved}
+use Rattle.ds_astg.specs.Word.{is_signed, fall_of, last_byte, has_slash, has_reserved}
 use Rattle.ds_astg.specs.Turn.{then_do, all_of}
 use Rattle.ds_astg.specs.Signals.{Declared, count_events, event_count, role_of}
-use Rattle.ds_astg.specs.Node.{Node, node_of, node_by, event_in, event_by, first_number, name_in}
+use Rattle.ds_astg.specs.Node.{Node, node_of_word, node_by, event_in, event_by, first_number, name_in}
 use Rattle.ds_astg.specs.Node.Node.{Event as EventNode, Place as PlaceNode}
-use Rattle.ds_astg.specs.Place.{Places, Key, with_place, with_place_at, place_at, named, between, has_place, number_of}
+use Rattle.ds_astg.specs.Place.{Places, Key, with_place, with_place_at, place_at, named, between, has_place, number_of_place}
 use Rattle.ds_astg.specs.Place.Key.{Named, Between}
 use Rattle.ds_astg.specs.Links.{may_be, from_event, to_event, with_source, with_target, link, link_word, link_words, with_node, source_line, graph_line}
-use Rattle.ds_astg.specs.Marking.{with_tokens, is_unmarked, mark_key, mark_by, mark, mark_all, key_in, place_text, tokens_of, entries_of}
+use Rattle.ds_astg.specs.Marking.{with_tokens, is_unmarked, mark_key, mark_by, mark, mark_all, key_in, place_text, tokens_of_entry, entries_of}
 use Rattle.ds_astg.specs.Line.{State, may_declare, declare, declare_all, declaration_line, with_signals, with_places, with_marking, body_line, entries_line, step_by}
 use Rattle.ds_astg.specs.declared.head.Head.{Head}
 use Rattle.ds_astg.specs.declared.head.Head.TheVariants.{Body, Model, Signals, Dummies, Graph, Marking, End, Unknown}
 use Rattle.ds_astg.specs.declared.role.Role.{Role}
 use Rattle.ds_astg.specs.declared.role.Role.TheVariants.{Signal, Dummy}
-use Rattle.ds_astg.specs.Sound.{HasEnds, ArePlaces, IsSound}
+use Rattle.ds_astg.specs.Sound.{HasEnds, ArePlaces, IsStateSound}
 use Rattle.ds_astg.specs.declared.place.Place.{Place}
 use Rattle.ds_astg.specs.declared.fault.AstgKind.{AstgKind}
 use Rattle.ds_astg.proofs.Numbered.{count_push, room_at}
@@ -93,9 +94,9 @@ module _ (n : ℕ) where
   unfolding NodeIn
   link_sound line (EventNode u) (EventNode v) ps qs low below sound is = new_sound (Between u v) (between line u v) ps qs sound (low, below) is
   link_sound line (EventNode u) (PlaceNode name) ps qs low below sound is =
-      let (all, one, next) = then_was (with_place (Named name) (named line) ps) (λ rs. with_source (number_of rs (Named name)) name u rs) qs is in
-      source_sound (number_of all (Named name)) name u all qs low (new_sound (Named name) (named line) ps all sound (tt, tt) one) next
-  link_sound line (PlaceNode name) (EventNode v) ps qs low below sound is = target_sound (number_of ps (Named name)) name v ps qs below sound is
+      let (all, one, next) = then_was (with_place (Named name) (named line) ps) (λ rs. with_source (number_of_place rs (Named name)) name u rs) qs is in
+      source_sound (number_of_place all (Named name)) name u all qs low (new_sound (Named name) (named line) ps all sound (tt, tt) one) next
+  link_sound line (PlaceNode name) (EventNode v) ps qs low below sound is = target_sound (number_of_place ps (Named name)) name v ps qs below sound is
   link_sound line (PlaceNode name) (PlaceNode other) ps qs low below sound is = absurd (cc)
 
   with_node_sound : (line : ℕ) (node : Node) (ps qs : Places) → ArePlaces n ps → with_node line node ps ≡ Ok qs → ArePlaces n qs
@@ -106,7 +107,7 @@ module _ (n : ℕ) where
   mark_key_sound : (entry : List ℕ) (key : Key) (tokens : ℕ) (ps qs : Places) → ArePlaces n ps → mark_key entry key tokens ps ≡ Ok qs → ArePlaces n qs
   mark_key_sound entry key tokens ps qs sound is = elim (if_was (is_unmarked ps key) _ _ qs is) [
     | inl (unmarked, same) ↦ subst (ArePlaces n) (one_value _ qs same)
-        (set_sound ps (number_of ps key) (with_tokens (place_at ps (number_of ps key)) tokens) sound (place_ends ps (number_of ps key) sound))
+        (set_sound ps (number_of_place ps key) (with_tokens (place_at ps (number_of_place ps key)) tokens) sound (place_ends ps (number_of_place ps key) sound))
     | inr (marked, fault) ↦ absurd (cc)
   ]
 
@@ -118,7 +119,7 @@ module _ (n : ℕ) where
   pub mark_sound : (signals : Declared) (entry : List ℕ) (ps qs : Places) → ArePlaces n ps → mark signals entry ps ≡ Ok qs → ArePlaces n qs
   mark_sound signals entry ps qs sound is = elim (if_was (length entry == 0) _ _ qs is) [
     | inl (none, same) ↦ subst (ArePlaces n) (one_value ps qs same) sound
-    | inr (some, next) ↦ mark_by_sound entry (key_in signals (place_text entry)) (tokens_of entry) ps qs sound next
+    | inr (some, next) ↦ mark_by_sound entry (key_in signals (place_text entry)) (tokens_of_entry entry) ps qs sound next
   ]
 
 -- an event that is found is one of the names'
@@ -157,7 +158,7 @@ node_by_low signals word None node e is = elim (if_was (is_signed word) _ _ node
 node_by_low signals word (Some event) node e is =
     subst (NodeIn (count_events signals.roles)) (one_value (EventNode event) node is) (event_low signals word event (sym e))
 
-pub node_low : (signals : Declared) (word : List ℕ) (node : Node) → node_of signals word ≡ Ok node → NodeIn (count_events signals.roles) node
+pub node_low : (signals : Declared) (word : List ℕ) (node : Node) → node_of_word signals word ≡ Ok node → NodeIn (count_events signals.roles) node
 node_low signals word node is = elim (if_was (has_slash word) _ _ node is) [
   | inl (slash, fault) ↦ absurd (cc)
   | inr (no_slash, next) ↦ elim (if_was (has_reserved word) _ _ node next) [
@@ -170,13 +171,13 @@ module _ (signals : Declared) (line : ℕ) where
   link_word_sound : (source : Node) (word : List ℕ) (ps qs : Places) → NodeIn (count_events signals.roles) source → ArePlaces (count_events signals.roles) ps
       → link_word signals line source word ps ≡ Ok qs → ArePlaces (count_events signals.roles) qs
   link_word_sound source word ps qs low sound is =
-      let (target, one, next) = then_was (node_of signals word) (λ target. link line source target ps) qs is in
+      let (target, one, next) = then_was (node_of_word signals word) (λ target. link line source target ps) qs is in
       link_sound (count_events signals.roles) line source target ps qs low (node_low signals word target one) sound next
 
   pub graph_line_sound : (words : List (List ℕ)) (ps qs : Places) → ArePlaces (count_events signals.roles) ps → graph_line signals line words ps ≡ Ok qs
       → ArePlaces (count_events signals.roles) qs
   graph_line_sound words ps qs sound is =
-      let (source, one, next) = then_was (node_of signals (word_at words 0)) (λ source. source_line signals line words source ps) qs is in
+      let (source, one, next) = then_was (node_of_word signals (word_at words 0)) (λ source. source_line signals line words source ps) qs is in
       elim (if_was (nat_lt (length words) 2) _ _ qs next) [
         | inl (lone, fault) ↦ absurd (cc)
         | inr (more, rest) ↦ (
@@ -219,47 +220,47 @@ declare_grows n role ps word signals more grows is = elim (if_was (not (may_decl
   ]
 ]
 
-declaration_sound : (role : Role) (words : List (List ℕ)) (state next : State) → IsSound state → declaration_line role words state ≡ Ok next → IsSound next
+declaration_sound : (role : Role) (words : List (List ℕ)) (state next : State) → IsStateSound state → declaration_line role words state ≡ Ok next → IsStateSound next
 declaration_sound role words state next sound is =
     let (signals, one, last) = then_was (declare_all role state.places (drop 1 words) state.signals) (λ signals. Ok (with_signals state signals)) next is in
     let n = count_events state.signals.roles in
     let grows : Grows n signals = all_stay (Grows n) (declare role state.places)
     (λ word s t p step. declare_grows n role state.places word s t p step) (drop 1 words) state.signals signals (record { each = sound.each; more = omega arith }) one in
-    subst IsSound (one_value (with_signals state signals) next last)
+    subst IsStateSound (one_value (with_signals state signals) next last)
     (record { each = grows.each; places = more_events n (count_events signals.roles) state.places grows.more sound.places })
 
-body_sound : (line : ℕ) (words : List (List ℕ)) (state next : State) → IsSound state → body_line line words state ≡ Ok next → IsSound next
+body_sound : (line : ℕ) (words : List (List ℕ)) (state next : State) → IsStateSound state → body_line line words state ≡ Ok next → IsStateSound next
 body_sound line words state next sound is = elim (if_was state.is_open _ _ next is) [
   | inl (open_part, step) ↦ (
       let (places, one, last) = then_was (graph_line state.signals line words state.places) (λ places. Ok (with_places state places)) next step in
-      subst IsSound (one_value (with_places state places) next last)
+      subst IsStateSound (one_value (with_places state places) next last)
       (record { each = sound.each; places = graph_line_sound state.signals line words state.places places sound.places one }))
   | inr (closed_part, fault) ↦ absurd (cc)
 ]
 
-entries_sound : (word : List ℕ) (entries : Option (List (List ℕ))) (state next : State) → IsSound state → entries_line word entries state ≡ Ok next → IsSound next
+entries_sound : (word : List ℕ) (entries : Option (List (List ℕ))) (state next : State) → IsStateSound state → entries_line word entries state ≡ Ok next → IsStateSound next
 entries_sound word None state next sound is = absurd (cc)
 entries_sound word (Some entries) state next sound is =
     let (places, one, last) = then_was (mark_all state.signals entries state.places) (λ places. Ok (with_marking state places)) next is in
-    subst IsSound (one_value (with_marking state places) next last) (record {
+    subst IsStateSound (one_value (with_marking state places) next last) (record {
       each = sound.each;
       places = all_stay (ArePlaces (count_events state.signals.roles)) (mark state.signals)
           (λ entry ps qs p step. mark_sound (count_events state.signals.roles) state.signals entry ps qs p step) entries state.places places sound.places one;
     })
 
 -- what was read stays sound
-pub step_sound : (head : Head) (line : ℕ) (words : List (List ℕ)) (state next : State) → IsSound state → step_by head line words state ≡ Ok next → IsSound next
+pub step_sound : (head : Head) (line : ℕ) (words : List (List ℕ)) (state next : State) → IsStateSound state → step_by head line words state ≡ Ok next → IsStateSound next
 step_sound Body line words state next sound is = body_sound line words state next sound is
 step_sound Model line words state next sound is = elim (if_was (state.is_named || not (length words == 2)) _ _ next is) [
   | inl (bad, fault) ↦ absurd (cc)
-  | inr (good, same) ↦ subst IsSound (one_value _ next same) (record { each = sound.each; places = sound.places })
+  | inr (good, same) ↦ subst IsStateSound (one_value _ next same) (record { each = sound.each; places = sound.places })
 ]
 step_sound Signals line words state next sound is = declaration_sound Signal words state next sound is
 step_sound Dummies line words state next sound is = declaration_sound Dummy words state next sound is
-step_sound Graph line words state next sound is = subst IsSound (one_value _ next is) (record { each = sound.each; places = sound.places })
+step_sound Graph line words state next sound is = subst IsStateSound (one_value _ next is) (record { each = sound.each; places = sound.places })
 step_sound Marking line words state next sound is = elim (if_was state.is_marked _ _ next is) [
   | inl (marked, fault) ↦ absurd (cc)
   | inr (unmarked, step) ↦ entries_sound (word_at words 0) (entries_of (drop 1 words)) state next sound step
 ]
-step_sound End line words state next sound is = subst IsSound (one_value state next is) sound
+step_sound End line words state next sound is = subst IsStateSound (one_value state next is) sound
 step_sound Unknown line words state next sound is = absurd (cc)

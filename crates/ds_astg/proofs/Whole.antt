@@ -7,7 +7,8 @@ use Rattle.std.proofs.lemmas.List.{length-append, length-map, map-append, get_or
 use Rattle.std.proofs.lemmas.List.Folds.{list_any_none}
 use Rattle.std.proofs.lemmas.List.Sorted.{IsPermutation-refl}
 use Rattle.std.proofs.Math.Seq.{get_or-append_seam}
-use Rattle.ds_lines.specs.Print.{numbered}
+use Rattle.ds_lines.specs.Words.{word_at}
+use Rattle.ds_lines.specs.Print.{numbered_lines}
 use Rattle.ds_names.specs.Names.{has_name}
 use Rattle.ds_astg.specs.Signals.{Declared, with_declared, role_of, may_have}
 use Rattle.ds_astg.specs.declared.role.Role.{Role}
@@ -15,12 +16,12 @@ use Rattle.ds_astg.specs.declared.role.Role.TheVariants.{Signal, Dummy}
 use Rattle.ds_marked.specs.Graph.{Graph}
 use Rattle.ds_marked.specs.declared.marked.Arc.{Arc}
 use Rattle.ds_marked.specs.declared.marked.Event.{Event}
-use Rattle.ds_astg.specs.Word.{word_at, is_signal}
+use Rattle.ds_astg.specs.Word.{is_signal}
 use Rattle.ds_astg.specs.Turn.{then_do, all_of}
 use Rattle.ds_astg.specs.Place.{Places, Key, named, no_places, place_at}
 use Rattle.ds_astg.specs.Marking.{mark, mark_all, entries_of, closed, last_word}
-use Rattle.ds_astg.specs.Line.{State, head_of, is_declaration, declare, declare_all, may_declare, with_marking}
-use Rattle.ds_astg.specs.Read.{graph_of, graph_from, end_of, graph_of_parts, lacking, lacks, arc_of, or_zero, in_order}
+use Rattle.ds_astg.specs.Line.{State, graph_head_of, is_declaration, declare, declare_all, may_declare, with_marking}
+use Rattle.ds_astg.specs.Read.{graph_of_lines, graph_from, end_of, graph_of_parts, lacking, lacks, arc_of, or_zero, in_order}
 use Rattle.ds_astg.specs.Text.{arc_at}
 use Rattle.ds_astg.specs.Written.{IsReadable, WrittenIsRead, graph_words, line_behind, body_lines, marking_words, lists_below, event_lines, place_lines, entry_words}
 use Rattle.ds_astg.specs.declared.place.Place.{Place}
@@ -88,31 +89,31 @@ in_graph signals ps = record { is_named = true; is_open = true; is_marked = fals
 
 -- a line of signals
 outputs_line : (n : ℕ) (words : List (List ℕ)) (lines : List (List (List ℕ))) (s t : Declared) → declare_all Signal no_places words s ≡ Ok t
-    → graph_from (numbered n ((codes ".outputs" ∷ words) ∷ lines)) (outside s) ≡ graph_from (numbered (n + 1) lines) (outside t)
-unfolding head_of is_declaration
+    → graph_from (numbered_lines n ((codes ".outputs" ∷ words) ∷ lines)) (outside s) ≡ graph_from (numbered_lines (n + 1) lines) (outside t)
+unfolding graph_head_of is_declaration
 outputs_line n words lines s t is = rw is refl
 
 internal_line : (n : ℕ) (words : List (List ℕ)) (lines : List (List (List ℕ))) (s t : Declared) → declare_all Signal no_places words s ≡ Ok t
-    → graph_from (numbered n ((codes ".internal" ∷ words) ∷ lines)) (outside s) ≡ graph_from (numbered (n + 1) lines) (outside t)
-unfolding head_of is_declaration
+    → graph_from (numbered_lines n ((codes ".internal" ∷ words) ∷ lines)) (outside s) ≡ graph_from (numbered_lines (n + 1) lines) (outside t)
+unfolding graph_head_of is_declaration
 internal_line n words lines s t is = rw is refl
 
 -- the line of further signals, where there are some, and that which opens the graph part
 further_run : (first more : List (List ℕ)) (lines : List (List (List ℕ))) → declare_all Signal no_places more (plain first) ≡ Ok (plain (first ++ more))
-    → graph_from (numbered 3 (line_behind (codes ".internal") more ++ (codes ".graph" ∷ []) ∷ lines)) (outside (plain first))
-    ≡ graph_from (numbered (4 + length (line_behind (codes ".internal") more)) lines) (in_graph (plain (first ++ more)) no_places)
-unfolding head_of is_declaration
-further_run first [] lines is = ap (λ (xs : List (List ℕ)). graph_from (numbered 4 lines) (in_graph (plain xs) no_places)) (sym (append-nil first))
+    → graph_from (numbered_lines 3 (line_behind (codes ".internal") more ++ (codes ".graph" ∷ []) ∷ lines)) (outside (plain first))
+    ≡ graph_from (numbered_lines (4 + length (line_behind (codes ".internal") more)) lines) (in_graph (plain (first ++ more)) no_places)
+unfolding graph_head_of is_declaration
+further_run first [] lines is = ap (λ (xs : List (List ℕ)). graph_from (numbered_lines 4 lines) (in_graph (plain xs) no_places)) (sym (append-nil first))
 further_run first (signal ∷ more) lines is = internal_line 3 (signal ∷ more) ((codes ".graph" ∷ []) ∷ lines) (plain first) (plain (first ++ signal ∷ more)) is
 
 body_from : (signals : Declared) (n : ℕ) (lines more : List (List (List ℕ))) (ps qs : Places) → Runs signals n lines ps qs
-    → graph_from (numbered n (lines ++ more)) (in_graph signals ps) ≡ graph_from (numbered (n + length lines) more) (in_graph signals qs)
-body_from signals n [] more ps qs run = ap (λ (k : ℕ). graph_from (numbered k more) (in_graph signals ps)) (let e : n ≡ n + 0 = omega arith in e)
-    ∙ ap (λ (p : Places). graph_from (numbered (n + 0) more) (in_graph signals p)) run
+    → graph_from (numbered_lines n (lines ++ more)) (in_graph signals ps) ≡ graph_from (numbered_lines (n + length lines) more) (in_graph signals qs)
+body_from signals n [] more ps qs run = ap (λ (k : ℕ). graph_from (numbered_lines k more) (in_graph signals ps)) (let e : n ≡ n + 0 = omega arith in e)
+    ∙ ap (λ (p : Places). graph_from (numbered_lines (n + 0) more) (in_graph signals p)) run
 body_from signals n (words ∷ lines) more ps qs (rs, body, one, rest) =
-    let first : graph_from (numbered n ((words ∷ lines) ++ more)) (in_graph signals ps) ≡ graph_from (numbered (n + 1) (lines ++ more)) (in_graph signals rs) = rw (body, one) refl in
+    let first : graph_from (numbered_lines n ((words ∷ lines) ++ more)) (in_graph signals ps) ≡ graph_from (numbered_lines (n + 1) (lines ++ more)) (in_graph signals rs) = rw (body, one) refl in
     first ∙ (body_from signals (n + 1) lines more rs qs rest
-    ∙ ap (λ (k : ℕ). graph_from (numbered k more) (in_graph signals qs)) (let e : (n + 1) + length lines ≡ n + suc (length lines) = omega arith in e))
+    ∙ ap (λ (k : ℕ). graph_from (numbered_lines k more) (in_graph signals qs)) (let e : (n + 1) + length lines ≡ n + suc (length lines) = omega arith in e))
 
 -- entries between braces
 braced : (entries : List (List ℕ)) → entries_of (codes "{" ∷ (entries ++ codes "}" ∷ [])) ≡ Some (([] ∷ entries) ++ [] ∷ [])
@@ -194,9 +195,9 @@ module _ (signals : List (List ℕ)) (g : Graph) (readable : IsReadable signals 
 
   -- the lines before the graph part
   head_run : (name : List ℕ) (own : ℕ) (lines : List (List (List ℕ)))
-      → graph_of (numbered 1 ((codes ".model" ∷ name ∷ []) ∷ (codes ".outputs" ∷ take own signals) ∷ (line_behind (codes ".internal") (drop own signals) ++ (codes ".graph" ∷ []) ∷ lines)))
-      ≡ graph_from (numbered (4 + length (line_behind (codes ".internal") (drop own signals))) lines) (in_graph (plain signals) no_places)
-  unfolding head_of is_declaration
+      → graph_of_lines (numbered_lines 1 ((codes ".model" ∷ name ∷ []) ∷ (codes ".outputs" ∷ take own signals) ∷ (line_behind (codes ".internal") (drop own signals) ++ (codes ".graph" ∷ []) ∷ lines)))
+      ≡ graph_from (numbered_lines (4 + length (line_behind (codes ".internal") (drop own signals))) lines) (in_graph (plain signals) no_places)
+  unfolding graph_head_of is_declaration
   head_run name own lines =
       let first = take own signals in
       let more = drop own signals in
@@ -206,10 +207,10 @@ module _ (signals : List (List ℕ)) (g : Graph) (readable : IsReadable signals 
       let few : length (first ++ more) ≤ 65536 = subst (λ (xs : List (List ℕ)). length xs ≤ 65536) (sym whole) readable.few in
       outputs_line 2 first (line_behind (codes ".internal") more ++ (codes ".graph" ∷ []) ∷ lines) (plain []) (plain first) (first_declared first more distinct names few)
       ∙ (further_run first more lines (more_declared first more distinct names few)
-      ∙ ap (λ (xs : List (List ℕ)). graph_from (numbered (4 + length (line_behind (codes ".internal") more)) lines) (in_graph (plain xs) no_places)) whole)
+      ∙ ap (λ (xs : List (List ℕ)). graph_from (numbered_lines (4 + length (line_behind (codes ".internal") more)) lines) (in_graph (plain xs) no_places)) whole)
 
-  pub written : (name : List ℕ) (own : ℕ) → graph_of (numbered 1 (graph_words name own signals g)) ≡ Ok g
-  unfolding head_of is_declaration
+  pub written : (name : List ℕ) (own : ℕ) → graph_of_lines (numbered_lines 1 (graph_words name own signals g)) ≡ Ok g
+  unfolding graph_head_of is_declaration
   written name own =
       let n = length g.arcs in
       let from = 4 + length (line_behind (codes ".internal") (drop own signals)) in
@@ -217,13 +218,13 @@ module _ (signals : List (List ℕ)) (g : Graph) (readable : IsReadable signals 
       let (qs, marks, marked) = marks_run signals g readable n ps (omega arith) built in
       let tail = marking_words g ∷ (codes ".end" ∷ []) ∷ [] in
       let entries = lists_below (entry_words g) n in
-      let head : graph_of (numbered 1 (graph_words name own signals g)) ≡ graph_from (numbered from (body_lines g ++ tail)) (in_graph (plain signals) no_places) = head_run name own (body_lines g ++ tail) in
+      let head : graph_of_lines (numbered_lines 1 (graph_words name own signals g)) ≡ graph_from (numbered_lines from (body_lines g ++ tail)) (in_graph (plain signals) no_places) = head_run name own (body_lines g ++ tail) in
       let body = body_from (plain signals) from (body_lines g) tail no_places ps run in
       let line = from + length (body_lines g) in
       let all : mark_all (plain signals) (([] ∷ entries) ++ [] ∷ []) ps ≡ Ok qs = marked_all (plain signals) entries ps qs marks in
       let brace : entries_of (codes "{" ∷ (entries ++ codes "}" ∷ [])) ≡ Some (([] ∷ entries) ++ [] ∷ []) = braced entries in
       let state = with_marking (in_graph (plain signals) ps) qs in
-      let last : graph_from (numbered line tail) (in_graph (plain signals) ps) ≡ end_of state = rw (brace, all) refl in
+      let last : graph_from (numbered_lines line tail) (in_graph (plain signals) ps) ≡ end_of state = rw (brace, all) refl in
       head ∙ (body ∙ (last ∙ ends_well qs state refl refl marked))
 
 pub written_is_read : WrittenIsRead

@@ -17,7 +17,7 @@ use Rattle.ds_marked.specs.declared.marked.Kind.TheVariants.{Rise, Fall, Dummy a
 use Rattle.ds_marked.specs.Log.{event_text}
 use Rattle.ds_astg.specs.Word.{is_slash, is_reserved, has_slash, has_reserved, is_signed, is_signal, last_byte, without_last, fall_of}
 use Rattle.ds_astg.specs.Signals.{Declared, first_event, role_of}
-use Rattle.ds_astg.specs.Node.{node_of, node_by, event_in, event_by, first_number, name_in}
+use Rattle.ds_astg.specs.Node.{node_of_word, node_by, event_in, event_by, first_number, name_in}
 use Rattle.ds_astg.specs.Node.Node.{Event as EventNode, Place as PlaceNode}
 use Rattle.ds_astg.specs.Read.{all_events}
 use Rattle.ds_astg.specs.Text.{place_name}
@@ -106,7 +106,7 @@ event_at (name ∷ names) (Dummy ∷ roles) (suc v) e is =
 
 -- a word of which the event is known
 node_is : (signals : Declared) (word : List ℕ) (event : ℕ) → has_slash word ≡ false → has_reserved word ≡ false → event_in signals word ≡ Some event
-    → node_of signals word ≡ Ok (EventNode event)
+    → node_of_word signals word ≡ Ok (EventNode event)
 node_is signals word event slash reserved is = rw (slash, reserved) (ap (node_by word) is)
 
 module _ (signals : Declared) (k : ℕ) (distinct : AllPairs (λ a b. a ≢ b) signals.names) (inside : k < length signals.names)
@@ -118,7 +118,7 @@ module _ (signals : Declared) (k : ℕ) (distinct : AllPairs (λ a b. a ≢ b) s
       ∙ ap (λ (r : Option Role). event_by r (first_event signals.roles k) word) role_is
 
   signed_read : role ≡ Signal → (byte : ℕ) → is_slash byte ≡ false → is_reserved byte ≡ false → ((byte == 43) || (byte == 45)) ≡ true
-      → node_of signals (get_or signals.names k [] ++ byte ∷ []) ≡ Ok (EventNode (first_event signals.roles k + (if byte == 43 then 0 else 1)))
+      → node_of_word signals (get_or signals.names k [] ++ byte ∷ []) ≡ Ok (EventNode (first_event signals.roles k + (if byte == 43 then 0 else 1)))
   unfolding is_signed
   signed_read as_signal byte slash reserved signed =
       let name : List ℕ = get_or signals.names k [] in
@@ -134,7 +134,7 @@ module _ (signals : Declared) (k : ℕ) (distinct : AllPairs (λ a b. a ≢ b) s
       node_is signals word (first + (if byte == 43 then 0 else 1)) (none_more is_slash name byte no_slash slash) (none_more is_reserved name byte no_reserved reserved)
       (event ∙ (known ∙ ap (λ (n : ℕ). Some (first + n)) number))
 
-  dummy_read : role ≡ Dummy → node_of signals (get_or signals.names k []) ≡ Ok (EventNode (first_event signals.roles k))
+  dummy_read : role ≡ Dummy → node_of_word signals (get_or signals.names k []) ≡ Ok (EventNode (first_event signals.roles k))
   dummy_read as_dummy =
       let name : List ℕ = get_or signals.names k [] in
       let first : ℕ = first_event signals.roles k in
@@ -152,15 +152,15 @@ events_are_read signals v e distinct is free =
     read k role inside role_is named one
   where
     read : (k : ℕ) (role : Role) → k < length signals.names → slice_get signals.roles k ≡ Some role → is_signal (get_or signals.names k []) ≡ true
-        → IsEventOf role (first_event signals.roles k) (get_or signals.names k []) v e → node_of signals (event_text e) ≡ Ok (EventNode v)
+        → IsEventOf role (first_event signals.roles k) (get_or signals.names k []) v e → node_of_word signals (event_text e) ≡ Ok (EventNode v)
     read k Signal inside role_is named (inl (at_first, event)) =
-        ap (λ (x : Event). node_of signals (event_text x)) event ∙ (signed_read signals k distinct inside Signal role_is named refl 43 refl refl refl
+        ap (λ (x : Event). node_of_word signals (event_text x)) event ∙ (signed_read signals k distinct inside Signal role_is named refl 43 refl refl refl
         ∙ ap (λ (n : ℕ). Ok (EventNode n)) (let h : first_event signals.roles k + 0 ≡ v = omega (arith, at_first) in h))
     read k Signal inside role_is named (inr (at_next, event)) =
-        ap (λ (x : Event). node_of signals (event_text x)) event ∙ (signed_read signals k distinct inside Signal role_is named refl 45 refl refl refl
+        ap (λ (x : Event). node_of_word signals (event_text x)) event ∙ (signed_read signals k distinct inside Signal role_is named refl 45 refl refl refl
         ∙ ap (λ (n : ℕ). Ok (EventNode n)) (sym at_next))
     read k Dummy inside role_is named (at_first, event) =
-        ap (λ (x : Event). node_of signals (event_text x)) event ∙ (ap (node_of signals) (append-nil (get_or signals.names k []))
+        ap (λ (x : Event). node_of_word signals (event_text x)) event ∙ (ap (node_of_word signals) (append-nil (get_or signals.names k []))
         ∙ (dummy_read signals k distinct inside Dummy role_is named refl ∙ ap (λ (n : ℕ). Ok (EventNode n)) (sym at_first)))
 
 -- the digits of a number are no signs and stand in names

@@ -14,6 +14,6 @@ key_of (KeptNamed name) = Named name.now
 key_of (KeptBetween source target) = Between source target
 
 -- what a kept node stands for
-abbrev pub seen : KeptNode → Node
-seen (KeptEvent event) = EventNode event
-seen (KeptPlace name) = PlaceNode name.now
+abbrev pub node_seen : KeptNode → Node
+node_seen (KeptEvent event) = EventNode event
+node_seen (KeptPlace name) = PlaceNode name.now

@@ -3,11 +3,12 @@ use Rattle.std.specs.Prelude.{ℕ, Bool, true, false, not, List, [], ◌∷◌, 
 use Rattle.std.specs.Prelude.{Option, None, Some, Result, Ok, Err, ◌==◌, ◌||◌, ◌&&◌, nat_lt}
 use Rattle.std.specs.Prelude.{if◌then◌else◌}
 use Rattle.std.specs.Str.{bytes_eq}
+use Rattle.ds_lines.specs.Words.{word_at}
 use Rattle.ds_base.specs.Limit.{most_of}
 use Rattle.ds_base.specs.declared.number.Limit.TheVariants.{Signals as SignalsLimit}
 use Rattle.ds_names.specs.Names.{has_name}
 use Rattle.ds_lines.specs.Line.{Line}
-use Rattle.ds_astg.specs.Word.{word_at, first_byte, is_signal}
+use Rattle.ds_astg.specs.Word.{first_byte, is_signal}
 use Rattle.ds_astg.specs.Signals.{Declared, no_names, with_declared, role_of, may_have}
 use Rattle.ds_astg.specs.Place.{Places, no_places, has_place}
 use Rattle.ds_astg.specs.Place.Key.{Named}
@@ -48,8 +49,8 @@ is_declaration word = bytes_eq word (codes ".inputs")
     || (bytes_eq word (codes ".outputs") || bytes_eq word (codes ".internal"))
 
 -- what a line with this first word is
-unfoldable pub head_of : List ℕ → Head
-head_of word =
+unfoldable pub graph_head_of : List ℕ → Head
+graph_head_of word =
     if not (first_byte word == 46) then Body
     else (if is_declaration word then Signals
     else (if bytes_eq word (codes ".dummy") then Dummies
@@ -106,8 +107,8 @@ declaration_line role words state =
     (λ signals. Ok (with_signals state signals))
 
 -- with the graph part open
-abbrev pub opened : State → State
-opened state = record {
+abbrev pub with_graph_open : State → State
+with_graph_open state = record {
   is_named = state.is_named;
   is_open = true;
   is_marked = state.is_marked;
@@ -161,7 +162,7 @@ step_by Body line words state = body_line line words state
 step_by Model line words state = model_line words state
 step_by Signals line words state = declaration_line Signal words state
 step_by Dummies line words state = declaration_line Dummy words state
-step_by Graph line words state = Ok (opened state)
+step_by Graph line words state = Ok (with_graph_open state)
 step_by Marking line words state = marking_line words state
 step_by End line words state = Ok state
 step_by Unknown line words state = Err (Unsupported (word_at words 0))
@@ -172,4 +173,4 @@ step_line head line state = step_by head line.number line.words state
 
 -- what was read behind a line, or the line's fault
 abbrev pub step : Line → State → Result State AstgKind
-step line state = step_line (head_of (word_at line.words 0)) line state
+step line state = step_line (graph_head_of (word_at line.words 0)) line state

@@ -1,12 +1,12 @@
 -- A line of the graph part: a source, and its targets.
 use Rattle.std.specs.Prelude.{ℕ, Bool, true, List, Option, None, Some, Result, Ok, Err}
 use Rattle.std.specs.Prelude.{◌==◌, if◌then◌else◌, nat_lt, length, drop}
-use Rattle.ds_astg.specs.Word.{word_at}
+use Rattle.ds_lines.specs.Words.{word_at}
 use Rattle.ds_astg.specs.Turn.{then_do, all_of}
 use Rattle.ds_astg.specs.Signals.{Declared}
-use Rattle.ds_astg.specs.Node.{Node, node_of}
+use Rattle.ds_astg.specs.Node.{Node, node_of_word}
 use Rattle.ds_astg.specs.Node.Node.{Event as EventNode, Place as PlaceNode}
-use Rattle.ds_astg.specs.Place.{Places, named, between, number_of, place_at, with_place}
+use Rattle.ds_astg.specs.Place.{Places, named, between, number_of_place, place_at, with_place}
 use Rattle.ds_astg.specs.Place.{with_place_at}
 use Rattle.ds_astg.specs.Place.Key.{Named, Between}
 use Rattle.ds_astg.specs.declared.place.Place.{Place}
@@ -54,19 +54,20 @@ with_target k name event ps =
 abbrev pub into_place : ℕ → ℕ → List ℕ → Places → Result Places AstgKind
 into_place line event name ps =
     then_do (with_place (Named name) (named line) ps)
-    (λ all. with_source (number_of all (Named name)) name event all)
+    (λ all. with_source (number_of_place all (Named name)) name event all)
 
 -- a source has this target
 abbrev pub link : ℕ → Node → Node → Places → Result Places AstgKind
 link line (EventNode u) (EventNode v) ps = with_place (Between u v) (between line u v) ps
 link line (EventNode u) (PlaceNode name) ps = into_place line u name ps
-link line (PlaceNode name) (EventNode v) ps = with_target (number_of ps (Named name)) name v ps
+link line (PlaceNode name) (EventNode v) ps = with_target (number_of_place ps (Named name)) name v
+    ps
 link line (PlaceNode name) (PlaceNode other) ps = Err (NotMarkedGraph name)
 
 -- a source has this word as a target
 abbrev pub link_word : Declared → ℕ → Node → List ℕ → Places → Result Places AstgKind
 link_word signals line source word ps =
-    then_do (node_of signals word) (λ target. link line source target ps)
+    then_do (node_of_word signals word) (λ target. link line source target ps)
 
 -- a source has these words as targets
 abbrev pub link_words : Declared → ℕ → Node → List (List ℕ) → Places → Result Places AstgKind
@@ -86,4 +87,5 @@ source_line signals line words source ps =
 -- the places after a line of the graph part
 abbrev pub graph_line : Declared → ℕ → List (List ℕ) → Places → Result Places AstgKind
 graph_line signals line words ps =
-    then_do (node_of signals (word_at words 0)) (λ source. source_line signals line words source ps)
+    then_do (node_of_word signals (word_at words 0))
+    (λ source. source_line signals line words source ps)

@@ -4,10 +4,11 @@ use Rattle.std.specs.Prelude.{Some, Result, Ok, Err, ◌==◌, ◌&&◌, nat_lt,
 use Rattle.std.specs.Prelude.{if◌then◌else◌}
 use Rattle.std.specs.List.{list_all, position_or_len, before_first, after_first}
 use Rattle.std.specs.Char.{is_ascii_digit}
-use Rattle.ds_astg.specs.Word.{is_byte, word_at, first_byte, last_byte, without_last}
+use Rattle.ds_lines.specs.Words.{word_at}
+use Rattle.ds_astg.specs.Word.{is_byte, first_byte, last_byte, without_last}
 use Rattle.ds_astg.specs.Signals.{Declared}
 use Rattle.ds_astg.specs.Node.{event_in}
-use Rattle.ds_astg.specs.Place.{Places, Key, number_of, place_at, has_place, with_place_at}
+use Rattle.ds_astg.specs.Place.{Places, Key, number_of_place, place_at, has_place, with_place_at}
 use Rattle.ds_astg.specs.Place.Key.{Named, Between}
 use Rattle.ds_astg.specs.Turn.{all_of}
 use Rattle.ds_astg.specs.declared.place.Place.{Place}
@@ -29,8 +30,8 @@ number_in text =
     if is_number text && nat_lt (value_from 0 text) 256 then Some (value_from 0 text) else None
 
 -- the tokens of an entry: the number behind its `=`, which is 61, one where there is none
-abbrev pub tokens_of : List ℕ → Option ℕ
-tokens_of entry =
+abbrev pub tokens_of_entry : List ℕ → Option ℕ
+tokens_of_entry entry =
     if nat_lt (position_or_len (is_byte 61) entry) (length entry)
     then number_in (after_first (is_byte 61) entry)
     else Some 1
@@ -69,14 +70,14 @@ with_tokens place tokens = record {
 
 -- a place that stands before and has no entry yet
 abbrev pub is_unmarked : Places → Key → Bool
-is_unmarked ps key = has_place ps key && not (is_some (place_at ps (number_of ps key)).tokens)
+is_unmarked ps key = has_place ps key && not (is_some (place_at ps (number_of_place ps key)).tokens)
 
 -- an entry for a place
 abbrev pub mark_key : List ℕ → Key → ℕ → Places → Result Places AstgKind
 mark_key entry key tokens ps =
     if is_unmarked ps key
-    then Ok (with_place_at ps (number_of ps key)
-    (with_tokens (place_at ps (number_of ps key)) tokens))
+    then Ok (with_place_at ps (number_of_place ps key)
+    (with_tokens (place_at ps (number_of_place ps key)) tokens))
     else Err (BadMarking entry)
 
 -- an entry, by the place and the tokens for which it stands
@@ -89,7 +90,7 @@ mark_by entry (Some key) (Some tokens) ps = mark_key entry key tokens ps
 abbrev pub mark : Declared → List ℕ → Places → Result Places AstgKind
 mark signals entry ps =
     if length entry == 0 then Ok ps
-    else mark_by entry (key_in signals (place_text entry)) (tokens_of entry) ps
+    else mark_by entry (key_in signals (place_text entry)) (tokens_of_entry entry) ps
 
 -- the places with entries
 abbrev pub mark_all : Declared → List (List ℕ) → Places → Result Places AstgKind

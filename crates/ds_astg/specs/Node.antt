@@ -40,8 +40,8 @@ node_by word None = if is_signed word then Err (UnknownSignal word) else Ok (Pla
 node_by word (Some event) = Ok (Event event)
 
 -- what a word stands for, or its fault
-abbrev pub node_of : Declared → List ℕ → Result Node AstgKind
-node_of signals word =
+abbrev pub node_of_word : Declared → List ℕ → Result Node AstgKind
+node_of_word signals word =
     if has_slash word then Err (Instance word)
     else (if has_reserved word then Err (BadWord word)
     else node_by word (event_in signals word))

@@ -54,8 +54,8 @@ abbrev pub has_place : Places → Key → Bool
 has_place ps key = list_any (key_eq key) ps.keys
 
 -- the number of a place, the number of the places where it is not there
-abbrev pub number_of : Places → Key → ℕ
-number_of ps key = position_or_len (key_eq key) ps.keys
+abbrev pub number_of_place : Places → Key → ℕ
+number_of_place ps key = position_or_len (key_eq key) ps.keys
 
 -- the place with a number
 abbrev pub place_at : Places → ℕ → Place

@@ -2,15 +2,16 @@
 use Rattle.std.specs.Prelude.{ℕ, Bool, true, false, not, List, [], ◌∷◌, ◌++◌, Option, None}
 use Rattle.std.specs.Prelude.{Some, Result, Ok, Err, ◌==◌, ◌&&◌, ◌||◌, nat_lt, nat_le, is_some, map}
 use Rattle.std.specs.Prelude.{if◌then◌else◌}
+use Rattle.ds_lines.specs.First.{unless_fault}
+use Rattle.ds_lines.specs.Words.{word_at}
 use Rattle.ds_lines.specs.Line.{Line}
 use Rattle.ds_marked.specs.Graph.{Graph}
 use Rattle.ds_marked.specs.declared.marked.Arc.{Arc}
 use Rattle.ds_marked.specs.declared.marked.Event.{Event}
 use Rattle.ds_marked.specs.declared.marked.Kind.TheVariants.{Rise, Fall, Dummy as DummyKind}
-use Rattle.ds_astg.specs.Word.{word_at}
 use Rattle.ds_astg.specs.Signals.{Declared}
 use Rattle.ds_astg.specs.Place.{Places, Key, name_of}
-use Rattle.ds_astg.specs.Line.{State, start, step, head_of}
+use Rattle.ds_astg.specs.Line.{State, start, step, graph_head_of}
 use Rattle.ds_astg.specs.declared.head.Head.{Head}
 use Rattle.ds_astg.specs.declared.head.Head.TheVariants.{End}
 use Rattle.ds_astg.specs.declared.role.Role.{Role}
@@ -26,13 +27,14 @@ ends End = true
 ends head = false
 
 -- both events of a signal
-abbrev pub events_of : List ℕ → List Event
-events_of signal = record { signal = signal; kind = Rise } ∷ record { signal = signal; kind = Fall }
+abbrev pub events_of_signal : List ℕ → List Event
+events_of_signal signal = record { signal = signal; kind = Rise }
+    ∷ record { signal = signal; kind = Fall }
     ∷ []
 
 -- the events of a name that is declared as such
 abbrev pub named_events : Role → List ℕ → List Event
-named_events Signal name = events_of name
+named_events Signal name = events_of_signal name
 named_events Dummy name = record { signal = name; kind = DummyKind } ∷ []
 
 -- the events of names, one name after another
@@ -90,11 +92,6 @@ graph_of_parts signals ps = record {
   arcs = in_order (map arc_of ps.places);
 }
 
--- what was read, unless there is a fault
-abbrev pub unless_fault : Option AstgFault → Graph → Result Graph AstgFault
-unless_fault None graph = Ok graph
-unless_fault (Some fault) graph = Err fault
-
 -- what all lines stand for, if these are all
 abbrev pub end_of : State → Result Graph AstgFault
 end_of state = unless_fault (lacking state.places.keys state.places.places)
@@ -110,9 +107,9 @@ behind line (Err kind) rest = Err (record { line = line; kind = kind })
 abbrev pub graph_from : List Line → State → Result Graph AstgFault
 graph_from [] state = end_of state
 graph_from (line ∷ lines) state =
-    if ends (head_of (word_at line.words 0)) then end_of state
+    if ends (graph_head_of (word_at line.words 0)) then end_of state
     else behind line.number (step line state) (graph_from lines)
 
 -- what lines stand for
-abbrev pub graph_of : List Line → Result Graph AstgFault
-graph_of lines = graph_from lines start
+abbrev pub graph_of_lines : List Line → Result Graph AstgFault
+graph_of_lines lines = graph_from lines start

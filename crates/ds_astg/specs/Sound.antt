@@ -16,6 +16,6 @@ pub record ArePlaces (events : ℕ) (ps : Places) : Type 0 where
   pub ends : All (HasEnds events) ps.places
 
 -- each name is declared as something, and the ends of places are events of the names
-pub record IsSound (state : State) : Type 0 where
+pub record IsStateSound (state : State) : Type 0 where
   pub each : length state.signals.names ≡ length state.signals.roles
   pub places : ArePlaces (count_events state.signals.roles) state.places

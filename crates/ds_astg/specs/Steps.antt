@@ -9,25 +9,21 @@ use Rattle.ds_astg.specs.declared.fault.AstgFault.{AstgFault}
 use Rattle.ds_astg.specs.declared.fault.AstgRefusal.{AstgRefusal}
 use Rattle.ds_astg.specs.declared.fault.AstgRefusal.TheVariants.{Memory as NoMemory, Fault}
 
--- what references to words point to
-abbrev pub texts : List (Bor (List ℕ)) → List (List ℕ)
-texts words = map (λ w. w.now) words
-
 -- a refusal is the fault that is defined, unless memory was wanted
-abbrev pub IsKind : {A : Type 0} → Refusal → Result A AstgKind → Type 0
-IsKind Memory defined = Unit {0}
-IsKind (Because kind) defined = defined ≡ Err kind
+abbrev pub IsGraphKind : {A : Type 0} → Refusal → Result A AstgKind → Type 0
+IsGraphKind Memory defined = Unit {0}
+IsGraphKind (Because kind) defined = defined ≡ Err kind
 
 -- a refusal for this, unless memory was wanted
-abbrev pub IsRefusal : AstgKind → Result (Unit {0}) Refusal → Type 0
-IsRefusal kind (Ok done) = ⊥
-IsRefusal kind (Err Memory) = Unit {0}
-IsRefusal kind (Err (Because other)) = other ≡ kind
+abbrev pub IsGraphRefusal : AstgKind → Result (Unit {0}) Refusal → Type 0
+IsGraphRefusal kind (Ok done) = ⊥
+IsGraphRefusal kind (Err Memory) = Unit {0}
+IsGraphRefusal kind (Err (Because other)) = other ≡ kind
 
 -- a refusal of a text is its first fault, unless memory was wanted
-abbrev pub IsFirst : AstgRefusal → Result Graph AstgFault → Type 0
-IsFirst NoMemory defined = Unit {0}
-IsFirst (Fault fault) defined = defined ≡ Err fault
+abbrev pub IsFirstGraphFault : AstgRefusal → Result Graph AstgFault → Type 0
+IsFirstGraphFault NoMemory defined = Unit {0}
+IsFirstGraphFault (Fault fault) defined = defined ≡ Err fault
 
 -- a refusal of a text is the fault of the line with this number, unless memory was wanted
 abbrev pub IsLineFault : {A : Type 0} → ℕ → Result A AstgKind → AstgRefusal → Type 0
@@ -35,6 +31,6 @@ IsLineFault line defined NoMemory = Unit {0}
 IsLineFault line defined (Fault fault) = (fault.line ≡ line) × (defined ≡ Err fault.kind)
 
 -- an answer is what is defined, unless memory was wanted
-abbrev pub Reads : Result Graph AstgRefusal → Result Graph AstgFault → Type 0
-Reads (Ok graph) defined = defined ≡ Ok graph
-Reads (Err refusal) defined = IsFirst refusal defined
+abbrev pub ReadsGraph : Result Graph AstgRefusal → Result Graph AstgFault → Type 0
+ReadsGraph (Ok graph) defined = defined ≡ Ok graph
+ReadsGraph (Err refusal) defined = IsFirstGraphFault refusal defined

@@ -4,10 +4,6 @@ use Rattle.std.specs.Prelude.{◌==◌, ◌&&◌, ◌||◌, slice_index_or}
 use Rattle.std.specs.Prelude.{if◌then◌else◌}
 use Rattle.std.specs.List.{list_any}
 
--- the word at a place, empty where there is none
-abbrev pub word_at : List (List ℕ) → ℕ → List ℕ
-word_at words k = slice_index_or words k []
-
 -- a byte is this one
 abbrev pub is_byte : ℕ → ℕ → Bool
 is_byte wanted byte = byte == wanted

@@ -3,12 +3,12 @@ use Rattle.std.specs.Prelude.{◌≡◌, ◌≢◌, ℕ, zero, suc, ◌<◌, ◌
 use Rattle.std.specs.Prelude.{codes, All, AllPairs, Ok, ltb, ◌==◌, take, drop, if◌then◌else◌}
 use Rattle.std.specs.List.{flat_map, AllByRecursion}
 use Rattle.ds_lines.specs.Line.{lines_of}
-use Rattle.ds_lines.specs.Print.{numbered, IsPlain}
+use Rattle.ds_lines.specs.Print.{numbered_lines, IsPlain}
 use Rattle.ds_marked.specs.Graph.{Graph, IsKept}
 use Rattle.ds_astg.specs.Word.{first_byte, is_signal}
 use Rattle.ds_marked.specs.Log.{text_of_event}
 use Rattle.ds_astg.specs.Text.{arc_at, is_further, place_name, entry_name, tokens_text, graph_text}
-use Rattle.ds_astg.specs.Read.{events_of, graph_of}
+use Rattle.ds_astg.specs.Read.{events_of_signal, graph_of_lines}
 
 -- the lists of the numbers below a count, one after another
 abbrev pub lists_below : {X : Type 0} → (ℕ → List X) → ℕ → List X
@@ -65,7 +65,7 @@ graph_words name own signals g =
 
 -- a graph of signals that the reader takes, within its limits
 pub record IsReadable (signals : List (List ℕ)) (g : Graph) : Type 0 where
-  pub events : g.events ≡ flat_map events_of signals
+  pub events : g.events ≡ flat_map events_of_signal signals
   pub distinct : AllPairs (λ a b. a ≢ b) signals
   pub names : All (λ signal. is_signal signal ≡ true) signals
   pub undotted : All (λ signal. first_byte signal ≢ 46) signals
@@ -78,10 +78,11 @@ pub record IsReadable (signals : List (List ℕ)) (g : Graph) : Type 0 where
 -- the lines that a graph is written as stand for it, however many signals are its own
 abbrev pub WrittenIsRead : Type 0
 WrittenIsRead = (name : List ℕ) (own : ℕ) (signals : List (List ℕ)) (g : Graph)
-    → IsReadable signals g → graph_of (numbered 1 (graph_words name own signals g)) ≡ Ok g
+    → IsReadable signals g → graph_of_lines (numbered_lines 1 (graph_words name own signals g))
+    ≡ Ok g
 
 -- the text that a graph is written as stands for it, where its lines are such as are printed
 abbrev pub WrittenTextIsRead : Type 0
 WrittenTextIsRead = (name : List ℕ) (own : ℕ) (signals : List (List ℕ)) (g : Graph)
     → IsReadable signals g → AllByRecursion IsPlain (graph_words name own signals g)
-    → graph_of (lines_of (graph_text name own g)) ≡ Ok g
+    → graph_of_lines (lines_of (graph_text name own g)) ≡ Ok g

@@ -4,8 +4,8 @@ ghost use Rattle.ds_astg.specs.Signals.{count_events};
 ghost use Rattle.ds_astg.specs.Read.{all_events, arc_of as arc_in, end_of, named_events};
 ghost use Rattle.ds_astg.specs.Read.{graph_of_parts, or_zero as or_zero_in};
 ghost use Rattle.ds_astg.specs.Read.{lacking as lacking_in, lacks as lacks_in};
-ghost use Rattle.ds_astg.specs.Sound.{ArePlaces, IsSound};
-ghost use Rattle.ds_astg.specs.Steps.{Reads};
+ghost use Rattle.ds_astg.specs.Sound.{ArePlaces, IsStateSound};
+ghost use Rattle.ds_astg.specs.Steps.{ReadsGraph};
 
 use crate::fault::{AstgFault, AstgKind, AstgRefusal};
 use crate::place::Place;
@@ -20,8 +20,8 @@ use std::alloc::{AllocError, Global};
 
 /// The graph of what was read, where each place has a source and a target.
 pub fn graph_of(alloc: Global, state: &State<'_>) -> Result<Marked, AstgRefusal>
-    requires { IsSound state.now }
-    ensures { Reads result (end_of state.now) }
+    requires { IsStateSound state.now }
+    ensures { ReadsGraph result (end_of state.now) }
 {
     match lacking(alloc, &state.places) {
         Err(_) => return Err(AstgRefusal::Memory),

@@ -1,6 +1,6 @@
 //! What a line is.
 ghost use Rattle.std.specs.Prelude.{◌≡◌};
-ghost use Rattle.ds_astg.specs.Line.{head_of as head_in, is_declaration as declares};
+ghost use Rattle.ds_astg.specs.Line.{graph_head_of as head_in, is_declaration as declares};
 ghost use Rattle.ds_astg.specs.Read.{ends as ends_in};
 ghost use Rattle.std.specs.Str.{bytes_eq};
 
@@ -28,7 +28,7 @@ pub enum Head {
 }
 
 /// What a line with this first word is.
-#[tactic(auto, unfolding(crate::specs::Line::head_of))]
+#[tactic(auto, unfolding(crate::specs::Line::graph_head_of))]
 pub fn head_of(word: &[u8]) -> Head
     ensures { result ≡ head_in word.now }
 {

@@ -1,7 +1,7 @@
 //! Laws of the definitions, each the contract of a function that does nothing.
 ghost use Rattle.ds_astg.specs.Laws.{EndsAreRead, EventsAreRead, PlacesAreRead, TokensAreRead};
 ghost use Rattle.ds_astg.specs.Written.{WrittenIsRead, WrittenTextIsRead};
-ghost use Rattle.ds_astg.specs.Worked.{FaultsAreWorked, GraphsAreWorked, ToggleIsWorked};
+ghost use Rattle.ds_astg.specs.Worked.{GraphFaultsAreWorked, GraphsAreWorked, ToggleIsWorked};
 
 /// The toggle's graph as it is written stands for its graph.
 pub fn toggle_is_worked()
@@ -15,7 +15,7 @@ pub fn graphs_are_worked()
 
 /// Texts with each kind of fault, worked by hand.
 pub fn faults_are_worked()
-    ensures { FaultsAreWorked }
+    ensures { GraphFaultsAreWorked }
 {}
 
 /// A signal with a sign, as it is written, is read as its event.

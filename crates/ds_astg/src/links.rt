@@ -1,11 +1,12 @@
 //! A line of the graph part.
 ghost use Rattle.std.specs.Prelude.{◌≡◌, ◌<◌, length, Ok, IfErr, OnOk, drop};
+ghost use Rattle.ds_lines.specs.Words.{texts};
 ghost use Rattle.ds_astg.specs.Links.{link as link_in, link_word as link_word_in};
 ghost use Rattle.ds_astg.specs.Links.{link_words as link_words_in, into_place as into_place_in};
 ghost use Rattle.ds_astg.specs.Links.{with_node as with_node_in, with_source as with_source_in};
 ghost use Rattle.ds_astg.specs.Links.{with_target as with_target_in, graph_line as graph_line_in};
-ghost use Rattle.ds_astg.specs.Keys.{seen};
-ghost use Rattle.ds_astg.specs.Steps.{IsKind, IsRefusal, texts};
+ghost use Rattle.ds_astg.specs.Keys.{node_seen};
+ghost use Rattle.ds_astg.specs.Steps.{IsGraphKind, IsGraphRefusal};
 ghost use Rattle.ds_astg.specs.declared.fault.AstgKind.TheVariants.{NotMarkedGraph};
 
 use crate::fault::{AstgKind, Refusal};
@@ -16,6 +17,20 @@ use crate::places::Places;
 use crate::signals::Signals;
 use crate::word::{name, word};
 use std::alloc::Global;
+
+// A source, and the number of its line.
+#[derive(Clone, Copy)]
+struct Source<'a> {
+    line: u64,
+    node: Node<'a>,
+}
+
+// A place by its number, and its name.
+#[derive(Clone, Copy)]
+struct Numbered<'a> {
+    number: usize,
+    name: &'a [u8],
+}
 
 /// Reads a line of the graph part: a source, and its targets.
 pub fn graph_line<'a>(
@@ -29,23 +44,23 @@ pub fn graph_line<'a>(
     ensures ok { OnOk result
         (graph_line_in signals.now line (texts words.now) places.old ≡ Ok places.new) }
     ensures fault { IfErr result
-        (λ e. IsKind e (graph_line_in signals.now line (texts words.now) places.old)) }
+        (λ e. IsGraphKind e (graph_line_in signals.now line (texts words.now) places.old)) }
 {
     let first = word(words, 0);
-    let source = node_of(alloc, signals, first)?;
+    let node = node_of(alloc, signals, first)?;
     if words.len() < 2 {
         return Err(Refusal::Because(AstgKind::BadWord(name(alloc, first)?)));
     }
-    with_node(places, line, source)?;
-    link_words(alloc, signals, places, line, source, words)
+    with_node(places, line, node)?;
+    link_words(alloc, signals, places, Source { line, node }, words)
 }
 
 // From here on a source stands there.
 fn with_node<'a>(places: &mut Places<'a>, line: u64, source: Node<'a>) -> Result<(), Refusal>
     ensures ok { OnOk result
-        (with_node_in line (seen source.entry) places.old ≡ Ok places.new) }
+        (with_node_in line (node_seen source.entry) places.old ≡ Ok places.new) }
     ensures fault { IfErr result
-        (λ e. IsKind e (with_node_in line (seen source.entry) places.old)) }
+        (λ e. IsGraphKind e (with_node_in line (node_seen source.entry) places.old)) }
 {
     match source {
         Node::Event(_) => Ok(()),
@@ -58,20 +73,20 @@ fn link_words<'a>(
     alloc: Global,
     signals: &Signals<'a>,
     places: &mut Places<'a>,
-    line: u64,
-    source: Node<'a>,
+    source: Source<'a>,
     words: &[&'a [u8]],
 ) -> Result<(), Refusal>
     requires { 0 < length words.now }
     ensures ok { OnOk result
-        (link_words_in signals.now line (seen source.entry) (drop 1 (texts words.now)) places.old
-        ≡ Ok places.new) }
+        (link_words_in signals.now source.entry.line (node_seen source.entry.node)
+        (drop 1 (texts words.now)) places.old ≡ Ok places.new) }
     ensures fault { IfErr result
-        (λ e. IsKind e (link_words_in signals.now line (seen source.entry)
+        (λ e. IsGraphKind e (link_words_in signals.now source.entry.line
+        (node_seen source.entry.node)
         (drop 1 (texts words.now)) places.old)) }
 {
     for i in 1..words.len() {
-        link_word(alloc, signals, places, line, source, word(words, i))?;
+        link_word(alloc, signals, places, source, word(words, i))?;
     }
     Ok(())
 }
@@ -81,43 +96,51 @@ fn link_word<'a>(
     alloc: Global,
     signals: &Signals<'a>,
     places: &mut Places<'a>,
-    line: u64,
-    source: Node<'a>,
+    source: Source<'a>,
     word: &'a [u8],
 ) -> Result<(), Refusal>
     ensures ok { OnOk result
-        (link_word_in signals.now line (seen source.entry) word.now places.old ≡ Ok places.new) }
+        (link_word_in signals.now source.entry.line (node_seen source.entry.node) word.now
+        places.old
+        ≡ Ok places.new) }
     ensures fault { IfErr result
-        (λ e. IsKind e (link_word_in signals.now line (seen source.entry) word.now places.old)) }
+        (λ e. IsGraphKind e (link_word_in signals.now source.entry.line
+        (node_seen source.entry.node)
+        word.now places.old)) }
 {
     let target = node_of(alloc, signals, word)?;
-    link(alloc, places, line, source, target)
+    link(alloc, places, source, target)
 }
 
 // A source has a target.
 fn link<'a>(
     alloc: Global,
     places: &mut Places<'a>,
-    line: u64,
-    source: Node<'a>,
+    source: Source<'a>,
     target: Node<'a>,
 ) -> Result<(), Refusal>
     ensures ok { OnOk result
-        (link_in line (seen source.entry) (seen target.entry) places.old ≡ Ok places.new) }
+        (link_in source.entry.line (node_seen source.entry.node) (node_seen target.entry) places.old
+        ≡ Ok places.new) }
     ensures fault { IfErr result
-        (λ e. IsKind e (link_in line (seen source.entry) (seen target.entry) places.old)) }
+        (λ e. IsGraphKind e (link_in source.entry.line (node_seen source.entry.node)
+        (node_seen target.entry)
+        places.old)) }
 {
-    match source {
+    match source.node {
         Node::Event(from) => match target {
-            Node::Event(to) => places.add(Key::Between(from, to), Place::between(line, from, to)),
-            Node::Place(name) => into_place(alloc, places, line, from, name),
-        },
-        Node::Place(place) => match target {
             Node::Event(to) => {
-                let number = places.number(Key::Named(place));
-                with_target(alloc, places, number, place, to)
+                let place = Place::between(source.line, from, to);
+                places.add(Key::Between(from, to), place)
             }
-            Node::Place(_) => not_marked(alloc, place),
+            Node::Place(name) => into_place(alloc, places, source.line, from, name),
+        },
+        Node::Place(name) => match target {
+            Node::Event(to) => {
+                let number = places.number(Key::Named(name));
+                with_target(alloc, places, Numbered { number, name }, to)
+            }
+            Node::Place(_) => not_marked(alloc, name),
         },
     }
 }
@@ -131,30 +154,32 @@ fn into_place<'a>(
     name: &'a [u8],
 ) -> Result<(), Refusal>
     ensures ok { OnOk result (into_place_in line event name.now places.old ≡ Ok places.new) }
-    ensures fault { IfErr result (λ e. IsKind e (into_place_in line event name.now places.old)) }
+    ensures fault { IfErr result (λ e. IsGraphKind e
+        (into_place_in line event name.now places.old)) }
 {
     places.add(Key::Named(name), Place::named(line))?;
     let number = places.number(Key::Named(name));
-    with_source(alloc, places, number, name, event)
+    with_source(alloc, places, Numbered { number, name }, event)
 }
 
 // The place with a number and a name has this source, and no other.
 fn with_source(
     alloc: Global,
     places: &mut Places<'_>,
-    number: usize,
-    name: &[u8],
+    named: Numbered<'_>,
     event: u32,
 ) -> Result<(), Refusal>
-    ensures ok { OnOk result (with_source_in number name.now event places.old ≡ Ok places.new) }
+    ensures ok { OnOk result (with_source_in named.entry.number named.entry.name.now event
+        places.old ≡ Ok places.new) }
     ensures fault { IfErr result
-        (λ e. IsKind e (with_source_in number name.now event places.old)) }
+        (λ e. IsGraphKind e (with_source_in named.entry.number named.entry.name.now event
+        places.old)) }
 {
-    let place = places.place(number);
+    let place = places.place(named.number);
     if !may_be(place.source, event) {
-        return not_marked(alloc, name);
+        return not_marked(alloc, named.name);
     }
-    places.set(number, place.from_event(event));
+    places.set(named.number, place.from_event(event));
     Ok(())
 }
 
@@ -162,25 +187,26 @@ fn with_source(
 fn with_target(
     alloc: Global,
     places: &mut Places<'_>,
-    number: usize,
-    name: &[u8],
+    named: Numbered<'_>,
     event: u32,
 ) -> Result<(), Refusal>
-    ensures ok { OnOk result (with_target_in number name.now event places.old ≡ Ok places.new) }
+    ensures ok { OnOk result (with_target_in named.entry.number named.entry.name.now event
+        places.old ≡ Ok places.new) }
     ensures fault { IfErr result
-        (λ e. IsKind e (with_target_in number name.now event places.old)) }
+        (λ e. IsGraphKind e (with_target_in named.entry.number named.entry.name.now event
+        places.old)) }
 {
-    let place = places.place(number);
+    let place = places.place(named.number);
     if !may_be(place.target, event) {
-        return not_marked(alloc, name);
+        return not_marked(alloc, named.name);
     }
-    places.set(number, place.to_event(event));
+    places.set(named.number, place.to_event(event));
     Ok(())
 }
 
 // A place is none of a marked graph.
 fn not_marked(alloc: Global, word: &[u8]) -> Result<(), Refusal>
-    ensures { IsRefusal (NotMarkedGraph word.now) result }
+    ensures { IsGraphRefusal (NotMarkedGraph word.now) result }
 {
     Err(Refusal::Because(AstgKind::NotMarkedGraph(name(alloc, word)?)))
 }

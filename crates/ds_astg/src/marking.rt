@@ -1,11 +1,12 @@
 //! The marking: entries between braces.
 ghost use Rattle.std.specs.Prelude.{◌≡◌, Ok, IfErr, IfOk, OnOk, drop, option_map};
+ghost use Rattle.ds_lines.specs.Words.{texts};
 ghost use Rattle.ds_astg.specs.Marking.{closed as closed_in, entries_of as entries_in};
 ghost use Rattle.ds_astg.specs.Marking.{is_unmarked as is_unmarked_in};
 ghost use Rattle.ds_astg.specs.Marking.{mark as mark_in, mark_all as mark_all_in};
 ghost use Rattle.ds_astg.specs.Marking.{mark_key as mark_key_in};
 ghost use Rattle.ds_astg.specs.Keys.{key_of};
-ghost use Rattle.ds_astg.specs.Steps.{IsKind, IsRefusal, texts};
+ghost use Rattle.ds_astg.specs.Steps.{IsGraphKind, IsGraphRefusal};
 ghost use Rattle.ds_astg.specs.declared.fault.AstgKind.TheVariants.{BadMarking};
 
 use crate::entry_key::key_in;
@@ -27,7 +28,7 @@ pub fn mark_all<'a>(
     ensures ok { OnOk result
         (mark_all_in signals.now (texts entries.now) places.old ≡ Ok places.new) }
     ensures fault { IfErr result
-        (λ e. IsKind e (mark_all_in signals.now (texts entries.now) places.old)) }
+        (λ e. IsGraphKind e (mark_all_in signals.now (texts entries.now) places.old)) }
 {
     for i in 0..entries.len() {
         mark(alloc, signals, places, word(entries, i))?;
@@ -43,7 +44,7 @@ fn mark<'a>(
     entry: &'a [u8],
 ) -> Result<(), Refusal>
     ensures ok { OnOk result (mark_in signals.now entry.now places.old ≡ Ok places.new) }
-    ensures fault { IfErr result (λ e. IsKind e (mark_in signals.now entry.now places.old)) }
+    ensures fault { IfErr result (λ e. IsGraphKind e (mark_in signals.now entry.now places.old)) }
 {
     if entry.len() == 0 {
         return Ok(());
@@ -68,7 +69,7 @@ fn mark_key<'a>(
     ensures ok { OnOk result
         (mark_key_in entry.now (key_of key.entry) tokens places.old ≡ Ok places.new) }
     ensures fault { IfErr result
-        (λ e. IsKind e (mark_key_in entry.now (key_of key.entry) tokens places.old)) }
+        (λ e. IsGraphKind e (mark_key_in entry.now (key_of key.entry) tokens places.old)) }
 {
     if !is_unmarked(places, key) {
         return bad_marking(alloc, entry);
@@ -88,7 +89,7 @@ fn is_unmarked<'a>(places: &Places<'a>, key: Key<'a>) -> bool
 
 /// An entry that is none.
 pub fn bad_marking(alloc: Global, word: &[u8]) -> Result<(), Refusal>
-    ensures { IsRefusal (BadMarking word.now) result }
+    ensures { IsGraphRefusal (BadMarking word.now) result }
 {
     Err(Refusal::Because(AstgKind::BadMarking(name(alloc, word)?)))
 }

@@ -1,8 +1,8 @@
 //! What a word of the graph part stands for.
 ghost use Rattle.std.specs.Prelude.{◌≡◌, Ok, MatchResult};
-ghost use Rattle.ds_astg.specs.Node.{node_of as node_in};
-ghost use Rattle.ds_astg.specs.Keys.{seen};
-ghost use Rattle.ds_astg.specs.Steps.{IsKind};
+ghost use Rattle.ds_astg.specs.Node.{node_of_word as node_in};
+ghost use Rattle.ds_astg.specs.Keys.{node_seen};
+ghost use Rattle.ds_astg.specs.Steps.{IsGraphKind};
 
 use crate::fault::{AstgKind, Refusal};
 use crate::signals::Signals;
@@ -23,8 +23,8 @@ pub fn node_of<'a>(
     word: &'a [u8],
 ) -> Result<Node<'a>, Refusal>
     ensures { MatchResult result
-        (λ n. node_in signals.now word.now ≡ Ok (seen n))
-        (λ e. IsKind e (node_in signals.now word.now)) }
+        (λ n. node_in signals.now word.now ≡ Ok (node_seen n))
+        (λ e. IsGraphKind e (node_in signals.now word.now)) }
 {
     if has_slash(word) {
         return Err(Refusal::Because(AstgKind::Instance(name(alloc, word)?)));

@@ -1,9 +1,10 @@
 //! The places of a graph text.
 ghost use Rattle.std.specs.Prelude.{◌≡◌, ◌<◌, ◌≤◌, [], length, Ok, IfErr, IfOk, OnOk};
 ghost use Rattle.ds_astg.specs.Keys.{key_of};
-ghost use Rattle.ds_astg.specs.Place.{Places as Kept, has_place, name_at, no_places, number_of};
+ghost use Rattle.ds_astg.specs.Place.{Places as Kept, has_place, name_at, no_places};
+ghost use Rattle.ds_astg.specs.Place.{number_of_place};
 ghost use Rattle.ds_astg.specs.Place.{with_place, place_at, with_place_at};
-ghost use Rattle.ds_astg.specs.Steps.{IsKind};
+ghost use Rattle.ds_astg.specs.Steps.{IsGraphKind};
 
 use crate::fault::{AstgKind, Refusal};
 use crate::key::{Key, name_of};
@@ -83,7 +84,7 @@ impl<'a> Places<'a> {
 
     /// The number of a place, how many there are where it is not there.
     pub fn number(&self, key: Key<'a>) -> usize
-        ensures value { result ≡ number_of self.now (key_of key.entry) }
+        ensures value { result ≡ number_of_place self.now (key_of key.entry) }
         ensures within { result ≤ length self.now.keys }
     {
         match self.keys.get_index_of(&key) {
@@ -116,7 +117,7 @@ impl<'a> Places<'a> {
     pub fn add(&mut self, key: Key<'a>, place: Place) -> Result<(), Refusal>
         ensures ok { OnOk result (with_place (key_of key.entry) place self.old ≡ Ok self.new) }
         ensures fault { IfErr result
-            (λ e. IsKind e (with_place (key_of key.entry) place self.old)) }
+            (λ e. IsGraphKind e (with_place (key_of key.entry) place self.old)) }
     {
         if self.has(key) {
             return Ok(());

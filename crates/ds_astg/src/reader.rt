@@ -2,8 +2,8 @@
 ghost use Rattle.std.specs.Prelude.{◌≡◌, ◌<◌, length, Ok, IfErr, OnOk};
 ghost use Rattle.ds_lines.specs.Line.{line_or_none};
 ghost use Rattle.ds_astg.specs.Line.{step_line};
-ghost use Rattle.ds_astg.specs.Read.{graph_of as graph_in};
-ghost use Rattle.ds_astg.specs.Steps.{IsLineFault, Reads};
+ghost use Rattle.ds_astg.specs.Read.{graph_of_lines as graph_in};
+ghost use Rattle.ds_astg.specs.Steps.{IsLineFault, ReadsGraph};
 
 use crate::fault::{AstgFault, AstgRefusal, Refusal};
 use crate::graph::graph_of;
@@ -17,7 +17,7 @@ use std::alloc::Global;
 /// The graph for which the lines stand, or their first fault: the first faulty line, its words from
 /// left to right. Without a faulty line it is the first place that lacks a source or a target.
 pub fn read<'a>(alloc: Global, lines: &Lines<'a>) -> Result<Marked, AstgRefusal>
-    ensures { Reads result (graph_in lines.now) }
+    ensures { ReadsGraph result (graph_in lines.now) }
 {
     let mut state: State<'a> = State::new(alloc);
     for i in 0..lines.count() {

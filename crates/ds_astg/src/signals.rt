@@ -1,13 +1,13 @@
 //! The signals of a graph text, and dummies among them.
 ghost use Rattle.std.specs.Prelude.{◌≡◌, ◌≢◌, ◌<◌, ◌≤◌, length, false, Ok, Some};
 ghost use Rattle.std.specs.Prelude.{IfErr, IfOk, IfSome, OnOk, AllPairs, option_map, slice_get};
+ghost use Rattle.ds_lines.specs.Words.{texts, word_at};
 ghost use Rattle.ds_astg.specs.Signals.{no_names, role_of, with_declared, may_have as may_have_in};
 ghost use Rattle.ds_astg.specs.Line.{declare as declare_in, declare_all as declare_words};
 ghost use Rattle.ds_astg.specs.Line.{may_declare as may_declare_in};
 ghost use Rattle.ds_astg.specs.Node.{event_in, first_number};
 ghost use Rattle.ds_names.specs.Names.{has_name};
-ghost use Rattle.ds_astg.specs.Word.{word_at};
-ghost use Rattle.ds_astg.specs.Steps.{IsKind, texts};
+ghost use Rattle.ds_astg.specs.Steps.{IsGraphKind};
 
 use crate::declaration::Declaration;
 use crate::fault::{AstgKind, Refusal};
@@ -97,7 +97,7 @@ impl<'a> Signals<'a> {
         ensures ok { OnOk result
             (declare_words role places.now (texts words.now) self.old ≡ Ok self.new) }
         ensures fault { IfErr result
-            (λ e. IsKind e (declare_words role places.now (texts words.now) self.old)) }
+            (λ e. IsGraphKind e (declare_words role places.now (texts words.now) self.old)) }
     {
         for i in 0..words.len() {
             self.declare(alloc, role, places, word(words, i))?;
@@ -115,7 +115,7 @@ impl<'a> Signals<'a> {
     ) -> Result<(), Refusal>
         ensures ok { OnOk result (declare_in role places.now word.now self.old ≡ Ok self.new) }
         ensures fault { IfErr result
-            (λ e. IsKind e (declare_in role places.now word.now self.old)) }
+            (λ e. IsGraphKind e (declare_in role places.now word.now self.old)) }
     {
         if !self.may_declare(role, places, word) {
             return Err(Refusal::Because(AstgKind::BadWord(name(alloc, word)?)));

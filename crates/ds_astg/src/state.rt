@@ -1,10 +1,11 @@
 //! What was read of a graph text.
 ghost use Rattle.std.specs.Prelude.{◌≡◌, ◌<◌, length, Ok, IfErr, OnOk};
+ghost use Rattle.ds_lines.specs.Words.{texts};
 ghost use Rattle.ds_astg.specs.Line.{State as Known, start, model_line as model_line_in};
 ghost use Rattle.ds_astg.specs.Line.{declaration_line as declaration_line_in};
 ghost use Rattle.ds_astg.specs.Line.{body_line as body_line_in, marking_line as marking_line_in};
 ghost use Rattle.ds_astg.specs.Line.{step_by};
-ghost use Rattle.ds_astg.specs.Steps.{IsKind, IsRefusal, texts};
+ghost use Rattle.ds_astg.specs.Steps.{IsGraphKind, IsGraphRefusal};
 ghost use Rattle.ds_astg.specs.declared.fault.AstgKind.TheVariants.{BadWord};
 
 use crate::fault::{AstgKind, Refusal};
@@ -67,7 +68,7 @@ impl<'a> State<'a> {
         requires { 0 < length words.now }
         ensures ok { OnOk result (step_by head line (texts words.now) self.old ≡ Ok self.new) }
         ensures fault { IfErr result
-            (λ e. IsKind e (step_by head line (texts words.now) self.old)) }
+            (λ e. IsGraphKind e (step_by head line (texts words.now) self.old)) }
     {
         match head {
             Head::Body => self.body_line(alloc, line, words),
@@ -92,7 +93,7 @@ impl<'a> State<'a> {
         requires { 0 < length words.now }
         ensures ok { OnOk result (body_line_in line (texts words.now) self.old ≡ Ok self.new) }
         ensures fault { IfErr result
-            (λ e. IsKind e (body_line_in line (texts words.now) self.old)) }
+            (λ e. IsGraphKind e (body_line_in line (texts words.now) self.old)) }
     {
         if !self.is_open {
             return bad_word(alloc, word(words, 0));
@@ -105,7 +106,8 @@ impl<'a> State<'a> {
     fn model_line(&mut self, alloc: Global, words: &[&'a [u8]]) -> Result<(), Refusal>
         requires { 0 < length words.now }
         ensures ok { OnOk result (model_line_in (texts words.now) self.old ≡ Ok self.new) }
-        ensures fault { IfErr result (λ e. IsKind e (model_line_in (texts words.now) self.old)) }
+        ensures fault { IfErr result (λ e. IsGraphKind e
+            (model_line_in (texts words.now) self.old)) }
     {
         if self.is_named || words.len() != 2 {
             return bad_word(alloc, word(words, 0));
@@ -126,7 +128,7 @@ impl<'a> State<'a> {
         ensures ok { OnOk result
             (declaration_line_in role (texts words.now) self.old ≡ Ok self.new) }
         ensures fault { IfErr result
-            (λ e. IsKind e (declaration_line_in role (texts words.now) self.old)) }
+            (λ e. IsGraphKind e (declaration_line_in role (texts words.now) self.old)) }
     {
         self.signals
             .declare_all(alloc, role, &self.places, &words[1..])?;
@@ -138,7 +140,8 @@ impl<'a> State<'a> {
     fn marking_line(&mut self, alloc: Global, words: &[&'a [u8]]) -> Result<(), Refusal>
         requires { 0 < length words.now }
         ensures ok { OnOk result (marking_line_in (texts words.now) self.old ≡ Ok self.new) }
-        ensures fault { IfErr result (λ e. IsKind e (marking_line_in (texts words.now) self.old)) }
+        ensures fault { IfErr result (λ e. IsGraphKind e
+            (marking_line_in (texts words.now) self.old)) }
     {
         let command = word(words, 0);
         if self.is_marked {
@@ -158,7 +161,7 @@ impl<'a> State<'a> {
 
 // A word that is none.
 fn bad_word(alloc: Global, word: &[u8]) -> Result<(), Refusal>
-    ensures { IsRefusal (BadWord word.now) result }
+    ensures { IsGraphRefusal (BadWord word.now) result }
 {
     Err(Refusal::Because(AstgKind::BadWord(name(alloc, word)?)))
 }

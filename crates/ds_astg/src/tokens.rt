@@ -4,7 +4,7 @@ ghost use Rattle.std.specs.List.{after_first, list_all};
 ghost use Rattle.std.specs.Char.{is_ascii_digit};
 ghost use Rattle.ds_astg.specs.Word.{is_byte};
 ghost use Rattle.ds_astg.specs.Marking.{is_number as may_be_number, number_in as number_of};
-ghost use Rattle.ds_astg.specs.Marking.{tokens_of as tokens_in, value_from};
+ghost use Rattle.ds_astg.specs.Marking.{tokens_of_entry as tokens_in, value_from};
 
 use crate::word::place_of;
 

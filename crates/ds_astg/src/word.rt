@@ -8,8 +8,8 @@ ghost use Rattle.ds_astg.specs.Word.{is_signed as signed, is_signal as may_be_si
 ghost use Rattle.ds_astg.specs.Word.{fall_of as falls};
 ghost use Rattle.ds_astg.specs.Node.{name_in as name_of_word};
 ghost use Rattle.std.specs.List.{before_first, position_or_len};
-ghost use Rattle.ds_astg.specs.Word.{is_byte, word_at};
-ghost use Rattle.ds_astg.specs.Steps.{texts};
+ghost use Rattle.ds_lines.specs.Words.{texts, word_at};
+ghost use Rattle.ds_astg.specs.Word.{is_byte};
 
 use ds_base::{Name, Seq};
 use std::alloc::{AllocError, Global};

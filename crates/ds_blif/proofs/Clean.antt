@@ -5,23 +5,23 @@ use Rattle.std.proofs.Common.{ap, ◌∙◌, arith, append_assoc, nat_lt, ◌==�
 use Rattle.std.proofs.Common.{length-append}
 use Rattle.std.specs.List.{AllByRecursion}
 use Rattle.std.proofs.lemmas.Bool.{le-ltb, eq-eqb}
+use Rattle.ds_lines.specs.First.{first_of, unless_fault}
+use Rattle.ds_lines.specs.Words.{word_at}
 use Rattle.ds_lines.specs.Line.{Line, lines_of}
-use Rattle.ds_lines.specs.Print.{numbered, text_of, IsPlain}
+use Rattle.ds_lines.specs.Print.{numbered_lines, text_of, IsPlain}
 use Rattle.ds_lines.proofs.Printed.{lines_of-text_of}
-use Rattle.ds_blif.specs.Word.{word_at}
 use Rattle.ds_blif.specs.Head.{head_of}
 use Rattle.ds_blif.specs.Form.{is_row_form, is_latch_form, is_level_latch}
 use Rattle.ds_blif.specs.Form.{has_bad_init, output_of, is_init}
 use Rattle.ds_blif.specs.Fault.{names_fault, latch_fault, subckt_fault, differs}
-use Rattle.ds_blif.specs.Fault.{first_of}
-use Rattle.ds_blif.specs.State.{State, after_head, fault_by, fault_or, end_fault}
+use Rattle.ds_blif.specs.State.{State, after_head, fault_by, line_fault_or, end_fault}
 use Rattle.ds_blif.specs.State.{first_after, first_fault}
 use Rattle.ds_blif.specs.Parts.{Parts, models_of}
-use Rattle.ds_blif.specs.Text.{read_of, unless_fault}
-use Rattle.ds_blif.specs.Print.{placed, bit_word, row_words, part_words, command_words, model_words}
+use Rattle.ds_blif.specs.Text.{models_of_text}
+use Rattle.ds_blif.specs.Print.{models_at_lines, bit_word, words_of_row, part_words, command_words, model_words}
 use Rattle.ds_blif.specs.Print.{type_words, pair_word}
 use Rattle.ds_blif.specs.Printable.{IsPlane, IsTable, IsLatch}
-use Rattle.ds_blif.specs.Printable.{IsUse, IsPrintable, AreParts, AreModels}
+use Rattle.ds_blif.specs.Printable.{IsUse, IsPrintable, ArePrintableParts, AreModels}
 use Rattle.ds_blif.specs.declared.head.Head.{Head}
 use Rattle.ds_blif.specs.declared.head.Head.TheVariants.{Row, Names, Model, Inputs as InputsHead}
 use Rattle.ds_blif.specs.declared.head.Head.TheVariants.{Outputs as OutputsHead, Clock as ClockHead}
@@ -64,9 +64,9 @@ step_clean : (head : Head) (words : List (List ℕ)) (n : ℕ) (state : State) (
     → fault_from state (record { number = n; words = words } ∷ tail) ≡ fault_from
     (after_head head words state) tail
 step_clean head words n state tail is clean =
-    ap (λ h. fault_or (fault_by h state words) n (fault_from (after_head h words state) tail)) is
+    ap (λ h. line_fault_or (fault_by h state words) n (fault_from (after_head h words state) tail)) is
     ∙ ap (λ (k : Option BlifKind).
-    fault_or k n (fault_from (after_head head words state) tail)) clean
+    line_fault_or k n (fault_from (after_head head words state) tail)) clean
 
 names_clean : (word : List ℕ) (inputs : List (List ℕ)) (output : List ℕ) → length inputs ≤ 1024
     → names_fault (word ∷ inputs ++ output ∷ []) ≡ None
@@ -77,12 +77,12 @@ names_clean word inputs output few =
     let high : nat_lt 1026 (suc (length inputs + 1)) ≡ false = le-ltb _ _ (omega arith) in
     rw (all, low, high) refl
 
-row_output : (on : Bool) (plane : List ℕ) → output_of (row_words on plane) ≡ bit_word on
+row_output : (on : Bool) (plane : List ℕ) → output_of (words_of_row on plane) ≡ bit_word on
 row_output on [] = refl
 row_output on (byte ∷ bytes) = refl
 
 row_form : (on : Bool) (width : ℕ) (plane : List ℕ) → IsPlane width plane → is_row_form width
-    (row_words on plane) ≡ true
+    (words_of_row on plane) ≡ true
 unfolding is_row_form
 row_form true zero [] is = refl
 row_form false zero [] is = refl
@@ -103,14 +103,14 @@ bit_same true = refl
 bit_same false = refl
 
 first_kept : (on : Bool) (plane : List ℕ) (first : Option (List ℕ)) → differs first (bit_word on)
-    ≡ false → differs (first_after Row (row_words on plane) first) (bit_word on) ≡ false
+    ≡ false → differs (first_after Row (words_of_row on plane) first) (bit_word on) ≡ false
 first_kept on plane None same = ap (λ w. differs (Some w) (bit_word on)) (row_output on plane)
     ∙ bit_same on
 first_kept on plane (Some output) same = same
 
 row_clean : (on : Bool) (width : ℕ) (plane : List ℕ) (first : Option (List ℕ)) (models : List
     (List ℕ)) → IsPlane width plane → differs first (bit_word on) ≡ false
-    → fault_by Row (open_state (Some width) first models) (row_words on plane) ≡ None
+    → fault_by Row (open_state (Some width) first models) (words_of_row on plane) ≡ None
 row_clean on width plane first models is same = rw
     (row_form on width plane is, row_output on plane, same) refl
 
@@ -118,22 +118,22 @@ row_clean on width plane first models is same = rw
 rows_clean : (n width : ℕ) (on : Bool) (planes : List (List ℕ)) (first : Option (List ℕ))
     (models : List (List ℕ)) (tail : List Line) → AllByRecursion (IsPlane width) planes
     → differs first (bit_word on) ≡ false
-    → (after : Option (List ℕ)) × (fault_from (open_state (Some width) first models) (numbered n
-    (map (row_words on) planes) ++ tail) ≡ fault_from (open_state
+    → (after : Option (List ℕ)) × (fault_from (open_state (Some width) first models) (numbered_lines n
+    (map (words_of_row on) planes) ++ tail) ≡ fault_from (open_state
     (Some width) after models) tail)
 rows_clean n width on [] first models tail all same = (first, refl)
 rows_clean n width on (plane ∷ planes) first models tail all same =
-    let rest : List Line = numbered (n + 1) (map (row_words on) planes) ++ tail in
+    let rest : List Line = numbered_lines (n + 1) (map (words_of_row on) planes) ++ tail in
     let here : fault_from (open_state (Some width) first models) (record {
       number = n;
       words =
-          row_words on plane;
+          words_of_row on plane;
     } ∷ rest) ≡ fault_from (open_state (Some width) (first_after Row
-    (row_words on plane) first) models) rest =
-    step_clean Row (row_words on plane) n (open_state (Some width) first models) rest
+    (words_of_row on plane) first) models) rest =
+    step_clean Row (words_of_row on plane) n (open_state (Some width) first models) rest
     (head_row on plane all.0.bytes) (row_clean on width plane first models all.0 same) in
     let (after, behind) = rows_clean (n + 1) width on planes (first_after Row
-    (row_words on plane) first) models tail all.1 (first_kept on plane first same) in
+    (words_of_row on plane) first) models tail all.1 (first_kept on plane first same) in
     (after, here ∙ behind)
 
 -- after a command of an open model it is open, and no other model is known
@@ -143,10 +143,10 @@ GoesOn models state lines tail = (table : Option ℕ) × (first : Option (List �
 
 table_clean : (t : Option ℕ) (f : Option (List ℕ)) (models : List (List ℕ)) (n : ℕ)
     (table : TableText) (tail : List Line) → IsTable table
-    → GoesOn models (open_state t f models) (numbered n (part_words (Table table)) ++ tail) tail
+    → GoesOn models (open_state t f models) (numbered_lines n (part_words (Table table)) ++ tail) tail
 table_clean t f models n table tail is =
     let words : List (List ℕ) = codes ".names" ∷ table.inputs ++ table.output ∷ [] in
-    let rest : List Line = numbered (n + 1) (map (row_words table.on) table.rows) ++ tail in
+    let rest : List Line = numbered_lines (n + 1) (map (words_of_row table.on) table.rows) ++ tail in
     let width : length words - 2 ≡ length table.inputs = (let a : length (table.inputs
     ++ table.output ∷ []) ≡ length table.inputs + 1 = length-append table.inputs (table.output
     ∷ []) in omega arith) in
@@ -184,7 +184,7 @@ latch_clean_words data_net output (Some Falling) control initial few = rw
 
 latch_clean : (t : Option ℕ) (f : Option (List ℕ)) (models : List (List ℕ)) (n : ℕ)
     (latch : LatchText) (tail : List Line) → IsLatch latch
-    → GoesOn models (open_state t f models) (numbered n (part_words (Latch latch)) ++ tail) tail
+    → GoesOn models (open_state t f models) (numbered_lines n (part_words (Latch latch)) ++ tail) tail
 latch_clean t f models n latch tail is =
     let words : List (List ℕ) = codes ".latch" ∷ latch.data_net ∷ latch.output
     ∷ type_words latch.edge latch.control ++ ((48 + latch.initial) ∷ []) ∷ [] in
@@ -199,7 +199,7 @@ latch_clean t f models n latch tail is =
 
 use_clean : (t : Option ℕ) (f : Option (List ℕ)) (models : List (List ℕ)) (n : ℕ) (call : UseText)
     (tail : List Line) → IsUse call
-    → GoesOn models (open_state t f models) (numbered n (part_words (Subckt call)) ++ tail) tail
+    → GoesOn models (open_state t f models) (numbered_lines n (part_words (Subckt call)) ++ tail) tail
 use_clean t f models n call tail is =
     let words : List (List ℕ) = codes ".subckt" ∷ call.model ∷ map pair_word call.pairs in
     let long : nat_lt (length words) 2 ≡ false = le-ltb _ _ (omega arith) in
@@ -212,7 +212,7 @@ use_clean t f models n call tail is =
 
 part_clean : (t : Option ℕ) (f : Option (List ℕ)) (models : List (List ℕ)) (n : ℕ) (part : Part)
     (tail : List Line) → IsPrintable part
-    → GoesOn models (open_state t f models) (numbered n (part_words part) ++ tail) tail
+    → GoesOn models (open_state t f models) (numbered_lines n (part_words part) ++ tail) tail
 part_clean t f models n (Inputs names) tail is = (
   None,
   None,
@@ -236,18 +236,18 @@ part_clean t f models n (Latch latch) tail is = latch_clean t f models n latch t
 part_clean t f models n (Subckt call) tail is = use_clean t f models n call tail is
 
 commands_clean : (t : Option ℕ) (f : Option (List ℕ)) (models : List (List ℕ)) (n : ℕ)
-    (commands : List Command) (tail : List Line) → AreParts commands
-    → fault_from (open_state t f models) (numbered n (command_words commands) ++ tail) ≡ fault_from
+    (commands : List Command) (tail : List Line) → ArePrintableParts commands
+    → fault_from (open_state t f models) (numbered_lines n (command_words commands) ++ tail) ≡ fault_from
     (closed_state models) tail
 commands_clean t f models n [] tail are = step_clean End (codes ".end" ∷ []) n
     (open_state t f models) tail head_end refl
 commands_clean t f models n (command ∷ commands) tail are =
     let m : ℕ = n + length (part_words command.part) in
-    let rest : List Line = numbered m (command_words commands) ++ tail in
-    let split : numbered n (part_words command.part ++ command_words commands) ++ tail ≡ numbered n
+    let rest : List Line = numbered_lines m (command_words commands) ++ tail in
+    let split : numbered_lines n (part_words command.part ++ command_words commands) ++ tail ≡ numbered_lines n
     (part_words command.part) ++ rest =
     ap (λ ls. ls ++ tail) (numbered-append n (part_words command.part) (command_words commands))
-    ∙ append_assoc (numbered n (part_words command.part)) (numbered m
+    ∙ append_assoc (numbered_lines n (part_words command.part)) (numbered_lines m
     (command_words commands)) tail in
     let (table, first, here) = part_clean t f models n command.part rest are.0 in
     ap (fault_from (open_state t f models)) split ∙ (here
@@ -268,20 +268,20 @@ ended names name [] = end_clean names name
 ended names name (model ∷ models) = tt
 
 pub models_clean : (names : List (List ℕ)) (n : ℕ) (models : List BlifModel)
-    → AreModels names models → IsEnded names models → fault_from (closed_state names) (numbered n
+    → AreModels names models → IsEnded names models → fault_from (closed_state names) (numbered_lines n
     (model_words models)) ≡ None
 models_clean names n [] are some = some
 models_clean names n (model ∷ models) are some =
     let words : List (List ℕ) = codes ".model" ∷ model.name ∷ [] in
     let all : List (List ℕ) = names ++ model.name ∷ [] in
     let m : ℕ = n + 1 + length (command_words model.commands) in
-    let tail : List Line = numbered m (model_words models) in
-    let rest : List Line = numbered (n + 1) (command_words model.commands ++ model_words models) in
+    let tail : List Line = numbered_lines m (model_words models) in
+    let rest : List Line = numbered_lines (n + 1) (command_words model.commands ++ model_words models) in
     let clean : fault_by Model (closed_state names) words ≡ None = rw are.0 refl in
     let here : fault_from (closed_state names) (record { number = n; words = words } ∷ rest)
     ≡ fault_from (open_state None None all) rest =
     step_clean Model words n (closed_state names) rest head_model clean in
-    let split : rest ≡ numbered (n + 1) (command_words model.commands) ++ tail = numbered-append
+    let split : rest ≡ numbered_lines (n + 1) (command_words model.commands) ++ tail = numbered-append
     (n + 1) (command_words model.commands) (model_words models) in
     here ∙ (ap (fault_from (open_state None None all)) split
     ∙ (commands_clean None None all (n + 1) model.commands tail are.1
@@ -289,9 +289,9 @@ models_clean names n (model ∷ models) are some =
 
 -- printed models are read
 pub printed : (model : BlifModel) (models : List BlifModel) → AreModels [] (model ∷ models)
-    → read_of (numbered 1 (model_words (model ∷ models))) ≡ Ok (placed 1 (model ∷ models))
+    → models_of_text (numbered_lines 1 (model_words (model ∷ models))) ≡ Ok (models_at_lines 1 (model ∷ models))
 printed model models are =
-    let lines : List Line = numbered 1 (model_words (model ∷ models)) in
+    let lines : List Line = numbered_lines 1 (model_words (model ∷ models)) in
     let none : first_fault [] lines ≡ None = fault_from_is [] lines ∙ models_clean [] 1 (model
     ∷ models) are tt in
     ap (λ (k : Option BlifFault). unless_fault k (models_of lines)) none
@@ -300,6 +300,6 @@ printed model models are =
 -- the text that prints models is read as these models
 pub text_printed : (model : BlifModel) (models : List BlifModel) → AreModels [] (model ∷ models)
     → AllByRecursion IsPlain (model_words (model ∷ models))
-    → read_of (lines_of (text_of (model_words (model ∷ models)))) ≡ Ok (placed 1 (model ∷ models))
-text_printed model models are plain = ap read_of (lines_of-text_of (model_words (model
+    → models_of_text (lines_of (text_of (model_words (model ∷ models)))) ≡ Ok (models_at_lines 1 (model ∷ models))
+text_printed model models are plain = ap models_of_text (lines_of-text_of (model_words (model
     ∷ models)) plain) ∙ printed model models are

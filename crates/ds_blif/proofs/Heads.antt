@@ -4,14 +4,14 @@ use Rattle.std.proofs.Common.{codes, refl}
 use Rattle.std.proofs.Common.{◌==◌, inl, inr, subst}
 use Rattle.std.proofs.lemmas.Bool.{cases_Bool, eqb-true, false≢true}
 use Rattle.std.specs.List.{list_all}
-use Rattle.ds_blif.specs.Word.{word_at}
+use Rattle.ds_lines.specs.Words.{word_at}
 use Rattle.ds_blif.specs.Head.{head_of, is_skipped}
 use Rattle.ds_blif.specs.declared.head.Head.TheVariants.{Row, Names, Model, Inputs as InputsHead}
 use Rattle.ds_blif.specs.declared.head.Head.TheVariants.{Outputs as OutputsHead, Clock as ClockHead}
 use Rattle.ds_blif.specs.declared.head.Head.TheVariants.{Latch as LatchHead, Subckt as SubcktHead}
 use Rattle.ds_blif.specs.declared.head.Head.TheVariants.{End}
 use Rattle.ds_blif.specs.Form.{is_plane_byte}
-use Rattle.ds_blif.specs.Print.{bit_word, row_words}
+use Rattle.ds_blif.specs.Print.{bit_word, words_of_row}
 
 -- heads of the commands that are printed
 pub head_inputs : head_of (codes ".inputs") ≡ InputsHead
@@ -63,6 +63,6 @@ head_plane byte bytes all = elim (cases_Bool (byte == 46)) [
 ]
 
 pub head_row : (on : Bool) (plane : List ℕ) → list_all is_plane_byte plane ≡ true → head_of (word_at
-    (row_words on plane) 0) ≡ Row
+    (words_of_row on plane) 0) ≡ Row
 head_row on [] all = head_bit on
 head_row on (byte ∷ bytes) all = head_plane byte bytes all

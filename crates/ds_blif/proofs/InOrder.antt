@@ -1,7 +1,7 @@
 -- The fault of a line, by its kind of line, is the first in the order of the format.
 use Rattle.std.proofs.Common.{◌≡◌, ℕ, List, [], ◌∷◌, Option, None, Some}
 use Rattle.std.proofs.Common.{refl}
-use Rattle.ds_blif.specs.Fault.{first_of}
+use Rattle.ds_lines.specs.First.{first_of}
 use Rattle.ds_blif.specs.State.{State, fault_by}
 use Rattle.ds_blif.specs.InOrder.{fault_in_order}
 use Rattle.ds_blif.specs.declared.head.Head.{Head}

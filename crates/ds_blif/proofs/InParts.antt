@@ -1,6 +1,8 @@
 -- The models of a text are those of its lines in parts.
 use Rattle.std.proofs.Common.{◌≡◌, ◌∙◌, ℕ, Bool, true, false, not, List, [], ◌∷◌, ◌++◌, drop, map, Option, None, Some, Ok, ap, ap₂, refl, sym, ◌&&◌}
 use Rattle.std.specs.List.{AllByRecursion, flat_map}
+use Rattle.ds_lines.specs.First.{first_of, unless_fault}
+use Rattle.ds_lines.specs.Words.{word_at}
 use Rattle.ds_lines.specs.Line.{Line}
 use Rattle.ds_models.specs.declared.blif.Part.{Part}
 use Rattle.ds_models.specs.declared.blif.Part.TheVariants.{Inputs as InputsPart}
@@ -10,12 +12,10 @@ use Rattle.ds_models.specs.declared.blif.Part.TheVariants.{Latch as LatchPart, S
 use Rattle.ds_models.specs.declared.blif.Command.{Command}
 use Rattle.ds_models.specs.declared.blif.TableText.{TableText}
 use Rattle.ds_models.specs.declared.blif.BlifModel.{BlifModel}
-use Rattle.ds_blif.specs.Word.{word_at}
 use Rattle.ds_blif.specs.Parts.{Parts, latch_of, plane_of, table_of, use_of, with_command, with_head, parts_of, models_of}
-use Rattle.ds_blif.specs.Text.{read_of, unless_fault}
+use Rattle.ds_blif.specs.Text.{models_of_text}
 use Rattle.ds_blif.specs.InParts.{AreInParts, Group, as_rows, begins_model, command_in, head_at, is_outer, items_of, model_in, part_by, rows_among}
-use Rattle.ds_blif.specs.State.{State, fault_by, fault_of, first_fault, open_after, state_of, wants_model}
-use Rattle.ds_blif.specs.Fault.{first_of}
+use Rattle.ds_blif.specs.State.{State, fault_by, fault_of_line, first_fault, open_after, state_of, wants_model}
 use Rattle.ds_blif.specs.declared.head.Head.{Head}
 use Rattle.ds_blif.specs.declared.head.Head.TheVariants.{Row, Names, Model, Inputs, Outputs, Clock}
 use Rattle.ds_blif.specs.declared.head.Head.TheVariants.{Latch, Subckt, End, Skipped, Unknown}
@@ -202,8 +202,8 @@ no_command Unknown number words state parts wants behind = behind refl
 none_before : (earlier lines : List Line) → (state_of earlier).is_open ≡ false → first_fault earlier lines ≡ None → (parts_of lines).commands ≡ []
 none_before earlier [] closed none = refl
 none_before earlier (line ∷ lines) closed none =
-    let here : fault_of earlier line ≡ None = line_none (fault_of earlier line) line.number (first_fault (line ∷ earlier) lines) none in
-    let rest : first_fault (line ∷ earlier) lines ≡ None = lines_none (fault_of earlier line) line.number (first_fault (line ∷ earlier) lines) none in
+    let here : fault_of_line earlier line ≡ None = line_none (fault_of_line earlier line) line.number (first_fault (line ∷ earlier) lines) none in
+    let rest : first_fault (line ∷ earlier) lines ≡ None = lines_none (fault_of_line earlier line) line.number (first_fault (line ∷ earlier) lines) none in
     no_command (head_at line) line.number line.words (state_of earlier) (parts_of lines) (wants_none (head_at line) (state_of earlier) line.words closed here)
     (λ still. none_before (line ∷ earlier) lines (ap (λ (is_open : Bool). open_after (head_at line) is_open) closed ∙ still) rest)
 
@@ -212,7 +212,7 @@ read_given : (fault : Option BlifFault) (given models : List BlifModel) → unle
 read_given None given models is = (refl, (cc))
 read_given (Some fault) given models is = absurd (cc)
 
-pub lines_in_parts : (lines : List Line) (models : List BlifModel) → read_of lines ≡ Ok models → AreInParts lines models
+pub lines_in_parts : (lines : List Line) (models : List BlifModel) → models_of_text lines ≡ Ok models → AreInParts lines models
 lines_in_parts lines models is =
     let (none, given) = read_given (first_fault [] lines) (models_of lines) models is in
     let p : Parted lines (parts_of lines) = parted lines in

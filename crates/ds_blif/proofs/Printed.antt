@@ -7,14 +7,13 @@ use Rattle.std.proofs.lemmas.Bool.{cases_Bool, false≢true}
 use Rattle.std.specs.List.{list_all, list_any, AllByRecursion, position_or_len}
 use Rattle.std.specs.Str.{bytes_eq}
 use Rattle.ds_lines.specs.Line.{Line}
-use Rattle.ds_lines.specs.Print.{numbered}
-use Rattle.ds_blif.specs.Word.{word_at}
+use Rattle.ds_lines.specs.Print.{numbered_lines}
 use Rattle.ds_blif.specs.declared.head.Head.TheVariants.{Names, Model}
 use Rattle.ds_blif.specs.Form.{is_plane_byte, is_equals}
 use Rattle.ds_blif.specs.Parts.{Parts, parts_of, with_head}
-use Rattle.ds_blif.specs.Parts.{with_command, latch_of, pair_of, edge_of, control_of}
-use Rattle.ds_blif.specs.Print.{bit_word, row_words, part_words, command_words, model_words}
-use Rattle.ds_blif.specs.Print.{placed_commands, placed, pair_word, type_words, edge_word}
+use Rattle.ds_blif.specs.Parts.{with_command, latch_of, pair_of, edge_of_type, control_of}
+use Rattle.ds_blif.specs.Print.{bit_word, words_of_row, part_words, command_words, model_words}
+use Rattle.ds_blif.specs.Print.{placed_commands, models_at_lines, pair_word, type_words, edge_word}
 use Rattle.ds_design.specs.declared.design.Edge.{Edge}
 use Rattle.ds_design.specs.declared.design.Edge.TheVariants.{Rising, Falling}
 use Rattle.ds_models.specs.declared.blif.TableText.{TableText}
@@ -28,18 +27,19 @@ use Rattle.ds_models.specs.declared.blif.Command.{Command}
 use Rattle.ds_models.specs.declared.blif.BlifModel.{BlifModel}
 use Rattle.std.proofs.Math.Seq.{take-append_seam, get_or-append_seam, drop-append-add}
 use Rattle.std.proofs.lemmas.List.{append-nil}
+use Rattle.ds_lines.specs.Words.{word_at}
 use Rattle.ds_blif.specs.Printable.{OnWhereEmpty, IsPlane, IsControl, IsTable, IsLatch, IsPair}
-use Rattle.ds_blif.specs.Printable.{IsUse, IsPrintable, AreParts, AreModels}
+use Rattle.ds_blif.specs.Printable.{IsUse, IsPrintable, ArePrintableParts, AreModels}
 use Rattle.ds_blif.proofs.Heads.{head_inputs, head_outputs, head_clock, head_names, head_latch}
 use Rattle.ds_blif.proofs.Heads.{head_subckt, head_model, head_end, head_bit, head_plane}
 
-pub numbered-append : (n : ℕ) (lines more : List (List (List ℕ))) → numbered n (lines ++ more)
-    ≡ numbered n lines ++ numbered (n + length lines) more
-numbered-append n [] more = ap (λ k. numbered k more) (let e : n ≡ n + 0 = omega arith in e)
+pub numbered-append : (n : ℕ) (lines more : List (List (List ℕ))) → numbered_lines n (lines ++ more)
+    ≡ numbered_lines n lines ++ numbered_lines (n + length lines) more
+numbered-append n [] more = ap (λ k. numbered_lines k more) (let e : n ≡ n + 0 = omega arith in e)
 numbered-append n (line ∷ lines) more =
     ap (λ (ls : List Line). record { number = n; words = line } ∷ ls) (numbered-append
     (n + 1) lines more
-    ∙ ap (λ k. numbered (n + 1) lines ++ numbered k more) (let e : n + 1 + length lines ≡ n + suc
+    ∙ ap (λ k. numbered_lines (n + 1) lines ++ numbered_lines k more) (let e : n + 1 + length lines ≡ n + suc
     (length lines) = omega arith in e))
 
 -- the output of a row tells whether its table lists where it is 1
@@ -58,7 +58,7 @@ with_plane plane on parts = record {
 }
 
 row_parts : (n : ℕ) (on : Bool) (plane : List ℕ) (tail : List Line) → list_all is_plane_byte plane
-    ≡ true → parts_of (record { number = n; words = row_words on plane } ∷ tail)
+    ≡ true → parts_of (record { number = n; words = words_of_row on plane } ∷ tail)
     ≡ with_plane plane on (parts_of tail)
 row_parts n on [] tail all =
     ap (λ h. with_head h n (bit_word on ∷ []) (parts_of tail)) (head_bit on) ∙ ap
@@ -74,11 +74,11 @@ with_planes [] on parts = parts
 with_planes (plane ∷ planes) on parts = with_plane plane on (with_planes planes on parts)
 
 rows_parts : (n width : ℕ) (on : Bool) (planes : List (List ℕ)) (tail : List Line) → AllByRecursion
-    (IsPlane width) planes → parts_of (numbered n (map (row_words on) planes) ++ tail)
+    (IsPlane width) planes → parts_of (numbered_lines n (map (words_of_row on) planes) ++ tail)
     ≡ with_planes planes on (parts_of tail)
 rows_parts n width on [] tail all = refl
 rows_parts n width on (plane ∷ planes) tail all =
-    row_parts n on plane (numbered (n + 1) (map (row_words on) planes) ++ tail) all.0.bytes
+    row_parts n on plane (numbered_lines (n + 1) (map (words_of_row on) planes) ++ tail) all.0.bytes
     ∙ ap (with_plane plane on) (rows_parts (n + 1) width on planes tail all.1)
 
 -- the words of a table's head are cut as they were joined
@@ -114,11 +114,11 @@ planes_parts (plane ∷ other ∷ planes) on parts none full_on full = ap (with_
 
 table_parts : (n : ℕ) (table : TableText) (tail : List Line) → IsTable table → (parts_of tail).rows
     ≡ [] → (parts_of tail).on ≡ true
-    → parts_of (numbered n (part_words (Table table)) ++ tail) ≡ with_command n (Table table)
+    → parts_of (numbered_lines n (part_words (Table table)) ++ tail) ≡ with_command n (Table table)
     (parts_of tail)
 table_parts n table tail is none full_on =
     let words : List (List ℕ) = codes ".names" ∷ table.inputs ++ table.output ∷ [] in
-    let rows : parts_of (numbered (n + 1) (map (row_words table.on) table.rows) ++ tail)
+    let rows : parts_of (numbered_lines (n + 1) (map (words_of_row table.on) table.rows) ++ tail)
     ≡ record {
       rows = table.rows;
       on = table.on;
@@ -128,7 +128,7 @@ table_parts n table tail is none full_on =
     } =
     rows_parts (n + 1) (length table.inputs) table.on table.rows tail is.rows
     ∙ planes_parts table.rows table.on (parts_of tail) none full_on is.on in
-    ap (λ h. with_head h n words (parts_of (numbered (n + 1) (map (row_words table.on) table.rows)
+    ap (λ h. with_head h n words (parts_of (numbered_lines (n + 1) (map (words_of_row table.on) table.rows)
     ++ tail))) head_names
     ∙ (ap (with_head Names n words) rows
     ∙ rw (
@@ -157,7 +157,7 @@ latch_with data_net output edge control initial = record {
   initial = initial;
 }
 
-edge_back : (edge : Edge) → edge_of (edge_word edge) ≡ edge
+edge_back : (edge : Edge) → edge_of_type (edge_word edge) ≡ edge
 edge_back Rising = refl
 edge_back Falling = refl
 
@@ -180,7 +180,7 @@ latch_back data_net output (Some edge) (Some name) initial is =
     ∙ (ap (λ c. latch_with data_net output (Some edge) c (48 + initial - 48)) (control_back name is)
     ∙ ap (latch_with data_net output (Some edge) (Some name)) (digit_back initial))
 
-latch_parts : (n : ℕ) (latch : LatchText) (tail : List Line) → IsLatch latch → parts_of (numbered n
+latch_parts : (n : ℕ) (latch : LatchText) (tail : List Line) → IsLatch latch → parts_of (numbered_lines n
     (part_words (Latch latch)) ++ tail) ≡ with_command n (Latch latch) (parts_of tail)
 latch_parts n latch tail is =
     let words : List (List ℕ) =
@@ -217,7 +217,7 @@ pairs_back : (pairs : List Pair) → AllByRecursion IsPair pairs → map pair_of
 pairs_back [] all = refl
 pairs_back (pair ∷ pairs) all = rw (pair_back pair all.0, pairs_back pairs all.1) refl
 
-use_parts : (n : ℕ) (call : UseText) (tail : List Line) → IsUse call → parts_of (numbered n
+use_parts : (n : ℕ) (call : UseText) (tail : List Line) → IsUse call → parts_of (numbered_lines n
     (part_words (Subckt call)) ++ tail) ≡ with_command n (Subckt call) (parts_of tail)
 use_parts n call tail is =
     ap (λ h. with_head h n (codes ".subckt" ∷ call.model ∷ map pair_word call.pairs)
@@ -230,7 +230,7 @@ use_parts n call tail is =
 
 part_parts : (n : ℕ) (part : Part) (tail : List Line) → IsPrintable part → (parts_of tail).rows ≡ []
     → (parts_of tail).on ≡ true
-    → parts_of (numbered n (part_words part) ++ tail) ≡ with_command n part (parts_of tail)
+    → parts_of (numbered_lines n (part_words part) ++ tail) ≡ with_command n part (parts_of tail)
 part_parts n (Inputs names) tail is none full_on = ap (λ h. with_head h n (codes ".inputs" ∷ names)
     (parts_of tail)) head_inputs
 part_parts n (Outputs names) tail is none full_on = ap (λ h. with_head h n (codes ".outputs"
@@ -251,19 +251,19 @@ with_commands commands parts = record {
   models = parts.models;
 }
 
-commands_parts : (n : ℕ) (commands : List Command) (tail : List Line) → AreParts commands
-    → parts_of (numbered n (command_words commands) ++ tail) ≡ with_commands
+commands_parts : (n : ℕ) (commands : List Command) (tail : List Line) → ArePrintableParts commands
+    → parts_of (numbered_lines n (command_words commands) ++ tail) ≡ with_commands
     (placed_commands n commands) (parts_of tail)
 commands_parts n [] tail are = ap (λ h. with_head h n (codes ".end" ∷ []) (parts_of tail)) head_end
 commands_parts n (command ∷ commands) tail are =
     let m : ℕ = n + length (part_words command.part) in
-    let rest : List Line = numbered m (command_words commands) ++ tail in
+    let rest : List Line = numbered_lines m (command_words commands) ++ tail in
     let behind : parts_of rest ≡ with_commands (placed_commands m commands) (parts_of tail) =
     commands_parts m commands tail are.1 in
-    let split : numbered n (part_words command.part ++ command_words commands) ++ tail ≡ numbered n
+    let split : numbered_lines n (part_words command.part ++ command_words commands) ++ tail ≡ numbered_lines n
     (part_words command.part) ++ rest =
     ap (λ ls. ls ++ tail) (numbered-append n (part_words command.part) (command_words commands))
-    ∙ append_assoc (numbered n (part_words command.part)) (numbered m
+    ∙ append_assoc (numbered_lines n (part_words command.part)) (numbered_lines m
     (command_words commands)) tail in
     ap parts_of split
     ∙ (part_parts n command.part rest are.0 (ap (λ (p : Parts). p.rows) behind) (ap (λ
@@ -275,23 +275,23 @@ abbrev pub only_models : List BlifModel → Parts
 only_models models = record { rows = []; on = true; commands = []; models = models }
 
 pub models_parts : (names : List (List ℕ)) (n : ℕ) (models : List BlifModel)
-    → AreModels names models → parts_of (numbered n (model_words models)) ≡ only_models
-    (placed n models)
+    → AreModels names models → parts_of (numbered_lines n (model_words models)) ≡ only_models
+    (models_at_lines n models)
 models_parts names n [] are = refl
 models_parts names n (model ∷ models) are =
     let words : List (List ℕ) = codes ".model" ∷ model.name ∷ [] in
     let m : ℕ = n + 1 + length (command_words model.commands) in
-    let tail : List Line = numbered m (model_words models) in
-    let behind : parts_of tail ≡ only_models (placed m models) = models_parts (names ++ model.name
+    let tail : List Line = numbered_lines m (model_words models) in
+    let behind : parts_of tail ≡ only_models (models_at_lines m models) = models_parts (names ++ model.name
     ∷ []) m models are.2 in
-    let split : numbered (n + 1) (command_words model.commands ++ model_words models) ≡ numbered
+    let split : numbered_lines (n + 1) (command_words model.commands ++ model_words models) ≡ numbered_lines
     (n + 1) (command_words model.commands) ++ tail =
     numbered-append (n + 1) (command_words model.commands) (model_words models) in
-    let body : parts_of (numbered (n + 1) (command_words model.commands ++ model_words models))
-    ≡ with_commands (placed_commands (n + 1) model.commands) (only_models (placed m models)) =
+    let body : parts_of (numbered_lines (n + 1) (command_words model.commands ++ model_words models))
+    ≡ with_commands (placed_commands (n + 1) model.commands) (only_models (models_at_lines m models)) =
     ap parts_of split ∙ (commands_parts (n + 1) model.commands tail are.1 ∙ ap (with_commands
     (placed_commands (n + 1) model.commands)) behind) in
-    ap (λ h. with_head h n words (parts_of (numbered (n + 1) (command_words model.commands
+    ap (λ h. with_head h n words (parts_of (numbered_lines (n + 1) (command_words model.commands
     ++ model_words models)))) head_model
     ∙ (ap (with_head Model n words) body
     ∙ ap (λ (commands : List Command). only_models (record {
@@ -299,4 +299,4 @@ models_parts names n (model ∷ models) are =
       line = n;
       commands =
           commands;
-    } ∷ placed m models)) (append-nil (placed_commands (n + 1) model.commands)))
+    } ∷ models_at_lines m models)) (append-nil (placed_commands (n + 1) model.commands)))

@@ -5,17 +5,18 @@ use Rattle.std.proofs.Common.{sym, refl, subst, arith}
 use Rattle.std.proofs.Common.{Ok}
 use Rattle.std.specs.List.{All, AllByRecursion}
 use Rattle.std.proofs.lemmas.List.Elements.{All-from_recursion}
+use Rattle.ds_lines.specs.First.{unless_fault}
+use Rattle.ds_lines.specs.Words.{word_at}
 use Rattle.ds_lines.specs.Line.{Line}
 use Rattle.ds_models.specs.Source.{IsPart, IsBlif}
 use Rattle.ds_models.specs.declared.blif.Part.{Part}
 use Rattle.ds_models.specs.declared.blif.BlifModel.{BlifModel}
-use Rattle.ds_blif.specs.Word.{word_at}
 use Rattle.ds_blif.specs.Head.{head_of}
 use Rattle.ds_blif.specs.State.{State, after_head, after, own_fault}
 use Rattle.ds_blif.specs.State.{end_fault, first_fault}
 use Rattle.ds_blif.specs.Parts.{Parts}
 use Rattle.ds_blif.specs.Parts.{with_command, with_head, parts_of, models_of}
-use Rattle.ds_blif.specs.Text.{read_of, unless_fault}
+use Rattle.ds_blif.specs.Text.{models_of_text}
 use Rattle.ds_blif.specs.declared.head.Head.{Head}
 use Rattle.ds_blif.specs.declared.head.Head.TheVariants.{Row, Names, Model, Inputs, Outputs, Clock}
 use Rattle.ds_blif.specs.declared.head.Head.TheVariants.{Latch, Subckt, End, Skipped, Unknown}
@@ -141,7 +142,7 @@ read_models (Some fault) all models is = absurd (cc)
 
 -- the models that lines stand for
 pub read_well_formed : (lines : List Line) (models : List BlifModel)
-    → read_of lines ≡ Ok models → IsBlif models
+    → models_of_text lines ≡ Ok models → IsBlif models
 read_well_formed lines models is = subst (λ (all : List BlifModel). IsBlif all)
     (read_models (first_fault [] lines) (models_of lines) models is)
     (well_formed lines (read_none (first_fault [] lines) (models_of lines) models is))

@@ -3,9 +3,10 @@ use Rattle.std.specs.Prelude.{ℕ, Bool, false, not, List, [], ◌∷◌, drop, 
 use Rattle.std.specs.Prelude.{Some, ◌==◌, ◌||◌, if◌then◌else◌, nat_lt, is_some}
 use Rattle.std.specs.List.{list_any}
 use Rattle.std.specs.Str.{bytes_eq}
+use Rattle.ds_lines.specs.First.{where_true, first_of}
+use Rattle.ds_lines.specs.Words.{word_at}
 use Rattle.ds_base.specs.Limit.{most_of}
 use Rattle.ds_base.specs.declared.number.Limit.TheVariants.{TableInputs}
-use Rattle.ds_blif.specs.Word.{word_at}
 use Rattle.ds_blif.specs.Form.{is_row_form, output_of, is_latch_form, is_level_latch, has_bad_init}
 use Rattle.ds_blif.specs.Form.{has_bad_pairs}
 use Rattle.ds_blif.specs.declared.fault.BlifKind.{BlifKind}
@@ -13,16 +14,6 @@ use Rattle.ds_blif.specs.declared.fault.BlifKind.TheVariants.{RowWithoutTable}
 use Rattle.ds_blif.specs.declared.fault.BlifKind.TheVariants.{BadWords, TooMany, LevelLatch}
 use Rattle.ds_blif.specs.declared.fault.BlifKind.TheVariants.{BadInit}
 use Rattle.ds_blif.specs.declared.fault.BlifKind.TheVariants.{RepeatedModel, BadRow, MixedRows}
-
--- a kind where a test holds
-abbrev pub where_true : Bool → BlifKind → Option BlifKind
-where_true test kind = if test then Some kind else None
-
--- the first of the kinds that hold
-abbrev pub first_of : List (Option BlifKind) → Option BlifKind
-first_of [] = None
-first_of (None ∷ kinds) = first_of kinds
-first_of (Some kind ∷ kinds) = Some kind
 
 -- there was another word
 abbrev pub differs : Option (List ℕ) → List ℕ → Bool

@@ -3,7 +3,7 @@ use Rattle.std.specs.Prelude.{ℕ, ◌-◌, Bool, true, false, not, List, [], �
 use Rattle.std.specs.Prelude.{length, codes, ◌==◌, ◌||◌, ◌&&◌, if◌then◌else◌, nat_lt}
 use Rattle.std.specs.List.{list_any, list_all, before_first, position_or_len}
 use Rattle.std.specs.Str.{bytes_eq}
-use Rattle.ds_blif.specs.Word.{word_at}
+use Rattle.ds_lines.specs.Words.{word_at}
 
 -- `0` or `1`
 abbrev pub is_output : List ℕ → Bool

@@ -3,11 +3,12 @@ use Rattle.std.specs.Prelude.{ℕ, Bool, true, false, not, List, [], ◌∷◌, 
 use Rattle.std.specs.Prelude.{◌&&◌, ◌||◌, nat_lt, is_some}
 use Rattle.std.specs.List.{list_any}
 use Rattle.std.specs.Str.{bytes_eq}
+use Rattle.ds_lines.specs.First.{where_true, first_of}
+use Rattle.ds_lines.specs.Words.{word_at}
 use Rattle.ds_base.specs.declared.number.Limit.TheVariants.{TableInputs}
-use Rattle.ds_blif.specs.Word.{word_at}
 use Rattle.ds_blif.specs.Form.{output_of, is_latch_form, is_level_latch, has_bad_init}
 use Rattle.ds_blif.specs.Form.{has_bad_pairs}
-use Rattle.ds_blif.specs.Fault.{where_true, first_of, differs, is_row_of, has_too_many_inputs}
+use Rattle.ds_blif.specs.Fault.{differs, is_row_of, has_too_many_inputs}
 use Rattle.ds_blif.specs.State.{State, is_unknown, wants_model}
 use Rattle.ds_blif.specs.declared.head.Head.{Head}
 use Rattle.ds_blif.specs.declared.head.Head.TheVariants.{Row, Names, Model, Latch, Subckt}

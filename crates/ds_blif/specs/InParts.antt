@@ -4,6 +4,7 @@ use Rattle.std.specs.Prelude.{◌≡◌, Bool, true, false, not, ℕ, List, [], 
 use Rattle.std.specs.Prelude.{Option, None, Some}
 use Rattle.std.specs.List.{AllByRecursion, filter, flat_map}
 use Rattle.std.specs.Option.{option_map_or}
+use Rattle.ds_lines.specs.Words.{word_at}
 use Rattle.ds_lines.specs.Line.{Line}
 use Rattle.ds_models.specs.declared.blif.Part.{Part}
 use Rattle.ds_models.specs.declared.blif.Part.TheVariants.{Inputs as InputsPart}
@@ -12,11 +13,10 @@ use Rattle.ds_models.specs.declared.blif.Part.TheVariants.{Clock as ClockPart, T
 use Rattle.ds_models.specs.declared.blif.Part.TheVariants.{Latch as LatchPart, Subckt as SubcktPart}
 use Rattle.ds_models.specs.declared.blif.Command.{Command}
 use Rattle.ds_models.specs.declared.blif.BlifModel.{BlifModel}
-use Rattle.ds_blif.specs.Word.{word_at}
 use Rattle.ds_blif.specs.Head.{head_of}
 use Rattle.ds_blif.specs.InOrder.{is_model, is_row}
 use Rattle.ds_blif.specs.Parts.{Parts, is_on, latch_of, no_parts, plane_of, table_of, use_of}
-use Rattle.ds_blif.specs.Text.{read_of}
+use Rattle.ds_blif.specs.Text.{models_of_text}
 use Rattle.ds_blif.specs.declared.head.Head.{Head}
 use Rattle.ds_blif.specs.declared.head.Head.TheVariants.{Row, Names, Inputs, Outputs, Clock}
 use Rattle.ds_blif.specs.declared.head.Head.TheVariants.{Latch, Subckt, Skipped}
@@ -107,5 +107,5 @@ pub record AreInParts (lines : List Line) (models : List BlifModel) : Type 0 whe
 
 -- the models of a text without a fault are those of its lines in parts
 abbrev pub LinesStandInParts : Type 0
-LinesStandInParts = (lines : List Line) (models : List BlifModel) → read_of lines ≡ Ok models
+LinesStandInParts = (lines : List Line) (models : List BlifModel) → models_of_text lines ≡ Ok models
     → AreInParts lines models

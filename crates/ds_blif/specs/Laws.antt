@@ -2,20 +2,20 @@
 use Rattle.std.specs.Prelude.{◌≡◌, ℕ, List, [], ◌∷◌, Ok}
 use Rattle.std.specs.List.{AllByRecursion}
 use Rattle.ds_lines.specs.Line.{Line, lines_of}
-use Rattle.ds_lines.specs.Print.{numbered, text_of, IsPlain}
+use Rattle.ds_lines.specs.Print.{numbered_lines, text_of, IsPlain}
 use Rattle.ds_models.specs.Source.{IsBlif}
 use Rattle.ds_models.specs.declared.blif.BlifModel.{BlifModel}
 use Rattle.ds_blif.specs.State.{State, fault_by}
 use Rattle.ds_blif.specs.InOrder.{fault_in_order}
-use Rattle.ds_blif.specs.Text.{read_of}
-use Rattle.ds_blif.specs.Print.{model_words, placed}
+use Rattle.ds_blif.specs.Text.{models_of_text}
+use Rattle.ds_blif.specs.Print.{model_words, models_at_lines}
 use Rattle.ds_blif.specs.Printable.{AreModels}
 use Rattle.ds_blif.specs.declared.head.Head.{Head}
 
 -- the models that lines stand for are well formed
 abbrev pub ModelsAreWellFormed : Type 0
 ModelsAreWellFormed = (lines : List Line) (models : List BlifModel)
-    → read_of lines ≡ Ok models → IsBlif models
+    → models_of_text lines ≡ Ok models → IsBlif models
 
 -- the fault of a line is the first that holds, in the one order of the format
 abbrev pub FaultIsInOrder : Type 0
@@ -25,10 +25,12 @@ FaultIsInOrder = (head : Head) (state : State) (words : List (List ℕ))
 -- the lines that print some models stand for these models, each part at its line
 abbrev pub PrintedIsRead : Type 0
 PrintedIsRead = (model : BlifModel) (models : List BlifModel) → AreModels [] (model ∷ models)
-    → read_of (numbered 1 (model_words (model ∷ models))) ≡ Ok (placed 1 (model ∷ models))
+    → models_of_text (numbered_lines 1 (model_words (model ∷ models)))
+    ≡ Ok (models_at_lines 1 (model ∷ models))
 
 -- the text that prints some models stands for these models, each part at its line
 abbrev pub PrintedTextIsRead : Type 0
 PrintedTextIsRead = (model : BlifModel) (models : List BlifModel) → AreModels [] (model ∷ models)
     → AllByRecursion IsPlain (model_words (model ∷ models))
-    → read_of (lines_of (text_of (model_words (model ∷ models)))) ≡ Ok (placed 1 (model ∷ models))
+    → models_of_text (lines_of (text_of (model_words (model ∷ models))))
+    ≡ Ok (models_at_lines 1 (model ∷ models))

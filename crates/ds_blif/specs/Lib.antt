@@ -1,5 +1,4 @@
 -- In the order in which to read.
-pub mod Word
 pub mod Head
 pub mod Form
 pub mod Fault

@@ -5,8 +5,8 @@ use Rattle.std.specs.Prelude.{codes, Option, None, Some, slice_index_or, ◌==�
 use Rattle.std.specs.Prelude.{nat_lt}
 use Rattle.std.specs.List.{after_first}
 use Rattle.std.specs.Str.{bytes_eq}
+use Rattle.ds_lines.specs.Words.{word_at}
 use Rattle.ds_lines.specs.Line.{Line}
-use Rattle.ds_blif.specs.Word.{word_at}
 use Rattle.ds_blif.specs.Form.{output_of, formal_of, is_equals}
 use Rattle.ds_blif.specs.Head.{head_of}
 use Rattle.ds_blif.specs.declared.head.Head.{Head}
@@ -52,8 +52,8 @@ table_of words parts = record {
 }
 
 -- the edge that a type is
-abbrev pub edge_of : List ℕ → Edge
-edge_of word = if bytes_eq word (codes "re") then Rising else Falling
+abbrev pub edge_of_type : List ℕ → Edge
+edge_of_type word = if bytes_eq word (codes "re") then Rising else Falling
 
 -- a control name: `NIL` is none
 abbrev pub control_of : List ℕ → Option (List ℕ)
@@ -74,7 +74,7 @@ abbrev pub latch_of : List (List ℕ) → LatchText
 latch_of words = record {
   data_net = word_at words 1;
   output = word_at words 2;
-  edge = if nat_lt 4 (length words) then Some (edge_of (word_at words 3)) else None;
+  edge = if nat_lt 4 (length words) then Some (edge_of_type (word_at words 3)) else None;
   control = if nat_lt 4 (length words) then control_of (word_at words 4) else None;
   initial = initial_of words;
 }

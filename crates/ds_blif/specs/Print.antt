@@ -16,9 +16,9 @@ bit_word true = codes "1"
 bit_word false = codes "0"
 
 -- a row: its inputs, where there are any, and the output of its table
-abbrev pub row_words : Bool → List ℕ → List (List ℕ)
-row_words on [] = bit_word on ∷ []
-row_words on (byte ∷ bytes) = (byte ∷ bytes) ∷ bit_word on ∷ []
+abbrev pub words_of_row : Bool → List ℕ → List (List ℕ)
+words_of_row on [] = bit_word on ∷ []
+words_of_row on (byte ∷ bytes) = (byte ∷ bytes) ∷ bit_word on ∷ []
 
 -- the type of an edge
 abbrev pub edge_word : Edge → List ℕ
@@ -45,7 +45,7 @@ part_words (Inputs names) = (codes ".inputs" ∷ names) ∷ []
 part_words (Outputs names) = (codes ".outputs" ∷ names) ∷ []
 part_words (Clock names) = (codes ".clock" ∷ names) ∷ []
 part_words (Table table) = (codes ".names" ∷ table.inputs ++ table.output ∷ []) ∷ map
-    (row_words table.on) table.rows
+    (words_of_row table.on) table.rows
 part_words (Latch latch) = (codes ".latch" ∷ latch.data_net ∷ latch.output
     ∷ type_words latch.edge latch.control ++ ((48 + latch.initial) ∷ []) ∷ []) ∷ []
 part_words (Subckt call) = (codes ".subckt" ∷ call.model ∷ map pair_word call.pairs) ∷ []
@@ -68,8 +68,8 @@ placed_commands n (command ∷ commands) = record { line = n; part = command.par
     (n + length (part_words command.part)) commands
 
 -- the models with the numbers of these lines
-abbrev pub placed : ℕ → List BlifModel → List BlifModel
-placed n [] = []
-placed n (model ∷ models) =
+abbrev pub models_at_lines : ℕ → List BlifModel → List BlifModel
+models_at_lines n [] = []
+models_at_lines n (model ∷ models) =
     record { name = model.name; line = n; commands = placed_commands (n + 1) model.commands }
-    ∷ placed (n + 1 + length (command_words model.commands)) models
+    ∷ models_at_lines (n + 1 + length (command_words model.commands)) models

@@ -62,12 +62,12 @@ IsPrintable (Latch latch) = IsLatch latch
 IsPrintable (Subckt call) = IsUse call
 
 -- each command can be printed
-abbrev pub AreParts : List Command → Type 0
-AreParts [] = Unit {0}
-AreParts (command ∷ commands) = IsPrintable command.part × AreParts commands
+abbrev pub ArePrintableParts : List Command → Type 0
+ArePrintableParts [] = Unit {0}
+ArePrintableParts (command ∷ commands) = IsPrintable command.part × ArePrintableParts commands
 
 -- each model can be printed, and its name is none of these and none of a later one
 abbrev pub AreModels : List (List ℕ) → List BlifModel → Type 0
 AreModels names [] = Unit {0}
 AreModels names (model ∷ models) = (list_any (bytes_eq model.name) names ≡ false)
-    × AreParts model.commands × AreModels (names ++ model.name ∷ []) models
+    × ArePrintableParts model.commands × AreModels (names ++ model.name ∷ []) models

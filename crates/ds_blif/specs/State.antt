@@ -1,11 +1,12 @@
 -- What the lines before a line leave open, and the first fault of a list of lines.
 use Rattle.std.specs.Prelude.{◌≡◌, ℕ, ◌-◌, Bool, true, false, not, List, [], ◌∷◌, ◌++◌, length}
 use Rattle.std.specs.Prelude.{Option, None, Some, ◌&&◌}
+use Rattle.ds_lines.specs.First.{where_true, first_of}
+use Rattle.ds_lines.specs.Words.{word_at}
 use Rattle.ds_lines.specs.Line.{Line}
-use Rattle.ds_blif.specs.Word.{word_at}
 use Rattle.ds_blif.specs.Head.{head_of}
 use Rattle.ds_blif.specs.Form.{output_of}
-use Rattle.ds_blif.specs.Fault.{where_true, first_of, row_fault, latch_fault}
+use Rattle.ds_blif.specs.Fault.{row_fault, latch_fault}
 use Rattle.ds_blif.specs.Fault.{names_fault, subckt_fault, model_fault}
 use Rattle.ds_blif.specs.declared.head.Head.{Head}
 use Rattle.ds_blif.specs.declared.head.Head.TheVariants.{Row, Names, Model}
@@ -27,8 +28,8 @@ pub record State : Type 0 where
   pub models : List (List ℕ)
 
 -- before all lines
-abbrev pub start : State
-start = record { is_open = false; table = None; first = None; models = [] }
+abbrev pub before_lines : State
+before_lines = record { is_open = false; table = None; first = None; models = [] }
 
 -- whether a model is open after a line
 abbrev pub open_after : Head → Bool → Bool
@@ -109,12 +110,12 @@ IsKind (Because kind) fault = fault ≡ Some kind
 
 -- what lines leave open, the nearest line first
 abbrev pub state_of : List Line → State
-state_of [] = start
+state_of [] = before_lines
 state_of (line ∷ earlier) = after line.words (state_of earlier)
 
 -- the fault of a line after these lines, the nearest first
-abbrev pub fault_of : List Line → Line → Option BlifKind
-fault_of earlier line = fault_in (state_of earlier) line.words
+abbrev pub fault_of_line : List Line → Line → Option BlifKind
+fault_of_line earlier line = fault_in (state_of earlier) line.words
 
 -- the fault at the end of a text: it has no model
 abbrev pub end_fault : List (List ℕ) → Option BlifFault
@@ -122,17 +123,18 @@ end_fault [] = Some (record { line = 1; kind = NoModel })
 end_fault (model ∷ models) = None
 
 -- a fault of this line, else a fault behind it
-abbrev pub fault_or : Option BlifKind → ℕ → Option BlifFault → Option BlifFault
-fault_or None number rest = rest
-fault_or (Some kind) number rest = Some (record { line = number; kind = kind })
+abbrev pub line_fault_or : Option BlifKind → ℕ → Option BlifFault → Option BlifFault
+line_fault_or None number rest = rest
+line_fault_or (Some kind) number rest = Some (record { line = number; kind = kind })
 
 -- the first fault of lines after these, the nearest first
 abbrev pub first_fault : List Line → List Line → Option BlifFault
 first_fault earlier [] = end_fault (state_of earlier).models
-first_fault earlier (line ∷ lines) = fault_or (fault_of earlier line) line.number (first_fault (line
+first_fault earlier (line ∷ lines) = line_fault_or (fault_of_line earlier line) line.number
+    (first_fault (line
     ∷ earlier) lines)
 
 -- a refusal of a text is this fault, unless memory was wanted
-abbrev pub IsFirst : BlifRefusal → Option BlifFault → Type 0
-IsFirst NoMemory fault = Unit {0}
-IsFirst (Fault first) fault = fault ≡ Some first
+abbrev pub IsFirstBlifFault : BlifRefusal → Option BlifFault → Type 0
+IsFirstBlifFault NoMemory fault = Unit {0}
+IsFirstBlifFault (Fault first) fault = fault ≡ Some first

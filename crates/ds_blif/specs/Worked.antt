@@ -13,7 +13,7 @@ use Rattle.ds_models.specs.declared.blif.LatchText.{LatchText}
 use Rattle.ds_models.specs.declared.blif.Pair.{Pair}
 use Rattle.ds_models.specs.declared.blif.BlifModel.{BlifModel}
 use Rattle.ds_blif.specs.Fault.{names_fault}
-use Rattle.ds_blif.specs.Text.{read_of}
+use Rattle.ds_blif.specs.Text.{models_of_text}
 use Rattle.ds_blif.specs.declared.fault.BlifKind.{BlifKind}
 use Rattle.ds_blif.specs.declared.fault.BlifKind.TheVariants.{Unsupported, NoModel, RowWithoutTable}
 use Rattle.ds_blif.specs.declared.fault.BlifKind.TheVariants.{BadWords, TooMany, LevelLatch}
@@ -23,7 +23,7 @@ use Rattle.ds_blif.specs.declared.fault.BlifKind.TheVariants.{RepeatedModel, Bad
 -- a text of these physical lines has this fault first
 abbrev pub HasFault : List (List ℕ) → ℕ → BlifKind → Type 0
 HasFault text line kind =
-    read_of (lines_of (physical text)) ≡ Err (record { line = line; kind = kind })
+    models_of_text (lines_of (physical text)) ≡ Err (record { line = line; kind = kind })
 
 -- the lines of a model up to its line 3
 abbrev pub head : List (List ℕ)
@@ -176,4 +176,4 @@ worked_models =
 
 -- the text stands for these models
 abbrev pub ModelsAreWorked : Type 0
-ModelsAreWorked = read_of (lines_of (physical worked_text)) ≡ Ok worked_models
+ModelsAreWorked = models_of_text (lines_of (physical worked_text)) ≡ Ok worked_models

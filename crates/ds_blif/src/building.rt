@@ -1,7 +1,7 @@
 //! What lines stand for, read from the last one to the first: rows wait for their table, and
 //! commands for their model.
 ghost use Rattle.std.specs.Prelude.{◌≡◌, ◌<◌, length, OnOk};
-ghost use Rattle.ds_blif.specs.Word.{texts, word_at};
+ghost use Rattle.ds_lines.specs.Words.{texts, word_at};
 ghost use Rattle.ds_blif.specs.Head.{head_of as head_of_word};
 ghost use Rattle.ds_blif.specs.Parts.{Parts, no_parts, with_row as with_row_of};
 ghost use Rattle.ds_blif.specs.Parts.{without_rows as without_rows_of};

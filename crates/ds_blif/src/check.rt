@@ -1,8 +1,8 @@
 //! The first fault of a list of lines.
 ghost use Rattle.std.specs.Prelude.{◌≡◌, ◌<◌, None, [], length, MatchResult};
 ghost use Rattle.ds_lines.specs.Line.{line_or_none};
-ghost use Rattle.ds_blif.specs.State.{State as Before, first_fault, fault_in, fault_or, after};
-ghost use Rattle.ds_blif.specs.State.{IsFirst};
+ghost use Rattle.ds_blif.specs.State.{State as Before, first_fault, fault_in, line_fault_or, after};
+ghost use Rattle.ds_blif.specs.State.{IsFirstBlifFault};
 
 use crate::fault::{BlifFault, BlifKind, BlifRefusal, Refusal};
 use crate::state::{State, initial};
@@ -21,7 +21,8 @@ fn check_line<'a>(
     ensures { MatchResult result
         (λ _. (fault_in state.old (line_or_none lines.now i).words ≡ None) × (state.new ≡ after
         (line_or_none lines.now i).words state.old))
-        (λ e. IsFirst e (fault_or (fault_in state.old (line_or_none lines.now i).words)
+        (λ e. IsFirstBlifFault e (line_fault_or
+        (fault_in state.old (line_or_none lines.now i).words)
         (line_or_none lines.now i).number None)) }
 {
     match step(alloc, state, lines.line(i)) {
@@ -36,7 +37,7 @@ fn check_line<'a>(
 
 /// Whether the lines are free of faults.
 pub fn check<'a>(alloc: Global, lines: &Lines<'a>) -> Result<(), BlifRefusal>
-    ensures { MatchResult result (λ _. first_fault [] lines.now ≡ None) (λ e. IsFirst e
+    ensures { MatchResult result (λ _. first_fault [] lines.now ≡ None) (λ e. IsFirstBlifFault e
         (first_fault [] lines.now)) }
 {
     let mut state: State<'a> = initial(alloc);

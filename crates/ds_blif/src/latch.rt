@@ -1,6 +1,6 @@
 //! Latches.
 ghost use Rattle.std.specs.Prelude.{◌≡◌, ◌<◌, length};
-ghost use Rattle.ds_blif.specs.Word.{texts};
+ghost use Rattle.ds_lines.specs.Words.{texts};
 ghost use Rattle.ds_blif.specs.Form.{is_edge as is_edge_word, is_level as is_level_word};
 ghost use Rattle.ds_blif.specs.Form.{is_init as is_init_word, is_latch_form, is_level_latch};
 ghost use Rattle.ds_blif.specs.Form.{has_bad_init as has_bad_init_word};

@@ -1,6 +1,6 @@
 //! The head of a model.
 ghost use Rattle.std.specs.Prelude.{◌≡◌, ◌++◌, ◌∷◌, [], None, MatchResult};
-ghost use Rattle.ds_blif.specs.Word.{texts, word_at};
+ghost use Rattle.ds_lines.specs.Words.{texts, word_at};
 ghost use Rattle.ds_blif.specs.Fault.{model_fault};
 ghost use Rattle.ds_blif.specs.State.{IsKind};
 

@@ -1,10 +1,10 @@
 //! What a line says.
 ghost use Rattle.std.specs.Prelude.{◌≡◌, IfOk, map, take, drop, ◌<◌, ◌-◌, length};
 ghost use Rattle.std.specs.List.{after_first};
-ghost use Rattle.ds_blif.specs.Word.{texts};
+ghost use Rattle.ds_lines.specs.Words.{texts};
 ghost use Rattle.ds_blif.specs.Form.{is_equals, output_of};
 ghost use Rattle.ds_blif.specs.Parts.{Parts, plane_of as plane_of_words, is_on as is_on_words};
-ghost use Rattle.ds_blif.specs.Parts.{table_of as table_of_words, edge_of as edge_of_word};
+ghost use Rattle.ds_blif.specs.Parts.{table_of as table_of_words, edge_of_type as edge_of_word};
 ghost use Rattle.ds_blif.specs.Parts.{control_of as control_of_word, digit_of as digit_of_word};
 ghost use Rattle.ds_blif.specs.Parts.{initial_of as initial_of_words, latch_of as latch_of_words};
 ghost use Rattle.ds_blif.specs.Parts.{pair_of as pair_of_word, use_of as use_of_words};

@@ -5,7 +5,7 @@
 //! meets these, and keeps no table or model that is open. One pass would keep both states, take
 //! memory for models that a later fault throws away, and save a look at each line's first word.
 ghost use Rattle.std.specs.Prelude.{◌≡◌};
-ghost use Rattle.ds_blif.specs.Text.{read_of, Reads};
+ghost use Rattle.ds_blif.specs.Text.{models_of_text, ReadsModels};
 
 use crate::build::build;
 use crate::check::check;
@@ -17,7 +17,7 @@ use std::alloc::Global;
 /// The models that the lines stand for, the main one first, or their first fault. A text without
 /// a model is a fault of line 1.
 pub fn read<'l>(alloc: Global, lines: &'l Lines<'_>) -> Result<Blif<'l>, BlifRefusal>
-    ensures { Reads result (read_of lines.entry.now) }
+    ensures { ReadsModels result (models_of_text lines.entry.now) }
 {
     check(alloc, lines)?;
     let models = build(alloc, lines)?;

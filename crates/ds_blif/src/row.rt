@@ -1,7 +1,7 @@
 //! Rows of a table.
 ghost use Rattle.std.specs.Prelude.{◌≡◌, ◌<◌, length, option_map};
 ghost use Rattle.std.specs.List.{list_all};
-ghost use Rattle.ds_blif.specs.Word.{texts};
+ghost use Rattle.ds_lines.specs.Words.{texts};
 ghost use Rattle.ds_blif.specs.Form.{is_row_form, is_output as is_output_word, is_plane_byte};
 ghost use Rattle.ds_blif.specs.Form.{output_of};
 ghost use Rattle.ds_blif.specs.Fault.{row_fault as row_fault_in, differs as differs_from};

@@ -1,7 +1,7 @@
 //! What the lines before a line leave open.
 ghost use Rattle.std.specs.Prelude.{◌≡◌, ◌<◌, ◌&&◌, length, option_map};
-ghost use Rattle.ds_blif.specs.Word.{texts};
-ghost use Rattle.ds_blif.specs.State.{State as Before, start, open_after as open_behind};
+ghost use Rattle.ds_lines.specs.Words.{texts};
+ghost use Rattle.ds_blif.specs.State.{State as Before, before_lines, open_after as open_behind};
 ghost use Rattle.ds_blif.specs.State.{table_after as table_behind, first_after as first_behind};
 ghost use Rattle.ds_blif.specs.State.{wants_model as wants_open_model};
 
@@ -37,7 +37,7 @@ impl<'a> Model for State<'a> {
 
 /// Before all lines.
 pub fn initial<'a>(alloc: Global) -> State<'a>
-    ensures { result ≡ start }
+    ensures { result ≡ before_lines }
 {
     State {
         is_open: false,

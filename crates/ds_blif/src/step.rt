@@ -1,7 +1,7 @@
 //! One line after the lines before it.
 ghost use Rattle.std.specs.Prelude.{◌≡◌, ◌≢◌, ◌<◌, None, true, length, IfOk, MatchResult};
 ghost use Rattle.std.specs.Prelude.{option_map};
-ghost use Rattle.ds_blif.specs.Word.{texts};
+ghost use Rattle.ds_lines.specs.Words.{texts};
 ghost use Rattle.ds_blif.specs.Fault.{names_fault as names_fault_in};
 ghost use Rattle.ds_blif.specs.State.{State as Before, IsKind, own_fault as own_fault_in, fault_by};
 ghost use Rattle.ds_blif.specs.State.{fault_in, after_head, after};

@@ -1,7 +1,7 @@
 //! Uses of models.
 ghost use Rattle.std.specs.Prelude.{◌≡◌, ◌<◌, ◌≤◌, length, IfOk, drop, []};
 ghost use Rattle.std.specs.List.{before_first, position_or_len};
-ghost use Rattle.ds_blif.specs.Word.{texts};
+ghost use Rattle.ds_lines.specs.Words.{texts};
 ghost use Rattle.ds_blif.specs.Form.{is_equals, is_pair as is_pair_word, formal_of};
 ghost use Rattle.ds_blif.specs.Form.{has_bad_pairs as has_bad_pairs_word};
 ghost use Rattle.ds_blif.specs.Fault.{subckt_fault as subckt_fault_in};

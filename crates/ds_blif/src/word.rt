@@ -1,7 +1,7 @@
 //! Words of a line.
 ghost use Rattle.std.specs.Prelude.{◌≡◌, ◌<◌, length, drop, IfOk};
 ghost use Rattle.std.specs.Str.{bytes_eq};
-ghost use Rattle.ds_blif.specs.Word.{texts, word_at};
+ghost use Rattle.ds_lines.specs.Words.{texts, word_at};
 
 use ds_base::{Name, Seq};
 use ds_models::Words;

@@ -10,7 +10,7 @@ use Rattle.ds_base.specs.Limit.{most_of}
 use Rattle.ds_base.specs.declared.number.Limit.TheVariants.{Clusters, Vectors}
 use Rattle.clap.specs.Words.{Row, Text, fault_of, first_of, subcommand_of}
 use Rattle.ds_cmd.specs.Fault.{Gives, with_mode, with_number, with_value}
-use Rattle.ds_cmd.specs.Number.{is_between, is_numeral, jobs_of, number_of, number_or_one, number_or_zero, slack_of, stop_in}
+use Rattle.ds_cmd.specs.Number.{is_between, is_numeral, jobs_of, number_in_range, number_or_one, number_or_zero, slack_of, stop_in}
 use Rattle.ds_cmd.specs.Clusters.{clusters_of}
 use Rattle.ds_cmd.specs.Run.{run_job}
 use Rattle.ds_cmd.specs.Clock.{clock_job}
@@ -68,8 +68,8 @@ picked_between true least most value n tests is =
     subst (λ (m : ℕ). (least ≤ m) × (m ≤ most)) e (low', high')
 
 -- a number that a word gives is within its range
-between : (least most : ℕ) (word : Text) (n : ℕ) → number_of least most word ≡ Some n → (least ≤ n) × (n ≤ most)
-unfolding number_of
+between : (least most : ℕ) (word : Text) (n : ℕ) → number_in_range least most word ≡ Some n → (least ≤ n) × (n ≤ most)
+unfolding number_in_range
 between least most word n is =
     picked_between (is_numeral word && is_between least most (digits_value 10 word)) least most (digits_value 10 word) n
     (λ tests. (both (is_numeral word) (is_between least most (digits_value 10 word)) tests).1) is
@@ -119,8 +119,8 @@ accept_yields rows = valued (first_of (codes "net") rows) _ (λ net. valued (fir
 demo_yields : (rows : List Row) → Yields (demo_job rows)
 demo_yields rows = valued (first_of (codes "seed") rows) _ (λ seed. valued (first_of (codes "registers") rows) _ (λ registers.
     valued (first_of (codes "turns") rows) _ (λ turns.
-    numbered (number_of 0 18446744073709551615 seed) _ (λ n is_seed. numbered (number_of 1 (most_of Clusters) registers) _ (λ r is_r.
-    numbered (number_of 0 (most_of Vectors) turns) _ (λ t is_t. numbered (jobs_of rows) _ (λ jobs is.
+    numbered (number_in_range 0 18446744073709551615 seed) _ (λ n is_seed. numbered (number_in_range 1 (most_of Clusters) registers) _ (λ r is_r.
+    numbered (number_in_range 0 (most_of Vectors) turns) _ (λ t is_t. numbered (jobs_of rows) _ (λ jobs is.
     ok_yields _ (
       (between 1 (most_of Clusters) registers r is_r).0,
       (between 1 (most_of Clusters) registers r is_r).1,

@@ -8,3 +8,4 @@ pub mod NumberLemmas
 pub mod TakenNumbers
 pub mod TakenReplay
 pub mod AllowedNumbers
+pub mod Wanted

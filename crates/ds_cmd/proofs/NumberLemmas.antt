@@ -15,7 +15,7 @@ use Rattle.std.proofs.lemmas.Fmt.{decimal_is_IsNumeral, length-decimal-le}
 use Rattle.std.proofs.lemmas.Str.Parse.{IsNumeralModel, numerals_by_value, parse_digits}
 use Rattle.clap.specs.Words.{Text}
 use Rattle.ds_cmd.specs.Plain.{is_plain}
-use Rattle.ds_cmd.specs.Number.{is_between, is_numeral, number_of}
+use Rattle.ds_cmd.specs.Number.{is_between, is_numeral, number_in_range}
 
 -- both tests hold
 pub both : (a b : Bool) → (a && b) ≡ true → (a ≡ true) × (b ≡ true)
@@ -47,14 +47,14 @@ parsed word read is value = parse_digits digits 64 word read value (is_number wo
 
 -- no numeral, no number
 pub no_numeral : (least most : ℕ) (word : Text) → is_numeral word ≡ false
-    → number_of least most word ≡ None
-unfolding number_of
+    → number_in_range least most word ≡ None
+unfolding number_in_range
 no_numeral least most word e = rw e refl
 
 -- outside of the range, no number
 outside : (least most : ℕ) (word : Text) → is_between least most (digits_value 10 word) ≡ false
-    → number_of least most word ≡ None
-unfolding number_of
+    → number_in_range least most word ≡ None
+unfolding number_in_range
 outside least most word e = go (is_numeral word)
   where
     go : (b : Bool) → (if b && is_between least most (digits_value 10 word)
@@ -65,8 +65,8 @@ outside least most word e = go (is_numeral word)
 -- inside, the value of its digits
 pub inside : (least most : ℕ) (word : Text) → is_numeral word ≡ true
     → least ≤ digits_value 10 word → digits_value 10 word ≤ most
-    → number_of least most word ≡ Some (digits_value 10 word)
-unfolding number_of
+    → number_in_range least most word ≡ Some (digits_value 10 word)
+unfolding number_in_range
 inside least most word is from to = rw (is, le-leb _ _ from, le-leb _ _ to) refl
 
 -- a test of a number that a range keeps out
@@ -88,12 +88,12 @@ high least most value e = elim (cases_Bool (is_between least most value)) [
 
 -- a value out of range is no number
 pub below : (least most : ℕ) (word : Text) (value : ℕ) → digits_value 10 word ≡ value
-    → value < least → number_of least most word ≡ None
+    → value < least → number_in_range least most word ≡ None
 below least most word value e less =
     outside least most word (low least most (digits_value 10 word) (omega (arith, e)))
 
 pub above : (least most : ℕ) (word : Text) (value : ℕ) → digits_value 10 word ≡ value
-    → most < value → number_of least most word ≡ None
+    → most < value → number_in_range least most word ≡ None
 above least most word value e more =
     outside least most word (high least most (digits_value 10 word) (omega (arith, e)))
 
@@ -104,7 +104,7 @@ value_read word value is read = sym (parsed {E = Unit {0}} word (Ok value) is re
 
 -- what it does not read is in no range of 64 bits
 pub not_read : (least most : ℕ) (word : Text) → most < 2 ^ 64 → is_numeral word ≡ true
-    → ParsesUnsigned {E = Unit {0}} 64 10 word (Err tt) → number_of least most word ≡ None
+    → ParsesUnsigned {E = Unit {0}} 64 10 word (Err tt) → number_in_range least most word ≡ None
 not_read least most word fits is read =
     elim (cases_Bool (is_between least most (digits_value 10 word))) [
       | inl holds ↦
@@ -114,18 +114,14 @@ not_read least most word fits is read =
       | inr fails ↦ outside least most word fails
     ]
 
-or_zero : Option ℕ → ℕ
-or_zero None = 0
-or_zero (Some n) = n
-
+-- equal where both are there
 some_same : (a b : ℕ) → (let o : Option ℕ = Some a in o ≡ Some b) → a ≡ b
-unfolding or_zero
-some_same a b e = ap or_zero e
+some_same a b e = cc
 
 -- a number is at most the range's end
-pub number_low : (least most : ℕ) (word : Text) (value : ℕ) → number_of least most word ≡ Some value
+pub number_low : (least most : ℕ) (word : Text) (value : ℕ) → number_in_range least most word ≡ Some value
     → value ≤ most
-unfolding number_of
+unfolding number_in_range
 number_low least most word value e =
     go (is_numeral word && is_between least most (digits_value 10 word)) refl e
   where
@@ -160,8 +156,8 @@ plain_digits (byte ∷ next ∷ rest) all = plain_digit byte (both (is_ascii_dig
 
 -- nor is one that is a number
 pub plain_number : (least most : ℕ) (word : Text) (value : ℕ)
-    → number_of least most word ≡ Some value → is_plain word ≡ true
-unfolding number_of
+    → number_in_range least most word ≡ Some value → is_plain word ≡ true
+unfolding number_in_range
 plain_number least most word value e = go (is_numeral word) refl e
   where
     go : (b : Bool) → is_numeral word ≡ b
@@ -172,7 +168,7 @@ plain_number least most word value e = go (is_numeral word) refl e
 
 -- what is written in decimal is a number
 pub number_of-decimal : (least most n : ℕ) → least ≤ n → n ≤ most → n < 2 ^ 64
-    → number_of least most (decimal n) ≡ Some n
+    → number_in_range least most (decimal n) ≡ Some n
 number_of-decimal least most n from to fits =
     let (numeral, same) = decimal_is_IsNumeral n fits in
     let from2 : least ≤ digits_value 10 (decimal n) = omega (arith, same) in

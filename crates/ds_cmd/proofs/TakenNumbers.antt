@@ -9,7 +9,7 @@ use Rattle.clap.proofs.OnLiterals.{clap_on_literals}
 use Rattle.ds_base.specs.declared.number.Mode.TheVariants.{Each}
 use Rattle.ds_cmd.specs.Fault.{with_number}
 use Rattle.ds_cmd.specs.Line.{job_of}
-use Rattle.ds_cmd.specs.Number.{number_of}
+use Rattle.ds_cmd.specs.Number.{number_in_range}
 use Rattle.ds_cmd.specs.Plain.{is_plain}
 use Rattle.ds_cmd.specs.declared.fault.UsageFault.{UsageFault}
 use Rattle.ds_cmd.specs.declared.job.Job.{Job}
@@ -20,7 +20,7 @@ use Rattle.ds_cmd.proofs.Taken.{IsNoOption, no_option}
 -- a word that is read as a number
 pub record IsWritten (least most : ℕ) (word : Text) (value : ℕ) : Type 0 where
   pub plain : IsNoOption word
-  pub number : number_of least most word ≡ Some value
+  pub number : number_in_range least most word ≡ Some value
 
 pub written : (least most value : ℕ) → least ≤ value → value ≤ most → value < 2 ^ 64
     → IsWritten least most (decimal value) value
@@ -41,13 +41,13 @@ run_job_at net vec jobs = with_number jobs (λ jobs. Ok (Run net vec None Each j
 
 jobs_at : (program net vec word : Text) → IsNoOption net → IsNoOption vec → IsNoOption word
     → job_of (program ∷ codes "run" ∷ net ∷ vec ∷ codes "--jobs" ∷ word ∷ [])
-    ≡ run_job_at net vec (number_of 1 64 word)
+    ≡ run_job_at net vec (number_in_range 1 64 word)
 unfolding clap_on_literals run_job_at
 jobs_at program net vec word n v w = rw (n.dashes, n.long, n.short) (rw (v.dashes, v.long, v.short)
-    (rw (w.dashes, w.long, w.short) (refl {a = run_job_at net vec (number_of 1 64 word)})))
+    (rw (w.dashes, w.long, w.short) (refl {a = run_job_at net vec (number_in_range 1 64 word)})))
 
 run_job_of : (net vec word : Text) (jobs : ℕ) → IsWritten 1 64 word jobs
-    → run_job_at net vec (number_of 1 64 word) ≡ Ok (Run net vec None Each jobs false 0 None)
+    → run_job_at net vec (number_in_range 1 64 word) ≡ Ok (Run net vec None Each jobs false 0 None)
 unfolding run_job_at
 run_job_of net vec word jobs w = rw w.number refl
 
@@ -57,13 +57,13 @@ run_job_with net vec slack = with_number slack (λ slack. Ok (Run net vec None E
 
 slack_at : (program net vec word : Text) → IsNoOption net → IsNoOption vec → IsNoOption word
     → job_of (program ∷ codes "run" ∷ net ∷ vec ∷ codes "--slack" ∷ word ∷ [])
-    ≡ run_job_with net vec (number_of 0 15 word)
+    ≡ run_job_with net vec (number_in_range 0 15 word)
 unfolding clap_on_literals run_job_with
 slack_at program net vec word n v w = rw (n.dashes, n.long, n.short) (rw (v.dashes, v.long, v.short)
-    (rw (w.dashes, w.long, w.short) (refl {a = run_job_with net vec (number_of 0 15 word)})))
+    (rw (w.dashes, w.long, w.short) (refl {a = run_job_with net vec (number_in_range 0 15 word)})))
 
 run_job_slack : (net vec word : Text) (slack : ℕ) → IsWritten 0 15 word slack
-    → run_job_with net vec (number_of 0 15 word) ≡ Ok (Run net vec None Each 1 false slack None)
+    → run_job_with net vec (number_in_range 0 15 word) ≡ Ok (Run net vec None Each 1 false slack None)
 unfolding run_job_with
 run_job_slack net vec word slack w = rw w.number refl
 
@@ -73,14 +73,14 @@ run_job_to net vec stop = with_number stop (λ stop. Ok (Run net vec None Each 1
 
 stop_at : (program net vec word : Text) → IsNoOption net → IsNoOption vec → IsNoOption word
     → job_of (program ∷ codes "run" ∷ net ∷ vec ∷ codes "--stop" ∷ word ∷ [])
-    ≡ run_job_to net vec (option_map Some (number_of 0 most_number word))
+    ≡ run_job_to net vec (option_map Some (number_in_range 0 most_number word))
 unfolding clap_on_literals run_job_to most_number
 stop_at program net vec word n v w = rw (n.dashes, n.long, n.short) (rw (v.dashes, v.long, v.short)
     (rw (w.dashes, w.long, w.short)
-    (refl {a = run_job_to net vec (option_map Some (number_of 0 most_number word))})))
+    (refl {a = run_job_to net vec (option_map Some (number_in_range 0 most_number word))})))
 
 run_job_stop : (net vec word : Text) (stop : ℕ) → IsWritten 0 most_number word stop
-    → run_job_to net vec (option_map Some (number_of 0 most_number word))
+    → run_job_to net vec (option_map Some (number_in_range 0 most_number word))
     ≡ Ok (Run net vec None Each 1 false 0 (Some stop))
 unfolding run_job_to
 run_job_stop net vec word stop w = rw w.number refl
@@ -94,9 +94,9 @@ log_at program net vec n v = rw (n.dashes, n.long, n.short)
 
 -- the job of `demo` at these words
 demo_job_at : Text → Text → Text → Option ℕ → Result Job UsageFault
-demo_job_at a b c jobs = with_number (number_of 0 most_number a) (λ seed.
-    with_number (number_of 1 4096 b) (λ registers.
-    with_number (number_of 0 65536 c) (λ turns.
+demo_job_at a b c jobs = with_number (number_in_range 0 most_number a) (λ seed.
+    with_number (number_in_range 1 4096 b) (λ registers.
+    with_number (number_in_range 0 65536 c) (λ turns.
     with_number jobs (λ jobs. Ok (Demo seed registers turns jobs)))))
 
 demo_at : (program a b c : Text) → IsNoOption a → IsNoOption b → IsNoOption c
@@ -107,11 +107,11 @@ demo_at program a b c s r t = rw (s.dashes, s.long, s.short) (rw (r.dashes, r.lo
 
 demo_in : (program a b c d : Text) → IsNoOption a → IsNoOption b → IsNoOption c → IsNoOption d
     → job_of (program ∷ codes "demo" ∷ a ∷ b ∷ c ∷ codes "--jobs" ∷ d ∷ [])
-    ≡ demo_job_at a b c (number_of 1 64 d)
+    ≡ demo_job_at a b c (number_in_range 1 64 d)
 unfolding clap_on_literals demo_job_at most_number
 demo_in program a b c d s r t j = rw (s.dashes, s.long, s.short) (rw (r.dashes, r.long, r.short)
     (rw (t.dashes, t.long, t.short) (rw (j.dashes, j.long, j.short)
-    (refl {a = demo_job_at a b c (number_of 1 64 d)}))))
+    (refl {a = demo_job_at a b c (number_in_range 1 64 d)}))))
 
 -- three words that are read as the numbers of `demo`
 record AreWritten (a b c : Text) (s r t : ℕ) : Type 0 where

@@ -7,7 +7,7 @@ use Rattle.clap.proofs.OnLiterals.{clap_on_literals}
 use Rattle.ds_base.specs.declared.number.Mode.TheVariants.{Each}
 use Rattle.ds_cmd.specs.Fault.{with_number}
 use Rattle.ds_cmd.specs.Line.{job_of}
-use Rattle.ds_cmd.specs.Number.{number_of}
+use Rattle.ds_cmd.specs.Number.{number_in_range}
 use Rattle.ds_cmd.specs.Plain.{is_plain}
 use Rattle.ds_cmd.specs.Replay.{shown_with}
 use Rattle.ds_cmd.specs.declared.fault.UsageFault.{UsageFault}
@@ -32,15 +32,15 @@ replay_job_with net vec log slack =
 slack_at : (program net vec log word : Text) → IsNoOption net → IsNoOption vec → IsNoOption log
     → IsNoOption word
     → job_of (program ∷ codes "replay" ∷ net ∷ vec ∷ log ∷ codes "--slack" ∷ word ∷ [])
-    ≡ replay_job_with net vec log (number_of 0 15 word)
+    ≡ replay_job_with net vec log (number_in_range 0 15 word)
 unfolding clap_on_literals shown_with replay_job_with
 slack_at program net vec log word n v l w =
     rw (n.dashes, n.long, n.short) (rw (v.dashes, v.long, v.short)
     (rw (l.dashes, l.long, l.short) (rw w.dashes (rw w.long (rw w.short
-    (refl {a = replay_job_with net vec log (number_of 0 15 word)}))))))
+    (refl {a = replay_job_with net vec log (number_in_range 0 15 word)}))))))
 
 replay_job_slack : (net vec log word : Text) (slack : ℕ) → IsWritten 0 15 word slack
-    → replay_job_with net vec log (number_of 0 15 word)
+    → replay_job_with net vec log (number_in_range 0 15 word)
     ≡ Ok (Replay net vec log None Each slack false)
 unfolding replay_job_with
 replay_job_slack net vec log word slack w = rw w.number refl

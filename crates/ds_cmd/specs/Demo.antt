@@ -5,7 +5,7 @@ use Rattle.ds_base.specs.Limit.{most_of}
 use Rattle.ds_base.specs.declared.number.Limit.TheVariants.{Clusters, Vectors}
 use Rattle.ds_cmd.specs.Argument.{command_shape, word_rule, option_rule}
 use Rattle.ds_cmd.specs.Fault.{with_number, with_value}
-use Rattle.ds_cmd.specs.Number.{jobs_of, number_of}
+use Rattle.ds_cmd.specs.Number.{jobs_of, number_in_range}
 use Rattle.ds_cmd.specs.declared.job.Job.{Job}
 use Rattle.ds_cmd.specs.declared.job.Job.TheVariants.{Demo}
 use Rattle.ds_cmd.specs.declared.fault.UsageFault.{UsageFault}
@@ -22,9 +22,9 @@ demo_shape = command_shape (codes "demo") (
 -- more, each of which has a cluster of its own, and turns
 abbrev pub demo_of : Text → Text → Text → List Row → Result Job UsageFault
 demo_of seed registers turns rows =
-    with_number (number_of 0 18446744073709551615 seed) (λ seed.
-    with_number (number_of 1 (most_of Clusters) registers) (λ registers.
-    with_number (number_of 0 (most_of Vectors) turns) (λ turns.
+    with_number (number_in_range 0 18446744073709551615 seed) (λ seed.
+    with_number (number_in_range 1 (most_of Clusters) registers) (λ registers.
+    with_number (number_in_range 0 (most_of Vectors) turns) (λ turns.
     with_number (jobs_of rows) (λ jobs. Ok (Demo seed registers turns jobs)))))
 
 -- its job, from the values of its arguments

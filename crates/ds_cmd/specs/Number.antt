@@ -16,14 +16,14 @@ abbrev pub is_between : ℕ → ℕ → ℕ → Bool
 is_between least most value = nat_le least value && nat_le value most
 
 -- the number that the word writes, where it is one from least to most
-unfoldable pub number_of : ℕ → ℕ → Text → Option ℕ
-number_of least most word = if is_numeral word && is_between least most (digits_value 10 word)
+unfoldable pub number_in_range : ℕ → ℕ → Text → Option ℕ
+number_in_range least most word = if is_numeral word && is_between least most (digits_value 10 word)
     then Some (digits_value 10 word) else None
 
 -- the number of the option's value, from 1 to 64, and 1 without the option
 abbrev pub number_or_one : Option Text → Option ℕ
 number_or_one None = Some 1
-number_or_one (Some word) = number_of 1 64 word
+number_or_one (Some word) = number_in_range 1 64 word
 
 -- how many threads are wanted, by the values of a command's arguments
 abbrev pub jobs_of : List Row → Option ℕ
@@ -32,7 +32,7 @@ jobs_of rows = number_or_one (first_of (codes "jobs") rows)
 -- the number of the option's value, from 0 to 15, and 0 without the option
 abbrev pub number_or_zero : Option Text → Option ℕ
 number_or_zero None = Some 0
-number_or_zero (Some word) = number_of 0 15 word
+number_or_zero (Some word) = number_in_range 0 15 word
 
 -- how many openings a producer may run ahead, by the values of a command's arguments
 abbrev pub slack_of : List Row → Option ℕ
@@ -41,7 +41,7 @@ slack_of rows = number_or_zero (first_of (codes "slack") rows)
 -- the number of the option's value, any of 64 bits, and none without the option
 abbrev pub number_or_none : Option Text → Option (Option ℕ)
 number_or_none None = Some None
-number_or_none (Some word) = option_map Some (number_of 0 18446744073709551615 word)
+number_or_none (Some word) = option_map Some (number_in_range 0 18446744073709551615 word)
 
 -- how many events each worker fires at most, where there is such a bound, by the values of a
 -- command's arguments

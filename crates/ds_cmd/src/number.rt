@@ -3,7 +3,8 @@ ghost use Rattle.std.specs.Prelude.{◌≡◌};
 ghost use Rattle.std.specs.Char.{is_ascii_digit};
 ghost use Rattle.std.specs.List.{list_all};
 ghost use Rattle.clap.specs.Words.{found_of, rows_of};
-ghost use Rattle.ds_cmd.specs.Number.{is_numeral as is_numeral_text, jobs_of, number_of, slack_of};
+ghost use Rattle.ds_cmd.specs.Number.{is_numeral as is_numeral_text, jobs_of, number_in_range};
+ghost use Rattle.ds_cmd.specs.Number.{slack_of};
 ghost use Rattle.ds_cmd.specs.Number.{stop_in};
 
 use crate::argument::text;
@@ -12,7 +13,7 @@ use clap::ArgMatches;
 /// The number that a word of one to twenty decimal digits writes, where it is one from `least` to
 /// `most`; `None` for another word.
 pub fn number(word: &str, least: u64, most: u64) -> Option<u64>
-    ensures { result ≡ number_of least most word.now }
+    ensures { result ≡ number_in_range least most word.now }
 {
     if !is_numeral(word) {
         return None;
@@ -25,7 +26,7 @@ pub fn number(word: &str, least: u64, most: u64) -> Option<u64>
 
 /// The same for a range of smaller numbers.
 pub fn small_number(word: &str, least: u32, most: u32) -> Option<u32>
-    ensures { result ≡ number_of least most word.now }
+    ensures { result ≡ number_in_range least most word.now }
 {
     match number(word, u64::from(least), u64::from(most)) {
         Some(value) => Some(value as u32),
@@ -35,7 +36,7 @@ pub fn small_number(word: &str, least: u32, most: u32) -> Option<u32>
 
 /// The same for a range of numbers of a byte.
 pub fn byte_number(word: &str, least: u8, most: u8) -> Option<u8>
-    ensures { result ≡ number_of least most word.now }
+    ensures { result ≡ number_in_range least most word.now }
 {
     match number(word, u64::from(least), u64::from(most)) {
         Some(value) => Some(value as u8),

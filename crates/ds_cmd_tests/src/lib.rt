@@ -3,4 +3,8 @@
 #![tactic(auto)]
 
 #[cfg(test)]
-mod tests;
+mod refused_tests;
+#[cfg(test)]
+mod taken_tests;
+#[cfg(test)]
+mod words;

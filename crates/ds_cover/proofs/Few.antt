@@ -9,7 +9,7 @@ use Rattle.ds_base.specs.Values.{AreKnown, Row, either}
 use Rattle.ds_base.specs.declared.value.Value.{Value}
 use Rattle.ds_base.specs.declared.value.Value.TheVariants.{Zero, One, Unknown}
 use Rattle.ds_cover.specs.Cover.{signed, value_at, values_at}
-use Rattle.ds_cover.specs.Packed.{bits_by, contradicted, doubted, mask_value, masks_value, unknown_bit, verdict, words_of}
+use Rattle.ds_cover.specs.Packed.{bits_by, contradicted, doubted, mask_value, masks_value, unknown_bit, verdict, words_of_values}
 use Rattle.ds_cover.specs.Kept.{AreThree, IsQuick, IsSingle, IsTruth, singles_value, six_nets}
 use Rattle.ds_cover.specs.declared.entry.Quick.{Quick}
 use Rattle.ds_cover.specs.declared.mask.Mask.{Mask}
@@ -56,14 +56,14 @@ no_unknowns (One ∷ values) known = (let e = no_unknowns values (All-tail Known
 no_unknowns (Unknown ∷ values) known = absurd (All-head Known Unknown values known refl)
 
 -- rows of one mask each, over few values
-pub singles_are : (masks : List Mask) (values : Row) → All IsSingle masks → length values ≤ 64 → masks_value values One masks ≡ singles_value masks (words_of values)
+pub singles_are : (masks : List Mask) (values : Row) → All IsSingle masks → length values ≤ 64 → masks_value values One masks ≡ singles_value masks (words_of_values values)
 singles_are [] values single short = refl
 singles_are (mask ∷ masks) values single short =
     let head = All-head IsSingle mask masks single in
     let whole : take 64 (drop mask.first values) ≡ values = ap (λ (n : ℕ). take 64 (drop n values)) head.starts ∙ take_all 64 values short in
     let rest = singles_are masks values (All-tail IsSingle mask masks single) short in
-    ap (λ (b : Bool). if b then either (mask_value mask (words_of (take 64 (drop mask.first values)))) (masks_value values One masks) else masks_value values (mask_value mask (words_of (take 64 (drop mask.first values)))) masks) head.ends
-    ∙ (ap (λ (r : Row). either (mask_value mask (words_of r)) (masks_value values One masks)) whole ∙ ap (either (mask_value mask (words_of values))) rest)
+    ap (λ (b : Bool). if b then either (mask_value mask (words_of_values (take 64 (drop mask.first values)))) (masks_value values One masks) else masks_value values (mask_value mask (words_of_values (take 64 (drop mask.first values)))) masks) head.ends
+    ∙ (ap (λ (r : Row). either (mask_value mask (words_of_values r)) (masks_value values One masks)) whole ∙ ap (either (mask_value mask (words_of_values values))) rest)
 
 -- the six nets begin with the inputs
 six_take : (inputs : List ℕ) → 0 < length inputs → length inputs ≤ 6 → take (length inputs) (six_nets inputs) ≡ inputs

@@ -11,7 +11,7 @@ use Rattle.ds_base.specs.declared.value.Value.{Value}
 use Rattle.ds_base.specs.declared.value.Value.TheVariants.{Zero, One, Unknown}
 use Rattle.ds_cover.specs.Cover.{signed}
 use Rattle.ds_cover.specs.Kept.{IsTruth, bit_value, singles_value}
-use Rattle.ds_cover.specs.Packed.{bits_by, one_bit, words_of}
+use Rattle.ds_cover.specs.Packed.{bits_by, one_bit, words_of_values}
 use Rattle.ds_cover.specs.Rows.{some_word}
 use Rattle.ds_cover.specs.Ternary.{IsWordOf, code_value, coded_word, three_at}
 use Rattle.ds_cover.specs.declared.mask.Mask.{Mask}
@@ -135,9 +135,9 @@ truth_is masks on truth is (u ∷ v ∷ w ∷ x ∷ y ∷ z ∷ []) six known =
     let values : Row = u ∷ v ∷ w ∷ x ∷ y ∷ z ∷ [] in
     let n = bits_by one_bit (u ∷ v ∷ w ∷ x ∷ y ∷ z ∷ []) in
     let low = place_low u v w x y z ku kv kw kx ky kz in
-    let bit : bit_at (some_word six_ones six_zeros masks) n ≡ some_bit (singles_value masks (words_of values)) =
+    let bit : bit_at (some_word six_ones six_zeros masks) n ≡ some_bit (singles_value masks (words_of_values values)) =
     some_at some_bit some_reading n low six_ones six_zeros values masks (six_read u v w x y z ku kv kw kx ky kz) in
-    bit_signed on (singles_value masks (words_of values)) (bit_at truth n) (singles_known masks (words_of values) (no_unknowns values known))
+    bit_signed on (singles_value masks (words_of_values values)) (bit_at truth n) (singles_known masks (words_of_values values) (no_unknowns values known))
     (ap (λ t. bit_at t n) is ∙ (sign_at on (some_word six_ones six_zeros masks) n low ∙ ap (λ b. if on then b else (b + 1) % 2) bit))
 truth_is masks on truth is [] six known = absurd (omega arith)
 truth_is masks on truth is (u ∷ []) six known = absurd (omega arith)
@@ -265,7 +265,7 @@ module _ (word place : ℕ) (low : place < 27) where
 pub word_is : (masks : List Mask) (on : Bool) (word : ℕ) → word ≡ coded_word on (some_word three_ones three_zeros masks) → IsWordOf masks on word
 word_is masks on word is place low =
     let rows = some_word three_ones three_zeros masks in
-    let value = singles_value masks (words_of (three_at place)) in
+    let value = singles_value masks (words_of_values (three_at place)) in
     let lower : bit_at rows (2 * place) ≡ some_bit value = some_at some_bit some_reading (2 * place) (omega arith) three_ones three_zeros (three_at place) masks (lower_read place low) in
     let upper : bit_at rows (suc (2 * place)) ≡ one_bit value = some_at one_bit one_reading (suc (2 * place)) (omega arith) three_ones three_zeros (three_at place) masks (upper_read place low) in
     ap (λ n. code_value (n / 2 ^ (2 * place) % 4)) is

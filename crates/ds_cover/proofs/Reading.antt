@@ -10,7 +10,7 @@ use Rattle.ds_base.specs.Values.{Row, both, either, inverse}
 use Rattle.ds_base.specs.declared.value.Value.{Value}
 use Rattle.ds_base.specs.declared.value.Value.TheVariants.{Zero, One, Unknown}
 use Rattle.ds_cover.specs.Kept.{singles_value}
-use Rattle.ds_cover.specs.Packed.{bits_by, mask_value, one_bit, unknown_bit, verdict, words_of, zero_bit}
+use Rattle.ds_cover.specs.Packed.{bits_by, mask_value, one_bit, unknown_bit, verdict, words_of_values, zero_bit}
 use Rattle.ds_cover.specs.Rows.{asked_word, kept_word, row_word, some_word}
 use Rattle.ds_cover.specs.declared.mask.Mask.{Mask}
 use Rattle.ds_cover.proofs.Bits.{against_cons, doubt_cons, one_bit-few, unknown_bit-few, zero_bit-few}
@@ -165,13 +165,13 @@ module _ (read : Value → ℕ) (reading : IsReading read) (place : ℕ) (low : 
 
   -- whether some row takes them
   pub some_at : (ones zeros : List ℕ) (values : Row) (masks : List Mask) → AreRead read ones zeros values place
-      → bit_at (some_word ones zeros masks) place ≡ read (singles_value masks (words_of values))
+      → bit_at (some_word ones zeros masks) place ≡ read (singles_value masks (words_of_values values))
   some_at ones zeros values [] are = bit_at-zero place ∙ sym reading.zero_is
   some_at ones zeros values (mask ∷ masks) are =
       bit_at_or (some_word ones zeros masks) (row_word ones zeros mask) place
       ∙ (ap (λ n. max n (bit_at (row_word ones zeros mask) place)) (some_at ones zeros values masks are)
-      ∙ (ap (max (read (singles_value masks (words_of values)))) (row_at ones zeros values mask.needs_one mask.needs_zero are)
-      ∙ sym (reading.either_is (mask_value mask (words_of values)) (singles_value masks (words_of values)))))
+      ∙ (ap (max (read (singles_value masks (words_of_values values)))) (row_at ones zeros values mask.needs_one mask.needs_zero are)
+      ∙ sym (reading.either_is (mask_value mask (words_of_values values)) (singles_value masks (words_of_values values)))))
 
 -- a word more in front
 pub asked_more : (words : List ℕ) (needs i old new d : ℕ) → 0 < i → i ≤ length words → old ≡ asked_word (drop i words) (needs / 2 ^ i)

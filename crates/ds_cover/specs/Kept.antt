@@ -9,7 +9,7 @@ use Rattle.ds_base.specs.declared.value.Value.{Value}
 use Rattle.ds_base.specs.declared.value.Value.TheVariants.{Zero, One}
 use Rattle.ds_cover.specs.Cover.{Cover, matches, signed, some_match, values_at}
 use Rattle.ds_cover.specs.Packed.{PackedCover, bits_by, mask_value, masks_value, one_bit}
-use Rattle.ds_cover.specs.Packed.{packed_value, words_of}
+use Rattle.ds_cover.specs.Packed.{packed_value, words_of_values}
 use Rattle.ds_cover.specs.Bank.{Driven, IsDriven}
 use Rattle.ds_cover.specs.declared.mask.Mask.{Mask}
 use Rattle.ds_cover.specs.declared.word.Word.{Word}
@@ -63,12 +63,13 @@ pub record IsQuick (quick : Quick) (cover : PackedCover) : Type 0 where
       ≡ masks_value (take (length cover.inputs) values) One cover.masks
 
 -- a table that is kept
-pub record IsKept (inputs : List ℕ) (masks : List Mask) (span : Span) (quick : Quick) : Type 0 where
-  pub inputs_in : span.first_input + span.inputs ≤ length inputs
-  pub masks_in : span.first_mask + span.masks ≤ length masks
-  pub fit : All (λ mask. mask.first ≤ span.inputs) (driven_in inputs masks span).cover.masks
-  pub drives : quick.output ≡ span.output
-  pub is_quick : quick.few ≡ true → IsQuick quick (driven_in inputs masks span).cover
+pub record IsTableKept (inputs : List ℕ) (masks : List Mask) (span : Span) (quick : Quick) : Type 0
+  where
+    pub inputs_in : span.first_input + span.inputs ≤ length inputs
+    pub masks_in : span.first_mask + span.masks ≤ length masks
+    pub fit : All (λ mask. mask.first ≤ span.inputs) (driven_in inputs masks span).cover.masks
+    pub drives : quick.output ≡ span.output
+    pub is_quick : quick.few ≡ true → IsQuick quick (driven_in inputs masks span).cover
 
 -- what stood in a list stands there still, and more may stand behind it
 pub record IsPrefix {A : Type 0} (before after : List A) : Type 0 where
@@ -80,14 +81,14 @@ pub record AreKept (inputs : List ℕ) (masks : List Mask) (spans : List Span)
     (quicks : List Quick) : Type 0 where
   pub one_each : length quicks ≡ length spans
   pub kept : (k : ℕ) (d : Span) (e : Quick) → k < length spans
-      → IsKept inputs masks (slice_index_or spans k d) (slice_index_or quicks k e)
+      → IsTableKept inputs masks (slice_index_or spans k d) (slice_index_or quicks k e)
 
 -- masks of rows of this many characters
 abbrev pub AreFit : ℕ → List Mask → Type 0
 AreFit width masks = All (λ mask. (mask.first ≤ width) × (width ≤ 64 → IsSingle mask)) masks
 
 -- the first characters of a row are added as masks that do not end it
-pub record IsBegun (before : List Mask) (row : List ℕ) (first : ℕ)
+pub record IsRowBegun (before : List Mask) (row : List ℕ) (first : ℕ)
     (after : List Mask) : Type 0 where
   pub added : List Mask
   pub is : after ≡ before ++ added
@@ -117,7 +118,7 @@ singles_value (mask ∷ masks) word = either (mask_value mask word) (singles_val
 abbrev pub IsTruth : List Mask → Bool → ℕ → Type 0
 IsTruth masks on truth = (values : Row) → length values ≡ 6 → AreKnown values
     → bit_value (bit_at truth (bits_by one_bit values))
-    ≡ signed on (singles_value masks (words_of values))
+    ≡ signed on (singles_value masks (words_of_values values))
 
 -- a table is added
 pub record IsAdded (inputs : List ℕ) (masks : List Mask) (cover : Cover) (output : ℕ)
@@ -126,7 +127,7 @@ pub record IsAdded (inputs : List ℕ) (masks : List Mask) (cover : Cover) (outp
   pub more_masks : List Mask
   pub inputs_are : inputs' ≡ inputs ++ more_inputs
   pub masks_are : masks' ≡ masks ++ more_masks
-  pub kept : IsKept inputs' masks' span quick
+  pub kept : IsTableKept inputs' masks' span quick
   pub stands : IsDriven (driven_in inputs' masks' span) cover output
 
 -- the value by the word

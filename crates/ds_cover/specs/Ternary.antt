@@ -7,7 +7,7 @@ use Rattle.ds_base.specs.declared.value.Value.{Value}
 use Rattle.ds_base.specs.declared.value.Value.TheVariants.{Zero, One, Unknown}
 use Rattle.ds_cover.specs.Cover.{signed}
 use Rattle.ds_cover.specs.Kept.{singles_value}
-use Rattle.ds_cover.specs.Packed.{words_of}
+use Rattle.ds_cover.specs.Packed.{words_of_values}
 use Rattle.ds_cover.specs.declared.mask.Mask.{Mask}
 
 -- the value of a code
@@ -20,7 +20,7 @@ three_at place = code_value (place % 3) ∷ code_value (place / 3 % 3) ∷ code_
 
 -- the value of a table of single masks there
 abbrev pub three_value_at : List Mask → Bool → ℕ → Value
-three_value_at masks on place = signed on (singles_value masks (words_of (three_at place)))
+three_value_at masks on place = signed on (singles_value masks (words_of_values (three_at place)))
 
 -- the values of all 27 places, two bits each
 abbrev pub IsWordOf : List Mask → Bool → ℕ → Type 0

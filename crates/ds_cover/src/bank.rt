@@ -4,7 +4,7 @@ ghost use Rattle.std.specs.Prelude.{OnErr, OnOk};
 ghost use Rattle.ds_cover.specs.Kept.{IsAdded, IsPrefix, IsQuick};
 ghost use Rattle.ds_cover.specs.Packed.{packed_value};
 ghost use Rattle.ds_cover.specs.Ternary.{IsWordOf};
-ghost use Rattle.ds_cover.specs.Bank.{IsMore, IsWithin, after_table, after_tables, driven_at};
+ghost use Rattle.ds_cover.specs.Bank.{IsMore, AreNetsWithin, after_table, after_tables, driven_at};
 
 use crate::Table;
 use crate::entry::{Quick, Span};
@@ -138,7 +138,7 @@ impl Bank {
     /// Gives the net that a table drives the value of the table.
     pub fn set(&self, table: usize, nets: &mut Row3)
         requires place { table < length self.now }
-        requires within { IsWithin (driven_at self.now table) nets.old }
+        requires within { AreNetsWithin (driven_at self.now table) nets.old }
         ensures { nets.new ≡ after_table self.now nets.old table }
     {
         self.put(table, nets.values_mut());
@@ -147,7 +147,7 @@ impl Bank {
     /// Sets what these tables drive, one after another.
     pub fn set_all(&self, tables: &[u32], nets: &mut Row3)
         requires places { All (λ k. k < length self.now) tables.now }
-        requires within { All (λ t. IsWithin t nets.old) self.now }
+        requires within { All (λ t. AreNetsWithin t nets.old) self.now }
         ensures { nets.new ≡ after_tables self.now nets.old tables.now }
     {
         self.put_all(tables, nets.values_mut());
@@ -156,7 +156,7 @@ impl Bank {
     // The same on the values that a row lends.
     fn put_all(&self, tables: &[u32], nets: &mut [Value])
         requires places { All (λ k. k < length self.now) tables.now }
-        requires within { All (λ t. IsWithin t nets.old) self.now }
+        requires within { All (λ t. AreNetsWithin t nets.old) self.now }
         ensures { nets.new ≡ after_tables self.now nets.old tables.now }
     {
         for k in tables {
@@ -167,7 +167,7 @@ impl Bank {
     // The same of one table.
     fn put(&self, table: usize, nets: &mut [Value])
         requires place { table < length self.now }
-        requires within { IsWithin (driven_at self.now table) nets.old }
+        requires within { AreNetsWithin (driven_at self.now table) nets.old }
         ensures { nets.new ≡ after_table self.now nets.old table }
     {
         let value = self.value_on(table, nets);

@@ -1,9 +1,9 @@
 //! The value of a table that a bank keeps.
 ghost use Rattle.std.specs.Prelude.{◌≡◌, ◌<◌, ◌≤◌, true, All, IfSome, drop, length, take};
 ghost use Rattle.ds_cover.specs.Cover.{values_at};
-ghost use Rattle.ds_cover.specs.Kept.{AreThree, IsKept, bit_value, driven_in, quick_bit};
+ghost use Rattle.ds_cover.specs.Kept.{AreThree, IsTableKept, bit_value, driven_in, quick_bit};
 ghost use Rattle.ds_base.specs.Values.{AreKnown};
-ghost use Rattle.ds_cover.specs.Packed.{mask_value, masks_value, packed_value, words_of};
+ghost use Rattle.ds_cover.specs.Packed.{mask_value, masks_value, packed_value, words_of_values};
 ghost use Rattle.ds_base.specs.declared.value.Value.TheVariants.{One};
 
 use crate::entry::{Quick, Span};
@@ -20,7 +20,7 @@ pub(crate) fn entry_value(
     masks: &[Mask],
     nets: &[Value],
 ) -> Value
-    requires kept { IsKept inputs.now masks.now span.now quick.now }
+    requires kept { IsTableKept inputs.now masks.now span.now quick.now }
     requires within { All (λ net. net < length nets.now)
         (driven_in inputs.now masks.now span.now).cover.inputs }
     ensures { result ≡ packed_value (driven_in inputs.now masks.now span.now).cover nets.now }
@@ -129,9 +129,10 @@ fn some_row(inputs: &[NetId], masks: &[Mask], nets: &[Value]) -> Value
 fn part_value(inputs: &[NetId], mask: &Mask, front: &Word, nets: &[Value]) -> Value
     requires fit { mask.now.first ≤ length inputs.now }
     requires within { All (λ net. net < length nets.now) inputs.now }
-    requires front { front.now ≡ words_of (take 64 (drop 0 (values_at nets.now inputs.now))) }
+    requires front { front.now ≡ words_of_values
+        (take 64 (drop 0 (values_at nets.now inputs.now))) }
     ensures { result ≡ mask_value mask.now
-        (words_of (take 64 (drop mask.now.first (values_at nets.now inputs.now)))) }
+        (words_of_values (take 64 (drop mask.now.first (values_at nets.now inputs.now)))) }
 {
     if mask.first == 0 {
         mask.value(front)

@@ -16,8 +16,8 @@ use Rattle.ds_design.specs.declared.design.Edge.TheVariants.{Rising, Falling}
 use Rattle.ds_design.specs.Circuit.{control_nets, columns, register_nets, data_nets, drivers, used}
 use Rattle.ds_design.specs.Levels.{table_nets}
 use Rattle.ds_design.specs.Accepted.{IsAccepted}
-use Rattle.ds_demo.specs.Demo.{register_net, data_net_of, gate_of, register_of}
-use Rattle.ds_demo.specs.Demo.{registers_of, design_of, vector_of, words_of, demo_design}
+use Rattle.ds_demo.specs.Demo.{register_net, data_net_of, gate_of, demo_register}
+use Rattle.ds_demo.specs.Demo.{registers_of, design_of, vector_of, seed_words, demo_design}
 use Rattle.ds_demo.specs.Demo.{demo_vectors}
 use Rattle.ds_demo.specs.Laws.{FitsColumns}
 use Rattle.ds_demo.proofs.Words.{length-first_words}
@@ -30,7 +30,7 @@ abbrev gate_at : ℕ → List ℕ → ℕ → Gate
 gate_at registers words j = gate_of registers j (slice_index words j)
 
 abbrev register_at : ℕ → List ℕ → ℕ → Register
-register_at registers words j = register_of registers j (slice_index words j)
+register_at registers words j = demo_register registers j (slice_index words j)
 
 -- the nets that the registers take, and those that they drive
 abbrev taken : ℕ → List ℕ
@@ -190,12 +190,12 @@ accepted registers words some =
 pub vectors_fit : (seed registers turns : ℕ) → turns ≤ 65536 → FitsColumns seed registers turns
 unfolding demo_design demo_vectors
 vectors_fit seed registers turns few =
-    let words = words_of (registers + turns) seed in
+    let words = seed_words (registers + turns) seed in
     let all : length words ≡ registers + turns =
     length-first_words mix_u64 (registers + turns) seed in
     let rest : length (drop registers words) ≡ turns = length-drop registers words ∙ omega arith in
     record {
       vectors = are_vectors (drop registers words) (omega arith);
       one_a_turn = length-map (drop registers words) vector_of ∙ rest;
-      width = sym (ap length (two_columns registers (words_of registers seed)));
+      width = sym (ap length (two_columns registers (seed_words registers seed)));
     }

@@ -11,9 +11,9 @@ use Rattle.ds_base.specs.Values.{Row, either}
 use Rattle.ds_base.specs.declared.value.Value.{Value}
 use Rattle.ds_base.specs.declared.value.Value.TheVariants.{Zero, One}
 use Rattle.ds_cover.specs.Cover.{matches, some_match, values_at, value_of}
-use Rattle.ds_demo.specs.Demo.{demo_nets, marks_of, rows_of, inputs_of, function_of, cover_of}
-use Rattle.ds_demo.specs.Demo.{bit_value}
-use Rattle.ds_demo.specs.Worked.{net}
+use Rattle.ds_demo.specs.Demo.{demo_nets, marks_of, demo_rows, inputs_of, function_of, cover_of}
+use Rattle.ds_demo.specs.Demo.{demo_bit_value}
+use Rattle.ds_demo.specs.Worked.{main_net}
 
 -- 1 where it is so
 abbrev one_if : Bool → Value
@@ -56,7 +56,7 @@ decided : (function m : ℕ) (values : Row)
     → AllByRecursion (λ n. matches (marks_of n) values ≡ one_if (n == m)) (range_with_len 0 8)
     → list_any (λ n. (n == m) && (bit_at function n == 1)) (range_with_len 0 8)
     ≡ ((bit_at function m == 1) || false)
-    → some_match (rows_of function) values ≡ bit_value (bit_at function m)
+    → some_match (demo_rows function) values ≡ demo_bit_value (bit_at function m)
 decided function m values each at =
     chosen (λ n. bit_at function n == 1) values m (range_with_len 0 8)
     (All-from_recursion (λ n. matches (marks_of n) values ≡ one_if (n == m)) (range_with_len 0 8)
@@ -65,8 +65,8 @@ decided function m values each at =
 
 -- the rows of a function, at three bits
 at_bits : (function first second third : ℕ) → first ≤ 1 → second ≤ 1 → third ≤ 1
-    → some_match (rows_of function) (bit_value first ∷ bit_value second ∷ bit_value third ∷ [])
-    ≡ bit_value (bit_at function (first + 2 * second + 4 * third))
+    → some_match (demo_rows function) (demo_bit_value first ∷ demo_bit_value second ∷ demo_bit_value third ∷ [])
+    ≡ demo_bit_value (bit_at function (first + 2 * second + 4 * third))
 at_bits function zero zero zero a b c = decided function 0 (Zero ∷ Zero ∷ Zero ∷ [])
     (refl, (refl, (refl, (refl, (refl, (refl, (refl, (refl, tt)))))))) refl
 at_bits function zero zero (suc zero) a b c = decided function 4 (Zero ∷ Zero ∷ One ∷ [])
@@ -95,19 +95,19 @@ at_bits function (suc (suc first)) second third a b c = absurd (omega arith)
 pub computed : (registers word first second third : ℕ) (nets : Row)
     → first ≤ 1 → second ≤ 1 → third ≤ 1
     → values_at nets (inputs_of registers word)
-    ≡ bit_value first ∷ bit_value second ∷ bit_value third ∷ []
+    ≡ demo_bit_value first ∷ demo_bit_value second ∷ demo_bit_value third ∷ []
     → value_of (cover_of registers word) nets
-    ≡ bit_value (bit_at (function_of word) (first + 2 * second + 4 * third))
+    ≡ demo_bit_value (bit_at (function_of word) (first + 2 * second + 4 * third))
 computed registers word first second third nets a b c are =
-    ap (some_match (rows_of (function_of word))) are
+    ap (some_match (demo_rows (function_of word))) are
     ∙ at_bits (function_of word) first second third a b c
 
 named : (letter : List ℕ) (i : ℕ) → i < 10
-    → net (letter ++ decimal i) ≡ net (letter ++ (48 + i) ∷ [])
-named letter i small = ap (λ (digits : List ℕ). net (letter ++ digits)) (decimal_digit i small)
+    → main_net (letter ++ decimal i) ≡ main_net (letter ++ (48 + i) ∷ [])
+named letter i small = ap (λ (digits : List ℕ). main_net (letter ++ digits)) (decimal_digit i small)
 
-pub six_nets : demo_nets 2 ≡ net (codes "x0") ∷ net (codes "x1") ∷ net (codes "r0")
-    ∷ net (codes "r1") ∷ net (codes "d0") ∷ net (codes "d1") ∷ []
+pub six_nets : demo_nets 2 ≡ main_net (codes "x0") ∷ main_net (codes "x1") ∷ main_net (codes "r0")
+    ∷ main_net (codes "r1") ∷ main_net (codes "d0") ∷ main_net (codes "d1") ∷ []
 six_nets =
     let x0 = named (codes "x") 0 (omega arith) in
     let x1 = named (codes "x") 1 (omega arith) in

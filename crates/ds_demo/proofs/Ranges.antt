@@ -10,13 +10,13 @@ use Rattle.std.proofs.lemmas.List.FromFn.{length-map-range_with_len}
 use Rattle.ds_base.specs.Values.{Row}
 use Rattle.ds_design.specs.InRange.{IsInRange}
 use Rattle.ds_design.specs.Rows.{AreVectors}
-use Rattle.ds_demo.specs.Demo.{data_net_of, demo_nets, source_of, inputs_of, marks_of, rows_of}
-use Rattle.ds_demo.specs.Demo.{gate_of, register_net, register_of, design_of, vector_of}
-use Rattle.ds_demo.specs.Demo.{vectors_of}
+use Rattle.ds_demo.specs.Demo.{data_net_of, demo_nets, source_of, inputs_of, marks_of, demo_rows}
+use Rattle.ds_demo.specs.Demo.{gate_of, register_net, demo_register, design_of, vector_of}
+use Rattle.ds_demo.specs.Demo.{vectors_of_words}
 use Rattle.ds_demo.proofs.Pairs.{All-two, All-three, All-made, two_differ}
 
 -- each row has three characters
-pub rows_of-width : (function : ℕ) → All (λ row. length row ≡ 3) (rows_of function)
+pub rows_of-width : (function : ℕ) → All (λ row. length row ≡ 3) (demo_rows function)
 rows_of-width function = All-map (λ (row : List ℕ). length row ≡ 3) marks_of
     (filter (λ n. bit_at function n == 1) (range_with_len 0 8)) (λ k d inside. refl)
 
@@ -44,7 +44,7 @@ in_range registers words some few =
     let long : length nets ≡ 2 + registers + registers = length-demo_nets registers in
     let Named : ℕ → Type 0 = λ net. net < length nets in
     let gate = λ (j : ℕ). gate_of registers j (slice_index words j) in
-    let register = λ (j : ℕ). register_of registers j (slice_index words j) in
+    let register = λ (j : ℕ). demo_register registers j (slice_index words j) in
     record {
       inputs = All-two Named _ _ (omega arith) (omega arith);
       outputs = All-two Named _ _ (omega arith) (omega arith);
@@ -71,12 +71,12 @@ outputs_once registers words some =
     two_differ (data_net_of registers 0) (register_net (registers - 1)) (λ e. absurd (omega arith))
 
 -- so wide are the rows of a table
-pub rows-fit : (rows : List (List ℕ)) (inputs : List ℕ) (function : ℕ) → rows ≡ rows_of function
+pub rows-fit : (rows : List (List ℕ)) (inputs : List ℕ) (function : ℕ) → rows ≡ demo_rows function
     → length inputs ≡ 3 → All (λ row. length row ≡ length inputs) rows
 rows-fit rows inputs function is three = rw (is, three) (rows_of-width function)
 
 -- the vectors of words
-pub are_vectors : (words : List ℕ) → length words ≤ 65536 → AreVectors (vectors_of words)
+pub are_vectors : (words : List ℕ) → length words ≤ 65536 → AreVectors (vectors_of_words words)
 are_vectors words few = record {
   one_width = All-map (λ (row : Row). length row ≡ 2) vector_of words (λ k d inside. refl);
   few = omega (arith, length-map words vector_of);

@@ -18,8 +18,8 @@ use Rattle.ds_design.specs.Rows.{Rows}
 
 -- the first words of SplitMix64 that begins at the seed, which is what the eight bytes of the
 -- seed, the lowest first, give
-abbrev pub words_of : ℕ → ℕ → List ℕ
-words_of count seed = first_words mix_u64 count seed
+abbrev pub seed_words : ℕ → ℕ → List ℕ
+seed_words count seed = first_words mix_u64 count seed
 
 -- nets of the main model: a letter and a number from 0
 abbrev pub nets_named : List ℕ → ℕ → List Net
@@ -53,8 +53,8 @@ abbrev pub marks_of : ℕ → List ℕ
 marks_of n = (48 + bit_at n 0) ∷ (48 + bit_at n 1) ∷ (48 + bit_at n 2) ∷ []
 
 -- a row for each number below eight at which the function has a 1, rising
-abbrev pub rows_of : ℕ → List (List ℕ)
-rows_of function = map marks_of (filter (λ n. bit_at function n == 1) (range_with_len 0 8))
+abbrev pub demo_rows : ℕ → List (List ℕ)
+demo_rows function = map marks_of (filter (λ n. bit_at function n == 1) (range_with_len 0 8))
 
 -- the eight bits of what the table of a word computes
 abbrev pub function_of : ℕ → ℕ
@@ -64,7 +64,7 @@ function_of word = word / 2 ^ 48 % 256
 abbrev pub cover_of : ℕ → ℕ → Cover
 cover_of registers word = record {
   inputs = inputs_of registers word;
-  rows = rows_of (function_of word);
+  rows = demo_rows (function_of word);
   on = true;
 }
 
@@ -77,8 +77,8 @@ gate_of registers j word = record {
 }
 
 -- register j
-abbrev pub register_of : ℕ → ℕ → ℕ → Register
-register_of registers j word = record {
+abbrev pub demo_register : ℕ → ℕ → ℕ → Register
+demo_register registers j word = record {
   data_net = data_net_of registers j;
   output = register_net j;
   edge = Some Rising;
@@ -95,7 +95,7 @@ gates_of registers count words =
 -- the registers, by their words
 abbrev pub registers_of : ℕ → ℕ → List ℕ → List Register
 registers_of registers count words =
-    map (λ j. register_of registers j (slice_index words j)) (range_with_len 0 count)
+    map (λ j. demo_register registers j (slice_index words j)) (range_with_len 0 count)
 
 -- the design of so many registers with these words
 abbrev pub design_of : ℕ → List ℕ → Circuit
@@ -110,22 +110,22 @@ design_of registers words = record {
 }
 
 -- the value of a bit
-abbrev pub bit_value : ℕ → Value
-bit_value bit = if bit == 1 then One else Zero
+abbrev pub demo_bit_value : ℕ → Value
+demo_bit_value bit = if bit == 1 then One else Zero
 
 -- the vector of a word: a bit a column, the lowest first
 abbrev pub vector_of : ℕ → Row
-vector_of word = bit_value (bit_at word 0) ∷ bit_value (bit_at word 1) ∷ []
+vector_of word = demo_bit_value (bit_at word 0) ∷ demo_bit_value (bit_at word 1) ∷ []
 
 -- the vectors of these words
-abbrev pub vectors_of : List ℕ → Rows
-vectors_of words = record { width = 2; rows = map vector_of words }
+abbrev pub vectors_of_words : List ℕ → Rows
+vectors_of_words words = record { width = 2; rows = map vector_of words }
 
 -- the design of a seed: a word a register
 unfoldable pub demo_design : ℕ → ℕ → Circuit
-demo_design seed registers = design_of registers (words_of registers seed)
+demo_design seed registers = design_of registers (seed_words registers seed)
 
 -- the vectors of a seed: a word a turn, after those of the registers
 unfoldable pub demo_vectors : ℕ → ℕ → ℕ → Rows
 demo_vectors seed registers turns =
-    vectors_of (drop registers (words_of (registers + turns) seed))
+    vectors_of_words (drop registers (seed_words (registers + turns) seed))

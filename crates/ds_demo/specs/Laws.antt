@@ -10,7 +10,7 @@ use Rattle.ds_design.specs.Circuit.{columns}
 use Rattle.ds_design.specs.InRange.{IsInRange}
 use Rattle.ds_design.specs.Rows.{AreVectors}
 use Rattle.ds_demo.specs.Demo.{demo_design, demo_vectors, inputs_of, function_of, cover_of}
-use Rattle.ds_demo.specs.Demo.{bit_value}
+use Rattle.ds_demo.specs.Demo.{demo_bit_value}
 use Rattle.ds_demo.specs.Fold.{Folded, nothing, fold_after, fold_of}
 
 -- the design has a meaning
@@ -28,9 +28,9 @@ abbrev pub TableIsItsFunction : Type 0
 TableIsItsFunction = (registers word first second third : ℕ) (nets : Row)
     → first ≤ 1 → second ≤ 1 → third ≤ 1
     → values_at nets (inputs_of registers word)
-    ≡ bit_value first ∷ bit_value second ∷ bit_value third ∷ []
+    ≡ demo_bit_value first ∷ demo_bit_value second ∷ demo_bit_value third ∷ []
     → value_of (cover_of registers word) nets
-    ≡ bit_value (bit_at (function_of word) (first + 2 * second + 4 * third))
+    ≡ demo_bit_value (bit_at (function_of word) (first + 2 * second + 4 * third))
 
 -- its columns are the first two nets
 abbrev pub TwoColumns : Type 0

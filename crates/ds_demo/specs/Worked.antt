@@ -5,12 +5,12 @@ use Rattle.ds_design.specs.declared.design.Net.{Net}
 use Rattle.ds_design.specs.declared.design.Gate.{Gate}
 use Rattle.ds_design.specs.declared.design.Register.{Register}
 use Rattle.ds_design.specs.declared.design.Edge.TheVariants.{Rising}
-use Rattle.ds_demo.specs.Demo.{words_of, demo_design, demo_vectors}
+use Rattle.ds_demo.specs.Demo.{seed_words, demo_design, demo_vectors}
 use Rattle.ds_demo.specs.Fold.{fold_of}
 
 -- a net of the main model
-abbrev pub net : List ℕ → Net
-net name = record { copy = 0; name = name }
+abbrev pub main_net : List ℕ → Net
+main_net name = record { copy = 0; name = name }
 
 -- a table that drives a net
 abbrev pub table : List ℕ → List (List ℕ) → ℕ → Gate
@@ -33,10 +33,11 @@ register data_net output = record {
 
 -- the first five words of the seed 0, and what two registers and three turns make of them
 pub record SeedZeroIsWorked : Type 0 where
-  pub words : words_of 5 0 ≡ 0xe220a8397b1dcdaf ∷ 0x6e789e6aa1b965f4 ∷ 0x06c45d188009454f
+  pub words : seed_words 5 0 ≡ 0xe220a8397b1dcdaf ∷ 0x6e789e6aa1b965f4 ∷ 0x06c45d188009454f
       ∷ 0xf88bb8a8724c81ec ∷ 0x1b39896a51a8749b ∷ []
-  pub nets : (demo_design 0 2).nets ≡ net (codes "x0") ∷ net (codes "x1") ∷ net (codes "r0")
-      ∷ net (codes "r1") ∷ net (codes "d0") ∷ net (codes "d1") ∷ []
+  pub nets : (demo_design 0 2).nets ≡ main_net (codes "x0") ∷ main_net (codes "x1")
+      ∷ main_net (codes "r0")
+      ∷ main_net (codes "r1") ∷ main_net (codes "d0") ∷ main_net (codes "d1") ∷ []
   pub outputs : (demo_design 0 2).outputs ≡ 4 ∷ 3 ∷ []
   pub tables : (demo_design 0 2).tables ≡ table (3 ∷ 1 ∷ 1 ∷ []) (codes "101" ∷ []) 4
       ∷ table (0 ∷ 1 ∷ 2 ∷ []) (codes "110" ∷ codes "001" ∷ codes "101" ∷ codes "011" ∷ []) 5 ∷ []

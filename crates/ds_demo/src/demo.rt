@@ -3,7 +3,8 @@ ghost use Rattle.std.specs.Prelude.{◌≡◌, ◌^◌, ◌≤◌, IfOk, length}
 ghost use Rattle.ds_base.specs.Limit.{most_of};
 ghost use Rattle.ds_base.specs.declared.number.Limit.TheVariants.{Vectors as VectorLimit};
 ghost use Rattle.std.specs.Int.{bit_at};
-ghost use Rattle.ds_demo.specs.Demo.{words_of, design_of, bit_value, vector_of, vectors_of};
+ghost use Rattle.ds_demo.specs.Demo.{seed_words, design_of, demo_bit_value, vector_of};
+ghost use Rattle.ds_demo.specs.Demo.{vectors_of_words};
 ghost use Rattle.ds_demo.specs.Demo.{demo_design, demo_vectors};
 
 use crate::parts::{data_net, gates, nets, register_net, registers_in};
@@ -42,7 +43,7 @@ pub fn make(
 // The first words of a seed.
 fn draw(alloc: Global, seed: u64, count: usize) -> Result<Vec<u64>, OutOfMemory>
     requires { count ≤ 2 ^ 32 }
-    ensures { IfOk result (λ w. w.items ≡ words_of count seed) }
+    ensures { IfOk result (λ w. w.items ≡ seed_words count seed) }
 {
     let mut generator = SplitMix64::seed_from_u64(seed);
     let mut words = Vec::with_capacity(alloc, count)?;
@@ -76,7 +77,7 @@ fn design(alloc: Global, registers: u32, words: &[u64]) -> Result<Design, OutOfM
 // The vectors of these words.
 fn vectors(alloc: Global, words: &[u64]) -> Result<Vectors, OutOfMemory>
     requires { length words.now ≤ most_of VectorLimit }
-    ensures { IfOk result (λ v. v ≡ vectors_of words.now) }
+    ensures { IfOk result (λ v. v ≡ vectors_of_words words.now) }
 {
     let mut rows = Vec::with_capacity(alloc, words.len())?;
     for word in words {
@@ -95,7 +96,7 @@ fn vector(alloc: Global, word: u64) -> Result<Row3, OutOfMemory>
 
 // The value of the lowest bit.
 fn value(word: u64) -> Value
-    ensures { result ≡ bit_value (bit_at word 0) }
+    ensures { result ≡ demo_bit_value (bit_at word 0) }
 {
     if word % 2 == 1 {
         Value::One

@@ -1,13 +1,13 @@
 //! The rows of a table of three inputs.
 ghost use Rattle.std.specs.Prelude.{◌≡◌, IfOk};
-ghost use Rattle.ds_demo.specs.Demo.{marks_of, rows_of};
+ghost use Rattle.ds_demo.specs.Demo.{marks_of, demo_rows};
 
 use ds_base::{OutOfMemory, Seq};
 use std::alloc::Global;
 
 // A row for each number below eight at which the function has a 1, rising.
 pub(crate) fn rows(alloc: Global, function: u8) -> Result<Seq<Seq<u8>>, OutOfMemory>
-    ensures { IfOk result (λ r. r ≡ rows_of function) }
+    ensures { IfOk result (λ r. r ≡ demo_rows function) }
 {
     let mut all = Vec::with_capacity(alloc, 8)?;
     for number in 0..8 {

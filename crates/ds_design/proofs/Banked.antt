@@ -9,7 +9,7 @@ use Rattle.ds_base.specs.Values.{Row}
 use Rattle.ds_base.specs.declared.value.Value.{Value}
 use Rattle.ds_cover.specs.Cover.{value_of}
 use Rattle.ds_cover.specs.Packed.{packed_value}
-use Rattle.ds_cover.specs.Bank.{Driven, IsDriven, IsMore, IsWithin, after_table, driven_at}
+use Rattle.ds_cover.specs.Bank.{Driven, IsDriven, IsMore, AreNetsWithin, after_table, driven_at}
 use Rattle.ds_design.specs.Banked.{IsBankOf}
 use Rattle.ds_design.specs.Circuit.{Circuit}
 use Rattle.ds_design.specs.InRange.{IsInRange}
@@ -24,7 +24,7 @@ after_table-is tables bank is nets k d inside =
 
 -- the inputs and the output of a packed table are nets of the design
 pub within_at : (c : Circuit) (bank : List Driven) → IsInRange c → IsBankOf c.tables bank → (nets : Row) → length nets ≡ length c.nets
-    → (k : ℕ) (d : Gate) → k < length c.tables → IsWithin (driven_at bank k) nets
+    → (k : ℕ) (d : Gate) → k < length c.tables → AreNetsWithin (driven_at bank k) nets
 within_at c bank in_range is nets same k d inside =
     let stands = is.table k d inside in
     let range = in_range.tables k d inside in

@@ -14,7 +14,7 @@ use Rattle.ds_rule.specs.Sound.{IsSound}
 use Rattle.ds_marked.specs.declared.marked.Arc.{Arc}
 use Rattle.ds_rule.proofs.EventLaws.{event_below}
 use Rattle.ds_rule.proofs.Lists.{at_or, at_get, get-first, get-second, replicate-default}
-use Rattle.ds_fabric.specs.Chained.{arc_numbered, IsLast, IsChained}
+use Rattle.ds_fabric.specs.Chained.{arc_numbered, IsLastArc, IsChained}
 
 -- a place that was read off a list
 pub read-off : (xs : List ℕ) (i r : ℕ) → i < length xs → r ≡ slice_index_or xs i r → get_or xs i 0 ≡ r
@@ -56,7 +56,7 @@ pub chained_next : (run : Run) (n t : ℕ) (heads links links' : List ℕ) → t
 chained_next run n t heads links links' is near c links-is =
     let here : get_or (set heads t (n + 1)) t 0 ≡ n + 1 =
     get_or-set_same heads t (n + 1) 0 (omega (arith, c.heads_long)) in
-    let last : IsLast run t (n + 1) (n + 1) =
+    let last : IsLastArc run t (n + 1) (n + 1) =
     record {
       below = omega arith;
       hit = λ _. (let k : n + 1 - 1 ≡ n = omega arith in
@@ -68,10 +68,10 @@ chained_next run n t heads links links' is near c links-is =
       links_long = ap (λ (xs : List ℕ). length xs) links-is
           ∙ omega (arith, length-append links (get_or heads t 0 ∷ []), c.links_long);
       head = λ e h. dite (ℕ_discrete e t)
-          (λ same. subst (λ (x : ℕ). IsLast run e (n + 1) x)
+          (λ same. subst (λ (x : ℕ). IsLastArc run e (n + 1) x)
           (sym (ap (λ (x : ℕ). get_or (set heads t (n + 1)) x 0) same ∙ here))
-          (subst (λ (x : ℕ). IsLast run x (n + 1) (n + 1)) (sym same) last))
-          (λ far. let o = c.head e h in subst (λ (x : ℕ). IsLast run e (n + 1) x)
+          (subst (λ (x : ℕ). IsLastArc run x (n + 1) (n + 1)) (sym same) last))
+          (λ far. let o = c.head e h in subst (λ (x : ℕ). IsLastArc run e (n + 1) x)
           (sym (get_or-set_other heads t e (n + 1) 0 far)) (record {
             below = omega (arith, o.below);
             hit = o.hit;
@@ -85,10 +85,10 @@ chained_next run n t heads links links' is near c links-is =
           ap (λ (xs : List ℕ). get_or xs k 0) links-is
           ∙ (ap (λ (x : ℕ). get_or (links ++ get_or heads t 0 ∷ []) x 0) at
           ∙ get-second links (get_or heads t 0 ∷ []) (length links) 0 refl) in
-          subst (λ (x : ℕ). IsLast run (arc_numbered run k).target k x) (sym value)
-          (subst (λ (x : ℕ). IsLast run (arc_numbered run x).target x (get_or heads t 0)) (sym same)
-          (subst (λ (x : ℕ). IsLast run x n (get_or heads t 0)) is (c.head t near))))
-          (λ far. subst (λ (x : ℕ). IsLast run (arc_numbered run k).target k x)
+          subst (λ (x : ℕ). IsLastArc run (arc_numbered run k).target k x) (sym value)
+          (subst (λ (x : ℕ). IsLastArc run (arc_numbered run x).target x (get_or heads t 0)) (sym same)
+          (subst (λ (x : ℕ). IsLastArc run x n (get_or heads t 0)) is (c.head t near))))
+          (λ far. subst (λ (x : ℕ). IsLastArc run (arc_numbered run k).target k x)
           (sym (ap (λ (xs : List ℕ). get_or xs k 0) links-is
           ∙ get-first links (get_or heads t 0 ∷ []) k (omega (arith, c.links_long))))
           (c.link k (omega arith)));

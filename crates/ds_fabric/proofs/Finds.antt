@@ -4,7 +4,7 @@ use mathlib.Core.Option.{some}
 use lib.ListN.{get_elem?}
 use Rattle.ds_rule.proofs.Lists.{at_below}
 use Rattle.ds_fabric.specs.declared.history.History.{History}
-use Rattle.ds_fabric.specs.Indexed.{IsIndexed, Stands}
+use Rattle.ds_fabric.specs.Indexed.{IsIndexed, IsHistoryAt}
 
 -- the same of the same lists
 pub indexed_same : (m r : ℕ) (ns zs : List History) (ps qs : List ℕ) → zs ≡ ns → qs ≡ ps
@@ -15,7 +15,7 @@ indexed_same m r ns zs ps qs a b o =
 
 pub stands_same : (ns zs : List History) (l node : ℕ) → zs ≡ ns → l ≡ node
     → (i : ℕ) × (h : History) × (get_elem? ns i ≡ some h) × (h.node ≡ node) → (i : ℕ)
-    × Stands zs i l
+    × IsHistoryAt zs i l
 stands_same ns zs l node a b f = (
   f.0,
   (
@@ -27,10 +27,10 @@ stands_same ns zs l node a b f = (
 )
 
 -- the history that stands there is the node's
-pub at_node : (zs : List History) (i l node : ℕ) → l ≡ node → Stands zs i l
+pub at_node : (zs : List History) (i l node : ℕ) → l ≡ node → IsHistoryAt zs i l
     → (h : History) × (get_elem? zs i ≡ some h) × (h.node ≡ node)
 at_node zs i l node e f = (f.0, f.1, f.2 ∙ e)
 
-pub stands_below : (ns zs : List History) (i l : ℕ) → zs ≡ ns → Stands zs i l → i < length ns
+pub stands_below : (ns zs : List History) (i l : ℕ) → zs ≡ ns → IsHistoryAt zs i l → i < length ns
 stands_below ns zs i l e f =
     at_below ns i f.0 (subst (λ (xs : List History). get_elem? xs i ≡ some f.0) e f.1)

@@ -16,7 +16,7 @@ use Rattle.ds_rule.specs.Run.{Run, events, node_of, turns}
 use Rattle.ds_rule.specs.Sound.{IsSound}
 use Rattle.ds_fabric.specs.Told.{stride_of, turns_told}
 use Rattle.ds_rule.specs.Rule.{holds, tickets, seen, first_view}
-use Rattle.ds_rule.specs.Plays.{Sat, after_point, without_cut, only_cut, both}
+use Rattle.ds_rule.specs.Plays.{Sat, after_point, without_cut, only_cut, taken_in}
 use Rattle.ds_rule.specs.declared.view.View.{View}
 use Rattle.ds_rule.proofs.Lists.{same_at, at_below, there_is, replicate-default, held_inside}
 use Rattle.ds_rule.proofs.Lists.{has_below, alone, by_bool, at_either, at_second, length-listed}
@@ -58,7 +58,7 @@ first_keeps run me nodes sound is blank =
         fired = b.fired ∙ sym (zero-seen h.node);
         stride = b.stride ∙ ap (stride_of run) (sym b.node);
         turns = b.turns ∙ sym (ap (turns_told run (tickets v) h.node) (zero-seen h.node));
-        room = subst (λ (y : ℕ). Rattle.ds_fabric.specs.Showing.HasRoom run y h)
+        room = subst (λ (y : ℕ). Rattle.ds_fabric.specs.Showing.HasHistoryRoom run y h)
             (sym b.node) b.room;
       };
       found = λ l h. let f = there_is nodes l (omega (arith, inside l h, blank.long)) in
@@ -179,13 +179,13 @@ deals_right me me' nodes i node h k at same is =
 
 -- what a pass has in memory after it took in another
 pub gathers_keep : (me he me' : Sat) (nodes others : List History) → Keeps me nodes
-    → Keeps he others → he.0.run ≡ me.0.run → me' ≡ (both me.0 he.0, me.1)
+    → Keeps he others → he.0.run ≡ me.0.run → me' ≡ (taken_in me.0 he.0, me.1)
     → ((e : ℕ) → holds me'.0 (node_of me'.0.run e) ≡ true
     → turns me'.0.run e (seen me'.0 (node_of me'.0.run e)) ≡ length (tickets me'.0 e))
     → ((l : ℕ) → l < me.0.run.nodes → holds me.0 l ≡ true → holds he.0 l ≡ true → ⊥)
     → Keeps me' (nodes ++ others)
 gathers_keep me he me' nodes others k g run is counts clear =
-    let v : View = me.0 in let w : View = he.0 in let u : View = both v w in let R : Run = v.run in
+    let v : View = me.0 in let w : View = he.0 in let u : View = taken_in v w in let R : Run = v.run in
     let long-w : length w.holds ≡ R.nodes = g.held_long ∙ ap (λ (r : Run). r.nodes) run in
     let has : (l : ℕ) → holds u l ≡ (holds v l || holds w l) =
     λ l. both-holds v w l k.held_long long-w in

@@ -16,8 +16,8 @@ use Rattle.ds_rule.specs.declared.view.View.{View}
 use Rattle.ds_rule.proofs.EventLaws.{turns_up}
 use Rattle.ds_rule.proofs.PlaceLaws.{counts_inside}
 use Rattle.ds_rule.proofs.Lists.{at_below, at_either, at_end, at_get, at_or, get-first, same_at}
-use Rattle.ds_fabric.specs.Chained.{arc_numbered, IsLast}
-use Rattle.ds_fabric.specs.Looks.{LooksOn, Enough, Lacks}
+use Rattle.ds_fabric.specs.Chained.{arc_numbered, IsLastArc}
+use Rattle.ds_fabric.specs.Looks.{LooksOn, Enough, IsSeenLacking}
 use Rattle.ds_fabric.specs.Into.{fired_of, IsInto, ArePart, AreIntoBelow, IsLinedUp}
 use Rattle.ds_fabric.specs.declared.arc_in.ArcIn.{ArcIn}
 use Rattle.ds_fabric.proofs.Views.{looks_more, seen-here, seen_rises, gives_up}
@@ -29,7 +29,7 @@ get-last xs m j e = at_get (xs ++ m ∷ []) j m 0 (at_last xs m j (sym e))
 
 -- behind the last arc into the event there is none
 pub part_none : (run : Run) (event h : ℕ) (arcs : List ArcIn) (numbers : List ℕ)
-    → IsLast run event (length run.arcs) h
+    → IsLastArc run event (length run.arcs) h
     → ArePart run event h (length arcs) (length arcs) arcs numbers
 part_none run event h arcs numbers last = record {
   order = omega arith;
@@ -43,7 +43,7 @@ part_none run event h arcs numbers last = record {
 -- arc m, and on to the arc before
 pub part_more : (run : Run) (event m h first : ℕ) (arcs : List ArcIn) (x : ArcIn)
     (numbers : List ℕ)
-    → IsInto run event m x → IsLast run event m h → length numbers ≡ length arcs
+    → IsInto run event m x → IsLastArc run event m h → length numbers ≡ length arcs
     → ArePart run event (m + 1) first (length arcs) arcs numbers
     → ArePart run event h first (length (arcs ++ x ∷ [])) (arcs ++ x ∷ []) (numbers ++ m ∷ [])
 part_more run event m h first arcs x numbers into last long old =
@@ -217,7 +217,7 @@ pub stops : (run : Run) (event turn k : ℕ) (u : View) (m m' : Sat) (x : ArcIn)
     → length u.seen ≡ run.nodes → seen m.0 x.node ≤ r
     → (holds m.0 x.node ≡ true → r ≡ seen m.0 x.node)
     → fired_of x.source r + (arc_numbered run k).tokens < turn
-    → LooksOn u m'.0 × Lacks run u m'.0 event turn k (fired_of x.source r)
+    → LooksOn u m'.0 × IsSeenLacking run u m'.0 event turn k (fired_of x.source r)
 stops run event turn k u m m' x r sound into is q long up own short =
     let a : Arc = arc_numbered run k in let at = arc-there run k into.near in
     let same = into.says.node_is in
@@ -259,7 +259,7 @@ peek_near run event i words starts numbers arcs ys d sound near all is from belo
 
 -- nothing was put behind the others yet
 pub lined_none : (run : Run) (event h : ℕ) (arcs : List ArcIn) (numbers : List ℕ)
-    → length numbers ≡ length arcs → IsLast run event (length run.arcs) h
+    → length numbers ≡ length arcs → IsLastArc run event (length run.arcs) h
     → IsLinedUp run event h arcs numbers arcs numbers
 lined_none run event h arcs numbers long last = record {
   long = long;
@@ -270,7 +270,7 @@ lined_none run event h arcs numbers long last = record {
 
 -- arc m was put behind the others
 pub lined_more : (run : Run) (event m h : ℕ) (arcs arcs' arcs'' : List ArcIn)
-    (numbers numbers' numbers'' : List ℕ) (x : ArcIn) → IsInto run event m x → IsLast run event m h
+    (numbers numbers' numbers'' : List ℕ) (x : ArcIn) → IsInto run event m x → IsLastArc run event m h
     → IsLinedUp run event (m + 1) arcs numbers arcs' numbers' → arcs'' ≡ arcs' ++ x ∷ []
     → numbers'' ≡ numbers' ++ m ∷ [] → IsLinedUp run event h arcs numbers arcs'' numbers''
 lined_more run event m h arcs arcs' arcs'' numbers numbers' numbers'' x into last old a b =

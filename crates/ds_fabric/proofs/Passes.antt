@@ -3,7 +3,7 @@ use Rattle.std.proofs.Common.{◌≡◌, ℕ, suc, ◌+◌, ◌<◌, ◌≤◌, 
 use Rattle.std.proofs.Common.{[], ◌∷◌, ◌++◌, length}
 use Rattle.std.proofs.Common.{get_or, set, sym, refl, ap, ◌∙◌, subst, arith, le_trans}
 use Rattle.std.proofs.Common.{le_of_eq, length-set}
-use Rattle.std.proofs.Common.{get_or-set_other, get_or-set_same, length-append, vec_capacity}
+use Rattle.std.proofs.Common.{get_or-set_other, get_or-set_same, length-append}
 use Rattle.std.proofs.Common.{⊎_elim}
 use Rattle.std.proofs.Common.{zero, ◌/◌}
 use Rattle.ds_rule.proofs.EventLaws.{opened-low}
@@ -14,7 +14,6 @@ use lib.ListN.{get_elem?}
 use Rattle.atomic_table.proofs.Lists.{at_set, set_else, at_index}
 use Rattle.ds_rule.specs.Run.{Run, events, node_of, next, turns, opens, opening, opened}
 use Rattle.ds_rule.specs.Run.{count, Enabled}
-use Rattle.ds_rule.specs.Sound.{read_words}
 use Rattle.ds_rule.specs.Rule.{holds, tickets, seen}
 use Rattle.ds_rule.specs.Plays.{Sat, after_depart, after_draw, after_publish}
 use Rattle.ds_rule.specs.declared.view.View.{View}
@@ -25,10 +24,10 @@ use Rattle.ds_fabric.specs.declared.history.History.{History}
 use Rattle.ds_fabric.specs.Looks.{LooksOn, Enough}
 use Rattle.ds_fabric.specs.Told.{stride_of, new_row, turns_told}
 use Rattle.ds_fabric.specs.Noted.{HasFired}
-use Rattle.ds_fabric.specs.Showing.{HasRoom, Tells, Keeps}
-use Rattle.ds_fabric.specs.Stepped.{Fires, done}
+use Rattle.ds_fabric.specs.Showing.{HasHistoryRoom, Tells, Keeps}
+use Rattle.ds_fabric.specs.Stepped.{FiresNext, done}
 use Rattle.ds_fabric.proofs.Views.{has_after}
-use Rattle.ds_fabric.proofs.Turns.{told_same, told_fires, told_fits}
+use Rattle.ds_fabric.proofs.Turns.{told_same, told_fires}
 
 -- the history of a node, beside another view that says the same of the node
 pub tells_moved : (v w : View) (h : History) → Tells v h → w.run ≡ v.run → holds w h.node ≡ true
@@ -43,7 +42,7 @@ tells_moved v w h t run has same ticks = let l : ℕ = h.node in record {
       ∙ told_same v.run (tickets v) (tickets w) l (seen v l) (λ g _.
       ap (λ (ts : List ℕ). get_or ts (turns v.run (next v.run l g) g) 0)
       (ticks (next v.run l g) (node-next v.run l g)))));
-  room = subst (λ (r : Run). HasRoom r l h) (sym run) t.room;
+  room = subst (λ (r : Run). HasHistoryRoom r l h) (sym run) t.room;
 }
 
 -- loads keep what a pass has in memory
@@ -140,7 +139,7 @@ fires_keep me me' nodes i h h' t k at is f =
           (tickets-landed v l t E near-E refl) (λ e n. tickets-else v l t e n))
           ∙ (ap (turns_told R (tickets w) l) (sym (seen-landed v l t l near-l refl))
           ∙ ap (λ (x : ℕ). turns_told R (tickets w) x (seen w x)) (sym f.node)))));
-      room = subst (λ (x : ℕ). HasRoom R x h') (sym f.node) (record {
+      room = subst (λ (x : ℕ). HasHistoryRoom R x h') (sym f.node) (record {
         turns = omega (arith, old.room.turns, f.turns_room);
         from = omega (arith, old.room.from, f.from_room);
       });
@@ -193,11 +192,11 @@ pub fires : (run : Run) (me me' : Sat) (nodes : List History) (w : View) (l even
     → me.0.run ≡ run → Keeps me nodes → holds me.0 l ≡ true → LooksOn me.0 me'.0 → me'.1 ≡ me.1
     → event ≡ next run l (seen me.0 l) → turn ≡ done run me.0 l + 1 → turn ≤ run.limit
     → Enough run me'.0 event turn → me'.0.drawn ≤ t → w ≡ landed me'.0 l t
-    → Fires run me.0 w l event turn t
+    → FiresNext run me.0 w l event turn t
 fires run me me' nodes w l event turn t run_is k has q slots event_is turn_is within enough fresh is =
     let v : View = me.0 in let u : View = me'.0 in let k' = looks_keep me me' nodes k q slots in
     let has' : holds u l ≡ true = has_after v u l q ∙ has in
-    let P : View → Type 0 = λ x. Fires run v x l event turn t in
+    let P : View → Type 0 = λ x. FiresNext run v x l event turn t in
     let own : seen u l ≡ seen v l = q.own l has in
     let E-is : coming u l ≡ event = ap (λ (r : Run). next r l (seen u l)) (q.run ∙ run_is)
     ∙ (ap (next run l) own ∙ sym event_is) in
@@ -258,68 +257,6 @@ reads me nodes zs i node h e k f is =
       has = has;
       near = near-node me nodes node k has;
     }
-
--- the next event of a node is enabled at what was seen, where that is enough
-pub is_ready : (run : Run) (u : View) (l event turn : ℕ) → event ≡ next run l (seen u l)
-    → turn ≡ turns run event (seen u l) + 1 → turn ≤ run.limit → Enough run u event turn
-    → Enabled run (seen u) (next run l (seen u l))
-is_ready run u l event turn event_is turn_is within enough =
-    let E : ℕ = next run l (seen u l) in let n : count run (seen u) E ≡ turns run E (seen u l) =
-    ap (λ (x : ℕ). turns run E (seen u x)) (node-next run l (seen u l)) in
-    let same : turns run event (seen u l) ≡ turns run E (seen u l) =
-    ap (λ (x : ℕ). turns run x (seen u l)) event_is in (
-      omega (arith, n, same, turn_is, within),
-      λ k a at into. omega (arith, n, same, turn_is, enough k a at (into ∙ sym event_is)),
-    )
-
--- there is room for what the next event tells
-pub room_next : (v : View) (h : History) → Tells v h
-    → turns v.run (coming v h.node) (seen v h.node) < v.run.limit
-    → length h.turns.items + length (new_row v.run h.node h.fired) < vec_capacity h.turns
-room_next v h t below = let l : ℕ = h.node in omega (
-  arith,
-  told_fits v.run (tickets v) l (seen v l) below,
-  ap length t.turns,
-  ap (λ (x : ℕ). length (new_row v.run l x)) t.fired,
-  t.room.turns,
-)
-
--- all that the flight of a node's next event asks
-pub record Armed (run : Run) (u : View) (h : History) : Type 0 where
-  pub held : holds u h.node ≡ true
-  pub near : h.node < run.nodes
-  pub fired : h.fired ≡ seen u h.node
-  pub ready : Enabled run (seen u) (next run h.node h.fired)
-  pub room : length h.turns.items + length (new_row run h.node h.fired) < vec_capacity h.turns
-  pub from : read_words run h.node (length run.edges) ≤ vec_capacity h.from
-
-pub armed : (run : Run) (me : Sat) (nodes : List History) (h : History) (event turn : ℕ)
-    → me.0.run ≡ run → Keeps me nodes → Tells me.0 h
-    → event ≡ next run h.node h.fired → turn ≡ turns run event h.fired + 1 → turn ≤ run.limit
-    → Enough run me.0 event turn → Armed run me.0 h
-armed run me nodes h event turn run_is k t e n within enough =
-    let u : View = me.0 in let l : ℕ = h.node in
-    let P : Run → Type 0 = λ r. event ≡ next r l h.fired → turn ≡ turns r event h.fired + 1
-    → turn ≤ r.limit → Enough r u event turn → Armed r u h in
-    subst P run_is (λ e n within enough. let R : Run = u.run in
-    let E-is : next R l h.fired ≡ coming u l = ap (next R l) t.fired in
-    let below : turns R (coming u l) (seen u l) < R.limit =
-    omega (
-      arith,
-      n,
-      within,
-      ap (λ (x : ℕ). turns R x h.fired) (e ∙ E-is),
-      ap (turns R (coming u l)) t.fired,
-    ) in record {
-      held = t.has;
-      near = near-node me nodes l k t.has;
-      fired = t.fired;
-      ready = subst (λ (x : ℕ). Enabled R (seen u) x) (sym E-is)
-          (is_ready R u l event turn (e ∙ E-is) (n ∙ ap
-          (λ (x : ℕ). turns R event x + 1) t.fired) within enough);
-      room = room_next u h t below;
-      from = t.room.from;
-    }) e n within enough
 
 -- an opening that is enabled is one of a latch, and of no turn past the limit
 pub within : (run : Run) (v : View) (l f : ℕ) → f ≡ seen v l → opens run (next run l f) ≡ true

@@ -4,9 +4,9 @@ use Rattle.std.proofs.Common.{length}
 use Rattle.std.proofs.Common.{ap, sym, arith, refl, slice_index}
 use mathlib.Core.Logic.{dite}
 use native.Mathlib.Decide.{ℕ_discrete}
-use Rattle.ds_base.specs.Word.{word_of}
+use Rattle.ds_base.specs.Word.{word_of, count_of_words}
 use Rattle.ds_rule.specs.Run.{Run, node_of}
-use Rattle.ds_rule.specs.Words.{width, value, values_at, words_of}
+use Rattle.ds_rule.specs.Words.{width, value, node_values}
 use Rattle.ds_rule.specs.Log.{times, IsLegalList, Recorded}
 use Rattle.ds_rule.proofs.Logs.{times-here, times-else, length-places}
 use Rattle.ds_rule.proofs.PlaceLaws.{width-is}
@@ -29,11 +29,11 @@ tickets_most run ts many e r near =
     )
 
 -- a word of a value
-pub value-word : (run : Run) (l k i : ℕ) → value run l k i ≡ word_of (values_at run l k) i
+pub value-word : (run : Run) (l k i : ℕ) → value run l k i ≡ word_of (node_values run l k) i
 unfolding value
 value-word run l k i = refl
 
 -- the width of a row of this length
-pub width_read : (run : Run) (l n w : ℕ) → n ≡ slice_index run.lengths l → w ≡ words_of n
+pub width_read : (run : Run) (l n w : ℕ) → n ≡ slice_index run.lengths l → w ≡ count_of_words n
     → w ≡ width run l
-width_read run l n w is w-is = w-is ∙ (ap words_of is ∙ sym (width-is run l))
+width_read run l n w is w-is = w-is ∙ (ap count_of_words is ∙ sym (width-is run l))

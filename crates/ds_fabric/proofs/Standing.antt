@@ -14,7 +14,7 @@ use Rattle.ds_rule.proofs.Lists.{at_either, set_there, at_below, at_get, at_or, 
 use Rattle.ds_rule.proofs.Lists.{there_is, replicate-default, get-beyond}
 use Rattle.ds_fabric.specs.declared.history.History.{History}
 use Rattle.ds_rule.specs.Run.{Run}
-use Rattle.ds_fabric.specs.Indexed.{IsOneEach, IsIndexed, Stands, IsWithout, Leaves, came}
+use Rattle.ds_fabric.specs.Indexed.{IsOneEach, IsIndexed, IsHistoryAt, IsWithout, IsTakenOut, came}
 use Rattle.ds_fabric.specs.Showing.{Blank}
 
 -- an element that was read
@@ -30,26 +30,26 @@ place_inside ps l h = dite (dec_lt l (length ps)) (λ y. y)
 -- where there is room for one history alone, it is the first
 pub found_alone : (m r : ℕ) (ns : List History) (ps : List ℕ) (i node : ℕ)
     → IsIndexed m r (length ns) ns ps
-    → length ps ≡ 0 → Stands ns i node → Stands ns 0 node
+    → length ps ≡ 0 → IsHistoryAt ns i node → IsHistoryAt ns 0 node
 found_alone m r ns ps i node o none st =
     let z : i ≡ 0 = omega (arith, at_below ns i st.0 st.1, o.few, o.one none) in
-    subst (λ (j : ℕ). Stands ns j node) z st
+    subst (λ (j : ℕ). IsHistoryAt ns j node) z st
 
 -- the place of a node tells where its history stands
 pub found_placed : (m r : ℕ) (ns : List History) (ps : List ℕ) (i node : ℕ)
     → IsIndexed m r (length ns) ns ps
-    → (length ps ≡ 0 → ⊥) → Stands ns i node → (get_or ps node 0 ≡ i + 1) × (node < length ps)
+    → (length ps ≡ 0 → ⊥) → IsHistoryAt ns i node → (get_or ps node 0 ≡ i + 1) × (node < length ps)
 found_placed m r ns ps i node o there st =
     let is : get_or ps node 0 ≡ i + 1 = ap (λ (x : ℕ). get_or ps x 0) (sym st.2)
     ∙ o.placed i st.0 (at_below ns i st.0 st.1) st.1 (omega arith) in
     (is, place_inside ps node (omega arith))
 
 pub stands_there : (ns : List History) (ps : List ℕ) (i node : ℕ) → get_or ps node 0 ≡ i + 1
-    → Stands ns i node
-    → Stands ns (get_or ps node 0 - 1) node
+    → IsHistoryAt ns i node
+    → IsHistoryAt ns (get_or ps node 0 - 1) node
 stands_there ns ps i node is st =
     let z : get_or ps node 0 - 1 ≡ i = omega (arith, is) in
-    subst (λ (j : ℕ). Stands ns j node) (sym z) st
+    subst (λ (j : ℕ). IsHistoryAt ns j node) (sym z) st
 
 -- one history alone
 pub one_alone : (m r node : ℕ) (h : History) (ps : List ℕ) → (m < 4294967296) × (r < 4294967296)
@@ -73,7 +73,7 @@ one_alone m r node h ps small near room is ps-is =
       back = λ l pos. dite (ℕ_discrete l node)
           (λ e. let v : get_or ps l 0 ≡ 1 = ap (λ (y : ℕ). get_or ps y 0) e ∙ here in (
             omega (arith, v),
-            subst (λ (j : ℕ). Stands (h ∷ []) j l) (let z : 0 ≡ get_or ps l 0 - 1 =
+            subst (λ (j : ℕ). IsHistoryAt (h ∷ []) j l) (let z : 0 ≡ get_or ps l 0 - 1 =
                 omega (arith, v) in z) (h, refl, is ∙ sym e),
           ))
           (λ n. absurd (omega (arith, far l n)));
@@ -113,12 +113,12 @@ noted_more m r i n ns ps h apart o at n-is room near there =
           (λ e. let v : get_or (set ps k n) l 0 ≡ n = ap (λ (x : ℕ). get_or (set ps k n) x 0) e
           ∙ here in (
             omega (arith, v),
-            subst (λ (x : ℕ). Stands ns x l)
+            subst (λ (x : ℕ). IsHistoryAt ns x l)
                 (let z : i ≡ get_or (set ps k n) l 0 - 1 = omega (arith, v) in z) (h, at, sym e),
           ))
           (λ ne. let v : get_or (set ps k n) l 0 ≡ get_or ps l 0 = get_or-set_other ps k l n 0 ne in
           let b = o.back l (omega (arith, v)) in
-          (omega (arith, v, b.0), subst (λ (x : ℕ). Stands ns (x - 1) l) (sym v) b.1));
+          (omega (arith, v, b.0), subst (λ (x : ℕ). IsHistoryAt ns (x - 1) l) (sym v) b.1));
     }
 
 -- nothing is noted where there are no places
@@ -173,7 +173,7 @@ cleared m r at xs ys ps qs h apart w o there-h there long same moved gone =
           (λ e. let v : get_or qs l 0 ≡ at + 1 = ap (λ (x : ℕ). get_or qs x 0) e
           ∙ moved less y.0 y.1 in (
             omega (arith, v),
-            subst (λ (x : ℕ). Stands ys x l) (let z : at ≡ get_or qs l 0 - 1 =
+            subst (λ (x : ℕ). IsHistoryAt ys x l) (let z : at ≡ get_or qs l 0 - 1 =
                 omega (arith, v) in z) (y.0, y.1, sym e),
           ))
           (λ ny. let v : get_or qs l 0 ≡ get_or ps l 0 =
@@ -188,7 +188,7 @@ cleared m r at xs ys ps qs h apart w o there-h there long same moved gone =
           (other less y.0 y.1).0)) in
           let low : p < n = omega (arith, b.0, w.shorter, not-n) in (
             omega (arith, v),
-            subst (λ (x : ℕ). Stands ys (x - 1) l) (sym v) (
+            subst (λ (x : ℕ). IsHistoryAt ys (x - 1) l) (sym v) (
               g,
               w.stay p g b.1.1 not-at low,
               b.1.2,
@@ -201,7 +201,7 @@ cleared m r at xs ys ps qs h apart w o there-h there long same moved gone =
           (same_at xs at g h (subst (λ (x : ℕ). get_elem? xs x ≡ some g) e b.1.1) there-h)) in
           let low : p < n = omega (arith, b.0, w.shorter, not-at, at_below xs at h there-h) in (
             omega (arith, v),
-            subst (λ (x : ℕ). Stands ys (x - 1) l) (sym v) (
+            subst (λ (x : ℕ). IsHistoryAt ys (x - 1) l) (sym v) (
               g,
               w.stay p g b.1.1 not-at low,
               b.1.2,
@@ -273,13 +273,13 @@ removed xs ys at long inside moved same = record {
 }
 
 -- the node that was taken out, and the one that came to its place, have places
-pub inside_old : (m r at node : ℕ) (old ys : List History) (ps : List ℕ) → Leaves old ys at node
+pub inside_old : (m r at node : ℕ) (old ys : List History) (ps : List ℕ) → IsTakenOut old ys at node
     → IsIndexed m r (length old) old ps → (length ps ≡ 0 → ⊥) → node < length ps
 inside_old m r at node old ys ps l o some-there =
     (found_placed m r old ps at node o some-there (l.history, l.there, l.node_is)).1
 
 pub inside_new : (m r at node : ℕ) (old ys : List History) (ps : List ℕ) (y : History)
-    → Leaves old ys at node
+    → IsTakenOut old ys at node
     → IsIndexed m r (length old) old ps → (length ps ≡ 0 → ⊥) → get_elem? ys at ≡ some y
     → y.node < length ps
 inside_new m r at node old ys ps y l o some-there e =
@@ -305,7 +305,7 @@ all_placed run r nodes ps small room blank long each = record {
   back = λ l pos. let near = place_inside ps l pos in let v = each l (omega arith) in
       let f = there_is nodes l (omega (arith, blank.long)) in (
         omega (arith, v, blank.long),
-        subst (λ (x : ℕ). Stands nodes x l)
+        subst (λ (x : ℕ). IsHistoryAt nodes x l)
             (let z : l ≡ get_or ps l 0 - 1 = omega (arith, v) in
             z) (f.0, f.1, (blank.each l f.0 f.1).node),
       );

@@ -175,35 +175,30 @@ module _ (run : Run) (ts : ℕ → List ℕ) (l : ℕ) where
       dite (dec_lt e (2 * run.latches))
       (λ low. let n = node-low run e low in let low-l : l < run.latches = omega arith in
       let wide = stride-low run l low-l in let t = turns-low run e f low in
+      let at : (g : ℕ) → g ≡ 2 * k + e % 2
+      → k * s + ticket_place run e s ≡ length (turns_told run ts l g) + length (new_row run l g)
+      → (g : ℕ) × IsFiring e k f g = λ g is stands. (
+        g,
+        record {
+          below = omega arith;
+          event_is = omega (arith, next-low run l g low-l);
+          turn_is = omega (arith, turns-low run e g low);
+          place_is = stands;
+        },
+      ) in
       dite (ℕ_discrete (e % 2) 0)
-      (λ even. let g : ℕ = 2 * k in (
-        g,
-        record {
-          below = omega arith;
-          event_is = omega (arith, next-low run l g low-l);
-          turn_is = omega (arith, turns-low run e g low);
-          place_is = omega (
-            arith,
-            place true (opens-low run e low ∙ eq-eqb (e % 2) 0 even),
-            length-turns k g s low-l wide refl,
-            length-even run l g low-l (omega arith),
-          );
-        },
-      ))
-      (λ odd. let g : ℕ = 2 * k + 1 in (
-        g,
-        record {
-          below = omega arith;
-          event_is = omega (arith, next-low run l g low-l);
-          turn_is = omega (arith, turns-low run e g low);
-          place_is = omega (
-            arith,
-            place false (opens-low run e low ∙ ne_eqb (e % 2) 0 odd),
-            length-open k g s low-l wide refl,
-            length-other run l g (λ _ even. absurd (omega arith)),
-          );
-        },
+      (λ even. let g : ℕ = 2 * k in at g (omega arith) (omega (
+        arith,
+        place true (opens-low run e low ∙ eq-eqb (e % 2) 0 even),
+        length-turns k g s low-l wide refl,
+        length-even run l g low-l (omega arith),
       )))
+      (λ odd. let g : ℕ = 2 * k + 1 in at g (omega arith) (omega (
+        arith,
+        place false (opens-low run e low ∙ ne_eqb (e % 2) 0 odd),
+        length-open k g s low-l wide refl,
+        length-other run l g (λ _ even. absurd (omega arith)),
+      ))))
       (λ high. let high' : 2 * run.latches ≤ e = omega arith in let n = node-high run e high' in
       let high-l : run.latches ≤ l = omega arith in let wide = stride-high run l high-l in
       let one : k * s ≡ k = ap (λ (x : ℕ). k * x) wide ∙ omega arith in (

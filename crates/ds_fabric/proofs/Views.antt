@@ -13,7 +13,7 @@ use Rattle.ds_rule.specs.Plays.{Sat, after_look}
 use Rattle.ds_marked.specs.declared.marked.Arc.{Arc}
 use Rattle.ds_rule.specs.declared.view.View.{View}
 use Rattle.ds_rule.proofs.EventLaws.{turns_up}
-use Rattle.ds_fabric.specs.Looks.{LooksOn, Lacks}
+use Rattle.ds_fabric.specs.Looks.{LooksOn, IsSeenLacking}
 
 pub seen-here : (v : View) (l r x : ℕ) → l < length v.seen → x ≡ l → seen (after_look v l r) x ≡ r
 seen-here v l r x near e = ap (seen (after_look v l r)) e ∙ get_or-set_same v.seen l r 0 near
@@ -56,11 +56,11 @@ pub gives_up : (run : Run) (event turn n : ℕ) (u : View) (m m' : Sat) (a : Arc
     → seen m.0 (node_of run a.source) ≤ r
     → (holds m.0 (node_of run a.source) ≡ true → r ≡ seen m.0 (node_of run a.source))
     → get_elem? run.arcs n ≡ some a → a.target ≡ event → c + a.tokens < turn
-    → LooksOn u m'.0 × Lacks run u m'.0 event turn n c
+    → LooksOn u m'.0 × IsSeenLacking run u m'.0 event turn n c
 gives_up run event turn n u m m' a r c gave is q long near up own at into short =
     let x : ℕ = node_of run a.source in
     let inside : x < length m.0.seen = omega (arith, q.seen_long) in
-    let P : Sat → Type 0 = λ y. LooksOn u y.0 × Lacks run u y.0 event turn n c in
+    let P : Sat → Type 0 = λ y. LooksOn u y.0 × IsSeenLacking run u y.0 event turn n c in
     subst P (sym is) (
       looks_more u m.0 x r q inside up own,
       record {

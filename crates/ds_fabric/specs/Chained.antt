@@ -10,7 +10,7 @@ abbrev pub arc_numbered : Run → ℕ → Arc
 arc_numbered run n = slice_index_or run.arcs n (record { source = 0; target = 0; tokens = 0 })
 
 -- h is the place of the last arc into the event among the first n arcs
-pub record IsLast (run : Run) (event n h : ℕ) : Type 0 where
+pub record IsLastArc (run : Run) (event n h : ℕ) : Type 0 where
   pub below : h ≤ n
   pub hit : 0 < h → (arc_numbered run (h - 1)).target ≡ event
   pub none : (k : ℕ) → h ≤ k → k < n → (arc_numbered run k).target ≢ event
@@ -19,8 +19,8 @@ pub record IsLast (run : Run) (event n h : ℕ) : Type 0 where
 pub record IsChained (run : Run) (n : ℕ) (heads links : List ℕ) : Type 0 where
   pub heads_long : length heads ≡ events run
   pub links_long : length links ≡ n
-  pub head : (e : ℕ) → e < events run → IsLast run e n (slice_index heads e)
-  pub link : (k : ℕ) → k < n → IsLast run (arc_numbered run k).target k (slice_index links k)
+  pub head : (e : ℕ) → e < events run → IsLastArc run e n (slice_index heads e)
+  pub link : (k : ℕ) → k < n → IsLastArc run (arc_numbered run k).target k (slice_index links k)
 
 -- all arcs are chained
 abbrev pub AreChained : Run → Chains → Type 0

@@ -6,8 +6,8 @@ use lib.ListN.{get_elem?}
 use Rattle.ds_fabric.specs.declared.history.History.{History}
 
 -- the history of the node is number i
-abbrev pub Stands : List History → ℕ → ℕ → Type 0
-Stands nodes i node = (h : History) × (get_elem? nodes i ≡ some h) × (h.node ≡ node)
+abbrev pub IsHistoryAt : List History → ℕ → ℕ → Type 0
+IsHistoryAt nodes i node = (h : History) × (get_elem? nodes i ≡ some h) × (h.node ≡ node)
 
 -- each node has one history at most
 abbrev pub IsOneEach : List History → Type 0
@@ -24,7 +24,7 @@ pub record IsIndexed (many room n : ℕ) (nodes : List History) (places : List �
   pub placed : (i : ℕ) (h : History) → i < n → get_elem? nodes i ≡ some h → 0 < length places
       → slice_index places h.node ≡ i + 1
   pub back : (l : ℕ) → 0 < slice_index places l
-      → (slice_index places l ≤ n) × Stands nodes (slice_index places l - 1) l
+      → (slice_index places l ≤ n) × IsHistoryAt nodes (slice_index places l - 1) l
 
 -- where a history came from that stands at j, once the one at `at` was taken out and the last came
 -- to its place
@@ -46,7 +46,7 @@ abbrev pub AreBelow : List History → ℕ → Type 0
 AreBelow nodes many = (i : ℕ) (h : History) → get_elem? nodes i ≡ some h → h.node < many
 
 -- the history of the node was taken out
-pub record Leaves (old new : List History) (at node : ℕ) : Type 0 where
+pub record IsTakenOut (old new : List History) (at node : ℕ) : Type 0 where
   pub apart : IsOneEach old
   pub without : IsWithout old new at
   pub history : History

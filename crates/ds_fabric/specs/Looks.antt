@@ -27,7 +27,7 @@ Enough run w event turn = (k : ℕ) (a : Arc) → get_elem? run.arcs k ≡ some 
 
 -- the arc enters the event, the last load was of its source and gave the count n, and that is not
 -- enough
-pub record Lacks (run : Run) (v w : View) (event turn arc n : ℕ) : Type 0 where
+pub record IsSeenLacking (run : Run) (v w : View) (event turn arc n : ℕ) : Type 0 where
   pub a : Arc
   pub is_arc : get_elem? run.arcs arc ≡ some a
   pub enters : a.target ≡ event

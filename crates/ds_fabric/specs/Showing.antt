@@ -52,7 +52,7 @@ pub record Stays (m : Memory) (old p : Showing) : Type 0 where
   pub remembers : Remembers m old.scratch → Remembers m p.scratch
 
 -- a fabric of this run, and a pass that holds all nodes, of which none has fired
-pub record IsBegun (run : Run) (f : Base) (p : Showing) : Type 0 where
+pub record IsFabricBegun (run : Run) (f : Base) (p : Showing) : Type 0 where
   pub run_is : f.run ≡ run
   pub belongs : Belongs f p
   pub view : p.view ≡ first_view run
@@ -75,7 +75,7 @@ pub record IsLeft (old : Showing) (node : ℕ) (p : Showing) : Type 0 where
   pub scratch : p.scratch ≡ old.scratch
 
 -- the room of the history of a node
-pub record HasRoom (run : Run) (l : ℕ) (h : History) : Type 0 where
+pub record HasHistoryRoom (run : Run) (l : ℕ) (h : History) : Type 0 where
   pub turns : run.limit * stride_of run l ≤ vec_capacity h.turns
   pub from : read_words run l (length run.edges) ≤ vec_capacity h.from
 
@@ -85,7 +85,7 @@ pub record IsBlank (run : Run) (l : ℕ) (h : History) : Type 0 where
   pub fired : h.fired ≡ 0
   pub stride : h.stride ≡ stride_of run l
   pub turns : h.turns.items ≡ []
-  pub room : HasRoom run l h
+  pub room : HasHistoryRoom run l h
 
 -- the histories of the first n nodes in order, before they fired
 pub record Blank (run : Run) (n : ℕ) (items : List History) : Type 0 where
@@ -99,7 +99,7 @@ pub record Tells (v : View) (h : History) : Type 0 where
   pub fired : h.fired ≡ seen v h.node
   pub stride : h.stride ≡ stride_of v.run h.node
   pub turns : h.turns.items ≡ turns_told v.run (tickets v) h.node (seen v h.node)
-  pub room : HasRoom v.run h.node h
+  pub room : HasHistoryRoom v.run h.node h
 
 -- each event that is held has a ticket for each firing
 abbrev pub IsCounted : View → Type 0
@@ -154,6 +154,6 @@ pub record IsTold (v : View) (node : ℕ) (h : History) : Type 0 where
   pub most : (e : ℕ) → node_of v.run e ≡ node → length (tickets v e) ≤ v.run.limit
 
 -- the events by rising ticket: those of the one legal list of which the tickets are the places
-pub record IsFired (run : Run) (tickets : ℕ → List ℕ) (items : List ℕ) : Type 0 where
+pub record IsFiredInOrder (run : Run) (tickets : ℕ → List ℕ) (items : List ℕ) : Type 0 where
   pub recorded : Recorded run tickets (length items)
   pub is : items ≡ firings recorded.log

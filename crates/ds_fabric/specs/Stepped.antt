@@ -5,14 +5,14 @@ use Rattle.ds_rule.specs.Rule.{tickets, seen}
 use Rattle.ds_rule.specs.declared.view.View.{View}
 use Rattle.ds_fabric.specs.declared.step.Step.{Step}
 use Rattle.ds_fabric.specs.declared.step.Step.TheVariants.{Fired, NotYet, Done}
-use Rattle.ds_fabric.specs.Looks.{LooksOn, Enough, Lacks}
+use Rattle.ds_fabric.specs.Looks.{LooksOn, Enough, IsSeenLacking}
 
 -- the count of the event that the node fires next, before it fires
 abbrev pub done : Run → View → ℕ → ℕ
 done run v l = turns run (next run l (seen v l)) (seen v l)
 
 -- the next event of the node fired, and nothing else that is held changed
-pub record Fires (run : Run) (v w : View) (l event turn ticket : ℕ) : Type 0 where
+pub record FiresNext (run : Run) (v w : View) (l event turn ticket : ℕ) : Type 0 where
   pub event_is : event ≡ next run l (seen v l)
   pub turn_is : turn ≡ done run v l + 1
   pub within : turn ≤ run.limit
@@ -30,8 +30,8 @@ pub record Fires (run : Run) (v w : View) (l event turn ticket : ℕ) : Type 0 w
 -- what a call of `step` says of the pass before and after it: it has not fired yet where a source
 -- has not fired often enough and the event is below its limit, and all is done where it is not
 abbrev pub Stepped : Run → View → ℕ → Step → View → Type 0
-Stepped run v l (Fired event turn ticket) w = Fires run v w l event turn ticket
+Stepped run v l (Fired event turn ticket) w = FiresNext run v w l event turn ticket
 Stepped run v l (NotYet arc n) w = LooksOn v w
-    × Lacks run v w (next run l (seen v l)) (done run v l + 1) arc n
+    × IsSeenLacking run v w (next run l (seen v l)) (done run v l + 1) arc n
     × (done run v l < run.limit)
 Stepped run v l Done w = (w ≡ v) × (run.limit ≤ done run v l)

@@ -7,8 +7,10 @@ ghost use Rattle.ds_rule.specs.Rule.{holds, seen};
 ghost use Rattle.ds_rule.specs.Plays.{after_look};
 ghost use Rattle.ds_fabric.specs.Base.{IsOver};
 ghost use Rattle.ds_fabric.specs.Into.{AreInto};
-ghost use Rattle.ds_fabric.specs.Looks.{LooksOn, Enough, Lacks};
+ghost use Rattle.ds_fabric.specs.Looks.{LooksOn, Enough, IsSeenLacking};
 
+use crate::compute::Compute;
+use crate::ground::Ground;
 use crate::incoming::Incoming;
 use atomic_table::{Seat, Shared};
 use ds_rule::{Layout, Look, Order, Rows, View};
@@ -64,31 +66,30 @@ pub fn lacking_between<J: Rows>(
 
 /// Loads the counts of the event's sources, from the last arc on, up to the first that is too
 /// small.
-pub fn survey<J: Rows>(
-    board: &Board<J>,
-    run: &Layout<J>,
-    incoming: &Incoming,
+pub fn survey<J: Rows, C: Compute>(
+    ground: &Ground<J, C>,
     seat: &mut Seat<u8, View>,
     event: usize,
     turn: u64,
 ) -> Option<(usize, u64)>
-    requires table { (seat.old.table_id ≡ board.now.table_id)
-        × IsOver board.now.table_id board.now.key run.now }
-    requires incoming { AreInto run.now incoming.now }
+    requires table { (seat.old.table_id ≡ ground.now.board.now.table_id)
+        × IsOver ground.now.board.now.table_id ground.now.board.now.key ground.now.run.now }
+    requires incoming { AreInto ground.now.run.now ground.now.incoming.now }
     requires rests { (seat.old.me.0.live ≡ true) × (seat.old.me.0.stage ≡ 0)
-        × (length seat.old.me.0.seen ≡ run.now.nodes) }
-    requires few { (turn < 9223372036854775808) × (event < events run.now) }
+        × (length seat.old.me.0.seen ≡ ground.now.run.now.nodes) }
+    requires few { (turn < 9223372036854775808) × (event < events ground.now.run.now) }
 
     ensures table { (seat.new.table_id ≡ seat.old.table_id) × (seat.new.me.1 ≡ seat.old.me.1) }
     ensures looks { LooksOn seat.old.me.0 seat.new.me.0 }
-    ensures none { IfNone result (Enough run.now seat.new.me.0 event turn) }
+    ensures none { IfNone result (Enough ground.now.run.now seat.new.me.0 event turn) }
     ensures some { IfSome result (λ r.
-        Lacks run.now seat.old.me.0 seat.new.me.0 event turn r.0 r.1) }
+        IsSeenLacking ground.now.run.now seat.old.me.0 seat.new.me.0 event turn r.0 r.1) }
 {
+    let incoming = ground.incoming;
     let arcs = incoming.arcs.as_slice();
     for i in incoming.starts[event]..incoming.starts[event + 1] {
         let arc = arcs[i];
-        let fired = look(board, run, seat, arc.node as usize);
+        let fired = look(ground.board, ground.run, seat, arc.node as usize);
         if arc.lacks(fired, turn) {
             return Some((incoming.numbers[i] as usize, arc.source.turns(fired)));
         }

@@ -5,9 +5,9 @@ ghost use Rattle.ds_scratch.specs.Scratch.{Remembers};
 ghost use Rattle.ds_rule.specs.Sound.{IsSound};
 ghost use Rattle.ds_rule.specs.Log.{Recorded};
 ghost use Rattle.ds_rule.specs.Rule.{holds, tickets};
-ghost use Rattle.ds_rule.specs.Plays.{both};
+ghost use Rattle.ds_rule.specs.Plays.{taken_in};
 ghost use Rattle.ds_fabric.specs.Stepped.{Stepped};
-ghost use Rattle.ds_fabric.specs.Showing.{Belongs, IsBegun, IsCounted, IsDealt, IsLeft, IsOf};
+ghost use Rattle.ds_fabric.specs.Showing.{Belongs, IsFabricBegun, IsCounted, IsDealt, IsLeft, IsOf};
 ghost use Rattle.ds_fabric.specs.Showing.{Stays, no_scratch};
 
 use crate::build::{histories, lay};
@@ -64,7 +64,7 @@ impl<'a, J: Rows, C: Compute> Fabric<'a, J, C> {
     ) -> Result<(Fabric<'a, J, C>, Pass), OutOfMemory>
         requires sound { IsSound run.now }
         requires openings { C.run openings.now ≡ run.now }
-        ensures { IfOk result (λ r. IsBegun run.now r.0 r.1) }
+        ensures { IfOk result (λ r. IsFabricBegun run.now r.0 r.1) }
     {
         let (words, starts) = lay(alloc, run, openings)?;
         let firsts = firsts(alloc, run)?;
@@ -195,7 +195,7 @@ impl<'a, J: Rows, C: Compute> Fabric<'a, J, C> {
         ensures same { (pass.new.table_id ≡ pass.old.table_id) × (pass.new.room ≡ pass.old.room)
             × (pass.new.scratch ≡ pass.old.scratch) }
         ensures many { pass.new.many ≡ pass.old.many + other.many }
-        ensures view { pass.new.view ≡ both pass.old.view other.view }
+        ensures view { pass.new.view ≡ taken_in pass.old.view other.view }
     {
         let Pass {
             seat,

@@ -20,47 +20,44 @@ ghost use Rattle.ds_fabric.specs.declared.history.History.{History};
 ghost use Rattle.ds_fabric.specs.Flown.{HasOpened, HasRoomFor, HasRoomToFire};
 
 use crate::compute::Compute;
-use crate::counts::{Board, survey};
+use crate::counts::survey;
+use crate::ground::Ground;
 use crate::history::History;
-use crate::incoming::Incoming;
-use crate::index::Index;
 use crate::learnt::Learnt;
-use crate::rows::{place_of, read_rows, write_row};
+use crate::rows::{read_rows, write_row};
 use crate::step::Step;
 use atomic_table::Seat;
 use ds_base::{ArcId, EventId, LatchId};
-use ds_rule::{Depart, Draw, Layout, Publish, Rows, View};
+use ds_rule::{Depart, Draw, Publish, Rows, View};
 use ds_scratch::Scratch;
 
 /// Fires the next event of the history's node, if what its sources show is enough.
 pub fn advance<J: Rows, C: Compute>(
-    board: &Board<J>,
-    run: &Layout<J>,
-    openings: &C,
-    incoming: &Incoming,
-    index: &Index,
+    ground: &Ground<J, C>,
     seat: &mut Seat<u8, View>,
     history: &mut History,
     scratch: &mut Scratch,
 ) -> Step
-    requires table { (seat.old.table_id ≡ board.now.table_id)
-        × IsBuilt board.now.table_id board.now.key run.now index.now }
-    requires incoming { AreInto run.now incoming.now }
-    requires openings { (C.run openings.now ≡ run.now)
-        × Remembers (C.memory openings.now) scratch.old }
-    requires run { seat.old.me.0.run ≡ run.now }
+    requires table { (seat.old.table_id ≡ ground.now.board.now.table_id)
+        × IsBuilt ground.now.board.now.table_id ground.now.board.now.key ground.now.run.now
+        ground.now.index.now }
+    requires incoming { AreInto ground.now.run.now ground.now.incoming.now }
+    requires openings { (C.run ground.now.openings.now ≡ ground.now.run.now)
+        × Remembers (C.memory ground.now.openings.now) scratch.old }
+    requires run { seat.old.me.0.run ≡ ground.now.run.now }
     requires keeps { (nodes : List History) × (i : ℕ) × Keeps seat.old.me nodes
         × (get_elem? nodes i ≡ some history.old) }
 
     ensures table { seat.new.table_id ≡ seat.old.table_id }
-    ensures step { Stepped run.now seat.old.me.0 history.old.node result seat.new.me.0 }
+    ensures step { Stepped ground.now.run.now seat.old.me.0 history.old.node result seat.new.me.0 }
     ensures keeps { (nodes : List History) (i : ℕ) → Keeps seat.old.me nodes
         → get_elem? nodes i ≡ some history.old → Keeps seat.new.me (slice_set nodes i history.new) }
     ensures node { history.new.node ≡ history.old.node }
     ensures same { (seat.new.me.0.run ≡ seat.old.me.0.run)
         × (seat.new.me.0.holds ≡ seat.old.me.0.holds) }
-    ensures remembers { Remembers (C.memory openings.now) scratch.new }
+    ensures remembers { Remembers (C.memory ground.now.openings.now) scratch.new }
 {
+    let run = ground.run;
     let fired = history.fired;
     let event = run.next(history.node, fired);
     let before = run.turns(event, fired);
@@ -68,11 +65,11 @@ pub fn advance<J: Rows, C: Compute>(
         return Step::Done;
     }
     let turn = before + 1;
-    if let Some((arc, seen)) = survey(board, run, incoming, seat, event, turn) {
+    if let Some((arc, seen)) = survey(ground, seat, event, turn) {
         let arc = ArcId::new(arc as u32);
         return Step::NotYet { arc, seen };
     }
-    let ticket = fire(board, run, openings, index, seat, history, scratch);
+    let ticket = fire(ground, seat, history, scratch);
     let event = EventId::new(event as u32);
     Step::Fired {
         event,
@@ -83,26 +80,24 @@ pub fn advance<J: Rows, C: Compute>(
 
 // Fires the next event of the node: what was seen is enough for it.
 fn fire<J: Rows, C: Compute>(
-    board: &Board<J>,
-    run: &Layout<J>,
-    openings: &C,
-    index: &Index,
+    ground: &Ground<J, C>,
     seat: &mut Seat<u8, View>,
     history: &mut History,
     scratch: &mut Scratch,
 ) -> u64
-    requires table { (seat.old.table_id ≡ board.now.table_id)
-        × IsBuilt board.now.table_id board.now.key run.now index.now }
-    requires openings { (C.run openings.now ≡ run.now)
-        × Remembers (C.memory openings.now) scratch.old }
+    requires table { (seat.old.table_id ≡ ground.now.board.now.table_id)
+        × IsBuilt ground.now.board.now.table_id ground.now.board.now.key ground.now.run.now
+        ground.now.index.now }
+    requires openings { (C.run ground.now.openings.now ≡ ground.now.run.now)
+        × Remembers (C.memory ground.now.openings.now) scratch.old }
     requires rests { (seat.old.me.0.live ≡ true) × (seat.old.me.0.stage ≡ 0)
-        × (seat.old.me.0.run ≡ run.now) }
+        × (seat.old.me.0.run ≡ ground.now.run.now) }
     requires held { (holds seat.old.me.0 history.old.node ≡ true)
-        × (history.old.node < run.now.nodes)
+        × (history.old.node < ground.now.run.now.nodes)
         × (history.old.fired ≡ seen seat.old.me.0 history.old.node) }
-    requires ready { Enabled run.now (seen seat.old.me.0)
-        (next run.now history.old.node history.old.fired) }
-    requires room { HasRoomToFire run.now history.old }
+    requires ready { Enabled ground.now.run.now (seen seat.old.me.0)
+        (next ground.now.run.now history.old.node history.old.fired) }
+    requires room { HasRoomToFire ground.now.run.now history.old }
 
     ensures table { (seat.new.table_id ≡ seat.old.table_id) × (seat.new.id ≡ seat.old.id) }
     ensures me { seat.new.me
@@ -111,100 +106,99 @@ fn fire<J: Rows, C: Compute>(
           seat.old.me.1,
         ) }
     ensures fresh { seat.old.me.0.drawn ≤ result }
-    ensures noted { HasFired run.now history.old history.new result }
-    ensures remembers { Remembers (C.memory openings.now) scratch.new }
+    ensures noted { HasFired ground.now.run.now history.old history.new result }
+    ensures remembers { Remembers (C.memory ground.now.openings.now) scratch.new }
 {
     let word = history.node + 1;
-    board.load::<Depart>(seat, word);
-    prepare(board, run, openings, index, seat, history, scratch);
-    let ticket = board.fetch_add::<Draw>(seat, 0, 1);
-    board.store::<Publish>(seat, word, history.fired + 1);
+    ground.board.load::<Depart>(seat, word);
+    prepare(ground, seat, history, scratch);
+    let ticket = ground.board.fetch_add::<Draw>(seat, 0, 1);
+    ground.board.store::<Publish>(seat, word, history.fired + 1);
     history.note(ticket);
     ticket
 }
 
 // Gives the node's next value, where its next event is an opening.
 fn prepare<J: Rows, C: Compute>(
-    board: &Board<J>,
-    run: &Layout<J>,
-    openings: &C,
-    index: &Index,
+    ground: &Ground<J, C>,
     seat: &mut Seat<u8, View>,
     history: &mut History,
     scratch: &mut Scratch,
 )
-    requires table { (seat.old.table_id ≡ board.now.table_id)
-        × IsBuilt board.now.table_id board.now.key run.now index.now }
-    requires openings { (C.run openings.now ≡ run.now)
-        × Remembers (C.memory openings.now) scratch.old }
-    requires flight { IsAway run.now seat.old.me.0 history.old.node
+    requires table { (seat.old.table_id ≡ ground.now.board.now.table_id)
+        × IsBuilt ground.now.board.now.table_id ground.now.board.now.key ground.now.run.now
+        ground.now.index.now }
+    requires openings { (C.run ground.now.openings.now ≡ ground.now.run.now)
+        × Remembers (C.memory ground.now.openings.now) scratch.old }
+    requires flight { IsAway ground.now.run.now seat.old.me.0 history.old.node
         × (history.old.fired ≡ seen seat.old.me.0 history.old.node)
-        × (history.old.node < run.now.nodes) }
-    requires ready { Enabled run.now (seen seat.old.me.0)
-        (next run.now history.old.node history.old.fired) }
-    requires room { HasRoomToFire run.now history.old }
+        × (history.old.node < ground.now.run.now.nodes) }
+    requires ready { Enabled ground.now.run.now (seen seat.old.me.0)
+        (next ground.now.run.now history.old.node history.old.fired) }
+    requires room { HasRoomToFire ground.now.run.now history.old }
 
     ensures seat { (seat.new.table_id ≡ seat.old.table_id) × (seat.new.id ≡ seat.old.id) }
     ensures me { (n : ℕ) × (seat.new.me ≡ (record seat.old.me.0 { written = n }, seat.old.me.1))
-        × (opens run.now (next run.now history.old.node history.old.fired) ≡ true
-        → width run.now history.old.node ≤ n) }
+        × (opens ground.now.run.now
+        (next ground.now.run.now history.old.node history.old.fired) ≡ true
+        → width ground.now.run.now history.old.node ≤ n) }
     ensures turns { history.new.turns.items
-        ≡ history.old.turns.items ++ new_row run.now history.old.node history.old.fired }
+        ≡ history.old.turns.items ++ new_row ground.now.run.now history.old.node history.old.fired }
     ensures same { HasOpened history.old history.new }
-    ensures remembers { Remembers (C.memory openings.now) scratch.new }
+    ensures remembers { Remembers (C.memory ground.now.openings.now) scratch.new }
 {
-    if run.opens_next(history.node, history.fired) {
+    if ground.run.opens_next(history.node, history.fired) {
         let turn = history.fired / 2 + 1;
-        open_row(board, run, openings, index, seat, history, scratch, turn);
+        open_row(ground, seat, history, scratch, turn);
     }
 }
 
 // Reads, computes and writes the row of the opening.
 fn open_row<J: Rows, C: Compute>(
-    board: &Board<J>,
-    run: &Layout<J>,
-    openings: &C,
-    index: &Index,
+    ground: &Ground<J, C>,
     seat: &mut Seat<u8, View>,
     history: &mut History,
     scratch: &mut Scratch,
     turn: u64,
 )
-    requires table { (seat.old.table_id ≡ board.now.table_id)
-        × IsBuilt board.now.table_id board.now.key run.now index.now }
-    requires openings { (C.run openings.now ≡ run.now)
-        × Remembers (C.memory openings.now) scratch.old }
-    requires flight { IsOpening run.now seat.old.me.0 history.old.node turn
-        × IsAway run.now seat.old.me.0 history.old.node }
-    requires within { (history.old.node < run.now.latches) × (turn ≤ run.now.limit) }
-    requires room { HasRoomFor run.now history.old }
+    requires table { (seat.old.table_id ≡ ground.now.board.now.table_id)
+        × IsBuilt ground.now.board.now.table_id ground.now.board.now.key ground.now.run.now
+        ground.now.index.now }
+    requires openings { (C.run ground.now.openings.now ≡ ground.now.run.now)
+        × Remembers (C.memory ground.now.openings.now) scratch.old }
+    requires flight { IsOpening ground.now.run.now seat.old.me.0 history.old.node turn
+        × IsAway ground.now.run.now seat.old.me.0 history.old.node }
+    requires within { (history.old.node < ground.now.run.now.latches)
+        × (turn ≤ ground.now.run.now.limit) }
+    requires room { HasRoomFor ground.now.run.now history.old }
 
     ensures seat { (seat.new.table_id ≡ seat.old.table_id) × (seat.new.id ≡ seat.old.id) }
     ensures me { seat.new.me
-        ≡ (record seat.old.me.0 { written = width run.now history.old.node }, seat.old.me.1) }
+        ≡ (
+          record seat.old.me.0 { written = width ground.now.run.now history.old.node },
+          seat.old.me.1,
+        ) }
     ensures value { history.new.turns.items
-        ≡ history.old.turns.items ++ row run.now history.old.node turn }
+        ≡ history.old.turns.items ++ row ground.now.run.now history.old.node turn }
     ensures same { HasOpened history.old history.new }
-    ensures remembers { Remembers (C.memory openings.now) scratch.new }
+    ensures remembers { Remembers (C.memory ground.now.openings.now) scratch.new }
 {
     let node = history.node;
     history.from.clear();
     let learnt = Learnt {
-        openings,
         scratch: &*scratch,
         turn,
     };
-    read_rows(board, run, index, &learnt, seat, node, &mut history.from);
+    read_rows(ground, &learnt, seat, node, &mut history.from);
     let before = history.turns.len();
     let from = history.from.as_slice();
-    openings.compute(
+    ground.openings.compute(
         LatchId::new(node as u32),
         turn,
         from,
         scratch,
         &mut history.turns,
     );
-    let at = place_of(run, index.starts.as_slice(), node, turn);
     let words = &history.turns.as_slice()[before..];
-    write_row(board, run, seat, at, words, node, turn);
+    write_row(ground, seat, words, node, turn);
 }

@@ -3,7 +3,7 @@ ghost use Rattle.std.specs.Prelude.{◌≡◌, ◌<◌, ℕ, [], true, length};
 ghost use Rattle.ds_rule.specs.Run.{node_of, turns};
 ghost use Rattle.ds_rule.specs.Log.{Recorded};
 ghost use Rattle.ds_rule.specs.Rule.{holds, tickets, seen};
-ghost use Rattle.ds_rule.specs.Plays.{after_point, without_cut, only_cut, both};
+ghost use Rattle.ds_rule.specs.Plays.{after_point, without_cut, only_cut, taken_in};
 ghost use Rattle.ds_fabric.specs.Base.{IsOver};
 ghost use Rattle.ds_fabric.specs.Showing.{IsCounted};
 
@@ -47,7 +47,7 @@ pub fn mend<J: Rows>(
     requires rests { (seat.old.me.0.stage ≡ 0) × (other.me.0.stage ≡ 0) }
 
     ensures seat { (seat.new.table_id ≡ seat.old.table_id)
-        × (seat.new.me ≡ (both seat.old.me.0 other.me.0, seat.old.me.1)) }
+        × (seat.new.me ≡ (taken_in seat.old.me.0 other.me.0, seat.old.me.1)) }
     ensures counts { IsCounted seat.new.me.0 }
     ensures apart { (l : ℕ) → l < seat.old.me.0.run.nodes → holds seat.old.me.0 l ≡ true
         → holds other.me.0 l ≡ true → ⊥ }

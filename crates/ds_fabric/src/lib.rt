@@ -18,6 +18,7 @@ mod counts;
 mod events;
 mod fabric;
 mod flight;
+mod ground;
 mod hands;
 mod hints;
 mod history;

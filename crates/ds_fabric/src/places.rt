@@ -4,7 +4,7 @@ ghost use Rattle.std.specs.Prelude.{ℕ, List, ◌≡◌, ◌↔◌, ◌<◌, �
 ghost use Rattle.std.specs.Prelude.{slice_index, IfOk, IsTrue, vec_len, vec_capacity};
 ghost use mathlib.Core.Option.{some};
 ghost use lib.ListN.{get_elem?};
-ghost use Rattle.ds_fabric.specs.Indexed.{IsIndexed, IsOneEach, AreBelow, Leaves, Stands};
+ghost use Rattle.ds_fabric.specs.Indexed.{IsIndexed, IsOneEach, AreBelow, IsTakenOut, IsHistoryAt};
 ghost use Rattle.ds_fabric.specs.Indexed.{IsWithout};
 ghost use Rattle.ds_fabric.specs.declared.history.History.{History};
 
@@ -19,8 +19,8 @@ use std::alloc::Global;
 pub fn find(nodes: &[History], places: &[usize], node: usize) -> usize
     requires indexed { (many : ℕ) × (room : ℕ)
         × IsIndexed many room (length nodes.now) nodes.now places.now }
-    requires there { (i : ℕ) × Stands nodes.now i node }
-    ensures { Stands nodes.now result node }
+    requires there { (i : ℕ) × IsHistoryAt nodes.now i node }
+    ensures { IsHistoryAt nodes.now result node }
 {
     if places.len() == 0 {
         0
@@ -33,7 +33,7 @@ pub fn find(nodes: &[History], places: &[usize], node: usize) -> usize
 pub fn has(nodes: &[History], places: &[usize], node: usize) -> bool
     requires { (many : ℕ) × (room : ℕ)
         × IsIndexed many room (length nodes.now) nodes.now places.now × (node < many) }
-    ensures { IsTrue result ↔ ((i : ℕ) × Stands nodes.now i node) }
+    ensures { IsTrue result ↔ ((i : ℕ) × IsHistoryAt nodes.now i node) }
 {
     if places.len() == 0 {
         if nodes.len() == 0 {
@@ -94,9 +94,9 @@ pub fn take_out(nodes: &mut Vec<History>, places: &mut Vec<usize>, at: usize) ->
 
 // The node has no place any more; what stands where its history stood has.
 fn forget(nodes: &[History], places: &mut Vec<usize>, node: usize, at: usize)
-    requires { (many : ℕ) × (room : ℕ) × (old : List History) × Leaves old nodes.now at node
+    requires { (many : ℕ) × (room : ℕ) × (old : List History) × IsTakenOut old nodes.now at node
         × IsIndexed many room (length old) old places.old.items }
-    ensures { (many room : ℕ) (old : List History) → Leaves old nodes.now at node
+    ensures { (many room : ℕ) (old : List History) → IsTakenOut old nodes.now at node
         → IsIndexed many room (length old) old places.old.items
         → IsIndexed many room (length nodes.now) nodes.now places.new.items }
 {

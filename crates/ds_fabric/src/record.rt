@@ -3,9 +3,9 @@
 ghost use Rattle.std.specs.Prelude.{◌≡◌, ◌<◌, ◌≤◌, ◌+◌, IfOk, length, slice_index};
 ghost use Rattle.ds_rule.specs.Run.{closing, events};
 ghost use Rattle.ds_rule.specs.Sound.{IsSound};
-ghost use Rattle.ds_rule.specs.Words.{width, value, values_at};
+ghost use Rattle.ds_rule.specs.Words.{width, value, node_values};
 ghost use Rattle.ds_rule.specs.Rule.{tickets};
-ghost use Rattle.ds_fabric.specs.Showing.{IsFired, IsTold};
+ghost use Rattle.ds_fabric.specs.Showing.{IsFiredInOrder, IsTold};
 
 use crate::events::{home, turns_of};
 use crate::history::History;
@@ -95,7 +95,7 @@ impl Record {
         requires near { node < self.now.shown.view.run.latches }
         requires stored { k < length (tickets self.now.shown.view (closing node)) }
         requires length { length into.old ≡ slice_index self.now.shown.view.run.lengths node }
-        ensures { into.new ≡ values_at self.now.shown.view.run node (k + 1) }
+        ensures { into.new ≡ node_values self.now.shown.view.run node (k + 1) }
     {
         let width = words_of(into.len());
         let history = self.history(node.index());
@@ -117,7 +117,7 @@ impl Record {
     /// The events by rising ticket.
     pub fn firings(&self, alloc: Global) -> Result<Vec<EventId>, OutOfMemory>
         ensures ok { IfOk result (λ v.
-            IsFired self.now.shown.view.run (tickets self.now.shown.view) v.items) }
+            IsFiredInOrder self.now.shown.view.run (tickets self.now.shown.view) v.items) }
         ensures ok_long { IfOk result (λ v. length v.items ≡ self.now.many) }
     {
         let mut out = no_events(alloc, self.many as usize)?;

@@ -8,11 +8,10 @@ ghost use Rattle.ds_scratch.specs.Scratch.{Remembers};
 ghost use Rattle.ds_rule.specs.Sound.{IsSound, read_words};
 ghost use Rattle.ds_rule.specs.Words.{width, place};
 ghost use Rattle.ds_rule.specs.Rows.{row, supply_but, IsStarts, IsOpening};
-ghost use Rattle.ds_fabric.specs.Base.{IsOver, IsBuilt};
+ghost use Rattle.ds_fabric.specs.Base.{IsBuilt};
 
 use crate::compute::Compute;
-use crate::counts::Board;
-use crate::index::Index;
+use crate::ground::Ground;
 use crate::learnt::Learnt;
 use atomic_table::Seat;
 use ds_rule::{DataEdge, Layout, Read, Rows, View, Write};
@@ -32,102 +31,100 @@ pub fn place_of<J: Rows>(run: &Layout<J>, starts: &[usize], node: usize, turn: u
 }
 
 // Puts down the number of a producer, and loads its row.
-fn read_row<J: Rows>(
-    board: &Board<J>,
-    run: &Layout<J>,
+fn read_row<J: Rows, C: Compute>(
+    ground: &Ground<J, C>,
     seat: &mut Seat<u8, View>,
     edge: DataEdge,
-    at: usize,
-    into: &mut Vec<u64>,
-    node: usize,
     turn: u64,
+    into: &mut Vec<u64>,
 )
-    requires table { (seat.old.table_id ≡ board.now.table_id)
-        × IsOver board.now.table_id board.now.key run.now }
-    requires flight { IsOpening run.now seat.old.me.0 node turn
-        × (seat.old.me.0.run ≡ run.now) }
-    requires edge { (k : ℕ) × (get_elem? run.now.edges k ≡ some edge) × (edge.consumer ≡ node) }
-    requires at { at ≡ place run.now edge.producer (turn - edge.tokens) 0 }
-    requires room { vec_len into.old + width run.now edge.producer < vec_capacity into.old }
+    requires table { (seat.old.table_id ≡ ground.now.board.now.table_id)
+        × IsBuilt ground.now.board.now.table_id ground.now.board.now.key ground.now.run.now
+        ground.now.index.now }
+    requires flight { IsOpening ground.now.run.now seat.old.me.0 edge.consumer turn
+        × (seat.old.me.0.run ≡ ground.now.run.now) }
+    requires edge { (k : ℕ) × (get_elem? ground.now.run.now.edges k ≡ some edge) }
+    requires room { vec_len into.old + width ground.now.run.now edge.producer
+        < vec_capacity into.old }
 
     ensures seat { (seat.new.table_id ≡ seat.old.table_id) × (seat.new.id ≡ seat.old.id)
         × (seat.new.me ≡ seat.old.me) }
-    ensures value { into.new.items
-        ≡ into.old.items ++ edge.producer ∷ row run.now edge.producer (turn - edge.tokens) }
+    ensures value { into.new.items ≡ into.old.items
+        ++ edge.producer ∷ row ground.now.run.now edge.producer (turn - edge.tokens) }
     ensures room { vec_capacity into.new ≡ vec_capacity into.old }
 {
-    into.push_reserved(edge.producer.index() as u64);
-    for i in 0..run.width(edge.producer.index()) {
-        into.push_reserved(board.load::<Read>(seat, at + i));
+    let producer = edge.producer.index();
+    let before = turn - edge.tokens as u64;
+    let at = place_of(ground.run, ground.index.starts.as_slice(), producer, before);
+    into.push_reserved(producer as u64);
+    for i in 0..ground.run.width(producer) {
+        into.push_reserved(ground.board.load::<Read>(seat, at + i));
     }
 }
 
 /// Loads the rows of the node's producers that are not learnt, edge by edge, each behind the number
 /// of its producer.
 pub fn read_rows<J: Rows, C: Compute>(
-    board: &Board<J>,
-    run: &Layout<J>,
-    index: &Index,
-    learnt: &Learnt<C>,
+    ground: &Ground<J, C>,
+    learnt: &Learnt,
     seat: &mut Seat<u8, View>,
     node: usize,
     into: &mut Vec<u64>,
 )
-    requires table { (seat.old.table_id ≡ board.now.table_id)
-        × IsBuilt board.now.table_id board.now.key run.now index.now }
-    requires openings { (C.run learnt.now.openings.now ≡ run.now)
-        × Remembers (C.memory learnt.now.openings.now) learnt.now.scratch.now }
-    requires flight { IsOpening run.now seat.old.me.0 node learnt.now.turn
-        × (seat.old.me.0.run ≡ run.now) }
-    requires room { (into.old.items ≡ [])
-        × (read_words run.now node (length run.now.edges) ≤ vec_capacity into.old) }
+    requires table { (seat.old.table_id ≡ ground.now.board.now.table_id)
+        × IsBuilt ground.now.board.now.table_id ground.now.board.now.key ground.now.run.now
+        ground.now.index.now }
+    requires openings { (C.run ground.now.openings.now ≡ ground.now.run.now)
+        × Remembers (C.memory ground.now.openings.now) learnt.now.scratch.now }
+    requires flight { IsOpening ground.now.run.now seat.old.me.0 node learnt.now.turn
+        × (seat.old.me.0.run ≡ ground.now.run.now) }
+    requires room { (into.old.items ≡ []) × (read_words ground.now.run.now node
+        (length ground.now.run.now.edges) ≤ vec_capacity into.old) }
 
     ensures seat { (seat.new.table_id ≡ seat.old.table_id) × (seat.new.id ≡ seat.old.id)
         × (seat.new.me ≡ seat.old.me) }
-    ensures value { into.new.items ≡ supply_but run.now
-        (λ p. C.has_learnt learnt.now.openings.now learnt.now.scratch.now p learnt.now.turn)
-        node learnt.now.turn (length run.now.edges) }
+    ensures value { into.new.items ≡ supply_but ground.now.run.now
+        (λ p. C.has_learnt ground.now.openings.now learnt.now.scratch.now p learnt.now.turn)
+        node learnt.now.turn (length ground.now.run.now.edges) }
     ensures room { vec_capacity into.new ≡ vec_capacity into.old }
 {
     let turn = learnt.turn;
-    let edges = run.edges();
-    let first = index.firsts[node];
-    let end = index.firsts[node + 1];
+    let edges = ground.run.edges();
+    let first = ground.index.firsts[node];
+    let end = ground.index.firsts[node + 1];
     for i in first..end {
         let edge = edges[i];
-        if learnt
+        if ground
             .openings
             .has_learnt(edge.producer, turn, learnt.scratch)
         {
             continue;
         }
-        let before = turn - edge.tokens as u64;
-        let at = place_of(run, index.starts.as_slice(), edge.producer.index(), before);
-        read_row(board, run, seat, edge, at, into, node, turn);
+        read_row(ground, seat, edge, turn, into);
     }
 }
 
 /// Stores the words of the node's next value.
-pub fn write_row<J: Rows>(
-    board: &Board<J>,
-    run: &Layout<J>,
+pub fn write_row<J: Rows, C: Compute>(
+    ground: &Ground<J, C>,
     seat: &mut Seat<u8, View>,
-    at: usize,
     words: &[u64],
     node: usize,
     turn: u64,
 )
-    requires table { (seat.old.table_id ≡ board.now.table_id)
-        × IsOver board.now.table_id board.now.key run.now }
-    requires flight { IsOpening run.now seat.old.me.0 node turn × (seat.old.me.0.written ≡ 0) }
-    requires at { at ≡ place run.now node turn 0 }
-    requires words { words.now ≡ row run.now node turn }
+    requires table { (seat.old.table_id ≡ ground.now.board.now.table_id)
+        × IsBuilt ground.now.board.now.table_id ground.now.board.now.key ground.now.run.now
+        ground.now.index.now }
+    requires flight { IsOpening ground.now.run.now seat.old.me.0 node turn
+        × (seat.old.me.0.written ≡ 0) }
+    requires words { words.now ≡ row ground.now.run.now node turn }
 
     ensures seat { (seat.new.table_id ≡ seat.old.table_id) × (seat.new.id ≡ seat.old.id) }
     ensures me { seat.new.me
-        ≡ (record seat.old.me.0 { written = width run.now node }, seat.old.me.1) }
+        ≡ (record seat.old.me.0 { written = width ground.now.run.now node }, seat.old.me.1) }
 {
+    let at = place_of(ground.run, ground.index.starts.as_slice(), node, turn);
     for i in 0..words.len() {
-        board.store::<Write>(seat, at + i, words[i]);
+        ground.board.store::<Write>(seat, at + i, words[i]);
     }
 }

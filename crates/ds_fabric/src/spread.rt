@@ -4,7 +4,8 @@ ghost use mathlib.Core.Option.{some};
 ghost use lib.ListN.{get_elem?};
 ghost use Rattle.ds_rule.specs.Run.{Run};
 ghost use Rattle.ds_fabric.specs.Showing.{Showing, IsRecord};
-ghost use Rattle.ds_fabric.specs.Spread.{IsInside, IsFilled, IsKept, IsLeftOver, HasSpread};
+ghost use Rattle.ds_fabric.specs.Spread.{IsInside, IsFilled, IsElsewhereKept, IsLeftOver};
+ghost use Rattle.ds_fabric.specs.Spread.{HasSpread};
 ghost use Rattle.ds_fabric.specs.Spread.{CanSpread};
 ghost use Rattle.ds_fabric.specs.declared.history.History.{History};
 
@@ -60,7 +61,7 @@ fn put(latches: usize, history: &History, event: EventId, out: &mut [EventId])
     ensures long { length out.new ≡ length out.old }
     ensures filled { (run : Run) → latches ≡ run.latches → IsFilled run history.now event out.new }
     ensures kept { (run : Run) → latches ≡ run.latches
-        → IsKept run history.now event out.old out.new }
+        → IsElsewhereKept run history.now event out.old out.new }
 {
     let number = event.index();
     for k in 0..turns_of(latches, number, history.fired) as usize {

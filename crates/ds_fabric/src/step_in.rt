@@ -8,6 +8,7 @@ ghost use Rattle.ds_fabric.specs.Showing.{IsOf, IsPass, Stays};
 use crate::compute::Compute;
 use crate::fabric::Fabric;
 use crate::flight::advance;
+use crate::ground::Ground;
 use crate::history::History;
 use crate::pass::Pass;
 use crate::places::find;
@@ -68,15 +69,13 @@ impl<'a, J: Rows, C: Compute> Fabric<'a, J, C> {
         let number = node.index();
         let held = nodes.as_slice();
         let at = find(held, places.as_slice(), number);
-        advance(
-            &self.table.shared,
-            self.run,
-            self.openings,
-            &self.incoming,
-            &self.index,
-            seat,
-            &mut nodes[at],
-            scratch,
-        )
+        let ground = Ground {
+            board: &self.table.shared,
+            run: self.run,
+            openings: self.openings,
+            incoming: &self.incoming,
+            index: &self.index,
+        };
+        advance(&ground, seat, &mut nodes[at], scratch)
     }
 }

@@ -2,16 +2,15 @@
 ghost use Rattle.std.specs.Prelude.{ℕ, ◌≡◌, ◌<◌, ◌≤◌, ◌+◌, ◌*◌, ◌%◌, ◌/◌, length, slice_index};
 ghost use Rattle.std.specs.Prelude.{slice_index_or};
 ghost use Rattle.ds_base.specs.Values.{Row};
-ghost use Rattle.ds_base.specs.Word.{word_of};
+ghost use Rattle.ds_base.specs.Word.{word_of, count_of_words};
 ghost use Rattle.ds_base.specs.declared.value.Value.TheVariants.{Zero};
-ghost use Rattle.ds_rule.specs.Words.{words_of};
 ghost use Rattle.ds_fabric.specs.Unpacked.{IsPacked, HasWord};
 
 use ds_base::{Row3, Value};
 
 /// How many words so many values take.
 pub fn words_of(count: usize) -> usize
-    ensures { result ≡ words_of count }
+    ensures { result ≡ count_of_words count }
 {
     if count % 32 == 0 {
         count / 32
@@ -22,7 +21,7 @@ pub fn words_of(count: usize) -> usize
 
 /// Reads a row back from its value words.
 pub fn unpack(words: &[u64], row: &mut Row3)
-    requires { length words.now ≡ words_of (length row.old) }
+    requires { length words.now ≡ count_of_words (length row.old) }
     ensures value { (values : Row) → length values ≡ length row.old
         → IsPacked values words.now → row.new ≡ values }
     ensures same { length row.new ≡ length row.old }

@@ -8,7 +8,7 @@ use Rattle.ds_rule.specs.Rule.{holds}
 use Rattle.ds_rule.specs.declared.view.View.{View}
 use Rattle.ds_scratch.specs.Scratch.{Remembers}
 use Rattle.ds_fabric.specs.Base.{Base}
-use Rattle.ds_fabric.specs.Showing.{Showing, IsBegun, IsDealt, IsLeft, Stays}
+use Rattle.ds_fabric.specs.Showing.{Showing, IsFabricBegun, IsDealt, IsLeft, Stays}
 use Rattle.ds_fabric_tests.specs.Toggle.{toggle, Holding, HoldsBoth, HoldsSlave, HoldsMaster}
 
 -- a node that is held
@@ -17,7 +17,7 @@ pub held : (held : List Bool) (many room : ℕ) (f : Base) (p : Showing)
 held hs many room f p h l is = ap (λ (xs : List Bool). get_or xs l false) h.held_are ∙ is
 
 -- the first pass
-pub begun : (run : Run) (f : Base) (p : Showing) → run ≡ toggle → IsBegun run f p → HoldsBoth f p
+pub begun : (run : Run) (f : Base) (p : Showing) → run ≡ toggle → IsFabricBegun run f p → HoldsBoth f p
 begun run f p is b = record {
   run_is = b.run_is ∙ is;
   belongs = b.belongs;

@@ -6,7 +6,7 @@ use lib.ListN.{get_elem?}
 use Rattle.ds_marked.specs.declared.marked.Arc.{Arc}
 use Rattle.ds_rule.specs.declared.layout.DataEdge.{DataEdge}
 use Rattle.ds_rule.specs.Run.{node_of, opening, closing}
-use Rattle.ds_rule.specs.Words.{width, size, value, values_at}
+use Rattle.ds_rule.specs.Words.{width, size, value, node_values}
 use Rattle.ds_rule.specs.Sound.{IsSound, HasOrders, read_words, edge_at}
 use Rattle.ds_rule.specs.Rows.{row}
 use Rattle.ds_fabric_tests.specs.Toggle.{arc, edge, toggle}
@@ -75,7 +75,7 @@ by_consumer (suc zero) (suc (suc k)) h h' = absurd (omega arith)
 by_consumer (suc (suc j)) k h h' = absurd (omega arith)
 
 same_length : (l k : ℕ) → l < 2 → k ≤ 2 → length
-    (values_at toggle l k) ≡ Rattle.std.proofs.Common.slice_index toggle.lengths l
+    (node_values toggle l k) ≡ Rattle.std.proofs.Common.slice_index toggle.lengths l
 same_length zero zero h h' = refl
 same_length zero (suc zero) h h' = refl
 same_length zero (suc (suc zero)) h h' = refl

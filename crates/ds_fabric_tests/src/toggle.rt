@@ -6,7 +6,7 @@ ghost use Rattle.ds_fabric_tests.specs.Toggle.{HoldsBoth, HoldsSlave, HoldsMaste
 use ds_base::{ArcId, EventId, LatchId, OutOfMemory};
 use ds_fabric::{Compute, Fabric, Pass, Record, Step};
 use ds_marked::Arc;
-use ds_rule::{DataEdge, Layout, Rows};
+use ds_rule::{DataEdge, Layout, Rows, Sizes};
 use ds_scratch::Scratch;
 use std::alloc::Global;
 
@@ -90,7 +90,13 @@ pub fn layout(alloc: Global) -> Result<Layout<Toggle>, OutOfMemory>
     let arcs = Vec::from_array(alloc, arcs)?;
     let edges = Vec::from_array(alloc, [new_edge(1, 0, 0), new_edge(0, 1, 1)])?;
     let lengths = Vec::from_array(alloc, [1, 1])?;
-    Ok(Layout::of(2, 2, arcs, 2, edges, lengths, 0, Toggle))
+    let sizes = Sizes {
+        nodes: 2,
+        latches: 2,
+        limit: 2,
+        slack: 0,
+    };
+    Ok(Layout::of(sizes, arcs, edges, lengths, Toggle))
 }
 
 /// The table in which nothing has fired, and the pass of both nodes.

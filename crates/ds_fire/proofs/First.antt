@@ -18,9 +18,9 @@ use Rattle.ds_design.specs.Rows.{AreVectors, Rows}
 use Rattle.ds_latch.specs.Firing.{first_row, first_state}
 use Rattle.ds_latch.proofs.Counts.{number_below}
 use Rattle.ds_fire.specs.First.{AreEmpty, AreFirstRows, HasFirstRow}
-use Rattle.ds_fire.specs.Fired.{IsReached, IsSound}
+use Rattle.ds_fire.specs.Fired.{IsReached, IsSnapshotSound}
 use Rattle.ds_fire.specs.History.{Stored}
-use Rattle.ds_fire.specs.Inside.{HaveRoom, seen}
+use Rattle.ds_fire.specs.Inside.{HaveRoom, snapshot_seen}
 use Rattle.ds_fire.specs.Snapshot.{IsFirst, Shows, row_index, rows_of}
 use Rattle.ds_fire.specs.Turn.{rooms_of, values_of}
 use Rattle.ds_fire.specs.declared.kept.Kept.{Kept}
@@ -98,20 +98,20 @@ module _ (planned : Planned) (vectors : Rows) (counts : List ℕ) (kept : Kept) 
       let empty : Stored = record { values = []; room = 0 } in
       get_or-map (λ (h : Stored). h.values) kept.stored.items (number_of n) empty [] below ∙ stored.none (number_of n) empty below
 
-  pub shows_first : Shows (seen planned vectors counts kept) (first_state planned.split)
+  pub shows_first : Shows (snapshot_seen planned vectors counts kept) (first_state planned.split)
   shows_first = record {
     counts = λ v. sym (none v);
     rows = λ n is_node place low. sym (rows.each n is_node place low);
     stored = λ n is_node. sym (values_none n is_node);
   }
 
-  pub first_is : IsFirst planned vectors.rows (seen planned vectors counts kept)
+  pub first_is : IsFirst planned vectors.rows (snapshot_seen planned vectors counts kept)
   first_is = record { planned_is = refl; vectors_are = refl; shows = shows_first }
 
-  pub first_reached : IsReached (seen planned vectors counts kept)
+  pub first_reached : IsReached (snapshot_seen planned vectors counts kept)
   first_reached = ([], tt, (first_state planned.split, refl, shows_first))
 
-  pub first_sound : IsSound (seen planned vectors counts kept)
+  pub first_sound : IsSnapshotSound (snapshot_seen planned vectors counts kept)
   first_sound = record {
     in_range = range;
     plan = plan;
@@ -126,7 +126,7 @@ module _ (planned : Planned) (vectors : Rows) (counts : List ℕ) (kept : Kept) 
         ∙ (sym (zero-mul (length (nets_of S n))) ∙ ap (λ (k : ℕ). k * length (nets_of S n)) (sym (none (closing n))));
   }
 
-  pub first_room : HaveRoom (seen planned vectors counts kept) kept
+  pub first_room : HaveRoom (snapshot_seen planned vectors counts kept) kept
   first_room n is_node =
       let below : number_of n < length kept.stored.items = (let low : number_of n < nodes S = number_below S n is_node in let long : length kept.stored.items ≡ nodes S = stored.one_each in omega arith) in
       let empty : Stored = record { values = []; room = 0 } in

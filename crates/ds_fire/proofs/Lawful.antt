@@ -23,8 +23,8 @@ use Rattle.ds_latch.proofs.Flow.{flow_equivalence}
 use Rattle.ds_latch.proofs.Rising.{events_long}
 use Rattle.ds_latch.proofs.Spelt.{stored_rows_spell_trace}
 use Rattle.ds_fire.specs.Snapshot.{Snapshot, Shows, split_of, graph_of, limit_of, count_of, held_row, stored_values, stored_row, width_of}
-use Rattle.ds_fire.specs.Fired.{IsReady, IsReached, IsSound}
-use Rattle.ds_fire.specs.Laws.{IsDone, IsInRun, IsRunOf, run_value}
+use Rattle.ds_fire.specs.Fired.{IsReady, IsReached, IsSnapshotSound}
+use Rattle.ds_fire.specs.Laws.{IsFiredToEnd, IsInRun, IsClockedRunOf, run_value}
 use Rattle.ds_fire.proofs.Reached.{kept_counts}
 use Rattle.ds_fire.proofs.Settles.{place_low}
 
@@ -53,7 +53,7 @@ chunk (r ∷ rs) w (suc k) a widths inside at =
     ∙ (ap (λ (xs : Row). take w (drop (k * w) xs)) (drop_at r all w (widths 0 (omega arith)))
     ∙ chunk rs w k (k * w) (λ j low. widths (suc j) (omega arith)) (omega arith) refl))
 
-module _ (kept : Snapshot) (sound : IsSound kept) (events : List ℕ) (legal : IsLegal (graph_of kept) (limit_of kept) events) (now : State) (all : FiresAll (split_of kept) kept.vectors (first_state (split_of kept)) events now) (shows : Shows kept now) where
+module _ (kept : Snapshot) (sound : IsSnapshotSound kept) (events : List ℕ) (legal : IsLegal (graph_of kept) (limit_of kept) events) (now : State) (all : FiresAll (split_of kept) kept.vectors (first_state (split_of kept)) events now) (shows : Shows kept now) where
   abbrev S : Split
   S = split_of kept
 
@@ -73,7 +73,7 @@ module _ (kept : Snapshot) (sound : IsSound kept) (events : List ℕ) (legal : I
         within = λ v inside. (let here : counts_after (λ _. 0) events v ≡ count_of kept v = same v in let low : counts_after (λ _. 0) events v ≤ limit_of kept = is.within v inside in omega arith);
       }
 
-  to_the_end : ((v : ℕ) → ¬ IsReady kept v) ↔ IsDone kept
+  to_the_end : ((v : ℕ) → ¬ IsReady kept v) ↔ IsFiredToEnd kept
   to_the_end = (
     λ none v inside. elim (cases_lt (count_of kept v) (limit_of kept)) [
       | inl below ↦ absurd (let (u, ready) = progress (graph_of kept) controller.live (limit_of kept) (count_of kept) consistent v inside below in none u ready)
@@ -82,7 +82,7 @@ module _ (kept : Snapshot) (sound : IsSound kept) (events : List ℕ) (legal : I
     λ done v ready. (let full : count_of kept v ≡ limit_of kept = done v ready.event in let low : count_of kept v < limit_of kept = ready.below in absurd (omega arith)),
   )
 
-  module _ (state nets : ℕ → Row) (run : IsRunOf kept state nets) where
+  module _ (state nets : ℕ → Row) (run : IsClockedRunOf kept state nets) where
     step : IsInStep (split_of kept) kept.vectors state nets now
     step = flow_equivalence (split_of kept) (graph_of kept) controller kept.vectors state nets run events legal now all
 
@@ -110,7 +110,7 @@ module _ (kept : Snapshot) (sound : IsSound kept) (events : List ℕ) (legal : I
     in_run : IsInRun kept state nets
     in_run = record { held = held_is; stored = stored_is }
 
-    module _ (done : IsDone kept) where
+    module _ (done : IsFiredToEnd kept) where
       full : (n : Node) → IsNode S n → now.count (closing n) ≡ limit_of kept
       full n is_node =
           let long : length (split_events S) ≡ 2 * nodes S = events_long S in
@@ -155,17 +155,17 @@ module _ (kept : Snapshot) (sound : IsSound kept) (events : List ℕ) (legal : I
               last,
             )
 
-pub fired_is_in_run : (kept : Snapshot) → IsSound kept → IsReached kept → (state nets : ℕ → Row) → IsRunOf kept state nets → IsInRun kept state nets
+pub fired_is_in_run : (kept : Snapshot) → IsSnapshotSound kept → IsReached kept → (state nets : ℕ → Row) → IsClockedRunOf kept state nets → IsInRun kept state nets
 fired_is_in_run kept sound (events, legal, (now, all, shows)) state nets run = in_run kept sound events legal now all shows state nets run
 
-pub fired_to_the_end : (kept : Snapshot) → IsSound kept → IsReached kept → ((v : ℕ) → ¬ IsReady kept v) ↔ IsDone kept
+pub fired_to_the_end : (kept : Snapshot) → IsSnapshotSound kept → IsReached kept → ((v : ℕ) → ¬ IsReady kept v) ↔ IsFiredToEnd kept
 fired_to_the_end kept sound (events, legal, (now, all, shows)) = to_the_end kept sound events legal now all shows
 
-pub stored_spell_trace : (kept : Snapshot) → IsSound kept → IsReached kept → IsDone kept → (first : ℕ) → (state nets : ℕ → Row) → IsRunOf kept state nets → (rows : ℕ → Row) → rows 0 ≡ (split_of kept).initial → ((k : ℕ) → k < limit_of kept → AreRegisters (split_of kept) (λ n. stored_row kept n k) (rows (k + 1))) → (flat_map (λ k. trace_line (first + k) (stored_row kept Out k) (rows k)) (range_with_len 0 (limit_of kept)) ≡ trace_lines (split_of kept).circuit first (limit_of kept) state nets) × (rows (limit_of kept) ≡ state (limit_of kept))
+pub stored_spell_trace : (kept : Snapshot) → IsSnapshotSound kept → IsReached kept → IsFiredToEnd kept → (first : ℕ) → (state nets : ℕ → Row) → IsClockedRunOf kept state nets → (rows : ℕ → Row) → rows 0 ≡ (split_of kept).initial → ((k : ℕ) → k < limit_of kept → AreRegisters (split_of kept) (λ n. stored_row kept n k) (rows (k + 1))) → (flat_map (λ k. trace_line (first + k) (stored_row kept Out k) (rows k)) (range_with_len 0 (limit_of kept)) ≡ trace_lines (split_of kept).circuit first (limit_of kept) state nets) × (rows (limit_of kept) ≡ state (limit_of kept))
 stored_spell_trace kept sound (events, legal, (now, all, shows)) done first state nets run rows start after = spells kept sound events legal now all shows state nets run done first rows start after
 
 -- the rows that a slave has stored are as wide as its cluster
-pub slave_wide : (kept : Snapshot) → IsSound kept → (events : List ℕ) → IsLegal (graph_of kept) (limit_of kept) events → (now : State) → FiresAll (split_of kept) kept.vectors (first_state (split_of kept)) events now → Shows kept now
+pub slave_wide : (kept : Snapshot) → IsSnapshotSound kept → (events : List ℕ) → IsLegal (graph_of kept) (limit_of kept) events → (now : State) → FiresAll (split_of kept) kept.vectors (first_state (split_of kept)) events now → Shows kept now
     → (i : ℕ) → i < length (split_of kept).clusters → (j : ℕ) → j < length (now.stored (Slave i)) → length (get_or (now.stored (Slave i)) j []) ≡ length (members (split_of kept) i)
 slave_wide kept sound events legal now all shows i inside j low =
     let (state, nets, run) = some_run (split_of kept).circuit sound.in_range sound.plan.split.accepted (split_of kept).initial kept.vectors sound.plan.split.one_value_each sound.vectors in

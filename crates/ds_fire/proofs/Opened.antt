@@ -15,9 +15,9 @@ use Rattle.ds_latch.specs.Firing.{IsSettled, opening_read}
 use Rattle.ds_latch.proofs.Counts.{number_below, same_node}
 use Rattle.ds_fire.specs.Snapshot.{row_index, rows_of}
 use Rattle.ds_opening.specs.Settled.{IsSettling}
-use Rattle.ds_fire.specs.Feeds.{IsHome, home_of, no_home}
+use Rattle.ds_fire.specs.Feeds.{IsSourceHome, home_of, no_source_home}
 use Rattle.ds_fire.specs.History.{Stored}
-use Rattle.ds_fire.specs.Turn.{ArePlaces, AreRows, IsClosed, IsLoaded, IsOpened, IsThere, Opens, home_index, home_value, rooms_of, values_of}
+use Rattle.ds_fire.specs.Turn.{AreTurnPlaces, AreRows, IsClosed, IsLoaded, IsOpened, IsThere, Opens, home_index, home_value, rooms_of, values_of}
 use Rattle.ds_fire.specs.declared.homes.Home.{Home}
 use Rattle.ds_fire.specs.declared.places.Places.{Places}
 use Rattle.ds_fire.proofs.Settles.{home_place, place_low, read, takes_settled}
@@ -45,7 +45,7 @@ bits_are s bits number bit inside is lent n is_node e =
 -- what is read by way of a home is the value there
 pub read_home : (places : Places) (rows : List Row) (homes : List Home) (k net : ℕ) (d : Home) → k ≡ net → net < length homes → (at : ℕ) → at ≡ home_index places (get_or homes k d) → (row : Row) → row ≡ get_or rows at row → IsThere places rows (home_of homes net) → (value : Value) → value ≡ value_at row (get_or homes k d).bit → value ≡ home_value places rows (home_of homes net)
 read_home places rows homes k net d same inside at at_is row row_is there value value_is =
-    let home : get_or homes k d ≡ home_of homes net = ap (λ (j : ℕ). get_or homes j d) same ∙ get_or_default homes net d no_home inside in
+    let home : get_or homes k d ≡ home_of homes net = ap (λ (j : ℕ). get_or homes j d) same ∙ get_or_default homes net d no_source_home inside in
     let place : at ≡ home_index places (home_of homes net) = at_is ∙ ap (home_index places) home in
     let here : row ≡ get_or rows (home_index places (home_of homes net)) [] =
     row_is ∙ (ap (λ (j : ℕ). get_or rows j row) place ∙ get_or_default rows (home_index places (home_of homes net)) row [] there.row) in
@@ -78,7 +78,7 @@ copy_is rows before rest from to x front back is =
     ∙ (ap (λ (r : List Row). take to (set rows to y) ++ r) (sym dropped) ∙ take-append-drop to (set rows to y)))))
 
 -- a home has its row and a value in it
-pub home_there : (s : Split) (rows : List Row) → AreRows s rows → (opened : ℕ) (places : Places) → ArePlaces s opened places → (net : ℕ) (home : Home) → IsHome s net home → IsThere places rows home
+pub home_there : (s : Split) (rows : List Row) → AreRows s rows → (opened : ℕ) (places : Places) → AreTurnPlaces s opened places → (net : ℕ) (home : Home) → IsSourceHome s net home → IsThere places rows home
 home_there s rows are opened places at net home (p, source, is_p, (node, inside, is)) =
     let place : ℕ = place_of s (opening_read p opened) in
     let index : home_index places home ≡ row_index s (number_of p) (place_of s (opening_read p opened)) = home_place s opened places at home p source node in
@@ -96,11 +96,11 @@ master_before s i place =
     let number : (2 * i + 3) * (s.slack + 1) ≡ suc (2 * i + 2) * (s.slack + 1) = ap (λ (n : ℕ). n * (s.slack + 1)) (let e : 2 * i + 3 ≡ suc (2 * i + 2) = omega arith in e) in
     omega arith
 
-pub next_index : (s : Split) (opened : ℕ) (places : Places) → ArePlaces s opened places → (number : ℕ) → number * places.each + places.next ≡ row_index s number (place_of s (opened + 1))
+pub next_index : (s : Split) (opened : ℕ) (places : Places) → AreTurnPlaces s opened places → (number : ℕ) → number * places.each + places.next ≡ row_index s number (place_of s (opened + 1))
 next_index s opened places are number =
     ap (λ (w : ℕ). number * w + places.next) are.each ∙ ap (λ (p : ℕ). number * (s.slack + 1) + p) are.next
 
-module _ (s : Split) (vectors rows : List Row) (are : AreRows s rows) (opened : ℕ) (places : Places) (at : ArePlaces s opened places) where
+module _ (s : Split) (vectors rows : List Row) (are : AreRows s rows) (opened : ℕ) (places : Places) (at : AreTurnPlaces s opened places) where
   module _ (i : ℕ) (is_node : IsNode s (Slave i)) (number : ℕ) (is : number_of (Slave i) ≡ number) where
     abbrev to : ℕ
     to = number * places.each + places.next
@@ -194,11 +194,11 @@ closed_is s closed number n e rows stored h new row inside is row_is new_is =
     }
 
 -- where the row of the next opening is kept
-pub next_row : (s : Split) (rows : List Row) (opened : ℕ) (places : Places) → ArePlaces s opened places → (number : ℕ) (n : Node) → number_of n ≡ number → get_or rows (number * places.each + places.next) [] ≡ rows_of s rows n (place_of s (opened + 1))
+pub next_row : (s : Split) (rows : List Row) (opened : ℕ) (places : Places) → AreTurnPlaces s opened places → (number : ℕ) (n : Node) → number_of n ≡ number → get_or rows (number * places.each + places.next) [] ≡ rows_of s rows n (place_of s (opened + 1))
 next_row s rows opened places at number n e =
     ap (λ (k : ℕ). get_or rows k []) (ap (λ (m : ℕ). m * places.each + places.next) (sym e) ∙ next_index s opened places at (number_of n))
 
-pub next_inside : (s : Split) (rows : List Row) → AreRows s rows → (opened : ℕ) (places : Places) → ArePlaces s opened places → (number : ℕ) → number < nodes s → number * places.each + places.next < length rows
+pub next_inside : (s : Split) (rows : List Row) → AreRows s rows → (opened : ℕ) (places : Places) → AreTurnPlaces s opened places → (number : ℕ) → number < nodes s → number * places.each + places.next < length rows
 next_inside s rows are opened places at number below =
     let here : number * places.each + places.next ≡ row_index s number (place_of s (opened + 1)) = next_index s opened places at number in
     let inside : row_index s number (place_of s (opened + 1)) < nodes s * (s.slack + 1) = index_inside s number (place_of s (opened + 1)) below (place_low s (opened + 1)) in
@@ -206,15 +206,15 @@ next_inside s rows are opened places at number below =
     omega arith
 
 -- where the row of the last opening is kept
-same_index : (s : Split) (opened : ℕ) (places : Places) → ArePlaces s opened places → (number : ℕ) → number * places.each + places.same ≡ row_index s number (place_of s opened)
+same_index : (s : Split) (opened : ℕ) (places : Places) → AreTurnPlaces s opened places → (number : ℕ) → number * places.each + places.same ≡ row_index s number (place_of s opened)
 same_index s opened places are number =
     ap (λ (w : ℕ). number * w + places.same) are.each ∙ ap (λ (p : ℕ). number * (s.slack + 1) + p) are.same
 
-pub same_row : (s : Split) (rows : List Row) (opened : ℕ) (places : Places) → ArePlaces s opened places → (number : ℕ) (n : Node) → number_of n ≡ number → get_or rows (number * places.each + places.same) [] ≡ rows_of s rows n (place_of s opened)
+pub same_row : (s : Split) (rows : List Row) (opened : ℕ) (places : Places) → AreTurnPlaces s opened places → (number : ℕ) (n : Node) → number_of n ≡ number → get_or rows (number * places.each + places.same) [] ≡ rows_of s rows n (place_of s opened)
 same_row s rows opened places at number n e =
     ap (λ (k : ℕ). get_or rows k []) (ap (λ (m : ℕ). m * places.each + places.same) (sym e) ∙ same_index s opened places at (number_of n))
 
-pub same_inside : (s : Split) (rows : List Row) → AreRows s rows → (opened : ℕ) (places : Places) → ArePlaces s opened places → (number : ℕ) → number < nodes s → number * places.each + places.same < length rows
+pub same_inside : (s : Split) (rows : List Row) → AreRows s rows → (opened : ℕ) (places : Places) → AreTurnPlaces s opened places → (number : ℕ) → number < nodes s → number * places.each + places.same < length rows
 same_inside s rows are opened places at number below =
     let here : number * places.each + places.same ≡ row_index s number (place_of s opened) = same_index s opened places at number in
     let inside : row_index s number (place_of s opened) < nodes s * (s.slack + 1) = index_inside s number (place_of s opened) below (place_low s opened) in

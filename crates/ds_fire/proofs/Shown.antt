@@ -17,7 +17,7 @@ use Rattle.ds_latch.specs.Firing.{State, opened_state, closed_state, counted_sta
 use Rattle.ds_latch.proofs.Counts.{number_below, same_node, cases_changed}
 use Rattle.ds_latch.proofs.Events.{IsEvent, is_opening, is_closing, is_extra}
 use Rattle.ds_fire.specs.Snapshot.{Snapshot, Shows, split_of, count_of, row_index, rows_of, stored_values, width_of}
-use Rattle.ds_fire.specs.Fired.{IsReady, IsFired, IsSound}
+use Rattle.ds_fire.specs.Fired.{IsReady, IsFired, IsSnapshotSound}
 use Rattle.ds_fire.specs.Turn.{IsOpened, state_with}
 use Rattle.ds_fire.proofs.Settles.{place_low}
 
@@ -85,7 +85,7 @@ takes_moved s vectors one other opened same Out is_node row takes = settled_move
 takes_moved s vectors one other opened same (Master i) is_node row takes = settled_moved s (Master i) (read_rows s one opened) (read_rows s other opened) same row takes
 takes_moved s vectors one other opened same (Slave i) is_node row takes = takes ∙ same (Master i) is_node
 
-module _ (old : Snapshot) (sound : IsSound old) where
+module _ (old : Snapshot) (sound : IsSnapshotSound old) where
   abbrev S : Split
   S = split_of old
 
@@ -167,7 +167,7 @@ module _ (old : Snapshot) (sound : IsSound old) where
           | inr ne ↦ ap length (row_elsewhere m place ne) ∙ sound.widths m is_m place low
         ]
 
-    pub opening_sound : IsSound (kept_next old (opening n) rows old.stored)
+    pub opening_sound : IsSnapshotSound (kept_next old (opening n) rows old.stored)
     opening_sound = record {
       in_range = sound.in_range;
       plan = sound.plan;
@@ -247,7 +247,7 @@ module _ (old : Snapshot) (sound : IsSound old) where
               ∙ (sound.lengths m is_m ∙ ap (λ (k : ℕ). k * width_of old m) (sym (get_or-set_other old.counts (closing n) (closing m) (C (closing n) + 1) 0 (λ e. ne (omega arith)))))
         ]
 
-    pub closing_sound : IsSound (kept_next old (closing n) old.rows stored)
+    pub closing_sound : IsSnapshotSound (kept_next old (closing n) old.rows stored)
     closing_sound = record {
       in_range = sound.in_range;
       plan = sound.plan;
@@ -273,7 +273,7 @@ module _ (old : Snapshot) (sound : IsSound old) where
       },
     )
 
-    pub passing_sound : IsSound (kept_next old (extra_event S e) old.rows old.stored)
+    pub passing_sound : IsSnapshotSound (kept_next old (extra_event S e) old.rows old.stored)
     passing_sound = record {
       in_range = sound.in_range;
       plan = sound.plan;
@@ -289,11 +289,11 @@ module _ (old : Snapshot) (sound : IsSound old) where
     }
 
 -- what is kept after a turn is what the event leaves
-pub fired : (old : Snapshot) → IsSound old → (v : ℕ) → IsReady old v → (rows stored : List Row) → Turned (split_of old) old.vectors v (count_of old v) old.rows rows old.stored stored → IsEvent (split_of old) v → IsFired old v (kept_next old v rows stored) × IsSound (kept_next old v rows stored)
+pub fired : (old : Snapshot) → IsSnapshotSound old → (v : ℕ) → IsReady old v → (rows stored : List Row) → Turned (split_of old) old.vectors v (count_of old v) old.rows rows old.stored stored → IsEvent (split_of old) v → IsFired old v (kept_next old v rows stored) × IsSnapshotSound (kept_next old v rows stored)
 fired old sound _ ready rows stored turned (is_opening n is_node) =
     let (is, same) = turned.opened n is_node refl in
     let inside : opening n < length old.counts = subst (λ (k : ℕ). opening n < k) (sym sound.counts) ready.event in
-    subst (λ (st : List Row). IsFired old (opening n) (kept_next old (opening n) rows st) × IsSound (kept_next old (opening n) rows st)) (sym same) (
+    subst (λ (st : List Row). IsFired old (opening n) (kept_next old (opening n) rows st) × IsSnapshotSound (kept_next old (opening n) rows st)) (sym same) (
       record { enabled = ready; planned = refl; vectors = refl; counts = refl; fires = opening_fires old sound n is_node inside rows is },
       opening_sound old sound n is_node inside rows is,
     )
@@ -301,16 +301,16 @@ fired old sound _ ready rows stored turned (is_closing n is_node) =
     let (rows_same, is) = turned.closed n is_node refl in
     let inside : closing n < length old.counts = subst (λ (k : ℕ). closing n < k) (sym sound.counts) ready.event in
     let more : List Row = set old.stored (number_of n) (get_or old.stored (number_of n) [] ++ rows_of (split_of old) old.rows n (place_of (split_of old) (count_of old (closing n) + 1))) in
-    subst (λ (rs : List Row). IsFired old (closing n) (kept_next old (closing n) rs stored) × IsSound (kept_next old (closing n) rs stored)) (sym rows_same)
-    (subst (λ (st : List Row). IsFired old (closing n) (kept_next old (closing n) old.rows st) × IsSound (kept_next old (closing n) old.rows st)) (sym is) (
+    subst (λ (rs : List Row). IsFired old (closing n) (kept_next old (closing n) rs stored) × IsSnapshotSound (kept_next old (closing n) rs stored)) (sym rows_same)
+    (subst (λ (st : List Row). IsFired old (closing n) (kept_next old (closing n) old.rows st) × IsSnapshotSound (kept_next old (closing n) old.rows st)) (sym is) (
       record { enabled = ready; planned = refl; vectors = refl; counts = refl; fires = closing_fires old sound n is_node inside },
       closing_sound old sound n is_node inside,
     ))
 fired old sound _ ready rows stored turned (is_extra e) =
     let (rows_same, same) = turned.passed e refl in
     let inside : extra_event (split_of old) e < length old.counts = subst (λ (k : ℕ). extra_event (split_of old) e < k) (sym sound.counts) ready.event in
-    subst (λ (rs : List Row). IsFired old (extra_event (split_of old) e) (kept_next old (extra_event (split_of old) e) rs stored) × IsSound (kept_next old (extra_event (split_of old) e) rs stored)) (sym rows_same)
-    (subst (λ (st : List Row). IsFired old (extra_event (split_of old) e) (kept_next old (extra_event (split_of old) e) old.rows st) × IsSound (kept_next old (extra_event (split_of old) e) old.rows st)) (sym same) (
+    subst (λ (rs : List Row). IsFired old (extra_event (split_of old) e) (kept_next old (extra_event (split_of old) e) rs stored) × IsSnapshotSound (kept_next old (extra_event (split_of old) e) rs stored)) (sym rows_same)
+    (subst (λ (st : List Row). IsFired old (extra_event (split_of old) e) (kept_next old (extra_event (split_of old) e) old.rows st) × IsSnapshotSound (kept_next old (extra_event (split_of old) e) old.rows st)) (sym same) (
       record { enabled = ready; planned = refl; vectors = refl; counts = refl; fires = passing_fires old sound e inside },
       passing_sound old sound e inside,
     ))

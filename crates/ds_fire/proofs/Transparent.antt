@@ -17,7 +17,7 @@ use Rattle.ds_latch.proofs.Transparent.{transparent_latches}
 use Rattle.ds_opening.specs.Settled.{IsSettling}
 use Rattle.ds_opening.specs.Taken.{TakesFrom, showing}
 use Rattle.ds_fire.specs.Snapshot.{Snapshot, Shows, split_of, graph_of, limit_of, count_of, held_row, is_open, rows_of, width_of}
-use Rattle.ds_fire.specs.Fired.{IsReached, IsSound}
+use Rattle.ds_fire.specs.Fired.{IsReached, IsSnapshotSound}
 use Rattle.ds_fire.proofs.Settles.{place_low, read}
 use Rattle.ds_fire.proofs.Turning.{count_low, events_enough}
 
@@ -51,7 +51,7 @@ showing_same s vectors now now' counts holds shown shows = record {
       (shows.is_open n is_node (counts (opening n) ∙ (is ∙ ap (λ (k : ℕ). k + 1) (sym (counts (closing n))))));
 }
 
-module _ (kept : Snapshot) (sound : IsSound kept) (events : List ℕ) (legal : IsLegal (graph_of kept) (limit_of kept) events) (reached : State)
+module _ (kept : Snapshot) (sound : IsSnapshotSound kept) (events : List ℕ) (legal : IsLegal (graph_of kept) (limit_of kept) events) (reached : State)
     (all : FiresAll (split_of kept) kept.vectors (first_state (split_of kept)) events reached) (at : Shows kept reached) (none : (split_of kept).slack ≡ 0) (now : State) (shows : Shows kept now) where
   abbrev S : Split
   S = split_of kept
@@ -81,7 +81,7 @@ module _ (kept : Snapshot) (sound : IsSound kept) (events : List ℕ) (legal : I
       n is_node
       ∙ held_same kept reached at n is_node
 
-pub held_is_shown : (kept : Snapshot) → IsSound kept → IsReached kept → (split_of kept).slack ≡ 0 → (now : State) → Shows kept now
+pub held_is_shown : (kept : Snapshot) → IsSnapshotSound kept → IsReached kept → (split_of kept).slack ≡ 0 → (now : State) → Shows kept now
     → IsShowing (split_of kept) kept.vectors now (held_row kept)
     × ((shown : Node → Row) → IsShowing (split_of kept) kept.vectors now shown → (n : Node) → IsNode (split_of kept) n → shown n ≡ held_row kept n)
 held_is_shown kept sound (events, legal, (reached, all, at)) none now shows =
@@ -95,7 +95,7 @@ makes_takes s vectors now shown (Master i) row is = is
 makes_takes s vectors now shown (Slave i) row is = is
 
 -- what an open node makes of what the others hold is what it holds
-pub made_is_held : (kept : Snapshot) → IsSound kept → IsReached kept → (split_of kept).slack ≡ 0 → (n : Node) → IsNode (split_of kept) n → is_open kept n ≡ true
+pub made_is_held : (kept : Snapshot) → IsSnapshotSound kept → IsReached kept → (split_of kept).slack ≡ 0 → (n : Node) → IsNode (split_of kept) n → is_open kept n ≡ true
     → (row : Row) → TakesFrom (split_of kept) kept.vectors (count_of kept (closing n)) (held_row kept) n row → row ≡ held_row kept n
 made_is_held kept sound reached none n is_node is row takes =
     let (events, legal, (now, all, shows)) = reached in
@@ -123,11 +123,11 @@ settled_held kept none opened n row is =
     settled_where (split_of kept) n (read (split_of kept) kept.rows opened) (held_row kept) (λ p is_p edge. read_held kept none opened p) row is
 
 -- both events of a node are there
-pub events_there : (kept : Snapshot) → IsSound kept → (l : ℕ) → l < nodes (split_of kept) → 2 * l + 1 < length (graph_of kept).events
+pub events_there : (kept : Snapshot) → IsSnapshotSound kept → (l : ℕ) → l < nodes (split_of kept) → 2 * l + 1 < length (graph_of kept).events
 events_there kept sound l below = (let enough : 2 * nodes (split_of kept) ≤ length (graph_of kept).events = events_enough kept sound in omega arith)
 
 -- an open IN has a vector
-pub vector_there : (kept : Snapshot) → IsSound kept → IsReached kept → is_open kept In ≡ true → count_of kept (closing In) < limit_of kept
+pub vector_there : (kept : Snapshot) → IsSnapshotSound kept → IsReached kept → is_open kept In ≡ true → count_of kept (closing In) < limit_of kept
 vector_there kept sound reached is =
     let there : 2 * 0 + 1 < length (graph_of kept).events = events_there kept sound 0 (omega arith) in
     let low : count_of kept (opening In) ≤ limit_of kept = count_low kept reached (opening In) (omega arith) in
@@ -135,11 +135,11 @@ vector_there kept sound reached is =
     omega arith
 
 -- what a node holds is as wide as its nets
-pub held_wide : (kept : Snapshot) → IsSound kept → (n : Node) → IsNode (split_of kept) n → length (held_row kept n) ≡ width_of kept n
+pub held_wide : (kept : Snapshot) → IsSnapshotSound kept → (n : Node) → IsNode (split_of kept) n → length (held_row kept n) ≡ width_of kept n
 held_wide kept sound n is_node = sound.widths n is_node (place_of (split_of kept) (count_of kept (opening n))) (place_low (split_of kept) (count_of kept (opening n)))
 
 -- what a master holds is as wide as its slave
-pub master_wide : (kept : Snapshot) → IsSound kept → (i : ℕ) → IsNode (split_of kept) (Slave i) → length (held_row kept (Master i)) ≡ width_of kept (Slave i)
+pub master_wide : (kept : Snapshot) → IsSnapshotSound kept → (i : ℕ) → IsNode (split_of kept) (Slave i) → length (held_row kept (Master i)) ≡ width_of kept (Slave i)
 master_wide kept sound i is_node =
     held_wide kept sound (Master i) is_node
     ∙ (length-map (members (split_of kept) i) (λ r. get_or (data_nets (split_of kept).circuit) r 0)

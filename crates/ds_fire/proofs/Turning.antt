@@ -12,12 +12,12 @@ use Rattle.ds_latch.proofs.Events.{IsEvent, is_opening, is_closing, is_extra, ev
 use Rattle.ds_latch.proofs.Rising.{events_long}
 use Rattle.ds_fire.specs.History.{Stored}
 use Rattle.ds_fire.specs.Snapshot.{Snapshot, split_of, graph_of, limit_of, count_of, stored_values, width_of}
-use Rattle.ds_fire.specs.Fired.{IsFired, IsReached, IsReady, IsSound}
-use Rattle.ds_fire.specs.Turn.{AreRows, HasRoom, IsTurned, rooms_of, values_of}
+use Rattle.ds_fire.specs.Fired.{IsFired, IsReached, IsReady, IsSnapshotSound}
+use Rattle.ds_fire.specs.Turn.{AreRows, HasRowRoom, IsTurned, rooms_of, values_of}
 use Rattle.ds_fire.specs.declared.kept.Kept.{Kept}
 use Rattle.ds_latch.specs.Plan.{Planned}
 use Rattle.ds_design.specs.Rows.{Rows}
-use Rattle.ds_fire.specs.Inside.{IsRunning, seen}
+use Rattle.ds_fire.specs.Inside.{IsRunning, snapshot_seen}
 use Rattle.ds_fire.specs.declared.feeds.Feeds.{Feeds}
 use Rattle.ds_fire.proofs.Reached.{kept_counts, reached_after}
 use Rattle.ds_fire.proofs.Shown.{Turned, fired, kept_next}
@@ -30,7 +30,7 @@ turned s vectors v count old new is = record {
   passed = λ e same. ((is.passes e same).0, ap values_of (is.passes e same).1);
 }
 
-pub turn_fires : (old : Snapshot) (kept kept' : Kept) → IsSound old → old.rows ≡ kept.rows.items → old.stored ≡ values_of kept.stored.items → (v : ℕ) → IsReady old v → IsTurned (split_of old) old.vectors v (count_of old v) kept kept' → IsFired old v (kept_next old v kept'.rows.items (values_of kept'.stored.items)) × IsSound (kept_next old v kept'.rows.items (values_of kept'.stored.items))
+pub turn_fires : (old : Snapshot) (kept kept' : Kept) → IsSnapshotSound old → old.rows ≡ kept.rows.items → old.stored ≡ values_of kept.stored.items → (v : ℕ) → IsReady old v → IsTurned (split_of old) old.vectors v (count_of old v) kept kept' → IsFired old v (kept_next old v kept'.rows.items (values_of kept'.stored.items)) × IsSnapshotSound (kept_next old v kept'.rows.items (values_of kept'.stored.items))
 turn_fires old kept kept' sound rows stored v ready is =
     let all : Turned (split_of old) old.vectors v (count_of old v) kept.rows.items kept'.rows.items (values_of kept.stored.items) (values_of kept'.stored.items) = turned (split_of old) old.vectors v (count_of old v) kept kept' is in
     let here : Turned (split_of old) old.vectors v (count_of old v) old.rows kept'.rows.items old.stored (values_of kept'.stored.items) =
@@ -38,11 +38,11 @@ turn_fires old kept kept' sound rows stored v ready is =
     (subst (λ (st : List Row). Turned (split_of old) old.vectors v (count_of old v) kept.rows.items kept'.rows.items st (values_of kept'.stored.items)) (sym stored) all) in
     fired old sound v ready kept'.rows.items (values_of kept'.stored.items) here (event_of (split_of old) v)
 
-pub are_rows : (kept : Snapshot) → IsSound kept → AreRows (split_of kept) kept.rows
+pub are_rows : (kept : Snapshot) → IsSnapshotSound kept → AreRows (split_of kept) kept.rows
 are_rows kept sound = record { one_each = sound.rows; widths = sound.widths }
 
 -- the events of the nodes come first
-pub events_enough : (kept : Snapshot) → IsSound kept → 2 * nodes (split_of kept) ≤ length (graph_of kept).events
+pub events_enough : (kept : Snapshot) → IsSnapshotSound kept → 2 * nodes (split_of kept) ≤ length (graph_of kept).events
 events_enough kept sound =
     let long : length (split_events (split_of kept)) ≡ 2 * nodes (split_of kept) = events_long (split_of kept) in
     let events_are : length (graph_of kept).events ≡ length (split_events (split_of kept)) + length sound.plan.extra = ap length sound.plan.events ∙ length-append (split_events (split_of kept)) sound.plan.extra in
@@ -65,7 +65,7 @@ pub rooms_kept : (s : Split) (vectors : List Row) (v count : ℕ) (old new : Kep
 rooms_kept s vectors v count old new is = rooms_at s vectors v count old new is (event_of s v)
 
 -- an event that closes has room for one row more
-pub room_more : (kept : Snapshot) (parts : Kept) → IsSound kept → kept.stored ≡ values_of parts.stored.items → ((n : Node) → IsNode (split_of kept) n → limit_of kept * width_of kept n ≤ get_or (rooms_of parts.stored.items) (number_of n) 0) → (n : Node) → IsNode (split_of kept) n → IsReady kept (closing n) → HasRoom (split_of kept) n parts.stored.items
+pub room_more : (kept : Snapshot) (parts : Kept) → IsSnapshotSound kept → kept.stored ≡ values_of parts.stored.items → ((n : Node) → IsNode (split_of kept) n → limit_of kept * width_of kept n ≤ get_or (rooms_of parts.stored.items) (number_of n) 0) → (n : Node) → IsNode (split_of kept) n → IsReady kept (closing n) → HasRowRoom (split_of kept) n parts.stored.items
 room_more kept parts sound stored room n is_node ready d =
     let inside : number_of n < length parts.stored.items =
     (let below : number_of n < nodes (split_of kept) = number_below (split_of kept) n is_node in
@@ -86,14 +86,14 @@ room_more kept parts sound stored room n is_node ready d =
 
 -- one step, from parts to parts
 pub stepped : (planned : Planned) (vectors : Rows) (counts counts' : List ℕ) (kept kept' : Kept) (feeds : Feeds) (v : ℕ)
-    → IsRunning (seen planned vectors counts kept) vectors kept feeds → IsReady (seen planned vectors counts kept) v
+    → IsRunning (snapshot_seen planned vectors counts kept) vectors kept feeds → IsReady (snapshot_seen planned vectors counts kept) v
     → counts' ≡ set counts v (get_or counts v 0 + 1) → IsTurned planned.split vectors.rows v (get_or counts v 0) kept kept'
-    → IsFired (seen planned vectors counts kept) v (seen planned vectors counts' kept') × IsRunning (seen planned vectors counts' kept') vectors kept' feeds
+    → IsFired (snapshot_seen planned vectors counts kept) v (snapshot_seen planned vectors counts' kept') × IsRunning (snapshot_seen planned vectors counts' kept') vectors kept' feeds
 stepped planned vectors counts counts' kept kept' feeds v run may is turned =
-    let old : Snapshot = seen planned vectors counts kept in
-    let new : Snapshot = seen planned vectors counts' kept' in
-    let both : IsFired old v new × IsSound new =
-    subst (λ (cs : List ℕ). IsFired old v (seen planned vectors cs kept') × IsSound (seen planned vectors cs kept')) (sym is)
+    let old : Snapshot = snapshot_seen planned vectors counts kept in
+    let new : Snapshot = snapshot_seen planned vectors counts' kept' in
+    let both : IsFired old v new × IsSnapshotSound new =
+    subst (λ (cs : List ℕ). IsFired old v (snapshot_seen planned vectors cs kept') × IsSnapshotSound (snapshot_seen planned vectors cs kept')) (sym is)
     (turn_fires old kept kept' run.sound refl refl v may turned) in (
       both.0,
       record {

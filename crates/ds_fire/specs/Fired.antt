@@ -34,7 +34,7 @@ IsReached kept = (events : List ℕ) × IsLegal (graph_of kept) (limit_of kept) 
     × IsAfter kept events
 
 -- the plan is accepted, there is a count for each event, and each list is as long as its node asks
-pub record IsSound (kept : Snapshot) : Type 0 where
+pub record IsSnapshotSound (kept : Snapshot) : Type 0 where
   pub in_range : IsInRange (split_of kept).circuit
   pub plan : IsPlan (split_of kept) (graph_of kept)
   pub vectors : All (λ row. length row ≡ length (columns (split_of kept).circuit)) kept.vectors

@@ -5,15 +5,15 @@ use Rattle.ds_latch.specs.Node.{Node, IsNode, number_of}
 use Rattle.ds_latch.specs.Plan.{Planned}
 use Rattle.ds_design.specs.Rows.{Rows}
 use Rattle.ds_fire.specs.Snapshot.{Snapshot, split_of, limit_of, width_of}
-use Rattle.ds_fire.specs.Fired.{IsReached, IsSound}
+use Rattle.ds_fire.specs.Fired.{IsReached, IsSnapshotSound}
 use Rattle.ds_fire.specs.Feeds.{AreFeeds}
 use Rattle.ds_fire.specs.Turn.{rooms_of, values_of}
 use Rattle.ds_fire.specs.declared.feeds.Feeds.{Feeds}
 use Rattle.ds_fire.specs.declared.kept.Kept.{Kept}
 
 -- what is seen of the parts
-abbrev pub seen : Planned → Rows → List ℕ → Kept → Snapshot
-seen planned vectors counts kept = record {
+abbrev pub snapshot_seen : Planned → Rows → List ℕ → Kept → Snapshot
+snapshot_seen planned vectors counts kept = record {
   planned = planned;
   vectors = vectors.rows;
   counts = counts;
@@ -30,7 +30,7 @@ HaveRoom snapshot kept = (n : Node) → IsNode (split_of snapshot) n
 -- the parts stand for what is seen
 pub record IsRunning (snapshot : Snapshot) (vectors : Rows) (kept : Kept)
     (feeds : Feeds) : Type 0 where
-  pub sound : IsSound snapshot
+  pub sound : IsSnapshotSound snapshot
   pub reached : IsReached snapshot
   pub width : vectors.width ≡ length (columns (split_of snapshot).circuit)
   pub low : (split_of snapshot).slack ≤ 15

@@ -10,11 +10,11 @@ use Rattle.ds_latch.specs.Firing.{State, AreRegisters}
 use Rattle.ds_latch.specs.Transparent.{IsShowing}
 use Rattle.ds_fire.specs.Snapshot.{Snapshot, Shows, split_of, graph_of, limit_of, count_of}
 use Rattle.ds_fire.specs.Snapshot.{held_row, stored_values, stored_row}
-use Rattle.ds_fire.specs.Fired.{IsReady, IsFired, IsAfter, IsReached, IsSound}
+use Rattle.ds_fire.specs.Fired.{IsReady, IsFired, IsAfter, IsReached, IsSnapshotSound}
 
 -- a run of the vectors from the plan's initial row
-abbrev pub IsRunOf : Snapshot → (ℕ → Row) → (ℕ → Row) → Type 0
-IsRunOf kept state nets =
+abbrev pub IsClockedRunOf : Snapshot → (ℕ → Row) → (ℕ → Row) → Type 0
+IsClockedRunOf kept state nets =
     IsRun (split_of kept).circuit (split_of kept).initial kept.vectors state nets
 
 -- value k of a node in the run
@@ -30,17 +30,17 @@ pub record IsInRun (kept : Snapshot) (state nets : ℕ → Row) : Type 0 where
 
 -- whatever is fired, held and stored rows are those of the clocked run
 abbrev pub FiredIsInRun : Type 0
-FiredIsInRun = (kept : Snapshot) → IsSound kept → IsReached kept
-    → (state nets : ℕ → Row) → IsRunOf kept state nets → IsInRun kept state nets
+FiredIsInRun = (kept : Snapshot) → IsSnapshotSound kept → IsReached kept
+    → (state nets : ℕ → Row) → IsClockedRunOf kept state nets → IsInRun kept state nets
 
 -- every event has fired as often as it may
-abbrev pub IsDone : Snapshot → Type 0
-IsDone kept = (v : ℕ) → v < length (graph_of kept).events → count_of kept v ≡ limit_of kept
+abbrev pub IsFiredToEnd : Snapshot → Type 0
+IsFiredToEnd kept = (v : ℕ) → v < length (graph_of kept).events → count_of kept v ≡ limit_of kept
 
 -- no event may fire exactly where each has fired as often as it may
 abbrev pub FiredToTheEnd : Type 0
-FiredToTheEnd = (kept : Snapshot) → IsSound kept → IsReached kept
-    → ((v : ℕ) → ¬ IsReady kept v) ↔ IsDone kept
+FiredToTheEnd = (kept : Snapshot) → IsSnapshotSound kept → IsReached kept
+    → ((v : ℕ) → ¬ IsReady kept v) ↔ IsFiredToEnd kept
 
 -- a firing more is a list with one event more
 abbrev pub FiredAfter : Type 0
@@ -50,8 +50,9 @@ FiredAfter = (old new : Snapshot) (v : ℕ) (events : List ℕ)
 -- at the end the stored rows spell the trace: the outputs are those stored by OUT, and the
 -- registers before a turn those stored by the slaves in the turn before, at first the initial ones
 abbrev pub StoredSpellTrace : Type 0
-StoredSpellTrace = (kept : Snapshot) → IsSound kept → IsReached kept → IsDone kept → (first : ℕ)
-    → (state nets : ℕ → Row) → IsRunOf kept state nets
+StoredSpellTrace = (kept : Snapshot) → IsSnapshotSound kept → IsReached kept → IsFiredToEnd kept
+    → (first : ℕ)
+    → (state nets : ℕ → Row) → IsClockedRunOf kept state nets
     → (rows : ℕ → Row) → rows 0 ≡ (split_of kept).initial
     → ((k : ℕ) → k < limit_of kept
     → AreRegisters (split_of kept) (λ n. stored_row kept n k) (rows (k + 1)))
@@ -62,7 +63,7 @@ StoredSpellTrace = (kept : Snapshot) → IsSound kept → IsReached kept → IsD
 
 -- without slack there is exactly one way to show, and it is what the nodes hold
 abbrev pub HeldIsShown : Type 0
-HeldIsShown = (kept : Snapshot) → IsSound kept → IsReached kept → (split_of kept).slack ≡ 0
+HeldIsShown = (kept : Snapshot) → IsSnapshotSound kept → IsReached kept → (split_of kept).slack ≡ 0
     → (now : State) → Shows kept now
     → IsShowing (split_of kept) kept.vectors now (held_row kept)
     × ((shown : Node → Row) → IsShowing (split_of kept) kept.vectors now shown

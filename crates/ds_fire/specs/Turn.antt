@@ -31,7 +31,7 @@ pub record AreLow (places : Places) : Type 0 where
   pub next : places.next < places.each
 
 -- how many places a node has, the place of an opening and that of the one after it
-pub record ArePlaces (s : Split) (opened : ℕ) (places : Places) : Type 0 where
+pub record AreTurnPlaces (s : Split) (opened : ℕ) (places : Places) : Type 0 where
   pub low : AreLow places
   pub each : places.each ≡ s.slack + 1
   pub same : places.same ≡ place_of s opened
@@ -95,8 +95,8 @@ Closes s closed number rows old new =
     (n : Node) → IsNode s n → number_of n ≡ number → IsClosed s closed n rows old new
 
 -- a node has room for one row more
-abbrev pub HasRoom : Split → Node → List Stored → Type 0
-HasRoom s n stored = (d : Stored)
+abbrev pub HasRowRoom : Split → Node → List Stored → Type 0
+HasRowRoom s n stored = (d : Stored)
     → length (slice_index_or stored (number_of n) d).values + length (nets_of s n) ≤
     (slice_index_or stored (number_of n) d).room
 

@@ -3,7 +3,8 @@ ghost use Rattle.std.specs.Prelude.{◌≡◌, ◌<◌, ◌^◌, ℕ, All, IfOk,
 ghost use Rattle.ds_design.specs.InRange.{IsInRange};
 ghost use Rattle.ds_latch.specs.Node.{nodes};
 ghost use Rattle.ds_latch.specs.Plan.{IsSplit};
-ghost use Rattle.ds_fire.specs.Feeds.{AreHomes, ArePlaced, IsPlacedOrKept, home_of};
+ghost use Rattle.ds_fire.specs.Feeds.{AreSourceHomes, AreSourceNetsPlaced, IsSourceNetPlacedOrKept};
+ghost use Rattle.ds_fire.specs.Feeds.{home_of};
 
 use ds_base::{NetId, OutOfMemory};
 use ds_latch::Latches;
@@ -20,7 +21,7 @@ pub(crate) struct Home {
 pub(crate) fn homes_of(alloc: Global, latches: &Latches) -> Result<Vec<Home>, OutOfMemory>
     requires few { nodes latches.now < 2 ^ 32 }
     requires design { IsInRange latches.now.circuit × IsSplit latches.now }
-    ensures { IfOk result (λ v. AreHomes latches.now v.items) }
+    ensures { IfOk result (λ v. AreSourceHomes latches.now v.items) }
 {
     let nets = latches.netlist().design().nets().len();
     let bits = latches.bits();
@@ -44,8 +45,8 @@ fn no_homes(alloc: Global, nets: usize) -> Result<Vec<Home>, OutOfMemory>
 fn place(bits: &[NetId], node: u32, homes: &mut Vec<Home>)
     requires { All (λ net. net < length homes.old.items) bits.now }
     ensures same { length homes.new.items ≡ length homes.old.items }
-    ensures placed { ArePlaced bits.now node homes.new.items }
-    ensures kept { (net : ℕ) → IsPlacedOrKept bits.now node net
+    ensures placed { AreSourceNetsPlaced bits.now node homes.new.items }
+    ensures kept { (net : ℕ) → IsSourceNetPlacedOrKept bits.now node net
         (home_of homes.old.items net) (home_of homes.new.items net) }
 {
     for (bit, net) in bits.iter().enumerate() {

@@ -27,37 +27,37 @@ pub(crate) struct Opening {
     pub(crate) opened: usize,
 }
 
-// The node with this number takes its row: IN the next vector, a slave the row of its master, the
-// others what settles.
+// The node that opens takes its row: IN the next vector, a slave the row of its master, the others
+// what settles.
 pub(crate) fn open(
     latches: &Latches,
     vectors: &Vectors,
     feeds: &Feeds,
-    number: usize,
-    opened: usize,
+    opening: Opening,
     kept: &mut Kept,
 )
-    requires node { number < nodes latches.now }
-    requires few { opened < 2 ^ 32 }
+    requires node { opening.number < nodes latches.now }
+    requires few { opening.opened < 2 ^ 32 }
     requires design { IsInRange latches.now.circuit × IsSplit latches.now }
-    requires vector { opened < length vectors.now.rows }
+    requires vector { opening.opened < length vectors.now.rows }
     requires width { vectors.now.width ≡ length (columns latches.now.circuit) }
     requires feeds { AreFeeds latches.now feeds.now }
     requires rows { AreRows latches.now kept.old.rows.items }
     requires nets { length kept.old.nets ≡ length latches.now.circuit.nets }
-    ensures opens { Opens latches.now vectors.now.rows opened number
+    ensures opens { Opens latches.now vectors.now.rows opening.opened opening.number
         kept.old.rows.items kept.new.rows.items }
     ensures nets { length kept.new.nets ≡ length kept.old.nets }
     ensures stored { kept.new.stored.items ≡ kept.old.stored.items }
 {
+    let number = opening.number;
     if number == 0 {
-        open_in(latches, vectors, opened, kept);
+        open_in(latches, vectors, opening.opened, kept);
     } else if number % 2 == 0 {
-        open_settled(latches, feeds, number, opened, kept);
+        open_settled(latches, feeds, opening, kept);
     } else if number == 1 {
-        open_settled(latches, feeds, number, opened, kept);
+        open_settled(latches, feeds, opening, kept);
     } else {
-        open_slave(latches, number, opened, kept);
+        open_slave(latches, opening, kept);
     }
 }
 
@@ -76,36 +76,36 @@ fn open_in(latches: &Latches, vectors: &Vectors, opened: usize, kept: &mut Kept)
     kept.rows[places.next].copy_from(vectors.row(opened));
 }
 
-// The slave with this number takes the row of its master, which stands before it.
-fn open_slave(latches: &Latches, number: usize, opened: usize, kept: &mut Kept)
-    requires few { opened < 2 ^ 32 }
-    requires slave { (i : ℕ) × IsNode latches.now (Slave i) × (number_of (Slave i) ≡ number) }
+// A slave takes the row of its master, which stands before it.
+fn open_slave(latches: &Latches, opening: Opening, kept: &mut Kept)
+    requires few { opening.opened < 2 ^ 32 }
+    requires slave { (i : ℕ) × IsNode latches.now (Slave i)
+        × (number_of (Slave i) ≡ opening.number) }
     requires rows { AreRows latches.now kept.old.rows.items }
-    ensures opens { (vectors : List Row) → Opens latches.now vectors opened number
+    ensures opens { (vectors : List Row) → Opens latches.now vectors opening.opened opening.number
         kept.old.rows.items kept.new.rows.items }
     ensures nets { length kept.new.nets ≡ length kept.old.nets }
     ensures stored { kept.new.stored.items ≡ kept.old.stored.items }
 {
-    let places = Places::of(latches, opened);
-    let at = number * places.each + places.next;
+    let places = Places::of(latches, opening.opened);
+    let at = opening.number * places.each + places.next;
     copy_row(&mut kept.rows, at - places.each, at);
 }
 
 // A node that settles takes what its cone settles to, for what its producers keep.
-fn open_settled(latches: &Latches, feeds: &Feeds, number: usize, opened: usize, kept: &mut Kept)
-    requires few { opened < 2 ^ 32 }
-    requires node { (n : Node) × IsSettlingAt latches.now n number }
+fn open_settled(latches: &Latches, feeds: &Feeds, opening: Opening, kept: &mut Kept)
+    requires few { opening.opened < 2 ^ 32 }
+    requires node { (n : Node) × IsSettlingAt latches.now n opening.number }
     requires design { IsInRange latches.now.circuit × IsSplit latches.now }
     requires feeds { AreFeeds latches.now feeds.now }
     requires rows { AreRows latches.now kept.old.rows.items }
     requires nets { length kept.old.nets ≡ length latches.now.circuit.nets }
-    ensures opens { (vectors : List Row) → Opens latches.now vectors opened number
+    ensures opens { (vectors : List Row) → Opens latches.now vectors opening.opened opening.number
         kept.old.rows.items kept.new.rows.items }
     ensures nets { length kept.new.nets ≡ length kept.old.nets }
     ensures stored { kept.new.stored.items ≡ kept.old.stored.items }
 {
-    let places = Places::of(latches, opened);
-    let opening = Opening { number, opened };
+    let places = Places::of(latches, opening.opened);
     settle(
         latches,
         feeds,
@@ -113,10 +113,10 @@ fn open_settled(latches: &Latches, feeds: &Feeds, number: usize, opened: usize, 
         kept.rows.as_slice(),
         &mut kept.nets,
     );
-    let into = number * places.each + places.next;
+    let into = opening.number * places.each + places.next;
     pick_values(
         &kept.nets,
-        latches.bits()[number].as_slice(),
+        latches.bits()[opening.number].as_slice(),
         &mut kept.rows[into],
     );
 }

@@ -1,6 +1,6 @@
 //! Places of rows.
 ghost use Rattle.std.specs.Prelude.{◌≡◌, ◌+◌, ◌<◌, ◌≤◌, ◌^◌};
-ghost use Rattle.ds_fire.specs.Turn.{ArePlaces};
+ghost use Rattle.ds_fire.specs.Turn.{AreTurnPlaces};
 
 use ds_latch::Latches;
 
@@ -16,7 +16,7 @@ impl Places {
     // Of the opening with this number.
     pub(crate) fn of(latches: &Latches, opened: usize) -> Self
         requires { opened < 2 ^ 32 }
-        ensures { ArePlaces latches.now opened result }
+        ensures { AreTurnPlaces latches.now opened result }
     {
         let each = latches.slack() as usize + 1;
         Places {

@@ -7,13 +7,13 @@ ghost use Rattle.ds_marked.specs.Blocked.{IsBlocked};
 ghost use Rattle.ds_marked.specs.declared.blocked.Blocked.{Blocked};
 ghost use Rattle.ds_fire.specs.Snapshot.{IsFirst, Shows, split_of, graph_of, limit_of, count_of};
 ghost use Rattle.ds_fire.specs.Snapshot.{held_row, rows_joined, stored_values};
-ghost use Rattle.ds_fire.specs.Fired.{IsFired, IsReached, IsReady, IsSound};
+ghost use Rattle.ds_fire.specs.Fired.{IsFired, IsReached, IsReady, IsSnapshotSound};
 ghost use Rattle.ds_fire.specs.Ready.{IsLeastReady};
 
 use crate::feeds::Feeds;
 use crate::kept::Kept;
 use crate::places::Places;
-use crate::turn::turn;
+use crate::turn::{Firing, turn};
 use ds_base::{EventId, LatchId, OutOfMemory, Row3, Value};
 use ds_design::Vectors;
 use ds_latch::Plan;
@@ -46,14 +46,14 @@ impl Drop for State<'_> {
 
 impl<'a> Model for State<'a> {
     ghost use Rattle.ds_fire.specs.Snapshot.{Snapshot};
-    ghost use Rattle.ds_fire.specs.Inside.{IsRunning, seen};
+    ghost use Rattle.ds_fire.specs.Inside.{IsRunning, snapshot_seen};
 
     ghost Value = { Snapshot };
 
-    ghost view = { λ s. seen s.plan.now s.vectors.now s.counts s.kept };
+    ghost view = { λ s. snapshot_seen s.plan.now s.vectors.now s.counts s.kept };
 
     ghost invariant = { λ s. IsRunning
-        (seen s.plan.now s.vectors.now s.counts s.kept) s.vectors.now s.kept s.feeds };
+        (snapshot_seen s.plan.now s.vectors.now s.counts s.kept) s.vectors.now s.kept s.feeds };
 }
 
 impl<'a> State<'a> {
@@ -80,7 +80,7 @@ impl<'a> State<'a> {
 
     /// Some legal list leads here.
     pub fn reached(&self)
-        ensures sound { IsSound self.now }
+        ensures sound { IsSnapshotSound self.now }
         ensures reached { IsReached self.now }
     {
         let _ = &self.counts;
@@ -176,12 +176,12 @@ impl<'a> State<'a> {
         ensures { IsFired self.old event self.new }
     {
         let count = self.counts.at(event) as usize;
+        let firing = Firing { event, count };
         turn(
             self.plan.latches(),
             self.vectors,
             &self.feeds,
-            event,
-            count,
+            firing,
             &mut self.kept,
         );
         self.counts.add_one(event);

@@ -5,44 +5,54 @@ ghost use Rattle.ds_design.specs.InRange.{IsInRange};
 ghost use Rattle.ds_latch.specs.Plan.{IsSplit};
 ghost use Rattle.ds_latch.specs.Node.{Node, IsNode, number_of, nodes, closing};
 ghost use Rattle.ds_fire.specs.Feeds.{AreFeeds};
-ghost use Rattle.ds_fire.specs.Turn.{AreRows, Closes, HasRoom, IsTurned};
+ghost use Rattle.ds_fire.specs.Turn.{AreRows, Closes, HasRowRoom, IsTurned};
 
 use crate::feeds::Feeds;
 use crate::kept::Kept;
-use crate::opening::open;
+use crate::opening::{Opening, open};
 use crate::places::Places;
 use ds_base::EventId;
 use ds_design::Vectors;
 use ds_latch::Latches;
 
-// Fires an event that has fired so often: an opening puts a row, a closing stores one, and an extra
-// event does neither.
+// Which event fires, and how often it has fired before.
+#[derive(Clone, Copy)]
+pub(crate) struct Firing {
+    pub(crate) event: EventId,
+    pub(crate) count: usize,
+}
+
+// Fires an event: an opening puts a row, a closing stores one, and an extra event does neither.
 pub(crate) fn turn(
     latches: &Latches,
     vectors: &Vectors,
     feeds: &Feeds,
-    event: EventId,
-    count: usize,
+    firing: Firing,
     kept: &mut Kept,
 )
-    requires vector { count < length vectors.now.rows }
-    requires few { count < 2 ^ 32 }
+    requires vector { firing.count < length vectors.now.rows }
+    requires few { firing.count < 2 ^ 32 }
     requires design { IsInRange latches.now.circuit × IsSplit latches.now }
     requires width { vectors.now.width ≡ length (columns latches.now.circuit) }
     requires feeds { AreFeeds latches.now feeds.now }
     requires rows { AreRows latches.now kept.old.rows.items }
     requires nets { length kept.old.nets ≡ length latches.now.circuit.nets }
     requires stored { length kept.old.stored.items ≡ nodes latches.now }
-    requires room { (n : Node) → IsNode latches.now n → closing n ≡ event
-        → HasRoom latches.now n kept.old.stored.items }
-    ensures { IsTurned latches.now vectors.now.rows event count kept.old kept.new }
+    requires room { (n : Node) → IsNode latches.now n → closing n ≡ firing.event
+        → HasRowRoom latches.now n kept.old.stored.items }
+    ensures { IsTurned latches.now vectors.now.rows firing.event firing.count
+        kept.old kept.new }
 {
-    let number = event.index() / 2;
+    let number = firing.event.index() / 2;
     if number < latches.bits().len() {
-        if event.index() % 2 == 0 {
-            open(latches, vectors, feeds, number, count, kept);
+        if firing.event.index() % 2 == 0 {
+            let opening = Opening {
+                number,
+                opened: firing.count,
+            };
+            open(latches, vectors, feeds, opening, kept);
         } else {
-            close(latches, number, count, kept);
+            close(latches, number, firing.count, kept);
         }
     }
 }
@@ -54,7 +64,7 @@ fn close(latches: &Latches, number: usize, closed: usize, kept: &mut Kept)
     requires rows { AreRows latches.now kept.old.rows.items }
     requires stored { length kept.old.stored.items ≡ nodes latches.now }
     requires room { (n : Node) → IsNode latches.now n → number_of n ≡ number
-        → HasRoom latches.now n kept.old.stored.items }
+        → HasRowRoom latches.now n kept.old.stored.items }
     ensures closes { Closes latches.now closed number kept.old.rows.items
         kept.old.stored.items kept.new.stored.items }
     ensures rows { kept.new.rows.items ≡ kept.old.rows.items }

@@ -7,7 +7,7 @@ use Rattle.std.proofs.lemmas.Bool.{cases_Bool}
 use Rattle.std.proofs.lemmas.List.{map-append}
 use Rattle.indexmap.specs.IndexMap.{insert_entry}
 use Rattle.ds_flat.specs.declared.nets.NetKey.{NetKey}
-use Rattle.ds_flat.specs.Net.{Scope, net_in, net_of}
+use Rattle.ds_flat.specs.Net.{Scope, net_in, net_of_name}
 use Rattle.ds_flat.specs.Keys.{net_key, binding_of, has_formal, with_binding}
 
 -- entries of a map from formals to nets
@@ -43,21 +43,21 @@ scope_of copy entries = record { copy = copy; bound = map binding_of entries }
 
 pub scope_some : (copy : ℕ) (name : Bor (List ℕ)) (entries : Entries) (scope : Scope) (net : NetKey)
     → scope_of copy entries ≡ scope → Some net ≡ lookup (same_formal name) entries
-    → net_key net ≡ net_of scope name.now
+    → net_key net ≡ net_of_name scope name.now
 scope_some copy name entries scope net view is = bound_some copy name entries net is
-    ∙ ap (λ (s : Scope). net_of s name.now) view
+    ∙ ap (λ (s : Scope). net_of_name s name.now) view
 
 pub scope_none : (copy : ℕ) (name : Bor (List ℕ)) (entries : Entries) (scope : Scope)
     → scope_of copy entries ≡ scope → None ≡ lookup (same_formal name) entries
-    → net_key (record { copy = copy; name = name }) ≡ net_of scope name.now
+    → net_key (record { copy = copy; name = name }) ≡ net_of_name scope name.now
 scope_none copy name entries scope view is = bound_none copy name entries is
-    ∙ ap (λ (s : Scope). net_of s name.now) view
+    ∙ ap (λ (s : Scope). net_of_name s name.now) view
 
 -- a copy without connected formals has its own nets alone
 pub scope_empty : (copy : ℕ) (name : Bor (List ℕ)) (entries : Entries) (scope : Scope)
     → scope_of copy entries ≡ scope → length entries ≡ 0
-    → net_key (record { copy = copy; name = name }) ≡ net_of scope name.now
-scope_empty copy name [] scope view none = ap (λ (s : Scope). net_of s name.now) view
+    → net_key (record { copy = copy; name = name }) ≡ net_of_name scope name.now
+scope_empty copy name [] scope view none = ap (λ (s : Scope). net_of_name s name.now) view
 scope_empty copy name (entry ∷ entries) scope view none = absurd (omega (arith, none))
 
 inserted_new : (formal : Bor (List ℕ)) (net : NetKey) (entries : Entries)

@@ -9,7 +9,7 @@ use Rattle.std.proofs.lemmas.Slice.Eq.{bytes_eq-Decides}
 use Rattle.ds_design.specs.declared.design.Net.{Net}
 use Rattle.ds_models.specs.declared.blif.Pair.{Pair}
 use Rattle.ds_flat.specs.declared.fault.Stop.{Stop}
-use Rattle.ds_flat.specs.Net.{Binding, Scope, net_of, with_net, numbered_names}
+use Rattle.ds_flat.specs.Net.{Binding, Scope, net_of_name, with_net, numbered_names}
 use Rattle.ds_flat.specs.Copies.{actuals_in, bindings_in}
 use Rattle.ds_flat.specs.Keys.{IsStop, has_formal}
 use Rattle.ds_flat.proofs.NumberLemmas.{length-numbered, stop_grows}
@@ -30,7 +30,7 @@ names_append : (scope : Scope) (nets : List Net) (names more : List (List ℕ))
     ≡ (numbered_names scope (numbered_names scope nets names).nets more).nets
 names_append scope nets [] more = refl
 names_append scope nets (name ∷ names) more =
-    names_append scope (with_net nets (net_of scope name)) names more
+    names_append scope (with_net nets (net_of_name scope name)) names more
 
 after_one : (scope : Scope) (nets : List Net) (pair : Pair) (rest : List Pair)
     → nets_after scope (nets_after scope nets (pair ∷ [])) rest ≡ nets_after scope nets (pair ∷ rest)
@@ -54,7 +54,7 @@ actual_stop stop scope nets all pair rest pairs first so_far is =
     let last : nets_after scope one rest ≡ all = actual_step scope nets one all pair rest pairs first
     so_far refl in
     let longer : length one ≤ length (nets_after scope one rest) =
-    length-numbered one (map (net_of scope) (actuals_in rest)) in
+    length-numbered one (map (net_of_name scope) (actuals_in rest)) in
     subst (λ (ns : List Net). IsStop stop ns) last (stop_grows stop one (nets_after scope one rest)
     longer is)
 
@@ -62,7 +62,7 @@ bindings-append : (scope : Scope) (pairs more : List Pair) → bindings_in scope
     ≡ bindings_in scope pairs ++ bindings_in scope more
 bindings-append scope [] more = refl
 bindings-append scope (pair ∷ pairs) more = elim (cases_Bool (nat_lt 0 (length pair.actual))) [
-  | inl some ↦ rw some (ap (λ bs. record { formal = pair.formal; net = net_of scope pair.actual } ∷ bs)
+  | inl some ↦ rw some (ap (λ bs. record { formal = pair.formal; net = net_of_name scope pair.actual } ∷ bs)
       (bindings-append scope pairs more))
   | inr none ↦ rw none (bindings-append scope pairs more)
 ]

@@ -4,16 +4,16 @@ use Rattle.std.proofs.Common.{length, get_or, refl, sym, ap, ◌∙◌, subst, a
 use Rattle.std.specs.List.{list_any}
 use Rattle.std.proofs.lemmas.Bool.{cases_Bool, eqb-true}
 use Rattle.std.proofs.lemmas.List.Elements.{All-head, All-tail, All-cons}
-use Rattle.ds_flat.specs.Stack.{AreCounts, times}
+use Rattle.ds_flat.specs.Stack.{AreCounts, times_among}
 
-times_here : (k : ℕ) (places : List ℕ) → times k (k ∷ places) ≡ times k places + 1
+times_here : (k : ℕ) (places : List ℕ) → times_among k (k ∷ places) ≡ times_among k places + 1
 times_here k places = (let e : (k == k) ≡ true = eq-eqb k k refl in rw e refl)
 
 times_other : (k place : ℕ) (places : List ℕ) → (place == k) ≡ false
-    → times k (place ∷ places) ≡ times k places
+    → times_among k (place ∷ places) ≡ times_among k places
 times_other k place places other = rw other refl
 
-times_few : (k : ℕ) (places : List ℕ) → times k places ≤ length places
+times_few : (k : ℕ) (places : List ℕ) → times_among k places ≤ length places
 times_few k [] = omega arith
 times_few k (place ∷ places) = elim (cases_Bool (place == k)) [
   | inl same ↦ rw same (omega (arith, times_few k places))
@@ -23,12 +23,12 @@ times_few k (place ∷ places) = elim (cases_Bool (place == k)) [
 ltb-true-at : (n : ℕ) → nat_lt 0 (n + 1) ≡ true
 ltb-true-at n = grind arith
 
-times_some : (k : ℕ) (places : List ℕ) → nat_lt 0 (times k places)
+times_some : (k : ℕ) (places : List ℕ) → nat_lt 0 (times_among k places)
     ≡ list_any (λ other. other == k) places
 times_some k [] = refl
 times_some k (place ∷ places) = elim (cases_Bool (place == k)) [
-  | inl same ↦ rw same (ltb-true-at (times k places))
-  | inr other ↦ (let e : times k (place ∷ places) ≡ times k places = times_other k place places other in
+  | inl same ↦ rw same (ltb-true-at (times_among k places))
+  | inr other ↦ (let e : times_among k (place ∷ places) ≡ times_among k places = times_other k place places other in
       rw (e, other) (times_some k places))
 ]
 
@@ -52,8 +52,8 @@ counts_push counts places more place value are inside one is =
                 let e : get_or more k 0 ≡ value = ap (λ xs. get_or xs k 0) is
                 ∙ (ap (λ j. get_or (set counts place value) j 0) (sym here)
                 ∙ get_or-set_same counts place value 0 inside) in
-                let f : get_or counts place 0 ≡ times k places =
-                are.counted place inside ∙ ap (λ j. times j places) here in
+                let f : get_or counts place 0 ≡ times_among k places =
+                are.counted place inside ∙ ap (λ j. times_among j places) here in
                 rw same (omega arith))
             | inr other ↦ (
                 let e : get_or more k 0 ≡ get_or counts k 0 = ap (λ xs. get_or xs k 0) is
@@ -87,9 +87,9 @@ counts_pop counts places less place value are one is =
                 let e : get_or less k 0 ≡ value = ap (λ xs. get_or xs k 0) is
                 ∙ (ap (λ j. get_or (set counts place value) j 0) (sym here)
                 ∙ get_or-set_same counts place value 0 inside) in
-                let f : get_or counts place 0 ≡ times place places + 1 =
+                let f : get_or counts place 0 ≡ times_among place places + 1 =
                 are.counted place inside ∙ times_here place places in
-                let g : times place places ≡ times k places = ap (λ j. times j places) here in
+                let g : times_among place places ≡ times_among k places = ap (λ j. times_among j places) here in
                 omega arith)
             | inr other ↦ (
                 let e : get_or less k 0 ≡ get_or counts k 0 = ap (λ xs. get_or xs k 0) is

@@ -8,7 +8,7 @@ use Rattle.ds_flat.specs.declared.frame.Open.{Open}
 use Rattle.ds_flat.specs.Net.{Scope}
 use Rattle.ds_flat.specs.Copies.{Flat, Frame, Opened, ◌>>=◌, flat_of, expand, main_copy, empty_design, take_all, most_depth}
 use Rattle.ds_flat.specs.Stack.{Stacked, frame_on, path_of}
-use Rattle.ds_flat.specs.Run.{run_frames, run}
+use Rattle.ds_flat.specs.Run.{run_frames, run_rest}
 use Rattle.ds_flat.proofs.Kept.{rest_of}
 use Rattle.ds_flat.proofs.Taken.{run-empty}
 use Rattle.ds_flat.proofs.Ranges.{empty_in_range}
@@ -20,7 +20,7 @@ use Rattle.ds_names.specs.Names.{place_of_name}
 use Rattle.ds_design.specs.InRange.{IsInRange}
 use Rattle.ds_models.specs.Source.{IsBlif, IsPart}
 use Rattle.ds_flat.specs.Interface.{names_of_models}
-use Rattle.ds_flat.specs.Run.{IsKept}
+use Rattle.ds_flat.specs.Run.{IsRestKept}
 
 -- no frames follow
 bind_nothing : (models : List BlifModel) (rest : List Frame) (r : Result Flat FlatFault)
@@ -58,7 +58,7 @@ first_at : (d : ℕ) (models : List BlifModel) (main : BlifModel) (below : Stack
     → main ≡ get_or models 0 main
     → below.frames ≡ [] → first.name.now ≡ main.name → first.commands.now ≡ main.commands
     → first.scope ≡ record { copy = 0; bound = [] } → design ≡ empty_design main.name
-    → (run models (rest_of first below 0 design) >>= λ (flat : Flat). Ok flat.design)
+    → (run_rest models (rest_of first below 0 design) >>= λ (flat : Flat). Ok flat.design)
     ≡ flat_of models
 first_at d [] main below first design deep most some is none name commands scope empty = absurd (omega arith)
 first_at d (model ∷ models) main below first design deep most some is none name commands scope empty =
@@ -80,7 +80,7 @@ pub run-first : (models : List BlifModel) (main : BlifModel) (below : Stacked) (
     (design : Circuit) → 0 < length models → main ≡ get_or models 0 main
     → below.frames ≡ [] → first.name.now ≡ main.name → first.commands.now ≡ main.commands
     → first.scope ≡ record { copy = 0; bound = [] } → design ≡ empty_design main.name
-    → (run models (rest_of first below 0 design) >>= λ (flat : Flat). Ok flat.design)
+    → (run_rest models (rest_of first below 0 design) >>= λ (flat : Flat). Ok flat.design)
     ≡ flat_of models
 run-first models main below first design some is none name commands scope empty =
     first_at 65536 models main below first design refl depth_is some is none name commands scope empty
@@ -99,11 +99,11 @@ pub first_kept : (models : List BlifModel) (main : BlifModel) (below : Stacked) 
     → below ≡ record { frames = []; places = []; models = length models }
     → first.model ≡ 0
     → first.name.now ≡ main.name → first.commands.now ≡ main.commands
-    → design ≡ empty_design main.name → IsKept models (rest_of first below 0 design)
+    → design ≡ empty_design main.name → IsRestKept models (rest_of first below 0 design)
 first_kept [] main below first design blif is on place name commands empty =
     absurd (let h = blif.some in omega arith)
 first_kept (model ∷ models) main below first design blif is on place name commands empty =
-    subst (λ (s : Stacked). IsKept (model ∷ models) (rest_of first s 0 design)) (sym on) (record {
+    subst (λ (s : Stacked). IsRestKept (model ∷ models) (rest_of first s 0 design)) (sym on) (record {
       depth = omega arith;
       copies = omega arith;
       count = refl;

@@ -14,7 +14,7 @@ use Rattle.ds_flat.specs.declared.fault.FlatKind.TheVariants.{TooMany}
 use Rattle.ds_flat.specs.declared.fault.FlatRefusal.{FlatRefusal}
 use Rattle.ds_flat.specs.Net.{Scope, numbered_names}
 use Rattle.ds_flat.specs.Copies.{Opened, passed_limit, unless_passed, opened_within, next_copy, actuals_in}
-use Rattle.ds_flat.specs.Run.{IsFault, IsRefusal}
+use Rattle.ds_flat.specs.Run.{IsFault, IsFlatRefusal}
 use Rattle.ds_flat.proofs.Uses.{refused}
 
 -- a design with the nets of a use
@@ -34,7 +34,7 @@ grown_is scope name nets inputs outputs clocks tables registers d new given pair
 -- a limit is passed on a line
 pub passed_fault : {A : Type 0} (c : Circuit) (line : ℕ) (value : A) (limit : Limit)
     (refusal : FlatRefusal) → Some limit ≡ passed_limit c
-    → IsRefusal refusal (record { line = line; kind = TooMany limit })
+    → IsFlatRefusal refusal (record { line = line; kind = TooMany limit })
     → IsFault refusal (unless_passed (passed_limit c) line value)
 passed_fault {A} c line value limit refusal is given =
     refused refusal _ _ given (ap (λ (l : Option Limit). unless_passed l line value) (sym is))
@@ -43,7 +43,7 @@ pub limit_fault : (path : List (List ℕ)) (scope : Scope) (call : UseText) (mod
     (copies : ℕ) (design after : Circuit) (line : ℕ) (limit : Limit) (refusal : FlatRefusal)
     → after ≡ record design { nets = (numbered_names scope design.nets (actuals_in call.pairs)).nets }
     → Some limit ≡ passed_limit after
-    → IsRefusal refusal (record { line = line; kind = TooMany limit })
+    → IsFlatRefusal refusal (record { line = line; kind = TooMany limit })
     → IsFault refusal (opened_within line (next_copy path scope call model (record { copies = copies; design = design })))
 limit_fault path scope call model copies design after line limit refusal grown is given =
     let o : Opened = next_copy path scope call model (record { copies = copies; design = design }) in

@@ -21,7 +21,7 @@ use Rattle.ds_models.specs.declared.blif.Part.{Part}
 use Rattle.ds_models.specs.declared.blif.Part.TheVariants.{Inputs, Outputs, Clock, Table, Latch, Subckt}
 use Rattle.ds_models.specs.declared.blif.UseText.{UseText}
 use Rattle.ds_flat.specs.declared.fault.FlatFault.{FlatFault}
-use Rattle.ds_flat.specs.Net.{Scope, Numbered, has_net, net_of, number_of, numbered, numbered_names, same_net, with_net}
+use Rattle.ds_flat.specs.Net.{Scope, Numbered, has_net, net_of_name, number_of_net, numbered_nets, numbered_names, same_net, with_net}
 use Rattle.ds_flat.specs.Command.{latch_names, numbered_latch, with_part}
 use Rattle.ds_flat.specs.Copies.{Flat, Opened, ◌>>=◌, actuals_in, copy_unless, empty_design, expand, flat_of, main_copy, model_named, most_depth, next_copy, open_model, open_use, passed_limit, ports_of, take_all, take_command, take_part, unknown_formal, use_in}
 use Rattle.ds_flat.specs.InCopies.{ComeTo, IsOfCopies, InCopy, copied, done, gate_by, names_by, nets_by, number_by, plain, register_by}
@@ -36,7 +36,7 @@ same_self net =
 
 -- nets that keep the numbers of others
 record Extend (more nets : List Net) : Type 0 where
-  number : (net : Net) → has_net nets net ≡ true → number_of more net ≡ number_of nets net
+  number : (net : Net) → has_net nets net ≡ true → number_of_net more net ≡ number_of_net nets net
   has : (net : Net) → has_net nets net ≡ true → has_net more net ≡ true
 
 extend_self : (nets : List Net) → Extend nets nets
@@ -48,7 +48,7 @@ extend_both most more nets over under = record {
   has = λ net is. over.has net (under.has net is);
 }
 
-push_number : (nets : List Net) (new net : Net) → has_net nets net ≡ true → number_of (nets ++ new ∷ []) net ≡ number_of nets net
+push_number : (nets : List Net) (new net : Net) → has_net nets net ≡ true → number_of_net (nets ++ new ∷ []) net ≡ number_of_net nets net
 push_number [] new net is = absurd (cc)
 push_number (other ∷ nets) new net is = elim (cases_Bool (same_net net other)) [
   | inl here ↦ rw here refl
@@ -70,7 +70,7 @@ extend_with : (nets : List Net) (new : Net) → Extend (with_net nets new) nets
 extend_with nets new = extend_by (has_net nets new) nets new
 
 -- a net that is new has the number that it gets
-new_number : (nets : List Net) (net : Net) → has_net nets net ≡ false → number_of (nets ++ net ∷ []) net ≡ number_of nets net
+new_number : (nets : List Net) (net : Net) → has_net nets net ≡ false → number_of_net (nets ++ net ∷ []) net ≡ number_of_net nets net
 new_number [] net none = rw (same_self net) refl
 new_number (other ∷ nets) net none = elim (cases_Bool (same_net net other)) [
   | inl here ↦ absurd (let e : true ≡ false = rw here at none in cc)
@@ -85,11 +85,11 @@ new_has (other ∷ nets) net = elim (cases_Bool (same_net net other)) [
 ]
 
 number_by_case : (there : Bool) (nets : List Net) (net : Net) → has_net nets net ≡ there
-    → number_of (if there then nets else nets ++ net ∷ []) net ≡ number_of nets net
+    → number_of_net (if there then nets else nets ++ net ∷ []) net ≡ number_of_net nets net
 number_by_case true nets net is = refl
 number_by_case false nets net is = new_number nets net is
 
-with_number_is : (nets : List Net) (net : Net) → number_of (with_net nets net) net ≡ number_of nets net
+with_number_is : (nets : List Net) (net : Net) → number_of_net (with_net nets net) net ≡ number_of_net nets net
 with_number_is nets net = number_by_case (has_net nets net) nets net refl
 
 has_by_case : (there : Bool) (nets : List Net) (net : Net) → has_net nets net ≡ there
@@ -101,28 +101,28 @@ with_has : (nets : List Net) (net : Net) → has_net (with_net nets net) net ≡
 with_has nets net = has_by_case (has_net nets net) nets net refl
 
 -- so a net's number stays as it was given
-number_kept : (most nets : List Net) (net : Net) → Extend most (with_net nets net) → number_of nets net ≡ number_of most net
+number_kept : (most nets : List Net) (net : Net) → Extend most (with_net nets net) → number_of_net nets net ≡ number_of_net most net
 number_kept most nets net over = sym (over.number net (with_has nets net) ∙ with_number_is nets net)
 
-extend_numbered : (nets more : List Net) → Extend (numbered nets more).nets nets
+extend_numbered : (nets more : List Net) → Extend (numbered_nets nets more).nets nets
 extend_numbered nets [] = extend_self nets
 extend_numbered nets (net ∷ more) =
-    extend_both (numbered (with_net nets net) more).nets (with_net nets net) nets (extend_numbered (with_net nets net) more) (extend_with nets net)
+    extend_both (numbered_nets (with_net nets net) more).nets (with_net nets net) nets (extend_numbered (with_net nets net) more) (extend_with nets net)
 
-numbers_kept : (most nets more : List Net) → Extend most (numbered nets more).nets → (numbered nets more).numbers ≡ map (number_of most) more
+numbers_kept : (most nets more : List Net) → Extend most (numbered_nets nets more).nets → (numbered_nets nets more).numbers ≡ map (number_of_net most) more
 numbers_kept most nets [] over = refl
 numbers_kept most nets (net ∷ more) over =
     let here : Extend most (with_net nets net) =
-    extend_both most (numbered (with_net nets net) more).nets (with_net nets net) over (extend_numbered (with_net nets net) more) in
+    extend_both most (numbered_nets (with_net nets net) more).nets (with_net nets net) over (extend_numbered (with_net nets net) more) in
     ap₂ (λ (n : ℕ) (ns : List ℕ). n ∷ ns) (number_kept most nets net here) (numbers_kept most (with_net nets net) more over)
 
-numbered_both : (nets first more : List Net) → (numbered nets (first ++ more)).nets ≡ (numbered (numbered nets first).nets more).nets
+numbered_both : (nets first more : List Net) → (numbered_nets nets (first ++ more)).nets ≡ (numbered_nets (numbered_nets nets first).nets more).nets
 numbered_both nets [] more = refl
 numbered_both nets (net ∷ first) more = numbered_both (with_net nets net) first more
 
-named_numbers : (most : List Net) (scope : Scope) (names : List (List ℕ)) → map (number_of most) (map (net_of scope) names) ≡ map (number_by most scope) names
+named_numbers : (most : List Net) (scope : Scope) (names : List (List ℕ)) → map (number_of_net most) (map (net_of_name scope) names) ≡ map (number_by most scope) names
 named_numbers most scope [] = refl
-named_numbers most scope (name ∷ names) = ap (λ (ns : List ℕ). number_of most (net_of scope name) ∷ ns) (named_numbers most scope names)
+named_numbers most scope (name ∷ names) = ap (λ (ns : List ℕ). number_of_net most (net_of_name scope name) ∷ ns) (named_numbers most scope names)
 
 -- each net is there once
 apart_net : (nets : List Net) (net : Net) → has_net nets net ≡ false → (k : ℕ) (d : Net) → k < length nets → get_or nets k d ≢ net
@@ -143,7 +143,7 @@ once_by_case false nets net is once = all_pairs_push (λ a b. a ≢ b) nets net 
 with_once : (nets : List Net) (net : Net) → AllPairs (λ a b. a ≢ b) nets → AllPairs (λ a b. a ≢ b) (with_net nets net)
 with_once nets net once = once_by_case (has_net nets net) nets net refl once
 
-numbered_once : (nets more : List Net) → AllPairs (λ a b. a ≢ b) nets → AllPairs (λ a b. a ≢ b) (numbered nets more).nets
+numbered_once : (nets more : List Net) → AllPairs (λ a b. a ≢ b) nets → AllPairs (λ a b. a ≢ b) (numbered_nets nets more).nets
 numbered_once nets [] once = once
 numbered_once nets (net ∷ more) once = numbered_once (with_net nets net) more (with_once nets net once)
 
@@ -157,17 +157,17 @@ add placed c = added placed.scope placed.command.line placed.command.part c
 
 -- what a latch adds
 latch_nets : (scope : Scope) (nets : List Net) (text : LatchText) (control : Option (List ℕ))
-    → (numbered_latch nets (net_of scope text.data_net) (net_of scope text.output) (option_map (net_of scope) control)).nets
-    ≡ (numbered nets (map (net_of scope) (text.data_net ∷ text.output ∷ option_map_or (λ name. name ∷ []) control []))).nets
+    → (numbered_latch nets (net_of_name scope text.data_net) (net_of_name scope text.output) (option_map (net_of_name scope) control)).nets
+    ≡ (numbered_nets nets (map (net_of_name scope) (text.data_net ∷ text.output ∷ option_map_or (λ name. name ∷ []) control []))).nets
 latch_nets scope nets text None = refl
 latch_nets scope nets text (Some name) = refl
 
 latch_control : (most : List Net) (scope : Scope) (nets : List Net) (data_net output : Net) (control : Option (List ℕ))
-    → Extend most (numbered_latch nets data_net output (option_map (net_of scope) control)).nets
-    → (numbered_latch nets data_net output (option_map (net_of scope) control)).control ≡ option_map (number_by most scope) control
+    → Extend most (numbered_latch nets data_net output (option_map (net_of_name scope) control)).nets
+    → (numbered_latch nets data_net output (option_map (net_of_name scope) control)).control ≡ option_map (number_by most scope) control
 latch_control most scope nets data_net output None over = refl
 latch_control most scope nets data_net output (Some name) over =
-    ap (λ (n : ℕ). Some n) (number_kept most (with_net (with_net nets data_net) output) (net_of scope name) over)
+    ap (λ (n : ℕ). Some n) (number_kept most (with_net (with_net nets data_net) output) (net_of_name scope name) over)
 
 latch_extends : (nets : List Net) (data_net output : Net) (control : Option Net)
     → Extend (numbered_latch nets data_net output control).nets (with_net (with_net nets data_net) output)
@@ -175,14 +175,14 @@ latch_extends nets data_net output None = extend_self (with_net (with_net nets d
 latch_extends nets data_net output (Some net) = extend_with (with_net (with_net nets data_net) output) net
 
 -- the nets of a command are numbered
-add_nets : (scope : Scope) (line : ℕ) (part : Part) (c : Circuit) → (added scope line part c).nets ≡ (numbered c.nets (map (net_of scope) (names_by part))).nets
+add_nets : (scope : Scope) (line : ℕ) (part : Part) (c : Circuit) → (added scope line part c).nets ≡ (numbered_nets c.nets (map (net_of_name scope) (names_by part))).nets
 unfolding added
 add_nets scope line (Inputs names) c = refl
 add_nets scope line (Outputs names) c = refl
 add_nets scope line (Clock names) c = refl
 add_nets scope line (Table text) c =
-    sym (ap (λ (nets : List Net). (numbered c.nets nets).nets) (map-append (net_of scope) text.inputs (text.output ∷ []))
-    ∙ numbered_both c.nets (map (net_of scope) text.inputs) (net_of scope text.output ∷ []))
+    sym (ap (λ (nets : List Net). (numbered_nets c.nets nets).nets) (map-append (net_of_name scope) text.inputs (text.output ∷ []))
+    ∙ numbered_both c.nets (map (net_of_name scope) text.inputs) (net_of_name scope text.output ∷ []))
 add_nets scope line (Latch text) c = latch_nets scope c.nets text text.control
 add_nets scope line (Subckt call) c = refl
 
@@ -196,11 +196,11 @@ add_tables most scope line (Clock names) c over = sym (append-nil c.tables)
 add_tables most scope line (Table text) c over =
     let inputs : Numbered = numbered_names scope c.nets text.inputs in
     let under : Extend most inputs.nets =
-    extend_both most (with_net inputs.nets (net_of scope text.output)) inputs.nets over (extend_with inputs.nets (net_of scope text.output)) in
+    extend_both most (with_net inputs.nets (net_of_name scope text.output)) inputs.nets over (extend_with inputs.nets (net_of_name scope text.output)) in
     let numbers : inputs.numbers ≡ map (number_by most scope) text.inputs =
-    numbers_kept most c.nets (map (net_of scope) text.inputs) under ∙ named_numbers most scope text.inputs in
-    let output : number_of inputs.nets (net_of scope text.output) ≡ number_by most scope text.output =
-    number_kept most inputs.nets (net_of scope text.output) over in
+    numbers_kept most c.nets (map (net_of_name scope) text.inputs) under ∙ named_numbers most scope text.inputs in
+    let output : number_of_net inputs.nets (net_of_name scope text.output) ≡ number_by most scope text.output =
+    number_kept most inputs.nets (net_of_name scope text.output) over in
     ap₂ (λ (ns : List ℕ) (n : ℕ). c.tables ++ record { table = record { inputs = ns; rows = text.rows; on = text.on }; output = n; line = line } ∷ []) numbers output
 add_tables most scope line (Latch text) c over = sym (append-nil c.tables)
 add_tables most scope line (Subckt call) c over = sym (append-nil c.tables)
@@ -214,13 +214,13 @@ add_registers most scope line (Outputs names) c over = sym (append-nil c.registe
 add_registers most scope line (Clock names) c over = sym (append-nil c.registers)
 add_registers most scope line (Table text) c over = sym (append-nil c.registers)
 add_registers most scope line (Latch text) c over =
-    let d : Net = net_of scope text.data_net in
-    let o : Net = net_of scope text.output in
+    let d : Net = net_of_name scope text.data_net in
+    let o : Net = net_of_name scope text.output in
     let two : Extend most (with_net (with_net c.nets d) o) =
-    extend_both most (latch_names scope c.nets text).nets (with_net (with_net c.nets d) o) over (latch_extends c.nets d o (option_map (net_of scope) text.control)) in
+    extend_both most (latch_names scope c.nets text).nets (with_net (with_net c.nets d) o) over (latch_extends c.nets d o (option_map (net_of_name scope) text.control)) in
     let one : Extend most (with_net c.nets d) = extend_both most (with_net (with_net c.nets d) o) (with_net c.nets d) two (extend_with (with_net c.nets d) o) in
-    let first : number_of c.nets d ≡ number_by most scope text.data_net = number_kept most c.nets d one in
-    let second : number_of (with_net c.nets d) o ≡ number_by most scope text.output = number_kept most (with_net c.nets d) o two in
+    let first : number_of_net c.nets d ≡ number_by most scope text.data_net = number_kept most c.nets d one in
+    let second : number_of_net (with_net c.nets d) o ≡ number_by most scope text.output = number_kept most (with_net c.nets d) o two in
     let third : (latch_names scope c.nets text).control ≡ option_map (number_by most scope) text.control =
     latch_control most scope c.nets d o text.control over in
     ap₂ (λ (n m : ℕ). c.registers ++ record { data_net = n; output = m; edge = text.edge; control = (latch_names scope c.nets text).control; initial = text.initial; line = line } ∷ []) first second
@@ -237,13 +237,13 @@ unfolding add_all
 add_both [] more c = refl
 add_both (placed ∷ first) more c = add_both first more (add placed c)
 
-all_nets : (placed : List InCopy) (c : Circuit) → (add_all placed c).nets ≡ (numbered c.nets (flat_map nets_by placed)).nets
+all_nets : (placed : List InCopy) (c : Circuit) → (add_all placed c).nets ≡ (numbered_nets c.nets (flat_map nets_by placed)).nets
 unfolding add_all add
 all_nets [] c = refl
 all_nets (p ∷ placed) c =
-    let here : (add p c).nets ≡ (numbered c.nets (nets_by p)).nets = add_nets p.scope p.command.line p.command.part c in
+    let here : (add p c).nets ≡ (numbered_nets c.nets (nets_by p)).nets = add_nets p.scope p.command.line p.command.part c in
     all_nets placed (add p c)
-    ∙ (ap (λ (nets : List Net). (numbered nets (flat_map nets_by placed)).nets) here
+    ∙ (ap (λ (nets : List Net). (numbered_nets nets (flat_map nets_by placed)).nets) here
     ∙ sym (numbered_both c.nets (nets_by p) (flat_map nets_by placed)))
 
 all_extend : (placed : List InCopy) (c : Circuit) → Extend (add_all placed c).nets c.nets
@@ -392,7 +392,7 @@ flat_of_copies main models c is =
     let taken : Taken (main ∷ models) (record { copy = 0; bound = [] }) main.commands (record { copies = 0; design = empty_design main.name }) flat =
     copies_taken (main ∷ models) most_depth (main_copy main) flat is_flat in
     let same : c ≡ add_all taken.placed (empty_design main.name) = (let e : flat.design ≡ c = cc in sym e ∙ taken.design) in
-    let nets : c.nets ≡ (numbered [] (flat_map nets_by taken.placed)).nets = ap (λ (d : Circuit). d.nets) same ∙ all_nets taken.placed (empty_design main.name) in
+    let nets : c.nets ≡ (numbered_nets [] (flat_map nets_by taken.placed)).nets = ap (λ (d : Circuit). d.nets) same ∙ all_nets taken.placed (empty_design main.name) in
     let over : Extend c.nets (add_all taken.placed (empty_design main.name)).nets =
     subst (λ (d : Circuit). Extend c.nets d.nets) same (extend_self c.nets) in
     record {

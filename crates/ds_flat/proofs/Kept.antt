@@ -16,7 +16,7 @@ use Rattle.ds_flat.specs.Command.{with_part}
 use Rattle.ds_flat.specs.Copies.{Flat, Opened, opened_within, next_copy, flat_within, actuals_in}
 use Rattle.ds_flat.specs.Interface.{names_of_models, Finds}
 use Rattle.ds_flat.specs.Stack.{Stacked, frame_on, put_on, path_of}
-use Rattle.ds_flat.specs.Run.{Rest, IsKept, opened_on, IsCopyOf}
+use Rattle.ds_flat.specs.Run.{Rest, IsRestKept, opened_on, IsCopyOf}
 use Rattle.ds_flat.proofs.Grown.{within_given}
 use Rattle.ds_flat.proofs.Ranges.{part_in_range, use_in_range}
 use Rattle.ds_flat.proofs.Uses.{named_name, named_all}
@@ -34,13 +34,13 @@ rest_of top below copies design = record {
 }
 
 module _ (models : List BlifModel) (top : Open) (below : Stacked) (copies : ℕ) (design : Circuit)
-    (kept : IsKept models (rest_of top below copies design)) where
+    (kept : IsRestKept models (rest_of top below copies design)) where
   -- the design grows by a command
   pub kept_part : (scope : Scope) (line : ℕ) (command : Command) (next : Circuit)
       → IsPart command.part
       → flat_within copies line (with_part scope line command.part design)
       ≡ Ok (record { copies = copies; design = next })
-      → IsKept models (rest_of top below copies next)
+      → IsRestKept models (rest_of top below copies next)
   kept_part scope line command next fine is =
       let p = within_given (with_part scope line command.part design) line _ _ is in
       let same : next ≡ with_part scope line command.part design =
@@ -61,7 +61,7 @@ module _ (models : List BlifModel) (top : Open) (below : Stacked) (copies : ℕ)
   pub kept_behind : (command : Command) (commands : List Command) (rest : Open)
       → top.commands.now ≡ command ∷ commands → rest.commands.now ≡ commands
       → rest.model ≡ top.model → rest.name.now ≡ top.name.now
-      → IsKept models (rest_of rest below copies design)
+      → IsRestKept models (rest_of rest below copies design)
   kept_behind command commands rest first behind place name =
       let P : Command → Type 0 = λ c. IsPart c.part in
       record {
@@ -88,7 +88,7 @@ module _ (models : List BlifModel) (top : Open) (below : Stacked) (copies : ℕ)
       All-head P command commands (subst (λ (cs : List Command). All P cs) first kept.parts.0)
 
   -- a copy is left
-  pub kept_below : IsKept models (record {
+  pub kept_below : IsRestKept models (record {
     frames = below.frames;
     places = below.places;
     models = below.models;
@@ -114,7 +114,7 @@ module _ (models : List BlifModel) (top : Open) (below : Stacked) (copies : ℕ)
       (record { copies = copies; design = design }))
       ≡ Ok (opened_on (top.name.now ∷ path_of below.frames) next copies after)
       → IsCopyOf next place model
-      → IsKept models (rest_of next (put_on top below) (copies + 1) after)
+      → IsRestKept models (rest_of next (put_on top below) (copies + 1) after)
   kept_use line call model place ports next after all found few is copy =
       let path : List (List ℕ) = top.name.now ∷ path_of below.frames in
       let o : Opened = next_copy path top.scope call model (record { copies = copies; design = design }) in

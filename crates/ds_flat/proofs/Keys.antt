@@ -6,7 +6,7 @@ use Rattle.std.proofs.lemmas.List.{map-append}
 use Rattle.ds_design.specs.declared.design.Net.{Net}
 use Rattle.ds_flat.specs.declared.nets.NetKey.{NetKey}
 use Rattle.ds_flat.specs.contracts.nets.NetKeyPartialEq.TheImpl as key_eq
-use Rattle.ds_flat.specs.Net.{has_net, number_of, with_net}
+use Rattle.ds_flat.specs.Net.{has_net, number_of_net, with_net}
 use Rattle.ds_flat.specs.Keys.{net_key}
 
 -- whether keys are equal
@@ -23,7 +23,7 @@ any_key key [] = refl
 any_key key (other ∷ keys) = ap (λ b. same_key key other || b) (any_key key keys)
 
 pub place_key : (key : NetKey) (keys : List NetKey) → position_or_len (same_key key) keys
-    ≡ number_of (nets_of keys) (net_key key)
+    ≡ number_of_net (nets_of keys) (net_key key)
 place_key key [] = refl
 place_key key (other ∷ keys) = ap (λ n. cond (not (same_key key other)) (1 + n) 0)
     (place_key key keys)
@@ -34,9 +34,9 @@ module _ (key : NetKey) (keys : List NetKey) (nets : List Net) (view : nets_of k
       ∙ (sym (any_key key keys) ∙ sym is)
 
   pub key_number : (place : ℕ) → place ≡ position_or_len (same_key key) keys
-      → place ≡ number_of nets (net_key key)
+      → place ≡ number_of_net nets (net_key key)
   key_number place is = is ∙ (place_key key keys
-      ∙ ap (λ (ns : List Net). number_of ns (net_key key)) view)
+      ∙ ap (λ (ns : List Net). number_of_net ns (net_key key)) view)
 
   pub key_there : true ≡ list_any (same_key key) keys → nets ≡ with_net nets (net_key key)
   key_there is = rw (key_has true is) refl

@@ -7,21 +7,21 @@ use Rattle.ds_flat.specs.declared.frame.Open.{Open}
 use Rattle.ds_flat.specs.declared.step.Turn.{Turn}
 use Rattle.ds_flat.specs.declared.step.Turn.TheVariants.{Next, Done}
 use Rattle.ds_flat.specs.Stack.{Stacked}
-use Rattle.ds_flat.specs.Run.{Rest, IsKept}
-use Rattle.ds_flat.specs.Turn.{most_turns, Leaves, GivesTurn, GoesOn}
+use Rattle.ds_flat.specs.Run.{Rest, IsRestKept}
+use Rattle.ds_flat.specs.Turn.{most_turns, LeavesCopies, GivesTurn, CopyGoesOn}
 use Rattle.ds_flat.proofs.Kept.{rest_of, kept_below}
 use Rattle.ds_flat.proofs.Taken.{turn_left, run-empty}
 use Rattle.ds_flat.proofs.Turns.{turns_left}
 use Rattle.ds_flat.proofs.Opens.{ended}
 
 module _ (models : List BlifModel) (top : Open) (below : Stacked) (copies : ℕ) (design : Circuit)
-    (rest : Rest) (view : rest_of top below copies design ≡ rest) (given : IsKept models rest)
+    (rest : Rest) (view : rest_of top below copies design ≡ rest) (given : IsRestKept models rest)
     (none : top.commands.now ≡ []) where
-  kept : IsKept models (rest_of top below copies design)
-  kept = subst (λ (r : Rest). IsKept models r) (sym view) given
+  kept : IsRestKept models (rest_of top below copies design)
+  kept = subst (λ (r : Rest). IsRestKept models r) (sym view) given
 
   -- what waits goes on
-  waits : GoesOn models (record {
+  waits : CopyGoesOn models (record {
     frames = below.frames;
     places = below.places;
     models = below.models;
@@ -36,8 +36,8 @@ module _ (models : List BlifModel) (top : Open) (below : Stacked) (copies : ℕ)
   }
 
   -- what is left gives a turn
-  pub turn_given : (turn : Turn) → Leaves turn below copies design → GivesTurn models turn rest
-  turn_given (Next next) leaves = subst (λ (r : Rest). GoesOn models r rest) (sym leaves) waits
+  pub turn_given : (turn : Turn) → LeavesCopies turn below copies design → GivesTurn models turn rest
+  turn_given (Next next) leaves = subst (λ (r : Rest). CopyGoesOn models r rest) (sym leaves) waits
   turn_given (Done made) leaves = record {
     same = sym (turn_left models top below copies design rest view none)
         ∙ (run-empty models below.frames (record { copies = copies; design = design }) leaves.0

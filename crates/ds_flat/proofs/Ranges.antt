@@ -16,23 +16,23 @@ use Rattle.ds_models.specs.declared.blif.Part.TheVariants.{Inputs, Outputs, Cloc
 use Rattle.ds_models.specs.Source.{IsPart}
 use Rattle.ds_design.specs.Circuit.{Circuit}
 use Rattle.ds_design.specs.InRange.{IsInRange}
-use Rattle.ds_flat.specs.Net.{Scope, Numbered, same_net, has_net, number_of, with_net, net_of, numbered, numbered_names}
-use Rattle.ds_flat.specs.Command.{with_number, with_numbers, with_ports, with_part, numbered_latch}
+use Rattle.ds_flat.specs.Net.{Scope, Numbered, same_net, has_net, number_of_net, with_net, net_of_name, numbered_nets, numbered_names}
+use Rattle.ds_flat.specs.Command.{with_known_number, with_numbers, with_ports, with_part, numbered_latch}
 use Rattle.ds_flat.specs.Copies.{empty_design}
 use Rattle.ds_flat.proofs.NumberLemmas.{length-with_net, length-numbered, latch_grows}
 use Rattle.ds_flat.proofs.Grown.{WithinLimits}
 
-place_below : (nets : List Net) (net : Net) → has_net nets net ≡ true → number_of nets net < length nets
+place_below : (nets : List Net) (net : Net) → has_net nets net ≡ true → number_of_net nets net < length nets
 place_below [] net is = absurd (cc)
 place_below (other ∷ nets) net is = elim (cases_Bool (same_net net other)) [
-  | inl here ↦ (let e : number_of (other ∷ nets) net ≡ 0 = rw here refl in omega arith)
+  | inl here ↦ (let e : number_of_net (other ∷ nets) net ≡ 0 = rw here refl in omega arith)
   | inr apart ↦ (
-      let e : number_of (other ∷ nets) net ≡ 1 + number_of nets net = rw apart refl in
+      let e : number_of_net (other ∷ nets) net ≡ 1 + number_of_net nets net = rw apart refl in
       let f = place_below nets net (rw apart at is) in omega arith)
 ]
 
 -- the number of a net names it
-number_below : (nets : List Net) (net : Net) → number_of nets net < length (with_net nets net)
+number_below : (nets : List Net) (net : Net) → number_of_net nets net < length (with_net nets net)
 number_below nets net = elim (cases_Bool (has_net nets net)) [
   | inl here ↦ rw here (place_below nets net here)
   | inr new ↦ rw new (omega (arith, prefix_len-le-length (λ other. not (same_net net other)) nets, length-append nets (net ∷ [])))
@@ -42,18 +42,18 @@ number_below nets net = elim (cases_Bool (has_net nets net)) [
 pub all_grow : (xs : List ℕ) (n m : ℕ) → n ≤ m → All (λ net. net < n) xs → All (λ net. net < m) xs
 all_grow xs n m longer all k d inside = let h = all k d inside in omega arith
 
-numbered_below : (nets more : List Net) → All (λ net. net < length (numbered nets more).nets)
-    (numbered nets more).numbers
+numbered_below : (nets more : List Net) → All (λ net. net < length (numbered_nets nets more).nets)
+    (numbered_nets nets more).numbers
 numbered_below nets [] = λ k d inside. absurd (let h : k < 0 = inside in omega arith)
 numbered_below nets (net ∷ more) =
     let a = number_below nets net in
     let b = length-numbered (with_net nets net) more in
-    All-cons (λ n. n < length (numbered (with_net nets net) more).nets) (number_of nets net)
-    (numbered (with_net nets net) more).numbers (omega arith) (numbered_below (with_net nets net) more)
+    All-cons (λ n. n < length (numbered_nets (with_net nets net) more).nets) (number_of_net nets net)
+    (numbered_nets (with_net nets net) more).numbers (omega arith) (numbered_below (with_net nets net) more)
 
 -- numbers that are added, each once
 with_number_below : (n : ℕ) (ports : List ℕ) (number : ℕ) → All (λ net. net < n) ports → number < n
-    → All (λ net. net < n) (with_number ports number)
+    → All (λ net. net < n) (with_known_number ports number)
 with_number_below n ports number all below = elim (cases_Bool (list_any (λ other. number == other) ports)) [
   | inl here ↦ rw here all
   | inr new ↦ rw new (All-push (λ net. net < n) ports number all below)
@@ -63,7 +63,7 @@ with_numbers_below : (n : ℕ) (ports numbers : List ℕ) → All (λ net. net <
     → All (λ net. net < n) numbers → All (λ net. net < n) (with_numbers ports numbers)
 with_numbers_below n ports [] all more = all
 with_numbers_below n ports (number ∷ numbers) all more =
-    with_numbers_below n (with_number ports number) numbers
+    with_numbers_below n (with_known_number ports number) numbers
     (with_number_below n ports number all (All-head (λ net. net < n) number numbers more))
     (All-tail (λ net. net < n) number numbers more)
 
@@ -87,7 +87,7 @@ apart_from (port ∷ ports) number new (suc k) d inside same =
     ]
 
 with_number_once : (ports : List ℕ) (number : ℕ) → AllPairs (λ a b. a ≢ b) ports
-    → AllPairs (λ a b. a ≢ b) (with_number ports number)
+    → AllPairs (λ a b. a ≢ b) (with_known_number ports number)
 with_number_once ports number once = elim (cases_Bool (list_any (λ other. number == other) ports)) [
   | inl here ↦ rw here once
   | inr new ↦ rw new (all_pairs_push (λ a b. a ≢ b) ports number once (apart_from ports number new))
@@ -97,7 +97,7 @@ with_numbers_once : (ports numbers : List ℕ) → AllPairs (λ a b. a ≢ b) po
     → AllPairs (λ a b. a ≢ b) (with_numbers ports numbers)
 with_numbers_once ports [] once = once
 with_numbers_once ports (number ∷ numbers) once =
-    with_numbers_once (with_number ports number) numbers (with_number_once ports number once)
+    with_numbers_once (with_known_number ports number) numbers (with_number_once ports number once)
 
 ports_once : (copy : ℕ) (ports numbers : List ℕ) → AllPairs (λ a b. a ≢ b) ports
     → AllPairs (λ a b. a ≢ b) (with_ports copy ports numbers)
@@ -155,7 +155,7 @@ pub use_in_range : (c : Circuit) (scope : Scope) (names : List (List ℕ)) → I
     → IsInRange (record c { nets = (numbered_names scope c.nets names).nets })
 use_in_range c scope names is few =
     grown_in_range c (numbered_names scope c.nets names).nets is
-    (length-numbered c.nets (map (net_of scope) names)) few
+    (length-numbered c.nets (map (net_of_name scope) names)) few
 
 names_in_range : (c : Circuit) (scope : Scope) (names : List (List ℕ)) → IsInRange c
     → length (numbered_names scope c.nets names).nets ≤ 65536
@@ -163,7 +163,7 @@ names_in_range : (c : Circuit) (scope : Scope) (names : List (List ℕ)) → IsI
     × All (λ net. net < length (numbered_names scope c.nets names).nets)
     (numbered_names scope c.nets names).numbers
 names_in_range c scope names is few =
-    (use_in_range c scope names is few, numbered_below c.nets (map (net_of scope) names))
+    (use_in_range c scope names is few, numbered_below c.nets (map (net_of_name scope) names))
 
 latch_below : (nets : List Net) (data_key output_key : Net) (control : Option Net)
     → ((numbered_latch nets data_key output_key control).data_net
@@ -235,8 +235,8 @@ part_in_range scope line (Clock names) c is fine within =
     }
 part_in_range scope line (Table text) c is fine within =
     let ins : Numbered = numbered_names scope c.nets text.inputs in
-    let output : Net = net_of scope text.output in
-    let a : length c.nets ≤ length ins.nets = length-numbered c.nets (map (net_of scope) text.inputs) in
+    let output : Net = net_of_name scope text.output in
+    let a : length c.nets ≤ length ins.nets = length-numbered c.nets (map (net_of_name scope) text.inputs) in
     let b : length ins.nets ≤ length (with_net ins.nets output) = length-with_net ins.nets output in
     let p = grown_in_range c (with_net ins.nets output) is (omega arith) within.nets in
     record {
@@ -245,7 +245,7 @@ part_in_range scope line (Table text) c is fine within =
       clocks = p.clocks;
       tables = All-push (IsGateBelow (length (with_net ins.nets output))) c.tables _ p.tables (
         all_grow ins.numbers (length ins.nets) (length (with_net ins.nets output)) b
-            (numbered_below c.nets (map (net_of scope) text.inputs)),
+            (numbered_below c.nets (map (net_of_name scope) text.inputs)),
         number_below ins.nets output,
       );
       registers = p.registers;
@@ -255,9 +255,9 @@ part_in_range scope line (Table text) c is fine within =
       few_registers = p.few_registers;
     }
 part_in_range scope line (Latch text) c is fine within =
-    let data_key : Net = net_of scope text.data_net in
-    let output_key : Net = net_of scope text.output in
-    let control : Option Net = option_map (net_of scope) text.control in
+    let data_key : Net = net_of_name scope text.data_net in
+    let output_key : Net = net_of_name scope text.output in
+    let control : Option Net = option_map (net_of_name scope) text.control in
     let p = grown_in_range c (numbered_latch c.nets data_key output_key control).nets is
     (latch_longer c.nets data_key output_key control) within.nets in
     let q = latch_below c.nets data_key output_key control in

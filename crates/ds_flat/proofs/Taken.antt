@@ -11,7 +11,7 @@ use Rattle.ds_flat.specs.declared.frame.Open.{Open}
 use Rattle.ds_flat.specs.Net.{Scope}
 use Rattle.ds_flat.specs.Copies.{Flat, Frame, Opened, ◌>>=◌, open_use, opened_within, next_copy}
 use Rattle.ds_flat.specs.Stack.{Stacked, frame_on, put_on, path_of}
-use Rattle.ds_flat.specs.Run.{run_frames, Rest, run, IsFault, CopiesModel, RefusesUse, opened_on, after_take}
+use Rattle.ds_flat.specs.Run.{run_frames, Rest, run_rest, IsFault, CopiesModel, RefusesUse, opened_on, after_take}
 use Rattle.ds_flat.specs.Use.{after_use}
 use Rattle.ds_flat.proofs.Kept.{rest_of}
 use Rattle.ds_flat.proofs.Steps.{fault_bind, fault_same, run_frames-done, run_frames-take}
@@ -47,9 +47,9 @@ module _ (models : List BlifModel) (top : Open) (below : Stacked) (copies : ℕ)
         → opened_within line (next_copy (path_at top below) top.scope call model (record { copies = copies; design = design }))
         ≡ Ok (opened_on (path_at top below) next copies after)
         → pushed ≡ put_on top below
-        → run models (rest_of next pushed (copies + 1) after) ≡ after_use_of models rest line call
+        → run_rest models (rest_of next pushed (copies + 1) after) ≡ after_use_of models rest line call
     use_value next pushed after is on =
-        ap (λ (s : Stacked). run models (rest_of next s (copies + 1) after)) on
+        ap (λ (s : Stacked). run_rest models (rest_of next s (copies + 1) after)) on
         ∙ (sym (ap (λ (r : Result Opened FlatFault). r >>= λ (o : Opened). run_frames models (o.frame
         ∷ frame_on top (path_of below.frames) ∷ below.frames) o.flat) (copies_it design ∙ is))
         ∙ ap (λ (r : Rest). after_use_of models r line call) view)
@@ -60,7 +60,7 @@ pub turn_taken : (models : List BlifModel) (top behind : Open) (below : Stacked)
     → rest_of top below copies design ≡ rest → top.commands.now ≡ command ∷ commands
     → behind.commands.now ≡ commands → behind.scope ≡ top.scope → behind.name.now ≡ top.name.now
     → after_take models (rest_of behind below copies design).frames
-    (record { copies = copies; design = design }) command ≡ run models rest
+    (record { copies = copies; design = design }) command ≡ run_rest models rest
 turn_taken models top behind below copies design rest command commands view first behind_is scope name =
     ap (λ (cs : List Command). after_take models (record {
       path = behind.name.now
@@ -88,16 +88,16 @@ turn_taken models top behind below copies design rest command commands view firs
       scope = top.scope;
       commands = cs;
     } ∷ below.frames) (record { copies = copies; design = design })) (sym first)
-    ∙ ap (run models) view))))
+    ∙ ap (run_rest models) view))))
 
 -- a copy without commands is left
 pub turn_left : (models : List BlifModel) (top : Open) (below : Stacked) (copies : ℕ)
     (design : Circuit) (rest : Rest) → rest_of top below copies design ≡ rest
     → top.commands.now ≡ []
-    → run_frames models below.frames (record { copies = copies; design = design }) ≡ run models rest
+    → run_frames models below.frames (record { copies = copies; design = design }) ≡ run_rest models rest
 turn_left models top below copies design rest view none =
     sym (run_frames-done models (frame_on top (path_of below.frames)) below.frames
-    (record { copies = copies; design = design }) none) ∙ ap (run models) view
+    (record { copies = copies; design = design }) none) ∙ ap (run_rest models) view
 
 -- without frames the whole is what was taken
 pub run-empty : (models : List BlifModel) (frames : List Frame) (flat : Flat) → frames ≡ []

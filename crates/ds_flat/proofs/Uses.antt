@@ -21,12 +21,12 @@ use Rattle.ds_flat.specs.declared.fault.FlatRefusal.TheVariants.{Fault, Memory}
 use Rattle.ds_flat.specs.Net.{Scope}
 use Rattle.ds_flat.specs.Copies.{model_named, unknown_formal, ports_of, path_from}
 use Rattle.ds_flat.specs.Interface.{names_of_models, ports_by, Finds}
-use Rattle.ds_flat.specs.Run.{IsFault, IsRefusal, CopiesModel, RefusesUse}
+use Rattle.ds_flat.specs.Run.{IsFault, IsFlatRefusal, CopiesModel, RefusesUse}
 use Rattle.ds_flat.proofs.Models.{one_place, unknown-ports_by}
 
 -- a refusal with the fault that a text has
 pub refused : {A : Type 0} (refusal : FlatRefusal) (fault : FlatFault) (text : Result A FlatFault)
-    → IsRefusal refusal fault → text ≡ Err fault → IsFault refusal text
+    → IsFlatRefusal refusal fault → text ≡ Err fault → IsFault refusal text
 refused Memory fault text given is = tt
 refused {A} (Fault other) fault text given is = is ∙ ap (λ (f : FlatFault). Err f) (sym given)
 
@@ -74,21 +74,21 @@ module _ (models : List BlifModel) (path : List (List ℕ)) (scope : Scope) (lin
     (copies : ℕ) where
   -- there is no model of the name
   pub refuses_model : (refusal : FlatRefusal) → model_named models call.model ≡ None
-      → IsRefusal refusal (record { line = line; kind = UnknownModel call.model })
+      → IsFlatRefusal refusal (record { line = line; kind = UnknownModel call.model })
       → RefusesUse refusal models path scope line call copies
   refuses_model refusal none given design = refused refusal _ _ given (rw none refl)
 
   module _ (model : BlifModel) (named : model_named models call.model ≡ Some model) where
     -- the model is being copied
     pub refuses_open : (refusal : FlatRefusal) → list_any (bytes_eq call.model) path ≡ true
-        → IsRefusal refusal (record { line = line; kind = Recursive (path_from call.model path) })
+        → IsFlatRefusal refusal (record { line = line; kind = Recursive (path_from call.model path) })
         → RefusesUse refusal models path scope line call copies
     refuses_open refusal there given design = refused refusal _ _ given (rw (named, there) refl)
 
     module _ (new : list_any (bytes_eq call.model) path ≡ false) where
       -- there are as many copies as there may be
       pub refuses_copies : (refusal : FlatRefusal) → copies ≡ 65536
-          → IsRefusal refusal (record { line = line; kind = TooMany Copies })
+          → IsFlatRefusal refusal (record { line = line; kind = TooMany Copies })
           → RefusesUse refusal models path scope line call copies
       refuses_copies refusal full given design =
           let e : nat_lt copies 65536 ≡ false = ap (λ n. nat_lt n 65536) full in
@@ -101,7 +101,7 @@ module _ (models : List BlifModel) (path : List (List ℕ)) (scope : Scope) (lin
         -- a formal is unknown
         pub refuses_formal : (refusal : FlatRefusal) (formal : List ℕ)
             → Some formal ≡ unknown_formal (ports_of model.commands) call.pairs
-            → IsRefusal refusal (record { line = line; kind = UnknownFormal formal })
+            → IsFlatRefusal refusal (record { line = line; kind = UnknownFormal formal })
             → RefusesUse refusal models path scope line call copies
         refuses_formal refusal formal unknown given design =
             refused refusal _ _ given (rw (named, new, less, ← unknown) refl)

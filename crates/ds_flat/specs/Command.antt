@@ -10,17 +10,17 @@ use Rattle.ds_models.specs.declared.blif.Part.{Part}
 use Rattle.ds_models.specs.declared.blif.Part.TheVariants.{Inputs, Outputs, Clock, Table, Latch}
 use Rattle.ds_models.specs.declared.blif.Part.TheVariants.{Subckt}
 use Rattle.ds_design.specs.Circuit.{Circuit}
-use Rattle.ds_flat.specs.Net.{Scope, Numbered, net_of, number_of, with_net, numbered_names}
+use Rattle.ds_flat.specs.Net.{Scope, Numbered, net_of_name, number_of_net, with_net, numbered_names}
 
 -- with a number at the end where it is not there yet
-abbrev pub with_number : List ℕ → ℕ → List ℕ
-with_number numbers number = if list_any (λ other. number == other) numbers then numbers
+abbrev pub with_known_number : List ℕ → ℕ → List ℕ
+with_known_number numbers number = if list_any (λ other. number == other) numbers then numbers
     else numbers ++ number ∷ []
 
 -- with more numbers, each where it is not there yet
 abbrev pub with_numbers : List ℕ → List ℕ → List ℕ
 with_numbers numbers [] = numbers
-with_numbers numbers (number ∷ more) = with_numbers (with_number numbers number) more
+with_numbers numbers (number ∷ more) = with_numbers (with_known_number numbers number) more
 
 -- the interface of the design is that of copy 0, the main model
 abbrev pub with_ports : ℕ → List ℕ → List ℕ → List ℕ
@@ -53,7 +53,7 @@ with_table output line text inputs c = record c {
   nets = with_net inputs.nets output;
   tables = c.tables ++ record {
     table = record { inputs = inputs.numbers; rows = text.rows; on = text.on };
-    output = number_of inputs.nets output;
+    output = number_of_net inputs.nets output;
     line = line;
   } ∷ [];
 }
@@ -73,16 +73,16 @@ pub record NumberedLatch : Type 0 where
 -- of a latch the data net is numbered first, then the output, then the control
 abbrev pub numbered_latch : List Net → Net → Net → Option Net → NumberedLatch
 numbered_latch nets data_net output control = record {
-  data_net = number_of nets data_net;
-  output = number_of (with_net nets data_net) output;
-  control = option_map (number_of (with_net (with_net nets data_net) output)) control;
+  data_net = number_of_net nets data_net;
+  output = number_of_net (with_net nets data_net) output;
+  control = option_map (number_of_net (with_net (with_net nets data_net) output)) control;
   nets = with_net_if_some (with_net (with_net nets data_net) output) control;
 }
 
 -- the numbers of a latch in a copy
 abbrev pub latch_names : Scope → List Net → LatchText → NumberedLatch
-latch_names scope nets text = numbered_latch nets (net_of scope text.data_net)
-    (net_of scope text.output) (option_map (net_of scope) text.control)
+latch_names scope nets text = numbered_latch nets (net_of_name scope text.data_net)
+    (net_of_name scope text.output) (option_map (net_of_name scope) text.control)
 
 -- with a register
 abbrev pub with_register : ℕ → LatchText → NumberedLatch → Circuit → Circuit
@@ -107,7 +107,7 @@ with_part scope line (Outputs names) c =
 with_part scope line (Clock names) c =
     with_clocks scope.copy (numbered_names scope c.nets names) c
 with_part scope line (Table text) c =
-    with_table (net_of scope text.output) line text (numbered_names scope c.nets text.inputs) c
+    with_table (net_of_name scope text.output) line text (numbered_names scope c.nets text.inputs) c
 with_part scope line (Latch text) c =
     with_register line text (latch_names scope c.nets text) c
 with_part scope line (Subckt call) c = c

@@ -19,7 +19,7 @@ use Rattle.ds_flat.specs.declared.fault.FlatKind.{FlatKind}
 use Rattle.ds_flat.specs.declared.fault.FlatKind.TheVariants.{UnknownModel, Recursive}
 use Rattle.ds_flat.specs.declared.fault.FlatKind.TheVariants.{UnknownFormal, TooMany}
 use Rattle.ds_flat.specs.declared.fault.FlatFault.{FlatFault}
-use Rattle.ds_flat.specs.Net.{Binding, Scope, net_of, numbered_names}
+use Rattle.ds_flat.specs.Net.{Binding, Scope, net_of_name, numbered_names}
 use Rattle.ds_flat.specs.Command.{with_part}
 
 -- what was taken so far: the number of the last copy, and the design
@@ -104,7 +104,8 @@ abbrev pub bindings_in : Scope → List Pair → List Binding
 bindings_in scope [] = []
 bindings_in scope (pair ∷ pairs) =
     if nat_lt 0 (length pair.actual)
-    then record { formal = pair.formal; net = net_of scope pair.actual } ∷ bindings_in scope pairs
+    then record { formal = pair.formal; net = net_of_name scope pair.actual }
+    ∷ bindings_in scope pairs
     else bindings_in scope pairs
 
 -- the next copy, of a model: its frame, and the design with the nets of the use

@@ -13,7 +13,7 @@ use Rattle.ds_models.specs.declared.blif.Part.TheVariants.{Subckt}
 use Rattle.ds_models.specs.declared.blif.UseText.{UseText}
 use Rattle.ds_models.specs.declared.blif.Command.{Command}
 use Rattle.ds_models.specs.declared.blif.BlifModel.{BlifModel}
-use Rattle.ds_flat.specs.Net.{Scope, net_of, number_of, numbered}
+use Rattle.ds_flat.specs.Net.{Scope, net_of_name, number_of_net, numbered_nets}
 use Rattle.ds_flat.specs.Copies.{actuals_in, bindings_in, flat_of, model_named, use_in}
 
 -- a command in a copy
@@ -53,11 +53,11 @@ names_by (Subckt call) = actuals_in call.pairs
 
 -- its nets
 abbrev pub nets_by : InCopy → List Net
-nets_by placed = map (net_of placed.scope) (names_by placed.command.part)
+nets_by placed = map (net_of_name placed.scope) (names_by placed.command.part)
 
 -- the number of a name in a copy, among these nets
 abbrev pub number_by : List Net → Scope → List ℕ → ℕ
-number_by nets scope name = number_of nets (net_of scope name)
+number_by nets scope name = number_of_net nets (net_of_name scope name)
 
 -- the table that a command in a copy is, if it is one
 abbrev pub gate_by : List Net → Scope → ℕ → Part → List Gate
@@ -90,7 +90,7 @@ pub record IsOfCopies (main : BlifModel) (models : List BlifModel) (c : Circuit)
   pub placed : List InCopy
   pub last : ℕ
   pub copies : ComeTo models (record { copy = 0; bound = [] }) main.commands 0 placed last
-  pub nets : c.nets ≡ (numbered [] (flat_map nets_by placed)).nets
+  pub nets : c.nets ≡ (numbered_nets [] (flat_map nets_by placed)).nets
   pub once : AllPairs (λ a b. a ≢ b) c.nets
   pub tables : c.tables ≡ flat_map
       (λ p. gate_by c.nets p.scope p.command.line p.command.part) placed

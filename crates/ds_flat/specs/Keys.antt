@@ -33,5 +33,5 @@ with_binding scope formal net = record scope {
 }
 
 -- numbers that stand before those of further names
-abbrev pub behind : List ℕ → Numbered → Numbered
-behind numbers rest = record { numbers = numbers ++ rest.numbers; nets = rest.nets }
+abbrev pub numbered_behind : List ℕ → Numbered → Numbered
+numbered_behind numbers rest = record { numbers = numbers ++ rest.numbers; nets = rest.nets }

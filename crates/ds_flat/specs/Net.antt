@@ -21,8 +21,8 @@ net_in copy (binding ∷ bound) name = if bytes_eq name binding.formal then bind
     else net_in copy bound name
 
 -- the net of a name: the caller's net where the name is a connected formal, else the copy's own
-abbrev pub net_of : Scope → List ℕ → Net
-net_of scope name = net_in scope.copy scope.bound name
+abbrev pub net_of_name : Scope → List ℕ → Net
+net_of_name scope name = net_in scope.copy scope.bound name
 
 -- whether two nets are one: of one copy and one name
 abbrev pub same_net : Net → Net → Bool
@@ -33,8 +33,8 @@ abbrev pub has_net : List Net → Net → Bool
 has_net nets net = list_any (same_net net) nets
 
 -- the number of a net: its place, the number of the nets where it is not there yet
-abbrev pub number_of : List Net → Net → ℕ
-number_of nets net = position_or_len (same_net net) nets
+abbrev pub number_of_net : List Net → Net → ℕ
+number_of_net nets net = position_or_len (same_net net) nets
 
 -- with a net at the end where it is not there yet
 abbrev pub with_net : List Net → Net → List Net
@@ -50,10 +50,11 @@ abbrev pub put_first : ℕ → Numbered → Numbered
 put_first number rest = record { numbers = number ∷ rest.numbers; nets = rest.nets }
 
 -- nets are numbered from the left to the right; one that is not there yet gets the next number
-abbrev pub numbered : List Net → List Net → Numbered
-numbered nets [] = record { numbers = []; nets = nets }
-numbered nets (net ∷ more) = put_first (number_of nets net) (numbered (with_net nets net) more)
+abbrev pub numbered_nets : List Net → List Net → Numbered
+numbered_nets nets [] = record { numbers = []; nets = nets }
+numbered_nets nets (net ∷ more) = put_first (number_of_net nets net)
+    (numbered_nets (with_net nets net) more)
 
 -- the nets that names stand for, numbered
 abbrev pub numbered_names : Scope → List Net → List (List ℕ) → Numbered
-numbered_names scope nets names = numbered nets (map (net_of scope) names)
+numbered_names scope nets names = numbered_nets nets (map (net_of_name scope) names)

@@ -40,8 +40,8 @@ pub record Rest : Type 0 where
   pub flat : Flat
 
 -- what it comes to
-abbrev pub run : List BlifModel → Rest → Result Flat FlatFault
-run models rest = run_frames models rest.frames rest.flat
+abbrev pub run_rest : List BlifModel → Rest → Result Flat FlatFault
+run_rest models rest = run_frames models rest.frames rest.flat
 
 -- a refusal is this fault, unless memory was wanted
 abbrev pub IsFault : {A : Type 0} → FlatRefusal → Result A FlatFault → Type 0
@@ -59,9 +59,10 @@ AreWithin models [] = Unit {0}
 AreWithin models (place ∷ places) = (place < models) × AreWithin models places
 
 -- the commands of frames are well formed
-abbrev pub AreParts : List Frame → Type 0
-AreParts [] = Unit {0}
-AreParts (frame ∷ frames) = All (λ command. IsPart command.part) frame.commands × AreParts frames
+abbrev pub AreFrameParts : List Frame → Type 0
+AreFrameParts [] = Unit {0}
+AreFrameParts (frame ∷ frames) = All (λ command. IsPart command.part) frame.commands
+    × AreFrameParts frames
 
 -- the commands of models are well formed
 abbrev pub HaveParts : List BlifModel → Type 0
@@ -69,14 +70,14 @@ HaveParts models = All (λ model. All (λ command. IsPart command.part) model.co
 
 -- what holds of a rest: each frame but the outermost is a copy, copies are few, places are those of
 -- the frames' models, and commands and numbers are sound
-pub record IsKept (models : List BlifModel) (rest : Rest) : Type 0 where
+pub record IsRestKept (models : List BlifModel) (rest : Rest) : Type 0 where
   pub depth : length rest.frames ≤ rest.flat.copies + 1
   pub copies : rest.flat.copies ≤ 65536
   pub count : length rest.places ≡ length rest.frames
   pub same : rest.models ≡ length models
   pub known : rest.places ≡ map (place_of_name (names_of_models models)) (path_of rest.frames)
   pub within : AreWithin rest.models rest.places
-  pub parts : AreParts rest.frames
+  pub parts : AreFrameParts rest.frames
   pub in_range : IsInRange rest.flat.design
 
 -- a command of the innermost copy is taken, and then what is left
@@ -93,9 +94,9 @@ connected caller pair scope = record scope {
 }
 
 -- a refusal with this fault, unless memory was wanted
-abbrev pub IsRefusal : FlatRefusal → FlatFault → Type 0
-IsRefusal Memory fault = Unit {0}
-IsRefusal (Fault given) fault = given ≡ fault
+abbrev pub IsFlatRefusal : FlatRefusal → FlatFault → Type 0
+IsFlatRefusal Memory fault = Unit {0}
+IsFlatRefusal (Fault given) fault = given ≡ fault
 
 -- a use copies this model, whatever the design so far
 abbrev pub CopiesModel : List BlifModel → List (List ℕ) → Scope → ℕ → UseText → ℕ → BlifModel

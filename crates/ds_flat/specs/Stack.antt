@@ -41,12 +41,13 @@ put_on top below = record {
 }
 
 -- how often a place is among places
-abbrev pub times : ℕ → List ℕ → ℕ
-times k [] = 0
-times k (place ∷ places) = if place == k then times k places + 1 else times k places
+abbrev pub times_among : ℕ → List ℕ → ℕ
+times_among k [] = 0
+times_among k (place ∷ places) = if place == k then times_among k places + 1 else times_among k
+    places
 
 -- for each model how often its place is among these, each of which is the place of a model
 pub record AreCounts (counts places : List ℕ) : Type 0 where
   pub within : All (λ place. place < length counts) places
   pub counted : (k : ℕ) → k < length counts
-      → slice_index counts k ≡ times k places
+      → slice_index counts k ≡ times_among k places

@@ -6,7 +6,7 @@ use Rattle.ds_design.specs.InRange.{IsInRange}
 use Rattle.ds_flat.specs.declared.step.Turn.{Turn}
 use Rattle.ds_flat.specs.declared.step.Turn.TheVariants.{Next, Done}
 use Rattle.ds_flat.specs.Copies.{Flat, Frame, ◌>>=◌}
-use Rattle.ds_flat.specs.Run.{Rest, run, IsKept}
+use Rattle.ds_flat.specs.Run.{Rest, run_rest, IsRestKept}
 use Rattle.ds_flat.specs.Stack.{Stacked}
 
 -- how many commands models have
@@ -25,32 +25,32 @@ most_turns models rest =
     turns_of rest.frames + (65536 - rest.flat.copies) * (commands_of models + 1)
 
 -- the innermost copy goes on
-pub record GoesOn (models : List BlifModel) (next rest : Rest) : Type 0 where
-  pub same : run models next ≡ run models rest
-  pub kept : IsKept models next
+pub record CopyGoesOn (models : List BlifModel) (next rest : Rest) : Type 0 where
+  pub same : run_rest models next ≡ run_rest models rest
+  pub kept : IsRestKept models next
   pub less : most_turns models next < most_turns models rest
 
 -- all copies are taken
-pub record Ends (models : List BlifModel) (design : Circuit) (rest : Rest) : Type 0 where
-  pub same : run models rest ≡ Ok (record { copies = rest.flat.copies; design = design })
+pub record HasTakenAll (models : List BlifModel) (design : Circuit) (rest : Rest) : Type 0 where
+  pub same : run_rest models rest ≡ Ok (record { copies = rest.flat.copies; design = design })
   pub in_range : IsInRange design
 
 -- what a turn gives
 abbrev pub GivesTurn : List BlifModel → Turn → Rest → Type 0
-GivesTurn models (Next next) rest = GoesOn models next rest
-GivesTurn models (Done design) rest = Ends models design rest
+GivesTurn models (Next next) rest = CopyGoesOn models next rest
+GivesTurn models (Done design) rest = HasTakenAll models design rest
 
 -- what a turn gives where the innermost copy has no commands left: the copies that wait go on
-abbrev pub Leaves : Turn → Stacked → ℕ → Circuit → Type 0
-Leaves (Next next) below copies design = next ≡ record {
+abbrev pub LeavesCopies : Turn → Stacked → ℕ → Circuit → Type 0
+LeavesCopies (Next next) below copies design = next ≡ record {
   frames = below.frames;
   places = below.places;
   models = below.models;
   flat = record { copies = copies; design = design };
 }
-Leaves (Done given) below copies design = (below.frames ≡ []) × (given ≡ design)
+LeavesCopies (Done given) below copies design = (below.frames ≡ []) × (given ≡ design)
 
 -- what taking a rest to its end comes to
 pub record ComesTo (models : List BlifModel) (design : Circuit) (rest : Rest) : Type 0 where
-  pub same : (run models rest >>= λ (flat : Flat). Ok flat.design) ≡ Ok design
+  pub same : (run_rest models rest >>= λ (flat : Flat). Ok flat.design) ≡ Ok design
   pub in_range : IsInRange design

@@ -20,12 +20,12 @@ abbrev pub model : List ℕ → ℕ → List Command → BlifModel
 model name line commands = record { name = name; line = line; commands = commands }
 
 -- a pair of a formal and an actual
-abbrev pub pair : List ℕ → List ℕ → Pair
-pair formal actual = record { formal = formal; actual = actual }
+abbrev pub formal_pair : List ℕ → List ℕ → Pair
+formal_pair formal actual = record { formal = formal; actual = actual }
 
 -- a use of a model
-abbrev pub use_of : List ℕ → List Pair → Part
-use_of name pairs = Subckt (record { model = name; pairs = pairs })
+abbrev pub use_part : List ℕ → List Pair → Part
+use_part name pairs = Subckt (record { model = name; pairs = pairs })
 
 -- a net of a copy
 abbrev pub net : ℕ → List ℕ → Net
@@ -54,10 +54,10 @@ inv = model (codes "inv") 7 (command 8 (Inputs (codes "i" ∷ []))
 abbrev pub top : List Pair → BlifModel
 top pairs = model (codes "top") 1 (command 2 (Inputs (codes "a" ∷ []))
     ∷ command 3 (Outputs (codes "y" ∷ []))
-    ∷ command 4 (use_of (codes "inv") (pair (codes "i") (codes "a")
-    ∷ pair (codes "o") (codes "t") ∷ pairs))
-    ∷ command 5 (use_of (codes "inv") (pair (codes "i") (codes "t")
-    ∷ pair (codes "o") (codes "y") ∷ [])) ∷ [])
+    ∷ command 4 (use_part (codes "inv") (formal_pair (codes "i") (codes "a")
+    ∷ formal_pair (codes "o") (codes "t") ∷ pairs))
+    ∷ command 5 (use_part (codes "inv") (formal_pair (codes "i") (codes "t")
+    ∷ formal_pair (codes "o") (codes "y") ∷ [])) ∷ [])
 
 -- two inverters in a chain
 pub two_inverters : flat_of (top [] ∷ inv ∷ []) ≡ Ok (record {
@@ -73,13 +73,13 @@ unfolding most_depth
 two_inverters = refl
 
 -- a formal that the model lacks
-pub unknown_formal_z : flat_of (top (pair (codes "z") (codes "a") ∷ []) ∷ inv ∷ [])
+pub unknown_formal_z : flat_of (top (formal_pair (codes "z") (codes "a") ∷ []) ∷ inv ∷ [])
     ≡ Err (record { line = 4; kind = UnknownFormal (codes "z") })
 unfolding most_depth
 unknown_formal_z = refl
 
 -- the same where its actual is empty
-pub unknown_formal_empty : flat_of (top (pair (codes "z") [] ∷ []) ∷ inv ∷ [])
+pub unknown_formal_empty : flat_of (top (formal_pair (codes "z") [] ∷ []) ∷ inv ∷ [])
     ≡ Err (record { line = 4; kind = UnknownFormal (codes "z") })
 unfolding most_depth
 unknown_formal_empty = refl
@@ -91,22 +91,22 @@ unfolding most_depth
 unknown_model_inv = refl
 
 -- a model that uses itself
-pub recursive_loop : flat_of (model (codes "loop") 1 (command 4 (use_of (codes "loop") [])
+pub recursive_loop : flat_of (model (codes "loop") 1 (command 4 (use_part (codes "loop") [])
     ∷ []) ∷ []) ≡ Err (record { line = 4; kind = Recursive (codes "loop" ∷ []) })
 unfolding most_depth
 recursive_loop = refl
 
 -- two models that use each other, the first by way of a third
-pub recursive_pq : flat_of (model (codes "m") 1 (command 2 (use_of (codes "p") []) ∷ [])
-    ∷ model (codes "p") 4 (command 5 (use_of (codes "q") []) ∷ [])
-    ∷ model (codes "q") 7 (command 8 (use_of (codes "p") []) ∷ []) ∷ [])
+pub recursive_pq : flat_of (model (codes "m") 1 (command 2 (use_part (codes "p") []) ∷ [])
+    ∷ model (codes "p") 4 (command 5 (use_part (codes "q") []) ∷ [])
+    ∷ model (codes "q") 7 (command 8 (use_part (codes "p") []) ∷ []) ∷ [])
     ≡ Err (record { line = 8; kind = Recursive (codes "p" ∷ codes "q" ∷ []) })
 unfolding most_depth
 recursive_pq = refl
 
 -- an unconnected formal is a net of its copy, and is numbered behind the nets of the use
-pub unconnected : flat_of (model (codes "m") 1 (command 2 (use_of (codes "inv")
-    (pair (codes "o") (codes "y") ∷ pair (codes "i") [] ∷ [])) ∷ []) ∷ inv ∷ [])
+pub unconnected : flat_of (model (codes "m") 1 (command 2 (use_part (codes "inv")
+    (formal_pair (codes "o") (codes "y") ∷ formal_pair (codes "i") [] ∷ [])) ∷ []) ∷ inv ∷ [])
     ≡ Ok (record {
       name = codes "m";
       nets = net 0 (codes "y") ∷ net 1 (codes "i") ∷ [];

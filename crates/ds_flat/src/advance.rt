@@ -1,7 +1,7 @@
 //! A turn of the copies that are being taken.
 ghost use Rattle.std.specs.Prelude.{MatchResult};
-ghost use Rattle.ds_flat.specs.Run.{run, HaveParts, IsKept, IsFault};
-ghost use Rattle.ds_flat.specs.Turn.{GivesTurn, Leaves};
+ghost use Rattle.ds_flat.specs.Run.{run_rest, HaveParts, IsRestKept, IsFault};
+ghost use Rattle.ds_flat.specs.Turn.{GivesTurn, LeavesCopies};
 
 use crate::draft::Draft;
 use crate::fault::FlatRefusal;
@@ -16,10 +16,10 @@ pub fn advance<'b, 'm>(
     library: &Library<'b, 'm>,
     state: State<'b, 'm>,
 ) -> Result<Turn<'b, 'm>, FlatRefusal>
-    requires kept { IsKept library.now state }
+    requires kept { IsRestKept library.now state }
     requires parts { HaveParts library.now }
     ensures { MatchResult result (λ turn. GivesTurn library.now turn state.entry)
-        (λ e. IsFault e (run library.now state.entry)) }
+        (λ e. IsFault e (run_rest library.now state.entry)) }
 {
     let State {
         top,
@@ -46,7 +46,7 @@ pub fn advance<'b, 'm>(
 
 // A copy without commands is left.
 fn left<'b, 'm>(below: Stack<'b, 'm>, copies: u32, draft: Draft<'m>) -> Turn<'b, 'm>
-    ensures { Leaves result below.entry copies draft.entry }
+    ensures { LeavesCopies result below.entry copies draft.entry }
 {
     match below.popped() {
         Some((top, below)) => Turn::Next(State {

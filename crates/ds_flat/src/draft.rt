@@ -2,7 +2,7 @@
 ghost use Rattle.std.specs.Prelude.{◌≡◌, ◌≢◌, OnOk, IfOk, IfErr, AllPairs};
 ghost use Rattle.ds_design.specs.Circuit.{Circuit};
 ghost use Rattle.ds_models.specs.Source.{IsPart, IsTableText};
-ghost use Rattle.ds_flat.specs.Net.{numbered_names, net_of, number_of, with_net};
+ghost use Rattle.ds_flat.specs.Net.{numbered_names, net_of_name, number_of_net, with_net};
 ghost use Rattle.ds_flat.specs.Command.{with_inputs, with_outputs, with_clocks, with_part};
 ghost use Rattle.ds_flat.specs.Command.{with_table, with_register, latch_names};
 ghost use Rattle.ds_flat.specs.Copies.{empty_design, passed_limit as limit_of};
@@ -194,11 +194,11 @@ impl<'m> Draft<'m> {
         text: &'m TableText<'m>,
     ) -> Result<(), Stop>
         requires { IsTableText text.now }
-        ensures ok { OnOk result (self.new ≡ with_table (net_of scope.now text.now.output) line
+        ensures ok { OnOk result (self.new ≡ with_table (net_of_name scope.now text.now.output) line
             text.now (numbered_names scope.now self.old.nets text.now.inputs) self.old) }
         ensures fault { IfErr result (λ e. IsStop e (with_net
             (numbered_names scope.now self.old.nets text.now.inputs).nets
-            (net_of scope.now text.now.output))) }
+            (net_of_name scope.now text.now.output))) }
     {
         match numbers(alloc, &mut self.nets, scope, &text.inputs) {
             Ok(inputs) => match number(&mut self.nets, scope, &text.output) {

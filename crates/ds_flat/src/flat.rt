@@ -3,7 +3,7 @@ ghost use Rattle.std.specs.Prelude.{◌≡◌, Ok, length, IfOk, MatchResult, sl
 ghost use Rattle.ds_models.specs.Source.{IsBlif};
 ghost use Rattle.ds_design.specs.InRange.{IsInRange};
 ghost use Rattle.ds_flat.specs.Copies.{flat_of};
-ghost use Rattle.ds_flat.specs.Run.{IsFault, IsKept, HaveParts, run};
+ghost use Rattle.ds_flat.specs.Run.{IsFault, IsRestKept, HaveParts, run_rest};
 ghost use Rattle.ds_flat.specs.Turn.{ComesTo};
 ghost use Rattle.ds_flat.specs.Text.{Flattens};
 
@@ -100,10 +100,10 @@ fn all_taken<'b, 'm>(
     library: &Library<'b, 'm>,
     state: State<'b, 'm>,
 ) -> Result<Draft<'m>, FlatRefusal>
-    requires kept { IsKept library.now state }
+    requires kept { IsRestKept library.now state }
     requires parts { HaveParts library.now }
     ensures { MatchResult result (λ d. ComesTo library.now d state.entry)
-        (λ e. IsFault e (run library.now state.entry)) }
+        (λ e. IsFault e (run_rest library.now state.entry)) }
 {
     let mut state = state;
     'turns: loop {

@@ -7,7 +7,7 @@ ghost use Rattle.std.specs.Cmp.{unsigned_Decides};
 ghost use Rattle.std.proofs.lemmas.Slice.Eq.{bytes_eq-Decides};
 ghost use Rattle.ds_base.specs.Limit.{most_of};
 ghost use Rattle.ds_base.specs.declared.number.Limit.TheVariants.{Nets};
-ghost use Rattle.ds_flat.specs.Net.{has_net, number_of, with_net};
+ghost use Rattle.ds_flat.specs.Net.{has_net, number_of_net, with_net};
 ghost use Rattle.ds_flat.specs.Keys.{net_key, IsStop};
 
 use crate::fault::Stop;
@@ -81,7 +81,7 @@ impl<'m> NetList<'m> {
 
     /// The number of a net, which is added where it is not there yet.
     pub fn number(&mut self, net: NetKey<'m>) -> Result<NetId, Stop>
-        ensures number { IfOk result (λ n. n ≡ number_of self.old (net_key net.entry)) }
+        ensures number { IfOk result (λ n. n ≡ number_of_net self.old (net_key net.entry)) }
         ensures ok { OnOk result (self.new ≡ with_net self.old (net_key net.entry)) }
         ensures fault { IfErr result (λ e. IsStop e (with_net self.old (net_key net.entry))) }
     {
@@ -94,7 +94,7 @@ impl<'m> NetList<'m> {
     // The number of a net that is not there yet.
     fn added(&mut self, net: NetKey<'m>) -> Result<NetId, Stop>
         requires new { has_net self.old (net_key net) ≡ false }
-        ensures number { IfOk result (λ n. n ≡ number_of self.old (net_key net.entry)) }
+        ensures number { IfOk result (λ n. n ≡ number_of_net self.old (net_key net.entry)) }
         ensures ok { OnOk result (self.new ≡ with_net self.old (net_key net.entry)) }
         ensures fault { IfErr result (λ e. IsStop e (with_net self.old (net_key net.entry))) }
     {

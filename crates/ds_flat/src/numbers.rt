@@ -1,6 +1,6 @@
 //! The numbers of names in a copy.
 ghost use Rattle.std.specs.Prelude.{◌≡◌, length, IfOk, IfErr, OnOk};
-ghost use Rattle.ds_flat.specs.Net.{net_of, number_of, with_net, numbered_names};
+ghost use Rattle.ds_flat.specs.Net.{net_of_name, number_of_net, with_net, numbered_names};
 ghost use Rattle.ds_flat.specs.Keys.{IsStop};
 
 use crate::fault::Stop;
@@ -12,18 +12,22 @@ use std::alloc::Global;
 
 // The number of a name.
 fn net_number<'m>(nets: &mut NetList<'m>, scope: &Scope<'m>, name: &'m [u8]) -> Result<NetId, Stop>
-    ensures number { IfOk result (λ n. n ≡ number_of nets.old (net_of scope.now name.now)) }
-    ensures ok { OnOk result (nets.new ≡ with_net nets.old (net_of scope.now name.now)) }
-    ensures fault { IfErr result (λ e. IsStop e (with_net nets.old (net_of scope.now name.now))) }
+    ensures number { IfOk result (λ n. n ≡ number_of_net nets.old
+        (net_of_name scope.now name.now)) }
+    ensures ok { OnOk result (nets.new ≡ with_net nets.old (net_of_name scope.now name.now)) }
+    ensures fault { IfErr result (λ e. IsStop e
+        (with_net nets.old (net_of_name scope.now name.now))) }
 {
     nets.number(scope.net(name))
 }
 
 /// The number of a name.
 pub fn number<'m>(nets: &mut NetList<'m>, scope: &Scope<'m>, name: &Word<'m>) -> Result<NetId, Stop>
-    ensures number { IfOk result (λ n. n ≡ number_of nets.old (net_of scope.now name.now)) }
-    ensures ok { OnOk result (nets.new ≡ with_net nets.old (net_of scope.now name.now)) }
-    ensures fault { IfErr result (λ e. IsStop e (with_net nets.old (net_of scope.now name.now))) }
+    ensures number { IfOk result (λ n. n ≡ number_of_net nets.old
+        (net_of_name scope.now name.now)) }
+    ensures ok { OnOk result (nets.new ≡ with_net nets.old (net_of_name scope.now name.now)) }
+    ensures fault { IfErr result (λ e. IsStop e
+        (with_net nets.old (net_of_name scope.now name.now))) }
 {
     net_number(nets, scope, name.get())
 }

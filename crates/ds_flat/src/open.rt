@@ -11,7 +11,7 @@ ghost use Rattle.ds_flat.specs.declared.fault.FlatKind.TheVariants.{Recursive, T
 ghost use Rattle.ds_flat.specs.Copies.{path_from as path_from_of, opened_within, next_copy};
 ghost use Rattle.ds_flat.specs.Interface.{names_of_models, Finds};
 ghost use Rattle.ds_flat.specs.Stack.{path_of};
-ghost use Rattle.ds_flat.specs.Run.{IsFault, IsRefusal, CopiesModel, RefusesUse, opened_on};
+ghost use Rattle.ds_flat.specs.Run.{IsFault, IsFlatRefusal, CopiesModel, RefusesUse, opened_on};
 ghost use Rattle.ds_flat.specs.Run.{refusal_of, IsCopyOf};
 
 use crate::connect::connect;
@@ -33,7 +33,7 @@ fn name_of(alloc: Global, name: &Word<'_>) -> Result<Name, OutOfMemory>
 }
 
 fn unknown_model(alloc: Global, line: u64, name: &Word<'_>) -> FlatRefusal
-    ensures { IsRefusal result (record { line = line; kind = UnknownModel name.now }) }
+    ensures { IsFlatRefusal result (record { line = line; kind = UnknownModel name.now }) }
 {
     match name_of(alloc, name) {
         Ok(name) => FlatRefusal::Fault(FlatFault {
@@ -45,7 +45,7 @@ fn unknown_model(alloc: Global, line: u64, name: &Word<'_>) -> FlatRefusal
 }
 
 fn unknown_formal_of(alloc: Global, line: u64, name: &Word<'_>) -> FlatRefusal
-    ensures { IsRefusal result (record { line = line; kind = UnknownFormal name.now }) }
+    ensures { IsFlatRefusal result (record { line = line; kind = UnknownFormal name.now }) }
 {
     match name_of(alloc, name) {
         Ok(name) => FlatRefusal::Fault(FlatFault {
@@ -58,7 +58,7 @@ fn unknown_formal_of(alloc: Global, line: u64, name: &Word<'_>) -> FlatRefusal
 
 /// The refusal where a limit is passed.
 pub fn too_many(line: u64, limit: Limit) -> FlatRefusal
-    ensures { IsRefusal result (record { line = line; kind = TooMany limit }) }
+    ensures { IsFlatRefusal result (record { line = line; kind = TooMany limit }) }
 {
     FlatRefusal::Fault(FlatFault {
         line,
@@ -100,7 +100,7 @@ fn recursive(
     top: &Open<'_, '_>,
     below: &Stack<'_, '_>,
 ) -> FlatRefusal
-    ensures { IsRefusal result (record {
+    ensures { IsFlatRefusal result (record {
       line = line;
       kind = Recursive (path_from_of name.now (top.now.name.now ∷ path_of below.now.frames));
     }) }

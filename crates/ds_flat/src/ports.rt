@@ -1,6 +1,6 @@
 //! The nets of one kind of the main model's interface.
 ghost use Rattle.std.specs.Prelude.{◌≡◌, ◌≢◌, [], OnOk, IfOk, AllPairs};
-ghost use Rattle.ds_flat.specs.Command.{with_number, with_numbers, with_ports};
+ghost use Rattle.ds_flat.specs.Command.{with_known_number, with_numbers, with_ports};
 
 use ds_base::{NetId, OutOfMemory, Seq};
 use indexmap::IndexSet;
@@ -47,7 +47,7 @@ impl Ports {
     }
 
     fn insert(&mut self, number: NetId) -> Result<(), OutOfMemory>
-        ensures { OnOk result (self.new ≡ with_number self.old number) }
+        ensures { OnOk result (self.new ≡ with_known_number self.old number) }
     {
         self.numbers.insert(number.number())?;
         Ok(())

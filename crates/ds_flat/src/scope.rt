@@ -1,6 +1,6 @@
 //! A copy, and what its names stand for.
 ghost use Rattle.std.specs.Prelude.{◌≡◌, ◌++◌, ◌∷◌, [], false, OnOk};
-ghost use Rattle.ds_flat.specs.Net.{net_of};
+ghost use Rattle.ds_flat.specs.Net.{net_of_name};
 ghost use Rattle.ds_flat.specs.Keys.{net_key, has_formal, with_binding};
 
 use crate::nets::NetKey;
@@ -51,7 +51,7 @@ impl<'m> Scope<'m> {
 
     /// The net of a name.
     pub fn net(&self, name: &'m [u8]) -> NetKey<'m>
-        ensures { net_key result ≡ net_of self.now name.now }
+        ensures { net_key result ≡ net_of_name self.now name.now }
     {
         // A map makes the hash of what it is asked for, though it has no entries.
         if self.bound.len() == 0 {

@@ -3,7 +3,7 @@ ghost use Rattle.std.specs.Prelude.{◌≡◌, ◌≤◌, ℕ, Ok, IfOk, MatchRe
 ghost use Rattle.ds_models.specs.Source.{IsPart, IsUseText};
 ghost use Rattle.ds_flat.specs.Command.{with_part};
 ghost use Rattle.ds_flat.specs.Copies.{flat_within, use_in as use_of_part};
-ghost use Rattle.ds_flat.specs.Run.{run, after_take, HaveParts, IsKept, IsFault};
+ghost use Rattle.ds_flat.specs.Run.{run_rest, after_take, HaveParts, IsRestKept, IsFault};
 ghost use Rattle.ds_flat.specs.Turn.{most_turns};
 ghost use Rattle.ds_flat.specs.Use.{after_use};
 
@@ -92,14 +92,14 @@ fn take_use<'b, 'm>(
     line: u64,
     call: &'m UseText<'m>,
 ) -> Result<State<'b, 'm>, FlatRefusal>
-    requires kept { IsKept library.now state }
+    requires kept { IsRestKept library.now state }
     requires parts { HaveParts library.now }
     requires call { IsUseText call.now }
-    ensures kept { IfOk result (λ s. IsKept library.now s) }
+    ensures kept { IfOk result (λ s. IsRestKept library.now s) }
     ensures less { IfOk result
         (λ s. most_turns library.now s ≤ most_turns library.now state.entry) }
     ensures value { MatchResult result
-        (λ s. run library.now s
+        (λ s. run_rest library.now s
         ≡ after_use library.now state.entry.frames state.entry.flat line call.entry.now)
         (λ e. IsFault e
         (after_use library.now state.entry.frames state.entry.flat line call.entry.now)) }
@@ -134,14 +134,14 @@ pub fn take<'b, 'm>(
     state: State<'b, 'm>,
     command: &'m Command<'m>,
 ) -> Result<State<'b, 'm>, FlatRefusal>
-    requires kept { IsKept library.now state }
+    requires kept { IsRestKept library.now state }
     requires parts { HaveParts library.now }
     requires part { IsPart command.now.part }
-    ensures kept { IfOk result (λ s. IsKept library.now s) }
+    ensures kept { IfOk result (λ s. IsRestKept library.now s) }
     ensures less { IfOk result
         (λ s. most_turns library.now s ≤ most_turns library.now state.entry) }
     ensures value { MatchResult result
-        (λ s. run library.now s
+        (λ s. run_rest library.now s
         ≡ after_take library.now state.entry.frames state.entry.flat command.entry.now)
         (λ e. IsFault e
         (after_take library.now state.entry.frames state.entry.flat command.entry.now)) }

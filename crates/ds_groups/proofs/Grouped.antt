@@ -24,7 +24,7 @@ use Rattle.ds_cover.specs.Bank.{Driven}
 use Rattle.ds_design.specs.Banked.{IsBankOf}
 use Rattle.ds_groups.specs.Groups.{AreGroupsOf, Grouping, IsGrouped, group_of, tables_in}
 use Rattle.ds_groups.specs.Lists.{AreFound, AreLists, IsListOf}
-use Rattle.ds_groups.specs.Members.{AreMembers, with_number}
+use Rattle.ds_groups.specs.Members.{AreMembers, tables_numbered}
 use Rattle.ds_groups.specs.Lacking.{AreByLacking, cones_without}
 use Rattle.ds_groups.proofs.Flat.{filter_has, flat_has, has_filter, has_flat, nothing, pairs_flat}
 use Rattle.ds_groups.proofs.Lacks.{count_same, has_true, lacks_false}
@@ -75,7 +75,7 @@ pub members_within : (c : Circuit) (order : List ℕ) → IsTableOrder c order �
     → All (λ these. All (λ k. k < length c.tables) these) groups
 members_within c order ordered numbers count groups are a d inside =
     let size : length groups ≡ count = are.one_each in
-    let these : get_or groups a d ≡ with_number order numbers a =
+    let these : get_or groups a d ≡ tables_numbered order numbers a =
     get_or-default groups a d [] inside ∙ are.each a (omega (inside, size, arith)) in
     subst (λ (xs : List ℕ). All (λ k. k < length c.tables) xs) (sym these)
     (All-filter (λ k. get_or numbers k 0 == a) (λ k. k < length c.tables) order ordered.places)

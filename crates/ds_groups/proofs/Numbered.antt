@@ -9,7 +9,7 @@ use Rattle.std.proofs.lemmas.List.{get_or-set_other, get_or-set_same, get_or_app
 use Rattle.std.proofs.lemmas.List.Elements.{Contains-append_left, Contains-push_cases}
 use Rattle.std.proofs.lemmas.List.Quantifiers.{Any-push}
 use Rattle.ds_base.proofs.Lists.{get_or-default}
-use Rattle.ds_groups.specs.Numbers.{AreRenumbered, AreOneLess, ArePlaces}
+use Rattle.ds_groups.specs.Numbers.{AreRenumbered, AreOneLess, AreClassPlaces}
 use Rattle.ds_groups.proofs.Front.{any_left}
 
 -- what rises along a list rises along its front, up to what comes next
@@ -29,7 +29,7 @@ last_above n xs x a up (i, inside, is) =
     subst (λ (m : ℕ). n m ≤ n x) at_i
     (subst (λ (m : ℕ). n (get_or (xs ++ x ∷ []) i a) ≤ n m) at_x (up i (length xs) a (omega (inside, arith)) (omega (long, arith))))
 
-module _ (done classes : List ℕ) (count : ℕ) (places : List ℕ) (most : ℕ) (so_far : ArePlaces done classes count places most) (table : ℕ) where
+module _ (done classes : List ℕ) (count : ℕ) (places : List ℕ) (most : ℕ) (so_far : AreClassPlaces done classes count places most) (table : ℕ) where
   abbrev class : ℕ
   class = get_or classes table 0
 
@@ -53,7 +53,7 @@ module _ (done classes : List ℕ) (count : ℕ) (places : List ℕ) (most : ℕ
           (y, there, here, same y x (Contains-append_left done (table ∷ []) y there) has here))
     ]
 
-    pub places_old : ArePlaces more classes count places most
+    pub places_old : AreClassPlaces more classes count places most
     places_old = record {
       long = so_far.long;
       low = so_far.low;
@@ -117,7 +117,7 @@ module _ (done classes : List ℕ) (count : ℕ) (places : List ℕ) (most : ℕ
       ]
     ]
 
-    pub places_new : ArePlaces more classes count next (most + 1)
+    pub places_new : AreClassPlaces more classes count next (most + 1)
     places_new = record {
       long = length-set places class (most + 1) ∙ so_far.long;
       low = λ p. elim (cases_eq p class) [
@@ -154,7 +154,7 @@ module _ (done classes : List ℕ) (count : ℕ) (places : List ℕ) (most : ℕ
     }
 
 -- numbers by places
-pub numbers_by : (order classes : List ℕ) (count : ℕ) (places : List ℕ) (most : ℕ) (numbers : List ℕ) → ArePlaces order classes count places most
+pub numbers_by : (order classes : List ℕ) (count : ℕ) (places : List ℕ) (most : ℕ) (numbers : List ℕ) → AreClassPlaces order classes count places most
     → AreOneLess classes places numbers → All (λ k. k < length classes) order → ((k : ℕ) → k < length classes → Contains order k) → AreRenumbered order classes most numbers
 numbers_by order classes count places most numbers are less within all =
     let one : (k : ℕ) → k < length classes → get_or numbers k 0 + 1 ≡ get_or places (get_or classes k 0) 0 = less.each in

@@ -1,12 +1,15 @@
 -- The slots that groups read, found one by one.
 use Rattle.std.proofs.Common.{◌≡◌, ◌∙◌, ℕ, ◌+◌, ◌<◌, ◌≤◌, List, [], ◌∷◌, ◌++◌, length, get_or}
-use Rattle.std.proofs.Common.{map, sym, ap, subst, arith, inl, inr, length-append, zero, suc, refl}
-use Rattle.std.proofs.Common.{Err, Ok, Result, replicate}
+use Rattle.std.proofs.Common.{map, sym, ap, subst, arith, inl, inr, length-append}
+use Rattle.std.proofs.Common.{Err, Ok, Result}
+use Rattle.std.specs.List.{range_with_len}
+use Rattle.std.proofs.lemmas.List.FromFn.{get_or-map-range_with_len, length-map-range_with_len}
+use Rattle.ds_base.proofs.Lists.{Contains-head}
 use Rattle.std.specs.Prelude.{All, Contains, IfOk}
 use Rattle.std.proofs.Math.ListN.{set}
 use Rattle.std.proofs.lemmas.Bool.{cases_eq, cases_lt}
 use Rattle.std.proofs.lemmas.List.{get_or-set_other, get_or_append_left, get_or_past, get_or_push}
-use Rattle.std.proofs.lemmas.List.{length-map, length-replicate, length-set}
+use Rattle.std.proofs.lemmas.List.{length-map, length-set}
 use Rattle.std.proofs.lemmas.List.Elements.{All-contains, All-nil, All-push, All-set, All-weaker}
 use Rattle.std.proofs.lemmas.List.Elements.{Contains-append_left, Contains-push}
 use Rattle.std.proofs.lemmas.List.Elements.{Contains-push_cases}
@@ -15,7 +18,7 @@ use Rattle.ds_design.specs.InRange.{IsInRange}
 use Rattle.ds_design.specs.declared.design.Gate.{Gate}
 use Rattle.ds_settle.specs.Cone.{nets_of_tables}
 use Rattle.ds_groups.specs.Homes.{AreNetHomes}
-use Rattle.ds_groups.specs.Reads.{IsInSlots}
+use Rattle.ds_groups.specs.Reads.{IsInSlots, ReadFrom}
 use Rattle.ds_groups.specs.Seen.{AreAt, AreReadBy, AreReadsOf, AreSearched, AreSeen, IsReadAt, IsReadBy}
 
 -- a home is still found where more is
@@ -106,6 +109,19 @@ reads_more c homes slots n groups reads list are step =
     }
 
 -- once all groups have their lists
+one_below : (a most : ℕ) → a < most → All (λ s. s < most) (a ∷ [])
+one_below a most inside k d low = elim (cases_eq k 0) [
+  | inl e ↦ subst (λ (n : ℕ). get_or (a ∷ []) n d < most) (sym e) inside
+  | inr ne ↦ absurd (let h : k < 1 = low in omega (h, ne, arith))
+]
+
+-- where there is no group, no table reads anything
+no_tables : (c : Circuit) (groups slots : List (List ℕ)) (a : ℕ) (list : List ℕ) → length groups ≤ a
+    → ReadFrom c slots a list (get_or groups a [])
+no_tables c groups slots a list past k d has =
+    absurd (let (i, low, is) = subst (λ (xs : List ℕ). Contains xs k) (get_or_past groups a [] past) has in
+    let h : i < 0 = low in omega (h, arith))
+
 module _ (c : Circuit) (in_range : IsInRange c) (others groups reads : List (List ℕ)) (homes : List ℕ)
     (within : All (λ these. All (λ k. k < length c.tables) these) groups)
     (are_homes : AreNetHomes (map (nets_of_tables c) groups ++ others) (length c.nets) homes)
@@ -132,13 +148,13 @@ module _ (c : Circuit) (in_range : IsInRange c) (others groups reads : List (Lis
         All-contains (λ s. s < length groups + length others) list (get_or homes net 0) by.within has in
         (get_or homes net 0, inr has, are_homes.has net low (omega (near, many, arith)))
 
-    all_found : 0 < length list → (k : ℕ) (d : Gate) → Contains (get_or groups a []) k
+    all_found : ¬ Contains list a → (k : ℕ) (d : Gate) → Contains (get_or groups a []) k
         → All (IsInSlots slots a list) (get_or c.tables k d).table.inputs
-    all_found some k d has i e low =
+    all_found free k d has i e low =
         let table : k < length c.tables =
         All-contains (λ k. k < length c.tables) (get_or groups a []) k (within a [] inside) has in
         let nets : All (λ net. net < length c.nets) (get_or c.tables k d).table.inputs = (in_range.tables k d table).0 in
-        found (get_or (get_or c.tables k d).table.inputs i e) (nets i e low) (by.each some k d has i e low)
+        found (get_or (get_or c.tables k d).table.inputs i e) (nets i e low) (by.each free k d has i e low)
 
   pub are_reads : AreReadsOf c others groups reads
   are_reads bank lists = record {
@@ -150,13 +166,9 @@ module _ (c : Circuit) (in_range : IsInRange c) (others groups reads : List (Lis
           subst (λ (xs : List ℕ). All (λ s. s < length groups + length others) xs)
           (sym (get_or_past reads a [] (omega (past, size, arith)))) (All-nil (λ s. s < length groups + length others)))
     ];
-    each = λ a some. elim (cases_lt a (length groups)) [
-      | inl inside ↦ all_found a inside some
-      | inr past ↦
-          (let size : length reads ≡ length groups = are.one_each in
-          let none : length (get_or reads a []) ≡ 0 =
-          ap (λ (xs : List ℕ). length xs) (get_or_past reads a [] (omega (past, size, arith))) in
-          absurd (omega (some, none, arith)))
+    each = λ a free. elim (cases_lt a (length groups)) [
+      | inl inside ↦ all_found a inside free
+      | inr past ↦ no_tables c groups slots a (get_or reads a []) past
     ];
   }
 
@@ -165,20 +177,40 @@ pub if_ok : {T E : Type 0} (r : Result T E) (P Q : T → Type 0) → ((x : T) �
 if_ok (Ok x) P Q so is = so x is
 if_ok (Err e) P Q so is = tt
 
-empty_at : (n a : ℕ) → get_or {A = List ℕ} (replicate n []) a [] ≡ []
-empty_at zero a = refl
-empty_at (suc n) zero = refl
-empty_at (suc n) (suc a) = empty_at n a
+-- a list of the own slot says nothing
+pub own_by : (c : Circuit) (homes : List ℕ) (slots own : ℕ) (tables list : List ℕ) → own < slots
+    → list ≡ own ∷ [] → IsReadBy c homes slots own tables list
+own_by c homes slots own tables these inside is = record {
+  within = subst (λ (xs : List ℕ). All (λ s. s < slots) xs) (sym is) (one_below own slots inside);
+  each = λ free. absurd (free (subst (λ (xs : List ℕ). Contains xs own) (sym is) (Contains-head own [])));
+}
 
--- empty lists say nothing
-pub none_read : (c : Circuit) (others groups reads : List (List ℕ)) → reads ≡ replicate (length groups) []
+-- lists of own slots say nothing
+pub own_read : (c : Circuit) (others groups reads : List (List ℕ))
+    → reads ≡ map (λ own. own ∷ []) (range_with_len 0 (length groups))
     → AreReadsOf c others groups reads
-none_read c others groups reads is bank lists = record {
-  one_each = ap (λ (xs : List (List ℕ)). length xs) is ∙ length-replicate (length groups) [];
-  within = λ a. subst (λ (xs : List ℕ). All (λ s. s < length groups + length others) xs) (sym (empty a))
-      (All-nil (λ s. s < length groups + length others));
-  each = λ a some. absurd (let none : length (get_or reads a []) ≡ 0 = ap (λ (xs : List ℕ). length xs) (empty a) in omega (some, none, arith));
+own_read c others groups reads is bank lists = record {
+  one_each = ap (λ (xs : List (List ℕ)). length xs) is ∙ size;
+  within = λ a. elim (cases_lt a count) [
+    | inl inside ↦ subst (λ (xs : List ℕ). All (λ s. s < count + length others) xs) (sym (here a inside))
+        (one_below a (count + length others) (omega (inside, arith)))
+    | inr past ↦ subst (λ (xs : List ℕ). All (λ s. s < count + length others) xs)
+        (sym (ap (λ (xs : List (List ℕ)). get_or xs a []) is
+        ∙ get_or_past (map (λ own. own ∷ []) (range_with_len 0 count)) a [] (omega (past, size, arith))))
+        (All-nil (λ s. s < count + length others))
+  ];
+  each = λ a free. elim (cases_lt a count) [
+    | inl inside ↦ absurd (free (subst (λ (xs : List ℕ). Contains xs a) (sym (here a inside)) (Contains-head a [])))
+    | inr past ↦ no_tables c groups (map (nets_of_tables c) groups ++ others) a (get_or reads a []) past
+  ];
 }
   where
-    empty : (a : ℕ) → get_or reads a [] ≡ []
-    empty a = ap (λ (xs : List (List ℕ)). get_or xs a []) is ∙ empty_at (length groups) a
+    count : ℕ
+    count = length groups
+
+    size : length (map (λ own. own ∷ []) (range_with_len 0 count)) ≡ count
+    size = length-map-range_with_len (λ own. own ∷ []) 0 count
+
+    here : (a : ℕ) → a < count → get_or reads a [] ≡ a ∷ []
+    here a inside = ap (λ (xs : List (List ℕ)). get_or xs a []) is
+        ∙ get_or-map-range_with_len (λ own. own ∷ []) 0 count a a [] inside (omega arith)

@@ -22,7 +22,7 @@ pub record AreRenumbered (order classes : List ℕ) (count : ℕ) (numbers : Lis
 
 -- places of the classes of some tables, from 1 on in the order in which these come: no two have the
 -- same, and those that have not come have 0
-pub record ArePlaces (order classes : List ℕ) (count : ℕ) (places : List ℕ) (most : ℕ) : Type 0
+pub record AreClassPlaces (order classes : List ℕ) (count : ℕ) (places : List ℕ) (most : ℕ) : Type 0
   where
     pub long : length places ≡ count
     pub low : (p : ℕ) → slice_index places p ≤ most

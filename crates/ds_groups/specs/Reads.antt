@@ -20,11 +20,11 @@ abbrev pub ReadFrom : Circuit → List (List ℕ) → ℕ → List ℕ → List 
 ReadFrom c slots own list tables = (k : ℕ) (d : Gate) → Contains tables k
     → All (IsInSlots slots own list) (slice_index_or c.tables k d).table.inputs
 
--- a group with a list of slots reads nothing but what it drives and what these slots have; a group
--- whose list is empty may read what is in no slot
+-- a group whose own slot is not in its list of slots reads nothing but what it drives and what
+-- these slots have; another may read what is in no slot
 pub record AreReads (c : Circuit) (others : List (List ℕ)) (g : Grouping) : Type 0 where
   pub one_each : length g.reads ≡ length g.groups
   pub within : (a : ℕ) → All (λ s. s < length g.groups + length others)
       (slice_index_or g.reads a [])
-  pub each : (a : ℕ) → 0 < length (slice_index_or g.reads a [])
+  pub each : (a : ℕ) → ¬ Contains (slice_index_or g.reads a []) a
       → ReadFrom c (slots_with c g others) a (slice_index_or g.reads a []) (group_of g a)

@@ -30,11 +30,11 @@ abbrev pub AreAt : Circuit → List ℕ → ℕ → List ℕ → List ℕ → Ty
 AreAt c homes own list tables = (k : ℕ) (d : Gate) → Contains tables k
     → All (IsReadAt homes own list) (slice_index_or c.tables k d).table.inputs
 
--- the slots that the tables of a group read, or none
+-- the slots that the tables of a group read, or its own slot
 pub record IsReadBy (c : Circuit) (homes : List ℕ) (slots own : ℕ) (tables list : List ℕ) : Type 0
   where
     pub within : All (λ s. s < slots) list
-    pub each : 0 < length list → AreAt c homes own list tables
+    pub each : ¬ Contains list own → AreAt c homes own list tables
 
 -- the lists of the first groups
 pub record AreReadBy (c : Circuit) (homes : List ℕ) (slots n : ℕ) (groups reads : List (List ℕ))

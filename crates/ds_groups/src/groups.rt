@@ -1,7 +1,7 @@
 //! Groups of tables, the groups of each cone, and the slots that each group reads.
 ghost use Rattle.std.specs.Prelude.{◌≡◌, ◌<◌, ◌^◌, ℕ, All, Contains, IfOk, List, [], length};
 ghost use Rattle.std.specs.Prelude.{slice_index_or};
-ghost use Rattle.ds_cover.specs.Bank.{IsWithin, after_tables};
+ghost use Rattle.ds_cover.specs.Bank.{AreNetsWithin, after_tables};
 ghost use Rattle.ds_settle.specs.Cone.{IsCone};
 ghost use Rattle.ds_groups.specs.Classes.{AreClasses, HasTables};
 ghost use Rattle.ds_groups.specs.Groups.{AreGroupsOf, group_of};
@@ -27,7 +27,7 @@ pub struct Groups<'n> {
     selections: Selections<'n>,
     lists: Vec<Seq<u32>>,
     reads: Vec<Seq<usize>>,
-    looks: bool,
+    has_reads: bool,
 }
 
 impl<'n> Drop for Groups<'n> {
@@ -36,7 +36,7 @@ impl<'n> Drop for Groups<'n> {
             selections: _,
             lists: _,
             reads: _,
-            looks: _,
+            has_reads: _,
         } = self;
     }
 }
@@ -85,7 +85,7 @@ impl<'n> Groups<'n> {
             selections,
             lists,
             reads,
-            looks: are_large(groups.len(), tables),
+            has_reads: are_large(groups.len(), tables),
         })
     }
 
@@ -100,7 +100,7 @@ impl<'n> Groups<'n> {
     /// Sets what the tables of a group drive, one after another.
     pub fn set(&self, number: usize, nets: &mut Row3)
         requires number { number < length self.now.groups }
-        requires within { All (λ t. IsWithin t nets.old) self.now.bank }
+        requires within { All (λ t. AreNetsWithin t nets.old) self.now.bank }
         ensures { nets.new ≡ after_tables self.now.bank nets.old (group_of self.now number) }
     {
         self.selections.set(number, nets);
@@ -114,13 +114,12 @@ impl<'n> Groups<'n> {
         self.lists[cone].as_slice()
     }
 
-    /// Whether some group may have a list of what it reads.
-    pub fn looks(&self) -> bool {
-        self.looks
+    /// Whether it is known of some group what it reads.
+    pub fn has_reads(&self) -> bool {
+        self.has_reads
     }
 
-    /// The slots that a group reads, each once and not its own. Where there are none, the group may
-    /// read what is in no slot.
+    /// The slots that a group reads; with its own among them, it may read what is in no slot.
     pub fn reads(&self, number: usize) -> &[usize]
         requires { number < length self.now.reads }
         ensures { result.now ≡ slice_index_or self.now.reads number [] }

@@ -24,8 +24,8 @@ pub(crate) fn members_of(
     Ok(lists)
 }
 
-/// So many empty lists.
-pub(crate) fn empty_lists<T: Drop>(alloc: Global, count: usize) -> Result<Vec<Seq<T>>, OutOfMemory>
+// So many lists of no tables.
+fn empty_lists(alloc: Global, count: usize) -> Result<Vec<Seq<u32>>, OutOfMemory>
     ensures ok { IfOk result (λ lists. lists.items ≡ replicate count []) }
 {
     let mut lists = Vec::with_capacity(alloc, count)?;

@@ -1,7 +1,7 @@
 //! Numbers without gaps, in the order in which classes come.
 ghost use Rattle.std.specs.Prelude.{◌≡◌, ◌+◌, ◌<◌, ◌^◌, ℕ, All, Contains, IfOk, length};
 ghost use Rattle.std.specs.Prelude.{slice_index};
-ghost use Rattle.ds_groups.specs.Numbers.{AreRenumbered, AreOneLess, ArePlaces};
+ghost use Rattle.ds_groups.specs.Numbers.{AreRenumbered, AreOneLess, AreClassPlaces};
 
 use crate::classes::Classes;
 use ds_base::OutOfMemory;
@@ -46,7 +46,7 @@ fn places_of(
     requires order { All (λ k. k < length classes.now.of.items) order.now }
     requires few { length order.now < 2 ^ 32 }
     ensures ok { IfOk result
-        (λ r. ArePlaces order.now classes.now.of.items classes.now.count r.0.items r.1) }
+        (λ r. AreClassPlaces order.now classes.now.of.items classes.now.count r.0.items r.1) }
 {
     let mut places: Vec<u32> = vec![in alloc; 0; classes.count]?;
     let mut next: u32 = 0;

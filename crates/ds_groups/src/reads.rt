@@ -1,11 +1,11 @@
 //! The slots that each group reads.
 ghost use Rattle.std.specs.Prelude.{◌≡◌, ◌⊎◌, ℕ, ◌+◌, ◌-◌, ◌<◌, ◌≤◌, ◌^◌, All, Contains, IfOk};
-ghost use Rattle.std.specs.Prelude.{IsTrue, OnOk, length};
+ghost use Rattle.std.specs.Prelude.{IsTrue, OnOk, [], ◌∷◌, length, map};
+ghost use Rattle.std.specs.List.{range_with_len};
 ghost use Rattle.ds_design.specs.InRange.{IsInRange};
 ghost use Rattle.ds_groups.specs.Seen.{AreReadsOf, AreSeen, IsReadAt, IsReadBy};
 
 use crate::homes::homes_of;
-use crate::members::empty_lists;
 use ds_base::{NetId, OutOfMemory, Seq};
 use ds_design::Design;
 use std::alloc::Global;
@@ -17,8 +17,8 @@ struct Housed<'n> {
     homes: Vec<usize>,
 }
 
-/// The slots that each of these groups reads, each once: not its own, and none at all where it
-/// reads what is in no slot, or where the groups are not large.
+/// The slots that each of these groups reads, or its own alone where it reads what is in no slot,
+/// or where the groups are not large.
 pub(crate) fn reads_of(
     alloc: Global,
     design: &Design,
@@ -31,7 +31,7 @@ pub(crate) fn reads_of(
     ensures ok { IfOk result (λ v. AreReadsOf design.now others.now groups.now v.items) }
 {
     if !are_large(groups.len(), design.tables().len()) {
-        return empty_lists(alloc, groups.len());
+        return own_lists(alloc, groups.len());
     }
     let homes = homes_of(alloc, design, groups, others)?;
     let housed = Housed { design, homes };
@@ -49,8 +49,29 @@ pub(crate) fn are_large(groups: usize, tables: usize) -> bool {
     groups <= tables / 4
 }
 
-// The slots that the tables of a group read, or none. Where a slot was found its place in `seen` is
-// one more than the group's own.
+// For each of so many groups its own slot.
+fn own_lists(alloc: Global, count: usize) -> Result<Vec<Seq<usize>>, OutOfMemory>
+    ensures ok { IfOk result
+        (λ lists. lists.items ≡ map (λ own. own ∷ []) (range_with_len 0 count)) }
+{
+    let mut lists = Vec::with_capacity(alloc, count)?;
+    for own in 0..count {
+        lists.push(own_list(alloc, own)?)?;
+    }
+    Ok(lists)
+}
+
+// This slot alone.
+fn own_list(alloc: Global, own: usize) -> Result<Seq<usize>, OutOfMemory>
+    ensures ok { IfOk result (λ list. list ≡ own ∷ []) }
+{
+    let mut list = Seq::new(alloc);
+    list.push(own)?;
+    Ok(list)
+}
+
+// The slots that the tables of a group read, or its own. Where a slot was found its place in `seen`
+// is one more than the group's own.
 fn read_by(
     alloc: Global,
     housed: &Housed,
@@ -76,7 +97,7 @@ fn read_by(
     for table in tables {
         let inputs = gates[*table as usize].table.inputs();
         if !add_homes(housed.homes.as_slice(), inputs, seen, own, &mut list)? {
-            return Ok(Seq::new(alloc));
+            return own_list(alloc, own);
         }
     }
     Ok(list)

@@ -1,7 +1,7 @@
 //! Command lines whose reads and writes fail in turn, and what they write where none does.
 use ds_base::OutOfMemory;
 use ds_outside::OpenGate;
-use ds_trial::{RING, TOGGLE, Wanted, gives, printed};
+use ds_trial::{GRAPH, RANKS, RING, TOGGLE, Wanted, gives, printed};
 use std::alloc::{AllocError, Global};
 use std::thread::Threads;
 
@@ -28,28 +28,10 @@ desync: cannot read nofile
 desync: cannot write
 ";
 
-// The controller graph of the toggle.
-const GRAPH: &str = ".model toggle
-.outputs IN OUT M0 S0
-.graph
-IN+ IN- M0+
-IN- IN+
-OUT+ OUT-
-OUT- OUT+ S0+
-M0+ M0- S0+
-M0- IN+ M0+ S0+
-S0+ OUT+ M0+ S0-
-S0- M0+ S0+
-.marking { <IN-,IN+> <OUT-,OUT+> <M0-,IN+> <M0-,M0+> <S0+,OUT+> <S0+,M0+> <S0-,M0+> <S0-,S0+> }
-.end
-";
-
 // The log of the first turn.
 const LOG: &str = "IN+ 1\nIN- 1\nOUT+ 1\nOUT- 1\nM0+ 1\nM0- 1\nS0+ 1\nS0- 1\n";
 
 const REPORT: &str = "nets 3\ntables 1\nregisters 1\nlevels 1\n";
-
-const RANKS: &str = "accepted\nIN+ 0\nIN- 1\nOUT+ 0\nOUT- 1\nM0+ 1\nM0- 2\nS0+ 3\nS0- 4\n";
 
 /// Vectors of the toggle, and what is written for them: the trace, what `replay` writes behind the
 /// first turn, and what it writes behind all of them, as a run does that stops no earlier.

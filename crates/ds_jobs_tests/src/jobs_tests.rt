@@ -48,22 +48,12 @@ fn no_vectors_give_an_empty_log(rt: HostRuntime) -> Result<(), Fail> {
 }
 
 // Two netlists, each by one to as many workers as there may be.
-const TRACES: &str = "%v
-1
-1
-0
-1
-%$ desync run toggle v --jobs 1
-%$ desync run toggle v --jobs 2
-%$ desync run toggle v --jobs 5
-%$ desync run toggle v --jobs 64
-%$ desync run toggle v --jobs 064
-%= 0
-0 0 0
-1 1 1
-2 0 0
-3 0 0
-end 1
+const TRACES: &str = "%$ desync run toggle four --jobs 1
+%$ desync run toggle four --jobs 2
+%$ desync run toggle four --jobs 5
+%$ desync run toggle four --jobs 64
+%$ desync run toggle four --jobs 064
+%= 0 < trace
 %v
 1
 0

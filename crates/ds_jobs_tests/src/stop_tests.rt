@@ -7,35 +7,30 @@ use std::thread::Threads;
 
 // Runs that store nothing, all, or by the order in which one worker fires; over no vectors, an
 // unknown one, all registers in one cluster by a graph, no registers, and one in a copy.
-const ROWS: &str = "%v
-1
-1
-0
-1
-%$ desync run toggle v --stop 0
-%$ desync run toggle v --stop=0 --jobs 64
+const ROWS: &str = "%$ desync run toggle four --stop 0
+%$ desync run toggle four --stop=0 --jobs 64
 %= 0
 q: -
 fired 0 of 32
-%$ desync run toggle v --stop 0 --log
-%$ desync run toggle v --log --jobs 4 --stop 00
+%$ desync run toggle four --stop 0 --log
+%$ desync run toggle four --log --jobs 4 --stop 00
 %= 0
 q: -
 fired 0 of 32
 firings
-%$ desync run toggle v --stop 32 --jobs 4
-%$ desync run toggle v --stop 18446744073709551615
-%$ desync run toggle v --stop 18446744073709551615 --jobs 64
-%$ desync run toggle v --stop 0032
-%$ desync run toggle v --stop 33 --slack 2 --jobs 2
+%$ desync run toggle four --stop 32 --jobs 4
+%$ desync run toggle four --stop 18446744073709551615
+%$ desync run toggle four --stop 18446744073709551615 --jobs 64
+%$ desync run toggle four --stop 0032
+%$ desync run toggle four --stop 33 --slack 2 --jobs 2
 %= 0
 q: 1001
 fired 32 of 32
-%$ desync run toggle v --stop=5
+%$ desync run toggle four --stop=5
 %= 0
 q: -
 fired 5 of 32
-%$ desync run toggle v --stop=5 --log
+%$ desync run toggle four --stop=5 --log
 %= 0
 q: -
 fired 5 of 32
@@ -45,7 +40,7 @@ IN- 1
 OUT+ 1
 OUT- 1
 M0+ 1
-%$ desync run toggle v --stop 18
+%$ desync run toggle four --stop 18
 %= 0
 q: 10
 fired 18 of 32
@@ -65,35 +60,12 @@ fired 8 of 8
 1
 0
 1
-%g
+%g < graph
+.model toggle
+=>
 .model shift
-.outputs IN OUT M0 S0
-.graph
-IN+ IN- M0+
-IN- IN+
-OUT+ OUT-
-OUT- OUT+ S0+
-M0+ M0- S0+
-M0- IN+ M0+ S0+
-S0+ OUT+ M0+ S0-
-S0- M0+ S0+
-.marking { <IN-,IN+> <OUT-,OUT+> <M0-,IN+> <M0-,M0+> <S0+,OUT+> <S0+,M0+> <S0-,M0+> <S0-,S0+> }
-.end
 %$ desync graph shift --clusters one
-%= 0
-.model shift
-.outputs IN OUT M0 S0
-.graph
-IN+ IN- M0+
-IN- IN+
-OUT+ OUT-
-OUT- OUT+ S0+
-M0+ M0- S0+
-M0- IN+ M0+ S0+
-S0+ OUT+ M0+ S0-
-S0- M0+ S0+
-.marking { <IN-,IN+> <OUT-,OUT+> <M0-,IN+> <M0-,M0+> <S0+,OUT+> <S0+,M0+> <S0-,M0+> <S0-,S0+> }
-.end
+%= 0 < g
 %$ desync run shift v --stop 24 --clusters one --graph g
 %$ desync run shift v --stop 24 --clusters one --jobs 4
 %= 0
@@ -105,40 +77,20 @@ fired 24 of 24
 q0: 1
 q1: 01
 fired 20 of 36
-%n
-.model w
-.inputs a
-.outputs y
-.names a y
-1 1
-.end
 %v
 1
-%$ desync run n v --stop 4
-%$ desync run n v --stop 4 --clusters one --jobs 2
+%$ desync run wire v --stop 4
+%$ desync run wire v --stop 4 --clusters one --jobs 2
 %= 0
 fired 4 of 4
-%$ desync run n v --stop 0 --log
+%$ desync run wire v --stop 0 --log
 %= 0
 fired 0 of 4
 firings
-%n
-.model top
-.outputs y
-.subckt t o=y
-.end
-.model t
-.outputs o
-.names q d
-0 1
-.names q o
-1 1
-.latch d q 0
-.end
 %v
 -
 -
-%$ desync run n v --stop 16 --jobs 2
+%$ desync run copy v --stop 16 --jobs 2
 %= 0
 1/q: 10
 fired 16 of 16

@@ -6,7 +6,7 @@ use Rattle.std.proofs.lemmas.Bool.{cases_Bool}
 use Rattle.std.proofs.lemmas.List.{append-nil}
 use Rattle.ds_lines.specs.Line.{Line, line_of, lines_from, lines_of, uncommented, trimmed, joins}
 use Rattle.ds_lines.specs.Line.{words_in, words_of, is_blank, is_some, is_newline}
-use Rattle.ds_lines.specs.Joined.{Text, joined_to, joined, line_in_text, joined_lines}
+use Rattle.ds_lines.specs.Joined.{Text, joined_to, lines_joined, line_in_text, joined_lines}
 
 -- a split has a first part
 split_some : (p : ℕ → Bool) (bytes : List ℕ) → (part : List ℕ) × (parts : List (List ℕ)) ×
@@ -66,21 +66,21 @@ after_joined number bytes (text ∷ texts) = refl
 
 -- where no line is open, all texts are lines
 lines_after-none : (number : ℕ) (lines : List (List ℕ)) → lines_after number []
-    (joined number lines) ≡ flat_map line_in_text (joined number lines)
+    (lines_joined number lines) ≡ flat_map line_in_text (lines_joined number lines)
 lines_after-none number [] = refl
 lines_after-none number (line ∷ lines) = elim (cases_Bool (joins line)) [
-  | inl here ↦ rw here (after_joined number (trimmed (uncommented line)) (joined
+  | inl here ↦ rw here (after_joined number (trimmed (uncommented line)) (lines_joined
       (number + 1) lines))
   | inr other ↦ rw other refl
 ]
 
 pub lines_from_is : (first : ℕ) (words : List (List ℕ)) (number : ℕ) (lines : List (List ℕ))
-    → lines_from first words number lines ≡ lines_after first words (joined number lines)
+    → lines_from first words number lines ≡ lines_after first words (lines_joined number lines)
 unfolding words_in
 lines_from_is first words number [] = refl
 lines_from_is first words number (line ∷ lines) = elim (cases_Bool (joins line)) [
   | inl here ↦ rw here (lines_from_is first (words ++ words_in line) (number + 1) lines ∙ sym
-      (lines_after-joined first words number (trimmed (uncommented line)) (joined
+      (lines_after-joined first words number (trimmed (uncommented line)) (lines_joined
       (number + 1) lines)))
   | inr other ↦ rw other (ap (λ ls. line_of first (words ++ words_in line) ++ ls) (lines_from_is
       (number + 1) [] (number + 1) lines ∙ lines_after-none (number + 1) lines))

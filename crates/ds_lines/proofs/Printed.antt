@@ -9,7 +9,7 @@ use Rattle.std.proofs.Math.ListN.{drop_of_length-le}
 use Rattle.ds_lines.specs.Line.{Line, lines_from, lines_of, uncommented, trimmed, kept_len}
 use Rattle.ds_lines.specs.Line.{is_joined, joins, words_in, words_of, is_blank, is_some, is_newline}
 use Rattle.ds_lines.specs.Line.{is_hash, is_backslash, is_end}
-use Rattle.ds_lines.specs.Print.{line_text, text_of, numbered, IsWord, IsPlain}
+use Rattle.ds_lines.specs.Print.{line_text, text_of, numbered_lines, IsWord, IsPlain}
 use Rattle.ds_lines.proofs.Joins.{split-append, words_of-joined}
 
 -- where no element passes
@@ -98,7 +98,7 @@ line_first : (n : ℕ) (words : List (List ℕ)) (line : List ℕ) (rest : List 
 line_first n words line rest alone is some = rw (alone, is, some) refl
 
 lines_from-text : (n : ℕ) (lines : List (List (List ℕ))) → AllByRecursion IsPlain lines
-    → lines_from n [] n (slice_split is_newline (text_of lines)) ≡ numbered n lines
+    → lines_from n [] n (slice_split is_newline (text_of lines)) ≡ numbered_lines n lines
 unfolding words_in joins
 lines_from-text n [] are = refl
 lines_from-text n (words ∷ lines) are =
@@ -114,5 +114,5 @@ lines_from-text n (words ∷ lines) are =
     (n + 1) lines are.1))
 
 pub lines_of-text_of : (lines : List (List (List ℕ))) → AllByRecursion IsPlain lines → lines_of
-    (text_of lines) ≡ numbered 1 lines
+    (text_of lines) ≡ numbered_lines 1 lines
 lines_of-text_of lines are = lines_from-text 1 lines are

@@ -3,7 +3,7 @@ use Rattle.std.specs.Prelude.{◌≡◌, ◌+◌, ℕ, List, [], ◌∷◌, ◌+
 use Rattle.std.specs.List.{AllByRecursion}
 use Rattle.ds_lines.specs.Line.{lines_of, lines_from}
 use Rattle.ds_lines.specs.Joined.{joined_lines}
-use Rattle.ds_lines.specs.Print.{text_of, numbered, IsPlain}
+use Rattle.ds_lines.specs.Print.{text_of, numbered_lines, IsPlain}
 use Rattle.ds_lines.specs.Window.{ends_open}
 
 -- a line that is joined is the line of one text, a blank between its parts
@@ -11,9 +11,9 @@ abbrev pub JoinedWithABlank : Type 0
 JoinedWithABlank = (text : List ℕ) → lines_of text ≡ joined_lines text
 
 -- a text that prints lines has these lines
-abbrev pub PrintedIsRead : Type 0
-PrintedIsRead = (lines : List (List (List ℕ))) → AllByRecursion IsPlain lines
-    → lines_of (text_of lines) ≡ numbered 1 lines
+abbrev pub PrintedLinesAreRead : Type 0
+PrintedLinesAreRead = (lines : List (List (List ℕ))) → AllByRecursion IsPlain lines
+    → lines_of (text_of lines) ≡ numbered_lines 1 lines
 
 -- behind a physical line that joins nothing the lines go on as those of a text of its own
 abbrev pub InTwoParts : Type 0

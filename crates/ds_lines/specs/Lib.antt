@@ -1,5 +1,7 @@
 -- In the order in which to read.
 pub mod Line
+pub mod Words
+pub mod First
 pub mod Fault
 pub mod Worked
 pub mod Joined

@@ -15,9 +15,10 @@ text_of [] = []
 text_of (words ∷ lines) = line_text words ++ 10 ∷ text_of lines
 
 -- lines with numbers from a number on
-abbrev pub numbered : ℕ → List (List (List ℕ)) → List Line
-numbered n [] = []
-numbered n (words ∷ lines) = record { number = n; words = words } ∷ numbered (n + 1) lines
+abbrev pub numbered_lines : ℕ → List (List (List ℕ)) → List Line
+numbered_lines n [] = []
+numbered_lines n (words ∷ lines) = record { number = n; words = words }
+    ∷ numbered_lines (n + 1) lines
 
 -- a word is not empty, and has no blank, no end of a line and no `#`
 pub record IsWord (word : List ℕ) : Type 0 where

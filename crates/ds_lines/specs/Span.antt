@@ -16,6 +16,6 @@ abbrev pub lines_in : List (List ℕ) → List Span → List Line
 lines_in words spans = map (line_in words) spans
 
 -- a span has words, and lies within so many
-pub record IsWithin (most : ℕ) (span : Span) : Type 0 where
+pub record IsSpanWithin (most : ℕ) (span : Span) : Type 0 where
   pub some : span.start < span.end
   pub within : span.end ≤ most

@@ -10,8 +10,8 @@ physical (line ∷ lines) = line ++ 10 ∷ physical lines
 -- a comment alone that ends with a `\`; a line that goes on behind its comment, behind a line of a
 -- `\` alone; an empty line; a `\` inside a word, with a tab and a carriage return around; a line
 -- that the text ends
-abbrev pub worked_text : List ℕ
-worked_text = physical (
+abbrev pub worked_lines_text : List ℕ
+worked_lines_text = physical (
     codes "# names \\"
     ∷ codes ".names a \\ # b \\"
     ∷ codes "\\"
@@ -30,4 +30,4 @@ worked_lines =
 
 -- the text has these lines
 abbrev pub TextIsWorked : Type 0
-TextIsWorked = lines_of worked_text ≡ worked_lines
+TextIsWorked = lines_of worked_lines_text ≡ worked_lines

@@ -25,7 +25,7 @@ impl<'a> Model for Draft<'a> {
     ghost use Rattle.std.specs.Prelude.{◌≤◌, List, map, length, drop, ℕ};
     ghost use Rattle.std.specs.List.{All};
     ghost use Rattle.ds_lines.specs.Draft.{Read};
-    ghost use Rattle.ds_lines.specs.Span.{lines_in, IsWithin};
+    ghost use Rattle.ds_lines.specs.Span.{lines_in, IsSpanWithin};
 
     ghost Value = { Read };
 
@@ -36,7 +36,7 @@ impl<'a> Model for Draft<'a> {
       number = d.number;
     } };
 
-    ghost invariant = { λ d. (d.start ≤ length d.words.items) × All (IsWithin
+    ghost invariant = { λ d. (d.start ≤ length d.words.items) × All (IsSpanWithin
         (length d.words.items)) d.spans.items };
 }
 

@@ -1,5 +1,5 @@
 //! Laws of the definitions, each the contract of a function that does nothing.
-ghost use Rattle.ds_lines.specs.Laws.{InTwoParts, JoinedWithABlank, PrintedIsRead};
+ghost use Rattle.ds_lines.specs.Laws.{InTwoParts, JoinedWithABlank, PrintedLinesAreRead};
 ghost use Rattle.ds_lines.specs.Worked.{TextIsWorked};
 
 /// A line that is joined is the line of one text, a blank between its parts.
@@ -9,7 +9,7 @@ pub fn joined_with_a_blank()
 
 /// A text that prints lines has these lines.
 pub fn printed_is_read()
-    ensures { PrintedIsRead }
+    ensures { PrintedLinesAreRead }
 {}
 
 /// Behind a physical line that joins nothing the lines go on as those of a text of its own.

@@ -3,7 +3,7 @@ ghost use Rattle.std.specs.Prelude.{◌≡◌, ◌≤◌, length, MatchResult};
 ghost use Rattle.ds_base.specs.Limit.{most_of};
 ghost use Rattle.ds_base.specs.declared.number.Limit.TheVariants.{Bytes};
 ghost use Rattle.ds_lines.specs.Line.{lines_of};
-ghost use Rattle.ds_lines.specs.Fault.{IsRefused};
+ghost use Rattle.ds_lines.specs.Fault.{IsLinesRefused};
 
 use crate::draft::Draft;
 use crate::list::Lines;
@@ -34,7 +34,7 @@ impl From<AllocError> for LinesFault {
 /// have; the words of the lines are slices of it.
 pub fn lines(alloc: Global, text: &[u8]) -> Result<Lines<'_>, LinesFault>
     ensures { MatchResult result (λ l. (length text.now ≤ most_of Bytes) × (l ≡ lines_of text.now))
-        (λ e. IsRefused text.now e) }
+        (λ e. IsLinesRefused text.now e) }
 {
     if text.len() as u64 > Limit::Bytes.most() {
         return Err(LinesFault::TooLong);

@@ -3,7 +3,7 @@ use Rattle.std.proofs.Common.{◌≡◌, ℕ, ◌+◌, ◌<◌, ◌≤◌, List,
 use Rattle.std.proofs.lemmas.Bool.{cases_lt, false≢true}
 use Rattle.std.proofs.lemmas.List.Sorted.{All-permutation, length_permutation}
 use Rattle.ds_marked.specs.Graph.{Graph, AreEnds, IsEnabled, IsKept, StandsBefore}
-use Rattle.ds_marked.specs.Blocked.{IsFirstLacking, IsLeastLacking, IsBlocked, Lacks}
+use Rattle.ds_marked.specs.Blocked.{IsFirstLackingArc, IsLeastLacking, IsBlocked, Lacks}
 use Rattle.ds_marked.specs.declared.marked.Arc.{Arc}
 use Rattle.ds_marked.specs.declared.marked.Event.{Event}
 use Rattle.ds_marked.specs.declared.blocked.Blocked.{Blocked}
@@ -13,7 +13,7 @@ use Rattle.ds_marked.specs.declared.blocked.Blocked.TheVariants as blocked
 abbrev any : Arc
 any = record { source = 0; target = 0; tokens = 0 }
 
-one_first : (count : ℕ → ℕ) (v : ℕ) (arcs : List Arc) (a b : ℕ) → IsFirstLacking count v arcs a → IsFirstLacking count v arcs b → b ≤ a
+one_first : (count : ℕ → ℕ) (v : ℕ) (arcs : List Arc) (a b : ℕ) → IsFirstLackingArc count v arcs a → IsFirstLackingArc count v arcs b → b ≤ a
 one_first count v arcs a b first other = elim (cases_lt a b) [
   | inl below ↦ absurd (other.before a any (omega arith) below (first.lacks any))
   | inr above ↦ above

@@ -11,7 +11,7 @@ abbrev pub Lacks : (ℕ → ℕ) → ℕ → Arc → Type 0
 Lacks count v arc = (arc.target ≡ v) × (count arc.source + arc.tokens < count v + 1)
 
 -- the arc at this place is the least that lacks a token
-pub record IsFirstLacking (count : ℕ → ℕ) (v : ℕ) (arcs : List Arc) (a : ℕ) : Type 0 where
+pub record IsFirstLackingArc (count : ℕ → ℕ) (v : ℕ) (arcs : List Arc) (a : ℕ) : Type 0 where
   pub inside : a < length arcs
   pub lacks : HoldsAt (Lacks count v) arcs a
   pub before : AllWithin (λ arc. ¬ Lacks count v arc) arcs 0 a
@@ -19,9 +19,9 @@ pub record IsFirstLacking (count : ℕ → ℕ) (v : ℕ) (arcs : List Arc) (a :
 -- the least arc into the event that lacks a token, or none where none does
 abbrev pub IsLeastLacking : Graph → (ℕ → ℕ) → ℕ → Option ℕ → Type 0
 IsLeastLacking g count v None = All (λ arc. ¬ Lacks count v arc) g.arcs
-IsLeastLacking g count v (Some a) = IsFirstLacking count v g.arcs a
+IsLeastLacking g count v (Some a) = IsFirstLackingArc count v g.arcs a
 
 -- the event has fired as often as it may, or else this is the least arc into it that lacks a token
 abbrev pub IsBlocked : Graph → ℕ → (ℕ → ℕ) → ℕ → Blocked → Type 0
 IsBlocked g limit count v blocked.Limit = limit ≤ count v
-IsBlocked g limit count v (blocked.Arc a) = (count v < limit) × IsFirstLacking count v g.arcs a
+IsBlocked g limit count v (blocked.Arc a) = (count v < limit) × IsFirstLackingArc count v g.arcs a

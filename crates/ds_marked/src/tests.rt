@@ -11,7 +11,7 @@ fn graph(alloc: Global) -> Result<Marked, OutOfMemory>
     let mut events = Seq::new(alloc);
     events.push(event(alloc, Kind::Rise))?;
     events.push(event(alloc, Kind::Fall))?;
-    let arcs = [arc(1, 0, 1), arc(0, 1, 2), arc(0, 1, 0)];
+    let arcs = [Arc::of(1, 0, 1), Arc::of(0, 1, 2), Arc::of(0, 1, 0)];
     Marked::new(alloc, events, Vec::from_array(alloc, arcs)?)
 }
 
@@ -22,22 +22,12 @@ fn event(alloc: Global, kind: Kind) -> Event
     Event { signal, kind }
 }
 
-fn arc(source: u32, target: u32, tokens: u8) -> Arc
-    ensures { result ≡ record { source = source; target = target; tokens = tokens } }
-{
-    Arc {
-        source: EventId::new(source),
-        target: EventId::new(target),
-        tokens,
-    }
-}
-
 #[test]
 fn arcs_stand_in_order_and_are_found(rt: HostRuntime) {
     let Ok(graph) = graph(rt.alloc()) else {
         panic!(rt; "memory");
     };
-    let sorted = [arc(0, 1, 0), arc(0, 1, 2), arc(1, 0, 1)];
+    let sorted = [Arc::of(0, 1, 0), Arc::of(0, 1, 2), Arc::of(1, 0, 1)];
     assert_eq!(rt; graph.arcs().len(), 3);
     assert_eq!(rt; graph.arcs(), sorted.as_slice());
     assert_eq!(rt; graph.events()[1].kind, Kind::Fall);

@@ -22,7 +22,7 @@ use Rattle.ds_design.specs.declared.design.Register.{Register}
 use Rattle.ds_design.proofs.Controlled.{among_yes, among_no, control_in}
 use Rattle.ds_netlist.specs.Drivers.{all_drivers, drivers_of}
 use Rattle.ds_netlist.specs.Fault.{is_in, several_clocks, is_rising, is_falling, both_edges, mixed_edges, driven_clock, clock_as_data, twice_driven, multiply_driven, undriven}
-use Rattle.ds_netlist.specs.Steps.{times}
+use Rattle.ds_netlist.specs.Steps.{times_driven}
 use Rattle.ds_netlist.specs.Named.{IsNamed}
 use Rattle.ds_netlist.specs.declared.fault.Driver.{Driver}
 use Rattle.ds_netlist.specs.declared.fault.Driver.TheVariants.{Input, Table, Latch}
@@ -214,8 +214,8 @@ module _ (c : Circuit) where
       ∙ ap (λ (xs : List ℕ). columns c ++ xs) (map-map (λ (pair : ℕ × Driver). pair.0) (λ (t : Gate). (t.output, Table t.line)) c.tables)))
       ∙ ap (λ (xs : List ℕ). columns c ++ table_nets c ++ xs) (map-map (λ (pair : ℕ × Driver). pair.0) (λ (r : Register). (r.output, Latch r.line)) c.registers))
 
-  pub drivers_times : (net : ℕ) → length (drivers_of c net) ≡ times net (drivers c)
-  drivers_times net = length_drivers (all_drivers c) net ∙ ap (times net) driver_nets
+  pub drivers_times : (net : ℕ) → length (drivers_of c net) ≡ times_driven net (drivers c)
+  drivers_times net = length_drivers (all_drivers c) net ∙ ap (times_driven net) driver_nets
 
 module _ (c : Circuit) (in_range : IsInRange c) where
   -- what drives or is used is a net

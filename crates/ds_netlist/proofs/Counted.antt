@@ -8,23 +8,23 @@ use Rattle.std.proofs.lemmas.List.Sums.{count_by-le-length, sum_by-append, sum_b
 use Rattle.std.proofs.lemmas.List.{get_or_default, take_more}
 use Rattle.std.proofs.Math.ListN.{set}
 use Rattle.ds_base.proofs.Lists.{cases_Contains, Contains-tail, Contains-split}
-use Rattle.ds_netlist.specs.Steps.{AreTimes, times}
+use Rattle.ds_netlist.specs.Steps.{AreTimes, times_driven}
 use Rattle.ds_netlist.specs.Drivers.{drivers_in}
 use Rattle.ds_netlist.specs.declared.fault.Driver.{Driver}
 
-pub times_same : (net x : ℕ) (xs : List ℕ) → x ≡ net → times net (x ∷ xs) ≡ times net xs + 1
+pub times_same : (net x : ℕ) (xs : List ℕ) → x ≡ net → times_driven net (x ∷ xs) ≡ times_driven net xs + 1
 times_same net x xs same = elim (eqb_tells x net) [
   | inl (is, e) ↦ sum_by-cons (λ other. cond (other == net) 1 0) x xs ∙ rw is (omega arith)
   | inr (is, ne) ↦ absurd (ne same)
 ]
 
-pub times_other : (net x : ℕ) (xs : List ℕ) → x ≢ net → times net (x ∷ xs) ≡ times net xs
+pub times_other : (net x : ℕ) (xs : List ℕ) → x ≢ net → times_driven net (x ∷ xs) ≡ times_driven net xs
 times_other net x xs other = elim (eqb_tells x net) [
   | inl (is, e) ↦ absurd (other e)
   | inr (is, ne) ↦ sum_by-cons (λ other. cond (other == net) 1 0) x xs ∙ rw is (omega arith)
 ]
 
-pub present : (net : ℕ) (xs : List ℕ) → Contains xs net → 0 < times net xs
+pub present : (net : ℕ) (xs : List ℕ) → Contains xs net → 0 < times_driven net xs
 present net [] (k, inside, is) = absurd (omega arith)
 present net (x ∷ xs) c = elim (cases_eq x net) [
   | inl same ↦ omega (arith, times_same net x xs same)
@@ -34,7 +34,7 @@ present net (x ∷ xs) c = elim (cases_eq x net) [
   ]
 ]
 
-pub absent : (net : ℕ) (xs : List ℕ) → ¬ Contains xs net → times net xs ≡ 0
+pub absent : (net : ℕ) (xs : List ℕ) → ¬ Contains xs net → times_driven net xs ≡ 0
 absent net [] none = refl
 absent net (x ∷ xs) none = elim (cases_eq x net) [
   | inl same ↦ absurd (none (0, omega arith, same))
@@ -42,14 +42,14 @@ absent net (x ∷ xs) none = elim (cases_eq x net) [
 ]
 
 -- a net that is counted is there
-pub counted_in : (net : ℕ) (xs : List ℕ) → 0 < times net xs → Contains xs net
+pub counted_in : (net : ℕ) (xs : List ℕ) → 0 < times_driven net xs → Contains xs net
 counted_in net xs some = elim (cases_Contains xs net) [
   | inl c ↦ c
   | inr none ↦ absurd (let zero_times = absent net xs none in omega arith)
 ]
 
 -- nets that stand at most once differ
-pub once_differ : (xs : List ℕ) → ((net : ℕ) → times net xs < 2) → AllPairs (λ a b. a ≢ b) xs
+pub once_differ : (xs : List ℕ) → ((net : ℕ) → times_driven net xs < 2) → AllPairs (λ a b. a ≢ b) xs
 once_differ [] few = λ i j d below inside. absurd (omega arith)
 once_differ (x ∷ xs) few = AllPairs-cons (λ a b. a ≢ b) x xs
     (λ k d inside same.
@@ -68,7 +68,7 @@ once_differ (x ∷ xs) few = AllPairs-cons (λ a b. a ≢ b) x xs
     default k d inside = get_or_default xs k x d inside
 
 -- nets that differ stand at most once
-pub differ_once : (xs : List ℕ) → AllPairs (λ a b. a ≢ b) xs → (net : ℕ) → times net xs < 2
+pub differ_once : (xs : List ℕ) → AllPairs (λ a b. a ≢ b) xs → (net : ℕ) → times_driven net xs < 2
 differ_once [] pairs net = omega arith
 differ_once (x ∷ xs) pairs net =
     let rest = differ_once xs (λ i j d below inside. pairs (suc i) (suc j) d (omega arith) (omega arith)) net in
@@ -80,7 +80,7 @@ differ_once (x ∷ xs) pairs net =
     ]
 
 -- a net has as many drivers as it is driven times
-pub length_drivers : (pairs : List (ℕ × Driver)) (net : ℕ) → length (drivers_in pairs net) ≡ times net (map (λ pair. pair.0) pairs)
+pub length_drivers : (pairs : List (ℕ × Driver)) (net : ℕ) → length (drivers_in pairs net) ≡ times_driven net (map (λ pair. pair.0) pairs)
 length_drivers [] net = refl
 length_drivers (p ∷ ps) net = elim (eqb_tells p.0 net) [
   | inl (is, e) ↦ rw is (omega (arith, times_same net p.0 (map (λ pair. pair.0) ps) e, length_drivers ps net))
@@ -89,9 +89,9 @@ length_drivers (p ∷ ps) net = elim (eqb_tells p.0 net) [
 
 -- one more net is counted
 pub times_more : (net : ℕ) (xs : List ℕ) (i : ℕ) → i < length xs
-    → times net (take (i + 1) xs) ≡ times net (take i xs) + times net (get_or xs i 0 ∷ [])
+    → times_driven net (take (i + 1) xs) ≡ times_driven net (take i xs) + times_driven net (get_or xs i 0 ∷ [])
 times_more net xs i inside =
-    ap (times net) (take_more xs i 0 inside) ∙ sum_by-append (λ other. cond (other == net) 1 0) (take i xs) (get_or xs i 0 ∷ [])
+    ap (times_driven net) (take_more xs i 0 inside) ∙ sum_by-append (λ other. cond (other == net) 1 0) (take i xs) (get_or xs i 0 ∷ [])
 
 pub counted_more : (count : ℕ) (nets counts : List ℕ) (i net value : ℕ) → i < length nets → net ≡ get_or nets i 0 → net < count
     → value ≡ get_or counts net 0 → AreTimes count (take i nets) counts → AreTimes count (take (i + 1) nets) (set counts net (value + 1))
@@ -112,7 +112,7 @@ counted_more count nets counts i net value inside is low same h = record {
       ]);
 }
 
-pub times_few : (net : ℕ) (xs : List ℕ) (i : ℕ) → times net (take i xs) ≤ length xs
+pub times_few : (net : ℕ) (xs : List ℕ) (i : ℕ) → times_driven net (take i xs) ≤ length xs
 times_few net xs i = omega (arith, count_by-le-length (λ other. other == net) (take i xs), length-take i xs)
 
 -- the item of a loop, as a place gives it

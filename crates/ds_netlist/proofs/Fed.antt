@@ -5,7 +5,7 @@ use Rattle.std.proofs.lemmas.List.Elements.{All-contains}
 use Rattle.ds_design.specs.declared.design.Gate.{Gate}
 use Rattle.ds_order.specs.declared.edge.Edge.{Edge}
 use Rattle.ds_order.specs.Order.{HasEdge, source_at, target_at}
-use Rattle.ds_order.specs.Search.{AreEnds}
+use Rattle.ds_order.specs.Search.{EndsAreNodes}
 use Rattle.ds_netlist.specs.Edges.{FeedsIn, edges_into, edges_of}
 
 -- an edge behind the first one
@@ -69,7 +69,7 @@ fed_into (t ∷ ts) u v (suc k, x, inside, is, p) =
 
 -- the ends of the edges are nets
 pub fed_ends : (tables : List Gate) (n : ℕ)
-    → All (λ t. All (λ net. net < n) t.table.inputs × (t.output < n)) tables → AreEnds n (edges_of tables)
+    → All (λ t. All (λ net. net < n) t.table.inputs × (t.output < n)) tables → EndsAreNodes n (edges_of tables)
 fed_ends tables n h k inside =
     let (j, t, lt, is, (feeds, output)) = fed_from tables (source_at (edges_of tables) k) (target_at (edges_of tables) k) (k, inside, refl, refl) in
     let nets = h j t lt in (

@@ -13,7 +13,7 @@ use Rattle.ds_design.specs.declared.design.Net.{Net}
 use Rattle.ds_design.proofs.Controlled.{among_yes, among_no}
 use Rattle.ds_netlist.specs.Drivers.{drivers_of}
 use Rattle.ds_netlist.specs.Fault.{fault_of, is_in, several_clocks, mixed_edges, driven_clock, clock_as_data, twice_driven, multiply_driven, undriven}
-use Rattle.ds_netlist.specs.Steps.{AreTimes, IsFirstFree, IsFirstTwice, clock_among, driver_fault, first_of, is_clock, later_fault, times}
+use Rattle.ds_netlist.specs.Steps.{AreTimes, IsFirstFree, IsFirstTwice, clock_among, driver_fault, first_listed, is_clock, later_fault, times_driven}
 use Rattle.ds_netlist.specs.declared.fault.NetFault.{NetFault}
 use Rattle.ds_netlist.specs.declared.fault.NetFault.TheVariants.{Undriven}
 use Rattle.ds_netlist.proofs.Firsts.{cases_Bool, first_at, first_none, found_at, none_found, none_in}
@@ -42,13 +42,13 @@ times_are nets all xs ys counts lent a b e h = record {
   size = ap (λ (zs : List ℕ). length zs) e ∙ (h.size ∙ ap (λ (zs : List Net). length zs) a);
   each = λ net low. (
       let size : length nets ≡ length all = ap (λ (zs : List Net). length zs) a in
-      ap (λ (zs : List ℕ). get_or zs net 0) e ∙ (h.each net (omega arith) ∙ ap (times net) b));
+      ap (λ (zs : List ℕ). get_or zs net 0) e ∙ (h.each net (omega arith) ∙ ap (times_driven net) b));
 }
 
-in_times : (net : ℕ) (xs : List ℕ) → 0 < times net xs → is_in xs net ≡ true
+in_times : (net : ℕ) (xs : List ℕ) → 0 < times_driven net xs → is_in xs net ≡ true
 in_times net xs some = among_yes xs net (counted_in net xs some)
 
-no_times : (net : ℕ) (xs : List ℕ) → times net xs ≡ 0 → is_in xs net ≡ false
+no_times : (net : ℕ) (xs : List ℕ) → times_driven net xs ≡ 0 → is_in xs net ≡ false
 no_times net xs none = among_no xs net (λ some. let up = present net xs some in omega arith)
 
 module _ (c : Circuit) (counts : List ℕ) (h : AreTimes (length c.nets) (drivers c) counts) where
@@ -97,7 +97,7 @@ module _ (c : Circuit) (counts : List ℕ) (h : AreTimes (length c.nets) (driver
 
 -- the clock, where all control names are one
 found_clock : (nets names : List ℕ) → ((a b : ℕ) → Contains names a → Contains names b → a ≡ b)
-    → find (is_in nets) names ≡ clock_among nets (first_of names)
+    → find (is_in nets) names ≡ clock_among nets (first_listed names)
 found_clock nets [] one = refl
 found_clock nets (x ∷ names) one = elim (cases_Bool (is_in nets x)) [
   | inl yes_x ↦ rw yes_x refl
@@ -109,12 +109,12 @@ found_clock nets (x ∷ names) one = elim (cases_Bool (is_in nets x)) [
 ]
 
 pub clock_found : (c : Circuit) (made : ℕ → NetFault) (nets : List ℕ) → several_clocks (control_nets c) ≡ None
-    → option_map made (find (is_in nets) (control_nets c)) ≡ option_map made (clock_among nets (first_of (control_nets c)))
+    → option_map made (find (is_in nets) (control_nets c)) ≡ option_map made (clock_among nets (first_listed (control_nets c)))
 clock_found c made nets none = ap (λ o. option_map made o) (found_clock nets (control_nets c) (one_name (control_nets c) none))
 
 -- the columns, by the one clock
 clock_is : (names : List ℕ) → ((a b : ℕ) → Contains names a → Contains names b → a ≡ b) → (net : ℕ)
-    → is_clock (first_of names) net ≡ is_in names net
+    → is_clock (first_listed names) net ≡ is_in names net
 clock_is [] one net = refl
 clock_is (x ∷ names) one net = elim (eqb_tells x net) [
   | inl (is, e) ↦ rw is refl
@@ -131,17 +131,17 @@ filter_same p q same (x ∷ xs) = elim (cases_Bool (q x)) [
 ]
 
 pub are_columns : (c : Circuit) → several_clocks (control_nets c) ≡ None
-    → filter (λ net. not (is_clock (first_of (control_nets c)) net)) c.inputs ≡ columns c
-are_columns c none = filter_same (λ net. not (is_clock (first_of (control_nets c)) net)) (λ net. not (is_in (control_nets c) net))
+    → filter (λ net. not (is_clock (first_listed (control_nets c)) net)) c.inputs ≡ columns c
+are_columns c none = filter_same (λ net. not (is_clock (first_listed (control_nets c)) net)) (λ net. not (is_in (control_nets c) net))
     (λ net. ap not (clock_is (control_nets c) (one_name (control_nets c) none) net)) c.inputs
 
 -- the same of lists that are lent
 pub lent_clock : (c : Circuit) (made : ℕ → NetFault) (nets lent names : List ℕ) (first r : Option ℕ) → several_clocks (control_nets c) ≡ None
-    → lent ≡ nets → names ≡ control_nets c → first ≡ first_of names → r ≡ clock_among lent first
+    → lent ≡ nets → names ≡ control_nets c → first ≡ first_listed names → r ≡ clock_among lent first
     → option_map made (find (is_in nets) (control_nets c)) ≡ option_map made r
 lent_clock c made nets lent names first r none a b e is =
     clock_found c made nets none ∙ ap (λ o. option_map made o)
-    (sym (is ∙ (ap (λ (xs : List ℕ). clock_among xs first) a ∙ ap (λ o. clock_among nets o) (e ∙ ap first_of b))))
+    (sym (is ∙ (ap (λ (xs : List ℕ). clock_among xs first) a ∙ ap (λ o. clock_among nets o) (e ∙ ap first_listed b))))
 
 -- the fault after those that are not there
 pub later_data : (c : Circuit) (fault : NetFault) → mixed_edges c.registers ≡ None → driven_clock c ≡ None → clock_as_data c ≡ Some fault
@@ -168,8 +168,8 @@ fault_later c o p none e is = ap (λ o. option_or o (later_fault c)) none ∙ (s
 
 -- the columns that are lent
 pub lent_columns : (c : Circuit) (names lent inputs cols : List ℕ) (first : Option ℕ) → several_clocks (control_nets c) ≡ None
-    → names ≡ control_nets c → lent ≡ names → inputs ≡ c.inputs → first ≡ first_of lent
+    → names ≡ control_nets c → lent ≡ names → inputs ≡ c.inputs → first ≡ first_listed lent
     → cols ≡ filter (λ net. not (is_clock first net)) inputs → cols ≡ columns c
 lent_columns c names lent inputs cols first none a b i f e =
     e ∙ (ap (λ (xs : List ℕ). filter (λ net. not (is_clock first net)) xs) i
-    ∙ (ap (λ (o : Option ℕ). filter (λ net. not (is_clock o net)) c.inputs) (f ∙ (ap first_of b ∙ ap first_of a)) ∙ are_columns c none))
+    ∙ (ap (λ (o : Option ℕ). filter (λ net. not (is_clock o net)) c.inputs) (f ∙ (ap first_listed b ∙ ap first_listed a)) ∙ are_columns c none))

@@ -18,7 +18,7 @@ use Rattle.ds_netlist.specs.Edges.{AreNetRanks, floor_in}
 use Rattle.ds_netlist.specs.Fault.{fault_of, is_in, several_clocks, mixed_edges, driven_clock, clock_as_data, multiply_driven, undriven}
 use Rattle.ds_series.specs.Series.{Ordered}
 use Rattle.ds_design.specs.Banked.{IsBankOf}
-use Rattle.ds_netlist.specs.Verdict.{AreParts}
+use Rattle.ds_netlist.specs.Verdict.{AreNetlistParts}
 use Rattle.ds_netlist.specs.Placed.{IsSortedOrder, level_in}
 use Rattle.ds_netlist.specs.declared.fault.NetFault.TheVariants.{DrivenClock, ClockAsData}
 use Rattle.ds_netlist.proofs.Firsts.{or_none}
@@ -171,7 +171,7 @@ places_of tables levels order sorted gates same = subst (λ (ts : List Gate). Al
 -- the parts of the netlist
 pub are_parts : (c : Circuit) → IsInRange c → fault_of c ≡ None → (cols levels order : List ℕ) → cols ≡ columns c → AreNetRanks c levels
     → (tables : List Gate) (lent : List ℕ) → tables ≡ c.tables → lent ≡ levels → IsSortedOrder tables lent order
-    → (gates : List Gate) (series : Ordered) → gates ≡ c.tables → series.order ≡ order → IsBankOf gates series.tables → AreParts c cols levels series.order series.tables
+    → (gates : List Gate) (series : Ordered) → gates ≡ c.tables → series.order ≡ order → IsBankOf gates series.tables → AreNetlistParts c cols levels series.order series.tables
 are_parts c in_range none cols levels order e h tables lent a b sorted gates series here kept banked =
     let accepted = accepts c in_range none levels h in
     let own = subst (λ (ts : List Gate). IsSortedOrder ts levels order) a (subst (λ (ls : List ℕ). IsSortedOrder tables ls order) b sorted) in

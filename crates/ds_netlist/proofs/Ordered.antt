@@ -9,15 +9,15 @@ use Rattle.std.proofs.lemmas.List.FromFn.{map-range_with_len_more, length-range_
 use Rattle.std.proofs.lemmas.List.Sums.{sum_by-cons}
 use Rattle.std.proofs.lemmas.List.Sorted.{Contains-permutation, IsPermutation-sym, sum_by-IsPermutation}
 use Rattle.ds_design.specs.declared.design.Gate.{Gate}
-use Rattle.ds_netlist.specs.Steps.{times}
-use Rattle.ds_netlist.specs.Placed.{IsSortedOrder, level_in, placed, placed_at, width_in}
+use Rattle.ds_netlist.specs.Steps.{times_driven}
+use Rattle.ds_netlist.specs.Placed.{IsSortedOrder, level_in, placed_gates, placed_at, width_in}
 use Rattle.ds_netlist.specs.declared.order.Placed.{Placed}
 use Rattle.ds_netlist.proofs.Counted.{differ_once, once_differ}
 
 -- one more table
 pub placed_more : (tables : List Gate) (levels : List ℕ) (i : ℕ) (t : Gate) (level width : ℕ) → i < length tables → t ≡ get_or tables i t
     → level ≡ get_or levels t.output 0 → width ≡ min (length t.table.inputs) 7
-    → placed tables levels i ++ record { level = level; place = i; width = width } ∷ [] ≡ placed tables levels (i + 1)
+    → placed_gates tables levels i ++ record { level = level; place = i; width = width } ∷ [] ≡ placed_gates tables levels (i + 1)
 placed_more tables levels i t level width inside is same wide =
     let out : get_or (map (λ t. t.output) tables) i 0 ≡ t.output = get_or-map (λ t. t.output) tables i t 0 inside ∙ ap (λ (x : Gate). x.output) (sym is) in
     let here : level ≡ level_in tables levels i = same ∙ ap (λ n. get_or levels n 0) (sym out) in
@@ -25,10 +25,10 @@ placed_more tables levels i t level width inside is same wide =
     wide ∙ sym (get_or-map (λ (t : Gate). min (length t.table.inputs) 7) tables i t 0 inside ∙ ap (λ (x : Gate). min (length x.table.inputs) 7) (sym is)) in
     let last : placed_at tables levels i ≡ record { level = level; place = i; width = width } =
     ap (λ n. record { level = n; place = i; width = width_in tables i }) (sym here) ∙ ap (λ n. record { level = level; place = i; width = n }) (sym there) in
-    ap (λ (p : Placed). placed tables levels i ++ p ∷ []) (sym last) ∙ sym (map-range_with_len_more (placed_at tables levels) 0 i i (omega arith))
+    ap (λ (p : Placed). placed_gates tables levels i ++ p ∷ []) (sym last) ∙ sym (map-range_with_len_more (placed_at tables levels) 0 i i (omega arith))
 
 -- how often a place stands among the places
-times_places : (xs : List Placed) (k : ℕ) → times k (map (λ p. p.place) xs) ≡ sum_by (λ p. cond (p.place == k) 1 0) xs
+times_places : (xs : List Placed) (k : ℕ) → times_driven k (map (λ p. p.place) xs) ≡ sum_by (λ p. cond (p.place == k) 1 0) xs
 times_places [] k = refl
 times_places (x ∷ xs) k =
     sum_by-cons (λ other. cond (other == k) 1 0) x.place (map (λ p. p.place) xs)
@@ -46,7 +46,7 @@ module _ (tables : List Gate) (levels order : List ℕ) (h : IsSortedOrder table
   entry : (i : ℕ) (d : Placed) → i < length h.sorted → (k : ℕ) × (k < length tables) × (get_or h.sorted i d ≡ placed_at tables levels k)
   entry i d inside =
       let there : Contains h.sorted (get_or h.sorted i d) = (i, inside, get_or_default h.sorted i (get_or h.sorted i d) d inside) in
-      let (k, low, is) = Contains-permutation h.sorted (placed tables levels (length tables)) (get_or h.sorted i d) (IsPermutation-sym (placed tables levels (length tables)) h.sorted h.permuted) there in
+      let (k, low, is) = Contains-permutation h.sorted (placed_gates tables levels (length tables)) (get_or h.sorted i d) (IsPermutation-sym (placed_gates tables levels (length tables)) h.sorted h.permuted) there in
       let long = length-map-range_with_len (placed_at tables levels) 0 (length tables) in
       (k, omega arith, sym is ∙ get_or-map-range_with_len (placed_at tables levels) 0 (length tables) k k _ (omega arith) (omega arith))
 
@@ -69,20 +69,20 @@ module _ (tables : List Gate) (levels order : List ℕ) (h : IsSortedOrder table
 
   pub once_lem : AllPairs (λ j k. j ≢ k) order
   once_lem = once_differ order (λ k.
-      let a : times k order ≡ times k (map (λ (p : Placed). p.place) h.sorted) = ap (times k) (sym h.is) in
+      let a : times_driven k order ≡ times_driven k (map (λ (p : Placed). p.place) h.sorted) = ap (times_driven k) (sym h.is) in
       let b = times_places h.sorted k in
-      let c = sum_by-IsPermutation (λ (p : Placed). cond (p.place == k) 1 0) (placed tables levels (length tables)) h.sorted h.permuted in
-      let d = times_places (placed tables levels (length tables)) k in
-      let e : times k (map (λ (p : Placed). p.place) (placed tables levels (length tables))) ≡ times k (range_with_len 0 (length tables)) =
-      ap (times k) (map-map (λ (p : Placed). p.place) (placed_at tables levels) (range_with_len 0 (length tables)) ∙ map-id (range_with_len 0 (length tables))) in
+      let c = sum_by-IsPermutation (λ (p : Placed). cond (p.place == k) 1 0) (placed_gates tables levels (length tables)) h.sorted h.permuted in
+      let d = times_places (placed_gates tables levels (length tables)) k in
+      let e : times_driven k (map (λ (p : Placed). p.place) (placed_gates tables levels (length tables))) ≡ times_driven k (range_with_len 0 (length tables)) =
+      ap (times_driven k) (map-map (λ (p : Placed). p.place) (placed_at tables levels) (range_with_len 0 (length tables)) ∙ map-id (range_with_len 0 (length tables))) in
       omega (arith, differ_once (range_with_len 0 (length tables)) (range_differs (length tables)) k))
 
   pub all_lem : (k : ℕ) → k < length tables → Contains order k
   all_lem k low =
       let long = length-map-range_with_len (placed_at tables levels) 0 (length tables) in
-      let there : Contains (placed tables levels (length tables)) (placed_at tables levels k) =
+      let there : Contains (placed_gates tables levels (length tables)) (placed_at tables levels k) =
       (k, omega arith, get_or-map-range_with_len (placed_at tables levels) 0 (length tables) k k _ low (omega arith)) in
-      let (i, inside, is) = Contains-permutation (placed tables levels (length tables)) h.sorted (placed_at tables levels k) h.permuted there in (
+      let (i, inside, is) = Contains-permutation (placed_gates tables levels (length tables)) h.sorted (placed_at tables levels k) h.permuted there in (
         i,
         omega (arith, order_long),
         ap (λ (xs : List ℕ). get_or xs i k) (sym h.is)

@@ -19,12 +19,12 @@ placed_at tables levels k =
     record { level = level_in tables levels k; place = k; width = width_in tables k }
 
 -- the first tables, each with its level and width
-abbrev pub placed : List Gate → List ℕ → ℕ → List Placed
-placed tables levels count = map (placed_at tables levels) (range_with_len 0 count)
+abbrev pub placed_gates : List Gate → List ℕ → ℕ → List Placed
+placed_gates tables levels count = map (placed_at tables levels) (range_with_len 0 count)
 
 -- the places of the tables, sorted by level
 pub record IsSortedOrder (tables : List Gate) (levels order : List ℕ) : Type 0 where
   pub sorted : List Placed
-  pub permuted : IsPermutation (placed tables levels (length tables)) sorted
+  pub permuted : IsPermutation (placed_gates tables levels (length tables)) sorted
   pub rising : IsNonDecreasingBy (λ p. p.level) sorted
   pub is : map (λ p. p.place) sorted ≡ order

@@ -7,9 +7,9 @@ use Rattle.ds_netlist.specs.Fault.{multiply_driven, undriven}
 use Rattle.ds_netlist.specs.declared.fault.NetFault.{NetFault}
 
 -- the first of some names
-abbrev pub first_of : List ℕ → Option ℕ
-first_of [] = None
-first_of (name ∷ names) = Some name
+abbrev pub first_listed : List ℕ → Option ℕ
+first_listed [] = None
+first_listed (name ∷ names) = Some name
 
 -- whether a net is the clock
 abbrev pub is_clock : Option ℕ → ℕ → Bool
@@ -22,13 +22,13 @@ clock_among nets None = None
 clock_among nets (Some clock) = if is_in nets clock then Some clock else None
 
 -- how often a net stands in a list
-abbrev pub times : ℕ → List ℕ → ℕ
-times net nets = count_by (λ other. other == net) nets
+abbrev pub times_driven : ℕ → List ℕ → ℕ
+times_driven net nets = count_by (λ other. other == net) nets
 
 -- for each net below a count how often it stands in a list
 pub record AreTimes (count : ℕ) (nets counts : List ℕ) : Type 0 where
   pub size : length counts ≡ count
-  pub each : (net : ℕ) → net < count → slice_index counts net ≡ times net nets
+  pub each : (net : ℕ) → net < count → slice_index counts net ≡ times_driven net nets
 
 -- the first place with two or more
 pub record IsFirstTwice (counts : List ℕ) (k : ℕ) : Type 0 where

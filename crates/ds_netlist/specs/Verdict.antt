@@ -11,7 +11,7 @@ use Rattle.ds_netlist.specs.Named.{IsNamed}
 use Rattle.ds_netlist.specs.declared.fault.NetFault.{NetFault}
 
 -- the circuit is accepted, and these are its columns, levels, order and packed tables
-pub record AreParts (c : Circuit) (column_nets levels order : List ℕ)
+pub record AreNetlistParts (c : Circuit) (column_nets levels order : List ℕ)
     (bank : List Driven) : Type 0 where
   pub in_range : IsInRange c
   pub accepted : IsAccepted c

@@ -2,7 +2,7 @@
 ghost use Rattle.std.specs.Prelude.{◌≡◌, IfOk, IfErr, MatchResult};
 ghost use Rattle.ds_netlist.specs.Fault.{IsNetFault};
 ghost use Rattle.ds_netlist.specs.Named.{IsNamed};
-ghost use Rattle.ds_netlist.specs.Verdict.{AreParts, IsRefusal};
+ghost use Rattle.ds_netlist.specs.Verdict.{AreNetlistParts, IsRefusal};
 
 use crate::NetFault;
 use crate::clock::{first_name, two_clocks};
@@ -47,7 +47,8 @@ struct Parts {
 // The parts of the netlist, or the fault.
 fn check(alloc: Global, design: &Design) -> Result<Parts, NetFault>
     ensures checked { MatchResult result
-        (λ p. AreParts design.now p.columns.items p.levels.items p.series.order p.series.tables)
+        (λ p. AreNetlistParts design.now p.columns.items p.levels.items p.series.order
+        p.series.tables)
         (λ fault. IsRefusal design.now fault) }
 {
     let inputs = design.inputs();

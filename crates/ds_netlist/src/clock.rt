@@ -2,7 +2,7 @@
 ghost use Rattle.std.specs.Prelude.{◌≡◌, ◌<◌, ◌^◌, ◌==◌, length, not, IfSome};
 ghost use Rattle.std.specs.List.{find, position};
 ghost use Rattle.ds_netlist.specs.Fault.{is_falling, is_in, is_rising, mixed_edges, several_clocks};
-ghost use Rattle.ds_netlist.specs.Steps.{clock_among, first_of};
+ghost use Rattle.ds_netlist.specs.Steps.{clock_among, first_listed};
 
 use crate::NetFault;
 use ds_base::{NetId, RegId};
@@ -10,7 +10,7 @@ use ds_design::{Edge, Register};
 
 // The first of the names.
 pub(crate) fn first_name(names: &[NetId]) -> Option<NetId>
-    ensures value { result ≡ first_of names.now }
+    ensures value { result ≡ first_listed names.now }
 {
     names.first().copied()
 }

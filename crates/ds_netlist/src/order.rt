@@ -2,7 +2,7 @@
 //! that are kept in one list stand together.
 ghost use Rattle.std.specs.Prelude.{◌≡◌, ◌<◌, ◌^◌, length, map, min, All, IfOk, OnOk};
 ghost use Rattle.std.specs.List.Sorted.{IsNonDecreasingBy, IsPermutation};
-ghost use Rattle.ds_netlist.specs.Placed.{IsSortedOrder, placed};
+ghost use Rattle.ds_netlist.specs.Placed.{IsSortedOrder, placed_gates};
 
 use ds_design::Gate;
 use std::alloc::{AllocError, Global};
@@ -59,7 +59,8 @@ fn places_of(alloc: Global, all: &[Placed]) -> Result<Vec<u32>, AllocError>
 fn with_levels(alloc: Global, tables: &[Gate], levels: &[u64]) -> Result<Vec<Placed>, AllocError>
     requires few { length tables.now < 2 ^ 32 }
     requires inside { All (λ t. t.output < length levels.now) tables.now }
-    ensures ok { IfOk result (λ v. v.items ≡ placed tables.now levels.now (length tables.now)) }
+    ensures ok { IfOk result (λ v. v.items ≡ placed_gates tables.now levels.now
+        (length tables.now)) }
 {
     let mut all: Vec<Placed> = Vec::new(alloc);
     for (i, table) in tables.iter().enumerate() {

@@ -10,20 +10,20 @@ use Rattle.std.proofs.lemmas.List.Concat.{flat_map-cons}
 use Rattle.std.proofs.lemmas.List.Elements.{All-contains, All-filter, Contains-append_right, Contains-get_or}
 use Rattle.std.proofs.lemmas.List.FromFn.{length-range_with_len}
 use Rattle.ds_base.specs.Values.{Row}
-use Rattle.ds_base.specs.Word.{word_of}
+use Rattle.ds_base.specs.Word.{word_of, count_of_words}
 use Rattle.ds_base.proofs.Lists.{Contains-head, map_agree}
 use Rattle.ds_cover.specs.Cover.{value_at, values_at}
 use Rattle.ds_groups.proofs.Flat.{has_filter, has_flat}
 use Rattle.ds_scratch.specs.Scratch.{Kept, Memory, Remembers}
 use Rattle.ds_opening.specs.Learnt.{is_learnt}
 use Rattle.ds_opening.specs.Noted.{AreReadRows, AreRowsLearnt, IsLearnt, IsSlot}
-use Rattle.ds_opening.specs.Packed.{packed, packed_rows, words_of}
+use Rattle.ds_opening.specs.Packed.{packed, packed_rows}
 use Rattle.ds_opening.specs.declared.opening.Opening.{Opening}
 use Rattle.ds_opening.proofs.Learnt.{learnt_more, learnt_none, was_noted}
 use Rattle.ds_opening.proofs.LearntRows.{slot_noted}
 
-pub length-packed : (values : Row) → length (packed values) ≡ words_of (length values)
-length-packed values = length-map (range_with_len 0 (words_of (length values))) (word_of values) ∙ length-range_with_len 0 (words_of (length values))
+pub length-packed : (values : Row) → length (packed values) ≡ count_of_words (length values)
+length-packed values = length-map (range_with_len 0 (count_of_words (length values))) (word_of values) ∙ length-range_with_len 0 (count_of_words (length values))
 
 take_front : {X : Type 0} (xs ys : List X) (n : ℕ) → length xs ≡ n → take n (xs ++ ys) ≡ xs
 take_front [] ys n size = rw (sym size) refl
@@ -149,22 +149,22 @@ module _ {bits : List (List ℕ)} {first : ℕ} {o : Opening} {old : Kept} {know
       words_are : words ≡ packed (values_at known these) ++ all_rows known bits next.behind
       words_are = behind_first node (packed (values_at known these) ++ all_rows known bits next.behind) rest next.rest_is
 
-      size : length (packed (values_at known these)) ≡ words_of (length these)
-      size = length-packed (values_at known these) ∙ ap words_of (length-map these (value_at known))
+      size : length (packed (values_at known these)) ≡ count_of_words (length these)
+      size = length-packed (values_at known these) ∙ ap count_of_words (length-map these (value_at known))
 
-      pub room : words_of (length these) ≤ length words
+      pub room : count_of_words (length these) ≤ length words
       room =
           let long : length words ≡ length (packed (values_at known these)) + length (all_rows known bits next.behind) =
           ap (λ (xs : List ℕ). length xs) words_are ∙ length-append (packed (values_at known these)) (all_rows known bits next.behind) in
           omega (long, size, arith)
 
-      pub row_is : take (words_of (length these)) words ≡ packed (values_at known these)
-      row_is = ap (take (words_of (length these))) words_are
-          ∙ take_front (packed (values_at known these)) (all_rows known bits next.behind) (words_of (length these)) size
+      pub row_is : take (count_of_words (length these)) words ≡ packed (values_at known these)
+      row_is = ap (take (count_of_words (length these))) words_are
+          ∙ take_front (packed (values_at known these)) (all_rows known bits next.behind) (count_of_words (length these)) size
 
-      others_are : drop (words_of (length these)) words ≡ all_rows known bits next.behind
-      others_are = ap (drop (words_of (length these))) words_are
-          ∙ drop_front (packed (values_at known these)) (all_rows known bits next.behind) (words_of (length these)) size
+      others_are : drop (count_of_words (length these)) words ≡ all_rows known bits next.behind
+      others_are = ap (drop (count_of_words (length these))) words_are
+          ∙ drop_front (packed (values_at known these)) (all_rows known bits next.behind) (count_of_words (length these)) size
 
       nets_more : nets_in bits (r.done ++ node ∷ []) ≡ nets_in bits r.done ++ these
       nets_more =
@@ -174,7 +174,7 @@ module _ {bits : List (List ℕ)} {first : ℕ} {o : Opening} {old : Kept} {know
       -- one row more
       pub read_more : (new : Kept)
           → ((m : Memory) → IsSlot m o.turn (first + node) these known → Remembers m mid → IsLearnt m known these mid new)
-          → IsReadTo bits first o old known nodes (drop (words_of (length these)) words) new
+          → IsReadTo bits first o old known nodes (drop (count_of_words (length these)) words) new
       read_more new one = record {
         done = r.done ++ node ∷ [];
         left = next.behind;

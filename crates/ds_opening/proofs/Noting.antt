@@ -29,7 +29,7 @@ use Rattle.ds_opening.specs.Learnt.{is_learnt}
 use Rattle.ds_opening.specs.Noted.{AreReadRows, IsSettlingOpening, IsSlot, slots_of}
 use Rattle.ds_opening.specs.declared.opening.Opening.{Opening}
 use Rattle.ds_opening.specs.Settled.{IsSettling}
-use Rattle.ds_opening.specs.Woven.{Turn, cone_place, taken}
+use Rattle.ds_opening.specs.Woven.{Turn, cone_place, value_taken}
 use Rattle.ds_opening.proofs.Fed.{cone_finds, these_learnt}
 use Rattle.ds_opening.proofs.Settled.{sources_agree, turn_value}
 use Rattle.ds_opening.proofs.Slaves.{place_is}
@@ -166,8 +166,8 @@ module _ {s : Split} (split : IsSplit s) (range : IsInRange s.circuit)
 
   pub groups_before : AreGroupsBefore s.circuit g m o.turn
   groups_before a low = record {
-    reads = λ some. subst (λ (slots : List (List ℕ)). ReadFrom s.circuit slots a (get_or g.reads a []) (group_of g a))
-        (sym opens.memory.slots) (are.reads.each a some);
+    reads = λ free. subst (λ (slots : List (List ℕ)). ReadFrom s.circuit slots a (get_or g.reads a []) (group_of g a))
+        (sym opens.memory.slots) (are.reads.each a free);
     driven = λ later. drove later a;
   }
 
@@ -216,7 +216,7 @@ module _ {s : Split} (split : IsSplit s) (range : IsInRange s.circuit)
 
     pub value : (settled : Kept)
         → IsLearnt m known (nets_of_tables s.circuit (tables_in g list)) filled settled
-        → values_at settled.nets (nets_of s n) ≡ taken s t n
+        → values_at settled.nets (nets_of s n) ≡ value_taken s t n
     value settled set =
         these_learnt s.circuit (nets_of s n) cone is_cone (tables_in g list) grouped.order grouped.same
         known filled.nets settled.nets sources set.learns

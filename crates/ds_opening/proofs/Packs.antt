@@ -16,12 +16,12 @@ use Rattle.std.proofs.lemmas.List.FromFn.{get_or-map-range_with_len}
 use Rattle.std.proofs.lemmas.List.FromFn.{length-map-range_with_len, map-range_with_len_more}
 use Rattle.std.proofs.Math.Seq.{take-add}
 use Rattle.ds_base.specs.Values.{Row}
-use Rattle.ds_base.specs.Word.{code_of, number_of_values, word_of}
+use Rattle.ds_base.specs.Word.{code_of, number_of_values, word_of, count_of_words}
 use Rattle.ds_base.specs.declared.value.Value.{Value}
 use Rattle.ds_base.specs.declared.value.Value.TheVariants.{Zero}
 use Rattle.ds_base.proofs.Words.{code_of-few, number_of_values-drop_room, number_of_values-one_more}
 use Rattle.ds_cover.specs.Cover.{value_at, values_at}
-use Rattle.ds_opening.specs.Packed.{AreAsBefore, Learns, packed, words_of}
+use Rattle.ds_opening.specs.Packed.{AreAsBefore, Learns, packed}
 
 drop_map : {X Y : Type 0} (f : X → Y) (n : ℕ) (xs : List X) → drop n (map f xs) ≡ map f (drop n xs)
 drop_map f zero xs = refl
@@ -84,11 +84,11 @@ pub word_is_number : (known : Row) (words these part : List ℕ) (i : ℕ)
     → get_or words i 0 ≡ number_of_values (values_at known part)
 word_is_number known words these part i words_are inside part_is =
     let row : Row = values_at known these in
-    let many : length words ≡ words_of (length row) = ap (λ (ws : List ℕ). length ws) words_are
-    ∙ length-map-range_with_len (word_of row) 0 (words_of (length row)) in
-    let near : i < words_of (length row) = omega (many, inside, arith) in
+    let many : length words ≡ count_of_words (length row) = ap (λ (ws : List ℕ). length ws) words_are
+    ∙ length-map-range_with_len (word_of row) 0 (count_of_words (length row)) in
+    let near : i < count_of_words (length row) = omega (many, inside, arith) in
     ap (λ (ws : List ℕ). get_or ws i 0) words_are
-    ∙ (get_or-map-range_with_len (word_of row) 0 (words_of (length row)) i i 0 near (omega arith)
+    ∙ (get_or-map-range_with_len (word_of row) 0 (count_of_words (length row)) i i 0 near (omega arith)
     ∙ sym (number_of_part known these part i part_is))
 
 -- one word more

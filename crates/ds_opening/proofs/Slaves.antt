@@ -4,6 +4,7 @@ use Rattle.std.specs.Prelude.{All, AllPairs, Contains}
 use Rattle.std.proofs.lemmas.Bool.{cases_eq}
 use Rattle.std.proofs.lemmas.List.{append-nil, get_or_append_left, get_or_push, length-map}
 use Rattle.std.proofs.lemmas.List.Elements.{All-head, All-tail, All-weaker}
+use Rattle.ds_base.specs.Word.{count_of_words}
 use Rattle.ds_base.specs.Values.{Row}
 use Rattle.ds_cover.specs.Cover.{value_at}
 use Rattle.ds_design.specs.Circuit.{register_nets}
@@ -11,9 +12,9 @@ use Rattle.ds_latch.specs.Node.{Node, In, Out, Master, Slave, Split, IsNode, num
 use Rattle.ds_latch.specs.Numbered.{numbered}
 use Rattle.ds_latch.specs.Order.{IsDataEdge, to_slave}
 use Rattle.ds_settle.specs.Cone.{IsCone, Parts}
-use Rattle.ds_opening.specs.Packed.{packed, words_of}
+use Rattle.ds_opening.specs.Packed.{packed}
 use Rattle.ds_opening.specs.Settled.{IsSettling}
-use Rattle.ds_opening.specs.Woven.{AreCones, IsConeAt, IsFed, IsOpening, Turn, cone_place, read_of, taken, woven}
+use Rattle.ds_opening.specs.Woven.{AreCones, IsConeAt, IsFed, IsOpeningOf, Turn, cone_place, read_of, value_taken, woven}
 use Rattle.ds_opening.proofs.Filled.{behind_first, length-packed}
 
 -- a slave reads its master alone
@@ -28,7 +29,7 @@ only_one (x ∷ y ∷ xs) m all once has =
 
 -- the number of its master stands before the words
 slave_words : (s : Split) (i : ℕ) → IsNode s (Slave i) → (learnt : ℕ → Bool) → learnt (number_of (Master i)) ≡ false
-    → (from : List ℕ) (t : Turn) → IsFed s (Slave i) learnt from t → from ≡ number_of (Master i) ∷ packed (taken s t (Slave i))
+    → (from : List ℕ) (t : Turn) → IsFed s (Slave i) learnt from t → from ≡ number_of (Master i) ∷ packed (value_taken s t (Slave i))
 slave_words s i is_node learnt unlearnt from t fed =
     let masters : All (λ p. p ≡ Master i) fed.nodes = All-weaker (λ p. IsNode s p × IsDataEdge s p (Slave i)) (λ p. p ≡ Master i) (λ p both. master_only s p i both.1) fed.nodes fed.producers.each in
     let one : fed.nodes ≡ Master i ∷ [] = only_one fed.nodes (Master i) masters fed.producers.once (fed.producers.all (Master i) (to_slave is_node)) in
@@ -46,35 +47,35 @@ is_slave (Slave i) some other = (i, refl)
 
 module _ (s : Split) (vectors : List Row) (number opened : ℕ) (some : number ≢ 0) (other : ¬ ((number ≡ 1) ⊎ (number % 2 ≡ 0)))
     (learnt : ℕ → Bool) (unlearnt : (i : ℕ) → learnt (number_of (Master i)) ≡ false) (from : List ℕ)
-    (n : Node) (t : Turn) (o : IsOpening s vectors number opened learnt from n t) where
+    (n : Node) (t : Turn) (o : IsOpeningOf s vectors number opened learnt from n t) where
   slave_is : (i : ℕ) × (n ≡ Slave i)
   slave_is = is_slave n (λ e. some (sym o.is ∙ e)) (subst (λ (m : ℕ). ¬ ((m ≡ 1) ⊎ (m % 2 ≡ 0))) (sym o.is) other)
 
-  fed_slave : (i : ℕ) → n ≡ Slave i → from ≡ number_of (Master i) ∷ packed (taken s t n)
+  fed_slave : (i : ℕ) → n ≡ Slave i → from ≡ number_of (Master i) ∷ packed (value_taken s t n)
   fed_slave i is =
       let node : IsNode s (Slave i) = subst (IsNode s) is o.node in
       let fed : IsFed s (Slave i) learnt from t = subst (λ (m : Node). IsFed s m learnt from t) is o.fed in
-      slave_words s i node learnt (unlearnt i) from t fed ∙ ap (λ (m : Node). number_of (Master i) ∷ packed (taken s t m)) (sym is)
+      slave_words s i node learnt (unlearnt i) from t fed ∙ ap (λ (m : Node). number_of (Master i) ∷ packed (value_taken s t m)) (sym is)
 
   -- the words that a slave reads behind a number are those of the row that it takes
-  pub slave_takes : take (length from - 1) (drop 1 from) ≡ packed (taken s t n)
+  pub slave_takes : take (length from - 1) (drop 1 from) ≡ packed (value_taken s t n)
   slave_takes =
       let (i, is) = slave_is in
-      behind_first (number_of (Master i)) (packed (taken s t n)) from (fed_slave i is)
+      behind_first (number_of (Master i)) (packed (value_taken s t n)) from (fed_slave i is)
 
   pub slave_reads : 1 ≤ length from
   slave_reads =
       let (i, is) = slave_is in
-      let long : length from ≡ suc (length (packed (taken s t n))) = ap (λ (ws : List ℕ). length ws) (fed_slave i is) in
+      let long : length from ≡ suc (length (packed (value_taken s t n))) = ap (λ (ws : List ℕ). length ws) (fed_slave i is) in
       omega (long, arith)
 
-  pub slave_room : length (take (length from - 1) (drop 1 from)) ≡ words_of (length (nets_of s n))
+  pub slave_room : length (take (length from - 1) (drop 1 from)) ≡ count_of_words (length (nets_of s n))
   slave_room =
       let (i, is) = slave_is in
-      let size : length (taken s t (Slave i)) ≡ length (members s i) = length-map (members s i) (value_at (t.state (suc t.opened))) in
+      let size : length (value_taken s t (Slave i)) ≡ length (members s i) = length-map (members s i) (value_at (t.state (suc t.opened))) in
       let nets : length (nets_of s (Slave i)) ≡ length (members s i) = length-map (members s i) (λ r. get_or (register_nets s.circuit) r 0) in
-      ap (λ (ws : List ℕ). length ws) slave_takes ∙ (length-packed (taken s t n) ∙ (ap (λ (m : Node). words_of (length (taken s t m))) is
-      ∙ (ap words_of (size ∙ sym nets) ∙ ap (λ (m : Node). words_of (length (nets_of s m))) (sym is))))
+      ap (λ (ws : List ℕ). length ws) slave_takes ∙ (length-packed (value_taken s t n) ∙ (ap (λ (m : Node). count_of_words (length (value_taken s t m))) is
+      ∙ (ap count_of_words (size ∙ sym nets) ∙ ap (λ (m : Node). count_of_words (length (nets_of s m))) (sym is))))
 
 -- the cone of a node that settles stands at half its number
 pub place_is : (n : Node) → IsSettling n → cone_place n ≡ number_of n / 2

@@ -87,10 +87,18 @@ module _ (c : Circuit) (g : Grouping) (m : Memory) (turn a : ℕ) (known : Row)
       All-contains (λ n. n < length old.turns) (get_or g.reads a []) s within has in
       let is : (get_or old.turns s 0 ≡ turn) × (get_or old.stayed s false ≡ true) =
       All-contains (λ n. (get_or old.turns n 0 ≡ turn) × (get_or old.stayed n false ≡ true))
-      (get_or g.reads a []) s keeps.stayed.each has in
+      (get_or g.reads a []) s keeps.stayed has in
       subst (λ (n : ℕ). HoldsTurn m old.nets (n - 1) (get_or m.slots s [])) is.0
       (remembers.before s (let long : length old.turns ≡ length m.slots = remembers.turns in omega (inside, long, arith))
       (omega (is.0, keeps.later, arith)) is.1)
+
+  -- the group's own slot is not noted for the turn, so it is not in the list
+  not_own : ¬ Contains (get_or g.reads a []) a
+  not_own has =
+      let is : (get_or old.turns a 0 ≡ turn) × (get_or old.stayed a false ≡ true) =
+      All-contains (λ n. (get_or old.turns n 0 ≡ turn) × (get_or old.stayed n false ≡ true))
+      (get_or g.reads a []) a keeps.stayed has in
+      absurd (omega (is.0, keeps.noted, keeps.later, arith))
 
   held : (s net : ℕ) → HoldsTurn m old.nets (turn - 1) (get_or m.slots s [])
       → Contains (get_or m.slots s []) net → value_at old.nets net ≡ value_at before net
@@ -101,7 +109,7 @@ module _ (c : Circuit) (g : Grouping) (m : Memory) (turn a : ℕ) (known : Row)
       → All (λ net. value_at old.nets net ≡ value_at before net) (get_or c.tables k d).table.inputs
   reads k d has i e low =
       let net : ℕ = get_or (get_or c.tables k d).table.inputs i e in
-      let (s, which, here) = was.reads keeps.stayed.some k d has i e low in
+      let (s, which, here) = was.reads not_own k d has i e low in
       held s net (elim which [
         | inl e ↦ subst (λ (n : ℕ). HoldsTurn m old.nets (turn - 1) (get_or m.slots n [])) (sym e) own
         | inr listed ↦ of_slot s listed

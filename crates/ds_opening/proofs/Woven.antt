@@ -17,7 +17,7 @@ use Rattle.ds_latch.proofs.Counts.{number_below}
 use Rattle.ds_settle.specs.Cone.{IsCone, IsPartSettled, Parts}
 use Rattle.ds_opening.specs.Packed.{AreInside, AreLearnt, packed, packed_rows}
 use Rattle.ds_opening.specs.Settled.{IsSettling, IsSupplied}
-use Rattle.ds_opening.specs.Woven.{IsFed, IsSettlingAt, Turn, read_of, taken, woven}
+use Rattle.ds_opening.specs.Woven.{IsFed, IsSettlingAt, Turn, read_of, value_taken, woven}
 use Rattle.ds_opening.proofs.Settled.{settles_next_value_lem}
 use Rattle.ds_opening.proofs.Taken.{picked}
 
@@ -134,6 +134,6 @@ module _ (s : Split) (split : IsSplit s) (bits : List (List ℕ)) (one_each : le
       here ∙ source_value p is_p edge
 
   pub value : (filled settled : Row) → AreLearnt known bits numbers filled → (cone : Parts) → IsCone s.circuit (nets_of s n) cone → IsPartSettled s.circuit cone filled settled
-      → values_at settled (nets_of s n) ≡ taken s t n
+      → values_at settled (nets_of s n) ≡ value_taken s t n
   value filled settled rows cone is_cone part =
       settles_next_value_lem s split t.vectors t.state t.nets fed.run n at.node at.settling t.opened fed.below cone is_cone filled settled (supplied filled rows) part

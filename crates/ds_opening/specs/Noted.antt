@@ -15,7 +15,7 @@ use Rattle.ds_settle.specs.Cone.{Parts as Cone, net_of, nets_of_tables}
 use Rattle.ds_opening.specs.Foreseen.{node_at}
 use Rattle.ds_opening.specs.Learnt.{is_learnt}
 use Rattle.ds_opening.specs.Packed.{AreInside, AreLearnt, Learns, packed_rows}
-use Rattle.ds_opening.specs.Woven.{AreCones, IsFed, IsOpening, IsSettlingAt, Turn}
+use Rattle.ds_opening.specs.Woven.{AreCones, IsFed, IsOpeningOf, IsSettlingAt, Turn}
 use Rattle.ds_opening.specs.declared.opening.Opening.{Opening}
 
 -- what others learn of a node as they settle: the nets of IN and of a slave
@@ -57,11 +57,10 @@ abbrev pub AreGroupSlots : Circuit → Grouping → Memory → ℕ → Row → T
 AreGroupSlots c g m turn known = (a : ℕ) → a < length g.groups
     → IsSlot m turn a (nets_of_tables c (group_of g a)) known
 
--- there are slots, and all are noted for this turn and as ones that have stayed
-pub record HaveStayed (turn : ℕ) (k : Kept) (slots : List ℕ) : Type 0 where
-  pub some : 0 < length slots
-  pub each : All (λ s. (slice_index k.turns s ≡ turn) × (slice_index_or k.stayed s false ≡ true))
-      slots
+-- these slots are all noted for this turn and as ones that have stayed
+abbrev pub HaveStayed : ℕ → Kept → List ℕ → Type 0
+HaveStayed turn k slots = All (λ s. (slice_index k.turns s ≡ turn)
+    × (slice_index_or k.stayed s false ≡ true)) slots
 
 -- a group is noted for the turn before, and what it reads has stayed since
 pub record KeepsGroup (g : Grouping) (turn a : ℕ) (k : Kept) : Type 0 where
@@ -88,10 +87,10 @@ abbrev pub AreDriven : Circuit → Row → List ℕ → Type 0
 AreDriven c nets tables = (k : ℕ) (d : Gate) → Contains tables k
     → let t = slice_index_or c.tables k d in value_at nets t.output ≡ value_of t.table nets
 
--- where a group has a list of slots, what it reads is in these; and in the turn before its tables
--- drove what they compute
+-- where a group's own slot is not in its list, what it reads is in the slots of the list; and in
+-- the turn before its tables drove what they compute
 pub record IsGroupBefore (c : Circuit) (g : Grouping) (m : Memory) (turn a : ℕ) : Type 0 where
-  pub reads : 0 < length (slice_index_or g.reads a [])
+  pub reads : ¬ Contains (slice_index_or g.reads a []) a
       → ReadFrom c m.slots a (slice_index_or g.reads a []) (group_of g a)
   pub driven : 1 < turn → AreDriven c (nets_of_turn m (turn - 1)) (group_of g a)
 
@@ -134,7 +133,7 @@ FindInputs c known P (k ∷ ks) = ((d : Gate) → let t = slice_index_or c.table
     (value_at known t.output ≡ value_of t.table known) × All P t.table.inputs)
     × FindInputs c known (λ net. P net ⊎ (net ≡ net_of c k)) ks
 
--- the memory of a split design in a turn of its clocked run, which a row fits
+-- the memory of a split design in a turn of its clocked run and the one before, which a row fits
 pub record IsMemoryOf (s : Split) (g : Grouping) (turn : ℕ) (t : Turn) (m : Memory)
     (k : Kept) : Type 0 where
   pub nets : m.nets ≡ length s.circuit.nets
@@ -149,7 +148,7 @@ pub record IsMemoryOf (s : Split) (g : Grouping) (turn : ℕ) (t : Turn) (m : Me
 pub record IsNotedOpening (s : Split) (vectors : List Row) (g : Grouping) (o : Opening) (k : Kept)
     (n : Node) (t : Turn) (m : Memory) : Type 0 where
   pub some : 0 < o.turn
-  pub opening : IsOpening s vectors o.number (o.turn - 1) (is_learnt (length g.groups) k o.turn)
+  pub opening : IsOpeningOf s vectors o.number (o.turn - 1) (is_learnt (length g.groups) k o.turn)
       o.from.now n t
   pub memory : IsMemoryOf s g o.turn t m k
 

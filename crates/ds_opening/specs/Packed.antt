@@ -1,18 +1,14 @@
 -- Rows of values as words of 32 values, and nets that take their values out of words.
-use Rattle.std.specs.Prelude.{◌≡◌, ◌⊎◌, ℕ, ◌+◌, ◌/◌, ◌<◌, Bool, cond, List}
+use Rattle.std.specs.Prelude.{◌≡◌, ◌⊎◌, ℕ, ◌+◌, ◌<◌, Bool, cond, List}
 use Rattle.std.specs.Prelude.{[], ◌∷◌, ◌++◌, length, map, All, Contains, slice_index_or}
 use Rattle.std.specs.List.{range_with_len}
 use Rattle.ds_base.specs.Values.{Row}
-use Rattle.ds_base.specs.Word.{word_of}
+use Rattle.ds_base.specs.Word.{word_of, count_of_words}
 use Rattle.ds_cover.specs.Cover.{value_at, values_at}
-
--- how many words so many values take
-abbrev pub words_of : ℕ → ℕ
-words_of count = (count + 31) / 32
 
 -- the words of a row
 abbrev pub packed : Row → List ℕ
-packed values = map (word_of values) (range_with_len 0 (words_of (length values)))
+packed values = map (word_of values) (range_with_len 0 (count_of_words (length values)))
 
 -- of some nodes, one after another, the number and the words of the row that it has on known nets,
 -- without nodes whose rows are learnt

@@ -30,8 +30,8 @@ abbrev pub read_of : Split → Turn → Node → Row
 read_of s t p = numbered s t.vectors t.state t.nets p (suc t.opened - open_tokens p)
 
 -- the value that a node takes
-abbrev pub taken : Split → Turn → Node → Row
-taken s t n = numbered s t.vectors t.state t.nets n (suc t.opened)
+abbrev pub value_taken : Split → Turn → Node → Row
+value_taken s t n = numbered s t.vectors t.state t.nets n (suc t.opened)
 
 -- a node that settles has this number
 pub record IsSettlingAt (s : Split) (n : Node) (number : ℕ) : Type 0 where
@@ -59,7 +59,7 @@ abbrev pub IsConeAt : Split → ℕ → Cone → Type 0
 IsConeAt s number cone = (n : Node) → IsSettlingAt s n number → IsCone s.circuit (nets_of s n) cone
 
 -- the opening of the node with this number in a turn of a run on these vectors
-pub record IsOpening (s : Split) (vectors : List Row) (number opened : ℕ) (learnt : ℕ → Bool)
+pub record IsOpeningOf (s : Split) (vectors : List Row) (number opened : ℕ) (learnt : ℕ → Bool)
     (from : List ℕ) (n : Node) (t : Turn) : Type 0 where
   pub node : IsNode s n
   pub is : number_of n ≡ number

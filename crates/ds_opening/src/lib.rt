@@ -7,10 +7,11 @@
 //! the orders of the edges fix, the row is the node's next value in the clocked run. It works in a
 //! row that remembers, for each group and each node, of which turn it has the values
 //! (`specs/Noted`), so who opens many nodes unpacks each row and sets each table once a turn, where
-//! no slack lets it come back to one; and a group keeps its values where all that it reads has
-//! those of the turn before. Rows that are learnt so are not handed in again: `is_learnt` tells
-//! which. No graph, no counts and no place of a row come into it, so threads may share the rows as
-//! they like. `laws` has the same of the definitions alone. `open` takes no memory.
+//! no slack lets it come back to one; and a group keeps its values where all that it reads is noted
+//! as what has stayed since the turn before. Rows that are learnt so are not handed in again:
+//! `is_learnt` tells which. No graph, no counts and no place of a row come into it, so threads may
+//! share the rows as they like. `laws` has the same of the definitions alone. `open` takes no
+//! memory.
 #![tactic(auto)]
 
 mod cones;

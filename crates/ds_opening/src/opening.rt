@@ -13,13 +13,13 @@ ghost use Rattle.ds_latch.specs.Plan.{IsSplit};
 ghost use Rattle.ds_scratch.specs.Scratch.{HasSlot, Memory, Remembers};
 ghost use Rattle.ds_settle.specs.Cone.{nets_of_tables};
 ghost use Rattle.ds_opening.specs.Packed.{AreInside, packed};
-ghost use Rattle.ds_opening.specs.Packed.{words_of as words_for};
+ghost use Rattle.ds_base.specs.Word.{count_of_words};
 ghost use Rattle.ds_opening.specs.Noted.{AreConeGroups, FindInputs, AreGroupSlots, AreRowsLearnt};
 ghost use Rattle.ds_opening.specs.Noted.{AreGroupsBefore, HasReads, HaveStayed, IsAsKnown};
 ghost use Rattle.ds_opening.specs.Noted.{IsGroupBefore, KeepsGroup};
 ghost use Rattle.ds_opening.specs.Noted.{IsAsLong, IsLearnt, IsNotedOpening, IsSettlingOpening};
 ghost use Rattle.ds_opening.specs.Noted.{AreReadRows, IsSlot};
-ghost use Rattle.ds_opening.specs.Woven.{Turn, taken};
+ghost use Rattle.ds_opening.specs.Woven.{Turn, value_taken};
 
 use crate::packed::{push_all, push_row, push_words, put_values, words_of};
 use ds_base::{NetId, Seq};
@@ -41,9 +41,9 @@ pub struct Opening<'a> {
 /// producers' rows: of IN the next vector, of a slave the row of its master, of the others what
 /// settles. That is worked out in a row that remembers: what another node has learnt or set in this
 /// turn is not learnt or set again, and rows that are learnt (`is_learnt`) are not among those of
-/// the opening. A group that reads nothing but what has stayed since the turn before keeps its
-/// values. The slots of the row are those of the groups, then one of each node: IN and the slaves
-/// are learnt. It takes no memory.
+/// the opening. A group keeps its values where all that it reads is noted as what has stayed since
+/// the turn before. The slots of the row are those of the groups, then one of each node: IN and the
+/// slaves are learnt. It takes no memory.
 pub fn open(
     latches: &Latches,
     vectors: &Vectors,
@@ -58,11 +58,12 @@ pub fn open(
     requires opening { (n : Node) × (t : Turn) × (m : Memory)
         × IsNotedOpening latches.now vectors.now.rows groups.now opening.now scratch.old n t m }
     requires room { (n : Node) → IsNode latches.now n → number_of n ≡ opening.now.number
-        → vec_len into.old + words_for (length (nets_of latches.now n)) ≤ vec_capacity into.old }
+        → vec_len into.old + count_of_words (length (nets_of latches.now n)) ≤ vec_capacity
+        into.old }
 
     ensures value { (n : Node) (t : Turn) (m : Memory)
         → IsNotedOpening latches.now vectors.now.rows groups.now opening.now scratch.old n t m
-        → into.new.items ≡ into.old.items ++ packed (taken latches.now t n) }
+        → into.new.items ≡ into.old.items ++ packed (value_taken latches.now t n) }
     ensures remembers { (n : Node) (t : Turn) (m : Memory)
         → IsNotedOpening latches.now vectors.now.rows groups.now opening.now scratch.old n t m
         → Remembers m scratch.new }
@@ -99,11 +100,12 @@ fn open_groups(
     requires settling { (n : Node) × (t : Turn) × (m : Memory)
         × IsSettlingOpening latches.now groups.now opening.now scratch.old n t m }
     requires room { (n : Node) → IsNode latches.now n → number_of n ≡ opening.now.number
-        → vec_len into.old + words_for (length (nets_of latches.now n)) ≤ vec_capacity into.old }
+        → vec_len into.old + count_of_words (length (nets_of latches.now n)) ≤ vec_capacity
+        into.old }
 
     ensures value { (n : Node) (t : Turn) (m : Memory)
         → IsSettlingOpening latches.now groups.now opening.now scratch.old n t m
-        → into.new.items ≡ into.old.items ++ packed (taken latches.now t n) }
+        → into.new.items ≡ into.old.items ++ packed (value_taken latches.now t n) }
     ensures remembers { (n : Node) (t : Turn) (m : Memory)
         → IsSettlingOpening latches.now groups.now opening.now scratch.old n t m
         → Remembers m scratch.new }
@@ -150,7 +152,7 @@ fn learn_row(row: &[u64], these: &[NetId], slot: usize, turn: u64, scratch: &mut
     requires turn { 0 < turn }
     requires within { AreInside these.now scratch.old.nets }
     requires slot { HasSlot slot scratch.old }
-    requires words { length row.now ≡ words_for (length these.now) }
+    requires words { length row.now ≡ count_of_words (length these.now) }
 
     ensures value { (m : Memory) (known : Row) → IsSlot m turn slot these.now known
         → row.now ≡ packed (values_at known these.now) → Remembers m scratch.old
@@ -185,7 +187,7 @@ fn set_groups(netlist: &Netlist, groups: &Groups, list: &[u32], turn: u64, scrat
     }
 }
 
-// The same of one group. Where all that it reads has stayed, it keeps its values.
+// The same of one group. Where all that it reads is noted as what has stayed, it keeps its values.
 fn set_group(netlist: &Netlist, groups: &Groups, number: usize, turn: u64, scratch: &mut Scratch)
     requires turn { 0 < turn }
     requires packed { IsBankOf netlist.now.tables groups.now.bank }
@@ -216,19 +218,20 @@ fn set_group(netlist: &Netlist, groups: &Groups, number: usize, turn: u64, scrat
     }
 }
 
-// Whether a group is noted for the turn before, and all that it reads has stayed since.
+// Whether a group is noted for the turn before, and each slot of its list as one that has stayed
+// since.
 fn keeps(groups: &Groups, number: usize, turn: u64, scratch: &Scratch) -> bool
     requires number { number < length groups.now.groups }
     requires slots { HasReads groups.now scratch.now }
     ensures { IsTrue result → KeepsGroup groups.now turn number scratch.now }
 {
-    groups.looks()
+    groups.has_reads()
         && turn > 1
         && have_stayed(groups.reads(number), turn, scratch)
         && scratch.is_noted(number, turn - 1)
 }
 
-// Whether there are slots, and each has stayed in this turn.
+// Whether each of these slots has stayed in this turn.
 fn have_stayed(slots: &[usize], turn: u64, scratch: &Scratch) -> bool
     requires { All (λ s. HasSlot s scratch.now) slots.now }
     ensures { IsTrue result → HaveStayed turn scratch.now slots.now }
@@ -238,5 +241,5 @@ fn have_stayed(slots: &[usize], turn: u64, scratch: &Scratch) -> bool
             return false;
         }
     }
-    slots.len() > 0
+    true
 }

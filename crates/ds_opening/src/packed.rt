@@ -2,16 +2,16 @@
 ghost use Rattle.std.specs.Prelude.{◌≡◌, ◌≤◌, ◌<◌, ◌+◌, ◌*◌, IsTrue, ℕ};
 ghost use Rattle.std.specs.Prelude.{◌++◌, length, take, drop, All, vec_len, vec_capacity};
 ghost use Rattle.ds_base.specs.Values.{Row};
-ghost use Rattle.ds_base.specs.Word.{number_of_values, word_of};
+ghost use Rattle.ds_base.specs.Word.{count_of_words, number_of_values, word_of};
 ghost use Rattle.ds_cover.specs.Cover.{values_at};
 ghost use Rattle.ds_settle.specs.Settle.{LeavesOthers};
-ghost use Rattle.ds_opening.specs.Packed.{AreAsBefore, Learns, packed, words_of as words_for};
+ghost use Rattle.ds_opening.specs.Packed.{AreAsBefore, Learns, packed};
 
 use ds_base::{NetId, Row3, Value};
 
 // How many words so many values take.
 pub(crate) fn words_of(count: usize) -> usize
-    ensures { result ≡ words_for count }
+    ensures { result ≡ count_of_words count }
 {
     if count % 32 == 0 {
         count / 32
@@ -23,7 +23,7 @@ pub(crate) fn words_of(count: usize) -> usize
 // Puts the words of these nets' values behind what stands in `into`.
 pub(crate) fn push_words(nets: &Row3, these: &[NetId], into: &mut Vec<u64>)
     requires within { All (λ net. net < length nets.now) these.now }
-    requires room { vec_len into.old + words_for (length these.now) ≤ vec_capacity into.old }
+    requires room { vec_len into.old + count_of_words (length these.now) ≤ vec_capacity into.old }
     ensures value { into.new.items ≡ into.old.items ++ packed (values_at nets.now these.now) }
     ensures room { vec_capacity into.new ≡ vec_capacity into.old }
 {
@@ -34,7 +34,7 @@ pub(crate) fn push_words(nets: &Row3, these: &[NetId], into: &mut Vec<u64>)
 
 // Puts the words of a row behind what stands in `into`.
 pub(crate) fn push_row(row: &Row3, into: &mut Vec<u64>)
-    requires room { vec_len into.old + words_for (length row.now) ≤ vec_capacity into.old }
+    requires room { vec_len into.old + count_of_words (length row.now) ≤ vec_capacity into.old }
     ensures value { into.new.items ≡ into.old.items ++ packed row.now }
     ensures room { vec_capacity into.new ≡ vec_capacity into.old }
 {
@@ -76,10 +76,10 @@ fn word_from(nets: &Row3, these: &[NetId]) -> u64
     word
 }
 
-// Gives these nets the values that stand in words. Tells whether they had them before.
+// Gives these nets the values that stand in words. Where it tells true, no net has changed.
 pub(crate) fn put_values(words: &[u64], these: &[NetId], nets: &mut Row3) -> bool
     requires within { All (λ net. net < length nets.old) these.now }
-    requires words { length words.now ≡ words_for (length these.now) }
+    requires words { length words.now ≡ count_of_words (length these.now) }
     ensures value { (known : Row) → words.now ≡ packed (values_at known these.now)
         → Learns known these.now nets.old nets.new }
     ensures others { LeavesOthers these.now nets.old nets.new }
@@ -99,8 +99,8 @@ pub(crate) fn put_values(words: &[u64], these: &[NetId], nets: &mut Row3) -> boo
     stayed
 }
 
-// Gives these nets the values that stand in a word, the first of them the lowest. Tells whether
-// they had them before.
+// Gives these nets the values that stand in a word, the first of them the lowest. Where it tells
+// true, no net has changed.
 fn put_word(word: u64, these: &[NetId], nets: &mut Row3) -> bool
     requires within { All (λ net. net < length nets.old) these.now }
     ensures value { (known : Row) → word ≡ number_of_values (values_at known these.now)

@@ -9,7 +9,7 @@ use Rattle.std.specs.List.{slice_index, slice_index_or}
 use Rattle.ds_base.specs.Greatest.{greatest}
 use Rattle.ds_order.specs.declared.edge.Edge.{Edge}
 use Rattle.ds_order.specs.Order.{HasEdge, IsRanks, source_at, target_at}
-use Rattle.ds_order.specs.Search.{HasRoom, IsLinkedTo, IsSearch, State, one_if_done, one_if_on}
+use Rattle.ds_order.specs.Search.{EndsAreNodes, HasRoom, IsLast, IsLinkedTo, IsSearch, State, one_if_done, one_if_on}
 
 -- the node at the end of the path is on the path
 pub top : (edges : List Edge) (floors : List ℕ) (s : State) → IsSearch edges floors s
@@ -28,6 +28,23 @@ edge_in edges floors s h node p inside at = (
       let own : target_at edges (get_or s.next node 0 - 1) ≡ node = h.own node inside (omega arith) in
       subst (λ (k : ℕ). target_at edges k ≡ node) (rw at back) own,
 )
+
+-- the edge to look at next: it and its source are there, and it leads into the end of the path
+pub record IsNext (edges : List Edge) (floors : List ℕ) (s : State) (node p : ℕ) : Type 0 where
+  pub at : get_or s.next node 0 ≡ p + 1
+  pub known : node < length floors
+  pub edge : p < length edges
+  pub source : source_at edges p < length floors
+  pub leads : HasEdge edges (source_at edges p) node
+  pub on : get_or s.color node 0 ≡ 1
+
+pub next_edge : {edges : List Edge} {floors : List ℕ} {s : State} {node : ℕ} → EndsAreNodes (length floors) edges → IsSearch edges floors s → IsLast s.path node
+    → (k : ℕ) → k ≡ get_or s.next node 0 → k ≢ 0 → IsNext edges floors s node (k - 1)
+next_edge {edges = edges} {floors = floors} {s = s} {node = node} ends h last k is some =
+    let on = top edges floors s h node last.0 last.1 in
+    let at : get_or s.next node 0 ≡ k - 1 + 1 = omega arith in
+    let edge = edge_in edges floors s h node (k - 1) on.0 at in
+    record { at = at; known = on.0; edge = edge.0; source = (ends (k - 1) edge.0).0; leads = (k - 1, edge.0, refl, edge.1); on = on.1 }
 
 -- each node has the color of the nodes that are not met
 color_two : (n v : ℕ) → v < n → get_or (replicate {A = ℕ} n 2) v 0 ≡ 2

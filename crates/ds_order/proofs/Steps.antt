@@ -8,7 +8,7 @@ use Rattle.std.proofs.lemmas.List.{get_or-take}
 use Rattle.ds_base.specs.Greatest.{greatest}
 use Rattle.ds_order.specs.declared.edge.Edge.{Edge}
 use Rattle.ds_order.specs.Order.{HasEdge, source_at, target_at}
-use Rattle.ds_order.specs.Search.{AreEnds, IsSearch, State, one_if_done, one_if_on}
+use Rattle.ds_order.specs.Search.{EndsAreNodes, IsSearch, State, one_if_done, one_if_on}
 use Rattle.ds_order.proofs.At.{at_set, at_push, sum_set}
 
 -- the state after the node at the end of the path is done
@@ -30,7 +30,7 @@ passed s node source p = record s {
 max_cases : (a b : ℕ) → ((max a b ≡ a) × (b ≤ a)) ⊎ ((max a b ≡ b) × (a ≤ b))
 max_cases a b = elim (cases_lt a b) [ inl lt ↦ inr (omega arith, omega arith) | inr le ↦ inl (omega arith, omega arith) ]
 
-module _ (edges : List Edge) (floors : List ℕ) (s : State) (ends : AreEnds (length floors) edges)
+module _ (edges : List Edge) (floors : List ℕ) (s : State) (ends : EndsAreNodes (length floors) edges)
     (h : IsSearch edges floors s) where
   -- the node at the end of the path is done, where nothing is left to look at
   module _ (node : ℕ) (some : 0 < length s.path) (last : get_or s.path (length s.path - 1) 0 ≡ node)

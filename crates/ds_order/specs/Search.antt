@@ -14,8 +14,8 @@ pub record State : Type 0 where
   pub path : List ℕ
 
 -- the ends of the edges are nodes
-abbrev pub AreEnds : ℕ → List Edge → Type 0
-AreEnds count edges = (k : ℕ) → k < length edges
+abbrev pub EndsAreNodes : ℕ → List Edge → Type 0
+EndsAreNodes count edges = (k : ℕ) → k < length edges
     → (source_at edges k < count) × (target_at edges k < count)
 
 -- each of the first edges leads on to the last one before it with its target
@@ -110,6 +110,6 @@ pub record IsVisit (edges : List Edge) (floors : List ℕ) (root : ℕ) (old new
   pub lower : (v : ℕ) → slice_index new.color v ≤ slice_index old.color v
 
 -- no node is met yet
-pub record IsBegun (edges : List Edge) (floors : List ℕ) (s : State) : Type 0 where
+pub record IsSearchBegun (edges : List Edge) (floors : List ℕ) (s : State) : Type 0 where
   pub kept : IsSearch edges floors s
   pub empty : s.path ≡ []

@@ -2,7 +2,7 @@
 ghost use Rattle.std.specs.Prelude.{◌≡◌, ◌+◌, ◌<◌, ◌≤◌, ◌^◌, ℕ, length, IfOk, Err, slice_index};
 ghost use Rattle.ds_base.specs.Greatest.{greatest};
 ghost use Rattle.ds_order.specs.Order.{HasEdge, IsCycle, IsRanks};
-ghost use Rattle.ds_order.specs.Search.{AreEnds, HasRoom};
+ghost use Rattle.ds_order.specs.Search.{EndsAreNodes, HasRoom};
 
 use crate::search::Search;
 use crate::{Edge, OrderFault};
@@ -12,7 +12,7 @@ use std::alloc::Global;
 /// the edges into it. Where edges lead in a circle there is none, and the nodes of one are shown,
 /// the least first, each with an edge to the next and the last to the first.
 pub fn ranks(alloc: Global, floors: &[u64], edges: &[Edge]) -> Result<Vec<u64>, OrderFault>
-    requires ends { AreEnds (length floors.now) edges.now }
+    requires ends { EndsAreNodes (length floors.now) edges.now }
     requires few { length floors.now < 2 ^ 32 }
     requires room { HasRoom floors.now }
 

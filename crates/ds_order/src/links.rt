@@ -1,6 +1,6 @@
 //! The edges into each node.
 ghost use Rattle.std.specs.Prelude.{◌≡◌, ◌<◌, ◌≤◌, ◌^◌, ℕ, List, length, All, IfOk};
-ghost use Rattle.ds_order.specs.Search.{AreEnds, IsLinkedTo};
+ghost use Rattle.ds_order.specs.Search.{EndsAreNodes, IsLinkedTo};
 
 use crate::Edge;
 use ds_base::OutOfMemory;
@@ -13,7 +13,7 @@ pub(crate) fn links(
     count: usize,
     edges: &[Edge],
 ) -> Result<(Vec<usize>, Vec<usize>), OutOfMemory>
-    requires ends { AreEnds count edges.now }
+    requires ends { EndsAreNodes count edges.now }
     ensures { IfOk result (λ r. (length r.0.items ≡ count)
         × IsLinkedTo count edges.now (length edges.now) r.0.items r.1.items) }
 {

@@ -3,7 +3,8 @@ ghost use Rattle.std.specs.Prelude.{◌≡◌, ◌<◌, ◌≤◌, ◌^◌, ◌+
 ghost use Rattle.std.specs.Prelude.{None, length, max, sum, take, All, MatchOption, Err, IfOk};
 ghost use Rattle.std.specs.Prelude.{IfErr, OnOk, OnErr, slice_index, slice_set};
 ghost use Rattle.ds_order.specs.Order.{HasEdge, IsCycle};
-ghost use Rattle.ds_order.specs.Search.{AreEnds, HasRoom, IsBegun, IsLast, IsSearch, IsStep};
+ghost use Rattle.ds_order.specs.Search.{EndsAreNodes, HasRoom, IsSearchBegun, IsLast, IsSearch};
+ghost use Rattle.ds_order.specs.Search.{IsStep};
 ghost use Rattle.ds_order.specs.Search.{IsVisit, State};
 
 use crate::cycle::cycle_through;
@@ -40,8 +41,8 @@ impl Model for Search {
 
 impl Search {
     pub(crate) fn new(alloc: Global, floors: &[u64], edges: &[Edge]) -> Result<Search, OutOfMemory>
-        requires ends { AreEnds (length floors.now) edges.now }
-        ensures { IfOk result (IsBegun edges.now floors.now) }
+        requires ends { EndsAreNodes (length floors.now) edges.now }
+        ensures { IfOk result (IsSearchBegun edges.now floors.now) }
     {
         let (next, link) = links(alloc, floors.len(), edges)?;
         Ok(Search {
@@ -74,7 +75,7 @@ impl Search {
         edges: &[Edge],
         root: u32,
     ) -> Result<(), OrderFault>
-        requires ends { AreEnds (length floors.now) edges.now }
+        requires ends { EndsAreNodes (length floors.now) edges.now }
         requires room { HasRoom floors.now }
         requires search { IsSearch edges.now floors.now self.old }
         requires fresh { (self.old.path ≡ []) × (root < length floors.now)
@@ -121,7 +122,7 @@ impl Search {
         edges: &[Edge],
         node: u32,
     ) -> Result<(), OrderFault>
-        requires ends { AreEnds (length floors.now) edges.now }
+        requires ends { EndsAreNodes (length floors.now) edges.now }
         requires room { HasRoom floors.now }
         requires search { IsSearch edges.now floors.now self.old }
         requires last { IsLast self.old.path node }

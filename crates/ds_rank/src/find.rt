@@ -1,7 +1,7 @@
 //! Ranks by the order that the arcs without tokens ask for.
 ghost use Rattle.std.specs.Prelude.{◌≡◌, ◌⊎◌, length, replicate, IfErr, IfOk};
 ghost use Rattle.ds_rank.specs.Rank.{AreRanks, IsRankFault};
-ghost use Rattle.ds_rank.specs.Free.{IsFreePart, edge_of};
+ghost use Rattle.ds_rank.specs.Free.{IsFreePart, edge_of_arc};
 ghost use Rattle.ds_rank.specs.declared.fault.RankFault.TheVariants.{Cycle, Memory};
 
 use crate::{RankFault, Ranks};
@@ -53,7 +53,7 @@ fn free_edges(alloc: Global, arcs: &[Arc]) -> Result<Vec<Edge>, AllocError>
 
 // The edge of an arc.
 fn edge_along(arc: &Arc) -> Edge
-    ensures { result ≡ edge_of arc.now }
+    ensures { result ≡ edge_of_arc arc.now }
 {
     Edge {
         source: arc.source.number(),

@@ -8,15 +8,17 @@ use Rattle.std.proofs.lemmas.List.{length-map}
 use Rattle.ds_names.specs.Names.{place_of_name}
 use Rattle.ds_marked.specs.Log.{event_text}
 use Rattle.ds_marked.specs.Graph.{Graph, IsEnabled}
-use Rattle.ds_marked.specs.Blocked.{IsBlocked, IsFirstLacking, Lacks}
+use Rattle.ds_marked.specs.Blocked.{IsBlocked, IsFirstLackingArc, Lacks}
 use Rattle.ds_marked.specs.declared.marked.Arc.{Arc}
 use Rattle.ds_marked.specs.declared.blocked.Blocked.{Blocked}
 use Rattle.ds_marked.specs.declared.blocked.Blocked.TheVariants as blocked
 use Rattle.std.specs.Str.Parse.{digits_value}
+use Rattle.ds_lines.specs.First.{first_of}
+use Rattle.ds_lines.specs.Words.{first_word}
 use Rattle.ds_events.proofs.Numbers.{both}
 use Rattle.ds_events.specs.Texts.{event_by_text, event_texts}
-use Rattle.ds_replay.specs.Word.{first_word, second_word, turn_of}
-use Rattle.ds_replay.specs.Replay.{event_fault, fault_of, first_of, lacks, least_lacking}
+use Rattle.ds_replay.specs.Word.{second_word, turn_of}
+use Rattle.ds_replay.specs.Replay.{event_fault, fault_of_firing, lacks_token, least_lacking}
 use Rattle.ds_replay.specs.Step.{kind_of}
 use Rattle.ds_replay.specs.declared.fault.ReplayKind.{ReplayKind}
 use Rattle.ds_replay.specs.declared.fault.ReplayKind.TheVariants.{WrongTurn}
@@ -27,14 +29,14 @@ abbrev any : Arc
 any = record { source = 0; target = 0; tokens = 0 }
 
 module _ (g : Graph) (limit : ℕ) (count : ℕ → ℕ) (v : ℕ) where
-  pub lacks_true : (arc : Arc) → Lacks count v arc → lacks count v arc ≡ true
+  pub lacks_true : (arc : Arc) → Lacks count v arc → lacks_token count v arc ≡ true
   lacks_true arc (target, low) = rw (eq-eqb arc.target v target, lt-ltb (count arc.source + arc.tokens) (count v + 1) low) refl
 
-  pub lacks_is : (arc : Arc) → lacks count v arc ≡ true → Lacks count v arc
+  pub lacks_is : (arc : Arc) → lacks_token count v arc ≡ true → Lacks count v arc
   lacks_is arc is = let (target, low) = both _ _ is in (eqb-true arc.target v target, ltb-true (count arc.source + arc.tokens) (count v + 1) low)
 
-  lacks_false : (arc : Arc) → ¬ Lacks count v arc → lacks count v arc ≡ false
-  lacks_false arc not_so = elim (cases_Bool (lacks count v arc)) [ inl is ↦ absurd (not_so (lacks_is arc is)) | inr fails ↦ fails ]
+  lacks_false : (arc : Arc) → ¬ Lacks count v arc → lacks_token count v arc ≡ false
+  lacks_false arc not_so = elim (cases_Bool (lacks_token count v arc)) [ inl is ↦ absurd (not_so (lacks_is arc is)) | inr fails ↦ fails ]
 
   -- the number is another one
   pub other_turn : (turn : ℕ) → turn ≢ count v + 1 → event_fault g limit count v turn ≡ Some WrongTurn
@@ -44,8 +46,8 @@ module _ (g : Graph) (limit : ℕ) (count : ℕ → ℕ) (v : ℕ) where
     right : (turn == (count v + 1)) ≡ true
     right = eq-eqb turn (count v + 1) same
 
-    pub least_is : (a : ℕ) → IsFirstLacking count v g.arcs a → least_lacking g count v ≡ a
-    least_is a first = position_or_len_is (lacks count v) g.arcs a any (let inside : a < length g.arcs = first.inside in omega arith)
+    pub least_is : (a : ℕ) → IsFirstLackingArc count v g.arcs a → least_lacking g count v ≡ a
+    least_is a first = position_or_len_is (lacks_token count v) g.arcs a any (let inside : a < length g.arcs = first.inside in omega arith)
         (λ k below. lacks_false (get_or g.arcs k any) (first.before k any (omega arith) below))
         (λ _. lacks_true (get_or g.arcs a any) (first.lacks any))
 
@@ -63,7 +65,7 @@ module _ (g : Graph) (limit : ℕ) (count : ℕ → ℕ) (v : ℕ) where
     enabled_is enabled =
         let below : nat_lt (count v) limit ≡ true = lt-ltb (count v) limit enabled.below in
         let at : least_lacking g count v ≡ length g.arcs =
-        position_or_len_is (lacks count v) g.arcs (length g.arcs) any (omega arith) (λ k inside. lacks_false (get_or g.arcs k any) (λ (target, low). (let ready : count v + 1 ≤ count (get_or g.arcs k any).source + (get_or g.arcs k any).tokens = enabled.ready k any inside target in omega arith))) (λ inside. absurd (omega arith)) in
+        position_or_len_is (lacks_token count v) g.arcs (length g.arcs) any (omega arith) (λ k inside. lacks_false (get_or g.arcs k any) (λ (target, low). (let ready : count v + 1 ≤ count (get_or g.arcs k any).source + (get_or g.arcs k any).tokens = enabled.ready k any inside target in omega arith))) (λ inside. absurd (omega arith)) in
         let none : nat_lt (length g.arcs) (length g.arcs) ≡ false = le-ltb (length g.arcs) (length g.arcs) (omega arith) in
         rw (right, below, at, none) refl
 
@@ -74,7 +76,7 @@ alone (Some kind) = refl
 
 -- what is wrong with a line of two words and a known event is what is wrong with the event
 pub line_is : (g : Graph) (limit : ℕ) (count : ℕ → ℕ) (words : List (List ℕ)) (turn v : ℕ) (o : Option ReplayKind) → turn_of words ≡ Some turn → v ≡ event_by_text g (first_word words) → v < length g.events
-    → event_fault g limit count v turn ≡ o → fault_of g limit count words ≡ o
+    → event_fault g limit count v turn ≡ o → fault_of_firing g limit count words ≡ o
 line_is g limit count words turn v o is at inside event =
     let (firing, number) = number_is words turn is in
     let known : nat_lt (event_by_text g (first_word words)) (length g.events) ≡ true = lt-ltb (event_by_text g (first_word words)) (length g.events) (omega (arith, at, inside)) in

@@ -13,8 +13,10 @@ use Rattle.std.proofs.lemmas.List.Sums.{position_or_len_is, fails_before_first, 
 use Rattle.std.proofs.lemmas.Option.{slice_get-get_or, slice_get_past}
 use Rattle.std.proofs.lemmas.Slice.Eq.{bytes_eq-Decides}
 use Rattle.std.proofs.lemmas.Str.Parse.{digit_from_value}
+use Rattle.ds_lines.specs.First.{where_true, first_of}
+use Rattle.ds_lines.specs.Words.{first_word}
 use Rattle.ds_marked.specs.Graph.{Graph}
-use Rattle.ds_marked.specs.Blocked.{IsFirstLacking}
+use Rattle.ds_marked.specs.Blocked.{IsFirstLackingArc}
 use Rattle.ds_marked.specs.declared.marked.Arc.{Arc}
 use Rattle.ds_marked.specs.declared.marked.Event.{Event}
 use Rattle.ds_marked.specs.declared.marked.Kind.TheVariants.{Rise}
@@ -23,8 +25,8 @@ use Rattle.ds_events.proofs.Numbers.{all_digits, both}
 use Rattle.ds_events.proofs.Places.{place_some}
 use Rattle.ds_events.specs.Number.{is_decimal, is_short_number}
 use Rattle.ds_events.specs.Texts.{event_by_text, event_texts}
-use Rattle.ds_replay.specs.Word.{first_word, is_firing, second_word}
-use Rattle.ds_replay.specs.Replay.{event_fault, fault_of, first_of, lacks, least_lacking, where_true}
+use Rattle.ds_replay.specs.Word.{is_firing, second_word}
+use Rattle.ds_replay.specs.Replay.{event_fault, fault_of_firing, lacks_token, least_lacking}
 use Rattle.ds_replay.specs.Legal.{HasKind, HasOwnTexts}
 use Rattle.ds_replay.specs.declared.fault.ReplayKind.{ReplayKind}
 use Rattle.ds_replay.specs.declared.fault.ReplayKind.TheVariants.{BadWord, UnknownEvent, WrongTurn, OverLimit, NotEnabled}
@@ -144,15 +146,15 @@ module _ (g : Graph) where
 
   module _ (limit : ℕ) (count : ℕ → ℕ) (words : List (List ℕ)) where
     -- the least arc into an event that lacks a token
-    lacking : (v : ℕ) → least_lacking g count v < length g.arcs → IsFirstLacking count v g.arcs (least_lacking g count v)
+    lacking : (v : ℕ) → least_lacking g count v < length g.arcs → IsFirstLackingArc count v g.arcs (least_lacking g count v)
     lacking v inside = record {
       inside = inside;
-      lacks = λ d. lacks_is g limit count v (get_or g.arcs (least_lacking g count v) d) (passes_at_first (lacks count v) g.arcs d inside);
-      before = λ k d from below is. false≢true (sym (fails_before_first (lacks count v) g.arcs k d below) ∙ lacks_true g limit count v (get_or g.arcs k d) is);
+      lacks = λ d. lacks_is g limit count v (get_or g.arcs (least_lacking g count v) d) (passes_at_first (lacks_token count v) g.arcs d inside);
+      before = λ k d from below is. false≢true (sym (fails_before_first (lacks_token count v) g.arcs k d below) ∙ lacks_true g limit count v (get_or g.arcs k d) is);
     }
 
     -- a line without a fault
-    pub clean : fault_of g limit count words ≡ None → IsFiringLine g limit count words (event_by_text g (first_word words))
+    pub clean : fault_of_firing g limit count words ≡ None → IsFiringLine g limit count words (event_by_text g (first_word words))
     clean none =
         let v : ℕ = event_by_text g (first_word words) in
         let turn : ℕ = digits_value 10 (second_word words) in
@@ -172,8 +174,8 @@ module _ (g : Graph) where
             below = ltb-true (count v) limit below;
             ready = λ k d at target. elim (cases_lt (count (get_or g.arcs k d).source + (get_or g.arcs k d).tokens) (count v + 1)) [
               | inl low ↦
-                  (let some : list_any (lacks count v) g.arcs ≡ true = list_any_at (lacks count v) g.arcs k d at (lacks_true g limit count v (get_or g.arcs k d) (target, low)) in
-                  let first : least_lacking g count v < length g.arcs = place_some (lacks count v) g.arcs some in
+                  (let some : list_any (lacks_token count v) g.arcs ≡ true = list_any_at (lacks_token count v) g.arcs k d at (lacks_true g limit count v (get_or g.arcs k d) (target, low)) in
+                  let first : least_lacking g count v < length g.arcs = place_some (lacks_token count v) g.arcs some in
                   absurd (false≢true (sym ready ∙ lt-ltb (least_lacking g count v) (length g.arcs) first)))
               | inr high ↦ high
             ];
@@ -181,7 +183,7 @@ module _ (g : Graph) where
         }
 
     -- and the other way round
-    pub clean_is : HasOwnTexts g → (v : ℕ) → IsFiringLine g limit count words v → (fault_of g limit count words ≡ None) × (event_by_text g (first_word words) ≡ v)
+    pub clean_is : HasOwnTexts g → (v : ℕ) → IsFiringLine g limit count words v → (fault_of_firing g limit count words ≡ None) × (event_by_text g (first_word words) ≡ v)
     clean_is own v is =
         let first : first_word words ≡ is.name = ap first_word is.two_words in
         let second : second_word words ≡ is.turn = ap second_word is.two_words in
@@ -223,7 +225,7 @@ module _ (g : Graph) (limit : ℕ) (count : ℕ → ℕ) (name turn : List ℕ) 
       faulty_arc below first =
           let v : ℕ = event_by_text g name in
           let a : ℕ = least_lacking g count v in
-          let is : IsFirstLacking count v g.arcs a = lacking g limit count [] v first in (
+          let is : IsFirstLackingArc count v g.arcs a = lacking g limit count [] v first in (
             not_enabled v number is_event next below (λ enabled.
                 let (target, low) = is.lacks any_arc in
                 let ready : count v + 1 ≤ count (get_or g.arcs a any_arc).source + (get_or g.arcs a any_arc).tokens = enabled.ready a any_arc first target in
@@ -232,19 +234,19 @@ module _ (g : Graph) (limit : ℕ) (count : ℕ → ℕ) (name turn : List ℕ) 
           )
 
 -- what is wrong with a line is a fault of it
-pub faulty : (g : Graph) (limit : ℕ) (count : ℕ → ℕ) (words : List (List ℕ)) (kind : ReplayKind) → fault_of g limit count words ≡ Some kind → Faulty g limit count words kind
+pub faulty : (g : Graph) (limit : ℕ) (count : ℕ → ℕ) (words : List (List ℕ)) (kind : ReplayKind) → fault_of_firing g limit count words ≡ Some kind → Faulty g limit count words kind
 faulty g limit count words kind e =
-    let fault : Option ReplayKind = fault_of g limit count words in
+    let fault : Option ReplayKind = fault_of_firing g limit count words in
     let name : List ℕ = first_word words in
     let turn : List ℕ = second_word words in
     let v : ℕ = event_by_text g (first_word words) in
     elim (cases_Bool (is_firing words)) [
-      | inr not_so ↦ (let is : fault_of g limit count words ≡ Some BadWord = rw not_so refl in subst (Faulty g limit count words) (some_same fault BadWord kind is e) (faulty_word g limit count words not_so))
+      | inr not_so ↦ (let is : fault_of_firing g limit count words ≡ Some BadWord = rw not_so refl in subst (Faulty g limit count words) (some_same fault BadWord kind is e) (faulty_word g limit count words not_so))
       | inl firing ↦
           (let (pair, digits) = both _ _ firing in
           let both_words : words ≡ first_word words ∷ second_word words ∷ [] = two words (eqb-true (length words) 2 pair) in
           let number : IsTurnWord (second_word words) = is_turn (second_word words) digits in
-          let back : (k : ReplayKind) → fault_of g limit count words ≡ Some k → Faulty g limit count (first_word words ∷ second_word words ∷ []) k → Faulty g limit count words kind = λ k is why.
+          let back : (k : ReplayKind) → fault_of_firing g limit count words ≡ Some k → Faulty g limit count (first_word words ∷ second_word words ∷ []) k → Faulty g limit count words kind = λ k is why.
           subst (Faulty g limit count words) (some_same fault k kind is e) (subst (λ (ws : List (List ℕ)). Faulty g limit count ws k) (sym both_words) why) in
           elim (cases_lt (event_by_text g (first_word words)) (length g.events)) [
             | inr past ↦
@@ -266,7 +268,7 @@ faulty g limit count words kind e =
                               back (NotEnabled (least_lacking g count (event_by_text g (first_word words)))) (rw (firing, known, is, low, lacking_one) refl) (faulty_arc g limit count (first_word words) (second_word words) number inside next below first))
                           | inr none ↦
                               (let ready : nat_lt (least_lacking g count (event_by_text g (first_word words))) (length g.arcs) ≡ false = le-ltb (least_lacking g count (event_by_text g (first_word words))) (length g.arcs) none in
-                              let no_fault : fault_of g limit count words ≡ None = rw (firing, known, is, low, ready) refl in
+                              let no_fault : fault_of_firing g limit count words ≡ None = rw (firing, known, is, low, ready) refl in
                               absurd (none_some fault kind no_fault e))
                         ])
                   ]

@@ -2,6 +2,7 @@
 use Rattle.std.proofs.Common.{◌≡◌, ◌≢◌, ◌∙◌, ℕ, suc, inl, inr, List, [], ◌∷◌, ◌++◌, length, get_or, Option, None, Some, Result, Ok, Err, refl, arith, ap, ap₂, sym, subst}
 use Rattle.std.specs.Prelude.{AllPairs}
 use Rattle.std.proofs.lemmas.List.{append-nil, append_cancel_right}
+use Rattle.ds_lines.specs.Words.{first_word}
 use Rattle.ds_lines.specs.Line.{Line}
 use Rattle.ds_marked.specs.Graph.{Graph, counted, counts_after}
 use Rattle.ds_marked.specs.declared.marked.Event.{Event}
@@ -9,8 +10,7 @@ use Rattle.ds_marked.specs.declared.marked.Kind.{Kind}
 use Rattle.ds_marked.specs.declared.marked.Kind.TheVariants.{Rise, Fall, Dummy}
 use Rattle.ds_marked.specs.Log.{event_text, sign, IsLegalLogFrom, LineFault}
 use Rattle.ds_events.specs.Texts.{event_by_text}
-use Rattle.ds_replay.specs.Word.{first_word}
-use Rattle.ds_replay.specs.Replay.{fault_of, fault_or, log_of, replay_from, replay_of, with_first}
+use Rattle.ds_replay.specs.Replay.{fault_of_firing, log_fault_or, log_of, replay_from, replay_of, with_first}
 use Rattle.ds_replay.specs.Legal.{EndsInSign, HasKind, HasOwnTexts, HasPlainDummies, IsFirstFault, words_of_lines}
 use Rattle.ds_replay.specs.declared.fault.ReplayFault.{ReplayFault}
 use Rattle.ds_replay.specs.declared.fault.ReplayKind.{ReplayKind}
@@ -70,9 +70,9 @@ err_same a b e = ap (err_or a) e
 -- the lines fire these events, so they are a legal log of them
 legal_line : (g : Graph) (limit : ℕ) (count : ℕ → ℕ) (line : Line) (lines : List Line) (events : List ℕ) (kind : Option ReplayKind) (rest : Result (List ℕ) ReplayFault)
     → ((more : List ℕ) → replay_from g limit (counted (event_by_text g (first_word line.words)) count) lines ≡ Ok more → IsLegalLogFrom g limit (counted (event_by_text g (first_word line.words)) count) (words_of_lines lines) more)
-    → fault_of g limit count line.words ≡ kind
+    → fault_of_firing g limit count line.words ≡ kind
     → replay_from g limit (counted (event_by_text g (first_word line.words)) count) lines ≡ rest
-    → fault_or kind line.number (with_first (event_by_text g (first_word line.words)) rest) ≡ Ok events
+    → log_fault_or kind line.number (with_first (event_by_text g (first_word line.words)) rest) ≡ Ok events
     → IsLegalLogFrom g limit count (words_of_lines (line ∷ lines)) events
 legal_line g limit count line lines events (Some kind) rest behind is same e = cc
 legal_line g limit count line lines events None (Err fault) behind is same e = cc
@@ -84,7 +84,7 @@ pub legal : (g : Graph) (limit : ℕ) (count : ℕ → ℕ) (lines : List Line) 
 legal g limit count [] [] e = tt
 legal g limit count [] (v ∷ events) e = absurd (let none : [] ≡ v ∷ events = ok_same [] (v ∷ events) e in let long : 0 ≡ length (v ∷ events) = ap length none in omega arith)
 legal g limit count (line ∷ lines) events e =
-    legal_line g limit count line lines events (fault_of g limit count line.words) (replay_from g limit (counted (event_by_text g (first_word line.words)) count) lines)
+    legal_line g limit count line lines events (fault_of_firing g limit count line.words) (replay_from g limit (counted (event_by_text g (first_word line.words)) count) lines)
     (λ more same. legal g limit (counted (event_by_text g (first_word line.words)) count) lines more same) refl refl e
 
 -- and the other way round
@@ -107,9 +107,9 @@ IsFaultFrom g limit count lines fault =
 
 fault_line : (g : Graph) (limit : ℕ) (count : ℕ → ℕ) (line : Line) (lines : List Line) (fault : ReplayFault) (kind : Option ReplayKind) (rest : Result (List ℕ) ReplayFault)
     → (replay_from g limit (counted (event_by_text g (first_word line.words)) count) lines ≡ Err fault → IsFaultFrom g limit (counted (event_by_text g (first_word line.words)) count) lines fault)
-    → fault_of g limit count line.words ≡ kind
+    → fault_of_firing g limit count line.words ≡ kind
     → replay_from g limit (counted (event_by_text g (first_word line.words)) count) lines ≡ rest
-    → fault_or kind line.number (with_first (event_by_text g (first_word line.words)) rest) ≡ Err fault
+    → log_fault_or kind line.number (with_first (event_by_text g (first_word line.words)) rest) ≡ Err fault
     → IsFaultFrom g limit count (line ∷ lines) fault
 fault_line g limit count line lines fault None (Ok more) later is same e = cc
 fault_line g limit count line lines fault None (Err other) later is same e =
@@ -124,7 +124,7 @@ fault_line g limit count line lines fault (Some kind) rest later is same e =
 first_fault : (g : Graph) (limit : ℕ) (count : ℕ → ℕ) (lines : List Line) (fault : ReplayFault) → replay_from g limit count lines ≡ Err fault → IsFaultFrom g limit count lines fault
 first_fault g limit count [] fault e = cc
 first_fault g limit count (line ∷ lines) fault e =
-    fault_line g limit count line lines fault (fault_of g limit count line.words) (replay_from g limit (counted (event_by_text g (first_word line.words)) count) lines)
+    fault_line g limit count line lines fault (fault_of_firing g limit count line.words) (replay_from g limit (counted (event_by_text g (first_word line.words)) count) lines)
     (λ same. first_fault g limit (counted (event_by_text g (first_word line.words)) count) lines fault same) refl refl e
 
 pub refuses : (g : Graph) (limit : ℕ) (lines : List Line) (fault : ReplayFault) → replay_of g limit lines ≡ Err fault → IsFirstFault g limit (log_of lines) fault

@@ -17,7 +17,7 @@ use Rattle.ds_base.specs.declared.value.Value.TheVariants.{Zero, One, Unknown}
 use Rattle.ds_design.specs.Circuit.{Circuit}
 use Rattle.ds_design.specs.Trace.{IsTrace, end_line, trace_line, value_text, values_text}
 use Rattle.ds_lines.specs.Line.{Line, is_blank, is_end, is_hash, is_newline, is_some, lines_of}
-use Rattle.ds_lines.specs.Print.{IsPlain, IsWord, line_text, numbered, text_of}
+use Rattle.ds_lines.specs.Print.{IsPlain, IsWord, line_text, numbered_lines, text_of}
 use Rattle.ds_lines.proofs.Printed.{lines_of-text_of}
 use Rattle.ds_marked.specs.Graph.{Graph, IsLegal, IsLegalFrom, counted}
 use Rattle.ds_marked.specs.Log.{event_text, IsLegalLogFrom, IsLog, IsLogFrom}
@@ -175,7 +175,7 @@ logged g words limit low (v ∷ events) count text (enabled, legal) (name, rest,
     }
 
 -- lines with their numbers
-words_numbered : (n : ℕ) (lines : List (List (List ℕ))) → words_of_lines (numbered n lines) ≡ lines
+words_numbered : (n : ℕ) (lines : List (List (List ℕ))) → words_of_lines (numbered_lines n lines) ≡ lines
 words_numbered n [] = refl
 words_numbered n (words ∷ lines) = ap (λ (ls : List (List (List ℕ))). words ∷ ls) (words_numbered (n + 1) lines)
 
@@ -192,13 +192,13 @@ not_firings n (word ∷ next ∷ words) other =
 
 -- where no line is the one word, all are read
 read_from : (lines : List (List (List ℕ))) (n : ℕ) → AllByRecursion (λ words. words ≢ codes "firings" ∷ []) lines
-    → position_or_len is_firings (numbered n lines) ≡ length (numbered n lines)
+    → position_or_len is_firings (numbered_lines n lines) ≡ length (numbered_lines n lines)
 read_from [] n other = refl
-read_from (words ∷ lines) n (here, behind) = rw (not_firings n words here, read_from lines (n + 1) behind) (let e : 1 + length (numbered (n + 1) lines) ≡ suc (length (numbered (n + 1) lines)) = omega arith in e)
+read_from (words ∷ lines) n (here, behind) = rw (not_firings n words here, read_from lines (n + 1) behind) (let e : 1 + length (numbered_lines (n + 1) lines) ≡ suc (length (numbered_lines (n + 1) lines)) = omega arith in e)
 
-all_read : (lines : List (List (List ℕ))) → AllByRecursion (λ words. words ≢ codes "firings" ∷ []) lines → log_of (numbered 1 lines) ≡ numbered 1 lines
+all_read : (lines : List (List (List ℕ))) → AllByRecursion (λ words. words ≢ codes "firings" ∷ []) lines → log_of (numbered_lines 1 lines) ≡ numbered_lines 1 lines
 all_read lines other =
-    let none : nat_lt (position_or_len is_firings (numbered 1 lines)) (length (numbered 1 lines)) ≡ false = le-ltb _ _ (omega (arith, read_from lines 1 other)) in
+    let none : nat_lt (position_or_len is_firings (numbered_lines 1 lines)) (length (numbered_lines 1 lines)) ≡ false = le-ltb _ _ (omega (arith, read_from lines 1 other)) in
     rw none refl
 
 -- behind the first such line
@@ -206,26 +206,26 @@ abbrev word : List (List ℕ)
 word = codes "firings" ∷ []
 
 found_at : (front lines : List (List (List ℕ))) (n : ℕ) → AllByRecursion (λ words. words ≢ codes "firings" ∷ []) front
-    → position_or_len is_firings (numbered n (front ++ word ∷ lines)) ≡ length front
+    → position_or_len is_firings (numbered_lines n (front ++ word ∷ lines)) ≡ length front
 found_at [] lines n other = refl
 found_at (words ∷ front) lines n (here, behind) = rw (not_firings n words here, found_at front lines (n + 1) behind) (let e : 1 + length front ≡ suc (length front) = omega arith in e)
 
-long_behind : (front lines : List (List (List ℕ))) (n : ℕ) → length front < length (numbered n (front ++ word ∷ lines))
+long_behind : (front lines : List (List (List ℕ))) (n : ℕ) → length front < length (numbered_lines n (front ++ word ∷ lines))
 long_behind [] lines n = omega arith
-long_behind (words ∷ front) lines n = (let more : length front < length (numbered (n + 1) (front ++ word ∷ lines)) = long_behind front lines (n + 1) in omega arith)
+long_behind (words ∷ front) lines n = (let more : length front < length (numbered_lines (n + 1) (front ++ word ∷ lines)) = long_behind front lines (n + 1) in omega arith)
 
-dropped : (front lines : List (List (List ℕ))) (n : ℕ) → drop (suc (length front)) (numbered n (front ++ word ∷ lines)) ≡ numbered (n + length front + 1) lines
-dropped [] lines n = ap (λ (k : ℕ). numbered k lines) (let e : n + 1 ≡ n + 0 + 1 = omega arith in e)
-dropped (words ∷ front) lines n = dropped front lines (n + 1) ∙ ap (λ (k : ℕ). numbered k lines) (let e : n + 1 + length front + 1 ≡ n + suc (length front) + 1 = omega arith in e)
+dropped : (front lines : List (List (List ℕ))) (n : ℕ) → drop (suc (length front)) (numbered_lines n (front ++ word ∷ lines)) ≡ numbered_lines (n + length front + 1) lines
+dropped [] lines n = ap (λ (k : ℕ). numbered_lines k lines) (let e : n + 1 ≡ n + 0 + 1 = omega arith in e)
+dropped (words ∷ front) lines n = dropped front lines (n + 1) ∙ ap (λ (k : ℕ). numbered_lines k lines) (let e : n + 1 + length front + 1 ≡ n + suc (length front) + 1 = omega arith in e)
 
 read_behind : (front lines : List (List (List ℕ))) → AllByRecursion (λ words. words ≢ codes "firings" ∷ []) front
-    → log_of (numbered 1 (front ++ word ∷ lines)) ≡ numbered (1 + length front + 1) lines
+    → log_of (numbered_lines 1 (front ++ word ∷ lines)) ≡ numbered_lines (1 + length front + 1) lines
 read_behind front lines other =
-    let at : position_or_len is_firings (numbered 1 (front ++ word ∷ lines)) ≡ length front = found_at front lines 1 other in
-    let inside : nat_lt (position_or_len is_firings (numbered 1 (front ++ word ∷ lines))) (length (numbered 1 (front ++ word ∷ lines))) ≡ true =
-    lt-ltb _ _ (let more : length front < length (numbered 1 (front ++ word ∷ lines)) = long_behind front lines 1 in omega arith) in
-    let begins : start_of (numbered 1 (front ++ word ∷ lines)) ≡ suc (length front) = rw inside (omega (arith, at)) in
-    ap (λ (k : ℕ). drop k (numbered 1 (front ++ word ∷ lines))) begins ∙ dropped front lines 1
+    let at : position_or_len is_firings (numbered_lines 1 (front ++ word ∷ lines)) ≡ length front = found_at front lines 1 other in
+    let inside : nat_lt (position_or_len is_firings (numbered_lines 1 (front ++ word ∷ lines))) (length (numbered_lines 1 (front ++ word ∷ lines))) ≡ true =
+    lt-ltb _ _ (let more : length front < length (numbered_lines 1 (front ++ word ∷ lines)) = long_behind front lines 1 in omega arith) in
+    let begins : start_of (numbered_lines 1 (front ++ word ∷ lines)) ≡ suc (length front) = rw inside (omega (arith, at)) in
+    ap (λ (k : ℕ). drop k (numbered_lines 1 (front ++ word ∷ lines))) begins ∙ dropped front lines 1
 
 -- texts and facts of two lists of lines
 text_of-append : (front lines : List (List (List ℕ))) → text_of (front ++ lines) ≡ text_of front ++ text_of lines
@@ -242,16 +242,16 @@ plain_word : IsPlain (codes "firings" ∷ [])
 plain_word = record { some = refl; each = (record { some = refl; no_blank = refl; no_newline = refl; no_hash = refl }, tt); end = refl }
 
 fires_numbered : (g : Graph) → HasOwnWords g → (limit n : ℕ) (lines : List (List (List ℕ))) (events : List ℕ) → IsLegalLogFrom g limit (λ _. 0) lines events
-    → replay_from g limit (λ _. 0) (numbered n lines) ≡ Ok events
+    → replay_from g limit (λ _. 0) (numbered_lines n lines) ≡ Ok events
 fires_numbered g has limit n lines events legal =
-    fires g has.own limit (λ _. 0) (numbered n lines) events
+    fires g has.own limit (λ _. 0) (numbered_lines n lines) events
     (subst (λ (ls : List (List (List ℕ))). IsLegalLogFrom g limit (λ _. 0) ls events) (sym (words_numbered n lines)) legal)
 
 pub printed : (g : Graph) → HasOwnWords g → (limit : ℕ) → limit < 10 ^ 10 → (events log : List ℕ) → IsLegal g limit events → IsLog g events log
     → replay_of g limit (lines_of log) ≡ Ok events
 printed g has limit low events log legal is =
     let all : IsLogged g limit (λ _. 0) events log = logged g has.words limit low events (λ _. 0) log legal is in
-    let read : lines_of log ≡ numbered 1 all.lines = ap lines_of all.spelt ∙ lines_of-text_of all.lines all.plain in
+    let read : lines_of log ≡ numbered_lines 1 all.lines = ap lines_of all.spelt ∙ lines_of-text_of all.lines all.plain in
     ap (λ (ls : List Line). replay_from g limit (λ _. 0) ls) (ap log_of read ∙ all_read all.lines all.other)
     ∙ fires_numbered g has limit 1 all.lines events all.legal
 
@@ -264,7 +264,7 @@ printed_behind g has limit low events log legal is front before =
     ∙ (ap (λ (text : List ℕ). text_of before.lines ++ codes "firings\n" ++ text) all.spelt
     ∙ (append_assoc (text_of before.lines) (codes "firings\n") (text_of all.lines)
     ∙ sym (text_of-append before.lines (word ∷ all.lines)))) in
-    let read : lines_of (front ++ codes "firings\n" ++ log) ≡ numbered 1 (before.lines ++ word ∷ all.lines) =
+    let read : lines_of (front ++ codes "firings\n" ++ log) ≡ numbered_lines 1 (before.lines ++ word ∷ all.lines) =
     ap lines_of whole ∙ lines_of-text_of (before.lines ++ word ∷ all.lines) (plain_both before.lines (word ∷ all.lines) before.plain (plain_word, all.plain)) in
     ap (λ (ls : List Line). replay_from g limit (λ _. 0) ls) (ap log_of read ∙ read_behind before.lines all.lines before.other)
     ∙ fires_numbered g has limit (1 + length before.lines + 1) all.lines events all.legal

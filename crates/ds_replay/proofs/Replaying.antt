@@ -3,21 +3,21 @@ use Rattle.std.proofs.Common.{◌≡◌, ◌∙◌, ℕ, suc, ◌+◌, ◌<◌, 
 use Rattle.std.proofs.Math.Path.{fun_ext}
 use Rattle.std.proofs.Math.Seq.{drop-cons}
 use Rattle.std.proofs.lemmas.List.{append-nil, append_assoc, drop_all}
+use Rattle.ds_lines.specs.Words.{first_word}
 use Rattle.ds_base.specs.Values.{Row}
 use Rattle.ds_lines.specs.Line.{Line, line_or_none}
 use Rattle.ds_marked.specs.Graph.{Graph, IsEnabled, IsLegal, IsLegalFrom, counted, counts_after}
 use Rattle.ds_latch.specs.Plan.{Planned}
 use Rattle.ds_latch.specs.Firing.{State, first_state}
 use Rattle.ds_fire.specs.Snapshot.{Snapshot, IsFirst, Shows, split_of, graph_of, limit_of, count_of}
-use Rattle.ds_fire.specs.Fired.{IsAfter, IsFired, IsReached, IsSound}
+use Rattle.ds_fire.specs.Fired.{IsAfter, IsFired, IsReached, IsSnapshotSound}
 use Rattle.ds_fire.proofs.Reached.{fired_after, kept_counts}
 use Rattle.ds_events.specs.Texts.{event_by_text}
-use Rattle.ds_replay.specs.Word.{first_word}
 use Rattle.ds_replay.specs.Replayed.{IsReplayed, Replays}
-use Rattle.ds_replay.specs.Step.{StepsTo, refusal_of}
+use Rattle.ds_replay.specs.Step.{StepsTo, log_refusal_of}
 use Rattle.ds_replay.specs.declared.fault.Refusal.{Refusal}
 use Rattle.ds_replay.specs.declared.fault.Refusal.TheVariants as refusal
-use Rattle.ds_replay.specs.Replay.{fault_of, fault_or, replay_from, replay_of, start_of, with_first}
+use Rattle.ds_replay.specs.Replay.{fault_of_firing, log_fault_or, replay_from, replay_of, start_of, with_first}
 use Rattle.ds_replay.specs.declared.fault.ReplayFault.{ReplayFault}
 use Rattle.ds_replay.specs.declared.fault.ReplayKind.{ReplayKind}
 
@@ -74,7 +74,7 @@ fired_none planned vectors lines i kept at first =
 
 -- a line more, which has no fault
 rest_more : (g : Graph) (limit : ℕ) (count : ℕ → ℕ) (lines : List Line) (i : ℕ) (events : List ℕ) (all : Result (List ℕ) ReplayFault) → i < length lines
-    → fault_of g limit count (line_or_none lines i).words ≡ None
+    → fault_of_firing g limit count (line_or_none lines i).words ≡ None
     → all ≡ onto events (replay_from g limit count (drop i lines))
     → all ≡ onto (events ++ event_by_text g (first_word (line_or_none lines i).words) ∷ []) (replay_from g limit (counted (event_by_text g (first_word (line_or_none lines i).words)) count) (drop (i + 1) lines))
 rest_more g limit count lines i events all inside clean is =
@@ -83,11 +83,11 @@ rest_more g limit count lines i events all inside clean is =
     let rest : Result (List ℕ) ReplayFault = replay_from g limit (counted v count) (drop (i + 1) lines) in
     is
     ∙ (ap (λ (ls : List Line). onto events (replay_from g limit count ls)) (drop-cons lines i (line_or_none [] 0) inside ∙ ap (λ (n : ℕ). line ∷ drop n lines) (sym (add-one i)))
-    ∙ (ap (λ (kind : Option ReplayKind). onto events (fault_or kind line.number (with_first v rest))) clean
+    ∙ (ap (λ (kind : Option ReplayKind). onto events (log_fault_or kind line.number (with_first v rest))) clean
     ∙ onto_first events v rest))
 
 pub fired_more : (planned : Planned) (vectors : List Row) (lines : List Line) (i : ℕ) (old new : Snapshot) → i < length lines
-    → fault_of (graph_of old) (limit_of old) (count_of old) (line_or_none lines i).words ≡ None
+    → fault_of_firing (graph_of old) (limit_of old) (count_of old) (line_or_none lines i).words ≡ None
     → IsFired old (event_by_text (graph_of old) (first_word (line_or_none lines i).words)) new
     → IsFiredTo planned vectors lines i old → IsFiredTo planned vectors lines (i + 1) new
 fired_more planned vectors lines i old new inside clean fired before =
@@ -114,7 +114,7 @@ fired_more planned vectors lines i old new inside clean fired before =
     }
 
 -- all lines are fired
-pub fired_all : (planned : Planned) (vectors : List Row) (lines : List Line) (i : ℕ) (kept : Snapshot) → length lines ≤ i → IsSound kept → IsReached kept → IsFiredTo planned vectors lines i kept
+pub fired_all : (planned : Planned) (vectors : List Row) (lines : List Line) (i : ℕ) (kept : Snapshot) → length lines ≤ i → IsSnapshotSound kept → IsReached kept → IsFiredTo planned vectors lines i kept
     → (events : List ℕ) × (replay_of planned.graph (length vectors) lines ≡ Ok events) × IsReplayed planned vectors events kept
 fired_all planned vectors lines i kept past sound reached fired =
     let rest : replay_of (graph_of kept) (limit_of kept) lines ≡ Ok fired.events =
@@ -137,7 +137,7 @@ fired_all planned vectors lines i kept past sound reached fired =
 
 -- a line with a fault
 pub fired_not : (planned : Planned) (vectors : List Row) (lines : List Line) (i : ℕ) (kept : Snapshot) (kind : ReplayKind) (line : ℕ) → i < length lines
-    → fault_of (graph_of kept) (limit_of kept) (count_of kept) (line_or_none lines i).words ≡ Some kind → line ≡ (line_or_none lines i).number
+    → fault_of_firing (graph_of kept) (limit_of kept) (count_of kept) (line_or_none lines i).words ≡ Some kind → line ≡ (line_or_none lines i).number
     → IsFiredTo planned vectors lines i kept
     → replay_of planned.graph (length vectors) lines ≡ Err (record { line = line; kind = kind })
 fired_not planned vectors lines i kept kind line inside is number fired =
@@ -146,24 +146,24 @@ fired_not planned vectors lines i kept kind line inside is number fired =
     let rest : replay_of (graph_of kept) (limit_of kept) lines ≡ Err (record { line = line; kind = kind }) =
     fired.rest
     ∙ (ap (λ (ls : List Line). onto fired.events (replay_from (graph_of kept) (limit_of kept) (count_of kept) ls)) (drop-cons lines i (line_or_none [] 0) inside)
-    ∙ (ap (λ (k : Option ReplayKind). onto fired.events (fault_or k here.number (with_first v (replay_from (graph_of kept) (limit_of kept) (counted v (count_of kept)) (drop (suc i) lines))))) is
+    ∙ (ap (λ (k : Option ReplayKind). onto fired.events (log_fault_or k here.number (with_first v (replay_from (graph_of kept) (limit_of kept) (counted v (count_of kept)) (drop (suc i) lines))))) is
     ∙ ap (λ (n : ℕ). onto fired.events (Err (record { line = n; kind = kind }))) (sym number))) in
     subst (λ (p : Planned). replay_of p.graph (length vectors) lines ≡ Err (record { line = line; kind = kind })) fired.planned_is
     (subst (λ (vs : List Row). replay_of (graph_of kept) (length vs) lines ≡ Err (record { line = line; kind = kind })) fired.vectors_are rest)
 
 -- what a line's answer gives
 pub steps_more : (planned : Planned) (vectors : List Row) (lines : List Line) (i : ℕ) (old new : Snapshot) (words : List (List ℕ)) → i < length lines → words ≡ (line_or_none lines i).words
-    → (fault_of (graph_of old) (limit_of old) (count_of old) words ≡ None) × IsFired old (event_by_text (graph_of old) (first_word words)) new
+    → (fault_of_firing (graph_of old) (limit_of old) (count_of old) words ≡ None) × IsFired old (event_by_text (graph_of old) (first_word words)) new
     → IsFiredTo planned vectors lines i old → IsFiredTo planned vectors lines (i + 1) new
 steps_more planned vectors lines i old new words inside are (clean, fired) before =
     fired_more planned vectors lines i old new inside
-    (subst (λ (ws : List (List ℕ)). fault_of (graph_of old) (limit_of old) (count_of old) ws ≡ None) are clean)
+    (subst (λ (ws : List (List ℕ)). fault_of_firing (graph_of old) (limit_of old) (count_of old) ws ≡ None) are clean)
     (subst (λ (ws : List (List ℕ)). IsFired old (event_by_text (graph_of old) (first_word ws)) new) are fired)
     before
 
 pub refused : (planned : Planned) (vectors : List Row) (lines : List Line) (i : ℕ) (old new : Snapshot) (words : List (List ℕ)) (why : Refusal) (line : ℕ) → i < length lines → words ≡ (line_or_none lines i).words
     → line ≡ (line_or_none lines i).number → StepsTo old words new (Err why)
-    → IsFiredTo planned vectors lines i old → Replays planned vectors lines (Err (refusal_of line why))
+    → IsFiredTo planned vectors lines i old → Replays planned vectors lines (Err (log_refusal_of line why))
 refused planned vectors lines i old new words refusal.Memory line inside are number step before = tt
 refused planned vectors lines i old new words (refusal.Because kind) line inside are number step before =
-    fired_not planned vectors lines i old kind line inside (subst (λ (ws : List (List ℕ)). fault_of (graph_of old) (limit_of old) (count_of old) ws ≡ Some kind) are step) number before
+    fired_not planned vectors lines i old kind line inside (subst (λ (ws : List (List ℕ)). fault_of_firing (graph_of old) (limit_of old) (count_of old) ws ≡ Some kind) are step) number before

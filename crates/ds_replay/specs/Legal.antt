@@ -3,7 +3,7 @@ use Rattle.std.specs.Prelude.{◌≡◌, ◌≢◌, ◌↔◌, ◌⊎◌, ℕ, L
 use Rattle.std.specs.Prelude.{AllPairs, codes}
 use Rattle.ds_lines.specs.Line.{Line}
 use Rattle.ds_marked.specs.Graph.{Graph, counts_after}
-use Rattle.ds_marked.specs.Blocked.{IsFirstLacking}
+use Rattle.ds_marked.specs.Blocked.{IsFirstLackingArc}
 use Rattle.ds_marked.specs.declared.marked.Kind.TheVariants.{Dummy}
 use Rattle.ds_marked.specs.Log.{event_text, IsLegalLogFrom, LineFault, bad_word, unknown_event}
 use Rattle.ds_marked.specs.Log.{wrong_turn, over_limit, not_enabled}
@@ -42,7 +42,7 @@ HasKind (unknown_event {name} {turn} number none) kind = kind ≡ UnknownEvent n
 HasKind (wrong_turn v number event other) kind = kind ≡ WrongTurn
 HasKind (over_limit v number event turn past) kind = kind ≡ OverLimit
 HasKind {g} {limit} {count} (not_enabled v number event turn below not_ready) kind =
-    (arc : ℕ) × (kind ≡ NotEnabled arc) × IsFirstLacking count v g.arcs arc
+    (arc : ℕ) × (kind ≡ NotEnabled arc) × IsFirstLackingArc count v g.arcs arc
 
 -- the fault is that of one of these lines, and the lines before it are a legal log
 pub record IsFirstFault (g : Graph) (limit : ℕ) (lines : List Line)

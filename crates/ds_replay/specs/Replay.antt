@@ -4,33 +4,25 @@ use Rattle.std.specs.Prelude.{Some, Result, Ok, Err, nat_lt, ◌==◌, ◌&&◌,
 use Rattle.std.specs.List.{position_or_len}
 use Rattle.std.specs.Str.{bytes_eq}
 use Rattle.std.specs.Str.Parse.{digits_value}
+use Rattle.ds_lines.specs.First.{where_true, first_of}
+use Rattle.ds_lines.specs.Words.{first_word}
 use Rattle.ds_lines.specs.Line.{Line}
 use Rattle.ds_marked.specs.Graph.{Graph, counted}
 use Rattle.ds_marked.specs.declared.marked.Arc.{Arc}
 use Rattle.ds_events.specs.Texts.{event_by_text}
-use Rattle.ds_replay.specs.Word.{first_word, second_word, is_firing}
+use Rattle.ds_replay.specs.Word.{second_word, is_firing}
 use Rattle.ds_replay.specs.declared.fault.ReplayFault.{ReplayFault}
 use Rattle.ds_replay.specs.declared.fault.ReplayKind.{ReplayKind}
 use Rattle.ds_replay.specs.declared.fault.ReplayKind.TheVariants.{BadWord, UnknownEvent, WrongTurn}
 use Rattle.ds_replay.specs.declared.fault.ReplayKind.TheVariants.{OverLimit, NotEnabled}
 
 -- an arc into an event lacks a token
-abbrev pub lacks : (ℕ → ℕ) → ℕ → Arc → Bool
-lacks count v arc = (arc.target == v) && nat_lt (count arc.source + arc.tokens) (count v + 1)
+abbrev pub lacks_token : (ℕ → ℕ) → ℕ → Arc → Bool
+lacks_token count v arc = (arc.target == v) && nat_lt (count arc.source + arc.tokens) (count v + 1)
 
 -- the least arc into an event that lacks a token; past the arcs where none does
 abbrev pub least_lacking : Graph → (ℕ → ℕ) → ℕ → ℕ
-least_lacking g count v = position_or_len (lacks count v) g.arcs
-
--- the first of the kinds that hold
-abbrev pub first_of : List (Option ReplayKind) → Option ReplayKind
-first_of [] = None
-first_of (None ∷ kinds) = first_of kinds
-first_of (Some kind ∷ kinds) = Some kind
-
--- a kind where a test holds
-abbrev pub where_true : Bool → ReplayKind → Option ReplayKind
-where_true test kind = if test then Some kind else None
+least_lacking g count v = position_or_len (lacks_token count v) g.arcs
 
 -- what keeps an event from firing with this number, at these counts
 abbrev pub event_fault : Graph → ℕ → (ℕ → ℕ) → ℕ → ℕ → Option ReplayKind
@@ -42,8 +34,8 @@ event_fault g limit count v turn = first_of (
     ∷ [])
 
 -- what is wrong with a line's words, at these counts
-abbrev pub fault_of : Graph → ℕ → (ℕ → ℕ) → List (List ℕ) → Option ReplayKind
-fault_of g limit count words = first_of (
+abbrev pub fault_of_firing : Graph → ℕ → (ℕ → ℕ) → List (List ℕ) → Option ReplayKind
+fault_of_firing g limit count words = first_of (
     where_true (not (is_firing words)) BadWord
     ∷ where_true (not (nat_lt (event_by_text g (first_word words)) (length g.events)))
     (UnknownEvent (first_word words))
@@ -52,10 +44,10 @@ fault_of g limit count words = first_of (
     ∷ [])
 
 -- a fault of the line of this number, else what the lines behind it give
-abbrev pub fault_or : Option ReplayKind → ℕ → Result (List ℕ) ReplayFault
+abbrev pub log_fault_or : Option ReplayKind → ℕ → Result (List ℕ) ReplayFault
     → Result (List ℕ) ReplayFault
-fault_or None number rest = rest
-fault_or (Some kind) number rest = Err (record { line = number; kind = kind })
+log_fault_or None number rest = rest
+log_fault_or (Some kind) number rest = Err (record { line = number; kind = kind })
 
 -- an event, and then others
 abbrev pub with_first : ℕ → Result (List ℕ) ReplayFault → Result (List ℕ) ReplayFault
@@ -65,7 +57,8 @@ with_first v (Err fault) = Err fault
 -- the events that lines fire one after another from these counts on, or the first fault
 abbrev pub replay_from : Graph → ℕ → (ℕ → ℕ) → List Line → Result (List ℕ) ReplayFault
 replay_from g limit count [] = Ok []
-replay_from g limit count (line ∷ lines) = fault_or (fault_of g limit count line.words) line.number
+replay_from g limit count (line ∷ lines) = log_fault_or (fault_of_firing g limit count line.words)
+    line.number
     (with_first (event_by_text g (first_word line.words))
     (replay_from g limit (counted (event_by_text g (first_word line.words)) count) lines))
 

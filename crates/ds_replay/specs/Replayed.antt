@@ -5,7 +5,7 @@ use Rattle.ds_lines.specs.Line.{Line}
 use Rattle.ds_marked.specs.Graph.{IsLegal}
 use Rattle.ds_latch.specs.Plan.{Planned}
 use Rattle.ds_fire.specs.Snapshot.{Snapshot}
-use Rattle.ds_fire.specs.Fired.{IsAfter, IsReached, IsSound}
+use Rattle.ds_fire.specs.Fired.{IsAfter, IsReached, IsSnapshotSound}
 use Rattle.ds_replay.specs.Replay.{replay_of}
 use Rattle.ds_replay.specs.declared.fault.ReplayRefusal.{ReplayRefusal}
 use Rattle.ds_replay.specs.declared.fault.ReplayRefusal.TheVariants.{Memory, Fault}
@@ -17,7 +17,7 @@ pub record IsReplayed (planned : Planned) (vectors : List Row) (events : List â„
   pub vectors_are : kept.vectors â‰¡ vectors
   pub legal : IsLegal planned.graph (length vectors) events
   pub after : IsAfter kept events
-  pub sound : IsSound kept
+  pub sound : IsSnapshotSound kept
   pub reached : IsReached kept
 
 -- the state after the events of the lines, or the first fault of the lines, unless memory was

@@ -1,12 +1,12 @@
 -- What the answers for one line say.
 use Rattle.std.specs.Prelude.{◌≡◌, ℕ, List, None, Some, Result, Ok, Err}
+use Rattle.ds_lines.specs.Words.{first_word}
 use Rattle.ds_marked.specs.declared.blocked.Blocked.{Blocked}
 use Rattle.ds_marked.specs.declared.blocked.Blocked.TheVariants as blocked
 use Rattle.ds_fire.specs.Snapshot.{Snapshot, graph_of, limit_of, count_of}
 use Rattle.ds_fire.specs.Fired.{IsFired}
 use Rattle.ds_events.specs.Texts.{event_by_text}
-use Rattle.ds_replay.specs.Word.{first_word}
-use Rattle.ds_replay.specs.Replay.{event_fault, fault_of}
+use Rattle.ds_replay.specs.Replay.{event_fault, fault_of_firing}
 use Rattle.ds_replay.specs.declared.fault.Refusal.{Refusal}
 use Rattle.ds_replay.specs.declared.fault.Refusal.TheVariants as refusal
 use Rattle.ds_replay.specs.declared.fault.ReplayKind.{ReplayKind}
@@ -29,13 +29,13 @@ FiresTo old v turn new (Err kind) = event_fault (graph_of old) (limit_of old) (c
 -- the event of a line has fired, or this is what is wrong with the line
 abbrev pub StepsTo : Snapshot → List (List ℕ) → Snapshot → Result (Unit {0}) Refusal → Type 0
 StepsTo old words new (Ok done) =
-    (fault_of (graph_of old) (limit_of old) (count_of old) words ≡ None)
+    (fault_of_firing (graph_of old) (limit_of old) (count_of old) words ≡ None)
     × IsFired old (event_by_text (graph_of old) (first_word words)) new
 StepsTo old words new (Err refusal.Memory) = Unit {0}
 StepsTo old words new (Err (refusal.Because kind)) =
-    fault_of (graph_of old) (limit_of old) (count_of old) words ≡ Some kind
+    fault_of_firing (graph_of old) (limit_of old) (count_of old) words ≡ Some kind
 
 -- the refusal of a log with such a line
-abbrev pub refusal_of : ℕ → Refusal → ReplayRefusal
-refusal_of line refusal.Memory = Memory
-refusal_of line (refusal.Because kind) = Fault (record { line = line; kind = kind })
+abbrev pub log_refusal_of : ℕ → Refusal → ReplayRefusal
+log_refusal_of line refusal.Memory = Memory
+log_refusal_of line (refusal.Because kind) = Fault (record { line = line; kind = kind })

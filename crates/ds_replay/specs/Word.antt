@@ -4,10 +4,6 @@ use Rattle.std.specs.Prelude.{◌&&◌, if◌then◌else◌}
 use Rattle.std.specs.Str.Parse.{digits_value}
 use Rattle.ds_events.specs.Number.{is_short_number}
 
--- the first word of a line
-abbrev pub first_word : List (List ℕ) → List ℕ
-first_word words = slice_index_or words 0 []
-
 -- the second word of a line
 abbrev pub second_word : List (List ℕ) → List ℕ
 second_word words = slice_index_or words 1 []

@@ -18,8 +18,8 @@ one_signal = record {
 }
 
 -- what a text fires of it, each event at most twice
-abbrev pub read : List ℕ → Result (List ℕ) ReplayFault
-read text = replay_of one_signal 2 (lines_of text)
+abbrev pub log_read : List ℕ → Result (List ℕ) ReplayFault
+log_read text = replay_of one_signal 2 (lines_of text)
 
 -- the same signal, and a dummy between its rise and its fall
 abbrev pub with_dummy : Graph
@@ -31,23 +31,24 @@ with_dummy = record {
 }
 
 -- each text beside its events or its first fault
-pub record AreWorked : Type 0 where
-  pub fires : read (codes "a+ 1 # rises\na- 1\n\na+ 02\n") ≡ Ok (0 ∷ 1 ∷ 0 ∷ [])
-  pub empty : read [] ≡ Ok []
-  pub behind_firings : read (codes "0 1 1\nend 1\nfirings\na+ 1\n") ≡ Ok (0 ∷ [])
-  pub firings_again : read (codes "firings\nfirings\n") ≡ Err (record { line = 2; kind = BadWord })
-  pub three_words : read (codes "a+ 1 1\n") ≡ Err (record { line = 1; kind = BadWord })
-  pub long_number : read (codes "a+ 00000000001\n") ≡ Err (record { line = 1; kind = BadWord })
-  pub no_event : read (codes "a+ 1\nb- 1\n")
+pub record AreLogsWorked : Type 0 where
+  pub fires : log_read (codes "a+ 1 # rises\na- 1\n\na+ 02\n") ≡ Ok (0 ∷ 1 ∷ 0 ∷ [])
+  pub empty : log_read [] ≡ Ok []
+  pub behind_firings : log_read (codes "0 1 1\nend 1\nfirings\na+ 1\n") ≡ Ok (0 ∷ [])
+  pub firings_again : log_read (codes "firings\nfirings\n")
+      ≡ Err (record { line = 2; kind = BadWord })
+  pub three_words : log_read (codes "a+ 1 1\n") ≡ Err (record { line = 1; kind = BadWord })
+  pub long_number : log_read (codes "a+ 00000000001\n") ≡ Err (record { line = 1; kind = BadWord })
+  pub no_event : log_read (codes "a+ 1\nb- 1\n")
       ≡ Err (record { line = 2; kind = UnknownEvent (codes "b-") })
-  pub other_turn : read (codes "\na+ 2\n") ≡ Err (record { line = 2; kind = WrongTurn })
-  pub too_often : read (codes "a+ 1\na- 1\na+ 2\na- 2\na+ 3\n")
+  pub other_turn : log_read (codes "\na+ 2\n") ≡ Err (record { line = 2; kind = WrongTurn })
+  pub too_often : log_read (codes "a+ 1\na- 1\na+ 2\na- 2\na+ 3\n")
       ≡ Err (record { line = 5; kind = OverLimit })
-  pub no_token : read (codes "a+ 1\na+ 2\n") ≡ Err (record { line = 2; kind = NotEnabled 1 })
-  pub words_first : read (codes "b+ x\n") ≡ Err (record { line = 1; kind = BadWord })
+  pub no_token : log_read (codes "a+ 1\na+ 2\n") ≡ Err (record { line = 2; kind = NotEnabled 1 })
+  pub words_first : log_read (codes "b+ x\n") ≡ Err (record { line = 1; kind = BadWord })
   pub dummy : replay_of with_dummy 2 (lines_of (codes "a+ 1\ne 1\na- 1\n")) ≡ Ok (0 ∷ 2 ∷ 1 ∷ [])
   pub before_dummy : replay_of with_dummy 2 (lines_of (codes "a+ 1\na- 1\n"))
       ≡ Err (record { line = 2; kind = NotEnabled 2 })
   pub signed_dummy : replay_of with_dummy 2 (lines_of (codes "e+ 1\n"))
       ≡ Err (record { line = 1; kind = UnknownEvent (codes "e+") })
-  pub turn_first : read (codes "a- 2\n") ≡ Err (record { line = 1; kind = WrongTurn })
+  pub turn_first : log_read (codes "a- 2\n") ≡ Err (record { line = 1; kind = WrongTurn })

@@ -3,7 +3,7 @@ ghost use Rattle.ds_replay.specs.Legal.{EventsHaveOwnTexts, FiresEachLine, Fires
 ghost use Rattle.ds_replay.specs.Legal.{RefusesFirstFaults};
 ghost use Rattle.ds_replay.specs.Printed.{NodesHaveOwnWords, PrintedBehindIsFired};
 ghost use Rattle.ds_replay.specs.Printed.{PrintedIsFired, TraceIsFront};
-ghost use Rattle.ds_replay.specs.Worked.{AreWorked};
+ghost use Rattle.ds_replay.specs.Worked.{AreLogsWorked};
 
 /// Where no two events are written alike, a log fires events exactly where it is a legal log of
 /// them.
@@ -49,5 +49,5 @@ pub fn trace_is_front()
 
 /// Short logs fire what they should.
 pub fn worked_logs()
-    ensures { AreWorked }
+    ensures { AreLogsWorked }
 {}

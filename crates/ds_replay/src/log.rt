@@ -1,7 +1,7 @@
 //! The top call: the lines of a log are read one after another, and each event fires if it may.
 ghost use Rattle.std.specs.Prelude.{◌≡◌, length};
 ghost use Rattle.ds_design.specs.Circuit.{columns};
-ghost use Rattle.ds_replay.specs.Step.{refusal_of};
+ghost use Rattle.ds_replay.specs.Step.{log_refusal_of};
 ghost use Rattle.ds_replay.specs.Replayed.{Replays};
 
 use crate::fault::Refusal;
@@ -42,7 +42,7 @@ pub fn replay<'a>(
 
 // The refusal of a log with such a line.
 fn refusal(line: u64, why: Refusal) -> ReplayRefusal
-    ensures { result ≡ refusal_of line why }
+    ensures { result ≡ log_refusal_of line why }
 {
     match why {
         Refusal::Memory => ReplayRefusal::Memory,

@@ -1,6 +1,7 @@
 //! The words of a line.
 ghost use Rattle.std.specs.Prelude.{◌≡◌, ◌<◌, map, length};
-ghost use Rattle.ds_replay.specs.Word.{first_word, turn_of as turn_of_words};
+ghost use Rattle.ds_lines.specs.Words.{first_word};
+ghost use Rattle.ds_replay.specs.Word.{turn_of as turn_of_words};
 
 use ds_events::{is_short, short_value};
 

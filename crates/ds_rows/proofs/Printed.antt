@@ -13,10 +13,10 @@ use Rattle.ds_base.specs.declared.value.Value.TheVariants.{Zero, One, Unknown}
 use Rattle.ds_design.specs.Rows.{AreVectors, Rows}
 use Rattle.ds_design.specs.Trace.{value_text, values_text}
 use Rattle.ds_lines.specs.Line.{is_blank, is_end, is_hash, is_newline, lines_of}
-use Rattle.ds_lines.specs.Print.{IsPlain, numbered, text_of}
+use Rattle.ds_lines.specs.Print.{IsPlain, numbered_lines, text_of}
 use Rattle.ds_lines.proofs.Printed.{lines_of-text_of}
 use Rattle.ds_rows.specs.Print.{row_words}
-use Rattle.ds_rows.specs.Vector.{fault_of, first_fault, has_bits, has_width, is_bit, row_of, rows_of, value_of, vectors_of}
+use Rattle.ds_rows.specs.Vector.{fault_of_vector, first_vector_fault, has_bits, has_width, is_bit, row_of, rows_of_lines, value_of_character, vectors_of}
 use Rattle.ds_rows.proofs.Values.{value_chars}
 
 -- no character of a value passes a test that `0`, `1` and `x` fail
@@ -73,12 +73,12 @@ all_plain [] = tt
 all_plain (row ∷ rows) = (plain row, all_plain rows)
 
 -- a value is printed as a character of a vector, and this character is the value
-printed_value : (v : Value) → (is_bit (value_text v) ≡ true) × (value_of (value_text v) ≡ v)
+printed_value : (v : Value) → (is_bit (value_text v) ≡ true) × (value_of_character (value_text v) ≡ v)
 printed_value Zero = (refl, refl)
 printed_value One = (refl, refl)
 printed_value Unknown = (refl, refl)
 
-printed_values : (row : Row) → (list_all is_bit (value_chars row) ≡ true) × (map value_of (value_chars row) ≡ row)
+printed_values : (row : Row) → (list_all is_bit (value_chars row) ≡ true) × (map value_of_character (value_chars row) ≡ row)
 printed_values [] = (refl, refl)
 printed_values (value ∷ row) =
     let first = printed_value value in
@@ -104,22 +104,22 @@ stands (value ∷ row) =
     }
 
 -- a line that stands for a row has no fault
-clean : (width seen : ℕ) (words : List (List ℕ)) → seen < 65536 → has_width width words ≡ true → has_bits width words ≡ true → fault_of width seen words ≡ None
+clean : (width seen : ℕ) (words : List (List ℕ)) → seen < 65536 → has_width width words ≡ true → has_bits width words ≡ true → fault_of_vector width seen words ≡ None
 clean width seen words few wide bits = let below : nat_lt seen 65536 ≡ true = lt-ltb seen 65536 few in rw (below, wide, bits) refl
 
 -- the lines of rows, numbered from n, have no fault
 none_faulty : (width n seen : ℕ) (rows : List Row) → seen + length rows ≤ 65536 → All (λ row. length row ≡ width) rows
-    → first_fault width seen (numbered n (row_words rows)) ≡ None
+    → first_vector_fault width seen (numbered_lines n (row_words rows)) ≡ None
 none_faulty width n seen [] few wide = refl
 none_faulty width n seen (row ∷ rows) few wide =
     let same : length row ≡ width = All-head (λ row. length row ≡ width) row rows wide in
     let line = stands row in
-    let is_clean : fault_of width seen (values_text row ∷ []) ≡ None =
-    subst (λ (w : ℕ). fault_of w seen (values_text row ∷ []) ≡ None) same (clean (length row) seen (values_text row ∷ []) (omega arith) line.wide line.bits) in
+    let is_clean : fault_of_vector width seen (values_text row ∷ []) ≡ None =
+    subst (λ (w : ℕ). fault_of_vector w seen (values_text row ∷ []) ≡ None) same (clean (length row) seen (values_text row ∷ []) (omega arith) line.wide line.bits) in
     rw is_clean (none_faulty width (n + 1) (seen + 1) rows (omega arith) (All-tail (λ row. length row ≡ width) row rows wide))
 
 -- and stand for these rows
-same_rows : (width n : ℕ) (rows : List Row) → All (λ row. length row ≡ width) rows → rows_of width (numbered n (row_words rows)) ≡ rows
+same_rows : (width n : ℕ) (rows : List Row) → All (λ row. length row ≡ width) rows → rows_of_lines width (numbered_lines n (row_words rows)) ≡ rows
 same_rows width n [] wide = refl
 same_rows width n (row ∷ rows) wide =
     let same : length row ≡ width = All-head (λ row. length row ≡ width) row rows wide in

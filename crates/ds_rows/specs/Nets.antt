@@ -9,9 +9,9 @@ abbrev pub net_text : Net → List ℕ
 net_text net = if net.copy == 0 then net.name else (decimal net.copy ++ codes "/" ++ net.name)
 
 -- the net with a number
-abbrev pub net_of : Circuit → ℕ → List ℕ
-net_of c net = net_text (slice_index_or c.nets net (record { copy = 0; name = [] }))
+abbrev pub text_of_net : Circuit → ℕ → List ℕ
+text_of_net c net = net_text (slice_index_or c.nets net (record { copy = 0; name = [] }))
 
 -- a register is printed as the net that it drives
 abbrev pub register_of : Circuit → ℕ → List ℕ
-register_of c register = net_of c (slice_index_or (register_nets c) register 0)
+register_of c register = text_of_net c (slice_index_or (register_nets c) register 0)

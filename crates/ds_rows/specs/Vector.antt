@@ -4,6 +4,8 @@ use Rattle.std.specs.Prelude.{codes, Option, None, Some, Result, Ok, Err, slice_
 use Rattle.std.specs.Prelude.{◌||◌, ◌&&◌, if◌then◌else◌, nat_lt}
 use Rattle.std.specs.List.{list_all}
 use Rattle.std.specs.Str.{bytes_eq}
+use Rattle.ds_lines.specs.First.{where_true, first_of, unless_fault}
+use Rattle.ds_lines.specs.Words.{first_word}
 use Rattle.ds_base.specs.Limit.{most_of}
 use Rattle.ds_base.specs.Values.{Row}
 use Rattle.ds_base.specs.declared.number.Limit.TheVariants.{Vectors as VectorLimit}
@@ -17,17 +19,13 @@ use Rattle.ds_rows.specs.declared.fault.VectorFault.{VectorFault}
 use Rattle.ds_rows.specs.declared.fault.VectorRefusal.{VectorRefusal}
 use Rattle.ds_rows.specs.declared.fault.VectorRefusal.TheVariants.{Memory, Fault}
 
--- the first word of a line
-abbrev pub first_word : List (List ℕ) → List ℕ
-first_word words = slice_index_or words 0 []
-
 -- `0`, `1` or `x`
 abbrev pub is_bit : ℕ → Bool
 is_bit byte = (byte == 48) || ((byte == 49) || (byte == 120))
 
 -- the value of such a character
-abbrev pub value_of : ℕ → Value
-value_of byte = if byte == 49 then One else (if byte == 120 then Unknown else Zero)
+abbrev pub value_of_character : ℕ → Value
+value_of_character byte = if byte == 49 then One else (if byte == 120 then Unknown else Zero)
 
 -- one word of so many characters; for width 0 the word `-`
 unfoldable pub has_width : ℕ → List (List ℕ) → Bool
@@ -41,50 +39,36 @@ has_bits width words = if width == 0 then true else list_all is_bit (first_word 
 
 -- the row of a line's words
 unfoldable pub row_of : ℕ → List (List ℕ) → Row
-row_of width words = if width == 0 then [] else map value_of (first_word words)
-
--- the first of the kinds that hold
-abbrev pub first_of : List (Option VectorKind) → Option VectorKind
-first_of [] = None
-first_of (None ∷ kinds) = first_of kinds
-first_of (Some kind ∷ kinds) = Some kind
-
--- a kind where a test holds
-abbrev pub where_true : Bool → VectorKind → Option VectorKind
-where_true test kind = if test then Some kind else None
+row_of width words = if width == 0 then [] else map value_of_character (first_word words)
 
 -- what is wrong with a line's words, where so many vectors stand before the line
-abbrev pub fault_of : ℕ → ℕ → List (List ℕ) → Option VectorKind
-fault_of width seen words = first_of (
+abbrev pub fault_of_vector : ℕ → ℕ → List (List ℕ) → Option VectorKind
+fault_of_vector width seen words = first_of (
     where_true (not (nat_lt seen (most_of VectorLimit))) (TooMany VectorLimit)
     ∷ where_true (not (has_width width words)) BadWidth
     ∷ where_true (not (has_bits width words)) BadBit
     ∷ [])
 
 -- a fault of the line of this number, else a fault behind it
-abbrev pub fault_or : Option VectorKind → ℕ → Option VectorFault → Option VectorFault
-fault_or None number rest = rest
-fault_or (Some kind) number rest = Some (record { line = number; kind = kind })
+abbrev pub vector_fault_or : Option VectorKind → ℕ → Option VectorFault → Option VectorFault
+vector_fault_or None number rest = rest
+vector_fault_or (Some kind) number rest = Some (record { line = number; kind = kind })
 
 -- the first fault of lines, where so many vectors stand before them
-abbrev pub first_fault : ℕ → ℕ → List Line → Option VectorFault
-first_fault width seen [] = None
-first_fault width seen (line ∷ lines) = fault_or (fault_of width seen line.words) line.number
-    (first_fault width (seen + 1) lines)
+abbrev pub first_vector_fault : ℕ → ℕ → List Line → Option VectorFault
+first_vector_fault width seen [] = None
+first_vector_fault width seen (line ∷ lines) = vector_fault_or
+    (fault_of_vector width seen line.words) line.number
+    (first_vector_fault width (seen + 1) lines)
 
 -- the rows of lines, one a line
-abbrev pub rows_of : ℕ → List Line → List Row
-rows_of width lines = map (λ line. row_of width line.words) lines
-
--- rows, unless there is a fault
-abbrev pub unless_fault : Option VectorFault → Rows → Result Rows VectorFault
-unless_fault None rows = Ok rows
-unless_fault (Some fault) rows = Err fault
+abbrev pub rows_of_lines : ℕ → List Line → List Row
+rows_of_lines width lines = map (λ line. row_of width line.words) lines
 
 -- what lines stand for as vectors of a width: their rows, or their first fault
 abbrev pub vectors_of : ℕ → List Line → Result Rows VectorFault
-vectors_of width lines = unless_fault (first_fault width 0 lines)
-    (record { width = width; rows = rows_of width lines })
+vectors_of width lines = unless_fault (first_vector_fault width 0 lines)
+    (record { width = width; rows = rows_of_lines width lines })
 
 -- a reader's answer is what the lines stand for, unless memory was wanted
 abbrev pub Reads : Result Rows VectorRefusal → Result Rows VectorFault → Type 0

@@ -1,9 +1,9 @@
 //! One line of a vector file: its fault, or its row.
 ghost use Rattle.std.specs.Prelude.{◌≡◌, ◌<◌, map, length, IfOk};
 ghost use Rattle.std.specs.List.{list_all};
-ghost use Rattle.ds_rows.specs.Vector.{is_bit, value_of as value_of_byte};
+ghost use Rattle.ds_rows.specs.Vector.{is_bit, value_of_character as value_of_byte};
 ghost use Rattle.ds_rows.specs.Vector.{has_width as has_width_of, has_bits as has_bits_of};
-ghost use Rattle.ds_rows.specs.Vector.{row_of as row_of_words, fault_of as fault_of_words};
+ghost use Rattle.ds_rows.specs.Vector.{row_of as row_of_words, fault_of_vector as fault_of_words};
 
 use crate::VectorKind;
 use ds_base::{Limit, OutOfMemory, Row3, Value};

@@ -16,7 +16,7 @@ use Rattle.atomic_table.proofs.Lists.{at_set, set_else, at_longer, at_last, exch
 use Rattle.ds_rule.specs.Run.{Run, events, node_of, turns}
 use Rattle.ds_rule.specs.Log.{visits, Recorded}
 use Rattle.ds_rule.specs.Rule.{holds, tickets, seen, Fits, Lawful}
-use Rattle.ds_rule.specs.Plays.{Sat, after_point, pointed, learned, without_cut, only_cut, both}
+use Rattle.ds_rule.specs.Plays.{Sat, after_point, pointed, learned, without_cut, only_cut, taken_in}
 use Rattle.ds_rule.specs.Plays.{spent}
 use Rattle.ds_rule.specs.declared.view.View.{View}
 use Rattle.ds_rule.proofs.Lists.{by_bool, set_there, same_at, at_end, replicate-default}
@@ -198,30 +198,30 @@ deals run id v live rest has s o me =
 
 -- what a pass has that took in another
 pub both-holds : (v w : View) (l : ℕ) → length v.holds ≡ v.run.nodes → length w.holds ≡ v.run.nodes
-    → holds (both v w) l ≡ (holds v l || holds w l)
+    → holds (taken_in v w) l ≡ (holds v l || holds w l)
 both-holds v w l p q = let n : ℕ = v.run.nodes in dite (dec_lt l n)
     (λ h. get-listed (λ x. holds v x || holds w x) n l false h)
-    (λ h. get-beyond (both v w).holds l false
+    (λ h. get-beyond (taken_in v w).holds l false
     (omega (arith, length-listed (λ x. holds v x || holds w x) n))
     ∙ sym (ap (λ b. b || holds w l) (get-beyond v.holds l false (omega arith))
     ∙ get-beyond w.holds l false (omega arith)))
 
 pub both-clash : (v w : View) (l : ℕ) → length v.holds ≡ v.run.nodes
-    → get_or (both v w).clash l false ≡ (holds v l && holds w l)
+    → get_or (taken_in v w).clash l false ≡ (holds v l && holds w l)
 both-clash v w l p = let n : ℕ = v.run.nodes in dite (dec_lt l n)
     (λ h. get-listed (λ x. holds v x && holds w x) n l false h)
-    (λ h. get-beyond (both v w).clash l false
+    (λ h. get-beyond (taken_in v w).clash l false
     (omega (arith, length-listed (λ x. holds v x && holds w x) n))
     ∙ sym (ap (λ b. b && holds w l) (get-beyond v.holds l false (omega arith))
     ∙ false-and (holds w l)))
 
 pub both-tickets : (v w : View) (e : ℕ) → e < events v.run
-    → tickets (both v w) e ≡ cond (holds w (node_of v.run e)) (tickets w e) (tickets v e)
+    → tickets (taken_in v w) e ≡ cond (holds w (node_of v.run e)) (tickets w e) (tickets v e)
 both-tickets v w e h = get-listed (λ x. cond (holds w (node_of v.run x)) (tickets w x)
     (tickets v x)) (events v.run) e [] h
 
 pub both-seen : (v w : View) (l : ℕ) → l < v.run.nodes
-    → seen (both v w) l ≡ max (seen v l) (seen w l)
+    → seen (taken_in v w) l ≡ max (seen v l) (seen w l)
 both-seen v w l h = get-listed (λ x. max (seen v x) (seen w x)) v.run.nodes l 0 h
 
 -- the owners after the seat k took in what w holds
@@ -229,11 +229,11 @@ abbrev taken : (ℕ → ℕ) → View → ℕ → ℕ → ℕ
 taken owner w k l = cond (holds w l) k (owner l)
 
 pub gathers : (run : Run) (id other : ℕ) (v w : View) → v.live ≡ true → w.live ≡ true → v.stage ≡ 0
-    → w.stage ≡ 0 → Joins (Lawful run) id v other w (both v w) spent
+    → w.stage ≡ 0 → Joins (Lawful run) id v other w (taken_in v w) spent
 gathers run id other v w live live' rest rest' s o me apart-from him =
     let him' : get_elem? s.views other ≡ some w =
-    sym (set_else s.views id other (both v w) apart-from) ∙ him in
-    let f = o.views id v me live in let g = o.views other w him' live' in let u : View = both v w in
+    sym (set_else s.views id other (taken_in v w) apart-from) ∙ him in
+    let f = o.views id v me live in let g = o.views other w him' live' in let u : View = taken_in v w in
     let owner : ℕ → ℕ = taken o.owner w id in
     let vs : List View = set s.views id u in
     let nodes-is : v.run.nodes ≡ run.nodes = ap (λ (r : Run). r.nodes) f.same_run in

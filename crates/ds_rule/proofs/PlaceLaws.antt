@@ -6,9 +6,10 @@ use Rattle.std.proofs.Math.Nat.{mod-lt, zero-mod, mul-le-mul_right}
 use mathlib.Core.Logic.{dite}
 use native.Mathlib.Decide.{ℕ_discrete, dec_lt}
 use Rattle.std.proofs.lemmas.List.{length-map}
+use Rattle.ds_base.specs.Word.{count_of_words}
 use Rattle.atomic_table.proofs.Lists.{one_turn}
 use Rattle.ds_rule.specs.Run.{Run}
-use Rattle.ds_rule.specs.Words.{words_of, widths, width, before, size, place}
+use Rattle.ds_rule.specs.Words.{widths, width, before, size, place}
 
 before_up : (n : ℕ) (ws : List ℕ) (l m : ℕ) → l ≤ m → before n ws l ≤ before n ws m
 before_up n ws zero m h = omega arith
@@ -141,7 +142,7 @@ unfolding place width
 start-next run l h = omega (
   arith,
   before-next (run.slack + 1) (widths run) l
-      (omega (arith, length-map run.lengths words_of)),
+      (omega (arith, length-map run.lengths count_of_words)),
   nothing run l,
   nothing run (suc l),
 )
@@ -163,12 +164,12 @@ row_ends run l k h = omega (
 )
 
 -- no value takes no word
-get-words : (ns : List ℕ) (l : ℕ) → get_or (map words_of ns) l 0 ≡ words_of (get_or ns l 0)
+get-words : (ns : List ℕ) (l : ℕ) → get_or (map count_of_words ns) l 0 ≡ count_of_words (get_or ns l 0)
 get-words [] l = refl
 get-words (n ∷ ns) zero = refl
 get-words (n ∷ ns) (suc l) = get-words ns l
 
-pub width-is : (run : Run) (l : ℕ) → width run l ≡ words_of (get_or run.lengths l 0)
+pub width-is : (run : Run) (l : ℕ) → width run l ≡ count_of_words (get_or run.lengths l 0)
 unfolding width
 width-is run l = get-words run.lengths l
 

@@ -6,7 +6,7 @@ use mathlib.Core.Logic.{dite}
 use native.Mathlib.Decide.{ℕ_discrete, dec_lt}
 use Rattle.ds_rule.specs.Run.{Run, node_of, next, turns, opening, closing, count, Enabled}
 use Rattle.ds_rule.specs.Sound.{IsSound, Agreed}
-use Rattle.ds_rule.specs.Progress.{IsAccepted, Stuck}
+use Rattle.ds_rule.specs.Progress.{IsRunAccepted, Stuck}
 use Rattle.ds_rule.proofs.EventLaws.{node-low, node-high, next-low, next-high, turns-low}
 use Rattle.ds_rule.proofs.EventLaws.{opening-is, closing-is, node-opening, node-closing}
 
@@ -39,7 +39,7 @@ mark_few rank l x = dite (dec_lt (rank x) (rank (closing l)))
     )))
 
 -- they agree with each arc, since the numbering rises along arcs without tokens
-mark_agrees : (run : Run) (ok : IsAccepted run) (l : ℕ) → Agreed run (mark ok.rank l)
+mark_agrees : (run : Run) (ok : IsRunAccepted run) (l : ℕ) → Agreed run (mark ok.rank l)
 mark_agrees run ok l k a at = let R : ℕ = ok.rank (closing l) in
     dite (dec_lt (ok.rank a.source) R)
     (λ low. omega (arith, mark-low ok.rank l a.source low, mark_few ok.rank l a.target))
@@ -54,7 +54,7 @@ mark_agrees run ok l k a at = let R : ℕ = ok.rank (closing l) in
     (λ some-token. omega (arith, mark_few ok.rank l a.target)))
 
 -- a latch opens before it closes in the numbering
-opens_first : (run : Run) (ok : IsAccepted run) (l : ℕ) → l < run.latches
+opens_first : (run : Run) (ok : IsRunAccepted run) (l : ℕ) → l < run.latches
     → ok.rank (opening l) < ok.rank (closing l)
 opens_first run ok l low = dite (dec_lt (ok.rank (opening l)) (ok.rank (closing l))) (λ h. h)
     (λ high. absurd (omega (
@@ -96,7 +96,7 @@ own_turn run fired e closed opened = let l : ℕ = node_of run e in let f : ℕ 
     omega (arith, next-high run l f (omega arith)))
 
 -- counts of m everywhere, and stuck: then m + 1 everywhere, by the numbering
-by_rank : (run : Run) (sound : IsSound run) (ok : IsAccepted run) (fired : ℕ → ℕ) (m : ℕ)
+by_rank : (run : Run) (sound : IsSound run) (ok : IsRunAccepted run) (fired : ℕ → ℕ) (m : ℕ)
     → m < run.limit → ((l : ℕ) → l < run.nodes → Stuck run fired l)
     → ((e : ℕ) → node_of run e < run.nodes → m ≤ count run fired e) → (r e : ℕ)
     → node_of run e < run.nodes → ok.rank e < r → m + 1 ≤ count run fired e
@@ -129,7 +129,7 @@ by_rank run sound ok fired m below stuck all (suc r) e near low =
     (λ done. absurd (omega (arith, done, ap (λ (x : ℕ). turns run x (fired l)) same)))
     (stuck l near))
 
-counts_reach : (run : Run) (sound : IsSound run) (ok : IsAccepted run) (fired : ℕ → ℕ)
+counts_reach : (run : Run) (sound : IsSound run) (ok : IsRunAccepted run) (fired : ℕ → ℕ)
     → ((l : ℕ) → l < run.nodes → Stuck run fired l) → (m : ℕ) → m ≤ run.limit
     → (e : ℕ) → node_of run e < run.nodes → m ≤ count run fired e
 counts_reach run sound ok fired stuck zero h e near = omega arith
@@ -139,7 +139,7 @@ counts_reach run sound ok fired stuck (suc m) h e near = let more =
     (omega arith) in omega arith
 
 -- where every node is stuck, every event has fired as often as it may
-pub all_done : (run : Run) → IsSound run → IsAccepted run → (fired : ℕ → ℕ)
+pub all_done : (run : Run) → IsSound run → IsRunAccepted run → (fired : ℕ → ℕ)
     → ((l : ℕ) → l < run.nodes → Stuck run fired l) → (e : ℕ) → node_of run e < run.nodes
     → run.limit ≤ count run fired e
 all_done run sound ok fired stuck e near =

@@ -116,8 +116,8 @@ listed f zero = []
 listed f (suc n) = listed f n ++ f n ∷ []
 
 -- a pass that took in another
-abbrev pub both : View → View → View
-both v w = record v {
+abbrev pub taken_in : View → View → View
+taken_in v w = record v {
   holds = listed (λ l. holds v l || holds w l) v.run.nodes;
   tickets = listed (λ e. cond (holds w (node_of v.run e)) (tickets w e) (tickets v e))
       (events v.run);

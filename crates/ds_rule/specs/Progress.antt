@@ -7,7 +7,7 @@ use Rattle.ds_rule.specs.Sound.{HasOrder}
 use Rattle.ds_marked.specs.declared.marked.Arc.{Arc}
 
 -- a latch closes after it opens, and some numbering rises along each arc without tokens
-pub record IsAccepted (run : Run) : Type 0 where
+pub record IsRunAccepted (run : Run) : Type 0 where
   pub closes : (l : ℕ) → l < run.latches → HasOrder run (opening l) (closing l) 0
   pub rank : ℕ → ℕ
   pub rises : (k : ℕ) (a : Arc) → get_elem? run.arcs k ≡ some a → a.tokens ≡ 0

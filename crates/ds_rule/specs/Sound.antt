@@ -6,7 +6,7 @@ use lib.ListN.{get_elem?}
 use Rattle.ds_marked.specs.declared.marked.Arc.{Arc}
 use Rattle.ds_rule.specs.declared.layout.DataEdge.{DataEdge}
 use Rattle.ds_rule.specs.Run.{Run, node_of, opening, closing}
-use Rattle.ds_rule.specs.Words.{width, size, values_at}
+use Rattle.ds_rule.specs.Words.{width, size, node_values}
 
 -- a data edge by its number
 abbrev pub edge_at : Run → ℕ → DataEdge
@@ -57,7 +57,7 @@ pub record IsSound (run : Run) : Type 0 where
   -- each node has rows of one length
   pub rows_of_all : length run.lengths ≡ run.nodes
   pub same_length : (l k : ℕ) → l < run.nodes → k ≤ run.limit
-      → length (values_at run l k) ≡ slice_index run.lengths l
+      → length (node_values run l k) ≡ slice_index run.lengths l
   -- the edges stand by consumer, and each has its orders
   pub by_consumer : (j k : ℕ) → j ≤ k → k < length run.edges
       → (edge_at run j).consumer ≤ (edge_at run k).consumer

@@ -1,18 +1,14 @@
 -- The words of the table: the next ticket, the firings of each node, and the value words.
 -- The steps of the rule use these definitions by their laws alone (proofs/PlaceLaws).
-use Rattle.std.specs.Prelude.{ℕ, ◌+◌, ◌*◌, ◌/◌, ◌%◌, List, [], ◌∷◌, map, zero, suc, slice_index}
+use Rattle.std.specs.Prelude.{ℕ, ◌+◌, ◌*◌, ◌%◌, List, [], ◌∷◌, map, zero, suc, slice_index}
 use Rattle.std.specs.Prelude.{slice_index_or}
 use Rattle.ds_base.specs.Values.{Row}
-use Rattle.ds_base.specs.Word.{word_of}
+use Rattle.ds_base.specs.Word.{word_of, count_of_words}
 use Rattle.ds_rule.specs.Run.{Run}
-
--- how many words so many values take
-abbrev pub words_of : ℕ → ℕ
-words_of n = (n + 31) / 32
 
 -- how many value words a row of each node has
 abbrev pub widths : Run → List ℕ
-widths run = map words_of run.lengths
+widths run = map count_of_words run.lengths
 
 -- how many value words a row of the node has
 unfoldable pub width : Run → ℕ → ℕ
@@ -36,9 +32,9 @@ place run l k i =
     (k % (run.slack + 1) * slice_index (widths run) l + i))
 
 -- value number k of a node: its values, one a place
-abbrev pub values_at : Run → ℕ → ℕ → Row
-values_at run l k = slice_index_or run.rows (k * run.nodes + l) []
+abbrev pub node_values : Run → ℕ → ℕ → Row
+node_values run l k = slice_index_or run.rows (k * run.nodes + l) []
 
 -- word i of value number k of a node; no step looks inside
 unfoldable pub value : Run → ℕ → ℕ → ℕ → ℕ
-value run l k i = word_of (values_at run l k) i
+value run l k i = word_of (node_values run l k) i

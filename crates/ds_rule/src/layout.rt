@@ -5,6 +5,7 @@ ghost use Rattle.ds_base.specs.Values.{Row};
 ghost use Rattle.ds_rule.specs.Run.{Run, node_of, next, turns, opens};
 ghost use Rattle.ds_rule.specs.Words.{width};
 
+use crate::sizes::Sizes;
 use ds_base::LatchId;
 use ds_marked::Arc;
 use std::marker::Model;
@@ -30,13 +31,10 @@ pub struct DataEdge {
 /// events of the other nodes, one each, come behind.
 #[derive(Drop)]
 pub struct Layout<J: Rows> {
-    nodes: usize,
-    latches: usize,
+    sizes: Sizes,
     arcs: Vec<Arc>,
-    limit: u64,
     edges: Vec<DataEdge>,
     lengths: Vec<usize>,
-    slack: usize,
     rows: J,
 }
 
@@ -46,50 +44,43 @@ impl<J: Rows> Model for Layout<J> {
     ghost Value = { Run };
 
     ghost view = { λ m. record {
-      nodes = m.nodes;
-      latches = m.latches;
+      nodes = m.sizes.nodes;
+      latches = m.sizes.latches;
       arcs = m.arcs.items;
-      limit = m.limit;
+      limit = m.sizes.limit;
       edges = m.edges.items;
       lengths = m.lengths.items;
-      slack = m.slack;
+      slack = m.sizes.slack;
       rows = J.rows m.rows;
     } };
 }
 
 impl<J: Rows> Layout<J> {
-    /// Of its parts: how many nodes and latches, the arcs between events, how often each event may
-    /// fire, the data edges, how many values a row of each node has, how many openings a producer
-    /// may be ahead, and what stands for the values.
+    /// Of its parts: how large it is, the arcs between events, the data edges, how many values a
+    /// row of each node has, and what stands for the values.
     pub fn of(
-        nodes: usize,
-        latches: usize,
+        sizes: Sizes,
         arcs: Vec<Arc>,
-        limit: u64,
         edges: Vec<DataEdge>,
         lengths: Vec<usize>,
-        slack: usize,
         rows: J,
     ) -> Self
         ensures { result ≡ record {
-          nodes = nodes;
-          latches = latches;
+          nodes = sizes.nodes;
+          latches = sizes.latches;
           arcs = arcs.items;
-          limit = limit;
+          limit = sizes.limit;
           edges = edges.items;
           lengths = lengths.items;
-          slack = slack;
+          slack = sizes.slack;
           rows = J.rows rows;
         } }
     {
         Layout {
-            nodes,
-            latches,
+            sizes,
             arcs,
-            limit,
             edges,
             lengths,
-            slack,
             rows,
         }
     }
@@ -98,28 +89,28 @@ impl<J: Rows> Layout<J> {
     pub fn nodes(&self) -> usize
         ensures { result ≡ self.now.nodes }
     {
-        self.nodes
+        self.sizes.nodes
     }
 
     /// How many of them are latches.
     pub fn latches(&self) -> usize
         ensures { result ≡ self.now.latches }
     {
-        self.latches
+        self.sizes.latches
     }
 
     /// How often each event may fire.
     pub fn limit(&self) -> u64
         ensures { result ≡ self.now.limit }
     {
-        self.limit
+        self.sizes.limit
     }
 
     /// How many openings a producer may be ahead.
     pub fn slack(&self) -> usize
         ensures { result ≡ self.now.slack }
     {
-        self.slack
+        self.sizes.slack
     }
 
     /// The arcs between events.
@@ -156,10 +147,10 @@ impl<J: Rows> Layout<J> {
         requires { self.now.latches < 4294967296 }
         ensures { result ≡ node_of self.now event }
     {
-        if event < 2 * self.latches {
+        if event < 2 * self.sizes.latches {
             event / 2
         } else {
-            event - self.latches
+            event - self.sizes.latches
         }
     }
 
@@ -168,10 +159,10 @@ impl<J: Rows> Layout<J> {
         requires { (self.now.latches < 4294967296) × (node < 4294967296) }
         ensures { result ≡ next self.now node fired }
     {
-        if node < self.latches {
+        if node < self.sizes.latches {
             2 * node + (fired % 2) as usize
         } else {
-            node + self.latches
+            node + self.sizes.latches
         }
     }
 
@@ -179,7 +170,7 @@ impl<J: Rows> Layout<J> {
     pub fn opens_next(&self, node: usize, fired: u64) -> bool
         ensures { IsTrue result ↔ (opens self.now (next self.now node fired) ≡ true) }
     {
-        node < self.latches && fired % 2 == 0
+        node < self.sizes.latches && fired % 2 == 0
     }
 
     /// How often the event has fired, where its node has fired so often.
@@ -187,7 +178,7 @@ impl<J: Rows> Layout<J> {
         requires { self.now.latches < 4294967296 }
         ensures { result ≡ turns self.now event fired }
     {
-        if event < 2 * self.latches {
+        if event < 2 * self.sizes.latches {
             if event % 2 == 0 {
                 fired / 2 + fired % 2
             } else {

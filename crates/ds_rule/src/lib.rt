@@ -12,8 +12,10 @@
 pub mod laws;
 mod layout;
 mod plays;
+mod sizes;
 mod view;
 
 pub use layout::{DataEdge, Layout, Rows};
 pub use plays::{Deal, Depart, Draw, Gather, Learn, Look, Order, Point, Publish, Read, Write};
+pub use sizes::Sizes;
 pub use view::View;

@@ -2,7 +2,7 @@
 //! and gives.
 ghost use Rattle.ds_rule.specs.Rule.{Lawful, first_view};
 ghost use Rattle.ds_rule.specs.Plays.{looked, departed, read, wrote, drew, published};
-ghost use Rattle.ds_rule.specs.Plays.{learned, pointed, without_cut, only_cut, both, spent};
+ghost use Rattle.ds_rule.specs.Plays.{learned, pointed, without_cut, only_cut, taken_in, spent};
 
 use crate::layout::{Layout, Rows};
 use crate::view::View;
@@ -79,7 +79,7 @@ impl Split<View> for Deal {
 pub struct Gather;
 
 impl Join<View> for Gather {
-    ghost both = { both };
+    ghost both = { taken_in };
 
     ghost spent = { spent };
 }

@@ -15,7 +15,7 @@ use Rattle.ds_latch.proofs.Counts.{accepted_controls}
 use Rattle.ds_latch.proofs.Flow.{fires_count, flow_equivalence, some_firing}
 use Rattle.ds_rule.specs.Run.{Run, closing as closing_in, events as events_in}
 use Rattle.ds_rule.specs.Rule.{first_view, tickets}
-use Rattle.ds_rule.specs.Words.{values_at}
+use Rattle.ds_rule.specs.Words.{node_values}
 use Rattle.ds_rule.proofs.EventLaws.{closing-is}
 use Rattle.ds_run.specs.Layout.{AreValues}
 use Rattle.ds_run.specs.Stored.{FabricsShowFirst, RecordsStoreAsFired, ShowsFirst, StoresAsFired}
@@ -33,10 +33,10 @@ counts_fired s vectors old now (v ∷ events) (next, fires, rest) =
 -- the values of a node that a run has are those of the clocked run
 told_is : (p : Planned) (vectors : List Row) (run : Run) (values : AreValues p.split vectors run) (n : Node) → IsNode p.split n
     → (turns : ℕ) → turns ≤ length vectors
-    → map (values_at run (number_of n)) (range_with_len 1 turns)
+    → map (node_values run (number_of n)) (range_with_len 1 turns)
     ≡ map (numbered p.split vectors values.state values.nets n) (range_with_len 1 turns)
 told_is p vectors run values n is_node turns few =
-    map_agree (values_at run (number_of n)) (numbered p.split vectors values.state values.nets n) (range_with_len 1 turns) (λ i d inside.
+    map_agree (node_values run (number_of n)) (numbered p.split vectors values.state values.nets n) (range_with_len 1 turns) (λ i d inside.
     let long : length (range_with_len 1 turns) ≡ turns = length-range_with_len 1 turns in
     let at : get_or (range_with_len 1 turns) i d ≡ 1 + i = get_or-range_with_len 1 turns i d (omega arith) in
     values.of_node n is_node (get_or (range_with_len 1 turns) i d) (omega arith))

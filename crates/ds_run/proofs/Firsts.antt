@@ -6,7 +6,7 @@ use Rattle.std.proofs.lemmas.Bool.{cases_lt}
 use Rattle.std.proofs.lemmas.List.{get_or-map, length-map}
 use Rattle.std.proofs.lemmas.List.Elements.{All-drop, All-head, All-replicate, All-tail, All-take}
 use Rattle.ds_base.specs.Values.{Row}
-use Rattle.ds_base.specs.Word.{code_of, number_of_values, word_of}
+use Rattle.ds_base.specs.Word.{code_of, number_of_values, word_of, count_of_words}
 use Rattle.ds_base.specs.declared.value.Value.TheVariants.{Zero}
 use Rattle.ds_cover.specs.Cover.{value_at, values_at}
 use Rattle.ds_design.specs.Circuit.{register_nets}
@@ -15,9 +15,8 @@ use Rattle.ds_latch.specs.Node.{members, nets_of}
 use Rattle.ds_latch.proofs.Events.{node_at}
 use Rattle.ds_design.specs.Rows.{Rows}
 use Rattle.ds_groups.specs.Groups.{Grouping}
-use Rattle.ds_opening.specs.Packed.{words_of}
 use Rattle.ds_rule.specs.Run.{Run}
-use Rattle.ds_rule.specs.Words.{value, values_at as values_in, width}
+use Rattle.ds_rule.specs.Words.{value, node_values as values_in, width}
 use Rattle.ds_rule.proofs.PlaceLaws.{width-is}
 use Rattle.ds_run.specs.Openings.{AreOpenings}
 use Rattle.ds_run.proofs.Rows.{value_of_node}
@@ -60,8 +59,8 @@ module _ {s : Split} {vectors : Rows} {run : Run} {groups : Grouping} {order : L
       elim (cases_lt l (nodes s)) [
         | inl below ↦ below
         | inr behind ↦ (
-            let none : width run l ≡ words_of 0
-            = width-is run l ∙ ap words_of (w.planned.lengths_are.of_extra l behind) in
+            let none : width run l ≡ count_of_words 0
+            = width-is run l ∙ ap count_of_words (w.planned.lengths_are.of_extra l behind) in
             absurd (let past : i < 0 = omega (none, inside, arith) in omega (past, arith)))
       ]
 
@@ -128,7 +127,7 @@ module _ {s : Split} {vectors : Rows} {run : Run} {groups : Grouping} {order : L
             ∙ length-map registers (value_at s.initial) in
             let nets : length (nets_of s (Slave (cluster_at number))) ≡ length registers
             = length-map registers (λ r. get_or (register_nets s.circuit) r 0) in
-            let wide : width asked l ≡ words_of (length (nets_of s (Slave (cluster_at number))))
+            let wide : width asked l ≡ count_of_words (length (nets_of s (Slave (cluster_at number))))
             = room_at w asked_is number_is (Slave (cluster_at number)) cluster_low slave_is in
             omega (size, nets, wide, inside, arith)
 

@@ -6,26 +6,26 @@ use Rattle.ds_latch.specs.Plan.{IsPlan, Planned}
 use Rattle.ds_rule.specs.Run.{Run}
 use Rattle.ds_rule.proofs.EventLaws.{events-is}
 use Rattle.ds_fabric.specs.Showing.{Recorder}
-use Rattle.ds_runner.specs.Stopped.{IsRun, all_firings}
+use Rattle.ds_runner.specs.Stopped.{IsRunRecord, all_firings}
 use Rattle.ds_run.specs.Halted.{IsHalted, IsWorked, most_firings}
 use Rattle.ds_run.specs.Layout.{IsRunOf}
 use Rattle.ds_run.specs.Played.{IsPlayed}
 
 -- the run that is recorded is the one that was begun
-run_recorded : (quota : Option ℕ) (jobs : ℕ) (run : Run) (r : Recorder) → IsRun quota jobs run r
+run_recorded : (quota : Option ℕ) (jobs : ℕ) (run : Run) (r : Recorder) → IsRunRecord quota jobs run r
     → r.shown.view.run ≡ run
 run_recorded None jobs run r is = is.run_is
 run_recorded (Some quota) jobs run r is = is.run_is
 
 pub worked : (p : Planned) (vectors : List Row) (quota : Option ℕ) (jobs : ℕ) (run : Run)
-    (r : Recorder) → IsPlan p.split p.graph → IsRunOf p vectors run → IsRun quota jobs run r
+    (r : Recorder) → IsPlan p.split p.graph → IsRunOf p vectors run → IsRunRecord quota jobs run r
     → IsWorked quota jobs p vectors r
 worked p vectors quota jobs run r plan is ran =
     let same : run ≡ r.shown.view.run = sym (run_recorded quota jobs run r ran) in
     record {
       accepted = plan;
       planned = subst (λ (x : Run). IsRunOf p vectors x) same is;
-      run = subst (λ (x : Run). IsRun quota jobs x r) same ran;
+      run = subst (λ (x : Run). IsRunRecord quota jobs x r) same ran;
     }
 
 -- without a quota it went to its end

@@ -17,7 +17,7 @@ use Rattle.ds_latch.specs.Order.{IsDataEdge, open_tokens}
 use Rattle.ds_latch.specs.Latches.{HasEdges}
 use Rattle.ds_latch.specs.declared.latches.Edge.{Edge}
 use Rattle.ds_rule.specs.declared.layout.DataEdge.{DataEdge}
-use Rattle.ds_run.specs.Layout.{AreEdges, Joins}
+use Rattle.ds_run.specs.Layout.{AreDataEdges, Joins}
 use Rattle.ds_run.specs.Tokened.{tokened, tokens_of}
 
 -- a number is even or odd
@@ -193,7 +193,7 @@ module _ (s : Split) (given : List Edge) (has : HasEdges s given)
       λ e. pairs i j (ends d) below (omega arith) (at i (omega arith) ∙ (e ∙ sym (at j inside))) in
       ends_apart (get_or edges i d) (get_or edges j d) apart
 
-  pub are_edges : IsNonDecreasingBy (λ e. e.consumer) edges → AreEdges s edges
+  pub are_edges : IsNonDecreasingBy (λ e. e.consumer) edges → AreDataEdges s edges
   are_edges rising = record {
     each = λ k d inside. each_joins (get_or edges k d) (k, inside, get_or-self edges k d inside);
     all = all_join;

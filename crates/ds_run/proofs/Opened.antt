@@ -1,6 +1,7 @@
 -- What openings compute, in the terms of the run.
 use Rattle.std.proofs.Common.{◌≡◌, ◌∙◌, ℕ, suc, ◌-◌, ◌<◌, ◌≤◌, List, length}
 use Rattle.std.proofs.Common.{Bool, refl, arith, ap, sym, subst}
+use Rattle.ds_base.specs.Word.{count_of_words}
 use Rattle.ds_base.specs.Values.{Row}
 use Rattle.ds_latch.specs.Node.{Node, Split, IsNode, number_of, nodes}
 use Rattle.ds_latch.specs.Node.{nets_of}
@@ -8,8 +9,8 @@ use Rattle.ds_latch.specs.Order.{IsDataEdge, open_tokens}
 use Rattle.ds_latch.proofs.Events.{node_at}
 use Rattle.ds_design.specs.Rows.{Rows}
 use Rattle.ds_groups.specs.Groups.{Grouping}
-use Rattle.ds_opening.specs.Packed.{packed, words_of}
-use Rattle.ds_opening.specs.Woven.{IsOpening, Turn, read_of, taken}
+use Rattle.ds_opening.specs.Packed.{packed}
+use Rattle.ds_opening.specs.Woven.{IsOpeningOf, Turn, read_of, value_taken}
 use Rattle.ds_rule.specs.Run.{Run}
 use Rattle.ds_rule.specs.Rows.{row, supply_but}
 use Rattle.ds_rule.specs.Words.{width}
@@ -30,9 +31,9 @@ module _ {s : Split} {vectors : Rows} {run : Run} {groups : Grouping} {order : L
   }
 
   -- a row of the node has as many words as the values of its nets fill
-  pub room : (n : Node) → IsNode s n → width run (number_of n) ≡ words_of (length (nets_of s n))
+  pub room : (n : Node) → IsNode s n → width run (number_of n) ≡ count_of_words (length (nets_of s n))
   room n is_node =
-      width-is run (number_of n) ∙ ap words_of (w.planned.lengths_are.of_node n is_node)
+      width-is run (number_of n) ∙ ap count_of_words (w.planned.lengths_are.of_node n is_node)
 
   rows_are : (n : Node) (opened : ℕ) → opened < length vectors.rows
       → (p : Node) → IsNode s p → IsDataEdge s p n
@@ -44,8 +45,8 @@ module _ {s : Split} {vectors : Rows} {run : Run} {groups : Grouping} {order : L
   pub record Opens (l opened : ℕ) (known : ℕ → Bool) (from : List ℕ) : Type 0 where
     pub node : Node
     pub turn : Turn
-    pub opens : IsOpening s vectors.rows l opened known from node turn
-    pub gives : packed (taken s turn node) ≡ row run l (suc opened)
+    pub opens : IsOpeningOf s vectors.rows l opened known from node turn
+    pub gives : packed (value_taken s turn node) ≡ row run l (suc opened)
     pub nets_are : (j : ℕ) → turn.nets j ≡ w.planned.values_are.nets j
     pub opened_is : turn.opened ≡ opened
 
@@ -111,7 +112,7 @@ module _ {s : Split} {vectors : Rows} {run : Run} {groups : Grouping} {order : L
   -- the room that it takes
   module _ {asked : Run} (asked_is : asked ≡ run) {l number : ℕ} (number_is : number ≡ l) where
     pub room_at : (n : Node) → IsNode s n → number_of n ≡ number
-        → width asked l ≡ words_of (length (nets_of s n))
+        → width asked l ≡ count_of_words (length (nets_of s n))
     room_at n is_node is =
         ap (λ (r : Run). width r l) asked_is
         ∙ (ap (width run) (sym (is ∙ number_is)) ∙ room n is_node)

@@ -13,7 +13,7 @@ use Rattle.ds_latch.specs.Numbered.{numbered}
 use Rattle.ds_latch.specs.Plan.{Planned}
 use Rattle.ds_rule.specs.Run.{Run, node_of, closing}
 use Rattle.ds_rule.specs.Rule.{tickets}
-use Rattle.ds_rule.specs.Words.{values_at as stored_at}
+use Rattle.ds_rule.specs.Words.{node_values as stored_at}
 use Rattle.ds_rule.proofs.EventLaws.{node-closing}
 use Rattle.ds_fabric.specs.Showing.{Recorder}
 use Rattle.ds_run.specs.Layout.{AreValues}

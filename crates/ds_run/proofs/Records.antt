@@ -14,7 +14,7 @@ use Rattle.ds_rule.specs.Log.{InTurn, firings, places, times}
 use Rattle.ds_rule.specs.Rule.{tickets}
 use Rattle.ds_rule.proofs.Lists.{at_below}
 use Rattle.ds_rule.proofs.Logs.{drawn, length-firings, length-places, node_inside, ticket_below}
-use Rattle.ds_fabric.specs.Showing.{IsFired, Recorder}
+use Rattle.ds_fabric.specs.Showing.{IsFiredInOrder, Recorder}
 use Rattle.ds_run.specs.Played.{IsPlayed, IsRecordOf}
 
 -- the record of a run that went to its end is one
@@ -28,7 +28,7 @@ record_played p vectors r played = record {
 
 -- the firings of its list are those of its tickets
 pub record_fired : (p : Planned) (vectors : List Row) (r : Recorder) → IsRecordOf p vectors r
-    → (events : List ℕ) × IsFired r.shown.view.run (tickets r.shown.view) events
+    → (events : List ℕ) × IsFiredInOrder r.shown.view.run (tickets r.shown.view) events
 record_fired p vectors r is = (
   firings is.recorded.log,
   record {

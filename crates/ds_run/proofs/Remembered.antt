@@ -18,7 +18,7 @@ use Rattle.ds_opening.specs.Foreseen.{nets_in, state_before}
 use Rattle.ds_opening.proofs.Foreseen.{foresees_run_lem}
 use Rattle.ds_opening.specs.Learnt.{is_learnt}
 use Rattle.ds_opening.specs.Noted.{IsNotedOpening}
-use Rattle.ds_opening.specs.Woven.{IsOpening}
+use Rattle.ds_opening.specs.Woven.{IsOpeningOf}
 use Rattle.ds_opening.specs.declared.opening.Opening.{Opening}
 use Rattle.ds_run.specs.Openings.{AreOpenings, memory_of}
 use Rattle.ds_run.proofs.Opened.{Opens}
@@ -66,14 +66,14 @@ module _ {s : Split} {vectors : Rows} {run : Run} {groups : Grouping} {order : L
     abbrev learnt_in : ℕ → ℕ → Bool
     learnt_in k = is_learnt (length groups.groups) kept k
 
-    opening_is : IsOpening s vectors.rows opening.number (opening.turn - 1)
+    opening_is : IsOpeningOf s vectors.rows opening.number (opening.turn - 1)
         (learnt_in opening.turn) opening.from.now o.node o.turn
     opening_is =
-        subst (λ (m : ℕ). IsOpening s vectors.rows m (opening.turn - 1) (learnt_in opening.turn)
+        subst (λ (m : ℕ). IsOpeningOf s vectors.rows m (opening.turn - 1) (learnt_in opening.turn)
         opening.from.now o.node o.turn) (sym number_is)
-        (subst (λ (m : ℕ). IsOpening s vectors.rows number (m - 1) (learnt_in m)
+        (subst (λ (m : ℕ). IsOpeningOf s vectors.rows number (m - 1) (learnt_in m)
         opening.from.now o.node o.turn) (sym turn_is)
-        (subst (λ (xs : List ℕ). IsOpening s vectors.rows number (turn - 1) (learnt_in turn)
+        (subst (λ (xs : List ℕ). IsOpeningOf s vectors.rows number (turn - 1) (learnt_in turn)
         xs o.node o.turn) (sym from_is) o.opens))
 
     nets_in_run : (k : ℕ) → o.turn.opened ≡ k → w.planned.values_are.nets k ≡ o.turn.nets o.turn.opened

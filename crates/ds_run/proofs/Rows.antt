@@ -4,17 +4,17 @@ use Rattle.std.proofs.Common.{get_or, map, refl, arith, ap, sym}
 use Rattle.std.specs.List.{range_with_len}
 use Rattle.std.proofs.lemmas.List.FromFn.{map-range_with_len_more}
 use Rattle.ds_base.specs.Values.{Row}
-use Rattle.ds_base.specs.Word.{word_of}
+use Rattle.ds_base.specs.Word.{word_of, count_of_words}
 use Rattle.ds_latch.specs.Node.{Node, IsNode, number_of, nodes}
 use Rattle.ds_latch.specs.Numbered.{numbered}
 use Rattle.ds_latch.specs.Plan.{Planned}
 use Rattle.ds_latch.proofs.Counts.{number_below}
-use Rattle.ds_opening.specs.Packed.{packed, words_of}
+use Rattle.ds_opening.specs.Packed.{packed}
 use Rattle.ds_rule.specs.Run.{Run}
 use Rattle.ds_rule.specs.Rows.{row}
 use Rattle.ds_rule.specs.Plays.{listed}
 use Rattle.ds_rule.specs.Sound.{IsSound}
-use Rattle.ds_rule.specs.Words.{value, values_at, width}
+use Rattle.ds_rule.specs.Words.{value, node_values, width}
 use Rattle.ds_rule.proofs.PlaceLaws.{width-is}
 use Rattle.ds_run.specs.Layout.{IsRunOf}
 
@@ -29,13 +29,13 @@ listed-map f (suc n) =
 
 -- the words of a value, by its row
 pub row-words : (run : Run) (l k : ℕ)
-    → row run l k ≡ map (word_of (values_at run l k)) (range_with_len 0 (width run l))
+    → row run l k ≡ map (word_of (node_values run l k)) (range_with_len 0 (width run l))
 unfolding value
-row-words run l k = listed-map (λ i. word_of (values_at run l k) i) (width run l)
+row-words run l k = listed-map (λ i. word_of (node_values run l k) i) (width run l)
 
 -- the words of a value are those of its row
-row-packed : (run : Run) (l k : ℕ) (values : Row) → values_at run l k ≡ values
-    → width run l ≡ words_of (length values) → row run l k ≡ packed values
+row-packed : (run : Run) (l k : ℕ) (values : Row) → node_values run l k ≡ values
+    → width run l ≡ count_of_words (length values) → row run l k ≡ packed values
 row-packed run l k values is wide =
     row-words run l k
     ∙ (ap (λ (r : Row). map (word_of r) (range_with_len 0 (width run l))) is
@@ -49,16 +49,16 @@ module _ {p : Planned} {vectors : List Row} {run : Run} (is : IsRunOf p vectors 
 
   -- a row has as many words as its values fill
   wide : IsSound run → (n : Node) → IsNode p.split n → (k : ℕ) → k ≤ length vectors
-      → width run (number_of n) ≡ words_of (length (value_of_node n k))
+      → width run (number_of n) ≡ count_of_words (length (value_of_node n k))
   wide sound n is_node k low =
       let below : number_of n < nodes p.split = number_below p.split n is_node in
       let near : number_of n < run.nodes = omega (below, is.latches_are, sound.among, arith) in
       let early : k ≤ run.limit = omega (low, is.limit_is, arith) in
-      let size : length (values_at run (number_of n) k) ≡ get_or run.lengths (number_of n) 0
+      let size : length (node_values run (number_of n) k) ≡ get_or run.lengths (number_of n) 0
       = sound.same_length (number_of n) k near early in
-      let values : values_at run (number_of n) k ≡ value_of_node n k
+      let values : node_values run (number_of n) k ≡ value_of_node n k
       = is.values_are.of_node n is_node k low in
-      width-is run (number_of n) ∙ ap words_of (sym size ∙ ap (λ (r : Row). length r) values)
+      width-is run (number_of n) ∙ ap count_of_words (sym size ∙ ap (λ (r : Row). length r) values)
 
   -- the words of value k
   pub row-is : IsSound run → (n : Node) → IsNode p.split n → (k : ℕ) → k ≤ length vectors

@@ -4,8 +4,9 @@ use Rattle.std.proofs.Common.{length, get_or}
 use Rattle.std.proofs.Common.{cond, eqb, true, false, Bool, arith, ap, ◌∙◌, inl, inr, mul-zero, All}
 use Rattle.std.proofs.Math.Nat.{mul-le-mul_right}
 use Rattle.std.proofs.lemmas.Bool.{cases_lt}
+use Rattle.ds_base.specs.Word.{count_of_words}
 use Rattle.ds_rule.specs.Run.{Run}
-use Rattle.ds_rule.specs.Words.{words_of, widths, width, before, size}
+use Rattle.ds_rule.specs.Words.{widths, width, before, size}
 use Rattle.ds_rule.specs.Sound.{edge_at, read_words}
 use Rattle.ds_rule.proofs.Lists.{get-beyond}
 use Rattle.ds_rule.proofs.PlaceLaws.{width-is}
@@ -43,7 +44,7 @@ module _ (run : Run) (few : All (λ n. n < 2 ^ 32) run.lengths) where
       ] in
       omega (arith, read_few l n, more (eqb (edge_at run n).consumer l))
 
-width-at : (run : Run) (l : ℕ) → get_or (widths run) l 0 ≡ words_of (get_or run.lengths l 0)
+width-at : (run : Run) (l : ℕ) → get_or (widths run) l 0 ≡ count_of_words (get_or run.lengths l 0)
 unfolding width
 width-at run l = width-is run l
 
@@ -53,7 +54,7 @@ pub size_few : (run : Run) (m : ℕ) → All (λ n. n < 2 ^ 32) run.lengths
     → run.slack ≤ 15 → size run ≤ 1 + run.nodes + m * 2147483648
 unfolding size
 size_few run m few none low =
-    let words : (l : ℕ) → get_or (widths run) l 0 ≡ words_of (get_or run.lengths l 0)
+    let words : (l : ℕ) → get_or (widths run) l 0 ≡ count_of_words (get_or run.lengths l 0)
     = width-at run in
     let rows : (l : ℕ) → (run.slack + 1) * get_or (widths run) l 0 ≤ 2147483648 = λ l. omega (
       arith,

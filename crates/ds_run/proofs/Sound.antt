@@ -25,14 +25,14 @@ use Rattle.ds_latch.proofs.Events.{node_at}
 use Rattle.ds_latch.proofs.Rising.{edge_nodes, events_long}
 use Rattle.ds_rule.specs.Run.{Run, events, node_of, opening, closing}
 use Rattle.ds_rule.specs.Words.{width, size}
-use Rattle.ds_rule.specs.Words.{values_at as run_values}
+use Rattle.ds_rule.specs.Words.{node_values as run_values}
 use Rattle.ds_rule.specs.Sound.{Agreed, HasOrder, HasOrders, IsSound, edge_at}
-use Rattle.ds_rule.specs.Progress.{IsAccepted}
-use Rattle.ds_rule.specs.Laws.{IsGraphOf}
+use Rattle.ds_rule.specs.Progress.{IsRunAccepted}
+use Rattle.ds_rule.specs.Laws.{IsGraphOfRun}
 use Rattle.ds_rule.specs.declared.layout.DataEdge.{DataEdge}
 use Rattle.ds_rule.proofs.EventLaws.{events-is, node_below, opening-is, closing-is}
 use Rattle.ds_run.specs.Layout.{IsRunOf, Joins}
-use Rattle.ds_run.specs.Laws.{IsWithin, RunsAreAccepted, RunsAreSound, RunsHaveGraphs}
+use Rattle.ds_run.specs.Laws.{IsRunWithin, RunsAreAccepted, RunsAreSound, RunsHaveGraphs}
 use Rattle.ds_run.proofs.Lists.{all_at, all_from_at}
 use Rattle.ds_run.proofs.Sizes.{read_few, width_few, size_few}
 
@@ -135,10 +135,10 @@ module _ (p : Planned) (vectors : List Row) (run : Run) (is : IsRunOf p vectors 
   rises = each_arc (λ a. a.tokens ≡ 0 → plan.live.rank a.source < plan.live.rank a.target)
       plan.live.rises
 
-  pub run_accepted : IsAccepted run
+  pub run_accepted : IsRunAccepted run
   run_accepted = record { closes = closes; rank = plan.live.rank; rises = rises }
 
-  pub run_graph : IsGraphOf p.graph run
+  pub run_graph : IsGraphOfRun p.graph run
   run_graph = record { events_are = events_are; arcs_are = sym is.arcs_are; among = among }
 
   named : (k : ℕ) (a : Arc) → get_elem? run.arcs k ≡ some a
@@ -156,7 +156,7 @@ module _ (p : Planned) (vectors : List Row) (run : Run) (is : IsRunOf p vectors 
     | inr ne ↦ is.edges_are.by_consumer j k _ (omega arith) inside
   ]
 
-  module _ (within : IsWithin p vectors run) where
+  module _ (within : IsRunWithin p vectors run) where
     -- each value of a node has a value a net
     length-numbered : (state nets : ℕ → Row) (n : Node) (k : ℕ) → k ≤ length vectors
         → length (numbered p.split vectors state nets n k) ≡ length (nets_of p.split n)

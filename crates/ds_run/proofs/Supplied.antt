@@ -19,7 +19,7 @@ use Rattle.ds_rule.specs.Run.{Run}
 use Rattle.ds_rule.specs.Rows.{row, supply_but}
 use Rattle.ds_rule.specs.Sound.{edge_at}
 use Rattle.ds_rule.specs.declared.layout.DataEdge.{DataEdge}
-use Rattle.ds_run.specs.Layout.{AreEdges, Joins}
+use Rattle.ds_run.specs.Layout.{AreDataEdges, Joins}
 
 -- the producers of the node with a number
 abbrev producers_in : List DataEdge → ℕ → List ℕ
@@ -184,7 +184,7 @@ module _ (s : Split) (run : Run) (known : ℕ → Bool) (t : Turn) (n : Node)
         | inr differ ↦ differ (into i low_i ∙ sym (into j low_j))
       ]
 
-  module _ (edges_are : AreEdges s run.edges) where
+  module _ (edges_are : AreDataEdges s run.edges) where
     found : Reads run.edges
     found = reads run.edges edges_are.each
 

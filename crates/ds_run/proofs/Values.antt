@@ -9,7 +9,7 @@ use Rattle.ds_latch.specs.Node.{Node, Split, number_of, nodes}
 use Rattle.ds_latch.specs.Plan.{IsSplit}
 use Rattle.ds_latch.proofs.Counts.{number_below}
 use Rattle.ds_rule.specs.Run.{Run}
-use Rattle.ds_rule.specs.Words.{values_at}
+use Rattle.ds_rule.specs.Words.{node_values}
 use Rattle.ds_opening.specs.Foreseen.{foreseen, foreseen_rows, node_at, nets_in, state_before}
 use Rattle.ds_opening.proofs.Foreseen.{foresees_run_lem}
 use Rattle.ds_opening.proofs.ForeseenRows.{foresees_rows_lem}
@@ -23,7 +23,7 @@ pub values_are : (s : Split) (order : List ℕ) (vectors : List Row) (run : Run)
 values_are s order vectors run split range sorted wide among rows_are =
     let laws = foresees_rows_lem s order vectors in
     let at : (l k : ℕ) → l < run.nodes → k ≤ length vectors
-    → values_at run l k ≡ foreseen s order vectors (node_at l) k = λ l k below low.
+    → node_values run l k ≡ foreseen s order vectors (node_at l) k = λ l k below low.
     ap (λ (rows : List Row). get_or rows (k * run.nodes + l) []) rows_are
     ∙ laws.0 run.nodes l k below low in
     record {

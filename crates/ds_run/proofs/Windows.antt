@@ -2,7 +2,7 @@
 use Rattle.std.proofs.Common.{◌≡◌, ◌∙◌, ℕ, ◌+◌, List, [], ◌∷◌, ◌++◌, length, length-append, map, refl, ap, sym, subst, All}
 use Rattle.std.specs.List.{flat_map}
 use Rattle.std.proofs.lemmas.List.Elements.{All-map}
-use Rattle.ds_marked.specs.Window.{IsWindow, Window, joined}
+use Rattle.ds_marked.specs.Window.{IsWindow, Window, joined_windows}
 use Rattle.ds_marked.proofs.Joined.{lists_in_windows}
 use Rattle.ds_latch.specs.Plan.{Planned}
 use Rattle.ds_run.specs.Windows.{FiringsInWindows, IsPlayedWindow, PlayedWindow, begun_plan}
@@ -27,7 +27,7 @@ window_played p w is =
     record { legal = legal; full = full }
 
 -- windows that are joined are the whole
-joined_whole : (windows : List PlayedWindow) → joined (map window_of windows) ≡ whole windows
+joined_whole : (windows : List PlayedWindow) → joined_windows (map window_of windows) ≡ whole windows
 joined_whole [] = refl
 joined_whole (w ∷ windows) =
     ap (λ (rest : Window). record {

@@ -4,7 +4,7 @@ use Rattle.ds_base.specs.Values.{Row}
 use Rattle.ds_marked.specs.Graph.{IsLegal, counts_after}
 use Rattle.ds_latch.specs.Plan.{IsPlan, Planned}
 use Rattle.ds_rule.specs.Rule.{tickets}
-use Rattle.ds_fabric.specs.Showing.{IsFired, Recorder}
+use Rattle.ds_fabric.specs.Showing.{IsFiredInOrder, Recorder}
 use Rattle.ds_runner.specs.Whole.{IsWhole}
 use Rattle.ds_run.specs.Layout.{IsRunOf}
 use Rattle.ds_run.specs.Played.{IsRecordOf}
@@ -13,7 +13,7 @@ use Rattle.ds_run.specs.Played.{IsRecordOf}
 -- the record counts
 abbrev pub RecordsAreLegal : Type 0
 RecordsAreLegal = (p : Planned) (vectors : List Row) (r : Recorder) → IsRecordOf p vectors r
-    → (items : List ℕ) → IsFired r.shown.view.run (tickets r.shown.view) items
+    → (items : List ℕ) → IsFiredInOrder r.shown.view.run (tickets r.shown.view) items
     → IsLegal p.graph (length vectors) items × (length items ≡ r.many)
 
 -- the firings of a run that went to its end, first one first, are a legal list of the plan's graph
@@ -21,6 +21,6 @@ RecordsAreLegal = (p : Planned) (vectors : List Row) (r : Recorder) → IsRecord
 abbrev pub FiringsAreLegal : Type 0
 FiringsAreLegal = (p : Planned) (vectors : List Row) (r : Recorder)
     → IsPlan p.split p.graph → IsRunOf p vectors r.shown.view.run → IsWhole r.shown.view.run r
-    → (items : List ℕ) → IsFired r.shown.view.run (tickets r.shown.view) items
+    → (items : List ℕ) → IsFiredInOrder r.shown.view.run (tickets r.shown.view) items
     → IsLegal p.graph (length vectors) items
     × ((v : ℕ) → v < length p.graph.events → counts_after (λ _. 0) items v ≡ length vectors)

@@ -3,7 +3,7 @@ use Rattle.std.specs.Prelude.{ℕ, ◌*◌, ◌≤◌, List, length, Option, min
 use Rattle.ds_base.specs.Values.{Row}
 use Rattle.ds_latch.specs.Plan.{IsPlan, Planned}
 use Rattle.ds_fabric.specs.Showing.{Recorder}
-use Rattle.ds_runner.specs.Stopped.{IsRun}
+use Rattle.ds_runner.specs.Stopped.{IsRunRecord}
 use Rattle.ds_run.specs.Layout.{IsRunOf}
 use Rattle.ds_run.specs.Played.{IsRecordOf}
 
@@ -24,4 +24,4 @@ pub record IsWorked (quota : Option ℕ) (jobs : ℕ) (p : Planned) (vectors : L
     (r : Recorder) : Type 0 where
   pub accepted : IsPlan p.split p.graph
   pub planned : IsRunOf p vectors r.shown.view.run
-  pub run : IsRun quota jobs r.shown.view.run r
+  pub run : IsRunRecord quota jobs r.shown.view.run r

@@ -6,12 +6,12 @@ use Rattle.ds_latch.specs.Node.{nodes}
 use Rattle.ds_latch.specs.Plan.{IsPlan, Planned}
 use Rattle.ds_rule.specs.Run.{Run}
 use Rattle.ds_rule.specs.Sound.{IsSound}
-use Rattle.ds_rule.specs.Progress.{IsAccepted}
-use Rattle.ds_rule.specs.Laws.{IsGraphOf}
+use Rattle.ds_rule.specs.Progress.{IsRunAccepted}
+use Rattle.ds_rule.specs.Laws.{IsGraphOfRun}
 use Rattle.ds_run.specs.Layout.{IsRunOf}
 
 -- the numbers of a run of a plan: each vector has a value a column, and nothing is past its limit
-pub record IsWithin (p : Planned) (vectors : List Row) (run : Run) : Type 0 where
+pub record IsRunWithin (p : Planned) (vectors : List Row) (run : Run) : Type 0 where
   pub one_width : All (λ vector. length vector ≡ length (columns p.split.circuit)) vectors
   pub few_vectors : length vectors ≤ 65536
   pub few_edges : 2 * nodes p.split + 2 * length run.edges ≤ 1048576
@@ -22,14 +22,14 @@ pub record IsWithin (p : Planned) (vectors : List Row) (run : Run) : Type 0 wher
 -- the run of a plan is sound
 abbrev pub RunsAreSound : Type 0
 RunsAreSound = (p : Planned) (vectors : List Row) (run : Run) → IsRunOf p vectors run
-    → IsPlan p.split p.graph → IsWithin p vectors run → IsSound run
+    → IsPlan p.split p.graph → IsRunWithin p vectors run → IsSound run
 
 -- in the run of a plan something can always fire
 abbrev pub RunsAreAccepted : Type 0
 RunsAreAccepted = (p : Planned) (vectors : List Row) (run : Run) → IsRunOf p vectors run
-    → IsPlan p.split p.graph → IsAccepted run
+    → IsPlan p.split p.graph → IsRunAccepted run
 
 -- the graph of a plan is that of its run, also with extra events
 abbrev pub RunsHaveGraphs : Type 0
 RunsHaveGraphs = (p : Planned) (vectors : List Row) (run : Run) → IsRunOf p vectors run
-    → IsPlan p.split p.graph → IsGraphOf p.graph run
+    → IsPlan p.split p.graph → IsGraphOfRun p.graph run

@@ -8,7 +8,7 @@ use Rattle.ds_latch.specs.Order.{IsDataEdge, open_tokens}
 use Rattle.ds_latch.specs.Plan.{Planned}
 use Rattle.ds_latch.specs.Numbered.{numbered}
 use Rattle.ds_rule.specs.Run.{Run}
-use Rattle.ds_rule.specs.Words.{values_at}
+use Rattle.ds_rule.specs.Words.{node_values}
 use Rattle.ds_rule.specs.declared.layout.DataEdge.{DataEdge}
 
 -- an edge leads from one node to another, with the tokens of its producer
@@ -18,7 +18,7 @@ pub record Joins (p c : Node) (e : DataEdge) : Type 0 where
   pub tokens : e.tokens ≡ open_tokens p
 
 -- these are the data edges of a split design, each once, by their consumers
-pub record AreEdges (s : Split) (edges : List DataEdge) : Type 0 where
+pub record AreDataEdges (s : Split) (edges : List DataEdge) : Type 0 where
   pub each : All (λ e. (p c : Node) × IsDataEdge s p c × Joins p c e) edges
   pub all : (p c : Node) → IsDataEdge s p c → Any (Joins p c) edges
   pub once : AllPairs (λ a b. (a.producer ≢ b.producer) ⊎ (a.consumer ≢ b.consumer)) edges
@@ -37,9 +37,9 @@ pub record AreValues (s : Split) (vectors : List Row) (run : Run) : Type 0 where
   pub nets : ℕ → Row
   pub clocked : IsRun s.circuit s.initial vectors state nets
   pub of_node : (n : Node) → IsNode s n → (k : ℕ) → k ≤ length vectors
-      → values_at run (number_of n) k ≡ numbered s vectors state nets n k
+      → node_values run (number_of n) k ≡ numbered s vectors state nets n k
   pub of_extra : (l k : ℕ) → nodes s ≤ l → l < run.nodes → k ≤ length vectors
-      → values_at run l k ≡ []
+      → node_values run l k ≡ []
 
 -- the run of a plan: the nodes of the split design, which open and close, and behind them a node
 -- for each extra event
@@ -48,7 +48,7 @@ pub record IsRunOf (p : Planned) (vectors : List Row) (run : Run) : Type 0 where
   pub nodes_are : run.nodes + run.latches ≡ length p.graph.events
   pub arcs_are : run.arcs ≡ p.graph.arcs
   pub limit_is : run.limit ≡ length vectors
-  pub edges_are : AreEdges p.split run.edges
+  pub edges_are : AreDataEdges p.split run.edges
   pub lengths_are : AreLengths p.split run.nodes run.lengths
   pub slack_is : run.slack ≡ p.split.slack
   pub values_are : AreValues p.split vectors run

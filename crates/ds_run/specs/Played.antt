@@ -6,7 +6,7 @@ use Rattle.ds_latch.specs.Plan.{Planned, IsPlan}
 use Rattle.ds_rule.specs.Run.{closing}
 use Rattle.ds_rule.specs.Log.{Recorded}
 use Rattle.ds_rule.specs.Rule.{tickets}
-use Rattle.ds_rule.specs.Words.{values_at}
+use Rattle.ds_rule.specs.Words.{node_values}
 use Rattle.ds_fabric.specs.Showing.{Recorder}
 use Rattle.ds_runner.specs.Whole.{IsWhole}
 use Rattle.ds_run.specs.Layout.{IsRunOf}
@@ -31,4 +31,4 @@ pub record HasSlaves (s : Split) (turns : ℕ) (r : Recorder) : Type 0 where
   pub wide : (i : ℕ) → i < length s.clusters
       → slice_index r.shown.view.run.lengths (number_of (Slave i)) ≡ length (members s i)
   pub full : (i : ℕ) → i < length s.clusters → (k : ℕ) → k < turns
-      → length (values_at r.shown.view.run (number_of (Slave i)) (k + 1)) ≡ length (members s i)
+      → length (node_values r.shown.view.run (number_of (Slave i)) (k + 1)) ≡ length (members s i)

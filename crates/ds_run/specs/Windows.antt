@@ -6,7 +6,7 @@ use Rattle.ds_marked.specs.Window.{IsWindow}
 use Rattle.ds_latch.specs.Node.{begun}
 use Rattle.ds_latch.specs.Plan.{IsPlan, Planned}
 use Rattle.ds_rule.specs.Rule.{tickets}
-use Rattle.ds_fabric.specs.Showing.{IsFired, Recorder}
+use Rattle.ds_fabric.specs.Showing.{IsFiredInOrder, Recorder}
 use Rattle.ds_run.specs.Played.{IsPlayed}
 
 -- a plan, begun with these registers
@@ -24,7 +24,7 @@ pub record PlayedWindow : Type 0 where
 -- the firings of that run, the first one first
 pub record IsPlayedWindow (p : Planned) (w : PlayedWindow) : Type 0 where
   pub played : IsPlayed (begun_plan p w.start) w.vectors w.recorder
-  pub fired : IsFired w.recorder.shown.view.run (tickets w.recorder.shown.view) w.firings
+  pub fired : IsFiredInOrder w.recorder.shown.view.run (tickets w.recorder.shown.view) w.firings
 
 -- the firings of windows, one after another, are a legal list of the plan's graph that has each
 -- event once a vector of all windows

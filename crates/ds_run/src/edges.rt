@@ -2,7 +2,7 @@
 ghost use Rattle.std.specs.Prelude.{◌≡◌, ◌+◌, ◌*◌, ◌≤◌, length, map, IfOk, OnOk};
 ghost use Rattle.std.specs.List.Sorted.{IsNonDecreasingBy, IsPermutation};
 ghost use Rattle.ds_latch.specs.Node.{nodes};
-ghost use Rattle.ds_run.specs.Layout.{AreEdges};
+ghost use Rattle.ds_run.specs.Layout.{AreDataEdges};
 ghost use Rattle.ds_run.specs.Tokened.{tokened, tokens_of};
 
 use ds_base::{LatchId, OutOfMemory};
@@ -12,7 +12,7 @@ use std::alloc::{AllocError, Global};
 
 // The data edges of a split design, by their consumers.
 pub(crate) fn edges_of(alloc: Global, latches: &Latches) -> Result<Vec<DataEdge>, OutOfMemory>
-    ensures ok { IfOk result (λ edges. AreEdges latches.now edges.items) }
+    ensures ok { IfOk result (λ edges. AreDataEdges latches.now edges.items) }
     ensures few { IfOk result (λ edges. 2 * nodes latches.now + 2 * length edges.items ≤ 1048576) }
 {
     let mut edges = with_tokens(alloc, latches.edges())?;

@@ -2,7 +2,7 @@
 ghost use Rattle.std.specs.Prelude.{◌≡◌, length, IfOk};
 ghost use Rattle.ds_design.specs.Circuit.{columns};
 ghost use Rattle.ds_rule.specs.Sound.{IsSound};
-ghost use Rattle.ds_rule.specs.Progress.{IsAccepted};
+ghost use Rattle.ds_rule.specs.Progress.{IsRunAccepted};
 ghost use Rattle.ds_run.specs.Layout.{IsRunOf};
 
 use crate::edges::edges_of;
@@ -11,7 +11,7 @@ use crate::lengths::lengths_of;
 use ds_base::OutOfMemory;
 use ds_design::Vectors;
 use ds_latch::Plan;
-use ds_rule::Layout;
+use ds_rule::{Layout, Sizes};
 use std::alloc::Global;
 
 /// The run of a plan on vectors.
@@ -23,7 +23,7 @@ pub fn layout_of<'a, 'n>(
     requires width { vectors.now.width ≡ length (columns plan.now.split.circuit) }
     ensures run { IfOk result (IsRunOf plan.now vectors.now.rows) }
     ensures sound { IfOk result IsSound }
-    ensures accepted { IfOk result IsAccepted }
+    ensures accepted { IfOk result IsRunAccepted }
 {
     let (split, graph) = (plan.latches(), plan.graph());
     let limit = vectors.count() as u64;
@@ -43,5 +43,11 @@ pub fn layout_of<'a, 'n>(
         order,
         count: nodes,
     };
-    Ok(Layout::of(nodes, latches, arcs, limit, edges, lengths, slack, rows))
+    let sizes = Sizes {
+        nodes,
+        latches,
+        limit,
+        slack,
+    };
+    Ok(Layout::of(sizes, arcs, edges, lengths, rows))
 }

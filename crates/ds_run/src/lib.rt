@@ -20,10 +20,9 @@ mod lengths;
 mod openings;
 mod play;
 mod starts;
-mod workers;
 
+pub use ds_runner::Workers;
 pub use foreseen::Foreseen;
 pub use layout::layout_of;
 pub use openings::Openings;
 pub use play::{run, run_to};
-pub use workers::Workers;

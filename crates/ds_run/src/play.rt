@@ -6,12 +6,12 @@ ghost use Rattle.ds_run.specs.Played.{IsPlayed};
 
 use crate::layout::layout_of;
 use crate::openings::Openings;
-use crate::workers::Workers;
 use ds_base::OutOfMemory;
 use ds_design::Vectors;
 use ds_fabric::Record;
 use ds_latch::Plan;
 use ds_outside::Gate;
+use ds_runner::Workers;
 use std::alloc::Global;
 use std::thread::Threads;
 
@@ -62,13 +62,5 @@ fn work<R: Threads + Sync, G: Gate>(
     let _accepted = plan.graph();
     let run = layout_of(alloc, plan, vectors)?;
     let openings = Openings::of(alloc, plan, vectors, &run)?;
-    ds_runner::run(
-        workers.threads,
-        alloc,
-        &run,
-        &openings,
-        workers.jobs,
-        quota,
-        workers.gate,
-    )
+    ds_runner::run(alloc, &run, &openings, workers, quota)
 }

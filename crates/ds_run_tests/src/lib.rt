@@ -6,6 +6,8 @@
 #![tactic(auto)]
 
 #[cfg(test)]
+mod output_tests;
+#[cfg(test)]
 mod run_tests;
 #[cfg(test)]
 mod trace_tests;

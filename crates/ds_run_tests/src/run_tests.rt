@@ -9,7 +9,15 @@ use std::thread::Threads;
 
 // A table that reads the input and a register, behind other tables; and a table that feeds two
 // clusters, where registers are put together by bus.
-const TRACES: &str = "%n
+const TRACES: &str = "%ways
+desync clock n v
+desync run n v --clusters each --jobs 1
+desync run n v --clusters each --jobs 4
+desync run n v --clusters one --jobs 1
+desync run n v --clusters one --jobs 4
+desync run n v --clusters bus --jobs 1
+desync run n v --clusters bus --jobs 4
+%n
 .model back
 .inputs a
 .outputs y
@@ -27,13 +35,7 @@ const TRACES: &str = "%n
 0
 1
 1
-%$ desync clock n v
-%$ desync run n v --clusters each --jobs 1
-%$ desync run n v --clusters each --jobs 4
-%$ desync run n v --clusters one --jobs 1
-%$ desync run n v --clusters one --jobs 4
-%$ desync run n v --clusters bus --jobs 1
-%$ desync run n v --clusters bus --jobs 4
+%$ < ways
 %= 0
 0 1 01
 1 0 10
@@ -55,13 +57,7 @@ end 10
 1
 1
 0
-%$ desync clock n v
-%$ desync run n v --clusters each --jobs 1
-%$ desync run n v --clusters each --jobs 4
-%$ desync run n v --clusters one --jobs 1
-%$ desync run n v --clusters one --jobs 4
-%$ desync run n v --clusters bus --jobs 1
-%$ desync run n v --clusters bus --jobs 4
+%$ < ways
 %= 0
 0 10 010
 1 01 101

@@ -1,5 +1,5 @@
 //! Unknown values: in vectors, in registers, in tables and in what is printed.
-use ds_trial::play;
+use ds_trial::{play, play_behind};
 use std::test::Fail;
 
 // A vector may be unknown, and so is what registers take from it.
@@ -27,6 +27,17 @@ x
 end 10
 ";
 
+// How each of these netlists is run, and vectors.
+const WAYS: &str = "%some
+1
+x
+0
+%ways
+desync clock n v
+desync run n v
+desync run n v --jobs 3
+";
+
 // Where no initial value is written, or 3, a register starts at an unknown value.
 const STARTS: &str = "%n
 .model toggle
@@ -36,34 +47,22 @@ const STARTS: &str = "%n
 01 1
 10 1
 .latch d q re clk
-%v
-1
-1
-0
-1
-%$ desync clock n v
-%$ desync run n v
-%$ desync run n v --jobs 3
+%v < four
+%$ < ways
 %= 0
 0 x x
 1 x x
 2 x x
 3 x x
 end x
-%n
-.model shift
-.inputs a
-.outputs q1
+%n < shift
+.latch a q0 re clk 0
+.latch q0 q1 re clk 0
+=>
 .latch a q0 re clk 3
 .latch q0 q1 re clk
-.end
-%v
-1
-x
-0
-%$ desync clock n v
-%$ desync run n v
-%$ desync run n v --jobs 3
+%v < some
+%$ < ways
 %= 0
 0 x xx
 1 x 1x
@@ -72,20 +71,14 @@ end 0x
 ";
 
 // Where the initial value does not matter, a register starts at 0.
-const ANY: &str = "%n
-.model shift
-.inputs a
-.outputs q1
+const ANY: &str = "%n < shift
+.latch a q0 re clk 0
+.latch q0 q1 re clk 0
+=>
 .latch a q0 re clk 2
 .latch q0 q1 re clk 2
-.end
-%v
-1
-x
-0
-%$ desync clock n v
-%$ desync run n v
-%$ desync run n v --jobs 3
+%v < some
+%$ < ways
 %= 0
 0 0 00
 1 0 10
@@ -105,9 +98,7 @@ const TABLES: &str = "%n
 %v
 x
 0
-%$ desync clock n v
-%$ desync run n v
-%$ desync run n v --jobs 3
+%$ < ways
 %= 0
 0 x -
 1 1 -
@@ -119,9 +110,7 @@ end -
 .names a y
 - 1
 .end
-%$ desync clock n v
-%$ desync run n v
-%$ desync run n v --jobs 3
+%$ < ways
 %= 0
 0 1 -
 1 1 -
@@ -138,9 +127,7 @@ x0
 x1
 xx
 11
-%$ desync clock n v
-%$ desync run n v
-%$ desync run n v --jobs 3
+%$ < ways
 %= 0
 0 1 -
 1 x -
@@ -152,16 +139,7 @@ end -
 // What a register has stored may be unknown.
 const STORED: &str = "%v
 x
-%l
-OUT+ 1
-IN+ 1
-M0+ 1
-OUT- 1
-M0- 1
-S0+ 1
-S0- 1
-IN- 1
-%$ desync replay toggle v l
+%$ desync replay toggle v turn
 %= 0
 q: x
 fired 8 of 8
@@ -206,17 +184,17 @@ fn a_vector_may_be_unknown(rt: HostRuntime) -> Result<(), Fail> {
 
 #[test]
 fn a_register_without_an_initial_value_is_unknown(rt: HostRuntime) -> Result<(), Fail> {
-    play(&rt, STARTS, 6)
+    play_behind(&rt, WAYS, STARTS, 6)
 }
 
 #[test]
 fn a_start_that_does_not_matter_is_zero(rt: HostRuntime) -> Result<(), Fail> {
-    play(&rt, ANY, 3)
+    play_behind(&rt, WAYS, ANY, 3)
 }
 
 #[test]
 fn a_table_is_known_where_its_rows_decide_it(rt: HostRuntime) -> Result<(), Fail> {
-    play(&rt, TABLES, 9)
+    play_behind(&rt, WAYS, TABLES, 9)
 }
 
 #[test]

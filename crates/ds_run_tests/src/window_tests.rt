@@ -1,8 +1,8 @@
-//! Runs and clocked traces over more vectors than a window has.
-
+//! Runs and clocked traces over more vectors than a window has, up to their limit and to a fault.
+use ds_app::desync_main;
 use ds_base::OutOfMemory;
-use ds_outside::OpenGate;
-use ds_trial::{TOGGLE, printed};
+use ds_outside::{MemorySink, OpenGate};
+use ds_trial::{TOGGLE, files, printed};
 use std::alloc::{AllocError, Global};
 use std::test::Fail;
 use std::thread::Threads;
@@ -22,8 +22,7 @@ fn is_traced<R: AllocGlobal + Threads + Sync>(
     vectors: String,
     end: &[u8],
 ) -> Result<bool, OutOfMemory> {
-    let net = String::from_str(rt.alloc(), TOGGLE)?;
-    let files = [("n", net.as_str()), ("v", vectors.as_str())];
+    let files = [("n", TOGGLE), ("v", vectors.as_str())];
     let Some(clocked) = printed(rt, &files, "desync clock n v", &OpenGate) else {
         return Ok(false);
     };
@@ -50,16 +49,11 @@ fn is_fired_again<R: AllocGlobal + Threads + Sync>(
     vectors: String,
     end: &[u8],
 ) -> Result<bool, OutOfMemory> {
-    let net = String::from_str(rt.alloc(), TOGGLE)?;
-    let files = [("n", net.as_str()), ("v", vectors.as_str())];
+    let files = [("n", TOGGLE), ("v", vectors.as_str())];
     let Some(log) = printed(rt, &files, "desync run n v --log --jobs 3", &OpenGate) else {
         return Ok(false);
     };
-    let files = [
-        ("n", net.as_str()),
-        ("v", vectors.as_str()),
-        ("l", log.as_str()),
-    ];
+    let files = [("n", TOGGLE), ("v", vectors.as_str()), ("l", log.as_str())];
     let Some(text) = printed(rt, &files, "desync replay n v l", &OpenGate) else {
         return Ok(false);
     };
@@ -70,5 +64,62 @@ fn is_fired_again<R: AllocGlobal + Threads + Sync>(
 fn the_log_of_windows_is_fired_again(rt: HostRuntime) -> Result<(), Fail> {
     let vectors = ones(rt.alloc(), 4_097)?;
     assert!(rt; is_fired_again(&rt, vectors, b"\nfired 32776 of 32776\n")?);
+    Ok(())
+}
+
+#[test]
+fn many_vectors_are_run(rt: HostRuntime) -> Result<(), Fail> {
+    let alloc = rt.alloc();
+    let vectors = ones(alloc, 4_097)?;
+    let mut files = files(alloc, &[("n", TOGGLE), ("v", vectors.as_str())])?;
+    let mut out = MemorySink::with_room(alloc, 100_000)?;
+    let mut err = MemorySink::with_room(alloc, 100)?;
+    let words = ["desync", "run", "n", "v"];
+    let answer = desync_main(&rt, &words, &mut files, &mut out, &mut err, &OpenGate);
+    assert_eq!(rt; answer, 0);
+    assert!(rt; out.bytes().ends_with(b"\n4096 0 0\nend 1\n"));
+    Ok(())
+}
+
+// A log keeps all firings, so with one there are fewer vectors; the windows before are written.
+#[test]
+fn too_many_vectors_are_refused(rt: HostRuntime) -> Result<(), Fail> {
+    let alloc = rt.alloc();
+    let vectors = ones(alloc, 65_537)?;
+    let mut files = files(alloc, &[("n", TOGGLE), ("v", vectors.as_str())])?;
+    let mut out = MemorySink::with_room(alloc, 1_000_000)?;
+    let mut err = MemorySink::with_room(alloc, 100)?;
+    let words = ["desync", "run", "n", "v", "--log"];
+    let answer = desync_main(&rt, &words, &mut files, &mut out, &mut err, &OpenGate);
+    assert_eq!(rt; answer, 1);
+    assert!(rt; out.bytes().ends_with(b"\n65535 1 1\n"));
+    let line = b"v:65537: too many vectors (limit 65536)\n".as_slice();
+    assert_eq!(rt; err.bytes(), line);
+    Ok(())
+}
+
+// Five thousand lines, of which one is no vector.
+fn with_fault(alloc: Global, faulty: usize) -> Result<String, AllocError> {
+    let mut vectors = String::new(alloc);
+    for line in 1..5_001 {
+        vectors.push_str(if line == faulty { "z\n" } else { "1\n" })?;
+    }
+    Ok(vectors)
+}
+
+#[test]
+fn windows_stop_at_a_fault(rt: HostRuntime) -> Result<(), Fail> {
+    let alloc = rt.alloc();
+    let vectors = with_fault(alloc, 4_098)?;
+    for command in ["run", "clock"] {
+        let mut files = files(alloc, &[("n", TOGGLE), ("v", vectors.as_str())])?;
+        let mut out = MemorySink::with_room(alloc, 100_000)?;
+        let mut err = MemorySink::with_room(alloc, 100)?;
+        let words = ["desync", command, "n", "v"];
+        let answer = desync_main(&rt, &words, &mut files, &mut out, &mut err, &OpenGate);
+        assert_eq!(rt; answer, 1);
+        assert!(rt; out.bytes().ends_with(b"\n4095 1 1\n"));
+        assert_eq!(rt; err.bytes(), b"v:4098: bad bit\n".as_slice());
+    }
     Ok(())
 }

@@ -13,7 +13,7 @@ use Rattle.ds_rule.proofs.Logs.{length-places, log_most}
 use Rattle.ds_fabric.specs.Showing.{Recorder, IsCounted}
 use Rattle.ds_runner.specs.Work.{IsRest, quota_of, all_tickets, tickets_below}
 use Rattle.ds_runner.specs.Whole.{IsWhole}
-use Rattle.ds_runner.specs.Stopped.{IsStopped, IsRun, all_firings}
+use Rattle.ds_runner.specs.Stopped.{IsStopped, IsRunRecord, all_firings}
 use Rattle.ds_runner.proofs.Sums.{sum_all}
 use Rattle.ds_runner.proofs.Tickets.{tickets-many, times_most, length_most}
 
@@ -82,7 +82,7 @@ stopped quota jobs run r before now sound some-job run-is recorded is few most d
 pub ended : (quota : Option ℕ) (jobs : ℕ) (run : Run) (v : View) (r : Recorder) (before rest : ℕ) → IsSound run → 0 < jobs
     → r.shown.view ≡ v → v.run ≡ run → Recorded run (tickets v) r.many → before ≤ jobs * quota_of quota
     → IsRest quota before rest → all_tickets v ≤ before + rest → (all_tickets v < before + rest → IsWhole run r)
-    → IsRun quota jobs run r
+    → IsRunRecord quota jobs run r
 ended None jobs run v r before rest sound some-job shown run-is recorded few is most done = done (omega (
   arith,
   is,

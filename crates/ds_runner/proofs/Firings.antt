@@ -5,7 +5,7 @@ use mathlib.Core.Logic.{dite}
 use native.Mathlib.Decide.{ℕ_discrete}
 use Rattle.ds_rule.specs.Run.{Run, events, node_of, turns}
 use Rattle.ds_rule.specs.Rule.{holds, seen, tickets}
-use Rattle.ds_rule.specs.Plays.{both}
+use Rattle.ds_rule.specs.Plays.{taken_in}
 use Rattle.ds_rule.specs.declared.view.View.{View}
 use Rattle.ds_rule.proofs.EventLaws.{events-is, event_below, node-high, node-low, node_below, turns-high, turns-low}
 use Rattle.ds_rule.proofs.Lists.{get-listed}
@@ -90,7 +90,7 @@ tickets-nodes run v f among is each = ap (λ (x : Run). tickets_below v (events 
 
 -- a pass took in one that holds node n alone, which brings the tickets of its node
 pub taken_tickets : (b : Base) (v v' : View) (p : Showing) (n : ℕ) (f : ℕ → ℕ) → b.run.latches ≤ b.run.nodes → v.run ≡ b.run
-    → v' ≡ both v p.view → Alone b.table_id b.run n p → IsCounted p.view → f n ≡ seen p.view n
+    → v' ≡ taken_in v p.view → Alone b.table_id b.run n p → IsCounted p.view → f n ≡ seen p.view n
     → ((e : ℕ) → n + 1 ≤ node_of b.run e → node_of b.run e < b.run.nodes
     → length (tickets v e) ≡ turns b.run e (f (node_of b.run e)))
     → (e : ℕ) → n ≤ node_of b.run e → node_of b.run e < b.run.nodes

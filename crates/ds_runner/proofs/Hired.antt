@@ -8,16 +8,16 @@ use Rattle.std.proofs.lemmas.List.{get_or-replicate, get_or-set_other}
 use Rattle.atomic_table.specs.Seated.{TableId}
 use Rattle.ds_rule.specs.Run.{Run}
 use Rattle.ds_rule.specs.Rule.{first_view, holds, seen}
-use Rattle.ds_rule.specs.Plays.{both}
+use Rattle.ds_rule.specs.Plays.{taken_in}
 use Rattle.ds_rule.specs.declared.view.View.{View}
 use Rattle.ds_rule.proofs.Lists.{at_end, replicate-default}
 use Rattle.ds_scratch.specs.Scratch.{Remembers}
 use Rattle.ds_fabric.specs.Base.{Base}
 use Rattle.ds_fabric.specs.Showing.{Showing, Belongs, IsDealt, IsLeft}
 use Rattle.ds_turnstile.specs.Turns.{Alone, HasNone, base, fabric_of, has_out, joined, keeps_parts, one_part, run_of}
-use Rattle.ds_turnstile.specs.Shown.{AreAlone, IsClosed, Stile}
+use Rattle.ds_turnstile.specs.Shown.{AreAlone, IsTurnstileClosed, Stile}
 use Rattle.ds_turnstile.specs.declared.turn_view.TurnView.{TurnView}
-use Rattle.ds_runner.specs.Work.{AreSingle, Fits, HasFrom, IsLent, IsUnfired, IsWithin, IsWorker, made_of}
+use Rattle.ds_runner.specs.Work.{AreSingle, HasPassOfEach, HasFrom, IsLent, IsUnfired, IsWithin, IsWorker, made_of}
 use Rattle.ds_runner.specs.declared.worker.Worker.{Worker}
 use Rattle.ds_runner.proofs.Work.{first_both, only_has, second_both, without_has, written}
 
@@ -65,20 +65,20 @@ single_alone b (p ∷ ps) all some_there = let one = all 0 p refl in (one.0, one
 
 pub are_alone : (b : Base) (ps : List Showing) → AreSingle b ps → 0 < length ps → AreAlone ps
 are_alone b ps all some_there l p there =
-    let both = single_alone b ps all some_there in
-    subst (λ (z : TableId). Alone z (run_of ps) l p) (sym both.0) (subst (λ (r : Run). Alone b.table_id r l p) (sym both.1) (all l p there))
+    let taken_in = single_alone b ps all some_there in
+    subst (λ (z : TableId). Alone z (run_of ps) l p) (sym taken_in.0) (subst (λ (r : Run). Alone b.table_id r l p) (sym taken_in.1) (all l p there))
 
 -- a turnstile of these passes fits the fabric
-pub opened_fits : (b : Base) (ps : List Showing) (s : Stile) → AreSingle b ps → 0 < length ps → length ps ≡ b.run.nodes → s.given ≡ ps → Fits b s
+pub opened_fits : (b : Base) (ps : List Showing) (s : Stile) → AreSingle b ps → 0 < length ps → length ps ≡ b.run.nodes → s.given ≡ ps → HasPassOfEach b s
 opened_fits b ps s all some_there long is =
-    let both = single_alone b ps all some_there in record {
-      fabric_is = ap fabric_of is ∙ both.0;
-      run_is = ap run_of is ∙ both.1;
+    let taken_in = single_alone b ps all some_there in record {
+      fabric_is = ap fabric_of is ∙ taken_in.0;
+      run_is = ap run_of is ∙ taken_in.1;
       long = ap (λ (xs : List Showing). length xs) is ∙ long;
     }
 
 -- passes that come back are passes of the fabric
-pub closed_single : (b : Base) (s : Stile) (made : ℕ) (ps : List Showing) → Fits b s → IsClosed s made ps → AreSingle b ps
+pub closed_single : (b : Base) (s : Stile) (made : ℕ) (ps : List Showing) → HasPassOfEach b s → IsTurnstileClosed s made ps → AreSingle b ps
 closed_single b s made ps fits closed l p there =
     subst (λ (z : TableId). Alone z b.run l p) fits.fabric_is (subst (λ (r : Run). Alone (fabric_of s.given) r l p) fits.run_is (closed.each l p there))
 
@@ -93,7 +93,7 @@ pub joined_none : (v w x : TurnView) → x ≡ joined v w → HasNone v → HasN
 joined_none v w x is none l = ap (λ (y : TurnView). has_out y l) is ∙ none l
 
 -- the pass takes in the last of those that are left
-pub taken_last : (b : Base) (v v' : View) (p : Showing) (n : ℕ) → v.run ≡ b.run → v' ≡ both v p.view → Alone b.table_id b.run n p
+pub taken_last : (b : Base) (v v' : View) (p : Showing) (n : ℕ) → v.run ≡ b.run → v' ≡ taken_in v p.view → Alone b.table_id b.run n p
     → ((k : ℕ) → n + 1 ≤ k → k < b.run.nodes → holds v k ≡ true) → (k : ℕ) → n ≤ k → k < b.run.nodes → holds v' k ≡ true
 taken_last b v v' p n run is alone has k near far =
     let there : k < v.run.nodes = omega (far, arith, ap (λ (r : Run). r.nodes) run) in

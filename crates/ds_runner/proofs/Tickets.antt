@@ -49,12 +49,6 @@ tickets-step run v l (Fired event turn ticket) w sound run-is near s =
 tickets-step run v l (NotYet arc n) w sound run-is near s = omega (arith, same_tickets v w s.0.tickets_same s.0.run)
 tickets-step run v l Done w sound run-is near s = omega (arith, ap all_tickets s.0)
 
--- the same, where the fabric's run is that of a layout
-pub tickets-step_on : (run own : Run) (v : View) (l : ℕ) (r : Step) (w : View) → run ≡ own → IsSound run → v.run ≡ own
-    → l < run.nodes → Stepped own v l r w → all_tickets w ≡ all_tickets v + fires_in r
-tickets-step_on run own v l r w is sound run-is near s = tickets-step run v l r w sound (run-is ∙ sym is) near
-    (subst (λ (x : Run). Stepped x v l r w) (sym is) s)
-
 -- a log is as long as its events stand in it
 sum-times : (run : Run) (xs : List ℕ) → run.latches ≤ run.nodes → InTurn run xs
     → sum_below (λ e. times e xs) (events run) ≡ length xs

@@ -3,11 +3,11 @@ use Rattle.std.proofs.Common.{◌≡◌, ℕ, ◌∙◌, sym, subst, false}
 use mathlib.Core.Logic.{dite}
 use native.Mathlib.Decide.{ℕ_discrete}
 use Rattle.ds_turnstile.specs.Turns.{HasNone, has_out}
-use Rattle.ds_turnstile.specs.Shown.{Takes, Gives}
+use Rattle.ds_turnstile.specs.Shown.{TakesPass, GivesBack}
 use Rattle.ds_turnstile.specs.declared.turn_view.TurnView.{TurnView}
 
 -- nor after a pass that was taken came back
-pub given_none : (v u w : TurnView) (l f h : ℕ) → HasNone v → Takes v u l f → Gives u w l h → HasNone w
+pub given_none : (v u w : TurnView) (l f h : ℕ) → HasNone v → TakesPass v u l f → GivesBack u w l h → HasNone w
 given_none v u w l f h none t k j = dite (ℕ_discrete j l)
     (λ e. subst (λ i. has_out w i ≡ false) (sym e) k.home)
     (λ away. (k.others j away).0 ∙ ((t.others j away).0 ∙ none j))

@@ -10,9 +10,9 @@ use mathlib.Core.Logic.{dite}
 use native.Mathlib.Decide.{ℕ_discrete}
 use Rattle.ds_rule.specs.Run.{Run, events, node_of, next, turns, count, Enabled}
 use Rattle.ds_rule.specs.Sound.{IsSound}
-use Rattle.ds_rule.specs.Progress.{IsAccepted, Stuck}
+use Rattle.ds_rule.specs.Progress.{IsRunAccepted, Stuck}
 use Rattle.ds_rule.specs.Rule.{holds, seen}
-use Rattle.ds_rule.specs.Plays.{after_point, without_cut, only_cut, both}
+use Rattle.ds_rule.specs.Plays.{after_point, without_cut, only_cut, taken_in}
 use Rattle.ds_rule.specs.declared.view.View.{View}
 use Rattle.ds_rule.proofs.Progress.{all_done}
 use Rattle.ds_rule.proofs.EventLaws.{node-next, fired_most, event_below}
@@ -55,13 +55,13 @@ only_has v node h = get_or-set_same (replicate (length v.holds) false) node true
     (omega (arith, length-replicate (length v.holds) false, has_below v.holds node h))
 
 -- what two passes hold together, of the nodes that are there
-both-holds : (v w : View) (l : ℕ) → l < v.run.nodes → holds (both v w) l ≡ (holds v l || holds w l)
+both-holds : (v w : View) (l : ℕ) → l < v.run.nodes → holds (taken_in v w) l ≡ (holds v l || holds w l)
 both-holds v w l near = get-listed (λ x. holds v x || holds w x) v.run.nodes l false near
 
-pub first_both : (v w : View) (l : ℕ) → l < v.run.nodes → holds v l ≡ true → holds (both v w) l ≡ true
+pub first_both : (v w : View) (l : ℕ) → l < v.run.nodes → holds v l ≡ true → holds (taken_in v w) l ≡ true
 first_both v w l near h = both-holds v w l near ∙ (ap (λ b. b || holds w l) h ∙ true-or (holds w l))
 
-pub second_both : (v w : View) (l : ℕ) → l < v.run.nodes → holds w l ≡ true → holds (both v w) l ≡ true
+pub second_both : (v w : View) (l : ℕ) → l < v.run.nodes → holds w l ≡ true → holds (taken_in v w) l ≡ true
 second_both v w l near h = both-holds v w l near ∙ (ap (λ b. holds v l || b) h ∙ or-true (holds v l))
 
 -- a whole list written over another of its length
@@ -106,13 +106,6 @@ advances run v w l (NotYet arc n) sound run-is all near s =
       ))),
     )
 advances run v w l Done sound run-is all near s = ((λ x low. ap (λ (y : View). seen y x) s.0), inr s.1)
-
--- the same, where the fabric's run is that of a layout
-pub advances_on : (run own : Run) (v w : View) (l : ℕ) (r : Step) → run ≡ own → IsSound run → v.run ≡ own → HasFrom v 0
-    → l < run.nodes → Stepped own v l r w
-    → Advances run v l w (elim r [ Fired e t k ↦ true | NotYet a n ↦ false | Done ↦ false ])
-advances_on run own v w l r is sound run-is all near s = advances run v w l r sound (run-is ∙ sym is) all near
-    (subst (λ (x : Run). Stepped x v l r w) (sym is) s)
 
 same_left : (run : Run) (v w : View) → ((x : ℕ) → x < run.nodes → seen w x ≡ seen v x) → left run w ≡ left run v
 same_left run v w same = sum_same (λ l. 2 * run.limit - seen w l) (λ l. 2 * run.limit - seen v l) run.nodes
@@ -164,7 +157,7 @@ not_more run u w n true a = omega (arith, a)
 not_more run u w n false a = (let s = same_left run u w a.0 in omega (arith, s))
 
 -- where a round fires nothing, every event has fired as often as it may
-pub rounds_end : (run : Run) → IsSound run → IsAccepted run → (v w : View) (b : Bool) → AdvancesBelow run v run.nodes w b
+pub rounds_end : (run : Run) → IsSound run → IsRunAccepted run → (v w : View) (b : Bool) → AdvancesBelow run v run.nodes w b
     → b ≡ false → (e : ℕ) → node_of run e < run.nodes → run.limit ≤ count run (seen w) e
 rounds_end run sound ok v w true a is e near = absurd (false≢true (sym is))
 rounds_end run sound ok v w false a is e near = omega (

@@ -19,6 +19,6 @@ pub record IsStopped (quota jobs : ℕ) (run : Run) (r : Recorder) : Type 0 wher
   pub most : r.many ≤ min (jobs * quota) (all_firings run)
 
 -- the record of a run: without a quota of one that went to its end
-abbrev pub IsRun : Option ℕ → ℕ → Run → Recorder → Type 0
-IsRun None jobs run r = IsWhole run r
-IsRun (Some quota) jobs run r = IsStopped quota jobs run r
+abbrev pub IsRunRecord : Option ℕ → ℕ → Run → Recorder → Type 0
+IsRunRecord None jobs run r = IsWhole run r
+IsRunRecord (Some quota) jobs run r = IsStopped quota jobs run r

@@ -53,7 +53,7 @@ abbrev pub AreSingle : Base → List Showing → Type 0
 AreSingle b ps = (l : ℕ) (p : Showing) → get_elem? ps l ≡ some p → Alone b.table_id b.run l p
 
 -- the turnstile has a pass of the fabric for each node
-pub record Fits (b : Base) (s : Stile) : Type 0 where
+pub record HasPassOfEach (b : Base) (s : Stile) : Type 0 where
   pub fabric_is : fabric_of s.given ≡ b.table_id
   pub run_is : run_of s.given ≡ b.run
   pub long : length s.given ≡ b.run.nodes
@@ -77,7 +77,7 @@ made_of w = w.turn.view.made
 -- workers who together with the turn that is left have all parts, and no node is out; the passes
 -- were given before anything fired
 pub record IsCrew (b : Base) (c : Crew) : Type 0 where
-  pub fits : Fits b c.gear.stile
+  pub fits : HasPassOfEach b c.gear.stile
   pub belongs : IsTurnOf c.gear.stile c.turn
   pub none : HasNone c.turn.view
   pub made : c.turn.view.made ≡ 0
@@ -94,8 +94,8 @@ one_of None = 0
 one_of (Some event) = 1
 
 -- how many events a visit fired
-abbrev pub count_of : Fired → ℕ
-count_of f = one_of f.first + one_of f.second
+abbrev pub fired_count : Fired → ℕ
+fired_count f = one_of f.first + one_of f.second
 
 -- fewer looks are left, and as many takes and firings
 abbrev pub Waits : Budget → Budget → Type 0

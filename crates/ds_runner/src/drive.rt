@@ -1,6 +1,6 @@
 //! A worker at work: visits to nodes that seem due, until all is done or its budget is used up.
 ghost use Rattle.std.specs.Prelude.{◌≡◌, ◌<◌, ◌≤◌, ◌+◌, IsTrue, MatchOption};
-ghost use Rattle.ds_runner.specs.Work.{Fits, IsWorker, IsWithin, Waits};
+ghost use Rattle.ds_runner.specs.Work.{HasPassOfEach, IsWorker, IsWithin, Waits};
 
 use crate::budget::Budget;
 use crate::fired::Fired;
@@ -23,7 +23,7 @@ pub fn drive<J: Rows, C: Compute, G: Gate>(
     worker: &mut Worker,
     budget: Budget,
 )
-    requires fits { Fits site.now gear.now.stile }
+    requires fits { HasPassOfEach site.now gear.now.stile }
     requires worker { IsWithin site.now gear.now.stile 0 worker.old }
     ensures { IsWithin site.now gear.now.stile budget.firings worker.new }
 {
@@ -44,7 +44,7 @@ fn visit_next<J: Rows, C: Compute, G: Gate>(
     worker: &mut Worker,
     most: u64,
 ) -> Option<u64>
-    requires fits { Fits site.now gear.now.stile }
+    requires fits { HasPassOfEach site.now gear.now.stile }
     requires worker { IsWorker site.now gear.now.stile worker.old }
     requires most { 0 < most }
     ensures worker { IsWorker site.now gear.now.stile worker.new }
@@ -67,7 +67,7 @@ fn tell_all<J: Rows, C: Compute, G: Gate>(
     trail: &mut Trail,
     fired: Fired,
 )
-    requires fits { Fits site.now gear.now.stile }
+    requires fits { HasPassOfEach site.now gear.now.stile }
 {
     if let Some(event) = fired.first {
         tell_targets(site, gear, trail, event);

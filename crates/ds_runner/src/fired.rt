@@ -1,5 +1,5 @@
 ghost use Rattle.std.specs.Prelude.{◌≡◌};
-ghost use Rattle.ds_runner.specs.Work.{count_of};
+ghost use Rattle.ds_runner.specs.Work.{fired_count};
 
 /// The events that a visit to a node fired, one after the other.
 #[derive(Clone, Copy)]
@@ -11,7 +11,7 @@ pub struct Fired {
 impl Fired {
     /// How many there are.
     pub fn count(self) -> u64
-        ensures { result ≡ count_of self }
+        ensures { result ≡ fired_count self }
     {
         self.first.is_some() as u64 + self.second.is_some() as u64
     }

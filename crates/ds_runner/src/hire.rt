@@ -5,7 +5,7 @@ ghost use Rattle.std.specs.Prelude.{vec_capacity};
 ghost use Rattle.ds_fabric.specs.Showing.{Belongs};
 ghost use Rattle.ds_turnstile.specs.Turns.{HasNone, base};
 ghost use Rattle.ds_turnstile.specs.Shown.{IsTurnOf};
-ghost use Rattle.ds_runner.specs.Work.{HasFrom, IsLent, AreSingle, Fits, IsWithin, IsCrew};
+ghost use Rattle.ds_runner.specs.Work.{HasFrom, IsLent, AreSingle, HasPassOfEach, IsWithin, IsCrew};
 ghost use Rattle.ds_runner.specs.Work.{IsUnfired};
 
 use crate::crew::Crew;
@@ -95,7 +95,7 @@ fn enlist<J: Rows, C: Compute, G: Gate>(
     count: u32,
 ) -> Result<Vec<Worker>, OutOfMemory>
     requires count { (0 < count) × (count ≤ 64) }
-    requires fits { Fits site.now stile.now × IsTurnOf stile.now turn.old }
+    requires fits { HasPassOfEach site.now stile.now × IsTurnOf stile.now turn.old }
     requires turn { HasNone turn.old.view × (turn.old.view.parts ≡ count + 1) }
     requires made { turn.old.view.made ≡ 0 }
 

@@ -34,4 +34,4 @@ mod visit;
 mod worker;
 mod workers;
 
-pub use workers::run;
+pub use workers::{Workers, run};

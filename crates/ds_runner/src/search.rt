@@ -2,7 +2,7 @@
 //! worker, or in its round over all nodes. Plain looks say what seems due; a take alone says
 //! whether the pass is there.
 ghost use Rattle.std.specs.Prelude.{◌<◌, IsTrue, IfSome};
-ghost use Rattle.ds_runner.specs.Work.{Fits};
+ghost use Rattle.ds_runner.specs.Work.{HasPassOfEach};
 
 use crate::gear::Gear;
 use crate::ring::Ring;
@@ -27,7 +27,7 @@ pub fn search<J: Rows, C: Compute, G: Gate>(
     number: u32,
     trail: &mut Trail,
 ) -> Option<usize>
-    requires fits { Fits site.now gear.now.stile }
+    requires fits { HasPassOfEach site.now gear.now.stile }
     ensures near { IfSome result (λ n. n < site.now.run.nodes) }
 {
     trail.soon = false;
@@ -53,7 +53,7 @@ pub fn is_due<J: Rows, C: Compute, G: Gate>(
     begins: &mut [u8],
     node: usize,
 ) -> bool
-    requires fits { Fits site.now gear.now.stile }
+    requires fits { HasPassOfEach site.now gear.now.stile }
     ensures near { IsTrue result → node < site.now.run.nodes }
 {
     if node >= site.run.nodes() || node >= begins.len() {
@@ -76,7 +76,7 @@ fn hinted<J: Rows, C: Compute, G: Gate>(
     gear: &Gear,
     trail: &mut Trail,
 ) -> Option<usize>
-    requires fits { Fits site.now gear.now.stile }
+    requires fits { HasPassOfEach site.now gear.now.stile }
     ensures near { IfSome result (λ n. n < site.now.run.nodes) }
 {
     for _ in 0..HINTS {
@@ -96,7 +96,7 @@ fn next_due<J: Rows, C: Compute, G: Gate>(
     begins: &mut [u8],
     ring: &mut Ring,
 ) -> Option<usize>
-    requires fits { Fits site.now gear.now.stile }
+    requires fits { HasPassOfEach site.now gear.now.stile }
     ensures near { IfSome result (λ n. n < site.now.run.nodes) }
 {
     for looks in 0..ring.count() {
@@ -116,7 +116,7 @@ fn stolen<J: Rows, C: Compute, G: Gate>(
     begins: &mut [u8],
     number: u32,
 ) -> Option<usize>
-    requires fits { Fits site.now gear.now.stile }
+    requires fits { HasPassOfEach site.now gear.now.stile }
     ensures near { IfSome result (λ n. n < site.now.run.nodes) }
 {
     let workers = gear.stealers.len();

@@ -1,6 +1,6 @@
 //! Hints made: an event that fired makes others due, which wait for it.
 ghost use Rattle.std.specs.Prelude.{◌<◌};
-ghost use Rattle.ds_runner.specs.Work.{Fits};
+ghost use Rattle.ds_runner.specs.Work.{HasPassOfEach};
 ghost use Rattle.ds_rule.specs.Sound.{IsSound};
 
 use crate::gear::Gear;
@@ -23,7 +23,7 @@ pub fn tell_targets<J: Rows, C: Compute, G: Gate>(
     trail: &mut Trail,
     event: usize,
 )
-    requires fits { Fits site.now gear.now.stile }
+    requires fits { HasPassOfEach site.now gear.now.stile }
 {
     if event >= gear.arcs_from.len() {
         return;

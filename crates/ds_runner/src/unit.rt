@@ -6,29 +6,27 @@ ghost use Rattle.ds_rule.specs.Sound.{IsSound};
 ghost use Rattle.ds_fabric.specs.Showing.{Belongs, Stays};
 ghost use Rattle.ds_fabric.specs.Stepped.{Stepped, done};
 
+use crate::site::Site;
 use ds_base::LatchId;
-use ds_fabric::{Compute, Fabric, Pass, Step};
+use ds_fabric::{Compute, Pass, Step};
 use ds_outside::Gate;
 use ds_rule::{Layout, Rows};
 
 /// Steps a node once, unless it is done, and pauses at the gate before it.
 pub fn unit<J: Rows, C: Compute, G: Gate>(
-    fabric: &Fabric<'_, J, C>,
-    run: &Layout<J>,
+    site: &Site<'_, '_, J, C, G>,
     pass: &mut Pass,
     number: u32,
     node: usize,
-    gate: &G,
 ) -> Step
-    requires run { (run.now ≡ fabric.now.run) × IsSound run.now }
-    requires fits { Belongs fabric.now pass.old }
-    requires held { (holds pass.old.view node ≡ true) × (node < run.now.nodes) }
+    requires fits { Belongs site.now pass.old }
+    requires held { (holds pass.old.view node ≡ true) × (node < site.now.run.nodes) }
 
-    ensures same { Stays fabric.now.memory pass.old pass.new }
-    ensures step { Stepped fabric.now.run pass.old.view node result pass.new.view }
+    ensures same { Stays site.now.memory pass.old pass.new }
+    ensures step { Stepped site.now.run pass.old.view node result pass.new.view }
 {
-    if arrive(run, pass, number, node, gate) {
-        fabric.step(pass, LatchId::new(node as u32))
+    if arrive(site.run, pass, number, node, site.gate) {
+        site.fabric.step(pass, LatchId::new(node as u32))
     } else {
         Step::Done
     }

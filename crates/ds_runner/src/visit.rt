@@ -3,7 +3,7 @@ ghost use Rattle.std.specs.Prelude.{◌≡◌, ◌<◌, ◌≤◌, ◌+◌, Matc
 ghost use Rattle.ds_scratch.specs.Scratch.{Remembers};
 ghost use Rattle.ds_rule.specs.Rule.{seen};
 ghost use Rattle.ds_turnstile.specs.Turns.{Alone};
-ghost use Rattle.ds_runner.specs.Work.{Fits, IsWorker, count_of};
+ghost use Rattle.ds_runner.specs.Work.{HasPassOfEach, IsWorker, fired_count};
 
 use crate::fired::Fired;
 use crate::gear::Gear;
@@ -26,14 +26,14 @@ pub fn visit<J: Rows, C: Compute, G: Gate>(
     node: usize,
     most: u64,
 ) -> Fired
-    requires fits { Fits site.now gear.now.stile }
+    requires fits { HasPassOfEach site.now gear.now.stile }
     requires worker { IsWorker site.now gear.now.stile worker.old }
     requires near { node < site.now.run.nodes }
     requires most { 0 < most }
 
     ensures worker { IsWorker site.now gear.now.stile worker.new }
-    ensures made { worker.new.turn.view.made ≡ worker.old.turn.view.made + count_of result }
-    ensures most { count_of result ≤ most }
+    ensures made { worker.new.turn.view.made ≡ worker.old.turn.view.made + fired_count result }
+    ensures most { fired_count result ≤ most }
 {
     // A layout has fewer nodes than a `u32` counts.
     let _nodes = site.run.nodes();
@@ -63,8 +63,8 @@ fn step_twice<J: Rows, C: Compute, G: Gate>(
     requires most { 0 < most }
 
     ensures alone { Alone site.now.table_id site.now.run node pass.new }
-    ensures fired { seen pass.new.view node ≡ seen pass.old.view node + count_of result }
-    ensures most { count_of result ≤ most }
+    ensures fired { seen pass.new.view node ≡ seen pass.old.view node + fired_count result }
+    ensures most { fired_count result ≤ most }
     ensures same { worker.new.turn ≡ worker.old.turn }
     ensures remembers { Remembers site.now.memory worker.new.scratch }
 {

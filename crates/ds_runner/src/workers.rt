@@ -3,10 +3,11 @@
 ghost use Rattle.std.specs.Prelude.{◌≡◌, ◌<◌, ◌≤◌, ◌+◌, ◌*◌, ℕ, IfOk, OnOk, All, length};
 ghost use Rattle.std.specs.Prelude.{slice_index_or};
 ghost use Rattle.ds_rule.specs.Sound.{IsSound};
-ghost use Rattle.ds_rule.specs.Progress.{IsAccepted};
+ghost use Rattle.ds_rule.specs.Progress.{IsRunAccepted};
 ghost use Rattle.ds_fabric.specs.Showing.{Belongs};
-ghost use Rattle.ds_runner.specs.Work.{HasFrom, Fits, IsWithin, IsUnfired, all_tickets, quota_of};
-ghost use Rattle.ds_runner.specs.Stopped.{IsRun};
+ghost use Rattle.ds_runner.specs.Work.{HasFrom, HasPassOfEach, IsWithin, IsUnfired, all_tickets};
+ghost use Rattle.ds_runner.specs.Work.{quota_of};
+ghost use Rattle.ds_runner.specs.Stopped.{IsRunRecord};
 ghost use Rattle.ds_runner.specs.declared.worker.Worker.{Worker};
 
 use crate::budget::Budget;
@@ -27,8 +28,17 @@ use std::alloc::Global;
 use std::thread;
 use std::thread::Threads;
 
-/// Fires every event of a run as often as it may, with so many workers, from 1 to 64, but no more
-/// than nodes; or with a quota until about that many events have fired.
+/// Who fires the events of a run: so many workers, from 1 to 64, in these threads. Each calls the
+/// gate before a step.
+#[derive(Drop)]
+pub struct Workers<'a, R, G> {
+    pub threads: &'a R,
+    pub jobs: u32,
+    pub gate: &'a G,
+}
+
+/// Fires every event of a run as often as it may, with so many workers, but no more than nodes; or
+/// with a quota until about that many events have fired.
 ///
 /// A worker calls the gate before it steps a node that is not done, with its number, the event that
 /// the node fires next, and its turn, from 1 on. With one job, or one node, the caller is worker 0.
@@ -38,37 +48,40 @@ use std::thread::Threads;
 /// A quota is how often each worker fires at most. The caller fires only while fewer have fired in
 /// all. A step that does not fire counts nothing.
 pub fn run<R: Threads + Sync, J: Rows + Sync, C: Compute + Sync, G: Gate>(
-    rt: &R,
     alloc: Global,
     run: &Layout<J>,
     openings: &C,
-    jobs: u32,
+    workers: &Workers<'_, R, G>,
     quota: Option<u64>,
-    gate: &G,
 ) -> Result<Record, OutOfMemory>
     requires sound { IsSound run.now }
-    requires accepted { IsAccepted run.now }
+    requires accepted { IsRunAccepted run.now }
     requires openings { C.run openings.now ≡ run.now }
-    requires jobs { (0 < jobs) × (jobs ≤ 64) }
-    ensures { IfOk result (IsRun quota jobs run.now) }
+    requires jobs { (0 < workers.now.jobs) × (workers.now.jobs ≤ 64) }
+    ensures { IfOk result (IsRunRecord quota workers.now.jobs run.now) }
 {
     let (fabric, mut pass) = Fabric::build(alloc, run, openings)?;
-    let number = if jobs == 1 || run.nodes() < 2 {
+    let number = if workers.jobs == 1 || run.nodes() < 2 {
         0
     } else {
-        jobs
+        workers.jobs
     };
     if number > 0 {
         let site = Site {
             fabric: &fabric,
             run,
-            gate,
+            gate: workers.gate,
         };
-        let budget = budget(&site, jobs, quota);
-        share(rt, alloc, &site, &mut pass, budget)?;
+        let budget = budget(&site, workers.jobs, quota);
+        share(workers.threads, alloc, &site, &mut pass, budget)?;
     }
     let rest = rest(run, &pass, quota);
-    complete(&fabric, run, &mut pass, Caller { number, rest }, gate);
+    let site = Site {
+        fabric: &fabric,
+        run,
+        gate: workers.gate,
+    };
+    complete(&site, &mut pass, Caller { number, rest });
     Ok(fabric.finish(pass))
 }
 
@@ -105,7 +118,7 @@ fn drive_all<R: Threads + Sync, J: Rows + Sync, C: Compute + Sync, G: Gate>(
     workers: &mut [Worker],
     budget: Budget,
 )
-    requires fits { Fits site.now gear.now.stile }
+    requires fits { HasPassOfEach site.now gear.now.stile }
     requires some { 0 < length workers.old }
     requires workers { All (IsWithin site.now gear.now.stile 0) workers.old }
     ensures { (i : ℕ) (d : Worker) → i < length workers.old
@@ -116,7 +129,7 @@ fn drive_all<R: Threads + Sync, J: Rows + Sync, C: Compute + Sync, G: Gate>(
         workers,
         workers.len(),
         &|_, worker|
-            requires fits { Fits site.now gear.now.stile }
+            requires fits { HasPassOfEach site.now gear.now.stile }
             requires worker { IsWithin site.now gear.now.stile 0 worker.old }
             ensures { IsWithin site.entry.now gear.entry.now.stile budget.firings worker.new }
         { drive(site, gear, worker, budget) },

@@ -9,7 +9,7 @@ use Rattle.ds_base.specs.Values.{Row}
 use Rattle.ds_cover.specs.Bank.{Driven, after_tables, driven_at}
 use Rattle.ds_cover.proofs.Kept.{part_stays}
 use Rattle.ds_series.specs.Selections.{AreBounded, Selected, lists_between}
-use Rattle.ds_series.specs.Series.{AreAdded, AreEven, IsRun, Parts, in_order, numbers_in, numbers_of, part_of}
+use Rattle.ds_series.specs.Series.{AreAdded, AreEven, IsRunOfTables, Parts, in_table_order, numbers_in, numbers_of, part_of}
 use Rattle.ds_series.specs.declared.run.Run.{Run}
 use Rattle.ds_series.proofs.Left.{runs_each, runs_numbers}
 use Rattle.ds_series.proofs.Runs.{All-drop, All-take}
@@ -76,7 +76,7 @@ length-between order runs (first ∷ end ∷ bounds) some =
 pub record AreListed (parts : Parts) (bank : List Driven) (lists : List (List ℕ)) (n : ℕ) (order : List ℕ) (runs : List Run) (bounds : List ℕ) : Type 0 where
   pub places : All (λ k. k < length bank) order
   pub even : AreEven parts
-  pub bounded : AreBounded parts (in_order bank order) runs bounds
+  pub bounded : AreBounded parts (in_table_order bank order) runs bounds
   pub size : length bounds ≡ n + 1
   pub last : get_or bounds n 0 ≡ length runs
   pub listed : lists_between order runs bounds ≡ take n lists
@@ -84,7 +84,7 @@ pub record AreListed (parts : Parts) (bank : List Driven) (lists : List (List �
 -- one list more
 module _ (old new : Parts) (bank : List Driven) (lists : List (List ℕ)) (n : ℕ) (order list : List ℕ) (before after : List Run) (bounds : List ℕ)
     (so_far : AreListed old bank lists n order before bounds) (within : All (λ k. k < length bank) list)
-    (added : AreAdded old new (in_order bank (order ++ list)) (length order) before after) where
+    (added : AreAdded old new (in_table_order bank (order ++ list)) (length order) before after) where
   abbrev own : List Run
   own = added.own
 
@@ -94,19 +94,19 @@ module _ (old new : Parts) (bank : List Driven) (lists : List (List ℕ)) (n : �
   long : end ≡ length before + length own
   long = ap (λ (rs : List Run). length rs) added.behind ∙ length-append before own
 
-  whole : in_order bank (order ++ list) ≡ in_order bank order ++ in_order bank list
+  whole : in_table_order bank (order ++ list) ≡ in_table_order bank order ++ in_table_order bank list
   whole = map-append (driven_at bank) order list
 
-  each_before : All (IsRun new (in_order bank (order ++ list))) before
+  each_before : All (IsRunOfTables new (in_table_order bank (order ++ list))) before
   each_before =
-      subst (λ (ts : List Driven). All (IsRun new ts) before) (sym whole)
-      (All-weaker (IsRun old (in_order bank order)) (IsRun new (in_order bank order ++ in_order bank list))
-      (λ run is. added.stay (in_order bank order) (in_order bank list) run is) before so_far.bounded.each)
+      subst (λ (ts : List Driven). All (IsRunOfTables new ts) before) (sym whole)
+      (All-weaker (IsRunOfTables old (in_table_order bank order)) (IsRunOfTables new (in_table_order bank order ++ in_table_order bank list))
+      (λ run is. added.stay (in_table_order bank order) (in_table_order bank list) run is) before so_far.bounded.each)
 
   fits : All (Fit order) before
   fits =
-      let size : length (in_order bank order) ≡ length order = length-map order (driven_at bank) in
-      All-weaker (IsRun old (in_order bank order)) (Fit order) (λ run is. let f = is.fits in omega (f, size, arith)) before so_far.bounded.each
+      let size : length (in_table_order bank order) ≡ length order = length-map order (driven_at bank) in
+      All-weaker (IsRunOfTables old (in_table_order bank order)) (Fit order) (λ run is. let f = is.fits in omega (f, size, arith)) before so_far.bounded.each
 
   own_numbers : numbers_of (order ++ list) (part_of (get_or bounds n 0) end after) ≡ list
   own_numbers =
@@ -141,8 +141,8 @@ module _ (old new : Parts) (bank : List Driven) (lists : List (List ℕ)) (n : �
         places = All-append (λ k. k < length bank) order list so_far.places within;
         even = added.even;
         bounded = record {
-          each = subst (λ (rs : List Run). All (IsRun new (in_order bank (order ++ list))) rs) (sym added.behind)
-              (All-append (IsRun new (in_order bank (order ++ list))) before own each_before (runs_each new bank (order ++ list) (length order) own added.runs));
+          each = subst (λ (rs : List Run). All (IsRunOfTables new (in_table_order bank (order ++ list))) rs) (sym added.behind)
+              (All-append (IsRunOfTables new (in_table_order bank (order ++ list))) before own each_before (runs_each new bank (order ++ list) (length order) own added.runs));
           some = omega (length-append bounds (end ∷ []), arith);
           inside = All-push (λ b. b ≤ end) bounds end
               (All-weaker (λ b. b ≤ length before) (λ b. b ≤ end) (λ b low. omega (low, long, arith)) bounds so_far.bounded.inside) (omega arith);
@@ -157,7 +157,7 @@ module _ (old new : Parts) (bank : List Driven) (lists : List (List ℕ)) (n : �
       })
 
 -- what a list's number says of its bounds
-module _ (parts : Parts) (bank : List Driven) (order : List ℕ) (runs : List Run) (bounds : List ℕ) (bounded : AreBounded parts (in_order bank order) runs bounds)
+module _ (parts : Parts) (bank : List Driven) (order : List ℕ) (runs : List Run) (bounds : List ℕ) (bounded : AreBounded parts (in_table_order bank order) runs bounds)
     (selected : Selected) (is : record { tables = bank; lists = lists_between order runs bounds } ≡ selected) where
   pub count_is : length selected.lists + 1 ≡ length bounds
   count_is = ap (λ (s : Selected). length s.lists + 1) (sym is) ∙ length-between order runs bounds bounded.some
@@ -178,10 +178,10 @@ module _ (parts : Parts) (bank : List Driven) (order : List ℕ) (runs : List Ru
     pub bounds_inside : end ≤ length runs
     bounds_inside = (let low : get_or bounds (n + 1) 0 ≤ length runs = bounded.inside (n + 1) 0 there in omega (low, at_end, arith))
 
-    pub each_part : (part : List Run) → part ≡ part_of first end runs → All (IsRun parts (in_order bank order)) part
+    pub each_part : (part : List Run) → part ≡ part_of first end runs → All (IsRunOfTables parts (in_table_order bank order)) part
     each_part part part_is =
-        subst (λ (rs : List Run). All (IsRun parts (in_order bank order)) rs) (sym part_is)
-        (All-take (IsRun parts (in_order bank order)) (end - first) (drop first runs) (All-drop (IsRun parts (in_order bank order)) first runs bounded.each))
+        subst (λ (rs : List Run). All (IsRunOfTables parts (in_table_order bank order)) rs) (sym part_is)
+        (All-take (IsRunOfTables parts (in_table_order bank order)) (end - first) (drop first runs) (All-drop (IsRunOfTables parts (in_table_order bank order)) first runs bounded.each))
 
     pub set_list : (part : List Run) (initial nets : Row) → part ≡ part_of first end runs → nets ≡ after_tables bank initial (numbers_of order part)
         → nets ≡ after_tables selected.tables initial (get_or selected.lists n [])

@@ -5,7 +5,7 @@ use Rattle.std.proofs.Common.{append-nil}
 use Rattle.ds_cover.specs.Bank.{Driven}
 use Rattle.ds_cover.specs.Kept.{IsQuick}
 use Rattle.ds_series.specs.Small.{StandsFor, WordsFor, paired, small_four, small_three, small_two, worded_three, worded_two}
-use Rattle.ds_series.specs.Series.{AreFor, AreRuns, IsAddedTo, IsOfKind, IsPart, IsRun, IsSmallAdded, Parts, joined, own_tables, part_of}
+use Rattle.ds_series.specs.Series.{AreFor, AreRuns, IsAddedTo, IsOfKind, StandsForRun, IsRunOfTables, IsSmallAdded, Parts, joined_runs, own_tables, part_of}
 use Rattle.ds_cover.specs.declared.entry.Quick.{Quick}
 use Rattle.ds_series.specs.declared.run.Kind.{Kind}
 use Rattle.ds_series.specs.declared.run.Kind.TheVariants.{Twos, Threes, Fours, Others}
@@ -39,7 +39,7 @@ rest-one n xs x is = ap (λ m. take 1 (drop m (xs ++ x ∷ []))) is ∙ ap (take
 
 -- a part stays where more follows
 part_longer : {S : Type 0} (IsFor : S → Driven → Type 0) (smalls more : List S) (tables others : List Driven) (run : Run) → run.first ≤ run.end → run.at + (run.end - run.first) ≤ length tables
-    → IsPart IsFor smalls tables run → IsPart IsFor (smalls ++ more) (tables ++ others) run
+    → StandsForRun IsFor smalls tables run → StandsForRun IsFor (smalls ++ more) (tables ++ others) run
 part_longer IsFor smalls more tables others run low fits part =
     let inside = part.inside in
     let l : length (smalls ++ more) ≡ length smalls + length more = length-append smalls more in
@@ -51,7 +51,7 @@ part_longer IsFor smalls more tables others run low fits part =
 
 -- a part of one
 part_one : {S : Type 0} (IsFor : S → Driven → Type 0) (smalls : List S) (s : S) (tables : List Driven) (t : Driven) (run : Run) → run.at ≡ length tables → run.first ≡ length smalls → run.end ≡ run.first + 1
-    → IsFor s t → IsPart IsFor (smalls ++ s ∷ []) (tables ++ t ∷ []) run
+    → IsFor s t → StandsForRun IsFor (smalls ++ s ∷ []) (tables ++ t ∷ []) run
 part_one IsFor smalls s tables t run at first one stands =
     let l : length (smalls ++ s ∷ []) ≡ length smalls + 1 = length-append smalls (s ∷ []) in
     let n : run.end - run.first ≡ 1 = omega arith in
@@ -63,13 +63,13 @@ part_one IsFor smalls s tables t run at first one stands =
 
 -- a part with one more
 part_more : {S : Type 0} (IsFor : S → Driven → Type 0) (smalls : List S) (s : S) (tables : List Driven) (t : Driven) (last run : Run) → last.first ≤ last.end → last.at + (last.end - last.first) ≡ length tables
-    → last.end ≡ run.first → run.first ≡ length smalls → run.end ≡ run.first + 1 → IsPart IsFor smalls tables last → IsFor s t → IsPart IsFor (smalls ++ s ∷ []) (tables ++ t ∷ []) (joined last run)
+    → last.end ≡ run.first → run.first ≡ length smalls → run.end ≡ run.first + 1 → StandsForRun IsFor smalls tables last → IsFor s t → StandsForRun IsFor (smalls ++ s ∷ []) (tables ++ t ∷ []) (joined_runs last run)
 part_more IsFor smalls s tables t last run low whole meets first one part stands =
     let l : length (smalls ++ s ∷ []) ≡ length smalls + 1 = length-append smalls (s ∷ []) in
     let n : run.end - last.first ≡ last.end - last.first + 1 = omega arith in
     record {
       inside = omega arith;
-      stands = subst (λ ss. AreFor IsFor ss (own_tables (tables ++ t ∷ []) (joined last run)))
+      stands = subst (λ ss. AreFor IsFor ss (own_tables (tables ++ t ∷ []) (joined_runs last run)))
           (sym (ap (λ m. take m (drop last.first (smalls ++ s ∷ []))) n ∙ rest-more (last.end - last.first) last.first smalls s (omega arith)))
           (subst (λ ts. AreFor IsFor (take (last.end - last.first) (drop last.first smalls) ++ s ∷ []) ts)
           (sym (ap (λ m. take m (drop last.at (tables ++ t ∷ []))) n ∙ rest-more (last.end - last.first) last.at tables t whole))
@@ -94,23 +94,23 @@ pub record Grows (old new : Parts) : Type 0 where
 module _ (old new : Parts) (even : length old.nines ≡ length old.twos) (even' : length old.three_words ≡ length old.threes) (grows : Grows old new) (tables others : List Driven) where
   kind_stays : (run : Run) → run.first ≤ run.end → run.at + (run.end - run.first) ≤ length tables → (kind : Kind) → IsOfKind old tables run kind → IsOfKind new (tables ++ others) run kind
   kind_stays run low fits Twos (part, words) =
-      subst (λ (p : Parts). IsPart StandsFor (map small_two p.twos) (tables ++ others) run × IsPart WordsFor (paired worded_two p.twos p.nines) (tables ++ others) run) (sym grows.is) (
-        subst (λ ss. IsPart StandsFor ss (tables ++ others) run) (sym (map-append small_two old.twos grows.twos)) (part_longer StandsFor (map small_two old.twos) (map small_two grows.twos) tables others run low fits part),
-        subst (λ ss. IsPart WordsFor ss (tables ++ others) run) (sym (paired-append worded_two old.twos grows.twos old.nines grows.nines even))
+      subst (λ (p : Parts). StandsForRun StandsFor (map small_two p.twos) (tables ++ others) run × StandsForRun WordsFor (paired worded_two p.twos p.nines) (tables ++ others) run) (sym grows.is) (
+        subst (λ ss. StandsForRun StandsFor ss (tables ++ others) run) (sym (map-append small_two old.twos grows.twos)) (part_longer StandsFor (map small_two old.twos) (map small_two grows.twos) tables others run low fits part),
+        subst (λ ss. StandsForRun WordsFor ss (tables ++ others) run) (sym (paired-append worded_two old.twos grows.twos old.nines grows.nines even))
             (part_longer WordsFor (paired worded_two old.twos old.nines) (paired worded_two grows.twos grows.nines) tables others run low fits words),
       )
   kind_stays run low fits Threes (part, words) =
-      subst (λ (p : Parts). IsPart StandsFor (map small_three p.threes) (tables ++ others) run × IsPart WordsFor (paired worded_three p.threes p.three_words) (tables ++ others) run) (sym grows.is) (
-        subst (λ ss. IsPart StandsFor ss (tables ++ others) run) (sym (map-append small_three old.threes grows.threes)) (part_longer StandsFor (map small_three old.threes) (map small_three grows.threes) tables others run low fits part),
-        subst (λ ss. IsPart WordsFor ss (tables ++ others) run) (sym (paired-append worded_three old.threes grows.threes old.three_words grows.three_words even'))
+      subst (λ (p : Parts). StandsForRun StandsFor (map small_three p.threes) (tables ++ others) run × StandsForRun WordsFor (paired worded_three p.threes p.three_words) (tables ++ others) run) (sym grows.is) (
+        subst (λ ss. StandsForRun StandsFor ss (tables ++ others) run) (sym (map-append small_three old.threes grows.threes)) (part_longer StandsFor (map small_three old.threes) (map small_three grows.threes) tables others run low fits part),
+        subst (λ ss. StandsForRun WordsFor ss (tables ++ others) run) (sym (paired-append worded_three old.threes grows.threes old.three_words grows.three_words even'))
             (part_longer WordsFor (paired worded_three old.threes old.three_words) (paired worded_three grows.threes grows.three_words) tables others run low fits words),
       )
   kind_stays run low fits Fours part =
-      subst (λ (p : Parts). IsPart StandsFor (map small_four p.fours) (tables ++ others) run) (sym grows.is)
-      (subst (λ ss. IsPart StandsFor ss (tables ++ others) run) (sym (map-append small_four old.fours grows.fours)) (part_longer StandsFor (map small_four old.fours) (map small_four grows.fours) tables others run low fits part))
+      subst (λ (p : Parts). StandsForRun StandsFor (map small_four p.fours) (tables ++ others) run) (sym grows.is)
+      (subst (λ ss. StandsForRun StandsFor ss (tables ++ others) run) (sym (map-append small_four old.fours grows.fours)) (part_longer StandsFor (map small_four old.fours) (map small_four grows.fours) tables others run low fits part))
   kind_stays run low fits Others is = is
 
-  pub run_stays : (run : Run) → IsRun old tables run → IsRun new (tables ++ others) run
+  pub run_stays : (run : Run) → IsRunOfTables old tables run → IsRunOfTables new (tables ++ others) run
   run_stays run is =
       let fits = is.fits in
       let l : length (tables ++ others) ≡ length tables + length others = length-append tables others in
@@ -138,24 +138,24 @@ module _ (quick : Quick) (old new : Parts) (even : length old.nines ≡ length o
   kind_one Twos (two, word, nine, few, small, folded, worded, values, first, is) =
       let stands = two_for quick t (small_two two) (is_quick few) drives folded t.cover.inputs refl small in
       let words = two_words quick t two word nine (is_quick few) drives folded worded values t.cover.inputs refl small in
-      subst (λ (p : Parts). IsPart StandsFor (map small_two p.twos) (tables ++ t ∷ []) run × IsPart WordsFor (paired worded_two p.twos p.nines) (tables ++ t ∷ []) run) (sym is) (
-        subst (λ ss. IsPart StandsFor ss (tables ++ t ∷ []) run) (sym (map_push small_two old.twos two))
+      subst (λ (p : Parts). StandsForRun StandsFor (map small_two p.twos) (tables ++ t ∷ []) run × StandsForRun WordsFor (paired worded_two p.twos p.nines) (tables ++ t ∷ []) run) (sym is) (
+        subst (λ ss. StandsForRun StandsFor ss (tables ++ t ∷ []) run) (sym (map_push small_two old.twos two))
             (part_one StandsFor (map small_two old.twos) (small_two two) tables t run added.at_is (first ∙ sym (length-map old.twos small_two)) added.one stands),
-        subst (λ ss. IsPart WordsFor ss (tables ++ t ∷ []) run) (sym (paired-append worded_two old.twos (two ∷ []) old.nines (nine ∷ []) even))
+        subst (λ ss. StandsForRun WordsFor ss (tables ++ t ∷ []) run) (sym (paired-append worded_two old.twos (two ∷ []) old.nines (nine ∷ []) even))
             (part_one WordsFor (paired worded_two old.twos old.nines) (worded_two two nine) tables t run added.at_is (first ∙ sym (length-paired worded_two old.twos old.nines even)) added.one words),
       )
   kind_one Threes (three, word, few, small, folded, worded, first, is) =
       let stands = three_for quick t (small_three three) (is_quick few) drives folded t.cover.inputs refl small in
       let words = three_words quick t three word (is_quick few) drives folded worded t.cover.inputs refl small in
-      subst (λ (p : Parts). IsPart StandsFor (map small_three p.threes) (tables ++ t ∷ []) run × IsPart WordsFor (paired worded_three p.threes p.three_words) (tables ++ t ∷ []) run) (sym is) (
-        subst (λ ss. IsPart StandsFor ss (tables ++ t ∷ []) run) (sym (map_push small_three old.threes three))
+      subst (λ (p : Parts). StandsForRun StandsFor (map small_three p.threes) (tables ++ t ∷ []) run × StandsForRun WordsFor (paired worded_three p.threes p.three_words) (tables ++ t ∷ []) run) (sym is) (
+        subst (λ ss. StandsForRun StandsFor ss (tables ++ t ∷ []) run) (sym (map_push small_three old.threes three))
             (part_one StandsFor (map small_three old.threes) (small_three three) tables t run added.at_is (first ∙ sym (length-map old.threes small_three)) added.one stands),
-        subst (λ ss. IsPart WordsFor ss (tables ++ t ∷ []) run) (sym (paired-append worded_three old.threes (three ∷ []) old.three_words (word ∷ []) even'))
+        subst (λ ss. StandsForRun WordsFor ss (tables ++ t ∷ []) run) (sym (paired-append worded_three old.threes (three ∷ []) old.three_words (word ∷ []) even'))
             (part_one WordsFor (paired worded_three old.threes old.three_words) (worded_three three word) tables t run added.at_is (first ∙ sym (length-paired worded_three old.threes old.three_words even')) added.one words),
       )
   kind_one Fours (four, few, small, folded, first, is) =
-      subst (λ (p : Parts). IsPart StandsFor (map small_four p.fours) (tables ++ t ∷ []) run) (sym is)
-      (subst (λ ss. IsPart StandsFor ss (tables ++ t ∷ []) run) (sym (map_push small_four old.fours four))
+      subst (λ (p : Parts). StandsForRun StandsFor (map small_four p.fours) (tables ++ t ∷ []) run) (sym is)
+      (subst (λ ss. StandsForRun StandsFor ss (tables ++ t ∷ []) run) (sym (map_push small_four old.fours four))
       (part_one StandsFor (map small_four old.fours) (small_four four) tables t run added.at_is (first ∙ sym (length-map old.fours small_four)) added.one
       (four_for quick t (small_four four) (is_quick few) drives folded t.cover.inputs refl small)))
   kind_one Others (first, is) = first ∙ sym added.at_is
@@ -163,41 +163,41 @@ module _ (quick : Quick) (old new : Parts) (even : length old.nines ≡ length o
   longer : length (tables ++ t ∷ []) ≡ length tables + 1
   longer = length-append tables (t ∷ [])
 
-  run_one : IsRun new (tables ++ t ∷ []) run
+  run_one : IsRunOfTables new (tables ++ t ∷ []) run
   run_one =
       let one = added.one in
       let at = added.at_is in
       let l = longer in
       record { low = omega arith; fits = omega arith; kind = kind_one run.kind added.kind }
 
-  module _ (last : Run) (meets : last.end ≡ run.first) (whole : last.at + (last.end - last.first) ≡ length tables) (is_run : IsRun old tables last) where
-    kind_more : (kind : Kind) → IsAdded' kind → IsOfKind old tables last kind → IsOfKind new (tables ++ t ∷ []) (joined last run) kind
+  module _ (last : Run) (meets : last.end ≡ run.first) (whole : last.at + (last.end - last.first) ≡ length tables) (is_run : IsRunOfTables old tables last) where
+    kind_more : (kind : Kind) → IsAdded' kind → IsOfKind old tables last kind → IsOfKind new (tables ++ t ∷ []) (joined_runs last run) kind
     kind_more Twos (two, word, nine, few, small, folded, worded, values, first, is) (part, was) =
         let stands = two_for quick t (small_two two) (is_quick few) drives folded t.cover.inputs refl small in
         let words = two_words quick t two word nine (is_quick few) drives folded worded values t.cover.inputs refl small in
-        subst (λ (p : Parts). IsPart StandsFor (map small_two p.twos) (tables ++ t ∷ []) (joined last run) × IsPart WordsFor (paired worded_two p.twos p.nines) (tables ++ t ∷ []) (joined last run)) (sym is) (
-          subst (λ ss. IsPart StandsFor ss (tables ++ t ∷ []) (joined last run)) (sym (map_push small_two old.twos two))
+        subst (λ (p : Parts). StandsForRun StandsFor (map small_two p.twos) (tables ++ t ∷ []) (joined_runs last run) × StandsForRun WordsFor (paired worded_two p.twos p.nines) (tables ++ t ∷ []) (joined_runs last run)) (sym is) (
+          subst (λ ss. StandsForRun StandsFor ss (tables ++ t ∷ []) (joined_runs last run)) (sym (map_push small_two old.twos two))
               (part_more StandsFor (map small_two old.twos) (small_two two) tables t last run is_run.low whole meets (first ∙ sym (length-map old.twos small_two)) added.one part stands),
-          subst (λ ss. IsPart WordsFor ss (tables ++ t ∷ []) (joined last run)) (sym (paired-append worded_two old.twos (two ∷ []) old.nines (nine ∷ []) even))
+          subst (λ ss. StandsForRun WordsFor ss (tables ++ t ∷ []) (joined_runs last run)) (sym (paired-append worded_two old.twos (two ∷ []) old.nines (nine ∷ []) even))
               (part_more WordsFor (paired worded_two old.twos old.nines) (worded_two two nine) tables t last run is_run.low whole meets (first ∙ sym (length-paired worded_two old.twos old.nines even)) added.one was words),
         )
     kind_more Threes (three, word, few, small, folded, worded, first, is) (part, was) =
         let stands = three_for quick t (small_three three) (is_quick few) drives folded t.cover.inputs refl small in
         let words = three_words quick t three word (is_quick few) drives folded worded t.cover.inputs refl small in
-        subst (λ (p : Parts). IsPart StandsFor (map small_three p.threes) (tables ++ t ∷ []) (joined last run) × IsPart WordsFor (paired worded_three p.threes p.three_words) (tables ++ t ∷ []) (joined last run)) (sym is) (
-          subst (λ ss. IsPart StandsFor ss (tables ++ t ∷ []) (joined last run)) (sym (map_push small_three old.threes three))
+        subst (λ (p : Parts). StandsForRun StandsFor (map small_three p.threes) (tables ++ t ∷ []) (joined_runs last run) × StandsForRun WordsFor (paired worded_three p.threes p.three_words) (tables ++ t ∷ []) (joined_runs last run)) (sym is) (
+          subst (λ ss. StandsForRun StandsFor ss (tables ++ t ∷ []) (joined_runs last run)) (sym (map_push small_three old.threes three))
               (part_more StandsFor (map small_three old.threes) (small_three three) tables t last run is_run.low whole meets (first ∙ sym (length-map old.threes small_three)) added.one part stands),
-          subst (λ ss. IsPart WordsFor ss (tables ++ t ∷ []) (joined last run)) (sym (paired-append worded_three old.threes (three ∷ []) old.three_words (word ∷ []) even'))
+          subst (λ ss. StandsForRun WordsFor ss (tables ++ t ∷ []) (joined_runs last run)) (sym (paired-append worded_three old.threes (three ∷ []) old.three_words (word ∷ []) even'))
               (part_more WordsFor (paired worded_three old.threes old.three_words) (worded_three three word) tables t last run is_run.low whole meets (first ∙ sym (length-paired worded_three old.threes old.three_words even')) added.one was words),
         )
     kind_more Fours (four, few, small, folded, first, is) part =
-        subst (λ (p : Parts). IsPart StandsFor (map small_four p.fours) (tables ++ t ∷ []) (joined last run)) (sym is)
-        (subst (λ ss. IsPart StandsFor ss (tables ++ t ∷ []) (joined last run)) (sym (map_push small_four old.fours four))
+        subst (λ (p : Parts). StandsForRun StandsFor (map small_four p.fours) (tables ++ t ∷ []) (joined_runs last run)) (sym is)
+        (subst (λ ss. StandsForRun StandsFor ss (tables ++ t ∷ []) (joined_runs last run)) (sym (map_push small_four old.fours four))
         (part_more StandsFor (map small_four old.fours) (small_four four) tables t last run is_run.low whole meets (first ∙ sym (length-map old.fours small_four)) added.one part
         (four_for quick t (small_four four) (is_quick few) drives folded t.cover.inputs refl small)))
     kind_more Others (first, is) at = at
 
-    run_more : last.kind ≡ run.kind → IsRun new (tables ++ t ∷ []) (joined last run)
+    run_more : last.kind ≡ run.kind → IsRunOfTables new (tables ++ t ∷ []) (joined_runs last run)
     run_more kind =
         let one = added.one in
         let low = is_run.low in
@@ -258,7 +258,7 @@ module _ (quick : Quick) (old new : Parts) (even : length old.nines ≡ length o
       (here ∙ sym are, run_one, omega arith)
   runs_alone at (r ∷ runs) (here, is, rest) = (here, run_stays old new even even' grows tables (t ∷ []) r is, runs_alone (at + (r.end - r.first)) runs rest)
 
-  pub runs_joined : (at : ℕ) (front : List Run) (last : Run) → last.end ≡ run.first → last.kind ≡ run.kind → AreRuns old tables at (front ++ last ∷ []) → AreRuns new (tables ++ t ∷ []) at (front ++ joined last run ∷ [])
+  pub runs_joined : (at : ℕ) (front : List Run) (last : Run) → last.end ≡ run.first → last.kind ≡ run.kind → AreRuns old tables at (front ++ last ∷ []) → AreRuns new (tables ++ t ∷ []) at (front ++ joined_runs last run ∷ [])
   runs_joined at [] last meets kind (here, is, all) =
       let one = added.one in
       let low = is.low in

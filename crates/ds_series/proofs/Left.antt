@@ -7,7 +7,7 @@ use Rattle.std.proofs.lemmas.List.Elements.{All-cons, All-nil}
 use Rattle.ds_base.specs.Values.{Row}
 use Rattle.ds_cover.specs.Bank.{Driven, after_table, after_tables, driven_at}
 use Rattle.ds_cover.proofs.Lent.{length-after_tables}
-use Rattle.ds_series.specs.Series.{AreRuns, IsRun, Parts, after_each, in_order, numbers_in, numbers_of, own_tables}
+use Rattle.ds_series.specs.Series.{AreRuns, IsRunOfTables, Parts, after_each, in_table_order, numbers_in, numbers_of, own_tables}
 use Rattle.ds_series.specs.declared.run.Run.{Run}
 use Rattle.ds_series.proofs.Ended.{run_after}
 use Rattle.ds_series.proofs.Runs.{drop-drop}
@@ -23,7 +23,7 @@ pub record IsLeft (bank : List Driven) (order : List ℕ) (initial nets : Row) (
 
 -- one run less
 pub left_less : (bank : List Driven) (order : List ℕ) (initial nets nets' : Row) (runs : List Run) (i : ℕ) (d : Run) → i < length runs
-    → IsLeft bank order initial nets runs (drop i runs) → nets' ≡ after_each (own_tables (in_order bank order) (get_or runs i d)) nets → IsLeft bank order initial nets' runs (drop (i + 1) runs)
+    → IsLeft bank order initial nets runs (drop i runs) → nets' ≡ after_each (own_tables (in_table_order bank order) (get_or runs i d)) nets → IsLeft bank order initial nets' runs (drop (i + 1) runs)
 left_less bank order initial nets nets' runs i d inside left is =
     let run : Run = get_or runs i d in
     let n : suc i ≡ i + 1 = omega arith in
@@ -44,15 +44,15 @@ left_none bank order initial nets runs i past left =
 
 module _ (parts : Parts) (bank : List Driven) (order : List ℕ) where
   -- the runs of a series, each
-  pub runs_each : (at : ℕ) (runs : List Run) → AreRuns parts (in_order bank order) at runs → All (IsRun parts (in_order bank order)) runs
-  runs_each at [] are = All-nil (IsRun parts (in_order bank order))
-  runs_each at (run ∷ runs) (here, is, rest) = All-cons (IsRun parts (in_order bank order)) run runs is (runs_each (at + (run.end - run.first)) runs rest)
+  pub runs_each : (at : ℕ) (runs : List Run) → AreRuns parts (in_table_order bank order) at runs → All (IsRunOfTables parts (in_table_order bank order)) runs
+  runs_each at [] are = All-nil (IsRunOfTables parts (in_table_order bank order))
+  runs_each at (run ∷ runs) (here, is, rest) = All-cons (IsRunOfTables parts (in_table_order bank order)) run runs is (runs_each (at + (run.end - run.first)) runs rest)
 
   -- and the numbers of their tables are the order from there on
-  pub runs_numbers : (at : ℕ) (runs : List Run) → AreRuns parts (in_order bank order) at runs → numbers_of order runs ≡ drop at order
+  pub runs_numbers : (at : ℕ) (runs : List Run) → AreRuns parts (in_table_order bank order) at runs → numbers_of order runs ≡ drop at order
   runs_numbers at [] are =
-      let size : length (in_order bank order) ≡ length order = length-map order (driven_at bank) in
-      sym (drop_all at order (let e : at ≡ length (in_order bank order) = are in omega (e, size, arith)))
+      let size : length (in_table_order bank order) ≡ length order = length-map order (driven_at bank) in
+      sym (drop_all at order (let e : at ≡ length (in_table_order bank order) = are in omega (e, size, arith)))
   runs_numbers at (run ∷ runs) (here, is, rest) =
       let count : ℕ = run.end - run.first in
       let e : run.at ≡ at = here in

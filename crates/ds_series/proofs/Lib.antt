@@ -1,4 +1,5 @@
 pub mod Runs
+pub mod Lent
 pub mod Folded
 pub mod Trits
 pub mod Ternary

@@ -6,9 +6,9 @@ use Rattle.std.proofs.lemmas.List.{drop-map, get_or-map, length-map, take-append
 use Rattle.std.proofs.lemmas.List.Elements.{All-head, All-tail, All-cons}
 use Rattle.ds_base.specs.Values.{Row}
 use Rattle.ds_cover.specs.Packed.{packed_value}
-use Rattle.ds_cover.specs.Bank.{Driven, IsWithin, driven_at}
+use Rattle.ds_cover.specs.Bank.{Driven, AreNetsWithin, driven_at}
 use Rattle.ds_series.specs.Small.{IsSmallWithin, Small, StandsFor, Worded, WordsFor, after_smalls, after_worded, paired, small_value, worded_value}
-use Rattle.ds_series.specs.Series.{AreFor, AreRuns, FindsKnown, IsPart, IsRun, Parts, after_each, in_order, own_tables, part_of}
+use Rattle.ds_series.specs.Series.{AreFor, AreRuns, FindsKnown, StandsForRun, IsRunOfTables, Parts, after_each, in_table_order, own_tables, part_of}
 use Rattle.ds_series.specs.declared.run.Run.{Run}
 use Rattle.ds_cover.proofs.Lent.{length-set}
 
@@ -27,14 +27,14 @@ finds-split (t ∷ these) those nets (here, rest) =
     ((here, a), b)
 
 -- small tables are within where the tables are that they stand for
-pub smalls_within : (smalls : List Small) (tables : List Driven) (nets : Row) → AreFor StandsFor smalls tables → All (λ t. IsWithin t nets) tables → All (λ s. IsSmallWithin s nets) smalls
+pub smalls_within : (smalls : List Small) (tables : List Driven) (nets : Row) → AreFor StandsFor smalls tables → All (λ t. AreNetsWithin t nets) tables → All (λ s. IsSmallWithin s nets) smalls
 smalls_within [] tables nets stand within = λ k d inside. absurd (let h : k < 0 = inside in omega arith)
 smalls_within (s ∷ smalls) [] nets stand within = absurd (let h : length (s ∷ smalls) ≡ 0 = stand in omega arith)
 smalls_within (s ∷ smalls) (t ∷ tables) nets (stands, rest) within =
-    let here : IsWithin t nets = All-head (λ t. IsWithin t nets) t tables within in
+    let here : AreNetsWithin t nets = All-head (λ t. AreNetsWithin t nets) t tables within in
     All-cons (λ s. IsSmallWithin s nets) s smalls
     (record { inputs = stands.within (length nets) here.inputs; output = (let e = stands.drives in let o = here.output in omega arith) })
-    (smalls_within smalls tables nets rest (All-tail (λ t. IsWithin t nets) t tables within))
+    (smalls_within smalls tables nets rest (All-tail (λ t. AreNetsWithin t nets) t tables within))
 
 -- and set the same
 pub smalls_after : (smalls : List Small) (tables : List Driven) (nets : Row) → AreFor StandsFor smalls tables → FindsKnown tables nets → after_smalls smalls nets ≡ after_each tables nets
@@ -56,8 +56,8 @@ All-drop P zero xs all = all
 All-drop P (suc n) [] all = all
 All-drop P (suc n) (x ∷ xs) all = All-drop P n xs (All-tail P x xs all)
 
-pub own_within : (tables : List Driven) (run : Run) (nets : Row) → All (λ t. IsWithin t nets) tables → All (λ t. IsWithin t nets) (own_tables tables run)
-own_within tables run nets within = All-take (λ t. IsWithin t nets) (run.end - run.first) (drop run.at tables) (All-drop (λ t. IsWithin t nets) run.at tables within)
+pub own_within : (tables : List Driven) (run : Run) (nets : Row) → All (λ t. AreNetsWithin t nets) tables → All (λ t. AreNetsWithin t nets) (own_tables tables run)
+own_within tables run nets within = All-take (λ t. AreNetsWithin t nets) (run.end - run.first) (drop run.at tables) (All-drop (λ t. AreNetsWithin t nets) run.at tables within)
 
 pub All-unmap : {A B : Type 0} (f : A → B) (P : B → Type 0) (xs : List A) → All P (map f xs) → All (λ x. P (f x)) xs
 All-unmap f P xs all k d inside = subst P (get_or-map f xs k d (f d) inside) (all k (f d) (let l = length-map xs f in omega arith))
@@ -95,7 +95,7 @@ module _ (parts : Parts) (tables : List Driven) (initial nets : Row) (run : Run)
       sym (take-append-drop count (drop now.at tables)) ∙ (ap (λ ts. take count (drop now.at tables) ++ ts) (drop-drop count now.at tables)
       ∙ ap (λ n. take count (drop n tables) ++ drop (now.at + count) tables) (sym e))
 
-  pub run_is : IsRun parts tables run
+  pub run_is : IsRunOfTables parts tables run
   run_is = now.left.1
 
   both_known : FindsKnown (own_tables tables run) nets × FindsKnown (drop (now.at + count) tables) (after_each (own_tables tables run) nets)
@@ -139,16 +139,16 @@ set_whole parts tables initial nets now =
     sym (now.rest ∙ ap (λ ts. after_each ts nets) none)
 
 -- the tables of a bank are within, in an order too
-pub order_within : (bank : List Driven) (order : List ℕ) (nets : Row) → All (λ k. k < length bank) order → All (λ t. IsWithin t nets) bank → All (λ t. IsWithin t nets) (in_order bank order)
+pub order_within : (bank : List Driven) (order : List ℕ) (nets : Row) → All (λ k. k < length bank) order → All (λ t. AreNetsWithin t nets) bank → All (λ t. AreNetsWithin t nets) (in_table_order bank order)
 order_within bank [] nets places within = λ k d inside. absurd (let h : k < 0 = inside in omega arith)
 order_within bank (n ∷ order) nets places within =
     let low : n < length bank = All-head (λ k. k < length bank) n order places in
-    All-cons (λ t. IsWithin t nets) (driven_at bank n) (in_order bank order) (within n _ low)
+    All-cons (λ t. AreNetsWithin t nets) (driven_at bank n) (in_table_order bank order) (within n _ low)
     (order_within bank order nets (All-tail (λ k. k < length bank) n order places) within)
 
 -- a run of one kind
-module _ {A : Type 0} (f : A → Small) (xs : List A) (tables : List Driven) (run : Run) (nets : Row) (part : IsPart StandsFor (map f xs) tables run) where
-  pub part_within : All (λ t. IsWithin t nets) tables → All (λ x. IsSmallWithin (f x) nets) (part_of run.first run.end xs)
+module _ {A : Type 0} (f : A → Small) (xs : List A) (tables : List Driven) (run : Run) (nets : Row) (part : StandsForRun StandsFor (map f xs) tables run) where
+  pub part_within : All (λ t. AreNetsWithin t nets) tables → All (λ x. IsSmallWithin (f x) nets) (part_of run.first run.end xs)
   part_within within =
       All-unmap f (λ s. IsSmallWithin s nets) (part_of run.first run.end xs)
       (subst (λ ss. All (λ s. IsSmallWithin s nets) ss) (part-map f run.first run.end xs)
@@ -200,7 +200,7 @@ module _ {A W : Type 0} (f : A → W → Worded) where
   length-paired (x ∷ xs) [] same = absurd (omega arith)
   length-paired (x ∷ xs) (w ∷ ws) same = ap suc (length-paired xs ws (omega arith))
 
-  pub words_after : (xs : List A) (ws : List W) (tables : List Driven) (run : Run) (nets : Row) → IsPart WordsFor (paired f xs ws) tables run
+  pub words_after : (xs : List A) (ws : List W) (tables : List Driven) (run : Run) (nets : Row) → StandsForRun WordsFor (paired f xs ws) tables run
       → after_worded (paired f (part_of run.first run.end xs) (part_of run.first run.end ws)) nets ≡ after_each (own_tables tables run) nets
   words_after xs ws tables run nets part =
       ap (λ ss. after_worded ss nets) (sym (paired-part run.first run.end xs ws)) ∙ worded_after (part_of run.first run.end (paired f xs ws)) (own_tables tables run) nets part.stands

@@ -8,7 +8,7 @@ use Rattle.ds_base.specs.declared.value.Value.{Value}
 use Rattle.ds_base.specs.declared.value.Value.TheVariants.{Zero, One, Unknown}
 use Rattle.ds_cover.specs.Cover.{signed, values_at}
 use Rattle.ds_cover.specs.Bank.{Driven}
-use Rattle.ds_cover.specs.Packed.{masks_value, packed_value, words_of}
+use Rattle.ds_cover.specs.Packed.{masks_value, packed_value, words_of_values}
 use Rattle.ds_cover.specs.Kept.{IsSingle, singles_value}
 use Rattle.ds_cover.specs.Ternary.{IsWordOf, code_value, three_at}
 use Rattle.ds_series.specs.Small.{Worded, after_worded, nine_of, nine_value, paired, place_in_27, value_in_27, worded_value}
@@ -65,7 +65,7 @@ pub word_for : (t : Driven) (word : ℕ) (nets : Row) (place : ℕ) (values : Ro
     → code_value (word / 2 ^ (2 * place) % 4) ≡ packed_value t.cover nets
 word_for t word nets place values is single reads low at short own =
     is place low
-    ∙ (ap (λ vs. signed t.cover.on (singles_value t.cover.masks (words_of vs))) at
+    ∙ (ap (λ vs. signed t.cover.on (singles_value t.cover.masks (words_of_values vs))) at
     ∙ ap (signed t.cover.on) (sym (singles_are t.cover.masks values single short) ∙ (reads values ∙ ap (λ vs. masks_value vs One t.cover.masks) own)))
 
 -- one table of a list with words

@@ -25,8 +25,8 @@ pub record Ordered : Type 0 where
   pub order : List ℕ
 
 -- the tables in the order
-abbrev pub in_order : List Driven → List ℕ → List Driven
-in_order tables order = map (driven_at tables) order
+abbrev pub in_table_order : List Driven → List ℕ → List Driven
+in_table_order tables order = map (driven_at tables) order
 
 -- the nets after tables are set one after another
 abbrev pub after_each : List Driven → Row → Row
@@ -54,8 +54,8 @@ pub record Parts : Type 0 where
   pub fours : List Four
 
 -- as they are kept
-abbrev pub parts_of : Lists → Parts
-parts_of lists = record {
+abbrev pub parts_of_lists : Lists → Parts
+parts_of_lists lists = record {
   twos = lists.twos.items;
   nines = lists.nines.items;
   threes = lists.threes.items;
@@ -75,22 +75,23 @@ abbrev pub own_tables : List Driven → Run → List Driven
 own_tables tables run = take (run.end - run.first) (drop run.at tables)
 
 -- a part of a list stands for the tables of a run
-pub record IsPart {S : Type 0} (IsFor : S → Driven → Type 0) (items : List S) (tables : List Driven)
+pub record StandsForRun {S : Type 0} (IsFor : S → Driven → Type 0) (items : List S)
+    (tables : List Driven)
     (run : Run) : Type 0 where
   pub inside : run.end ≤ length items
   pub stands : AreFor IsFor (part_of run.first run.end items) (own_tables tables run)
 
 -- others stand where their numbers say
 abbrev pub IsOfKind : Parts → List Driven → Run → Kind → Type 0
-IsOfKind parts tables run Twos = IsPart StandsFor (map small_two parts.twos) tables run
-    × IsPart WordsFor (paired worded_two parts.twos parts.nines) tables run
-IsOfKind parts tables run Threes = IsPart StandsFor (map small_three parts.threes) tables run
-    × IsPart WordsFor (paired worded_three parts.threes parts.three_words) tables run
-IsOfKind parts tables run Fours = IsPart StandsFor (map small_four parts.fours) tables run
+IsOfKind parts tables run Twos = StandsForRun StandsFor (map small_two parts.twos) tables run
+    × StandsForRun WordsFor (paired worded_two parts.twos parts.nines) tables run
+IsOfKind parts tables run Threes = StandsForRun StandsFor (map small_three parts.threes) tables run
+    × StandsForRun WordsFor (paired worded_three parts.threes parts.three_words) tables run
+IsOfKind parts tables run Fours = StandsForRun StandsFor (map small_four parts.fours) tables run
 IsOfKind parts tables run Others = run.first ≡ run.at
 
 -- a run of these tables
-pub record IsRun (parts : Parts) (tables : List Driven) (run : Run) : Type 0 where
+pub record IsRunOfTables (parts : Parts) (tables : List Driven) (run : Run) : Type 0 where
   pub low : run.first ≤ run.end
   pub fits : run.at + (run.end - run.first) ≤ length tables
   pub kind : IsOfKind parts tables run run.kind
@@ -98,7 +99,7 @@ pub record IsRun (parts : Parts) (tables : List Driven) (run : Run) : Type 0 whe
 -- one after another they are all tables from a number on
 abbrev pub AreRuns : Parts → List Driven → ℕ → List Run → Type 0
 AreRuns parts tables at [] = at ≡ length tables
-AreRuns parts tables at (run ∷ runs) = (run.at ≡ at) × IsRun parts tables run
+AreRuns parts tables at (run ∷ runs) = (run.at ≡ at) × IsRunOfTables parts tables run
     × AreRuns parts tables (at + (run.end - run.first)) runs
 
 -- the numbers of the tables of a run
@@ -111,15 +112,15 @@ numbers_of order [] = []
 numbers_of order (run ∷ runs) = numbers_in order run ++ numbers_of order runs
 
 -- two runs that follow each other, as one
-abbrev pub joined : Run → Run → Run
-joined last run = record { kind = last.kind; at = last.at; first = last.first; end = run.end }
+abbrev pub joined_runs : Run → Run → Run
+joined_runs last run = record { kind = last.kind; at = last.at; first = last.first; end = run.end }
 
 -- a run is added; it joins none of the first ones, so many
 pub data IsRunAdded (others : ℕ) (before : List Run) (run : Run) (after : List Run) : Type 0 where
   alone : after ≡ before ++ run ∷ [] → IsRunAdded others before run after
   joins : (front : List Run) (last : Run) → before ≡ front ++ last ∷ [] → others ≤ length front
       → last.kind ≡ run.kind → last.end ≡ run.first
-      → after ≡ front ++ joined last run ∷ [] → IsRunAdded others before run after
+      → after ≡ front ++ joined_runs last run ∷ [] → IsRunAdded others before run after
 
 -- nine values for each table of two inputs, and a word for each of three
 pub record AreEven (parts : Parts) : Type 0 where
@@ -128,8 +129,8 @@ pub record AreEven (parts : Parts) : Type 0 where
 
 -- what is a run of some tables stays one where more tables follow
 abbrev pub StayRuns : Parts → Parts → Type 0
-StayRuns old new = (tables more : List Driven) (run : Run) → IsRun old tables run
-    → IsRun new (tables ++ more) run
+StayRuns old new = (tables more : List Driven) (run : Run) → IsRunOfTables old tables run
+    → IsRunOfTables new (tables ++ more) run
 
 -- the tables from a number on are added, in runs of their own
 pub record AreAdded (old new : Parts) (tables : List Driven) (start : ℕ) (before after : List Run) :

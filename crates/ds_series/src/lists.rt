@@ -1,7 +1,7 @@
 //! The tables of up to four inputs, in lists by kind.
 ghost use Rattle.std.specs.Prelude.{◌≡◌, ◌<◌, ◌-◌, ◌^◌, [], length, IfOk};
 ghost use Rattle.ds_cover.specs.Bank.{driven_at};
-ghost use Rattle.ds_series.specs.Series.{IsSmallAdded, parts_of};
+ghost use Rattle.ds_series.specs.Series.{IsSmallAdded, parts_of_lists};
 
 use crate::nine::Nine;
 use crate::run::{Kind, Run};
@@ -39,7 +39,7 @@ impl Drop for Lists {
 impl Lists {
     // Without tables.
     pub(crate) fn new(alloc: Global) -> Self
-        ensures { parts_of result ≡ record {
+        ensures { parts_of_lists result ≡ record {
           twos = [];
           nines = [];
           threes = [];
@@ -69,7 +69,7 @@ impl Lists {
         requires at { at < 2 ^ 64 - 1 }
         ensures { IfOk result (IsSmallAdded quick.now (driven_at bank.now table).cover.masks
             (driven_at bank.now table).cover.on (length (driven_at bank.now table).cover.inputs) at
-            (parts_of self.old) (parts_of self.new)) }
+            (parts_of_lists self.old) (parts_of_lists self.new)) }
     {
         let inputs = bank.inputs(table).len();
         let mut kind = Kind::Others;

@@ -1,9 +1,10 @@
 //! Tables of one kind that are set one after another.
 ghost use Rattle.std.specs.Prelude.{◌≡◌, ◌+◌, ◌-◌, ◌<◌, ◌≤◌, true, All, OnOk, length};
-ghost use Rattle.ds_cover.specs.Bank.{IsWithin, after_tables};
-ghost use Rattle.ds_series.specs.Series.{AreAdded, AreEven, FindsKnown, IsRun, IsRunAdded};
-ghost use Rattle.ds_series.specs.Series.{after_each, in_order, numbers_in, numbers_of, own_tables};
-ghost use Rattle.ds_series.specs.Series.{parts_of};
+ghost use Rattle.ds_cover.specs.Bank.{AreNetsWithin, after_tables};
+ghost use Rattle.ds_series.specs.Series.{AreAdded, AreEven, FindsKnown, IsRunOfTables, IsRunAdded};
+ghost use Rattle.ds_series.specs.Series.{after_each, in_table_order, numbers_in, numbers_of};
+ghost use Rattle.ds_series.specs.Series.{own_tables};
+ghost use Rattle.ds_series.specs.Series.{parts_of_lists};
 
 use crate::lists::Lists;
 use crate::small::{set_fours, set_threes, set_twos, set_worded_threes, set_worded_twos};
@@ -48,9 +49,9 @@ pub(crate) fn add_from(
 ) -> Result<(), AllocError>
     requires places { All (λ k. k < length bank.now) order.now }
     requires start { start ≤ length order.now }
-    requires even { AreEven (parts_of lists.old) }
-    ensures { OnOk result (AreAdded (parts_of lists.old) (parts_of lists.new)
-        (in_order bank.now order.now) start runs.old.items runs.new.items) }
+    requires even { AreEven (parts_of_lists lists.old) }
+    ensures { OnOk result (AreAdded (parts_of_lists lists.old) (parts_of_lists lists.new)
+        (in_table_order bank.now order.now) start runs.old.items runs.new.items) }
 {
     let others = runs.len();
     for at in start..order.len() {
@@ -98,10 +99,12 @@ fn joins(last: &Run, run: &Run) -> bool
 // Sets what the tables of a run drive, where each finds its inputs known.
 pub(crate) fn set_known(run: &Run, lists: &Lists, bank: &Bank, order: &[u32], nets: &mut Row3)
     requires places { All (λ k. k < length bank.now) order.now }
-    requires run { IsRun (parts_of lists.now) (in_order bank.now order.now) run.now }
-    requires within { All (λ t. IsWithin t nets.old) bank.now }
-    requires known { FindsKnown (own_tables (in_order bank.now order.now) run.now) nets.old }
-    ensures { nets.new ≡ after_each (own_tables (in_order bank.now order.now) run.now) nets.old }
+    requires run { IsRunOfTables (parts_of_lists lists.now) (in_table_order bank.now order.now)
+        run.now }
+    requires within { All (λ t. AreNetsWithin t nets.old) bank.now }
+    requires known { FindsKnown (own_tables (in_table_order bank.now order.now) run.now) nets.old }
+    ensures { nets.new ≡ after_each (own_tables (in_table_order bank.now order.now) run.now)
+        nets.old }
 {
     let twos = lists.twos.as_slice();
     let threes = lists.threes.as_slice();
@@ -118,8 +121,9 @@ pub(crate) fn set_known(run: &Run, lists: &Lists, bank: &Bank, order: &[u32], ne
 // Sets what the tables of these runs drive, one after another.
 pub(crate) fn set_runs(runs: &[Run], lists: &Lists, bank: &Bank, order: &[u32], nets: &mut Row3)
     requires places { All (λ k. k < length bank.now) order.now }
-    requires runs { All (IsRun (parts_of lists.now) (in_order bank.now order.now)) runs.now }
-    requires within { All (λ t. IsWithin t nets.old) bank.now }
+    requires runs { All (IsRunOfTables (parts_of_lists lists.now)
+        (in_table_order bank.now order.now)) runs.now }
+    requires within { All (λ t. AreNetsWithin t nets.old) bank.now }
     ensures { nets.new ≡ after_tables bank.now nets.old (numbers_of order.now runs.now) }
 {
     for run in runs {
@@ -130,9 +134,11 @@ pub(crate) fn set_runs(runs: &[Run], lists: &Lists, bank: &Bank, order: &[u32], 
 // Sets what the tables of a run drive.
 fn set_run(run: &Run, lists: &Lists, bank: &Bank, order: &[u32], nets: &mut Row3)
     requires places { All (λ k. k < length bank.now) order.now }
-    requires run { IsRun (parts_of lists.now) (in_order bank.now order.now) run.now }
-    requires within { All (λ t. IsWithin t nets.old) bank.now }
-    ensures { nets.new ≡ after_each (own_tables (in_order bank.now order.now) run.now) nets.old }
+    requires run { IsRunOfTables (parts_of_lists lists.now) (in_table_order bank.now order.now)
+        run.now }
+    requires within { All (λ t. AreNetsWithin t nets.old) bank.now }
+    ensures { nets.new ≡ after_each (own_tables (in_table_order bank.now order.now) run.now)
+        nets.old }
 {
     let twos = lists.twos.as_slice();
     let nines = lists.nines.as_slice();

@@ -1,6 +1,6 @@
 //! Some tables of a bank that is lent, in several lists, each in the order in which it is set.
 ghost use Rattle.std.specs.Prelude.{◌≡◌, ◌<◌, ◌≤◌, ◌^◌, [], length, All, IfOk, slice_index_or};
-ghost use Rattle.ds_cover.specs.Bank.{IsWithin, after_tables};
+ghost use Rattle.ds_cover.specs.Bank.{AreNetsWithin, after_tables};
 ghost use Rattle.ds_series.specs.Series.{part_of};
 
 use crate::lists::Lists;
@@ -36,7 +36,7 @@ impl<'a> Drop for Selections<'a> {
 impl<'a> Model for Selections<'a> {
     ghost use Rattle.std.specs.Prelude.{◌<◌, length, All};
     ghost use Rattle.ds_series.specs.Selections.{AreBounded, Selected, lists_between};
-    ghost use Rattle.ds_series.specs.Series.{in_order, parts_of};
+    ghost use Rattle.ds_series.specs.Series.{in_table_order, parts_of_lists};
 
     ghost Value = { Selected };
 
@@ -46,7 +46,7 @@ impl<'a> Model for Selections<'a> {
     } };
 
     ghost invariant = { λ s. All (λ k. k < length s.bank.now) s.order.items
-        × AreBounded (parts_of s.lists) (in_order s.bank.now s.order.items) s.runs.items
+        × AreBounded (parts_of_lists s.lists) (in_table_order s.bank.now s.order.items) s.runs.items
         s.bounds.items };
 }
 
@@ -87,7 +87,7 @@ impl<'a> Selections<'a> {
     /// Sets what the tables of a list drive, one after another.
     pub fn set(&self, number: usize, nets: &mut Row3)
         requires number { number < length self.now.lists }
-        requires within { All (λ t. IsWithin t nets.old) self.now.tables }
+        requires within { All (λ t. AreNetsWithin t nets.old) self.now.tables }
         ensures { nets.new ≡ after_tables self.now.tables nets.old
             (slice_index_or self.now.lists number []) }
     {

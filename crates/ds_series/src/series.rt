@@ -1,7 +1,7 @@
 //! The tables of a bank in the order in which they are set, those of up to four inputs by kinds.
 ghost use Rattle.std.specs.Prelude.{◌≡◌, ◌<◌, length, All, IfErr, IfOk};
-ghost use Rattle.ds_cover.specs.Bank.{IsWithin, after_tables};
-ghost use Rattle.ds_series.specs.Series.{AreRuns, FindsKnown, in_order, parts_of};
+ghost use Rattle.ds_cover.specs.Bank.{AreNetsWithin, after_tables};
+ghost use Rattle.ds_series.specs.Series.{AreRuns, FindsKnown, in_table_order, parts_of_lists};
 
 use crate::lists::Lists;
 use crate::run::{Run, add_from, set_known, set_runs};
@@ -31,14 +31,14 @@ impl Drop for Series {
 
 impl Model for Series {
     ghost use Rattle.std.specs.Prelude.{◌<◌, length, All};
-    ghost use Rattle.ds_series.specs.Series.{AreRuns, Ordered, in_order, parts_of};
+    ghost use Rattle.ds_series.specs.Series.{AreRuns, Ordered, in_table_order, parts_of_lists};
 
     ghost Value = { Ordered };
 
     ghost view = { λ s. record { tables = s.bank; order = s.order.items } };
 
     ghost invariant = { λ s. All (λ k. k < length s.bank) s.order.items
-        × AreRuns (parts_of s.lists) (in_order s.bank s.order.items) 0 s.runs.items };
+        × AreRuns (parts_of_lists s.lists) (in_table_order s.bank s.order.items) 0 s.runs.items };
 }
 
 impl Series {
@@ -75,7 +75,7 @@ impl Series {
 
     /// Sets what the tables of the order drive, one after another.
     pub fn set_all(&self, nets: &mut Row3)
-        requires within { All (λ t. IsWithin t nets.old) self.now.tables }
+        requires within { All (λ t. AreNetsWithin t nets.old) self.now.tables }
         ensures { nets.new ≡ after_tables self.now.tables nets.old self.now.order }
     {
         let runs = self.runs.as_slice();
@@ -84,8 +84,8 @@ impl Series {
 
     /// The same where each table finds its inputs known. It reads shorter words.
     pub fn set_all_known(&self, nets: &mut Row3)
-        requires within { All (λ t. IsWithin t nets.old) self.now.tables }
-        requires known { FindsKnown (in_order self.now.tables self.now.order) nets.old }
+        requires within { All (λ t. AreNetsWithin t nets.old) self.now.tables }
+        requires known { FindsKnown (in_table_order self.now.tables self.now.order) nets.old }
         ensures { nets.new ≡ after_tables self.now.tables nets.old self.now.order }
     {
         let (bank, lists) = (&self.bank, &self.lists);
@@ -100,7 +100,8 @@ impl Series {
 // The lists and runs of the tables of a bank in this order.
 fn lists_of(alloc: Global, bank: &Bank, order: &[u32]) -> Result<(Lists, Vec<Run>), AllocError>
     requires { All (λ k. k < length bank.now) order.now }
-    ensures { IfOk result (λ made. AreRuns (parts_of made.0) (in_order bank.now order.now) 0
+    ensures { IfOk result (λ made. AreRuns (parts_of_lists made.0)
+        (in_table_order bank.now order.now) 0
         made.1.items) }
 {
     let mut lists = Lists::new(alloc);

@@ -5,7 +5,7 @@ use Rattle.std.proofs.Math.ListN.{set}
 use Rattle.std.proofs.lemmas.List.{drop_all, drop_more, get_or_default}
 use Rattle.ds_base.specs.Values.{Row}
 use Rattle.ds_cover.specs.Cover.{value_of}
-use Rattle.ds_cover.specs.Bank.{Driven, IsWithin, after_table, after_tables, driven_at}
+use Rattle.ds_cover.specs.Bank.{Driven, AreNetsWithin, after_table, after_tables, driven_at}
 use Rattle.ds_design.specs.Accepted.{IsAccepted}
 use Rattle.ds_design.specs.Banked.{IsBankOf}
 use Rattle.ds_design.specs.Circuit.{Circuit}
@@ -19,10 +19,10 @@ use Rattle.ds_settle.proofs.Step.{settled_all, settled_more}
 
 module _ (c : Circuit) (in_range : IsInRange c) (bank : List Driven) (banked : IsBankOf c.tables bank) where
   -- all packed tables read and drive nets of the design
-  pub all_within : (nets : Row) → length nets ≡ length c.nets → All (λ t. IsWithin t nets) bank
+  pub all_within : (nets : Row) → length nets ≡ length c.nets → All (λ t. AreNetsWithin t nets) bank
   all_within nets same k d inside =
-      let gate : (d : Gate) → IsWithin (driven_at bank k) nets = λ g. within_at c bank in_range banked nets same k g (let e : length bank ≡ length c.tables = banked.one_each in omega arith) in
-      subst (λ (t : Driven). IsWithin t nets) (get_or_default bank k _ d inside) (gate (record { table = record { inputs = []; rows = []; on = Rattle.std.proofs.Common.true }; output = 0; line = 0 }))
+      let gate : (d : Gate) → AreNetsWithin (driven_at bank k) nets = λ g. within_at c bank in_range banked nets same k g (let e : length bank ≡ length c.tables = banked.one_each in omega arith) in
+      subst (λ (t : Driven). AreNetsWithin t nets) (get_or_default bank k _ d inside) (gate (record { table = record { inputs = []; rows = []; on = Rattle.std.proofs.Common.true }; output = 0; line = 0 }))
 
   pub all_places : (order : List ℕ) → IsTableOrder c order → All (λ k. k < length bank) order
   all_places order ordered i d inside = (let low : get_or order i d < length c.tables = ordered.places i d inside in let e : length bank ≡ length c.tables = banked.one_each in omega arith)

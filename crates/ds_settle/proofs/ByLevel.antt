@@ -12,7 +12,7 @@ use Rattle.ds_base.proofs.Lists.{Contains-split}
 use Rattle.ds_design.specs.Circuit.{Circuit}
 use Rattle.ds_design.specs.Levels.{AreLevels, IsByLevel, level_of_table}
 use Rattle.ds_settle.specs.Cone.{AreInOrder}
-use Rattle.ds_settle.specs.Placed.{placed}
+use Rattle.ds_settle.specs.Placed.{placed_table}
 use Rattle.ds_settle.specs.Walk.{IsSorted}
 use Rattle.ds_settle.specs.declared.order.Placed.{Placed}
 use Rattle.ds_settle.proofs.Tables.{net_is}
@@ -22,17 +22,17 @@ module _ (c : Circuit) (levels : List ℕ) (are : AreLevels c levels) where
   abbrev HasLevel : Placed → Type 0
   HasLevel p = p.level ≡ level_of_table c levels p.table
 
-  pub sorted_from : (found : List ℕ) (all : List Placed) → IsPermutation (map (placed c.tables levels) found) all → IsNonDecreasingBy (λ p. p.level) all
+  pub sorted_from : (found : List ℕ) (all : List Placed) → IsPermutation (map (placed_table c.tables levels) found) all → IsNonDecreasingBy (λ p. p.level) all
       → IsSorted c found (map (λ (p : Placed). p.table) all)
   sorted_from found all permuted rising =
-      let have : All HasLevel all = All-permutation HasLevel (map (placed c.tables levels) found) all permuted (All-map HasLevel (placed c.tables levels) found (λ k d inside. refl)) in
-      let back : map (λ (p : Placed). p.table) (map (placed c.tables levels) found) ≡ found = map-map (λ (p : Placed). p.table) (placed c.tables levels) found ∙ map-id found in
+      let have : All HasLevel all = All-permutation HasLevel (map (placed_table c.tables levels) found) all permuted (All-map HasLevel (placed_table c.tables levels) found (λ k d inside. refl)) in
+      let back : map (λ (p : Placed). p.table) (map (placed_table c.tables levels) found) ≡ found = map-map (λ (p : Placed). p.table) (placed_table c.tables levels) found ∙ map-id found in
       let long : length (map (λ (p : Placed). p.table) all) ≡ length all = length-map all (λ (p : Placed). p.table) in
-      let first : Placed = placed c.tables levels 0 in
+      let first : Placed = placed_table c.tables levels 0 in
       let level_is : (i d : ℕ) → i < length all → (get_or all i first).level ≡ level_of_table c levels (get_or (map (λ (p : Placed). p.table) all) i d) =
       λ i d inside. have i first inside ∙ ap (level_of_table c levels) (sym (get_or-map (λ (p : Placed). p.table) all i first d inside)) in
       record {
-        permuted = subst (λ (xs : List ℕ). IsPermutation xs (map (λ (p : Placed). p.table) all)) back (IsPermutation-map (λ (p : Placed). p.table) (map (placed c.tables levels) found) all permuted);
+        permuted = subst (λ (xs : List ℕ). IsPermutation xs (map (λ (p : Placed). p.table) all)) back (IsPermutation-map (λ (p : Placed). p.table) (map (placed_table c.tables levels) found) all permuted);
         by_level = record {
           levels = levels;
           are = are;

@@ -10,7 +10,7 @@ use Rattle.std.proofs.lemmas.List.Sums.{sum_by-set}
 use Rattle.ds_design.specs.Circuit.{Circuit}
 use Rattle.ds_design.specs.Levels.{table_nets}
 use Rattle.ds_settle.specs.Cone.{Parts, ReachesSome, net_of}
-use Rattle.ds_settle.specs.Walk.{AreMet, Grows, IsDriver, IsFound, IsMarked, unmarked, with_net}
+use Rattle.ds_settle.specs.Walk.{AreMet, Grows, IsDriver, IsFound, IsMarked, unmarked, with_found}
 use Rattle.ds_settle.proofs.Tables.{driver_of}
 
 any_left : {X : Type 0} (P : X → Type 0) (xs ys : List X) → Any P xs → Any P (xs ++ ys)
@@ -55,7 +55,7 @@ module _ (c : Circuit) (marks : List Bool) (found : Parts) (net : ℕ) (low : ne
   within : net < length marks
   within = omega arith
 
-  grows_with : (driver : Option ℕ) → Grows marks found (set marks net true) (with_net found net driver)
+  grows_with : (driver : Option ℕ) → Grows marks found (set marks net true) (with_found found net driver)
   grows_with None = record {
     same_length = length-set marks net true;
     marks = still_marked marks net within free;
@@ -72,7 +72,7 @@ module _ (c : Circuit) (marks : List Bool) (found : Parts) (net : ℕ) (low : ne
   }
 
   module _ (these : List ℕ) (reaches : ReachesSome c these net) (h : IsFound c these marks found) where
-    found_source : ¬ Contains (table_nets c) net → IsFound c these (set marks net true) (with_net found net None)
+    found_source : ¬ Contains (table_nets c) net → IsFound c these (set marks net true) (with_found found net None)
     found_source undriven = record {
       within = h.within;
       once = h.once;
@@ -92,7 +92,7 @@ module _ (c : Circuit) (marks : List Bool) (found : Parts) (net : ℕ) (low : ne
       ];
     }
 
-    found_table : (k : ℕ) → k < length c.tables → net_of c k ≡ net → IsFound c these (set marks net true) (with_net found net (Some k))
+    found_table : (k : ℕ) → k < length c.tables → net_of c k ≡ net → IsFound c these (set marks net true) (with_found found net (Some k))
     found_table k inside drives = record {
       within = All-push (λ k. k < length c.tables) found.tables k h.within inside;
       once = all_pairs_push (λ i j. i ≢ j) found.tables k h.once
@@ -115,12 +115,12 @@ module _ (c : Circuit) (marks : List Bool) (found : Parts) (net : ℕ) (low : ne
       ];
     }
 
-    found_with : (driver : Option ℕ) → IsDriver c (length c.tables) net driver → IsFound c these (set marks net true) (with_net found net driver)
+    found_with : (driver : Option ℕ) → IsDriver c (length c.tables) net driver → IsFound c these (set marks net true) (with_found found net driver)
     found_with None is = found_source (λ driven. (let (k, inside, e) = driver_of c net driven in is k inside e))
     found_with (Some k) is = found_table k is.0 is.1
 
   -- a net that was not marked is met
-  pub met_new : (driver : Option ℕ) → IsDriver c (length c.tables) net driver → AreMet c (net ∷ []) marks found (set marks net true) (with_net found net driver)
+  pub met_new : (driver : Option ℕ) → IsDriver c (length c.tables) net driver → AreMet c (net ∷ []) marks found (set marks net true) (with_found found net driver)
   met_new driver is = record {
     grows = grows_with driver;
     met = All-cons (IsMarked (set marks net true)) net [] (marked_self marks net within free) (All-nil (IsMarked (set marks net true)));

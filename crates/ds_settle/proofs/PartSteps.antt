@@ -9,7 +9,7 @@ use Rattle.std.proofs.lemmas.List.Elements.{Contains-get_or}
 use Rattle.ds_base.proofs.Lists.{Contains-map}
 use Rattle.ds_base.specs.Values.{Row}
 use Rattle.ds_base.specs.declared.value.Value.TheVariants.{Zero}
-use Rattle.ds_cover.specs.Bank.{Driven, IsWithin, after_table, after_tables}
+use Rattle.ds_cover.specs.Bank.{Driven, AreNetsWithin, after_table, after_tables}
 use Rattle.ds_cover.specs.Cover.{value_at, value_of}
 use Rattle.ds_design.specs.Accepted.{IsAccepted}
 use Rattle.ds_design.proofs.Banked.{after_table-is, within_at}
@@ -123,9 +123,9 @@ module _ (c : Circuit) (range : IsInRange c) (accepted : IsAccepted c) (tables :
   part_is sources sizes = part_all c tables old (after_tables bank old tables) sources (so_far_rest tables [] old refl sizes so_far_none)
 
   -- each packed table reads and drives nets that are there
-  pub bank_within : length old ≡ length c.nets → All (λ t. IsWithin t old) bank
+  pub bank_within : length old ≡ length c.nets → All (λ t. AreNetsWithin t old) bank
   bank_within sizes k d inside =
-      subst (λ (t : Driven). IsWithin t old) (get_or_default bank k _ d inside) (within_at c bank range is_bank old sizes k no_gate (subst (λ (n : ℕ). k < n) is_bank.one_each inside))
+      subst (λ (t : Driven). AreNetsWithin t old) (get_or_default bank k _ d inside) (within_at c bank range is_bank old sizes k no_gate (subst (λ (n : ℕ). k < n) is_bank.one_each inside))
 
   pub places_within : All (λ k. k < length bank) tables
   places_within i d inside = subst (λ (n : ℕ). get_or tables i d < n) (sym is_bank.one_each) (order.within i d inside)

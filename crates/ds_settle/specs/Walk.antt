@@ -40,9 +40,9 @@ pub record IsFound (c : Circuit) (these : List ℕ) (marks : List Bool) (found :
       → Contains found.sources net ⊎ Any (λ k. net_of c k ≡ net) found.tables
 
 -- what is found with a net: the table that drives it or, where none does, the net as a source
-abbrev pub with_net : Parts → ℕ → Option ℕ → Parts
-with_net found net None = record { tables = found.tables; sources = found.sources ++ net ∷ [] }
-with_net found net (Some k) = record { tables = found.tables ++ k ∷ []; sources = found.sources }
+abbrev pub with_found : Parts → ℕ → Option ℕ → Parts
+with_found found net None = record { tables = found.tables; sources = found.sources ++ net ∷ [] }
+with_found found net (Some k) = record { tables = found.tables ++ k ∷ []; sources = found.sources }
 
 -- how many nets are not marked
 abbrev pub unmarked : List Bool → ℕ

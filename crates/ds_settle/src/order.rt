@@ -1,7 +1,7 @@
 //! Tables by the level of what they drive.
 ghost use Rattle.std.specs.Prelude.{◌≡◌, ◌<◌, length, map, All, IfOk, OnOk};
 ghost use Rattle.std.specs.List.Sorted.{IsNonDecreasingBy, IsPermutation};
-ghost use Rattle.ds_settle.specs.Placed.{placed};
+ghost use Rattle.ds_settle.specs.Placed.{placed_table};
 ghost use Rattle.ds_settle.specs.Walk.{IsSorted};
 
 use ds_base::OutOfMemory;
@@ -39,7 +39,7 @@ fn with_levels(
 ) -> Result<Vec<Placed>, AllocError>
     requires within { All (λ k. k < length tables.now) found.now }
     requires outputs { All (λ t. t.output < length levels.now) tables.now }
-    ensures { IfOk result (λ v. v.items ≡ map (placed tables.now levels.now) found.now) }
+    ensures { IfOk result (λ v. v.items ≡ map (placed_table tables.now levels.now) found.now) }
 {
     let mut all: Vec<Placed> = Vec::new(alloc);
     for table in found {

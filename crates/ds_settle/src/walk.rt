@@ -1,6 +1,6 @@
 //! A walk from nets back through the tables that drive them.
 ghost use Rattle.std.specs.Prelude.{◌≡◌, ◌<◌, ◌∷◌, [], length, All, IfOk, OnOk, Option};
-ghost use Rattle.ds_settle.specs.Walk.{AreMet, AreReached, with_net};
+ghost use Rattle.ds_settle.specs.Walk.{AreMet, AreReached, with_found};
 
 use crate::Cone;
 use crate::drivers::Drivers;
@@ -76,7 +76,7 @@ fn meet(
 
 // Takes the table that drives a net or, where none does, the net as a source.
 fn take_driver(found: &mut Cone, net: NetId, driver: Option<u32>) -> Result<(), OutOfMemory>
-    ensures { OnOk result (found.new ≡ with_net found.old net driver) }
+    ensures { OnOk result (found.new ≡ with_found found.old net driver) }
 {
     match driver {
         Some(table) => found.push_table(table),

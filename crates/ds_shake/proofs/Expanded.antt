@@ -19,7 +19,7 @@ use Rattle.ds_latch.proofs.Rising.{events_long, required_orders_rise}
 use Rattle.ds_control.specs.Orders.{closing_arc, node_arcs, opening_arc, tokens_after}
 use Rattle.ds_control.proofs.Required.{is_node, named, tokens_is}
 use Rattle.ds_control.proofs.Two.{all_two, in_first, in_range, in_second, length-two}
-use Rattle.ds_shake.specs.Expansion.{IsExpansion, acknowledge_falls, acknowledge_rises, arc, expanded_arcs, expanded_events}
+use Rattle.ds_shake.specs.Expansion.{IsExpansion, acknowledge_falls, acknowledge_rises, arc_by_parts, expanded_arcs, expanded_events}
 use Rattle.ds_shake.specs.Expansion.{freeing_tokens, handshake_arcs, handshake_events, request_falls, request_rises}
 use Rattle.ds_shake.specs.Handshakes.{AreHandshakes}
 use Rattle.ds_shake.specs.declared.handshake.Handshake.{Handshake}
@@ -138,10 +138,10 @@ module _ (s : Split) (g : Graph) (split : IsSplit s) (e : IsExpansion s g) where
   hs = e.handshakes
 
   -- the graph has each arc of the expansion
-  is_arc : (u v t : ℕ) → Contains (expanded_arcs s e.handshakes) (arc u v t) → IsArc g u v t
+  is_arc : (u v t : ℕ) → Contains (expanded_arcs s e.handshakes) (arc_by_parts u v t) → IsArc g u v t
   is_arc u v t at =
-      let (k, inside, is) = Contains-permutation (expanded_arcs s e.handshakes) g.arcs (arc u v t) e.arcs at in
-      (k, arc u v t, inside, is, (refl, refl, refl))
+      let (k, inside, is) = Contains-permutation (expanded_arcs s e.handshakes) g.arcs (arc_by_parts u v t) e.arcs at in
+      (k, arc_by_parts u v t, inside, is, (refl, refl, refl))
 
   own_arc : (a : Arc) → Contains (node_arcs (nodes s)) a → Contains (expanded_arcs s e.handshakes) a
   own_arc a at = Contains-append_left (node_arcs (nodes s)) (flat_map (handshake_arcs (nodes s) s.slack) e.handshakes) a at
@@ -164,8 +164,8 @@ module _ (s : Split) (g : Graph) (split : IsSplit s) (e : IsExpansion s g) where
       let at : Contains e.handshakes h = (k, inside, is) in
       let tokens : tokens_after h.producer ≡ open_tokens p = ap tokens_after pe ∙ tokens_is p in
       two_steps (2 * number_of p) (request_rises (nodes s) h) (2 * number_of c) 0 (tokens_after h.producer) (open_tokens p)
-      (subst (λ (u : ℕ). IsArc g (2 * u) (request_rises (nodes s) h) 0) pe (is_arc _ _ _ (eighth h at (arc (2 * h.producer) (request_rises (nodes s) h) 0) (0, omega arith, refl))))
-      (subst (λ (v : ℕ). IsArc g (request_rises (nodes s) h) (2 * v) (tokens_after h.producer)) ce (is_arc _ _ _ (eighth h at (arc (request_rises (nodes s) h) (2 * h.consumer) (tokens_after h.producer)) (1, omega arith, refl))))
+      (subst (λ (u : ℕ). IsArc g (2 * u) (request_rises (nodes s) h) 0) pe (is_arc _ _ _ (eighth h at (arc_by_parts (2 * h.producer) (request_rises (nodes s) h) 0) (0, omega arith, refl))))
+      (subst (λ (v : ℕ). IsArc g (request_rises (nodes s) h) (2 * v) (tokens_after h.producer)) ce (is_arc _ _ _ (eighth h at (arc_by_parts (request_rises (nodes s) h) (2 * h.consumer) (tokens_after h.producer)) (1, omega arith, refl))))
       (omega (tokens, arith))
   given _ _ _ (before_reuse p c edge) =
       let (k, h, inside, is, (pe, ce)) = (e.are.edges p c).0 edge in
@@ -173,8 +173,8 @@ module _ (s : Split) (g : Graph) (split : IsSplit s) (e : IsExpansion s g) where
       let tokens : tokens_after h.producer ≡ open_tokens p = ap tokens_after pe ∙ tokens_is p in
       let both : open_tokens p + close_tokens s p ≡ s.slack + 1 = edge_tokens s p in
       two_steps (2 * number_of c + 1) (acknowledge_rises (nodes s) h) (2 * number_of p) 0 (freeing_tokens s.slack h) (close_tokens s p)
-      (subst (λ (u : ℕ). IsArc g (2 * u + 1) (acknowledge_rises (nodes s) h) 0) ce (is_arc _ _ _ (eighth h at (arc (2 * h.consumer + 1) (acknowledge_rises (nodes s) h) 0) (2, omega arith, refl))))
-      (subst (λ (v : ℕ). IsArc g (acknowledge_rises (nodes s) h) (2 * v) (freeing_tokens s.slack h)) pe (is_arc _ _ _ (eighth h at (arc (acknowledge_rises (nodes s) h) (2 * h.producer) (freeing_tokens s.slack h)) (3, omega arith, refl))))
+      (subst (λ (u : ℕ). IsArc g (2 * u + 1) (acknowledge_rises (nodes s) h) 0) ce (is_arc _ _ _ (eighth h at (arc_by_parts (2 * h.consumer + 1) (acknowledge_rises (nodes s) h) 0) (2, omega arith, refl))))
+      (subst (λ (v : ℕ). IsArc g (acknowledge_rises (nodes s) h) (2 * v) (freeing_tokens s.slack h)) pe (is_arc _ _ _ (eighth h at (arc_by_parts (acknowledge_rises (nodes s) h) (2 * h.producer) (freeing_tokens s.slack h)) (3, omega arith, refl))))
       (omega (tokens, both, arith))
 
   pub expansion_is_plan : IsPlan s g

@@ -5,7 +5,7 @@ use Rattle.ds_base.specs.declared.number.Limit.TheVariants as limit
 use Rattle.ds_marked.specs.Graph.{Graph}
 use Rattle.ds_latch.specs.Node.{Split}
 use Rattle.ds_shake.specs.Expansion.{HasTooMany, HasTooManySignals, IsExpansion}
-use Rattle.ds_shake.specs.Laws.{ArcsFit, FaultsAreRefused}
+use Rattle.ds_shake.specs.Laws.{ArcsFit, ShakeFaultsAreRefused}
 use Rattle.ds_shake.specs.declared.fault.ShakeFault.TheVariants.{TooMany, Memory}
 use Rattle.ds_shake.specs.declared.handshake.Handshake.{Handshake}
 use Rattle.ds_shake.proofs.One.{one_list}
@@ -30,6 +30,6 @@ not_too_many s g limit.Arcs is e = arcs_fit_lem s is
 not_too_many s g limit.Signals is e = signals_fit s g is e
 not_too_many s g limit.Vectors is e = is
 
-pub faults_are_refused_lem : FaultsAreRefused
+pub faults_are_refused_lem : ShakeFaultsAreRefused
 faults_are_refused_lem s g (TooMany which) some is e = not_too_many s g which is e
 faults_are_refused_lem s g Memory some is e = some refl

@@ -52,22 +52,22 @@ abbrev pub freeing_tokens : ℕ → Handshake → ℕ
 freeing_tokens slack h = slack + 1 - tokens_after h.producer
 
 -- an arc by its parts
-abbrev pub arc : ℕ → ℕ → ℕ → Arc
-arc source target tokens = record { source = source; target = target; tokens = tokens }
+abbrev pub arc_by_parts : ℕ → ℕ → ℕ → Arc
+arc_by_parts source target tokens = record { source = source; target = target; tokens = tokens }
 
 -- the arcs that carry the two orders of an edge, by its request and by its acknowledge
 abbrev pub order_arcs : ℕ → ℕ → Handshake → List Arc
-order_arcs count slack h = arc (2 * h.producer) (request_rises count h) 0
-    ∷ arc (request_rises count h) (2 * h.consumer) (tokens_after h.producer)
-    ∷ arc (2 * h.consumer + 1) (acknowledge_rises count h) 0
-    ∷ arc (acknowledge_rises count h) (2 * h.producer) (freeing_tokens slack h) ∷ []
+order_arcs count slack h = arc_by_parts (2 * h.producer) (request_rises count h) 0
+    ∷ arc_by_parts (request_rises count h) (2 * h.consumer) (tokens_after h.producer)
+    ∷ arc_by_parts (2 * h.consumer + 1) (acknowledge_rises count h) 0
+    ∷ arc_by_parts (acknowledge_rises count h) (2 * h.producer) (freeing_tokens slack h) ∷ []
 
 -- the arcs that bring the request and the acknowledge back: four phases
 abbrev pub return_arcs : ℕ → ℕ → Handshake → List Arc
-return_arcs count slack h = arc (acknowledge_rises count h) (request_falls count h) 0
-    ∷ arc (request_falls count h) (acknowledge_falls count h) 0
-    ∷ arc (acknowledge_falls count h) (request_rises count h) (freeing_tokens slack h)
-    ∷ arc (acknowledge_falls count h) (acknowledge_rises count h) 1 ∷ []
+return_arcs count slack h = arc_by_parts (acknowledge_rises count h) (request_falls count h) 0
+    ∷ arc_by_parts (request_falls count h) (acknowledge_falls count h) 0
+    ∷ arc_by_parts (acknowledge_falls count h) (request_rises count h) (freeing_tokens slack h)
+    ∷ arc_by_parts (acknowledge_falls count h) (acknowledge_rises count h) 1 ∷ []
 
 -- all arcs of an edge
 abbrev pub handshake_arcs : ℕ → ℕ → Handshake → List Arc

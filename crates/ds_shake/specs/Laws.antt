@@ -17,8 +17,8 @@ OneExpansion = (s : Split) (one other : Graph) → IsKept one → IsKept other
     → IsExpansion s one → IsExpansion s other → one ≡ other
 
 -- where there is a fault there is no expansion
-abbrev pub FaultsAreRefused : Type 0
-FaultsAreRefused = (s : Split) (g : Graph) (fault : ShakeFault) → fault ≢ Memory
+abbrev pub ShakeFaultsAreRefused : Type 0
+ShakeFaultsAreRefused = (s : Split) (g : Graph) (fault : ShakeFault) → fault ≢ Memory
     → IsShakeFault s fault → ¬ IsExpansion s g
 
 -- where the signals are few, the arcs are no more than a graph may have

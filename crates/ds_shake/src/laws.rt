@@ -1,5 +1,6 @@
 //! Laws of the definitions, each the contract of a function that does nothing.
-ghost use Rattle.ds_shake.specs.Laws.{ArcsFit, ExpansionsArePlans, FaultsAreRefused, OneExpansion};
+ghost use Rattle.ds_shake.specs.Laws.{ArcsFit, ExpansionsArePlans, ShakeFaultsAreRefused};
+ghost use Rattle.ds_shake.specs.Laws.{OneExpansion};
 
 /// An expansion is a plan's graph: each required order is given, and nothing waits for itself.
 pub fn expansions_are_plans()
@@ -13,7 +14,7 @@ pub fn one_expansion()
 
 /// Where there is a fault there is no expansion.
 pub fn faults_are_refused()
-    ensures { FaultsAreRefused }
+    ensures { ShakeFaultsAreRefused }
 {}
 
 /// Where the signals are few, the arcs are no more than a graph may have.

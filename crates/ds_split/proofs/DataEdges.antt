@@ -11,10 +11,10 @@ use Rattle.ds_latch.specs.Latches.{AreParts}
 use Rattle.ds_design.specs.declared.design.Register.{Register}
 use Rattle.ds_latch.specs.declared.latches.Edge.{Edge}
 use Rattle.ds_latch.proofs.Counts.{number_below, same_node}
-use Rattle.ds_split.specs.Nets.{AreNodes, AreProducers}
+use Rattle.ds_split.specs.Nets.{AreNodes, AreNetProducers}
 use Rattle.ds_split.specs.Search.{Found, edge_of, with_edge, HasMet, IsCause}
 use Rattle.ds_split.specs.Edges.{IsFoundBelow, AreEdges}
-use Rattle.ds_split.specs.Split.{split_of, HasTooManyOrders}
+use Rattle.ds_split.specs.Split.{split_into, HasTooManyOrders}
 use Rattle.ds_split.proofs.Searching.{ends_at, linked}
 use Rattle.ds_split.proofs.Sources.{no_table}
 use Rattle.ds_split.proofs.Marks.{zeros-at}
@@ -45,7 +45,7 @@ same_edge e m n producer consumer = ap (λ x. edge_of x e.consumer) producer ∙
 abbrev pub begun_with : List ℕ → ℕ → Found
 begun_with producers n = record { producers = producers; seen = replicate n 0; edges = [] }
 
-label_low : (s : Split) (producers : List ℕ) → AreProducers s producers → (net : ℕ) → get_or producers net 0 ≤ nodes s
+label_low : (s : Split) (producers : List ℕ) → AreNetProducers s producers → (net : ℕ) → get_or producers net 0 ≤ nodes s
 label_low s producers are net = elim (cases_lt 0 (get_or producers net 0)) [
   | inl some ↦ (
       let (p, is, number, low) = are.from net (get_or producers net 0 - 1) (omega arith) in
@@ -56,7 +56,7 @@ label_low s producers are net = elim (cases_lt 0 (get_or producers net 0)) [
 
 module _ (s : Split) where
   -- nothing is found yet
-  pub found_none : (producers : List ℕ) → AreProducers s producers → IsFoundBelow s 1 (begun_with producers (nodes s))
+  pub found_none : (producers : List ℕ) → AreNetProducers s producers → IsFoundBelow s 1 (begun_with producers (nodes s))
   found_none producers are =
       let n : length (replicate {A = ℕ} (nodes s) 0) ≡ nodes s = length-replicate {A = ℕ} (nodes s) 0 in
       record {
@@ -138,7 +138,7 @@ module _ (s : Split) (nets : List (List ℕ)) (are : AreNodes s.circuit s.cluste
       once = met.at.once;
     };
     before = ends_at k g met.at;
-    producers = subst (λ (ps : List ℕ). AreProducers s ps) (sym met.same_producers) found.producers;
+    producers = subst (λ (ps : List ℕ). AreNetProducers s ps) (sym met.same_producers) found.producers;
     room = met.same_room ∙ found.room;
   }
 
@@ -192,7 +192,7 @@ module _ (s : Split) (nets : List (List ℕ)) (are : AreNodes s.circuit s.cluste
 
 -- the parts of a split design
 pub parts : (c : Circuit) (clusters nets : List (List ℕ)) (edges : List Edge) → AreNodes c clusters nets
-    → AreEdges (split_of c clusters) edges → AreParts (split_of c clusters) nets edges
+    → AreEdges (split_into c clusters) edges → AreParts (split_into c clusters) nets edges
 parts c clusters nets edges are have = record {
   split = record {
     accepted = are.accepted;
@@ -202,7 +202,7 @@ parts c clusters nets edges are have = record {
     one_value_each = length-map c.registers (λ (r : Register). initial_value r.initial);
   };
   one_each = are.listed.0;
-  nets = λ n is. are.listed.1 n is (number_below (split_of c clusters) n is);
+  nets = λ n is. are.listed.1 n is (number_below (split_into c clusters) n is);
   has_edges = have.has_edges;
   once = have.once;
   few = have.few;

@@ -6,29 +6,29 @@ use Rattle.std.proofs.lemmas.List.{get_or_past, length-set}
 use Rattle.std.proofs.lemmas.List.Elements.{Contains-push_cases, Contains-push, Contains-append_left, Contains-get_or}
 use Rattle.std.proofs.lemmas.List.Quantifiers.{all_pairs_push}
 use Rattle.ds_base.proofs.Pairs.{get_or-left, get_or-right}
-use Rattle.ds_split.specs.Groups.{group, with_register, AreGroups}
+use Rattle.ds_split.specs.Groups.{group, with_member, AreGroups}
 
 -- a register in a cluster that is there, and one in a new cluster
 pub joins : (groups : List (List ℕ)) (place r : ℕ) → place < length groups
-    → with_register groups place r ≡ set groups place (group groups place ++ r ∷ [])
+    → with_member groups place r ≡ set groups place (group groups place ++ r ∷ [])
 joins groups place r inside = let is : ltb place (length groups) ≡ true = search rules in rw is refl
 
 pub begins : (groups : List (List ℕ)) (place r : ℕ) → length groups ≤ place
-    → with_register groups place r ≡ groups ++ (r ∷ []) ∷ []
+    → with_member groups place r ≡ groups ++ (r ∷ []) ∷ []
 begins groups place r outside = let is : ltb place (length groups) ≡ false = search rules in rw is refl
 
 module _ (groups : List (List ℕ)) (place r : ℕ) (near : place ≤ length groups) where
-  pub length-with_register : (length groups ≤ length (with_register groups place r))
-      × (place < length (with_register groups place r))
-      × ((i : ℕ) → i < length (with_register groups place r) → (i < length groups) ⊎ (i ≡ place))
-      × (length (with_register groups place r) ≤ length groups + 1)
+  pub length-with_register : (length groups ≤ length (with_member groups place r))
+      × (place < length (with_member groups place r))
+      × ((i : ℕ) → i < length (with_member groups place r) → (i < length groups) ⊎ (i ≡ place))
+      × (length (with_member groups place r) ≤ length groups + 1)
   length-with_register = elim (cases_lt place (length groups)) [
     | inl inside ↦ (
-        let n : length (with_register groups place r) ≡ length groups =
+        let n : length (with_member groups place r) ≡ length groups =
         ap length (joins groups place r inside) ∙ length-set groups place (group groups place ++ r ∷ []) in
         (omega arith, omega arith, (λ i low. inl (omega arith)), omega arith))
     | inr outside ↦ (
-        let n : length (with_register groups place r) ≡ length groups + 1 =
+        let n : length (with_member groups place r) ≡ length groups + 1 =
         ap length (begins groups place r outside) ∙ length-append groups ((r ∷ []) ∷ []) in (
           omega arith,
           omega arith,
@@ -37,7 +37,7 @@ module _ (groups : List (List ℕ)) (place r : ℕ) (near : place ≤ length gro
         ))
   ]
 
-  pub group_here : group (with_register groups place r) place ≡ group groups place ++ r ∷ []
+  pub group_here : group (with_member groups place r) place ≡ group groups place ++ r ∷ []
   group_here = elim (cases_lt place (length groups)) [
     | inl inside ↦ ap (λ gs. group gs place) (joins groups place r inside)
         ∙ get_or-set_same groups place (group groups place ++ r ∷ []) [] inside
@@ -48,7 +48,7 @@ module _ (groups : List (List ℕ)) (place r : ℕ) (near : place ≤ length gro
         ∙ (get_or-right groups ((r ∷ []) ∷ []) 0 place [] (omega arith) ∙ ap (λ g. g ++ r ∷ []) (sym past)))
   ]
 
-  pub group_other : (i : ℕ) → i ≢ place → group (with_register groups place r) i ≡ group groups i
+  pub group_other : (i : ℕ) → i ≢ place → group (with_member groups place r) i ≡ group groups i
   group_other i other = elim (cases_lt place (length groups)) [
     | inl inside ↦ ap (λ gs. group gs i) (joins groups place r inside)
         ∙ get_or-set_other groups place i (group groups place ++ r ∷ []) [] other
@@ -61,12 +61,12 @@ module _ (groups : List (List ℕ)) (place r : ℕ) (near : place ≤ length gro
   ]
 
   -- who stands in a cluster: those who stood there, and the register at its place
-  pub members : (i x : ℕ) → Contains (group (with_register groups place r) i) x
+  pub members : (i x : ℕ) → Contains (group (with_member groups place r) i) x
       → Contains (group groups i) x ⊎ ((i ≡ place) × (x ≡ r))
   members i x is = elim (cases_eq i place) [
     | inl here ↦ (
-        let g : group (with_register groups place r) i ≡ group groups i ++ r ∷ [] =
-        subst (λ (j : ℕ). group (with_register groups place r) j ≡ group groups j ++ r ∷ []) (sym here) group_here in
+        let g : group (with_member groups place r) i ≡ group groups i ++ r ∷ [] =
+        subst (λ (j : ℕ). group (with_member groups place r) j ≡ group groups j ++ r ∷ []) (sym here) group_here in
         elim (Contains-push_cases (group groups i) r x (subst (λ (g : List ℕ). Contains g x) g is)) [
           | inl old ↦ inl old
           | inr new ↦ inr (here, sym new)
@@ -74,25 +74,25 @@ module _ (groups : List (List ℕ)) (place r : ℕ) (near : place ≤ length gro
     | inr other ↦ inl (subst (λ (g : List ℕ). Contains g x) (group_other i other) is)
   ]
 
-  pub stays : (i x : ℕ) → Contains (group groups i) x → Contains (group (with_register groups place r) i) x
+  pub stays : (i x : ℕ) → Contains (group groups i) x → Contains (group (with_member groups place r) i) x
   stays i x is = elim (cases_eq i place) [
     | inl here ↦ (
-        let g : group (with_register groups place r) i ≡ group groups i ++ r ∷ [] =
-        subst (λ (j : ℕ). group (with_register groups place r) j ≡ group groups j ++ r ∷ []) (sym here) group_here in
+        let g : group (with_member groups place r) i ≡ group groups i ++ r ∷ [] =
+        subst (λ (j : ℕ). group (with_member groups place r) j ≡ group groups j ++ r ∷ []) (sym here) group_here in
         subst (λ (g : List ℕ). Contains g x) (sym g) (Contains-append_left (group groups i) (r ∷ []) x is))
     | inr other ↦ subst (λ (g : List ℕ). Contains g x) (sym (group_other i other)) is
   ]
 
-  pub joined : Contains (group (with_register groups place r) place) r
+  pub joined : Contains (group (with_member groups place r) place) r
   joined = subst (λ (g : List ℕ). Contains g r) (sym group_here) (Contains-push (group groups place) r)
 
   -- a register that stood in the cluster of another does so still
   pub first-stays : (i : ℕ) → 0 < length (group groups i)
-      → get_or (group (with_register groups place r) i) 0 0 ≡ get_or (group groups i) 0 0
+      → get_or (group (with_member groups place r) i) 0 0 ≡ get_or (group groups i) 0 0
   first-stays i some = elim (cases_eq i place) [
     | inl here ↦ (
-        let g : group (with_register groups place r) i ≡ group groups i ++ r ∷ [] =
-        subst (λ (j : ℕ). group (with_register groups place r) j ≡ group groups j ++ r ∷ []) (sym here) group_here in
+        let g : group (with_member groups place r) i ≡ group groups i ++ r ∷ [] =
+        subst (λ (j : ℕ). group (with_member groups place r) j ≡ group groups j ++ r ∷ []) (sym here) group_here in
         ap (λ g. get_or g 0 0) g ∙ get_or-left (group groups i) (r ∷ []) 0 0 some)
     | inr other ↦ ap (λ g. get_or g 0 0) (group_other i other)
   ]
@@ -104,7 +104,7 @@ module _ (belong : ℕ → ℕ → Type 0) (turn : (a b : ℕ) → belong a b �
     (same : (x : ℕ) → Contains (group groups place) x → belong x r)
     (only : (i x : ℕ) → Contains (group groups i) x → belong x r → i ≡ place) where
   abbrev new : List (List ℕ)
-  new = with_register groups place r
+  new = with_member groups place r
 
   covered : (x : ℕ) → x < r + 1 → (i : ℕ) × (i < length new) × Contains (group new i) x
   covered x low =
@@ -204,7 +204,7 @@ module _ (belong : ℕ → ℕ → Type 0) (turn : (a b : ℕ) → belong a b �
     ]
   ]
 
-  pub next_register : AreGroups belong (r + 1) (with_register groups place r)
+  pub next_register : AreGroups belong (r + 1) (with_member groups place r)
   next_register = record {
     covered = covered;
     within = within;

@@ -11,7 +11,7 @@ use Rattle.ds_design.specs.declared.design.Net.{Net}
 use Rattle.ds_design.specs.declared.design.Register.{Register}
 use Rattle.ds_split.specs.Cluster.{Agree, bus_of, bus_of_net, no_net}
 use Rattle.ds_split.specs.Keys.{IsPlaced}
-use Rattle.ds_split.specs.Groups.{group, with_register, AreGroups, DriveBuses}
+use Rattle.ds_split.specs.Groups.{group, with_member, AreGroups, DriveBuses}
 use Rattle.ds_split.proofs.Groups.{joins, begins, length-with_register, members, next_register}
 
 -- only a cluster that is there has registers
@@ -24,7 +24,7 @@ in_group groups i x is = elim (cases_lt i (length groups)) [
 ]
 
 pub next_alone : (r : ℕ) (groups : List (List ℕ)) → AreGroups (λ a b. a ≡ b) r groups → length groups ≡ r
-    → AreGroups (λ a b. a ≡ b) (r + 1) (with_register groups r r) × (length (with_register groups r r) ≡ r + 1)
+    → AreGroups (λ a b. a ≡ b) (r + 1) (with_member groups r r) × (length (with_member groups r r) ≡ r + 1)
 next_alone r groups are one_each =
     let n = length-with_register groups r r (omega arith) in (
       next_register (λ a b. a ≡ b) (λ a b e. sym e) r groups are r (omega arith) refl
@@ -34,7 +34,7 @@ next_alone r groups are one_each =
     )
 
 pub next_together : (r : ℕ) (groups : List (List ℕ)) → AreGroups (λ a b. ⊤) r groups
-    → AreGroups (λ a b. ⊤) (r + 1) (with_register groups 0 r)
+    → AreGroups (λ a b. ⊤) (r + 1) (with_member groups 0 r)
 next_together r groups are =
     next_register (λ a b. ⊤) (λ a b e. e) r groups are 0 (omega arith) tt (λ x is. tt)
     (λ i x is e.
@@ -53,7 +53,7 @@ drives c i register inside is =
 module _ (c : Circuit) (r : ℕ) (groups : List (List ℕ)) (buses new : List Net) (place : ℕ)
     (are : AreGroups (Agree c ByBus) r groups) (drive : DriveBuses c groups buses) where
   found : place < length buses → get_or buses place no_net ≡ bus_of c r
-      → AreGroups (Agree c ByBus) (r + 1) (with_register groups place r)
+      → AreGroups (Agree c ByBus) (r + 1) (with_member groups place r)
   found inside at =
       let low : place < length groups = omega (arith, drive.one_each) in
       let first : 0 < length (group groups place) = are.some place low in
@@ -64,7 +64,7 @@ module _ (c : Circuit) (r : ℕ) (groups : List (List ℕ)) (buses new : List Ne
       (λ i x is e. are.apart i place x (get_or (group groups place) 0 0) is member (e ∙ sym (drive.same place (get_or (group groups place) 0 0) member ∙ at)))
 
   added : place ≡ length buses → ((k : ℕ) → k < length buses → get_or buses k no_net ≢ bus_of c r)
-      → AreGroups (Agree c ByBus) (r + 1) (with_register groups place r)
+      → AreGroups (Agree c ByBus) (r + 1) (with_member groups place r)
   added last unlike =
       let n = drive.one_each in
       next_register (Agree c ByBus) (λ a b e. sym e) r groups are place (omega (arith, n)) refl
@@ -72,10 +72,10 @@ module _ (c : Circuit) (r : ℕ) (groups : List (List ℕ)) (buses new : List Ne
       (λ i x is e. absurd (let low : i < length groups = in_group groups i x is in
       unlike i (omega (arith, n)) (sym (drive.same i x is) ∙ e)))
 
-  found_buses : place < length buses → get_or buses place no_net ≡ bus_of c r → DriveBuses c (with_register groups place r) buses
+  found_buses : place < length buses → get_or buses place no_net ≡ bus_of c r → DriveBuses c (with_member groups place r) buses
   found_buses inside at =
       let low : place < length groups = omega (arith, drive.one_each) in
-      let n : length (with_register groups place r) ≡ length groups =
+      let n : length (with_member groups place r) ≡ length groups =
       ap length (joins groups place r low) ∙ length-set groups place (group groups place ++ r ∷ []) in
       record {
         one_each = drive.one_each ∙ sym n;
@@ -85,10 +85,10 @@ module _ (c : Circuit) (r : ℕ) (groups : List (List ℕ)) (buses new : List Ne
         ];
       }
 
-  added_buses : place ≡ length buses → DriveBuses c (with_register groups place r) (buses ++ bus_of c r ∷ [])
+  added_buses : place ≡ length buses → DriveBuses c (with_member groups place r) (buses ++ bus_of c r ∷ [])
   added_buses last =
       let m = drive.one_each in
-      let n : length (with_register groups place r) ≡ length groups + 1 =
+      let n : length (with_member groups place r) ≡ length groups + 1 =
       ap length (begins groups place r (omega (arith, m))) ∙ length-append groups ((r ∷ []) ∷ []) in
       let k : length (buses ++ bus_of c r ∷ []) ≡ length buses + 1 = length-append buses (bus_of c r ∷ []) in
       record {
@@ -102,14 +102,14 @@ module _ (c : Circuit) (r : ℕ) (groups : List (List ℕ)) (buses new : List Ne
       }
 
   pub next_by_bus : IsPlaced buses (bus_of c r) new place
-      → AreGroups (Agree c ByBus) (r + 1) (with_register groups place r) × DriveBuses c (with_register groups place r) new
+      → AreGroups (Agree c ByBus) (r + 1) (with_member groups place r) × DriveBuses c (with_member groups place r) new
   next_by_bus (inl (inside, same, at)) = (
     found inside at,
-    subst (λ (nets : List Net). DriveBuses c (with_register groups place r) nets) (sym same) (found_buses inside at),
+    subst (λ (nets : List Net). DriveBuses c (with_member groups place r) nets) (sym same) (found_buses inside at),
   )
   next_by_bus (inr (last, more, unlike)) = (
     added last unlike,
-    subst (λ (nets : List Net). DriveBuses c (with_register groups place r) nets) (sym more) (added_buses last),
+    subst (λ (nets : List Net). DriveBuses c (with_member groups place r) nets) (sym more) (added_buses last),
   )
 
 -- no register has a cluster yet

@@ -9,13 +9,13 @@ use Rattle.ds_latch.specs.Node.{Node, In, Out, Master, Slave, Split, IsNode, num
 use Rattle.ds_latch.specs.Order.{IsSource}
 use Rattle.ds_latch.proofs.Counts.{number_below}
 use Rattle.ds_split.specs.Cluster.{HasEachOnce}
-use Rattle.ds_split.specs.Nets.{AreProducersBelow, AreProducers, IsMarked}
+use Rattle.ds_split.specs.Nets.{AreProducersBelow, AreNetProducers, AreMarked}
 use Rattle.ds_split.proofs.Searching.{IsFirst, seen_set}
 use Rattle.ds_split.proofs.Sources.{one_producer}
 
 -- one net more
 pub mark_more : (nets : List ℕ) (i mark : ℕ) (old now : List ℕ) → get_or nets i 0 < length now
-    → IsMarked (IsFirst nets i) mark old now → IsMarked (IsFirst nets (i + 1)) mark old (set now (get_or nets i 0) mark)
+    → AreMarked (IsFirst nets i) mark old now → AreMarked (IsFirst nets (i + 1)) mark old (set now (get_or nets i 0) mark)
 mark_more nets i mark old now inside are = record {
   same_length = length-set now (get_or nets i 0) mark ∙ are.same_length;
   marked = λ net means. elim (seen_set now (get_or nets i 0) mark net inside) [
@@ -31,7 +31,7 @@ mark_more nets i mark old now inside are = record {
 
 -- all nets
 pub mark_all : (nets : List ℕ) (i mark : ℕ) (old new : List ℕ) → i ≡ length nets
-    → IsMarked (IsFirst nets i) mark old new → IsMarked (Contains nets) mark old new
+    → AreMarked (IsFirst nets i) mark old new → AreMarked (Contains nets) mark old new
 mark_all nets i mark old new all are = record {
   same_length = are.same_length;
   marked = λ net is. are.marked net (let (k, inside, at) = is in (k, omega arith, get_or_default nets k 0 net inside ∙ at));
@@ -57,7 +57,7 @@ module _ (s : Split) (accepted : IsAccepted s.circuit) (each : HasEachOnce (leng
   -- one producer more
   pub producers_more : (n : Node) (most later : ℕ) (old new : List ℕ) → IsSource n → IsNode s n
       → most ≤ later → number_of n < later → ((p : Node) → IsSource p → number_of p < later → (number_of p < most) ⊎ (p ≡ n))
-      → AreProducersBelow s most old → IsMarked (Contains (nets_of s n)) (number_of n + 1) old new → AreProducersBelow s later new
+      → AreProducersBelow s most old → AreMarked (Contains (nets_of s n)) (number_of n + 1) old new → AreProducersBelow s later new
   producers_more n most later old new source node grows low cover are mark = record {
     one_each = mark.same_length ∙ are.one_each;
     known = λ p net is below. elim (cases_Contains (nets_of s n) net) [
@@ -83,7 +83,7 @@ module _ (s : Split) (accepted : IsAccepted s.circuit) (each : HasEachOnce (leng
   covers_in (Master i) source low = absurd source
   covers_in (Slave i) source low = absurd (omega arith)
 
-  pub producers_in : (old new : List ℕ) → AreProducersBelow s 0 old → IsMarked (Contains (nets_of s In)) 1 old new → AreProducersBelow s 3 new
+  pub producers_in : (old new : List ℕ) → AreProducersBelow s 0 old → AreMarked (Contains (nets_of s In)) 1 old new → AreProducersBelow s 3 new
   producers_in old new are mark = producers_more In 0 3 old new tt tt (omega arith) (omega arith) covers_in are mark
 
   covers_slave : (i : ℕ) (p : Node) → IsSource p → number_of p < 2 * i + 5 → (number_of p < 2 * i + 3) ⊎ (p ≡ Slave i)
@@ -96,14 +96,14 @@ module _ (s : Split) (accepted : IsAccepted s.circuit) (each : HasEachOnce (leng
   ]
 
   pub producers_slave : (i : ℕ) (old new : List ℕ) → i < length s.clusters → AreProducersBelow s (2 * i + 3) old
-      → IsMarked (Contains (nets_of s (Slave i))) (2 * i + 3 + 1) old new → AreProducersBelow s (2 * (i + 1) + 3) new
+      → AreMarked (Contains (nets_of s (Slave i))) (2 * i + 3 + 1) old new → AreProducersBelow s (2 * (i + 1) + 3) new
   producers_slave i old new inside are mark =
       let e : 2 * (i + 1) + 3 ≡ 2 * i + 5 = omega arith in
       subst (λ (k : ℕ). AreProducersBelow s k new) (sym e)
       (producers_more (Slave i) (2 * i + 3) (2 * i + 5) old new tt inside (omega arith) (omega arith) (covers_slave i) are mark)
 
   -- all producers
-  pub producers_all : (producers : List ℕ) → AreProducersBelow s (2 * length s.clusters + 3) producers → AreProducers s producers
+  pub producers_all : (producers : List ℕ) → AreProducersBelow s (2 * length s.clusters + 3) producers → AreNetProducers s producers
   producers_all producers are = record {
     one_each = are.one_each;
     known = λ p net is low. are.known p net is (omega arith);

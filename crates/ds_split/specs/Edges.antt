@@ -4,7 +4,7 @@ use Rattle.ds_latch.specs.Node.{Node, Split, number_of, nodes}
 use Rattle.ds_latch.specs.Order.{IsDataEdge}
 use Rattle.ds_latch.specs.Latches.{HasEdges}
 use Rattle.ds_latch.specs.declared.latches.Edge.{Edge}
-use Rattle.ds_split.specs.Nets.{AreProducers}
+use Rattle.ds_split.specs.Nets.{AreNetProducers}
 use Rattle.ds_split.specs.Search.{Found, IsBefore, edge_of}
 use Rattle.ds_split.specs.Split.{IsEdgeOf}
 
@@ -19,7 +19,7 @@ pub record AreEdgesBelow (s : Split) (most : ℕ) (edges : List Edge) : Type 0 w
 pub record IsFoundBelow (s : Split) (most : ℕ) (f : Found) : Type 0 where
   pub edges : AreEdgesBelow s most f.edges
   pub before : IsBefore most f
-  pub producers : AreProducers s f.producers
+  pub producers : AreNetProducers s f.producers
   pub room : length f.seen ≡ nodes s
 
 -- the data edges, each once, and no more required orders than there may be

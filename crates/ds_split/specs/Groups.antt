@@ -10,8 +10,8 @@ abbrev pub group : List (List ℕ) → ℕ → List ℕ
 group groups i = slice_index_or groups i []
 
 -- with a register in the cluster at a place, or in a new one behind the last
-abbrev pub with_register : List (List ℕ) → ℕ → ℕ → List (List ℕ)
-with_register groups place r =
+abbrev pub with_member : List (List ℕ) → ℕ → ℕ → List (List ℕ)
+with_member groups place r =
     if ltb place (length groups) then slice_set groups place (group groups place ++ r ∷ [])
     else groups ++ (r ∷ []) ∷ []
 

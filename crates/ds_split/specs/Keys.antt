@@ -5,19 +5,19 @@ use Rattle.ds_split.specs.Cluster.{no_net}
 use Rattle.ds_split.specs.declared.bus.Bus.{Bus}
 
 -- the net that a bus stands for
-abbrev pub net_of : Bus → Net
-net_of bus = record { copy = bus.copy; name = bus.name.now }
+abbrev pub net_of_bus : Bus → Net
+net_of_bus bus = record { copy = bus.copy; name = bus.name.now }
 
 -- a net stands at this place
-abbrev pub IsFound : List Net → Net → List Net → ℕ → Type 0
-IsFound old net new place = (place < length old) × (new ≡ old)
+abbrev pub IsNetFound : List Net → Net → List Net → ℕ → Type 0
+IsNetFound old net new place = (place < length old) × (new ≡ old)
     × (slice_index_or old place no_net ≡ net)
 
 -- a net was not there, and stands behind the last now
-abbrev pub IsAdded : List Net → Net → List Net → ℕ → Type 0
-IsAdded old net new place = (place ≡ length old) × (new ≡ old ++ net ∷ [])
+abbrev pub IsNetAdded : List Net → Net → List Net → ℕ → Type 0
+IsNetAdded old net new place = (place ≡ length old) × (new ≡ old ++ net ∷ [])
     × ((k : ℕ) → k < length old → slice_index_or old k no_net ≢ net)
 
 -- a net has its place, and is added where it was not there
 abbrev pub IsPlaced : List Net → Net → List Net → ℕ → Type 0
-IsPlaced old net new place = IsFound old net new place ⊎ IsAdded old net new place
+IsPlaced old net new place = IsNetFound old net new place ⊎ IsNetAdded old net new place

@@ -7,7 +7,7 @@ use Rattle.ds_design.specs.InRange.{IsInRange}
 use Rattle.ds_latch.specs.Node.{Node, Split, IsNode, number_of, nodes, nets_of}
 use Rattle.ds_latch.specs.Order.{IsSource}
 use Rattle.ds_split.specs.Cluster.{HasEachOnce}
-use Rattle.ds_split.specs.Split.{split_of}
+use Rattle.ds_split.specs.Split.{split_into}
 
 -- the nets of each node below a number
 abbrev pub HasNetsBelow : Split → ℕ → List (List ℕ) → Type 0
@@ -33,11 +33,11 @@ pub record AreProducersBelow (s : Split) (most : ℕ) (producers : List ℕ) : T
       → (p : Node) × IsProducer s p net × (number_of p ≡ m) × (m < most)
 
 -- for each net its producer
-abbrev pub AreProducers : Split → List ℕ → Type 0
-AreProducers s producers = AreProducersBelow s (nodes s) producers
+abbrev pub AreNetProducers : Split → List ℕ → Type 0
+AreNetProducers s producers = AreProducersBelow s (nodes s) producers
 
 -- nets that are meant have this mark, and all others are as they were
-pub record IsMarked (Means : ℕ → Type 0) (mark : ℕ) (old new : List ℕ) : Type 0 where
+pub record AreMarked (Means : ℕ → Type 0) (mark : ℕ) (old new : List ℕ) : Type 0 where
   pub same_length : length new ≡ length old
   pub marked : (net : ℕ) → Means net → slice_index new net ≡ mark
   pub others : (net : ℕ) → ¬ Means net → slice_index new net ≡ slice_index old net
@@ -47,5 +47,5 @@ pub record AreNodes (c : Circuit) (clusters nets : List (List ℕ)) : Type 0 whe
   pub in_range : IsInRange c
   pub accepted : IsAccepted c
   pub each_once : HasEachOnce (length c.registers) clusters
-  pub listed : HasNets (split_of c clusters) nets
+  pub listed : HasNets (split_into c clusters) nets
   pub few : length clusters < 262144

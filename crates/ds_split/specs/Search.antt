@@ -44,8 +44,8 @@ pub record IsAt (consumer : ℕ) (f : Found) : Type 0 where
   pub once : AllPairs (λ a b. a ≢ b) f.edges
 
 -- an edge is that from the producer of a net
-abbrev pub IsFrom : List ℕ → ℕ → ℕ → Edge → Type 0
-IsFrom producers consumer net e = (m : ℕ) × (slice_index producers net ≡ m + 1)
+abbrev pub IsEdgeFrom : List ℕ → ℕ → ℕ → Edge → Type 0
+IsEdgeFrom producers consumer net e = (m : ℕ) × (slice_index producers net ≡ m + 1)
     × (e ≡ edge_of m consumer)
 
 -- beside the edges that were there, the search has those from the producers of the nets that are
@@ -58,7 +58,7 @@ pub record HasMet (consumer : ℕ) (old : Found) (Means : ℕ → Type 0) (new :
   pub found : (net m : ℕ) → Means net → slice_index old.producers net ≡ m + 1
       → Contains new.edges (edge_of m consumer)
   pub only : (e : Edge) → Contains new.edges e
-      → Contains old.edges e ⊎ ((net : ℕ) × Means net × IsFrom old.producers consumer net e)
+      → Contains old.edges e ⊎ ((net : ℕ) × Means net × IsEdgeFrom old.producers consumer net e)
 
 -- the nets that are one of these or reach one, and that no table drives
 abbrev pub IsCause : Circuit → List ℕ → ℕ → Type 0

@@ -12,8 +12,8 @@ use Rattle.ds_split.specs.declared.fault.SplitFault.{SplitFault}
 use Rattle.ds_split.specs.declared.fault.SplitFault.TheVariants.{TooMany, Memory}
 
 -- a circuit with its registers in these clusters, begun as its registers say, without slack
-abbrev pub split_of : Circuit → List (List ℕ) → Split
-split_of c clusters = record {
+abbrev pub split_into : Circuit → List (List ℕ) → Split
+split_into c clusters = record {
   circuit = c;
   clusters = clusters;
   initial = initial_row c;

@@ -4,7 +4,7 @@ ghost use Rattle.std.specs.List.{prefix_len};
 ghost use Rattle.std.specs.Char.{is_ascii_digit};
 ghost use Rattle.ds_split.specs.Bus.{bus_name as front_of, is_index as ends_name};
 ghost use Rattle.ds_split.specs.Cluster.{bus_of_net, no_net};
-ghost use Rattle.ds_split.specs.Keys.{net_of};
+ghost use Rattle.ds_split.specs.Keys.{net_of_bus};
 
 use ds_design::{Net, Register};
 
@@ -18,7 +18,7 @@ pub struct Bus<'a> {
 // The bus that a register drives.
 pub(crate) fn bus_of<'a>(nets: &'a [Net], register: &Register) -> Bus<'a>
     requires { register.now.output < length nets.now }
-    ensures { net_of result ≡ bus_of_net (slice_index_or nets.now register.now.output no_net) }
+    ensures { net_of_bus result ≡ bus_of_net (slice_index_or nets.now register.now.output no_net) }
 {
     let net = &nets[register.output.index()];
     Bus {

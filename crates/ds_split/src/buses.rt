@@ -1,6 +1,6 @@
 //! Buses, each once.
 ghost use Rattle.std.specs.Prelude.{◌≡◌, [], IfOk};
-ghost use Rattle.ds_split.specs.Keys.{net_of, IsPlaced};
+ghost use Rattle.ds_split.specs.Keys.{net_of_bus, IsPlaced};
 
 use crate::bus::Bus;
 use ds_base::OutOfMemory;
@@ -22,11 +22,11 @@ impl Drop for Buses<'_> {
 impl<'a> Model for Buses<'a> {
     ghost use Rattle.std.specs.Prelude.{List, map};
     ghost use Rattle.ds_design.specs.declared.design.Net.{Net};
-    ghost use Rattle.ds_split.specs.Keys.{net_of};
+    ghost use Rattle.ds_split.specs.Keys.{net_of_bus};
 
     ghost Value = { List Net };
 
-    ghost view = { λ b. map net_of b.set.keys };
+    ghost view = { λ b. map net_of_bus b.set.keys };
 }
 
 impl<'a> Buses<'a> {
@@ -41,7 +41,7 @@ impl<'a> Buses<'a> {
 
     /// The place of a bus, which is added where it is not there yet.
     pub fn place(&mut self, bus: Bus<'a>) -> Result<usize, OutOfMemory>
-        ensures { IfOk result (IsPlaced self.old (net_of bus.entry) self.new) }
+        ensures { IfOk result (IsPlaced self.old (net_of_bus bus.entry) self.new) }
     {
         let (place, _) = self.set.insert_full(bus)?;
         Ok(place)

@@ -2,7 +2,7 @@
 ghost use Rattle.std.specs.Prelude.{◌≡◌, ◌<◌, ◌+◌, ◌*◌, length, IfOk, IfErr, OnOk};
 ghost use Rattle.ds_split.specs.Edges.{AreEdges, IsFoundBelow};
 ghost use Rattle.ds_split.specs.Nets.{AreNodes};
-ghost use Rattle.ds_split.specs.Split.{split_of, IsSplitFault};
+ghost use Rattle.ds_split.specs.Split.{split_into, IsSplitFault};
 
 use crate::producers::producers_of;
 use crate::search::Search;
@@ -22,8 +22,8 @@ pub(crate) fn edges_of(
     nets: &[Seq<NetId>],
 ) -> Result<Seq<DataEdge>, SplitFault>
     requires { AreNodes netlist.now clusters.now nets.now }
-    ensures ok { IfOk result (AreEdges (split_of netlist.now clusters.now)) }
-    ensures fault { IfErr result (IsSplitFault (split_of netlist.now clusters.now)) }
+    ensures ok { IfOk result (AreEdges (split_into netlist.now clusters.now)) }
+    ensures fault { IfErr result (IsSplitFault (split_into netlist.now clusters.now)) }
 {
     let most = 524_288 - nets.len();
     let mut finder = Finder::of(alloc, netlist)?;
@@ -50,7 +50,7 @@ fn begin(
 ) -> Result<Search, OutOfMemory>
     requires nodes { AreNodes netlist.now clusters.now nets.now }
     requires finder { finder.old ≡ netlist.now }
-    ensures ok { IfOk result (IsFoundBelow (split_of netlist.now clusters.now) 2) }
+    ensures ok { IfOk result (IsFoundBelow (split_into netlist.now clusters.now) 2) }
     ensures same { finder.new ≡ finder.old }
 {
     let producers = producers_of(alloc, netlist, clusters, nets)?;
@@ -72,9 +72,9 @@ fn add(
     requires nodes { AreNodes netlist.now clusters.now nets.now }
     requires finder { finder.old ≡ netlist.now }
     requires inside { i < length clusters.now }
-    requires search { IsFoundBelow (split_of netlist.now clusters.now) (2 * i + 2) search.old }
+    requires search { IsFoundBelow (split_into netlist.now clusters.now) (2 * i + 2) search.old }
     ensures ok { OnOk result
-        (IsFoundBelow (split_of netlist.now clusters.now) (2 * i + 4) search.new) }
+        (IsFoundBelow (split_into netlist.now clusters.now) (2 * i + 4) search.new) }
     ensures same { finder.new ≡ finder.old }
 {
     let master = 2 * i + 2;

@@ -2,7 +2,7 @@
 ghost use Rattle.std.specs.Prelude.{◌≡◌, length, map, IfOk, IfErr};
 ghost use Rattle.ds_design.specs.Circuit.{initial_value};
 ghost use Rattle.ds_split.specs.Cluster.{HasEachOnce};
-ghost use Rattle.ds_split.specs.Split.{split_of, IsSplitFault};
+ghost use Rattle.ds_split.specs.Split.{split_into, IsSplitFault};
 
 use crate::edges::edges_of;
 use crate::nets::node_nets;
@@ -24,9 +24,9 @@ pub fn split<'a>(
 ) -> Result<Latches<'a>, SplitFault>
     requires { HasEachOnce (length netlist.now.registers) clusters.now }
 
-    ensures ok { IfOk result (λ latches. latches ≡ split_of netlist.now clusters.now) }
+    ensures ok { IfOk result (λ latches. latches ≡ split_into netlist.now clusters.now) }
 
-    ensures fault { IfErr result (IsSplitFault (split_of netlist.now clusters.now)) }
+    ensures fault { IfErr result (IsSplitFault (split_into netlist.now clusters.now)) }
 {
     if clusters.members().len() as u64 >= Limit::Arcs.most() / 4 {
         return Err(SplitFault::TooMany(Limit::Arcs));

@@ -4,7 +4,7 @@ ghost use Rattle.ds_base.specs.Limit.{most_of};
 ghost use Rattle.ds_base.specs.declared.number.Limit.TheVariants.{Clusters as MostClusters};
 ghost use Rattle.ds_base.specs.declared.number.Mode.TheVariants.{Each, One, Bus as ByBus};
 ghost use Rattle.ds_split.specs.Cluster.{Agree, IsClustering};
-ghost use Rattle.ds_split.specs.Groups.{AreGroups, with_register};
+ghost use Rattle.ds_split.specs.Groups.{AreGroups, with_member};
 ghost use Rattle.ds_split.specs.Split.{IsClusterFault};
 
 use crate::bus::bus_of;
@@ -89,7 +89,7 @@ fn add(
     place: usize,
     register: RegId,
 ) -> Result<(), OutOfMemory>
-    ensures { OnOk result (groups.new.items ≡ with_register groups.old.items place register) }
+    ensures { OnOk result (groups.new.items ≡ with_member groups.old.items place register) }
 {
     if place < groups.len() {
         groups[place].push(register)?;

@@ -2,7 +2,7 @@
 ghost use Rattle.std.specs.Prelude.{◌≡◌, ◌<◌, length, map, All, IfOk, slice_index_or};
 ghost use Rattle.ds_split.specs.Cluster.{HasEachOnce};
 ghost use Rattle.ds_split.specs.Nets.{HasNets};
-ghost use Rattle.ds_split.specs.Split.{split_of};
+ghost use Rattle.ds_split.specs.Split.{split_into};
 
 use crate::Clusters;
 use ds_base::{NetId, OutOfMemory, RegId, Seq};
@@ -17,7 +17,7 @@ pub(crate) fn node_nets(
     clusters: &Clusters,
 ) -> Result<Seq<Seq<NetId>>, OutOfMemory>
     requires { HasEachOnce (length netlist.now.registers) clusters.now }
-    ensures { IfOk result (HasNets (split_of netlist.now clusters.now)) }
+    ensures { IfOk result (HasNets (split_into netlist.now clusters.now)) }
 {
     let design = netlist.design();
     let registers = design.registers();

@@ -1,7 +1,7 @@
 //! The producer of each net.
 ghost use Rattle.std.specs.Prelude.{◌≡◌, ◌<◌, length, All, Contains, replicate, IfOk};
-ghost use Rattle.ds_split.specs.Nets.{AreNodes, AreProducers, IsMarked};
-ghost use Rattle.ds_split.specs.Split.{split_of};
+ghost use Rattle.ds_split.specs.Nets.{AreNodes, AreNetProducers, AreMarked};
+ghost use Rattle.ds_split.specs.Split.{split_into};
 
 use crate::Clusters;
 use ds_base::{NetId, OutOfMemory, Seq};
@@ -18,7 +18,7 @@ pub(crate) fn producers_of(
 ) -> Result<Vec<u32>, OutOfMemory>
     requires { AreNodes netlist.now clusters.now nets.now }
     ensures { IfOk result (λ producers.
-        AreProducers (split_of netlist.now clusters.now) producers.items) }
+        AreNetProducers (split_into netlist.now clusters.now) producers.items) }
 {
     let mut producers = zeros(alloc, netlist.design().nets().len())?;
     mark(&mut producers, nets[0].as_slice(), 1);
@@ -39,7 +39,7 @@ fn zeros(alloc: Global, count: usize) -> Result<Vec<u32>, OutOfMemory>
 // Marks these nets.
 fn mark(producers: &mut Vec<u32>, nets: &[NetId], mark: u32)
     requires { All (λ net. net < length producers.old.items) nets.now }
-    ensures { IsMarked (Contains nets.now) mark producers.old.items producers.new.items }
+    ensures { AreMarked (Contains nets.now) mark producers.old.items producers.new.items }
 {
     for net in nets {
         producers[net.index()] = mark;

@@ -4,7 +4,7 @@ use Rattle.ds_outside.specs.Held.{Held, untold, absent, bytes}
 use Rattle.ds_outside.specs.declared.files.Which.{Which}
 use Rattle.ds_outside.specs.declared.files.Which.TheVariants.{Net, Vectors}
 use Rattle.ds_lines.specs.Line.{Line}
-use Rattle.ds_blif.specs.Text.{read_of}
+use Rattle.ds_blif.specs.Text.{models_of_text}
 use Rattle.ds_flat.specs.Copies.{flat_of}
 use Rattle.ds_design.specs.Circuit.{Circuit, columns}
 use Rattle.ds_models.specs.declared.blif.BlifModel.{BlifModel}
@@ -62,8 +62,8 @@ result_exclusive r = record { one = λ a b is also. one_ok r a b is also; not_re
 
 design_exclusive : (file : List ℕ) (lines : List Line) → IsExclusive (design_stage file lines)
 design_exclusive file lines =
-    then_exclusive (result_stage (models_or_line file (read_of lines))) (λ (models : List BlifModel). result_stage (flat_or_line file (flat_of models)))
-    (result_exclusive (models_or_line file (read_of lines))) (λ models. result_exclusive (flat_or_line file (flat_of models)))
+    then_exclusive (result_stage (models_or_line file (models_of_text lines))) (λ (models : List BlifModel). result_stage (flat_or_line file (flat_of models)))
+    (result_exclusive (models_or_line file (models_of_text lines))) (λ models. result_exclusive (flat_or_line file (flat_of models)))
 
 -- a fault that has a text is not want of memory
 shown_fault : (c : Circuit) (fault : NetFault) (text : List ℕ) → IsNetFaultText c fault text → fault ≢ net.Memory

@@ -2,7 +2,7 @@
 use Rattle.std.proofs.Common.{◌≢◌, ℕ, Bool, true, false, List, inl, inr}
 use Rattle.ds_base.specs.declared.number.Limit.{Limit}
 use Rattle.ds_latch.specs.Node.{Split}
-use Rattle.ds_shake.specs.Laws.{FaultsAreRefused}
+use Rattle.ds_shake.specs.Laws.{ShakeFaultsAreRefused}
 use Rattle.ds_shake.specs.declared.fault.ShakeFault.{ShakeFault}
 use Rattle.ds_shake.specs.declared.fault.ShakeFault.TheVariants.{TooMany, Memory}
 use Rattle.ds_stage.specs.GraphStage.{controller_stage, drawn_stage, wanted_stage}
@@ -15,7 +15,7 @@ no_memory limit e = cc
 
 module _ (file : List ℕ) where
   -- a graph that has a text is not refused
-  pub controller_not_refused : FaultsAreRefused → (shake : Bool) (s : Split) (text line : List ℕ)
+  pub controller_not_refused : ShakeFaultsAreRefused → (shake : Bool) (s : Split) (text line : List ℕ)
       → (controller_stage file shake s).means text → ¬ (controller_stage file shake s).refused line
   controller_not_refused law false s text line means (inl none) = none
   controller_not_refused law false s text line means (inr (g, is, none)) = none

@@ -10,12 +10,12 @@ use Rattle.ds_base.specs.Values.{Row}
 use Rattle.ds_base.specs.declared.number.Mode.{Mode}
 use Rattle.ds_lines.specs.Line.{Line}
 use Rattle.ds_models.specs.declared.blif.BlifModel.{BlifModel}
-use Rattle.ds_blif.specs.Text.{read_of}
+use Rattle.ds_blif.specs.Text.{models_of_text}
 use Rattle.ds_flat.specs.Copies.{flat_of}
 use Rattle.ds_design.specs.Circuit.{Circuit, columns}
 use Rattle.ds_latch.specs.Node.{Split, nodes, slackened}
 use Rattle.ds_latch.specs.Plan.{Planned}
-use Rattle.ds_astg.specs.Read.{graph_of}
+use Rattle.ds_astg.specs.Read.{graph_of_lines}
 use Rattle.ds_stage.specs.declared.stop.Stop.{Stop}
 use Rattle.ds_stage.specs.declared.stop.Stop.TheVariants.{Refused, Unread, Unwritten, Memory}
 use Rattle.ds_stage.specs.Stage.{OfFile, Stage, giving, leaves_nothing, then_stage}
@@ -73,8 +73,8 @@ lines_nothing held which name = record { may = no_text (lines_stage held which n
 
 design_nothing : (file : List ℕ) (lines : List Line) → LeavesNothing (design_stage file lines)
 design_nothing file lines =
-    then_nothing (result_stage (models_or_line file (read_of lines))) (λ (models : List BlifModel). result_stage (flat_or_line file (flat_of models)))
-    (result_nothing (models_or_line file (read_of lines))) (λ models. result_nothing (flat_or_line file (flat_of models)))
+    then_nothing (result_stage (models_or_line file (models_of_text lines))) (λ (models : List BlifModel). result_stage (flat_or_line file (flat_of models)))
+    (result_nothing (models_or_line file (models_of_text lines))) (λ models. result_nothing (flat_or_line file (flat_of models)))
 
 accepted_nothing : (file : List ℕ) (c : Circuit) → LeavesNothing (accepted_stage file c)
 accepted_nothing file c = record { may = no_text (accepted_stage file c); only = λ failed stop text is. is }
@@ -95,8 +95,8 @@ split_nothing file mode c = record { may = no_text (split_stage file mode c); on
 
 marked_nothing : (file : List ℕ) (s : Split) (lines : List Line) → LeavesNothing (marked_stage file s lines)
 marked_nothing file s lines =
-    then_nothing (result_stage (graph_or_line file (graph_of lines))) (acceptable_stage file s)
-    (result_nothing (graph_or_line file (graph_of lines)))
+    then_nothing (result_stage (graph_or_line file (graph_of_lines lines))) (acceptable_stage file s)
+    (result_nothing (graph_or_line file (graph_of_lines lines)))
     (λ g. record { may = no_text (acceptable_stage file s g); only = λ failed stop text is. is })
 
 plan_nothing : (held : List ℕ → Held) (graph : Option (List ℕ)) (s : Split) → LeavesNothing (plan_stage held graph s)

@@ -4,9 +4,11 @@ use Rattle.std.specs.Prelude.{All, nat_lt, if◌then◌else◌}
 use Rattle.std.proofs.lemmas.Bool.{cases_Bool, eqb-true}
 use Rattle.std.proofs.lemmas.Bool.Decides.{Decides-ltb}
 use Rattle.std.proofs.lemmas.List.{length-map}
+use Rattle.ds_lines.specs.First.{where_true, first_of, unless_fault}
+use Rattle.ds_lines.specs.Words.{first_word}
 use Rattle.ds_outside.specs.Held.{Held}
 use Rattle.ds_lines.specs.Line.{Line}
-use Rattle.ds_blif.specs.Text.{read_of}
+use Rattle.ds_blif.specs.Text.{models_of_text}
 use Rattle.ds_blif.specs.declared.fault.BlifFault.{BlifFault}
 use Rattle.ds_blif.proofs.WellFormed.{read_well_formed}
 use Rattle.ds_models.specs.declared.blif.BlifModel.{BlifModel}
@@ -16,7 +18,7 @@ use Rattle.ds_design.specs.Rows.{Rows}
 use Rattle.ds_flat.specs.Copies.{flat_of}
 use Rattle.ds_flat.specs.declared.fault.FlatFault.{FlatFault}
 use Rattle.ds_flat.proofs.FlatRange.{flat_in_range}
-use Rattle.ds_rows.specs.Vector.{fault_of, fault_or, first_fault, first_of, first_word, has_bits, has_width, row_of, rows_of, unless_fault, value_of, vectors_of, where_true}
+use Rattle.ds_rows.specs.Vector.{fault_of_vector, vector_fault_or, first_vector_fault, has_bits, has_width, row_of, rows_of_lines, value_of_character, vectors_of}
 use Rattle.ds_rows.specs.declared.fault.VectorFault.{VectorFault}
 use Rattle.ds_rows.specs.declared.fault.VectorKind.{VectorKind}
 use Rattle.ds_base.specs.Values.{Row}
@@ -45,7 +47,7 @@ rows_meant file (Err fault) rows is = cc
 -- each number in the netlist of a file names what is there, whatever lines the file has
 pub netlist_in_range : (held : List ℕ → Held) (net : List ℕ) (c : Circuit) → (netlist_stage held net).means c → IsInRange c
 netlist_in_range held net c (flat, (lines, are, (models, read, is_flat)), (is, accepted)) =
-    let parts = (read_well_formed lines models (models_meant net (read_of lines) models read)).parts in
+    let parts = (read_well_formed lines models (models_meant net (models_of_text lines) models read)).parts in
     let range : IsInRange flat = flat_in_range models parts flat (flat_meant net (flat_of models) flat is_flat) in
     rw is range
 
@@ -74,28 +76,28 @@ row_wide zero words e = refl
 row_wide (suc w) words e =
     let some : (suc w == 0) ≡ false = grind arith in
     let wide : (length (first_word words) == suc w) ≡ true = both_hold (length words == 1) _ (rw some at e) in
-    rw some (length-map (first_word words) value_of ∙ eqb-true _ _ wide)
+    rw some (length-map (first_word words) value_of_character ∙ eqb-true _ _ wide)
 
 -- neither a line nor those behind it have a fault
-neither : (kind : Option VectorKind) (number : ℕ) (rest : Option VectorFault) → fault_or kind number rest ≡ None → (kind ≡ None) × (rest ≡ None)
+neither : (kind : Option VectorKind) (number : ℕ) (rest : Option VectorFault) → vector_fault_or kind number rest ≡ None → (kind ≡ None) × (rest ≡ None)
 neither None number rest e = (refl, e)
 neither (Some kind) number rest e = cc
 
 -- the rows of lines without a fault have the width
-rows_wide : (width seen : ℕ) (lines : List Line) → first_fault width seen lines ≡ None → All (λ row. length row ≡ width) (rows_of width lines)
+rows_wide : (width seen : ℕ) (lines : List Line) → first_vector_fault width seen lines ≡ None → All (λ row. length row ≡ width) (rows_of_lines width lines)
 rows_wide width seen [] none k d inside = absurd (omega arith)
 rows_wide width seen (line ∷ lines) none zero d inside =
-    let (clean, rest) = neither (fault_of width seen line.words) line.number (first_fault width (seen + 1) lines) none in
+    let (clean, rest) = neither (fault_of_vector width seen line.words) line.number (first_vector_fault width (seen + 1) lines) none in
     row_wide width line.words (second_holds _ _ _ _ (has_width width line.words) _ clean)
 rows_wide width seen (line ∷ lines) none (suc k) d inside =
-    let (clean, rest) = neither (fault_of width seen line.words) line.number (first_fault width (seen + 1) lines) none in
+    let (clean, rest) = neither (fault_of_vector width seen line.words) line.number (first_vector_fault width (seen + 1) lines) none in
     rows_wide width (seen + 1) lines rest k d (omega arith)
 
 -- lines without a fault are few
-rows_few : (width seen : ℕ) (lines : List Line) → seen ≤ 65536 → first_fault width seen lines ≡ None → seen + length lines ≤ 65536
+rows_few : (width seen : ℕ) (lines : List Line) → seen ≤ 65536 → first_vector_fault width seen lines ≡ None → seen + length lines ≤ 65536
 rows_few width seen [] low none = omega (arith, low)
 rows_few width seen (line ∷ lines) low none =
-    let (clean, rest) = neither (fault_of width seen line.words) line.number (first_fault width (seen + 1) lines) none in
+    let (clean, rest) = neither (fault_of_vector width seen line.words) line.number (first_vector_fault width (seen + 1) lines) none in
     let here : nat_lt seen 65536 ≡ true = first_holds _ _ _ (nat_lt seen 65536) _ _ clean in
     let below : seen < 65536 = (Decides-ltb seen 65536).0 here in
     let more : seen + 1 + length lines ≤ 65536 = rows_few width (seen + 1) lines (omega (arith, below)) rest in
@@ -111,8 +113,8 @@ pub vectors_wide : (held : List ℕ → Held) (vec : List ℕ) (c : Circuit) (ve
     → All (λ vector. length vector ≡ length (columns c)) vectors.rows
 vectors_wide held vec c vectors (lines, are, read) =
     let width : ℕ = length (columns c) in
-    let given : Rows = record { width = width; rows = rows_of width lines } in
-    let (none, is) = given_none (first_fault width 0 lines) given vectors (rows_meant vec (vectors_of width lines) vectors read) in
+    let given : Rows = record { width = width; rows = rows_of_lines width lines } in
+    let (none, is) = given_none (first_vector_fault width 0 lines) given vectors (rows_meant vec (vectors_of width lines) vectors read) in
     subst (λ (rows : Rows). All (λ vector. length vector ≡ width) rows.rows) (sym is) (rows_wide width 0 lines none)
 
 -- there are no more of them than the limit
@@ -120,10 +122,10 @@ pub vectors_few : (held : List ℕ → Held) (vec : List ℕ) (c : Circuit) (vec
     → length vectors.rows ≤ 65536
 vectors_few held vec c vectors (lines, are, read) =
     let width : ℕ = length (columns c) in
-    let given : Rows = record { width = width; rows = rows_of width lines } in
-    let (none, is) = given_none (first_fault width 0 lines) given vectors (rows_meant vec (vectors_of width lines) vectors read) in
+    let given : Rows = record { width = width; rows = rows_of_lines width lines } in
+    let (none, is) = given_none (first_vector_fault width 0 lines) given vectors (rows_meant vec (vectors_of width lines) vectors read) in
     let few : 0 + length lines ≤ 65536 = rows_few width 0 lines (omega arith) none in
-    let long : length (rows_of width lines) ≡ length lines = length-map lines (λ line. row_of width line.words) in
+    let long : length (rows_of_lines width lines) ≡ length lines = length-map lines (λ line. row_of width line.words) in
     subst (λ (rows : Rows). length rows.rows ≤ 65536) (sym is) (omega (arith, few, long))
 
 -- no rows have any width

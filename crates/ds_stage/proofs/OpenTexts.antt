@@ -7,7 +7,7 @@ use Rattle.ds_marked.specs.Graph.{IsLegal}
 use Rattle.ds_latch.specs.Node.{Node, In, Out, Master, Slave, Split, opening, closing}
 use Rattle.ds_latch.specs.Plan.{Planned}
 use Rattle.ds_fire.specs.Snapshot.{Snapshot, count_of, graph_of, held_row, is_open, limit_of, split_of}
-use Rattle.ds_fire.specs.Fired.{IsAfter, IsReached, IsSound}
+use Rattle.ds_fire.specs.Fired.{IsAfter, IsReached, IsSnapshotSound}
 use Rattle.ds_fire.proofs.Lawful.{range_agree}
 use Rattle.ds_fire.proofs.Transparent.{held_is_shown}
 use Rattle.ds_outside.specs.Writes.{GoesOn, Writes}
@@ -70,7 +70,7 @@ first_more {T} {E} x a b w0 w1 f0 f1 text is writes =
 
 -- behind the text of the state that is kept, the lines of its open nodes
 open_of_kept : (kept : Snapshot) (events : List ℕ) (homes : List Home) (fired most : ℕ)
-    → IsLegal (graph_of kept) (limit_of kept) events → IsAfter kept events → IsSound kept → AreHomes (split_of kept) homes
+    → IsLegal (graph_of kept) (limit_of kept) events → IsAfter kept events → IsSnapshotSound kept → AreHomes (split_of kept) homes
     → fired ≡ length events → most ≡ length (graph_of kept).events * limit_of kept → IsReached kept → (split_of kept).slack ≡ 0
     → IsOpenText kept.planned kept.vectors events (state_text kept homes fired most ++ open_lines (count_of kept) (held_row kept) (length (split_of kept).clusters))
 unfolding text_of_kept
@@ -95,7 +95,7 @@ part_unwanted transparent kept is =
 
 -- with or without them
 replay_of_kept : (transparent : Bool) (kept : Snapshot) (events : List ℕ) (homes : List Home) (fired most : ℕ)
-    → IsLegal (graph_of kept) (limit_of kept) events → IsAfter kept events → IsSound kept → AreHomes (split_of kept) homes
+    → IsLegal (graph_of kept) (limit_of kept) events → IsAfter kept events → IsSnapshotSound kept → AreHomes (split_of kept) homes
     → fired ≡ length events → most ≡ length (graph_of kept).events * limit_of kept → IsReached kept
     → (transparent ≡ true → (split_of kept).slack ≡ 0)
     → IsReplayText transparent kept.planned kept.vectors events (state_text kept homes fired most ++ open_part transparent kept)

@@ -11,7 +11,7 @@ use Rattle.ds_marked.specs.declared.marked.Event.{Event}
 use Rattle.ds_design.specs.Circuit.{Circuit}
 use Rattle.ds_latch.specs.Node.{Split, slackened}
 use Rattle.ds_latch.specs.Plan.{Planned, split_events}
-use Rattle.ds_astg.specs.Read.{graph_of}
+use Rattle.ds_astg.specs.Read.{graph_of_lines}
 use Rattle.ds_astg.specs.declared.fault.AstgFault.{AstgFault}
 use Rattle.ds_accept.specs.Accept.{extra_events, is_same_event}
 use Rattle.ds_replay.specs.Printed.{HasOwnWords}
@@ -58,4 +58,4 @@ planned_words held net None mode slack told c p (s, (is, few), own) =
     own_words (slackened s slack) p (few_clusters mode c s slack is) own
 planned_words held net (Some file) mode slack told c p (s, (is, few), (lines, are, (g, read, named))) =
     let have : HaveWords lines = file_words (held file) file (told file refl) lines are in
-    named_words (slackened s slack) g p (few_clusters mode c s slack is) (graph_spelt lines g have (graph_meant file (graph_of lines) g read)) named
+    named_words (slackened s slack) g p (few_clusters mode c s slack is) (graph_spelt lines g have (graph_meant file (graph_of_lines lines) g read)) named

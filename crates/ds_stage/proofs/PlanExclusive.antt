@@ -8,19 +8,19 @@ use Rattle.ds_base.specs.declared.number.Limit.TheVariants.{Clusters}
 use Rattle.ds_base.specs.declared.number.Mode.{Mode}
 use Rattle.ds_latch.specs.Node.{Split, slackened}
 use Rattle.ds_split.specs.Cluster.{HasTooManyClusters}
-use Rattle.ds_split.specs.Split.{HasTooManyOrders, split_of}
+use Rattle.ds_split.specs.Split.{HasTooManyOrders, split_into}
 use Rattle.ds_split.specs.Laws.{OneClustering}
 use Rattle.ds_stage.specs.Stage.{IsExclusive}
 use Rattle.ds_stage.specs.Stages.{lines_stage, result_stage}
 use Rattle.ds_stage.specs.SplitStage.{IsInClusters, IsSplitLine, split_stage}
-use Rattle.ds_astg.specs.Read.{graph_of}
+use Rattle.ds_astg.specs.Read.{graph_of_lines}
 use Rattle.ds_stage.specs.PlanStage.{acceptable_stage, graph_or_line, marked_stage, named_stage, plan_stage, planned_stage}
 use Rattle.ds_stage.proofs.PlanStages.{acceptable_exclusive, own_exclusive}
 use Rattle.ds_stage.proofs.Exclusive.{lines_exclusive, result_exclusive, then_exclusive}
 
 -- a circuit has one split by a mode
 one_split : OneClustering → (mode : Mode) (c : Circuit) (a b : Split) → IsInClusters mode c a → IsInClusters mode c b → a ≡ b
-one_split law mode c a b one other = one.is ∙ (ap (split_of c) (law c mode one.clusters other.clusters one.are other.are) ∙ sym other.is)
+one_split law mode c a b one other = one.is ∙ (ap (split_into c) (law c mode one.clusters other.clusters one.are other.are) ∙ sym other.is)
 
 -- few clusters are not too many
 few_clusters : OneClustering → (mode : Mode) (c : Circuit) (s : Split) → IsInClusters mode c s → ¬ HasTooManyClusters c mode
@@ -44,8 +44,8 @@ split_exclusive law file mode c = record {
 named_exclusive : (held : List ℕ → Held) (file : List ℕ) → held file ≢ untold → (s : Split) → IsExclusive (named_stage held file s)
 named_exclusive held file told s =
     then_exclusive (lines_stage held which.Graph file) (marked_stage file s) (lines_exclusive held which.Graph file told)
-    (λ lines. then_exclusive (result_stage (graph_or_line file (graph_of lines))) (acceptable_stage file s)
-    (result_exclusive (graph_or_line file (graph_of lines))) (λ g. acceptable_exclusive file s g))
+    (λ lines. then_exclusive (result_stage (graph_or_line file (graph_of_lines lines))) (acceptable_stage file s)
+    (result_exclusive (graph_or_line file (graph_of_lines lines))) (λ g. acceptable_exclusive file s g))
 
 plan_exclusive : (held : List ℕ → Held) (graph : Option (List ℕ)) → ((file : List ℕ) → graph ≡ Some file → held file ≢ untold) → (s : Split) → IsExclusive (plan_stage held graph s)
 plan_exclusive held None told s = own_exclusive s

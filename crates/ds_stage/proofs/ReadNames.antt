@@ -8,18 +8,20 @@ use Rattle.std.proofs.lemmas.List.{append-nil, length-append}
 use Rattle.std.proofs.lemmas.List.Elements.{All-cons}
 use Rattle.std.proofs.lemmas.List.Folds.{list_any-append}
 use Rattle.std.proofs.Math.Seq.{get_or-append_seam}
+use Rattle.ds_lines.specs.First.{unless_fault}
+use Rattle.ds_lines.specs.Words.{word_at}
 use Rattle.ds_lines.specs.Line.{Line, is_blank, is_hash, is_newline, is_some}
 use Rattle.ds_lines.specs.Print.{IsWord}
 use Rattle.ds_marked.specs.Graph.{Graph}
 use Rattle.ds_marked.specs.declared.marked.Event.{Event}
 use Rattle.ds_marked.specs.declared.marked.Kind.TheVariants.{Rise, Fall, Dummy as DummyKind}
-use Rattle.ds_astg.specs.Line.{State, start, step, step_by, head_of, may_declare, declare, declare_all, declaration_line, with_signals, with_places, with_marking, body_line, entries_line}
+use Rattle.ds_astg.specs.Line.{State, start, step, step_by, graph_head_of, may_declare, declare, declare_all, declaration_line, with_signals, with_places, with_marking, body_line, entries_line}
 use Rattle.ds_astg.specs.Links.{graph_line}
 use Rattle.ds_astg.specs.Marking.{entries_of, mark_all}
 use Rattle.ds_astg.specs.Place.{Places}
-use Rattle.ds_astg.specs.Read.{all_events, behind, end_of, ends, graph_from, graph_of, graph_of_parts, lacking, unless_fault}
+use Rattle.ds_astg.specs.Read.{all_events, behind, end_of, ends, graph_from, graph_of_lines, graph_of_parts, lacking}
 use Rattle.ds_astg.specs.Signals.{Declared, with_declared}
-use Rattle.ds_astg.specs.Word.{has_reserved, has_slash, is_signal, is_signed, last_byte, word_at}
+use Rattle.ds_astg.specs.Word.{has_reserved, has_slash, is_signal, is_signed, last_byte}
 use Rattle.ds_astg.specs.declared.fault.AstgFault.{AstgFault}
 use Rattle.ds_astg.specs.declared.fault.AstgKind.{AstgKind}
 use Rattle.ds_astg.specs.declared.head.Head.{Head}
@@ -190,12 +192,12 @@ behind_was line (Err kind) rest g is = absurd (cc)
 
 from_spelt : (lines : List Line) (state : State) (g : Graph) → HaveWords lines → HasNames state → graph_from lines state ≡ Ok g → All IsSpelt g.events
 from_spelt [] state g have are is = end_spelt state g are is
-from_spelt (line ∷ lines) state g (words, have) are is = elim (if_was (ends (head_of (word_at line.words 0))) _ _ g is) [
+from_spelt (line ∷ lines) state g (words, have) are is = elim (if_was (ends (graph_head_of (word_at line.words 0))) _ _ g is) [
   | inl (last, done) ↦ end_spelt state g are done
   | inr (more, next) ↦
       (let (state', one, rest) = behind_was line.number (step line state) (graph_from lines) g next in
-      from_spelt lines state' g have (step_named (head_of (word_at line.words 0)) line.number line.words state state' words are one) rest)
+      from_spelt lines state' g have (step_named (graph_head_of (word_at line.words 0)) line.number line.words state state' words are one) rest)
 ]
 
-pub graph_spelt : (lines : List Line) (g : Graph) → HaveWords lines → graph_of lines ≡ Ok g → All IsSpelt g.events
+pub graph_spelt : (lines : List Line) (g : Graph) → HaveWords lines → graph_of_lines lines ≡ Ok g → All IsSpelt g.events
 graph_spelt lines g have is = from_spelt lines start g have tt is

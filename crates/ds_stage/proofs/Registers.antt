@@ -12,7 +12,7 @@ use Rattle.ds_marked.specs.Graph.{IsLegal}
 use Rattle.ds_latch.specs.Node.{Slave, Split, members}
 use Rattle.ds_latch.specs.Headline.{values_stored}
 use Rattle.ds_fire.specs.Snapshot.{Snapshot, graph_of, limit_of, rows_joined, split_of, stored_values}
-use Rattle.ds_fire.specs.Fired.{IsAfter, IsSound}
+use Rattle.ds_fire.specs.Fired.{IsAfter, IsSnapshotSound}
 use Rattle.ds_fire.proofs.Lawful.{chunk, range_agree, slave_wide}
 use Rattle.ds_rows.specs.Homes.{AreHomes, IsHome, no_home}
 use Rattle.ds_rows.specs.Log.{column, fired_line, stored_text}
@@ -61,7 +61,7 @@ column_is rows w p widths low =
 
 -- the lines of registers that have their homes are the text of the state that is kept
 unfoldable pub text_of_kept : (kept : Snapshot) (events : List ℕ) (homes : List Home) (fired most : ℕ)
-    → IsLegal (graph_of kept) (limit_of kept) events → IsAfter kept events → IsSound kept → AreHomes (split_of kept) homes
+    → IsLegal (graph_of kept) (limit_of kept) events → IsAfter kept events → IsSnapshotSound kept → AreHomes (split_of kept) homes
     → fired ≡ length events → most ≡ length (graph_of kept).events * limit_of kept
     → IsStateText kept.planned kept.vectors events (state_text kept homes fired most)
 text_of_kept kept events homes fired most legal (now, all, shows) sound are many each =

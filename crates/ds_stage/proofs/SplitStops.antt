@@ -10,7 +10,7 @@ use Rattle.ds_latch.specs.Node.{Split, nodes, number_of}
 use Rattle.ds_latch.specs.Latches.{HasEdges}
 use Rattle.ds_latch.specs.declared.latches.Edge.{Edge}
 use Rattle.ds_split.specs.Cluster.{IsClustering}
-use Rattle.ds_split.specs.Split.{HasTooManyOrders, IsClusterFault, IsSplitFault, split_of}
+use Rattle.ds_split.specs.Split.{HasTooManyOrders, IsClusterFault, IsSplitFault, split_into}
 use Rattle.ds_split.specs.declared.fault.SplitFault.{SplitFault}
 use Rattle.ds_split.specs.declared.fault.SplitFault.TheVariants.{TooMany}
 use Rattle.ds_split.specs.declared.fault.SplitFault.TheVariants as split
@@ -42,10 +42,10 @@ cluster_stops file mode c (TooMany limit) stop (is, many) says =
 cluster_stops file mode c split.Memory stop is says = memory_stops file mode c stop says
 
 pub split_stops : (file : List ℕ) (mode : Mode) (c : Circuit) (clusters : List (List ℕ)) → IsClustering c mode clusters → length clusters ≤ most_of Clusters
-    → (fault : SplitFault) (stop : Stop) → IsSplitFault (split_of c clusters) fault → SaysSplit file fault stop → Stops (split_stage file mode c) Never stop
+    → (fault : SplitFault) (stop : Stop) → IsSplitFault (split_into c clusters) fault → SaysSplit file fault stop → Stops (split_stage file mode c) Never stop
 split_stops file mode c clusters are few (TooMany limit) stop (is, many) says =
     refused_by file mode c limit stop
-    (inr (split_of c clusters, record { clusters = clusters; are = are; few = few; is = refl }, many, ap (λ (l : Limit). file_line file (too_many_text l)) is)) says
+    (inr (split_into c clusters, record { clusters = clusters; are = are; few = few; is = refl }, many, ap (λ (l : Limit). file_line file (too_many_text l)) is)) says
 split_stops file mode c clusters are few split.Memory stop is says = memory_stops file mode c stop says
 
 -- edges that are few enough are not too many

@@ -31,7 +31,7 @@ use Rattle.ds_stage.specs.declared.stop.Stop.TheVariants.{Refused, Unread, Unwri
 use Rattle.ds_stage.specs.Ends.{Ends, Output, RoseIn}
 use Rattle.ds_stage.specs.Stage.{OfFile, Stage, IsExclusive, giving, then_stage}
 use Rattle.ds_stage.specs.Stages.{OfBytes}
-use Rattle.ds_stage.specs.StreamStage.{AreAllWindowLines, AreSomeWindowLines, AreWindowLines, HasFault, IsFaultLine, IsStreamLine, gives_held, leaves_held, streamed_stage}
+use Rattle.ds_stage.specs.StreamStage.{AreAllWindowLines, AreSomeWindowLines, AreWindowLines, HasStreamFault, IsFaultLine, IsStreamLine, gives_held, leaves_held, streamed_stage}
 use Rattle.ds_stage.specs.StreamStops.{StopsWindow}
 use Rattle.ds_stage.proofs.Ends.{rose_since}
 use Rattle.ds_stage.proofs.Failed.{Says}
@@ -297,7 +297,7 @@ module _ (c : Circuit) (range : IsInRange c) (accepted : IsAccepted c) (most : �
   -- of a stream whose fault comes later, the lines of all whole windows begin so
   faulty_begins : (s : Stream) (given : ℕ) (more : Bool) (rows : List Row) (state : Row) (lines : List ℕ) → All (λ vector. length vector ≡ length (columns c)) s.rows
       → IsGiven s given more rows → AreLines c 0 (initial_row c) rows lines state → (fault : NextFault) → s.stop ≡ Some fault
-      → (rest : List ℕ) × HasFault s × AreAllWindowLines c s.rows (lines ++ rest)
+      → (rest : List ℕ) × HasStreamFault s × AreAllWindowLines c s.rows (lines ++ rest)
   faulty_begins s given false rows state lines wide is are fault stops =
       absurd (let (none, all) = is.whole refl in let e : None ≡ Some fault = sym none ∙ stops in cc)
   faulty_begins s given true rows state lines wide is are fault stops =

@@ -8,7 +8,7 @@ use Rattle.ds_marked.specs.Graph.{Graph}
 use Rattle.ds_marked.specs.declared.marked.Event.{Event}
 use Rattle.ds_marked.specs.Log.{event_text, sign, text_of_event}
 use Rattle.ds_control.specs.Part.{PushesPart}
-use Rattle.ds_stage.specs.FaultText.{listed}
+use Rattle.ds_stage.specs.FaultText.{with_blanks}
 
 -- nothing was put behind
 pub none_pushed : (old new items : List ℕ) → new ≡ old → PushesPart old new items
@@ -44,45 +44,45 @@ event_is g events event k e are same inside at =
     ap (λ (es : List Event). slice_get es event) (sym are) ∙ (ap (λ (n : ℕ). slice_get events n) (sym same) ∙ slice_get_read events (length events) k e refl inside at) in
     ap (λ (o : Option Event). option_map_or event_text o []) found
 
-listed_append : (words more : List (List ℕ)) → listed (words ++ more) ≡ listed words ++ listed more
+listed_append : (words more : List (List ℕ)) → with_blanks (words ++ more) ≡ with_blanks words ++ with_blanks more
 listed_append [] more = refl
 listed_append (word ∷ words) more =
     ap (λ (t : List ℕ). codes " " ++ (word ++ t)) (listed_append words more)
-    ∙ (ap (λ (t : List ℕ). codes " " ++ t) (sym (append_assoc word (listed words) (listed more)))
-    ∙ sym (append_assoc (codes " ") (word ++ listed words) (listed more)))
+    ∙ (ap (λ (t : List ℕ). codes " " ++ t) (sym (append_assoc word (with_blanks words) (with_blanks more)))
+    ∙ sym (append_assoc (codes " ") (word ++ with_blanks words) (with_blanks more)))
 
 module _ (f : ℕ → List ℕ) (events : List ℕ) (i : ℕ) where
   -- the words so far
   abbrev so_far : List ℕ
-  so_far = listed (map f (take i events))
+  so_far = with_blanks (map f (take i events))
 
   -- and those that are left
   abbrev left : List ℕ
-  left = listed (map f (drop i events))
+  left = with_blanks (map f (drop i events))
 
-  both : listed (map f events) ≡ so_far ++ left
+  both : with_blanks (map f events) ≡ so_far ++ left
   both =
-      ap (λ (vs : List ℕ). listed (map f vs)) (sym (take-append-drop i events))
-      ∙ (ap listed (map-append f (take i events) (drop i events)) ∙ listed_append (map f (take i events)) (map f (drop i events)))
+      ap (λ (vs : List ℕ). with_blanks (map f vs)) (sym (take-append-drop i events))
+      ∙ (ap with_blanks (map-append f (take i events) (drop i events)) ∙ listed_append (map f (take i events)) (map f (drop i events)))
 
   -- those so far were put behind
-  pub words_pushed : (old new : List ℕ) → new ≡ old ++ so_far → PushesPart old new (listed (map f events))
-  words_pushed old new is = piece_pushed old new (listed (map f events)) so_far left both is
+  pub words_pushed : (old new : List ℕ) → new ≡ old ++ so_far → PushesPart old new (with_blanks (map f events))
+  words_pushed old new is = piece_pushed old new (with_blanks (map f events)) so_far left both is
 
   module _ (v : ℕ) (inside : i < length events) (at : v ≡ get_or events i v) where
-    next : left ≡ codes " " ++ (f v ++ listed (map f (drop (i + 1) events)))
+    next : left ≡ codes " " ++ (f v ++ with_blanks (map f (drop (i + 1) events)))
     next =
-        ap (λ (vs : List ℕ). listed (map f vs)) (drop_more events i v inside)
-        ∙ ap (λ (u : ℕ). codes " " ++ (f u ++ listed (map f (drop (i + 1) events)))) (sym at)
+        ap (λ (vs : List ℕ). with_blanks (map f vs)) (drop_more events i v inside)
+        ∙ ap (λ (u : ℕ). codes " " ++ (f u ++ with_blanks (map f (drop (i + 1) events)))) (sym at)
 
     -- one word more
     pub word_more : (old text spaced new : List ℕ) → text ≡ old ++ so_far → spaced ≡ text ++ codes " " → new ≡ spaced ++ f v
-        → new ≡ old ++ listed (map f (take (i + 1) events))
+        → new ≡ old ++ with_blanks (map f (take (i + 1) events))
     word_more old text spaced new is blank word =
-        let more : listed (map f (take (i + 1) events)) ≡ so_far ++ (codes " " ++ (f v ++ [])) =
-        ap (λ (vs : List ℕ). listed (map f vs)) (take_more events i v inside)
-        ∙ (ap (λ (u : ℕ). listed (map f (take i events ++ u ∷ []))) (sym at)
-        ∙ (ap listed (map-append f (take i events) (v ∷ [])) ∙ listed_append (map f (take i events)) (f v ∷ []))) in
+        let more : with_blanks (map f (take (i + 1) events)) ≡ so_far ++ (codes " " ++ (f v ++ [])) =
+        ap (λ (vs : List ℕ). with_blanks (map f vs)) (take_more events i v inside)
+        ∙ (ap (λ (u : ℕ). with_blanks (map f (take i events ++ u ∷ []))) (sym at)
+        ∙ (ap with_blanks (map-append f (take i events) (v ∷ [])) ∙ listed_append (map f (take i events)) (f v ∷ []))) in
         word
         ∙ (ap (λ (t : List ℕ). t ++ f v) (blank ∙ ap (λ (t : List ℕ). t ++ codes " ") is)
         ∙ (append_assoc (old ++ so_far) (codes " ") (f v)
@@ -92,12 +92,12 @@ module _ (f : ℕ → List ℕ) (events : List ℕ) (i : ℕ) where
 
     -- a part of the next word was put behind those so far
     pub word_refused : (old text spaced new : List ℕ) → text ≡ old ++ so_far → spaced ≡ text ++ codes " " → PushesPart spaced new (f v)
-        → PushesPart old new (listed (map f events))
+        → PushesPart old new (with_blanks (map f events))
     word_refused old text spaced new is blank part = record {
       part = so_far ++ (codes " " ++ part.part);
-      rest = part.rest ++ listed (map f (drop (i + 1) events));
+      rest = part.rest ++ with_blanks (map f (drop (i + 1) events));
       items_are =
-          let last : List ℕ = listed (map f (drop (i + 1) events)) in
+          let last : List ℕ = with_blanks (map f (drop (i + 1) events)) in
           both
           ∙ (ap (λ (t : List ℕ). so_far ++ t) (next
           ∙ (ap (λ (t : List ℕ). codes " " ++ (t ++ last)) part.items_are

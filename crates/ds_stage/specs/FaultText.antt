@@ -14,7 +14,7 @@ use Rattle.ds_netlist.specs.declared.fault.Driver.{Driver}
 use Rattle.ds_netlist.specs.declared.fault.Driver.TheVariants as driver
 use Rattle.ds_netlist.specs.declared.fault.NetFault.{NetFault}
 use Rattle.ds_netlist.specs.declared.fault.NetFault.TheVariants as net
-use Rattle.ds_rows.specs.Nets.{net_of, register_of}
+use Rattle.ds_rows.specs.Nets.{text_of_net, register_of}
 use Rattle.ds_rows.specs.declared.fault.VectorKind.{VectorKind}
 use Rattle.ds_rows.specs.declared.fault.VectorKind.TheVariants as vector
 
@@ -54,9 +54,9 @@ abbrev pub too_long_text : List ℕ
 too_long_text = codes "too long (limit 16777216)"
 
 -- words, each with a blank before it
-abbrev pub listed : List (List ℕ) → List ℕ
-listed [] = []
-listed (word ∷ words) = codes " " ++ word ++ listed words
+abbrev pub with_blanks : List (List ℕ) → List ℕ
+with_blanks [] = []
+with_blanks (word ∷ words) = codes " " ++ word ++ with_blanks words
 
 -- the fault of a line of a netlist
 abbrev pub blif_text : BlifKind → List ℕ
@@ -74,7 +74,7 @@ blif_text blif.MixedRows = codes "mixed rows"
 -- the fault of a command as models are copied
 abbrev pub flat_text : FlatKind → List ℕ
 flat_text (flat.UnknownModel name) = codes "unknown model " ++ name
-flat_text (flat.Recursive names) = codes "recursive models:" ++ listed names
+flat_text (flat.Recursive names) = codes "recursive models:" ++ with_blanks names
 flat_text (flat.UnknownFormal name) = codes "unknown formal " ++ name
 flat_text (flat.TooMany limit) = too_many_text limit
 
@@ -87,19 +87,19 @@ driver_text (driver.Latch line) = codes "latch at " ++ decimal line
 -- the fault of a design that is not accepted; want of memory is none
 abbrev pub net_fault_text : Circuit → NetFault → Option (List ℕ)
 net_fault_text c (net.SeveralClocks one other) =
-    Some (codes "several clocks: " ++ net_of c one ++ codes " and " ++ net_of c other)
+    Some (codes "several clocks: " ++ text_of_net c one ++ codes " and " ++ text_of_net c other)
 net_fault_text c (net.MixedEdges one other) =
     Some (codes "mixed edges: " ++ register_of c one ++ codes " and " ++ register_of c other)
 net_fault_text c (net.DrivenClock clock) =
-    Some (codes "clock " ++ net_of c clock ++ codes " is driven")
+    Some (codes "clock " ++ text_of_net c clock ++ codes " is driven")
 net_fault_text c (net.ClockAsData clock) =
-    Some (codes "clock " ++ net_of c clock ++ codes " used as data")
+    Some (codes "clock " ++ text_of_net c clock ++ codes " used as data")
 net_fault_text c (net.MultiplyDriven twice one other) =
-    Some (codes "net " ++ net_of c twice ++ codes " driven twice: " ++ driver_text one
+    Some (codes "net " ++ text_of_net c twice ++ codes " driven twice: " ++ driver_text one
     ++ codes " and " ++ driver_text other)
-net_fault_text c (net.Undriven loose) = Some (codes "undriven net " ++ net_of c loose)
+net_fault_text c (net.Undriven loose) = Some (codes "undriven net " ++ text_of_net c loose)
 net_fault_text c (net.CombinationalCycle nets) =
-    Some (codes "combinational cycle:" ++ listed (map (net_of c) nets))
+    Some (codes "combinational cycle:" ++ with_blanks (map (text_of_net c) nets))
 net_fault_text c net.Memory = None
 
 -- this is the text of a fault; want of memory has none

@@ -15,7 +15,7 @@ use Rattle.ds_period.specs.declared.fault.DelayFault.{DelayFault}
 use Rattle.ds_period.specs.declared.fault.DelayKind.{DelayKind}
 use Rattle.ds_period.specs.declared.fault.DelayKind.TheVariants.{BadWord, UnknownOrder}
 use Rattle.ds_period.specs.declared.fault.DelayKind.TheVariants.{RepeatedOrder}
-use Rattle.ds_stage.specs.FaultText.{listed, numbered_line}
+use Rattle.ds_stage.specs.FaultText.{with_blanks, numbered_line}
 use Rattle.ds_stage.specs.GraphStage.{IsGraphOf}
 use Rattle.ds_stage.specs.Stage.{Stage, giving, then_stage}
 use Rattle.ds_stage.specs.Stages.{lines_stage, result_stage}
@@ -45,7 +45,7 @@ ratio_line p q = codes "period " ++ decimal p ++ codes "/" ++ decimal q ++ codes
 
 -- the line of the cycle, from its least event on
 abbrev pub cycle_line : Graph → List ℕ → List ℕ
-cycle_line g cycle = codes "cycle" ++ listed (map (text_of_event g) cycle) ++ codes "\n"
+cycle_line g cycle = codes "cycle" ++ with_blanks (map (text_of_event g) cycle) ++ codes "\n"
 
 -- the line of an event's potential
 abbrev pub potential_line : Graph → ℕ → ℕ → List ℕ

@@ -10,7 +10,7 @@ use Rattle.ds_design.specs.Circuit.{Circuit}
 use Rattle.ds_marked.specs.Log.{event_text, text_of_event}
 use Rattle.ds_latch.specs.Node.{Split, slackened}
 use Rattle.ds_latch.specs.Plan.{Planned}
-use Rattle.ds_astg.specs.Read.{graph_of}
+use Rattle.ds_astg.specs.Read.{graph_of_lines}
 use Rattle.ds_astg.specs.declared.fault.AstgFault.{AstgFault}
 use Rattle.ds_astg.specs.declared.fault.AstgKind.{AstgKind}
 use Rattle.ds_astg.specs.declared.fault.AstgKind.TheVariants as astg
@@ -18,7 +18,7 @@ use Rattle.ds_accept.specs.Accept.{IsAcceptable, IsPlanOf}
 use Rattle.ds_accept.specs.Fault.{IsAcceptFault}
 use Rattle.ds_accept.specs.declared.fault.AcceptFault.{AcceptFault}
 use Rattle.ds_accept.specs.declared.fault.AcceptFault.TheVariants as accept
-use Rattle.ds_stage.specs.FaultText.{file_line, listed, numbered_line, too_many_text}
+use Rattle.ds_stage.specs.FaultText.{file_line, with_blanks, numbered_line, too_many_text}
 use Rattle.ds_stage.specs.Stage.{Stage, giving, leaves_nothing, then_stage}
 use Rattle.ds_stage.specs.Stages.{lines_stage, result_stage}
 use Rattle.ds_stage.specs.SplitStage.{split_stage}
@@ -46,7 +46,7 @@ accept_text g (accept.MissingOrder from to tokens least numbers) =
     Some (codes "missing order " ++ text_of_event g from ++ codes " to " ++ text_of_event g to
     ++ codes " with " ++ decimal tokens ++ codes " tokens" ++ walk_text least)
 accept_text g (accept.TokenFreeCycle events) =
-    Some (codes "token-free cycle:" ++ listed (map (text_of_event g) events))
+    Some (codes "token-free cycle:" ++ with_blanks (map (text_of_event g) events))
 accept_text g accept.Memory = None
 
 -- this is the text of a fault; want of memory has none
@@ -84,7 +84,7 @@ acceptable_stage file s g = record {
 -- the plan of the graph of lines
 abbrev pub marked_stage : List ℕ → Split → List Line → Stage Planned
 marked_stage file s lines =
-    then_stage (result_stage (graph_or_line file (graph_of lines))) (acceptable_stage file s)
+    then_stage (result_stage (graph_or_line file (graph_of_lines lines))) (acceptable_stage file s)
 
 -- the plan of the graph of a file
 abbrev pub named_stage : (List ℕ → Held) → List ℕ → Split → Stage Planned

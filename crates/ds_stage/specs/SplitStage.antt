@@ -6,7 +6,7 @@ use Rattle.ds_base.specs.declared.number.Mode.{Mode}
 use Rattle.ds_design.specs.Circuit.{Circuit}
 use Rattle.ds_latch.specs.Node.{Split}
 use Rattle.ds_split.specs.Cluster.{HasTooManyClusters, IsClustering}
-use Rattle.ds_split.specs.Split.{HasTooManyOrders, split_of}
+use Rattle.ds_split.specs.Split.{HasTooManyOrders, split_into}
 use Rattle.ds_stage.specs.FaultText.{file_line, too_many_text}
 use Rattle.ds_stage.specs.Stage.{Stage, leaves_nothing}
 
@@ -15,7 +15,7 @@ pub record IsInClusters (mode : Mode) (c : Circuit) (s : Split) : Type 0 where
   pub clusters : List (List ℕ)
   pub are : IsClustering c mode clusters
   pub few : length clusters ≤ most_of Clusters
-  pub is : s ≡ split_of c clusters
+  pub is : s ≡ split_into c clusters
 
 -- too many clusters come before too many required orders
 abbrev pub IsSplitLine : List ℕ → Mode → Circuit → List ℕ → Type 0

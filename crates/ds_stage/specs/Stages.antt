@@ -12,7 +12,7 @@ use Rattle.ds_design.specs.Accepted.{IsAccepted}
 use Rattle.ds_design.specs.Levels.{IsDepth}
 use Rattle.ds_design.specs.Rows.{Rows}
 use Rattle.ds_design.specs.Trace.{IsTrace}
-use Rattle.ds_blif.specs.Text.{read_of}
+use Rattle.ds_blif.specs.Text.{models_of_text}
 use Rattle.ds_blif.specs.declared.fault.BlifFault.{BlifFault}
 use Rattle.ds_flat.specs.Copies.{flat_of}
 use Rattle.ds_flat.specs.declared.fault.FlatFault.{FlatFault}
@@ -72,7 +72,7 @@ flat_or_line file (Err fault) = Err (numbered_line file fault.line (flat_text fa
 -- the flat design of a netlist's lines
 abbrev pub design_stage : List ℕ → List Line → Stage Circuit
 design_stage file lines =
-    then_stage (result_stage (models_or_line file (read_of lines))) (λ models.
+    then_stage (result_stage (models_or_line file (models_of_text lines))) (λ models.
     result_stage (flat_or_line file (flat_of models)))
 
 -- a design that is accepted, or the line of its first fault; where that is a cycle, of any cycle

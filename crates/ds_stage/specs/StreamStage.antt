@@ -42,8 +42,8 @@ IsStreamLine file why.Read line = ⊥
 IsStreamLine file why.Memory line = ⊥
 
 -- the stream has a fault
-abbrev pub HasFault : Stream → Type 0
-HasFault s = (fault : NextFault) × (s.stop ≡ Some fault)
+abbrev pub HasStreamFault : Stream → Type 0
+HasStreamFault s = (fault : NextFault) × (s.stop ≡ Some fault)
 
 -- the trace lines of so many whole windows of 4,096 turns of the clocked run on these rows
 pub record AreWindowLines (c : Circuit) (rows : List Row) (text : List ℕ) : Type 0 where
@@ -62,7 +62,7 @@ pub record AreAllWindowLines (c : Circuit) (rows : List Row) (text : List ℕ) :
 abbrev pub leaves_windows : Circuit → Stream → Stop → List ℕ → Type 0
 leaves_windows c s (Refused line) text = AreAllWindowLines c s.rows text
 leaves_windows c s (Unread line) text = AreWindowLines c s.rows text
-leaves_windows c s Unwritten text = HasFault s × AreAllWindowLines c s.rows text
+leaves_windows c s Unwritten text = HasStreamFault s × AreAllWindowLines c s.rows text
 leaves_windows c s Memory text = AreWindowLines c s.rows text
 
 -- the trace lines of whole windows of the clocked run on some rows of the width

@@ -1,7 +1,7 @@
 //! The texts of faults of lines.
 ghost use Rattle.std.specs.Prelude.{◌≡◌, ◌++◌, IfOk};
 ghost use Rattle.ds_stage.specs.FaultText.{blif_text as blif_text_of, flat_text as flat_text_of};
-ghost use Rattle.ds_stage.specs.FaultText.{listed, vector_text as vector_text_of};
+ghost use Rattle.ds_stage.specs.FaultText.{with_blanks, vector_text as vector_text_of};
 
 use crate::fault_line::too_many;
 use ds_base::Name;
@@ -62,7 +62,7 @@ pub fn with_name(alloc: Global, text: &[u8], name: &Name) -> Result<Vec<u8>, All
 
 // A text with names behind it, each with a blank before it.
 fn with_names(alloc: Global, text: &[u8], names: &[Name]) -> Result<Vec<u8>, AllocError>
-    ensures { IfOk result (λ all. all.items ≡ text.now ++ listed names.now) }
+    ensures { IfOk result (λ all. all.items ≡ text.now ++ with_blanks names.now) }
 {
     let mut all = Vec::from_slice(alloc, text)?;
     for name in names {

@@ -2,7 +2,7 @@
 ghost use Rattle.std.specs.Prelude.{◌≡◌, ◌++◌, ℕ, IfOk, OnErr, OnOk, codes, decimal, map};
 ghost use Rattle.ds_marked.specs.Log.{event_text, text_of_event};
 ghost use Rattle.ds_control.specs.Part.{PushesPart};
-ghost use Rattle.ds_stage.specs.FaultText.{listed};
+ghost use Rattle.ds_stage.specs.FaultText.{with_blanks};
 ghost use Rattle.ds_stage.specs.PlanStage.{IsAcceptText, astg_text as astg_text_of, walk_text};
 
 use crate::fault_line::too_many;
@@ -109,7 +109,7 @@ fn put_walk(text: &mut Vec<u8>, least: Option<u64>) -> Result<(), AllocError>
 // A cycle of arcs without tokens.
 fn cycle(alloc: Global, graph: &Marked, events: &[EventId]) -> Result<Vec<u8>, OutOfMemory>
     ensures { IfOk result (λ text. text.items
-        ≡ codes "token-free cycle:" ++ listed (map (text_of_event graph.now) events.now)) }
+        ≡ codes "token-free cycle:" ++ with_blanks (map (text_of_event graph.now) events.now)) }
 {
     let mut text = Vec::from_slice(alloc, b"token-free cycle:")?;
     put_events(&mut text, graph, events)?;
@@ -119,11 +119,11 @@ fn cycle(alloc: Global, graph: &Marked, events: &[EventId]) -> Result<Vec<u8>, O
 /// Puts events behind a text, each with a blank before it.
 pub fn put_events(text: &mut Vec<u8>, graph: &Marked, events: &[EventId]) -> Result<(), AllocError>
     ensures ok { OnOk result (text.new.items
-        ≡ text.old.items ++ listed (map (text_of_event graph.now) events.now)) }
+        ≡ text.old.items ++ with_blanks (map (text_of_event graph.now) events.now)) }
 
     // For want of memory.
     ensures part { OnErr result (PushesPart text.old.items text.new.items
-        (listed (map (text_of_event graph.now) events.now))) }
+        (with_blanks (map (text_of_event graph.now) events.now))) }
 {
     for event in events {
         text.extend_from_slice(b" ")?;

@@ -1,9 +1,9 @@
 //! The texts of faults of a design, with the names of its nets.
 ghost use Rattle.std.specs.Prelude.{◌≡◌, ◌++◌, ◌<◌, IfOk, length, map, All, codes, decimal};
 ghost use Rattle.ds_netlist.specs.Named.{IsNamed};
-ghost use Rattle.ds_rows.specs.Nets.{net_of, net_text, register_of};
+ghost use Rattle.ds_rows.specs.Nets.{text_of_net, net_text, register_of};
 ghost use Rattle.ds_stage.specs.FaultText.{driver_text, net_fault_text as net_fault_text_of};
-ghost use Rattle.ds_stage.specs.FaultText.{IsNetFaultText, listed};
+ghost use Rattle.ds_stage.specs.FaultText.{IsNetFaultText, with_blanks};
 
 use ds_base::{NetId, OutOfMemory, RegId};
 use ds_design::{Design, Net};
@@ -57,7 +57,7 @@ fn clock_is(
 ) -> Result<Vec<u8>, OutOfMemory>
     requires { clock < length design.now.nets }
     ensures { IfOk result (λ text. text.items
-        ≡ codes "clock " ++ net_of design.now clock ++ wrong.now) }
+        ≡ codes "clock " ++ text_of_net design.now clock ++ wrong.now) }
 {
     let mut text = with_net(Vec::from_slice(alloc, b"clock ")?, design, clock)?;
     text.extend_from_slice(wrong)?;
@@ -73,7 +73,7 @@ fn driven_twice(
     other: Driver,
 ) -> Result<Vec<u8>, OutOfMemory>
     requires { net < length design.now.nets }
-    ensures { IfOk result (λ text. text.items ≡ codes "net " ++ net_of design.now net
+    ensures { IfOk result (λ text. text.items ≡ codes "net " ++ text_of_net design.now net
         ++ codes " driven twice: " ++ driver_text one ++ codes " and " ++ driver_text other) }
 {
     let mut text = with_net(Vec::from_slice(alloc, b"net ")?, design, net)?;
@@ -87,7 +87,7 @@ fn driven_twice(
 fn and_net(text: Vec<u8>, design: &Design, net: NetId) -> Result<Vec<u8>, OutOfMemory>
     requires { net < length design.now.nets }
     ensures { IfOk result (λ all. all.items
-        ≡ text.items ++ codes " and " ++ net_of design.now net) }
+        ≡ text.items ++ codes " and " ++ text_of_net design.now net) }
 {
     let mut text = text;
     text.extend_from_slice(b" and ")?;
@@ -118,7 +118,7 @@ fn with_register(text: Vec<u8>, design: &Design, register: RegId) -> Result<Vec<
 fn with_nets(text: Vec<u8>, design: &Design, nets: &[NetId]) -> Result<Vec<u8>, OutOfMemory>
     requires { All (λ net. net < length design.now.nets) nets.now }
     ensures { IfOk result (λ all. all.items
-        ≡ text.items ++ listed (map (net_of design.now) nets.now)) }
+        ≡ text.items ++ with_blanks (map (text_of_net design.now) nets.now)) }
 {
     let mut text = text;
     for net in nets {
@@ -131,7 +131,7 @@ fn with_nets(text: Vec<u8>, design: &Design, nets: &[NetId]) -> Result<Vec<u8>, 
 // A text with a net.
 fn with_net(text: Vec<u8>, design: &Design, net: NetId) -> Result<Vec<u8>, OutOfMemory>
     requires { net < length design.now.nets }
-    ensures { IfOk result (λ all. all.items ≡ text.items ++ net_of design.now net) }
+    ensures { IfOk result (λ all. all.items ≡ text.items ++ text_of_net design.now net) }
 {
     with_name(text, &design.nets()[net.index()])
 }

@@ -1,6 +1,6 @@
 //! The plan of a job: its latches with their controller graph, or with a graph of the user's.
 ghost use Rattle.std.specs.Prelude.{◌≡◌, ◌≤◌, ℕ, List, IfErr, IfOk, Some};
-ghost use Rattle.ds_astg.specs.Read.{graph_of as graph_in_lines};
+ghost use Rattle.ds_astg.specs.Read.{graph_of_lines as graph_in_lines};
 ghost use Rattle.ds_accept.specs.Fault.{IsAcceptFault};
 ghost use Rattle.ds_stage.specs.Ends.{Answers, Never, RoseIn, Stops};
 ghost use Rattle.ds_stage.specs.Stage.{then_stage};

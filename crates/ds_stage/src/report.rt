@@ -1,7 +1,7 @@
 //! The report on a netlist.
 ghost use Rattle.std.specs.Prelude.{◌≡◌, ℕ, List};
 ghost use Rattle.ds_outside.specs.Writes.{GoesOn};
-ghost use Rattle.ds_stage.specs.Ends.{Ends, Never, Output};
+ghost use Rattle.ds_stage.specs.Ends.{Ends, Never, output_between};
 ghost use Rattle.ds_stage.specs.Report.{count_line};
 ghost use Rattle.ds_stage.specs.Stages.{report_stage};
 
@@ -12,12 +12,8 @@ use itoa::Buffer;
 
 /// Writes the nets other than the clock, the tables, the registers and the levels of a netlist.
 pub fn write_report<O: Sink>(netlist: &Netlist, out: &mut O) -> Result<(), Stop>
-    ensures { Ends (report_stage netlist.now) Never (record {
-      old = O.written out.old;
-      new = O.written out.new;
-      before = O.faults out.old;
-      now = O.faults out.new;
-    }) result }
+    ensures { Ends (report_stage netlist.now) Never
+        (output_between O.written O.faults out.old out.new) result }
 {
     let so_far = put_count(Ok(()), b"nets", netlist.nets(), out);
     let so_far = put_count(so_far, b"tables", netlist.tables(), out);

@@ -1,7 +1,7 @@
 //! The files of a job, read and given their meaning.
 ghost use Rattle.std.specs.Prelude.{◌≡◌, ◌≤◌, ℕ, List, IfOk, IfErr, MatchResult, length};
 ghost use Rattle.ds_outside.specs.Held.{FrontIsHeld};
-ghost use Rattle.ds_blif.specs.Text.{read_of};
+ghost use Rattle.ds_blif.specs.Text.{models_of_text};
 ghost use Rattle.ds_flat.specs.Copies.{flat_of};
 ghost use Rattle.ds_design.specs.Circuit.{columns};
 ghost use Rattle.ds_netlist.specs.Fault.{IsNetFault};
@@ -151,7 +151,7 @@ fn design_in(alloc: Global, name: &str, text: &[u8]) -> Result<Design, Stop>
 
 // The models of the lines of a netlist.
 fn models_in<'l>(alloc: Global, name: &str, lines: &'l Lines<'_>) -> Result<Blif<'l>, Stop>
-    ensures { Answers (result_stage (models_or_line name.now (read_of lines.entry.now)))
+    ensures { Answers (result_stage (models_or_line name.now (models_of_text lines.entry.now)))
         Never result }
 {
     match read(alloc, lines) {

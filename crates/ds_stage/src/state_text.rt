@@ -5,7 +5,7 @@ ghost use Rattle.std.specs.List.{flat_map, range_with_len};
 ghost use Rattle.ds_outside.specs.Writes.{GoesOn, Writes};
 ghost use Rattle.ds_fire.specs.Snapshot.{graph_of, limit_of, split_of};
 ghost use Rattle.ds_rows.specs.Homes.{AreHomes};
-ghost use Rattle.ds_stage.specs.Ends.{Ends, Never, Output};
+ghost use Rattle.ds_stage.specs.Ends.{Ends, Never, output_between};
 ghost use Rattle.ds_stage.specs.Kept.{IsKeptText, open_part, register_line};
 ghost use Rattle.ds_stage.specs.OpenLines.{AreShown};
 ghost use Rattle.ds_stage.specs.Stage.{giving};
@@ -37,12 +37,7 @@ pub fn write_state<O: Sink>(
     requires vectors { after.now.state.now.vectors ≡ vectors.now.rows }
     requires slack { after.now.transparent ≡ true → (split_of after.now.state.now).slack ≡ 0 }
     ensures { Ends (giving (IsKeptText after.now.transparent after.now.state.now after.now.fired))
-        Never (record {
-          old = O.written out.old;
-          new = O.written out.new;
-          before = O.faults out.old;
-          now = O.faults out.new;
-        }) result }
+        Never (output_between O.written O.faults out.old out.new) result }
 {
     let latches = plan.latches();
     let rooms = Rooms::of(alloc, latches, after)?;

@@ -3,9 +3,10 @@ use Rattle.std.proofs.Common.{◌≡◌, ◌∙◌, ℕ, zero, suc, ◌+◌, ◌
 use Rattle.std.specs.Prelude.{nat_lt, if◌then◌else◌}
 use Rattle.std.proofs.lemmas.Bool.{eqb-true}
 use Rattle.std.proofs.lemmas.List.{append-nil, length-map}
+use Rattle.ds_lines.specs.Words.{first_word}
 use Rattle.ds_base.specs.Values.{Row}
 use Rattle.ds_lines.specs.Line.{is_some, words_in}
-use Rattle.ds_rows.specs.Vector.{first_word, has_bits, has_width, row_of, value_of}
+use Rattle.ds_rows.specs.Vector.{has_bits, has_width, row_of, value_of_character}
 use Rattle.ds_stream.specs.declared.fault.StreamKind.{StreamKind}
 use Rattle.ds_stream.specs.Bounded.{fault_under}
 use Rattle.ds_stream.specs.Stream.{Behind, Placed, stop_of, longest, placed_of, window}
@@ -76,7 +77,7 @@ length-row_of zero words e = refl
 length-row_of (suc w) words e =
     let some : (suc w == 0) ≡ false = grind arith in
     let wide : (length (first_word words) == suc w) ≡ true = second (length words == 1) _ (rw some at e) in
-    rw some (length-map (first_word words) value_of ∙ eqb-true _ _ wide)
+    rw some (length-map (first_word words) value_of_character ∙ eqb-true _ _ wide)
 
 -- a row has the width
 pub row-width : (most width seen : ℕ) (words : List (List ℕ)) (row : Row) → fault_under most width seen words ≡ None → row ≡ row_of width words → length row ≡ width

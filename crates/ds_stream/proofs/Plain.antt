@@ -7,7 +7,7 @@ use Rattle.std.proofs.lemmas.List.{length-take-le, take_more}
 use Rattle.std.proofs.lemmas.List.Elements.{All-nil}
 use Rattle.ds_base.specs.Values.{Row}
 use Rattle.ds_lines.specs.Line.{is_blank, is_end, is_hash, is_joined, is_newline, is_some, joins, trimmed, uncommented, words_in, words_of}
-use Rattle.ds_rows.specs.Vector.{has_bits, has_width, is_bit, row_of, value_of}
+use Rattle.ds_rows.specs.Vector.{has_bits, has_width, is_bit, row_of, value_of_character}
 use Rattle.ds_stream.specs.Bounded.{fault_under}
 use Rattle.ds_stream.specs.Filling.{Filled, on_lines, on_text}
 use Rattle.ds_stream.specs.Plain.{IsPlainLine}
@@ -101,7 +101,7 @@ no_fault most (suc w) seen word few some is bits =
     let wide : (length word == suc w) ≡ true = eq-eqb (length word) (suc w) is in
     rw (room, other, wide, bits) refl
 
-row_bits : (width : ℕ) (word : List ℕ) → 0 < width → map value_of word ≡ row_of width (word ∷ [])
+row_bits : (width : ℕ) (word : List ℕ) → 0 < width → map value_of_character word ≡ row_of width (word ∷ [])
 unfolding row_of
 row_bits zero word some = absurd (omega (arith, some))
 row_bits (suc w) word some = let other : (suc w == 0) ≡ false = grind arith in rw other refl
@@ -125,7 +125,7 @@ front_plain f bytes plain = take_more bytes f.width 0 plain.whole ∙ ap (λ (b 
 
 -- a word of bits is taken, and then its newline
 word_taken : (f : Filled) (row : Row) (word : List ℕ) (size : ℕ) (rest : List ℕ) → 0 < f.missing → f.line ≡ [] → 0 < f.width → f.seen < f.most
-    → f.place + f.width < 281474976710656 → length word ≡ f.width → list_all is_bit word ≡ true → row ≡ map value_of word
+    → f.place + f.width < 281474976710656 → length word ≡ f.width → list_all is_bit word ≡ true → row ≡ map value_of_character word
     → on_text (behind_plain f row (f.place + f.width + 1)) size rest ≡ on_text f size (word ++ 10 ∷ rest)
 word_taken f row word size rest missing fresh some few room wide bits is =
     let h : Filled = record f { line = word; place = f.place + f.width } in
@@ -143,7 +143,7 @@ word_taken f row word size rest missing fresh some few room wide bits is =
     ∙ ap (λ (l : List ℕ). placed_in f.first [] l f.place f.lines (word ++ 10 ∷ rest)) (sym fresh))))
 
 -- a plain line is taken
-pub plain_taken : (f : Filled) (row : Row) (bytes : List ℕ) (place size : ℕ) (rest : List ℕ) → 0 < f.missing → IsPlainLine f bytes → row ≡ map value_of (take f.width bytes)
+pub plain_taken : (f : Filled) (row : Row) (bytes : List ℕ) (place size : ℕ) (rest : List ℕ) → 0 < f.missing → IsPlainLine f bytes → row ≡ map value_of_character (take f.width bytes)
     → place ≡ f.place + f.width + 1
     → on_text (behind_plain f row place) size rest ≡ on_text f size (take (f.width + 1) bytes ++ rest)
 plain_taken f row bytes place size rest missing plain is at =

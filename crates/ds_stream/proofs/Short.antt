@@ -2,12 +2,12 @@
 use Rattle.std.proofs.Common.{◌≡◌, ◌∙◌, ℕ, ◌+◌, ◌≤◌, ◌<◌, Bool, false, List, [], ◌∷◌, ◌++◌, Option, None, Some, Result, Ok, Err, map, length, refl, ap, arith, inl, inr}
 use Rattle.std.specs.Prelude.{nat_lt, if◌then◌else◌}
 use Rattle.std.proofs.lemmas.Bool.{cases_Bool, ltb-true}
+use Rattle.ds_lines.specs.First.{unless_fault}
 use Rattle.ds_base.specs.Values.{Row}
 use Rattle.ds_design.specs.Rows.{Rows}
 use Rattle.ds_lines.specs.Line.{Line, is_newline, joins, lines_of, words_in}
-use Rattle.ds_rows.specs.Vector.{first_fault, has_bits, has_width, row_of, rows_of, vectors_of}
-use Rattle.ds_rows.specs.Vector.{unless_fault as unless_whole}
-use Rattle.ds_stream.specs.Bounded.{fault_under, first_fault_under, told_kind, told_whole, unless_fault, vectors_under}
+use Rattle.ds_rows.specs.Vector.{first_vector_fault, has_bits, has_width, row_of, rows_of_lines, vectors_of}
+use Rattle.ds_stream.specs.Bounded.{fault_under, first_fault_under, told_kind, told_whole, vectors_under}
 use Rattle.ds_stream.specs.Stream.{Behind, Placed, stop_of, longest, placed_in, placed_lines, placed_of, stream_from, stream_of}
 use Rattle.ds_stream.specs.StreamLaws.{as_next, result_of}
 use Rattle.ds_stream.specs.declared.fault.NextFault.{NextFault}
@@ -71,14 +71,14 @@ row_before width row (Some why) rows more (Some fault) is = is
 
 short_from : (width most size seen : ℕ) (ps : List Placed) → stop_of size ≡ None → AreWithin 281474976710656 ps
     → let s = stream_from width most size seen ps in
-    result_of width s.stop s.rows ≡ as_next (unless_fault (first_fault_under most width seen (map (λ p. p.line) ps)) (record { width = width; rows = rows_of width (map (λ p. p.line) ps) }))
+    result_of width s.stop s.rows ≡ as_next (unless_fault (first_fault_under most width seen (map (λ p. p.line) ps)) (record { width = width; rows = rows_of_lines width (map (λ p. p.line) ps) }))
 short_from width most size seen [] ends are = rw ends refl
 short_from width most size seen (p ∷ ps) ends are =
     let short : nat_lt longest p.behind.place ≡ false = is_short p.behind.place are.0 in
     rw short (elim (cases_Option (fault_under most width seen p.line.words)) [
       | inr some ↦ (let (kind, is) = some in rw is refl)
       | inl none ↦ rw none (row_before width (row_of width p.line.words) (stream_from width most size (seen + 1) ps).stop (stream_from width most size (seen + 1) ps).rows
-          (rows_of width (map (λ q. q.line) ps)) (first_fault_under most width (seen + 1) (map (λ q. q.line) ps)) (short_from width most size (seen + 1) ps ends are.1))
+          (rows_of_lines width (map (λ q. q.line) ps)) (first_fault_under most width (seen + 1) (map (λ q. q.line) ps)) (short_from width most size (seen + 1) ps ends are.1))
     ])
 
 pub short_is_read : (width most : ℕ) (text : List ℕ) → length text ≤ 16777216
@@ -93,7 +93,7 @@ abbrev told_fault : Option VectorFault → Option StreamFault
 told_fault None = None
 told_fault (Some fault) = Some (record { line = fault.line; kind = told_kind fault.kind })
 
-first_fault_of_limit : (width seen : ℕ) (lines : List Line) → first_fault_under 65536 width seen lines ≡ told_fault (first_fault width seen lines)
+first_fault_of_limit : (width seen : ℕ) (lines : List Line) → first_fault_under 65536 width seen lines ≡ told_fault (first_vector_fault width seen lines)
 first_fault_of_limit width seen [] = refl
 first_fault_of_limit width seen (line ∷ lines) = elim (cases_Bool (nat_lt seen 65536)) [
   | inr many ↦ rw many refl
@@ -106,14 +106,14 @@ first_fault_of_limit width seen (line ∷ lines) = elim (cases_Bool (nat_lt seen
   ])
 ]
 
-told_unless : (fault : Option VectorFault) (rows : Rows) → unless_fault (told_fault fault) rows ≡ told_whole (unless_whole fault rows)
+told_unless : (fault : Option VectorFault) (rows : Rows) → unless_fault (told_fault fault) rows ≡ told_whole (unless_fault fault rows)
 told_unless None rows = refl
 told_unless (Some fault) rows = refl
 
 pub of_the_limit : (width : ℕ) (lines : List Line) → vectors_under 65536 width lines ≡ told_whole (vectors_of width lines)
 of_the_limit width lines =
-    let rows : Rows = record { width = width; rows = rows_of width lines } in
-    ap (λ (f : Option StreamFault). unless_fault f rows) (first_fault_of_limit width 0 lines) ∙ told_unless (first_fault width 0 lines) rows
+    let rows : Rows = record { width = width; rows = rows_of_lines width lines } in
+    ap (λ (f : Option StreamFault). unless_fault f rows) (first_fault_of_limit width 0 lines) ∙ told_unless (first_vector_fault width 0 lines) rows
 
 pub is_read_whole : (width : ℕ) (text : List ℕ) → length text ≤ 16777216
     → result_of width (stream_of width 65536 text).stop (stream_of width 65536 text).rows ≡ as_next (told_whole (vectors_of width (lines_of text)))

@@ -1,10 +1,11 @@
 -- What lines stand for as vectors, where there may be so many of them.
 use Rattle.std.specs.Prelude.{ℕ, ◌+◌, not, List, [], ◌∷◌, Option, None, Some, Result, Ok, Err}
 use Rattle.std.specs.Prelude.{nat_lt, if◌then◌else◌}
+use Rattle.ds_lines.specs.First.{unless_fault}
 use Rattle.ds_base.specs.Limit.{most_of}
 use Rattle.ds_design.specs.Rows.{Rows}
 use Rattle.ds_lines.specs.Line.{Line}
-use Rattle.ds_rows.specs.Vector.{has_bits, has_width, rows_of}
+use Rattle.ds_rows.specs.Vector.{has_bits, has_width, rows_of_lines}
 use Rattle.ds_rows.specs.declared.fault.VectorFault.{VectorFault}
 use Rattle.ds_rows.specs.declared.fault.VectorKind.{VectorKind}
 use Rattle.ds_rows.specs.declared.fault.VectorKind.TheVariants as vector
@@ -31,16 +32,11 @@ first_fault_under most width seen (line ∷ lines) =
     fault_or (fault_under most width seen line.words) line.number
     (first_fault_under most width (seen + 1) lines)
 
--- rows, unless there is a fault
-abbrev pub unless_fault : Option StreamFault → Rows → Result Rows StreamFault
-unless_fault None rows = Ok rows
-unless_fault (Some fault) rows = Err fault
-
 -- what lines stand for as vectors of a width, where there may be so many: their rows, or their
 -- first fault
 abbrev pub vectors_under : ℕ → ℕ → List Line → Result Rows StreamFault
 vectors_under most width lines = unless_fault (first_fault_under most width 0 lines)
-    (record { width = width; rows = rows_of width lines })
+    (record { width = width; rows = rows_of_lines width lines })
 
 -- what is wrong with a line of vectors that are read whole, the limit by its number
 abbrev pub told_kind : VectorKind → StreamKind

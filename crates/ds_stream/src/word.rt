@@ -2,7 +2,7 @@
 ghost use Rattle.std.specs.Prelude.{◌≡◌, ◌∷◌, [], true, map, length, IfOk, IfNone};
 ghost use Rattle.std.specs.List.{list_all, list_any};
 ghost use Rattle.ds_lines.specs.Line.{is_blank, words_of};
-ghost use Rattle.ds_rows.specs.Vector.{is_bit, value_of as value_of_byte};
+ghost use Rattle.ds_rows.specs.Vector.{is_bit, value_of_character as value_of_byte};
 ghost use Rattle.ds_rows.specs.Vector.{has_width as has_width_of, has_bits as has_bits_of};
 ghost use Rattle.ds_rows.specs.Vector.{row_of as row_of_words};
 ghost use Rattle.ds_stream.specs.Bounded.{fault_under};

@@ -6,56 +6,31 @@ use std::test::Fail;
 // Netlists that are no text of a netlist, and vectors that are none of vectors, each with the line
 // of its fault.
 const LINES: &str = "%v
-%n
-.model m
-.inputs a b
-.outputs y
-.names a b y
-11 1
+%n < and
 00 0
 .end
 %$ desync run n v
 %= 1
 n:6: mixed rows
-%n
-.model m
-.inputs a b
-.outputs y
-.names a b y
-11 1
+%n < and
 0 1
 .end
 %$ desync run n v
 %= 1
 n:6: bad row
-%n
-.model m
-.inputs a b
-.outputs y
-.names a b y
-11 1
+%n < and
 .gate x
 .end
 %$ desync run n v
 %= 1
 n:6: unsupported command .gate
-%n
-.model m
-.inputs a b
-.outputs y
-.names a b y
-11 1
+%n < and
 .latch a z re
 .end
 %$ desync run n v
 %= 1
 n:6: bad initial value
-%n
-.model m
-.inputs a b
-.outputs y
-.names a b y
-11 1
+%n < and
 .latch a z xx c
 .end
 %$ desync run n v
@@ -123,18 +98,11 @@ n:4: recursive models: loop
 %$ desync run n v
 %= 1
 n:4: unknown model nix
-%n
-.model top
-.inputs a
-.outputs y
+%n < copies
+.subckt inv i=a o=t
+.subckt inv i=t o=y
+=>
 .subckt inv i=a o=t z=a
-.end
-.model inv
-.inputs i
-.outputs o
-.names i o
-0 1
-.end
 %$ desync run n v
 %= 1
 n:4: unknown formal z
@@ -201,96 +169,60 @@ fn copies_are_counted_to_their_limit(rt: HostRuntime) -> Result<(), Fail> {
 
 // Designs that are not accepted, and the line of their fault.
 const DESIGNS: &str = "%v
-%n
-.model ring
-.inputs a
-.outputs y
-.names a z y
-11 1
+%both
+desync run n v
+desync clock n v
+%$ desync run ring v
+%$ desync clock ring v
+%= 1
+ring: combinational cycle: y z
+%n < ring
 .names y z
 0 1
-.end
-%$ desync run n v
-%$ desync clock n v
-%= 1
-n: combinational cycle: y z
-%n
-.model ring
-.inputs a
-.outputs y
-.names a z y
-11 1
-.end
-%$ desync run n v
-%$ desync clock n v
+=>
+%$ < both
 %= 1
 n: undriven net z
-%n
-.model shift
-.inputs a
-.outputs q1
+%n < shift
+.latch a q0 re clk 0
+.latch q0 q1 re clk 0
+=>
 .latch a q0 re c1 0
 .latch q0 q1 re c2 0
-.end
-%$ desync run n v
-%$ desync clock n v
+%$ < both
 %= 1
 n: several clocks: c1 and c2
-%n
-.model t
-.inputs clk e
-.outputs q
-.names e q d
-01 1
-10 1
-.latch d q re clk 0
+%n < toggle
+.end
+=>
 .names e q
 1 1
 .end
-%$ desync run n v
-%$ desync clock n v
+%$ < both
 %= 1
 n: net q driven twice: table at 8 and latch at 7
-%n
-.model t
-.inputs clk e
-.outputs q
-.names e q d
-01 1
-10 1
-.latch d q re clk 0
+%n < toggle
+.end
+=>
 .names clk d2
 .end
-%$ desync run n v
-%$ desync clock n v
+%$ < both
 %= 1
 n: clock clk used as data
-%n
-.model t
-.inputs clk e
-.outputs q
-.names e q d
-01 1
-10 1
-.latch d q re clk 0
+%n < toggle
+.end
+=>
 .names e clk
 .end
-%$ desync run n v
-%$ desync clock n v
+%$ < both
 %= 1
 n: clock clk is driven
-%n
-.model t
-.inputs clk e
-.outputs q
-.names e q d
-01 1
-10 1
-.latch d q re clk 0
+%n < toggle
+.end
+=>
 .latch d r fe clk
 .end
-%$ desync run n v
-%$ desync clock n v
+%$ < both
 %= 1
 n: mixed edges: q and r
 ";

@@ -8,20 +8,7 @@ use std::thread::Threads;
 // Graphs of one cluster that reads vectors, outputs and itself; of two registers in a row, in two
 // clusters and in one; and of two clusters that feed each other.
 const GRAPHS: &str = "%$ desync graph toggle --clusters each
-%= 0
-.model toggle
-.outputs IN OUT M0 S0
-.graph
-IN+ IN- M0+
-IN- IN+
-OUT+ OUT-
-OUT- OUT+ S0+
-M0+ M0- S0+
-M0- IN+ M0+ S0+
-S0+ OUT+ M0+ S0-
-S0- M0+ S0+
-.marking { <IN-,IN+> <OUT-,OUT+> <M0-,IN+> <M0-,M0+> <S0+,OUT+> <S0+,M0+> <S0-,M0+> <S0-,S0+> }
-.end
+%= 0 < graph
 %$ desync graph shift --clusters each
 %= 0
 .model shift
@@ -43,20 +30,10 @@ S1- M1+ S1+
     <S1+,OUT+> <S1-,M1+> <S1-,S1+> }
 .end
 %$ desync graph shift --clusters one
-%= 0
+%= 0 < graph
+.model toggle
+=>
 .model shift
-.outputs IN OUT M0 S0
-.graph
-IN+ IN- M0+
-IN- IN+
-OUT+ OUT-
-OUT- OUT+ S0+
-M0+ M0- S0+
-M0- IN+ M0+ S0+
-S0+ OUT+ M0+ S0-
-S0- M0+ S0+
-.marking { <IN-,IN+> <OUT-,OUT+> <M0-,IN+> <M0-,M0+> <S0+,OUT+> <S0+,M0+> <S0-,M0+> <S0-,S0+> }
-.end
 %n
 .model b
 .inputs a

@@ -19,16 +19,7 @@ M0 open 1
 %= 0
 q: -
 fired 2 of 8
-%l
-OUT+ 1
-IN+ 1
-M0+ 1
-OUT- 1
-M0- 1
-S0+ 1
-S0- 1
-IN- 1
-%$ desync replay toggle v l --transparent
+%$ desync replay toggle v turn --transparent
 %= 0
 q: 1
 fired 8 of 8
@@ -142,19 +133,12 @@ q: -
 fired 2 of 8
 IN open -
 M0 open 1
-%n
-.model w
-.inputs a
-.outputs y
-.names a y
-1 1
-.end
 %v
 x
 %l
 IN+ 1
 OUT+ 1
-%$ desync replay n v l --transparent
+%$ desync replay wire v l --transparent
 %= 0
 fired 2 of 4
 IN open x

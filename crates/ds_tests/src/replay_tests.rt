@@ -5,16 +5,7 @@ use std::test::Fail;
 // Netlists with vectors and logs, the last one with a register in a copy, and their states.
 const STATES: &str = "%v
 1
-%l
-OUT+ 1
-IN+ 1
-M0+ 1
-OUT- 1
-M0- 1
-S0+ 1
-S0- 1
-IN- 1
-%$ desync replay toggle v l
+%$ desync replay toggle v turn
 %= 0
 q: 1
 fired 8 of 8
@@ -52,24 +43,11 @@ M0+ 2
 q0: 1
 q1: -
 fired 10 of 24
-%n
-.model top
-.outputs y
-.subckt t o=y
-.end
-.model t
-.outputs o
-.names q d
-0 1
-.names q o
-1 1
-.latch d q 0
-.end
 %v
 -
 %l
 M0+ 1
-%$ desync replay n v l
+%$ desync replay copy v l
 %= 0
 1/q: -
 fired 1 of 8

@@ -13,15 +13,7 @@ use std::thread::Threads;
 
 // The expansions of a wire and of a register that feeds itself, their ranks, and runs over the
 // second one. Data edges are numbered by producer, and then by consumer.
-const EXPANSIONS: &str = "%w
-.model w
-.inputs a
-.outputs y
-.names a y
-1 1
-.end
-%$ desync graph w --shake
-%= 0
+const EXPANSIONS: &str = "%wired
 .model w
 .outputs IN OUT
 .internal r0 a0
@@ -36,22 +28,9 @@ a0+ IN+ r0-
 a0- r0+ a0+
 .marking { <IN-,IN+> <OUT-,OUT+> <a0+,IN+> <a0-,r0+> <a0-,a0+> }
 .end
-%g
-.model w
-.outputs IN OUT
-.internal r0 a0
-.graph
-IN+ IN- r0+
-IN- IN+
-OUT+ OUT-
-OUT- OUT+ a0+
-r0+ OUT+
-r0- a0-
-a0+ IN+ r0-
-a0- r0+ a0+
-.marking { <IN-,IN+> <OUT-,OUT+> <a0+,IN+> <a0-,r0+> <a0-,a0+> }
-.end
-%$ desync accept w g
+%$ desync graph wire --shake
+%= 0 < wired
+%$ desync accept wire wired
 %= 0
 accepted
 IN+ 0
@@ -62,73 +41,42 @@ r0+ 1
 r0- 5
 a0+ 4
 a0- 6
+%toggled
+.model toggle
+.outputs IN OUT M0 S0
+.internal r0 a0 r1 a1 r2 a2 r3 a3
+.graph
+IN+ IN- r0+
+IN- IN+
+OUT+ OUT-
+OUT- OUT+ a2+
+M0+ M0- r1+
+M0- M0+ a0+ a3+
+S0+ S0- r2+ r3+
+S0- S0+ a1+
+r0+ M0+
+r0- a0-
+a0+ IN+ r0-
+a0- r0+ a0+
+r1+ S0+
+r1- a1-
+a1+ M0+ r1-
+a1- r1+ a1+
+r2+ OUT+
+r2- a2-
+a2+ S0+ r2-
+a2- r2+ a2+
+r3+ M0+
+r3- a3-
+a3+ S0+ r3-
+a3- r3+ a3+
+.marking { <IN-,IN+> <OUT-,OUT+> <M0-,M0+> <S0-,S0+> <a0+,IN+> <a0-,r0+> <a0-,a0+> \
+    <a1+,M0+> <a1-,r1+> <a1-,a1+> <r2+,OUT+> <a2-,a2+> <r3+,M0+> <a3-,a3+> }
+.end
 %$ desync graph toggle --shake
 %$ desync graph toggle --shake --clusters one
-%= 0
-.model toggle
-.outputs IN OUT M0 S0
-.internal r0 a0 r1 a1 r2 a2 r3 a3
-.graph
-IN+ IN- r0+
-IN- IN+
-OUT+ OUT-
-OUT- OUT+ a2+
-M0+ M0- r1+
-M0- M0+ a0+ a3+
-S0+ S0- r2+ r3+
-S0- S0+ a1+
-r0+ M0+
-r0- a0-
-a0+ IN+ r0-
-a0- r0+ a0+
-r1+ S0+
-r1- a1-
-a1+ M0+ r1-
-a1- r1+ a1+
-r2+ OUT+
-r2- a2-
-a2+ S0+ r2-
-a2- r2+ a2+
-r3+ M0+
-r3- a3-
-a3+ S0+ r3-
-a3- r3+ a3+
-.marking { <IN-,IN+> <OUT-,OUT+> <M0-,M0+> <S0-,S0+> <a0+,IN+> <a0-,r0+> <a0-,a0+> \
-    <a1+,M0+> <a1-,r1+> <a1-,a1+> <r2+,OUT+> <a2-,a2+> <r3+,M0+> <a3-,a3+> }
-.end
-%g
-.model toggle
-.outputs IN OUT M0 S0
-.internal r0 a0 r1 a1 r2 a2 r3 a3
-.graph
-IN+ IN- r0+
-IN- IN+
-OUT+ OUT-
-OUT- OUT+ a2+
-M0+ M0- r1+
-M0- M0+ a0+ a3+
-S0+ S0- r2+ r3+
-S0- S0+ a1+
-r0+ M0+
-r0- a0-
-a0+ IN+ r0-
-a0- r0+ a0+
-r1+ S0+
-r1- a1-
-a1+ M0+ r1-
-a1- r1+ a1+
-r2+ OUT+
-r2- a2-
-a2+ S0+ r2-
-a2- r2+ a2+
-r3+ M0+
-r3- a3-
-a3+ S0+ r3-
-a3- r3+ a3+
-.marking { <IN-,IN+> <OUT-,OUT+> <M0-,M0+> <S0-,S0+> <a0+,IN+> <a0-,r0+> <a0-,a0+> \
-    <a1+,M0+> <a1-,r1+> <a1-,a1+> <r2+,OUT+> <a2-,a2+> <r3+,M0+> <a3-,a3+> }
-.end
-%$ desync accept toggle g
+%= 0 < toggled
+%$ desync accept toggle toggled
 %= 0
 accepted
 IN+ 0
@@ -155,19 +103,9 @@ r3+ 7
 r3- 5
 a3+ 4
 a3- 6
-%v
-1
-1
-0
-1
-%$ desync run toggle v --graph g
-%$ desync run toggle v --graph g --jobs 4
-%= 0
-0 0 0
-1 1 1
-2 0 0
-3 0 0
-end 1
+%$ desync run toggle four --graph toggled
+%$ desync run toggle four --graph toggled --jobs 4
+%= 0 < trace
 ";
 
 #[test]

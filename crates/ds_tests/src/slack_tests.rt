@@ -1,5 +1,4 @@
 //! Producers that run ahead: which logs and which graphs are taken, and what is no slack.
-use crate::accept_tests::play_edits;
 use ds_trial::play;
 use std::test::Fail;
 
@@ -31,27 +30,22 @@ l:3: not enabled: M0- to IN+
 1
 0
 1
-%l
+%ahead
 IN+ 1
 IN- 1
 IN+ 2
 IN- 2
 IN+ 3
-%$ desync replay shift v l --slack 1
+%$ desync replay shift v ahead --slack 1
 %= 1
-l:5: not enabled: M0- to IN+
+ahead:5: not enabled: M0- to IN+
 %$ desync run shift v --slack 3 --jobs 4
 %= 0
 0 0 00
 1 0 10
 2 1 01
 end 10
-%l
-IN+ 1
-IN- 1
-IN+ 2
-IN- 2
-IN+ 3
+%l < ahead
 M0+ 1
 M0- 1
 M0+ 2
@@ -67,26 +61,12 @@ fn a_log_may_run_ahead_by_the_slack(rt: HostRuntime) -> Result<(), Fail> {
     play(&rt, LOGS, 8)
 }
 
-// Graphs of the toggle, each with the lines behind `=>` in place of those before it: without the
-// order from M0- to IN+, and with so many tokens of it.
-const GRAPHS: &str = "%~
-.model toggle
-=>
-.model toggle
-%v
-1
-1
-0
-1
-%$ desync run toggle v --graph g
-%$ desync run toggle v --graph g --slack 2
-%= 0
-0 0 0
-1 1 1
-2 0 0
-3 0 0
-end 1
-%~
+// Graphs of the toggle: its own, one without the order from M0- to IN+, and those with so many
+// tokens of it.
+const GRAPHS: &str = "%$ desync run toggle four --graph graph
+%$ desync run toggle four --graph graph --slack 2
+%= 0 < trace
+%g < graph
 M0- IN+ M0+ S0+
 S0+ OUT+ M0+ S0-
 S0- M0+ S0+
@@ -96,38 +76,33 @@ M0- M0+ S0+
 S0+ OUT+ M0+ S0-
 S0- M0+ S0+
 .marking { <IN-,IN+> <OUT-,OUT+> <M0-,M0+> <S0+,OUT+> <S0+,M0+> <S0-,M0+> <S0-,S0+> }
-%$ desync run toggle v --graph g --slack 2
+%$ desync run toggle four --graph g --slack 2
 %= 1
 g: missing order M0- to IN+ with 3 tokens (no walk)
 %$ desync accept toggle g
 %= 1
 g: missing order M0- to IN+ with 1 tokens (no walk)
-%~
+%g < graph
 <M0-,IN+> <M0-,M0+> <S0+,OUT+> <S0+,M0+> <S0-,M0+> <S0-,S0+> }
 =>
 <M0-,IN+>=3 <M0-,M0+> <S0+,OUT+> <S0+,M0+> <S0-,M0+> <S0-,S0+> }
-%$ desync run toggle v --graph g --slack 2
-%= 0
-0 0 0
-1 1 1
-2 0 0
-3 0 0
-end 1
-%$ desync run toggle v --graph g --slack 1
+%$ desync run toggle four --graph g --slack 2
+%= 0 < trace
+%$ desync run toggle four --graph g --slack 1
 %= 1
 g: missing order M0- to IN+ with 2 tokens (least walk 3)
-%~
+%g < graph
 <M0-,IN+> <M0-,M0+> <S0+,OUT+> <S0+,M0+> <S0-,M0+> <S0-,S0+> }
 =>
 <M0-,IN+>=4 <M0-,M0+> <S0+,OUT+> <S0+,M0+> <S0-,M0+> <S0-,S0+> }
-%$ desync run toggle v --graph g --slack 2
+%$ desync run toggle four --graph g --slack 2
 %= 1
 g: missing order M0- to IN+ with 3 tokens (least walk 4)
 ";
 
 #[test]
 fn graphs_are_accepted_against_the_widened_orders(rt: HostRuntime) -> Result<(), Fail> {
-    play_edits(&rt, GRAPHS, 7)
+    play(&rt, GRAPHS, 7)
 }
 
 // No slack, or none that the command takes.

@@ -8,7 +8,7 @@ use Rattle.std.proofs.lemmas.List.{append-nil, length-map}
 use Rattle.std.proofs.lemmas.List.Elements.{All-cons, All-nil}
 use Rattle.ds_base.specs.Values.{Row}
 use Rattle.ds_marked.specs.Graph.{Graph, IsLive}
-use Rattle.ds_marked.specs.Window.{IsWindow, Window, joined}
+use Rattle.ds_marked.specs.Window.{IsWindow, Window, joined_windows}
 use Rattle.ds_marked.proofs.Joined.{lists_in_windows}
 use Rattle.ds_cover.specs.Cover.{value_at, values_at}
 use Rattle.ds_design.specs.Circuit.{Circuit, data_nets, initial_row}
@@ -33,7 +33,7 @@ two_windows : (g : Graph) → IsLive g → (turns more : ℕ) (events firings : 
 two_windows g live turns more events firings first second =
     let one : Window = record { turns = turns; firings = events } in
     let two : Window = record { turns = more; firings = firings } in
-    let both : IsWindow g (joined (one ∷ two ∷ [])) =
+    let both : IsWindow g (joined_windows (one ∷ two ∷ [])) =
     lists_in_windows g live (one ∷ two ∷ []) (All-cons (IsWindow g) one (two ∷ []) first
     (All-cons (IsWindow g) two [] second (All-nil (IsWindow g)))) in
     let long : turns + (more + 0) ≡ turns + more = ap (λ (n : ℕ). turns + n) (add-zero more) in

@@ -17,7 +17,7 @@ use Rattle.ds_latch.specs.Node.{Slave, Split, members, number_of}
 use Rattle.ds_latch.specs.Plan.{IsSplit}
 use Rattle.ds_latch.specs.Firing.{AreRegisters}
 use Rattle.ds_rule.specs.Run.{Run}
-use Rattle.ds_rule.specs.Words.{values_at as stored_at}
+use Rattle.ds_rule.specs.Words.{node_values as stored_at}
 use Rattle.ds_fabric.proofs.Unpacks.{code_small}
 use Rattle.ds_trace.specs.Line.{AreSpread}
 

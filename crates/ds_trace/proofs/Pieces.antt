@@ -15,14 +15,14 @@ use Rattle.ds_design.specs.Trace.{value_text, values_text}
 use Rattle.ds_rows.specs.Log.{at_place, value_words}
 use Rattle.ds_rows.proofs.ValueWords.{value_words_more}
 use Rattle.ds_rule.specs.Run.{Run}
-use Rattle.ds_rule.specs.Words.{value, values_at}
+use Rattle.ds_rule.specs.Words.{value, node_values}
 use Rattle.ds_trace.specs.Latched.{word_values}
 
 -- a word of a value is that of its part
 value-part : (run : Run) (l i k : ℕ) → value run l k i ≡ word_of (word_values run l i k) 0
 unfolding value
 value-part run l i k = ap number_of_values
-    (sym (take-take 32 32 (drop (32 * i) (values_at run l k)) (omega arith)))
+    (sym (take-take 32 32 (drop (32 * i) (node_values run l k)) (omega arith)))
 
 -- one word more
 pub words_more : (run : Run) (l i from n w : ℕ) (words : List ℕ) → w ≡ value run l (from + n + 1) i
@@ -38,12 +38,12 @@ words_more run l i from n w words is so_far = let k : from + n + 1 ≡ from + 1 
 
 -- the value at a place of each value of a node
 abbrev pub values_of : Run → ℕ → ℕ → ℕ → Value
-values_of run l place k = value_at (values_at run l k) place
+values_of run l place k = value_at (node_values run l k) place
 
 -- a value stands in its part
 value-in-part : (run : Run) (l place k : ℕ)
     → value_at (word_values run l (place / 32) k) (place % 32) ≡ values_of run l place k
-value-in-part run l place k = let row : Row = values_at run l k in
+value-in-part run l place k = let row : Row = node_values run l k in
     let cut : 32 * (place / 32) + place % 32 ≡ place = omega arith in
     get_or-take 32 (drop (32 * (place / 32)) row) (place % 32) Zero (omega arith)
     ∙ (get_or-drop (32 * (place / 32)) row (place % 32) Zero
@@ -55,8 +55,8 @@ map_same f g same (x ∷ xs) = ap (λ y. y ∷ map f xs) (same x)
     ∙ ap (λ ys. g x ∷ ys) (map_same f g same xs)
 
 pub places-of : (run : Run) (l place : ℕ) (ks : List ℕ)
-    → at_place place (map (values_at run l) ks) ≡ map (values_of run l place) ks
-places-of run l place ks = map-map (λ (row : Row). value_at row place) (values_at run l) ks
+    → at_place place (map (node_values run l) ks) ≡ map (values_of run l place) ks
+places-of run l place ks = map-map (λ (row : Row). value_at row place) (node_values run l) ks
 
 places-part : (run : Run) (l place : ℕ) (ks : List ℕ)
     → at_place (place % 32) (map (word_values run l (place / 32)) ks)
@@ -109,7 +109,7 @@ text_more run l place done count some = let g : ℕ → Value = values_of run l 
 -- and of all of them
 pub text_all : (run : Run) (l place rows : ℕ) → 0 < rows
     → map value_text (map (values_of run l place) (range_with_len 1 rows))
-    ≡ values_text (at_place place (map (values_at run l) (range_with_len 1 rows)))
+    ≡ values_text (at_place place (map (node_values run l) (range_with_len 1 rows)))
 text_all run l place rows some = sym (ap values_text (places-of run l place (range_with_len 1 rows))
     ∙ text-some (map (values_of run l place) (range_with_len 1 rows))
     (omega (arith, length-of (values_of run l place) 1 rows)))

@@ -5,6 +5,7 @@ use Rattle.std.proofs.Common.{refl, ap, sym, subst, arith, Result, Ok, Err}
 use Rattle.std.specs.Prelude.{min, slice_index_or, OnOk}
 use Rattle.std.specs.List.{flat_map, range_with_len}
 use Rattle.std.proofs.lemmas.List.{get_or_default, length-map}
+use Rattle.ds_base.specs.Word.{count_of_words}
 use Rattle.ds_base.specs.Values.{Row}
 use Rattle.ds_design.specs.Circuit.{Circuit, register_nets}
 use Rattle.ds_latch.specs.Firing.{State}
@@ -18,9 +19,8 @@ use Rattle.ds_rows.specs.Nets.{register_of}
 use Rattle.ds_rows.specs.StateText.{IsStateText}
 use Rattle.ds_rows.specs.declared.homes.Home.{Home}
 use Rattle.ds_rule.specs.Rule.{tickets}
-use Rattle.ds_rule.specs.Words.{words_of}
 use Rattle.ds_rule.proofs.PlaceLaws.{width-is}
-use Rattle.ds_fabric.specs.Showing.{IsFired, Recorder}
+use Rattle.ds_fabric.specs.Showing.{IsFiredInOrder, Recorder}
 use Rattle.ds_run.specs.Halted.{IsHalted, most_firings}
 use Rattle.ds_run.specs.Played.{IsRecordOf}
 use Rattle.ds_run.specs.Stored.{IsRecorded, rows_told}
@@ -42,7 +42,7 @@ has_words p vectors r is = record {
   near = λ i inside. record_near p vectors r is (Slave i) inside;
   wide = λ i inside.
       width-is r.shown.view.run (number_of (Slave i))
-      ∙ ap words_of (is.planned.lengths_are.of_node (Slave i) inside
+      ∙ ap count_of_words (is.planned.lengths_are.of_node (Slave i) inside
       ∙ length-map (members p.split i) (λ q. slice_index_or (register_nets p.split.circuit) q 0));
 }
 
@@ -87,7 +87,7 @@ state_left p vectors r homes events now is many are =
 -- with a log of its firings it is the text of a stopped run
 text_left : (wanted : Bool) (stop jobs : ℕ) (p : Planned) (vectors : List Row) (r : Recorder)
     (homes : List Home) (events rest : List ℕ) → IsHalted stop jobs p vectors r
-    → AreHomes p.split homes → IsFired r.shown.view.run (tickets r.shown.view) events
+    → AreHomes p.split homes → IsFiredInOrder r.shown.view.run (tickets r.shown.view) events
     → IsLogBehind wanted p.graph events rest
     → IsStoppedText wanted stop jobs p vectors (homes_text p vectors r homes ++ rest)
 text_left wanted stop jobs p vectors r homes events rest is are fired behind =

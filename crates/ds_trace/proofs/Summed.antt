@@ -15,7 +15,7 @@ use Rattle.ds_clocked.specs.Loop.{IsWrittenTo}
 use Rattle.ds_clocked.proofs.Turns.{last_turn, no_turn, whole_trace}
 use Rattle.ds_demo.specs.Fold.{Folded, nothing, fold_after}
 use Rattle.ds_demo.proofs.Sums.{fold_after-append, sum_of_text}
-use Rattle.ds_rule.specs.Words.{values_at as stored_at}
+use Rattle.ds_rule.specs.Words.{node_values as stored_at}
 use Rattle.ds_fabric.specs.Showing.{Recorder}
 use Rattle.ds_run.specs.Layout.{AreValues}
 use Rattle.ds_trace.specs.declared.sums.Sums.{Sums}

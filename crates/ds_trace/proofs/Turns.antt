@@ -13,7 +13,7 @@ use Rattle.ds_outside.specs.Writes.{GoesOn}
 use Rattle.ds_rows.proofs.Then.{with_text}
 use Rattle.ds_clocked.specs.Loop.{IsWrittenTo}
 use Rattle.ds_clocked.proofs.Turns.{one_turn}
-use Rattle.ds_rule.specs.Words.{values_at as stored_at}
+use Rattle.ds_rule.specs.Words.{node_values as stored_at}
 use Rattle.ds_fabric.specs.Showing.{Recorder}
 use Rattle.ds_run.specs.Layout.{AreValues}
 use Rattle.ds_trace.specs.declared.line.Line.{Line}

@@ -2,6 +2,7 @@
 use Rattle.std.specs.Prelude.{◌≡◌, ◌≢◌, ℕ, ◌<◌, ◌≤◌, ⊤, Bool, true, false, List, ◌++◌, length}
 use Rattle.std.specs.Prelude.{Option, None, Some, Result, Err, OnOk, slice_index_or}
 use Rattle.std.specs.List.{flat_map, range_with_len}
+use Rattle.ds_base.specs.Word.{count_of_words}
 use Rattle.ds_base.specs.Values.{Row}
 use Rattle.ds_marked.specs.Graph.{Graph}
 use Rattle.ds_latch.specs.Node.{Slave, Split, members, number_of}
@@ -14,8 +15,8 @@ use Rattle.ds_rows.specs.Log.{at_place, fired_line, stored_text}
 use Rattle.ds_rows.specs.Nets.{register_of}
 use Rattle.ds_rows.specs.declared.homes.Home.{Home}
 use Rattle.ds_rule.specs.Rule.{tickets}
-use Rattle.ds_rule.specs.Words.{width, words_of}
-use Rattle.ds_fabric.specs.Showing.{IsFired, Recorder}
+use Rattle.ds_rule.specs.Words.{width}
+use Rattle.ds_fabric.specs.Showing.{IsFiredInOrder, Recorder}
 use Rattle.ds_run.specs.Halted.{IsHalted, most_firings}
 use Rattle.ds_run.specs.Stored.{rows_told}
 use Rattle.ds_trace.specs.Ended.{IsLogPart}
@@ -26,7 +27,7 @@ use Rattle.ds_trace.specs.declared.left.Left.{Left}
 
 -- the firings of a record, the first one first, and a count for each event
 pub record IsLogOfRecord (g : Graph) (r : Recorder) (log : Listed) : Type 0 where
-  pub listed : IsFired r.shown.view.run (tickets r.shown.view) log.events
+  pub listed : IsFiredInOrder r.shown.view.run (tickets r.shown.view) log.events
   pub kinds : log.kinds ≡ length g.events
 
 -- these where a log is wanted, and none where not
@@ -47,7 +48,7 @@ pub record IsLeftOf (wanted : Bool) (stop jobs : ℕ) (p : Planned) (vectors : L
 pub record HasWords (s : Split) (r : Recorder) : Type 0 where
   pub near : (i : ℕ) → i < length s.clusters → number_of (Slave i) < r.shown.view.run.latches
   pub wide : (i : ℕ) → i < length s.clusters
-      → width r.shown.view.run (number_of (Slave i)) ≡ words_of (length (members s i))
+      → width r.shown.view.run (number_of (Slave i)) ≡ count_of_words (length (members s i))
 
 -- the line of a register, by where the registers stand
 abbrev pub home_line : Split → Recorder → List Home → ℕ → List ℕ

@@ -5,7 +5,7 @@ use Rattle.ds_cover.specs.Cover.{value_at, values_at}
 use Rattle.ds_latch.specs.Node.{Split, number_of}
 use Rattle.ds_latch.specs.Firing.{AreRegisters}
 use Rattle.ds_rule.specs.Run.{Run}
-use Rattle.ds_rule.specs.Words.{values_at as stored_at}
+use Rattle.ds_rule.specs.Words.{node_values as stored_at}
 use Rattle.ds_trace.specs.declared.line.Line.{Line}
 
 -- each row of a line has its length

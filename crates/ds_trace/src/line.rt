@@ -4,7 +4,7 @@ ghost use Rattle.ds_base.specs.Values.{Row};
 ghost use Rattle.ds_base.specs.Word.{number_of_values};
 ghost use Rattle.ds_rule.specs.Run.{closing};
 ghost use Rattle.ds_rule.specs.Rule.{tickets};
-ghost use Rattle.ds_rule.specs.Words.{values_at};
+ghost use Rattle.ds_rule.specs.Words.{node_values};
 ghost use Rattle.ds_run.specs.Played.{HasSlaves};
 ghost use Rattle.ds_trace.specs.Line.{AreSpread, HasLine, IsGathered};
 
@@ -60,7 +60,7 @@ fn spread_row(fired: &Record, slave: LatchId, k: usize, members: &[RegId], regis
     requires stored { k < length (tickets fired.now.shown.view (closing slave)) }
     requires wide { slice_index fired.now.shown.view.run.lengths slave ≡ length members.now }
     requires within { All (λ r. r < length registers.old) members.now }
-    ensures { AreSpread members.now (values_at fired.now.shown.view.run slave (k + 1))
+    ensures { AreSpread members.now (node_values fired.now.shown.view.run slave (k + 1))
         registers.old registers.new }
 {
     let mut rest = members;

@@ -3,7 +3,7 @@
 ghost use Rattle.std.specs.Prelude.{◌≡◌, ◌<◌, ℕ, List, [], All, IfOk, OnErr, OnOk, length};
 ghost use Rattle.std.specs.Prelude.{replicate};
 ghost use Rattle.ds_marked.specs.Graph.{IsLegal};
-ghost use Rattle.ds_fabric.specs.Showing.{IsFired};
+ghost use Rattle.ds_fabric.specs.Showing.{IsFiredInOrder};
 ghost use Rattle.ds_rule.specs.Rule.{tickets};
 ghost use Rattle.ds_rows.specs.Log.{firing_text};
 ghost use Rattle.ds_outside.specs.Writes.{GoesOn};

@@ -1,14 +1,18 @@
 //! Runs of the program over files in memory, for the tests of it as a whole.
 //!
 //! `gives` does one run and says whether it gives what is wanted, and `printed` has what a run
-//! writes. `play` takes a text that tells runs: which files there are, which command lines are
-//! given, and what each of these answers and leaves on its outputs. A part of the text that is told
-//! wrong, or whose runs gave something else, is the failure of the test that plays it. Nothing is
+//! writes. `play` takes a script, a text that tells runs: which files there are, which command
+//! lines are given, and what each of these answers and leaves on its outputs. A part of the script
+//! that is told wrong, or whose runs gave something else, is the failure of the test that plays it.
+//! Texts that many tests use stand here, each as a file that is there from the start. Nothing is
 //! promised by contracts: the calls of the program below promise, and the tests above compare.
 #![tactic(auto)]
 
 mod script;
+mod spelled;
+mod texts;
 mod trial;
 
-pub use script::play;
-pub use trial::{RING, SHIFT, TOGGLE, Wanted, files, gives, printed};
+pub use script::{play, play_behind};
+pub use texts::{GRAPH, RANKS, RING, SHIFT, TOGGLE};
+pub use trial::{Wanted, files, gives, printed};

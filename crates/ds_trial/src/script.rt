@@ -1,6 +1,6 @@
-//! Texts that tell runs of the program, and what these are to give.
+//! Scripts: texts that tell runs of the program, and what these are to give.
 //!
-//! Each part of such a text begins with `%`, and its first line says what its further lines are:
+//! Each part of a script begins with `%`, and its first line says what its further lines are:
 //!
 //! | First line | Further lines |
 //! |---|---|
@@ -9,8 +9,12 @@
 //! | `%= STATUS` | what each command line since the last such part writes |
 //!
 //! It is written to the output where the status is 0, else to the error output, and nothing to the
-//! other one. The files `toggle` and `shift` are there from the start.
-use crate::trial::{SHIFT, TOGGLE, Wanted, gives};
+//! other one. A first line `%NAME < FILE` or `%= STATUS < FILE` stands for the text of FILE as it
+//! is there: with the further lines behind it, or, where one of these is `=>`, with those behind
+//! that line in place of those before it. A part `%$ < FILE` is all command lines of FILE. The
+//! files of the module `texts` are there from the start.
+use crate::spelled::spelled_out;
+use crate::trial::{Wanted, gives};
 use ds_base::OutOfMemory;
 use std::alloc::Global;
 use std::test::Fail;
@@ -27,15 +31,12 @@ struct Script<'t> {
 }
 
 impl<'t> Script<'t> {
-    fn new(alloc: Global) -> Result<Self, OutOfMemory> {
-        let mut script = Script {
+    fn new(alloc: Global) -> Self {
+        Script {
             files: Vec::new(alloc),
             lines: Vec::new(alloc),
             runs: 0,
-        };
-        script.hold("toggle", TOGGLE)?;
-        script.hold("shift", SHIFT)?;
-        Ok(script)
+        }
     }
 
     // The first part of a text that is none, or whose runs gave something else.
@@ -76,10 +77,10 @@ impl<'t> Script<'t> {
         }
     }
 
-    // Puts a file before all others.
+    // Puts a file before all others, and says whether its name is one: it has no space.
     fn hold(&mut self, name: &'t str, text: &'t str) -> Result<bool, OutOfMemory> {
         self.files.insert(0, (name, text))?;
-        Ok(true)
+        Ok(!name.contains(' '))
     }
 
     // Whether each command line that is yet to be run gives this, and there is one.
@@ -103,12 +104,23 @@ impl<'t> Script<'t> {
     }
 }
 
-/// Does all runs of a text, which are so many, and each of which gives what the text says. Else the
-/// failure names the first part that is none or whose runs gave something else, or tells that it is
-/// of their number.
+/// Does all runs of a script, which are so many, and each of which gives what the script says. Else
+/// the failure names the first part that is none or whose runs gave something else, or tells that
+/// it is of their number.
 pub fn play<R: AllocGlobal + Threads + Sync>(rt: &R, text: &str, runs: usize) -> Result<(), Fail> {
-    let mut script = Script::new(rt.alloc())?;
-    match script.first_wrong(rt, text)? {
+    play_behind(rt, "", text, runs)
+}
+
+/// Does all runs of a script, which are so many, behind parts with files that it uses.
+pub fn play_behind<R: AllocGlobal + Threads + Sync>(
+    rt: &R,
+    before: &str,
+    text: &str,
+    runs: usize,
+) -> Result<(), Fail> {
+    let text = spelled_out(rt.alloc(), before, text)?;
+    let mut script = Script::new(rt.alloc());
+    match script.first_wrong(rt, text.as_str())? {
         None if script.is_over(runs) => Ok(()),
         wrong => Err(Fail::new(wrong.unwrap_or("another number of runs"))),
     }

@@ -5,18 +5,6 @@ use ds_outside::{Entry, Gate, MemoryFiles, MemorySink, OpenGate};
 use std::alloc::{AllocError, Global};
 use std::thread::Threads;
 
-/// A register that toggles where its input is 1.
-pub const TOGGLE: &str = ".model toggle\n.inputs clk e\n.outputs q\n.names e q d\n01 1\n10 1\n\
-     .latch d q re clk 0\n.end\n";
-
-/// Two tables in a ring.
-pub const RING: &str =
-    ".model ring\n.inputs a\n.outputs y\n.names a z y\n11 1\n.names y z\n0 1\n.end\n";
-
-/// Two registers, the second behind the first.
-pub const SHIFT: &str =
-    ".model shift\n.inputs a\n.outputs q1\n.latch a q0 re clk 0\n.latch q0 q1 re clk 0\n.end\n";
-
 // A text as a list of bytes.
 fn bytes(alloc: Global, text: &str) -> Result<Name, AllocError> {
     Ok(Seq::of(Vec::from_slice(alloc, text.as_bytes())?))

@@ -4,7 +4,7 @@ use mathlib.Core.Option.{some}
 use lib.ListN.{get_elem?}
 use Rattle.atomic_table.specs.Seated.{TableId}
 use Rattle.ds_fabric.specs.Showing.{Showing}
-use Rattle.ds_turnstile.specs.Turns.{Sat, Alone, HasNone, has_out, taken, nodes, base}
+use Rattle.ds_turnstile.specs.Turns.{TurnSeat, Alone, HasNone, has_out, taken, nodes_of_key, base}
 use Rattle.ds_turnstile.specs.Turns.{fabric_of, run_of}
 use Rattle.ds_turnstile.specs.declared.turn_view.TurnView.{TurnView}
 use Rattle.ds_turnstile.specs.declared.turning.Key.{Key}
@@ -36,7 +36,7 @@ AreAlone ps = (l : ℕ) (p : Showing) → get_elem? ps l ≡ some p
     → Alone (fabric_of ps) (run_of ps) l p
 
 -- a turnstile of these passes, and the turn that has all parts and no node out
-pub record IsOpened (ps : List Showing) (turns : ℕ) (s : Stile) (t : Turned) : Type 0 where
+pub record IsTurnstileOpened (ps : List Showing) (turns : ℕ) (s : Stile) (t : Turned) : Type 0 where
   pub given_is : s.given ≡ ps
   pub turns_is : s.turns ≡ turns
   pub belongs : IsTurnOf s t
@@ -47,7 +47,7 @@ pub record IsOpened (ps : List Showing) (turns : ℕ) (s : Stile) (t : Turned) :
   pub won : t.view.won ≡ 0
 
 -- the node is out with f firings, one take more is won, and all else is as it was
-pub record Takes (v w : TurnView) (l f : ℕ) : Type 0 where
+pub record TakesPass (v w : TurnView) (l f : ℕ) : Type 0 where
   pub out : has_out w l ≡ true
   pub taken_is : taken w l ≡ f
   pub others : (j : ℕ) → j ≢ l → (has_out w j ≡ has_out v j) × (taken w j ≡ taken v j)
@@ -67,7 +67,7 @@ pub record Misses (v w : TurnView) (l : ℕ) : Type 0 where
   pub made : w.made ≡ v.made
 
 -- the node is home with f firings, and all else is as it was
-pub record Gives (v w : TurnView) (l f : ℕ) : Type 0 where
+pub record GivesBack (v w : TurnView) (l f : ℕ) : Type 0 where
   pub home : has_out w l ≡ false
   pub others : (j : ℕ) → j ≢ l → (has_out w j ≡ has_out v j) × (taken w j ≡ taken v j)
   pub made : w.made ≡ v.made + (f - taken v l)
@@ -77,13 +77,13 @@ pub record Gives (v w : TurnView) (l f : ℕ) : Type 0 where
   pub missed_node : w.missed_node ≡ v.missed_node
 
 -- the passes are back in order, each alone with its node, with so many firings more
-pub record IsClosed (s : Stile) (made : ℕ) (ps : List Showing) : Type 0 where
+pub record IsTurnstileClosed (s : Stile) (made : ℕ) (ps : List Showing) : Type 0 where
   pub long : length ps ≡ length s.given
   pub each : (l : ℕ) (p : Showing) → get_elem? ps l ≡ some p → IsPassOf s l p
   pub sum : base 0 ps ≡ base 0 s.given + made
 
 -- the memory of a turn, beside its view
-pub record IsTurn (id : TableId) (me : Sat) (parts : ℕ) : Type 0 where
+pub record IsTurn (id : TableId) (me : TurnSeat) (parts : ℕ) : Type 0 where
   pub no_slot : me.1 ≡ []
   pub live : me.0.live ≡ true
   pub idle : me.0.busy ≡ 0
@@ -93,6 +93,6 @@ pub record IsTurn (id : TableId) (me : Sat) (parts : ℕ) : Type 0 where
 
 -- the memory of a turnstile: a word and a slot a node
 pub record IsStile (id : TableId) (k : Key) : Type 0 where
-  pub words : id.words ≡ nodes k
-  pub slots : id.slots ≡ nodes k
-  pub some_nodes : 0 < nodes k
+  pub words : id.words ≡ nodes_of_key k
+  pub slots : id.slots ≡ nodes_of_key k
+  pub some_nodes : 0 < nodes_of_key k

@@ -65,8 +65,8 @@ abbrev pub taken : TurnView → ℕ → ℕ
 taken v l = slice_index v.taken l
 
 -- how many nodes there are
-abbrev pub nodes : Key → ℕ
-nodes k = length k.passes.value.items
+abbrev pub nodes_of_key : Key → ℕ
+nodes_of_key k = length k.passes.value.items
 
 -- the fabric of a list of passes, which is that of the first
 abbrev pub fabric_of : List Showing → TableId
@@ -97,30 +97,30 @@ pub record Turning (k : Key) (s : State Slot TurnView) : Type 0 where
   pub fires : ℕ → ℕ
   pub owner : ℕ → ℕ
   -- each node has a word, which is 0 or 1, and a slot
-  pub wide : length s.words ≡ nodes k
-  pub slots : length s.homes ≡ nodes k
-  pub bits : (l : ℕ) → l < nodes k
+  pub wide : length s.words ≡ nodes_of_key k
+  pub slots : length s.homes ≡ nodes_of_key k
+  pub bits : (l : ℕ) → l < nodes_of_key k
       → (slice_index s.words l ≡ 0) ⊎ (slice_index s.words l ≡ 1)
   -- at home the slot has the pass; else one turn has the node out, and the slot is empty
-  pub home : (l : ℕ) → l < nodes k → slice_index s.words l ≡ 0 → (p : Showing)
+  pub home : (l : ℕ) → l < nodes_of_key k → slice_index s.words l ≡ 0 → (p : Showing)
       × (get_elem? s.homes l ≡ some (some (Some p))) × Alone (fabric k) (run k) l p
       × (seen p.view l ≡ fires l)
-  pub away : (l : ℕ) → l < nodes k → slice_index s.words l ≡ 1 → (v : TurnView)
+  pub away : (l : ℕ) → l < nodes_of_key k → slice_index s.words l ≡ 1 → (v : TurnView)
       × (get_elem? s.views (owner l) ≡ some v) × (v.live ≡ true) × (has_out v l ≡ true)
       × (v.busy ≢ l + 1 → get_elem? s.homes l ≡ some (some None))
   pub outs : (id : ℕ) (v : TurnView) (l : ℕ) → get_elem? s.views id ≡ some v → v.live ≡ true
-      → has_out v l ≡ true → (l < nodes k) × (slice_index s.words l ≡ 1) × (owner l ≡ id)
+      → has_out v l ≡ true → (l < nodes_of_key k) × (slice_index s.words l ≡ 1) × (owner l ≡ id)
       × (taken v l ≡ fires l)
   -- each turn that is live is of this many nodes, and has a part
   pub long : (id : ℕ) (v : TurnView) → get_elem? s.views id ≡ some v → v.live ≡ true
-      → (length v.out ≡ nodes k) × (length v.taken ≡ nodes k) × (0 < v.parts)
+      → (length v.out ≡ nodes_of_key k) × (length v.taken ≡ nodes_of_key k) × (0 < v.parts)
       × (v.fabric ≡ fabric k) × (v.run ≡ run k)
   -- all parts together are the turns, and what was made is what the firings grew by
   pub few : k.turns < 4294967296
   pub spent_made : (id : ℕ) (v : TurnView) → get_elem? s.views id ≡ some v → v.live ≡ false
       → v.made ≡ 0
   pub whole : sum_by (λ (v : TurnView). v.parts) s.views ≡ k.turns
-  pub total : sum_below fires (nodes k)
+  pub total : sum_below fires (nodes_of_key k)
       ≡ base 0 k.passes.value.items + sum_by (λ (v : TurnView). v.made) s.views
 
 -- the turn that has all parts
@@ -130,8 +130,8 @@ first_turn k = record {
   fabric = fabric k;
   run = run k;
   parts = k.turns;
-  out = replicate (nodes k) false;
-  taken = replicate (nodes k) 0;
+  out = replicate (nodes_of_key k) false;
+  taken = replicate (nodes_of_key k) 0;
   busy = 0;
   made = 0;
   missed = 0;
@@ -140,16 +140,16 @@ first_turn k = record {
 }
 
 -- a turn's seat: what it knows, and the slots that it has in hand
-abbrev pub Sat : Type 0
-Sat = Me Slot TurnView
+abbrev pub TurnSeat : Type 0
+TurnSeat = Me Slot TurnView
 
 -- what a step tells: of the seat before, the number found, and the seat after
-abbrev pub Play : Type 1
-Play = Step Slot → Sat → ℕ → Sat → Type 0
+abbrev pub TurnPlay : Type 1
+TurnPlay = Step Slot → TurnSeat → ℕ → TurnSeat → Type 0
 
 -- after a take that had the pass, with so many firings
-abbrev pub after_take : TurnView → ℕ → ℕ → TurnView
-after_take v l f = record v {
+abbrev pub after_won_take : TurnView → ℕ → ℕ → TurnView
+after_won_take v l f = record v {
   out = slice_set v.out l true;
   taken = slice_set v.taken l f;
   busy = l + 1;
@@ -169,10 +169,10 @@ after_give v l f = record v {
 }
 
 -- the word was home, and the turn has the pass; or it was out
-abbrev pub took : Play
+abbrev pub took : TurnPlay
 took st m r n =
     (r ≡ 0 → (p : Showing) × Alone m.0.fabric m.0.run st.word p × (st.word < length m.0.out)
-    × (n ≡ (after_take m.0 st.word (seen p.view st.word), (st.word, Some p) ∷ m.1)))
+    × (n ≡ (after_won_take m.0 st.word (seen p.view st.word), (st.word, Some p) ∷ m.1)))
     × (r ≢ 0 → n ≡ (after_miss m.0 st.word, m.1))
 
 -- the turn has no slot in hand
@@ -180,19 +180,19 @@ abbrev pub rested : TurnView → TurnView
 rested v = record v { busy = 0 }
 
 -- the slot, now empty, goes home
-abbrev pub rests_now : Play
+abbrev pub rests_now : TurnPlay
 rests_now st m r n = n ≡ (rested m.0, [])
 
 -- all parts together are few
-abbrev pub learned : Play
-learned st m r n = (n ≡ m) × (m.0.parts < 4294967296)
+abbrev pub learned_parts : TurnPlay
+learned_parts st m r n = (n ≡ m) × (m.0.parts < 4294967296)
 
 -- the empty slot of a node that is out comes to hand
-abbrev pub fetched : Play
+abbrev pub fetched : TurnPlay
 fetched st m r n = n ≡ (record m.0 { busy = st.word + 1 }, (st.word, None) ∷ [])
 
 -- the slot goes home with the pass, and the word says so
-abbrev pub gave : Play
+abbrev pub gave : TurnPlay
 gave st m r n = (p : Showing) → m.1 ≡ (st.word, Some p) ∷ []
     → n ≡ (after_give m.0 st.word (seen p.view st.word), [])
 
@@ -226,8 +226,8 @@ joined v w = record v {
 }
 
 -- what is left of the second
-abbrev pub spent : TurnView
-spent = record {
+abbrev pub spent_turn : TurnView
+spent_turn = record {
   live = false;
   fabric = no_table;
   run = no_run;

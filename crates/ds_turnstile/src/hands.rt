@@ -1,8 +1,8 @@
 //! The steps of a turn, by its seat.
 ghost use Rattle.std.specs.Prelude.{◌≡◌, ◌<◌, ◌≤◌, ◌+◌, ℕ, [], true, false, MatchOption};
 ghost use Rattle.ds_rule.specs.Rule.{seen};
-ghost use Rattle.ds_turnstile.specs.Turns.{Alone, HasNone, has_out, taken, nodes};
-ghost use Rattle.ds_turnstile.specs.Turns.{after_take, after_miss, after_give, rested};
+ghost use Rattle.ds_turnstile.specs.Turns.{Alone, HasNone, has_out, taken, nodes_of_key};
+ghost use Rattle.ds_turnstile.specs.Turns.{after_won_take, after_miss, after_give, rested};
 ghost use Rattle.ds_turnstile.specs.Turns.{keeps_parts, one_part, joined};
 
 use crate::turning::{Board, Fetch, Give, Learn, Merge, Part, Rest, Seated, Take};
@@ -11,7 +11,7 @@ use ds_fabric::Pass;
 /// The pass of the node, where it is at home.
 pub fn take(board: &Board, seat: &mut Seated, node: usize) -> Option<Pass>
     requires table { (seat.old.table_id ≡ board.now.table_id) × (node < board.now.table_id.words)
-        × (board.now.table_id.words ≡ nodes board.now.key) }
+        × (board.now.table_id.words ≡ nodes_of_key board.now.key) }
     requires idle { (seat.old.me.1 ≡ []) × (seat.old.me.0.live ≡ true)
         × (seat.old.me.0.busy ≡ 0) }
     requires home { has_out seat.old.me.0 node ≡ false }
@@ -20,7 +20,7 @@ pub fn take(board: &Board, seat: &mut Seated, node: usize) -> Option<Pass>
     ensures idle { seat.new.me.1 ≡ [] }
     ensures told { MatchOption result (seat.new.me.0 ≡ after_miss seat.old.me.0 node)
         (λ p. Alone seat.old.me.0.fabric seat.old.me.0.run node p
-        × (seat.new.me.0 ≡ rested (after_take seat.old.me.0 node (seen p.view node)))) }
+        × (seat.new.me.0 ≡ rested (after_won_take seat.old.me.0 node (seen p.view node)))) }
 {
     if board.compare_exchange::<Take>(seat, node, 0, 1) != 0 {
         return None;

@@ -1,6 +1,7 @@
 //! The rule of a turnstile, and its steps.
 ghost use Rattle.ds_turnstile.specs.Turns.{Turning, first_turn, took, rests_now, fetched, gave};
-ghost use Rattle.ds_turnstile.specs.Turns.{learned, keeps_parts, one_part, joined, spent};
+ghost use Rattle.ds_turnstile.specs.Turns.{learned_parts, keeps_parts, one_part, joined};
+ghost use Rattle.ds_turnstile.specs.Turns.{spent_turn};
 
 use crate::turn_view::TurnView;
 use atomic_table::{Join, Play, Seat, Shared, Split, TableRule};
@@ -55,7 +56,7 @@ impl Play<Option<Pass>, TurnView> for Give {
 pub struct Learn;
 
 impl Play<Option<Pass>, TurnView> for Learn {
-    ghost then = { learned };
+    ghost then = { learned_parts };
 }
 
 /// One part of a turn goes to a new turn.
@@ -73,7 +74,7 @@ pub struct Merge;
 impl Join<TurnView> for Merge {
     ghost both = { joined };
 
-    ghost spent = { spent };
+    ghost spent = { spent_turn };
 }
 
 /// The table, as its steps see it.

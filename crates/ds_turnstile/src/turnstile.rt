@@ -3,8 +3,9 @@ ghost use Rattle.std.specs.Prelude.{◌≡◌, ◌<◌, ◌≤◌, ◌+◌, [], 
 ghost use Rattle.std.specs.Prelude.{IfOk, OnOk, OnErr, IfSome, IfNone, vec_capacity};
 ghost use Rattle.ds_rule.specs.Rule.{seen};
 ghost use Rattle.ds_turnstile.specs.Turns.{HasNone, has_out, taken, keeps_parts, one_part, joined};
-ghost use Rattle.ds_turnstile.specs.Shown.{AreAlone, IsOpened, IsTurnOf, IsPassOf, Takes, Misses};
-ghost use Rattle.ds_turnstile.specs.Shown.{Gives, IsClosed};
+ghost use Rattle.ds_turnstile.specs.Shown.{AreAlone, IsTurnstileOpened, IsTurnOf, IsPassOf};
+ghost use Rattle.ds_turnstile.specs.Shown.{TakesPass, Misses};
+ghost use Rattle.ds_turnstile.specs.Shown.{GivesBack, IsTurnstileClosed};
 
 use crate::hands;
 use crate::shelf::{rooms, shelve, unshelve};
@@ -51,7 +52,7 @@ impl Turnstile {
         requires alone { AreAlone passes.old.items }
         requires turns { 0 < turns }
 
-        ensures ok { IfOk result (λ r. IsOpened passes.old.items turns r.0 r.1) }
+        ensures ok { IfOk result (λ r. IsTurnstileOpened passes.old.items turns r.0 r.1) }
         ensures ok_none { OnOk result (passes.new.items ≡ []) }
         ensures same { OnErr result (passes.new.items ≡ passes.old.items) }
         ensures room { vec_capacity passes.new ≡ vec_capacity passes.old }
@@ -110,7 +111,7 @@ impl Turnstile {
         ensures fits { IsTurnOf self.now turn.new }
         ensures pass { IfSome result (λ p. IsPassOf self.now node p) }
         ensures took { IfSome result (λ p.
-            Takes turn.old.view turn.new.view node (seen p.view node)) }
+            TakesPass turn.old.view turn.new.view node (seen p.view node)) }
         ensures missed { IfNone result (Misses turn.old.view turn.new.view node) }
     {
         hands::take(&self.table.shared, &mut turn.seat, node.index())
@@ -124,7 +125,7 @@ impl Turnstile {
         requires up { taken turn.old.view node ≤ seen pass.view node }
 
         ensures fits { IsTurnOf self.now turn.new }
-        ensures gave { Gives turn.old.view turn.new.view node (seen pass.view node) }
+        ensures gave { GivesBack turn.old.view turn.new.view node (seen pass.view node) }
     {
         hands::give(&self.table.shared, &mut turn.seat, node.index(), pass);
     }
@@ -144,7 +145,7 @@ impl Turnstile {
         requires whole { turn.view.parts ≡ self.turns }
         requires none { HasNone turn.view }
         requires room { (into.old.items ≡ []) × (length self.given ≤ vec_capacity into.old) }
-        ensures { IsClosed self turn.view.made into.new.items }
+        ensures { IsTurnstileClosed self turn.view.made into.new.items }
     {
         let Turnstile { table } = self;
         let Turn { seat, parts: _ } = turn;

@@ -10,7 +10,7 @@ use Rattle.ds_rule.specs.Rule.{holds, seen}
 use Rattle.ds_rule.specs.declared.view.View.{View}
 use Rattle.ds_rule.proofs.Lists.{has_below, replicate-default}
 use Rattle.ds_fabric.specs.Base.{Base}
-use Rattle.ds_fabric.specs.Showing.{Showing, IsBegun, IsDealt, IsLeft}
+use Rattle.ds_fabric.specs.Showing.{Showing, IsFabricBegun, IsDealt, IsLeft}
 use Rattle.ds_turnstile.specs.Turns.{Alone, base}
 use Rattle.ds_turnstile_tests.specs.Trio.{trio, CarriesFrom, CarriesOne, AreTrio}
 
@@ -21,7 +21,7 @@ all_three (suc (suc zero)) h = refl
 all_three (suc (suc (suc l))) h = absurd (omega arith)
 
 -- the first pass
-pub begun : (run : Run) (f : Base) (p : Showing) → run ≡ trio → IsBegun run f p → CarriesFrom 0 f p
+pub begun : (run : Run) (f : Base) (p : Showing) → run ≡ trio → IsFabricBegun run f p → CarriesFrom 0 f p
 begun run f p is b = record {
   run_is = b.run_is ∙ is;
   belongs = record { table = b.belongs.table; run = b.belongs.run };

@@ -11,9 +11,9 @@ use Rattle.ds_fabric.specs.Base.{Base}
 use Rattle.ds_fabric.specs.Showing.{Showing}
 use Rattle.ds_turnstile.specs.Turns.{Alone, HasNone, fabric_of, run_of, keeps_parts, one_part}
 use Rattle.ds_turnstile.specs.Turns.{has_out, base}
-use Rattle.ds_turnstile.specs.Shown.{Stile, Turned, AreAlone, IsOpened, IsTurnOf, IsClosed}
+use Rattle.ds_turnstile.specs.Shown.{Stile, Turned, AreAlone, IsTurnstileOpened, IsTurnOf, IsTurnstileClosed}
 use Rattle.ds_turnstile.specs.declared.turn_view.TurnView.{TurnView}
-use Rattle.ds_turnstile_tests.specs.Trio.{AreTrio, IsStile, IsIdle}
+use Rattle.ds_turnstile_tests.specs.Trio.{AreTrio, IsTrioStile, IsIdle}
 
 -- passes of one fabric, of which the first tells which it is
 pub of_one : (f : Base) (ps : List Showing) → AreTrio f ps
@@ -28,7 +28,7 @@ all_alone f ps t l p at = let o = of_one f ps t in
 
 -- the turnstile that is built of them
 pub opened : (f : Base) (ps : List Showing) (s : Stile) (t : Turned) → AreTrio f ps → base 0 ps ≡ 0
-    → IsOpened ps 2 s t → IsStile f s
+    → IsTurnstileOpened ps 2 s t → IsTrioStile f s
 opened f ps s t a unfired o = let q = of_one f ps a in record {
   run_is = a.run_is;
   long = ap (λ (xs : List Showing). length xs) o.given_is ∙ a.long;
@@ -40,7 +40,7 @@ opened f ps s t a unfired o = let q = of_one f ps a in record {
 
 -- the turn that was split, and the new one
 pub kept : (f : Base) (ps : List Showing) (s : Stile) (t u : Turned) (scratch : Kept) → Remembers f.memory scratch
-    → IsOpened ps 2 s t → IsTurnOf s u → u.view ≡ keeps_parts t.view → IsIdle f s u scratch
+    → IsTurnstileOpened ps 2 s t → IsTurnOf s u → u.view ≡ keeps_parts t.view → IsIdle f s u scratch
 kept f ps s t u scratch remembers o fits is = record {
   belongs = fits;
   none = λ l. ap (λ (v : TurnView). has_out v l) is ∙ o.none l;
@@ -58,7 +58,7 @@ new f s t u scratch remembers fits is none = record {
 }
 
 -- the passes that come back
-pub back : (f : Base) (s : Stile) (made : ℕ) (ps : List Showing) → IsStile f s → IsClosed s made ps
+pub back : (f : Base) (s : Stile) (made : ℕ) (ps : List Showing) → IsTrioStile f s → IsTurnstileClosed s made ps
     → AreTrio f ps
 back f s made ps g c = record {
   run_is = g.run_is;

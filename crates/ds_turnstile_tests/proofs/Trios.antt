@@ -8,12 +8,12 @@ use Rattle.ds_base.specs.declared.value.Value.TheVariants.{Zero}
 use Rattle.ds_base.specs.Word.{word_of}
 use Rattle.ds_rule.specs.Plays.{listed}
 use Rattle.ds_rule.specs.Rows.{row}
-use Rattle.ds_rule.specs.Words.{width, size, value, values_at}
+use Rattle.ds_rule.specs.Words.{width, size, value, node_values}
 use Rattle.ds_rule.specs.Sound.{IsSound}
 use Rattle.ds_turnstile_tests.specs.Trio.{trio}
 
 -- the values of a node in a turn
-zero_at : (l k : ℕ) → l < 3 → k ≤ 2 → values_at trio l k ≡ Zero ∷ []
+zero_at : (l k : ℕ) → l < 3 → k ≤ 2 → node_values trio l k ≡ Zero ∷ []
 zero_at l k h h' = let below : k * 3 + l < 9 = omega (arith, h, h') in
     get_or-replicate 9 (k * 3 + l) (Zero ∷ []) [] below
 
@@ -28,7 +28,7 @@ one_at_most (suc zero) = omega arith
 one_at_most (suc (suc zero)) = omega arith
 one_at_most (suc (suc (suc l))) = omega arith
 
-one_value : (l k : ℕ) → l < 3 → k ≤ 2 → length (values_at trio l k) ≡ get_or trio.lengths l 0
+one_value : (l k : ℕ) → l < 3 → k ≤ 2 → length (node_values trio l k) ≡ get_or trio.lengths l 0
 one_value l k h h' =
     ap (λ (r : Row). length r) (zero_at l k h h') ∙ sym (get_or-replicate 3 l 1 0 h)
 

@@ -54,7 +54,7 @@ pub record AreTrio (f : Base) (ps : List Showing) : Type 0 where
   pub each : (l : ℕ) (p : Showing) → get_elem? ps l ≡ some p → Alone f.table_id f.run l p
 
 -- a turnstile of two turns, with such passes that had not fired
-pub record IsStile (f : Base) (s : Stile) : Type 0 where
+pub record IsTrioStile (f : Base) (s : Stile) : Type 0 where
   pub run_is : f.run ≡ trio
   pub long : length s.given ≡ 3
   pub fabric_of_given : fabric_of s.given ≡ f.table_id

@@ -7,7 +7,7 @@ ghost use Rattle.ds_rule.specs.Rule.{seen};
 ghost use Rattle.ds_fabric.specs.Showing.{Showing};
 ghost use Rattle.ds_turnstile.specs.Turns.{base};
 ghost use Rattle.ds_turnstile.specs.Shown.{Misses};
-ghost use Rattle.ds_turnstile_tests.specs.Trio.{AreTrio, IsStile, IsIdle, IsFresh};
+ghost use Rattle.ds_turnstile_tests.specs.Trio.{AreTrio, IsTrioStile, IsIdle, IsFresh};
 
 use crate::trio::Trio;
 use ds_base::{LatchId, OutOfMemory};
@@ -32,7 +32,7 @@ pub fn set_up(
     requires trio { AreTrio fabric.now passes.old.items × (base 0 passes.old.items ≡ 0) }
     requires room { 3 ≤ vec_capacity passes.old }
 
-    ensures ok { IfOk result (λ r. IsStile fabric.now r.0
+    ensures ok { IfOk result (λ r. IsTrioStile fabric.now r.0
         × IsIdle fabric.now r.0 r.1.turn r.1.scratch × IsIdle fabric.now r.0 r.2.turn r.2.scratch) }
     ensures fresh { IfOk result (λ r. IsFresh r.1.turn.view × IsFresh r.2.turn.view) }
     ensures none { OnOk result (passes.new.items ≡ []) }
@@ -59,7 +59,7 @@ pub fn fires(
     node: u32,
     times: u32,
 ) -> Option<u64>
-    requires stile { IsStile fabric.now stile.now × (node < 3) }
+    requires stile { IsTrioStile fabric.now stile.now × (node < 3) }
     requires idle { IsIdle fabric.now stile.now hand.old.turn hand.old.scratch }
 
     ensures idle { IsIdle fabric.now stile.now hand.new.turn hand.new.scratch }
@@ -85,7 +85,7 @@ pub fn shut(
     two: Hand,
     passes: &mut Vec<Pass>,
 ) -> (u64, u64, u64)
-    requires stile { IsStile fabric.now stile }
+    requires stile { IsTrioStile fabric.now stile }
     requires idle { IsIdle fabric.now stile one.turn one.scratch
         × IsIdle fabric.now stile two.turn two.scratch }
     requires room { (passes.old.items ≡ []) × (3 ≤ vec_capacity passes.old) }

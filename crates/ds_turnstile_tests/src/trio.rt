@@ -6,7 +6,7 @@ ghost use Rattle.ds_turnstile_tests.specs.Trio.{CarriesOne, AreTrio};
 
 use ds_base::{LatchId, OutOfMemory};
 use ds_fabric::{Compute, Fabric, Pass};
-use ds_rule::{Layout, Rows};
+use ds_rule::{Layout, Rows, Sizes};
 use ds_scratch::Scratch;
 use std::alloc::Global;
 
@@ -53,7 +53,13 @@ pub fn layout(alloc: Global) -> Result<Layout<Trio>, OutOfMemory>
     let arcs = Vec::new(alloc);
     let edges = Vec::new(alloc);
     let lengths = Vec::from_array(alloc, [1, 1, 1])?;
-    Ok(Layout::of(3, 2, arcs, 2, edges, lengths, 0, Trio))
+    let sizes = Sizes {
+        nodes: 3,
+        latches: 2,
+        limit: 2,
+        slack: 0,
+    };
+    Ok(Layout::of(sizes, arcs, edges, lengths, Trio))
 }
 
 /// The table in which nothing has fired, and a pass for each node.

@@ -1,6 +1,6 @@
 //! Two turns on three nodes, on one thread and on two.
 ghost use Rattle.std.specs.Prelude.{◌≡◌, IsTrue};
-ghost use Rattle.ds_turnstile_tests.specs.Trio.{IsStile, IsIdle, IsFresh, HasMissed};
+ghost use Rattle.ds_turnstile_tests.specs.Trio.{IsTrioStile, IsIdle, IsFresh, HasMissed};
 
 use crate::hand::{Hand, fires, set_up, shut};
 use crate::trio::{Trio, begin, layout};
@@ -12,7 +12,7 @@ use std::thread::Threads;
 
 // While the first hand has the pass of node 1, the second misses it.
 fn misses(fabric: &Fabric<Trio, Trio>, stile: &Turnstile, one: &mut Hand, two: &mut Hand) -> bool
-    requires stile { IsStile fabric.now stile.now }
+    requires stile { IsTrioStile fabric.now stile.now }
     requires one { IsIdle fabric.now stile.now one.old.turn one.old.scratch }
     requires two { IsIdle fabric.now stile.now two.old.turn two.old.scratch
         × IsFresh two.old.turn.view }
@@ -57,7 +57,7 @@ fn both_at_once(
     one: &mut Hand,
     two: &mut Hand,
 ) -> (Option<u64>, Option<u64>)
-    requires stile { IsStile fabric.now stile.now }
+    requires stile { IsTrioStile fabric.now stile.now }
     requires one { IsIdle fabric.now stile.now one.old.turn one.old.scratch }
     requires two { IsIdle fabric.now stile.now two.old.turn two.old.scratch }
     ensures one { IsIdle fabric.now stile.now one.new.turn one.new.scratch }

@@ -10,7 +10,7 @@ use Rattle.ds_marked.specs.Graph.{Graph, Walk, stay, along, IsArc}
 use Rattle.ds_marked.specs.declared.marked.Arc.{Arc}
 use Rattle.ds_walk.specs.Masks.{AreAllIn, along_arcs}
 use Rattle.ds_walk.specs.Sums.{AreLeastSums, IsLeast}
-use Rattle.ds_walk.specs.Lowered.{AreBounded, AreWalkSums, IsAtMost, IsBelow, IsLowAt, IsLowering, height, heights, one_if_some, reached, sum_at}
+use Rattle.ds_walk.specs.Lowered.{AreSumsBounded, AreWalkSums, IsAtMost, IsBelow, IsLowAt, IsLowering, height, heights, one_if_some, reached, sum_at}
 use Rattle.ds_walk.proofs.Found.{walk_in}
 use Rattle.ds_walk.proofs.Steps.{one_of}
 
@@ -26,14 +26,14 @@ one_at_most None = omega arith
 one_at_most (Some sum) = omega arith
 
 -- with few events no sum is large
-pub small : (sums : List (Option ℕ)) → length sums < 2 ^ 32 → AreBounded sums → (v sum : ℕ) → sum_at sums v ≡ Some sum → sum < 2 ^ 40
+pub small : (sums : List (Option ℕ)) → length sums < 2 ^ 32 → AreSumsBounded sums → (v sum : ℕ) → sum_at sums v ≡ Some sum → sum < 2 ^ 40
 small sums few bounded v sum e =
     let most : reached sums ≤ length sums * 1 = sum_by-le one_if_some 1 sums (λ k d inside. one_at_most (get_or sums k d)) in
     let low : sum ≤ 255 * reached sums = bounded v sum e in
     omega arith
 
 module _ (arcs : List Arc) where
-  pub lower_none : (P : List (Option ℕ) → Type 0) (sums : List (Option ℕ)) → AreBounded sums → P sums → IsLowering arcs P sums sums false
+  pub lower_none : (P : List (Option ℕ) → Type 0) (sums : List (Option ℕ)) → AreSumsBounded sums → P sums → IsLowering arcs P sums sums false
   lower_none P sums bounded p = record {
     size = refl;
     bounded = bounded;
@@ -85,7 +85,7 @@ module _ (arcs : List Arc) where
 
 -- one arc
 module _ (arcs : List Arc) (arc : Arc) (old : List (Option ℕ)) (sum : ℕ) (in_arcs : Contains arcs arc) (inside : arc.target < length old)
-    (bounded : AreBounded old) (source : sum_at old arc.source ≡ Some sum) (fits : sum + arc.tokens < 2 ^ 64) (tokens : arc.tokens < 2 ^ 8) where
+    (bounded : AreSumsBounded old) (source : sum_at old arc.source ≡ Some sum) (fits : sum + arc.tokens < 2 ^ 64) (tokens : arc.tokens < 2 ^ 8) where
   abbrev new : List (Option ℕ)
   new = set old arc.target (Some (sum + arc.tokens))
 
@@ -160,7 +160,7 @@ module _ (arcs : List Arc) (arc : Arc) (old : List (Option ℕ)) (sum : ℕ) (in
   })
 
 -- an arc that is low
-pub low_arc : (arcs : List Arc) (arc : Arc) (sums : List (Option ℕ)) (sum : ℕ) → AreBounded sums → sum_at sums arc.source ≡ Some sum
+pub low_arc : (arcs : List Arc) (arc : Arc) (sums : List (Option ℕ)) (sum : ℕ) → AreSumsBounded sums → sum_at sums arc.source ≡ Some sum
     → ¬ IsBelow (sum + arc.tokens) (sum_at sums arc.target) → IsLowering arcs (λ sums. IsLowAt sums arc) sums sums false
 low_arc arcs arc sums sum bounded source none = lower_none arcs (λ sums. IsLowAt sums arc) sums bounded
     (λ s e. let same : s ≡ sum = one_sum s sum (sym e ∙ source) in
@@ -171,7 +171,7 @@ low_arc arcs arc sums sum bounded source none = lower_none arcs (λ sums. IsLowA
     at_most (Some s) n none = elim (cases_lt n s) [ inl below ↦ absurd (none below) | inr above ↦ (s, refl, above) ]
 
 -- an arc whose source has no sum
-pub no_source : (arcs : List Arc) (arc : Arc) (sums : List (Option ℕ)) → AreBounded sums → sum_at sums arc.source ≡ None
+pub no_source : (arcs : List Arc) (arc : Arc) (sums : List (Option ℕ)) → AreSumsBounded sums → sum_at sums arc.source ≡ None
     → IsLowering arcs (λ sums. IsLowAt sums arc) sums sums false
 no_source arcs arc sums bounded none = lower_none arcs (λ sums. IsLowAt sums arc) sums bounded (λ s e. absurd (let f : None ≡ Some s = sym none ∙ e in cc))
 

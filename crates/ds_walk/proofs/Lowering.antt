@@ -3,10 +3,10 @@ use Rattle.std.proofs.Common.{◌∙◌, ℕ, List, refl, Bool, Option}
 use Rattle.std.specs.Prelude.{Contains}
 use Rattle.std.proofs.lemmas.List.Elements.{All-contains}
 use Rattle.ds_marked.specs.declared.marked.Arc.{Arc}
-use Rattle.ds_walk.specs.Lowered.{AreBounded, AreLowered, IsLowering}
+use Rattle.ds_walk.specs.Lowered.{AreSumsBounded, AreLowered, IsLowering}
 
 module _ (known : List Arc) where
-  pub lowered_none : (sums : List (Option ℕ)) → AreBounded sums → AreLowered known sums sums
+  pub lowered_none : (sums : List (Option ℕ)) → AreSumsBounded sums → AreLowered known sums sums
   lowered_none sums bounded = record {
     size = refl;
     bounded = bounded;

@@ -29,8 +29,8 @@ abbrev pub heights : List (Option ℕ) → ℕ
 heights sums = sum_by height sums
 
 -- no sum is above 255 for each event that has one
-abbrev pub AreBounded : List (Option ℕ) → Type 0
-AreBounded sums = (v sum : ℕ) → sum_at sums v ≡ Some sum → sum ≤ 255 * reached sums
+abbrev pub AreSumsBounded : List (Option ℕ) → Type 0
+AreSumsBounded sums = (v sum : ℕ) → sum_at sums v ≡ Some sum → sum ≤ 255 * reached sums
 
 -- each sum is that of a walk
 abbrev pub AreWalkSums : List Arc → ℕ → List (Option ℕ) → Type 0
@@ -55,7 +55,7 @@ IsLowAt sums arc = (sum : ℕ) → sum_at sums arc.source ≡ Some sum
 pub record IsLowering (arcs : List Arc) (low : List (Option ℕ) → Type 0)
     (old new : List (Option ℕ)) (changed : Bool) : Type 0 where
   pub size : length new ≡ length old
-  pub bounded : AreBounded new
+  pub bounded : AreSumsBounded new
   pub walks : (from : ℕ) → AreWalkSums arcs from old → AreWalkSums arcs from new
   pub start : (from : ℕ) → sum_at old from ≡ Some 0 → sum_at new from ≡ Some 0
   pub less : changed ≡ true → heights new < heights old
@@ -65,7 +65,7 @@ pub record IsLowering (arcs : List Arc) (low : List (Option ℕ) → Type 0)
 -- sums after some arcs are taken: each that is that of a walk along these arcs stays one
 pub record AreLowered (known : List Arc) (old new : List (Option ℕ)) : Type 0 where
   pub size : length new ≡ length old
-  pub bounded : AreBounded new
+  pub bounded : AreSumsBounded new
   pub walks : (arcs : List Arc) (from : ℕ) → AreAllIn known arcs → AreWalkSums arcs from old
       → AreWalkSums arcs from new
   pub start : (from : ℕ) → sum_at old from ≡ Some 0 → sum_at new from ≡ Some 0

@@ -1,7 +1,7 @@
 //! Sums that are lowered along arcs, those out of the events with the least sums first.
 ghost use Rattle.std.specs.Prelude.{◌<◌, ◌^◌, length, OnOk};
 ghost use Rattle.ds_marked.specs.Graph.{AreEnds};
-ghost use Rattle.ds_walk.specs.Lowered.{AreBounded, AreLowered};
+ghost use Rattle.ds_walk.specs.Lowered.{AreSumsBounded, AreLowered};
 
 use crate::sums::lower;
 use ds_base::{EventId, OutOfMemory};
@@ -26,7 +26,7 @@ pub(crate) fn lower_nearest(
 ) -> Result<(), OutOfMemory>
     requires ends { AreEnds (length sums.old.items) graph.now.arcs }
     requires few { length sums.old.items < 2 ^ 32 }
-    requires bounded { AreBounded sums.old.items }
+    requires bounded { AreSumsBounded sums.old.items }
     ensures { OnOk result (AreLowered graph.now.arcs sums.old.items sums.new.items) }
 {
     let mut heap: BinaryHeap<Fallen> = BinaryHeap::new(alloc);
@@ -60,7 +60,7 @@ fn lower_from(
 ) -> Result<(), OutOfMemory>
     requires ends { AreEnds (length sums.old.items) graph.now.arcs }
     requires few { length sums.old.items < 2 ^ 32 }
-    requires bounded { AreBounded sums.old.items }
+    requires bounded { AreSumsBounded sums.old.items }
     ensures { OnOk result (AreLowered graph.now.arcs sums.old.items sums.new.items) }
 {
     let range = graph.arcs_from(event);
@@ -78,7 +78,7 @@ fn lower_at(graph: &Marked, place: usize, sums: &mut Vec<Option<u64>>) -> bool
     requires inside { place < length graph.now.arcs }
     requires ends { AreEnds (length sums.old.items) graph.now.arcs }
     requires few { length sums.old.items < 2 ^ 32 }
-    requires bounded { AreBounded sums.old.items }
+    requires bounded { AreSumsBounded sums.old.items }
     ensures { AreLowered graph.now.arcs sums.old.items sums.new.items }
 {
     lower(&graph.arcs()[place], sums)

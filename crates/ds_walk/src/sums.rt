@@ -3,7 +3,7 @@ ghost use Rattle.std.specs.Prelude.{◌≡◌, ◌<◌, ◌^◌, ◌↔◌, ℕ,
 ghost use Rattle.std.specs.Prelude.{None, Some, replicate};
 ghost use Rattle.ds_marked.specs.Graph.{AreEnds};
 ghost use Rattle.ds_walk.specs.Sums.{AreLeastSums};
-ghost use Rattle.ds_walk.specs.Lowered.{AreBounded, AreWalkSums, IsBelow, IsLowAt, IsLowering};
+ghost use Rattle.ds_walk.specs.Lowered.{AreSumsBounded, AreWalkSums, IsBelow, IsLowAt, IsLowering};
 ghost use Rattle.ds_walk.specs.Lowered.{sum_at};
 
 use crate::arcs::arcs_by;
@@ -44,7 +44,7 @@ fn no_sums(alloc: Global, events: usize) -> Result<Vec<Option<u64>>, AllocError>
 fn lower_all(arcs: &[Arc], sums: &mut Vec<Option<u64>>)
     requires ends { AreEnds (length sums.old.items) arcs.now }
     requires few { length sums.old.items < 2 ^ 32 }
-    requires bounded { AreBounded sums.old.items }
+    requires bounded { AreSumsBounded sums.old.items }
     ensures size { length sums.new.items ≡ length sums.old.items }
     ensures walks { (from : ℕ) → AreWalkSums arcs.now from sums.old.items
         → AreWalkSums arcs.now from sums.new.items }
@@ -59,7 +59,7 @@ fn lower_all(arcs: &[Arc], sums: &mut Vec<Option<u64>>)
 fn lower_each(arcs: &[Arc], sums: &mut Vec<Option<u64>>) -> bool
     requires ends { AreEnds (length sums.old.items) arcs.now }
     requires few { length sums.old.items < 2 ^ 32 }
-    requires bounded { AreBounded sums.old.items }
+    requires bounded { AreSumsBounded sums.old.items }
     ensures { IsLowering arcs.now (λ sums. All (IsLowAt sums) arcs.now)
         sums.old.items sums.new.items result }
 {
@@ -76,7 +76,7 @@ pub(crate) fn lower(arc: &Arc, sums: &mut Vec<Option<u64>>) -> bool
     requires ends { (arc.now.source < length sums.old.items)
         × (arc.now.target < length sums.old.items) }
     requires few { length sums.old.items < 2 ^ 32 }
-    requires bounded { AreBounded sums.old.items }
+    requires bounded { AreSumsBounded sums.old.items }
     ensures { (arcs : _) → Contains arcs arc.now → IsLowering arcs
         (λ sums. IsLowAt sums arc.now) sums.old.items sums.new.items result }
 {

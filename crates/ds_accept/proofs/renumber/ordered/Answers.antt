@@ -1,15 +1,15 @@
 use Rattle.std.proofs.Common.{◌∙◌, ◌≡◌, ap, List, map, slice_index, subst, ℕ}
 use Rattle.ds_marked.specs.declared.marked.Arc.{Arc}
 use Rattle.ds_marked.specs.declared.marked.Event.{Event}
-use Rattle.ds_accept.specs.Steps.{AreNumbered, moved}
+use Rattle.ds_accept.specs.Steps.{AreEventsNumbered, moved}
 use Rattle.ds_accept.specs.declared.numbered.Numbered.{Numbered}
 use Rattle.ds_accept.proofs.Numbering.{all_in_room, made, made_ends, made_few, made_once}
 use Rattle.ds_accept.proofs.renumber.ordered.Goals as goal
 
 -- events by other names
-all_of : (known others graph own : List Event) (all : Numbered) → known ≡ others → graph ≡ own → AreNumbered known graph all → AreNumbered others own all
+all_of : (known others graph own : List Event) (all : Numbered) → known ≡ others → graph ≡ own → AreEventsNumbered known graph all → AreEventsNumbered others own all
 all_of known others graph own all e f are =
-    subst (λ (ks : List Event). AreNumbered ks own all) e (subst (λ (es : List Event). AreNumbered known es all) f are)
+    subst (λ (ks : List Event). AreEventsNumbered ks own all) e (subst (λ (es : List Event). AreEventsNumbered known es all) f are)
 
 pub numbers_of-requires-clause-few : goal.numbers_of-requires-clause-few
 numbers_of-requires-clause-few c = rw (c.events-known.ensures.events, c.events-own.ensures.events)
@@ -17,7 +17,7 @@ numbers_of-requires-clause-few c = rw (c.events-known.ensures.events, c.events-o
 
 pub new-requires-clause-ends : goal.new-requires-clause-ends
 new-requires-clause-ends c =
-    let f : AreNumbered c.args.required.now.events c.args.graph.now.events c.in_ok-all.all = all_of _ _ _ _ _ c.events-known.ensures.events c.events-own.ensures.events c.in_ok-all.ensures in
+    let f : AreEventsNumbered c.args.required.now.events c.args.graph.now.events c.in_ok-all.all = all_of _ _ _ _ _ c.events-known.ensures.events c.events-own.ensures.events c.in_ok-all.ensures in
     let arcs : c.in_ok-arcs.arcs.items ≡ map (moved (slice_index c.in_ok-all.all.numbers.items)) c.args.graph.now.arcs
     = c.in_ok-arcs.ensures ∙ (ap (λ (ns : List ℕ). map (moved (slice_index ns)) c.arcs.result.now) c.as_slice.ensures.value
     ∙ ap (λ (xs : List Arc). map (moved (slice_index c.in_ok-all.all.numbers.items)) xs) c.arcs.ensures.arcs) in
@@ -25,7 +25,7 @@ new-requires-clause-ends c =
 
 pub new-requires-clause-once : goal.new-requires-clause-once
 new-requires-clause-once c =
-    let f : AreNumbered c.args.required.now.events c.args.graph.now.events c.in_ok-all.all = all_of _ _ _ _ _ c.events-known.ensures.events c.events-own.ensures.events c.in_ok-all.ensures in
+    let f : AreEventsNumbered c.args.required.now.events c.args.graph.now.events c.in_ok-all.all = all_of _ _ _ _ _ c.events-known.ensures.events c.events-own.ensures.events c.in_ok-all.ensures in
     let arcs : c.in_ok-arcs.arcs.items ≡ map (moved (slice_index c.in_ok-all.all.numbers.items)) c.args.graph.now.arcs
     = c.in_ok-arcs.ensures ∙ (ap (λ (ns : List ℕ). map (moved (slice_index ns)) c.arcs.result.now) c.as_slice.ensures.value
     ∙ ap (λ (xs : List Arc). map (moved (slice_index c.in_ok-all.all.numbers.items)) xs) c.arcs.ensures.arcs) in
@@ -33,7 +33,7 @@ new-requires-clause-once c =
 
 pub new-requires-clause-few : goal.new-requires-clause-few
 new-requires-clause-few c =
-    let f : AreNumbered c.args.required.now.events c.args.graph.now.events c.in_ok-all.all = all_of _ _ _ _ _ c.events-known.ensures.events c.events-own.ensures.events c.in_ok-all.ensures in
+    let f : AreEventsNumbered c.args.required.now.events c.args.graph.now.events c.in_ok-all.all = all_of _ _ _ _ _ c.events-known.ensures.events c.events-own.ensures.events c.in_ok-all.ensures in
     let arcs : c.in_ok-arcs.arcs.items ≡ map (moved (slice_index c.in_ok-all.all.numbers.items)) c.args.graph.now.arcs
     = c.in_ok-arcs.ensures ∙ (ap (λ (ns : List ℕ). map (moved (slice_index ns)) c.arcs.result.now) c.as_slice.ensures.value
     ∙ ap (λ (xs : List Arc). map (moved (slice_index c.in_ok-all.all.numbers.items)) xs) c.arcs.ensures.arcs) in
@@ -41,7 +41,7 @@ new-requires-clause-few c =
 
 pub returns : goal.returns
 returns c =
-    let f : AreNumbered c.args.required.now.events c.args.graph.now.events c.in_ok-all.all = all_of _ _ _ _ _ c.events-known.ensures.events c.events-own.ensures.events c.in_ok-all.ensures in
+    let f : AreEventsNumbered c.args.required.now.events c.args.graph.now.events c.in_ok-all.all = all_of _ _ _ _ _ c.events-known.ensures.events c.events-own.ensures.events c.in_ok-all.ensures in
     let arcs : c.in_ok-arcs.arcs.items ≡ map (moved (slice_index c.in_ok-all.all.numbers.items)) c.args.graph.now.arcs
     = c.in_ok-arcs.ensures ∙ (ap (λ (ns : List ℕ). map (moved (slice_index ns)) c.arcs.result.now) c.as_slice.ensures.value
     ∙ ap (λ (xs : List Arc). map (moved (slice_index c.in_ok-all.all.numbers.items)) xs) c.arcs.ensures.arcs) in

@@ -1,5 +1,6 @@
 use Rattle.std.proofs.Common.{ℕ, List, map, refl, arith}
 use Rattle.std.specs.Borrow.{Bor}
+use Rattle.ds_stage.specs.Ends.{output_between}
 use Rattle.ds_app.specs.Status.{Call}
 use Rattle.ds_app.proofs.Answered.{answered_done, answered_stop, answered_words, stop_is_not_two}
 use Rattle.ds_app.proofs.Interleaved.{interleavings_lem}
@@ -12,8 +13,8 @@ returns-in-Ok-do_job-clause-answered g c =
       held = g.F.Files.held c.args.files.now;
       before = g.F.Files.faults c.args.files.now;
       now = g.F.Files.faults c.do_job.new.files;
-      out = record { old = g.O.Sink.written c.args.out.now; new = g.O.Sink.written c.do_job.new.out; before = g.O.Sink.faults c.args.out.now; now = g.O.Sink.faults c.do_job.new.out };
-      err = record { old = g.E.Sink.written c.args.err.now; new = g.E.Sink.written c.args.err.now; before = g.E.Sink.faults c.args.err.now; now = g.E.Sink.faults c.args.err.now };
+      out = output_between g.O.Sink.written g.O.Sink.faults c.args.out.now c.do_job.new.out;
+      err = output_between g.E.Sink.written g.E.Sink.faults c.args.err.now c.args.err.now;
     } in
     let (text, means, written) = c.in-Ok-do_job.ensures.value in
     answered_done call c.in-Ok.job text c.in-Ok.ensures.value means written refl
@@ -34,14 +35,14 @@ returns-in-Ok-clause-answered g c =
       held = g.F.Files.held c.args.files.now;
       before = g.F.Files.faults c.args.files.now;
       now = g.F.Files.faults c.do_job.new.files;
-      out = record { old = g.O.Sink.written c.args.out.now; new = g.O.Sink.written c.do_job.new.out; before = g.O.Sink.faults c.args.out.now; now = g.O.Sink.faults c.do_job.new.out };
-      err = record { old = g.E.Sink.written c.args.err.now; new = g.E.Sink.written c.say_stop.new.err; before = g.E.Sink.faults c.args.err.now; now = g.E.Sink.faults c.say_stop.new.err };
+      out = output_between g.O.Sink.written g.O.Sink.faults c.args.out.now c.do_job.new.out;
+      err = output_between g.E.Sink.written g.E.Sink.faults c.args.err.now c.say_stop.new.err;
     } in
     answered_stop (Unit {0}) call c.in-Ok.job c.in-Err-do_job.stop c.say_stop.result c.in-Ok.ensures.value c.in-Err-do_job.ensures.value c.say_stop.ensures
 
 pub returns-in-Ok-clause-nothing_read : goal.returns-in-Ok-clause-nothing_read
 returns-in-Ok-clause-nothing_read g c = λ two. absurd (stop_is_not_two c.in-Err-do_job.stop
-    (record { old = g.E.Sink.written c.args.err.now; new = g.E.Sink.written c.say_stop.new.err; before = g.E.Sink.faults c.args.err.now; now = g.E.Sink.faults c.say_stop.new.err })
+    (output_between g.E.Sink.written g.E.Sink.faults c.args.err.now c.say_stop.new.err)
     c.say_stop.result c.say_stop.ensures two)
 
 pub returns : goal.returns
@@ -51,8 +52,8 @@ returns g c =
       held = g.F.Files.held c.args.files.now;
       before = g.F.Files.faults c.args.files.now;
       now = g.F.Files.faults c.args.files.now;
-      out = record { old = g.O.Sink.written c.args.out.now; new = g.O.Sink.written c.args.out.now; before = g.O.Sink.faults c.args.out.now; now = g.O.Sink.faults c.args.out.now };
-      err = record { old = g.E.Sink.written c.args.err.now; new = g.E.Sink.written c.say_usage.new.err; before = g.E.Sink.faults c.args.err.now; now = g.E.Sink.faults c.say_usage.new.err };
+      out = output_between g.O.Sink.written g.O.Sink.faults c.args.out.now c.args.out.now;
+      err = output_between g.E.Sink.written g.E.Sink.faults c.args.err.now c.say_usage.new.err;
     } in
     record {
       answered = answered_words call c.in-Err.fault c.say_usage.result c.in-Err.ensures.value refl c.say_usage.ensures;

@@ -8,7 +8,7 @@ use Rattle.ds_design.specs.Trace.{IsTrace}
 use Rattle.ds_stage.specs.Stage.{OfFile}
 use Rattle.ds_stage.specs.Stages.{netlist_stage}
 use Rattle.ds_app.specs.Job.{clock_stage}
-use Rattle.ds_stage.specs.Ends.{Output, RoseIn}
+use Rattle.ds_stage.specs.Ends.{Output, RoseIn, output_between}
 use Rattle.ds_stage.proofs.Ends.{ended_first, ends_after}
 use Rattle.ds_stage.proofs.Left.{netlist_nothing}
 use Rattle.ds_stage.proofs.Streamed.{streamed_since}
@@ -22,7 +22,7 @@ returns-in_err-netlist-clause-value g c =
     let more : OfFile = RoseIn (g.F.Files.faults c.args.files.now) (g.F.Files.faults c.read_netlist.new.files) in
     let p = err_from_is_err_and c.from_residual.result c.from_residual.ensures.1 in
     rw (p.1, p.2) (ended_first (Unit {0}) (netlist_stage held net) (clock_stage held vec) more
-    (record { old = g.O.Sink.written c.args.out.now; new = g.O.Sink.written c.args.out.now; before = g.O.Sink.faults c.args.out.now; now = g.O.Sink.faults c.args.out.now }) c.in_err-netlist.field-0.0
+    (output_between g.O.Sink.written g.O.Sink.faults c.args.out.now c.args.out.now) c.in_err-netlist.field-0.0
     (netlist_nothing held net) refl c.in_err-netlist.ensures.value)
 
 pub returns-clause-value : goal.returns-clause-value
@@ -33,7 +33,7 @@ returns-clause-value g c =
     let now : Which → List ℕ → ℕ = g.F.Files.faults c.write_clocked.new.files in
     let more : OfFile = RoseIn (g.F.Files.faults c.args.files.now) now in
     let circuit : Circuit = c.in_ok-netlist.netlist in
-    let out : Output = (record { old = g.O.Sink.written c.args.out.now; new = g.O.Sink.written c.write_clocked.new.out; before = g.O.Sink.faults c.args.out.now; now = g.O.Sink.faults c.write_clocked.new.out }) in
+    let out : Output = (output_between g.O.Sink.written g.O.Sink.faults c.args.out.now c.write_clocked.new.out) in
     ends_after (netlist_stage held net) (clock_stage held vec) more out circuit c.in_ok-netlist.ensures.value c.write_clocked.result
     (streamed_since held (g.F.Files.held c.read_netlist.new.files) vec circuit 4294967295 (λ (rows : Rows). IsTrace circuit rows.rows)
     (g.F.Files.faults c.args.files.now) (g.F.Files.faults c.read_netlist.new.files) now c.in_ok-netlist.ensures.same_held c.in_ok-netlist.ensures.never_falls

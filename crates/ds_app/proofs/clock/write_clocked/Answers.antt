@@ -9,7 +9,7 @@ use Rattle.ds_design.specs.Rows.{Rows}
 use Rattle.ds_stream.specs.Stream.{Shown}
 use Rattle.ds_stage.specs.Stage.{OfFile}
 use Rattle.ds_stage.specs.Stages.{trace_stage}
-use Rattle.ds_stage.specs.Ends.{Output, RoseIn}
+use Rattle.ds_stage.specs.Ends.{Output, RoseIn, output_between}
 use Rattle.ds_stage.proofs.Streamed.{AreWritten, GivenOf, memory_stops, none_written, of_many, of_none, unwritten_window, written_more}
 use Rattle.ds_app.proofs.ClockEnds.{ends_part, ends_whole, trace_spells}
 use Rattle.ds_app.proofs.WindowEnds.{is_there, more_here, state_long, stops_here}
@@ -44,7 +44,7 @@ returns-in_err-behind-clause-value g c =
     let now : Which → List ℕ → ℕ = g.F.Files.faults c.read_window.new.files in
     let kept = c.windows.invariant in
     let (rows, is, written) = kept.so_far in
-    let out : Output = (record { old = g.O.Sink.written c.args.out.now; new = g.O.Sink.written c.windows.out; before = g.O.Sink.faults c.args.out.now; now = g.O.Sink.faults c.windows.out }) in
+    let out : Output = (output_between g.O.Sink.written g.O.Sink.faults c.args.out.now c.windows.out) in
     let p = err_from_is_err_and c.from_residual-in_err-behind.result c.from_residual-in_err-behind.ensures.1 in
     rw (p.1, p.2) (stops_here held (g.F.Files.held c.windows.files) kept.same_held vec circuit 4294967295 c.windows.reader kept.of kept.fits
     c.windows.first kept.first_is c.windows.more c.windows-test.true rows is (Unit {0}) (λ (r : Rows). trace_stage circuit r) before mid now kept.never_falls
@@ -57,7 +57,7 @@ returns-in_err-state-clause-value g c =
     let circuit : Circuit = c.args.netlist.now in
     let w : Option (List ℕ) = g.O.Sink.written c.args.out.now in
     let none : OfFile = RoseIn (g.F.Files.faults c.args.files.now) (g.F.Files.faults c.args.files.now) in
-    let out : Output = (record { old = w; new = w; before = g.O.Sink.faults c.args.out.now; now = g.O.Sink.faults c.args.out.now }) in
+    let out : Output = output_between g.O.Sink.written g.O.Sink.faults c.args.out.now c.args.out.now in
     let p = err_from_is_err_and c.from_residual.result c.from_residual.ensures.1 in
     rw (p.1, p.2) (memory_stops (Unit {0}) held vec circuit 4294967295 (λ (r : Rows). trace_stage circuit r) none out 0 [] (initial_row circuit) (of_none (held vec) circuit 4294967295) (none_written circuit w))
 
@@ -75,7 +75,7 @@ returns-in-Err-Write-clause-value g c =
     let kept = c.windows.invariant in
     let (rows, is, written) = kept.so_far in
     let next : List Row = c.in_ok-behind.vectors.rows in
-    let out : Output = (record { old = g.O.Sink.written c.args.out.now; new = g.O.Sink.written c.simulate_from.new.out; before = g.O.Sink.faults c.args.out.now; now = g.O.Sink.faults c.simulate_from.new.out }) in
+    let out : Output = (output_between g.O.Sink.written g.O.Sink.faults c.args.out.now c.simulate_from.new.out) in
     let failed : OfFile = RoseIn (g.F.Files.faults c.args.files.now) (g.F.Files.faults c.read_window.new.files) in
     let wide : All (λ (row : Row). length row ≡ length (columns circuit)) next =
     subst (λ (w : ℕ). All (λ (row : Row). length row ≡ w) next) (c.in_ok-behind.ensures.width ∙ kept.of.width) c.count-turns.ensures.kept.one_width in
@@ -94,7 +94,7 @@ returns-in-Err-Memory-clause-value g c =
     let circuit : Circuit = c.args.netlist.now in
     let (rows, is, written) = c.windows.invariant.so_far in
     let failed : OfFile = RoseIn (g.F.Files.faults c.args.files.now) (g.F.Files.faults c.read_window.new.files) in
-    let out : Output = (record { old = g.O.Sink.written c.args.out.now; new = g.O.Sink.written c.simulate_from.new.out; before = g.O.Sink.faults c.args.out.now; now = g.O.Sink.faults c.simulate_from.new.out }) in
+    let out : Output = (output_between g.O.Sink.written g.O.Sink.faults c.args.out.now c.simulate_from.new.out) in
     memory_stops (Unit {0}) held vec circuit 4294967295 (λ (r : Rows). trace_stage circuit r) failed out c.windows.first rows c.windows.state
     (subst (λ (b : Bool). GivenOf (held vec) circuit 4294967295 c.windows.first b rows) c.windows-test.true is)
     (subst (λ (w : Option (List ℕ)). AreWritten circuit rows c.windows.state (g.O.Sink.written c.args.out.now) w) (sym (c.in-Err-Memory.ensures.same (ap Err c.in-Err-Memory.field-0-is))) written)
@@ -141,7 +141,7 @@ returns-in-Ok-end_line-clause-value g c =
     let circuit : Circuit = c.args.netlist.now in
     let kept = c.windows.invariant in
     let (rows, is, written) = kept.so_far in
-    let out : Output = (record { old = g.O.Sink.written c.args.out.now; new = g.O.Sink.written c.end_line.new.out; before = g.O.Sink.faults c.args.out.now; now = g.O.Sink.faults c.end_line.new.out }) in
+    let out : Output = (output_between g.O.Sink.written g.O.Sink.faults c.args.out.now c.end_line.new.out) in
     let failed : OfFile = RoseIn (g.F.Files.faults c.args.files.now) (g.F.Files.faults c.windows.files) in
     ends_whole held vec circuit failed out (g.O.Sink.written c.windows.out) c.windows.first rows c.windows.state
     (subst (λ (b : Bool). GivenOf (held vec) circuit 4294967295 c.windows.first b rows) c.windows-test.false is) written c.in-Ok-end_line.ensures.ok
@@ -153,7 +153,7 @@ returns-clause-value g c =
     let circuit : Circuit = c.args.netlist.now in
     let kept = c.windows.invariant in
     let (rows, is, written) = kept.so_far in
-    let out : Output = (record { old = g.O.Sink.written c.args.out.now; new = g.O.Sink.written c.end_line.new.out; before = g.O.Sink.faults c.args.out.now; now = g.O.Sink.faults c.end_line.new.out }) in
+    let out : Output = (output_between g.O.Sink.written g.O.Sink.faults c.args.out.now c.end_line.new.out) in
     let failed : OfFile = RoseIn (g.F.Files.faults c.args.files.now) (g.F.Files.faults c.windows.files) in
     ends_part held vec circuit failed out (g.O.Sink.written c.windows.out) c.windows.first rows c.windows.state
     (subst (λ (b : Bool). GivenOf (held vec) circuit 4294967295 c.windows.first b rows) c.windows-test.false is) written c.in-Err.ensures.err

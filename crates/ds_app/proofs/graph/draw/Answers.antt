@@ -1,7 +1,7 @@
 use Rattle.std.proofs.Common.{ℕ, Bool, List, refl}
 use Rattle.std.proofs.lemmas.Result.{err_from_is_err_and}
 use Rattle.ds_latch.specs.Node.{Split}
-use Rattle.ds_stage.specs.Ends.{Never, Output}
+use Rattle.ds_stage.specs.Ends.{Never, Output, output_between}
 use Rattle.ds_stage.specs.GraphStage.{controller_stage, drawn_stage, wanted_stage}
 use Rattle.ds_stage.specs.declared.stop.Stop.{Stop}
 use Rattle.ds_stage.proofs.Stages.{stopped}
@@ -17,7 +17,7 @@ returns-in_err-graph g c =
     let stop : Stop = c.in_err-graph.field-0.0 in
     let p = err_from_is_err_and c.from_residual.result c.from_residual.ensures.1 in
     rw (p.1, p.2) (ended (Unit {0}) (controller_stage file shake s) Never
-    (record { old = g.O.Sink.written c.args.out.now; new = g.O.Sink.written c.args.out.now; before = g.O.Sink.faults c.args.out.now; now = g.O.Sink.faults c.args.out.now }) stop (controller_nothing file shake s) refl
+    (output_between g.O.Sink.written g.O.Sink.faults c.args.out.now c.args.out.now) stop (controller_nothing file shake s) refl
     (stopped (wanted_stage file shake s) (drawn_stage s) Never stop c.in_err-graph.ensures))
 
 pub returns : goal.returns
@@ -25,5 +25,5 @@ returns g c =
     let file : List ℕ = c.args.file.now in
     let shake : Bool = c.args.shake in
     let s : Split = c.args.latches.now in
-    let out : Output = (record { old = g.O.Sink.written c.args.out.now; new = g.O.Sink.written c.write_graph.new.out; before = g.O.Sink.faults c.args.out.now; now = g.O.Sink.faults c.write_graph.new.out }) in
+    let out : Output = (output_between g.O.Sink.written g.O.Sink.faults c.args.out.now c.write_graph.new.out) in
     ends_after (wanted_stage file shake s) (drawn_stage s) Never out c.in_ok-graph.graph c.in_ok-graph.ensures c.write_graph.result c.write_graph.ensures

@@ -9,7 +9,7 @@ use Rattle.ds_stage.specs.Stages.{netlist_stage}
 use Rattle.ds_stage.specs.SplitStage.{split_stage}
 use Rattle.ds_stage.specs.GraphStage.{controller_stage}
 use Rattle.ds_app.specs.Job.{graph_stage}
-use Rattle.ds_stage.specs.Ends.{Answers, Ends, Never, Output, RoseIn}
+use Rattle.ds_stage.specs.Ends.{Answers, Ends, Never, Output, RoseIn, output_between}
 use Rattle.ds_stage.specs.declared.stop.Stop.{Stop}
 use Rattle.ds_stage.proofs.Stages.{stopped, passed, widened}
 use Rattle.ds_stage.proofs.Ends.{ended, ends_after, ends_more, no_more}
@@ -27,7 +27,7 @@ returns-in_err-netlist-clause-value g c =
     let more : OfFile = RoseIn (g.F.Files.faults c.args.files.now) (g.F.Files.faults c.read_netlist.new.files) in
     let p = err_from_is_err_and c.from_residual.result c.from_residual.ensures.1 in
     rw (p.1, p.2) (ended (Unit {0}) (then_stage (netlist_stage held net) (graph_stage net mode shake)) more
-    (record { old = g.O.Sink.written c.args.out.now; new = g.O.Sink.written c.args.out.now; before = g.O.Sink.faults c.args.out.now; now = g.O.Sink.faults c.args.out.now }) c.in_err-netlist.field-0.0 (graph_nothing held net mode shake) refl
+    (output_between g.O.Sink.written g.O.Sink.faults c.args.out.now c.args.out.now) c.in_err-netlist.field-0.0 (graph_nothing held net mode shake) refl
     (stopped (netlist_stage held net) (graph_stage net mode shake) more c.in_err-netlist.field-0.0 c.in_err-netlist.ensures.value))
 
 pub returns-in_err-latches-clause-value : goal.returns-in_err-latches-clause-value
@@ -43,7 +43,7 @@ returns-in_err-latches-clause-value g c =
     let few : Answers {A = Split} (split_stage net mode circuit) more (Err stop) =
     widened {A = Split} (split_stage net mode circuit) (split_stage net mode circuit) Never more (no_more (split_stage net mode circuit) more (λ line none. absurd none)) (Err stop) c.in_err-latches.ensures in
     rw (p.1, p.2) (ended (Unit {0}) (then_stage (netlist_stage held net) (graph_stage net mode shake)) more
-    (record { old = g.O.Sink.written c.args.out.now; new = g.O.Sink.written c.args.out.now; before = g.O.Sink.faults c.args.out.now; now = g.O.Sink.faults c.args.out.now }) stop (graph_nothing held net mode shake) refl
+    (output_between g.O.Sink.written g.O.Sink.faults c.args.out.now c.args.out.now) stop (graph_nothing held net mode shake) refl
     (passed {B = List ℕ} (netlist_stage held net) (graph_stage net mode shake) more circuit c.in_ok-netlist.ensures.value (Err stop)
     (stopped (split_stage net mode circuit) (controller_stage net shake) more stop few)))
 
@@ -56,7 +56,7 @@ returns-clause-value g c =
     let more : OfFile = RoseIn (g.F.Files.faults c.args.files.now) (g.F.Files.faults c.read_netlist.new.files) in
     let circuit : Circuit = c.in_ok-netlist.netlist in
     let latches : Split = c.in_ok-latches.latches in
-    let out : Output = (record { old = g.O.Sink.written c.args.out.now; new = g.O.Sink.written c.draw.new.out; before = g.O.Sink.faults c.args.out.now; now = g.O.Sink.faults c.draw.new.out }) in
+    let out : Output = (output_between g.O.Sink.written g.O.Sink.faults c.args.out.now c.draw.new.out) in
     let last : Ends (controller_stage net shake latches) more out c.draw.result =
     ends_more (controller_stage net shake latches) Never more out (controller_nothing net shake latches) (λ line unread. absurd (controller_says net shake Never latches line unread).is) c.draw.result c.draw.ensures in
     ends_after (netlist_stage held net) (graph_stage net mode shake) more out circuit c.in_ok-netlist.ensures.value c.draw.result

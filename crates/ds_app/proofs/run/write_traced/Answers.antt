@@ -8,7 +8,7 @@ use Rattle.ds_design.specs.Circuit.{Circuit, columns, initial_row}
 use Rattle.ds_latch.specs.Plan.{Planned}
 use Rattle.ds_stream.specs.Stream.{Shown}
 use Rattle.ds_stage.specs.Stage.{OfFile}
-use Rattle.ds_stage.specs.Ends.{Output, RoseIn}
+use Rattle.ds_stage.specs.Ends.{Output, RoseIn, output_between}
 use Rattle.ds_stage.specs.StreamStage.{most_vectors}
 use Rattle.ds_stage.proofs.Streamed.{AreWritten, GivenOf, memory_stops, none_written, of_many, of_none, unwritten_window, written_more}
 use Rattle.ds_stage.proofs.Ends.{rose_since}
@@ -57,7 +57,7 @@ returns-in_err-log-clause-value g c =
     let log : Bool = c.args.job.now.log in
     let w : Option (List ℕ) = g.O.Sink.written c.args.out.now in
     let none : OfFile = RoseIn (g.F.Files.faults c.args.files.now) (g.F.Files.faults c.args.files.now) in
-    let out : Output = (record { old = w; new = w; before = g.O.Sink.faults c.args.out.now; now = g.O.Sink.faults c.args.out.now }) in
+    let out : Output = output_between g.O.Sink.written g.O.Sink.faults c.args.out.now c.args.out.now in
     let q = err_from_is_err_and c.from_residual.result c.from_residual.ensures.1 in
     rw (q.1, q.2) (memory_stops (Unit {0}) held vec p.split.circuit (most_vectors log) (traced_stage log p.split.circuit p) none out 0 [] (initial_row p.split.circuit)
     (of_none (held vec) p.split.circuit (most_vectors log)) (none_written p.split.circuit w))
@@ -73,7 +73,7 @@ returns-in_err-behind-clause-value g c =
     let now : Which → List ℕ → ℕ = g.F.Files.faults c.read_window.new.files in
     let kept = c.windows.invariant in
     let (rows, is, written) = kept.so_far in
-    let out : Output = (record { old = g.O.Sink.written c.args.out.now; new = g.O.Sink.written c.windows.out; before = g.O.Sink.faults c.args.out.now; now = g.O.Sink.faults c.windows.out }) in
+    let out : Output = (output_between g.O.Sink.written g.O.Sink.faults c.args.out.now c.windows.out) in
     let q = err_from_is_err_and c.from_residual-in_err-behind.result c.from_residual-in_err-behind.ensures.1 in
     rw (q.1, q.2) (stops_here held (g.F.Files.held c.windows.files) kept.same_held vec p.split.circuit (most_vectors log) c.windows.reader kept.of kept.fits
     c.windows.first kept.first_is c.windows.more c.windows-test.true rows is (Unit {0}) (traced_stage log p.split.circuit p) before mid now kept.never_falls
@@ -96,7 +96,7 @@ returns-in-Err-Write-clause-value g c =
     let kept = c.windows.invariant in
     let (rows, is, written) = kept.so_far in
     let next : List Row = c.in_ok-behind.vectors.rows in
-    let out : Output = (record { old = g.O.Sink.written c.args.out.now; new = g.O.Sink.written c.write_window.new.out; before = g.O.Sink.faults c.args.out.now; now = g.O.Sink.faults c.write_window.new.out }) in
+    let out : Output = (output_between g.O.Sink.written g.O.Sink.faults c.args.out.now c.write_window.new.out) in
     let failed : OfFile = RoseIn (g.F.Files.faults c.args.files.now) (g.F.Files.faults c.read_window.new.files) in
     let wide : All (λ (row : Row). length row ≡ length (columns circuit)) next =
     subst (λ (w : ℕ). All (λ (row : Row). length row ≡ w) next) (c.in_ok-behind.ensures.width ∙ kept.of.width) c.count-turns.ensures.kept.one_width in
@@ -119,7 +119,7 @@ returns-in-Err-Memory-clause-value g c =
     let log : Bool = c.args.job.now.log in
     let kept = c.windows.invariant in
     let (rows, is, written) = kept.so_far in
-    let out : Output = (record { old = g.O.Sink.written c.args.out.now; new = g.O.Sink.written c.write_window.new.out; before = g.O.Sink.faults c.args.out.now; now = g.O.Sink.faults c.write_window.new.out }) in
+    let out : Output = (output_between g.O.Sink.written g.O.Sink.faults c.args.out.now c.write_window.new.out) in
     let failed : OfFile = RoseIn (g.F.Files.faults c.args.files.now) (g.F.Files.faults c.read_window.new.files) in
     memory_stops (Unit {0}) held vec p.split.circuit (most_vectors log) (traced_stage log p.split.circuit p) failed out c.windows.first rows c.windows.plan.split.initial
     (subst (λ (b : Bool). GivenOf (held vec) p.split.circuit (most_vectors log) c.windows.first b rows) c.windows-test.true is)
@@ -182,7 +182,7 @@ returns-in-Ok-end_traced-clause-value g c =
     let kept = c.windows.invariant in
     let (rows, is, written) = kept.so_far in
     let (text, end, writes) = c.in-Ok-end_traced.ensures in
-    let out : Output = (record { old = g.O.Sink.written c.args.out.now; new = g.O.Sink.written c.end_traced.new.out; before = g.O.Sink.faults c.args.out.now; now = g.O.Sink.faults c.end_traced.new.out }) in
+    let out : Output = (output_between g.O.Sink.written g.O.Sink.faults c.args.out.now c.end_traced.new.out) in
     let failed : OfFile = RoseIn (g.F.Files.faults c.args.files.now) (g.F.Files.faults c.windows.files) in
     run_ends_whole held vec p log failed out (g.O.Sink.written c.windows.out) c.windows.first rows c.windows.plan.split.initial
     (subst (λ (b : Bool). GivenOf (held vec) p.split.circuit (most_vectors log) c.windows.first b rows) c.windows-test.false is) written
@@ -197,7 +197,7 @@ returns-in-Err-clause-value g c =
     let kept = c.windows.invariant in
     let (rows, is, written) = kept.so_far in
     let (text, end, writes) = c.in-Err.ensures in
-    let out : Output = (record { old = g.O.Sink.written c.args.out.now; new = g.O.Sink.written c.end_traced.new.out; before = g.O.Sink.faults c.args.out.now; now = g.O.Sink.faults c.end_traced.new.out }) in
+    let out : Output = (output_between g.O.Sink.written g.O.Sink.faults c.args.out.now c.end_traced.new.out) in
     let failed : OfFile = RoseIn (g.F.Files.faults c.args.files.now) (g.F.Files.faults c.windows.files) in
     run_ends_part held vec p log failed out (g.O.Sink.written c.windows.out) c.windows.first rows c.windows.plan.split.initial
     (subst (λ (b : Bool). GivenOf (held vec) p.split.circuit (most_vectors log) c.windows.first b rows) c.windows-test.false is) written

@@ -9,7 +9,7 @@ use Rattle.ds_trace.specs.Stopped.{IsStoppedText}
 use Rattle.ds_stage.specs.Stage.{OfFile}
 use Rattle.ds_stage.specs.Stages.{vectors_stage}
 use Rattle.ds_stage.specs.declared.stop.Stop.{Stop}
-use Rattle.ds_stage.specs.Ends.{Ends, Output, RoseIn, Stops}
+use Rattle.ds_stage.specs.Ends.{Ends, Output, RoseIn, Stops, output_between}
 use Rattle.ds_stage.proofs.Ends.{ended_first, ends_after, gives_more}
 use Rattle.ds_stage.proofs.Left.{vectors_nothing}
 use Rattle.ds_app.specs.RunStage.{stopped_stage}
@@ -22,7 +22,7 @@ returns-in_err-vectors-clause-value g c =
     let planned : Planned = c.args.planned.now.plan.now in
     let circuit : Circuit = planned.split.circuit in
     let more : OfFile = RoseIn (g.F.Files.faults c.args.files.now) (g.F.Files.faults c.read_rows.new.files) in
-    let out : Output = (record { old = g.O.Sink.written c.args.out.now; new = g.O.Sink.written c.args.out.now; before = g.O.Sink.faults c.args.out.now; now = g.O.Sink.faults c.args.out.now }) in
+    let out : Output = (output_between g.O.Sink.written g.O.Sink.faults c.args.out.now c.args.out.now) in
     let same : c.netlist.result.now ≡ circuit = c.netlist.ensures.netlist ∙ ap (λ (t : Split). t.circuit) c.latches.ensures in
     let stop : Stop = c.in_err-vectors.field-0.0 in
     let stops : Stops (vectors_stage held vec circuit) more stop =
@@ -44,7 +44,7 @@ returns-clause-value g c =
     let given : (vectors_stage held vec circuit).means rows =
     subst (λ (k : Circuit). (vectors_stage held vec k).means rows) same c.in_ok-vectors.ensures.value in
     let more : OfFile = RoseIn (g.F.Files.faults c.args.files.now) (g.F.Files.faults c.read_rows.new.files) in
-    let out : Output = (record { old = g.O.Sink.written c.args.out.now; new = g.O.Sink.written c.write_halted.new.out; before = g.O.Sink.faults c.args.out.now; now = g.O.Sink.faults c.write_halted.new.out }) in
+    let out : Output = (output_between g.O.Sink.written g.O.Sink.faults c.args.out.now c.write_halted.new.out) in
     let last : Ends {A = Unit {0}} (stopped_stage c.args.job.now.log jobs stop circuit planned rows) more out c.write_halted.result =
     gives_more (IsStoppedText c.args.job.now.log stop jobs planned rows.rows) (λ text. (circuit ≡ circuit) × IsStoppedText c.args.job.now.log stop jobs planned rows.rows text) more out (λ text is. (refl, is)) c.write_halted.result c.write_halted.ensures.value in
     ends_after (vectors_stage held vec circuit) (stopped_stage c.args.job.now.log jobs stop circuit planned) more out rows given c.write_halted.result last

@@ -1,8 +1,8 @@
 use Rattle.std.proofs.Common.{◌∙◌, sym, ap, List, ℕ, arith}
+use Rattle.ds_lines.specs.Words.{word_at}
 use Rattle.ds_lines.specs.Line.{line_or_none}
-use Rattle.ds_astg.specs.Word.{word_at}
-use Rattle.ds_astg.specs.Line.{head_of as head_in}
-use Rattle.ds_astg.specs.Read.{graph_of as graph_in}
+use Rattle.ds_astg.specs.Line.{graph_head_of as head_in}
+use Rattle.ds_astg.specs.Read.{graph_of_lines as graph_in}
 use Rattle.ds_astg.proofs.Soundness.{step_sound}
 use Rattle.ds_astg.proofs.Reading.{line_done}
 use Rattle.ds_astg.proofs.reader.read.Goals as goal

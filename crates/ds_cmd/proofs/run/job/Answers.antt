@@ -1,18 +1,11 @@
-use Rattle.std.proofs.Common.{inl, refl}
-use Rattle.std.proofs.lemmas.Result.{err_from_is_err_and}
+use Rattle.ds_cmd.proofs.Wanted.{wants_memory}
 use Rattle.ds_cmd.proofs.run.job.Goals as goal
 
 pub returns-in_err-new : goal.returns-in_err-new
-returns-in_err-new c =
-    let p = err_from_is_err_and c.from_residual.result c.from_residual.ensures.1 in
-    rw (p.1, p.2) (inl refl)
+returns-in_err-new c = wants_memory _ _ c.from_residual.ensures.1
 
 pub returns-in_err-new-2 : goal.returns-in_err-new-2
-returns-in_err-new-2 c =
-    let p = err_from_is_err_and c.from_residual-in_err-new-2.result c.from_residual-in_err-new-2.ensures.1 in
-    rw (p.1, p.2) (inl refl)
+returns-in_err-new-2 c = wants_memory _ _ c.from_residual-in_err-new-2.ensures.1
 
 pub returns-in_err-named : goal.returns-in_err-named
-returns-in_err-named c =
-    let p = err_from_is_err_and c.from_residual-in_err-named.result c.from_residual-in_err-named.ensures.1 in
-    rw (p.1, p.2) (inl refl)
+returns-in_err-named c = wants_memory _ _ c.from_residual-in_err-named.ensures.1

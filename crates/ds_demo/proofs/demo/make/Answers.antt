@@ -1,6 +1,6 @@
 use Rattle.std.proofs.Common.{◌≡◌, ◌+◌, arith, ap, ◌∙◌, length, take, drop}
 use Rattle.rand_xoshiro.specs.SplitMix64.{mix_u64}
-use Rattle.ds_demo.specs.Demo.{demo_design, demo_vectors, design_of, vectors_of}
+use Rattle.ds_demo.specs.Demo.{demo_design, demo_vectors, design_of, vectors_of_words}
 use Rattle.ds_demo.proofs.Words.{length-first_words, take-first_words}
 use Rattle.ds_demo.proofs.demo.make.Goals as goal
 
@@ -32,6 +32,6 @@ returns c =
     record {
       ok = (
         c.in_ok-design.ensures ∙ ap (design_of c.args.registers) first,
-        c.in_ok-vectors.ensures ∙ ap vectors_of rest,
+        c.in_ok-vectors.ensures ∙ ap vectors_of_words rest,
       );
     }

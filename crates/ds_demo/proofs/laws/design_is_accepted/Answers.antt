@@ -1,7 +1,7 @@
-use Rattle.ds_demo.specs.Demo.{demo_design, words_of}
+use Rattle.ds_demo.specs.Demo.{demo_design, seed_words}
 use Rattle.ds_demo.proofs.Accepts.{accepted}
 use Rattle.ds_demo.proofs.laws.design_is_accepted.Goals as goal
 
 pub returns : goal.returns
 unfolding demo_design
-returns c = λ seed registers some. accepted registers (words_of registers seed) some
+returns c = λ seed registers some. accepted registers (seed_words registers seed) some

@@ -1,7 +1,7 @@
-use Rattle.ds_demo.specs.Demo.{demo_design, words_of}
+use Rattle.ds_demo.specs.Demo.{demo_design, seed_words}
 use Rattle.ds_demo.proofs.Ranges.{in_range}
 use Rattle.ds_demo.proofs.laws.design_is_in_range.Goals as goal
 
 pub returns : goal.returns
 unfolding demo_design
-returns c = λ seed registers some few. in_range registers (words_of registers seed) some few
+returns c = λ seed registers some few. in_range registers (seed_words registers seed) some few

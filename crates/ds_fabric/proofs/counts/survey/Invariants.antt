@@ -7,7 +7,7 @@ abbrev pub invariant-loop-i : goal.invariant-loop-i
 invariant-loop-i g l = (l.seat.table_id ≡ l.initial.seat.table_id)
     × (l.seat.me.1 ≡ l.initial.seat.me.1)
     × LooksOn l.initial.seat.me.0 l.seat.me.0
-    × EnoughIn l.run l.seat.me.0 l.turn l.incoming.numbers.items
-    (slice_index l.incoming.starts.items l.event) l.i
-    × (slice_index l.incoming.starts.items l.event ≤ l.i)
-    × (l.i-end ≡ slice_index l.incoming.starts.items (l.event + 1))
+    × EnoughIn l.ground.run.now l.seat.me.0 l.turn l.ground.incoming.now.numbers.items
+    (slice_index l.ground.incoming.now.starts.items l.event) l.i
+    × (slice_index l.ground.incoming.now.starts.items l.event ≤ l.i)
+    × (l.i-end ≡ slice_index l.ground.incoming.now.starts.items (l.event + 1))

@@ -29,8 +29,8 @@ few run v l f short is on = let n = node-next run l f in
     omega (arith, fired_most run l f run.limit below)
 
 pub load-requires : goal.load-requires
-load-requires g c = let q = c.requires.table.1.over in let run : Run = c.args.run.now in
-    let n : ℕ = c.args.board.now.table_id.slots in let l : ℕ = c.args.history.now.node in
+load-requires g c = let q = c.requires.table.1.over in let run : Run = c.args.ground.now.run.now in
+    let n : ℕ = c.args.ground.now.board.now.table_id.slots in let l : ℕ = c.args.history.now.node in
     let h = c.requires.held in
     let P : Run → Type 0 = λ r. Allows (Lawful r) n c.args.seat.now.id c.args.seat.now.me (l + 1)
     (λ y. y) (departed (step n (l + 1) 0 0 none) c.args.seat.now.me) in (
@@ -48,7 +48,7 @@ same l = omega arith
 
 pub prepare-requires-clause-flight : goal.prepare-requires-clause-flight
 prepare-requires-clause-flight g c = let l : ℕ = c.args.history.now.node in
-    let m : Sat = c.args.seat.now.me in let run : Run = c.args.run.now in
+    let m : Sat = c.args.seat.now.me in let run : Run = c.args.ground.now.run.now in
     let left : c.load.new.seat.me ≡ (after_depart m.0 l, m.1) = c.load.ensures.2
     ∙ ap (λ (x : ℕ). (after_depart m.0 x, m.1)) (same l) in
     let P : Sat → Type 0 = λ x. IsAway run x.0 l × (c.args.history.now.fired ≡ seen x.0 l)
@@ -68,7 +68,7 @@ prepare-requires-clause-flight g c = let l : ℕ = c.args.history.now.node in
 pub fetch_add-ticket-requires : goal.fetch_add-ticket-requires
 fetch_add-ticket-requires g c = let q = c.requires.table.1.over in
     let l : ℕ = c.args.history.now.node in let m : Sat = c.args.seat.now.me in
-    let run : Run = c.args.run.now in let n : ℕ = c.args.board.now.table_id.slots in
+    let run : Run = c.args.ground.now.run.now in let n : ℕ = c.args.ground.now.board.now.table_id.slots in
     let left : c.load.new.seat.me ≡ (after_depart m.0 l, m.1) = c.load.ensures.2
     ∙ ap (λ (x : ℕ). (after_depart m.0 x, m.1)) (same l) in
     let p = c.prepare.ensures.me in let k : ℕ = p.0 in
@@ -86,7 +86,7 @@ fetch_add-ticket-requires g c = let q = c.requires.table.1.over in
     )
 
 pub overflow_add-history : goal.overflow_add-history
-overflow_add-history g c = let run : Run = c.args.run.now in
+overflow_add-history g c = let run : Run = c.args.ground.now.run.now in
     let l : ℕ = c.args.history.now.node in
     omega (
       arith,
@@ -96,8 +96,8 @@ overflow_add-history g c = let run : Run = c.args.run.now in
 
 pub store-requires : goal.store-requires
 store-requires g c = let q = c.requires.table.1.over in let l : ℕ = c.args.history.now.node in
-    let m : Sat = c.args.seat.now.me in let run : Run = c.args.run.now in
-    let n : ℕ = c.args.board.now.table_id.slots in
+    let m : Sat = c.args.seat.now.me in let run : Run = c.args.ground.now.run.now in
+    let n : ℕ = c.args.ground.now.board.now.table_id.slots in
     let left : c.load.new.seat.me ≡ (after_depart m.0 l, m.1) = c.load.ensures.2
     ∙ ap (λ (x : ℕ). (after_depart m.0 x, m.1)) (same l) in
     let p = c.prepare.ensures.me in let k : ℕ = p.0 in let t : ℕ = c.fetch_add-ticket.result in
@@ -120,7 +120,7 @@ store-requires g c = let q = c.requires.table.1.over in let l : ℕ = c.args.his
     )
 
 pub note-requires-clause-few : goal.note-requires-clause-few
-note-requires-clause-few g c = let run : Run = c.args.run.now in
+note-requires-clause-few g c = let run : Run = c.args.ground.now.run.now in
     let l : ℕ = c.args.history.now.node in
     omega (
       arith,
@@ -130,7 +130,7 @@ note-requires-clause-few g c = let run : Run = c.args.run.now in
 
 pub prepare-requires-clause-ready : goal.prepare-requires-clause-ready
 prepare-requires-clause-ready g c = let l : ℕ = c.args.history.now.node in
-    let m : Sat = c.args.seat.now.me in let run : Run = c.args.run.now in
+    let m : Sat = c.args.seat.now.me in let run : Run = c.args.ground.now.run.now in
     let left : c.load.new.seat.me ≡ (after_depart m.0 l, m.1) = c.load.ensures.2
     ∙ ap (λ (x : ℕ). (after_depart m.0 x, m.1)) (same l) in
     subst (λ (x : Sat). Enabled run (seen x.0) (next run l c.args.history.now.fired))
@@ -141,7 +141,7 @@ note-requires-clause-room g c = let q = c.prepare.ensures in omega (
   arith,
   ap length q.turns,
   length-append c.args.history.now.turns.items
-      (new_row c.args.run.now c.args.history.now.node c.args.history.now.fired),
+      (new_row c.args.ground.now.run.now c.args.history.now.node c.args.history.now.fired),
   q.same.turns_room,
   c.requires.room.turns,
 )

@@ -18,7 +18,7 @@ half : (run : Run) (l f : ℕ) → opens run (next run l f) ≡ true → f / 2 +
 half run l f h = let o = even_opens run l f h in omega (arith, opened-low run l f o.0, o.1)
 
 pub open_row-requires-clause-flight : goal.open_row-requires-clause-flight
-open_row-requires-clause-flight g c = let run : Run = c.args.run.now in
+open_row-requires-clause-flight g c = let run : Run = c.args.ground.now.run.now in
     let v : View = c.args.seat.now.me.0 in let l : ℕ = c.args.history.now.node in
     let away = c.requires.flight.0 in
     let fired = c.requires.flight.1 in let h = c.if-opens_next.ensures.0 refl in (
@@ -36,11 +36,11 @@ open_row-requires-clause-flight g c = let run : Run = c.args.run.now in
 
 pub open_row-requires-clause-within : goal.open_row-requires-clause-within
 open_row-requires-clause-within g c =
-    within c.args.run.now c.args.seat.now.me.0 c.args.history.now.node c.args.history.now.fired
+    within c.args.ground.now.run.now c.args.seat.now.me.0 c.args.history.now.node c.args.history.now.fired
     c.requires.flight.1 (c.if-opens_next.ensures.0 refl) c.requires.ready
 
 pub open_row-requires-clause-room : goal.open_row-requires-clause-room
-open_row-requires-clause-room g c = let run : Run = c.args.run.now in
+open_row-requires-clause-room g c = let run : Run = c.args.ground.now.run.now in
     let l : ℕ = c.args.history.now.node in let f : ℕ = c.args.history.now.fired in
     let even = even_opens run l f (c.if-opens_next.ensures.0 refl) in record {
       turns = omega (arith, length-even run l f even.0 even.1, c.requires.room.turns);
@@ -48,7 +48,7 @@ open_row-requires-clause-room g c = let run : Run = c.args.run.now in
     }
 
 pub returns-then-opens_next-clause-turns : goal.returns-then-opens_next-clause-turns
-returns-then-opens_next-clause-turns g c = let run : Run = c.args.run.now in
+returns-then-opens_next-clause-turns g c = let run : Run = c.args.ground.now.run.now in
     let l : ℕ = c.args.history.now.node in let f : ℕ = c.args.history.now.fired in
     let h = c.if-opens_next.ensures.0 refl in
     c.open_row.ensures.value
@@ -57,7 +57,7 @@ returns-then-opens_next-clause-turns g c = let run : Run = c.args.run.now in
 
 pub returns-then-opens_next-clause-me : goal.returns-then-opens_next-clause-me
 returns-then-opens_next-clause-me g c = (
-  Rattle.ds_rule.specs.Words.width c.args.run.now c.args.history.now.node,
+  Rattle.ds_rule.specs.Words.width c.args.ground.now.run.now c.args.history.now.node,
   c.open_row.ensures.me,
   λ _. Rattle.std.proofs.Common.le_refl _,
 )
@@ -73,7 +73,7 @@ returns-else-opens_next-clause-me g c = (
 )
 
 pub returns-else-opens_next-clause-turns : goal.returns-else-opens_next-clause-turns
-returns-else-opens_next-clause-turns g c = let run : Run = c.args.run.now in
+returns-else-opens_next-clause-turns g c = let run : Run = c.args.ground.now.run.now in
     let l : ℕ = c.args.history.now.node in let f : ℕ = c.args.history.now.fired in
     let old : List ℕ = c.args.history.now.turns.items in
     let none : new_row run l f ≡ [] = by_bool (new_row run l f ≡ []) (opens run (next run l f))

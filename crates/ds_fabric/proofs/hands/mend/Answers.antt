@@ -5,7 +5,7 @@ use mathlib.Core.Option.{none}
 use Rattle.atomic_table.specs.Table.{step, Allows, Joins}
 use Rattle.ds_rule.specs.Run.{Run, node_of, turns}
 use Rattle.ds_rule.specs.Rule.{Lawful, holds, seen, tickets}
-use Rattle.ds_rule.specs.Plays.{Sat, both, learned, spent}
+use Rattle.ds_rule.specs.Plays.{Sat, taken_in, learned, spent}
 use Rattle.ds_rule.specs.declared.view.View.{View}
 use Rattle.ds_rule.proofs.Lists.{get-listed}
 use Rattle.ds_rule.proofs.Hands.{learns, gathers}
@@ -19,7 +19,7 @@ join_seat-requires g c = let q = c.requires.table.2 in let run : Run = c.args.ru
       c.requires.table.1,
       c.requires.live.2,
       omega (arith, q.sized, counts_inside run 0 (omega arith)),
-      subst (λ (r : Run). Joins (Lawful r) c.args.seat.now.id v c.args.other.id w (both v w) spent)
+      subst (λ (r : Run). Joins (Lawful r) c.args.seat.now.id v c.args.other.id w (taken_in v w) spent)
           (sym q.keyed) (gathers run c.args.seat.now.id c.args.other.id v w c.requires.live.0 c.requires.live.1 c.requires.rests.0 c.requires.rests.1),
     )
 
@@ -44,7 +44,7 @@ returns g c = let j = c.join_seat.ensures in let e = c.load.ensures in
     (tickets m.0 x) in record {
       seat = (e.0 ∙ j.0, e.2.0 ∙ j.2);
       counts = subst C (sym e.2.0) e.2.1;
-      apart = λ l near h h'. let clear : get_or (both v w).clash l false ≡ false =
+      apart = λ l near h h'. let clear : get_or (taken_in v w).clash l false ≡ false =
           subst (λ (m : Sat). get_or m.0.clash l false ≡ false) j.2 (e.2.2 l) in
           false≢true (sym clear ∙ (get-listed (λ x. holds v x && holds w x) v.run.nodes l false near
           ∙ (ap (λ b. b && holds w l) h ∙ h')));

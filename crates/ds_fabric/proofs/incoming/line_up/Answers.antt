@@ -2,7 +2,7 @@ use Rattle.std.proofs.Common.{◌≡◌, ◌<◌, ◌+◌, ◌-◌, ◌∙◌, �
 use Rattle.std.proofs.Common.{length}
 use Rattle.ds_rule.specs.Run.{Run, node_of}
 use Rattle.ds_marked.specs.declared.marked.Arc.{Arc}
-use Rattle.ds_fabric.specs.Chained.{arc_numbered, IsLast}
+use Rattle.ds_fabric.specs.Chained.{arc_numbered, IsLastArc}
 use Rattle.ds_fabric.specs.Into.{IsArcIn, IsInto, IsLinedUp}
 use Rattle.ds_fabric.specs.declared.arc_in.ArcIn.{ArcIn}
 use Rattle.ds_fabric.proofs.Chains.{arc-there, same-arc, read-off}
@@ -14,8 +14,8 @@ back-init g c = let run : Run = c.args.run.now in let q = c.requires.chains in
     let h : ℕ = c.index-at.result.now in
     let is = read-off c.args.chains.now.heads.items c.args.event h
     (omega (arith, q.heads_long, c.requires.near)) c.index-at.ensures in
-    let last : IsLast run c.args.event (length run.arcs) h =
-    subst (λ (x : ℕ). IsLast run c.args.event (length run.arcs) x) is
+    let last : IsLastArc run c.args.event (length run.arcs) h =
+    subst (λ (x : ℕ). IsLastArc run c.args.event (length run.arcs) x) is
     (q.head c.args.event c.requires.near) in (
       last.below,
       last.hit,
@@ -45,9 +45,9 @@ back-preserved g c = let run : Run = c.args.run.now in let q = c.requires.chains
     inv.1 (omega (arith, c.back-test.true)) in
     let got = read-off c.args.chains.now.links.items m new
     (omega (arith, q.links_long, below)) c.index-at-in-back.ensures in
-    let last : IsLast run c.args.event m new =
-    subst (λ (y : ℕ). IsLast run y m new) into
-    (subst (λ (y : ℕ). IsLast run (arc_numbered run m).target m y) got (q.link m below)) in
+    let last : IsLastArc run c.args.event m new =
+    subst (λ (y : ℕ). IsLastArc run y m new) into
+    (subst (λ (y : ℕ). IsLastArc run (arc_numbered run m).target m y) got (q.link m below)) in
     let same : c.index-all-number.result ≡ arc_numbered run m = c.index-all-number.is
     ∙ same-arc run c.arcs-all.result.now m _ c.arcs-all.ensures below in
     let entry : IsInto run c.args.event m x = record {

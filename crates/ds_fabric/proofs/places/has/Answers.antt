@@ -3,7 +3,7 @@ use Rattle.std.proofs.Common.{arith, refl}
 use Rattle.std.proofs.lemmas.Bool.{false≢true}
 use Rattle.ds_rule.proofs.Lists.{at_below, at_or}
 use Rattle.ds_fabric.specs.declared.history.History.{History}
-use Rattle.ds_fabric.specs.Indexed.{Stands}
+use Rattle.ds_fabric.specs.Indexed.{IsHistoryAt}
 use Rattle.ds_fabric.proofs.Standing.{found_placed}
 use Rattle.ds_fabric.proofs.places.has.Goals as goal
 
@@ -15,7 +15,7 @@ returns-then-nodes-eq0 c = (
 
 -- the first history
 at-first : (ns : List History) (d : History) (node : ℕ) → (length ns ≡ 0 → ⊥)
-    → (get_or ns 0 d).node ≡ node → (i : ℕ) × Stands ns i node
+    → (get_or ns 0 d).node ≡ node → (i : ℕ) × IsHistoryAt ns i node
 at-first ns d node n is = (0, (get_or ns 0 d, at_or ns 0 d (omega (arith, n)), is))
 
 pub returns-then-nodes-node : goal.returns-then-nodes-node

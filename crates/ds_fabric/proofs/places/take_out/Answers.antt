@@ -5,7 +5,7 @@ use lib.ListN.{get_elem?}
 use Rattle.atomic_table.proofs.Lists.{at_index}
 use Rattle.ds_fabric.specs.declared.history.History.{History}
 use Rattle.ds_fabric.specs.Indexed.{IsOneEach, IsIndexed, IsWithout}
-use Rattle.ds_fabric.specs.Indexed.{Leaves}
+use Rattle.ds_fabric.specs.Indexed.{IsTakenOut}
 use Rattle.ds_fabric.proofs.Standing.{removed}
 use Rattle.ds_fabric.proofs.places.take_out.Goals as goal
 
@@ -32,7 +32,7 @@ returns-clause-without c = let e = c.swap_remove-history.ensures in
 -- the history was taken out
 leaves : (xs ys zs : List History) (at : ℕ) (h : History) → IsOneEach xs → IsWithout xs ys at
     → get_elem? xs at ≡ some h → zs ≡ ys
-    → Leaves xs zs at h.node
+    → IsTakenOut xs zs at h.node
 leaves xs ys zs at h apart w there is = record {
   apart = apart;
   without = subst (λ (l : List History). IsWithout xs l at) (sym is) w;

@@ -1,8 +1,10 @@
-use Rattle.std.proofs.Common.{◌≡◌, ◌+◌, ◌*◌, ◌%◌, ◌∙◌, ℕ, ap, arith, zero-mul}
+use Rattle.std.proofs.Common.{◌≡◌, ◌+◌, ◌*◌, ◌%◌, ◌≤◌, ◌∙◌, ℕ, ap, arith, zero-mul}
 use Rattle.ds_rule.specs.Run.{Run}
-use Rattle.ds_rule.specs.Words.{width}
+use Rattle.ds_rule.specs.Words.{place, size, width}
 use Rattle.ds_rule.proofs.PlaceLaws.{place-turn, row_ends}
+use Rattle.ds_fabric.proofs.rows.place_of.Given
 use Rattle.ds_fabric.proofs.rows.place_of.Goals as goal
+use Rattle.ds_fabric.proofs.rows.place_of.Goals.{After-width}
 
 product : (run : Run) (t s w l : ℕ) → s ≡ run.slack → w ≡ width run l
     → t % (s + 1) * w ≡ t % (run.slack + 1) * width run l
@@ -15,6 +17,21 @@ one_alone t s w none = let rest : t % (s + 1) ≡ 0 =
     ap (λ (x : ℕ). t % (x + 1)) none ∙ omega arith in
     ap (λ (x : ℕ). x * w) rest ∙ zero-mul w
 
+-- where the row of the turn stands, which ends in the table
+stands : (g : Given.Over) (c : After-width g)
+    → (place c.args.run.now c.args.node c.args.turn 0 ≡ place c.args.run.now c.args.node 0 0
+    + c.args.turn % (c.slack-slack.result + 1) * c.width.result)
+    × (place c.args.run.now c.args.node c.args.turn 0 ≤ size c.args.run.now)
+stands g c = let run : Run = c.args.run.now in let l : ℕ = c.args.node in
+    let t : ℕ = c.args.turn in (
+      omega (
+        arith,
+        product run t c.slack-slack.result c.width.result l c.slack-slack.ensures c.width.ensures,
+        place-turn run l t,
+      ),
+      omega (arith, row_ends run l t c.requires.near),
+    )
+
 pub returns-then-slack-eq0 : goal.returns-then-slack-eq0
 returns-then-slack-eq0 g c = let run : Run = c.args.run.now in let l : ℕ = c.args.node in
     omega (
@@ -26,34 +43,14 @@ returns-then-slack-eq0 g c = let run : Run = c.args.run.now in let l : ℕ = c.a
     )
 
 pub overflow_mul-result : goal.overflow_mul-result
-overflow_mul-result g c = let run : Run = c.args.run.now in let l : ℕ = c.args.node in
-    let t : ℕ = c.args.turn in
-    omega (
-      arith,
-      product run t c.slack-slack.result c.width.result l c.slack-slack.ensures c.width.ensures,
-      place-turn run l t,
-      row_ends run l t c.requires.near,
-      c.requires.sound.0.sized,
-    )
+overflow_mul-result g c = let s = stands g (goal.at.overflow_mul-result g c).After-width in
+    omega (arith, s.0, s.1, c.requires.sound.0.sized)
 
 pub overflow_add-result : goal.overflow_add-result
-overflow_add-result g c = let run : Run = c.args.run.now in let l : ℕ = c.args.node in
-    let t : ℕ = c.args.turn in
-    omega (
-      arith,
-      product run t c.slack-slack.result c.width.result l c.slack-slack.ensures c.width.ensures,
-      place-turn run l t,
-      row_ends run l t c.requires.near,
-      c.requires.sound.0.sized,
-      c.requires.sound.1.1 l c.requires.near,
-    )
+overflow_add-result g c = let s = stands g (goal.at.overflow_add-result g c).After-width in
+    let first = c.requires.sound.1.1 c.args.node c.requires.near in
+    omega (arith, s.0, s.1, c.requires.sound.0.sized, first)
 
 pub returns : goal.returns
-returns g c = let run : Run = c.args.run.now in let l : ℕ = c.args.node in
-    let t : ℕ = c.args.turn in
-    omega (
-      arith,
-      product run t c.slack-slack.result c.width.result l c.slack-slack.ensures c.width.ensures,
-      place-turn run l t,
-      c.requires.sound.1.1 l c.requires.near,
-    )
+returns g c = let s = stands g (goal.at.returns g c).After-width in
+    omega (arith, s.0, c.requires.sound.1.1 c.args.node c.requires.near)

@@ -14,40 +14,62 @@ use Rattle.ds_rule.proofs.Values.{reads}
 use Rattle.ds_rule.proofs.Lists.{length-listed}
 use Rattle.ds_rule.proofs.RowLaws.{listed-next, told}
 use Rattle.ds_rule.proofs.PlaceLaws.{place-word, row_ends}
+use Rattle.ds_fabric.proofs.rows.read_row.Given
 use Rattle.ds_fabric.proofs.rows.read_row.Goals as goal
+use Rattle.ds_fabric.proofs.rows.read_row.Goals.{After-place_of-at}
 
 -- the producer of an edge is a node
-producer_near : (run : Run) (sound : IsSound run) (e : DataEdge) → (k : ℕ)
-    × (get_elem? run.edges k ≡ some e) × (e.consumer ≡ e.consumer) → e.producer < run.nodes
+producer_near : (run : Run) (sound : IsSound run) (e : DataEdge)
+    → (k : ℕ) × (get_elem? run.edges k ≡ some e) → e.producer < run.nodes
 producer_near run sound e h = omega (arith, (sound.orders h.0 e h.1).from, sound.among)
 
-pub width-i-end-requires : goal.width-i-end-requires
-width-i-end-requires g c = let q = c.requires.table.1 in let h = c.requires.edge in
+-- where the row stands
+at_is : (g : Given.Over) (c : After-place_of-at g)
+    → c.place_of-at.result ≡ place c.args.ground.now.run.now c.args.edge.producer
+    (c.args.turn - c.args.edge.tokens) 0
+at_is g c = c.place_of-at.ensures ∙ ap (λ (p : ℕ). place c.args.ground.now.run.now p
+    (c.args.turn - c.args.edge.tokens) 0) c.index-producer.ensures
+
+pub overflow_sub-before : goal.overflow_sub-before
+overflow_sub-before g c = let h = c.requires.edge in
+    let d = c.requires.table.1.over.sound.orders h.0 c.args.edge h.1 in
+    omega (arith, d.tokens_few, c.requires.flight.0.number)
+
+pub place_of-at-requires-clause-near : goal.place_of-at-requires-clause-near
+place_of-at-requires-clause-near g c = let q = c.requires.table.1.over in
     omega (
       arith,
-      producer_near c.args.run.now q.sound c.args.edge (h.0, h.1, refl),
+      producer_near c.args.ground.now.run.now q.sound c.args.edge c.requires.edge,
+      c.index-producer.ensures,
+    )
+
+pub width-i-end-requires : goal.width-i-end-requires
+width-i-end-requires g c = let q = c.requires.table.1.over in let h = c.requires.edge in
+    omega (
+      arith,
+      producer_near c.args.ground.now.run.now q.sound c.args.edge h,
       q.sound.rows_of_all,
-      c.index-2.ensures,
+      c.index-producer.ensures,
     )
 
 pub overflow_add-at : goal.overflow_add-at
-overflow_add-at g c = let q = c.requires.table.1 in let h = c.requires.edge in
-    let run : Run = c.args.run.now in
+overflow_add-at g c = let q = c.requires.table.1.over in let h = c.requires.edge in
+    let run : Run = c.args.ground.now.run.now in
     omega (
       arith,
       row_ends run c.args.edge.producer (c.args.turn - c.args.edge.tokens)
-          (producer_near run q.sound c.args.edge (h.0, h.1, refl)),
-      c.requires.at,
+          (producer_near run q.sound c.args.edge h),
+      at_is g (goal.at.overflow_add-at g c).After-place_of-at,
       q.sound.sized,
       c.loop-i-test.true,
       c.loop-i.auto.i-end,
       (c.width-i-end.ensures
-          ∙ ap (width c.args.run.now) c.index-2.ensures),
+          ∙ ap (width c.args.ground.now.run.now) c.index-producer.ensures),
     )
 
 pub load-requires : goal.load-requires
-load-requires g c = let q = c.requires.table.1 in let run : Run = c.args.run.now in
-    let n : ℕ = c.args.board.now.table_id.slots in let j : ℕ = c.args.at + c.loop-i.i in
+load-requires g c = let q = c.requires.table.1.over in let run : Run = c.args.ground.now.run.now in
+    let n : ℕ = c.args.ground.now.board.now.table_id.slots in let j : ℕ = c.place_of-at.result + c.loop-i.i in
     let h = c.requires.edge in let o = c.requires.flight.0 in
     let P : Run → Sat → Type 0 = λ r m. Allows (Lawful r) n c.loop-i.seat.id m j (λ y. y)
     (read (step n j 0 0 none) m) in (
@@ -55,13 +77,13 @@ load-requires g c = let q = c.requires.table.1 in let run : Run = c.args.run.now
       omega (
         arith,
         row_ends run c.args.edge.producer (c.args.turn - c.args.edge.tokens)
-            (producer_near run q.sound c.args.edge (h.0, h.1, refl)),
-        c.requires.at,
+            (producer_near run q.sound c.args.edge h),
+        at_is g (goal.at.load-requires g c).After-place_of-at,
         q.sized,
         c.loop-i-test.true,
         c.loop-i.auto.i-end,
         (c.width-i-end.ensures
-            ∙ ap (width c.args.run.now) c.index-2.ensures),
+            ∙ ap (width c.args.ground.now.run.now) c.index-producer.ensures),
       ),
       subst (λ r. P r c.loop-i.seat.me) (sym q.keyed) (subst (P run) (sym c.loop-i.invariant.2)
           (reads run n c.loop-i.seat.id c.args.seat.now.me j o.live
@@ -77,13 +99,13 @@ loop-i-init g c = (
   refl,
   refl,
   c.push_reserved.ensures.items
-      ∙ ap (λ (x : ℕ). c.args.into.now.items ++ x ∷ []) c.index.ensures,
+      ∙ ap (λ (x : ℕ). c.args.into.now.items ++ x ∷ []) c.index-producer.ensures,
   c.push_reserved.ensures.capacity,
 )
 
 pub push_reserved-requires-in-loop-i : goal.push_reserved-requires-in-loop-i
 push_reserved-requires-in-loop-i g c = let inv = c.loop-i.invariant in
-    let f : ℕ → ℕ = value c.args.run.now c.args.edge.producer
+    let f : ℕ → ℕ = value c.args.ground.now.run.now c.args.edge.producer
     (c.args.turn - c.args.edge.tokens) in
     omega (
       arith,
@@ -94,28 +116,28 @@ push_reserved-requires-in-loop-i g c = let inv = c.loop-i.invariant in
       c.requires.room,
       c.loop-i-test.true,
       c.loop-i.auto.i-end,
-      (c.width-i-end.ensures ∙ ap (width c.args.run.now) c.index-2.ensures),
+      (c.width-i-end.ensures ∙ ap (width c.args.ground.now.run.now) c.index-producer.ensures),
     )
 
 pub loop-i-preserved : goal.loop-i-preserved
 loop-i-preserved g c = let inv = c.loop-i.invariant in let e = c.load.ensures in
-    let run : Run = c.args.run.now in let h = c.requires.edge in let o = c.requires.flight.0 in
+    let run : Run = c.args.ground.now.run.now in let h = c.requires.edge in let o = c.requires.flight.0 in
     let k : ℕ = c.args.turn - c.args.edge.tokens in
     let f : ℕ → ℕ = value run c.args.edge.producer k in let i : ℕ = c.loop-i.i in
-    let r : ℕ = c.load.result in let p : ℕ = c.args.edge.producer in let j : ℕ = c.args.at + i in
+    let r : ℕ = c.load.result in let p : ℕ = c.args.edge.producer in let j : ℕ = c.place_of-at.result + i in
     let T : Sat → Type 0 = λ m. (n : ℕ) (e : DataEdge) (i : ℕ) → get_elem? m.0.run.edges n ≡ some e
     → e.consumer ≡ m.0.node → i < width m.0.run e.producer
     → j ≡ place m.0.run e.producer (opened m.0.run m.0.node (seen m.0 m.0.node) + 1 - e.tokens) i
     → r ≡ value m.0.run e.producer (opened m.0.run m.0.node (seen m.0 m.0.node) + 1 - e.tokens) i in
     let fact : T c.args.seat.now.me = subst T inv.2 e.2.1 in
-    let is : r ≡ f i = told run c.args.seat.now.me.0 c.args.node c.args.turn o c.requires.flight.1 j r fact h.0 c.args.edge i h.1 h.2
+    let is : r ≡ f i = told run c.args.seat.now.me.0 c.args.edge.consumer c.args.turn o c.requires.flight.1 j r fact h.0 c.args.edge i h.1 refl
     (omega (
       arith,
       c.loop-i-test.true,
       c.loop-i.auto.i-end,
-      (c.width-i-end.ensures ∙ ap (width c.args.run.now) c.index-2.ensures),
+      (c.width-i-end.ensures ∙ ap (width c.args.ground.now.run.now) c.index-producer.ensures),
     ))
-    (omega (arith, c.requires.at, place-word run c.args.edge.producer k i)) in (
+    (omega (arith, at_is g (goal.at.loop-i-preserved g c).After-place_of-at, place-word run c.args.edge.producer k i)) in (
       e.0 ∙ inv.0,
       e.1 ∙ inv.1,
       e.2.0 ∙ inv.2,
@@ -128,11 +150,11 @@ loop-i-preserved g c = let inv = c.loop-i.invariant in let e = c.load.ensures in
 
 pub returns-clause-value : goal.returns-clause-value
 returns-clause-value g c = let p : ℕ = c.args.edge.producer in
-    let f : ℕ → ℕ = value c.args.run.now p (c.args.turn - c.args.edge.tokens) in
-    let end : c.loop-i.i ≡ width c.args.run.now p = omega (
+    let f : ℕ → ℕ = value c.args.ground.now.run.now p (c.args.turn - c.args.edge.tokens) in
+    let end : c.loop-i.i ≡ width c.args.ground.now.run.now p = omega (
       arith,
       c.loop-i-test.false,
       c.loop-i.auto.i-end,
-      (c.width-i-end.ensures ∙ ap (width c.args.run.now) c.index-2.ensures),
+      (c.width-i-end.ensures ∙ ap (width c.args.ground.now.run.now) c.index-producer.ensures),
     ) in
     c.loop-i.invariant.3 ∙ ap (λ (n : ℕ). c.args.into.now.items ++ p ∷ listed f n) end

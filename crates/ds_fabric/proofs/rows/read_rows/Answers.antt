@@ -1,12 +1,24 @@
-use Rattle.std.proofs.Common.{◌≡◌, ◌<◌, ◌≤◌, ◌+◌, ◌-◌, ◌++◌, ◌∷◌, ◌∙◌, ℕ, List, ap, arith, sym, length}
+use Rattle.std.proofs.Common.{◌≡◌, ◌<◌, ◌≤◌, ◌+◌, ◌-◌, ◌++◌, ◌∷◌, ◌∙◌, ℕ, List, ap, arith, sym, subst, length}
 use Rattle.std.proofs.Common.{slice_index_or, vec_capacity, length-append, refl, Bool, true, false}
 use Rattle.ds_rule.specs.Run.{Run}
-use Rattle.ds_rule.specs.Rows.{row, supply_but}
+use Rattle.ds_rule.specs.Plays.{Sat}
+use Rattle.ds_rule.specs.Rows.{row, supply_but, IsOpening}
 use Rattle.ds_rule.specs.declared.layout.DataEdge.{DataEdge}
 use Rattle.ds_rule.proofs.RowLaws.{reads_up, length-row, length-supply_but}
 use Rattle.ds_fabric.proofs.Ranges.{from_read, in_order, edge_of, grows, passes, before_range}
-use Rattle.ds_fabric.proofs.Ranges.{behind_range}
+use Rattle.ds_fabric.proofs.Ranges.{behind_range, EdgeOf}
+use Rattle.ds_fabric.proofs.rows.read_rows.Given
 use Rattle.ds_fabric.proofs.rows.read_rows.Goals as goal
+use Rattle.ds_fabric.proofs.rows.read_rows.Goals.{After-index-edges-i}
+
+-- the edge that is read is one of the node
+edge_is : (g : Given.Over) (c : After-index-edges-i g)
+    → EdgeOf c.args.ground.now.run.now c.args.node c.loop-i.i c.index-edges-i.result
+edge_is g c = edge_of c.args.ground.now.run.now c.args.ground.now.index.now.firsts.items
+    c.edges-edges.result.now c.args.node c.index-first.result.now c.index-end.result.now c.loop-i.i
+    c.index-edges-i.result c.requires.table.1.ranged c.requires.flight.0.near
+    c.index-first.ensures c.index-end.ensures c.edges-edges.ensures c.loop-i.invariant.5
+    c.loop-i-test.true c.index-edges-i.is
 
 pub index-first-requires : goal.index-first-requires
 index-first-requires g c = let q = c.requires.table.1.ranged in
@@ -20,12 +32,12 @@ index-end-requires g c = let q = c.requires.table.1.ranged in
     omega (arith, q.long, c.requires.flight.0.near)
 
 pub loop-i-init : goal.loop-i-init
-loop-i-init g c = let run : Run = c.args.run.now in let q = c.requires.table.1 in
+loop-i-init g c = let run : Run = c.args.ground.now.run.now in let q = c.requires.table.1 in
     let o = c.requires.flight.0 in let l : ℕ = c.args.node in
     let k : ℕ = c.args.learnt.now.turn in
-    let learnt : ℕ → Bool = λ p. g.C.Compute.has_learnt c.args.learnt.now.openings.now
+    let learnt : ℕ → Bool = λ p. g.C.Compute.has_learnt c.args.ground.now.openings.now
     c.args.learnt.now.scratch.now p k in
-    let p = from_read run c.args.index.now.firsts.items l c.index-first.result.now q.ranged (omega (arith, o.near)) c.index-first.ensures in (
+    let p = from_read run c.args.ground.now.index.now.firsts.items l c.index-first.result.now q.ranged (omega (arith, o.near)) c.index-first.ensures in (
       refl,
       refl,
       refl,
@@ -35,49 +47,34 @@ loop-i-init g c = let run : Run = c.args.run.now in let q = c.requires.table.1 i
     )
 
 pub has_learnt-requires-clause-producer : goal.has_learnt-requires-clause-producer
-has_learnt-requires-clause-producer g c = let run : Run = c.args.run.now in let q = c.requires.table.1 in
-    let o = c.requires.flight.0 in let inv = c.loop-i.invariant in
-    let l : ℕ = c.args.node in let k : ℕ = c.args.learnt.now.turn in let i : ℕ = c.loop-i.i in
-    let e : DataEdge = c.index-edges-i.result in
-    let h = edge_of run c.args.index.now.firsts.items c.edges-edges.result.now l c.index-first.result.now c.index-end.result.now i e q.ranged o.near c.index-first.ensures c.index-end.ensures c.edges-edges.ensures inv.5 c.loop-i-test.true c.index-edges-i.is in
-    let d = q.over.sound.orders i e h.at in
+has_learnt-requires-clause-producer g c =
+    let h = edge_is g (goal.at.has_learnt-requires-clause-producer g c).After-index-edges-i in
+    let d = c.requires.table.1.over.sound.orders c.loop-i.i c.index-edges-i.result h.at in
     omega (arith, d.from, ap (λ (x : Run). x.latches) c.requires.openings.0)
 
 pub has_learnt-requires-clause-remembers : goal.has_learnt-requires-clause-remembers
 has_learnt-requires-clause-remembers g c = c.requires.openings.1
 
-pub overflow_sub-before : goal.overflow_sub-before
-overflow_sub-before g c = let run : Run = c.args.run.now in let q = c.requires.table.1 in
-    let o = c.requires.flight.0 in let inv = c.loop-i.invariant in
-    let l : ℕ = c.args.node in let k : ℕ = c.args.learnt.now.turn in let i : ℕ = c.loop-i.i in
-    let e : DataEdge = c.index-edges-i.result in
-    let h = edge_of run c.args.index.now.firsts.items c.edges-edges.result.now l c.index-first.result.now c.index-end.result.now i e q.ranged o.near c.index-first.ensures c.index-end.ensures c.edges-edges.ensures inv.5 c.loop-i-test.true c.index-edges-i.is in
-    let d = q.over.sound.orders i e h.at in omega (arith, d.tokens_few, o.number)
-
-pub place_of-at-requires-clause-near : goal.place_of-at-requires-clause-near
-place_of-at-requires-clause-near g c = let run : Run = c.args.run.now in let q = c.requires.table.1 in
-    let o = c.requires.flight.0 in let inv = c.loop-i.invariant in
-    let l : ℕ = c.args.node in let k : ℕ = c.args.learnt.now.turn in let i : ℕ = c.loop-i.i in
-    let e : DataEdge = c.index-edges-i.result in
-    let h = edge_of run c.args.index.now.firsts.items c.edges-edges.result.now l c.index-first.result.now c.index-end.result.now i e q.ranged o.near c.index-first.ensures c.index-end.ensures c.edges-edges.ensures inv.5 c.loop-i-test.true c.index-edges-i.is in
-    let d = q.over.sound.orders i e h.at in
-    omega (arith, d.from, q.over.sound.among, c.index.ensures)
+pub read_row-requires-clause-flight : goal.read_row-requires-clause-flight
+read_row-requires-clause-flight g c = let run : Run = c.args.ground.now.run.now in
+    let h = edge_is g (goal.at.read_row-requires-clause-flight g c).After-index-edges-i in
+    let P : Sat → ℕ → Type 0 = λ m l. IsOpening run m.0 l c.args.learnt.now.turn
+    × (m.0.run ≡ run) in
+    subst (λ (m : Sat). P m c.index-edges-i.result.consumer) (sym c.loop-i.invariant.2)
+    (subst (P c.args.seat.now.me) (sym h.into) c.requires.flight)
 
 pub read_row-requires-clause-edge : goal.read_row-requires-clause-edge
-read_row-requires-clause-edge g c = let run : Run = c.args.run.now in let q = c.requires.table.1 in
-    let o = c.requires.flight.0 in let inv = c.loop-i.invariant in
-    let l : ℕ = c.args.node in let k : ℕ = c.args.learnt.now.turn in let i : ℕ = c.loop-i.i in
-    let e : DataEdge = c.index-edges-i.result in
-    let h = edge_of run c.args.index.now.firsts.items c.edges-edges.result.now l c.index-first.result.now c.index-end.result.now i e q.ranged o.near c.index-first.ensures c.index-end.ensures c.edges-edges.ensures inv.5 c.loop-i-test.true c.index-edges-i.is in
-    (i, h.at, h.into)
+read_row-requires-clause-edge g c =
+    let h = edge_is g (goal.at.read_row-requires-clause-edge g c).After-index-edges-i in
+    (c.loop-i.i, h.at)
 
 pub read_row-requires-clause-room : goal.read_row-requires-clause-room
-read_row-requires-clause-room g c = let run : Run = c.args.run.now in let q = c.requires.table.1 in
-    let o = c.requires.flight.0 in let inv = c.loop-i.invariant in
-    let l : ℕ = c.args.node in let k : ℕ = c.args.learnt.now.turn in let i : ℕ = c.loop-i.i in
+read_row-requires-clause-room g c = let run : Run = c.args.ground.now.run.now in
+    let h = edge_is g (goal.at.read_row-requires-clause-room g c).After-index-edges-i in
+    let inv = c.loop-i.invariant in let i : ℕ = c.loop-i.i in
+    let l : ℕ = c.args.node in let k : ℕ = c.args.learnt.now.turn in
     let e : DataEdge = c.index-edges-i.result in
-    let h = edge_of run c.args.index.now.firsts.items c.edges-edges.result.now l c.index-first.result.now c.index-end.result.now i e q.ranged o.near c.index-first.ensures c.index-end.ensures c.edges-edges.ensures inv.5 c.loop-i-test.true c.index-edges-i.is in
-    let learnt : ℕ → Bool = λ p. g.C.Compute.has_learnt c.args.learnt.now.openings.now
+    let learnt : ℕ → Bool = λ p. g.C.Compute.has_learnt c.args.ground.now.openings.now
     c.args.learnt.now.scratch.now p k in
     let more = grows run learnt l k i e h (sym c.if-has_learnt.ensures) in
     omega (
@@ -93,12 +90,11 @@ read_row-requires-clause-room g c = let run : Run = c.args.run.now in let q = c.
     )
 
 pub loop-i-preserved : goal.loop-i-preserved
-loop-i-preserved g c = let run : Run = c.args.run.now in let q = c.requires.table.1 in
-    let o = c.requires.flight.0 in let inv = c.loop-i.invariant in
+loop-i-preserved g c = let run : Run = c.args.ground.now.run.now in
+    let h = edge_is g (goal.at.loop-i-preserved g c).After-index-edges-i in
     let l : ℕ = c.args.node in let k : ℕ = c.args.learnt.now.turn in let i : ℕ = c.loop-i.i in
-    let e : DataEdge = c.index-edges-i.result in
-    let h = edge_of run c.args.index.now.firsts.items c.edges-edges.result.now l c.index-first.result.now c.index-end.result.now i e q.ranged o.near c.index-first.ensures c.index-end.ensures c.edges-edges.ensures inv.5 c.loop-i-test.true c.index-edges-i.is in
-    let learnt : ℕ → Bool = λ p. g.C.Compute.has_learnt c.args.learnt.now.openings.now
+    let e : DataEdge = c.index-edges-i.result in let inv = c.loop-i.invariant in
+    let learnt : ℕ → Bool = λ p. g.C.Compute.has_learnt c.args.ground.now.openings.now
     c.args.learnt.now.scratch.now p k in
     let r = c.read_row.ensures in (
       r.seat.0 ∙ inv.0,
@@ -111,30 +107,29 @@ loop-i-preserved g c = let run : Run = c.args.run.now in let q = c.requires.tabl
     )
 
 pub loop-i-preserved-then-has_learnt : goal.loop-i-preserved-then-has_learnt
-loop-i-preserved-then-has_learnt g c = let run : Run = c.args.run.now in let q = c.requires.table.1 in
-    let o = c.requires.flight.0 in let inv = c.loop-i.invariant in
-    let l : ℕ = c.args.node in let k : ℕ = c.args.learnt.now.turn in let i : ℕ = c.loop-i.i in
-    let e : DataEdge = c.index-edges-i.result in
-    let h = edge_of run c.args.index.now.firsts.items c.edges-edges.result.now l c.index-first.result.now c.index-end.result.now i e q.ranged o.near c.index-first.ensures c.index-end.ensures c.edges-edges.ensures inv.5 c.loop-i-test.true c.index-edges-i.is in
-    let learnt : ℕ → Bool = λ p. g.C.Compute.has_learnt c.args.learnt.now.openings.now
+loop-i-preserved-then-has_learnt g c =
+    let h = edge_is g (goal.at.loop-i-preserved-then-has_learnt g c).After-index-edges-i in
+    let inv = c.loop-i.invariant in let k : ℕ = c.args.learnt.now.turn in
+    let learnt : ℕ → Bool = λ p. g.C.Compute.has_learnt c.args.ground.now.openings.now
     c.args.learnt.now.scratch.now p k in (
       inv.0,
       inv.1,
       inv.2,
-      inv.3 ∙ sym (passes run learnt l k i e h (sym c.if-has_learnt.ensures)),
+      inv.3 ∙ sym (passes c.args.ground.now.run.now learnt c.args.node k c.loop-i.i
+          c.index-edges-i.result h (sym c.if-has_learnt.ensures)),
       inv.4,
       omega (arith, inv.5),
     )
 
 pub returns-clause-value : goal.returns-clause-value
-returns-clause-value g c = let run : Run = c.args.run.now in let q = c.requires.table.1 in
+returns-clause-value g c = let run : Run = c.args.ground.now.run.now in let q = c.requires.table.1 in
     let o = c.requires.flight.0 in let l : ℕ = c.args.node in
     let k : ℕ = c.args.learnt.now.turn in
-    let learnt : ℕ → Bool = λ p. g.C.Compute.has_learnt c.args.learnt.now.openings.now
+    let learnt : ℕ → Bool = λ p. g.C.Compute.has_learnt c.args.ground.now.openings.now
     c.args.learnt.now.scratch.now p k in
-    let from = from_read run c.args.index.now.firsts.items l c.index-first.result.now q.ranged
+    let from = from_read run c.args.ground.now.index.now.firsts.items l c.index-first.result.now q.ranged
     (omega (arith, o.near)) c.index-first.ensures in
-    let to = from_read run c.args.index.now.firsts.items (l + 1) c.index-end.result.now q.ranged
+    let to = from_read run c.args.ground.now.index.now.firsts.items (l + 1) c.index-end.result.now q.ranged
     (omega (arith, o.near)) c.index-end.ensures in
     let e : c.loop-i.i ≡ c.index-end.result.now =
     omega (

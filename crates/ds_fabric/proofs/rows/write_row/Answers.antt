@@ -28,35 +28,35 @@ loop-i-init g c = (
 )
 
 pub overflow_add-at : goal.overflow_add-at
-overflow_add-at g c = let q = c.requires.table.1 in let o = c.requires.flight.0 in
-    let run : Run = c.args.run.now in
+overflow_add-at g c = let q = c.requires.table.1.over in let o = c.requires.flight.0 in
+    let run : Run = c.args.ground.now.run.now in
     omega (
       arith,
       row_ends run c.args.node c.args.turn o.near,
-      c.requires.at,
+      c.place_of-at.ensures,
       q.sound.sized,
       c.loop-i-test.true,
       many run c.args.node c.args.turn c.args.words.now c.requires.words,
     )
 
 pub store-requires : goal.store-requires
-store-requires g c = let q = c.requires.table.1 in let o = c.requires.flight.0 in
-    let run : Run = c.args.run.now in let n : ℕ = c.args.board.now.table_id.slots in
-    let i : ℕ = c.loop-i.i in let j : ℕ = c.args.at + i in
+store-requires g c = let q = c.requires.table.1.over in let o = c.requires.flight.0 in
+    let run : Run = c.args.ground.now.run.now in let n : ℕ = c.args.ground.now.board.now.table_id.slots in
+    let i : ℕ = c.loop-i.i in let j : ℕ = c.place_of-at.result + i in
     let new : ℕ = slice_index c.args.words.now i in let v : View = c.args.seat.now.me.0 in
     let wide = many run c.args.node c.args.turn c.args.words.now c.requires.words in
     let small : i < width run c.args.node = omega (arith, wide, c.loop-i-test.true) in
     let P : Run → Sat → Type 0 = λ r m. Allows (Lawful r) n c.loop-i.seat.id m j (λ _. new)
     (λ _. wrote (step n j new 0 none) m new) in (
       c.loop-i.invariant.0 ∙ c.requires.table.0,
-      omega (arith, row_ends run c.args.node c.args.turn o.near, c.requires.at, q.sized),
+      omega (arith, row_ends run c.args.node c.args.turn o.near, c.place_of-at.ensures, q.sized),
       subst (λ r. P r c.loop-i.seat.me) (sym q.keyed) (subst (P run) (sym c.loop-i.invariant.2)
           (writes run n c.loop-i.seat.id (
             record v { written = i },
             c.args.seat.now.me.1,
           ) j new o.live (omega (arith, o.stage)) o.begins
           (omega (arith, ap (width run) o.node_is))
-          (goes run v c.args.node c.args.turn o c.args.at i c.requires.at)
+          (goes run v c.args.node c.args.turn o c.place_of-at.result i c.place_of-at.ensures)
           (ap (λ (ws : List ℕ). get_or ws i 0) c.requires.words
           ∙ (get-row run c.args.node c.args.turn i small
           ∙ value-own run v c.args.node c.args.turn o i)))),
@@ -74,8 +74,8 @@ loop-i-preserved g c = let inv = c.loop-i.invariant in let e = c.store.ensures i
 
 pub returns-clause-me : goal.returns-clause-me
 returns-clause-me g c = let wide =
-    many c.args.run.now c.args.node c.args.turn c.args.words.now c.requires.words in
-    let e : c.loop-i.i ≡ width c.args.run.now c.args.node =
+    many c.args.ground.now.run.now c.args.node c.args.turn c.args.words.now c.requires.words in
+    let e : c.loop-i.i ≡ width c.args.ground.now.run.now c.args.node =
     omega (arith, c.loop-i-test.false, c.loop-i.auto.i-end) in
     c.loop-i.invariant.2 ∙ ap (λ (w : ℕ). (
       record c.args.seat.now.me.0 { written = w },

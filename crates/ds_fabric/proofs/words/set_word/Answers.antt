@@ -10,21 +10,10 @@ loop-j-preserved c = let inv = c.loop-j.invariant in let j : ℕ = c.loop-j.j in
     let a : ℕ = 32 * c.args.i in let row : List Value = c.loop-j.row in
     let v : Value = c.of_code.result in let is : c.set.new.self ≡ Rattle.std.proofs.Common.set row
     (a + j) v = c.set.ensures in
+    let below : j < c.min-j-end.result = omega (arith, c.loop-j-test.true, c.loop-j.auto.j-end) in
     let low : (j < 32) × (a + j < length c.args.row.now) = (
-      omega (
-        arith,
-        c.loop-j-test.true,
-        c.loop-j.auto.j-end,
-        c.min-j-end.ensures,
-        c.len.ensures,
-      ),
-      omega (
-        arith,
-        c.loop-j-test.true,
-        c.loop-j.auto.j-end,
-        c.min-j-end.ensures,
-        c.len.ensures,
-      ),
+      omega (arith, below, c.min-j-end.ensures, c.len.ensures),
+      omega (arith, below, c.min-j-end.ensures, c.len.ensures),
     ) in (
       ap (λ (xs : List Value). length xs) is ∙ (length-set row (a + j) v ∙ inv.0),
       (λ k h. ap (λ (xs : List Value). get_or xs k Zero) is

@@ -3,7 +3,7 @@ use Rattle.std.specs.Prelude.{All}
 use Rattle.std.proofs.lemmas.Bool.{cases_eq}
 use Rattle.ds_design.specs.Circuit.{Circuit}
 use Rattle.ds_latch.specs.Node.{In, Slave, nodes, nets_of}
-use Rattle.ds_fire.specs.Feeds.{AreHoused}
+use Rattle.ds_fire.specs.Feeds.{AreSourceNetsHoused}
 use Rattle.ds_fire.proofs.Fed.{housed_here, housed_kept, homes_from}
 use Rattle.ds_opening.proofs.Woven.{nets_within}
 use Rattle.ds_fire.proofs.Opened.{bits_are}
@@ -53,7 +53,7 @@ loop-i-preserved c =
       one_each = c.place-in-loop-i.ensures.same ∙ c.loop-i.invariant.one_each;
       first = housed_kept c.args.latches.now (Slave c.loop-i.i) tt low c.as_slice-in-loop-i.result.now bit (2 * c.loop-i.i + 3) refl c.loop-i.homes.items c.place-in-loop-i.new.homes.items c.place-in-loop-i.ensures.kept In c.loop-i.invariant.first;
       slaves = λ j below. elim (cases_eq j c.loop-i.i) [
-        | inl e ↦ subst (λ (i : ℕ). AreHoused c.args.latches.now c.place-in-loop-i.new.homes.items (Slave i)) (sym e)
+        | inl e ↦ subst (λ (i : ℕ). AreSourceNetsHoused c.args.latches.now c.place-in-loop-i.new.homes.items (Slave i)) (sym e)
             (housed_here c.args.latches.now (Slave c.loop-i.i) tt low c.as_slice-in-loop-i.result.now bit (2 * c.loop-i.i + 3) refl c.place-in-loop-i.new.homes.items c.place-in-loop-i.ensures.placed)
         | inr ne ↦ housed_kept c.args.latches.now (Slave c.loop-i.i) tt low c.as_slice-in-loop-i.result.now bit (2 * c.loop-i.i + 3) refl c.loop-i.homes.items c.place-in-loop-i.new.homes.items c.place-in-loop-i.ensures.kept (Slave j) (c.loop-i.invariant.slaves j (omega arith))
       ];

@@ -8,17 +8,17 @@ use Rattle.ds_fire.proofs.opening.open_slave.Goals as goal
 pub copy_row-requires-clause-width : goal.copy_row-requires-clause-width
 copy_row-requires-clause-width c =
     let (i, is_node, is) = c.requires.slave in
-    let at : ℕ = c.args.number * c.of-places.result.each + c.of-places.result.next in
+    let at : ℕ = c.args.opening.number * c.of-places.result.each + c.of-places.result.next in
     subst (λ (rs : List Row). length (get_or rs (at - c.of-places.result.each) []) ≡ length (get_or rs at [])) (sym c.deref_mut.ensures.value)
-    (same_width c.args.latches.now [] c.args.kept.now.rows.items c.requires.rows c.args.opened c.of-places.result c.of-places.ensures i is_node c.args.number is)
+    (same_width c.args.latches.now [] c.args.kept.now.rows.items c.requires.rows c.args.opening.opened c.of-places.result c.of-places.ensures i is_node c.args.opening.number is)
 
 pub returns-clause-opens : goal.returns-clause-opens
 returns-clause-opens c vectors =
     let (i, is_node, is) = c.requires.slave in
     let rows : List Row = c.args.kept.now.rows.items in
-    let at : ℕ = c.args.number * c.of-places.result.each + c.of-places.result.next in
+    let at : ℕ = c.args.opening.number * c.of-places.result.each + c.of-places.result.next in
     let kept : length c.copy_row.new.rows ≡ length c.deref_mut.result.now = c.copy_row.auto.rows in
     let full : length c.copy_row.new.rows ≡ c.args.kept.now.rows.len = omega (arith, ap length c.deref_mut.ensures.value, c.args.kept.now.rows.ok.0) in
-    opened_slave c.args.latches.now vectors rows c.requires.rows c.args.opened c.of-places.result c.of-places.ensures i is_node c.args.number is _
+    opened_slave c.args.latches.now vectors rows c.requires.rows c.args.opening.opened c.of-places.result c.of-places.ensures i is_node c.args.opening.number is _
     (with_items_is c.args.kept.now.rows c.copy_row.new.rows full
     ∙ (c.copy_row.ensures ∙ ap (λ (rs : List Row). set rs at (get_or rs (at - c.of-places.result.each) [])) c.deref_mut.ensures.value))

@@ -8,7 +8,7 @@ use Rattle.ds_latch.proofs.Counts.{number_below}
 use Rattle.ds_settle.specs.Cone.{AreInOrder, IsCone, IsPartSettled, Parts}
 use Rattle.ds_opening.specs.Woven.{IsSettlingAt}
 use Rattle.ds_opening.proofs.Slaves.{cone_at}
-use Rattle.ds_fire.specs.Feeds.{AreFeeds, IsHome, home_of}
+use Rattle.ds_fire.specs.Feeds.{AreFeeds, IsSourceHome, home_of}
 use Rattle.ds_fire.specs.declared.feeds.Feeds.{Feeds}
 use Rattle.ds_fire.specs.Turn.{IsLoaded, IsThere}
 use Rattle.ds_fire.specs.declared.homes.Home.{Home}
@@ -22,7 +22,7 @@ module _ (s : Split) (split : IsSplit s) (feeds : Feeds) (are : AreFeeds s feeds
   the_cone : IsCone s.circuit (nets_of s m) cone
   the_cone = cone_at s feeds.cones.items are.cones number cone is m at
 
-  housed : All (λ net. IsHome s net (home_of feeds.homes.items net)) cone.sources
+  housed : All (λ net. IsSourceHome s net (home_of feeds.homes.items net)) cone.sources
   housed = source_homes s split m at.node at.settling feeds.homes.items are.homes cone the_cone
 
 pub index-cone-requires : goal.index-cone-requires

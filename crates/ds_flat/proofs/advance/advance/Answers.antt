@@ -1,7 +1,7 @@
 use Rattle.std.proofs.Common.{◌∙◌, ◌∷◌, ap, sym, subst, arith}
 use Rattle.ds_models.specs.declared.blif.Command.{Command}
 use Rattle.ds_flat.specs.declared.frame.Open.{Open}
-use Rattle.ds_flat.specs.Run.{Rest, IsKept}
+use Rattle.ds_flat.specs.Run.{Rest, IsRestKept}
 use Rattle.ds_flat.specs.Turn.{most_turns}
 use Rattle.ds_flat.proofs.Kept.{first_part, kept_behind}
 use Rattle.ds_flat.proofs.Left.{turn_given}
@@ -13,7 +13,7 @@ use Rattle.ds_flat.proofs.advance.advance.Goals as goal
 
 pub take-requires-clause-kept : goal.take-requires-clause-kept
 take-requires-clause-kept c =
-    let kept = subst (λ (r : Rest). IsKept c.args.library.now r) (sym c.state.view_is) c.requires.kept in
+    let kept = subst (λ (r : Rest). IsRestKept c.args.library.now r) (sym c.state.view_is) c.requires.kept in
     kept_behind c.args.library.now c.state.inside.top c.state.inside.below c.state.inside.copies
     c.state.inside.draft kept c.get.result.now c.in-Some.rest.now c.with.result
     (c.in-Some.ensures.cases.0
@@ -25,7 +25,7 @@ take-requires-clause-parts c = c.requires.parts
 
 pub take-requires-clause-part : goal.take-requires-clause-part
 take-requires-clause-part c =
-    let kept = subst (λ (r : Rest). IsKept c.args.library.now r) (sym c.state.view_is) c.requires.kept in
+    let kept = subst (λ (r : Rest). IsRestKept c.args.library.now r) (sym c.state.view_is) c.requires.kept in
     first_part c.args.library.now c.state.inside.top c.state.inside.below c.state.inside.copies
     c.state.inside.draft kept c.get.result.now c.in-Some.rest.now (c.in-Some.ensures.cases.0
     ∙ ap (λ (x : Command). x ∷ c.in-Some.rest.now) (sym c.get.ensures))

@@ -1,6 +1,6 @@
 use Rattle.std.proofs.Common.{◌∙◌, ap, sym, subst, arith}
 use Rattle.ds_flat.specs.Stack.{frame_on, path_of}
-use Rattle.ds_flat.specs.Run.{Rest, IsKept, IsFault, after_take}
+use Rattle.ds_flat.specs.Run.{Rest, IsRestKept, IsFault, after_take}
 use Rattle.ds_flat.proofs.Kept.{kept_part}
 use Rattle.ds_flat.proofs.Steps.{taken_part, part_fault, fault_same}
 use Rattle.ds_flat.proofs.Opens.{after_take-any, use_fine}
@@ -42,7 +42,7 @@ pub returns-in-Ok-take_part-clause-kept : goal.returns-in-Ok-take_part-clause-ke
 returns-in-Ok-take_part-clause-kept c =
     kept_part c.args.library.now c.state.inside.top c.state.inside.below c.state.inside.copies
     c.state.inside.draft
-    (subst (λ (r : Rest). IsKept c.args.library.now r) (sym c.state.view_is) c.requires.kept)
+    (subst (λ (r : Rest). IsRestKept c.args.library.now r) (sym c.state.view_is) c.requires.kept)
     c.state.inside.top.scope c.args.command.now.line c.args.command.now c.in-Ok-take_part.draft
     c.requires.part (c.in-Ok-take_part.ensures c.state.inside.copies)
 

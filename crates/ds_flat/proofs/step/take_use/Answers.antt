@@ -1,7 +1,7 @@
 use Rattle.std.proofs.Common.{sym, subst, ◌+◌, ◌≤◌, arith, ◌∷◌}
 use Rattle.ds_flat.specs.Stack.{Stacked, put_on, path_of}
 use Rattle.ds_flat.proofs.Kept.{rest_of, kept_use}
-use Rattle.ds_flat.specs.Run.{Rest, IsKept}
+use Rattle.ds_flat.specs.Run.{Rest, IsRestKept}
 use Rattle.ds_flat.proofs.Taken.{use_refused, use_fault, use_value}
 use Rattle.ds_flat.specs.Turn.{most_turns}
 use Rattle.ds_flat.proofs.Turns.{turns_use}
@@ -9,7 +9,7 @@ use Rattle.ds_flat.proofs.step.take_use.Goals as goal
 
 pub checked-requires : goal.checked-requires
 checked-requires c =
-    let kept = subst (λ (r : Rest). IsKept c.args.library.now r) (sym c.state.view_is) c.requires.kept in
+    let kept = subst (λ (r : Rest). IsRestKept c.args.library.now r) (sym c.state.view_is) c.requires.kept in
     record { known = kept.known; same = kept.same; copies = kept.copies }
 
 pub returns-in-Err-clause-value : goal.returns-in-Err-clause-value
@@ -27,12 +27,12 @@ returns-in-Err-open-clause-value c =
 
 pub pushed-requires-clause-known : goal.pushed-requires-clause-known
 pushed-requires-clause-known c =
-    let kept = subst (λ (r : Rest). IsKept c.args.library.now r) (sym c.state.view_is) c.requires.kept in
+    let kept = subst (λ (r : Rest). IsRestKept c.args.library.now r) (sym c.state.view_is) c.requires.kept in
     kept.within.0
 
 pub pushed-requires-clause-few : goal.pushed-requires-clause-few
 pushed-requires-clause-few c =
-    let kept = subst (λ (r : Rest). IsKept c.args.library.now r) (sym c.state.view_is) c.requires.kept in
+    let kept = subst (λ (r : Rest). IsRestKept c.args.library.now r) (sym c.state.view_is) c.requires.kept in
     let a = kept.count in let b = kept.depth in let d = kept.copies in omega arith
 
 pub returns-clause-value : goal.returns-clause-value
@@ -46,8 +46,8 @@ returns-clause-value c =
 
 pub returns-clause-kept : goal.returns-clause-kept
 returns-clause-kept c =
-    let kept = subst (λ (r : Rest). IsKept c.args.library.now r) (sym c.state.view_is) c.requires.kept in
-    subst (λ (s : Stacked). IsKept c.args.library.now (rest_of c.in-Ok-open.next s
+    let kept = subst (λ (r : Rest). IsRestKept c.args.library.now r) (sym c.state.view_is) c.requires.kept in
+    subst (λ (s : Stacked). IsRestKept c.args.library.now (rest_of c.in-Ok-open.next s
     (c.state.inside.copies + 1) c.in-Ok-open.draft)) (sym c.in-Ok-pushed.ensures)
     (kept_use c.args.library.now c.state.inside.top c.state.inside.below c.state.inside.copies
     c.state.inside.draft kept c.args.line c.args.call.now c.in-Ok.found.model.now

@@ -1,7 +1,7 @@
 use Rattle.std.proofs.Common.{◌≡◌, ◌∙◌, ◌<◌, ◌+◌, ◌++◌, ◌∷◌, [], ℕ, List, ap, arith, get_or, length, set, subst, sym, take}
 use Rattle.std.proofs.Common.{Vec, Global}
 use Rattle.std.proofs.lemmas.List.{get_or_default, take_more}
-use Rattle.ds_groups.specs.Numbers.{ArePlaces}
+use Rattle.ds_groups.specs.Numbers.{AreClassPlaces}
 use Rattle.ds_groups.proofs.Numbered.{places_new, places_old}
 use Rattle.ds_groups.proofs.numbers.places_of.Goals as goal
 use Rattle.ds_groups.proofs.numbers.places_of.Goals.{then-index-eq0, else-index-eq0}
@@ -23,18 +23,18 @@ loop-table-preserved c =
     let read : c.index.result.now ≡ get_or places (get_or classes table 0) 0 =
     c.index.ensures ∙ (get_or_default places c.index-class.result.now c.index.result.now 0 (omega (class_is, low, long, arith))
     ∙ ap (λ (k : ℕ). get_or places k 0) class_is) in
-    subst (λ (xs : List ℕ). ArePlaces xs classes count c.if-index-eq0.places.items c.if-index-eq0.next) (sym (take_more order i 0 inside))
+    subst (λ (xs : List ℕ). AreClassPlaces xs classes count c.if-index-eq0.places.items c.if-index-eq0.next) (sym (take_more order i 0 inside))
     (elim c.if-index-eq0.branch [
       | then-index-eq0 w ↦
           (let s : c.if-index-eq0.places.items ≡ set places (get_or classes table 0) (next + 1) =
           ap (λ (v : Vec ℕ Global). v.items) w.places-is ∙ ap (λ (k : ℕ). set places k (next + 1)) class_is in
-          subst (λ (ps : List ℕ). ArePlaces (take i order ++ table ∷ []) classes count ps c.if-index-eq0.next) (sym s)
-          (subst (λ (m : ℕ). ArePlaces (take i order ++ table ∷ []) classes count (set places (get_or classes table 0) (next + 1)) m) (sym w.next-is)
+          subst (λ (ps : List ℕ). AreClassPlaces (take i order ++ table ∷ []) classes count ps c.if-index-eq0.next) (sym s)
+          (subst (λ (m : ℕ). AreClassPlaces (take i order ++ table ∷ []) classes count (set places (get_or classes table 0) (next + 1)) m) (sym w.next-is)
           (places_new (take i order) classes count places next c.loop-table.invariant table (sym read ∙ w.if-index-eq0.true) low)))
       | else-index-eq0 w ↦
           (let s : c.if-index-eq0.places.items ≡ places = ap (λ (v : Vec ℕ Global). v.items) w.places-is in
           let some : 0 < get_or places (get_or classes table 0) 0 = omega (read, w.if-index-eq0.false, arith) in
-          subst (λ (ps : List ℕ). ArePlaces (take i order ++ table ∷ []) classes count ps c.if-index-eq0.next) (sym s)
-          (subst (λ (m : ℕ). ArePlaces (take i order ++ table ∷ []) classes count places m) (sym w.next-is)
+          subst (λ (ps : List ℕ). AreClassPlaces (take i order ++ table ∷ []) classes count ps c.if-index-eq0.next) (sym s)
+          (subst (λ (m : ℕ). AreClassPlaces (take i order ++ table ∷ []) classes count places m) (sym w.next-is)
           (places_old (take i order) classes count places next c.loop-table.invariant table some)))
     ])

@@ -1,11 +1,11 @@
-use Rattle.std.proofs.Common.{◌≡◌, ◌∙◌, ◌<◌, ℕ, List, length, get_or, take, sym, ap, subst}
+use Rattle.std.proofs.Common.{◌≡◌, ◌∙◌, ◌∷◌, ◌<◌, [], ℕ, List, length, get_or, take, sym, ap, subst}
 use Rattle.std.specs.Prelude.{All}
 use Rattle.std.proofs.lemmas.List.{take_all, take_more}
 use Rattle.ds_base.proofs.Lists.{get_or-default}
 use Rattle.ds_design.specs.Circuit.{Circuit}
 use Rattle.ds_design.specs.declared.design.Gate.{Gate}
-use Rattle.ds_groups.specs.Seen.{AreAt, IsReadAt}
-use Rattle.ds_groups.proofs.Searched.{at_more}
+use Rattle.ds_groups.specs.Seen.{AreAt, IsReadAt, IsReadBy}
+use Rattle.ds_groups.proofs.Searched.{at_more, if_ok, own_by}
 use Rattle.ds_groups.proofs.reads.read_by.Goals as goal
 
 pub loop-table-preserved : goal.loop-table-preserved
@@ -39,6 +39,15 @@ returns-clause-ok c =
     let tables : List ℕ = c.args.tables.now in
     record {
       within = subst (λ (n : ℕ). All (λ s. s < n) c.loop-table.list) c.loop-table.invariant.same c.loop-table.invariant.seen.within;
-      each = λ some. subst (λ (xs : List ℕ). AreAt c.args.housed.now.design.now c.args.housed.now.homes.items c.args.own c.loop-table.list xs)
+      each = λ free. subst (λ (xs : List ℕ). AreAt c.args.housed.now.design.now c.args.housed.now.homes.items c.args.own c.loop-table.list xs)
           (take_all c.loop-table.table-index tables c.loop-table-test.false) c.loop-table.invariant.at;
     }
+
+pub returns-then-not-branch-clause-ok : goal.returns-then-not-branch-clause-ok
+returns-then-not-branch-clause-ok c =
+    let d : Circuit = c.args.housed.now.design.now in
+    let homes : List ℕ = c.args.housed.now.homes.items in
+    if_ok c.own_list.result (λ list. list ≡ c.args.own ∷ [])
+    (IsReadBy d homes (length c.args.seen.now.items) c.args.own c.args.tables.now)
+    (λ list is. own_by d homes (length c.args.seen.now.items) c.args.own c.args.tables.now list c.requires.own is)
+    c.own_list.ensures.ok

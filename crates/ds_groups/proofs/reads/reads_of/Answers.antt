@@ -1,9 +1,10 @@
-use Rattle.std.proofs.Common.{◌≡◌, ◌∙◌, ◌<◌, ◌≤◌, ◌+◌, [], ℕ, List, length, get_or, replicate, sym, subst, arith}
+use Rattle.std.proofs.Common.{◌≡◌, ◌∙◌, ◌<◌, ◌≤◌, ◌+◌, [], ℕ, List, length, get_or, map, ◌∷◌, sym, subst, arith}
+use Rattle.std.specs.List.{range_with_len}
 use Rattle.std.proofs.lemmas.List.Elements.{All-weaker}
 use Rattle.ds_base.proofs.Lists.{get_or-default}
 use Rattle.ds_design.specs.Circuit.{Circuit}
 use Rattle.ds_groups.specs.Seen.{AreReadBy, AreReadsOf, IsReadBy}
-use Rattle.ds_groups.proofs.Searched.{are_reads, if_ok, none_read, reads_more}
+use Rattle.ds_groups.proofs.Searched.{are_reads, if_ok, own_read, reads_more}
 use Rattle.ds_groups.proofs.reads.reads_of.Goals as goal
 
 pub loop-own-preserved : goal.loop-own-preserved
@@ -38,8 +39,9 @@ returns c =
 
 pub returns-then-not-are_large : goal.returns-then-not-are_large
 returns-then-not-are_large c = record {
-  ok = if_ok c.empty_lists.result (λ v. v.items ≡ replicate (length c.args.groups.now) [])
+  ok = if_ok c.own_lists.result
+      (λ v. v.items ≡ map (λ own. own ∷ []) (range_with_len 0 (length c.args.groups.now)))
       (λ v. AreReadsOf c.args.design.now c.args.others.now c.args.groups.now v.items)
-      (λ v is. none_read c.args.design.now c.args.others.now c.args.groups.now v.items is)
-      c.empty_lists.ensures.ok;
+      (λ v is. own_read c.args.design.now c.args.others.now c.args.groups.now v.items is)
+      c.own_lists.ensures.ok;
 }

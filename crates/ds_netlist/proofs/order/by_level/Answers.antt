@@ -2,7 +2,7 @@ use Rattle.std.proofs.Common.{◌≡◌, ◌∙◌, List, ap, length, map, subst
 use Rattle.std.specs.List.Sorted.{IsPermutation}
 use Rattle.std.proofs.lemmas.List.Sorted.{IsPermutation-trans}
 use Rattle.std.proofs.lemmas.Result.{IfOk-weaker}
-use Rattle.ds_netlist.specs.Placed.{IsSortedOrder, placed}
+use Rattle.ds_netlist.specs.Placed.{IsSortedOrder, placed_gates}
 use Rattle.ds_netlist.specs.declared.order.Placed.{Placed}
 use Rattle.ds_netlist.proofs.order.by_level.Goals as goal
 
@@ -11,7 +11,7 @@ returns c =
     let all = c.in_ok-all.all.items in
     let by_width = c.sort_by_width.new.all.items in
     let sorted = c.sort_by_level.new.all.items in
-    let permuted : IsPermutation (placed c.args.tables.now c.args.levels.now (length c.args.tables.now)) c.sort_by_level.new.all.items =
+    let permuted : IsPermutation (placed_gates c.args.tables.now c.args.levels.now (length c.args.tables.now)) c.sort_by_level.new.all.items =
     subst (λ (ps : List Placed). IsPermutation ps c.sort_by_level.new.all.items) c.in_ok-all.ensures.ok
     (IsPermutation-trans all by_width sorted c.sort_by_width.ensures c.sort_by_level.ensures.permuted) in
     record {

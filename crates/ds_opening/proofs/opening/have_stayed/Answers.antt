@@ -17,7 +17,5 @@ loop-slot-preserved c k d low = elim (cases_lt k c.loop-slot.slot-index) [
 ]
 
 pub returns : goal.returns
-returns c = λ some. record {
-  some = search rules;
-  each = λ k d low. c.loop-slot.invariant k d (omega (low, c.loop-slot-test.false, c.loop-slot.auto.slot-index-end, arith));
-}
+returns c = λ so k d low. c.loop-slot.invariant k d
+    (omega (low, c.loop-slot-test.false, c.loop-slot.auto.slot-index-end, arith))

@@ -1,7 +1,8 @@
 use Rattle.std.proofs.Common.{◌≡◌, ◌∙◌, ◌<◌, ◌≤◌, ◌+◌, ◌-◌, ℕ, List, [], arith, length, ap, get_or, refl, subst, sym, take, drop}
+use Rattle.ds_base.specs.Word.{count_of_words}
 use Rattle.ds_cover.specs.Cover.{values_at}
 use Rattle.ds_opening.specs.Noted.{IsLearnt, IsSlot}
-use Rattle.ds_opening.specs.Packed.{AreInside, packed, words_of}
+use Rattle.ds_opening.specs.Packed.{AreInside, packed}
 use Rattle.ds_opening.proofs.Filled.{IsReadTo, lent, of_next, read_all, read_first, read_more, room, row_is}
 use Rattle.ds_opening.proofs.opening.learn_rows.Goals as goal
 
@@ -31,7 +32,7 @@ split_at-requires c =
     let inside : node < length bits = of_next reads read c.rows-test.true (λ n. n < length bits) reads.inside in
     let list : c.as_slice-these.result.now ≡ get_or bits node [] =
     lent bits node node c.index-bits-node.result c.as_slice-these.result.now c.as_slice-these.ensures c.index-bits-node.is refl inside in
-    let most : words_of (length (get_or bits node [])) ≤ length (take (length c.rows.rest.now - 1) (drop 1 c.rows.rest.now)) = room reads read c.rows-test.true in
+    let most : count_of_words (length (get_or bits node [])) ≤ length (take (length c.rows.rest.now - 1) (drop 1 c.rows.rest.now)) = room reads read c.rows-test.true in
     rw (c.words_of.ensures, list) most
 
 pub overflow_add-first : goal.overflow_add-first
@@ -83,12 +84,12 @@ rows-preserved c = record {
       let list : c.as_slice-these.result.now ≡ get_or bits node [] =
       lent bits node node c.index-bits-node.result c.as_slice-these.result.now c.as_slice-these.ensures c.index-bits-node.is refl inside in
       let words : List ℕ = take (length rest - 1) (drop 1 rest) in
-      let count : c.words_of.result ≡ words_of (length (get_or bits node [])) =
-      c.words_of.ensures ∙ ap (λ (xs : List ℕ). words_of (length xs)) list in
+      let count : c.words_of.result ≡ count_of_words (length (get_or bits node [])) =
+      c.words_of.ensures ∙ ap (λ (xs : List ℕ). count_of_words (length xs)) list in
       let row : c.split_at.result.0.now ≡ packed (values_at known c.as_slice-these.result.now) =
       c.split_at.ensures.front ∙ (ap (λ (n : ℕ). take n words) count ∙ (row_is reads read c.rows-test.true
       ∙ ap (λ (xs : List ℕ). packed (values_at known xs)) (sym list))) in
-      let others : c.split_at.result.1.now ≡ drop (words_of (length (get_or bits node []))) words =
+      let others : c.split_at.result.1.now ≡ drop (count_of_words (length (get_or bits node []))) words =
       c.split_at.ensures.back ∙ ap (λ (n : ℕ). drop n words) count in
       subst (λ (xs : List ℕ). IsReadTo bits c.args.first c.args.opening.now c.args.scratch.now known nodes xs c.learn_row.new.scratch) (sym others)
       (read_more reads read c.rows-test.true c.learn_row.new.scratch (λ m at remembers.

@@ -1,8 +1,8 @@
 use Rattle.std.proofs.Common.{◌≡◌, ◌≢◌, ◌⊎◌, ◌%◌, ℕ, inl, inr, sym, ◌∙◌, ◌+◌, ◌≤◌, ◌++◌, Bool, false, arith, ap, length, ◌-◌, take, drop}
 use Rattle.std.specs.Prelude.{IsTrue, vec_capacity, vec_len}
+use Rattle.ds_base.specs.Word.{count_of_words}
 use Rattle.ds_latch.specs.Node.{Node, In, Out, Master, Slave, nets_of, number_of}
 use Rattle.ds_opening.specs.Settled.{IsSettling}
-use Rattle.ds_opening.specs.Packed.{words_of}
 use Rattle.ds_opening.specs.Learnt.{is_learnt}
 use Rattle.ds_opening.proofs.LearntRows.{master_unlearnt}
 use Rattle.ds_opening.proofs.Slaves.{slave_reads, slave_room, slave_takes}
@@ -36,11 +36,11 @@ slice_bounds-words-start c = slice_bounds-words-count c
 pub push_all-requires : goal.push_all-requires
 push_all-requires c =
     let (n, t, m, o) = c.requires.opening in
-    let size : length (take (length c.args.opening.now.from.now - 1) (drop 1 c.args.opening.now.from.now)) ≡ words_of (length (nets_of c.args.latches.now n)) = slave_room c.args.latches.now c.args.vectors.now.rows c.args.opening.now.number (c.args.opening.now.turn - 1) c.if-opening-eq0.false
+    let size : length (take (length c.args.opening.now.from.now - 1) (drop 1 c.args.opening.now.from.now)) ≡ count_of_words (length (nets_of c.args.latches.now n)) = slave_room c.args.latches.now c.args.vectors.now.rows c.args.opening.now.number (c.args.opening.now.turn - 1) c.if-opening-eq0.false
     (λ h. not_true c.has_cone.result c.if-has_cone.false (c.has_cone.ensures.1 h))
     (is_learnt (length c.args.groups.now.groups) c.args.scratch.now c.args.opening.now.turn)
     (master_unlearnt (length c.args.groups.now.groups) c.args.scratch.now c.args.opening.now.turn) c.args.opening.now.from.now n t o.opening in
-    let most : vec_len c.args.into.now + words_of (length (nets_of c.args.latches.now n)) ≤ vec_capacity c.args.into.now = c.requires.room n o.opening.node o.opening.is in
+    let most : vec_len c.args.into.now + count_of_words (length (nets_of c.args.latches.now n)) ≤ vec_capacity c.args.into.now = c.requires.room n o.opening.node o.opening.is in
     record { room = omega (size, most, arith) }
 
 pub returns-else-has_cone-clause-value : goal.returns-else-has_cone-clause-value

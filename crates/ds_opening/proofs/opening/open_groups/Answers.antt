@@ -6,7 +6,7 @@ use Rattle.ds_latch.specs.Node.{IsNode, Node, Split, nets_of, nodes, number_of}
 use Rattle.ds_latch.proofs.Counts.{number_below}
 use Rattle.ds_opening.specs.Noted.{AreRowsLearnt}
 use Rattle.ds_opening.specs.Packed.{packed}
-use Rattle.ds_opening.specs.Woven.{taken}
+use Rattle.ds_opening.specs.Woven.{value_taken}
 use Rattle.ds_opening.proofs.Filled.{lent}
 use Rattle.ds_opening.proofs.Noting.{grouped, has_reads, node_slots, numbers, reads, settled_is, value}
 use Rattle.ds_opening.proofs.Stayed.{reads_on}
@@ -80,7 +80,7 @@ returns-clause-value c n t m o =
     let s : Split = c.args.latches.now in
     let these : c.as_slice.result.now ≡ nets_of s n =
     these_are s bits c.bits-bits.ensures.one_each c.bits-bits.ensures.nets n o.at.node c.args.opening.now.number o.at.is c.index-bits-opening.result c.as_slice.result.now c.as_slice.ensures c.index-bits-opening.is in
-    let row : values_at c.set_groups.new.scratch.nets (nets_of s n) ≡ taken s t n =
+    let row : values_at c.set_groups.new.scratch.nets (nets_of s n) ≡ value_taken s t n =
     value c.requires.design.1 c.requires.design.0 c.bits-bits.result.now c.bits-bits.ensures.one_each c.bits-bits.ensures.nets c.requires.groups o
     c.learn_rows.new.scratch rows c.set_groups.new.scratch settled in
     c.push_words.ensures.value ∙ ap (λ (r : Row). c.args.into.now.items ++ packed r)

@@ -2,7 +2,7 @@ use Rattle.std.proofs.Common.{◌≡◌, ◌∙◌, ℕ, Bool, List, false, inl,
 use Rattle.std.specs.Prelude.{All, Contains}
 use Rattle.std.proofs.lemmas.List.{length-set}
 use Rattle.ds_base.specs.Values.{Row}
-use Rattle.ds_cover.specs.Bank.{Driven, IsWithin, after_tables}
+use Rattle.ds_cover.specs.Bank.{Driven, AreNetsWithin, after_tables}
 use Rattle.ds_design.specs.Circuit.{Circuit}
 use Rattle.ds_groups.specs.Groups.{Grouping, group_of}
 use Rattle.ds_scratch.specs.Scratch.{Kept}
@@ -15,7 +15,7 @@ use Rattle.ds_opening.proofs.opening.set_group.Goals as goal
 
 pub set-requires-clause-within : goal.set-requires-clause-within
 set-requires-clause-within c =
-    subst (λ (r : Row). All (λ t. IsWithin t r) c.args.groups.now.bank) (sym c.nets_mut.ensures.value)
+    subst (λ (r : Row). All (λ t. AreNetsWithin t r) c.args.groups.now.bank) (sym c.nets_mut.ensures.value)
     (all_within c.args.netlist.now c.design-design.ensures.in_range c.args.groups.now.bank c.requires.packed c.args.scratch.now.nets c.requires.nets)
 
 pub returns-then-keeps-clause-value : goal.returns-then-keeps-clause-value

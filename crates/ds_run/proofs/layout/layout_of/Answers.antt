@@ -10,8 +10,8 @@ use Rattle.ds_latch.specs.Node.{Split, nodes}
 use Rattle.ds_latch.specs.Plan.{IsSplit}
 use Rattle.ds_opening.specs.Foreseen.{foreseen_rows}
 use Rattle.ds_rule.specs.Run.{Run}
-use Rattle.ds_run.specs.Layout.{AreEdges, AreLengths, AreValues, IsRunOf}
-use Rattle.ds_run.specs.Laws.{IsWithin}
+use Rattle.ds_run.specs.Layout.{AreDataEdges, AreLengths, AreValues, IsRunOf}
+use Rattle.ds_run.specs.Laws.{IsRunWithin}
 use Rattle.ds_run.proofs.Sound.{room, run_accepted, run_sound}
 use Rattle.ds_run.proofs.Values.{values_are}
 use Rattle.ds_run.proofs.layout.layout_of.Goals as goal
@@ -87,9 +87,9 @@ arcs_are c = ap (λ (r : Run). r.arcs) (of_is c)
     ∙ (c.in_ok-arcs.ensures.items_if_clones_equal (λ x y e. e)
     ∙ (c.arcs.ensures.arcs ∙ ap (λ (g : Graph). g.arcs) c.graph-graph.ensures.graph))
 
-edges_are : (c : After-of) → AreEdges c.args.plan.now.split c.of.result.edges
-edges_are c = subst (λ (s : Split). AreEdges s c.of.result.edges) (split_is c)
-    (subst (AreEdges c.latches-split.result.now) (sym (ap (λ (r : Run). r.edges) (of_is c)))
+edges_are : (c : After-of) → AreDataEdges c.args.plan.now.split c.of.result.edges
+edges_are c = subst (λ (s : Split). AreDataEdges s c.of.result.edges) (split_is c)
+    (subst (AreDataEdges c.latches-split.result.now) (sym (ap (λ (r : Run). r.edges) (of_is c)))
     c.in_ok-edges.ensures.ok)
 
 lengths_are : (c : After-of)
@@ -141,7 +141,7 @@ is_run c = record {
   values_are = values_there c;
 }
 
-within : (c : After-of) → IsWithin c.args.plan.now c.args.vectors.now.rows c.of.result
+within : (c : After-of) → IsRunWithin c.args.plan.now c.args.vectors.now.rows c.of.result
 within c = record {
   one_width = wide c;
   few_vectors = omega (arith, c.count-limit.ensures.few, c.count-limit.ensures.value);

@@ -1,6 +1,6 @@
 use Rattle.std.proofs.Common.{◌∙◌, ap, arith}
 use Rattle.ds_turnstile.specs.Turns.{base}
-use Rattle.ds_runner.specs.Work.{Fits}
+use Rattle.ds_runner.specs.Work.{HasPassOfEach}
 use Rattle.ds_runner.proofs.Hired.{all_workers, are_alone, opened_fits}
 use Rattle.ds_runner.proofs.hire.hire.Goals as goal
 
@@ -21,7 +21,7 @@ returns-clause-ok g c =
     let all' = c.in_ok-passes.ensures in
     let open' = c.in_ok-stile.ensures.ok in
     let own = c.in_ok-workers.ensures in
-    let fits : Fits c.args.site.now c.in_ok-stile.stile =
+    let fits : HasPassOfEach c.args.site.now c.in_ok-stile.stile =
     opened_fits c.args.site.now c.in_ok-passes.passes.items c.in_ok-stile.stile all.0 (omega (arith, all.1, c.requires.count.2)) all.1 open'.given_is in record {
       fits = fits;
       belongs = own.ok_turn.0;

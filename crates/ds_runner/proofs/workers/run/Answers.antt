@@ -1,7 +1,7 @@
-use Rattle.std.proofs.Common.{◌≡◌, ◌≤◌, ◌*◌, ◌∙◌, ℕ, ap, sym, arith, subst, Bool, List, false, get_or}
-use Rattle.ds_rule.specs.Run.{Run}
+use Rattle.std.proofs.Common.{◌≡◌, ◌<◌, ◌≤◌, ◌*◌, ◌∙◌, ℕ, ap, sym, arith, subst, Bool, List, false, get_or}
+use Rattle.ds_rule.specs.Run.{Run, count, node_of}
 use Rattle.ds_rule.specs.Log.{Recorded}
-use Rattle.ds_rule.specs.Rule.{tickets}
+use Rattle.ds_rule.specs.Rule.{seen, tickets}
 use Rattle.ds_rule.specs.declared.view.View.{View}
 use Rattle.ds_fabric.specs.Base.{Base}
 use Rattle.ds_fabric.specs.Showing.{Belongs, Showing}
@@ -19,15 +19,15 @@ abbrev Has : Base → ℕ → Showing → Type 0
 Has b most p = Belongs b p × HasFrom p.view 0 × (all_tickets p.view ≤ most)
 
 now : (g : Given.Over) (c : Joined-number-gt0 g)
-    → Has c.in_ok-fabric.fabric (c.args.jobs * quota_of c.args.quota) c.if-number-gt0.pass
+    → Has c.in_ok-fabric.fabric (c.args.workers.now.jobs * quota_of c.args.quota) c.if-number-gt0.pass
 now g c = let begun = c.in_ok-fabric.ensures in
     let b : Base = c.in_ok-fabric.fabric in
-    let most : ℕ = c.args.jobs * quota_of c.args.quota in
+    let most : ℕ = c.args.workers.now.jobs * quota_of c.args.quota in
     elim c.if-number-gt0.branch [
       | then-number-gt0+in_ok-share w ↦ subst (Has b most) (sym w.pass-is) (
         w.in_ok-share.ensures.ok.0,
         w.in_ok-share.ensures.ok.1,
-        collected _ w.budget-budget.result.workers c.args.jobs w.budget-budget.result.firings
+        collected _ w.budget-budget.result.workers c.args.workers.now.jobs w.budget-budget.result.firings
             (quota_of c.args.quota) w.in_ok-share.ensures.ok_few w.budget-budget.ensures.workers.1
             w.budget-budget.ensures.firings,
       )
@@ -43,6 +43,10 @@ share-requires-clause-unfired g c κs within = first_unfired c.args.run.now _ c.
 
 pub rest-rest-requires-clause-all : goal.rest-rest-requires-clause-all
 rest-rest-requires-clause-all g c = (now g (goal.at.rest-rest-requires-clause-all g c).Joined-number-gt0).1
+
+pub complete-requires-clause-fits : goal.complete-requires-clause-fits
+complete-requires-clause-fits g c κs within =
+    (now g (goal.at.complete-requires-clause-fits g c).Joined-number-gt0).0
 
 pub complete-requires-clause-all : goal.complete-requires-clause-all
 complete-requires-clause-all g c κs within = (now g (goal.at.complete-requires-clause-all g c).Joined-number-gt0).1
@@ -66,9 +70,10 @@ returns g c = let begun = c.in_ok-fabric.ensures in let done = c.complete.ensure
     let is : v.run ≡ run = done.moved.run ∙ (n.0.run ∙ begun.run_is) in
     let recorded : Recorded run (tickets v) c.finish.result.many =
     subst (λ (r : Run). Recorded r (tickets v) c.finish.result.many) begun.run_is c.finish.ensures.legal in
-    ended c.args.quota c.args.jobs run v c.finish.result before c.rest-rest.result c.requires.sound c.requires.jobs.0
+    ended c.args.quota c.args.workers.now.jobs run v c.finish.result before c.rest-rest.result c.requires.sound c.requires.jobs.0
     shown is recorded n.2 c.rest-rest.ensures (omega (arith, done.most))
     (λ short. whole run v c.finish.result shown is recorded c.finish.ensures.counted
     (λ l near. ap (λ (hs : List Bool). get_or hs l false) done.moved.holds_same
     ∙ n.1 l (omega arith) (omega (arith, near, ap (λ (r : Run). r.nodes) (n.0.run ∙ begun.run_is))))
-    (done.done (omega (arith, short))))
+    (subst (λ (r : Run). (e : ℕ) → node_of r e < r.nodes → r.limit ≤ count r (seen v) e) begun.run_is
+    (done.done (omega (arith, short)))))

@@ -1,5 +1,5 @@
 use Rattle.std.proofs.Common.{◌≡◌, ℕ, ◌+◌, List, length, sym, ◌∙◌, refl, ap, subst, arith}
-use Rattle.ds_split.specs.Groups.{AreGroups, with_register}
+use Rattle.ds_split.specs.Groups.{AreGroups, with_member}
 use Rattle.ds_split.proofs.Loops.{next_alone, no_groups}
 use Rattle.ds_split.proofs.grouping.alone.Goals as goal
 
@@ -10,8 +10,8 @@ loop-register-init c = subst (λ (gs : List (List ℕ)). AreGroups (λ a b. a �
 pub loop-register-preserved : goal.loop-register-preserved
 loop-register-preserved c =
     let r : ℕ = c.loop-register.register in
-    let is : c.add.new.groups.items ≡ with_register c.loop-register.groups.items c.loop-register.register c.loop-register.register =
-    c.in_ok-add.ensures ∙ ap (with_register c.loop-register.groups.items c.loop-register.register) c.new.ensures in
+    let is : c.add.new.groups.items ≡ with_member c.loop-register.groups.items c.loop-register.register c.loop-register.register =
+    c.in_ok-add.ensures ∙ ap (with_member c.loop-register.groups.items c.loop-register.register) c.new.ensures in
     subst (λ (gs : List (List ℕ)). AreGroups (λ a b. a ≡ b) (c.loop-register.register + 1) gs × (length gs ≡ c.loop-register.register + 1)) (sym is)
     (next_alone c.loop-register.register c.loop-register.groups.items c.loop-register.invariant.0 c.loop-register.invariant.1)
 

@@ -2,7 +2,7 @@ use Rattle.std.proofs.Common.{◌≡◌, ◌∙◌, ◌<◌, ◌+◌, ℕ, List,
 use Rattle.std.proofs.lemmas.List.{get_or_default}
 use Rattle.ds_latch.specs.Node.{Slave, Split, members, number_of}
 use Rattle.ds_rule.specs.Run.{Run}
-use Rattle.ds_rule.specs.Words.{values_at as stored_at}
+use Rattle.ds_rule.specs.Words.{node_values as stored_at}
 use Rattle.ds_trace.proofs.Gathered.{gathered_all, one_cluster}
 use Rattle.ds_trace.proofs.line.gather.Goals as goal
 

@@ -4,7 +4,7 @@ use Rattle.ds_base.specs.Values.{Row}
 use Rattle.ds_cover.specs.Cover.{value_at}
 use Rattle.ds_latch.specs.Node.{members, number_of}
 use Rattle.ds_latch.specs.Firing.{AreRegisters}
-use Rattle.ds_rule.specs.Words.{values_at as stored_at}
+use Rattle.ds_rule.specs.Words.{node_values as stored_at}
 use Rattle.ds_trace.specs.Line.{HasLine}
 use Rattle.ds_trace.proofs.line.gather.Given as goal
 

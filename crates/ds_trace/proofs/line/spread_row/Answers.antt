@@ -4,10 +4,11 @@ use Rattle.std.specs.Prelude.{Contains}
 use Rattle.std.proofs.Math.Nat.{min_comm}
 use Rattle.std.proofs.lemmas.Bool.{eqb-false}
 use Rattle.std.proofs.lemmas.List.{drop-drop, drop_min, length-drop, take_min}
+use Rattle.ds_base.specs.Word.{count_of_words}
 use Rattle.ds_base.specs.Values.{Row}
 use Rattle.ds_cover.specs.Cover.{value_at, values_at}
 use Rattle.ds_rule.specs.Run.{Run}
-use Rattle.ds_rule.specs.Words.{width, words_of, values_at as stored_at}
+use Rattle.ds_rule.specs.Words.{width, node_values as stored_at}
 use Rattle.ds_fabric.proofs.RowReads.{value-word, width_read}
 use Rattle.ds_trace.specs.Line.{AreSpread}
 use Rattle.ds_trace.proofs.Gathered.{one_word, part_shown}
@@ -20,9 +21,9 @@ word-requires-clause-inside c =
     eqb-false _ _ (sym c.is_empty.ensures ∙ c.words-test.true) in
     let left : length c.words.rest.now ≡ length c.args.members.now - 32 * c.words.i =
     ap length c.words.invariant.rest ∙ length-drop (32 * c.words.i) c.args.members.now in
-    let wide : words_of (length c.args.members.now)
+    let wide : count_of_words (length c.args.members.now)
     ≡ width c.args.fired.now.shown.view.run c.args.slave =
-    width_read c.args.fired.now.shown.view.run c.args.slave many (words_of many)
+    width_read c.args.fired.now.shown.view.run c.args.slave many (count_of_words many)
     (sym c.requires.wide) refl in
     omega (arith, some, left, wide)
 

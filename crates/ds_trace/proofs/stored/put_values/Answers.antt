@@ -6,7 +6,7 @@ use Rattle.ds_design.specs.Trace.{value_text, values_text}
 use Rattle.ds_rows.specs.Log.{at_place, value_words}
 use Rattle.ds_rows.proofs.Then.{goes_on, nothing, with_text}
 use Rattle.ds_rule.specs.Run.{Run}
-use Rattle.ds_rule.specs.Words.{values_at}
+use Rattle.ds_rule.specs.Words.{node_values}
 use Rattle.ds_trace.specs.Latched.{word_values}
 use Rattle.ds_trace.proofs.Pieces.{text_all, text_more, values_of}
 use Rattle.ds_trace.proofs.stored.put_values.Goals as goal
@@ -40,7 +40,7 @@ writing-preserved g c = let run : Run = c.args.fired.now.shown.view.run in
 pub returns-then-rows-eq0 : goal.returns-then-rows-eq0
 returns-then-rows-eq0 g c = let run : Run = c.args.fired.now.shown.view.run in
     let l : ℕ = c.args.latch in
-    with_text (ap (λ (n : ℕ). values_text (at_place c.args.place (map (values_at run l)
+    with_text (ap (λ (n : ℕ). values_text (at_place c.args.place (map (node_values run l)
     (range_with_len 1 n)))) (sym c.if-rows-eq0.true ∙ c.stored-rows.ensures.value)) c.put.ensures
 
 pub returns : goal.returns
@@ -48,5 +48,5 @@ returns g c = let run : Run = c.args.fired.now.shown.view.run in let l : ℕ = c
     let all : c.writing.done ≡ c.stored-rows.result = omega arith in
     with_text (ap (λ (n : ℕ). map value_text (map (values_of run l c.args.place)
     (range_with_len 1 n))) all ∙ (text_all run l c.args.place c.stored-rows.result (omega arith)
-    ∙ ap (λ (n : ℕ). values_text (at_place c.args.place (map (values_at run l)
+    ∙ ap (λ (n : ℕ). values_text (at_place c.args.place (map (node_values run l)
     (range_with_len 1 n)))) c.stored-rows.ensures.value)) c.writing.invariant.written

@@ -1,6 +1,6 @@
 use Rattle.std.proofs.Common.{◌≡◌, drop}
+use Rattle.ds_lines.specs.Words.{texts}
 use Rattle.ds_astg.specs.Line.{declare_all as declare_words}
-use Rattle.ds_astg.specs.Steps.{texts}
 use Rattle.ds_astg.proofs.signals.Signals.declare_all.Given as goal
 
 abbrev pub invariant-loop-i : goal.invariant-loop-i

@@ -3,7 +3,7 @@ use mathlib.Core.Option.{some}
 use lib.ListN.{get_elem?}
 use Rattle.ds_rule.specs.Rule.{holds}
 use Rattle.ds_rule.specs.Plays.{Sat}
-use Rattle.ds_fabric.specs.Indexed.{Stands}
+use Rattle.ds_fabric.specs.Indexed.{IsHistoryAt}
 use Rattle.ds_fabric.specs.Showing.{Showing, Keeps}
 use Rattle.ds_fabric.specs.declared.history.History.{History}
 use Rattle.ds_fabric.proofs.Finds.{stands_same}
@@ -11,7 +11,7 @@ use Rattle.ds_fabric.proofs.pass.Pass.holds.Goals as goal
 
 -- a node whose history is there is held
 held : (me : Sat) (ns zs : List History) (l node : ℕ) → Keeps me ns → zs ≡ ns → l ≡ node → (i : ℕ)
-    × Stands zs i l → holds me.0 node ≡ true
+    × IsHistoryAt zs i l → holds me.0 node ≡ true
 held me ns zs l node k e n f =
     let t = k.listed f.0 f.1.0
     (subst (λ (xs : List History). get_elem? xs f.0 ≡ some f.1.0) e f.1.1) in

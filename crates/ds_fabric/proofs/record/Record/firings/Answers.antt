@@ -3,7 +3,7 @@ use mathlib.Core.Option.{some}
 use lib.ListN.{get_elem?}
 use Rattle.ds_rule.specs.Rule.{tickets}
 use Rattle.ds_rule.specs.Log.{firings}
-use Rattle.ds_fabric.specs.Showing.{Showing, Recorder, IsRecord, IsFired}
+use Rattle.ds_fabric.specs.Showing.{Showing, Recorder, IsRecord, IsFiredInOrder}
 use Rattle.ds_fabric.specs.Spread.{HasSpread}
 use Rattle.ds_fabric.specs.declared.history.History.{History}
 use Rattle.ds_fabric.proofs.Spreads.{spread_is, written}
@@ -38,7 +38,7 @@ returns-clause-ok c = let p : Showing = c.self.inside.shown.value in let q = c.s
     let is : new ≡ firings q.recorded.log =
     spread_is p nodes c.self.inside.places.items c.self.inside.latches c.self.inside.many q new
     (long ∙ many) all in
-    subst (λ (x : Recorder). IsFired x.shown.view.run (tickets x.shown.view)
+    subst (λ (x : Recorder). IsFiredInOrder x.shown.view.run (tickets x.shown.view)
     (take c.in_ok-out.out.len (new ++ drop (length new) out))) c.self.view_is (record {
       recorded = record {
         log = q.recorded.log;

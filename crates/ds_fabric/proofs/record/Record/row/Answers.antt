@@ -1,7 +1,7 @@
 use Rattle.std.proofs.Common.{◌≡◌, ◌<◌, ◌+◌, ◌-◌, ◌*◌, ◌∙◌, ℕ, List, get_or, take, drop}
 use Rattle.std.proofs.Common.{ap, sym, arith}
 use Rattle.ds_rule.specs.Run.{Run, closing}
-use Rattle.ds_rule.specs.Words.{values_at}
+use Rattle.ds_rule.specs.Words.{node_values}
 use Rattle.ds_rule.specs.declared.view.View.{View}
 use Rattle.ds_rule.proofs.EventLaws.{node-closing}
 use Rattle.ds_fabric.specs.declared.history.History.{History}
@@ -54,7 +54,7 @@ returns c = let v : View = c.args.self.now.shown.view in let run : Run = v.run i
     let near : l < run.nodes = omega (arith, c.requires.near, i.sound.among) in
     let from : ℕ = c.args.k * h.stride in
     let most = i.most (closing l) (node-closing run l c.requires.near ∙ sym c.index.ensures) in
-    c.unpack.ensures.value (values_at run l (c.args.k + 1))
+    c.unpack.ensures.value (node_values run l (c.args.k + 1))
     (i.sound.same_length l (c.args.k + 1) near (omega (arith, c.requires.stored, most))
     ∙ sym c.requires.length)
     (λ j h'. let e : from + w - from ≡ w = omega arith in

@@ -7,7 +7,7 @@ use Rattle.ds_latch.specs.Node.{Node, Split, IsNode, nets_of, nodes, number_of}
 use Rattle.ds_latch.proofs.Counts.{number_below}
 use Rattle.ds_opening.specs.Woven.{IsSettlingAt}
 use Rattle.ds_opening.proofs.Woven.{nets_within}
-use Rattle.ds_fire.specs.Fired.{IsSound}
+use Rattle.ds_fire.specs.Fired.{IsSnapshotSound}
 use Rattle.ds_fire.specs.Snapshot.{Snapshot, split_of, held_row}
 use Rattle.ds_fire.specs.Turn.{IsSettledOn}
 use Rattle.ds_fire.proofs.Opened.{bits_are}
@@ -25,7 +25,7 @@ module _ (s now : Split) (same : s ≡ now) (bits : List (List ℕ)) (one_each :
 pub pick_values-requires-clause-within : goal.pick_values-requires-clause-within
 pick_values-requires-clause-within c =
     let (m, at, wide) = c.requires.node in
-    let sound : IsSound c.args.self.now = subst IsSound c.self.view_is c.self.invariant.sound in
+    let sound : IsSnapshotSound c.args.self.now = subst IsSnapshotSound c.self.view_is c.self.invariant.sound in
     let same : c.latches-latches.result.now ≡ split_of c.args.self.now = c.latches-latches.ensures ∙ ap (λ (k : Snapshot). split_of k) c.self.view_is in
     let bit : c.index-bits-number.result ≡ nets_of (split_of c.args.self.now) m =
     bit_is c.latches-latches.result.now (split_of c.args.self.now) same c.bits.result.now c.bits.ensures.one_each c.bits.ensures.nets c.index-number.result c.index-bits-number.result c.index-bits-number.is m at.node (at.is ∙ sym c.index-number.ensures) in

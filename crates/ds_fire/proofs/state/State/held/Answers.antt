@@ -2,8 +2,8 @@ use Rattle.std.proofs.Common.{◌≡◌, ◌∙◌, ◌<◌, ◌≤◌, ◌+◌,
 use Rattle.std.proofs.lemmas.List.{get_or_default}
 use Rattle.ds_base.specs.Values.{Row}
 use Rattle.ds_latch.specs.Node.{Node, Split, number_of, nodes, opening, place_of}
-use Rattle.ds_fire.specs.Inside.{seen}
-use Rattle.ds_fire.specs.Turn.{ArePlaces}
+use Rattle.ds_fire.specs.Inside.{snapshot_seen}
+use Rattle.ds_fire.specs.Turn.{AreTurnPlaces}
 use Rattle.ds_fire.specs.Snapshot.{Snapshot, split_of, count_of, held_row, rows_of}
 use Rattle.ds_fire.proofs.Settles.{place_low}
 use Rattle.ds_fire.proofs.Turning.{are_rows, count_low, events_enough}
@@ -12,7 +12,7 @@ use Rattle.ds_fire.proofs.state.State.held.Goals as goal
 
 pub overflow_mul-number : goal.overflow_mul-number
 overflow_mul-number c =
-    let old : Snapshot = seen c.self.inside.plan.now c.self.inside.vectors.now c.self.inside.counts c.self.inside.kept in
+    let old : Snapshot = snapshot_seen c.self.inside.plan.now c.self.inside.vectors.now c.self.inside.counts c.self.inside.kept in
     let below : c.args.latch < nodes c.self.inside.plan.now.split = subst (λ (k : Snapshot). c.args.latch < nodes (split_of k)) (sym c.self.view_is) c.requires in
     let enough : 2 * nodes c.self.inside.plan.now.split ≤ length c.self.inside.plan.now.graph.events = events_enough old c.self.invariant.sound in
     let few : length c.self.inside.plan.now.graph.events < 2 ^ 32 = c.self.invariant.sound.few in
@@ -21,7 +21,7 @@ overflow_mul-number c =
 
 pub at-opened-requires : goal.at-opened-requires
 at-opened-requires c =
-    let old : Snapshot = seen c.self.inside.plan.now c.self.inside.vectors.now c.self.inside.counts c.self.inside.kept in
+    let old : Snapshot = snapshot_seen c.self.inside.plan.now c.self.inside.vectors.now c.self.inside.counts c.self.inside.kept in
     let below : c.args.latch < nodes c.self.inside.plan.now.split = subst (λ (k : Snapshot). c.args.latch < nodes (split_of k)) (sym c.self.view_is) c.requires in
     let enough : 2 * nodes c.self.inside.plan.now.split ≤ length c.self.inside.plan.now.graph.events = events_enough old c.self.invariant.sound in
     let long : length c.self.inside.counts ≡ length c.self.inside.plan.now.graph.events = c.self.invariant.sound.counts in
@@ -30,7 +30,7 @@ at-opened-requires c =
 
 pub of-places-requires : goal.of-places-requires
 of-places-requires c =
-    let old : Snapshot = seen c.self.inside.plan.now c.self.inside.vectors.now c.self.inside.counts c.self.inside.kept in
+    let old : Snapshot = snapshot_seen c.self.inside.plan.now c.self.inside.vectors.now c.self.inside.counts c.self.inside.kept in
     let below : c.args.latch < nodes c.self.inside.plan.now.split = subst (λ (k : Snapshot). c.args.latch < nodes (split_of k)) (sym c.self.view_is) c.requires in
     let enough : 2 * nodes c.self.inside.plan.now.split ≤ length c.self.inside.plan.now.graph.events = events_enough old c.self.invariant.sound in
     let is : c.new.result ≡ 2 * c.args.latch = c.new.ensures ∙ ap (λ (k : ℕ). 2 * k) c.number.ensures in
@@ -41,9 +41,9 @@ of-places-requires c =
 
 pub index-requires-2 : goal.index-requires-2
 index-requires-2 c =
-    let old : Snapshot = seen c.self.inside.plan.now c.self.inside.vectors.now c.self.inside.counts c.self.inside.kept in
+    let old : Snapshot = snapshot_seen c.self.inside.plan.now c.self.inside.vectors.now c.self.inside.counts c.self.inside.kept in
     let below : c.args.latch < nodes c.self.inside.plan.now.split = subst (λ (k : Snapshot). c.args.latch < nodes (split_of k)) (sym c.self.view_is) c.requires in
-    let places : ArePlaces c.self.inside.plan.now.split c.at-opened.result c.of-places.result = subst (λ (s : Split). ArePlaces s c.at-opened.result c.of-places.result) c.latches.ensures c.of-places.ensures in
+    let places : AreTurnPlaces c.self.inside.plan.now.split c.at-opened.result c.of-places.result = subst (λ (s : Split). AreTurnPlaces s c.at-opened.result c.of-places.result) c.latches.ensures c.of-places.ensures in
     let inside : c.args.latch * c.of-places.result.each + c.of-places.result.same < length c.self.inside.kept.rows.items =
     same_inside c.self.inside.plan.now.split c.self.inside.kept.rows.items (are_rows old c.self.invariant.sound) c.at-opened.result c.of-places.result places c.args.latch below in
     let here : c.index.result * c.of-places.result.each + c.of-places.result.same < length c.self.inside.kept.rows.items =
@@ -51,13 +51,13 @@ index-requires-2 c =
     omega (arith, c.self.inside.kept.rows.ok.0)
 
 module _ (c : goal.After-index-2) (n : Node) (e : number_of n ≡ c.args.latch) where
-  row_is : c.index-2.result.now ≡ held_row (seen c.self.inside.plan.now c.self.inside.vectors.now c.self.inside.counts c.self.inside.kept) n
+  row_is : c.index-2.result.now ≡ held_row (snapshot_seen c.self.inside.plan.now c.self.inside.vectors.now c.self.inside.counts c.self.inside.kept) n
   row_is =
-      let old : Snapshot = seen c.self.inside.plan.now c.self.inside.vectors.now c.self.inside.counts c.self.inside.kept in
+      let old : Snapshot = snapshot_seen c.self.inside.plan.now c.self.inside.vectors.now c.self.inside.counts c.self.inside.kept in
       let s : Split = c.self.inside.plan.now.split in
       let rows : List Row = c.self.inside.kept.rows.items in
       let below : c.args.latch < nodes c.self.inside.plan.now.split = subst (λ (k : Snapshot). c.args.latch < nodes (split_of k)) (sym c.self.view_is) c.requires in
-      let places : ArePlaces c.self.inside.plan.now.split c.at-opened.result c.of-places.result = subst (λ (s : Split). ArePlaces s c.at-opened.result c.of-places.result) c.latches.ensures c.of-places.ensures in
+      let places : AreTurnPlaces c.self.inside.plan.now.split c.at-opened.result c.of-places.result = subst (λ (s : Split). AreTurnPlaces s c.at-opened.result c.of-places.result) c.latches.ensures c.of-places.ensures in
       let inside : c.args.latch * c.of-places.result.each + c.of-places.result.same < length c.self.inside.kept.rows.items =
       same_inside s rows (are_rows old c.self.invariant.sound) c.at-opened.result c.of-places.result places c.args.latch below in
       let at : ℕ = c.args.latch * c.of-places.result.each + c.of-places.result.same in

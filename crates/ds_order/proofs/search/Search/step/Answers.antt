@@ -1,7 +1,7 @@
-use Rattle.std.proofs.Common.{◌≡◌, ◌∙◌, ◌+◌, ◌-◌, ◌<◌, ℕ, List, length, get_or, subst, sym, arith, refl, ap, Vec, Global, ◌≤◌}
+use Rattle.std.proofs.Common.{◌≡◌, ◌∙◌, ◌-◌, ◌<◌, ℕ, List, length, get_or, subst, sym, arith, ap, Vec, Global, ◌≤◌}
 use Rattle.ds_order.specs.Order.{HasEdge, source_at}
 use Rattle.ds_order.specs.Search.{ClosesAt, IsPath, IsStep, State}
-use Rattle.ds_order.proofs.Begin.{edge_in, path_few, room_above, top}
+use Rattle.ds_order.proofs.Begin.{next_edge, path_few, room_above}
 use Rattle.ds_order.proofs.Steps.{keeps_finished, less_finished, lower_finished, keeps_entered, less_entered, lower_entered, keeps_passed, less_passed}
 use Rattle.ds_order.proofs.search.Search.step.Goals as goal
 
@@ -19,26 +19,19 @@ pub returns-then-color-eq0-clause-ok : goal.returns-then-color-eq0-clause-ok
 returns-then-color-eq0-clause-ok c =
     let s = c.args.self.now in
     let p = c.next_of-k.result - 1 in
-    let on = top c.args.edges.now c.args.floors.now s c.requires.search c.args.node c.requires.last.0 c.requires.last.1 in
-    let is_k : c.next_of-k.result ≡ get_or s.next c.args.node 0 = c.next_of-k.ensures in
-    let at : get_or s.next c.args.node 0 ≡ c.next_of-k.result - 1 + 1 = omega arith in
-    let done : get_or s.color (source_at c.args.edges.now (c.next_of-k.result - 1)) 0 ≡ 0 = sym c.color_of-color.ensures ∙ c.if-color-eq0.true in
+    let e = next_edge c.requires.ends c.requires.search c.requires.last c.next_of-k.result c.next_of-k.ensures c.if-k-eq0.false in
+    let done : get_or s.color (source_at c.args.edges.now p) 0 ≡ 0 = sym c.color_of-color.ensures ∙ c.if-color-eq0.true in
     subst (λ (new : State). IsStep c.args.edges.now c.args.floors.now s new) (sym c.pass.ensures) (record {
-      kept = keeps_passed c.args.edges.now c.args.floors.now s c.requires.ends c.requires.search c.args.node p on.0 on.1 at done;
-      less = less_passed c.args.edges.now c.args.floors.now s c.requires.ends c.requires.search c.args.node p on.0 on.1 at done;
+      kept = keeps_passed c.args.edges.now c.args.floors.now s c.requires.ends c.requires.search c.args.node p e.known e.on e.at done;
+      less = less_passed c.args.edges.now c.args.floors.now s c.requires.ends c.requires.search c.args.node p e.known e.on e.at done;
       lower = λ v. omega arith;
     })
 
 pub pass-requires-clause-room : goal.pass-requires-clause-room
 pass-requires-clause-room c =
-    let s = c.args.self.now in
-    let p = c.next_of-k.result - 1 in
-    let on = top c.args.edges.now c.args.floors.now s c.requires.search c.args.node c.requires.last.0 c.requires.last.1 in
-    let is_k : c.next_of-k.result ≡ get_or s.next c.args.node 0 = c.next_of-k.ensures in
-    let at : get_or s.next c.args.node 0 ≡ c.next_of-k.result - 1 + 1 = omega arith in
-    let edge = edge_in c.args.edges.now c.args.floors.now s c.requires.search c.args.node p on.0 at in
-    let done : get_or s.color (source_at c.args.edges.now (c.next_of-k.result - 1)) 0 ≡ 0 = sym c.color_of-color.ensures ∙ c.if-color-eq0.true in
-    room_above c.args.edges.now c.args.floors.now s c.requires.search c.requires.room (source_at c.args.edges.now p) (c.requires.ends p edge.0).0 done
+    let e = next_edge c.requires.ends c.requires.search c.requires.last c.next_of-k.result c.next_of-k.ensures c.if-k-eq0.false in
+    room_above c.args.edges.now c.args.floors.now c.args.self.now c.requires.search c.requires.room (source_at c.args.edges.now (c.next_of-k.result - 1)) e.source
+    (sym c.color_of-color.ensures ∙ c.if-color-eq0.true)
 
 pub cycle_through-requires-clause-path : goal.cycle_through-requires-clause-path
 cycle_through-requires-clause-path c =
@@ -46,33 +39,24 @@ cycle_through-requires-clause-path c =
 
 pub cycle_through-requires-clause-closes : goal.cycle_through-requires-clause-closes
 cycle_through-requires-clause-closes c =
-    let s = c.args.self.now in
-    let p = c.next_of-k.result - 1 in
-    let on = top c.args.edges.now c.args.floors.now s c.requires.search c.args.node c.requires.last.0 c.requires.last.1 in
-    let is_k : c.next_of-k.result ≡ get_or s.next c.args.node 0 = c.next_of-k.ensures in
-    let at : get_or s.next c.args.node 0 ≡ c.next_of-k.result - 1 + 1 = omega arith in
-    let edge = edge_in c.args.edges.now c.args.floors.now s c.requires.search c.args.node p on.0 at in
-    let one : get_or s.color (source_at c.args.edges.now (c.next_of-k.result - 1)) 0 ≡ 1 = sym c.color_of-color.ensures ∙ c.if-color-eq1.true in
-    subst (λ (path : List ℕ). ClosesAt c.args.edges.now path (source_at c.args.edges.now (c.next_of-k.result - 1))) (sym c.path.ensures)
-    (c.requires.search.listed (source_at c.args.edges.now p) (c.requires.ends p edge.0).0 one, (p, edge.0, refl, edge.1 ∙ sym c.requires.last.1))
+    let source = source_at c.args.edges.now (c.next_of-k.result - 1) in
+    let e = next_edge c.requires.ends c.requires.search c.requires.last c.next_of-k.result c.next_of-k.ensures c.if-k-eq0.false in
+    let listed = c.requires.search.listed source e.source (sym c.color_of-color.ensures ∙ c.if-color-eq1.true) in
+    subst (λ (path : List ℕ). ClosesAt c.args.edges.now path source) (sym c.path.ensures)
+    (listed, subst (HasEdge c.args.edges.now source) (sym c.requires.last.1) e.leads)
 
 pub returns-clause-ok : goal.returns-clause-ok
 returns-clause-ok c =
     let s = c.args.self.now in
-    let p = c.next_of-k.result - 1 in
-    let on = top c.args.edges.now c.args.floors.now s c.requires.search c.args.node c.requires.last.0 c.requires.last.1 in
-    let is_k : c.next_of-k.result ≡ get_or s.next c.args.node 0 = c.next_of-k.ensures in
-    let at : get_or s.next c.args.node 0 ≡ c.next_of-k.result - 1 + 1 = omega arith in
-    let edge = edge_in c.args.edges.now c.args.floors.now s c.requires.search c.args.node p on.0 at in
-    let source = source_at c.args.edges.now p in
-    let inside = (c.requires.ends p edge.0).0 in
-    let color : c.color_of-color.result ≡ get_or s.color (source_at c.args.edges.now (c.next_of-k.result - 1)) 0 = c.color_of-color.ensures in
-    let fresh : get_or s.color (source_at c.args.edges.now (c.next_of-k.result - 1)) 0 ≡ 2 = omega (arith, c.requires.search.range source inside) in
-    let leads : 0 < length s.path → HasEdge c.args.edges.now source (get_or s.path (length s.path - 1) 0) = λ some. (p, edge.0, refl, edge.1 ∙ sym c.requires.last.1) in
+    let source = source_at c.args.edges.now (c.next_of-k.result - 1) in
+    let e = next_edge c.requires.ends c.requires.search c.requires.last c.next_of-k.result c.next_of-k.ensures c.if-k-eq0.false in
+    let color : c.color_of-color.result ≡ get_or s.color source 0 = c.color_of-color.ensures in
+    let fresh : get_or s.color source 0 ≡ 2 = omega (arith, c.requires.search.range source e.source) in
+    let leads : 0 < length s.path → HasEdge c.args.edges.now source (get_or s.path (length s.path - 1) 0) = λ some. subst (HasEdge c.args.edges.now source) (sym c.requires.last.1) e.leads in
     subst (λ (new : State). IsStep c.args.edges.now c.args.floors.now s new) (sym c.in_ok-enter.ensures) (record {
-      kept = keeps_entered c.args.edges.now c.args.floors.now s c.requires.ends c.requires.search source inside fresh leads;
-      less = less_entered c.args.edges.now c.args.floors.now s c.requires.ends c.requires.search source inside fresh leads;
-      lower = lower_entered c.args.edges.now c.args.floors.now s c.requires.ends c.requires.search source inside fresh leads;
+      kept = keeps_entered c.args.edges.now c.args.floors.now s c.requires.ends c.requires.search source e.source fresh leads;
+      less = less_entered c.args.edges.now c.args.floors.now s c.requires.ends c.requires.search source e.source fresh leads;
+      lower = lower_entered c.args.edges.now c.args.floors.now s c.requires.ends c.requires.search source e.source fresh leads;
     })
 
 pub returns-then-color-eq1-clause-size : goal.returns-then-color-eq1-clause-size

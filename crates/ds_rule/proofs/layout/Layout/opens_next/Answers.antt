@@ -18,7 +18,7 @@ returns-then-node-self g c = let run : Run = c.args.self.now in
 
 pub returns-else-node-self : goal.returns-else-node-self
 returns-else-node-self g c = (
-  (λ t. absurd (false≢true (sym (le-ltb c.args.node c.self.inside.latches
+  (λ t. absurd (false≢true (sym (le-ltb c.args.node c.self.inside.sizes.latches
       (omega (arith, c.if-node-self.false))) ∙ t))),
   λ h. let o = even_opens c.args.self.now c.args.node c.args.fired h in
       absurd (omega (arith, c.if-node-self.false, o.0, ap (λ (r : Run). r.latches) c.self.view_is)),

@@ -1,7 +1,7 @@
 use Rattle.std.proofs.Common.{◌≡◌, ◌∙◌, ◌<◌, ℕ, List, length, get_or, arith, sym, ap}
+use Rattle.ds_base.specs.Word.{count_of_words}
 use Rattle.atomic_table.proofs.Lists.{at_index}
 use Rattle.ds_rule.specs.Run.{Run}
-use Rattle.ds_rule.specs.Words.{words_of}
 use Rattle.ds_rule.proofs.Lists.{at_get}
 use Rattle.ds_rule.proofs.PlaceLaws.{width-is}
 use Rattle.ds_rule.proofs.layout.Layout.width.Goals as goal
@@ -22,10 +22,10 @@ pub returns-then-length-eq0 : goal.returns-then-length-eq0
 returns-then-length-eq0 g c =
     let n = read c.args.self.now c.self.inside.lengths.items c.args.node c.index-length.result.now
     (ap (λ (r : Run). r.lengths) c.self.view_is) c.requires c.index-length.ensures in
-    omega (arith, ap words_of n, width-is c.args.self.now c.args.node, c.if-length-eq0.true)
+    omega (arith, ap count_of_words n, width-is c.args.self.now c.args.node, c.if-length-eq0.true)
 
 pub returns-else-length-eq0 : goal.returns-else-length-eq0
 returns-else-length-eq0 g c =
     let n = read c.args.self.now c.self.inside.lengths.items c.args.node c.index-length.result.now
     (ap (λ (r : Run). r.lengths) c.self.view_is) c.requires c.index-length.ensures in
-    omega (arith, ap words_of n, width-is c.args.self.now c.args.node, c.if-length-eq0.false)
+    omega (arith, ap count_of_words n, width-is c.args.self.now c.args.node, c.if-length-eq0.false)

@@ -1,8 +1,8 @@
 use Rattle.std.proofs.Common.{◌≡◌, ◌∙◌, ◌+◌, ◌≤◌, ◌++◌, ℕ, Bool, List, refl, ap, arith, length, subst, sym}
 use Rattle.std.specs.Prelude.{vec_capacity, vec_len}
+use Rattle.ds_base.specs.Word.{count_of_words}
 use Rattle.ds_latch.specs.Node.{nets_of}
 use Rattle.ds_opening.specs.Learnt.{is_learnt}
-use Rattle.ds_opening.specs.Packed.{words_of}
 use Rattle.ds_rule.specs.Run.{Run}
 use Rattle.ds_rule.specs.Words.{width}
 use Rattle.ds_rule.specs.Rows.{supply_but}
@@ -44,7 +44,7 @@ pub open-requires-clause-room : goal.open-requires-clause-room
 open-requires-clause-room c n is_node is =
     let run_is = ap (λ (m : RunWithMemory). m.run) c.self.view_is in
     let nets = nets_of c.self.inside.latches.now n in
-    let wide : width c.args.self.now.run c.args.node ≡ words_of (length nets)
+    let wide : width c.args.self.now.run c.args.node ≡ count_of_words (length nets)
     = room_at c.self.invariant (sym run_is) c.index-number.ensures n is_node is in
     let most : vec_len c.args.into.now + width c.args.self.now.run c.args.node
     ≤ vec_capacity c.args.into.now = c.requires.room in

@@ -1,5 +1,5 @@
 use Rattle.std.proofs.Common.{◌≡◌, ◌∙◌, ap, sym, arith, ℕ, ◌+◌, ◌-◌, ◌++◌, ◌∷◌, [], map, take}
-use Rattle.ds_rows.specs.Vector.{value_of}
+use Rattle.ds_rows.specs.Vector.{value_of_character}
 use Rattle.ds_stream.specs.Filling.{Filled, on_text}
 use Rattle.ds_stream.proofs.Plain.{plain_taken}
 use Rattle.ds_stream.proofs.filling.Filling.take_plain.Goals as goal
@@ -10,7 +10,7 @@ returns-clause-takes c = λ size rest.
     let row = c.of.result in
     let bytes = c.args.bytes.now in
     let w : c.self.inside.width ≡ f.width = ap (λ (v : Filled). v.width) c.self.view_is in
-    let is : row ≡ map value_of (take f.width bytes) = c.of.ensures ∙ (c.in_ok-values.ensures ∙ ap (λ (n : ℕ). map value_of (take n bytes)) w) in
+    let is : row ≡ map value_of_character (take f.width bytes) = c.of.ensures ∙ (c.in_ok-values.ensures ∙ ap (λ (n : ℕ). map value_of_character (take n bytes)) w) in
     ap (λ (g : Filled). on_text g size rest) (c.open.ensures
     ∙ ap (λ (g : Filled). record g { first = g.lines + 1; line = [] }) (c.in_ok-give.ensures
     ∙ ap (λ (g : Filled). record g { rows = g.rows ++ row ∷ []; seen = g.seen + 1; missing = g.missing - 1; behind = record { place = g.place; lines = g.lines } }) c.pass.ensures))

@@ -1,0 +1,212 @@
+//! Lines that are no command line, as lines of texts, each text for one fault.
+use crate::words::says;
+use std::test::Fail;
+
+// Lines that are no command line.
+const REFUSED: &str = "\
+# Too few words, too many.
+
+d
+d|
+d|run
+d|run|n
+d|run|n|v|x
+d|check|n|v
+d|replay|n|v
+d|replay|n|v|l|x
+run|n|v
+# An option twice, without its value, before the command's name; options of no command.
+d|graph|n|--clusters|one|--clusters|one
+d|graph|n|--clusters
+d|run|n|v|--graph
+d|graph|n|--graph|g
+d|accept|n
+d|accept|n|g|--graph|g
+d|period|n
+d|period|n|d|x
+d|period|n|d|--graph|g
+d|--clusters=one|graph|n
+d|check|n|--clusters|one
+d|run|-n|v
+d|--jobs=3|run|n|v
+d|--log|run|n|v
+d|run|n|v|--jobs
+d|run|n|v|--jobs|1|--jobs|1
+d|run|n|v|--log|--log
+d|run|n|v|--log=x
+d|run|n|v|--log=true
+d|run|n|v|--jobs|-1
+d|clock|n|v|--jobs|1
+d|replay|n|v|l|--log
+d|demo|1|2
+d|demo|1|2|3|4
+d|demo|1|2|3|--log
+d|demo|1|2|3|--clusters|one
+d|demo|-1|2|3
+d|run|n|v|--slack
+d|run|n|v|--slack|1|--slack|1
+d|run|n|v|--slack|-1
+d|replay|n|v|l|--slack
+d|replay|n|v|l|--slack=2|--slack=2
+d|--slack=1|run|n|v
+d|clock|n|v|--slack|1
+d|check|n|--slack|1
+d|graph|n|--slack|1
+d|accept|n|g|--slack|1
+d|period|n|d|--slack|1
+d|demo|1|2|3|--slack|1
+d|run|n|v|--stop
+d|run|n|v|--stop|1|--stop|1
+d|run|n|v|--stop|1|--stop|2
+d|run|n|v|--stop=1|--stop|x
+d|run|n|v|--stop|-1
+d|run|n|v|--stop|--log
+d|--stop=1|run|n|v
+d|--stop|1|run|n|v
+d|clock|n|v|--stop|1
+d|check|n|--stop|1
+d|graph|n|--stop|1
+d|replay|n|v|l|--stop|1
+d|accept|n|g|--stop|1
+d|period|n|d|--stop|1
+d|demo|1|2|3|--stop|1
+d|replay|n|v|l|--transparent|--transparent
+d|replay|n|v|l|--transparent=true
+d|replay|n|v|l|--transparent=
+d|replay|n|v|l|--transparent|true
+d|--transparent|replay|n|v|l
+d|run|n|v|--transparent
+d|accept|n|g|--transparent
+d|graph|n|--shake|--shake
+d|graph|n|--shake=x
+d|graph|n|--shake=true
+d|graph|n|--shake=
+d|graph|n|--shake|true
+d|--shake|graph|n
+d|run|n|v|--shake
+d|clock|n|v|--shake
+d|check|n|--shake
+d|replay|n|v|l|--shake
+d|accept|n|g|--shake
+d|demo|1|2|3|--shake
+d|period|n|d|--shake
+# The words come before the numbers and the mode.
+d|run|n|--jobs|0|--clusters|two
+d|run|n|v|x|--jobs|65
+d|demo|x|0
+d|run|n|v|--|-x
+d|--|run|n|v
+# Other commands, shortened names, another case.
+d|ru|n|v
+d|RUN|n|v
+# Help and the version.
+d|help
+d|--help
+d|run|-h
+d|run|n|v|--help
+d|--version
+";
+
+// Lines with a number out of form or range, whatever the mode is.
+const NUMBERS: &str = "\
+# Threads.
+d|run|n|v|--jobs|0
+d|run|n|v|--jobs|65
+d|run|n|v|--jobs|+1
+d|run|n|v|--jobs|
+d|run|n|v|--jobs=
+d|run|n|v|--jobs|1 
+d|run|n|v|--jobs|a
+d|run|n|v|--jobs|000000000000000000001
+d|run|n|v|--jobs|18446744073709551617
+d|run|n|v|--jobs|0|--clusters|two
+d|run|n|v|--clusters|two|--jobs|0
+# Slack, whatever else is wrong with the mode.
+d|run|n|v|--slack|16
+d|run|n|v|--slack|016
+d|run|n|v|--slack|+1
+d|run|n|v|--slack=-1
+d|run|n|v|--slack=
+d|run|n|v|--slack|
+d|run|n|v|--slack|x
+d|run|n|v|--slack|1.0
+d|run|n|v|--slack|256
+d|run|n|v|--slack|000000000000000000001
+d|run|n|v|--slack|18446744073709551616
+d|run|n|v|--slack|16|--clusters|two
+d|replay|n|v|l|--slack|16
+d|replay|n|v|l|--slack=
+d|replay|n|v|l|--slack|16|--transparent
+d|replay|n|v|l|--clusters|two|--slack|x
+# The stop, whatever else is wrong with the mode.
+d|run|n|v|--stop|x
+d|run|n|v|--stop|+1
+d|run|n|v|--stop=-1
+d|run|n|v|--stop=
+d|run|n|v|--stop|
+d|run|n|v|--stop|1 
+d|run|n|v|--stop|1.0
+d|run|n|v|--stop|0x10
+d|run|n|v|--stop|-
+d|run|n|v|--stop|18446744073709551616
+d|run|n|v|--stop|99999999999999999999
+d|run|n|v|--stop|000000000000000000000
+d|run|n|v|--stop|000000000000000000001
+d|run|n|v|--stop|0|--jobs|65
+d|run|n|v|--stop|0|--slack|16
+d|run|n|v|--stop|x|--clusters|two
+# The seed.
+d|demo|18446744073709551616|1|0
+d|demo|000000000000000000000|1|0
+d|demo|+1|1|0
+d|demo||1|0
+d|demo|-|1|0
+# The registers.
+d|demo|0|0|0
+d|demo|0|4097|0
+d|demo|0|4294967297|0
+# The turns, and the threads behind them.
+d|demo|0|1|65537
+d|demo|0|1|x
+d|demo|0|1|0|--jobs|65
+";
+
+// Lines with another mode than the three, or with open latches beside slack.
+const MODES: &str = "\
+d|run|n|v|--clusters|two
+d|run|n|v|--clusters|two|--jobs|2
+d|graph|n|--clusters=
+d|graph|n|--clusters|EACH
+d|graph|n|--shake|--clusters|two
+d|period|n|d|--clusters|two
+d|graph|n|--clusters|each,one
+d|run|n|v|--clusters|two|--slack|2
+d|run|n|v|--clusters|two|--stop|2
+d|replay|n|v|l|--transparent|--slack|1
+d|replay|n|v|l|--slack|15|--transparent
+d|replay|n|v|l|--transparent|--clusters|two
+";
+
+#[test]
+fn other_lines_are_refused(rt: HostRuntime) -> Result<(), Fail> {
+    for line in REFUSED.lines() {
+        assert!(rt; says(rt.alloc(), line, "line")?, "{line}");
+    }
+    Ok(())
+}
+
+#[test]
+fn numbers_out_of_form_or_range_are_refused(rt: HostRuntime) -> Result<(), Fail> {
+    for line in NUMBERS.lines() {
+        assert!(rt; says(rt.alloc(), line, "number")?, "{line}");
+    }
+    Ok(())
+}
+
+#[test]
+fn there_are_three_modes(rt: HostRuntime) -> Result<(), Fail> {
+    for line in MODES.lines() {
+        assert!(rt; says(rt.alloc(), line, "mode")?, "{line}");
+    }
+    Ok(())
+}

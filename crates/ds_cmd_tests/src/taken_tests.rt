@@ -1,0 +1,90 @@
+//! Command lines with the jobs that they ask for, as lines of a text.
+use crate::words::says;
+use std::test::Fail;
+
+// Each line, and its job.
+const TAKEN: &str = "\
+d|run|n|v -> run|n|v|none|each|1|false|0|none
+d|clock|n|v -> clock|n|v
+d|check|n -> check|n
+d|graph|n -> graph|n|each|false
+d|replay|n|v|l -> replay|n|v|l|none|each|0|false
+d|replay|n|--clusters=one|v|- -> replay|n|v|-|none|one|0|false
+d|run|n|v|--graph|g -> run|n|v|g|each|1|false|0|none
+d|run|--graph=-|n|v|--clusters=bus -> run|n|v|-|bus|1|false|0|none
+d|replay|n|v|l|--graph=g -> replay|n|v|l|g|each|0|false
+d|accept|n|g -> accept|n|g|each
+d|accept|n|--clusters|one|g -> accept|n|g|one
+d|period|n|d -> period|n|d|each
+d|period|--clusters=bus|n|- -> period|n|-|bus
+# The name of the program says nothing.
+|check|n -> check|n
+run|check|n -> check|n
+# Names of files: empty, `-`, the name of a command.
+d|run||v -> run||v|none|each|1|false|0|none
+d|run|-|v -> run|-|v|none|each|1|false|0|none
+d|run|run|run -> run|run|run|none|each|1|false|0|none
+d|run|help|v -> run|help|v|none|each|1|false|0|none
+# The word `--`: what stands behind it is a file.
+d|run|--|-n|v -> run|-n|v|none|each|1|false|0|none
+d|run|n|--|v -> run|n|v|none|each|1|false|0|none
+d|run|n|v|-- -> run|n|v|none|each|1|false|0|none
+d|check|--|-- -> check|--
+# Options stand anywhere behind the command's name.
+d|run|n|v|--clusters|one -> run|n|v|none|one|1|false|0|none
+d|run|--clusters=bus|n|v -> run|n|v|none|bus|1|false|0|none
+d|graph|n|--clusters|each -> graph|n|each|false
+d|graph|--clusters|bus|n -> graph|n|bus|false
+# The expansion of a graph.
+d|graph|n|--shake -> graph|n|each|true
+d|graph|--shake|n|--clusters=bus -> graph|n|bus|true
+d|graph|--clusters|one|--shake|n -> graph|n|one|true
+# Behind `--` there are no options.
+d|graph|--|--clusters -> graph|--clusters|each|false
+d|graph|--|--shake -> graph|--shake|each|false
+d|run|n|--|--log -> run|n|--log|none|each|1|false|0|none
+# Threads, 1 to 64, in one to twenty digits; the log.
+d|run|n|v|--jobs|3 -> run|n|v|none|each|3|false|0|none
+d|run|n|v|--jobs=1 -> run|n|v|none|each|1|false|0|none
+d|run|n|v|--jobs|64 -> run|n|v|none|each|64|false|0|none
+d|run|n|v|--jobs|064 -> run|n|v|none|each|64|false|0|none
+d|run|n|v|--jobs|00000000000000000007 -> run|n|v|none|each|7|false|0|none
+d|run|n|v|--log -> run|n|v|none|each|1|true|0|none
+d|run|--log|n|--jobs=2|v|--graph|g|--clusters=one -> run|n|v|g|one|2|true|0|none
+# Slack, 0 to 15, in one to twenty digits.
+d|run|n|v|--slack|0 -> run|n|v|none|each|1|false|0|none
+d|run|n|v|--slack|15 -> run|n|v|none|each|1|false|15|none
+d|run|n|v|--slack=00000000000000000001 -> run|n|v|none|each|1|false|1|none
+d|run|--slack|3|n|--log|v|--jobs|4|--graph=g -> run|n|v|g|each|4|true|3|none
+d|run|n|--|--slack -> run|n|--slack|none|each|1|false|0|none
+d|replay|n|v|l|--slack|2 -> replay|n|v|l|none|each|2|false
+d|replay|n|--slack=015|v|l|--graph|g|--clusters|bus -> replay|n|v|l|g|bus|15|false
+# Open latches, without slack.
+d|replay|n|v|l|--transparent -> replay|n|v|l|none|each|0|true
+d|replay|--transparent|n|v|l|--slack|00 -> replay|n|v|l|none|each|0|true
+d|replay|n|v|--|--transparent -> replay|n|v|--transparent|none|each|0|false
+# A stop, any number of 64 bits in one to twenty digits.
+d|run|n|v|--stop|0 -> run|n|v|none|each|1|false|0|0
+d|run|n|v|--stop=5 -> run|n|v|none|each|1|false|0|5
+d|run|n|v|--stop|0032 -> run|n|v|none|each|1|false|0|32
+d|run|n|v|--stop|18446744073709551615 -> run|n|v|none|each|1|false|0|18446744073709551615
+d|run|n|v|--stop=00000000000000000020 -> run|n|v|none|each|1|false|0|20
+d|run|--stop|7|n|--jobs=4|v|--log|--slack|2|--graph|g -> run|n|v|g|each|4|true|2|7
+d|run|n|v|--stop|3|--clusters|bus -> run|n|v|none|bus|1|false|0|3
+d|run|n|--|--stop -> run|n|--stop|none|each|1|false|0|none
+# The demonstration, up to its limits.
+d|demo|0|1|0 -> demo|0|1|0|1
+d|demo|7|4096|65536 -> demo|7|4096|65536|1
+d|demo|18446744073709551615|10|9 -> demo|18446744073709551615|10|9|1
+d|demo|01|002|0003|--jobs|4 -> demo|1|2|3|4
+d|demo|--jobs=64|5|6|--|7 -> demo|5|6|7|64
+";
+
+#[test]
+fn command_lines_are_taken(rt: HostRuntime) -> Result<(), Fail> {
+    for case in TAKEN.lines() {
+        let (line, want) = case.split_once(" -> ").unwrap_or((case, ""));
+        assert!(rt; says(rt.alloc(), line, want)?, "{case}");
+    }
+    Ok(())
+}

@@ -1,0 +1,16 @@
+use crate::compute::Compute;
+use crate::counts::Board;
+use crate::incoming::Incoming;
+use crate::index::Index;
+use ds_rule::{Layout, Rows};
+
+/// What stands still while a run is fired: its table, who computes its rows, the arcs into its
+/// events, and where rows and edges begin.
+#[derive(Drop)]
+pub struct Ground<'a, J: Rows, C: Compute> {
+    pub board: &'a Board<J>,
+    pub run: &'a Layout<J>,
+    pub openings: &'a C,
+    pub incoming: &'a Incoming,
+    pub index: &'a Index,
+}

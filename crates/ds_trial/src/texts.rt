@@ -1,0 +1,122 @@
+//! Netlists, graphs and other texts that several tests use.
+
+/// A register that toggles where its input is 1.
+pub const TOGGLE: &str = ".model toggle\n.inputs clk e\n.outputs q\n.names e q d\n01 1\n10 1\n\
+     .latch d q re clk 0\n.end\n";
+
+/// The controller graph of the toggle.
+pub const GRAPH: &str = ".model toggle
+.outputs IN OUT M0 S0
+.graph
+IN+ IN- M0+
+IN- IN+
+OUT+ OUT-
+OUT- OUT+ S0+
+M0+ M0- S0+
+M0- IN+ M0+ S0+
+S0+ OUT+ M0+ S0-
+S0- M0+ S0+
+.marking { <IN-,IN+> <OUT-,OUT+> <M0-,IN+> <M0-,M0+> <S0+,OUT+> <S0+,M0+> <S0-,M0+> <S0-,S0+> }
+.end
+";
+
+/// What `accept` writes of the toggle and its own graph.
+pub const RANKS: &str = "accepted\nIN+ 0\nIN- 1\nOUT+ 0\nOUT- 1\nM0+ 1\nM0- 2\nS0+ 3\nS0- 4\n";
+
+/// Two tables in a ring.
+pub const RING: &str =
+    ".model ring\n.inputs a\n.outputs y\n.names a z y\n11 1\n.names y z\n0 1\n.end\n";
+
+/// Two registers, the second behind the first.
+pub const SHIFT: &str =
+    ".model shift\n.inputs a\n.outputs q1\n.latch a q0 re clk 0\n.latch q0 q1 re clk 0\n.end\n";
+
+/// Further files of scripts: a wire, a table whose model goes on, two tables against the order of
+/// the file, a register in a copy, and two copies of a table; of the toggle, four vectors, the
+/// trace for them, a log of one turn, one up to where its slave may rise, and the ranks where an
+/// event more stands before its slave rises.
+pub const FURTHER: &str = "%wire
+.model w
+.inputs a
+.outputs y
+.names a y
+1 1
+.end
+%and
+.model m
+.inputs a b
+.outputs y
+.names a b y
+11 1
+%levels
+.model lv
+.inputs a b
+.outputs y
+.names t a y
+1- 1
+.names a b t
+11 1
+.end
+%copy
+.model top
+.outputs y
+.subckt t o=y
+.end
+.model t
+.outputs o
+.names q d
+0 1
+.names q o
+1 1
+.latch d q 0
+.end
+%copies
+.model top
+.inputs a
+.outputs y
+.subckt inv i=a o=t
+.subckt inv i=t o=y
+.end
+.model inv
+.inputs i
+.outputs o
+.names i o
+0 1
+.end
+%four
+1
+1
+0
+1
+%trace
+0 0 0
+1 1 1
+2 0 0
+3 0 0
+end 1
+%turn
+OUT+ 1
+IN+ 1
+M0+ 1
+OUT- 1
+M0- 1
+S0+ 1
+S0- 1
+IN- 1
+%late
+accepted
+IN+ 0
+IN- 1
+OUT+ 0
+OUT- 1
+M0+ 1
+M0- 2
+S0+ 4
+S0- 5
+%begun
+IN+ 1
+M0+ 1
+M0- 1
+OUT+ 1
+OUT- 1
+";
