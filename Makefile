@@ -19,7 +19,7 @@ DOCUMENTS = $(TO)/share/doc/desync
 help:
 	@echo "make build               prove and build the program, $(PROGRAM), anew"
 	@echo "make run ARGS='..'       build it where it is not there, and run it; another status than 0 shows as 2"
-	@echo "make test                the whole gate: rt ci"
+	@echo "make test                proofs, tests and wrong bodies: rt ci"
 	@echo "make transcripts         run what the documents and examples show"
 	@echo "make look                what the repository looks at itself: names, house rules, edges, memory"
 	@echo "make install             program, tools, pages of the manual, completion, documents and examples, to \$$DESTDIR\$$PREFIX"

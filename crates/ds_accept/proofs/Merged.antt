@@ -55,18 +55,6 @@ module _ (orders arcs : List Arc) (orders_sorted : AllPairs StandsBefore orders)
         inside (sym is) below (omega arith) (behind order) (source, target, tokens)
   ]
 
-  -- where the arc at the place does not give the order, none does
-  pub none_gives : (place : ℕ) (order : Arc) → AllWithin (λ arc. EndsBefore arc order) arcs 0 place
-      → (place < length arcs → HoldsAt (λ arc. ¬ EndsBefore arc order) arcs place)
-      → (place < length arcs → ¬ IsArcWithin order.source order.target order.tokens (get_or arcs place order)) → ¬ IsGivenBy arcs order
-  none_gives place order before behind not by = elim (cases_lt place (length arcs)) [
-    | inl inside ↦ not inside (given_here place order before inside (behind inside) by)
-    | inr past_end ↦ (
-        let (j, arc, below, is, (source, target, tokens)) = by in
-        let ends : EndsBefore arc order = subst (λ (x : Arc). EndsBefore x order) is (before j arc (omega arith) (omega (below, past_end, arith))) in
-        elim ends [ inl s ↦ absurd (omega arith) | inr (s, t) ↦ absurd (omega arith) ])
-  ]
-
   -- the arc at the place tells whether any gives the order
   pub gives_any : (place : ℕ) (order arc : Arc) → place < length arcs → arc ≡ get_or arcs place arc
       → IsArcWithin order.source order.target order.tokens arc → IsGivenBy arcs order

@@ -9,8 +9,7 @@ use Rattle.ds_base.specs.declared.number.Mode.{Mode}
 use Rattle.ds_split.specs.Laws.{OneClustering}
 use Rattle.ds_shake.proofs.Refused.{faults_are_refused_lem}
 use Rattle.ds_cmd.specs.declared.job.Job.{Job}
-use Rattle.ds_cmd.specs.declared.job.Job.TheVariants.{Run, Clock, Check, Graph, Replay, Accept}
-use Rattle.ds_cmd.specs.declared.job.Job.TheVariants.{Demo, Period}
+use Rattle.ds_cmd.specs.declared.job.Job.TheVariants.{Run, Clock, Check, Graph, Replay, Accept, Demo, Period}
 use Rattle.ds_stage.specs.Stage.{then_stage}
 use Rattle.ds_stage.specs.Stages.{netlist_stage, report_stage, trace_stage, vectors_stage}
 use Rattle.ds_stage.specs.StreamStage.{most_vectors, streamed_stage}
@@ -20,8 +19,8 @@ use Rattle.ds_stage.specs.GraphStage.{controller_stage}
 use Rattle.ds_stage.specs.PlanStage.{planned_stage}
 use Rattle.ds_stage.specs.AcceptStage.{ranks_stage}
 use Rattle.ds_app.specs.RunStage.{planned_run_stage, stopped_stage, traced_stage}
-use Rattle.ds_app.specs.Job.{accept_stage, clock_stage, graph_stage, period_stage}
-use Rattle.ds_app.specs.Job.{replay_stage, run_stage, stages_of}
+use Rattle.ds_app.specs.Job.{run_stage, stages_of}
+use Rattle.ds_solo.specs.JobStages.{accept_stage, clock_stage, graph_stage, period_stage, replay_stage}
 use Rattle.ds_stage.specs.ReplayStage.{replayed_stage}
 use Rattle.ds_stage.specs.PeriodStage.{measured_stage}
 use Rattle.ds_app.specs.Status.{AreTold, IsToldIn}

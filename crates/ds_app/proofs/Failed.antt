@@ -3,8 +3,7 @@ use Rattle.std.proofs.Common.{ℕ, Bool, false, List, Option, None, Some}
 use Rattle.ds_outside.specs.Held.{Held}
 use Rattle.ds_design.specs.Circuit.{Circuit}
 use Rattle.ds_cmd.specs.declared.job.Job.{Job}
-use Rattle.ds_cmd.specs.declared.job.Job.TheVariants.{Run, Clock, Check, Graph, Replay, Accept}
-use Rattle.ds_cmd.specs.declared.job.Job.TheVariants.{Demo, Period}
+use Rattle.ds_cmd.specs.declared.job.Job.TheVariants.{Run, Clock, Check, Graph, Replay, Accept, Demo, Period}
 use Rattle.ds_stage.specs.Stage.{OfFile, then_stage}
 use Rattle.ds_stage.specs.Stages.{netlist_stage, report_stage, trace_stage, vectors_stage}
 use Rattle.ds_stage.specs.StreamStage.{most_vectors, streamed_stage}
@@ -17,8 +16,8 @@ use Rattle.ds_stage.specs.PeriodStage.{measured_stage}
 use Rattle.ds_latch.specs.Plan.{Planned}
 use Rattle.ds_design.specs.Rows.{Rows}
 use Rattle.ds_app.specs.RunStage.{planned_run_stage, stopped_stage, traced_stage}
-use Rattle.ds_app.specs.Job.{accept_stage, clock_stage, graph_stage, period_stage}
-use Rattle.ds_app.specs.Job.{replay_stage, run_stage, stages_of}
+use Rattle.ds_app.specs.Job.{run_stage, stages_of}
+use Rattle.ds_solo.specs.JobStages.{accept_stage, clock_stage, graph_stage, period_stage, replay_stage}
 use Rattle.ds_base.specs.declared.number.Mode.{Mode}
 use Rattle.ds_stage.proofs.PeriodStages.{measured_says}
 use Rattle.ds_stage.proofs.Expansions.{controller_says}

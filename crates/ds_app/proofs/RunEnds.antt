@@ -24,7 +24,7 @@ use Rattle.ds_stage.specs.Ends.{Ends, Output}
 use Rattle.ds_stage.specs.Stage.{OfFile}
 use Rattle.ds_stage.specs.StreamStage.{most_vectors}
 use Rattle.ds_stage.proofs.Streamed.{AreWritten, GivenOf, Spells, given_whole, of_many}
-use Rattle.ds_app.proofs.WindowEnds.{part_after}
+use Rattle.ds_solo.proofs.WindowEnds.{part_after}
 use Rattle.ds_app.specs.RunStage.{streamed_run_stage, traced_stage}
 
 -- firings have a log

@@ -6,16 +6,16 @@ ghost use Rattle.ds_app.specs.Interleavings.{Interleavings};
 ghost use Rattle.ds_app.specs.Job.{stages_of};
 ghost use Rattle.ds_app.specs.Status.{Call, IsAnswered, Reports, SaysStop, SaysUsage};
 
-use crate::accept::{AcceptJob, accept};
-use crate::check::check;
-use crate::clock::clock;
 use crate::demo::{DemoJob, demo};
-use crate::graph::{GraphJob, graph};
-use crate::period::{PeriodJob, period};
-use crate::replay::{ReplayJob, replay};
 use crate::run::{RunJob, run};
 use ds_cmd::{Job, UsageFault, parse};
 use ds_outside::{Files, Gate, Sink, write_all};
+use ds_solo::accept::{AcceptJob, accept};
+use ds_solo::check::check;
+use ds_solo::clock::clock;
+use ds_solo::graph::{GraphJob, graph};
+use ds_solo::period::{PeriodJob, period};
+use ds_solo::replay::{ReplayJob, replay};
 use ds_stage::Stop;
 use std::thread::Threads;
 

@@ -1,30 +1,18 @@
 -- Signals that are declared.
-use Rattle.std.proofs.Common.{◌≡◌, ◌≢◌, ℕ, ◌<◌, ◌≤◌, true, false, List, [], ◌∷◌, ◌++◌, length, get_or, refl, sym, ◌∙◌, ap, arith, inl, inr, Ok, Err, AllPairs}
+use Rattle.std.proofs.Common.{◌≡◌, ◌≢◌, ℕ, ◌<◌, ◌≤◌, true, false, List, [], ◌∷◌, ◌++◌, length, get_or, refl, sym, ◌∙◌, ap, arith, inl, inr, Ok, AllPairs}
 use Rattle.std.specs.Str.{bytes_eq}
-use Rattle.std.proofs.lemmas.Bool.{cases_Bool, lt-ltb, le-ltb, false≢true, cases_lt}
+use Rattle.std.proofs.lemmas.Bool.{cases_Bool, lt-ltb, false≢true, cases_lt}
 use Rattle.std.proofs.lemmas.Slice.Eq.{bytes_eq-Decides}
 use Rattle.std.proofs.lemmas.List.{get_or_append_left, length-append}
 use Rattle.std.proofs.Math.Seq.{get_or-append_seam}
 use Rattle.std.proofs.lemmas.List.Folds.{list_any_at}
-use Rattle.ds_base.specs.declared.number.Limit.TheVariants.{Signals as SignalsLimit}
 use Rattle.ds_names.specs.Names.{has_name, with_name}
 use Rattle.ds_astg.specs.Signals.{Declared, with_declared}
 use Rattle.ds_astg.specs.Place.{Places}
 use Rattle.ds_astg.specs.Line.{declare, may_declare}
 use Rattle.ds_astg.specs.declared.role.Role.{Role}
-use Rattle.ds_astg.specs.declared.fault.AstgKind.TheVariants.{BadWord, TooMany}
 
 module _ (role : Role) (ps : Places) (word : List ℕ) (signals : Declared) where
-  pub declare-bad : may_declare role ps word signals ≡ false → declare role ps word signals ≡ Err (BadWord word)
-  declare-bad is = rw is refl
-
-  pub declare-known : may_declare role ps word signals ≡ true → has_name signals.names word ≡ true → declare role ps word signals ≡ Ok signals
-  declare-known is has = rw is (rw has refl)
-
-  pub declare-full : may_declare role ps word signals ≡ true → has_name signals.names word ≡ false → 65536 ≤ length signals.names
-      → declare role ps word signals ≡ Err (TooMany SignalsLimit)
-  declare-full is has full = rw is (rw has (rw (le-ltb (length signals.names) 65536 full) refl))
-
   pub declare-new : may_declare role ps word signals ≡ true → has_name signals.names word ≡ false → length signals.names < 65536
       → declare role ps word signals ≡ Ok (with_declared role word signals)
   declare-new is has room = rw is (rw has (rw (lt-ltb (length signals.names) 65536 room) refl))

@@ -155,13 +155,6 @@ count-self : (a : Arc) → count a a ≡ 1
 unfolding count
 count-self a = rw (sees_itself a) refl
 
-count-some : (a b : Arc) → 0 < count a b → a ≡ b
-unfolding count
-count-some a b some = elim (cases_Bool (same_arc a b)) [
-  | inl e ↦ same_is a b e
-  | inr ne ↦ absurd (let n : ℕ = if same_arc a b then 1 else 0 in let z : n ≡ 0 = rw ne refl in omega (arith, z, some))
-]
-
 zero_count : (b other : Arc) → same_arc b other ≡ false → count b other ≡ 0
 unfolding count
 zero_count b other ne = rw ne refl

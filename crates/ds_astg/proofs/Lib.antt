@@ -1,7 +1,6 @@
 pub mod Braces
 pub mod Choices
 pub mod Declared
-pub mod Entries
 pub mod Graphs
 pub mod InOrder
 pub mod Keys
@@ -10,13 +9,4 @@ pub mod Reading
 pub mod Soundness
 pub mod Texts
 pub mod Turns
-pub mod Written
-pub mod Names
 pub mod Numbered
-pub mod Built
-pub mod EventLines
-pub mod Runs
-pub mod PlaceLines
-pub mod EntryLine
-pub mod Whole
-pub mod Lines

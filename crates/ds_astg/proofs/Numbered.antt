@@ -1,13 +1,12 @@
 -- Names that are declared, and the numbers of their events.
-use Rattle.std.proofs.Common.{◌≡◌, ◌≢◌, ℕ, zero, suc, ◌+◌, ◌*◌, ◌<◌, ◌≤◌, true, false, List, [], ◌∷◌, ◌++◌, length, get_or, take, map, refl, sym, ◌∙◌, ap, subst, arith, inl, inr, Option, None, Some, IfSome, option_map, slice_get, AllPairs, All, sum_by}
-use Rattle.std.proofs.lemmas.Bool.{cases_Bool, cases_lt}
-use Rattle.std.proofs.lemmas.List.{map-append, length-map, length-append, get_or_append_left, get_or-map, take-append-le}
+use Rattle.std.proofs.Common.{◌≡◌, ℕ, zero, suc, ◌+◌, ◌*◌, ◌<◌, ◌≤◌, false, List, [], ◌∷◌, ◌++◌, length, get_or, take, map, sym, ◌∙◌, ap, subst, arith, inl, inr, None, Some, IfSome, slice_get, sum_by}
+use Rattle.std.proofs.lemmas.Bool.{cases_lt}
+use Rattle.std.proofs.lemmas.List.{map-append, length-map, length-append, get_or_append_left, take-append-le}
 use Rattle.std.proofs.lemmas.List.Sums.{sum_by-append, sum_by_more_le, sum_by-le}
-use Rattle.std.proofs.lemmas.Option.{slice_get_past, slice_get-get_or, slice_get-map}
+use Rattle.std.proofs.lemmas.Option.{slice_get_past, slice_get-get_or}
 use Rattle.std.proofs.Math.Seq.{get_or-append_seam, take-append_seam}
 use Rattle.ds_names.specs.Names.{has_name, place_of_name, with_name}
-use Rattle.ds_astg.specs.Signals.{Declared, count_events, event_count, first_event, role_of, with_declared}
-use Rattle.ds_astg.specs.Node.{first_number}
+use Rattle.ds_astg.specs.Signals.{Declared, count_events, event_count, first_event, role_of}
 use Rattle.ds_astg.specs.Numbered.{AreNumbered, roles_of}
 use Rattle.ds_astg.specs.declared.role.Role.{Role}
 use Rattle.ds_astg.specs.declared.role.Role.TheVariants.{Signal, Dummy}
@@ -84,27 +83,12 @@ module _ (names : List (List ℕ)) (kept : List Declaration) (events : ℕ) (wor
       all_earlier = ap (λ (rs : List Role). take (length kept) rs) pushed
           ∙ (ap (λ (n : ℕ). take n (roles_of kept ++ d.role ∷ [])) (sym size) ∙ take-append_seam (roles_of kept) (d.role ∷ []))
 
-  pub view_one : has_name names word ≡ false → (d : Declaration)
-      → record { names = with_name names word; roles = roles_of (kept ++ d ∷ []) } ≡ with_declared d.role word (record { names = names; roles = roles_of kept })
-  view_one new d = rw (new, map-append (λ (x : Declaration). x.role) kept (d ∷ [])) refl
-
 -- what is kept of a name
 module _ (names : List (List ℕ)) (kept : List Declaration) (events : ℕ) (are : AreNumbered names kept events) (signals : Declared)
     (view : record { names = names; roles = roles_of kept } ≡ signals) (word : List ℕ) where
-  pub kept_role : (d : Declaration) (place : ℕ) → place ≡ place_of_name names word → place < length kept → d ≡ get_or kept place d
-      → Some d.role ≡ role_of signals word
-  kept_role d place at inside is = subst (λ (s : Declared). Some d.role ≡ role_of s word) view
-      (ap (λ (x : Declaration). Some x.role) is ∙ (sym (slice_get-map (λ (x : Declaration). x.role) kept place ∙ ap (option_map (λ (x : Declaration). x.role)) (slice_get-get_or kept place d inside))
-      ∙ ap (slice_get (roles_of kept)) at))
-
   pub no_role : (place : ℕ) → place ≡ place_of_name names word → length kept ≤ place → None ≡ role_of signals word
   no_role place at past = subst (λ (s : Declared). None ≡ role_of s word) view
       (sym (ap (slice_get (roles_of kept)) (sym at) ∙ slice_get_past (roles_of kept) place (let l = length-map kept (λ (x : Declaration). x.role) in omega (arith, l, past))))
-
-  pub kept_first : (d : Declaration) (place : ℕ) → place ≡ place_of_name names word → place < length kept → d ≡ get_or kept place d
-      → d.first ≡ first_number signals word
-  kept_first d place at inside is = subst (λ (s : Declared). d.first ≡ first_number s word) view
-      (ap (λ (x : Declaration). x.first) is ∙ (are.firsts place d inside ∙ ap (first_event (roles_of kept)) at))
 
   pub kept_few : (d : Declaration) (place : ℕ) → place < length kept → d ≡ get_or kept place d → d.first ≤ 131072
   kept_few d place inside is =

@@ -4,7 +4,7 @@ use Rattle.std.proofs.lemmas.Bool.{cases_eq}
 use Rattle.std.proofs.lemmas.List.{append-nil}
 use Rattle.std.specs.Prelude.{codes}
 use Rattle.ds_outside.specs.Writes.{GoesOn}
-use Rattle.ds_rows.proofs.Then.{goes_on, with_text}
+use Rattle.ds_outside.proofs.Then.{goes_on, with_text}
 use Rattle.ds_astg.specs.Pieces.{all_below, line_with}
 
 pub all_below-next : (piece : ℕ → List ℕ) (n : ℕ) → all_below piece (n + 1) ≡ all_below piece n ++ piece n

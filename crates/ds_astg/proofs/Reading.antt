@@ -1,11 +1,11 @@
 -- Lines one after another.
-use Rattle.std.proofs.Common.{◌≡◌, ℕ, suc, ◌+◌, ◌<◌, List, [], ◌∷◌, length, drop, false, true, Result, Ok, Err, refl, sym, ◌∙◌, ap, arith}
+use Rattle.std.proofs.Common.{◌≡◌, ℕ, suc, ◌+◌, ◌<◌, List, [], ◌∷◌, length, drop, false, Result, Ok, Err, sym, ◌∙◌, ap, arith}
 use Rattle.std.proofs.Math.Seq.{drop-cons}
 use Rattle.ds_lines.specs.Words.{word_at}
 use Rattle.ds_lines.specs.Line.{Line, line_or_none}
 use Rattle.ds_marked.specs.Graph.{Graph}
 use Rattle.ds_astg.specs.Line.{State, graph_head_of, step_line}
-use Rattle.ds_astg.specs.Read.{ends, behind, end_of, graph_from}
+use Rattle.ds_astg.specs.Read.{ends, behind, graph_from}
 use Rattle.ds_astg.specs.Steps.{IsFirstGraphFault, IsLineFault}
 use Rattle.ds_astg.specs.declared.head.Head.{Head}
 use Rattle.ds_astg.specs.declared.fault.AstgFault.{AstgFault}
@@ -17,10 +17,6 @@ module _ (lines : List Line) (i : ℕ) (state : State) (all : Result Graph AstgF
     (inside : i < length lines) (so_far : all ≡ graph_from (drop i lines) state) (is : head ≡ graph_head_of (word_at (line_or_none lines i).words 0)) where
   here : all ≡ graph_from (line_or_none lines i ∷ drop (suc i) lines) state
   here = so_far ∙ ap (λ (ls : List Line). graph_from ls state) (drop-cons lines i (record { number = 0; words = [] }) inside)
-
-  -- the last line that is read
-  pub line_ends : ends head ≡ true → all ≡ end_of state
-  line_ends e = here ∙ (let h : ends (graph_head_of (word_at (line_or_none lines i).words 0)) ≡ true = sym (ap ends is) ∙ e in rw h refl)
 
   goes_on : ends head ≡ false → all ≡ behind (line_or_none lines i).number (step_line head (line_or_none lines i) state) (graph_from (drop (suc i) lines))
   goes_on e = here ∙ (let h : ends (graph_head_of (word_at (line_or_none lines i).words 0)) ≡ false = sym (ap ends is) ∙ e in

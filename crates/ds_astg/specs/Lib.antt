@@ -14,6 +14,3 @@ pub mod Read
 pub mod Sound
 pub mod Numbered
 pub mod Steps
-pub mod Written
-pub mod Laws
-pub mod Worked

@@ -7,8 +7,8 @@
 //! of a graph of signals, which `specs/Text` gives to the byte: its own signals are outputs, and
 //! further ones are internal; of several arcs with the same ends the first is implicit, and each
 //! other one is a place of its own. Where a write fails, a first part of the text is appended.
-//! `laws` says what follows: what is written is read as the same graph, texts that are worked by
-//! hand.
+//! `ds_astg_laws` says what follows: what is written is read as the same graph, texts that are
+//! worked by hand.
 //!
 //! `write` takes no memory; pieces are small, so that a buffer behind `out` pays.
 #![tactic(auto)]
@@ -20,7 +20,6 @@ mod fault;
 mod graph;
 mod head;
 mod key;
-pub mod laws;
 mod line;
 mod links;
 mod marking;

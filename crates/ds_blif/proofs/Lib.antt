@@ -1,10 +1,5 @@
-pub mod Clean
 pub mod Distinct
 pub mod First
-pub mod Heads
-pub mod InOrder
-pub mod InParts
 pub mod NoFault
 pub mod PartsFit
-pub mod Printed
 pub mod WellFormed

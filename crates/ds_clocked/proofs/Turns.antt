@@ -10,7 +10,7 @@ use Rattle.ds_design.specs.Run.{row_at}
 use Rattle.ds_design.specs.Trace.{IsTrace, AreLines, trace_line, end_line}
 use Rattle.ds_design.proofs.Runs.{trace_by_turns}
 use Rattle.ds_outside.specs.Writes.{GoesOn}
-use Rattle.ds_rows.proofs.Then.{goes_on, nothing}
+use Rattle.ds_outside.proofs.Then.{goes_on, nothing}
 use Rattle.ds_clocked.specs.Loop.{IsWrittenTo}
 
 pub no_turn : {T E : Type 0} (c : Circuit) (first : ℕ) (start : Row) (vectors : List Row) (answered : Result T E) (w : Option (List ℕ)) (f : ℕ) → IsWrittenTo c first start vectors 0 start answered answered w w f f

@@ -1,11 +1,5 @@
 pub mod Chained
 pub mod Meant
-pub mod Taken
-pub mod Refused
-pub mod TakenGraph
-pub mod TakenPeriod
 pub mod NumberLemmas
-pub mod TakenNumbers
-pub mod TakenReplay
 pub mod AllowedNumbers
 pub mod Wanted

@@ -4,11 +4,11 @@
 //! its numbers.
 //! `parse` gives exactly the job that the words ask for, or exactly why they are no command line.
 //! What `clap` takes decides: its definition for simple commands, over the table of commands in
-//! `specs/Commands.antt`, where a command joins by an entry. The laws say without `clap` which
-//! lines are taken: the name of a command, its files or its numbers in decimal, and the option
-//! behind them; and that no other name is. Of several faults a bad line comes first, then a bad
-//! number, then a bad mode; open latches beside slack are a bad mode. A request for help or for the
-//! version is no command line. No clause says what a `UsageFault` displays.
+//! `specs/Commands.antt`, where a command joins by an entry. `ds_cmd_laws` says without `clap`
+//! which lines are taken: the name of a command, its files or its numbers in decimal, and the
+//! option behind them; and that no other name is. Of several faults a bad line comes first, then a
+//! bad number, then a bad mode; open latches beside slack are a bad mode. A request for help or for
+//! the version is no command line. No clause says what a `UsageFault` displays.
 #![tactic(auto)]
 
 mod accept;
@@ -22,7 +22,6 @@ mod fault;
 mod file_name;
 mod graph;
 mod job;
-mod laws;
 mod line;
 mod number;
 mod period;
@@ -33,8 +32,4 @@ mod subcommand;
 pub use fault::UsageFault;
 pub use file_name::FileName;
 pub use job::Job;
-pub use laws::{
-    accept_is_taken, check_is_taken, clock_is_taken, demo_is_taken, graph_is_taken,
-    other_names_are_refused, period_is_taken, replay_is_taken, run_is_taken,
-};
 pub use line::parse;

@@ -12,7 +12,7 @@ use Rattle.ds_latch.specs.Plan.{IsSplit}
 use Rattle.ds_design.specs.declared.design.Register.{Register}
 use Rattle.ds_settle.specs.Cone.{IsCone, Parts}
 use Rattle.ds_settle.proofs.Agree.{sources_known}
-use Rattle.ds_opening.specs.Settled.{IsSettling}
+use Rattle.ds_cones.specs.Settled.{IsSettling}
 use Rattle.ds_fire.specs.Feeds.{AreSourceNetsHoused, AreSourceHomes, IsSourceHome, IsNetOfNode, IsSourceNetPlacedOrKept, home_of}
 use Rattle.ds_fire.specs.declared.homes.Home.{Home}
 

@@ -21,7 +21,7 @@ use Rattle.ds_latch.specs.Flow.{IsInStep}
 use Rattle.ds_latch.proofs.Counts.{accepted_controls, number_below}
 use Rattle.ds_latch.proofs.Flow.{flow_equivalence}
 use Rattle.ds_latch.proofs.Rising.{events_long}
-use Rattle.ds_latch.proofs.Spelt.{stored_rows_spell_trace}
+use Rattle.ds_latch.proofs.Spelt.{range_agree, stored_rows_spell_trace}
 use Rattle.ds_fire.specs.Snapshot.{Snapshot, Shows, split_of, graph_of, limit_of, count_of, held_row, stored_values, stored_row, width_of}
 use Rattle.ds_fire.specs.Fired.{IsReady, IsReached, IsSnapshotSound}
 use Rattle.ds_fire.specs.Laws.{IsFiredToEnd, IsInRun, IsClockedRunOf, run_value}
@@ -31,12 +31,6 @@ use Rattle.ds_fire.proofs.Settles.{place_low}
 flat_of_map : (f : ℕ → Row) (xs : List ℕ) → flat_map (λ (row : Row). row) (map f xs) ≡ flat_map f xs
 flat_of_map f [] = refl
 flat_of_map f (x ∷ xs) = ap (λ (ys : Row). f x ++ ys) (flat_of_map f xs)
-
-pub range_agree : {X : Type 0} (f g : ℕ → List X) (a n : ℕ) → ((k : ℕ) → k < a + n → f k ≡ g k) → flat_map f (range_with_len a n) ≡ flat_map g (range_with_len a n)
-range_agree f g a zero same = refl
-range_agree f g a (suc n) same =
-    ap (λ xs. xs ++ flat_map f (range_with_len (a + 1) n)) (same a (omega arith))
-    ∙ ap (λ xs. g a ++ xs) (range_agree f g (a + 1) n (λ k below. same k (omega arith)))
 
 -- of rows of one width, one after the other, each can be taken back
 pub chunk : (rows : List Row) (w k a : ℕ) → ((j : ℕ) → j < length rows → length (get_or rows j []) ≡ w) → k < length rows → a ≡ k * w → take w (drop a (flat_map (λ (row : Row). row) rows)) ≡ get_or rows k []

@@ -14,7 +14,7 @@ use Rattle.ds_latch.specs.Node.{Node, In, Out, Master, Slave, Split, IsNode, num
 use Rattle.ds_latch.specs.Firing.{IsSettled, opening_read}
 use Rattle.ds_latch.proofs.Counts.{number_below, same_node}
 use Rattle.ds_fire.specs.Snapshot.{row_index, rows_of}
-use Rattle.ds_opening.specs.Settled.{IsSettling}
+use Rattle.ds_cones.specs.Settled.{IsSettling}
 use Rattle.ds_fire.specs.Feeds.{IsSourceHome, home_of, no_source_home}
 use Rattle.ds_fire.specs.History.{Stored}
 use Rattle.ds_fire.specs.Turn.{AreTurnPlaces, AreRows, IsClosed, IsLoaded, IsOpened, IsThere, Opens, home_index, home_value, rooms_of, values_of}
@@ -126,13 +126,6 @@ module _ (s : Split) (vectors rows : List Row) (are : AreRows s rows) (opened : 
         ∙ (master_wide
         ∙ (sym (are.widths (Slave i) is_node (place_of s (opened + 1)) (place_low s (opened + 1)))
         ∙ ap (λ (k : ℕ). length (get_or rows k [])) (sym slave_at)))
-
-    pub slave_inside : number * places.each + places.next < length rows
-    slave_inside =
-        let here : number * places.each + places.next ≡ row_index s (number_of (Slave i)) (place_of s (opened + 1)) = slave_at in
-        let below : row_index s (number_of (Slave i)) (place_of s (opened + 1)) < nodes s * (s.slack + 1) = index_inside s (number_of (Slave i)) (place_of s (opened + 1)) (number_below s (Slave i) is_node) (place_low s (opened + 1)) in
-        let long : length rows ≡ nodes s * (s.slack + 1) = are.one_each in
-        omega arith
 
     pub opened_slave : (rows' : List Row) → rows' ≡ set rows (number * places.each + places.next) (get_or rows (number * places.each + places.next - places.each) []) → Opens s vectors opened number rows rows'
     opened_slave rows' puts n is_n e =

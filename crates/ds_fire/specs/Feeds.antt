@@ -2,7 +2,7 @@
 use Rattle.std.specs.Prelude.{◌≡◌, ◌⊎◌, ℕ, ◌<◌, List, length, All, slice_index, slice_index_or}
 use Rattle.ds_latch.specs.Node.{Node, Split, IsNode, number_of, nets_of}
 use Rattle.ds_latch.specs.Order.{IsSource}
-use Rattle.ds_opening.specs.Woven.{AreCones}
+use Rattle.ds_cones.specs.Cones.{AreCones}
 use Rattle.ds_fire.specs.declared.feeds.Feeds.{Feeds}
 use Rattle.ds_fire.specs.declared.homes.Home.{Home}
 

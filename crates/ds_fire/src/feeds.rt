@@ -7,8 +7,8 @@ ghost use Rattle.ds_fire.specs.Feeds.{AreFeeds};
 
 use crate::homes::{Home, homes_of};
 use ds_base::OutOfMemory;
+use ds_cones::cones_of;
 use ds_latch::Latches;
-use ds_opening::cones_of;
 use ds_settle::Cone;
 use std::alloc::Global;
 

@@ -6,7 +6,7 @@ ghost use Rattle.ds_design.specs.Circuit.{columns};
 ghost use Rattle.ds_design.specs.InRange.{IsInRange};
 ghost use Rattle.ds_latch.specs.Plan.{IsSplit};
 ghost use Rattle.ds_latch.specs.Node.{Node, In, Slave, IsNode, number_of, nodes};
-ghost use Rattle.ds_opening.specs.Woven.{IsSettlingAt};
+ghost use Rattle.ds_cones.specs.Cones.{IsSettlingAt};
 ghost use Rattle.ds_fire.specs.Feeds.{AreFeeds, home_of};
 ghost use Rattle.ds_fire.specs.Turn.{AreLow, AreRows, IsLoaded, IsOpened, IsThere};
 ghost use Rattle.ds_fire.specs.Turn.{IsSettledOn, Opens, home_index};

@@ -17,4 +17,3 @@ pub mod Opens
 pub mod Left
 pub mod Needed
 pub mod FlatRange
-pub mod InCopies

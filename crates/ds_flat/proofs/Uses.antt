@@ -15,7 +15,7 @@ use Rattle.ds_models.specs.declared.blif.BlifModel.{BlifModel}
 use Rattle.ds_models.specs.declared.blif.Pair.{Pair}
 use Rattle.ds_models.specs.declared.blif.UseText.{UseText}
 use Rattle.ds_flat.specs.declared.fault.FlatFault.{FlatFault}
-use Rattle.ds_flat.specs.declared.fault.FlatKind.TheVariants.{UnknownModel, UnknownFormal, Recursive, TooMany}
+use Rattle.ds_flat.specs.declared.fault.FlatKind.TheVariants.{UnknownFormal, Recursive, TooMany}
 use Rattle.ds_flat.specs.declared.fault.FlatRefusal.{FlatRefusal}
 use Rattle.ds_flat.specs.declared.fault.FlatRefusal.TheVariants.{Fault, Memory}
 use Rattle.ds_flat.specs.Net.{Scope}
@@ -72,12 +72,6 @@ is_open_named models name place path places at inside known =
 
 module _ (models : List BlifModel) (path : List (List ℕ)) (scope : Scope) (line : ℕ) (call : UseText)
     (copies : ℕ) where
-  -- there is no model of the name
-  pub refuses_model : (refusal : FlatRefusal) → model_named models call.model ≡ None
-      → IsFlatRefusal refusal (record { line = line; kind = UnknownModel call.model })
-      → RefusesUse refusal models path scope line call copies
-  refuses_model refusal none given design = refused refusal _ _ given (rw none refl)
-
   module _ (model : BlifModel) (named : model_named models call.model ≡ Some model) where
     -- the model is being copied
     pub refuses_open : (refusal : FlatRefusal) → list_any (bytes_eq call.model) path ≡ true

@@ -2,7 +2,6 @@
 pub mod Net
 pub mod Command
 pub mod Copies
-pub mod InCopies
 pub mod Text
 pub mod Bare
 pub mod Keys
@@ -11,5 +10,3 @@ pub mod Stack
 pub mod Run
 pub mod Use
 pub mod Turn
-pub mod Worked
-pub mod Laws

@@ -7,8 +7,8 @@
 //! numbered as they first appear.
 //!
 //! A caller sees which design or fault it is by `flat_of` of specs/Copies, which gives one answer
-//! for each list of models; as a law, each number in such a design names what is there. Not
-//! promised is when memory is wanted.
+//! for each list of models; by the laws of `ds_flat_laws` each number in such a design names what
+//! is there. Not promised is when memory is wanted.
 #![tactic(auto)]
 
 mod advance;
@@ -19,7 +19,6 @@ mod fault;
 mod flat;
 mod frame;
 mod head;
-pub mod laws;
 mod lent;
 mod library;
 mod nets;

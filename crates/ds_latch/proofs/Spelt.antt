@@ -19,7 +19,8 @@ use Rattle.ds_base.proofs.Lists.{agree_from_map, lists_same}
 use Rattle.ds_base.specs.Values.{Row}
 use Rattle.ds_base.specs.declared.value.Value.TheVariants.{Zero}
 
-range_agree : {X : Type 0} (f g : ℕ → List X) (a n : ℕ) → ((k : ℕ) → k < a + n → f k ≡ g k) → flat_map f (range_with_len a n) ≡ flat_map g (range_with_len a n)
+-- lists that agree place by place are one list when they are put together
+pub range_agree : {X : Type 0} (f g : ℕ → List X) (a n : ℕ) → ((k : ℕ) → k < a + n → f k ≡ g k) → flat_map f (range_with_len a n) ≡ flat_map g (range_with_len a n)
 range_agree f g a zero same = refl
 range_agree f g a (suc n) same =
     ap (λ xs. xs ++ flat_map f (range_with_len (a + 1) n)) (same a (omega arith))

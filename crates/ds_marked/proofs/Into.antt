@@ -1,5 +1,5 @@
 -- The arcs into an event: how they are chained from the last one down, and walks along them.
-use Rattle.std.proofs.Common.{◌≡◌, ℕ, ◌+◌, ◌<◌, ◌≤◌, List, length, get_or, set, replicate, sym, ap, ◌∙◌, subst, arith, inl, inr, length-set, get_or-set_same, get_or-set_other, None, Some, Option, MatchOption, All, ◌-◌}
+use Rattle.std.proofs.Common.{◌≡◌, ℕ, ◌+◌, ◌<◌, ◌≤◌, List, length, get_or, set, replicate, sym, ap, ◌∙◌, subst, arith, inl, inr, length-set, get_or-set_same, get_or-set_other, None, Some, Option, MatchOption, ◌-◌}
 use Rattle.std.specs.Option.{unwrap_or}
 use Rattle.std.specs.Prelude.{⊤}
 use Rattle.std.specs.List.{HoldsAt}
@@ -105,20 +105,12 @@ module _ (P : Arc → Type 0) (arcs : List Arc) (v : ℕ) where
     done = λ k d inside low at. elim (cases_lt k from) [ inl under ↦ before k d under inside at | inr above ↦ absurd (is.2 k d above low at) ];
   }
 
-  -- a walk begins at the first arc
-  pub walk_first : (next : Option ℕ) → IsNextInto arcs v 0 next → IsWalked P arcs v next
-  walk_first next is = on_from 0 next (λ k d low. absurd (omega arith)) is
-
   -- and goes on from one that has P
   pub walk_next : (arc : ℕ) (next : Option ℕ) → IsWalked P arcs v (Some arc) → ((d : Arc) → P (get_or arcs arc d)) → IsNextInto arcs v (arc + 1) next → IsWalked P arcs v next
   walk_next arc next walked has is = on_from (arc + 1) next (λ k d low inside at. elim (cases_eq k arc) [
     | inl e ↦ subst (λ (k : ℕ). P (get_or arcs k d)) (sym e) (has d)
     | inr ne ↦ walked.done k d inside (omega arith) at
   ]) is
-
-  -- at its end all arcs into the event have P
-  pub walk_end : IsWalked P arcs v None → All (λ arc. arc.target ≡ v → P arc) arcs
-  walk_end walked k d inside at = walked.done k d inside tt at
 
 -- how many arcs a walk may still come to
 abbrev pub left : List Arc → Option ℕ → ℕ

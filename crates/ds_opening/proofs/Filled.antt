@@ -1,11 +1,10 @@
 -- Nets that take the rows of several nodes.
-use Rattle.std.proofs.Common.{◌≡◌, ◌∙◌, ℕ, zero, suc, ◌+◌, ◌-◌, ◌<◌, ◌≤◌, Bool, true, false, cond, not, List}
-use Rattle.std.proofs.Common.{[], ◌∷◌, ◌++◌, length, get_or, take, drop, refl, ap, sym, subst, arith, inl, inr, append_assoc, length-append}
+use Rattle.std.proofs.Common.{◌≡◌, ◌∙◌, ℕ, zero, suc, ◌+◌, ◌-◌, ◌<◌, ◌≤◌, Bool, true, false, cond, not, List, [], ◌∷◌, ◌++◌, length, get_or, take, drop, refl, ap, sym, subst, arith, inl, inr, append_assoc, length-append}
 use Rattle.std.specs.Prelude.{All, Contains}
 use Rattle.std.specs.List.{filter, flat_map, range_with_len}
 use Rattle.std.proofs.lemmas.Bool.{cases_Bool, not_from_false}
 use Rattle.std.proofs.lemmas.Grind.{flat_map-append}
-use Rattle.std.proofs.lemmas.List.{append-nil, get_or_default, length-map, take_all}
+use Rattle.std.proofs.lemmas.List.{append-nil, length-map, take_all}
 use Rattle.std.proofs.lemmas.List.Concat.{flat_map-cons}
 use Rattle.std.proofs.lemmas.List.Elements.{All-contains, All-filter, Contains-append_right, Contains-get_or}
 use Rattle.std.proofs.lemmas.List.FromFn.{length-range_with_len}
@@ -222,8 +221,3 @@ module _ {bits : List (List ℕ)} {first : ℕ} {o : Opening} {old : Kept} {know
             subst (λ (xs : List ℕ). Contains xs node)
             (r.nodes_are ∙ (ap (λ (xs : List ℕ). r.done ++ xs) left_is ∙ append-nil r.done))
             (has_filter (λ n. not (learnt n)) nodes node has (not_from_false (learnt node) not_yet))
-
--- the nets of a node, as they are lent
-pub lent : (bits : List (List ℕ)) (node index : ℕ) (item list : List ℕ) → list ≡ item → item ≡ get_or bits index item → index ≡ node → node < length bits → list ≡ get_or bits node []
-lent bits node index item list list_is item_is index_is inside =
-    list_is ∙ (item_is ∙ (ap (λ (n : ℕ). get_or bits n item) index_is ∙ get_or_default bits node item [] inside))

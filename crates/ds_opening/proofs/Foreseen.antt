@@ -1,7 +1,5 @@
 -- The nets that an order of the tables gives are the valuation, so the computed turns are the run.
-use Rattle.std.proofs.Common.{◌≡◌, ◌∙◌, ℕ, zero, suc, ◌+◌, ◌-◌, ◌<◌, List, [], ◌∷◌, Option}
-use Rattle.std.proofs.Common.{length, get_or, drop, replicate, slice_get, refl, ap, sym, subst}
-use Rattle.std.proofs.Common.{arith, inl, inr, add-one}
+use Rattle.std.proofs.Common.{◌≡◌, ◌∙◌, ℕ, zero, suc, ◌+◌, ◌-◌, ◌<◌, List, [], ◌∷◌, Option, length, get_or, drop, replicate, slice_get, refl, ap, sym, subst, arith, inl, inr, add-one}
 use Rattle.std.specs.Prelude.{All}
 use Rattle.std.proofs.lemmas.List.{length-drop, length-map, length-replicate}
 use Rattle.std.proofs.lemmas.List.Elements.{All-map}
@@ -19,10 +17,8 @@ use Rattle.ds_design.specs.Valuation.{IsValuation}
 use Rattle.ds_design.specs.declared.design.Gate.{Gate}
 use Rattle.ds_design.specs.declared.design.Register.{Register}
 use Rattle.ds_settle.specs.Settle.{IsSettledTo}
-use Rattle.ds_settle.proofs.Step.{column_once, columns_in_range, register_once}
-use Rattle.ds_settle.proofs.Step.{settled_all, settled_more, sources_settled}
-use Rattle.ds_opening.specs.Foreseen.{ForeseesRun, all_driven, driven, given, nets_in, settled_by}
-use Rattle.ds_opening.specs.Foreseen.{state_before}
+use Rattle.ds_settle.proofs.Step.{column_once, columns_in_range, register_once, settled_all, settled_more, sources_settled}
+use Rattle.ds_opening.specs.Foreseen.{ForeseesRun, all_driven, driven, given, nets_in, settled_by, state_before}
 use Rattle.ds_opening.proofs.Given.{all_zero, given_long, given_others, given_values}
 
 module _ (c : Circuit) (range : IsInRange c) (accepted : IsAccepted c)

@@ -1,6 +1,5 @@
 -- Which rows are learnt.
-use Rattle.std.proofs.Common.{◌≡◌, ◌∙◌, ℕ, ◌+◌, ◌*◌, ◌%◌, Bool, true, false, eqb}
-use Rattle.std.proofs.Common.{get_or, refl, ap, ne_eqb, arith, ◌&&◌, ◌||◌}
+use Rattle.std.proofs.Common.{◌≡◌, ◌∙◌, ℕ, ◌+◌, ◌*◌, ◌%◌, Bool, true, false, eqb, get_or, refl, ap, ne_eqb, arith, ◌&&◌, ◌||◌}
 use Rattle.std.proofs.lemmas.Bool.{and_right, eqb-true, false≢true}
 use Rattle.ds_latch.specs.Node.{Master, number_of}
 use Rattle.ds_scratch.specs.Scratch.{Kept}

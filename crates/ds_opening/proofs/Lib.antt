@@ -1,5 +1,3 @@
-pub mod Taken
-pub mod Settled
 pub mod Packs
 pub mod Filled
 pub mod Woven

@@ -1,7 +1,5 @@
 -- The opening of a node that settles, in a row that remembers.
-use Rattle.std.proofs.Common.{◌≡◌, ◌∙◌, ℕ, ◌+◌, ◌-◌, ◌/◌, ◌<◌, Bool, List, [], length}
-use Rattle.std.proofs.Common.{get_or, map, sym, ap}
-use Rattle.std.proofs.Common.{subst, arith}
+use Rattle.std.proofs.Common.{◌≡◌, ◌∙◌, ℕ, ◌+◌, ◌-◌, ◌/◌, ◌<◌, Bool, List, [], length, get_or, map, sym, ap, subst, arith}
 use Rattle.std.specs.Prelude.{All, Contains}
 use Rattle.std.proofs.lemmas.List.{get_or-map, length-map}
 use Rattle.std.proofs.lemmas.List.Elements.{All-contains}
@@ -12,8 +10,7 @@ use Rattle.ds_cover.proofs.Keeps.{value_agrees}
 use Rattle.ds_design.specs.declared.design.Gate.{Gate}
 use Rattle.ds_groups.specs.Reads.{ReadFrom}
 use Rattle.ds_opening.specs.Foreseen.{node_at}
-use Rattle.ds_opening.specs.Noted.{AreDriven, AreGroupsBefore, HasReads, all_learnt_nets, learnt_nets}
-use Rattle.ds_opening.specs.Noted.{nets_of_turn}
+use Rattle.ds_opening.specs.Noted.{AreDriven, AreGroupsBefore, HasReads, all_learnt_nets, learnt_nets, nets_of_turn, FindInputs, AreGroupSlots, AreConeGroups, AreRowsLearnt, IsAsKnown, IsLearnt, AreReadRows, IsSettlingOpening, IsSlot, slots_of}
 use Rattle.ds_design.specs.Circuit.{Circuit}
 use Rattle.ds_design.specs.InRange.{IsInRange}
 use Rattle.ds_design.specs.Run.{row_at}
@@ -24,15 +21,14 @@ use Rattle.ds_latch.specs.Plan.{IsSplit}
 use Rattle.ds_latch.proofs.Counts.{number_below}
 use Rattle.ds_scratch.specs.Scratch.{Kept, Memory, Remembers}
 use Rattle.ds_settle.specs.Cone.{IsCone, Parts as Cone, nets_of_tables}
-use Rattle.ds_opening.specs.Noted.{FindInputs, AreGroupSlots, AreConeGroups, AreRowsLearnt, IsAsKnown, IsLearnt}
 use Rattle.ds_opening.specs.Learnt.{is_learnt}
-use Rattle.ds_opening.specs.Noted.{AreReadRows, IsSettlingOpening, IsSlot, slots_of}
 use Rattle.ds_opening.specs.declared.opening.Opening.{Opening}
-use Rattle.ds_opening.specs.Settled.{IsSettling}
-use Rattle.ds_opening.specs.Woven.{Turn, cone_place, value_taken}
+use Rattle.ds_cones.specs.Cones.{cone_place}
+use Rattle.ds_cones.specs.Settled.{IsSettling}
+use Rattle.ds_opening.specs.Woven.{Turn, value_taken}
 use Rattle.ds_opening.proofs.Fed.{cone_finds, these_learnt}
-use Rattle.ds_opening.proofs.Settled.{sources_agree, turn_value}
-use Rattle.ds_opening.proofs.Slaves.{place_is}
+use Rattle.ds_cones.proofs.NodeCones.{place_is}
+use Rattle.ds_cones.proofs.Settled.{sources_agree, turn_value}
 use Rattle.ds_opening.proofs.Slots.{slot_of_group, slot_of_source, slots_apart, slots_long}
 use Rattle.ds_opening.proofs.Woven.{from_is, no_master, no_out, numbers_inside, numbers_within, supplied}
 
@@ -87,9 +83,6 @@ module _ {s : Split} (split : IsSplit s) (range : IsInRange s.circuit)
 
   pub grouped : IsGrouped s.circuit g cone list
   grouped = subst (λ (k : ℕ). IsGrouped s.circuit g cone (get_or g.lists k [])) place (are.are.each (cone_place n) blank_cone inside)
-
-  pub list_inside : o.number / 2 < length g.lists
-  list_inside = (let size : length g.lists ≡ length are.cones = are.are.one_each in omega (inside, size, place, arith))
 
   slots_are_long : length m.slots ≡ length g.groups + nodes s
   slots_are_long = ap (λ (xs : List (List ℕ)). length xs) opens.memory.slots ∙ slots_long s split g

@@ -1,8 +1,7 @@
--- What the opening of a slave takes, and the cones of the others.
-use Rattle.std.proofs.Common.{◌≡◌, ◌≢◌, ◌⊎◌, ◌∙◌, ℕ, suc, ◌+◌, ◌-◌, ◌/◌, ◌%◌, ◌<◌, Bool, false, cond, List, [], ◌∷◌, ◌++◌, length, get_or, take, drop, ◌≤◌, refl, arith, ap, sym, subst, inl, inr}
+-- What the opening of a slave takes.
+use Rattle.std.proofs.Common.{◌≡◌, ◌≢◌, ◌⊎◌, ◌∙◌, ℕ, suc, ◌-◌, ◌%◌, ◌<◌, Bool, false, cond, List, [], ◌∷◌, ◌++◌, length, get_or, take, drop, ◌≤◌, refl, arith, ap, sym, subst, inl, inr}
 use Rattle.std.specs.Prelude.{All, AllPairs, Contains}
-use Rattle.std.proofs.lemmas.Bool.{cases_eq}
-use Rattle.std.proofs.lemmas.List.{append-nil, get_or_append_left, get_or_push, length-map}
+use Rattle.std.proofs.lemmas.List.{append-nil, length-map}
 use Rattle.std.proofs.lemmas.List.Elements.{All-head, All-tail, All-weaker}
 use Rattle.ds_base.specs.Word.{count_of_words}
 use Rattle.ds_base.specs.Values.{Row}
@@ -11,10 +10,8 @@ use Rattle.ds_design.specs.Circuit.{register_nets}
 use Rattle.ds_latch.specs.Node.{Node, In, Out, Master, Slave, Split, IsNode, number_of, members, nets_of}
 use Rattle.ds_latch.specs.Numbered.{numbered}
 use Rattle.ds_latch.specs.Order.{IsDataEdge, to_slave}
-use Rattle.ds_settle.specs.Cone.{IsCone, Parts}
 use Rattle.ds_opening.specs.Packed.{packed}
-use Rattle.ds_opening.specs.Settled.{IsSettling}
-use Rattle.ds_opening.specs.Woven.{AreCones, IsConeAt, IsFed, IsOpeningOf, Turn, cone_place, read_of, value_taken, woven}
+use Rattle.ds_opening.specs.Woven.{IsFed, IsOpeningOf, Turn, read_of, value_taken, woven}
 use Rattle.ds_opening.proofs.Filled.{behind_first, length-packed}
 
 -- a slave reads its master alone
@@ -76,32 +73,3 @@ module _ (s : Split) (vectors : List Row) (number opened : ℕ) (some : number �
       let nets : length (nets_of s (Slave i)) ≡ length (members s i) = length-map (members s i) (λ r. get_or (register_nets s.circuit) r 0) in
       ap (λ (ws : List ℕ). length ws) slave_takes ∙ (length-packed (value_taken s t n) ∙ (ap (λ (m : Node). count_of_words (length (value_taken s t m))) is
       ∙ (ap count_of_words (size ∙ sym nets) ∙ ap (λ (m : Node). count_of_words (length (nets_of s m))) (sym is))))
-
--- the cone of a node that settles stands at half its number
-pub place_is : (n : Node) → IsSettling n → cone_place n ≡ number_of n / 2
-place_is In settling = absurd settling
-place_is Out settling = omega arith
-place_is (Master i) settling = omega arith
-place_is (Slave i) settling = absurd settling
-
-pub cone_at : (s : Split) (cones : List Parts) → AreCones s cones → (number : ℕ) (cone : Parts) → cone ≡ get_or cones (number / 2) cone → IsConeAt s number cone
-cone_at s cones are number cone is n at =
-    subst (IsCone s.circuit (nets_of s n)) (ap (λ (k : ℕ). get_or cones k cone) (place_is n at.settling ∙ ap (λ (m : ℕ). m / 2) at.is) ∙ sym is)
-    (are.each n at.node at.settling cone)
-
--- one cone more
-pub cones_more : (s : Split) (cones : List Parts) (cone : Parts) (i : ℕ) → length cones ≡ i + 1
-    → ((n : Node) → IsNode s n → IsSettling n → cone_place n < i + 1 → (d : Parts) → IsCone s.circuit (nets_of s n) (get_or cones (cone_place n) d))
-    → IsCone s.circuit (nets_of s (Master i)) cone
-    → (n : Node) → IsNode s n → IsSettling n → cone_place n < i + 1 + 1 → (d : Parts) → IsCone s.circuit (nets_of s n) (get_or (cones ++ cone ∷ []) (cone_place n) d)
-cones_more s cones cone i long each here In is_node settling below d = absurd settling
-cones_more s cones cone i long each here Out is_node settling below d =
-    subst (IsCone s.circuit (nets_of s Out)) (sym (get_or_append_left cones (cone ∷ []) d 0 (omega arith))) (each Out is_node settling (omega arith) d)
-cones_more s cones cone i long each here (Master j) is_node settling below d =
-    elim (cases_eq j i) [
-      | inl e ↦
-          subst (λ (k : ℕ). IsCone s.circuit (nets_of s (Master k)) (get_or (cones ++ cone ∷ []) (k + 1) d)) (sym e)
-          (subst (IsCone s.circuit (nets_of s (Master i))) (sym (get_or_push cones cone d (i + 1) long)) here)
-      | inr ne ↦ subst (IsCone s.circuit (nets_of s (Master j))) (sym (get_or_append_left cones (cone ∷ []) d (j + 1) (omega arith))) (each (Master j) is_node settling (omega arith) d)
-    ]
-cones_more s cones cone i long each here (Slave j) is_node settling below d = absurd settling

@@ -1,6 +1,5 @@
 -- A group that reads what has stayed keeps its values.
-use Rattle.std.proofs.Common.{◌≡◌, ◌∙◌, ◌⊎◌, ℕ, ◌-◌, ◌<◌, List, [], ◌∷◌, length, get_or, suc}
-use Rattle.std.proofs.Common.{ap, arith, false, inl, inr, subst, sym, true}
+use Rattle.std.proofs.Common.{◌≡◌, ◌∙◌, ◌⊎◌, ℕ, ◌-◌, ◌<◌, List, [], ◌∷◌, length, get_or, suc, ap, arith, false, inl, inr, subst, sym, true}
 use Rattle.std.specs.Prelude.{All, Contains}
 use Rattle.std.proofs.lemmas.List.Elements.{All-contains}
 use Rattle.ds_base.specs.Values.{Row}
@@ -14,8 +13,7 @@ use Rattle.ds_groups.specs.Groups.{Grouping, group_of}
 use Rattle.ds_scratch.specs.Scratch.{HoldsTurn, Kept, Memory, Remembers, value_in}
 use Rattle.ds_settle.specs.Cone.{net_of, nets_of_tables}
 use Rattle.ds_settle.proofs.Tables.{net_is}
-use Rattle.ds_opening.specs.Noted.{AreDriven, FindInputs, HasReads, IsAsKnown, IsGroupBefore}
-use Rattle.ds_opening.specs.Noted.{IsSlot, KeepsGroup, nets_of_turn}
+use Rattle.ds_opening.specs.Noted.{AreDriven, FindInputs, HasReads, IsAsKnown, IsGroupBefore, IsSlot, KeepsGroup, nets_of_turn}
 use Rattle.ds_opening.proofs.Learnt.{blank}
 
 -- the slots are there as the row goes on

@@ -1,12 +1,11 @@
 -- What the opening of a node that settles computes is the node's next value.
-use Rattle.std.proofs.Common.{◌≡◌, ◌∙◌, ℕ, suc, ◌-◌, ◌<◌, Bool, cond, List, [], ◌∷◌, ◌++◌, length, get_or, map, not, refl, arith, ap, sym, subst, ◌==◌}
+use Rattle.std.proofs.Common.{◌≡◌, ◌∙◌, ℕ, suc, ◌-◌, ◌<◌, Bool, cond, List, [], ◌∷◌, ◌++◌, length, get_or, map, refl, arith, ap, sym, subst}
 use Rattle.std.specs.Prelude.{All, Contains}
-use Rattle.std.specs.List.{list_any}
 use Rattle.std.proofs.lemmas.List.{get_or-map, length-map}
-use Rattle.std.proofs.lemmas.List.Elements.{All-filter, All-head, All-map, All-tail}
+use Rattle.std.proofs.lemmas.List.Elements.{All-head, All-tail}
 use Rattle.ds_base.specs.Values.{Row}
 use Rattle.ds_cover.specs.Cover.{values_at}
-use Rattle.ds_design.specs.Circuit.{control_nets, data_nets, register_nets}
+use Rattle.ds_design.specs.Circuit.{register_nets}
 use Rattle.ds_design.specs.InRange.{IsInRange}
 use Rattle.ds_latch.specs.Node.{Node, In, Out, Master, Slave, Split, IsNode, number_of, nodes, members, nets_of}
 use Rattle.ds_latch.specs.Numbered.{numbered}
@@ -15,35 +14,13 @@ use Rattle.ds_latch.specs.Plan.{IsSplit}
 use Rattle.ds_design.specs.declared.design.Register.{Register}
 use Rattle.ds_latch.proofs.Counts.{number_below}
 use Rattle.ds_settle.specs.Cone.{IsCone, IsPartSettled, Parts}
+use Rattle.ds_cones.specs.Cones.{IsSettlingAt}
+use Rattle.ds_cones.specs.Settled.{IsSettling, IsSupplied}
+use Rattle.ds_cones.proofs.NodeCones.{nets_within}
+use Rattle.ds_cones.proofs.Settled.{settles_next_value_lem}
+use Rattle.ds_cones.proofs.Taken.{picked}
 use Rattle.ds_opening.specs.Packed.{AreInside, AreLearnt, packed, packed_rows}
-use Rattle.ds_opening.specs.Settled.{IsSettling, IsSupplied}
-use Rattle.ds_opening.specs.Woven.{IsFed, IsSettlingAt, Turn, read_of, value_taken, woven}
-use Rattle.ds_opening.proofs.Settled.{settles_next_value_lem}
-use Rattle.ds_opening.proofs.Taken.{picked}
-
--- the nets of each node are nets of the design
-module _ (s : Split) (split : IsSplit s) (range : IsInRange s.circuit) where
-  abbrev IsNet : ℕ → Type 0
-  IsNet net = net < length s.circuit.nets
-
-  data_within : All (λ net. net < length s.circuit.nets) (data_nets s.circuit)
-  data_within = All-map IsNet (λ (r : Register). r.data_net) s.circuit.registers (λ k d inside. (range.registers k d inside).0)
-
-  outputs_within : All (λ net. net < length s.circuit.nets) (register_nets s.circuit)
-  outputs_within = All-map IsNet (λ (r : Register). r.output) s.circuit.registers (λ k d inside. (range.registers k d inside).1)
-
-  member_low : (i : ℕ) → i < length s.clusters → (k d : ℕ) → k < length (members s i) → get_or (members s i) k d < length s.circuit.registers
-  member_low i is_cluster k d inside = split.within i [] is_cluster k d inside
-
-  pub nets_within : (n : Node) → IsNode s n → All (λ net. net < length s.circuit.nets) (nets_of s n)
-  nets_within In is_node = All-filter (λ net. not (list_any (λ clock. clock == net) (control_nets s.circuit))) IsNet s.circuit.inputs range.inputs
-  nets_within Out is_node = range.outputs
-  nets_within (Master i) is_node =
-      let sizes : length (data_nets s.circuit) ≡ length s.circuit.registers = length-map s.circuit.registers (λ (r : Register). r.data_net) in
-      All-map IsNet (λ r. get_or (data_nets s.circuit) r 0) (members s i) (λ k d inside. data_within (get_or (members s i) k d) 0 (omega (arith, member_low i is_node k d inside)))
-  nets_within (Slave i) is_node =
-      let sizes : length (register_nets s.circuit) ≡ length s.circuit.registers = length-map s.circuit.registers (λ (r : Register). r.output) in
-      All-map IsNet (λ r. get_or (register_nets s.circuit) r 0) (members s i) (λ k d inside. outputs_within (get_or (members s i) k d) 0 (omega (arith, member_low i is_node k d inside)))
+use Rattle.ds_opening.specs.Woven.{IsFed, Turn, read_of, value_taken, woven}
 
 -- no node reads OUT, and none that settles reads a master
 pub no_out : (s : Split) (n : Node) → IsDataEdge s Out n → ⊥

@@ -1,6 +1,4 @@
 -- In the order in which to read.
-pub mod Taken
-pub mod Settled
 pub mod Packed
 pub mod Woven
 pub mod Foreseen

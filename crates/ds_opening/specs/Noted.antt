@@ -12,10 +12,11 @@ use Rattle.ds_groups.specs.Reads.{AreReads, ReadFrom, slots_with}
 use Rattle.ds_latch.specs.Node.{Node, In, Out, Master, Slave, Split, nets_of, nodes}
 use Rattle.ds_scratch.specs.Scratch.{Kept, Memory, Remembers, value_in}
 use Rattle.ds_settle.specs.Cone.{Parts as Cone, net_of, nets_of_tables}
+use Rattle.ds_cones.specs.Cones.{AreCones, IsSettlingAt}
 use Rattle.ds_opening.specs.Foreseen.{node_at}
 use Rattle.ds_opening.specs.Learnt.{is_learnt}
 use Rattle.ds_opening.specs.Packed.{AreInside, AreLearnt, Learns, packed_rows}
-use Rattle.ds_opening.specs.Woven.{AreCones, IsFed, IsOpeningOf, IsSettlingAt, Turn}
+use Rattle.ds_opening.specs.Woven.{IsFed, IsOpeningOf, Turn}
 use Rattle.ds_opening.specs.declared.opening.Opening.{Opening}
 
 -- what others learn of a node as they settle: the nets of IN and of a slave

@@ -1,15 +1,12 @@
 -- What the openings of the nodes compute, turn by turn.
-use Rattle.std.specs.Prelude.{◌≡◌, ◌≢◌, ℕ, suc, ◌+◌, ◌-◌, ◌<◌, Bool, cond}
+use Rattle.std.specs.Prelude.{◌≡◌, ◌≢◌, ℕ, suc, ◌-◌, ◌<◌, Bool, cond}
 use Rattle.std.specs.Prelude.{List, [], ◌∷◌, ◌++◌, length, All, AllPairs, Contains}
-use Rattle.std.specs.Prelude.{slice_index_or}
 use Rattle.ds_base.specs.Values.{Row}
 use Rattle.ds_design.specs.Run.{IsRun}
-use Rattle.ds_latch.specs.Node.{Node, In, Out, Master, Slave, Split, IsNode, number_of, nets_of}
+use Rattle.ds_latch.specs.Node.{Node, Split, IsNode, number_of}
 use Rattle.ds_latch.specs.Order.{IsDataEdge, open_tokens}
 use Rattle.ds_latch.specs.Numbered.{numbered}
-use Rattle.ds_settle.specs.Cone.{IsCone, Parts as Cone}
 use Rattle.ds_opening.specs.Packed.{packed}
-use Rattle.ds_opening.specs.Settled.{IsSettling}
 
 -- of some nodes, one after another, the number and the words of the row, without nodes whose rows
 -- are learnt
@@ -33,12 +30,6 @@ read_of s t p = numbered s t.vectors t.state t.nets p (suc t.opened - open_token
 abbrev pub value_taken : Split → Turn → Node → Row
 value_taken s t n = numbered s t.vectors t.state t.nets n (suc t.opened)
 
--- a node that settles has this number
-pub record IsSettlingAt (s : Split) (n : Node) (number : ℕ) : Type 0 where
-  pub node : IsNode s n
-  pub settling : IsSettling n
-  pub is : number_of n ≡ number
-
 -- a node's producers, each once
 pub record AreProducers (s : Split) (n : Node) (nodes : List Node) : Type 0 where
   pub each : All (λ p. IsNode s p × IsDataEdge s p n) nodes
@@ -54,10 +45,6 @@ pub record IsFed (s : Split) (n : Node) (learnt : ℕ → Bool) (from : List ℕ
   pub producers : AreProducers s n nodes
   pub words : from ≡ woven learnt (read_of s t) nodes
 
--- the cone of the node with this number, where it settles
-abbrev pub IsConeAt : Split → ℕ → Cone → Type 0
-IsConeAt s number cone = (n : Node) → IsSettlingAt s n number → IsCone s.circuit (nets_of s n) cone
-
 -- the opening of the node with this number in a turn of a run on these vectors
 pub record IsOpeningOf (s : Split) (vectors : List Row) (number opened : ℕ) (learnt : ℕ → Bool)
     (from : List ℕ) (n : Node) (t : Turn) : Type 0 where
@@ -66,16 +53,3 @@ pub record IsOpeningOf (s : Split) (vectors : List Row) (number opened : ℕ) (l
   pub fed : IsFed s n learnt from t
   pub same : t.vectors ≡ vectors
   pub turn : t.opened ≡ opened
-
--- the place of the cone of a node that settles: OUT, M0, M1, ..
-abbrev pub cone_place : Node → ℕ
-cone_place In = 0
-cone_place Out = 0
-cone_place (Master i) = i + 1
-cone_place (Slave i) = 0
-
--- a cone for each node that settles
-pub record AreCones (s : Split) (cones : List Cone) : Type 0 where
-  pub one_each : length cones ≡ length s.clusters + 1
-  pub each : (n : Node) → IsNode s n → IsSettling n → (d : Cone)
-      → IsCone s.circuit (nets_of s n) (slice_index_or cones (cone_place n) d)

@@ -3,9 +3,9 @@ ghost use Rattle.std.specs.Prelude.{◌≡◌, IfOk};
 ghost use Rattle.ds_design.specs.InRange.{IsInRange};
 ghost use Rattle.ds_latch.specs.Node.{Split, nets_of};
 ghost use Rattle.ds_latch.specs.Plan.{IsSplit};
+ghost use Rattle.ds_cones.specs.Cones.{AreCones};
 ghost use Rattle.ds_opening.specs.Foreseen.{node_at};
 ghost use Rattle.ds_opening.specs.Noted.{AreConeGroups, all_learnt_nets, learnt_nets};
-ghost use Rattle.ds_opening.specs.Woven.{AreCones};
 
 use ds_base::{NetId, OutOfMemory, Seq};
 use ds_groups::Groups;

@@ -1,3 +1,5 @@
 pub mod Appended
+pub mod Then
+pub mod Begun
 pub mod Front
 pub mod Handing

@@ -1,16 +1,12 @@
 -- Data edges with their tokens.
-use Rattle.std.proofs.Common.{◌≡◌, ◌≢◌, ◌⊎◌, inl, inr, ℕ, zero, suc, ◌+◌, ◌*◌, ◌%◌, ◌<◌}
-use Rattle.std.proofs.Common.{Bool, true, false, ◌&&◌, cond, eqb, ltb, eq-eqb, ne_eqb, lt-ltb}
-use Rattle.std.proofs.Common.{List, [], ◌∷◌, length, get_or, map, AllPairs, Any, Contains}
-use Rattle.std.proofs.Common.{refl, arith, ap, sym, ◌∙◌, subst, Decides, IsPermutation}
+use Rattle.std.proofs.Common.{◌≡◌, ◌≢◌, ◌⊎◌, inl, inr, ℕ, zero, suc, ◌+◌, ◌*◌, ◌%◌, ◌<◌, Bool, true, false, ◌&&◌, cond, eqb, ltb, eq-eqb, ne_eqb, lt-ltb, List, [], ◌∷◌, length, get_or, map, AllPairs, Any, Contains, refl, arith, ap, sym, ◌∙◌, subst, Decides, IsPermutation}
 use Rattle.std.specs.List.Sorted.{IsNonDecreasingBy}
 use Rattle.std.proofs.lemmas.Bool.{cases_eq, false≢true}
 use Rattle.std.proofs.lemmas.Bool.Decides.{eqb_tells}
 use Rattle.std.proofs.lemmas.Map.Made.{AllPairs-from_IsDistinct, IsDistinct-from_AllPairs}
 use Rattle.std.proofs.lemmas.Map.Keys.{IsDistinct-IsPermutation}
 use Rattle.std.proofs.lemmas.List.{get_or-map, length-map}
-use Rattle.std.proofs.lemmas.List.Sorted.{Contains-permutation, IsPermutation-map}
-use Rattle.std.proofs.lemmas.List.Sorted.{IsPermutation-sym}
+use Rattle.std.proofs.lemmas.List.Sorted.{Contains-permutation, IsPermutation-map, IsPermutation-sym}
 use Rattle.ds_base.proofs.Lists.{get_or-self}
 use Rattle.ds_latch.specs.Node.{Node, In, Out, Master, Slave, Split, number_of}
 use Rattle.ds_latch.specs.Order.{IsDataEdge, open_tokens}

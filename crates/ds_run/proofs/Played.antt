@@ -1,13 +1,11 @@
 -- What the record of a run has of each node.
-use Rattle.std.proofs.Common.{◌≡◌, ◌∙◌, ℕ, ◌+◌, ◌<◌, ◌≤◌, List, length}
-use Rattle.std.proofs.Common.{ap, sym, subst, arith, add-one}
+use Rattle.std.proofs.Common.{◌≡◌, ◌∙◌, ℕ, ◌+◌, ◌<◌, ◌≤◌, List, length, ap, sym, subst, arith, add-one}
 use Rattle.std.proofs.lemmas.List.{length-map}
 use Rattle.std.specs.Prelude.{slice_index, slice_index_or}
 use Rattle.ds_base.specs.Values.{Row}
 use Rattle.ds_cover.specs.Cover.{value_at, values_at}
 use Rattle.ds_design.specs.Circuit.{data_nets, register_nets}
-use Rattle.ds_latch.specs.Node.{Node, Out, Slave, IsNode, number_of}
-use Rattle.ds_latch.specs.Node.{members}
+use Rattle.ds_latch.specs.Node.{Node, Out, Slave, IsNode, number_of, members}
 use Rattle.ds_latch.specs.Firing.{AreRegisters}
 use Rattle.ds_latch.specs.Numbered.{numbered}
 use Rattle.ds_latch.specs.Plan.{Planned}

@@ -1,6 +1,5 @@
 -- The run of a plan is sound, and something in it can always fire.
-use Rattle.std.proofs.Common.{◌≡◌, ℕ, zero, suc, ◌*◌, ◌<◌, ◌≤◌, List, [], length, get_or, All}
-use Rattle.std.proofs.Common.{arith, ap, sym, ◌∙◌, subst, inl, inr, length-append}
+use Rattle.std.proofs.Common.{◌≡◌, ℕ, zero, suc, ◌*◌, ◌<◌, ◌≤◌, List, [], length, get_or, All, arith, ap, sym, ◌∙◌, subst, inl, inr, length-append}
 use Rattle.std.proofs.lemmas.List.{length-map, length-replicate}
 use Rattle.std.proofs.lemmas.Bool.{cases_eq, cases_lt}
 use Rattle.std.proofs.Math.Nat.{mul-le-mul_right, mul-le-mul_left}
@@ -13,19 +12,15 @@ use Rattle.ds_marked.specs.declared.marked.Arc.{Arc}
 use Rattle.ds_marked.specs.declared.marked.Event.{Event}
 use Rattle.ds_cover.specs.Cover.{value_at}
 use Rattle.ds_design.specs.Circuit.{columns, data_nets, register_nets}
-use Rattle.ds_latch.specs.Node.{Node, In, Out, Master, Slave, Split, number_of, nodes}
-use Rattle.ds_latch.specs.Node.{members, nets_of}
-use Rattle.ds_latch.specs.Node.{opening as node_opening, closing as node_closing}
-use Rattle.ds_latch.specs.Order.{IsDataEdge, IsRequired, opens_first, after_producer, before_reuse}
-use Rattle.ds_latch.specs.Order.{open_tokens, close_tokens}
+use Rattle.ds_latch.specs.Node.{Node, In, Out, Master, Slave, Split, number_of, nodes, members, nets_of, opening as node_opening, closing as node_closing}
+use Rattle.ds_latch.specs.Order.{IsDataEdge, IsRequired, opens_first, after_producer, before_reuse, open_tokens, close_tokens}
 use Rattle.ds_latch.specs.Plan.{IsController, IsPlan, Planned, split_events}
 use Rattle.ds_latch.specs.Numbered.{numbered}
 use Rattle.ds_latch.proofs.Counts.{accepted_controls, edge_differs, edge_tokens, number_below}
 use Rattle.ds_latch.proofs.Events.{node_at}
 use Rattle.ds_latch.proofs.Rising.{edge_nodes, events_long}
 use Rattle.ds_rule.specs.Run.{Run, events, node_of, opening, closing}
-use Rattle.ds_rule.specs.Words.{width, size}
-use Rattle.ds_rule.specs.Words.{node_values as run_values}
+use Rattle.ds_rule.specs.Words.{width, size, node_values as run_values}
 use Rattle.ds_rule.specs.Sound.{Agreed, HasOrder, HasOrders, IsSound, edge_at}
 use Rattle.ds_rule.specs.Progress.{IsRunAccepted}
 use Rattle.ds_rule.specs.Laws.{IsGraphOfRun}

@@ -1,8 +1,5 @@
 -- The producers of a node and what it reads of them, edge by edge.
-use Rattle.std.proofs.Common.{◌≡◌, ◌≢◌, ◌∙◌, ◌⊎◌, ℕ, zero, suc, ◌+◌, ◌-◌, ◌<◌, ◌≤◌, List}
-use Rattle.std.proofs.Common.{Bool, cond, eqb, [], ◌∷◌, ◌++◌, length}
-use Rattle.std.proofs.Common.{get_or, map, take, refl, arith, ap, sym, subst}
-use Rattle.std.proofs.Common.{true, false, inl, inr, append_assoc, eq-eqb, ne_eqb}
+use Rattle.std.proofs.Common.{◌≡◌, ◌≢◌, ◌∙◌, ◌⊎◌, ℕ, zero, suc, ◌+◌, ◌-◌, ◌<◌, ◌≤◌, List, Bool, cond, eqb, [], ◌∷◌, ◌++◌, length, get_or, map, take, refl, arith, ap, sym, subst, true, false, inl, inr, append_assoc, eq-eqb, ne_eqb}
 use Rattle.std.specs.Prelude.{All, AllPairs, Any, Contains}
 use Rattle.std.specs.List.{filter}
 use Rattle.std.proofs.lemmas.Bool.{cases_eq, eqb-true}

@@ -1,6 +1,5 @@
 -- The values that stand for a run are those of the clocked run.
-use Rattle.std.proofs.Common.{◌≡◌, ℕ, ◌+◌, ◌*◌, ◌<◌, ◌≤◌, List, [], length, get_or, All}
-use Rattle.std.proofs.Common.{arith, ap, ◌∙◌}
+use Rattle.std.proofs.Common.{◌≡◌, ℕ, ◌+◌, ◌*◌, ◌<◌, ◌≤◌, List, [], length, get_or, All, arith, ap, ◌∙◌}
 use Rattle.ds_base.specs.Values.{Row}
 use Rattle.ds_design.specs.Circuit.{columns}
 use Rattle.ds_design.specs.InRange.{IsInRange}

@@ -1,20 +1,13 @@
 -- The drivers of the nets, table by table.
 use Rattle.std.proofs.Common.{◌≡◌, ◌≢◌, ◌∙◌, ℕ, ◌+◌, ◌<◌, List, Option, Some, None, length, get_or, sym, arith, inl, inr, subst}
-use Rattle.std.proofs.Math.ListN.{replicate, set}
+use Rattle.std.proofs.Math.ListN.{set}
 use Rattle.std.proofs.lemmas.Bool.{cases_eq}
-use Rattle.std.proofs.lemmas.List.{get_or-replicate, get_or-set_other, get_or-set_same, length-replicate, length-set}
+use Rattle.std.proofs.lemmas.List.{get_or-set_other, get_or-set_same, length-set}
 use Rattle.ds_design.specs.Circuit.{Circuit}
 use Rattle.ds_settle.specs.Cone.{net_of}
 use Rattle.ds_settle.specs.Walk.{AreDrivers, IsDriver}
 
 module _ (c : Circuit) where
-  -- before the first table
-  pub drivers_none : AreDrivers c 0 (replicate (length c.nets) None)
-  drivers_none = record {
-    one_each = length-replicate (length c.nets) None;
-    each = λ net low. subst (IsDriver c 0 net) (sym (get_or-replicate (length c.nets) net None None low)) (λ k below. absurd (omega arith));
-  }
-
   other_driver : (k net : ℕ) (driver : Option ℕ) → net_of c k ≢ net → IsDriver c k net driver → IsDriver c (k + 1) net driver
   other_driver k net None apart free = λ j below. elim (cases_eq j k) [
     | inl e ↦ subst (λ (n : ℕ). net_of c n ≢ net) (sym e) apart

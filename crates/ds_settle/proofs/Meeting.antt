@@ -131,10 +131,6 @@ module _ (c : Circuit) (marks : List Bool) (found : Parts) where
   grows_none : Grows marks found marks found
   grows_none = record { same_length = refl; marks = λ net is. is; longer = omega arith; tables = λ i inside. refl; work = omega arith }
 
-  -- nets that are marked are met
-  pub met_marked : (nets : List ℕ) → All (IsMarked marks) nets → AreMet c nets marks found marks found
-  met_marked nets all = record { grows = grows_none; met = all; found = λ these reach h. h }
-
 pub grows_more : (marks0 : List Bool) (found0 : Parts) (marks1 : List Bool) (found1 : Parts) (marks2 : List Bool) (found2 : Parts) → Grows marks0 found0 marks1 found1 → Grows marks1 found1 marks2 found2 → Grows marks0 found0 marks2 found2
 grows_more marks0 found0 marks1 found1 marks2 found2 first then = record {
   same_length = then.same_length ∙ first.same_length;

@@ -24,7 +24,8 @@ use Rattle.ds_stage.specs.SplitStage.{split_stage}
 use Rattle.ds_stage.specs.GraphStage.{IsGraphOf, controller_stage, drawn_stage, wanted_stage}
 use Rattle.ds_astg.specs.Text.{graph_text}
 use Rattle.ds_stage.specs.PlanStage.{IsOwnPlan, acceptable_stage, graph_or_line, marked_stage, plan_stage, planned_stage}
-use Rattle.ds_stage.specs.ReplayStage.{IsReplayText, fired_stage, log_stage, replayed_stage}
+use Rattle.ds_state_text.specs.ReplayText.{IsReplayText}
+use Rattle.ds_stage.specs.ReplayStage.{fired_stage, log_stage, replayed_stage}
 use Rattle.ds_stage.specs.PeriodStage.{IsPeriodText, delays_stage, given_stage, measured_stage, timed_stage}
 use Rattle.ds_stage.specs.Ends.{Stops}
 

@@ -9,17 +9,14 @@ pub mod LogStages
 pub mod LogTexts
 pub mod Meant
 pub mod OneGraph
-pub mod OpenTexts
 pub mod OwnWords
 pub mod PeriodStages
 pub mod PlanAccepted
 pub mod PlanExclusive
 pub mod PlanStages
 pub mod ReadNames
-pub mod Registers
 pub mod ShortStream
 pub mod SplitStops
 pub mod Stages
 pub mod Streamed
 pub mod Streams
-pub mod TextParts

@@ -10,13 +10,11 @@ use Rattle.ds_period.specs.Read.{delays_of}
 use Rattle.ds_stage.specs.declared.stop.Stop.{Stop}
 use Rattle.ds_stage.specs.Ends.{Ends, Never, Output, RoseIn}
 use Rattle.ds_stage.specs.GraphStage.{IsGraphOf}
-use Rattle.ds_stage.specs.PeriodStage.{IsPeriodText, delays_or_line, delays_stage, given_stage}
-use Rattle.ds_stage.specs.PeriodStage.{measured_stage, timed_stage}
+use Rattle.ds_stage.specs.PeriodStage.{IsPeriodText, delays_or_line, delays_stage, given_stage, measured_stage, timed_stage}
 use Rattle.ds_stage.specs.Stage.{OfFile, Stage, IsExclusive, giving, then_stage}
 use Rattle.ds_stage.specs.Stages.{lines_stage, text_stage}
 use Rattle.ds_stage.proofs.Ends.{ends_more, rose_since}
-use Rattle.ds_stage.proofs.Exclusive.{lines_exclusive, result_exclusive, then_exclusive}
-use Rattle.ds_stage.proofs.Exclusive.{then_not_refused}
+use Rattle.ds_stage.proofs.Exclusive.{lines_exclusive, result_exclusive, then_exclusive, then_not_refused}
 use Rattle.ds_stage.proofs.Left.{measured_nothing}
 use Rattle.ds_stage.proofs.Failed.{Says, lines_say, then_says}
 use Rattle.ds_stage.proofs.OneGraph.{one_graph}

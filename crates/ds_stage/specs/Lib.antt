@@ -1,6 +1,5 @@
 -- In the order in which to read.
 pub mod Stage
-pub mod FaultText
 pub mod Report
 pub mod Stages
 pub mod StreamStage
@@ -9,9 +8,7 @@ pub mod SplitStage
 pub mod GraphStage
 pub mod PlanStage
 pub mod AcceptStage
-pub mod OpenLines
 pub mod ReplayStage
-pub mod Kept
 pub mod PeriodStage
 pub mod Ends
 pub mod Laws

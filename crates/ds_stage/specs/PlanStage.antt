@@ -1,57 +1,24 @@
 -- The plan of a job: that of its controller graph, or that of a graph in a file.
-use Rattle.std.specs.Prelude.{◌≡◌, ℕ, List, ◌++◌, Option, None, Some, Result, Ok, Err, codes}
-use Rattle.std.specs.Prelude.{decimal, map}
+use Rattle.std.specs.Prelude.{◌≡◌, ℕ, List, Option, None, Some, Result, Ok, Err}
 use Rattle.ds_base.specs.declared.number.Mode.{Mode}
 use Rattle.ds_outside.specs.Held.{Held}
 use Rattle.ds_outside.specs.declared.files.Which.TheVariants as which
 use Rattle.ds_lines.specs.Line.{Line}
 use Rattle.ds_marked.specs.Graph.{Graph, IsKept}
 use Rattle.ds_design.specs.Circuit.{Circuit}
-use Rattle.ds_marked.specs.Log.{event_text, text_of_event}
 use Rattle.ds_latch.specs.Node.{Split, slackened}
 use Rattle.ds_latch.specs.Plan.{Planned}
 use Rattle.ds_astg.specs.Read.{graph_of_lines}
 use Rattle.ds_astg.specs.declared.fault.AstgFault.{AstgFault}
-use Rattle.ds_astg.specs.declared.fault.AstgKind.{AstgKind}
-use Rattle.ds_astg.specs.declared.fault.AstgKind.TheVariants as astg
 use Rattle.ds_accept.specs.Accept.{IsAcceptable, IsPlanOf}
 use Rattle.ds_accept.specs.Fault.{IsAcceptFault}
 use Rattle.ds_accept.specs.declared.fault.AcceptFault.{AcceptFault}
-use Rattle.ds_accept.specs.declared.fault.AcceptFault.TheVariants as accept
-use Rattle.ds_stage.specs.FaultText.{file_line, with_blanks, numbered_line, too_many_text}
+use Rattle.ds_faults.specs.FaultText.{file_line, numbered_line}
+use Rattle.ds_faults.specs.GraphText.{IsAcceptText, astg_text}
 use Rattle.ds_stage.specs.Stage.{Stage, giving, leaves_nothing, then_stage}
 use Rattle.ds_stage.specs.Stages.{lines_stage, result_stage}
 use Rattle.ds_stage.specs.SplitStage.{split_stage}
 use Rattle.ds_stage.specs.GraphStage.{IsGraphOf}
-
--- the fault of a line of a graph
-abbrev pub astg_text : AstgKind → List ℕ
-astg_text (astg.Unsupported word) = codes "unsupported command " ++ word
-astg_text (astg.BadWord word) = codes "bad word " ++ word
-astg_text (astg.Instance word) = codes "instance " ++ word
-astg_text (astg.UnknownSignal word) = codes "unknown signal " ++ word
-astg_text (astg.NotMarkedGraph place) = codes "not a marked graph: " ++ place
-astg_text (astg.BadMarking word) = codes "bad marking " ++ word
-astg_text (astg.TooMany limit) = too_many_text limit
-
--- how few tokens there are along a walk, where there is one
-abbrev pub walk_text : Option ℕ → List ℕ
-walk_text None = codes " (no walk)"
-walk_text (Some sum) = codes " (least walk " ++ decimal sum ++ codes ")"
-
--- the fault of a graph that is not accepted, its events as they stand in it; want of memory is none
-abbrev pub accept_text : Graph → AcceptFault → Option (List ℕ)
-accept_text g (accept.MissingEvent event) = Some (codes "missing event " ++ event_text event)
-accept_text g (accept.MissingOrder from to tokens least numbers) =
-    Some (codes "missing order " ++ text_of_event g from ++ codes " to " ++ text_of_event g to
-    ++ codes " with " ++ decimal tokens ++ codes " tokens" ++ walk_text least)
-accept_text g (accept.TokenFreeCycle events) =
-    Some (codes "token-free cycle:" ++ with_blanks (map (text_of_event g) events))
-accept_text g accept.Memory = None
-
--- this is the text of a fault; want of memory has none
-abbrev pub IsAcceptText : Graph → AcceptFault → List ℕ → Type 0
-IsAcceptText g fault text = accept_text g fault ≡ Some text
 
 -- the graph of lines, or the line of their first fault
 abbrev pub graph_or_line : List ℕ → Result Graph AstgFault → Result Graph (List ℕ)

@@ -1,7 +1,6 @@
--- The text of a log that is replayed: what each register has stored, and how many firings there
--- were.
+-- The log of a job that is fired, and what is kept and written of it.
 use Rattle.std.specs.Prelude.{◌≡◌, ℕ, List, [], ◌++◌, length, codes, slice_get}
-use Rattle.std.specs.Prelude.{Ok, Err, Bool, true, false}
+use Rattle.std.specs.Prelude.{Ok, Err, Bool}
 use Rattle.std.specs.Option.{option_map_or}
 use Rattle.ds_base.specs.Values.{Row}
 use Rattle.ds_outside.specs.Held.{Held}
@@ -9,18 +8,17 @@ use Rattle.ds_outside.specs.declared.files.Which.TheVariants.{Log}
 use Rattle.ds_lines.specs.Line.{Line}
 use Rattle.ds_marked.specs.Graph.{Graph}
 use Rattle.ds_marked.specs.declared.marked.Arc.{Arc}
-use Rattle.ds_latch.specs.Node.{Node}
 use Rattle.ds_latch.specs.Plan.{Planned}
-use Rattle.ds_latch.specs.Transparent.{IsShowing}
 use Rattle.ds_marked.specs.Log.{text_of_event}
-use Rattle.ds_rows.specs.StateText.{IsStateText}
+use Rattle.ds_fire.specs.Snapshot.{Snapshot}
 use Rattle.ds_replay.specs.Replay.{replay_of}
 use Rattle.ds_replay.specs.declared.fault.ReplayFault.{ReplayFault}
 use Rattle.ds_replay.specs.declared.fault.ReplayKind.{ReplayKind}
 use Rattle.ds_replay.specs.declared.fault.ReplayKind.TheVariants.{BadWord, UnknownEvent, WrongTurn}
 use Rattle.ds_replay.specs.declared.fault.ReplayKind.TheVariants.{OverLimit, NotEnabled}
-use Rattle.ds_stage.specs.FaultText.{numbered_line}
-use Rattle.ds_stage.specs.OpenLines.{open_lines}
+use Rattle.ds_faults.specs.FaultText.{numbered_line}
+use Rattle.ds_state_text.specs.ReplayText.{IsReplayText}
+use Rattle.ds_state_text.specs.Kept.{IsAfterLog}
 use Rattle.ds_stage.specs.Stage.{Stage, giving, leaves_nothing, then_stage}
 use Rattle.ds_stage.specs.Stages.{lines_stage}
 
@@ -53,24 +51,19 @@ abbrev pub log_stage : (List ℕ → Held) → List ℕ → Planned → List Row
 log_stage held log planned vectors =
     then_stage (lines_stage held Log log) (fired_stage log planned vectors)
 
--- the text of a state, and behind it a line for each node that is open there, with what it shows
-pub record IsOpenText (planned : Planned) (vectors : List Row) (events text : List ℕ) :
-    Type 0 where
-  pub stored : List ℕ
-  pub is_stored : IsStateText planned vectors events stored
-  pub shown : Node → Row
-  pub showing : IsShowing planned.split vectors is_stored.now shown
-  pub spelt : text
-      ≡ stored ++ open_lines is_stored.now.count shown (length planned.split.clusters)
-
--- the text of a log that is replayed, with or without what open latches show
-abbrev pub IsReplayText : Bool → Planned → List Row → List ℕ → List ℕ → Type 0
-IsReplayText false planned vectors events text = IsStateText planned vectors events text
-IsReplayText true planned vectors events text = IsOpenText planned vectors events text
-
 -- the text of a log, once its plan is made and its vectors are read
 abbrev pub replayed_stage : (List ℕ → Held) → List ℕ → Bool → Planned → List Row
     → Stage (List ℕ)
 replayed_stage held log transparent planned vectors =
     then_stage (log_stage held log planned vectors)
     (λ events. giving (IsReplayText transparent planned vectors events))
+
+-- what is kept of a log that fires these events
+abbrev pub kept_after : Planned → List Row → List ℕ → Stage (Snapshot × ℕ)
+kept_after planned vectors events =
+    giving (λ after. IsAfterLog planned vectors events after.0 after.1)
+
+-- what is kept of the log of a file
+abbrev pub kept_stage : (List ℕ → Held) → List ℕ → Planned → List Row → Stage (Snapshot × ℕ)
+kept_stage held log planned vectors =
+    then_stage (log_stage held log planned vectors) (kept_after planned vectors)

@@ -10,29 +10,21 @@
 //! `read_netlist` and `read_rows` read netlist and vectors (`specs/Stages`), `read_window` the next
 //! 4,096 vectors of a stream (`specs/StreamStops`), `split_netlist` makes latches
 //! (`specs/SplitStage`), `plan_netlist`, `plan_named` and `own_plan` plans (`specs/PlanStage`),
-//! `read_log` the state after a log, and `write_state` its text (`specs/ReplayStage`, `specs/Kept`
-//! for what is kept between them, and `specs/OpenLines` for the lines of what open latches show,
-//! which stand behind that text where they are wanted; all memory is taken before its first byte is
-//! written). `read_timing` reads the delays of `own_graph` (`specs/PeriodStage`), `wanted_graph`
-//! makes the graph that is written (`specs/GraphStage`), and `put_event` and `put_events` put
-//! events behind a text. `write_report` writes the report on a netlist (`specs/Report`). The texts
-//! of faults are those of `specs/FaultText`. When memory is wanted is not promised.
+//! `read_log` the state after a log (`specs/ReplayStage`), and `write_state` its text, which is
+//! that of `ds_state_text`; all memory is taken before its first byte is written. `read_timing`
+//! reads the delays of `own_graph` (`specs/PeriodStage`), and `wanted_graph` makes the graph that
+//! is written (`specs/GraphStage`). `write_report` writes the report on a netlist (`specs/Report`).
+//! The lines of faults are those of `ds_faults`; the texts on streams, logs and delays stand here.
+//! When memory is wanted is not promised.
 #![tactic(auto)]
 
-mod after_log;
 mod delays;
 mod expansion;
-mod fault_line;
-mod fault_text;
-mod graph_text;
 pub mod laws;
 mod log;
 mod log_text;
-mod net_text;
-mod open_text;
 mod plan;
 mod report;
-mod rooms;
 mod source;
 mod split;
 mod splitting;
@@ -40,12 +32,9 @@ mod state_text;
 mod stop;
 mod stream;
 
-pub use after_log::AfterLog;
 pub use delays::{own_graph, read_timing};
 pub use expansion::wanted_graph;
-pub use graph_text::put_events;
 pub use log::read_log;
-pub use log_text::put_event;
 pub use plan::{own_plan, plan_named, plan_netlist};
 pub use report::{put_count, write_report};
 pub use source::{read_netlist, read_rows};

@@ -4,8 +4,7 @@ ghost use Rattle.ds_design.specs.Circuit.{columns};
 ghost use Rattle.ds_stage.specs.Ends.{Answers, Never, RoseIn};
 ghost use Rattle.ds_stage.specs.Stage.{then_stage};
 ghost use Rattle.ds_stage.specs.Stages.{text_stage};
-ghost use Rattle.ds_stage.specs.ReplayStage.{fired_stage};
-ghost use Rattle.ds_stage.specs.Kept.{kept_after, kept_stage};
+ghost use Rattle.ds_stage.specs.ReplayStage.{fired_stage, kept_after, kept_stage};
 
 use crate::log_text::log_text;
 use crate::source::{lines_in, read_text, refused_at};

@@ -1,11 +1,10 @@
 //! The texts of faults of a log.
-ghost use Rattle.std.specs.Prelude.{◌≡◌, ◌++◌, [], IfOk, OnErr, OnOk, slice_get};
+ghost use Rattle.std.specs.Prelude.{◌≡◌, ◌++◌, [], IfOk, OnOk, slice_get};
 ghost use Rattle.std.specs.Option.{option_map_or};
-ghost use Rattle.ds_marked.specs.Log.{text_of_event};
-ghost use Rattle.ds_control.specs.Part.{PushesPart};
 ghost use Rattle.ds_stage.specs.ReplayStage.{ends_text, log_text as log_text_of};
 
-use ds_base::{ArcId, EventId};
+use ds_base::ArcId;
+use ds_faults::put_event;
 use ds_marked::Marked;
 use ds_replay::ReplayKind;
 use std::alloc::{AllocError, Global};
@@ -42,19 +41,4 @@ fn put_ends(text: &mut Vec<u8>, graph: &Marked, arc: ArcId) -> Result<(), AllocE
     put_event(text, graph, arc.source)?;
     text.extend_from_slice(b" to ")?;
     put_event(text, graph, arc.target)
-}
-
-/// Puts an event behind a text, or nothing where there is none of this number.
-pub fn put_event(text: &mut Vec<u8>, graph: &Marked, event: EventId) -> Result<(), AllocError>
-    ensures ok { OnOk result (text.new.items ≡ text.old.items ++ text_of_event graph.now event) }
-
-    // For want of memory.
-    ensures part { OnErr result
-        (PushesPart text.old.items text.new.items (text_of_event graph.now event)) }
-{
-    let Some(event) = graph.events().get(event.index()) else {
-        return Ok(());
-    };
-    text.extend_from_slice(event.signal.as_slice())?;
-    text.extend_from_slice(event.kind.sign())
 }

@@ -8,7 +8,6 @@ ghost use Rattle.ds_stage.specs.Stages.{result_stage, text_stage};
 ghost use Rattle.ds_stage.specs.PlanStage.{IsOwnPlan, acceptable_stage, graph_or_line};
 ghost use Rattle.ds_stage.specs.PlanStage.{marked_stage, named_stage, plan_stage, planned_stage};
 
-use crate::graph_text::{accept_text, astg_text};
 use crate::source::{lines_in, read_text, refused, refused_at};
 use crate::split::split_netlist;
 use crate::splitting::Splitting;
@@ -19,6 +18,7 @@ use ds_base::Mode;
 use ds_cmd::FileName;
 use ds_control::controller;
 use ds_design::Netlist;
+use ds_faults::{accept_text, astg_text};
 use ds_latch::{Latches, Plan};
 use ds_lines::Lines;
 use ds_marked::Marked;

@@ -1,25 +1,15 @@
-//! The text of a state: what each register has stored, how many firings there were, and where it is
-//! wanted what open latches show.
-ghost use Rattle.std.specs.Prelude.{◌≡◌, ◌<◌, ◌*◌, ℕ, List, Ok, length, true};
-ghost use Rattle.std.specs.List.{flat_map, range_with_len};
-ghost use Rattle.ds_outside.specs.Writes.{GoesOn, Writes};
-ghost use Rattle.ds_fire.specs.Snapshot.{graph_of, limit_of, split_of};
-ghost use Rattle.ds_rows.specs.Homes.{AreHomes};
+//! The text of a state, as the last stage of a job.
+ghost use Rattle.std.specs.Prelude.{◌≡◌, ◌*◌, length, true};
+ghost use Rattle.ds_fire.specs.Snapshot.{split_of};
+ghost use Rattle.ds_state_text.specs.Kept.{IsKeptText};
 ghost use Rattle.ds_stage.specs.Ends.{Ends, Never, output_between};
-ghost use Rattle.ds_stage.specs.Kept.{IsKeptText, open_part, register_line};
-ghost use Rattle.ds_stage.specs.OpenLines.{AreShown};
 ghost use Rattle.ds_stage.specs.Stage.{giving};
 
-use crate::after_log::AfterLog;
-use crate::open_text::put_open_lines;
-use crate::rooms::Rooms;
 use crate::stop::Stop;
-use ds_base::{LatchId, Row3};
 use ds_design::Vectors;
-use ds_fire::State;
-use ds_latch::{Latches, Plan};
-use ds_outside::{Behind, Buffered, Lent, Sink, WriteFault};
-use ds_rows::{Home, put, put_column, put_fired, put_register_name};
+use ds_latch::Plan;
+use ds_outside::{Lent, Sink};
+use ds_state_text::{AfterLog, Rooms, write_behind};
 use std::alloc::Global;
 use std::marker::Brand;
 
@@ -55,103 +45,4 @@ fn most_of(plan: &Plan<'_>, vectors: &Vectors) -> u64
     ensures { result ≡ length plan.now.graph.events * length vectors.now.rows }
 {
     plan.graph().events().len() as u64 * vectors.count() as u64
-}
-
-// Writes the text by way of a buffer.
-fn write_behind<'a, O: Sink, B: Behind>(
-    latches: &Latches<'_>,
-    rooms: &Rooms,
-    after: &AfterLog<'_>,
-    most: u64,
-    behind: Lent<'a, O>,
-) -> (Lent<'a, O>, Result<(), WriteFault>)
-    requires split { split_of after.now.state.now ≡ latches.now }
-    requires slack { after.now.transparent ≡ true → (split_of after.now.state.now).slack ≡ 0 }
-    requires homes { AreHomes latches.now rooms.now.homes.items }
-    requires rows { after.now.transparent ≡ true
-        → AreShown after.now.state.now rooms.now.rows.items }
-    requires most { most
-        ≡ length (graph_of after.now.state.now).events * limit_of after.now.state.now }
-    requires same { behind.sink.ghost_name ≡ B.name }
-    requires before { O.written behind.sink.now ≡ B.before }
-
-    ensures ok { (text : List ℕ)
-        × IsKeptText after.now.transparent after.now.state.now after.now.fired text
-        × Writes result.1 B.before (O.written result.0.sink.now)
-        (O.faults behind.entry.sink.now) (O.faults result.0.sink.now) text }
-    ensures same { result.0.sink.ghost_name ≡ B.name }
-{
-    let homes = rooms.homes.as_slice();
-    let rows = rooms.rows.as_slice();
-    let mut buffered: Buffered<'a, O, B> = Buffered::new(behind);
-    let so_far = put_registers(latches, homes, after.state, &mut buffered);
-    let so_far = put_fired(so_far, after.fired, most, &mut buffered);
-    let so_far = put_wanted(so_far, latches, after, rows, &mut buffered);
-    buffered.finish(so_far)
-}
-
-// Writes the lines of the open nodes, where they are wanted.
-fn put_wanted<O: Sink>(
-    so_far: Result<(), WriteFault>,
-    latches: &Latches<'_>,
-    after: &AfterLog<'_>,
-    rows: &[Row3],
-    out: &mut O,
-) -> Result<(), WriteFault>
-    requires split { split_of after.now.state.now ≡ latches.now }
-    requires rows { after.now.transparent ≡ true → AreShown after.now.state.now rows.now }
-    ensures { GoesOn so_far result (O.written out.old) (O.written out.new) (O.faults out.old)
-        (O.faults out.new) (open_part after.now.transparent after.now.state.now) }
-{
-    let transparent = after.transparent;
-    if transparent {
-        put_open_lines(so_far, latches, after.state, rows, out)
-    } else {
-        so_far
-    }
-}
-
-// Writes the lines of all registers.
-fn put_registers<O: Sink>(
-    latches: &Latches<'_>,
-    homes: &[Home],
-    state: &State<'_>,
-    out: &mut O,
-) -> Result<(), WriteFault>
-    requires split { split_of state.now ≡ latches.now }
-    requires homes { AreHomes latches.now homes.now }
-    ensures { GoesOn (Ok tt) result (O.written out.old) (O.written out.new) (O.faults out.old)
-        (O.faults out.new) (flat_map (register_line state.now homes.now)
-        (range_with_len 0 (length homes.now))) }
-{
-    let mut so_far = Ok(());
-    for r in 0..homes.len() {
-        so_far = put_register(so_far, latches, homes, state, r, out);
-    }
-    so_far
-}
-
-// Writes the line of a register.
-fn put_register<O: Sink>(
-    so_far: Result<(), WriteFault>,
-    latches: &Latches<'_>,
-    homes: &[Home],
-    state: &State<'_>,
-    r: usize,
-    out: &mut O,
-) -> Result<(), WriteFault>
-    requires split { split_of state.now ≡ latches.now }
-    requires homes { AreHomes latches.now homes.now }
-    requires inside { r < length homes.now }
-    ensures { GoesOn so_far result (O.written out.old) (O.written out.new) (O.faults out.old)
-        (O.faults out.new) (register_line state.now homes.now r) }
-{
-    let (_edges, clusters) = (latches.edges(), latches.clusters());
-    let home = homes[r];
-    let width = clusters[home.cluster].as_slice().len();
-    let slave = LatchId::new(2 * home.cluster as u32 + 3);
-    let so_far = put_register_name(so_far, latches.netlist().design(), r, out);
-    let so_far = put(so_far, b": ", out);
-    let so_far = put_column(so_far, state.stored(slave), width, home.place, out);
-    put(so_far, b"\n", out)
 }

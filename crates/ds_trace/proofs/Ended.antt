@@ -1,7 +1,5 @@
 -- Windows and the end of a run are its text.
-use Rattle.std.proofs.Common.{◌≡◌, ◌∙◌, ℕ, ◌+◌, true, false, List, [], ◌∷◌, ◌++◌, length, codes}
-use Rattle.std.proofs.Common.{Option, None, Some, Result, Ok, Err, refl, ap, sym, subst, arith}
-use Rattle.std.proofs.Common.{add-zero, append_assoc}
+use Rattle.std.proofs.Common.{◌≡◌, ◌∙◌, ℕ, ◌+◌, true, false, List, [], ◌∷◌, ◌++◌, length, codes, Option, None, Some, Result, Ok, Err, refl, ap, sym, subst, arith, add-zero, append_assoc}
 use Rattle.std.specs.Prelude.{IfOk}
 use Rattle.std.specs.List.{flat_map}
 use Rattle.std.proofs.lemmas.List.{append-nil, length-map}
@@ -15,13 +13,12 @@ use Rattle.ds_design.specs.Circuit.{Circuit, data_nets, initial_row}
 use Rattle.ds_design.specs.Trace.{AreLines, IsTrace, end_line}
 use Rattle.ds_design.proofs.Windows.{lines_in_windows}
 use Rattle.ds_outside.specs.Writes.{GoesOn}
-use Rattle.ds_rows.proofs.Then.{goes_on, nothing}
+use Rattle.ds_outside.proofs.Then.{goes_on, nothing}
 use Rattle.ds_clocked.specs.Appends.{AppendsLines}
 use Rattle.ds_clocked.proofs.Turns.{whole_trace}
 use Rattle.ds_marked.specs.Log.{IsLog}
 use Rattle.ds_trace.proofs.Logged.{legal_events}
-use Rattle.ds_trace.specs.Logged.{HasLog, IsLogOf, IsLogText, IsLonger, Listed}
-use Rattle.ds_trace.specs.Logged.{WritesLog}
+use Rattle.ds_trace.specs.Logged.{HasLog, IsLogOf, IsLogText, IsLonger, Listed, WritesLog}
 use Rattle.ds_trace.specs.Ended.{AreWindows, IsKnownLog, IsSomeLog, WrittenWindow}
 use Rattle.ds_trace.specs.Laws.{EndSpellsRun, LogsGoOn, WindowsSpellRun}
 

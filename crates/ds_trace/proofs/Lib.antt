@@ -3,7 +3,6 @@ pub mod Gathered
 pub mod Turns
 pub mod Logged
 pub mod Summed
-pub mod Fired
 pub mod Ended
 pub mod Pieces
 pub mod Stops

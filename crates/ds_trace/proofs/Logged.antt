@@ -1,7 +1,5 @@
 -- The lines of firings, one by one.
-use Rattle.std.proofs.Common.{◌≡◌, ◌∙◌, ℕ, ◌+◌, ◌<◌, ◌≤◌, List, [], ◌∷◌, ◌++◌, length, get_or}
-use Rattle.std.proofs.Common.{codes, decimal, Option, Some, refl, ap, sym, subst, arith, inl}
-use Rattle.std.proofs.Common.{inr}
+use Rattle.std.proofs.Common.{◌≡◌, ◌∙◌, ℕ, ◌+◌, ◌<◌, ◌≤◌, List, [], ◌∷◌, ◌++◌, length, get_or, codes, decimal, Option, Some, refl, ap, sym, subst, arith, inl, inr}
 use Rattle.std.specs.Prelude.{All, IsSomeAnd, slice_get, slice_index}
 use Rattle.std.specs.Option.{option_map_or}
 use Rattle.std.proofs.Math.ListN.{set}
@@ -16,7 +14,7 @@ use Rattle.ds_marked.specs.declared.marked.Kind.TheVariants.{Dummy}
 use Rattle.ds_marked.proofs.Firings.{counted-same, counted-other}
 use Rattle.ds_marked.specs.Log.{IsEventText, IsLog, IsLogFrom, event_text, text_of_event}
 use Rattle.ds_marked.proofs.Logs.{logs_in_windows}
-use Rattle.ds_rows.specs.Log.{firing_text}
+use Rattle.ds_log.specs.Log.{firing_text}
 
 -- each event of a legal list is one of the graph
 pub legal_events : (g : Graph) (limit : ℕ) (count : ℕ → ℕ) (events : List ℕ)

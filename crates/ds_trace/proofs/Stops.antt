@@ -1,7 +1,5 @@
 -- What a stopped run left is written as its text.
-use Rattle.std.proofs.Common.{◌≡◌, ◌∙◌, ℕ, ◌*◌, ◌<◌, ◌≤◌, Bool, true, false}
-use Rattle.std.proofs.Common.{List, ◌++◌, get_or, length, Option, None, Some}
-use Rattle.std.proofs.Common.{refl, ap, sym, subst, arith, Result, Ok, Err}
+use Rattle.std.proofs.Common.{◌≡◌, ◌∙◌, ℕ, ◌*◌, ◌<◌, ◌≤◌, Bool, true, false, List, ◌++◌, get_or, length, Option, None, Some, refl, ap, sym, subst, arith, Result, Ok, Err}
 use Rattle.std.specs.Prelude.{min, slice_index_or, OnOk}
 use Rattle.std.specs.List.{flat_map, range_with_len}
 use Rattle.std.proofs.lemmas.List.{get_or_default, length-map}
@@ -12,12 +10,12 @@ use Rattle.ds_latch.specs.Firing.{State}
 use Rattle.ds_latch.specs.Headline.{values_stored}
 use Rattle.ds_latch.specs.Node.{Slave, Split, members, number_of}
 use Rattle.ds_latch.specs.Plan.{Planned}
-use Rattle.ds_fire.proofs.Lawful.{range_agree}
-use Rattle.ds_rows.specs.Homes.{AreHomes, IsHome, no_home}
-use Rattle.ds_rows.specs.Log.{at_place, fired_line, stored_text}
+use Rattle.ds_latch.proofs.Spelt.{range_agree}
+use Rattle.ds_log.specs.Homes.{AreHomes, IsHome, no_home}
+use Rattle.ds_log.specs.Log.{at_place, fired_line, stored_text}
 use Rattle.ds_rows.specs.Nets.{register_of}
-use Rattle.ds_rows.specs.StateText.{IsStateText}
-use Rattle.ds_rows.specs.declared.homes.Home.{Home}
+use Rattle.ds_log.specs.StateText.{IsStateText}
+use Rattle.ds_log.specs.declared.homes.Home.{Home}
 use Rattle.ds_rule.specs.Rule.{tickets}
 use Rattle.ds_rule.proofs.PlaceLaws.{width-is}
 use Rattle.ds_fabric.specs.Showing.{IsFiredInOrder, Recorder}
@@ -28,8 +26,7 @@ use Rattle.ds_run.proofs.Fired.{records_store_as_fired_lem}
 use Rattle.ds_run.proofs.Firings.{records_are_legal_lem}
 use Rattle.ds_run.proofs.Records.{record_near, record_fired}
 use Rattle.ds_trace.specs.Ended.{IsKnownLog, IsLogPart}
-use Rattle.ds_trace.specs.Left.{HasWords, IsLogLeft, IsLeftOf, home_line}
-use Rattle.ds_trace.specs.Left.{AppendsLeft, AppendsLeftPart, homes_text}
+use Rattle.ds_trace.specs.Left.{HasWords, IsLogLeft, IsLeftOf, home_line, AppendsLeft, AppendsLeftPart, homes_text}
 use Rattle.ds_trace.specs.Logged.{Listed}
 use Rattle.ds_trace.specs.Stopped.{AppendsStopped, AppendsStoppedPart, IsLogBehind, IsStoppedText}
 use Rattle.ds_trace.specs.declared.left.Left.{Left}

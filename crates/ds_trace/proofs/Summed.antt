@@ -1,6 +1,5 @@
 -- What a run sums up to, turn by turn.
-use Rattle.std.proofs.Common.{◌≡◌, ◌∙◌, ℕ, ◌+◌, ◌^◌, ◌<◌, ◌≤◌, List, [], ◌++◌, length, get_or}
-use Rattle.std.proofs.Common.{Some, Result, Ok, refl, ap, sym, subst, arith, zero-add}
+use Rattle.std.proofs.Common.{◌≡◌, ◌∙◌, ℕ, ◌+◌, ◌^◌, ◌<◌, ◌≤◌, List, [], ◌++◌, length, get_or, Some, Result, Ok, refl, ap, sym, subst, arith, zero-add}
 use Rattle.std.proofs.lemmas.List.FromFn.{sum_by-map-range_with_len_more}
 use Rattle.ds_base.specs.Values.{Row}
 use Rattle.ds_cover.specs.Cover.{values_at}
@@ -10,7 +9,7 @@ use Rattle.ds_latch.specs.Plan.{Planned}
 use Rattle.ds_design.specs.Run.{IsRun}
 use Rattle.ds_design.specs.Trace.{end_line, trace_line}
 use Rattle.ds_outside.specs.Writes.{GoesOn}
-use Rattle.ds_rows.proofs.Then.{with_text}
+use Rattle.ds_outside.proofs.Then.{with_text}
 use Rattle.ds_clocked.specs.Loop.{IsWrittenTo}
 use Rattle.ds_clocked.proofs.Turns.{last_turn, no_turn, whole_trace}
 use Rattle.ds_demo.specs.Fold.{Folded, nothing, fold_after}

@@ -10,7 +10,7 @@ use Rattle.ds_design.specs.Run.{row_at}
 use Rattle.ds_design.specs.Trace.{trace_line}
 use Rattle.ds_design.specs.Valuation.{IsValuation}
 use Rattle.ds_outside.specs.Writes.{GoesOn}
-use Rattle.ds_rows.proofs.Then.{with_text}
+use Rattle.ds_outside.proofs.Then.{with_text}
 use Rattle.ds_clocked.specs.Loop.{IsWrittenTo}
 use Rattle.ds_clocked.proofs.Turns.{one_turn}
 use Rattle.ds_rule.specs.Words.{node_values as stored_at}

@@ -10,10 +10,10 @@ use Rattle.ds_latch.specs.Plan.{Planned}
 use Rattle.ds_outside.specs.Fault.{Rose}
 use Rattle.ds_outside.specs.Written.{appended, AppendsPart}
 use Rattle.ds_outside.specs.Writes.{Writes}
-use Rattle.ds_rows.specs.Homes.{AreHomes, no_home}
-use Rattle.ds_rows.specs.Log.{at_place, fired_line, stored_text}
+use Rattle.ds_log.specs.Homes.{AreHomes, no_home}
+use Rattle.ds_log.specs.Log.{at_place, fired_line, stored_text}
 use Rattle.ds_rows.specs.Nets.{register_of}
-use Rattle.ds_rows.specs.declared.homes.Home.{Home}
+use Rattle.ds_log.specs.declared.homes.Home.{Home}
 use Rattle.ds_rule.specs.Rule.{tickets}
 use Rattle.ds_rule.specs.Words.{width}
 use Rattle.ds_fabric.specs.Showing.{IsFiredInOrder, Recorder}

@@ -6,7 +6,7 @@ use Rattle.ds_base.specs.Values.{Row}
 use Rattle.ds_marked.specs.Graph.{Graph, IsLegal}
 use Rattle.ds_latch.specs.Plan.{Planned}
 use Rattle.ds_outside.specs.Written.{appended, AppendsPart}
-use Rattle.ds_rows.specs.StateText.{IsStateText}
+use Rattle.ds_log.specs.StateText.{IsStateText}
 use Rattle.ds_trace.specs.Logged.{IsLogText}
 
 -- what stands behind the state: where a log is wanted that of these firings, else nothing

@@ -1,10 +1,5 @@
-//! What a run writes: put together from its windows, and read again.
-ghost use Rattle.ds_trace.specs.Laws.{EndSpellsRun, LoggedIsFired, LogsGoOn, WindowsSpellRun};
-
-/// What a run with its log writes is read as a log and fired to its end.
-pub fn logged_is_fired()
-    ensures { LoggedIsFired }
-{}
+//! What a run writes, put together from its windows.
+ghost use Rattle.ds_trace.specs.Laws.{EndSpellsRun, LogsGoOn, WindowsSpellRun};
 
 /// A log that takes window after window is the log of all their turns.
 pub fn logs_go_on()

@@ -7,9 +7,9 @@
 //! writes what the registers have stored by then, which is what firing stores by the log. Each
 //! takes all memory before its first byte. `sum_run` gives the number of ones in the outputs and
 //! the sum of the trace, and keeps one line at a time. What is written and summed is that of the
-//! clocked run, whatever the workers do; nothing is promised of time. `laws`: windows, one after
-//! another, are the text of the run, and what is written with a log is read as a log and fired to
-//! its end.
+//! clocked run, whatever the workers do; nothing is promised of time. By the laws windows, one
+//! after another, are the text of the run; `ds_laws` says that what is written with a log is read
+//! as one.
 #![tactic(auto)]
 
 mod end;

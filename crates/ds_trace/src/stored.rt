@@ -3,7 +3,7 @@ ghost use Rattle.std.specs.Prelude.{◌≡◌, ◌+◌, ◌*◌, ◌<◌, ◌≤
 ghost use Rattle.std.specs.List.{range_with_len};
 ghost use Rattle.ds_design.specs.Trace.{values_text};
 ghost use Rattle.ds_outside.specs.Writes.{GoesOn};
-ghost use Rattle.ds_rows.specs.Log.{at_place, value_words};
+ghost use Rattle.ds_log.specs.Log.{at_place, value_words};
 ghost use Rattle.ds_rule.specs.Run.{closing};
 ghost use Rattle.ds_rule.specs.Rule.{tickets};
 ghost use Rattle.ds_rule.specs.Words.{width};
@@ -11,8 +11,9 @@ ghost use Rattle.ds_trace.specs.Latched.{rows_stored, word_values};
 
 use ds_base::LatchId;
 use ds_fabric::Record;
+use ds_log::put_stored;
 use ds_outside::{Sink, WriteFault};
-use ds_rows::{put, put_stored};
+use ds_rows::put;
 
 /// Writes the value at a place of each row that a latch has stored, unless a write has failed;
 /// where there is no row, `-`.

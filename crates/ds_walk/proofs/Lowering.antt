@@ -1,19 +1,11 @@
 -- Sums that are lowered, one step behind another.
-use Rattle.std.proofs.Common.{◌∙◌, ℕ, List, refl, Bool, Option}
+use Rattle.std.proofs.Common.{◌∙◌, ℕ, List, Bool, Option}
 use Rattle.std.specs.Prelude.{Contains}
 use Rattle.std.proofs.lemmas.List.Elements.{All-contains}
 use Rattle.ds_marked.specs.declared.marked.Arc.{Arc}
-use Rattle.ds_walk.specs.Lowered.{AreSumsBounded, AreLowered, IsLowering}
+use Rattle.ds_walk.specs.Lowered.{AreLowered, IsLowering}
 
 module _ (known : List Arc) where
-  pub lowered_none : (sums : List (Option ℕ)) → AreSumsBounded sums → AreLowered known sums sums
-  lowered_none sums bounded = record {
-    size = refl;
-    bounded = bounded;
-    walks = λ arcs from all w. w;
-    start = λ from e. e;
-  }
-
   pub lowered_both : (old mid new : List (Option ℕ)) → AreLowered known old mid → AreLowered known mid new → AreLowered known old new
   lowered_both old mid new s t = record {
     size = t.size ∙ s.size;

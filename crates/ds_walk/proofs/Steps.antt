@@ -2,7 +2,7 @@
 use Rattle.std.proofs.Common.{◌≡◌, ◌≢◌, ◌∙◌, ◌⊎◌, ◌<◌, ◌≤◌, ◌+◌, ◌*◌, ◌/◌, ℕ, List, length, get_or, inl, inr, arith, subst, sym, refl, ap, sum, get_or-set_same, get_or-set_other, length-set, Bool, true, false, bit_or}
 use Rattle.std.proofs.Math.ListN.{set}
 use Rattle.std.specs.Int.{bit_at}
-use Rattle.std.specs.Prelude.{Contains, All}
+use Rattle.std.specs.Prelude.{Contains}
 use Rattle.std.proofs.lemmas.Bool.{cases_eq, false≢true}
 use Rattle.std.proofs.lemmas.List.{set-get_or}
 use Rattle.std.proofs.lemmas.List.Sums.{sum_by-set}
@@ -63,17 +63,6 @@ pub place_lt : (n levels l v : ℕ) → l < levels → v < n → l * n + v < lev
 place_lt n levels l v low near = let h : l * n + v < n * levels = mul-add-lt l n v levels low near in omega (arith, h)
 
 module _ (arcs : List Arc) (events levels : ℕ) where
-  -- nothing is taken
-  pub step_none : (P : List ℕ → Type 0) (masks : List ℕ) → P masks → IsSwept arcs events levels P masks masks false
-  step_none P masks p = record {
-    size = refl;
-    walks = λ s w. w;
-    kept = λ i b h. h;
-    more = λ e. absurd (false≢true e);
-    same = λ e. refl;
-    stays = λ e. p;
-  }
-
   -- one step behind another
   pub step_both : (P Q R : List ℕ → Type 0) (old mid new : List ℕ) (a b : Bool) → (P new → Q new → R new)
       → IsSwept arcs events levels P old mid a → IsSwept arcs events levels Q mid new b → IsSwept arcs events levels R old new (one_of a b)

@@ -5,8 +5,8 @@ ghost use Rattle.ds_design.specs.Run.{row_at};
 ghost use Rattle.ds_latch.specs.Node.{Node, In, Master, Slave, IsNode, number_of, nodes, closing};
 ghost use Rattle.ds_latch.specs.Firing.{State as DefinedState, IsSettled};
 ghost use Rattle.ds_latch.specs.Transparent.{IsOpen, IsShowing};
-ghost use Rattle.ds_opening.specs.Taken.{TakesFrom};
-ghost use Rattle.ds_opening.specs.Woven.{IsSettlingAt};
+ghost use Rattle.ds_cones.specs.Taken.{TakesFrom};
+ghost use Rattle.ds_cones.specs.Cones.{IsSettlingAt};
 ghost use Rattle.ds_fire.specs.Snapshot.{Shows, split_of, count_of, held_row, is_open, width_of};
 
 use super::State;

@@ -1,4 +1,4 @@
-use Rattle.ds_rows.proofs.Then.{goes_on}
+use Rattle.ds_outside.proofs.Then.{goes_on}
 use Rattle.ds_app.proofs.demo.put_summary.Goals as goal
 
 pub returns : goal.returns

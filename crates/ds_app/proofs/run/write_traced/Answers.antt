@@ -21,7 +21,7 @@ use Rattle.ds_trace.specs.Logged.{IsLogOf, LogGrows}
 use Rattle.ds_trace.proofs.Ended.{logs_go_on}
 use Rattle.ds_app.specs.RunStage.{traced_stage}
 use Rattle.ds_app.proofs.RunEnds.{few_vectors, run_end_of, run_ends_part, run_ends_whole, run_spells}
-use Rattle.ds_app.proofs.WindowEnds.{is_there, more_here, stops_here}
+use Rattle.ds_solo.proofs.WindowEnds.{is_there, more_here, stops_here}
 use Rattle.ds_app.proofs.run.write_traced.Goals as goal
 
 pub new-reader-requires : goal.new-reader-requires

@@ -1,7 +1,7 @@
 use Rattle.std.proofs.Common.{◌∙◌, ap, sym}
 use Rattle.ds_marked.specs.declared.marked.Arc.{Arc}
 use Rattle.ds_marked.specs.Log.{text_of_event}
-use Rattle.ds_rows.proofs.Then.{goes_on, with_text}
+use Rattle.ds_outside.proofs.Then.{goes_on, with_text}
 use Rattle.ds_astg.proofs.Texts.{arc_is, name_of_ends, name_of_place}
 use Rattle.ds_astg.proofs.entry.put_name.Goals as goal
 

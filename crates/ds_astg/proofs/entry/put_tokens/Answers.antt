@@ -1,5 +1,5 @@
 use Rattle.std.proofs.Common.{◌∙◌, ◌≤◌, arith}
-use Rattle.ds_rows.proofs.Then.{goes_on, nothing, with_text}
+use Rattle.ds_outside.proofs.Then.{goes_on, nothing, with_text}
 use Rattle.ds_astg.proofs.Texts.{few_tokens, many_tokens}
 use Rattle.ds_astg.proofs.entry.put_tokens.Goals as goal
 

@@ -1,5 +1,5 @@
 use Rattle.std.proofs.Common.{arith, sym, ◌∙◌, ◌≡◌, ap}
-use Rattle.ds_rows.proofs.Then.{nothing, with_text}
+use Rattle.ds_outside.proofs.Then.{nothing, with_text}
 use Rattle.ds_astg.specs.Pieces.{all_below}
 use Rattle.ds_astg.specs.Text.{arc_text}
 use Rattle.ds_astg.proofs.Pieces.{one_more}

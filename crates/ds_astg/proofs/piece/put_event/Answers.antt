@@ -1,4 +1,4 @@
-use Rattle.ds_rows.proofs.Then.{goes_on, with_text}
+use Rattle.ds_outside.proofs.Then.{goes_on, with_text}
 use Rattle.ds_astg.proofs.piece.put_event.Goals as goal
 
 pub returns : goal.returns

@@ -1,6 +1,6 @@
 use Rattle.std.proofs.Common.{◌∙◌, codes, sym}
 use Rattle.std.proofs.lemmas.Bool.{false≢true}
-use Rattle.ds_rows.proofs.Then.{goes_on, nothing, with_text}
+use Rattle.ds_outside.proofs.Then.{goes_on, nothing, with_text}
 use Rattle.ds_astg.specs.Text.{signals_text}
 use Rattle.ds_astg.proofs.Texts.{no_further, some_further}
 use Rattle.ds_astg.proofs.signal_lines.put_further.Goals as goal

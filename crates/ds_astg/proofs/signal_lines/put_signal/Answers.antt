@@ -1,6 +1,6 @@
 use Rattle.std.proofs.Common.{ap, sym}
 use Rattle.ds_marked.specs.declared.marked.Kind.{Kind}
-use Rattle.ds_rows.proofs.Then.{goes_on, nothing, with_text}
+use Rattle.ds_outside.proofs.Then.{goes_on, nothing, with_text}
 use Rattle.ds_astg.specs.Text.{rising}
 use Rattle.ds_astg.proofs.signal_lines.put_signal.Goals as goal
 

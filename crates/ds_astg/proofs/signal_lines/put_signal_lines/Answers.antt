@@ -1,6 +1,6 @@
 use Rattle.std.proofs.Common.{List, ap, codes}
 use Rattle.ds_marked.specs.declared.marked.Event.{Event}
-use Rattle.ds_rows.proofs.Then.{goes_on, with_text}
+use Rattle.ds_outside.proofs.Then.{goes_on, with_text}
 use Rattle.ds_astg.specs.Pieces.{line_with}
 use Rattle.ds_astg.specs.Text.{signals_text}
 use Rattle.ds_astg.proofs.signal_lines.put_signal_lines.Goals as goal

@@ -1,5 +1,5 @@
 use Rattle.std.proofs.Common.{sym}
-use Rattle.ds_rows.proofs.Then.{goes_on, with_text}
+use Rattle.ds_outside.proofs.Then.{goes_on, with_text}
 use Rattle.ds_astg.proofs.Texts.{one_signal_more}
 use Rattle.ds_astg.proofs.signal_lines.put_signals.Goals as goal
 

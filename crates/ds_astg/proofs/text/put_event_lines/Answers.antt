@@ -1,5 +1,5 @@
 use Rattle.std.proofs.Common.{ap}
-use Rattle.ds_rows.proofs.Then.{with_text}
+use Rattle.ds_outside.proofs.Then.{with_text}
 use Rattle.ds_astg.specs.Text.{event_line}
 use Rattle.ds_astg.proofs.Pieces.{one_more}
 use Rattle.ds_astg.proofs.text.put_event_lines.Goals as goal

@@ -1,5 +1,5 @@
 use Rattle.ds_outside.proofs.Handing.{handed_on}
-use Rattle.ds_clocked.proofs.Behind.{begun}
+use Rattle.ds_outside.proofs.Begun.{begun}
 use Rattle.ds_clocked.proofs.run.lines_behind.Goals as goal
 
 pub returns-clause-ok : goal.returns-clause-ok

@@ -5,7 +5,7 @@ use Rattle.ds_design.specs.Circuit.{Circuit, data_nets}
 use Rattle.ds_design.specs.Valuation.{IsValuation}
 use Rattle.ds_design.specs.Trace.{trace_line}
 use Rattle.ds_design.specs.declared.design.Register.{Register}
-use Rattle.ds_rows.proofs.Then.{with_text}
+use Rattle.ds_outside.proofs.Then.{with_text}
 use Rattle.ds_clocked.specs.Loop.{IsWrittenTo}
 use Rattle.ds_clocked.proofs.Turns.{no_turn, one_turn, last_turn}
 use Rattle.ds_clocked.proofs.run.write_turns.Goals as goal

@@ -5,7 +5,7 @@ use Rattle.ds_design.specs.Circuit.{Circuit}
 use Rattle.ds_latch.specs.Node.{In, Slave, nodes, nets_of}
 use Rattle.ds_fire.specs.Feeds.{AreSourceNetsHoused}
 use Rattle.ds_fire.proofs.Fed.{housed_here, housed_kept, homes_from}
-use Rattle.ds_opening.proofs.Woven.{nets_within}
+use Rattle.ds_cones.proofs.NodeCones.{nets_within}
 use Rattle.ds_fire.proofs.Opened.{bits_are}
 use Rattle.ds_fire.proofs.homes.homes_of.Goals as goal
 

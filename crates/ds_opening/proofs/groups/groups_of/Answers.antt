@@ -1,5 +1,4 @@
-use Rattle.std.proofs.Common.{◌≡◌, ◌∙◌, ◌<◌, ◌+◌, ℕ, zero, suc, List, ap, arith, get_or, length, subst, sym}
-use Rattle.std.proofs.Common.{Err, Ok, Result}
+use Rattle.std.proofs.Common.{◌≡◌, ◌∙◌, ◌<◌, ◌+◌, ℕ, zero, suc, List, ap, arith, get_or, length, subst, sym, Err, Ok, Result}
 use Rattle.std.specs.Prelude.{All, IfOk}
 use Rattle.std.proofs.lemmas.List.FromFn.{get_or-map-range_with_len, length-map-range_with_len}
 use Rattle.ds_design.specs.Circuit.{Circuit}
@@ -10,11 +9,11 @@ use Rattle.ds_latch.specs.Node.{In, IsNode, Master, Node, Out, Slave, Split, net
 use Rattle.ds_latch.specs.Plan.{IsSplit}
 use Rattle.ds_latch.proofs.Events.{node_at as node_with}
 use Rattle.ds_settle.specs.Cone.{IsCone, Parts as Cone}
+use Rattle.ds_cones.specs.Cones.{AreCones}
+use Rattle.ds_cones.proofs.NodeCones.{nets_within}
 use Rattle.ds_opening.specs.Foreseen.{node_at}
 use Rattle.ds_opening.specs.Noted.{AreConeGroups, all_learnt_nets, learnt_nets}
-use Rattle.ds_opening.specs.Woven.{AreCones}
 use Rattle.ds_opening.proofs.ForeseenRows.{node_by_number}
-use Rattle.ds_opening.proofs.Woven.{nets_within}
 use Rattle.ds_opening.proofs.groups.groups_of.Goals as goal
 
 -- each of the cones is one of some nets

@@ -3,9 +3,9 @@ use Rattle.std.specs.List.{range_with_len}
 use Rattle.std.proofs.lemmas.List.FromFn.{map-range_with_len_more}
 use Rattle.ds_latch.specs.Node.{Node, Split, IsNode, nets_of, nodes, number_of}
 use Rattle.ds_latch.proofs.Events.{node_at as node_with}
+use Rattle.ds_cones.proofs.NodeCones.{lent}
 use Rattle.ds_opening.specs.Foreseen.{node_at}
 use Rattle.ds_opening.specs.Noted.{learnt_nets}
-use Rattle.ds_opening.proofs.Filled.{lent}
 use Rattle.ds_opening.proofs.ForeseenRows.{node_by_number}
 use Rattle.ds_opening.proofs.groups.learnt_of.Goals as goal
 

@@ -2,7 +2,7 @@ use Rattle.std.proofs.Common.{◌≡◌, ◌≢◌, ◌⊎◌, ◌%◌, ℕ, inl
 use Rattle.std.specs.Prelude.{IsTrue, vec_capacity, vec_len}
 use Rattle.ds_base.specs.Word.{count_of_words}
 use Rattle.ds_latch.specs.Node.{Node, In, Out, Master, Slave, nets_of, number_of}
-use Rattle.ds_opening.specs.Settled.{IsSettling}
+use Rattle.ds_cones.specs.Settled.{IsSettling}
 use Rattle.ds_opening.specs.Learnt.{is_learnt}
 use Rattle.ds_opening.proofs.LearntRows.{master_unlearnt}
 use Rattle.ds_opening.proofs.Slaves.{slave_reads, slave_room, slave_takes}

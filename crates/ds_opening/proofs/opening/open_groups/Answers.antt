@@ -4,13 +4,12 @@ use Rattle.ds_base.specs.Values.{Row}
 use Rattle.ds_cover.specs.Cover.{values_at}
 use Rattle.ds_latch.specs.Node.{IsNode, Node, Split, nets_of, nodes, number_of}
 use Rattle.ds_latch.proofs.Counts.{number_below}
+use Rattle.ds_cones.proofs.NodeCones.{lent, nets_within}
 use Rattle.ds_opening.specs.Noted.{AreRowsLearnt}
 use Rattle.ds_opening.specs.Packed.{packed}
 use Rattle.ds_opening.specs.Woven.{value_taken}
-use Rattle.ds_opening.proofs.Filled.{lent}
 use Rattle.ds_opening.proofs.Noting.{grouped, has_reads, node_slots, numbers, reads, settled_is, value}
 use Rattle.ds_opening.proofs.Stayed.{reads_on}
-use Rattle.ds_opening.proofs.Woven.{nets_within}
 use Rattle.ds_opening.proofs.opening.open_groups.Goals as goal
 
 pub learn_rows-requires-clause-slots : goal.learn_rows-requires-clause-slots

@@ -4,8 +4,7 @@ use Rattle.ds_design.specs.Circuit.{Circuit}
 use Rattle.ds_groups.specs.Groups.{Grouping, group_of, tables_in}
 use Rattle.ds_scratch.specs.Scratch.{Kept, Memory, Remembers}
 use Rattle.ds_settle.specs.Cone.{nets_of_tables}
-use Rattle.ds_opening.specs.Noted.{FindInputs, AreGroupSlots, AreGroupsBefore, IsAsKnown}
-use Rattle.ds_opening.specs.Noted.{IsLearnt}
+use Rattle.ds_opening.specs.Noted.{FindInputs, AreGroupSlots, AreGroupsBefore, IsAsKnown, IsLearnt}
 use Rattle.ds_opening.proofs.Learnt.{groups_more, rest_finds}
 use Rattle.ds_opening.proofs.Stayed.{reads_on}
 use Rattle.ds_opening.proofs.opening.set_groups.Goals as goal

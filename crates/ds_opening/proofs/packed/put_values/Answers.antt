@@ -1,8 +1,7 @@
 use Rattle.std.proofs.Common.{◌∙◌, ◌<◌, ◌*◌, ℕ, arith, length, subst, sym}
 use Rattle.std.specs.Prelude.{All}
-use Rattle.ds_opening.proofs.Packs.{all_learnt, learns_part, others_part, part_within}
+use Rattle.ds_opening.proofs.Packs.{all_learnt, learns_part, others_part, part_within, word_is_number}
 use Rattle.std.proofs.lemmas.List.{take_all}
-use Rattle.ds_opening.proofs.Packs.{word_is_number}
 use Rattle.ds_opening.proofs.packed.put_values.Goals.{then-not-put_word, else-not-put_word}
 use Rattle.ds_opening.proofs.packed.put_values.Goals as goal
 

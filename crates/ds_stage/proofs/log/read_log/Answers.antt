@@ -3,8 +3,7 @@ use Rattle.std.proofs.Common.{ℕ, List, subst, sym}
 use Rattle.ds_outside.specs.Held.{FrontIsHeld}
 use Rattle.ds_stage.specs.Stage.{OfFile, then_stage}
 use Rattle.ds_stage.specs.Stages.{text_stage}
-use Rattle.ds_stage.specs.ReplayStage.{fired_stage}
-use Rattle.ds_stage.specs.Kept.{kept_after, kept_stage}
+use Rattle.ds_stage.specs.ReplayStage.{fired_stage, kept_after, kept_stage}
 use Rattle.ds_stage.specs.Ends.{Never, RoseIn}
 use Rattle.ds_stage.proofs.Stages.{widened}
 use Rattle.ds_stage.proofs.LogStages.{kept_wider}

@@ -1,6 +1,6 @@
 use Rattle.std.proofs.Common.{ap, inl, refl}
 use Rattle.std.specs.Prelude.{codes}
-use Rattle.ds_rows.proofs.Then.{goes_on, with_text}
+use Rattle.ds_outside.proofs.Then.{goes_on, with_text}
 use Rattle.ds_stage.specs.Report.{count_line, report_text}
 use Rattle.ds_stage.proofs.report.write_report.Goals as goal
 

@@ -1,8 +1,8 @@
 use Rattle.std.proofs.Common.{◌++◌, refl}
 use Rattle.ds_design.specs.Trace.{end_line}
 use Rattle.ds_outside.proofs.Handing.{handed_on}
-use Rattle.ds_clocked.proofs.Behind.{begun}
-use Rattle.ds_rows.proofs.Then.{after_ok, goes_on}
+use Rattle.ds_outside.proofs.Begun.{begun}
+use Rattle.ds_outside.proofs.Then.{after_ok, goes_on}
 use Rattle.ds_trace.proofs.Ended.{known_some}
 use Rattle.ds_trace.proofs.end.end_behind.Goals as goal
 

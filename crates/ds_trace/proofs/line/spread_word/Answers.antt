@@ -1,5 +1,4 @@
-use Rattle.std.proofs.Common.{◌≡◌, ◌∙◌, ◌<◌, ◌+◌, ◌⊎◌, ◌∷◌, ℕ, List, [], length, get_or, drop}
-use Rattle.std.proofs.Common.{inl, inr, arith, ap, sym, subst, suc}
+use Rattle.std.proofs.Common.{◌≡◌, ◌∙◌, ◌<◌, ◌+◌, ◌⊎◌, ◌∷◌, ℕ, List, [], length, get_or, drop, inl, inr, arith, ap, sym, subst, suc}
 use Rattle.std.specs.Prelude.{Contains}
 use Rattle.std.proofs.Math.ListN.{set}
 use Rattle.std.proofs.Math.Seq.{drop-cons}

@@ -1,11 +1,10 @@
-use Rattle.std.proofs.Common.{◌≡◌, ◌∙◌, ◌<◌, ◌≤◌, ◌+◌, ◌++◌, ◌∷◌, ℕ, List, [], length, get_or, take}
-use Rattle.std.proofs.Common.{ap, sym, subst, arith}
+use Rattle.std.proofs.Common.{◌≡◌, ◌∙◌, ◌<◌, ◌≤◌, ◌+◌, ◌++◌, ◌∷◌, ℕ, List, [], length, get_or, take, ap, sym, subst, arith}
 use Rattle.std.specs.Prelude.{All, slice_index}
 use Rattle.std.proofs.lemmas.List.{get_or-set_same, length-set, length-take-le, take_more}
 use Rattle.ds_marked.specs.Graph.{Graph, counts_after}
 use Rattle.ds_marked.specs.Log.{IsLog}
-use Rattle.ds_rows.proofs.Then.{goes_on}
-use Rattle.ds_rows.specs.Log.{firing_text}
+use Rattle.ds_outside.proofs.Then.{goes_on}
+use Rattle.ds_log.specs.Log.{firing_text}
 use Rattle.ds_trace.proofs.Logged.{counts_room, counts_shown, log_more}
 use Rattle.ds_trace.proofs.log.write_log.Goals as goal
 

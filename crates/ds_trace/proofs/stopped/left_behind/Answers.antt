@@ -1,6 +1,6 @@
 use Rattle.ds_outside.proofs.Handing.{handed_on}
-use Rattle.ds_clocked.proofs.Behind.{begun}
-use Rattle.ds_rows.proofs.Then.{goes_on, with_text}
+use Rattle.ds_outside.proofs.Begun.{begun}
+use Rattle.ds_outside.proofs.Then.{goes_on, with_text}
 use Rattle.ds_trace.proofs.Stops.{text_is}
 use Rattle.ds_trace.proofs.stopped.left_behind.Goals as goal
 

@@ -1,9 +1,9 @@
 use Rattle.std.proofs.Common.{◌≡◌, ◌∙◌, ◌<◌, ◌*◌, ℕ, ap, arith, subst, sym}
 use Rattle.ds_design.specs.Trace.{values_text}
 use Rattle.ds_latch.specs.Node.{Slave, number_of}
-use Rattle.ds_rows.proofs.Then.{goes_on, with_text}
-use Rattle.ds_rows.specs.Log.{at_place}
-use Rattle.ds_rows.specs.declared.homes.Home.{Home}
+use Rattle.ds_outside.proofs.Then.{goes_on, with_text}
+use Rattle.ds_log.specs.Log.{at_place}
+use Rattle.ds_log.specs.declared.homes.Home.{Home}
 use Rattle.ds_rule.specs.Run.{Run}
 use Rattle.ds_rule.specs.Words.{width}
 use Rattle.ds_trace.specs.Latched.{rows_stored}

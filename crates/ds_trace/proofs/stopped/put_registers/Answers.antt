@@ -2,7 +2,7 @@ use Rattle.std.proofs.Common.{◌≡◌, ℕ, Ok, arith, length, subst, sym}
 use Rattle.std.specs.List.{flat_map, range_with_len}
 use Rattle.ds_control.proofs.Two.{flat_map_next}
 use Rattle.ds_outside.specs.Writes.{GoesOn}
-use Rattle.ds_rows.proofs.Then.{goes_on, nothing, with_text}
+use Rattle.ds_outside.proofs.Then.{goes_on, nothing, with_text}
 use Rattle.ds_trace.specs.Left.{home_line}
 use Rattle.ds_trace.proofs.stopped.put_registers.Goals as goal
 

@@ -1,8 +1,7 @@
-use Rattle.std.proofs.Common.{◌≡◌, ◌∙◌, ◌+◌, ℕ, List, length, map, take, ap, sym, arith}
-use Rattle.std.proofs.Common.{length-set}
+use Rattle.std.proofs.Common.{◌≡◌, ◌∙◌, ◌+◌, ℕ, List, length, map, take, ap, sym, arith, length-set}
 use Rattle.std.specs.List.{range_with_len}
 use Rattle.std.proofs.lemmas.List.{take_all, take_more_set}
-use Rattle.ds_rows.specs.Log.{value_words}
+use Rattle.ds_log.specs.Log.{value_words}
 use Rattle.ds_rule.specs.Run.{Run}
 use Rattle.ds_trace.specs.Latched.{word_values}
 use Rattle.ds_trace.proofs.Pieces.{words_more}

@@ -1,6 +1,6 @@
 use Rattle.std.proofs.Common.{◌≡◌, ◌+◌, length, map, take}
 use Rattle.std.specs.List.{range_with_len}
-use Rattle.ds_rows.specs.Log.{value_words}
+use Rattle.ds_log.specs.Log.{value_words}
 use Rattle.ds_trace.specs.Latched.{word_values}
 use Rattle.ds_trace.proofs.stored.gather.Given as goal
 

@@ -1,10 +1,9 @@
-use Rattle.std.proofs.Common.{◌≡◌, ◌∙◌, ◌+◌, ◌/◌, ◌<◌, ◌≤◌, ◌++◌, ℕ, List, length, map, take}
-use Rattle.std.proofs.Common.{drop, ap, sym, arith}
+use Rattle.std.proofs.Common.{◌≡◌, ◌∙◌, ◌+◌, ◌/◌, ◌<◌, ◌≤◌, ◌++◌, ℕ, List, length, map, take, drop, ap, sym, arith}
 use Rattle.std.specs.List.{range_with_len}
 use Rattle.std.proofs.lemmas.List.{length-take-le, take_at}
 use Rattle.ds_design.specs.Trace.{value_text, values_text}
-use Rattle.ds_rows.specs.Log.{at_place, value_words}
-use Rattle.ds_rows.proofs.Then.{goes_on, nothing, with_text}
+use Rattle.ds_log.specs.Log.{at_place, value_words}
+use Rattle.ds_outside.proofs.Then.{goes_on, nothing, with_text}
 use Rattle.ds_rule.specs.Run.{Run}
 use Rattle.ds_rule.specs.Words.{node_values}
 use Rattle.ds_trace.specs.Latched.{word_values}

@@ -5,8 +5,8 @@ use Rattle.ds_cover.specs.Cover.{values_at}
 use Rattle.ds_latch.specs.Firing.{IsSettled}
 use Rattle.ds_latch.specs.Node.{Node, Split, IsNode, nets_of, nodes, number_of}
 use Rattle.ds_latch.proofs.Counts.{number_below}
-use Rattle.ds_opening.specs.Woven.{IsSettlingAt}
-use Rattle.ds_opening.proofs.Woven.{nets_within}
+use Rattle.ds_cones.specs.Cones.{IsSettlingAt}
+use Rattle.ds_cones.proofs.NodeCones.{nets_within}
 use Rattle.ds_fire.specs.Fired.{IsSnapshotSound}
 use Rattle.ds_fire.specs.Snapshot.{Snapshot, split_of, held_row}
 use Rattle.ds_fire.specs.Turn.{IsSettledOn}

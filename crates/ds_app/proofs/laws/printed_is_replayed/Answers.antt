@@ -1,7 +1,0 @@
-use Rattle.ds_netlist.proofs.Refused.{faults_are_refused_lem}
-use Rattle.ds_split.proofs.OneClustering.{one_clustering_lem}
-use Rattle.ds_app.proofs.Replayed.{printed_is_replayed}
-use Rattle.ds_app.proofs.laws.printed_is_replayed.Goals as goal
-
-pub returns : goal.returns
-returns c = printed_is_replayed faults_are_refused_lem one_clustering_lem

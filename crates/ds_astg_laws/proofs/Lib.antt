@@ -1,0 +1,10 @@
+pub mod Entries
+pub mod Written
+pub mod Names
+pub mod Built
+pub mod EventLines
+pub mod Runs
+pub mod PlaceLines
+pub mod EntryLine
+pub mod Whole
+pub mod Lines

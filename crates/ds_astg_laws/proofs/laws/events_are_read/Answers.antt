@@ -1,0 +1,5 @@
+use Rattle.ds_astg_laws.proofs.Written.{events_are_read}
+use Rattle.ds_astg_laws.proofs.laws.events_are_read.Goals as goal
+
+pub returns : goal.returns
+returns c = events_are_read

@@ -1,0 +1,4 @@
+-- In the order in which to read.
+pub mod Written
+pub mod Laws
+pub mod Worked

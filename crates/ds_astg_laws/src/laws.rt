@@ -1,0 +1,49 @@
+//! Laws of the definitions, each the contract of a function that does nothing.
+ghost use Rattle.ds_astg_laws.specs.Laws.{EndsAreRead, EventsAreRead, PlacesAreRead, TokensAreRead};
+ghost use Rattle.ds_astg_laws.specs.Written.{WrittenIsRead, WrittenTextIsRead};
+ghost use Rattle.ds_astg_laws.specs.Worked.{GraphFaultsAreWorked, GraphsAreWorked, ToggleIsWorked};
+
+/// The toggle's graph as it is written stands for its graph.
+pub fn toggle_is_worked()
+    ensures { ToggleIsWorked }
+{}
+
+/// Texts whose graphs are worked by hand.
+pub fn graphs_are_worked()
+    ensures { GraphsAreWorked }
+{}
+
+/// Texts with each kind of fault, worked by hand.
+pub fn faults_are_worked()
+    ensures { GraphFaultsAreWorked }
+{}
+
+/// A signal with a sign, as it is written, is read as its event.
+pub fn events_are_read()
+    ensures { EventsAreRead }
+{}
+
+/// The name of an arc's own place, as it is written, is read as a place.
+pub fn places_are_read()
+    ensures { PlacesAreRead }
+{}
+
+/// An entry with its tokens, as it is written, is read as its place and its tokens.
+pub fn tokens_are_read()
+    ensures { TokensAreRead }
+{}
+
+/// Two events between brackets, as they are written, are read as the place between them.
+pub fn ends_are_read()
+    ensures { EndsAreRead }
+{}
+
+/// The lines that a graph is written as stand for it.
+pub fn written_is_read()
+    ensures { WrittenIsRead }
+{}
+
+/// The text that a graph is written as stands for it, where its lines are such as are printed.
+pub fn written_text_is_read()
+    ensures { WrittenTextIsRead }
+{}

@@ -1,0 +1,5 @@
+pub mod Clean
+pub mod Heads
+pub mod InOrder
+pub mod InParts
+pub mod Printed

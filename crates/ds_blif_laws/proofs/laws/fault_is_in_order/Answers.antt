@@ -1,0 +1,5 @@
+use Rattle.ds_blif_laws.proofs.InOrder.{in_order}
+use Rattle.ds_blif_laws.proofs.laws.fault_is_in_order.Goals as goal
+
+pub returns : goal.returns
+returns c = in_order

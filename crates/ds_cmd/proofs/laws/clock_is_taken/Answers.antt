@@ -1,5 +1,0 @@
-use Rattle.ds_cmd.proofs.Taken.{clock_taken}
-use Rattle.ds_cmd.proofs.laws.clock_is_taken.Goals as goal
-
-pub returns : goal.returns
-returns c = clock_taken

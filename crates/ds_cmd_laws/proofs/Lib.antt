@@ -1,0 +1,6 @@
+pub mod Taken
+pub mod Refused
+pub mod TakenGraph
+pub mod TakenPeriod
+pub mod TakenNumbers
+pub mod TakenReplay

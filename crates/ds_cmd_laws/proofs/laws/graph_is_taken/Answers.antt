@@ -1,0 +1,11 @@
+use Rattle.ds_cmd_laws.proofs.Taken.{graph_taken, graph_with_mode, graph_with_shake}
+use Rattle.ds_cmd_laws.proofs.laws.graph_is_taken.Goals as goal
+
+pub returns-clause-each : goal.returns-clause-each
+returns-clause-each c = graph_taken
+
+pub returns-clause-clusters : goal.returns-clause-clusters
+returns-clause-clusters c = graph_with_mode
+
+pub returns-clause-shake : goal.returns-clause-shake
+returns-clause-shake c = graph_with_shake

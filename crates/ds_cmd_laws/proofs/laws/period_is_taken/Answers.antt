@@ -1,0 +1,8 @@
+use Rattle.ds_cmd_laws.proofs.TakenPeriod.{period_taken, period_with_mode}
+use Rattle.ds_cmd_laws.proofs.laws.period_is_taken.Goals as goal
+
+pub returns-clause-each : goal.returns-clause-each
+returns-clause-each c = period_taken
+
+pub returns-clause-clusters : goal.returns-clause-clusters
+returns-clause-clusters c = period_with_mode

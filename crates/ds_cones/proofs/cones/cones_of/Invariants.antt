@@ -1,0 +1,13 @@
+use Rattle.std.proofs.Common.{◌≡◌, ◌<◌, ◌+◌, length, get_or}
+use Rattle.ds_latch.specs.Node.{Node, IsNode, nets_of}
+use Rattle.ds_settle.specs.Cone.{IsCone, Parts}
+use Rattle.ds_cones.specs.Settled.{IsSettling}
+use Rattle.ds_cones.specs.Cones.{cone_place}
+use Rattle.ds_cones.proofs.cones.cones_of.Given as goal
+
+abbrev pub invariant-loop-i : goal.invariant-loop-i
+invariant-loop-i l = record {
+  same : l.finder ≡ l.latches.circuit;
+  one_each : length l.cones.items ≡ l.i + 1;
+  each : (n : Node) → IsNode l.latches n → IsSettling n → cone_place n < l.i + 1 → (d : Parts) → IsCone l.latches.circuit (nets_of l.latches n) (get_or l.cones.items (cone_place n) d);
+}

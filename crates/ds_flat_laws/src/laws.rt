@@ -1,0 +1,19 @@
+//! Laws of the definitions, each the contract of a function that does nothing.
+ghost use Rattle.ds_flat_laws.specs.InCopies.{FlatDesignsAreOfCopies};
+ghost use Rattle.ds_flat_laws.specs.Laws.{FlatDesignsAreInRange};
+ghost use Rattle.ds_flat_laws.specs.Worked.{FlatDesignsAreWorked};
+
+/// Each number in the flat design of well formed models names what is there.
+pub fn flat_designs_are_in_range()
+    ensures { FlatDesignsAreInRange }
+{}
+
+/// The nets, tables and registers of the flat design are those of the copies, each once, in order.
+pub fn flat_designs_are_of_copies()
+    ensures { FlatDesignsAreOfCopies }
+{}
+
+/// Short lists of models, worked by hand, give these flat designs and faults.
+pub fn flat_designs_are_worked()
+    ensures { FlatDesignsAreWorked }
+{}

@@ -1,0 +1,57 @@
+-- What a run prints with its log is replayed to its end.
+use Rattle.std.specs.Prelude.{◌≡◌, ℕ, ◌<◌, ◌≤◌, ◌^◌, Bool, true, List, ◌++◌, length}
+use Rattle.std.specs.Prelude.{Ok, Option, None}
+use Rattle.ds_base.specs.Limit.{most_of}
+use Rattle.ds_base.specs.Values.{Row}
+use Rattle.ds_base.specs.declared.number.Limit.TheVariants.{Bytes}
+use Rattle.ds_base.specs.declared.number.Mode.{Mode}
+use Rattle.ds_outside.specs.Held.{Held, bytes}
+use Rattle.ds_lines.specs.Line.{lines_of}
+use Rattle.ds_marked.specs.Graph.{IsLegal, counts_after}
+use Rattle.ds_latch.specs.Plan.{Planned}
+use Rattle.ds_cmd.specs.declared.job.Job.{Job}
+use Rattle.ds_cmd.specs.declared.job.Job.TheVariants.{Run, Replay}
+use Rattle.ds_log.specs.Log.{fired_line}
+use Rattle.ds_replay.specs.Replay.{replay_of}
+use Rattle.ds_replay.specs.Printed.{HasOwnWords}
+use Rattle.ds_trace.specs.RunText.{IsRunText}
+use Rattle.ds_app.specs.Job.{stages_of}
+use Rattle.ds_app.specs.Status.{AreTold}
+
+-- a text is read and fired to the end of a legal list that has each event once a vector
+pub record IsFiredWhole (p : Planned) (turns : ℕ) (text : List ℕ) : Type 0 where
+  pub events : List ℕ
+  pub legal : IsLegal p.graph turns events
+  pub all : (v : ℕ) → v < length p.graph.events → counts_after (λ _. 0) events v ≡ turns
+  pub fires : replay_of p.graph turns (lines_of text) ≡ Ok events
+
+-- the text of a run with its log is such a one
+abbrev pub LoggedIsFired : Type 0
+LoggedIsFired = (p : Planned) → HasOwnWords p.graph
+    → (vectors : List Row) → length vectors < 10 ^ 10
+    → (text : List ℕ) → IsRunText true p vectors text → IsFiredWhole p (length vectors) text
+
+-- the last line says that there were all firings that there may be
+abbrev pub SaysAllFired : List ℕ → Type 0
+SaysAllFired text = (before : List ℕ) × (all : ℕ) × (text ≡ before ++ fired_line all all)
+
+-- a job has a text, and each of its texts says that there were all firings that there may be
+pub record ReplaysAll (held : List ℕ → Held) (job : Job) : Type 0 where
+  pub text : List ℕ
+  pub is_text : (stages_of held job).means text
+  pub each : (other : List ℕ) → (stages_of held job).means other → SaysAllFired other
+
+-- the bytes that are held are no more than a text may have that is read whole
+abbrev pub IsShort : Held → Type 0
+IsShort held = (text : List ℕ) → held ≡ bytes text → length text ≤ most_of Bytes
+
+-- what `run --log` prints is read and fired to its end by `replay` of the same netlist, vectors,
+-- graph, mode and slack, where the log holds these bytes, and neither it nor the file of the
+-- vectors is too long
+abbrev pub PrintedIsReplayed : Type 0
+PrintedIsReplayed = (held : List ℕ → Held) (net vec log : List ℕ) (graph : Option (List ℕ))
+    (mode : Mode) (jobs slack : ℕ) (transparent : Bool) (printed : List ℕ)
+    → AreTold held (Run net vec graph mode jobs true slack None)
+    → (stages_of held (Run net vec graph mode jobs true slack None)).means printed
+    → held log ≡ bytes printed → IsShort (held log) → IsShort (held vec)
+    → ReplaysAll held (Replay net vec log graph mode slack transparent)

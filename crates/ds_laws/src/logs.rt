@@ -1,0 +1,12 @@
+//! Laws of logs: what is written is read, and fired to its end.
+ghost use Rattle.ds_laws.specs.Logs.{LoggedIsFired, PrintedIsReplayed};
+
+/// What a run with its log writes is read as a log and fired to its end.
+pub fn logged_is_fired()
+    ensures { LoggedIsFired }
+{}
+
+/// What `run --log` prints is read and fired to its end by `replay` of the same files.
+pub fn printed_is_replayed()
+    ensures { PrintedIsReplayed }
+{}

@@ -1,0 +1,59 @@
+//! Lines of what open nodes show.
+ghost use Rattle.std.specs.Prelude.{◌≡◌, ◌++◌, decimal};
+ghost use Rattle.ds_latch.specs.Node.{Node, number_of};
+ghost use Rattle.ds_latch.specs.Plan.{node_name};
+ghost use Rattle.ds_outside.specs.Writes.{GoesOn, Writes};
+ghost use Rattle.ds_log.specs.Log.{open_text};
+
+use ds_base::{LatchId, Row3};
+use ds_outside::{Sink, WriteFault};
+use ds_rows::{put, put_values};
+use itoa::Buffer;
+
+/// Writes the line of an open node, by its number: its name, and the values that it shows, one
+/// character a value, `0`, `1` or `x`; a row without values is `-`.
+pub fn open_line<O: Sink>(node: LatchId, values: &Row3, out: &mut O) -> Result<(), WriteFault>
+    ensures { (n : Node) → number_of n ≡ node → Writes result (O.written out.old)
+        (O.written out.new) (O.faults out.old) (O.faults out.new) (open_text n values.now) }
+{
+    let so_far = put_node(Ok(()), node, out);
+    let so_far = put(so_far, b" open ", out);
+    let so_far = put_values(so_far, values, out);
+    put(so_far, b"\n", out)
+}
+
+// Writes the name of a node, unless a write has failed.
+fn put_node<O: Sink>(
+    so_far: Result<(), WriteFault>,
+    node: LatchId,
+    out: &mut O,
+) -> Result<(), WriteFault>
+    ensures { (n : Node) → number_of n ≡ node → GoesOn so_far result (O.written out.old)
+        (O.written out.new) (O.faults out.old) (O.faults out.new) (node_name n) }
+{
+    let number = node.number();
+    if number == 0 {
+        put(so_far, b"IN", out)
+    } else if number == 1 {
+        put(so_far, b"OUT", out)
+    } else if number % 2 == 0 {
+        put_numbered(so_far, b"M", number / 2 - 1, out)
+    } else {
+        put_numbered(so_far, b"S", number / 2 - 1, out)
+    }
+}
+
+// Writes a letter and a number.
+fn put_numbered<O: Sink>(
+    so_far: Result<(), WriteFault>,
+    letter: &[u8],
+    number: u32,
+    out: &mut O,
+) -> Result<(), WriteFault>
+    ensures { GoesOn so_far result (O.written out.old) (O.written out.new) (O.faults out.old)
+        (O.faults out.new) (letter.now ++ decimal number) }
+{
+    let mut buffer = Buffer::new();
+    let so_far = put(so_far, letter, out);
+    put(so_far, buffer.format(number).as_bytes(), out)
+}

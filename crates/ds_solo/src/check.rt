@@ -1,0 +1,27 @@
+//! `check`: the report on a netlist.
+ghost use Rattle.std.specs.Prelude.{◌≡◌};
+ghost use Rattle.ds_stage.specs.Ends.{Ends, RoseIn, output_between};
+ghost use Rattle.ds_stage.specs.Stage.{then_stage};
+ghost use Rattle.ds_stage.specs.Stages.{netlist_stage, report_stage};
+
+use ds_outside::{Files, Sink};
+use ds_stage::{Stop, read_netlist, write_report};
+use std::alloc::Global;
+
+/// Reads the netlist of the file `net`, and writes the report on it.
+#[tactic(none)]
+pub fn check<F: Files, O: Sink>(
+    alloc: Global,
+    net: &str,
+    files: &mut F,
+    out: &mut O,
+) -> Result<(), Stop>
+    ensures value { Ends (then_stage (netlist_stage (F.held files.old) net.now) report_stage)
+        (RoseIn (F.faults files.old) (F.faults files.new))
+        (output_between O.written O.faults out.old out.new) result }
+
+    ensures same_held { F.held files.new ≡ F.held files.old }
+{
+    let netlist = read_netlist(alloc, files, net)?;
+    write_report(&netlist, out)
+}

@@ -1,0 +1,2 @@
+pub mod OpenTexts
+pub mod Registers
