@@ -1,3 +1,4 @@
+pub mod ByLevel
 pub mod Controlled
 pub mod Settled
 pub mod Runs

@@ -2,7 +2,7 @@
 use Rattle.std.specs.Prelude.{◌≡◌, ◌≢◌, ℕ, ◌+◌, ◌<◌, ◌≤◌, List, length, map, not, All, AllPairs}
 use Rattle.std.specs.Prelude.{Contains, slice_index, slice_index_or, ◌==◌}
 use Rattle.std.specs.List.{filter, list_any, range_with_len}
-use Rattle.std.specs.List.Sorted.{IsNonDecreasingBy}
+use Rattle.std.specs.List.Sorted.{IsNonDecreasingBy, IsPermutation}
 use Rattle.ds_base.specs.Greatest.{greatest}
 use Rattle.ds_design.specs.Circuit.{Circuit, control_nets}
 use Rattle.ds_design.specs.declared.design.Gate.{Gate}
@@ -26,14 +26,19 @@ pub record IsDepth (c : Circuit) (depth : ℕ) : Type 0 where
   pub is : depth ≡ greatest levels
 
 -- the level of what a table drives
-abbrev pub level_of_table : Circuit → List ℕ → ℕ → ℕ
-level_of_table c levels k = slice_index levels (slice_index (table_nets c) k)
+abbrev pub level_of_table : List Gate → List ℕ → ℕ → ℕ
+level_of_table tables levels k = slice_index levels (slice_index (map (λ t. t.output) tables) k)
 
 -- along the order the level of what the tables drive does not fall
 pub record IsByLevel (c : Circuit) (order : List ℕ) : Type 0 where
   pub levels : List ℕ
   pub are : AreLevels c levels
-  pub rising : IsNonDecreasingBy (level_of_table c levels) order
+  pub rising : IsNonDecreasingBy (level_of_table c.tables levels) order
+
+-- the same tables, along which the level of what they drive does not fall
+pub record IsSortedByLevel (tables : List Gate) (levels places sorted : List ℕ) : Type 0 where
+  pub permuted : IsPermutation places sorted
+  pub rising : IsNonDecreasingBy (level_of_table tables levels) sorted
 
 -- each table is there once, by the level of what it drives; no table reads what it or a later one
 -- drives

@@ -3,6 +3,7 @@ pub mod Circuit
 pub mod InRange
 pub mod Accepted
 pub mod Levels
+pub mod Placed
 pub mod Banked
 pub mod Valuation
 pub mod Reach

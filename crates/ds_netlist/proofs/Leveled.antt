@@ -2,28 +2,27 @@
 -- and with ranks is accepted.
 use Rattle.std.proofs.Common.{◌≡◌, ◌≢◌, ◌∙◌, ℕ, suc, ◌+◌, ◌-◌, ◌<◌, ◌≤◌, true, false, List, [], ◌∷◌, ◌++◌, length, get_or, map, refl, sym, ap, arith, inl, inr, subst, ◌==◌, ◌||◌, if◌then◌else◌, None}
 use Rattle.std.specs.Prelude.{All, AllPairs, Contains}
-use Rattle.std.specs.List.{list_any}
+use Rattle.std.specs.List.{list_any, range_with_len}
 use Rattle.std.proofs.lemmas.Bool.{cases_lt}
 use Rattle.std.proofs.lemmas.List.{get_or_default, get_or-map, get_or_past, length-map}
 use Rattle.ds_base.specs.Greatest.{greatest}
-use Rattle.ds_base.proofs.Lists.{Contains-split}
 use Rattle.ds_base.proofs.Pairs.{pairs-left, pairs-right}
 use Rattle.ds_design.specs.Circuit.{Circuit, columns, control_nets, register_nets, drivers, used}
 use Rattle.ds_design.specs.InRange.{IsInRange}
 use Rattle.ds_design.specs.Accepted.{IsAccepted}
-use Rattle.ds_design.specs.Levels.{AreLevels, IsTableOrder, table_nets}
+use Rattle.ds_design.specs.Levels.{AreLevels, IsSortedByLevel, IsTableOrder, table_nets}
 use Rattle.ds_design.specs.declared.design.Gate.{Gate}
+use Rattle.ds_design.proofs.ByLevel.{le_greatest, not_read}
 use Rattle.ds_design.proofs.Controlled.{among_yes, among_no}
 use Rattle.ds_netlist.specs.Edges.{AreNetRanks, floor_in}
 use Rattle.ds_netlist.specs.Fault.{fault_of, is_in, several_clocks, mixed_edges, driven_clock, clock_as_data, multiply_driven, undriven}
 use Rattle.ds_series.specs.Series.{Ordered}
 use Rattle.ds_design.specs.Banked.{IsBankOf}
 use Rattle.ds_netlist.specs.Verdict.{AreNetlistParts}
-use Rattle.ds_netlist.specs.Placed.{IsSortedOrder, level_in}
 use Rattle.ds_netlist.specs.declared.fault.NetFault.TheVariants.{DrivenClock, ClockAsData}
 use Rattle.ds_netlist.proofs.Firsts.{or_none}
 use Rattle.ds_netlist.proofs.Checked.{all_driven, clock_apart, one_driver, one_edge, one_name}
-use Rattle.ds_netlist.proofs.Ordered.{all_lem, once_lem, places_lem, rising_lem}
+use Rattle.ds_netlist.proofs.Ordered.{all_lem, once_lem, places_lem}
 
 -- the greatest is no more than what all are at most
 greatest_le : (f : ℕ → ℕ) (xs : List ℕ) (m : ℕ) → ((x : ℕ) → Contains xs x → f x ≤ m) → greatest (map f xs) ≤ m
@@ -32,13 +31,6 @@ greatest_le f (x ∷ xs) m all =
     let here = all x (0, omega arith, refl) in
     let rest = greatest_le f xs m (λ y (k, inside, is). all y (suc k, omega arith, is)) in
     omega arith
-
-le_greatest : (f : ℕ → ℕ) (xs : List ℕ) (x : ℕ) → Contains xs x → f x ≤ greatest (map f xs)
-le_greatest f [] x (k, inside, is) = absurd (omega arith)
-le_greatest f (y ∷ xs) x c = elim (Contains-split y xs x c) [
-  | inl e ↦ let same : f y ≡ f x = ap f e in omega arith
-  | inr d ↦ let rest = le_greatest f xs x d in omega arith
-]
 
 -- a table drives a net, by the test on the tables and by that on their nets
 by_nets : (tables : List Gate) (net : ℕ) → list_any (λ t. t.output == net) tables ≡ is_in (map (λ t. t.output) tables) net
@@ -123,22 +115,16 @@ module _ (c : Circuit) (in_range : IsInRange c) (pairs : AllPairs (λ a b. a ≢
     driven = λ k d inside. level_at k d inside;
   }
 
-  pub is_table_order : (order : List ℕ) → IsSortedOrder c.tables levels order → IsTableOrder c order
-  is_table_order order sorted = record {
-    places = places_lem c.tables levels order sorted;
-    once = once_lem c.tables levels order sorted;
-    all = all_lem c.tables levels order sorted;
-    before = λ i j d below inside feeds. (
-        let long : i < length order = omega arith in
-        let one = places_lem c.tables levels order sorted i 0 long in
-        let two = places_lem c.tables levels order sorted j 0 inside in
-        let up = rising_lem c.tables levels order sorted i j 0 below inside in
-        let step = rises_at (get_or order i 0) d one (get_or c.tables (get_or order j 0) d).output feeds in
-        let out_i : level_in c.tables levels (get_or order i 0) ≡ get_or levels (get_or c.tables (get_or order i 0) d).output 0 = ap (λ n. get_or levels n 0) (out_at c.tables (get_or order i 0) d one) in
-        let out_j : level_in c.tables levels (get_or order j 0) ≡ get_or levels (get_or c.tables (get_or order j 0) d).output 0 = ap (λ n. get_or levels n 0) (out_at c.tables (get_or order j 0) d two) in
-        omega arith);
-    by_level = record { levels = levels; are = are_levels; rising = rising_lem c.tables levels order sorted };
-  }
+  pub is_table_order : (order : List ℕ) → IsSortedByLevel c.tables levels (range_with_len 0 (length c.tables)) order → IsTableOrder c order
+  is_table_order order sorted =
+      let places = places_lem c.tables levels order sorted in
+      record {
+        places = places;
+        once = once_lem c.tables levels order sorted;
+        all = all_lem c.tables levels order sorted;
+        before = λ i j d below inside reads. not_read c levels are_levels (get_or order i 0) (get_or order j 0) d (places i 0 (omega arith)) (places j 0 inside) (sorted.rising i j 0 below inside) reads;
+        by_level = record { levels = levels; are = are_levels; rising = sorted.rising };
+      }
 
 -- no fault, and a rank that rises
 pub accepts : (c : Circuit) → IsInRange c → fault_of c ≡ None → (levels : List ℕ) → AreNetRanks c levels → IsAccepted c
@@ -165,16 +151,16 @@ accepts c in_range none levels h =
     }
 
 -- the places of an order are those of tables
-pub places_of : (tables : List Gate) (levels order : List ℕ) → IsSortedOrder tables levels order → (gates : List Gate) → gates ≡ tables → All (λ k. k < length gates) order
+pub places_of : (tables : List Gate) (levels order : List ℕ) → IsSortedByLevel tables levels (range_with_len 0 (length tables)) order → (gates : List Gate) → gates ≡ tables → All (λ k. k < length gates) order
 places_of tables levels order sorted gates same = subst (λ (ts : List Gate). All (λ k. k < length ts) order) (sym same) (places_lem tables levels order sorted)
 
 -- the parts of the netlist
 pub are_parts : (c : Circuit) → IsInRange c → fault_of c ≡ None → (cols levels order : List ℕ) → cols ≡ columns c → AreNetRanks c levels
-    → (tables : List Gate) (lent : List ℕ) → tables ≡ c.tables → lent ≡ levels → IsSortedOrder tables lent order
+    → (tables : List Gate) (lent : List ℕ) → tables ≡ c.tables → lent ≡ levels → IsSortedByLevel tables lent (range_with_len 0 (length tables)) order
     → (gates : List Gate) (series : Ordered) → gates ≡ c.tables → series.order ≡ order → IsBankOf gates series.tables → AreNetlistParts c cols levels series.order series.tables
 are_parts c in_range none cols levels order e h tables lent a b sorted gates series here kept banked =
     let accepted = accepts c in_range none levels h in
-    let own = subst (λ (ts : List Gate). IsSortedOrder ts levels order) a (subst (λ (ls : List ℕ). IsSortedOrder tables ls order) b sorted) in
+    let own = subst (λ (ts : List Gate). IsSortedByLevel ts levels (range_with_len 0 (length ts)) order) a (subst (λ (ls : List ℕ). IsSortedByLevel tables ls (range_with_len 0 (length tables)) order) b sorted) in
     record {
       in_range = in_range;
       accepted = accepted;

@@ -4,6 +4,5 @@ pub mod Fault
 pub mod Named
 pub mod Steps
 pub mod Edges
-pub mod Placed
 pub mod Laws
 pub mod Verdict

@@ -9,7 +9,7 @@ use crate::clock::{first_name, two_clocks};
 use crate::faults::later_fault;
 use crate::levels::level_nets;
 use crate::lists::{column_nets, control_names};
-use crate::order::by_level;
+use crate::order::table_order;
 use crate::packed::series_of;
 use ds_base::{NetId, Seq};
 use ds_design::{Design, Netlist};
@@ -61,7 +61,7 @@ fn check(alloc: Global, design: &Design) -> Result<Parts, NetFault>
         return Err(fault);
     }
     let levels = level_nets(alloc, design)?;
-    let order = by_level(alloc, design.tables(), levels.as_slice())?;
+    let order = table_order(alloc, design.tables(), levels.as_slice())?;
     let series = series_of(alloc, design.tables(), order)?;
     Ok(Parts {
         columns,

@@ -1,10 +1,8 @@
 -- The tables of an order, set one after another by a bank.
 use Rattle.std.proofs.Common.{◌≡◌, ℕ, zero, suc, ◌+◌, ◌<◌, ◌≤◌, List, [], ◌∷◌, length, get_or, drop, arith, ap, sym, ◌∙◌, subst}
 use Rattle.std.specs.Prelude.{All}
-use Rattle.std.proofs.Math.ListN.{set}
 use Rattle.std.proofs.lemmas.List.{drop_all, drop_more, get_or_default}
 use Rattle.ds_base.specs.Values.{Row}
-use Rattle.ds_cover.specs.Cover.{value_of}
 use Rattle.ds_cover.specs.Bank.{Driven, AreNetsWithin, after_table, after_tables, driven_at}
 use Rattle.ds_design.specs.Accepted.{IsAccepted}
 use Rattle.ds_design.specs.Banked.{IsBankOf}

@@ -3,20 +3,17 @@ use Rattle.std.proofs.Common.{◌≡◌, ◌∙◌, ℕ, ◌+◌, ◌<◌, Bool,
 use Rattle.std.specs.Prelude.{All, Any, Contains}
 use Rattle.std.proofs.Math.ListN.{replicate}
 use Rattle.std.proofs.lemmas.Bool.{cases_eq, cases_lt, false≢true}
-use Rattle.std.proofs.lemmas.Bool.Decides.{Decides-eqb, eqb_tells}
 use Rattle.std.proofs.lemmas.List.{get_or-replicate, get_or_default, get_or_past, length-replicate}
 use Rattle.std.proofs.lemmas.List.Elements.{All-contains, All-nil, All-weaker, Contains-get_or}
 use Rattle.std.proofs.lemmas.List.Sorted.{All-permutation, Contains-permutation, IsPermutation-sym}
-use Rattle.std.proofs.lemmas.Map.Keys.{IsDistinct-IsPermutation}
-use Rattle.std.proofs.lemmas.Map.Made.{AllPairs-from_IsDistinct, IsDistinct-from_AllPairs}
-use Rattle.std.proofs.Math.Dec.{eqb}
 use Rattle.ds_design.specs.Accepted.{IsAccepted}
 use Rattle.ds_design.specs.Circuit.{Circuit}
-use Rattle.ds_design.specs.Levels.{table_nets}
+use Rattle.ds_design.specs.Levels.{AreLevels, IsByLevel, IsSortedByLevel, table_nets}
+use Rattle.ds_design.proofs.ByLevel.{differ_sorted}
 use Rattle.ds_design.specs.Reach.{Feeds, Reaches, here, through}
 use Rattle.ds_design.specs.declared.design.Gate.{Gate}
 use Rattle.ds_settle.specs.Cone.{IsCone, Parts, ReachesSome, net_of}
-use Rattle.ds_settle.specs.Walk.{AreFollowed, AreMet, AreReached, Grows, IsFound, IsMarked, IsSorted}
+use Rattle.ds_settle.specs.Walk.{AreFollowed, AreMet, AreReached, Grows, IsFound, IsMarked}
 use Rattle.ds_settle.proofs.Agree.{reaches_some_before}
 use Rattle.ds_settle.proofs.ByLevel.{order_by_level}
 use Rattle.ds_settle.proofs.Tables.{net_driven, net_is, same_table}
@@ -123,22 +120,19 @@ module _ (c : Circuit) (accepted : IsAccepted c) (these : List ℕ) (marks : Lis
   }
 
 -- the tables that are found, sorted
-pub is_cone : (c : Circuit) (these : List ℕ) (found : Parts) (sorted : List ℕ) → AreReached c these found → IsSorted c found.tables sorted → IsCone c these (record { tables = sorted; sources = found.sources })
-is_cone c these found sorted h s = record {
-  order = order_by_level c sorted (All-permutation (λ k. k < length c.tables) found.tables sorted s.permuted h.within) s.by_level;
-  by_level = s.by_level;
-  once = AllPairs-from_IsDistinct Decides-eqb sorted (IsDistinct-IsPermutation eqb flips found.tables sorted s.permuted (IsDistinct-from_AllPairs Decides-eqb found.tables h.once));
-  tables = λ k inside. (
-    λ some. (h.tables k inside).0 (Contains-permutation sorted found.tables k (IsPermutation-sym found.tables sorted s.permuted) some),
-    λ reaches. Contains-permutation found.tables sorted k s.permuted ((h.tables k inside).1 reaches),
-  );
-  sources = h.sources;
-  sources_within = h.sources_within;
-  sources_once = h.sources_once;
-}
-  where
-    flips : (x y : ℕ) → eqb x y ≡ eqb y x
-    flips x y = elim (eqb_tells x y) [
-      | inl (is, e) ↦ elim (eqb_tells y x) [ inl (at, f) ↦ is ∙ sym at | inr (at, ne) ↦ absurd (ne (sym e)) ]
-      | inr (is, ne) ↦ elim (eqb_tells y x) [ inl (at, f) ↦ absurd (ne (sym f)) | inr (at, other) ↦ is ∙ sym at ]
-    ]
+pub is_cone : (c : Circuit) (these : List ℕ) (found : Parts) (sorted levels : List ℕ) → AreReached c these found → AreLevels c levels → IsSortedByLevel c.tables levels found.tables sorted
+    → IsCone c these (record { tables = sorted; sources = found.sources })
+is_cone c these found sorted levels h are s =
+    let by_level : IsByLevel c sorted = record { levels = levels; are = are; rising = s.rising } in
+    record {
+      order = order_by_level c sorted (All-permutation (λ k. k < length c.tables) found.tables sorted s.permuted h.within) by_level;
+      by_level = by_level;
+      once = differ_sorted found.tables sorted s.permuted h.once;
+      tables = λ k inside. (
+        λ some. (h.tables k inside).0 (Contains-permutation sorted found.tables k (IsPermutation-sym found.tables sorted s.permuted) some),
+        λ reaches. Contains-permutation found.tables sorted k s.permuted ((h.tables k inside).1 reaches),
+      );
+      sources = h.sources;
+      sources_within = h.sources_within;
+      sources_once = h.sources_once;
+    }

@@ -2,9 +2,8 @@
 use Rattle.std.specs.Prelude.{◌≡◌, ◌≢◌, ◌⊎◌, ◌↔◌, ℕ, ◌+◌, ◌<◌, ◌≤◌, Bool, false, true, List, []}
 use Rattle.std.specs.Prelude.{◌∷◌, ◌++◌, Option, Some, length, All, AllPairs, Any, Contains}
 use Rattle.std.specs.Prelude.{MatchOption, None, not, count_by, slice_index, slice_index_or}
-use Rattle.std.specs.List.Sorted.{IsPermutation}
 use Rattle.ds_design.specs.Circuit.{Circuit}
-use Rattle.ds_design.specs.Levels.{IsByLevel, table_nets}
+use Rattle.ds_design.specs.Levels.{table_nets}
 use Rattle.ds_design.specs.declared.design.Gate.{Gate}
 use Rattle.ds_settle.specs.Cone.{Parts, ReachesSome, net_of}
 
@@ -82,8 +81,3 @@ pub record AreReached (c : Circuit) (these : List ℕ) (found : Parts) : Type 0 
       ↔ (ReachesSome c these net × ¬ Contains (table_nets c) net)
   pub sources_within : All (λ net. net < length c.nets) found.sources
   pub sources_once : AllPairs (λ a b. a ≢ b) found.sources
-
--- the same tables by level
-pub record IsSorted (c : Circuit) (found sorted : List ℕ) : Type 0 where
-  pub permuted : IsPermutation found sorted
-  pub by_level : IsByLevel c sorted

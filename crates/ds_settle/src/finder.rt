@@ -5,10 +5,9 @@ ghost use Rattle.ds_settle.specs.Cone.{IsCone};
 use crate::Cone;
 use crate::drivers::Drivers;
 use crate::marks::Marks;
-use crate::order::by_level;
 use crate::walk::walk;
 use ds_base::{NetId, OutOfMemory};
-use ds_design::Netlist;
+use ds_design::{Netlist, by_level};
 use std::alloc::Global;
 use std::marker::Model;
 
@@ -50,7 +49,9 @@ impl<'a> Finder<'a> {
         ensures same { self.new ≡ self.old }
     {
         let found = walk(alloc, &self.drivers, &mut self.marks, these)?;
-        let tables = by_level(alloc, self.drivers.netlist(), found.tables())?;
+        let netlist = self.drivers.netlist();
+        let (all, levels) = (netlist.design().tables(), netlist.net_levels());
+        let tables = by_level(alloc, all, levels, found.tables())?;
         Ok(found.with_tables(tables))
     }
 }

@@ -14,7 +14,6 @@ mod drivers;
 mod finder;
 pub mod laws;
 mod marks;
-mod order;
 mod part;
 mod pick;
 mod turn;
