@@ -10,20 +10,8 @@ use Rattle.ds_accept.specs.Fault.{IsAcceptFault}
 use Rattle.ds_accept.specs.declared.fault.AcceptFault.{AcceptFault}
 use Rattle.ds_accept.specs.Laws.{AcceptFaultsAreRefused}
 use Rattle.ds_accept.specs.declared.fault.AcceptFault.TheVariants.{MissingEvent, MissingOrder, TokenFreeCycle, Memory}
+use Rattle.ds_order.proofs.Rising.{no_cycle}
 use Rattle.ds_accept.proofs.Counted.{some_event}
-
--- a walk rises with what rises at each step
-walk_rises : (R : ℕ → ℕ → Type 0) (rank : ℕ → ℕ) → ((u v : ℕ) → R u v → rank u < rank v)
-    → (a : ℕ) (xs : List ℕ) (b : ℕ) → IsWalk R a xs b → rank a < rank b
-walk_rises R rank rises a [] b step = rises a b step
-walk_rises R rank rises a (x ∷ xs) b (step, more) =
-    let first = rises a x step in
-    let rest = walk_rises R rank rises x xs b more in
-    omega arith
-
-no_cycle : (R : ℕ → ℕ → Type 0) (rank : ℕ → ℕ) → ((u v : ℕ) → R u v → rank u < rank v) → (xs : List ℕ) → ¬ IsCycle R xs
-no_cycle R rank rises [] cycle = cycle
-no_cycle R rank rises (x ∷ xs) cycle = (let up = walk_rises R rank rises x xs x cycle.0 in omega arith)
 
 free_rises : (g : Graph) (rank : ℕ → ℕ) → All (λ arc. arc.tokens ≡ 0 → rank arc.source < rank arc.target) g.arcs
     → (u v : ℕ) → HasFreeArc g u v → rank u < rank v

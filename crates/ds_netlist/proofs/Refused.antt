@@ -14,6 +14,7 @@ use Rattle.ds_netlist.specs.Edges.{IsCycleOnly}
 use Rattle.ds_netlist.specs.Verdict.{IsRefusal}
 use Rattle.ds_netlist.specs.declared.fault.NetFault.{NetFault}
 use Rattle.ds_netlist.specs.declared.fault.NetFault.TheVariants.{SeveralClocks, MixedEdges, DrivenClock, ClockAsData, MultiplyDriven, Undriven, CombinationalCycle, Memory}
+use Rattle.ds_order.proofs.Rising.{no_cycle}
 use Rattle.ds_netlist.proofs.Firsts.{or_some}
 use Rattle.ds_netlist.proofs.Checked.{IsFound, IsPlain, apart_clock, clocks_found, data_found, driven_found, edges_found, multiply_found, no_mixed, no_multiply, no_other, no_undriven, undriven_found}
 
@@ -89,19 +90,6 @@ one_fault_lem c fault other some some' is is' = elim (shows c fault some is) [
     | inr (none', (nets', e', cycle')) ↦ inr ((nets, e), (nets', e'))
   ]
 ]
-
--- a walk rises with what rises at each step
-walk_rises : (R : ℕ → ℕ → Type 0) (rank : ℕ → ℕ) → ((u v : ℕ) → R u v → rank u < rank v)
-    → (a : ℕ) (xs : List ℕ) (b : ℕ) → IsWalk R a xs b → rank a < rank b
-walk_rises R rank rises a [] b step = rises a b step
-walk_rises R rank rises a (x ∷ xs) b (step, more) =
-    let first = rises a x step in
-    let rest = walk_rises R rank rises x xs b more in
-    omega arith
-
-no_cycle : (R : ℕ → ℕ → Type 0) (rank : ℕ → ℕ) → ((u v : ℕ) → R u v → rank u < rank v) → (xs : List ℕ) → ¬ IsCycle R xs
-no_cycle R rank rises [] cycle = cycle
-no_cycle R rank rises (x ∷ xs) cycle = (let up = walk_rises R rank rises x xs x cycle.0 in omega arith)
 
 -- an input of a table has a lower rank than its output
 feeds_rises : (c : Circuit) (accepted : IsAccepted c) (u v : ℕ) → Feeds c u v → accepted.rank u < accepted.rank v

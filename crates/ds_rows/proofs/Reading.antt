@@ -27,7 +27,7 @@ second true b e = e
 second false b e = cc
 
 -- a line of the width has a row of this width
-length-row_of : (width : ℕ) (words : List (List ℕ)) → has_width width words ≡ true → length (row_of width words) ≡ width
+pub length-row_of : (width : ℕ) (words : List (List ℕ)) → has_width width words ≡ true → length (row_of width words) ≡ width
 unfolding has_width row_of
 length-row_of zero words e = refl
 length-row_of (suc w) words e =

@@ -63,16 +63,16 @@ fn has_bits(width: usize, words: &[&[u8]]) -> bool
     width == 0 || are_bits(words[0])
 }
 
-// Each byte is `0`, `1` or `x`.
-fn are_bits(word: &[u8]) -> bool
+/// Whether each byte is `0`, `1` or `x`.
+pub fn are_bits(word: &[u8]) -> bool
     ensures { result ≡ list_all is_bit word.now }
 {
     word.iter()
         .all(|byte| *byte == b'0' || *byte == b'1' || *byte == b'x')
 }
 
-// The values of such bytes.
-fn values_of(alloc: Global, word: &[u8]) -> Result<Vec<Value>, AllocError>
+/// The values of such bytes.
+pub fn values_of(alloc: Global, word: &[u8]) -> Result<Vec<Value>, AllocError>
     ensures { IfOk result (λ values. values.items ≡ map value_of_byte word.now) }
 {
     let values = word.iter().map(|byte| value_of(*byte)).collect(alloc)?;

@@ -15,6 +15,7 @@ use Rattle.ds_stream.specs.declared.fault.NextFault.{NextFault}
 use Rattle.ds_stream.specs.declared.fault.NextFault.TheVariants.{Memory, Read, TooLong, Vector}
 use Rattle.ds_stream.specs.declared.fault.StreamKind.TheVariants.{BadBit, BadWidth, TooMany}
 use Rattle.ds_stream.specs.Word.{GivesRow}
+use Rattle.ds_rows.proofs.Reading.{length-row_of}
 use Rattle.ds_stream.proofs.Short.{is_short}
 use Rattle.ds_stream.proofs.WindowLaws.{window-none}
 
@@ -65,19 +66,6 @@ pub passed : (one two three : StreamKind) (a b c : Bool)
 passed one two three true true c e = (refl, refl)
 passed one two three true false c e = cc
 passed one two three false b c e = cc
-
-second : (a b : Bool) → (a && b) ≡ true → b ≡ true
-second true b e = e
-second false b e = cc
-
--- a line of the width has a row of this width
-length-row_of : (width : ℕ) (words : List (List ℕ)) → has_width width words ≡ true → length (row_of width words) ≡ width
-unfolding has_width row_of
-length-row_of zero words e = refl
-length-row_of (suc w) words e =
-    let some : (suc w == 0) ≡ false = grind arith in
-    let wide : (length (first_word words) == suc w) ≡ true = second (length words == 1) _ (rw some at e) in
-    rw some (length-map (first_word words) value_of_character ∙ eqb-true _ _ wide)
 
 -- a row has the width
 pub row-width : (most width seen : ℕ) (words : List (List ℕ)) (row : Row) → fault_under most width seen words ≡ None → row ≡ row_of width words → length row ≡ width

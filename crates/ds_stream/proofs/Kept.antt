@@ -71,6 +71,13 @@ some_kept line cut = elim (cases_Bool (list_any is_blank line)) [
   | inl blank ↦ (wrong_in 0 line cut blank).some
 ]
 
+-- a line that is cut where bytes are kept has a word, and the words that are told
+pub kept_words : (comment joined : Bool) (line lent : List ℕ) (kept : ℕ) → IsBegun line → kept ≡ kept_len line → 0 < kept → lent ≡ line
+    → (is_some (words_in (told_line comment joined line)) ≡ true) × (words_in (told_line comment joined line) ≡ words_of (take kept lent))
+kept_words comment joined line lent kept begun is some same =
+    let words = words_kept comment joined line kept begun is in
+    (ap is_some words ∙ some_kept (take kept line) (is_cut line kept begun is some), words ∙ ap (λ (l : List ℕ). words_of (take kept l)) (sym same))
+
 pub positive : (n : ℕ) → (n ≡ 0 → ⊥) → 0 < n
 positive zero some = absurd (some refl)
 positive (suc n) some = omega arith

@@ -10,11 +10,12 @@ ghost use Rattle.ds_stream.specs.Filling.{AreBefore, TakesFront};
 ghost use Rattle.ds_stream.specs.Plain.{IsPlainLine, HasLineRoom};
 ghost use Rattle.ds_stream.specs.Word.{GivesRow};
 
-use crate::physical::{blank, trim};
-use crate::word::{are_bits, fault_of, row_of, values_of};
+use crate::word::{fault_of, row_of};
 use crate::{NextFault, StreamFault, VectorReader};
 use ds_base::{Row3, Seq};
 use ds_design::Vectors;
+use ds_lines::{blank, trim};
+use ds_rows::{are_bits, values_of};
 use std::alloc::Global;
 use std::marker::Model;
 

@@ -17,7 +17,6 @@
 mod fault;
 mod filling;
 pub mod laws;
-mod physical;
 #[cfg(test)]
 mod pipe;
 mod reader;

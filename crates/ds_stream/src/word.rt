@@ -1,17 +1,17 @@
 //! The bytes of a line without its comment and what is cut at its end: their fault, or their row.
-ghost use Rattle.std.specs.Prelude.{◌≡◌, ◌∷◌, [], true, map, length, IfOk, IfNone};
-ghost use Rattle.std.specs.List.{list_all, list_any};
+ghost use Rattle.std.specs.Prelude.{◌≡◌, ◌∷◌, [], true, IfOk, IfNone};
+ghost use Rattle.std.specs.List.{list_any};
 ghost use Rattle.ds_lines.specs.Line.{is_blank, words_of};
-ghost use Rattle.ds_rows.specs.Vector.{is_bit, value_of_character as value_of_byte};
 ghost use Rattle.ds_rows.specs.Vector.{has_width as has_width_of, has_bits as has_bits_of};
 ghost use Rattle.ds_rows.specs.Vector.{row_of as row_of_words};
 ghost use Rattle.ds_stream.specs.Bounded.{fault_under};
 ghost use Rattle.ds_stream.specs.Word.{IsCut};
 
 use crate::StreamKind;
-use crate::physical::blank;
-use ds_base::{OutOfMemory, Row3, Value};
-use std::alloc::{AllocError, Global};
+use ds_base::{OutOfMemory, Row3};
+use ds_lines::blank;
+use ds_rows::{are_bits, values_of};
+use std::alloc::Global;
 
 /// What is wrong with a line, where there may be so many vectors, and so many stand before it.
 pub fn fault_of(most: u64, seen: u64, width: usize, line: &[u8]) -> Option<StreamKind>
@@ -73,33 +73,4 @@ fn has_bits(width: usize, word: &[u8]) -> bool
     ensures { result ≡ has_bits_of width (words_of word.now) }
 {
     width == 0 || are_bits(word)
-}
-
-/// Each byte is `0`, `1` or `x`.
-pub fn are_bits(word: &[u8]) -> bool
-    ensures { result ≡ list_all is_bit word.now }
-{
-    word.iter()
-        .all(|byte| *byte == b'0' || *byte == b'1' || *byte == b'x')
-}
-
-/// The values of such bytes.
-pub fn values_of(alloc: Global, word: &[u8]) -> Result<Vec<Value>, AllocError>
-    ensures { IfOk result (λ values. values.items ≡ map value_of_byte word.now) }
-{
-    let values = word.iter().map(|byte| value_of(*byte)).collect(alloc)?;
-    Ok(values)
-}
-
-// The value of such a byte.
-fn value_of(byte: u8) -> Value
-    ensures { result ≡ value_of_byte byte }
-{
-    if byte == b'1' {
-        Value::One
-    } else if byte == b'x' {
-        Value::Unknown
-    } else {
-        Value::Zero
-    }
 }

@@ -6,7 +6,34 @@ use Rattle.ds_stream.specs.Filling.{Filled, TakesBytes}
 use Rattle.ds_stream.specs.Stream.{Shown}
 use Rattle.ds_stream.specs.Next.{FitsHeld, GivesHeld}
 use Rattle.ds_stream.proofs.Nexting.{SoFar, given_to_end, given_whole, reader_of, refused_at_end, refused_behind, fault_in, never_unread, take-within, so_far_at_first, so_far_behind, fits_behind}
+use Rattle.ds_stream.proofs.reader.VectorReader.next.Given
 use Rattle.ds_stream.proofs.reader.VectorReader.next.Goals as goal
+use Rattle.ds_stream.proofs.reader.VectorReader.next.Goals.{After-end, After-take}
+
+-- what the read gave stood there at the call
+end_reads : (g : Given.Over) (c : After-end g)
+    → ReadsHeld (g.F.Files.held c.args.files.now c.args.name.now) c.reading.filling.place c.in-Ok-eq0.field-0 (take c.ask-room.result c.reading.piece) c.read_at.new.into
+end_reads g c =
+    let old = take c.ask-room.result c.reading.piece in
+    let n = c.in-Ok-eq0.field-0 in
+    let held_is : g.F.Files.held c.reading.files c.args.name.now ≡ g.F.Files.held c.args.files.now c.args.name.now = ap (λ (h : List ℕ → Held). h c.args.name.now) c.reading.invariant.same_held in
+    subst (λ (h : Held). ReadsHeld h c.reading.filling.place n old c.read_at.new.into) held_is
+    (subst (λ (p : ℕ). ReadsHeld (g.F.Files.held c.reading.files c.args.name.now) p n old c.read_at.new.into) c.place-place.ensures.value c.in-Ok-eq0.ensures.ok)
+
+take_reads : (g : Given.Over) (c : After-take g)
+    → ReadsHeld (g.F.Files.held c.args.files.now c.args.name.now) c.reading.filling.place c.in-Ok.n (take c.ask-room.result c.reading.piece) c.read_at.new.into
+take_reads g c =
+    let old = take c.ask-room.result c.reading.piece in
+    let n = c.in-Ok.n in
+    let held_is : g.F.Files.held c.reading.files c.args.name.now ≡ g.F.Files.held c.args.files.now c.args.name.now = ap (λ (h : List ℕ → Held). h c.args.name.now) c.reading.invariant.same_held in
+    subst (λ (h : Held). ReadsHeld h c.reading.filling.place n old c.read_at.new.into) held_is
+    (subst (λ (p : ℕ). ReadsHeld (g.F.Files.held c.reading.files c.args.name.now) p n old c.read_at.new.into) c.place-place.ensures.value c.in-Ok.ensures.ok)
+
+-- and these are the bytes that are taken
+take_front : (g : Given.Over) (c : After-take g) → take c.in-Ok.n (c.read_at.new.into ++ drop c.ask-room.result c.reading.piece) ≡ take c.in-Ok.n c.read_at.new.into
+take_front g c =
+    let same : length c.read_at.new.into ≡ length (take c.ask-room.result c.reading.piece) = c.read_at.auto.into in
+    take-within c.in-Ok.n c.read_at.new.into (drop c.ask-room.result c.reading.piece) (subst (λ (k : ℕ). c.in-Ok.n ≤ k) (sym same) c.in-Ok.ensures.within)
 
 pub reading-init : goal.reading-init
 reading-init g c =
@@ -41,9 +68,7 @@ returns-in-Ok-end-clause-gives g c =
     let old = take c.ask-room.result c.reading.piece in
     let n = c.in-Ok-eq0.field-0 in
     let same = c.in-Ok-end.ensures.same in
-    let held_is : g.F.Files.held c.reading.files c.args.name.now ≡ held = ap (λ (h : List ℕ → Held). h c.args.name.now) c.reading.invariant.same_held in
-    let reads : ReadsHeld held f.place n old c.read_at.new.into = subst (λ (h : Held). ReadsHeld h f.place n old c.read_at.new.into) held_is
-    (subst (λ (p : ℕ). ReadsHeld (g.F.Files.held c.reading.files c.args.name.now) p n old c.read_at.new.into) c.place-place.ensures.value c.in-Ok-eq0.ensures.ok) in
+    let reads = end_reads g (goal.at.returns-in-Ok-end-clause-gives g c).After-end in
     let none : n ≡ 0 = grind (arith, common_steps) in
     let room : 0 < length old = grind (arith, common_steps) in
     let some : 0 < f.missing = grind (arith, common_steps) in
@@ -59,9 +84,7 @@ returns-in-Err-end-clause-gives g c =
     let f = c.reading.filling in
     let old = take c.ask-room.result c.reading.piece in
     let n = c.in-Ok-eq0.field-0 in
-    let held_is : g.F.Files.held c.reading.files c.args.name.now ≡ held = ap (λ (h : List ℕ → Held). h c.args.name.now) c.reading.invariant.same_held in
-    let reads : ReadsHeld held f.place n old c.read_at.new.into = subst (λ (h : Held). ReadsHeld h f.place n old c.read_at.new.into) held_is
-    (subst (λ (p : ℕ). ReadsHeld (g.F.Files.held c.reading.files c.args.name.now) p n old c.read_at.new.into) c.place-place.ensures.value c.in-Ok-eq0.ensures.ok) in
+    let reads = end_reads g (goal.at.returns-in-Err-end-clause-gives g c).After-end in
     let none : n ≡ 0 = grind (arith, common_steps) in
     let room : 0 < length old = grind (arith, common_steps) in
     let some : 0 < f.missing = grind (arith, common_steps) in
@@ -73,14 +96,11 @@ returns-in-Err-take-clause-gives g c =
     let f = c.reading.filling in
     let old = take c.ask-room.result c.reading.piece in
     let n = c.in-Ok.n in
-    let held_is : g.F.Files.held c.reading.files c.args.name.now ≡ held = ap (λ (h : List ℕ → Held). h c.args.name.now) c.reading.invariant.same_held in
-    let reads : ReadsHeld held f.place n old c.read_at.new.into = subst (λ (h : Held). ReadsHeld h f.place n old c.read_at.new.into) held_is
-    (subst (λ (p : ℕ). ReadsHeld (g.F.Files.held c.reading.files c.args.name.now) p n old c.read_at.new.into) c.place-place.ensures.value c.in-Ok.ensures.ok) in
+    let reads = take_reads g (goal.at.returns-in-Err-take-clause-gives g c).After-take in
     let some : 0 < n = grind (arith, common_steps) in
     let same : length c.read_at.new.into ≡ length old = c.read_at.auto.into in
     let few : n ≤ length old = c.in-Ok.ensures.within in
-    let front : take n (c.read_at.new.into ++ drop c.ask-room.result c.reading.piece) ≡ take n c.read_at.new.into =
-    take-within n c.read_at.new.into (drop c.ask-room.result c.reading.piece) (subst (λ (k : ℕ). n ≤ k) (sym same) few) in
+    let front = take_front g (goal.at.returns-in-Err-take-clause-gives g c).After-take in
     refused_behind held c.args.self c.args.count f c.take.new.self n old c.read_at.new.into c.in-Err-take.why c.reading.invariant.so_far reads same few some
     (subst (λ (bs : List ℕ). TakesBytes (Err c.in-Err-take.why) f c.take.new.self bs) front c.in-Err-take.ensures.takes)
 
@@ -92,14 +112,11 @@ reading-preserved g c =
     let old = take c.ask-room.result c.reading.piece in
     let n = c.in-Ok.n in
     let is_of = c.in-Ok-take.ensures.same in
-    let held_is : g.F.Files.held c.reading.files c.args.name.now ≡ held = ap (λ (h : List ℕ → Held). h c.args.name.now) c.reading.invariant.same_held in
-    let reads : ReadsHeld held f.place n old c.read_at.new.into = subst (λ (h : Held). ReadsHeld h f.place n old c.read_at.new.into) held_is
-    (subst (λ (p : ℕ). ReadsHeld (g.F.Files.held c.reading.files c.args.name.now) p n old c.read_at.new.into) c.place-place.ensures.value c.in-Ok.ensures.ok) in
+    let reads = take_reads g (goal.at.reading-preserved g c).After-take in
     let some : 0 < n = grind (arith, common_steps) in
     let same : length c.read_at.new.into ≡ length old = c.read_at.auto.into in
     let few : n ≤ length old = c.in-Ok.ensures.within in
-    let front : take n (c.read_at.new.into ++ drop c.ask-room.result c.reading.piece) ≡ take n c.read_at.new.into =
-    take-within n c.read_at.new.into (drop c.ask-room.result c.reading.piece) (subst (λ (k : ℕ). n ≤ k) (sym same) few) in
+    let front = take_front g (goal.at.reading-preserved g c).After-take in
     record {
       buffer = grind (arith, common_steps);
       same_held = c.in-Ok.ensures.same_held ∙ c.reading.invariant.same_held;
