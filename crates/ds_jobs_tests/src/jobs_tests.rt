@@ -1,8 +1,7 @@
 //! Runs by several workers: the same bytes, and logs that can be fired again.
 use ds_base::OutOfMemory;
 use ds_outside::OpenGate;
-use ds_trial::{TOGGLE, Wanted, gives, play, printed};
-use std::alloc::{AllocError, Global};
+use ds_trial::{TOGGLE, Wanted, chain, gives, play, printed, tangle};
 use std::test::Fail;
 use std::thread::Threads;
 
@@ -93,18 +92,6 @@ fn other_numbers_of_workers_are_no_command_line(rt: HostRuntime) -> Result<(), F
     play(&rt, OTHERS, 6)
 }
 
-/// So many registers in a row, of which the first takes the input.
-pub fn chain(alloc: Global, registers: usize) -> Result<String, AllocError> {
-    let mut text = String::from_str(
-        alloc,
-        ".model chain\n.inputs a\n.outputs q0\n.latch a q0 0\n",
-    )?;
-    for i in 1..registers {
-        text.push_str(format!(in alloc; ".latch q{} q{i} 0\n", i - 1)?.as_str())?;
-    }
-    Ok(text)
-}
-
 // Whether four workers print the clocked trace of so many registers in a row, all in one cluster.
 fn is_run_as_clocked<R: AllocGlobal + Threads + Sync>(
     rt: &R,
@@ -131,41 +118,7 @@ fn wide_clusters_print_the_clocked_trace(rt: HostRuntime) -> Result<(), Fail> {
     Ok(())
 }
 
-// The next of a row of words, each of which is made of the one before it.
-fn next_word(word: &mut u64) -> usize {
-    *word ^= *word << 13;
-    *word ^= *word >> 7;
-    *word ^= *word << 17;
-    (*word >> 33) as usize
-}
-
-// The name of a net that is read: the input, or one of a hundred registers.
-fn source(alloc: Global, word: &mut u64) -> Result<String, AllocError> {
-    match next_word(word) % 101 {
-        0 => String::from_str(alloc, "a"),
-        n => format!(in alloc; "q{}", n - 1),
-    }
-}
-
-/// A hundred registers, each of which takes a table of two nets.
-pub fn tangle(alloc: Global, seed: u64) -> Result<String, AllocError> {
-    let mut word = seed ^ 88_172_645_463_325_252;
-    let mut text = String::from_str(alloc, ".model tangle\n.inputs a\n.outputs q0\n")?;
-    for i in 0..100 {
-        let first = source(alloc, &mut word)?;
-        let second = source(alloc, &mut word)?;
-        let row = match next_word(&mut word) % 3 {
-            0 => "11 0",
-            1 => "01 1",
-            _ => "1- 1\n-1 1",
-        };
-        text.push_str(format!(in alloc; ".names {first} {second} d{i}\n{row}\n")?.as_str())?;
-        text.push_str(format!(in alloc; ".latch d{i} q{i} {}\n", i % 2)?.as_str())?;
-    }
-    Ok(text)
-}
-
-// Whether four workers print the clocked trace of such a design, and a log that can be fired again.
+// Whether four workers print the clocked trace of a tangle, and a log that can be fired again.
 fn is_run_and_fired_again<R: AllocGlobal + Threads + Sync>(
     rt: &R,
     seed: u64,

@@ -1,8 +1,8 @@
 //! Tests of the program as a whole, of `run` and of traces: its top call over files in memory.
 //!
 //! Nothing stands on this crate. Most tests are texts that tell runs, which `ds_trial` plays. The
-//! other tests make long texts, or let writes fail. Tests of workers stand in `ds_jobs_tests`,
-//! those of the other commands in `ds_tests`.
+//! other tests make long texts, or let writes fail. Tests of workers and of windows stand in
+//! `ds_jobs_tests`, of runs that are stopped in `ds_state_tests`, of graphs in `ds_tests`.
 #![tactic(auto)]
 
 #[cfg(test)]
@@ -13,5 +13,3 @@ mod run_tests;
 mod trace_tests;
 #[cfg(test)]
 mod unknown_tests;
-#[cfg(test)]
-mod window_tests;

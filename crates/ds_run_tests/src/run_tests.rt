@@ -2,7 +2,7 @@
 use ds_app::desync_main;
 use ds_base::OutOfMemory;
 use ds_outside::{MemorySink, OpenGate};
-use ds_trial::{RING, Wanted, files, gives, play};
+use ds_trial::{RING, Wanted, chain, files, gives, play};
 use std::alloc::{AllocError, Global};
 use std::test::Fail;
 use std::thread::Threads;
@@ -70,18 +70,6 @@ fn clusters_print_the_clocked_trace(rt: HostRuntime) -> Result<(), Fail> {
     play(&rt, TRACES, 14)
 }
 
-// A hundred registers, each of which takes the one before it.
-fn chain(alloc: Global) -> Result<String, AllocError> {
-    let mut text = String::from_str(
-        alloc,
-        ".model chain\n.inputs clk a\n.outputs q99\n.latch a q0 re clk 0\n",
-    )?;
-    for i in 0..99 {
-        text.push_str(format!(in alloc; ".latch q{i} q{} re clk 0\n", i + 1)?.as_str())?;
-    }
-    Ok(text)
-}
-
 // So many zeros.
 fn push_zeros(text: &mut String, count: usize) -> Result<(), AllocError> {
     for _ in 0..count {
@@ -130,7 +118,7 @@ fn all_print<R: AllocGlobal + Threads + Sync>(
 #[test]
 fn a_one_goes_along_a_hundred_registers(rt: HostRuntime) -> Result<(), Fail> {
     let alloc = rt.alloc();
-    let net = chain(alloc)?;
+    let net = chain(alloc, 100)?;
     let mut vec = String::from_str(alloc, "1\n")?;
     for _ in 0..100 {
         vec.push_str("0\n")?;

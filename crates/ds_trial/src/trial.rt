@@ -89,6 +89,21 @@ pub fn gives<R: AllocGlobal + Threads + Sync>(
     Ok(wanted.is_given(status, &outputs))
 }
 
+/// Whether a command line is refused with this text on the error output, behind an output that ends
+/// with that one.
+pub fn is_refused<R: AllocGlobal + Threads + Sync>(
+    rt: &R,
+    all: &[(&str, &str)],
+    line: &str,
+    end: &str,
+    fault: &str,
+) -> Result<bool, OutOfMemory> {
+    let mut outputs = Outputs::with_room(rt.alloc(), 1_000_000)?;
+    let status = outputs.take(rt, all, line, &OpenGate)?;
+    let (out, err) = (outputs.out.bytes(), outputs.err.bytes());
+    Ok(status == 1 && out.ends_with(end.as_bytes()) && err == fault.as_bytes())
+}
+
 /// What a command line prints over these files, with workers that pause at the gate, where it ends
 /// with status 0.
 pub fn printed<R: AllocGlobal + Threads + Sync, G: Gate>(

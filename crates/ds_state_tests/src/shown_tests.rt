@@ -4,7 +4,6 @@ ghost use Rattle.ds_design.specs.Circuit.{columns};
 ghost use Rattle.ds_latch.specs.Node.{nodes};
 ghost use Rattle.ds_fire.specs.Snapshot.{split_of};
 
-use crate::jobs_tests::tangle;
 use ds_base::{LatchId, Mode, OutOfMemory, Row3};
 use ds_design::{Netlist, Vectors};
 use ds_fire::State;
@@ -13,7 +12,7 @@ use ds_lines::lines;
 use ds_outside::OpenGate;
 use ds_replay::replay;
 use ds_stage::{Stop, own_plan, read_netlist, read_rows, split_netlist};
-use ds_trial::{files, printed};
+use ds_trial::{files, printed, tangle};
 use std::alloc::Global;
 use std::test::Fail;
 

@@ -1,8 +1,7 @@
 //! Stopped runs beside the logs that they print: how many fire, and that `replay` shows the same.
-use crate::jobs_tests::tangle;
 use ds_base::OutOfMemory;
 use ds_outside::OpenGate;
-use ds_trial::{TOGGLE, Wanted, gives, printed};
+use ds_trial::{TOGGLE, Wanted, gives, printed, tangle};
 use std::alloc::{AllocError, Global};
 use std::test::Fail;
 use std::thread::Threads;

@@ -1,8 +1,7 @@
 //! Runs and clocked traces over more vectors than a window has, up to their limit and to a fault.
-use ds_app::desync_main;
 use ds_base::OutOfMemory;
-use ds_outside::{MemorySink, OpenGate};
-use ds_trial::{TOGGLE, files, printed};
+use ds_outside::OpenGate;
+use ds_trial::{TOGGLE, is_refused, printed};
 use std::alloc::{AllocError, Global};
 use std::test::Fail;
 use std::thread::Threads;
@@ -69,32 +68,21 @@ fn the_log_of_windows_is_fired_again(rt: HostRuntime) -> Result<(), Fail> {
 
 #[test]
 fn many_vectors_are_run(rt: HostRuntime) -> Result<(), Fail> {
-    let alloc = rt.alloc();
-    let vectors = ones(alloc, 4_097)?;
-    let mut files = files(alloc, &[("n", TOGGLE), ("v", vectors.as_str())])?;
-    let mut out = MemorySink::with_room(alloc, 100_000)?;
-    let mut err = MemorySink::with_room(alloc, 100)?;
-    let words = ["desync", "run", "n", "v"];
-    let answer = desync_main(&rt, &words, &mut files, &mut out, &mut err, &OpenGate);
-    assert_eq!(rt; answer, 0);
-    assert!(rt; out.bytes().ends_with(b"\n4096 0 0\nend 1\n"));
+    let vectors = ones(rt.alloc(), 4_097)?;
+    let files = [("n", TOGGLE), ("v", vectors.as_str())];
+    let text = printed(&rt, &files, "desync run n v", &OpenGate);
+    assert!(rt; text.is_some_and(|text| text.as_str().ends_with("\n4096 0 0\nend 1\n")));
     Ok(())
 }
 
 // A log keeps all firings, so with one there are fewer vectors; the windows before are written.
 #[test]
 fn too_many_vectors_are_refused(rt: HostRuntime) -> Result<(), Fail> {
-    let alloc = rt.alloc();
-    let vectors = ones(alloc, 65_537)?;
-    let mut files = files(alloc, &[("n", TOGGLE), ("v", vectors.as_str())])?;
-    let mut out = MemorySink::with_room(alloc, 1_000_000)?;
-    let mut err = MemorySink::with_room(alloc, 100)?;
-    let words = ["desync", "run", "n", "v", "--log"];
-    let answer = desync_main(&rt, &words, &mut files, &mut out, &mut err, &OpenGate);
-    assert_eq!(rt; answer, 1);
-    assert!(rt; out.bytes().ends_with(b"\n65535 1 1\n"));
-    let line = b"v:65537: too many vectors (limit 65536)\n".as_slice();
-    assert_eq!(rt; err.bytes(), line);
+    let vectors = ones(rt.alloc(), 65_537)?;
+    let files = [("n", TOGGLE), ("v", vectors.as_str())];
+    let fault = "v:65537: too many vectors (limit 65536)\n";
+    let line = "desync run n v --log";
+    assert!(rt; is_refused(&rt, &files, line, "\n65535 1 1\n", fault)?);
     Ok(())
 }
 
@@ -109,17 +97,11 @@ fn with_fault(alloc: Global, faulty: usize) -> Result<String, AllocError> {
 
 #[test]
 fn windows_stop_at_a_fault(rt: HostRuntime) -> Result<(), Fail> {
-    let alloc = rt.alloc();
-    let vectors = with_fault(alloc, 4_098)?;
-    for command in ["run", "clock"] {
-        let mut files = files(alloc, &[("n", TOGGLE), ("v", vectors.as_str())])?;
-        let mut out = MemorySink::with_room(alloc, 100_000)?;
-        let mut err = MemorySink::with_room(alloc, 100)?;
-        let words = ["desync", command, "n", "v"];
-        let answer = desync_main(&rt, &words, &mut files, &mut out, &mut err, &OpenGate);
-        assert_eq!(rt; answer, 1);
-        assert!(rt; out.bytes().ends_with(b"\n4095 1 1\n"));
-        assert_eq!(rt; err.bytes(), b"v:4098: bad bit\n".as_slice());
+    let vectors = with_fault(rt.alloc(), 4_098)?;
+    let files = [("n", TOGGLE), ("v", vectors.as_str())];
+    for line in ["desync run n v", "desync clock n v"] {
+        let is = is_refused(&rt, &files, line, "\n4095 1 1\n", "v:4098: bad bit\n")?;
+        assert!(rt; is, "{line}");
     }
     Ok(())
 }
