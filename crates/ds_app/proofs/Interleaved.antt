@@ -22,12 +22,12 @@ run_wide held vec log None c vectors means = streamed_wide held vec (most_vector
 run_wide held vec log (Some stop) c vectors means = vectors_wide held vec c vectors means
 
 pub interleavings_lem : (held : List ℕ → Held) (words : List (List ℕ)) → Interleavings held words
-interleavings_lem held words net vec graph mode jobs log slack stop is_job c netlist p planned vectors means =
+interleavings_lem held words job is_job c netlist p planned vectors means =
     let (flat, is_flat, (is, accepted)) = netlist in
     let accepted' : IsAccepted c = subst (λ (d : Circuit). IsAccepted d) (sym is) accepted in
-    let plan : IsPlan p.split p.graph = planned_is_plan held net graph mode slack c p accepted' planned in
-    let same : c ≡ p.split.circuit = sym (planned_circuit held net graph mode slack c p planned) in
+    let plan : IsPlan p.split p.graph = planned_is_plan held job.net job.graph job.clusters job.slack c p accepted' planned in
+    let same : c ≡ p.split.circuit = sym (planned_circuit held job.net job.graph job.clusters job.slack c p planned) in
     headline p.split p.graph plan
-    (subst IsInRange same (netlist_in_range held net c netlist))
+    (subst IsInRange same (netlist_in_range held job.net c netlist))
     vectors.rows
-    (subst (λ (d : Circuit). All (λ vector. length vector ≡ length (columns d)) vectors.rows) same (run_wide held vec log stop c vectors means))
+    (subst (λ (d : Circuit). All (λ vector. length vector ≡ length (columns d)) vectors.rows) same (run_wide held job.vec job.log job.stop c vectors means))

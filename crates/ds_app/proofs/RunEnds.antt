@@ -1,5 +1,5 @@
 -- How `run` ends, and that there is a text of all vectors.
-use Rattle.std.proofs.Common.{◌≡◌, ◌∙◌, ◌++◌, ◌+◌, ◌<◌, ℕ, Bool, true, false, List, [], ◌∷◌, Option, Some, Ok, Err, length, ap, inl, refl, subst, sym, arith}
+use Rattle.std.proofs.Common.{◌≡◌, ◌∙◌, ◌++◌, ◌+◌, ◌<◌, ℕ, Bool, true, false, List, [], ◌∷◌, Option, Some, Result, Ok, Err, length, ap, inl, refl, subst, sym, arith}
 use Rattle.std.specs.Prelude.{All, codes, decimal}
 use Rattle.std.proofs.lemmas.List.Elements.{All-head, All-tail}
 use Rattle.ds_base.specs.Values.{Row}
@@ -19,6 +19,7 @@ use Rattle.ds_trace.specs.Ended.{IsRunEnd}
 use Rattle.ds_trace.specs.Logged.{IsLogOf, Listed}
 use Rattle.ds_trace.proofs.Ended.{end_spells_run}
 use Rattle.ds_trace.proofs.Logged.{legal_events, log_more}
+use Rattle.ds_stage.specs.declared.stop.Stop.{Stop}
 use Rattle.ds_stage.specs.declared.stop.Stop.TheVariants.{Unwritten}
 use Rattle.ds_stage.specs.Ends.{Ends, Output}
 use Rattle.ds_stage.specs.Stage.{OfFile}
@@ -89,6 +90,13 @@ module _ (held : List ℕ → Held) (vec : List ℕ) (p : Planned) (log : Bool) 
     part_after out.old mid out.new written.lines text written.written part,
     cause,
   )
+
+-- how a run ends on the vectors of a file, by the name that was lent of it
+pub ends_of_file : (held : List ℕ → Held) (vec file : List ℕ) (log : Bool) (p : Planned) (failed : OfFile) (out : Output) (result : Result (Unit {0}) Stop) → vec ≡ file
+    → Ends {A = Unit {0}} (streamed_run_stage held vec log p.split.circuit p) failed out result
+    → Ends {A = Unit {0}} (streamed_run_stage held file log p.split.circuit p) failed out result
+ends_of_file held vec file log p failed out result same is =
+    subst (λ (name : List ℕ). Ends {A = Unit {0}} (streamed_run_stage held name log p.split.circuit p) failed out result) same is
 
 -- vectors that a job takes have numbers
 pub few_vectors : (log : Bool) → most_vectors log < 4294967296

@@ -1,7 +1,6 @@
 -- In whatever order the latches of a `run` command fire, each register stores its clocked values,
 -- one after another.
-use Rattle.std.specs.Prelude.{◌≡◌, ℕ, Bool, List, Option, Ok}
-use Rattle.ds_base.specs.declared.number.Mode.{Mode}
+use Rattle.std.specs.Prelude.{◌≡◌, ℕ, List, Ok}
 use Rattle.ds_outside.specs.Held.{Held}
 use Rattle.ds_design.specs.Circuit.{Circuit}
 use Rattle.ds_design.specs.Rows.{Rows}
@@ -9,6 +8,7 @@ use Rattle.ds_latch.specs.Plan.{Planned}
 use Rattle.ds_latch.specs.Headline.{Desynchronizes}
 use Rattle.ds_cmd.specs.Line.{job_of}
 use Rattle.ds_cmd.specs.declared.job.Job.TheVariants.{Run}
+use Rattle.ds_cmd.specs.declared.run.RunJob.{RunJob}
 use Rattle.ds_stage.specs.Stages.{netlist_stage}
 use Rattle.ds_stage.specs.PlanStage.{planned_stage}
 use Rattle.ds_app.specs.RunStage.{run_vectors_stage}
@@ -18,10 +18,8 @@ use Rattle.ds_app.specs.RunStage.{run_vectors_stage}
 -- and every legal list does what it does
 abbrev pub Interleavings : (List ℕ → Held) → List (List ℕ) → Type 0
 Interleavings held words =
-    (net vec : List ℕ) (graph : Option (List ℕ)) (mode : Mode) (jobs : ℕ) (log : Bool)
-    (slack : ℕ) (stop : Option ℕ)
-    → job_of words ≡ Ok (Run net vec graph mode jobs log slack stop)
-    → (c : Circuit) → (netlist_stage held net).means c
-    → (p : Planned) → (planned_stage held net graph mode slack c).means p
-    → (vectors : Rows) → (run_vectors_stage held vec log stop c).means vectors
+    (job : RunJob) → job_of words ≡ Ok (Run job)
+    → (c : Circuit) → (netlist_stage held job.net).means c
+    → (p : Planned) → (planned_stage held job.net job.graph job.clusters job.slack c).means p
+    → (vectors : Rows) → (run_vectors_stage held job.vec job.log job.stop c).means vectors
     → Desynchronizes p.split p.graph vectors.rows

@@ -106,28 +106,27 @@ IsToldIn held (Some file) = held file ≢ untold
 
 -- the files of a job tell what they hold
 abbrev pub AreTold : (List ℕ → Held) → Job → Type 0
-AreTold held (Run net vec graph mode jobs log slack stop) =
-    (held net ≢ untold) × (held vec ≢ untold) × IsToldIn held graph
-AreTold held (Clock net vec) = (held net ≢ untold) × (held vec ≢ untold)
+AreTold held (Run job) =
+    (held job.net ≢ untold) × (held job.vec ≢ untold) × IsToldIn held job.graph
+AreTold held (Clock job) = (held job.net ≢ untold) × (held job.vec ≢ untold)
 AreTold held (Check net) = held net ≢ untold
-AreTold held (Graph net mode shake) = held net ≢ untold
-AreTold held (Replay net vec log graph mode slack transparent) =
-    (held net ≢ untold) × (held vec ≢ untold) × (held log ≢ untold) × IsToldIn held graph
-AreTold held (Accept net graph mode) = (held net ≢ untold) × (held graph ≢ untold)
-AreTold held (Demo seed registers turns jobs) = Unit {0}
-AreTold held (Period net delays mode) = (held net ≢ untold) × (held delays ≢ untold)
+AreTold held (Graph job) = held job.net ≢ untold
+AreTold held (Replay job) = (held job.net ≢ untold) × (held job.vec ≢ untold)
+    × (held job.log ≢ untold) × IsToldIn held job.graph
+AreTold held (Accept job) = (held job.net ≢ untold) × (held job.graph ≢ untold)
+AreTold held (Demo job) = Unit {0}
+AreTold held (Period job) = (held job.net ≢ untold) × (held job.delays ≢ untold)
 
 -- the job reads its vectors window by window, and writes as it reads
 abbrev pub HasWindows : Job → Type 0
-HasWindows (Run net vec graph mode jobs log slack None) = Unit {0}
-HasWindows (Run net vec graph mode jobs log slack (Some stop)) = ⊥
-HasWindows (Clock net vec) = Unit {0}
+HasWindows (Run job) = job.stop ≡ None
+HasWindows (Clock job) = Unit {0}
 HasWindows (Check net) = ⊥
-HasWindows (Graph net mode shake) = ⊥
-HasWindows (Replay net vec log graph mode slack transparent) = ⊥
-HasWindows (Accept net graph mode) = ⊥
-HasWindows (Demo seed registers turns jobs) = ⊥
-HasWindows (Period net delays mode) = ⊥
+HasWindows (Graph job) = ⊥
+HasWindows (Replay job) = ⊥
+HasWindows (Accept job) = ⊥
+HasWindows (Demo job) = ⊥
+HasWindows (Period job) = ⊥
 
 -- the words are no command line, or that of a job that writes nothing before it has all its text
 abbrev pub WritesLast : List (List ℕ) → Type 0

@@ -6,16 +6,16 @@ ghost use Rattle.ds_app.specs.Interleavings.{Interleavings};
 ghost use Rattle.ds_app.specs.Job.{stages_of};
 ghost use Rattle.ds_app.specs.Status.{Call, IsAnswered, Reports, SaysStop, SaysUsage};
 
-use crate::demo::{DemoJob, demo};
-use crate::run::{RunJob, run};
+use crate::demo::demo;
+use crate::run::run;
 use ds_cmd::{Job, UsageFault, parse};
 use ds_outside::{Files, Gate, Sink, write_all};
-use ds_solo::accept::{AcceptJob, accept};
+use ds_solo::accept::accept;
 use ds_solo::check::check;
 use ds_solo::clock::clock;
-use ds_solo::graph::{GraphJob, graph};
-use ds_solo::period::{PeriodJob, period};
-use ds_solo::replay::{ReplayJob, replay};
+use ds_solo::graph::graph;
+use ds_solo::period::period;
+use ds_solo::replay::replay;
 use ds_stage::Stop;
 use std::thread::Threads;
 
@@ -87,100 +87,14 @@ fn do_job<R: AllocGlobal + Threads + Sync, G: Gate, F: Files, O: Sink>(
 {
     let alloc = rt.alloc();
     match job {
-        Job::Run {
-            net,
-            vec,
-            graph,
-            clusters,
-            jobs,
-            log,
-            slack,
-            stop,
-        } => {
-            let job = RunJob {
-                net: net.as_str(),
-                vec: vec.as_str(),
-                graph,
-                clusters: *clusters,
-                jobs: *jobs,
-                log: *log,
-                slack: *slack,
-                stop: *stop,
-            };
-            run(rt, &job, gate, files, out)
-        }
-        Job::Clock { net, vec } => clock(alloc, net.as_str(), vec.as_str(), files, out),
-        Job::Check { net } => check(alloc, net.as_str(), files, out),
-        Job::Graph {
-            net,
-            clusters,
-            shake,
-        } => {
-            let job = GraphJob {
-                net: net.as_str(),
-                clusters: *clusters,
-                shake: *shake,
-            };
-            graph(alloc, &job, files, out)
-        }
-        Job::Replay {
-            net,
-            vec,
-            log,
-            graph,
-            clusters,
-            slack,
-            transparent,
-        } => {
-            let job = ReplayJob {
-                net: net.as_str(),
-                vec: vec.as_str(),
-                log: log.as_str(),
-                graph,
-                clusters: *clusters,
-                slack: *slack,
-                transparent: *transparent,
-            };
-            replay(alloc, &job, files, out)
-        }
-        Job::Accept {
-            net,
-            graph,
-            clusters,
-        } => {
-            let job = AcceptJob {
-                net: net.as_str(),
-                graph: graph.as_str(),
-                clusters: *clusters,
-            };
-            accept(alloc, &job, files, out)
-        }
-        Job::Demo {
-            seed,
-            registers,
-            turns,
-            jobs,
-        } => {
-            let job = DemoJob {
-                seed: *seed,
-                registers: *registers,
-                turns: *turns,
-                jobs: *jobs,
-            };
-            demo(rt, &job, gate, out)
-        }
-        Job::Period {
-            net,
-            delays,
-            clusters,
-        } => {
-            let job = PeriodJob {
-                net: net.as_str(),
-                delays: delays.as_str(),
-                clusters: *clusters,
-            };
-            period(alloc, &job, files, out)
-        }
+        Job::Run(job) => run(rt, job, gate, files, out),
+        Job::Clock(job) => clock(alloc, job, files, out),
+        Job::Check(net) => check(alloc, net, files, out),
+        Job::Graph(job) => graph(alloc, job, files, out),
+        Job::Replay(job) => replay(alloc, job, files, out),
+        Job::Accept(job) => accept(alloc, job, files, out),
+        Job::Demo(job) => demo(rt, job, gate, out),
+        Job::Period(job) => period(alloc, job, files, out),
     }
 }
 

@@ -12,6 +12,7 @@ ghost use Rattle.ds_stage.specs.Ends.{Ends, Never, output_between};
 ghost use Rattle.ds_stage.specs.SplitStage.{split_stage};
 
 use ds_base::{Mode, OutOfMemory};
+use ds_cmd::DemoJob;
 use ds_demo::make;
 use ds_design::{Design, Netlist};
 use ds_latch::Plan;
@@ -22,16 +23,6 @@ use ds_stage::{Stop, own_plan, put_count, split_netlist};
 use ds_trace::{Sums, sum_run};
 use std::alloc::Global;
 use std::thread::Threads;
-
-/// What `demo` is to do: the number that a design is made from, how many registers it is to have,
-/// how many vectors, and how many workers.
-#[derive(Clone, Copy)]
-pub struct DemoJob {
-    pub seed: u64,
-    pub registers: u32,
-    pub turns: u32,
-    pub jobs: u32,
-}
 
 /// Makes a design and vectors from a number, runs them, and writes the summary.
 pub fn demo<R: AllocGlobal + Threads + Sync, G: Gate, O: Sink>(

@@ -10,8 +10,8 @@ ghost use Rattle.ds_app.specs.Job.{stages_of};
 ghost use Rattle.ds_app.specs.RunStage.{planned_run_stage, streamed_run_stage};
 
 use crate::stopped::{PlannedStop, write_at_stop};
-use ds_base::{Mode, OutOfMemory, Row3};
-use ds_cmd::FileName;
+use ds_base::{OutOfMemory, Row3};
+use ds_cmd::RunJob;
 use ds_latch::Plan;
 use ds_outside::{Files, Gate, Sink, WriteFault};
 use ds_run::Workers;
@@ -21,51 +21,33 @@ use ds_trace::{Log, RunFault, RunWindow, end_run, write_window};
 use std::alloc::Global;
 use std::thread::Threads;
 
-/// What `run` is to do: the files of the netlist, of the vectors and of a graph, where one is
-/// named; how registers are put into clusters; how many workers, whether a log is wanted, how many
-/// openings a producer may run ahead of its consumers, and after how many firings each worker
-/// stops, where the run is to be stopped.
-#[derive(Clone, Copy)]
-pub struct RunJob<'a> {
-    pub net: &'a str,
-    pub vec: &'a str,
-    pub graph: &'a Option<FileName>,
-    pub clusters: Mode,
-    pub jobs: u32,
-    pub log: bool,
-    pub slack: u8,
-    pub stop: Option<u64>,
-}
-
 /// Reads a netlist, makes its plan, has workers run it on the vectors as these are read, and writes
 /// the trace; or has them run it to a stop, and writes what each register has stored then. The log
 /// stands behind where one is wanted.
 #[tactic(auto)]
 pub fn run<R: AllocGlobal + Threads + Sync, G: Gate, F: Files, O: Sink>(
     rt: &R,
-    job: &RunJob<'_>,
+    job: &RunJob,
     gate: &G,
     files: &mut F,
     out: &mut O,
 ) -> Result<(), Stop>
     requires jobs { (0 < job.now.jobs) × (job.now.jobs ≤ 64) }
     requires slack { job.now.slack ≤ 15 }
-    ensures value { Ends (stages_of (F.held files.old) (Run job.now.net.now job.now.vec.now
-        job.now.graph.now job.now.clusters job.now.jobs job.now.log job.now.slack job.now.stop))
+    ensures value { Ends (stages_of (F.held files.old) (Run job.now))
         (RoseIn (F.faults files.old) (F.faults files.new))
         (output_between O.written O.faults out.old out.new) result }
 
     ensures same_held { F.held files.new ≡ F.held files.old }
 {
-    // Read for the fact that its names are texts.
-    let _texts = *job;
     let alloc = rt.alloc();
-    let netlist = read_netlist(alloc, files, job.net)?;
+    let net = job.net.as_str();
+    let netlist = read_netlist(alloc, files, net)?;
     let splitting = Splitting {
         clusters: job.clusters,
         slack: job.slack,
     };
-    let mut plan = plan_netlist(alloc, files, job.net, &netlist, job.graph, splitting)?;
+    let mut plan = plan_netlist(alloc, files, net, &netlist, &job.graph, splitting)?;
     let workers = Workers {
         threads: rt,
         jobs: job.jobs,
@@ -77,14 +59,14 @@ pub fn run<R: AllocGlobal + Threads + Sync, G: Gate, F: Files, O: Sink>(
 // Runs a plan by these workers, to its end or to its stop.
 fn run_planned<R: AllocGlobal + Threads + Sync, G: Gate, F: Files, O: Sink>(
     workers: &Workers<'_, R, G>,
-    job: &RunJob<'_>,
+    job: &RunJob,
     plan: &mut Plan<'_>,
     files: &mut F,
     out: &mut O,
 ) -> Result<(), Stop>
     requires start { plan.old.split.initial ≡ initial_row plan.old.split.circuit }
     requires jobs { (0 < workers.now.jobs) × (workers.now.jobs ≤ 64) }
-    ensures value { Ends (planned_run_stage (F.held files.old) job.now.vec.now job.now.log
+    ensures value { Ends (planned_run_stage (F.held files.old) job.now.vec job.now.log
         workers.now.jobs job.now.stop plan.old.split.circuit plan.old)
         (RoseIn (F.faults files.old) (F.faults files.new))
         (output_between O.written O.faults out.old out.new) result }
@@ -104,20 +86,21 @@ fn run_planned<R: AllocGlobal + Threads + Sync, G: Gate, F: Files, O: Sink>(
 // before, and writes its trace, and its log where one is wanted.
 fn write_traced<R: AllocGlobal + Threads + Sync, G: Gate, F: Files, O: Sink>(
     workers: &Workers<'_, R, G>,
-    job: &RunJob<'_>,
+    job: &RunJob,
     plan: &mut Plan<'_>,
     files: &mut F,
     out: &mut O,
 ) -> Result<(), Stop>
     requires start { plan.old.split.initial ≡ initial_row plan.old.split.circuit }
     requires jobs { (0 < workers.now.jobs) × (workers.now.jobs ≤ 64) }
-    ensures value { Ends (streamed_run_stage (F.held files.old) job.now.vec.now job.now.log
+    ensures value { Ends (streamed_run_stage (F.held files.old) job.now.vec job.now.log
         plan.old.split.circuit plan.old) (RoseIn (F.faults files.old) (F.faults files.new))
         (output_between O.written O.faults out.old out.new) result }
 
     ensures same_held { F.held files.new ≡ F.held files.old }
 {
     let alloc = workers.threads.alloc();
+    let vec = job.vec.as_str();
     // Read for the facts that its numbers are in range, and that it is accepted.
     let _design = plan.latches().netlist().design();
     let _graph = plan.graph();
@@ -127,7 +110,7 @@ fn write_traced<R: AllocGlobal + Threads + Sync, G: Gate, F: Files, O: Sink>(
     let mut first = 0;
     let mut more = true;
     'windows: while more {
-        let (behind, vectors) = read_window(alloc, files, job.vec, reader)?;
+        let (behind, vectors) = read_window(alloc, files, vec, reader)?;
         let turns = vectors.count();
         let window = RunWindow {
             plan: &*plan,

@@ -6,7 +6,7 @@ ghost use Rattle.ds_stage.specs.Ends.{Ends, Never, RoseIn, output_between};
 ghost use Rattle.ds_stage.specs.Stage.{giving};
 ghost use Rattle.ds_app.specs.RunStage.{stopped_run_stage};
 
-use crate::run::RunJob;
+use ds_cmd::RunJob;
 use ds_latch::Plan;
 use ds_outside::{Files, Gate, Sink};
 use ds_run::Workers;
@@ -26,13 +26,13 @@ pub struct PlannedStop<'a, 'n> {
 #[tactic(auto)]
 pub fn write_at_stop<R: AllocGlobal + Threads + Sync, G: Gate, F: Files, O: Sink>(
     workers: &Workers<'_, R, G>,
-    job: &RunJob<'_>,
+    job: &RunJob,
     planned: &PlannedStop<'_, '_>,
     files: &mut F,
     out: &mut O,
 ) -> Result<(), Stop>
     requires jobs { (0 < workers.now.jobs) × (workers.now.jobs ≤ 64) }
-    ensures value { Ends (stopped_run_stage (F.held files.old) job.now.vec.now job.now.log
+    ensures value { Ends (stopped_run_stage (F.held files.old) job.now.vec job.now.log
         workers.now.jobs planned.now.stop planned.now.plan.now.split.circuit planned.now.plan.now)
         (RoseIn (F.faults files.old) (F.faults files.new))
         (output_between O.written O.faults out.old out.new) result }
@@ -41,7 +41,8 @@ pub fn write_at_stop<R: AllocGlobal + Threads + Sync, G: Gate, F: Files, O: Sink
 {
     let alloc = workers.threads.alloc();
     let plan = planned.plan;
-    let vectors = read_rows(alloc, files, job.vec, plan.latches().netlist())?;
+    let vec = job.vec.as_str();
+    let vectors = read_rows(alloc, files, vec, plan.latches().netlist())?;
     let halt = Halt {
         plan,
         vectors: &vectors,

@@ -19,4 +19,5 @@ accept_shape = command_shape (codes "accept") (
 abbrev pub accept_job : List Row → Result Job UsageFault
 accept_job rows = with_value (first_of (codes "net") rows) (λ net.
     with_value (first_of (codes "graph") rows) (λ graph.
-    with_mode (clusters_of rows) (λ clusters. Ok (Accept net graph clusters))))
+    with_mode (clusters_of rows) (λ clusters.
+    Ok (Accept (record { net = net; graph = graph; clusters = clusters })))))

@@ -12,13 +12,12 @@ AreWorkers jobs = (1 ≤ jobs) × (jobs ≤ 64)
 
 -- the numbers of a job are within their ranges, and open latches are shown without slack alone
 abbrev pub AreAllowed : Job → Type 0
-AreAllowed (Run net vec graph mode jobs log slack stop) = AreWorkers jobs × (slack ≤ 15)
-AreAllowed (Clock net vec) = ⊤
+AreAllowed (Run job) = AreWorkers job.jobs × (job.slack ≤ 15)
+AreAllowed (Clock job) = ⊤
 AreAllowed (Check net) = ⊤
-AreAllowed (Graph net mode shake) = ⊤
-AreAllowed (Replay net vec log graph mode slack transparent) =
-    (slack ≤ 15) × (transparent ≡ true → slack ≡ 0)
-AreAllowed (Accept net graph mode) = ⊤
-AreAllowed (Demo seed registers turns jobs) = (1 ≤ registers) × (registers ≤ most_of Clusters)
-    × (turns ≤ most_of Vectors) × AreWorkers jobs
-AreAllowed (Period net delays mode) = ⊤
+AreAllowed (Graph job) = ⊤
+AreAllowed (Replay job) = (job.slack ≤ 15) × (job.transparent ≡ true → job.slack ≡ 0)
+AreAllowed (Accept job) = ⊤
+AreAllowed (Demo job) = (1 ≤ job.registers) × (job.registers ≤ most_of Clusters)
+    × (job.turns ≤ most_of Vectors) × AreWorkers job.jobs
+AreAllowed (Period job) = ⊤

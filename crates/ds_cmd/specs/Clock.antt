@@ -15,4 +15,5 @@ clock_shape =
 -- its job, from the values of its arguments
 abbrev pub clock_job : List Row → Result Job UsageFault
 clock_job rows = with_value (first_of (codes "net") rows) (λ net.
-    with_value (first_of (codes "vec") rows) (λ vec. Ok (Clock net vec)))
+    with_value (first_of (codes "vec") rows) (λ vec.
+    Ok (Clock (record { net = net; vec = vec }))))

@@ -25,7 +25,8 @@ demo_of seed registers turns rows =
     with_number (number_in_range 0 18446744073709551615 seed) (λ seed.
     with_number (number_in_range 1 (most_of Clusters) registers) (λ registers.
     with_number (number_in_range 0 (most_of Vectors) turns) (λ turns.
-    with_number (jobs_of rows) (λ jobs. Ok (Demo seed registers turns jobs)))))
+    with_number (jobs_of rows) (λ jobs.
+    Ok (Demo (record { seed = seed; registers = registers; turns = turns; jobs = jobs }))))))
 
 -- its job, from the values of its arguments
 abbrev pub demo_job : List Row → Result Job UsageFault

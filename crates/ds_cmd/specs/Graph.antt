@@ -19,4 +19,4 @@ graph_shape = command_shape (codes "graph") (
 abbrev pub graph_job : List Row → Result Job UsageFault
 graph_job rows = with_value (first_of (codes "net") rows) (λ net.
     with_mode (clusters_of rows) (λ clusters.
-    Ok (Graph net clusters (is_set (codes "shake") rows))))
+    Ok (Graph (record { net = net; clusters = clusters; shake = is_set (codes "shake") rows }))))

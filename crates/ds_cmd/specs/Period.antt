@@ -19,4 +19,5 @@ period_shape = command_shape (codes "period") (
 abbrev pub period_job : List Row → Result Job UsageFault
 period_job rows = with_value (first_of (codes "net") rows) (λ net.
     with_value (first_of (codes "delays") rows) (λ delays.
-    with_mode (clusters_of rows) (λ clusters. Ok (Period net delays clusters))))
+    with_mode (clusters_of rows) (λ clusters.
+    Ok (Period (record { net = net; delays = delays; clusters = clusters })))))

@@ -33,4 +33,12 @@ replay_job rows = with_value (first_of (codes "net") rows) (λ net.
     with_number (slack_of rows) (λ slack.
     with_mode (clusters_of rows) (λ clusters.
     with_mode (shown_with slack (is_set (codes "transparent") rows)) (λ transparent.
-    Ok (Replay net vec log (first_of (codes "graph") rows) clusters slack transparent)))))))
+    Ok (Replay (record {
+      net = net;
+      vec = vec;
+      log = log;
+      graph = first_of (codes "graph") rows;
+      clusters = clusters;
+      slack = slack;
+      transparent = transparent;
+    }))))))))

@@ -29,5 +29,13 @@ run_job rows = with_value (first_of (codes "net") rows) (λ net.
     with_number (slack_of rows) (λ slack.
     with_number (stop_in rows) (λ stop.
     with_mode (clusters_of rows) (λ clusters.
-    Ok (Run net vec (first_of (codes "graph") rows) clusters jobs (is_set (codes "log") rows)
-    slack stop)))))))
+    Ok (Run (record {
+      net = net;
+      vec = vec;
+      graph = first_of (codes "graph") rows;
+      clusters = clusters;
+      jobs = jobs;
+      log = is_set (codes "log") rows;
+      slack = slack;
+      stop = stop;
+    }))))))))

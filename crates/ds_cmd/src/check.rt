@@ -25,7 +25,5 @@ pub fn job(alloc: Global, values: &ArgMatches<'_>) -> Result<Job, UsageFault>
     let Some(net) = text(values, "net") else {
         return Err(UsageFault::Line);
     };
-    Ok(Job::Check {
-        net: FileName::new(alloc, net)?,
-    })
+    Ok(Job::Check(FileName::new(alloc, net)?))
 }

@@ -1,3 +1,4 @@
+//! The words of `clock`.
 ghost use Rattle.std.specs.Prelude.{◌≡◌, IfOk};
 ghost use Rattle.clap.specs.Words.{shape_of, found_of, rows_of};
 ghost use Rattle.ds_cmd.specs.Fault.{Gives};
@@ -9,6 +10,15 @@ use crate::{FileName, Job, UsageFault};
 use clap::{ArgMatches, Command};
 use ds_base::OutOfMemory;
 use std::alloc::Global;
+
+/// What `clock` is to do.
+#[derive(Drop)]
+pub struct ClockJob {
+    /// The file of the netlist.
+    pub net: FileName,
+    /// The file of the vectors.
+    pub vec: FileName,
+}
 
 /// `clock NET VEC`, as a subcommand.
 pub fn command<'a>(alloc: Global) -> Result<Command<'a>, OutOfMemory>
@@ -28,8 +38,8 @@ pub fn job(alloc: Global, values: &ArgMatches<'_>) -> Result<Job, UsageFault>
     let Some(vec) = text(values, "vec") else {
         return Err(UsageFault::Line);
     };
-    Ok(Job::Clock {
+    Ok(Job::Clock(ClockJob {
         net: FileName::new(alloc, net)?,
         vec: FileName::new(alloc, vec)?,
-    })
+    }))
 }

@@ -11,6 +11,19 @@ use clap::{ArgMatches, Command};
 use ds_base::{Limit, OutOfMemory};
 use std::alloc::Global;
 
+/// What `demo` is to do.
+#[derive(Drop)]
+pub struct DemoJob {
+    /// The number that the netlist and the vectors are made from.
+    pub seed: u64,
+    /// How many registers the netlist has, 1 to 4,096.
+    pub registers: u32,
+    /// For how many turns there are vectors, up to 65,536.
+    pub turns: u32,
+    /// How many threads are wanted, 1 to 64.
+    pub jobs: u32,
+}
+
 /// `demo SEED REGISTERS TURNS [--jobs N]`, as a subcommand.
 pub fn command<'a>(alloc: Global) -> Result<Command<'a>, OutOfMemory>
     ensures { IfOk result (λ c. shape_of c ≡ demo_shape) }
@@ -61,10 +74,10 @@ fn job_of(
     let Some(jobs) = jobs(values) else {
         return Err(UsageFault::Number);
     };
-    Ok(Job::Demo {
+    Ok(Job::Demo(DemoJob {
         seed,
         registers,
         turns,
         jobs,
-    })
+    }))
 }

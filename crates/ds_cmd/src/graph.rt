@@ -9,8 +9,19 @@ use crate::clusters::clusters;
 use crate::subcommand::subcommand;
 use crate::{FileName, Job, UsageFault};
 use clap::{ArgMatches, Command};
-use ds_base::OutOfMemory;
+use ds_base::{Mode, OutOfMemory};
 use std::alloc::Global;
+
+/// What `graph` is to do.
+#[derive(Drop)]
+pub struct GraphJob {
+    /// The file of the netlist.
+    pub net: FileName,
+    /// How registers are put into clusters.
+    pub clusters: Mode,
+    /// Whether the four-phase expansion of the graph is wanted.
+    pub shake: bool,
+}
 
 /// `graph NET [--clusters MODE] [--shake]`, as a subcommand.
 pub fn command<'a>(alloc: Global) -> Result<Command<'a>, OutOfMemory>
@@ -34,9 +45,9 @@ pub fn job(alloc: Global, values: &ArgMatches<'_>) -> Result<Job, UsageFault>
     let Some(clusters) = clusters(values) else {
         return Err(UsageFault::Mode);
     };
-    Ok(Job::Graph {
+    Ok(Job::Graph(GraphJob {
         net: FileName::new(alloc, net)?,
         clusters,
         shake: is_set(values, "shake"),
-    })
+    }))
 }

@@ -29,7 +29,14 @@ mod replay;
 mod run;
 mod subcommand;
 
+pub use accept::AcceptJob;
+pub use clock::ClockJob;
+pub use demo::DemoJob;
 pub use fault::UsageFault;
 pub use file_name::FileName;
+pub use graph::GraphJob;
 pub use job::Job;
 pub use line::parse;
+pub use period::PeriodJob;
+pub use replay::ReplayJob;
+pub use run::RunJob;

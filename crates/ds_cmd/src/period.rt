@@ -9,8 +9,19 @@ use crate::clusters::clusters;
 use crate::subcommand::subcommand;
 use crate::{FileName, Job, UsageFault};
 use clap::{ArgMatches, Command};
-use ds_base::OutOfMemory;
+use ds_base::{Mode, OutOfMemory};
 use std::alloc::Global;
+
+/// What `period` is to do.
+#[derive(Drop)]
+pub struct PeriodJob {
+    /// The file of the netlist.
+    pub net: FileName,
+    /// The file of the delays.
+    pub delays: FileName,
+    /// How registers are put into clusters.
+    pub clusters: Mode,
+}
 
 /// `period NET D [--clusters MODE]`, as a subcommand.
 pub fn command<'a>(alloc: Global) -> Result<Command<'a>, OutOfMemory>
@@ -37,9 +48,9 @@ pub fn job(alloc: Global, values: &ArgMatches<'_>) -> Result<Job, UsageFault>
     let Some(clusters) = clusters(values) else {
         return Err(UsageFault::Mode);
     };
-    Ok(Job::Period {
+    Ok(Job::Period(PeriodJob {
         net: FileName::new(alloc, net)?,
         delays: FileName::new(alloc, delays)?,
         clusters,
-    })
+    }))
 }

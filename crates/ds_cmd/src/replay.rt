@@ -11,8 +11,27 @@ use crate::number::slack;
 use crate::subcommand::subcommand;
 use crate::{FileName, Job, UsageFault};
 use clap::{ArgMatches, Command};
-use ds_base::OutOfMemory;
+use ds_base::{Mode, OutOfMemory};
 use std::alloc::Global;
+
+/// What `replay` is to do.
+#[derive(Drop)]
+pub struct ReplayJob {
+    /// The file of the netlist.
+    pub net: FileName,
+    /// The file of the vectors.
+    pub vec: FileName,
+    /// The file of the log.
+    pub log: FileName,
+    /// The file of a controller graph, where one is named.
+    pub graph: Option<FileName>,
+    /// How registers are put into clusters.
+    pub clusters: Mode,
+    /// How many openings a producer may run ahead of its consumers, 0 to 15.
+    pub slack: u8,
+    /// Whether what the open latches let through is wanted, which is without slack.
+    pub transparent: bool,
+}
 
 /// `replay NET VEC LOG [--graph G] [--clusters MODE] [--slack N] [--transparent]`, as a subcommand.
 pub fn command<'a>(alloc: Global) -> Result<Command<'a>, OutOfMemory>
@@ -52,7 +71,7 @@ pub fn job(alloc: Global, values: &ArgMatches<'_>) -> Result<Job, UsageFault>
     let Some(transparent) = transparent(values, slack) else {
         return Err(UsageFault::Mode);
     };
-    Ok(Job::Replay {
+    Ok(Job::Replay(ReplayJob {
         net: FileName::new(alloc, net)?,
         vec: FileName::new(alloc, vec)?,
         log: FileName::new(alloc, log)?,
@@ -60,7 +79,7 @@ pub fn job(alloc: Global, values: &ArgMatches<'_>) -> Result<Job, UsageFault>
         clusters,
         slack,
         transparent,
-    })
+    }))
 }
 
 // Whether open latches are to be shown: as the option `--transparent` says. `None` where it stands

@@ -10,8 +10,29 @@ use crate::number::{jobs, slack, stop};
 use crate::subcommand::subcommand;
 use crate::{FileName, Job, UsageFault};
 use clap::{ArgMatches, Command};
-use ds_base::OutOfMemory;
+use ds_base::{Mode, OutOfMemory};
 use std::alloc::Global;
+
+/// What `run` is to do.
+#[derive(Drop)]
+pub struct RunJob {
+    /// The file of the netlist.
+    pub net: FileName,
+    /// The file of the vectors.
+    pub vec: FileName,
+    /// The file of a controller graph, where one is named.
+    pub graph: Option<FileName>,
+    /// How registers are put into clusters.
+    pub clusters: Mode,
+    /// How many threads are wanted, 1 to 64.
+    pub jobs: u32,
+    /// Whether the log of the firings is wanted behind the trace.
+    pub log: bool,
+    /// How many openings a producer may run ahead of its consumers, 0 to 15.
+    pub slack: u8,
+    /// How many events each worker fires at most, where the run is to be stopped.
+    pub stop: Option<u64>,
+}
 
 /// `run NET VEC [--graph G] [--clusters MODE] [--jobs N] [--log] [--slack N] [--stop N]`, as a
 /// subcommand.
@@ -53,7 +74,7 @@ pub fn job(alloc: Global, values: &ArgMatches<'_>) -> Result<Job, UsageFault>
     let Some(clusters) = clusters(values) else {
         return Err(UsageFault::Mode);
     };
-    Ok(Job::Run {
+    Ok(Job::Run(RunJob {
         net: FileName::new(alloc, net)?,
         vec: FileName::new(alloc, vec)?,
         graph: named(alloc, values, "graph")?,
@@ -62,5 +83,5 @@ pub fn job(alloc: Global, values: &ArgMatches<'_>) -> Result<Job, UsageFault>
         log: is_set(values, "log"),
         slack,
         stop,
-    })
+    }))
 }

@@ -11,6 +11,7 @@ use Rattle.ds_cmd.specs.declared.job.Job.TheVariants.{Run, Clock, Check, Graph}
 use Rattle.ds_base.specs.declared.number.Mode.{Mode}
 use Rattle.ds_base.specs.declared.number.Mode.TheVariants.{Each, One, Bus}
 use Rattle.ds_cmd.specs.Clusters.{mode_word}
+use Rattle.ds_cmd_laws.specs.Bare.{bare_graph, bare_run}
 
 -- a test that is not true
 not_true : (b : Bool) → not b ≡ true → b ≡ false
@@ -48,28 +49,28 @@ no_option (byte ∷ []) plain = record {
 }
 no_option (byte ∷ next ∷ rest) plain = let e = not_true (byte == 45) plain in record { dashes = rw e refl; long = rw e refl; short = rw e refl }
 
-run_at : (program net vec : Text) → IsNoOption net → IsNoOption vec → job_of (program ∷ codes "run" ∷ net ∷ vec ∷ []) ≡ Ok (Run net vec None Each 1 false 0 None)
+run_at : (program net vec : Text) → IsNoOption net → IsNoOption vec → job_of (program ∷ codes "run" ∷ net ∷ vec ∷ []) ≡ Ok (Run (bare_run net vec))
 unfolding clap_on_literals
-run_at program net vec n v = rw (n.dashes, n.long, n.short) (rw (v.dashes, v.long, v.short) (refl {a = Ok (Run net vec None Each 1 false 0 None)}))
+run_at program net vec n v = rw (n.dashes, n.long, n.short) (rw (v.dashes, v.long, v.short) (refl {a = Ok (Run (bare_run net vec))}))
 
-run_each : (program net vec : Text) → IsNoOption net → IsNoOption vec → job_of (program ∷ codes "run" ∷ net ∷ vec ∷ codes "--clusters" ∷ mode_word Each ∷ []) ≡ Ok (Run net vec None Each 1 false 0 None)
+run_each : (program net vec : Text) → IsNoOption net → IsNoOption vec → job_of (program ∷ codes "run" ∷ net ∷ vec ∷ codes "--clusters" ∷ mode_word Each ∷ []) ≡ Ok (Run (bare_run net vec))
 unfolding clap_on_literals
-run_each program net vec n v = rw (n.dashes, n.long, n.short, v.dashes, v.long, v.short) (refl {a = Ok (Run net vec None Each 1 false 0 None)})
+run_each program net vec n v = rw (n.dashes, n.long, n.short, v.dashes, v.long, v.short) (refl {a = Ok (Run (bare_run net vec))})
 
-run_one : (program net vec : Text) → IsNoOption net → IsNoOption vec → job_of (program ∷ codes "run" ∷ net ∷ vec ∷ codes "--clusters" ∷ mode_word One ∷ []) ≡ Ok (Run net vec None One 1 false 0 None)
+run_one : (program net vec : Text) → IsNoOption net → IsNoOption vec → job_of (program ∷ codes "run" ∷ net ∷ vec ∷ codes "--clusters" ∷ mode_word One ∷ []) ≡ Ok (Run (record (bare_run net vec) { clusters = One }))
 unfolding clap_on_literals
-run_one program net vec n v = rw (n.dashes, n.long, n.short, v.dashes, v.long, v.short) (refl {a = Ok (Run net vec None One 1 false 0 None)})
+run_one program net vec n v = rw (n.dashes, n.long, n.short, v.dashes, v.long, v.short) (refl {a = Ok (Run (record (bare_run net vec) { clusters = One }))})
 
-run_bus : (program net vec : Text) → IsNoOption net → IsNoOption vec → job_of (program ∷ codes "run" ∷ net ∷ vec ∷ codes "--clusters" ∷ mode_word Bus ∷ []) ≡ Ok (Run net vec None Bus 1 false 0 None)
+run_bus : (program net vec : Text) → IsNoOption net → IsNoOption vec → job_of (program ∷ codes "run" ∷ net ∷ vec ∷ codes "--clusters" ∷ mode_word Bus ∷ []) ≡ Ok (Run (record (bare_run net vec) { clusters = Bus }))
 unfolding clap_on_literals
-run_bus program net vec n v = rw (n.dashes, n.long, n.short, v.dashes, v.long, v.short) (refl {a = Ok (Run net vec None Bus 1 false 0 None)})
+run_bus program net vec n v = rw (n.dashes, n.long, n.short, v.dashes, v.long, v.short) (refl {a = Ok (Run (record (bare_run net vec) { clusters = Bus }))})
 
-run_in : (program net vec : Text) (mode : Mode) → IsNoOption net → IsNoOption vec → job_of (program ∷ codes "run" ∷ net ∷ vec ∷ codes "--clusters" ∷ mode_word mode ∷ []) ≡ Ok (Run net vec None mode 1 false 0 None)
+run_in : (program net vec : Text) (mode : Mode) → IsNoOption net → IsNoOption vec → job_of (program ∷ codes "run" ∷ net ∷ vec ∷ codes "--clusters" ∷ mode_word mode ∷ []) ≡ Ok (Run (record (bare_run net vec) { clusters = mode }))
 run_in program net vec Each n v = run_each program net vec n v
 run_in program net vec One n v = run_one program net vec n v
 run_in program net vec Bus n v = run_bus program net vec n v
 
-clock_at : (program net vec : Text) → IsNoOption net → IsNoOption vec → job_of (program ∷ codes "clock" ∷ net ∷ vec ∷ []) ≡ Ok (Clock net vec)
+clock_at : (program net vec : Text) → IsNoOption net → IsNoOption vec → job_of (program ∷ codes "clock" ∷ net ∷ vec ∷ []) ≡ Ok (Clock (record { net = net; vec = vec }))
 unfolding clap_on_literals
 clock_at program net vec n v = rw (n.dashes, n.long, n.short) (rw (v.dashes, v.long, v.short) refl)
 
@@ -77,37 +78,37 @@ check_at : (program net : Text) → IsNoOption net → job_of (program ∷ codes
 unfolding clap_on_literals
 check_at program net n = rw (n.dashes, n.long, n.short) refl
 
-graph_at : (program net : Text) → IsNoOption net → job_of (program ∷ codes "graph" ∷ net ∷ []) ≡ Ok (Graph net Each false)
+graph_at : (program net : Text) → IsNoOption net → job_of (program ∷ codes "graph" ∷ net ∷ []) ≡ Ok (Graph (bare_graph net))
 unfolding clap_on_literals
 graph_at program net n = rw (n.dashes, n.long, n.short) refl
 
-graph_in : (program net : Text) (mode : Mode) → IsNoOption net → job_of (program ∷ codes "graph" ∷ net ∷ codes "--clusters" ∷ mode_word mode ∷ []) ≡ Ok (Graph net mode false)
+graph_in : (program net : Text) (mode : Mode) → IsNoOption net → job_of (program ∷ codes "graph" ∷ net ∷ codes "--clusters" ∷ mode_word mode ∷ []) ≡ Ok (Graph (record (bare_graph net) { clusters = mode }))
 unfolding clap_on_literals
 graph_in program net Each n = rw (n.dashes, n.long, n.short) refl
 graph_in program net One n = rw (n.dashes, n.long, n.short) refl
 graph_in program net Bus n = rw (n.dashes, n.long, n.short) refl
 
-graph_shaken : (program net : Text) → IsNoOption net → job_of (program ∷ codes "graph" ∷ net ∷ codes "--shake" ∷ []) ≡ Ok (Graph net Each true)
+graph_shaken : (program net : Text) → IsNoOption net → job_of (program ∷ codes "graph" ∷ net ∷ codes "--shake" ∷ []) ≡ Ok (Graph (record (bare_graph net) { shake = true }))
 unfolding clap_on_literals
 graph_shaken program net n = rw (n.dashes, n.long, n.short) refl
 
-pub run_taken : (program net vec : Text) → is_plain net ≡ true → is_plain vec ≡ true → job_of (program ∷ codes "run" ∷ net ∷ vec ∷ []) ≡ Ok (Run net vec None Each 1 false 0 None)
+pub run_taken : (program net vec : Text) → is_plain net ≡ true → is_plain vec ≡ true → job_of (program ∷ codes "run" ∷ net ∷ vec ∷ []) ≡ Ok (Run (bare_run net vec))
 run_taken program net vec n v = run_at program net vec (no_option net n) (no_option vec v)
 
-pub run_with_mode : (program net vec : Text) (mode : Mode) → is_plain net ≡ true → is_plain vec ≡ true → job_of (program ∷ codes "run" ∷ net ∷ vec ∷ codes "--clusters" ∷ mode_word mode ∷ []) ≡ Ok (Run net vec None mode 1 false 0 None)
+pub run_with_mode : (program net vec : Text) (mode : Mode) → is_plain net ≡ true → is_plain vec ≡ true → job_of (program ∷ codes "run" ∷ net ∷ vec ∷ codes "--clusters" ∷ mode_word mode ∷ []) ≡ Ok (Run (record (bare_run net vec) { clusters = mode }))
 run_with_mode program net vec mode n v = run_in program net vec mode (no_option net n) (no_option vec v)
 
-pub clock_taken : (program net vec : Text) → is_plain net ≡ true → is_plain vec ≡ true → job_of (program ∷ codes "clock" ∷ net ∷ vec ∷ []) ≡ Ok (Clock net vec)
+pub clock_taken : (program net vec : Text) → is_plain net ≡ true → is_plain vec ≡ true → job_of (program ∷ codes "clock" ∷ net ∷ vec ∷ []) ≡ Ok (Clock (record { net = net; vec = vec }))
 clock_taken program net vec n v = clock_at program net vec (no_option net n) (no_option vec v)
 
 pub check_taken : (program net : Text) → is_plain net ≡ true → job_of (program ∷ codes "check" ∷ net ∷ []) ≡ Ok (Check net)
 check_taken program net n = check_at program net (no_option net n)
 
-pub graph_taken : (program net : Text) → is_plain net ≡ true → job_of (program ∷ codes "graph" ∷ net ∷ []) ≡ Ok (Graph net Each false)
+pub graph_taken : (program net : Text) → is_plain net ≡ true → job_of (program ∷ codes "graph" ∷ net ∷ []) ≡ Ok (Graph (bare_graph net))
 graph_taken program net n = graph_at program net (no_option net n)
 
-pub graph_with_mode : (program net : Text) (mode : Mode) → is_plain net ≡ true → job_of (program ∷ codes "graph" ∷ net ∷ codes "--clusters" ∷ mode_word mode ∷ []) ≡ Ok (Graph net mode false)
+pub graph_with_mode : (program net : Text) (mode : Mode) → is_plain net ≡ true → job_of (program ∷ codes "graph" ∷ net ∷ codes "--clusters" ∷ mode_word mode ∷ []) ≡ Ok (Graph (record (bare_graph net) { clusters = mode }))
 graph_with_mode program net mode n = graph_in program net mode (no_option net n)
 
-pub graph_with_shake : (program net : Text) → is_plain net ≡ true → job_of (program ∷ codes "graph" ∷ net ∷ codes "--shake" ∷ []) ≡ Ok (Graph net Each true)
+pub graph_with_shake : (program net : Text) → is_plain net ≡ true → job_of (program ∷ codes "graph" ∷ net ∷ codes "--shake" ∷ []) ≡ Ok (Graph (record (bare_graph net) { shake = true }))
 graph_with_shake program net n = graph_shaken program net (no_option net n)

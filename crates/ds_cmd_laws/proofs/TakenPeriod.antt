@@ -11,47 +11,47 @@ use Rattle.ds_cmd.specs.declared.job.Job.TheVariants.{Period}
 use Rattle.ds_cmd_laws.proofs.Taken.{IsNoOption, no_option}
 
 period_at : (program net delays : Text) → IsNoOption net → IsNoOption delays
-    → job_of (program ∷ codes "period" ∷ net ∷ delays ∷ []) ≡ Ok (Period net delays Each)
+    → job_of (program ∷ codes "period" ∷ net ∷ delays ∷ []) ≡ Ok (Period (record { net = net; delays = delays; clusters = Each }))
 unfolding clap_on_literals
 period_at program net delays n d = rw (n.dashes, n.long, n.short)
     (rw (d.dashes, d.long, d.short) refl)
 
 period_each : (program net delays : Text) → IsNoOption net → IsNoOption delays
     → job_of (program ∷ codes "period" ∷ net ∷ delays ∷ codes "--clusters" ∷ mode_word Each ∷ [])
-    ≡ Ok (Period net delays Each)
+    ≡ Ok (Period (record { net = net; delays = delays; clusters = Each }))
 unfolding clap_on_literals
 period_each program net delays n d = rw (n.dashes, n.long, n.short, d.dashes, d.long, d.short)
-    (refl {a = Ok (Period net delays Each)})
+    (refl {a = Ok (Period (record { net = net; delays = delays; clusters = Each }))})
 
 period_one : (program net delays : Text) → IsNoOption net → IsNoOption delays
     → job_of (program ∷ codes "period" ∷ net ∷ delays ∷ codes "--clusters" ∷ mode_word One ∷ [])
-    ≡ Ok (Period net delays One)
+    ≡ Ok (Period (record { net = net; delays = delays; clusters = One }))
 unfolding clap_on_literals
 period_one program net delays n d = rw (n.dashes, n.long, n.short, d.dashes, d.long, d.short)
-    (refl {a = Ok (Period net delays One)})
+    (refl {a = Ok (Period (record { net = net; delays = delays; clusters = One }))})
 
 period_bus : (program net delays : Text) → IsNoOption net → IsNoOption delays
     → job_of (program ∷ codes "period" ∷ net ∷ delays ∷ codes "--clusters" ∷ mode_word Bus ∷ [])
-    ≡ Ok (Period net delays Bus)
+    ≡ Ok (Period (record { net = net; delays = delays; clusters = Bus }))
 unfolding clap_on_literals
 period_bus program net delays n d = rw (n.dashes, n.long, n.short, d.dashes, d.long, d.short)
-    (refl {a = Ok (Period net delays Bus)})
+    (refl {a = Ok (Period (record { net = net; delays = delays; clusters = Bus }))})
 
 period_in : (program net delays : Text) (mode : Mode) → IsNoOption net → IsNoOption delays
     → job_of (program ∷ codes "period" ∷ net ∷ delays ∷ codes "--clusters" ∷ mode_word mode ∷ [])
-    ≡ Ok (Period net delays mode)
+    ≡ Ok (Period (record { net = net; delays = delays; clusters = mode }))
 period_in program net delays Each n d = period_each program net delays n d
 period_in program net delays One n d = period_one program net delays n d
 period_in program net delays Bus n d = period_bus program net delays n d
 
 pub period_taken : (program net delays : Text) → is_plain net ≡ true → is_plain delays ≡ true
-    → job_of (program ∷ codes "period" ∷ net ∷ delays ∷ []) ≡ Ok (Period net delays Each)
+    → job_of (program ∷ codes "period" ∷ net ∷ delays ∷ []) ≡ Ok (Period (record { net = net; delays = delays; clusters = Each }))
 period_taken program net delays n d =
     period_at program net delays (no_option net n) (no_option delays d)
 
 pub period_with_mode : (program net delays : Text) (mode : Mode) → is_plain net ≡ true
     → is_plain delays ≡ true
     → job_of (program ∷ codes "period" ∷ net ∷ delays ∷ codes "--clusters" ∷ mode_word mode ∷ [])
-    ≡ Ok (Period net delays mode)
+    ≡ Ok (Period (record { net = net; delays = delays; clusters = mode }))
 period_with_mode program net delays mode n d =
     period_in program net delays mode (no_option net n) (no_option delays d)

@@ -1,7 +1,7 @@
 //! Laws: for each command a plain line that is taken, so that what is said of all lines is not said
 //! of none.
 ghost use Rattle.std.specs.Prelude.{◌≡◌, ◌<◌, ◌≤◌, ◌^◌, ℕ, List, [], ◌∷◌, Ok, Err};
-ghost use Rattle.std.specs.Prelude.{Some, None, true, false, codes};
+ghost use Rattle.std.specs.Prelude.{Some, true, false, codes};
 ghost use Rattle.std.specs.Fmt.{decimal};
 ghost use Rattle.ds_cmd.specs.Line.{job_of};
 ghost use Rattle.ds_cmd.specs.Plain.{is_command, is_plain};
@@ -11,6 +11,7 @@ ghost use Rattle.ds_base.specs.declared.number.Mode.TheVariants.{Each};
 ghost use Rattle.ds_base.specs.declared.number.Mode.{Mode};
 ghost use Rattle.ds_cmd.specs.Clusters.{mode_word};
 ghost use Rattle.ds_cmd.specs.declared.fault.UsageFault.TheVariants.{Line};
+ghost use Rattle.ds_cmd_laws.specs.Bare.{bare_graph, bare_replay, bare_run};
 
 /// `run` with two names of files is taken, whatever the program's name is; each register is then a
 /// cluster of its own, unless the word behind `--clusters` says otherwise, and no controller graph
@@ -19,37 +20,37 @@ ghost use Rattle.ds_cmd.specs.declared.fault.UsageFault.TheVariants.{Line};
 /// end, unless a number stands behind `--stop`.
 pub fn run_is_taken()
     ensures each { (program net vec : List ℕ) → is_plain net ≡ true → is_plain vec ≡ true
-        → job_of (program ∷ codes "run" ∷ net ∷ vec ∷ [])
-        ≡ Ok (Run net vec None Each 1 false 0 None) }
+        → job_of (program ∷ codes "run" ∷ net ∷ vec ∷ []) ≡ Ok (Run (bare_run net vec)) }
     ensures clusters { (program net vec : List ℕ) (mode : Mode) → is_plain net ≡ true
         → is_plain vec ≡ true
         → job_of (program ∷ codes "run" ∷ net ∷ vec ∷ codes "--clusters" ∷ mode_word mode ∷ [])
-        ≡ Ok (Run net vec None mode 1 false 0 None) }
+        ≡ Ok (Run (record (bare_run net vec) { clusters = mode })) }
     ensures graph { (program net vec graph : List ℕ) → is_plain net ≡ true → is_plain vec ≡ true
         → is_plain graph ≡ true
         → job_of (program ∷ codes "run" ∷ net ∷ vec ∷ codes "--graph" ∷ graph ∷ [])
-        ≡ Ok (Run net vec (Some graph) Each 1 false 0 None) }
+        ≡ Ok (Run (record (bare_run net vec) { graph = Some graph })) }
     ensures jobs { (program net vec : List ℕ) (jobs : ℕ) → is_plain net ≡ true → is_plain vec ≡ true
         → 1 ≤ jobs → jobs ≤ 64
         → job_of (program ∷ codes "run" ∷ net ∷ vec ∷ codes "--jobs" ∷ decimal jobs ∷ [])
-        ≡ Ok (Run net vec None Each jobs false 0 None) }
+        ≡ Ok (Run (record (bare_run net vec) { jobs = jobs })) }
     ensures log { (program net vec : List ℕ) → is_plain net ≡ true → is_plain vec ≡ true
         → job_of (program ∷ codes "run" ∷ net ∷ vec ∷ codes "--log" ∷ [])
-        ≡ Ok (Run net vec None Each 1 true 0 None) }
+        ≡ Ok (Run (record (bare_run net vec) { log = true })) }
     ensures slack { (program net vec : List ℕ) (slack : ℕ) → is_plain net ≡ true
         → is_plain vec ≡ true → slack ≤ 15
         → job_of (program ∷ codes "run" ∷ net ∷ vec ∷ codes "--slack" ∷ decimal slack ∷ [])
-        ≡ Ok (Run net vec None Each 1 false slack None) }
+        ≡ Ok (Run (record (bare_run net vec) { slack = slack })) }
     ensures stop { (program net vec : List ℕ) (stop : ℕ) → is_plain net ≡ true
         → is_plain vec ≡ true → stop < 2 ^ 64
         → job_of (program ∷ codes "run" ∷ net ∷ vec ∷ codes "--stop" ∷ decimal stop ∷ [])
-        ≡ Ok (Run net vec None Each 1 false 0 (Some stop)) }
+        ≡ Ok (Run (record (bare_run net vec) { stop = Some stop })) }
 {}
 
 /// `clock` with two names of files is taken.
 pub fn clock_is_taken()
     ensures { (program net vec : List ℕ) → is_plain net ≡ true → is_plain vec ≡ true
-        → job_of (program ∷ codes "clock" ∷ net ∷ vec ∷ []) ≡ Ok (Clock net vec) }
+        → job_of (program ∷ codes "clock" ∷ net ∷ vec ∷ [])
+        ≡ Ok (Clock (record { net = net; vec = vec })) }
 {}
 
 /// `check` with the name of a file is taken.
@@ -63,13 +64,13 @@ pub fn check_is_taken()
 /// there.
 pub fn graph_is_taken()
     ensures each { (program net : List ℕ) → is_plain net ≡ true
-        → job_of (program ∷ codes "graph" ∷ net ∷ []) ≡ Ok (Graph net Each false) }
+        → job_of (program ∷ codes "graph" ∷ net ∷ []) ≡ Ok (Graph (bare_graph net)) }
     ensures clusters { (program net : List ℕ) (mode : Mode) → is_plain net ≡ true
         → job_of (program ∷ codes "graph" ∷ net ∷ codes "--clusters" ∷ mode_word mode ∷ [])
-        ≡ Ok (Graph net mode false) }
+        ≡ Ok (Graph (record (bare_graph net) { clusters = mode })) }
     ensures shake { (program net : List ℕ) → is_plain net ≡ true
         → job_of (program ∷ codes "graph" ∷ net ∷ codes "--shake" ∷ [])
-        ≡ Ok (Graph net Each true) }
+        ≡ Ok (Graph (record (bare_graph net) { shake = true })) }
 {}
 
 /// `replay` with three names of files is taken; then without slack, unless `--slack` says
@@ -78,21 +79,22 @@ pub fn replay_is_taken()
     ensures each { (program net vec log : List ℕ) → is_plain net ≡ true → is_plain vec ≡ true
         → is_plain log ≡ true
         → job_of (program ∷ codes "replay" ∷ net ∷ vec ∷ log ∷ [])
-        ≡ Ok (Replay net vec log None Each 0 false) }
+        ≡ Ok (Replay (bare_replay net vec log)) }
     ensures slack { (program net vec log : List ℕ) (slack : ℕ) → is_plain net ≡ true
         → is_plain vec ≡ true → is_plain log ≡ true → slack ≤ 15
         → job_of (program ∷ codes "replay" ∷ net ∷ vec ∷ log ∷ codes "--slack" ∷ decimal slack ∷ [])
-        ≡ Ok (Replay net vec log None Each slack false) }
+        ≡ Ok (Replay (record (bare_replay net vec log) { slack = slack })) }
     ensures transparent { (program net vec log : List ℕ) → is_plain net ≡ true
         → is_plain vec ≡ true → is_plain log ≡ true
         → job_of (program ∷ codes "replay" ∷ net ∷ vec ∷ log ∷ codes "--transparent" ∷ [])
-        ≡ Ok (Replay net vec log None Each 0 true) }
+        ≡ Ok (Replay (record (bare_replay net vec log) { transparent = true })) }
 {}
 
 /// `accept` with two names of files is taken.
 pub fn accept_is_taken()
     ensures { (program net graph : List ℕ) → is_plain net ≡ true → is_plain graph ≡ true
-        → job_of (program ∷ codes "accept" ∷ net ∷ graph ∷ []) ≡ Ok (Accept net graph Each) }
+        → job_of (program ∷ codes "accept" ∷ net ∷ graph ∷ [])
+        ≡ Ok (Accept (record { net = net; graph = graph; clusters = Each })) }
 {}
 
 /// `demo` with three numbers in decimal is taken, where they are in range; one thread is then
@@ -101,22 +103,24 @@ pub fn demo_is_taken()
     ensures one { (program : List ℕ) (seed registers turns : ℕ) → seed < 2 ^ 64
         → 1 ≤ registers → registers ≤ 4096 → turns ≤ 65536
         → job_of (program ∷ codes "demo" ∷ decimal seed ∷ decimal registers ∷ decimal turns ∷ [])
-        ≡ Ok (Demo seed registers turns 1) }
+        ≡ Ok (Demo (record { seed = seed; registers = registers; turns = turns; jobs = 1 })) }
     ensures jobs { (program : List ℕ) (seed registers turns jobs : ℕ) → seed < 2 ^ 64
         → 1 ≤ registers → registers ≤ 4096 → turns ≤ 65536 → 1 ≤ jobs → jobs ≤ 64
         → job_of (program ∷ codes "demo" ∷ decimal seed ∷ decimal registers ∷ decimal turns
-        ∷ codes "--jobs" ∷ decimal jobs ∷ []) ≡ Ok (Demo seed registers turns jobs) }
+        ∷ codes "--jobs" ∷ decimal jobs ∷ [])
+        ≡ Ok (Demo (record { seed = seed; registers = registers; turns = turns; jobs = jobs })) }
 {}
 
 /// `period` with two names of files is taken; each register is then a cluster of its own, unless
 /// the word behind `--clusters` says otherwise.
 pub fn period_is_taken()
     ensures each { (program net delays : List ℕ) → is_plain net ≡ true → is_plain delays ≡ true
-        → job_of (program ∷ codes "period" ∷ net ∷ delays ∷ []) ≡ Ok (Period net delays Each) }
+        → job_of (program ∷ codes "period" ∷ net ∷ delays ∷ [])
+        ≡ Ok (Period (record { net = net; delays = delays; clusters = Each })) }
     ensures clusters { (program net delays : List ℕ) (mode : Mode) → is_plain net ≡ true
         → is_plain delays ≡ true
         → job_of (program ∷ codes "period" ∷ net ∷ delays ∷ codes "--clusters" ∷ mode_word mode
-        ∷ []) ≡ Ok (Period net delays mode) }
+        ∷ []) ≡ Ok (Period (record { net = net; delays = delays; clusters = mode })) }
 {}
 
 /// A line that begins with another name than that of a command is refused, whatever follows.

@@ -1,7 +1,7 @@
 //! Lines of texts, and what is said of them. Words are parted by `|`, the program's name first; so
 //! are those of a job, which stands behind ` -> `. A line that begins with `#` says what follows.
 use ds_base::Mode;
-use ds_cmd::{FileName, Job, UsageFault, parse};
+use ds_cmd::{DemoJob, FileName, Job, RunJob, UsageFault, parse};
 use std::alloc::{AllocError, Global};
 
 // The word of a mode.
@@ -44,39 +44,33 @@ fn words_of(alloc: Global, job: &Job) -> Result<String, AllocError> {
 // The word of a job, and its files.
 fn files_of(alloc: Global, job: &Job) -> Result<String, AllocError> {
     match job {
-        Job::Run { net, vec, .. } => joined(alloc, &["run", net.as_str(), vec.as_str()]),
-        Job::Clock { net, vec } => joined(alloc, &["clock", net.as_str(), vec.as_str()]),
-        Job::Check { net } => joined(alloc, &["check", net.as_str()]),
-        Job::Graph { net, .. } => joined(alloc, &["graph", net.as_str()]),
-        Job::Replay { net, vec, log, .. } => joined(
+        Job::Run(job) => joined(alloc, &["run", job.net.as_str(), job.vec.as_str()]),
+        Job::Clock(job) => joined(alloc, &["clock", job.net.as_str(), job.vec.as_str()]),
+        Job::Check(net) => joined(alloc, &["check", net.as_str()]),
+        Job::Graph(job) => joined(alloc, &["graph", job.net.as_str()]),
+        Job::Replay(job) => joined(
             alloc,
-            &["replay", net.as_str(), vec.as_str(), log.as_str()],
+            &[
+                "replay",
+                job.net.as_str(),
+                job.vec.as_str(),
+                job.log.as_str(),
+            ],
         ),
-        Job::Accept { net, graph, .. } => joined(alloc, &["accept", net.as_str(), graph.as_str()]),
-        Job::Period { net, delays, .. } => joined(
-            alloc,
-            &["period", net.as_str(), delays.as_str()],
-        ),
-        Job::Demo { .. } => joined(alloc, &["demo"]),
+        Job::Accept(job) => joined(alloc, &["accept", job.net.as_str(), job.graph.as_str()]),
+        Job::Period(job) => joined(alloc, &["period", job.net.as_str(), job.delays.as_str()]),
+        Job::Demo(_) => joined(alloc, &["demo"]),
     }
 }
 
 // The graph of a job and its mode, each behind `|`.
 fn options_of(alloc: Global, job: &Job) -> Result<String, AllocError> {
     match job {
-        Job::Run {
-            graph,
-            clusters,
-            ..
-        } => joined(alloc, &["", name(graph), word(clusters)]),
-        Job::Replay {
-            graph,
-            clusters,
-            ..
-        } => joined(alloc, &["", name(graph), word(clusters)]),
-        Job::Graph { clusters, .. } => joined(alloc, &["", word(clusters)]),
-        Job::Accept { clusters, .. } => joined(alloc, &["", word(clusters)]),
-        Job::Period { clusters, .. } => joined(alloc, &["", word(clusters)]),
+        Job::Run(job) => joined(alloc, &["", name(&job.graph), word(&job.clusters)]),
+        Job::Replay(job) => joined(alloc, &["", name(&job.graph), word(&job.clusters)]),
+        Job::Graph(job) => joined(alloc, &["", word(&job.clusters)]),
+        Job::Accept(job) => joined(alloc, &["", word(&job.clusters)]),
+        Job::Period(job) => joined(alloc, &["", word(&job.clusters)]),
         _ => Ok(String::new(alloc)),
     }
 }
@@ -84,47 +78,28 @@ fn options_of(alloc: Global, job: &Job) -> Result<String, AllocError> {
 // The numbers of a job and what is wanted beside, each behind `|`.
 fn numbers_of(alloc: Global, job: &Job) -> Result<String, AllocError> {
     match job {
-        Job::Run {
-            jobs,
-            log,
-            slack,
-            stop,
-            ..
-        } => { run_numbers(alloc, [*jobs, u32::from(*slack)], *log, *stop) }
-        Job::Graph { shake, .. } => format!(in alloc; "|{shake}"),
-        Job::Replay {
-            slack,
-            transparent,
-            ..
-        } => format!(in alloc; "|{slack}|{transparent}"),
-        Job::Demo {
-            seed,
-            registers,
-            turns,
-            jobs,
-        } => { demo_numbers(alloc, *seed, [*registers, *turns, *jobs]) }
+        Job::Run(job) => run_numbers(alloc, job),
+        Job::Graph(job) => format!(in alloc; "|{}", job.shake),
+        Job::Replay(job) => format!(in alloc; "|{}|{}", job.slack, job.transparent),
+        Job::Demo(job) => demo_numbers(alloc, job),
         _ => Ok(String::new(alloc)),
     }
 }
 
 // The threads of a run, whether a log is wanted, its slack, and where it stops.
-fn run_numbers(
-    alloc: Global,
-    numbers: [u32; 2],
-    log: bool,
-    stop: Option<u64>,
-) -> Result<String, AllocError> {
-    let [jobs, slack] = numbers;
-    match stop {
-        Some(stop) => format!(in alloc; "|{jobs}|{log}|{slack}|{stop}"),
-        None => format!(in alloc; "|{jobs}|{log}|{slack}|none"),
+fn run_numbers(alloc: Global, job: &RunJob) -> Result<String, AllocError> {
+    match job.stop {
+        Some(stop) => format!(in alloc; "|{}|{}|{}|{stop}", job.jobs, job.log, job.slack),
+        None => format!(in alloc; "|{}|{}|{}|none", job.jobs, job.log, job.slack),
     }
 }
 
 // The numbers of a demonstration.
-fn demo_numbers(alloc: Global, seed: u64, numbers: [u32; 3]) -> Result<String, AllocError> {
-    let [registers, turns, jobs] = numbers;
-    format!(in alloc; "|{seed}|{registers}|{turns}|{jobs}")
+fn demo_numbers(alloc: Global, job: &DemoJob) -> Result<String, AllocError> {
+    format!(in alloc;
+        "|{}|{}|{}|{}",
+        job.seed, job.registers, job.turns, job.jobs
+    )
 }
 
 // The word of a fault.

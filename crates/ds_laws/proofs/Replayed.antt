@@ -1,5 +1,5 @@
 -- What a run with its log prints is replayed to its end.
-use Rattle.std.proofs.Common.{◌≡◌, ◌≢◌, ◌∙◌, ℕ, ◌*◌, ◌<◌, ◌≤◌, Bool, true, false, List, [], ◌++◌, length, get_or, Option, None, ◌⊎◌, inl, inr, refl, arith, ap, sym, subst}
+use Rattle.std.proofs.Common.{◌≡◌, ◌≢◌, ◌∙◌, ℕ, ◌*◌, ◌<◌, ◌≤◌, Bool, true, false, List, [], ◌++◌, length, get_or, Option, ◌⊎◌, inl, inr, refl, arith, ap, sym, subst}
 use Rattle.std.specs.Prelude.{All}
 use Rattle.std.specs.List.{flat_map, range_with_len}
 use Rattle.std.proofs.lemmas.Bool.{cases_lt}
@@ -26,6 +26,8 @@ use Rattle.ds_log.specs.Log.{fired_line, stored_text}
 use Rattle.ds_rows.specs.Nets.{register_of}
 use Rattle.ds_log.specs.StateText.{IsStateText}
 use Rattle.ds_cmd.specs.declared.job.Job.TheVariants.{Run, Replay}
+use Rattle.ds_cmd.specs.declared.replay.ReplayJob.{ReplayJob}
+use Rattle.ds_cmd.specs.declared.run.RunJob.{RunJob}
 use Rattle.ds_stage.specs.Stage.{then_stage}
 use Rattle.ds_state_text.specs.OpenLines.{open_lines}
 use Rattle.ds_stage.specs.PlanStage.{planned_stage}
@@ -39,7 +41,7 @@ use Rattle.ds_stage.proofs.Meant.{netlist_in_range, vectors_few, vectors_wide}
 use Rattle.ds_stage.proofs.OwnWords.{planned_words}
 use Rattle.ds_stage.proofs.PlanAccepted.{planned_circuit, planned_is_plan}
 use Rattle.ds_stage.proofs.PlanExclusive.{planned_exclusive}
-use Rattle.ds_laws.specs.Logs.{IsFiredWhole, IsShort, ReplaysAll, SaysAllFired}
+use Rattle.ds_laws.specs.Logs.{IsFiredWhole, IsShort, ReplaysAll, SaysAllFired, logged_run, replay_after}
 use Rattle.ds_trace.specs.RunText.{IsRunText}
 use Rattle.ds_laws.proofs.Fired.{logged_is_fired}
 use Rattle.ds_solo.specs.JobStages.{replay_stage}
@@ -163,37 +165,35 @@ module _ (held : List ℕ → Held) (net vec log : List ℕ) (graph : Option (Li
       says p plan_is vectors.rows whole.events whole.legal whole.all transparent text
       (subst (λ (es : List ℕ). IsReplayText transparent p vectors.rows es text) one is)
 
-module _ (faults : FaultsAreRefused) (one : OneClustering) (held : List ℕ → Held) (net vec log : List ℕ) (graph : Option (List ℕ)) (mode : Mode) (slack : ℕ)
-    (transparent : Bool) (told_net : held net ≢ untold) (told_vec : held vec ≢ untold) (told : IsToldIn held graph) where
+module _ (faults : FaultsAreRefused) (one : OneClustering) (held : List ℕ → Held) (job : ReplayJob)
+    (told_net : held job.net ≢ untold) (told_vec : held job.vec ≢ untold) (told : IsToldIn held job.graph) where
   -- a text of the job is one of the netlist, the plan and the vectors that there are
-  of_these : (c : Circuit) → (netlist_stage held net).means c → (p : Planned) → (planned_stage held net graph mode slack c).means p
-      → (vectors : Rows) → (vectors_stage held vec c).means vectors
-      → (text : List ℕ) → (then_stage (netlist_stage held net) (replay_stage held net vec log graph mode slack transparent)).means text
-      → (replayed_stage held log transparent p vectors.rows).means text
+  of_these : (c : Circuit) → (netlist_stage held job.net).means c → (p : Planned) → (planned_stage held job.net job.graph job.clusters job.slack c).means p
+      → (vectors : Rows) → (vectors_stage held job.vec c).means vectors
+      → (text : List ℕ) → (then_stage (netlist_stage held job.net) (replay_stage held job)).means text
+      → (replayed_stage held job.log job.transparent p vectors.rows).means text
   of_these c netlist p planned vectors read text (c', netlist', rest) =
-      let same_c : c' ≡ c = (netlist_exclusive faults held net told_net).one c' c netlist' netlist in
-      let (p', planned', rest') = subst (λ (d : Circuit). (replay_stage held net vec log graph mode slack transparent d).means text) same_c rest in
-      let same_p : p' ≡ p = (planned_exclusive one held net graph mode slack (told_file held graph told) c).one p' p planned' planned in
+      let same_c : c' ≡ c = (netlist_exclusive faults held job.net told_net).one c' c netlist' netlist in
+      let (p', planned', rest') = subst (λ (d : Circuit). (replay_stage held job d).means text) same_c rest in
+      let same_p : p' ≡ p = (planned_exclusive one held job.net job.graph job.clusters job.slack (told_file held job.graph told) c).one p' p planned' planned in
       let (vectors', read', rest'') = rest' in
-      let same_v : vectors' ≡ vectors = (vectors_exclusive held vec c told_vec).one vectors' vectors read' read in
-      subst (λ (rows : Rows). (replayed_stage held log transparent p rows.rows).means text) same_v
-      (subst (λ (q : Planned). (replayed_stage held log transparent q vectors'.rows).means text) same_p rest'')
+      let same_v : vectors' ≡ vectors = (vectors_exclusive held job.vec c told_vec).one vectors' vectors read' read in
+      subst (λ (rows : Rows). (replayed_stage held job.log job.transparent p rows.rows).means text) same_v
+      (subst (λ (q : Planned). (replayed_stage held job.log job.transparent q vectors'.rows).means text) same_p rest'')
 
-pub printed_is_replayed : FaultsAreRefused → OneClustering → (held : List ℕ → Held) (net vec log : List ℕ) (graph : Option (List ℕ))
-    (mode : Mode) (jobs slack : ℕ) (transparent : Bool) (printed : List ℕ)
-    → AreTold held (Run net vec graph mode jobs true slack None)
-    → (stages_of held (Run net vec graph mode jobs true slack None)).means printed
-    → held log ≡ bytes printed → IsShort (held log) → IsShort (held vec)
-    → ReplaysAll held (Replay net vec log graph mode slack transparent)
-printed_is_replayed faults one held net vec log graph mode jobs slack transparent printed (told_net, told_vec, told)
+pub printed_is_replayed : FaultsAreRefused → OneClustering → (held : List ℕ → Held) (job : RunJob) (log : List ℕ) (transparent : Bool) (printed : List ℕ)
+    → AreTold held (Run (logged_run job)) → (stages_of held (Run (logged_run job))).means printed
+    → held log ≡ bytes printed → IsShort (held log) → IsShort (held job.vec)
+    → ReplaysAll held (Replay (replay_after job log transparent))
+printed_is_replayed faults one held job log transparent printed (told_net, told_vec, told)
     (c, netlist, (p, planned, (vectors, streamed, (same, logged)))) is_log short_log short_vec =
     let short : length printed ≤ most_of Bytes = short_log printed is_log in
-    let read : (vectors_stage held vec c).means vectors = short_is_whole held vec c vectors told_vec short_vec streamed in
-    let (text, is) = text_there held net vec log graph mode slack transparent printed is_log short c netlist p planned vectors read told logged in
+    let read : (vectors_stage held job.vec c).means vectors = short_is_whole held job.vec c vectors told_vec short_vec streamed in
+    let (text, is) = text_there held job.net job.vec log job.graph job.clusters job.slack transparent printed is_log short c netlist p planned vectors read told logged in
     record {
       text = text;
       is_text = (c, netlist, (p, planned, (vectors, read, is)));
       each = λ other means.
-          each_says held net vec log graph mode slack transparent printed is_log short c netlist p planned vectors read told logged other
-          (of_these faults one held net vec log graph mode slack transparent told_net told_vec told c netlist p planned vectors read other means);
+          each_says held job.net job.vec log job.graph job.clusters job.slack transparent printed is_log short c netlist p planned vectors read told logged other
+          (of_these faults one held (replay_after job log transparent) told_net told_vec told c netlist p planned vectors read other means);
     }

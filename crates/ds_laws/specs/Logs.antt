@@ -1,16 +1,17 @@
 -- What a run prints with its log is replayed to its end.
 use Rattle.std.specs.Prelude.{◌≡◌, ℕ, ◌<◌, ◌≤◌, ◌^◌, Bool, true, List, ◌++◌, length}
-use Rattle.std.specs.Prelude.{Ok, Option, None}
+use Rattle.std.specs.Prelude.{Ok, None}
 use Rattle.ds_base.specs.Limit.{most_of}
 use Rattle.ds_base.specs.Values.{Row}
 use Rattle.ds_base.specs.declared.number.Limit.TheVariants.{Bytes}
-use Rattle.ds_base.specs.declared.number.Mode.{Mode}
 use Rattle.ds_outside.specs.Held.{Held, bytes}
 use Rattle.ds_lines.specs.Line.{lines_of}
 use Rattle.ds_marked.specs.Graph.{IsLegal, counts_after}
 use Rattle.ds_latch.specs.Plan.{Planned}
 use Rattle.ds_cmd.specs.declared.job.Job.{Job}
 use Rattle.ds_cmd.specs.declared.job.Job.TheVariants.{Run, Replay}
+use Rattle.ds_cmd.specs.declared.replay.ReplayJob.{ReplayJob}
+use Rattle.ds_cmd.specs.declared.run.RunJob.{RunJob}
 use Rattle.ds_log.specs.Log.{fired_line}
 use Rattle.ds_replay.specs.Replay.{replay_of}
 use Rattle.ds_replay.specs.Printed.{HasOwnWords}
@@ -45,13 +46,28 @@ pub record ReplaysAll (held : List ℕ → Held) (job : Job) : Type 0 where
 abbrev pub IsShort : Held → Type 0
 IsShort held = (text : List ℕ) → held ≡ bytes text → length text ≤ most_of Bytes
 
+-- a run to its end, with its log
+abbrev pub logged_run : RunJob → RunJob
+logged_run job = record job { log = true; stop = None }
+
+-- `replay` of the netlist, vectors, graph, mode and slack of a run, by the log of a file
+abbrev pub replay_after : RunJob → List ℕ → Bool → ReplayJob
+replay_after job log transparent = record {
+  net = job.net;
+  vec = job.vec;
+  log = log;
+  graph = job.graph;
+  clusters = job.clusters;
+  slack = job.slack;
+  transparent = transparent;
+}
+
 -- what `run --log` prints is read and fired to its end by `replay` of the same netlist, vectors,
 -- graph, mode and slack, where the log holds these bytes, and neither it nor the file of the
 -- vectors is too long
 abbrev pub PrintedIsReplayed : Type 0
-PrintedIsReplayed = (held : List ℕ → Held) (net vec log : List ℕ) (graph : Option (List ℕ))
-    (mode : Mode) (jobs slack : ℕ) (transparent : Bool) (printed : List ℕ)
-    → AreTold held (Run net vec graph mode jobs true slack None)
-    → (stages_of held (Run net vec graph mode jobs true slack None)).means printed
-    → held log ≡ bytes printed → IsShort (held log) → IsShort (held vec)
-    → ReplaysAll held (Replay net vec log graph mode slack transparent)
+PrintedIsReplayed = (held : List ℕ → Held) (job : RunJob) (log : List ℕ) (transparent : Bool)
+    (printed : List ℕ) → AreTold held (Run (logged_run job))
+    → (stages_of held (Run (logged_run job))).means printed
+    → held log ≡ bytes printed → IsShort (held log) → IsShort (held job.vec)
+    → ReplaysAll held (Replay (replay_after job log transparent))

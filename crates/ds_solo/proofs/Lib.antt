@@ -1,5 +1,6 @@
 pub mod Cycles
 pub mod Left
+pub mod Lent
 pub mod PlannedEnds
 pub mod ReplayEnds
 pub mod WindowEnds

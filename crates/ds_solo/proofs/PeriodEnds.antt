@@ -1,10 +1,10 @@
 -- How `period` ends, stage by stage.
 use Rattle.std.proofs.Common.{◌≡◌, ℕ, List, Result, Err}
-use Rattle.ds_base.specs.declared.number.Mode.{Mode}
 use Rattle.ds_outside.specs.Held.{Held}
 use Rattle.ds_design.specs.Circuit.{Circuit}
 use Rattle.ds_marked.specs.Graph.{Graph}
 use Rattle.ds_latch.specs.Node.{Split}
+use Rattle.ds_cmd.specs.declared.period.PeriodJob.{PeriodJob}
 use Rattle.ds_stage.specs.declared.stop.Stop.{Stop}
 use Rattle.ds_stage.specs.Stage.{OfFile, Stage, giving, then_stage}
 use Rattle.ds_stage.specs.Stages.{netlist_stage}
@@ -39,36 +39,34 @@ module _ (held : List ℕ → Held) (delays : List ℕ) (more : OfFile) where
       (ends_after (delays_stage held delays g) (last_stage g) more out numbers are result
       (ends_more (last_stage g numbers) Never more out (giving_nothing (last_stage g numbers).means) (λ line none. absurd none) result is))
 
-  module _ (net : List ℕ) (mode : Mode) where
-    -- all its stages
-    abbrev whole : Stage (List ℕ)
-    whole = then_stage (netlist_stage held net) (period_stage held net delays mode)
+module _ (held : List ℕ → Held) (more : OfFile) (job : PeriodJob) where
+  -- all its stages
+  abbrev whole : Stage (List ℕ)
+  whole = then_stage (netlist_stage held job.net) (period_stage held job)
 
-    pub stops_netlist : (out : Output) (stop : Stop) → out.new ≡ out.old
-        → Stops (netlist_stage held net) more stop
-        → Ends {A = Unit {0}} whole more out (Err stop)
-    stops_netlist out stop same is =
-        ended (Unit {0}) whole more out stop (period_nothing held net delays mode) same
-        (stopped (netlist_stage held net) (period_stage held net delays mode) more stop is)
+  pub stops_netlist : (out : Output) (stop : Stop) → out.new ≡ out.old
+      → Stops (netlist_stage held job.net) more stop
+      → Ends {A = Unit {0}} whole more out (Err stop)
+  stops_netlist out stop same is =
+      ended (Unit {0}) whole more out stop (period_nothing held job) same
+      (stopped (netlist_stage held job.net) (period_stage held job) more stop is)
 
-    pub stops_split : (c : Circuit) → (netlist_stage held net).means c → (out : Output) (stop : Stop)
-        → out.new ≡ out.old → Stops (split_stage net mode c) Never stop
-        → Ends {A = Unit {0}} whole more out (Err stop)
-    stops_split c accepted out stop same is =
-        let few : Answers {A = Split} (split_stage net mode c) more (Err stop) =
-        widened {A = Split} (split_stage net mode c) (split_stage net mode c) Never more
-        (no_more (split_stage net mode c) more (λ line none. absurd none)) (Err stop) is in
-        ended (Unit {0}) whole more out stop (period_nothing held net delays mode) same
-        (passed {B = List ℕ} (netlist_stage held net) (period_stage held net delays mode) more c
-        accepted (Err stop)
-        (stopped (split_stage net mode c) (measured_stage held delays) more stop few))
+  pub stops_split : (c : Circuit) → (netlist_stage held job.net).means c → (out : Output) (stop : Stop)
+      → out.new ≡ out.old → Stops (split_stage job.net job.clusters c) Never stop
+      → Ends {A = Unit {0}} whole more out (Err stop)
+  stops_split c accepted out stop same is =
+      let few : Answers {A = Split} (split_stage job.net job.clusters c) more (Err stop) =
+      widened {A = Split} (split_stage job.net job.clusters c) (split_stage job.net job.clusters c) Never more
+      (no_more (split_stage job.net job.clusters c) more (λ line none. absurd none)) (Err stop) is in
+      ended (Unit {0}) whole more out stop (period_nothing held job) same
+      (passed {B = List ℕ} (netlist_stage held job.net) (period_stage held job) more c accepted (Err stop)
+      (stopped (split_stage job.net job.clusters c) (measured_stage held job.delays) more stop few))
 
-    -- behind the split it ends as what is measured of the latches does
-    pub ends_measured : (c : Circuit) → (netlist_stage held net).means c → (s : Split)
-        → (split_stage net mode c).means s → (out : Output) (result : Result (Unit {0}) Stop)
-        → Ends (measured_stage held delays s) more out result
-        → Ends whole more out result
-    ends_measured c accepted s is_split out result is =
-        ends_after (netlist_stage held net) (period_stage held net delays mode) more out c accepted
-        result (ends_after (split_stage net mode c) (measured_stage held delays) more out s is_split
-        result is)
+  -- behind the split it ends as what is measured of the latches does
+  pub ends_measured : (c : Circuit) → (netlist_stage held job.net).means c → (s : Split)
+      → (split_stage job.net job.clusters c).means s → (out : Output) (result : Result (Unit {0}) Stop)
+      → Ends (measured_stage held job.delays s) more out result
+      → Ends whole more out result
+  ends_measured c accepted s is_split out result is =
+      ends_after (netlist_stage held job.net) (period_stage held job) more out c accepted result
+      (ends_after (split_stage job.net job.clusters c) (measured_stage held job.delays) more out s is_split result is)

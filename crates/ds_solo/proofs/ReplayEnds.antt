@@ -1,13 +1,13 @@
 -- How `replay` ends behind its plan.
-use Rattle.std.proofs.Common.{◌≡◌, ℕ, ◌≤◌, Bool, List, Option, Result, Err, inl, inr, subst}
+use Rattle.std.proofs.Common.{◌≡◌, ℕ, ◌≤◌, Bool, List, Result, Err, inl, inr, subst}
 use Rattle.ds_base.specs.Values.{Row}
 use Rattle.ds_outside.specs.declared.files.Which.{Which}
 use Rattle.ds_outside.specs.declared.files.Which.TheVariants.{Log}
-use Rattle.ds_base.specs.declared.number.Mode.{Mode}
 use Rattle.ds_outside.specs.Held.{Held}
 use Rattle.ds_design.specs.Circuit.{Circuit}
 use Rattle.ds_design.specs.Rows.{Rows}
 use Rattle.ds_latch.specs.Plan.{Planned}
+use Rattle.ds_cmd.specs.declared.replay.ReplayJob.{ReplayJob}
 use Rattle.ds_fire.specs.Snapshot.{Snapshot}
 use Rattle.ds_stage.specs.declared.stop.Stop.{Stop}
 use Rattle.ds_stage.specs.declared.stop.Stop.TheVariants.{Refused, Unread, Unwritten, Memory}
@@ -54,71 +54,70 @@ log_stops held log planned vectors more Memory is = tt
 abbrev pub logged_job : (List ℕ → Held) → List ℕ → List ℕ → Bool → Circuit → Planned → Stage (List ℕ)
 logged_job held vec log transparent c p = then_stage (vectors_stage held vec c) (λ (vectors : Rows). replayed_stage held log transparent p vectors.rows)
 
-module _ {F : Type 0} (told : F → List ℕ → Held) (faults : F → Which → List ℕ → ℕ) (files : F)
-    (net vec log : List ℕ) (graph : Option (List ℕ)) (mode : Mode) (slack : ℕ) (transparent : Bool) where
+module _ {F : Type 0} (told : F → List ℕ → Held) (faults : F → Which → List ℕ → ℕ) (files : F) (job : ReplayJob) where
   -- all its stages
   abbrev whole : Stage (List ℕ)
-  whole = then_stage (netlist_stage (told files) net) (replay_stage (told files) net vec log graph mode slack transparent)
+  whole = then_stage (netlist_stage (told files) job.net) (replay_stage (told files) job)
 
-  module _ (read : F) (netlist : IsLater told faults files read) (c : Circuit) (accepted : (netlist_stage (told files) net).means c)
-      (made : F) (plan : IsLater told faults read made) (p : Planned) (is_plan : (planned_stage (told read) net graph mode slack c).means p) where
+  module _ (read : F) (netlist : IsLater told faults files read) (c : Circuit) (accepted : (netlist_stage (told files) job.net).means c)
+      (made : F) (plan : IsLater told faults read made) (p : Planned) (is_plan : (planned_stage (told read) job.net job.graph job.clusters job.slack c).means p) where
     -- behind the vectors
     abbrev behind : Rows → Stage (List ℕ)
-    behind rows = replayed_stage (told files) log transparent p rows.rows
+    behind rows = replayed_stage (told files) job.log job.transparent p rows.rows
 
     -- behind the plan it ends as what stands there does
     behind_plan : (now : F) (out : Output) (result : Result (Unit {0}) Stop)
-        → Ends {A = Unit {0}} (logged_job (told files) vec log transparent c p) (RoseIn (faults files) (faults now)) out result
+        → Ends {A = Unit {0}} (logged_job (told files) job.vec job.log job.transparent c p) (RoseIn (faults files) (faults now)) out result
         → Ends {A = Unit {0}} whole (RoseIn (faults files) (faults now)) out result
     behind_plan now out result ends =
-        ends_planned told faults files net graph mode slack (logged_job (told files) vec log transparent) read netlist c accepted p is_plan now out result ends
+        ends_planned told faults files job.net job.graph job.clusters job.slack (logged_job (told files) job.vec job.log job.transparent) read netlist c accepted p is_plan now out result ends
 
     -- the vectors of the files behind the plan are those of the files at first
-    vectors_here : (now : F) → IsWider (vectors_stage (told made) vec c) (vectors_stage (told files) vec c) (RoseIn (faults made) (faults now)) (RoseIn (faults files) (faults now))
+    vectors_here : (now : F) → IsWider (vectors_stage (told made) job.vec c) (vectors_stage (told files) job.vec c) (RoseIn (faults made) (faults now)) (RoseIn (faults files) (faults now))
     vectors_here now =
         let later : IsLater told faults files made = later_still told faults files read made netlist plan in
-        vectors_since (told files) (told made) vec c (faults files) (faults made) (faults now) later.same_held later.never_falls
+        vectors_since (told files) (told made) job.vec c (faults files) (faults made) (faults now) later.same_held later.never_falls
 
     pub stops_vectors : (now : F) (out : Output) (stop : Stop) → out.new ≡ out.old
-        → Stops (vectors_stage (told made) vec c) (RoseIn (faults made) (faults now)) stop
+        → Stops (vectors_stage (told made) job.vec c) (RoseIn (faults made) (faults now)) stop
         → Ends {A = Unit {0}} whole (RoseIn (faults files) (faults now)) out (Err stop)
     stops_vectors now out stop same is =
-        let unread : Stops (vectors_stage (told files) vec c) (RoseIn (faults files) (faults now)) stop =
-        widened {A = Rows} (vectors_stage (told made) vec c) (vectors_stage (told files) vec c)
+        let unread : Stops (vectors_stage (told files) job.vec c) (RoseIn (faults files) (faults now)) stop =
+        widened {A = Rows} (vectors_stage (told made) job.vec c) (vectors_stage (told files) job.vec c)
         (RoseIn (faults made) (faults now)) (RoseIn (faults files) (faults now)) (vectors_here now) (Err stop) is in
         behind_plan now out (Err stop)
-        (ended_first (Unit {0}) (vectors_stage (told files) vec c) behind (RoseIn (faults files) (faults now)) out stop (vectors_nothing (told files) vec c) same unread)
+        (ended_first (Unit {0}) (vectors_stage (told files) job.vec c) behind (RoseIn (faults files) (faults now)) out stop (vectors_nothing (told files) job.vec c) same unread)
 
-    module _ (given : F) (vectors : IsLater told faults made given) (rows : Rows) (are : (vectors_stage (told made) vec c).means rows) where
+    module _ (given : F) (vectors : IsLater told faults made given) (rows : Rows) (are : (vectors_stage (told made) job.vec c).means rows) where
       abbrev Last : List ℕ → Stage (List ℕ)
-      Last events = giving (IsReplayText transparent p rows.rows events)
+      Last events = giving (IsReplayText job.transparent p rows.rows events)
 
       -- what is kept of the log of the files behind the vectors is kept of it at first
-      kept_here : (now : F) → IsWider (kept_stage (told given) log p rows.rows) (kept_stage (told files) log p rows.rows) (RoseIn (faults given) (faults now)) (RoseIn (faults files) (faults now))
+      kept_here : (now : F) → IsWider (kept_stage (told given) job.log p rows.rows) (kept_stage (told files) job.log p rows.rows) (RoseIn (faults given) (faults now)) (RoseIn (faults files) (faults now))
       kept_here now =
           let later : IsLater told faults files given = later_still told faults files made given (later_still told faults files read made netlist plan) vectors in
-          log_since (told files) (told given) log p rows.rows (faults files) (faults given) (faults now) later.same_held later.never_falls
+          log_since (told files) (told given) job.log p rows.rows (faults files) (faults given) (faults now) later.same_held later.never_falls
 
       pub stops_log : (now : F) (out : Output) (stop : Stop) → out.new ≡ out.old
-          → Stops (kept_stage (told given) log p rows.rows) (RoseIn (faults given) (faults now)) stop
+          → Stops (kept_stage (told given) job.log p rows.rows) (RoseIn (faults given) (faults now)) stop
           → Ends {A = Unit {0}} whole (RoseIn (faults files) (faults now)) out (Err stop)
       stops_log now out stop same is =
-          let unread : Stops (kept_stage (told files) log p rows.rows) (RoseIn (faults files) (faults now)) stop =
-          widened {A = Snapshot × ℕ} (kept_stage (told given) log p rows.rows) (kept_stage (told files) log p rows.rows)
+          let unread : Stops (kept_stage (told files) job.log p rows.rows) (RoseIn (faults files) (faults now)) stop =
+          widened {A = Snapshot × ℕ} (kept_stage (told given) job.log p rows.rows) (kept_stage (told files) job.log p rows.rows)
           (RoseIn (faults given) (faults now)) (RoseIn (faults files) (faults now)) (kept_here now) (Err stop) is in
           behind_plan now out (Err stop)
-          (ends_after {A = Unit {0}} (vectors_stage (told files) vec c) behind (RoseIn (faults files) (faults now)) out rows ((vectors_here given).means rows are) (Err stop)
-          (ended_first (Unit {0}) (log_stage (told files) log p rows.rows) Last (RoseIn (faults files) (faults now)) out stop (log_nothing (told files) log p rows.rows) same
-          (log_stops (told files) log p rows.rows (RoseIn (faults files) (faults now)) stop unread)))
+          (ends_after {A = Unit {0}} (vectors_stage (told files) job.vec c) behind (RoseIn (faults files) (faults now)) out rows ((vectors_here given).means rows are) (Err stop)
+          (ended_first (Unit {0}) (log_stage (told files) job.log p rows.rows) Last (RoseIn (faults files) (faults now)) out stop (log_nothing (told files) job.log p rows.rows) same
+          (log_stops (told files) job.log p rows.rows (RoseIn (faults files) (faults now)) stop unread)))
 
-      pub ends_log : (kept : Snapshot) (fired : ℕ) → (kept_stage (told given) log p rows.rows).means (kept, fired)
+      pub ends_log : (kept : Snapshot) (fired : ℕ) → (kept_stage (told given) job.log p rows.rows).means (kept, fired)
           → (now : F) (out : Output) (result : Result (Unit {0}) Stop)
-          → Ends {A = Unit {0}} (giving (IsKeptText transparent kept fired)) Never out result
+          → Ends {A = Unit {0}} (giving (IsKeptText job.transparent kept fired)) Never out result
           → Ends {A = Unit {0}} whole (RoseIn (faults files) (faults now)) out result
       ends_log kept fired is now out result ends =
           let (events, means, after) = (kept_here now).means (kept, fired) is in
           behind_plan now out result
-          (ends_after (vectors_stage (told files) vec c) behind (RoseIn (faults files) (faults now)) out rows ((vectors_here given).means rows are) result
-          (ends_after (log_stage (told files) log p rows.rows) Last (RoseIn (faults files) (faults now)) out events means result
-          (gives_more {A = Unit {0}} (IsKeptText transparent kept fired) (IsReplayText transparent p rows.rows events) (RoseIn (faults files) (faults now)) out
+          (ends_after (vectors_stage (told files) job.vec c) behind (RoseIn (faults files) (faults now)) out rows ((vectors_here given).means rows are) result
+          (ends_after (log_stage (told files) job.log p rows.rows) Last (RoseIn (faults files) (faults now)) out events means result
+          (gives_more {A = Unit {0}} (IsKeptText job.transparent kept fired) (IsReplayText job.transparent p rows.rows events) (RoseIn (faults files) (faults now)) out
           (λ text of. of.is p rows.rows events after) result ends)))

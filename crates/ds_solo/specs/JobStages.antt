@@ -1,8 +1,11 @@
 -- The stages of the jobs that run no threads, once the netlist is read.
-use Rattle.std.specs.Prelude.{ℕ, Bool, false, List, Option, Some}
-use Rattle.ds_base.specs.declared.number.Mode.{Mode}
+use Rattle.std.specs.Prelude.{ℕ, false, List, Some}
 use Rattle.ds_outside.specs.Held.{Held}
 use Rattle.ds_design.specs.Circuit.{Circuit}
+use Rattle.ds_cmd.specs.declared.accept.AcceptJob.{AcceptJob}
+use Rattle.ds_cmd.specs.declared.graph.GraphJob.{GraphJob}
+use Rattle.ds_cmd.specs.declared.period.PeriodJob.{PeriodJob}
+use Rattle.ds_cmd.specs.declared.replay.ReplayJob.{ReplayJob}
 use Rattle.ds_stage.specs.Stage.{Stage, then_stage}
 use Rattle.ds_stage.specs.Stages.{vectors_stage, trace_stage}
 use Rattle.ds_stage.specs.StreamStage.{most_vectors, streamed_stage}
@@ -19,23 +22,23 @@ clock_stage held vec c =
     then_stage (streamed_stage held vec (most_vectors false) c) (trace_stage c)
 
 -- `graph`, once the netlist is read
-abbrev pub graph_stage : List ℕ → Mode → Bool → Circuit → Stage (List ℕ)
-graph_stage net mode shake c = then_stage (split_stage net mode c) (controller_stage net shake)
+abbrev pub graph_stage : GraphJob → Circuit → Stage (List ℕ)
+graph_stage job c =
+    then_stage (split_stage job.net job.clusters c) (controller_stage job.net job.shake)
 
 -- `replay`, once the netlist is read
-abbrev pub replay_stage : (List ℕ → Held) → List ℕ → List ℕ → List ℕ → Option (List ℕ) → Mode → ℕ
-    → Bool → Circuit → Stage (List ℕ)
-replay_stage held net vec log graph mode slack transparent c =
-    then_stage (planned_stage held net graph mode slack c) (λ p.
-    then_stage (vectors_stage held vec c) (λ vectors.
-    replayed_stage held log transparent p vectors.rows))
+abbrev pub replay_stage : (List ℕ → Held) → ReplayJob → Circuit → Stage (List ℕ)
+replay_stage held job c =
+    then_stage (planned_stage held job.net job.graph job.clusters job.slack c) (λ p.
+    then_stage (vectors_stage held job.vec c) (λ vectors.
+    replayed_stage held job.log job.transparent p vectors.rows))
 
 -- `accept`, once the netlist is read
-abbrev pub accept_stage : (List ℕ → Held) → List ℕ → List ℕ → Mode → Circuit → Stage (List ℕ)
-accept_stage held net graph mode c =
-    then_stage (planned_stage held net (Some graph) mode 0 c) ranks_stage
+abbrev pub accept_stage : (List ℕ → Held) → AcceptJob → Circuit → Stage (List ℕ)
+accept_stage held job c =
+    then_stage (planned_stage held job.net (Some job.graph) job.clusters 0 c) ranks_stage
 
 -- `period`, once the netlist is read
-abbrev pub period_stage : (List ℕ → Held) → List ℕ → List ℕ → Mode → Circuit → Stage (List ℕ)
-period_stage held net delays mode c =
-    then_stage (split_stage net mode c) (measured_stage held delays)
+abbrev pub period_stage : (List ℕ → Held) → PeriodJob → Circuit → Stage (List ℕ)
+period_stage held job c =
+    then_stage (split_stage job.net job.clusters c) (measured_stage held job.delays)

@@ -9,7 +9,8 @@ ghost use Rattle.ds_stage.specs.Stage.{then_stage};
 ghost use Rattle.ds_stage.specs.Stages.{netlist_stage};
 ghost use Rattle.ds_solo.specs.JobStages.{accept_stage};
 
-use ds_base::{EventId, Mode, OutOfMemory};
+use ds_base::{EventId, OutOfMemory};
+use ds_cmd::AcceptJob;
 use ds_latch::Plan;
 use ds_log::firing_line;
 use ds_outside::{Behind, Buffered, Files, Lent, Sink, WriteFault};
@@ -19,34 +20,25 @@ use ds_stage::{Stop, plan_named, read_netlist};
 use std::alloc::Global;
 use std::marker::Brand;
 
-/// What `accept` is to do: the files of the netlist and of the graph, and how registers are put
-/// into clusters.
-#[derive(Clone, Copy)]
-pub struct AcceptJob<'a> {
-    pub net: &'a str,
-    pub graph: &'a str,
-    pub clusters: Mode,
-}
-
 /// Reads a netlist, accepts the graph for it, and writes the ranks of its events.
 #[tactic(auto)]
 pub fn accept<F: Files, O: Sink>(
     alloc: Global,
-    job: &AcceptJob<'_>,
+    job: &AcceptJob,
     files: &mut F,
     out: &mut O,
 ) -> Result<(), Stop>
-    ensures value { Ends (then_stage (netlist_stage (F.held files.old) job.now.net.now)
-        (accept_stage (F.held files.old) job.now.net.now job.now.graph.now job.now.clusters))
+    ensures value { Ends (then_stage (netlist_stage (F.held files.old) job.now.net)
+        (accept_stage (F.held files.old) job.now))
         (RoseIn (F.faults files.old) (F.faults files.new))
         (output_between O.written O.faults out.old out.new) result }
 
     ensures same_held { F.held files.new ≡ F.held files.old }
 {
-    // Read for the fact that its names are texts.
-    let _texts = *job;
-    let netlist = read_netlist(alloc, files, job.net)?;
-    let plan = plan_named(alloc, files, job.net, &netlist, job.graph, job.clusters)?;
+    let net = job.net.as_str();
+    let graph = job.graph.as_str();
+    let netlist = read_netlist(alloc, files, net)?;
+    let plan = plan_named(alloc, files, net, &netlist, graph, job.clusters)?;
     write_accepted(alloc, &plan, out)
 }
 

@@ -4,6 +4,7 @@ ghost use Rattle.ds_stage.specs.Ends.{Ends, RoseIn, output_between};
 ghost use Rattle.ds_stage.specs.Stage.{then_stage};
 ghost use Rattle.ds_stage.specs.Stages.{netlist_stage, report_stage};
 
+use ds_cmd::FileName;
 use ds_outside::{Files, Sink};
 use ds_stage::{Stop, read_netlist, write_report};
 use std::alloc::Global;
@@ -12,7 +13,7 @@ use std::alloc::Global;
 #[tactic(none)]
 pub fn check<F: Files, O: Sink>(
     alloc: Global,
-    net: &str,
+    net: &FileName,
     files: &mut F,
     out: &mut O,
 ) -> Result<(), Stop>
@@ -22,6 +23,6 @@ pub fn check<F: Files, O: Sink>(
 
     ensures same_held { F.held files.new ≡ F.held files.old }
 {
-    let netlist = read_netlist(alloc, files, net)?;
+    let netlist = read_netlist(alloc, files, net.as_str())?;
     write_report(&netlist, out)
 }

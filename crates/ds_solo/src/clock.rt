@@ -10,6 +10,7 @@ ghost use Rattle.ds_solo.specs.JobStages.{clock_stage};
 
 use ds_base::{OutOfMemory, Row3};
 use ds_clocked::{SimFault, simulate_from};
+use ds_cmd::ClockJob;
 use ds_design::Netlist;
 use ds_outside::{Files, Sink};
 use ds_rows::end_line;
@@ -21,23 +22,23 @@ use std::alloc::Global;
 // How many vectors there may be.
 const MOST: u64 = 4_294_967_295;
 
-/// Clocks the netlist of the file `net` on the vectors of the file `vec`, and writes the trace as
-/// it reads.
+/// Reads a netlist, clocks it on the vectors, and writes the trace as it reads.
 #[tactic(none)]
 pub fn clock<F: Files, O: Sink>(
     alloc: Global,
-    net: &str,
-    vec: &str,
+    job: &ClockJob,
     files: &mut F,
     out: &mut O,
 ) -> Result<(), Stop>
-    ensures value { Ends (then_stage (netlist_stage (F.held files.old) net.now)
-        (clock_stage (F.held files.old) vec.now))
+    ensures value { Ends (then_stage (netlist_stage (F.held files.old) job.now.net)
+        (clock_stage (F.held files.old) job.now.vec))
         (RoseIn (F.faults files.old) (F.faults files.new))
         (output_between O.written O.faults out.old out.new) result }
 
     ensures same_held { F.held files.new ≡ F.held files.old }
 {
+    let net = job.net.as_str();
+    let vec = job.vec.as_str();
     let netlist = read_netlist(alloc, files, net)?;
     write_clocked(alloc, &netlist, vec, files, out)
 }

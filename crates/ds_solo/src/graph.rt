@@ -9,7 +9,7 @@ ghost use Rattle.ds_stage.specs.Stages.{netlist_stage};
 ghost use Rattle.ds_solo.specs.JobStages.{graph_stage};
 
 use ds_astg::write;
-use ds_base::Mode;
+use ds_cmd::GraphJob;
 use ds_latch::Latches;
 use ds_marked::Marked;
 use ds_outside::{Behind, Buffered, Files, Lent, Sink, WriteFault};
@@ -17,35 +17,25 @@ use ds_stage::{Stop, read_netlist, split_netlist, wanted_graph};
 use std::alloc::Global;
 use std::marker::Brand;
 
-/// What `graph` is to do: the file of the netlist, how registers are put into clusters, and whether
-/// the graph is to be expanded.
-#[derive(Clone, Copy)]
-pub struct GraphJob<'a> {
-    pub net: &'a str,
-    pub clusters: Mode,
-    pub shake: bool,
-}
-
 /// Reads a netlist, and writes its controller graph, or the expansion of it.
 #[tactic(auto)]
 pub fn graph<F: Files, O: Sink>(
     alloc: Global,
-    job: &GraphJob<'_>,
+    job: &GraphJob,
     files: &mut F,
     out: &mut O,
 ) -> Result<(), Stop>
-    ensures value { Ends (then_stage (netlist_stage (F.held files.old) job.now.net.now)
-        (graph_stage job.now.net.now job.now.clusters job.now.shake))
+    ensures value { Ends (then_stage (netlist_stage (F.held files.old) job.now.net)
+        (graph_stage job.now))
         (RoseIn (F.faults files.old) (F.faults files.new))
         (output_between O.written O.faults out.old out.new) result }
 
     ensures same_held { F.held files.new ≡ F.held files.old }
 {
-    // Read for the fact that its names are texts.
-    let _texts = *job;
-    let netlist = read_netlist(alloc, files, job.net)?;
-    let latches = split_netlist(alloc, job.net, &netlist, job.clusters)?;
-    draw(alloc, job.net, &latches, job.shake, out)
+    let net = job.net.as_str();
+    let netlist = read_netlist(alloc, files, net)?;
+    let latches = split_netlist(alloc, net, &netlist, job.clusters)?;
+    draw(alloc, net, &latches, job.shake, out)
 }
 
 // Writes the graph that is wanted of a split netlist. `file` is the netlist's.

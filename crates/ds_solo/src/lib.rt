@@ -3,8 +3,7 @@
 //! Each has a module of its name with a call of that name, which reads the files of its job and
 //! writes its text: it ends as its stages do, one after another (`Ends` of `ds_stage`), and what
 //! the files hold stays as it was. `specs/JobStages` has the stages behind the netlist, which each
-//! of them reads first. A call is handed the names of files, or a struct with them and what else
-//! the job says.
+//! of them reads first. A call is lent the job as `ds_cmd` reads it from the words.
 //!
 //! `check` reports on the netlist, and `graph` writes the controller graph. `clock` clocks the
 //! netlist window by window, and writes the trace as it reads. `accept` writes the ranks of a graph

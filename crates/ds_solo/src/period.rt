@@ -8,7 +8,7 @@ ghost use Rattle.ds_stage.specs.Stages.{netlist_stage};
 ghost use Rattle.ds_solo.specs.JobStages.{period_stage};
 
 use crate::period_text::period_text;
-use ds_base::Mode;
+use ds_cmd::PeriodJob;
 use ds_latch::Latches;
 use ds_marked::Marked;
 use ds_outside::{Files, Sink, write_all};
@@ -16,36 +16,27 @@ use ds_period::Delays;
 use ds_stage::{Stop, own_graph, read_netlist, read_timing, split_netlist};
 use std::alloc::Global;
 
-/// What `period` is to do: the files of the netlist and of the delays, and how registers are put
-/// into clusters.
-#[derive(Clone, Copy)]
-pub struct PeriodJob<'a> {
-    pub net: &'a str,
-    pub delays: &'a str,
-    pub clusters: Mode,
-}
-
 /// Reads a netlist and the delays of its required orders, and writes the period of its controller
 /// graph.
 #[tactic(auto)]
 pub fn period<F: Files, O: Sink>(
     alloc: Global,
-    job: &PeriodJob<'_>,
+    job: &PeriodJob,
     files: &mut F,
     out: &mut O,
 ) -> Result<(), Stop>
-    ensures value { Ends (then_stage (netlist_stage (F.held files.old) job.now.net.now)
-        (period_stage (F.held files.old) job.now.net.now job.now.delays.now job.now.clusters))
+    ensures value { Ends (then_stage (netlist_stage (F.held files.old) job.now.net)
+        (period_stage (F.held files.old) job.now))
         (RoseIn (F.faults files.old) (F.faults files.new))
         (output_between O.written O.faults out.old out.new) result }
 
     ensures same_held { F.held files.new ≡ F.held files.old }
 {
-    // Read for the fact that its names are texts.
-    let _texts = *job;
-    let netlist = read_netlist(alloc, files, job.net)?;
-    let latches = split_netlist(alloc, job.net, &netlist, job.clusters)?;
-    measure(alloc, &latches, job.delays, files, out)
+    let net = job.net.as_str();
+    let delays = job.delays.as_str();
+    let netlist = read_netlist(alloc, files, net)?;
+    let latches = split_netlist(alloc, net, &netlist, job.clusters)?;
+    measure(alloc, &latches, delays, files, out)
 }
 
 // Reads the delays of the required orders of a split netlist, and writes the period.

@@ -5,56 +5,41 @@ ghost use Rattle.ds_stage.specs.Stage.{then_stage};
 ghost use Rattle.ds_stage.specs.Stages.{netlist_stage};
 ghost use Rattle.ds_solo.specs.JobStages.{replay_stage};
 
-use ds_base::Mode;
-use ds_cmd::FileName;
+use ds_cmd::ReplayJob;
 use ds_outside::{Files, Sink};
 use ds_stage::{Splitting, Stop, plan_netlist, read_log, read_netlist, read_rows, write_state};
 use ds_state_text::AfterLog;
 use std::alloc::Global;
-
-/// What `replay` is to do: the files of the netlist, of the vectors, of the log and of a graph,
-/// where one is named, how registers are put into clusters, how many openings a producer may run
-/// ahead of its consumers, and whether what open latches show is wanted, which is without slack.
-#[derive(Clone, Copy)]
-pub struct ReplayJob<'a> {
-    pub net: &'a str,
-    pub vec: &'a str,
-    pub log: &'a str,
-    pub graph: &'a Option<FileName>,
-    pub clusters: Mode,
-    pub slack: u8,
-    pub transparent: bool,
-}
 
 /// Reads a netlist, makes its plan, fires the events of the log in their order on the vectors, and
 /// writes what each register has stored then, and where it is wanted what open latches show.
 #[tactic(auto)]
 pub fn replay<F: Files, O: Sink>(
     alloc: Global,
-    job: &ReplayJob<'_>,
+    job: &ReplayJob,
     files: &mut F,
     out: &mut O,
 ) -> Result<(), Stop>
     requires slack { job.now.slack ≤ 15 }
     requires shown { job.now.transparent ≡ true → job.now.slack ≡ 0 }
-    ensures value { Ends (then_stage (netlist_stage (F.held files.old) job.now.net.now)
-        (replay_stage (F.held files.old) job.now.net.now job.now.vec.now job.now.log.now
-        job.now.graph.now job.now.clusters job.now.slack job.now.transparent))
+    ensures value { Ends (then_stage (netlist_stage (F.held files.old) job.now.net)
+        (replay_stage (F.held files.old) job.now))
         (RoseIn (F.faults files.old) (F.faults files.new))
         (output_between O.written O.faults out.old out.new) result }
 
     ensures same_held { F.held files.new ≡ F.held files.old }
 {
-    // Read for the fact that its names are texts.
-    let _texts = *job;
-    let netlist = read_netlist(alloc, files, job.net)?;
+    let net = job.net.as_str();
+    let vec = job.vec.as_str();
+    let log = job.log.as_str();
+    let netlist = read_netlist(alloc, files, net)?;
     let splitting = Splitting {
         clusters: job.clusters,
         slack: job.slack,
     };
-    let plan = plan_netlist(alloc, files, job.net, &netlist, job.graph, splitting)?;
-    let vectors = read_rows(alloc, files, job.vec, &netlist)?;
-    let (state, fired) = read_log(alloc, files, job.log, &plan, &vectors)?;
+    let plan = plan_netlist(alloc, files, net, &netlist, &job.graph, splitting)?;
+    let vectors = read_rows(alloc, files, vec, &netlist)?;
+    let (state, fired) = read_log(alloc, files, log, &plan, &vectors)?;
     let after = AfterLog {
         state: &state,
         fired,

@@ -1,5 +1,5 @@
 use Rattle.std.specs.Prelude.{All}
-use Rattle.std.proofs.Common.{◌≡◌, ◌∙◌, ◌==◌, ◌++◌, ◌+◌, ℕ, Bool, List, [], Option, Err, length, ap, arith, refl, subst, sym}
+use Rattle.std.proofs.Common.{◌≡◌, ◌∙◌, ◌==◌, ◌++◌, ◌+◌, ℕ, Bool, List, [], Option, Ok, Err, length, ap, arith, refl, subst, sym}
 use Rattle.std.proofs.lemmas.Result.{err_from_is_err_and}
 use Rattle.ds_base.specs.Values.{Row}
 use Rattle.ds_outside.specs.Held.{Held}
@@ -9,6 +9,7 @@ use Rattle.ds_latch.specs.Plan.{Planned}
 use Rattle.ds_stream.specs.Stream.{Shown}
 use Rattle.ds_stage.specs.Stage.{OfFile}
 use Rattle.ds_stage.specs.Ends.{Output, RoseIn, output_between}
+use Rattle.ds_stage.specs.declared.stop.Stop.TheVariants.{Memory, Unwritten}
 use Rattle.ds_stage.specs.StreamStage.{most_vectors}
 use Rattle.ds_stage.proofs.Streamed.{AreWritten, GivenOf, memory_stops, none_written, of_many, of_none, unwritten_window, written_more}
 use Rattle.ds_stage.proofs.Ends.{rose_since}
@@ -20,7 +21,7 @@ use Rattle.ds_latch.specs.Node.{Split, begun}
 use Rattle.ds_trace.specs.Logged.{IsLogOf, LogGrows}
 use Rattle.ds_trace.proofs.Ended.{logs_go_on}
 use Rattle.ds_app.specs.RunStage.{traced_stage}
-use Rattle.ds_app.proofs.RunEnds.{few_vectors, run_end_of, run_ends_part, run_ends_whole, run_spells}
+use Rattle.ds_app.proofs.RunEnds.{ends_of_file, few_vectors, run_end_of, run_ends_part, run_ends_whole, run_spells}
 use Rattle.ds_solo.proofs.WindowEnds.{is_there, more_here, stops_here}
 use Rattle.ds_app.proofs.run.write_traced.Goals as goal
 
@@ -30,7 +31,7 @@ new-reader-requires g c = rw c.most_vectors.ensures (few_vectors c.args.job.now.
 pub windows-init : goal.windows-init
 windows-init g c =
     let held : List ℕ → Held = g.F.Files.held c.args.files.now in
-    let vec : List ℕ = c.args.job.now.vec.now in
+    let vec : List ℕ = c.as_str-vec.result.now in
     let p : Planned = c.args.plan.now in
     let most : ℕ = most_vectors c.args.job.now.log in
     let w : Option (List ℕ) = g.O.Sink.written c.args.out.now in
@@ -52,20 +53,21 @@ windows-init g c =
 pub returns-in_err-log-clause-value : goal.returns-in_err-log-clause-value
 returns-in_err-log-clause-value g c =
     let held : List ℕ → Held = g.F.Files.held c.args.files.now in
-    let vec : List ℕ = c.args.job.now.vec.now in
+    let vec : List ℕ = c.as_str-vec.result.now in
     let p : Planned = c.args.plan.now in
     let log : Bool = c.args.job.now.log in
     let w : Option (List ℕ) = g.O.Sink.written c.args.out.now in
     let none : OfFile = RoseIn (g.F.Files.faults c.args.files.now) (g.F.Files.faults c.args.files.now) in
     let out : Output = output_between g.O.Sink.written g.O.Sink.faults c.args.out.now c.args.out.now in
     let q = err_from_is_err_and c.from_residual.result c.from_residual.ensures.1 in
-    rw (q.1, q.2) (memory_stops (Unit {0}) held vec p.split.circuit (most_vectors log) (traced_stage log p.split.circuit p) none out 0 [] (initial_row p.split.circuit)
-    (of_none (held vec) p.split.circuit (most_vectors log)) (none_written p.split.circuit w))
+    rw (q.1, q.2) (ends_of_file held vec c.args.job.now.vec log p none out (Err Memory) c.as_str-vec.ensures
+    (memory_stops (Unit {0}) held vec p.split.circuit (most_vectors log) (traced_stage log p.split.circuit p) none out 0 [] (initial_row p.split.circuit)
+    (of_none (held vec) p.split.circuit (most_vectors log)) (none_written p.split.circuit w)))
 
 pub returns-in_err-behind-clause-value : goal.returns-in_err-behind-clause-value
 returns-in_err-behind-clause-value g c =
     let held : List ℕ → Held = g.F.Files.held c.args.files.now in
-    let vec : List ℕ = c.args.job.now.vec.now in
+    let vec : List ℕ = c.as_str-vec.result.now in
     let p : Planned = c.args.plan.now in
     let log : Bool = c.args.job.now.log in
     let before : Which → List ℕ → ℕ = g.F.Files.faults c.args.files.now in
@@ -75,9 +77,10 @@ returns-in_err-behind-clause-value g c =
     let (rows, is, written) = kept.so_far in
     let out : Output = (output_between g.O.Sink.written g.O.Sink.faults c.args.out.now c.windows.out) in
     let q = err_from_is_err_and c.from_residual-in_err-behind.result c.from_residual-in_err-behind.ensures.1 in
-    rw (q.1, q.2) (stops_here held (g.F.Files.held c.windows.files) kept.same_held vec p.split.circuit (most_vectors log) c.windows.reader kept.of kept.fits
+    rw (q.1, q.2) (ends_of_file held vec c.args.job.now.vec log p (RoseIn before now) out (Err c.in_err-behind.field-0.0) c.as_str-vec.ensures
+    (stops_here held (g.F.Files.held c.windows.files) kept.same_held vec p.split.circuit (most_vectors log) c.windows.reader kept.of kept.fits
     c.windows.first kept.first_is c.windows.more c.windows-test.true rows is (Unit {0}) (traced_stage log p.split.circuit p) before mid now kept.never_falls
-    out c.windows.plan.split.initial c.in_err-behind.field-0.0 written c.in_err-behind.ensures.gives)
+    out c.windows.plan.split.initial c.in_err-behind.field-0.0 written c.in_err-behind.ensures.gives))
 
 pub write_window-requires-clause-width : goal.write_window-requires-clause-width
 write_window-requires-clause-width g c _ _ =
@@ -88,7 +91,7 @@ pub returns-in-Err-Write-clause-value : goal.returns-in-Err-Write-clause-value
 returns-in-Err-Write-clause-value g c =
     let held : List ℕ → Held = g.F.Files.held c.args.files.now in
     let later : List ℕ → Held = g.F.Files.held c.windows.files in
-    let vec : List ℕ = c.args.job.now.vec.now in
+    let vec : List ℕ = c.as_str-vec.result.now in
     let p : Planned = c.args.plan.now in
     let log : Bool = c.args.job.now.log in
     let most : ℕ = most_vectors log in
@@ -103,33 +106,35 @@ returns-in-Err-Write-clause-value g c =
     let part : AppendsLinesPart circuit c.windows.first c.windows.plan.split.initial next (g.O.Sink.written c.windows.out) (g.O.Sink.written c.write_window.new.out) =
     subst (λ (k : Circuit). AppendsLinesPart k c.windows.first c.windows.plan.split.initial next (g.O.Sink.written c.windows.out) (g.O.Sink.written c.write_window.new.out)) kept.circuit
     (c.in-Err-Write.ensures.part (ap Err c.in-Err-Write.field-0-is)) in
-    unwritten_window circuit (subst IsInRange (c.netlist.ensures.netlist ∙ ap (λ (t : Split). t.circuit) c.latches.ensures) c.design-design.ensures.in_range) c.graph-graph.ensures.accepted.split.accepted most (traced_stage log circuit p) (run_spells p c.graph-graph.ensures.accepted.live log) held vec failed (Unit {0})
+    ends_of_file held vec c.args.job.now.vec log p failed out (Err Unwritten) c.as_str-vec.ensures
+    (unwritten_window circuit (subst IsInRange (c.netlist.ensures.netlist ∙ ap (λ (t : Split). t.circuit) c.latches.ensures) c.design-design.ensures.in_range) c.graph-graph.ensures.accepted.split.accepted most (traced_stage log circuit p) (run_spells p c.graph-graph.ensures.accepted.live log) held vec failed (Unit {0})
     out (g.O.Sink.written c.windows.out) c.windows.first (length next == 4096) rows c.windows.plan.split.initial next
     (is_there held later kept.same_held vec circuit most c.windows.reader kept.of kept.fits c.windows.first kept.first_is c.windows.more c.windows-test.true rows is c.in_ok-behind.behind next c.in_ok-behind.ensures.gives)
     (of_many (held vec) circuit most c.windows.first c.windows.more rows is)
     (more_here held later kept.same_held vec circuit most c.windows.reader kept.of kept.fits c.windows.first kept.first_is c.windows.more c.windows-test.true rows is c.in_ok-behind.behind next c.in_ok-behind.ensures.gives wide)
     written part
-    (rose_since (g.O.Sink.faults c.args.out.now) (g.O.Sink.faults c.windows.out) (g.O.Sink.faults c.write_window.new.out) kept.never_fell (c.in-Err-Write.ensures.cause (ap Err c.in-Err-Write.field-0-is)))
+    (rose_since (g.O.Sink.faults c.args.out.now) (g.O.Sink.faults c.windows.out) (g.O.Sink.faults c.write_window.new.out) kept.never_fell (c.in-Err-Write.ensures.cause (ap Err c.in-Err-Write.field-0-is))))
 
 pub returns-in-Err-Memory-clause-value : goal.returns-in-Err-Memory-clause-value
 returns-in-Err-Memory-clause-value g c =
     let held : List ℕ → Held = g.F.Files.held c.args.files.now in
-    let vec : List ℕ = c.args.job.now.vec.now in
+    let vec : List ℕ = c.as_str-vec.result.now in
     let p : Planned = c.args.plan.now in
     let log : Bool = c.args.job.now.log in
     let kept = c.windows.invariant in
     let (rows, is, written) = kept.so_far in
     let out : Output = (output_between g.O.Sink.written g.O.Sink.faults c.args.out.now c.write_window.new.out) in
     let failed : OfFile = RoseIn (g.F.Files.faults c.args.files.now) (g.F.Files.faults c.read_window.new.files) in
-    memory_stops (Unit {0}) held vec p.split.circuit (most_vectors log) (traced_stage log p.split.circuit p) failed out c.windows.first rows c.windows.plan.split.initial
+    ends_of_file held vec c.args.job.now.vec log p failed out (Err Memory) c.as_str-vec.ensures
+    (memory_stops (Unit {0}) held vec p.split.circuit (most_vectors log) (traced_stage log p.split.circuit p) failed out c.windows.first rows c.windows.plan.split.initial
     (subst (λ (b : Bool). GivenOf (held vec) p.split.circuit (most_vectors log) c.windows.first b rows) c.windows-test.true is)
-    (subst (λ (w : Option (List ℕ)). AreWritten p.split.circuit rows c.windows.plan.split.initial (g.O.Sink.written c.args.out.now) w) (sym (c.in-Err-Memory.ensures.same (ap Err c.in-Err-Memory.field-0-is))) written)
+    (subst (λ (w : Option (List ℕ)). AreWritten p.split.circuit rows c.windows.plan.split.initial (g.O.Sink.written c.args.out.now) w) (sym (c.in-Err-Memory.ensures.same (ap Err c.in-Err-Memory.field-0-is))) written))
 
 pub windows-preserved : goal.windows-preserved
 windows-preserved g c =
     let held : List ℕ → Held = g.F.Files.held c.args.files.now in
     let later : List ℕ → Held = g.F.Files.held c.windows.files in
-    let vec : List ℕ = c.args.job.now.vec.now in
+    let vec : List ℕ = c.as_str-vec.result.now in
     let p : Planned = c.args.plan.now in
     let log : Bool = c.args.job.now.log in
     let most : ℕ = most_vectors log in
@@ -176,7 +181,7 @@ windows-preserved g c =
 pub returns-in-Ok-end_traced-clause-value : goal.returns-in-Ok-end_traced-clause-value
 returns-in-Ok-end_traced-clause-value g c =
     let held : List ℕ → Held = g.F.Files.held c.args.files.now in
-    let vec : List ℕ = c.args.job.now.vec.now in
+    let vec : List ℕ = c.as_str-vec.result.now in
     let p : Planned = c.args.plan.now in
     let log : Bool = c.args.job.now.log in
     let kept = c.windows.invariant in
@@ -184,14 +189,15 @@ returns-in-Ok-end_traced-clause-value g c =
     let (text, end, writes) = c.in-Ok-end_traced.ensures in
     let out : Output = (output_between g.O.Sink.written g.O.Sink.faults c.args.out.now c.end_traced.new.out) in
     let failed : OfFile = RoseIn (g.F.Files.faults c.args.files.now) (g.F.Files.faults c.windows.files) in
-    run_ends_whole held vec p log failed out (g.O.Sink.written c.windows.out) c.windows.first rows c.windows.plan.split.initial
+    ends_of_file held vec c.args.job.now.vec log p failed out (Ok tt) c.as_str-vec.ensures
+    (run_ends_whole held vec p log failed out (g.O.Sink.written c.windows.out) c.windows.first rows c.windows.plan.split.initial
     (subst (λ (b : Bool). GivenOf (held vec) p.split.circuit (most_vectors log) c.windows.first b rows) c.windows-test.false is) written
-    c.windows.log kept.logged text (run_end_of p.graph c.windows.plan.graph c.windows.log c.windows.plan.split.initial c.initial.result.now text (sym kept.graph) (c.initial.ensures.initial ∙ ap (λ (t : Split). t.initial) c.latches-3.ensures) end) writes.ok
+    c.windows.log kept.logged text (run_end_of p.graph c.windows.plan.graph c.windows.log c.windows.plan.split.initial c.initial.result.now text (sym kept.graph) (c.initial.ensures.initial ∙ ap (λ (t : Split). t.initial) c.latches-3.ensures) end) writes.ok)
 
 pub returns-in-Err-clause-value : goal.returns-in-Err-clause-value
 returns-in-Err-clause-value g c =
     let held : List ℕ → Held = g.F.Files.held c.args.files.now in
-    let vec : List ℕ = c.args.job.now.vec.now in
+    let vec : List ℕ = c.as_str-vec.result.now in
     let p : Planned = c.args.plan.now in
     let log : Bool = c.args.job.now.log in
     let kept = c.windows.invariant in
@@ -199,10 +205,11 @@ returns-in-Err-clause-value g c =
     let (text, end, writes) = c.in-Err.ensures in
     let out : Output = (output_between g.O.Sink.written g.O.Sink.faults c.args.out.now c.end_traced.new.out) in
     let failed : OfFile = RoseIn (g.F.Files.faults c.args.files.now) (g.F.Files.faults c.windows.files) in
-    run_ends_part held vec p log failed out (g.O.Sink.written c.windows.out) c.windows.first rows c.windows.plan.split.initial
+    ends_of_file held vec c.args.job.now.vec log p failed out (Err Unwritten) c.as_str-vec.ensures
+    (run_ends_part held vec p log failed out (g.O.Sink.written c.windows.out) c.windows.first rows c.windows.plan.split.initial
     (subst (λ (b : Bool). GivenOf (held vec) p.split.circuit (most_vectors log) c.windows.first b rows) c.windows-test.false is) written
     c.windows.log kept.logged text (run_end_of p.graph c.windows.plan.graph c.windows.log c.windows.plan.split.initial c.initial.result.now text (sym kept.graph) (c.initial.ensures.initial ∙ ap (λ (t : Split). t.initial) c.latches-3.ensures) end) writes.err
-    (rose_since (g.O.Sink.faults c.args.out.now) (g.O.Sink.faults c.windows.out) (g.O.Sink.faults c.end_traced.new.out) kept.never_fell writes.cause)
+    (rose_since (g.O.Sink.faults c.args.out.now) (g.O.Sink.faults c.windows.out) (g.O.Sink.faults c.end_traced.new.out) kept.never_fell writes.cause))
 
 pub end_traced-requires : goal.end_traced-requires
 end_traced-requires g c =

@@ -14,12 +14,12 @@ invariant-windows g l = record {
   never_fell : g.O.Sink.faults l.initial.out ≤ g.O.Sink.faults l.out;
   circuit : l.plan.split.circuit ≡ l.initial.plan.split.circuit;
   graph : l.plan.graph ≡ l.initial.plan.graph;
-  fits : FitsHeld (g.F.Files.held l.initial.files l.job.vec.now) l.reader;
+  fits : FitsHeld (g.F.Files.held l.initial.files l.vec) l.reader;
   of : IsReaderOf l.initial.plan.split.circuit (most_vectors l.job.log) l.reader;
   first_is : l.first ≡ l.reader.given;
   few : l.first ≤ most_vectors l.job.log;
   logged : IsLogOf l.job.log l.initial.plan.graph l.first l.log;
-  so_far : (rows : List Row) × GivenOf (g.F.Files.held l.initial.files l.job.vec.now) l.initial.plan.split.circuit (most_vectors l.job.log) l.first l.more rows
+  so_far : (rows : List Row) × GivenOf (g.F.Files.held l.initial.files l.vec) l.initial.plan.split.circuit (most_vectors l.job.log) l.first l.more rows
       × AreWritten l.initial.plan.split.circuit rows l.plan.split.initial (g.O.Sink.written l.initial.out) (g.O.Sink.written l.out);
 }
 

@@ -1,0 +1,38 @@
+-- The jobs of commands without options.
+use Rattle.std.specs.Prelude.{false, None}
+use Rattle.clap.specs.Words.{Text}
+use Rattle.ds_base.specs.declared.number.Mode.TheVariants.{Each}
+use Rattle.ds_cmd.specs.declared.graph.GraphJob.{GraphJob}
+use Rattle.ds_cmd.specs.declared.replay.ReplayJob.{ReplayJob}
+use Rattle.ds_cmd.specs.declared.run.RunJob.{RunJob}
+
+-- `run NET VEC`: each register is a cluster of its own, one thread is wanted, no log and no slack,
+-- and the run goes to its end
+abbrev pub bare_run : Text → Text → RunJob
+bare_run net vec = record {
+  net = net;
+  vec = vec;
+  graph = None;
+  clusters = Each;
+  jobs = 1;
+  log = false;
+  slack = 0;
+  stop = None;
+}
+
+-- `graph NET`: each register is a cluster of its own, and the graph is not expanded
+abbrev pub bare_graph : Text → GraphJob
+bare_graph net = record { net = net; clusters = Each; shake = false }
+
+-- `replay NET VEC LOG`: each register is a cluster of its own, there is no slack, and open latches
+-- are not shown
+abbrev pub bare_replay : Text → Text → Text → ReplayJob
+bare_replay net vec log = record {
+  net = net;
+  vec = vec;
+  log = log;
+  graph = None;
+  clusters = Each;
+  slack = 0;
+  transparent = false;
+}
