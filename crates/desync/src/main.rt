@@ -18,14 +18,14 @@ use std::thread::Threads;
 
 fn main(rt: HostRuntime) -> ExitCode {
     match words_given(&rt) {
-        Ok(words) => job_of(&rt, &rt, &words),
+        Ok(words) => do_words(&rt, &rt, &words),
         Err(AllocError) => say_memory(&rt),
     }
 }
 
 // Does the job that the words ask for, with the files and outputs of the system and threads of
 // `rt`.
-fn job_of<R: AllocGlobal + Threads + Sync>(
+fn do_words<R: AllocGlobal + Threads + Sync>(
     host: &HostRuntime,
     rt: &R,
     words: &[String],
@@ -44,7 +44,7 @@ fn status_of<R: AllocGlobal + Threads + Sync>(host: &HostRuntime, rt: &R, texts:
     desync_main(rt, texts, &mut files, &mut out, &mut err, &OpenGate)
 }
 
-// Says that the words found no place in memory, and ends as where a job does not.
+// Says that the words found no place in memory, and gives the status 4, as `desync_main` does.
 fn say_memory(rt: &HostRuntime) -> ExitCode {
     let mut err = HostOut::new(rt.stderr());
     match write_all(&mut err, b"desync: out of memory\n") {

@@ -17,8 +17,8 @@ use Rattle.ds_accept.specs.Fault.{IsFirstWithout, ShowsLeast}
 use Rattle.ds_accept.specs.declared.fault.AcceptFault.{AcceptFault}
 use Rattle.ds_accept.specs.declared.fault.AcceptFault.TheVariants as fault
 use Rattle.ds_accept.specs.declared.numbered.Numbered.{Numbered}
-use Rattle.ds_accept.specs.declared.places.Stop.{Stop}
-use Rattle.ds_accept.specs.declared.places.Stop.TheVariants.{First, Memory}
+use Rattle.ds_accept.specs.declared.places.NoPlace.{NoPlace}
+use Rattle.ds_accept.specs.declared.places.NoPlace.TheVariants.{First, Memory}
 
 -- for each event of a list its place in another
 pub record AreEventPlaces (events others : List Event) (places : List ℕ) : Type 0 where
@@ -28,9 +28,9 @@ pub record AreEventPlaces (events others : List Event) (places : List ℕ) : Typ
       → slice_index_or others (slice_index places k) d ≡ slice_index_or events k d
 
 -- the first event that has no place, or want of memory
-abbrev pub IsPlacingStop : List Event → List Event → Stop → Type 0
-IsPlacingStop events others (First k) = IsFirstWithout (Contains others) events k
-IsPlacingStop events others Memory = ⊤
+abbrev pub IsNoPlace : List Event → List Event → NoPlace → Type 0
+IsNoPlace events others (First k) = IsFirstWithout (Contains others) events k
+IsNoPlace events others Memory = ⊤
 
 -- an arc with its ends at other places
 abbrev pub moved : (ℕ → ℕ) → Arc → Arc

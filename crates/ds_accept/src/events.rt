@@ -5,7 +5,7 @@ ghost use Rattle.ds_accept.specs.Steps.{AreEventPlaces, IsLacking};
 ghost use Rattle.ds_accept.specs.declared.fault.AcceptFault.TheVariants.{Memory, MissingEvent};
 
 use crate::AcceptFault;
-use crate::places::{Stop, places_in};
+use crate::places::{NoPlace, places_in};
 use crate::renumber::copy;
 use ds_base::EventId;
 use ds_marked::{Event, Marked};
@@ -25,8 +25,8 @@ pub(crate) fn places_of(
     let events = required.events();
     match places_in(alloc, events, graph.events()) {
         Ok(places) => Ok(places),
-        Err(Stop::First(number)) => Err(missing_event(alloc, &events[number])),
-        Err(Stop::Memory) => Err(AcceptFault::Memory),
+        Err(NoPlace::First(number)) => Err(missing_event(alloc, &events[number])),
+        Err(NoPlace::Memory) => Err(AcceptFault::Memory),
     }
 }
 

@@ -1,6 +1,6 @@
 //! The place of each event of one list in another.
 ghost use Rattle.std.specs.Prelude.{◌≢◌, ◌<◌, ◌^◌, length, AllPairs, MatchResult};
-ghost use Rattle.ds_accept.specs.Steps.{AreEventPlaces, IsPlacingStop};
+ghost use Rattle.ds_accept.specs.Steps.{AreEventPlaces, IsNoPlace};
 
 use crate::numbers::Numbers;
 use ds_base::{EventId, OutOfMemory};
@@ -9,7 +9,7 @@ use std::alloc::{AllocFailed, Global};
 
 /// The first event that has no place, or want of memory.
 #[derive(Drop)]
-pub enum Stop {
+pub enum NoPlace {
     First(usize),
     Memory,
 }
@@ -19,22 +19,22 @@ pub(crate) fn places_in(
     alloc: Global,
     events: &[Event],
     others: &[Event],
-) -> Result<Vec<EventId>, Stop>
+) -> Result<Vec<EventId>, NoPlace>
     requires once { AllPairs (λ a b. a ≢ b) others.now }
     requires few { length others.now < 2 ^ 32 }
     ensures { MatchResult result (λ v. AreEventPlaces events.now others.now v.items)
-        (IsPlacingStop events.now others.now) }
+        (IsNoPlace events.now others.now) }
 {
     let Ok(numbers) = Numbers::of(alloc, others) else {
-        return Err(Stop::Memory);
+        return Err(NoPlace::Memory);
     };
     let mut places: Vec<EventId> = Vec::new(alloc);
     for (k, event) in events.iter().enumerate() {
         let Some(place) = numbers.place(event) else {
-            return Err(Stop::First(k));
+            return Err(NoPlace::First(k));
         };
         if places.push(EventId::new(place as u32)).is_err() {
-            return Err(Stop::Memory);
+            return Err(NoPlace::Memory);
         }
     }
     Ok(places)

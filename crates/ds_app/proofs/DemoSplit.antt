@@ -16,7 +16,9 @@ use Rattle.ds_design.specs.Reach.{Feeds, Reaches, here, through}
 use Rattle.ds_design.specs.Levels.{table_nets}
 use Rattle.ds_design.specs.declared.design.Gate.{Gate}
 use Rattle.ds_design.specs.declared.design.Register.{Register}
-use Rattle.ds_latch.specs.Node.{Node, In, Master, Slave, Split, IsNode, members, nets_of, nodes, number_of}
+use Rattle.ds_latch.specs.Node.{Split, IsNode, members, nets_of, nodes, number_of}
+use Rattle.ds_latch.specs.declared.node.Node.{Node}
+use Rattle.ds_latch.specs.declared.node.Node.TheVariants.{In, Master, Slave}
 use Rattle.ds_latch.specs.Order.{IsDataEdge, IsSource, Supplies, to_master, to_out, to_slave}
 use Rattle.ds_latch.specs.declared.latches.Edge.{Edge}
 use Rattle.ds_latch.proofs.Counts.{number_below}

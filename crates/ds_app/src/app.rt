@@ -21,8 +21,10 @@ use std::thread::Threads;
 
 /// Does all that the program does, and answers its status.
 ///
-/// `words` begins with the program's name. The text of the job goes to `out`; where there is a
-/// fault, a line that names it goes to `err`.
+/// `words` begins with the program's name. Threads and memory come of `rt`, and the files are read
+/// by their names in `words`. The text of the job goes to `out`; where there is a fault, a line
+/// that names it goes to `err`. `gate` is where a test may hold a worker back; it changes nothing
+/// in what is written.
 ///
 /// | Status | Says |
 /// |---|---|
@@ -82,7 +84,6 @@ fn do_job<R: AllocGlobal + Threads + Sync, G: Gate, F: Files, O: Sink>(
     ensures value { Ends (stages_of (F.held files.old) job.now)
         (RoseIn (F.faults files.old) (F.faults files.new))
         (output_between O.written O.faults out.old out.new) result }
-
     ensures same_held { F.held files.new ≡ F.held files.old }
 {
     let alloc = rt.alloc();

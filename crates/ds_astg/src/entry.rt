@@ -3,9 +3,9 @@ ghost use Rattle.std.specs.Prelude.{◌≡◌, ◌<◌, length};
 ghost use Rattle.ds_outside.specs.Writes.{GoesOn};
 ghost use Rattle.ds_astg.specs.Text.{entry_name, entry_text, tokens_text};
 
-use crate::piece::{is_further, put, put_event, put_place};
+use crate::piece::{is_further, put_event, put_place};
 use ds_marked::Marked;
-use ds_outside::{Sink, WriteFault};
+use ds_outside::{Sink, WriteFault, put};
 use itoa::Buffer;
 
 /// Writes the entry of an arc, where it has tokens.

@@ -13,8 +13,8 @@ use crate::places::Places;
 use crate::role::Role;
 use crate::signals::Signals;
 use crate::state::State;
-use crate::word::name;
 use ds_base::{EventId, OutOfMemory, Seq};
+use ds_lines::name;
 use ds_marked::{Arc, Event, Kind, Marked};
 use std::alloc::{AllocError, Global};
 

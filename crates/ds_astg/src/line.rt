@@ -5,10 +5,10 @@ ghost use Rattle.ds_marked.specs.Graph.{IsRangeFrom};
 ghost use Rattle.ds_astg.specs.Pieces.{all_below};
 ghost use Rattle.ds_astg.specs.Text.{arc_text, event_line, place_line, target_text};
 
-use crate::piece::{is_further, put, put_event, put_place};
+use crate::piece::{is_further, put_event, put_place};
 use ds_base::EventId;
 use ds_marked::Marked;
-use ds_outside::{Sink, WriteFault};
+use ds_outside::{Sink, WriteFault, put};
 
 /// Writes the line of an event, where arcs lead from it.
 pub fn put_event_line<O: Sink>(

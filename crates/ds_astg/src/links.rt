@@ -15,7 +15,7 @@ use crate::node::{Node, node_of};
 use crate::place::{Place, may_be};
 use crate::places::Places;
 use crate::signals::Signals;
-use crate::word::{name, word};
+use ds_lines::{name, word};
 use std::alloc::Global;
 
 // A source, and the number of its line.

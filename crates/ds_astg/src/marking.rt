@@ -15,7 +15,8 @@ use crate::key::Key;
 use crate::places::Places;
 use crate::signals::Signals;
 use crate::tokens::tokens_of;
-use crate::word::{before, first_byte, last_byte, name, rest, without_last, word};
+use crate::word::{before, first_byte, last_byte, rest, without_last};
+use ds_lines::{name, word};
 use std::alloc::{AllocError, Global};
 
 /// The places get the tokens of these entries.

@@ -6,7 +6,8 @@ ghost use Rattle.ds_astg.specs.Steps.{IsGraphKind};
 
 use crate::fault::{AstgKind, Refusal};
 use crate::signals::Signals;
-use crate::word::{has_reserved, has_slash, is_signed, name};
+use crate::word::{has_reserved, has_slash, is_signed};
+use ds_lines::name;
 use std::alloc::Global;
 
 /// An event, by its number, or a place, by its name.

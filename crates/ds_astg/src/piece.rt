@@ -7,23 +7,8 @@ ghost use Rattle.ds_astg.specs.Text.{have_same_ends, is_further as is_further_in
 
 use ds_base::EventId;
 use ds_marked::{Arc, Marked};
-use ds_outside::{Sink, WriteFault, write_all};
+use ds_outside::{Sink, WriteFault, put};
 use itoa::Buffer;
-
-/// Writes a piece.
-pub fn put<O: Sink>(
-    so_far: Result<(), WriteFault>,
-    piece: &[u8],
-    out: &mut O,
-) -> Result<(), WriteFault>
-    ensures { GoesOn so_far result (O.written out.old) (O.written out.new) (O.faults out.old)
-        (O.faults out.new) piece.now }
-{
-    match so_far {
-        Ok(()) => write_all(out, piece),
-        Err(fault) => Err(fault),
-    }
-}
 
 /// Writes the event with a number.
 pub fn put_event<O: Sink>(

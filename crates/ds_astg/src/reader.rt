@@ -9,8 +9,7 @@ use crate::fault::{AstgFault, AstgRefusal, Refusal};
 use crate::graph::graph_of;
 use crate::head::{Head, ends, head_of};
 use crate::state::State;
-use crate::word::word;
-use ds_lines::Lines;
+use ds_lines::{Lines, word};
 use ds_marked::Marked;
 use std::alloc::Global;
 

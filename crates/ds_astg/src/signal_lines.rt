@@ -4,9 +4,8 @@ ghost use Rattle.ds_outside.specs.Writes.{GoesOn};
 ghost use Rattle.ds_astg.specs.Pieces.{line_with};
 ghost use Rattle.ds_astg.specs.Text.{signal_lines, signal_of, signals_text};
 
-use crate::piece::put;
 use ds_marked::{Event, Kind};
-use ds_outside::{Sink, WriteFault};
+use ds_outside::{Sink, WriteFault, put};
 
 /// Writes the lines of the signals that rise among the events: of the first ones, which are so
 /// many, and of the further ones, where there are some.

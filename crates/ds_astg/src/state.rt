@@ -15,7 +15,7 @@ use crate::marking::{bad_marking, entries_of, mark_all};
 use crate::places::Places;
 use crate::role::Role;
 use crate::signals::Signals;
-use crate::word::{name, word};
+use ds_lines::{name, word};
 use std::alloc::Global;
 use std::marker::Model;
 

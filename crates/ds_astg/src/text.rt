@@ -6,11 +6,10 @@ ghost use Rattle.ds_astg.specs.Text.{entry_text, event_line, graph_text, place_l
 
 use crate::entry::put_entry;
 use crate::line::{put_event_line, put_place_line};
-use crate::piece::put;
 use crate::signal_lines::put_signal_lines;
 use ds_base::EventId;
 use ds_marked::Marked;
-use ds_outside::{Sink, WriteFault};
+use ds_outside::{Sink, WriteFault, put};
 
 /// Appends the text of a graph under a name. So many signals, the first ones, are its own and are
 /// declared as outputs; further ones are internal. Where a write fails, a first part of the text is

@@ -6,7 +6,7 @@ ghost use Rattle.ds_astg.specs.Word.{is_byte};
 ghost use Rattle.ds_astg.specs.Marking.{is_number as may_be_number, number_in as number_of};
 ghost use Rattle.ds_astg.specs.Marking.{tokens_of_entry as tokens_in, value_from};
 
-use crate::word::place_of;
+use ds_lines::place_of;
 
 /// The tokens of an entry: the number behind its `=`, one where there is none.
 pub fn tokens_of(entry: &[u8]) -> Option<u8>

@@ -1,5 +1,5 @@
 //! Words of a line.
-ghost use Rattle.std.specs.Prelude.{◌≡◌, ◌≤◌, ◌-◌, ◌<◌, length, take, drop, IfOk};
+ghost use Rattle.std.specs.Prelude.{◌≡◌, ◌≤◌, ◌-◌, ◌<◌, length, take, drop};
 ghost use Rattle.ds_astg.specs.Word.{first_byte as first_in, last_byte as last_in};
 ghost use Rattle.ds_astg.specs.Word.{without_last as front_of};
 ghost use Rattle.ds_astg.specs.Word.{has_slash as slash_in, has_reserved as reserved_in};
@@ -7,28 +7,10 @@ ghost use Rattle.ds_astg.specs.Word.{is_reserved as is_reserved_byte};
 ghost use Rattle.ds_astg.specs.Word.{is_signed as signed, is_signal as may_be_signal};
 ghost use Rattle.ds_astg.specs.Word.{fall_of as falls};
 ghost use Rattle.ds_astg.specs.Node.{name_in as name_of_word};
-ghost use Rattle.std.specs.List.{before_first, position_or_len};
-ghost use Rattle.ds_lines.specs.Words.{texts, word_at};
+ghost use Rattle.std.specs.List.{before_first};
 ghost use Rattle.ds_astg.specs.Word.{is_byte};
 
-use ds_base::{Name, Seq};
-use std::alloc::{AllocError, Global};
-
-/// The word at a place.
-pub fn word<'a>(words: &[&'a [u8]], k: usize) -> &'a [u8]
-    requires { k < length words.now }
-    ensures { result.now ≡ word_at (texts words.now) k }
-{
-    words[k]
-}
-
-/// A copy of a word.
-pub fn name(alloc: Global, word: &[u8]) -> Result<Name, AllocError>
-    ensures { IfOk result (λ n. n ≡ word.now) }
-{
-    let bytes = word.to_vec(alloc)?;
-    Ok(Seq::of(bytes))
-}
+use ds_lines::place_of;
 
 /// The first byte, 0 where there is none.
 pub fn first_byte(word: &[u8]) -> u8
@@ -137,18 +119,6 @@ pub fn fall_of(word: &[u8]) -> u32
     ensures small { result ≤ 1 }
 {
     if last_byte(word) == b'+' { 0 } else { 1 }
-}
-
-/// The place of the first such byte, the length where there is none.
-pub fn place_of(text: &[u8], wanted: u8) -> usize
-    ensures value { result ≡ position_or_len (is_byte wanted) text.now }
-    ensures within { result ≤ length text.now }
-{
-    let mut place = 0;
-    'finding: while place < text.len() && text[place] != wanted {
-        place += 1;
-    }
-    place
 }
 
 /// What stands before the first such byte.

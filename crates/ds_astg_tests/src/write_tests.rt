@@ -2,7 +2,7 @@
 ghost use Rattle.std.specs.Prelude.{◌≡◌, IfOk, length};
 
 use ds_astg::{read, write};
-use ds_base::{EventId, OutOfMemory, Seq};
+use ds_base::{OutOfMemory, Seq};
 use ds_lines::lines;
 use ds_marked::{Arc, Event, Kind, Marked};
 use ds_outside::MemorySink;
@@ -15,7 +15,7 @@ fn graph(alloc: Global) -> Result<Marked, OutOfMemory>
     let mut events = Seq::new(alloc);
     events.push(event(alloc, Kind::Rise)?)?;
     events.push(event(alloc, Kind::Fall)?)?;
-    let arcs = [arc(1, 0, 1), arc(0, 1, 2), arc(0, 1, 0)];
+    let arcs = [Arc::of(1, 0, 1), Arc::of(0, 1, 2), Arc::of(0, 1, 0)];
     Marked::new(alloc, events, Vec::from_array(alloc, arcs)?)
 }
 
@@ -25,16 +25,6 @@ fn event(alloc: Global, kind: Kind) -> Result<Event, OutOfMemory>
     let mut signal = Seq::new(alloc);
     signal.push(b'a')?;
     Ok(Event { signal, kind })
-}
-
-fn arc(source: u32, target: u32, tokens: u8) -> Arc
-    ensures { result ≡ record { source = source; target = target; tokens = tokens } }
-{
-    Arc {
-        source: EventId::new(source),
-        target: EventId::new(target),
-        tokens,
-    }
 }
 
 const TEXT: &[u8] = b".model m

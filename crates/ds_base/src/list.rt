@@ -1,4 +1,4 @@
-//! A list that grows, for the parts of a value that are lists. All types of the product keep their
+//! A list that grows, for the parts of a value that are lists. All types of the program keep their
 //! lists in it, so that contracts see the items and no capacity.
 ghost use Rattle.std.specs.Prelude.{◌≡◌, ◌+◌, ◌<◌, List, [], ◌∷◌, ◌++◌, length, IsOk, IfErr, OnOk};
 ghost use Rattle.std.specs.Prelude.{OnErr};

@@ -1,7 +1,7 @@
 //! A row of values: one value a net, register or column, as each turn reads and writes it.
 ghost use Rattle.std.specs.Prelude.{◌≡◌, ◌↔◌, ◌*◌, ◌<◌, ◌≤◌, IsTrue, length, replicate};
 ghost use Rattle.std.specs.Prelude.{slice_index_or, slice_set, IfOk};
-ghost use Rattle.ds_base.specs.Word.{number_of_values, word_of};
+ghost use Rattle.ds_base.specs.Word.{count_of_words, number_of_values, word_of};
 ghost use Rattle.std.specs.Borrow.{sem};
 ghost use Rattle.ds_base.specs.Lent.{LendsValues};
 ghost use Rattle.ds_base.specs.Values.{AreKnown, Row};
@@ -176,5 +176,16 @@ mod tests {
         assert_eq!(rt; zeros.word(0), 8);
         zeros.copy_from(&other);
         assert_eq!(rt; zeros.word(0), 6);
+    }
+}
+
+/// How many words the values of a row of so many take, 32 a word.
+pub fn words_of(count: usize) -> usize
+    ensures { result ≡ count_of_words count }
+{
+    if count % 32 == 0 {
+        count / 32
+    } else {
+        count / 32 + 1
     }
 }

@@ -11,8 +11,9 @@ ghost use Rattle.ds_models.specs.declared.blif.Part.TheVariants.{Table as TableP
 
 use crate::head::{Head, head_of};
 use crate::part::{is_on, latch_of, plane_of, table_of, use_of};
-use crate::word::{word, word_or_none, words_behind};
+use crate::word::{word_or_none, words_behind};
 use ds_base::{OutOfMemory, Seq};
+use ds_lines::word;
 use ds_models::{BlifModel, Command, Part, Word};
 use std::alloc::Global;
 use std::marker::Model;

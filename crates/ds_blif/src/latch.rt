@@ -7,7 +7,8 @@ ghost use Rattle.ds_blif.specs.Form.{has_bad_init as has_bad_init_word};
 ghost use Rattle.ds_blif.specs.Fault.{latch_fault as latch_fault_in};
 
 use crate::fault::BlifKind;
-use crate::word::{is, word};
+use crate::word::is;
+use ds_lines::word;
 
 fn is_edge(word: &[u8]) -> bool
     ensures { result ≡ is_edge_word word.now }

@@ -5,7 +5,7 @@ ghost use Rattle.ds_blif.specs.Fault.{model_fault};
 ghost use Rattle.ds_blif.specs.State.{IsKind};
 
 use crate::fault::{BlifKind, Refusal};
-use crate::word::{name, word};
+use ds_lines::{name, word};
 use ds_names::Names;
 use std::alloc::Global;
 

@@ -7,7 +7,8 @@ ghost use Rattle.ds_blif.specs.Form.{output_of};
 ghost use Rattle.ds_blif.specs.Fault.{row_fault as row_fault_in, differs as differs_from};
 
 use crate::fault::BlifKind;
-use crate::word::{is, word};
+use crate::word::is;
+use ds_lines::word;
 
 fn is_output(word: &[u8]) -> bool
     ensures { result ≡ is_output_word word.now }

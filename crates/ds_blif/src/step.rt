@@ -14,8 +14,8 @@ use crate::model_names::add_model;
 use crate::row::row_fault;
 use crate::state::{State, first_after, open_after, table_after, wants_model};
 use crate::subckt::subckt_fault;
-use crate::word::{name, word};
 use ds_base::{Limit, OutOfMemory};
+use ds_lines::{name, word};
 use std::alloc::Global;
 
 fn names_fault(words: &[&[u8]]) -> Option<BlifKind>

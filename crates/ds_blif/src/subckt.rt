@@ -7,8 +7,8 @@ ghost use Rattle.ds_blif.specs.Form.{has_bad_pairs as has_bad_pairs_word};
 ghost use Rattle.ds_blif.specs.Fault.{subckt_fault as subckt_fault_in};
 
 use crate::fault::BlifKind;
-use crate::word::word;
 use ds_base::OutOfMemory;
+use ds_lines::word;
 use ds_names::Names;
 use std::alloc::Global;
 

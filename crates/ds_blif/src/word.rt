@@ -1,33 +1,15 @@
 //! Words of a line.
-ghost use Rattle.std.specs.Prelude.{◌≡◌, ◌<◌, length, drop, IfOk};
+ghost use Rattle.std.specs.Prelude.{◌≡◌, ◌<◌, length, drop};
 ghost use Rattle.std.specs.Str.{bytes_eq};
 ghost use Rattle.ds_lines.specs.Words.{texts, word_at};
 
-use ds_base::{Name, Seq};
 use ds_models::Words;
-use std::alloc::{AllocError, Global};
 
 /// Whether two words are the same.
 pub fn is(word: &[u8], text: &[u8]) -> bool
     ensures { result ≡ bytes_eq word.now text.now }
 {
     word == text
-}
-
-/// The word at a place.
-pub fn word<'a>(words: &[&'a [u8]], k: usize) -> &'a [u8]
-    requires { k < length words.now }
-    ensures { result.now ≡ word_at (texts words.now) k }
-{
-    words[k]
-}
-
-/// A copy of a word.
-pub fn name(alloc: Global, word: &[u8]) -> Result<Name, AllocError>
-    ensures { IfOk result (λ n. n ≡ word.now) }
-{
-    let bytes = word.to_vec(alloc)?;
-    Ok(Seq::of(bytes))
 }
 
 /// The word at a place, empty where there is none.

@@ -11,6 +11,7 @@ use Rattle.std.specs.declared.result.Result.{Result}
 use Rattle.std.specs.Str.Parse.{digits_value, IsNumeral, ParsesUnsigned}
 use Rattle.std.proofs.lemmas.Bool.{cases_Bool, leb-true, le-leb, ltb-true, lt-ltb, eqb-true}
 use Rattle.std.proofs.lemmas.Bool.{false≢true}
+use Rattle.std.proofs.lemmas.Option.{same_Some}
 use Rattle.std.proofs.lemmas.Fmt.{decimal_is_IsNumeral, length-decimal-le}
 use Rattle.std.proofs.lemmas.Str.Parse.{IsNumeralModel, numerals_by_value, parse_digits}
 use Rattle.clap.specs.Words.{Text}
@@ -114,10 +115,6 @@ not_read least most word fits is read =
       | inr fails ↦ outside least most word fails
     ]
 
--- equal where both are there
-some_same : (a b : ℕ) → (let o : Option ℕ = Some a in o ≡ Some b) → a ≡ b
-some_same a b e = cc
-
 -- a number is at most the range's end
 pub number_low : (least most : ℕ) (word : Text) (value : ℕ) → number_in_range least most word ≡ Some value
     → value ≤ most
@@ -130,7 +127,7 @@ number_low least most word value e =
     go true holds e =
         let between = (both (is_numeral word) _ holds).1 in
         let other : digits_value 10 word ≤ most = under least most (digits_value 10 word) between in
-        omega (arith, other, some_same _ _ e)
+        omega (arith, other, same_Some _ _ e)
     go false fails e = cc
 
 -- a numeral of at most twenty digits

@@ -1,4 +1,4 @@
-//! The words of `graph`.
+//! The words of `graph`, and the job that they ask for.
 ghost use Rattle.std.specs.Prelude.{◌≡◌, IfOk};
 ghost use Rattle.clap.specs.Words.{shape_of, found_of, rows_of};
 ghost use Rattle.ds_cmd.specs.Fault.{Gives};

@@ -1,4 +1,4 @@
-//! The words of `replay`.
+//! The words of `replay`, and the job that they ask for.
 ghost use Rattle.std.specs.Prelude.{◌≡◌, codes, IfOk};
 ghost use Rattle.clap.specs.Words.{shape_of, found_of, rows_of};
 ghost use Rattle.ds_cmd.specs.Argument.{is_set as is_set_in};
@@ -33,7 +33,7 @@ pub struct ReplayJob {
     pub transparent: bool,
 }
 
-/// `replay NET VEC LOG [--graph G] [--clusters MODE] [--slack N] [--transparent]`, as a subcommand.
+/// `replay NET VEC LOG [--graph G] [--clusters MODE] [--slack S] [--transparent]`, as a subcommand.
 pub fn command<'a>(alloc: Global) -> Result<Command<'a>, OutOfMemory>
     ensures { IfOk result (λ c. shape_of c ≡ replay_shape) }
 {

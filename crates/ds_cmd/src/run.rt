@@ -1,4 +1,4 @@
-//! The words of `run`.
+//! The words of `run`, and the job that they ask for.
 ghost use Rattle.std.specs.Prelude.{◌≡◌, IfOk};
 ghost use Rattle.clap.specs.Words.{shape_of, found_of, rows_of};
 ghost use Rattle.ds_cmd.specs.Fault.{Gives};
@@ -34,7 +34,7 @@ pub struct RunJob {
     pub stop: Option<u64>,
 }
 
-/// `run NET VEC [--graph G] [--clusters MODE] [--jobs N] [--log] [--slack N] [--stop N]`, as a
+/// `run NET VEC [--graph G] [--clusters MODE] [--jobs N] [--log] [--slack S] [--stop K]`, as a
 /// subcommand.
 pub fn command<'a>(alloc: Global) -> Result<Command<'a>, OutOfMemory>
     ensures { IfOk result (λ c. shape_of c ≡ run_shape) }

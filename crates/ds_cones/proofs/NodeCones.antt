@@ -8,7 +8,9 @@ use Rattle.std.proofs.lemmas.List.Elements.{All-filter, All-map}
 use Rattle.ds_design.specs.Circuit.{control_nets, data_nets, register_nets}
 use Rattle.ds_design.specs.InRange.{IsInRange}
 use Rattle.ds_design.specs.declared.design.Register.{Register}
-use Rattle.ds_latch.specs.Node.{Node, In, Out, Master, Slave, Split, IsNode, number_of, members, nets_of}
+use Rattle.ds_latch.specs.Node.{Split, IsNode, number_of, members, nets_of}
+use Rattle.ds_latch.specs.declared.node.Node.{Node}
+use Rattle.ds_latch.specs.declared.node.Node.TheVariants.{In, Out, Master, Slave}
 use Rattle.ds_latch.specs.Plan.{IsSplit}
 use Rattle.ds_settle.specs.Cone.{IsCone, Parts}
 use Rattle.ds_cones.specs.Cones.{AreCones, IsConeAt, cone_place}

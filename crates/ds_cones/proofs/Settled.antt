@@ -9,7 +9,9 @@ use Rattle.ds_base.proofs.Lists.{agree_from_map, Contains-map}
 use Rattle.ds_cover.specs.Cover.{value_at, values_at}
 use Rattle.ds_design.specs.Circuit.{columns, data_nets, register_nets, used}
 use Rattle.ds_design.specs.Run.{IsRun, row_at}
-use Rattle.ds_latch.specs.Node.{Node, In, Out, Master, Slave, Split, IsNode, members, nets_of}
+use Rattle.ds_latch.specs.Node.{Split, IsNode, members, nets_of}
+use Rattle.ds_latch.specs.declared.node.Node.{Node}
+use Rattle.ds_latch.specs.declared.node.Node.TheVariants.{In, Out, Master, Slave}
 use Rattle.ds_latch.specs.Order.{IsDataEdge}
 use Rattle.ds_latch.specs.Plan.{IsSplit}
 use Rattle.ds_latch.specs.Numbered.{numbered}
@@ -18,10 +20,10 @@ use Rattle.ds_latch.proofs.Flow.{Settles, settles_master, settles_out}
 use Rattle.ds_settle.specs.Cone.{IsCone, IsPartSettled, Parts}
 use Rattle.ds_settle.proofs.Agree.{cone_settles, sources_known}
 use Rattle.ds_cones.specs.Settled.{IsSettling, IsSupplied, SettlesNextValue}
-use Rattle.ds_cones.proofs.Taken.{master_value, picked}
+use Rattle.ds_latch.proofs.Turns.{master_value, picked}
 
 -- the nets of a node that settles are used
-settling_used : (s : Split) → IsSplit s → (n : Node) → IsNode s n → IsSettling n → All (Contains (used s.circuit)) (nets_of s n)
+pub settling_used : (s : Split) → IsSplit s → (n : Node) → IsNode s n → IsSettling n → All (Contains (used s.circuit)) (nets_of s n)
 settling_used s split In is_node settling = absurd settling
 settling_used s split Out is_node settling = λ k d inside. Contains-append_right (flat_map (λ t. t.table.inputs) s.circuit.tables ++ data_nets s.circuit) s.circuit.outputs (get_or s.circuit.outputs k d) (Contains-get_or s.circuit.outputs k d inside)
 settling_used s split (Master i) is_node settling =

@@ -1,6 +1,8 @@
 -- The cone of each node that settles.
 use Rattle.std.specs.Prelude.{◌≡◌, ℕ, ◌+◌, List, length, slice_index_or}
-use Rattle.ds_latch.specs.Node.{Node, In, Out, Master, Slave, Split, IsNode, number_of, nets_of}
+use Rattle.ds_latch.specs.Node.{Split, IsNode, number_of, nets_of}
+use Rattle.ds_latch.specs.declared.node.Node.{Node}
+use Rattle.ds_latch.specs.declared.node.Node.TheVariants.{In, Out, Master, Slave}
 use Rattle.ds_settle.specs.Cone.{IsCone, Parts as Cone}
 use Rattle.ds_cones.specs.Settled.{IsSettling}
 

@@ -3,7 +3,9 @@ use Rattle.std.specs.Prelude.{◌≡◌, ⊤, ℕ, suc, ◌-◌, ◌<◌, List, 
 use Rattle.ds_base.specs.Values.{Row}
 use Rattle.ds_cover.specs.Cover.{values_at}
 use Rattle.ds_design.specs.Run.{IsRun}
-use Rattle.ds_latch.specs.Node.{Node, In, Out, Master, Slave, Split, IsNode, nets_of}
+use Rattle.ds_latch.specs.Node.{Split, IsNode, nets_of}
+use Rattle.ds_latch.specs.declared.node.Node.{Node}
+use Rattle.ds_latch.specs.declared.node.Node.TheVariants.{In, Out, Master, Slave}
 use Rattle.ds_latch.specs.Order.{IsDataEdge, open_tokens}
 use Rattle.ds_latch.specs.Plan.{IsSplit}
 use Rattle.ds_latch.specs.Numbered.{numbered}

@@ -2,7 +2,8 @@
 use Rattle.std.specs.Prelude.{◌≡◌, ℕ, suc, ◌-◌, ◌<◌, List, [], length}
 use Rattle.ds_base.specs.Values.{Row}
 use Rattle.ds_design.specs.Run.{IsRun}
-use Rattle.ds_latch.specs.Node.{Node, Split, IsNode}
+use Rattle.ds_latch.specs.Node.{Split, IsNode}
+use Rattle.ds_latch.specs.declared.node.Node.{Node}
 use Rattle.ds_latch.specs.Order.{IsDataEdge, open_tokens}
 use Rattle.ds_latch.specs.Plan.{IsSplit}
 use Rattle.ds_latch.specs.Numbered.{numbered}

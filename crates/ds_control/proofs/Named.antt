@@ -9,7 +9,8 @@ use Rattle.std.proofs.lemmas.List.FromFn.{length-range_with_len, get_or-range_wi
 use Rattle.ds_marked.specs.declared.marked.Event.{Event}
 use Rattle.ds_marked.specs.declared.marked.Kind.{Kind}
 use Rattle.ds_marked.specs.declared.marked.Kind.TheVariants.{Rise, Fall, Dummy}
-use Rattle.ds_latch.specs.Node.{Master, Slave, Split}
+use Rattle.ds_latch.specs.Node.{Split}
+use Rattle.ds_latch.specs.declared.node.Node.TheVariants.{Master, Slave}
 use Rattle.ds_latch.specs.Plan.{node_events, split_events}
 
 -- the number of the node with a name, by its first letter and its digits

@@ -2,7 +2,7 @@
 use Rattle.std.proofs.Common.{◌≡◌, ℕ, ◌+◌, List, [], ◌∷◌, ◌++◌, ap, sym, ◌∙◌, append_assoc}
 use Rattle.ds_marked.specs.declared.marked.Arc.{Arc}
 use Rattle.ds_marked.specs.declared.marked.Event.{Event}
-use Rattle.ds_latch.specs.Node.{Master, Slave}
+use Rattle.ds_latch.specs.declared.node.Node.TheVariants.{Master, Slave}
 use Rattle.ds_latch.specs.Plan.{node_events}
 use Rattle.ds_control.specs.Orders.{closing_arc, opening_arc, node_arcs, cluster_events}
 use Rattle.ds_control.proofs.Two.{flat_map_next}

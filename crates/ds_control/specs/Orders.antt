@@ -5,7 +5,8 @@ use Rattle.std.specs.List.{flat_map, range_with_len}
 use Rattle.ds_marked.specs.declared.marked.Arc.{Arc}
 use Rattle.ds_marked.specs.declared.marked.Event.{Event}
 use Rattle.ds_marked.specs.declared.marked.Kind.TheVariants.{Rise, Fall}
-use Rattle.ds_latch.specs.Node.{Master, Slave, Split, nodes}
+use Rattle.ds_latch.specs.Node.{Split, nodes}
+use Rattle.ds_latch.specs.declared.node.Node.TheVariants.{Master, Slave}
 use Rattle.ds_latch.specs.Latches.{HasEdges}
 use Rattle.ds_latch.specs.Plan.{node_events}
 use Rattle.ds_latch.specs.declared.latches.Edge.{Edge}

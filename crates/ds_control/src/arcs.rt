@@ -5,7 +5,7 @@ ghost use Rattle.ds_control.specs.Orders.{reading_arc, tokens_after as tokens_of
 ghost use Rattle.ds_control.specs.Part.{PushesPart};
 
 use ds_base::{EventId, LatchId};
-use ds_latch::{DataEdge, Latches};
+use ds_latch::{DataEdge, Latches, Node};
 use ds_marked::Arc;
 use std::alloc::{AllocError, Global};
 
@@ -15,7 +15,7 @@ pub(crate) fn arcs(alloc: Global, latches: &Latches<'_>) -> Result<Vec<Arc>, All
 {
     let edges = latches.edges();
     let mut arcs = Vec::new(alloc);
-    push_node_arcs(2 * latches.clusters().len() as u32 + 2, &mut arcs)?;
+    push_node_arcs(latches.nodes() as u32, &mut arcs)?;
     push_edge_arcs(latches.slack(), edges, &mut arcs)?;
     Ok(arcs)
 }
@@ -69,17 +69,12 @@ fn freeing(slack: u8, edge: &DataEdge) -> Arc
     arc(closing(edge.consumer), opening(edge.producer), tokens)
 }
 
-/// The tokens with which the consumers of a node open after it: one where it is a slave, which has
-/// an odd number above that of `OUT`.
+/// The tokens with which the consumers of a node open after it: one where it is a slave.
 pub fn tokens_after(producer: LatchId) -> u8
     ensures value { result ≡ tokens_of producer }
     ensures low { result ≤ 1 }
 {
-    if producer.number() > 2 {
-        (producer.number() % 2) as u8
-    } else {
-        0
-    }
+    Node::of(producer).open_tokens()
 }
 
 /// An arc by its parts.

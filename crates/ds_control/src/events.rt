@@ -1,6 +1,6 @@
 //! The events of the nodes.
 ghost use Rattle.std.specs.Prelude.{◌≡◌, ◌++◌, IfOk, OnErr, OnOk};
-ghost use Rattle.ds_latch.specs.Node.{In, Out, Master, Slave};
+ghost use Rattle.ds_latch.specs.declared.node.Node.TheVariants.{In, Out, Master, Slave};
 ghost use Rattle.ds_latch.specs.Plan.{node_events};
 ghost use Rattle.ds_control.specs.Orders.{cluster_events, signal_events};
 ghost use Rattle.ds_control.specs.Part.{PushesPart};

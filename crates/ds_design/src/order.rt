@@ -15,7 +15,7 @@ struct Placed {
 }
 
 /// These tables, given by their places, by the level of what they drive. `levels` has one for each
-/// net.
+/// net. `AllocError` is want of memory.
 pub fn by_level(
     alloc: Global,
     tables: &[Gate],

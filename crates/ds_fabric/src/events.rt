@@ -1,30 +1,17 @@
-//! Events by number, where it is known how many latches there are: the node of an event, how often
-//! it fired, and where its tickets stand.
+//! Events by number, where it is known how many latches there are: the node of an event, and where
+//! its tickets stand.
 ghost use Rattle.std.specs.Prelude.{◌≡◌, ◌<◌, true};
-ghost use Rattle.ds_rule.specs.Run.{Run, node_of, opens, turns};
+ghost use Rattle.ds_rule.specs.Run.{Run, node_of, opens};
 ghost use Rattle.ds_fabric.specs.Told.{ticket_place};
 
 /// The node of an event.
-pub fn home(latches: usize, event: usize) -> usize
+pub fn node_of(latches: usize, event: usize) -> usize
     ensures { (run : Run) → latches ≡ run.latches → result ≡ node_of run event }
 {
     if event / 2 < latches {
         event / 2
     } else {
         event - latches
-    }
-}
-
-/// How often the event has fired, where its node has fired so often.
-pub fn turns_of(latches: usize, event: usize, fired: u64) -> u64
-    ensures { (run : Run) → latches ≡ run.latches → result ≡ turns run event fired }
-{
-    if event / 2 >= latches {
-        fired
-    } else if event % 2 == 0 {
-        fired / 2 + fired % 2
-    } else {
-        fired / 2
     }
 }
 

@@ -7,13 +7,14 @@ ghost use Rattle.ds_rule.specs.Words.{width, value, node_values};
 ghost use Rattle.ds_rule.specs.Rule.{tickets};
 ghost use Rattle.ds_fabric.specs.Showing.{IsFiredInOrder, IsTold};
 
-use crate::events::{home, turns_of};
+use crate::events::node_of;
 use crate::history::History;
 use crate::pass::Pass;
 use crate::places::find;
 use crate::spread::{no_events, spread_all};
-use crate::words::{unpack, words_of};
-use ds_base::{EventId, LatchId, OutOfMemory, Row3};
+use crate::words::unpack;
+use ds_base::{EventId, LatchId, OutOfMemory, Row3, words_of};
+use ds_rule::turns_of;
 use std::alloc::Global;
 use std::marker::Model;
 use std::snapshot::Snapshot;
@@ -53,7 +54,7 @@ impl Record {
         ensures { result ≡ slice_index (tickets self.now.shown.view event) k }
     {
         let number = event.index();
-        let history = self.history(home(self.latches, number));
+        let history = self.history(node_of(self.latches, number));
         history.ticket(self.latches, number, k)
     }
 
@@ -63,7 +64,7 @@ impl Record {
         ensures { result ≡ length (tickets self.now.shown.view event) }
     {
         let number = event.index();
-        let history = self.history(home(self.latches, number));
+        let history = self.history(node_of(self.latches, number));
         turns_of(self.latches, number, history.fired)
     }
 

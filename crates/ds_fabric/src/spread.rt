@@ -9,9 +9,9 @@ ghost use Rattle.ds_fabric.specs.Spread.{HasSpread};
 ghost use Rattle.ds_fabric.specs.Spread.{CanSpread};
 ghost use Rattle.ds_fabric.specs.declared.history.History.{History};
 
-use crate::events::turns_of;
 use crate::history::History;
 use ds_base::{EventId, OutOfMemory};
+use ds_rule::turns_of;
 use std::alloc::Global;
 
 /// Room for so many events.

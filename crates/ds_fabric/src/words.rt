@@ -8,17 +8,6 @@ ghost use Rattle.ds_fabric.specs.Unpacked.{IsPacked, HasWord};
 
 use ds_base::{Row3, Value};
 
-/// How many words so many values take.
-pub fn words_of(count: usize) -> usize
-    ensures { result ≡ count_of_words count }
-{
-    if count % 32 == 0 {
-        count / 32
-    } else {
-        count / 32 + 1
-    }
-}
-
 /// Reads a row back from its value words.
 pub fn unpack(words: &[u64], row: &mut Row3)
     requires { length words.now ≡ count_of_words (length row.old) }

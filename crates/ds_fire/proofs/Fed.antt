@@ -1,18 +1,20 @@
 -- The homes of nets, and of the sources of cones.
 use Rattle.std.proofs.Common.{◌≡◌, ◌∙◌, ℕ, ◌<◌, List, [], ◌++◌, length, get_or, inl, inr, arith, sym, subst}
 use Rattle.std.specs.Prelude.{All, Contains}
-use Rattle.std.specs.List.{flat_map}
 use Rattle.std.proofs.lemmas.List.{length-map, get_or_default}
-use Rattle.std.proofs.lemmas.List.Elements.{All-contains, All-map, Contains-append_cases, Contains-append_left, Contains-append_right, Contains-get_or}
+use Rattle.std.proofs.lemmas.List.Elements.{All-contains, Contains-append_cases}
 use Rattle.ds_base.proofs.Lists.{Contains-map}
-use Rattle.ds_design.specs.Circuit.{columns, data_nets, register_nets, used}
-use Rattle.ds_latch.specs.Node.{Node, In, Out, Master, Slave, Split, IsNode, number_of, members, nets_of}
+use Rattle.ds_design.specs.Circuit.{columns, register_nets, used}
+use Rattle.ds_latch.specs.Node.{Split, IsNode, number_of, members, nets_of}
+use Rattle.ds_latch.specs.declared.node.Node.{Node}
+use Rattle.ds_latch.specs.declared.node.Node.TheVariants.{In, Out, Master, Slave}
 use Rattle.ds_latch.specs.Order.{IsSource}
 use Rattle.ds_latch.specs.Plan.{IsSplit}
 use Rattle.ds_design.specs.declared.design.Register.{Register}
 use Rattle.ds_settle.specs.Cone.{IsCone, Parts}
 use Rattle.ds_settle.proofs.Agree.{sources_known}
 use Rattle.ds_cones.specs.Settled.{IsSettling}
+use Rattle.ds_cones.proofs.Settled.{settling_used}
 use Rattle.ds_fire.specs.Feeds.{AreSourceNetsHoused, AreSourceHomes, IsSourceHome, IsNetOfNode, IsSourceNetPlacedOrKept, home_of}
 use Rattle.ds_fire.specs.declared.homes.Home.{Home}
 
@@ -48,19 +50,6 @@ known_home s split homes are net known =
           let in_slave : Contains (nets_of s (Slave d)) net = subst (λ (net : ℕ). Contains (nets_of s (Slave d)) net) net_of (Contains-map (λ r. get_or (register_nets s.circuit) r 0) (members s d) r in_members) in
           All-contains (λ n. IsSourceHome s n (home_of homes n)) (nets_of s (Slave d)) net (are.each (Slave d) tt inside) in_slave)
     ]
-
--- the nets of a node that settles are used
-settling_used : (s : Split) → IsSplit s → (n : Node) → IsNode s n → IsSettling n → All (Contains (used s.circuit)) (nets_of s n)
-settling_used s split In is_node settling = absurd settling
-settling_used s split Out is_node settling = λ k d inside. Contains-append_right (flat_map (λ t. t.table.inputs) s.circuit.tables ++ data_nets s.circuit) s.circuit.outputs (get_or s.circuit.outputs k d) (Contains-get_or s.circuit.outputs k d inside)
-settling_used s split (Master i) is_node settling =
-    let inputs : List ℕ = flat_map (λ t. t.table.inputs) s.circuit.tables in
-    let sizes : length (data_nets s.circuit) ≡ length s.circuit.registers = length-map s.circuit.registers (λ (r : Register). r.data_net) in
-    All-map (Contains (used s.circuit)) (λ r. get_or (data_nets s.circuit) r 0) (members s i) (λ k d inside.
-    let low : get_or (members s i) k d < length s.circuit.registers = split.within i [] is_node k d inside in
-    let net : ℕ = get_or (data_nets s.circuit) (get_or (members s i) k d) 0 in
-    Contains-append_left (inputs ++ data_nets s.circuit) s.circuit.outputs net (Contains-append_right inputs (data_nets s.circuit) net (Contains-get_or (data_nets s.circuit) (get_or (members s i) k d) 0 (omega arith))))
-settling_used s split (Slave i) is_node settling = absurd settling
 
 -- each source of the cone of a node that settles has its home
 pub source_homes : (s : Split) → IsSplit s → (n : Node) → IsNode s n → IsSettling n → (homes : List Home) → AreSourceHomes s homes → (cone : Parts) → IsCone s.circuit (nets_of s n) cone → All (λ net. IsSourceHome s net (home_of homes net)) cone.sources

@@ -1,5 +1,5 @@
 -- What is kept before the first firing.
-use Rattle.std.proofs.Common.{◌≡◌, ◌≢◌, ◌∙◌, ℕ, ◌+◌, ◌-◌, ◌*◌, ◌/◌, ◌%◌, ◌^◌, ◌<◌, ◌≤◌, ◌==◌, if◌then◌else◌, List, [], ◌∷◌, ◌++◌, length, get_or, replicate, inl, inr, refl, arith, ap, sym}
+use Rattle.std.proofs.Common.{◌≡◌, ◌∙◌, ℕ, ◌+◌, ◌-◌, ◌*◌, ◌/◌, ◌%◌, ◌^◌, ◌<◌, ◌≤◌, ◌==◌, if◌then◌else◌, List, [], ◌∷◌, ◌++◌, length, get_or, replicate, inl, inr, refl, arith, ap, sym}
 use Rattle.std.proofs.lemmas.Bool.{cases_eq, cases_lt}
 use Rattle.std.proofs.lemmas.List.{get_or-map, get_or_append_left, get_or_past, get_or_push, get_or-replicate, length-append, length-map, length-replicate}
 use Rattle.std.proofs.lemmas.Nat.{div-mul-add, mod-mul-add}
@@ -10,7 +10,9 @@ use Rattle.ds_base.specs.declared.value.Value.TheVariants.{Zero}
 use Rattle.ds_cover.specs.Cover.{value_at}
 use Rattle.ds_design.specs.Circuit.{columns, register_nets}
 use Rattle.ds_design.specs.InRange.{IsInRange}
-use Rattle.ds_latch.specs.Node.{Node, In, Out, Master, Slave, Split, IsNode, number_of, nodes, closing, members, nets_of, zeros}
+use Rattle.ds_latch.specs.Node.{Split, IsNode, number_of, nodes, closing, members, nets_of, zeros}
+use Rattle.ds_latch.specs.declared.node.Node.{Node}
+use Rattle.ds_latch.specs.declared.node.Node.TheVariants.{In, Out, Master, Slave}
 use Rattle.ds_latch.specs.Plan.{IsPlan, Planned, split_events}
 use Rattle.ds_latch.proofs.Rising.{events_long}
 use Rattle.ds_marked.specs.Graph.{Graph}
@@ -26,13 +28,10 @@ use Rattle.ds_fire.specs.Turn.{rooms_of, values_of}
 use Rattle.ds_fire.specs.declared.kept.Kept.{Kept}
 use Rattle.ds_fire.proofs.Shown.{index_inside}
 
--- the registers of the slave with a number
-pub slave_wide : (s : Split) (number : ℕ) → number < nodes s → number % 2 ≢ 0 → number ≢ 1 → (row : Row) → ((n : Node) → IsNode s n → number_of n ≡ number → row ≡ zeros s n) → (registers : List ℕ) → registers ≡ members s (number / 2 - 1) → length row ≡ length registers
-slave_wide s number below odd other row all registers is =
-    let i : ℕ = number / 2 - 1 in
-    let low : number / 2 - 1 < length s.clusters = omega arith in
-    let at : 2 * (number / 2 - 1) + 3 ≡ number = omega arith in
-    ap length (all (Slave i) low at)
+-- the registers of a slave
+pub slave_wide : (s : Split) (i : ℕ) (row : Row) → row ≡ zeros s (Slave i) → (registers : List ℕ) → registers ≡ members s i → length row ≡ length registers
+slave_wide s i row all registers is =
+    ap length all
     ∙ (length-replicate (length (nets_of s (Slave i))) Zero
     ∙ (length-map (members s i) (λ r. get_or (register_nets s.circuit) r 0) ∙ ap length (sym is)))
 

@@ -14,7 +14,9 @@ use Rattle.ds_design.specs.Circuit.{register_nets}
 use Rattle.ds_design.specs.Run.{row_at}
 use Rattle.ds_design.proofs.Runs.{some_run}
 use Rattle.ds_design.specs.Trace.{trace_line, trace_lines}
-use Rattle.ds_latch.specs.Node.{Node, Out, Slave, Split, IsNode, number_of, nodes, opening, closing, place_of, members, nets_of}
+use Rattle.ds_latch.specs.Node.{Split, IsNode, number_of, nodes, opening, closing, place_of, members, nets_of}
+use Rattle.ds_latch.specs.declared.node.Node.{Node}
+use Rattle.ds_latch.specs.declared.node.Node.TheVariants.{Out, Slave}
 use Rattle.ds_latch.specs.Plan.{IsController, split_events}
 use Rattle.ds_latch.specs.Firing.{State, first_state, FiresAll, AreRegisters}
 use Rattle.ds_latch.specs.Flow.{IsInStep}

@@ -10,7 +10,9 @@ use Rattle.ds_base.specs.declared.value.Value.{Value}
 use Rattle.ds_base.specs.declared.value.Value.TheVariants.{Zero}
 use Rattle.ds_cover.specs.Cover.{value_at, values_at}
 use Rattle.ds_design.specs.Circuit.{data_nets, register_nets}
-use Rattle.ds_latch.specs.Node.{Node, In, Out, Master, Slave, Split, IsNode, number_of, nodes, place_of, members, nets_of}
+use Rattle.ds_latch.specs.Node.{Split, IsNode, number_of, nodes, place_of, members, nets_of}
+use Rattle.ds_latch.specs.declared.node.Node.{Node}
+use Rattle.ds_latch.specs.declared.node.Node.TheVariants.{In, Out, Master, Slave}
 use Rattle.ds_latch.specs.Firing.{IsSettled, opening_read}
 use Rattle.ds_latch.proofs.Counts.{number_below, same_node}
 use Rattle.ds_fire.specs.Snapshot.{row_index, rows_of}

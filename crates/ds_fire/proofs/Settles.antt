@@ -11,7 +11,9 @@ use Rattle.ds_cover.specs.Cover.{value_at, values_at}
 use Rattle.ds_design.specs.Circuit.{register_nets}
 use Rattle.ds_design.specs.InRange.{IsInRange}
 use Rattle.ds_design.specs.Valuation.{IsValuation}
-use Rattle.ds_latch.specs.Node.{Node, In, Out, Master, Slave, Split, IsNode, number_of, place_of, members, nets_of}
+use Rattle.ds_latch.specs.Node.{Split, IsNode, number_of, place_of, members, nets_of}
+use Rattle.ds_latch.specs.declared.node.Node.{Node}
+use Rattle.ds_latch.specs.declared.node.Node.TheVariants.{In, Out, Master, Slave}
 use Rattle.ds_latch.specs.Order.{IsSource}
 use Rattle.ds_latch.specs.Plan.{IsSplit}
 use Rattle.ds_latch.specs.Firing.{AreRegisters, IsSettled, Takes, opening_read, read_rows}
@@ -21,7 +23,7 @@ use Rattle.ds_settle.specs.Cone.{IsCone, IsPartSettled, Parts}
 use Rattle.ds_settle.proofs.Agree.{cone_settles}
 use Rattle.ds_fire.specs.Snapshot.{row_index}
 use Rattle.ds_cones.specs.Settled.{IsSettling}
-use Rattle.ds_cones.proofs.Taken.{picked}
+use Rattle.ds_latch.proofs.Turns.{picked}
 use Rattle.ds_fire.specs.Feeds.{IsSourceHome, home_of}
 use Rattle.ds_fire.specs.Turn.{AreTurnPlaces, AreRows, IsLoaded, home_index, home_value, state_with}
 use Rattle.ds_fire.specs.declared.homes.Home.{Home}

@@ -11,7 +11,9 @@ use Rattle.ds_base.specs.Values.{Row}
 use Rattle.ds_base.proofs.Tests.{test_same, test_other}
 use Rattle.ds_marked.specs.Graph.{counted}
 use Rattle.ds_marked.proofs.Firings.{counted-same, counted-other}
-use Rattle.ds_latch.specs.Node.{Node, In, Out, Master, Slave, Split, IsNode, number_of, nodes, opening, closing, extra_event, place_of, nets_of}
+use Rattle.ds_latch.specs.Node.{Split, IsNode, number_of, nodes, opening, closing, extra_event, place_of, nets_of}
+use Rattle.ds_latch.specs.declared.node.Node.{Node}
+use Rattle.ds_latch.specs.declared.node.Node.TheVariants.{In, Out, Master, Slave}
 use Rattle.ds_latch.specs.Order.{IsDataEdge, to_master, to_out}
 use Rattle.ds_latch.specs.Firing.{State, opened_state, closed_state, counted_state, changed, placed, Fires, opens, closes, passes, Takes, IsSettled, opening_read, read_rows}
 use Rattle.ds_latch.proofs.Counts.{number_below, same_node, cases_changed}

@@ -8,7 +8,9 @@ use Rattle.ds_design.specs.Circuit.{data_nets, register_nets}
 use Rattle.ds_design.specs.Run.{row_at}
 use Rattle.ds_design.proofs.Runs.{some_run}
 use Rattle.ds_marked.specs.Graph.{IsLegal}
-use Rattle.ds_latch.specs.Node.{Node, In, Out, Master, Slave, Split, IsNode, number_of, nodes, opening, closing, place_of, members}
+use Rattle.ds_latch.specs.Node.{Split, IsNode, number_of, nodes, opening, closing, place_of, members}
+use Rattle.ds_latch.specs.declared.node.Node.{Node}
+use Rattle.ds_latch.specs.declared.node.Node.TheVariants.{In, Out, Master, Slave}
 use Rattle.ds_latch.specs.Firing.{State, first_state, FiresAll, IsSettled, held, opening_read}
 use Rattle.ds_latch.specs.Transparent.{IsOpen, IsShowing, Makes}
 use Rattle.ds_latch.proofs.Counts.{accepted_controls}

@@ -5,7 +5,8 @@ use Rattle.std.proofs.Math.Nat.{mul-le-mul_right, suc-mul}
 use Rattle.std.proofs.lemmas.List.{get_or-map, length-append, length-map}
 use Rattle.ds_base.specs.Values.{Row}
 use Rattle.ds_marked.proofs.Progress.{legal_is_consistent}
-use Rattle.ds_latch.specs.Node.{Node, Split, IsNode, number_of, nodes, nets_of, closing}
+use Rattle.ds_latch.specs.Node.{Split, IsNode, number_of, nodes, nets_of, closing}
+use Rattle.ds_latch.specs.declared.node.Node.{Node}
 use Rattle.ds_latch.specs.Plan.{split_events}
 use Rattle.ds_latch.proofs.Counts.{number_below}
 use Rattle.ds_latch.proofs.Events.{IsEvent, is_opening, is_closing, is_extra, event_of}

@@ -1,6 +1,7 @@
 -- What the opening of a node that settles reads.
 use Rattle.std.specs.Prelude.{◌≡◌, ◌⊎◌, ℕ, ◌<◌, List, length, All, slice_index, slice_index_or}
-use Rattle.ds_latch.specs.Node.{Node, Split, IsNode, number_of, nets_of}
+use Rattle.ds_latch.specs.Node.{Split, IsNode, number_of, nets_of}
+use Rattle.ds_latch.specs.declared.node.Node.{Node}
 use Rattle.ds_latch.specs.Order.{IsSource}
 use Rattle.ds_cones.specs.Cones.{AreCones}
 use Rattle.ds_fire.specs.declared.feeds.Feeds.{Feeds}

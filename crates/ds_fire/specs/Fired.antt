@@ -3,7 +3,8 @@ use Rattle.std.specs.Prelude.{◌≡◌, ℕ, ◌+◌, ◌*◌, ◌^◌, ◌<◌
 use Rattle.ds_marked.specs.Graph.{IsEnabled, IsLegal}
 use Rattle.ds_design.specs.Circuit.{columns}
 use Rattle.ds_design.specs.InRange.{IsInRange}
-use Rattle.ds_latch.specs.Node.{Node, IsNode, nodes, closing}
+use Rattle.ds_latch.specs.Node.{IsNode, nodes, closing}
+use Rattle.ds_latch.specs.declared.node.Node.{Node}
 use Rattle.ds_latch.specs.Plan.{IsPlan}
 use Rattle.ds_latch.specs.Firing.{State, first_state, Fires, FiresAll}
 use Rattle.ds_fire.specs.Snapshot.{Snapshot, Shows, split_of, graph_of, limit_of, count_of, rows_of}

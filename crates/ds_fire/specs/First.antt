@@ -2,7 +2,8 @@
 use Rattle.std.specs.Prelude.{◌≡◌, ℕ, ◌*◌, ◌+◌, ◌≤◌, List, [], length, All, slice_index_or, ◌==◌}
 use Rattle.std.specs.Prelude.{if◌then◌else◌}
 use Rattle.ds_base.specs.Values.{Row}
-use Rattle.ds_latch.specs.Node.{Node, Split, IsNode, number_of, nodes, nets_of, zeros}
+use Rattle.ds_latch.specs.Node.{Split, IsNode, number_of, nodes, nets_of, zeros}
+use Rattle.ds_latch.specs.declared.node.Node.{Node}
 use Rattle.ds_latch.specs.Firing.{first_row}
 use Rattle.ds_fire.specs.Snapshot.{rows_of}
 use Rattle.ds_fire.specs.History.{Stored}

@@ -1,7 +1,8 @@
 -- What the parts of a state have to do with each other.
 use Rattle.std.specs.Prelude.{◌≡◌, ℕ, ◌*◌, ◌≤◌, List, length, slice_index}
 use Rattle.ds_design.specs.Circuit.{columns}
-use Rattle.ds_latch.specs.Node.{Node, IsNode, number_of}
+use Rattle.ds_latch.specs.Node.{IsNode, number_of}
+use Rattle.ds_latch.specs.declared.node.Node.{Node}
 use Rattle.ds_latch.specs.Plan.{Planned}
 use Rattle.ds_design.specs.Rows.{Rows}
 use Rattle.ds_fire.specs.Snapshot.{Snapshot, split_of, limit_of, width_of}

@@ -4,7 +4,9 @@ use Rattle.std.specs.List.{flat_map, range_with_len}
 use Rattle.ds_base.specs.Values.{Row}
 use Rattle.ds_design.specs.Run.{IsRun}
 use Rattle.ds_design.specs.Trace.{trace_line, trace_lines}
-use Rattle.ds_latch.specs.Node.{Node, Out, IsNode, opening, closing}
+use Rattle.ds_latch.specs.Node.{IsNode, opening, closing}
+use Rattle.ds_latch.specs.declared.node.Node.{Node}
+use Rattle.ds_latch.specs.declared.node.Node.TheVariants.{Out}
 use Rattle.ds_latch.specs.Numbered.{numbered}
 use Rattle.ds_latch.specs.Firing.{State, AreRegisters}
 use Rattle.ds_latch.specs.Transparent.{IsShowing}

@@ -4,7 +4,8 @@ use Rattle.std.specs.Prelude.{slice_range, Bool, ◌==◌}
 use Rattle.std.specs.List.{flat_map}
 use Rattle.ds_base.specs.Values.{Row}
 use Rattle.ds_marked.specs.Graph.{Graph}
-use Rattle.ds_latch.specs.Node.{Node, Split, IsNode, number_of, place_of, nets_of, opening}
+use Rattle.ds_latch.specs.Node.{Split, IsNode, number_of, place_of, nets_of, opening}
+use Rattle.ds_latch.specs.declared.node.Node.{Node}
 use Rattle.ds_latch.specs.Node.{closing}
 use Rattle.ds_latch.specs.Plan.{Planned}
 use Rattle.ds_latch.specs.Firing.{State, first_state}

@@ -4,7 +4,8 @@ use Rattle.std.specs.Prelude.{slice_index_or, slice_set, ◌==◌, if◌then◌e
 use Rattle.ds_base.specs.Values.{Row}
 use Rattle.ds_base.specs.declared.value.Value.{Value}
 use Rattle.ds_cover.specs.Cover.{value_at, values_at}
-use Rattle.ds_latch.specs.Node.{Node, Split, IsNode, number_of, nodes, nets_of, opening, closing}
+use Rattle.ds_latch.specs.Node.{Split, IsNode, number_of, nodes, nets_of, opening, closing}
+use Rattle.ds_latch.specs.declared.node.Node.{Node}
 use Rattle.ds_latch.specs.Node.{extra_event, place_of}
 use Rattle.ds_latch.specs.Firing.{State, IsSettled, Takes, read_rows}
 use Rattle.ds_fire.specs.Snapshot.{row_index, rows_of}

@@ -7,7 +7,7 @@ ghost use Rattle.ds_fire.specs.Feeds.{AreSourceHomes, AreSourceNetsPlaced, IsSou
 ghost use Rattle.ds_fire.specs.Feeds.{home_of};
 
 use ds_base::{NetId, OutOfMemory};
-use ds_latch::Latches;
+use ds_latch::{Latches, Node};
 use std::alloc::Global;
 
 // A node, and a place in its rows.
@@ -28,8 +28,8 @@ pub(crate) fn homes_of(alloc: Global, latches: &Latches) -> Result<Vec<Home>, Ou
     let mut homes = no_homes(alloc, nets)?;
     place(bits[0].as_slice(), 0, &mut homes);
     for i in 0..latches.clusters().len() {
-        let number = 2 * i + 3;
-        place(bits[number].as_slice(), number as u32, &mut homes);
+        let slave = Node::Slave(i as u32).latch();
+        place(bits[slave.index()].as_slice(), slave.number(), &mut homes);
     }
     Ok(homes)
 }

@@ -5,8 +5,8 @@ ghost use Rattle.ds_latch.specs.Node.{nodes};
 ghost use Rattle.ds_fire.specs.First.{AreEmpty, AreFirstRows, AreZeros, HasFirstRow, IsFirstRow};
 
 use crate::history::History;
-use ds_base::{OutOfMemory, RegId, Row3};
-use ds_latch::Latches;
+use ds_base::{LatchId, OutOfMemory, RegId, Row3};
+use ds_latch::{Latches, Node};
 use std::alloc::Global;
 
 // The rows of the nodes, place by place, what they have stored, and a row of all nets to settle in.
@@ -80,13 +80,12 @@ fn set_first(latches: &Latches, number: usize, row: &mut Row3)
     requires zeros { AreZeros latches.now number row.old }
     ensures { IsFirstRow latches.now number row.new }
 {
-    if number % 2 == 0 {
+    // The nodes are counted for the fact that there are not too many.
+    let _nodes = latches.nodes();
+    let Node::Slave(cluster) = Node::of(LatchId::new(number as u32)) else {
         return;
-    }
-    if number == 1 {
-        return;
-    }
-    let registers = latches.clusters()[number / 2 - 1].as_slice();
+    };
+    let registers = latches.clusters()[cluster as usize].as_slice();
     set_initial(latches.initial(), registers, row);
 }
 

@@ -5,7 +5,9 @@ ghost use Rattle.ds_base.specs.Values.{Row};
 ghost use Rattle.ds_design.specs.Circuit.{columns};
 ghost use Rattle.ds_design.specs.InRange.{IsInRange};
 ghost use Rattle.ds_latch.specs.Plan.{IsSplit};
-ghost use Rattle.ds_latch.specs.Node.{Node, In, Slave, IsNode, number_of, nodes};
+ghost use Rattle.ds_latch.specs.Node.{IsNode, number_of, nodes};
+ghost use Rattle.ds_latch.specs.declared.node.Node.{Node};
+ghost use Rattle.ds_latch.specs.declared.node.Node.TheVariants.{In, Slave};
 ghost use Rattle.ds_cones.specs.Cones.{IsSettlingAt};
 ghost use Rattle.ds_fire.specs.Feeds.{AreFeeds, home_of};
 ghost use Rattle.ds_fire.specs.Turn.{AreLow, AreRows, IsLoaded, IsOpened, IsThere};
@@ -15,9 +17,9 @@ use crate::feeds::Feeds;
 use crate::homes::Home;
 use crate::kept::Kept;
 use crate::places::Places;
-use ds_base::{NetId, Row3};
+use ds_base::{LatchId, NetId, Row3};
 use ds_design::Vectors;
-use ds_latch::Latches;
+use ds_latch::{Latches, Node};
 use ds_settle::{pick_values, settle_part};
 
 // Which node opens, by its number, and how often it has opened before.
@@ -49,15 +51,13 @@ pub(crate) fn open(
     ensures nets { length kept.new.nets ≡ length kept.old.nets }
     ensures stored { kept.new.stored.items ≡ kept.old.stored.items }
 {
-    let number = opening.number;
-    if number == 0 {
-        open_in(latches, vectors, opening.opened, kept);
-    } else if number % 2 == 0 {
-        open_settled(latches, feeds, opening, kept);
-    } else if number == 1 {
-        open_settled(latches, feeds, opening, kept);
-    } else {
-        open_slave(latches, opening, kept);
+    // The nodes are counted for the fact that there are not too many.
+    let _nodes = latches.nodes();
+    match Node::of(LatchId::new(opening.number as u32)) {
+        Node::In => open_in(latches, vectors, opening.opened, kept),
+        Node::Out => open_settled(latches, feeds, opening, kept),
+        Node::Master(_) => open_settled(latches, feeds, opening, kept),
+        Node::Slave(_) => open_slave(latches, opening, kept),
     }
 }
 

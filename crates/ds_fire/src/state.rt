@@ -1,7 +1,8 @@
 //! The state of a plan as its events fire.
 ghost use Rattle.std.specs.Prelude.{◌≡◌, ◌↔◌, ◌<◌, ℕ, IfOk, IsOk, OnOk, OnErr, length};
 ghost use Rattle.ds_design.specs.Circuit.{columns};
-ghost use Rattle.ds_latch.specs.Node.{Node, IsNode, number_of, nodes};
+ghost use Rattle.ds_latch.specs.Node.{IsNode, number_of, nodes};
+ghost use Rattle.ds_latch.specs.declared.node.Node.{Node};
 ghost use Rattle.ds_latch.specs.Firing.{State as DefinedState, held};
 ghost use Rattle.ds_marked.specs.Blocked.{IsBlocked};
 ghost use Rattle.ds_marked.specs.declared.blocked.Blocked.{Blocked};
@@ -64,6 +65,7 @@ impl<'a> State<'a> {
     {
         let latches = plan.latches();
         let graph = plan.graph();
+        // Read for the facts that its numbers name what is there, and that the slack is small.
         let (_design, _slack) = (latches.netlist().design(), latches.slack());
         let counts = Counts::zero(alloc, graph.events().len())?;
         let count = vectors.count();

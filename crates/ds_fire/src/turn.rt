@@ -3,7 +3,8 @@ ghost use Rattle.std.specs.Prelude.{◌≡◌, ◌<◌, ◌^◌, length};
 ghost use Rattle.ds_design.specs.Circuit.{columns};
 ghost use Rattle.ds_design.specs.InRange.{IsInRange};
 ghost use Rattle.ds_latch.specs.Plan.{IsSplit};
-ghost use Rattle.ds_latch.specs.Node.{Node, IsNode, number_of, nodes, closing};
+ghost use Rattle.ds_latch.specs.Node.{IsNode, number_of, nodes, closing};
+ghost use Rattle.ds_latch.specs.declared.node.Node.{Node};
 ghost use Rattle.ds_fire.specs.Feeds.{AreFeeds};
 ghost use Rattle.ds_fire.specs.Turn.{AreRows, Closes, HasRowRoom, IsTurned};
 

@@ -8,10 +8,10 @@ use Rattle.std.proofs.lemmas.List.{take_more}
 use Rattle.std.proofs.lemmas.Slice.Eq.{bytes_eq-Decides}
 use Rattle.ds_design.specs.declared.design.Net.{Net}
 use Rattle.ds_models.specs.declared.blif.Pair.{Pair}
-use Rattle.ds_flat.specs.declared.fault.Stop.{Stop}
+use Rattle.ds_flat.specs.declared.fault.NoNumber.{NoNumber}
 use Rattle.ds_flat.specs.Net.{Binding, Scope, net_of_name, with_net, numbered_names}
 use Rattle.ds_flat.specs.Copies.{actuals_in, bindings_in}
-use Rattle.ds_flat.specs.Keys.{IsStop, has_formal}
+use Rattle.ds_flat.specs.Keys.{IsNoNumber, has_formal}
 use Rattle.ds_flat.proofs.NumberLemmas.{length-numbered, stop_grows}
 
 -- the nets with those of the actuals of pairs
@@ -46,16 +46,16 @@ actual_step scope nets next all pair rest pairs first so_far is =
     ap (λ ns. nets_after scope ns rest) is
     ∙ (after_one scope nets pair rest ∙ (ap (nets_after scope nets) (sym first) ∙ so_far))
 
-pub actual_stop : (stop : Stop) (scope : Scope) (nets all : List Net) (pair : Pair)
+pub actual_stop : (stop : NoNumber) (scope : Scope) (nets all : List Net) (pair : Pair)
     (rest pairs : List Pair) → pairs ≡ pair ∷ rest → nets_after scope nets pairs ≡ all
-    → IsStop stop (nets_after scope nets (pair ∷ [])) → IsStop stop all
+    → IsNoNumber stop (nets_after scope nets (pair ∷ [])) → IsNoNumber stop all
 actual_stop stop scope nets all pair rest pairs first so_far is =
     let one : List Net = nets_after scope nets (pair ∷ []) in
     let last : nets_after scope one rest ≡ all = actual_step scope nets one all pair rest pairs first
     so_far refl in
     let longer : length one ≤ length (nets_after scope one rest) =
     length-numbered one (map (net_of_name scope) (actuals_in rest)) in
-    subst (λ (ns : List Net). IsStop stop ns) last (stop_grows stop one (nets_after scope one rest)
+    subst (λ (ns : List Net). IsNoNumber stop ns) last (stop_grows stop one (nets_after scope one rest)
     longer is)
 
 bindings-append : (scope : Scope) (pairs more : List Pair) → bindings_in scope (pairs ++ more)

@@ -3,6 +3,7 @@ use Rattle.std.proofs.Common.{◌≡◌, ◌≢◌, ℕ, zero, suc, ◌+◌, ◌
 use Rattle.std.proofs.Common.{map, length, None, Some, get_or, refl, sym, ap, ◌∙◌, subst, arith, inl, inr, ◌||◌, take, if◌then◌else◌}
 use Rattle.std.specs.Prelude.{AllPairs}
 use Rattle.std.specs.Str.{bytes_eq}
+use Rattle.std.proofs.Math.Bool.{or-false, or-true, or_assoc}
 use Rattle.std.proofs.lemmas.Bool.{cases_Bool}
 use Rattle.std.proofs.lemmas.List.{map-append, map_more, take_more}
 use Rattle.std.proofs.lemmas.List.Folds.{list_any-append}
@@ -70,18 +71,6 @@ module _ (models : List BlifModel) (names : List (List ℕ)) (ports : List (List
   pub finds_none : length models ≤ place → model_named models name ≡ None
   finds_none long = named_none models name (subst (λ k. length models ≤ k) at_models long)
 
-or_false : (b : Bool) → (b || false) ≡ b
-or_false true = refl
-or_false false = refl
-
-or_true : (b : Bool) → (b || true) ≡ true
-or_true true = refl
-or_true false = refl
-
-or_assoc : (a b c : Bool) → ((a || b) || c) ≡ (a || (b || c))
-or_assoc true b c = refl
-or_assoc false b c = refl
-
 -- a name is among names with one more where it is among the old or the new one
 has-with_name : (names : List (List ℕ)) (name word : List ℕ) → has_name (with_name names name) word
     ≡ (has_name names word || bytes_eq word name)
@@ -89,16 +78,16 @@ has-with_name names name word = elim (cases_Bool (has_name names name)) [
   | inl here ↦ rw here (elim (cases_Bool (bytes_eq word name)) [
     | inl same ↦ (let e : has_name names word ≡ true =
         ap (has_name names) ((bytes_eq-Decides word name).0 same) ∙ here in
-        rw same (e ∙ sym (or_true (has_name names word))))
-    | inr other ↦ rw other (sym (or_false (has_name names word)))
+        rw same (e ∙ sym (or-true (has_name names word))))
+    | inr other ↦ rw other (sym (or-false (has_name names word)))
   ])
   | inr new ↦ rw new (list_any-append (bytes_eq word) names (name ∷ [])
-      ∙ ap (λ b. has_name names word || b) (or_false (bytes_eq word name)))
+      ∙ ap (λ b. has_name names word || b) (or-false (bytes_eq word name)))
 ]
 
 has-with_names : (names more : List (List ℕ)) (word : List ℕ) → has_name (with_names names more) word
     ≡ (has_name names word || has_name more word)
-has-with_names names [] word = sym (or_false (has_name names word))
+has-with_names names [] word = sym (or-false (has_name names word))
 has-with_names names (name ∷ more) word = has-with_names (with_name names name) more word
     ∙ (ap (λ b. b || has_name more word) (has-with_name names name word)
     ∙ or_assoc (has_name names word) (bytes_eq word name) (has_name more word))
@@ -106,7 +95,7 @@ has-with_names names (name ∷ more) word = has-with_names (with_name names name
 has-with_ports : (names : List (List ℕ)) (commands : List Command) (word : List ℕ)
     → has_name (with_ports_of names commands) word
     ≡ (has_name names word || has_name (ports_of commands) word)
-has-with_ports names [] word = sym (or_false (has_name names word))
+has-with_ports names [] word = sym (or-false (has_name names word))
 has-with_ports names (command ∷ commands) word =
     has-with_ports (with_names names (ports_in command.part)) commands word
     ∙ (ap (λ b. b || has_name (ports_of commands) word) (has-with_names names (ports_in command.part)

@@ -7,11 +7,11 @@ use Rattle.std.proofs.lemmas.Bool.{cases_Bool}
 use Rattle.ds_design.specs.declared.design.Net.{Net}
 use Rattle.std.specs.Option.{option_map}
 use Rattle.ds_models.specs.declared.blif.LatchText.{LatchText}
-use Rattle.ds_flat.specs.declared.fault.Stop.{Stop}
-use Rattle.ds_flat.specs.declared.fault.Stop.TheVariants.{TooManyNets, Memory}
+use Rattle.ds_flat.specs.declared.fault.NoNumber.{NoNumber}
+use Rattle.ds_flat.specs.declared.fault.NoNumber.TheVariants.{TooManyNets, Memory}
 use Rattle.ds_flat.specs.Net.{Scope, Numbered, has_net, number_of_net, with_net, net_of_name, numbered_nets, numbered_names}
 use Rattle.ds_flat.specs.Command.{numbered_latch, latch_names}
-use Rattle.ds_flat.specs.Keys.{IsStop, numbered_behind}
+use Rattle.ds_flat.specs.Keys.{IsNoNumber, numbered_behind}
 
 -- nets are only added
 pub length-with_net : (nets : List Net) (net : Net) → length nets ≤ length (with_net nets net)
@@ -30,24 +30,24 @@ length-numbered nets (net ∷ more) = omega (
 )
 
 -- a stop is one of more nets too
-pub stop_grows : (stop : Stop) (nets more : List Net) → length nets ≤ length more
-    → IsStop stop nets → IsStop stop more
+pub stop_grows : (stop : NoNumber) (nets more : List Net) → length nets ≤ length more
+    → IsNoNumber stop nets → IsNoNumber stop more
 stop_grows TooManyNets nets more longer is = omega arith
 stop_grows Memory nets more longer is = tt
 
-pub stop_names : (stop : Stop) (scope : Scope) (nets first : List Net) (numbers : List ℕ)
+pub stop_names : (stop : NoNumber) (scope : Scope) (nets first : List Net) (numbers : List ℕ)
     (names rest all : List (List ℕ)) (name : List ℕ) → names ≡ name ∷ rest
     → numbered_behind numbers (numbered_names scope nets names) ≡ numbered_names scope first all
-    → IsStop stop (with_net nets (net_of_name scope name))
-    → IsStop stop (numbered_names scope first all).nets
+    → IsNoNumber stop (with_net nets (net_of_name scope name))
+    → IsNoNumber stop (numbered_names scope first all).nets
 stop_names stop scope nets first numbers names rest all name next so_far is =
     let longer = length-numbered (with_net nets (net_of_name scope name)) (map (net_of_name scope) rest) in
-    let here : IsStop stop (numbered_names scope nets (name ∷ rest)).nets =
+    let here : IsNoNumber stop (numbered_names scope nets (name ∷ rest)).nets =
     stop_grows stop _ _ longer is in
-    let there : IsStop stop (numbered_names scope nets names).nets =
-    subst (λ (ns : List (List ℕ)). IsStop stop (numbered_names scope nets ns).nets) (sym next)
+    let there : IsNoNumber stop (numbered_names scope nets names).nets =
+    subst (λ (ns : List (List ℕ)). IsNoNumber stop (numbered_names scope nets ns).nets) (sym next)
     here in
-    subst (λ (n : Numbered). IsStop stop n.nets) so_far there
+    subst (λ (n : Numbered). IsNoNumber stop n.nets) so_far there
 
 -- what stands from a place on
 pub names_from : {X : Type 0} (names : List X) (i : ℕ) (name : X) → name ≡ get_or names i name

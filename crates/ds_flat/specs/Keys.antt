@@ -6,17 +6,17 @@ use Rattle.std.specs.Borrow.{Bor}
 use Rattle.ds_design.specs.declared.design.Net.{Net}
 use Rattle.ds_flat.specs.Net.{Binding, Scope, Numbered}
 use Rattle.ds_flat.specs.declared.nets.NetKey.{NetKey}
-use Rattle.ds_flat.specs.declared.fault.Stop.{Stop}
-use Rattle.ds_flat.specs.declared.fault.Stop.TheVariants.{TooManyNets, Memory}
+use Rattle.ds_flat.specs.declared.fault.NoNumber.{NoNumber}
+use Rattle.ds_flat.specs.declared.fault.NoNumber.TheVariants.{TooManyNets, Memory}
 
 -- the net that a key stands for
 abbrev pub net_key : NetKey → Net
 net_key key = record { copy = key.copy; name = key.name.now }
 
 -- numbering stops at too many nets, or for want of memory
-abbrev pub IsStop : Stop → List Net → Type 0
-IsStop TooManyNets nets = 65536 < length nets
-IsStop Memory nets = Unit {0}
+abbrev pub IsNoNumber : NoNumber → List Net → Type 0
+IsNoNumber TooManyNets nets = 65536 < length nets
+IsNoNumber Memory nets = Unit {0}
 
 -- a formal of a copy with its net, as a map keeps them
 abbrev pub binding_of : Bor (List ℕ) × NetKey → Binding

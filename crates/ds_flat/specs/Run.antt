@@ -15,8 +15,8 @@ use Rattle.ds_flat.specs.declared.fault.FlatFault.{FlatFault}
 use Rattle.ds_flat.specs.declared.fault.FlatKind.TheVariants.{TooMany}
 use Rattle.ds_flat.specs.declared.fault.FlatRefusal.{FlatRefusal}
 use Rattle.ds_flat.specs.declared.fault.FlatRefusal.TheVariants.{Fault, Memory}
-use Rattle.ds_flat.specs.declared.fault.Stop.{Stop}
-use Rattle.ds_flat.specs.declared.fault.Stop.TheVariants.{TooManyNets, Memory as NoMemory}
+use Rattle.ds_flat.specs.declared.fault.NoNumber.{NoNumber}
+use Rattle.ds_flat.specs.declared.fault.NoNumber.TheVariants.{TooManyNets, Memory as NoMemory}
 use Rattle.ds_flat.specs.declared.frame.Open.{Open}
 use Rattle.ds_flat.specs.Net.{Scope}
 use Rattle.ds_flat.specs.Copies.{Flat, Frame, Opened, ◌>>=◌, use_in, take_command, take_all, expand}
@@ -49,7 +49,7 @@ IsFault Memory text = Unit {0}
 IsFault (Fault fault) text = text ≡ Err fault
 
 -- the refusal that a stop is on a line
-abbrev pub refusal_of : Stop → ℕ → FlatRefusal
+abbrev pub refusal_of : NoNumber → ℕ → FlatRefusal
 refusal_of TooManyNets line = Fault (record { line = line; kind = TooMany Nets })
 refusal_of NoMemory line = Memory
 

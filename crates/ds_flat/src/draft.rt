@@ -6,9 +6,9 @@ ghost use Rattle.ds_flat.specs.Net.{numbered_names, net_of_name, number_of_net, 
 ghost use Rattle.ds_flat.specs.Command.{with_inputs, with_outputs, with_clocks, with_part};
 ghost use Rattle.ds_flat.specs.Command.{with_table, with_register, latch_names};
 ghost use Rattle.ds_flat.specs.Copies.{empty_design, passed_limit as limit_of};
-ghost use Rattle.ds_flat.specs.Keys.{IsStop};
+ghost use Rattle.ds_flat.specs.Keys.{IsNoNumber};
 
-use crate::fault::Stop;
+use crate::fault::NoNumber;
 use crate::head::Head;
 use crate::nets::NetList;
 use crate::numbers::{number, numbers};
@@ -110,11 +110,11 @@ impl<'m> Draft<'m> {
         scope: &Scope<'m>,
         line: u64,
         part: &'m Part<'m>,
-    ) -> Result<(), Stop>
+    ) -> Result<(), NoNumber>
         requires { IsPart part.now }
         ensures ok { OnOk result (self.new ≡ with_part scope.now line part.now self.old) }
         ensures fault { IfErr result
-            (λ e. IsStop e (with_part scope.now line part.now self.old).nets) }
+            (λ e. IsNoNumber e (with_part scope.now line part.now self.old).nets) }
     {
         match part {
             Part::Inputs(names) => self.add_inputs(alloc, scope, names),
@@ -131,11 +131,11 @@ impl<'m> Draft<'m> {
         alloc: Global,
         scope: &Scope<'m>,
         names: &Words<'m>,
-    ) -> Result<(), Stop>
+    ) -> Result<(), NoNumber>
         ensures ok { OnOk result (self.new ≡ with_inputs scope.now.copy
             (numbered_names scope.now self.old.nets names.now) self.old) }
         ensures fault { IfErr result
-            (λ e. IsStop e (numbered_names scope.now self.old.nets names.now).nets) }
+            (λ e. IsNoNumber e (numbered_names scope.now self.old.nets names.now).nets) }
     {
         match numbers(alloc, &mut self.nets, scope, names) {
             Ok(all) => {
@@ -151,11 +151,11 @@ impl<'m> Draft<'m> {
         alloc: Global,
         scope: &Scope<'m>,
         names: &Words<'m>,
-    ) -> Result<(), Stop>
+    ) -> Result<(), NoNumber>
         ensures ok { OnOk result (self.new ≡ with_outputs scope.now.copy
             (numbered_names scope.now self.old.nets names.now) self.old) }
         ensures fault { IfErr result
-            (λ e. IsStop e (numbered_names scope.now self.old.nets names.now).nets) }
+            (λ e. IsNoNumber e (numbered_names scope.now self.old.nets names.now).nets) }
     {
         match numbers(alloc, &mut self.nets, scope, names) {
             Ok(all) => {
@@ -171,11 +171,11 @@ impl<'m> Draft<'m> {
         alloc: Global,
         scope: &Scope<'m>,
         names: &Words<'m>,
-    ) -> Result<(), Stop>
+    ) -> Result<(), NoNumber>
         ensures ok { OnOk result (self.new ≡ with_clocks scope.now.copy
             (numbered_names scope.now self.old.nets names.now) self.old) }
         ensures fault { IfErr result
-            (λ e. IsStop e (numbered_names scope.now self.old.nets names.now).nets) }
+            (λ e. IsNoNumber e (numbered_names scope.now self.old.nets names.now).nets) }
     {
         match numbers(alloc, &mut self.nets, scope, names) {
             Ok(all) => {
@@ -192,11 +192,11 @@ impl<'m> Draft<'m> {
         scope: &Scope<'m>,
         line: u64,
         text: &'m TableText<'m>,
-    ) -> Result<(), Stop>
+    ) -> Result<(), NoNumber>
         requires { IsTableText text.now }
         ensures ok { OnOk result (self.new ≡ with_table (net_of_name scope.now text.now.output) line
             text.now (numbered_names scope.now self.old.nets text.now.inputs) self.old) }
-        ensures fault { IfErr result (λ e. IsStop e (with_net
+        ensures fault { IfErr result (λ e. IsNoNumber e (with_net
             (numbered_names scope.now self.old.nets text.now.inputs).nets
             (net_of_name scope.now text.now.output))) }
     {
@@ -223,11 +223,11 @@ impl<'m> Draft<'m> {
         scope: &Scope<'m>,
         line: u64,
         text: &'m LatchText<'m>,
-    ) -> Result<(), Stop>
+    ) -> Result<(), NoNumber>
         ensures ok { OnOk result (self.new ≡ with_register line text.now
             (latch_names scope.now self.old.nets text.now) self.old) }
         ensures fault { IfErr result
-            (λ e. IsStop e (latch_names scope.now self.old.nets text.now).nets) }
+            (λ e. IsNoNumber e (latch_names scope.now self.old.nets text.now).nets) }
     {
         match latch_numbers(&mut self.nets, scope, text) {
             Ok((data_net, output, control)) => {
@@ -251,14 +251,15 @@ fn latch_numbers<'m>(
     nets: &mut NetList<'m>,
     scope: &Scope<'m>,
     text: &'m LatchText<'m>,
-) -> Result<(NetId, NetId, Option<NetId>), Stop>
+) -> Result<(NetId, NetId, Option<NetId>), NoNumber>
     ensures ok { IfOk result (λ n. record {
       data_net = n.0;
       output = n.1;
       control = n.2;
       nets = nets.new;
     } ≡ latch_names scope.now nets.old text.now) }
-    ensures fault { IfErr result (λ e. IsStop e (latch_names scope.now nets.old text.now).nets) }
+    ensures fault { IfErr result (λ e. IsNoNumber e
+        (latch_names scope.now nets.old text.now).nets) }
 {
     let data_net = match number(nets, scope, &text.data_net) {
         Ok(found) => found,

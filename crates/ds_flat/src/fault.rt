@@ -61,37 +61,37 @@ impl<T: Drop> From<AllocFailed<T>> for FlatRefusal {
 
 /// Why a name has no number, or want of memory.
 #[derive(Clone, Copy, Debug, PartialEq, Eq)]
-pub enum Stop {
+pub enum NoNumber {
     TooManyNets,
     Memory,
 }
 
-impl<T: Drop> From<AllocFailed<T>> for Stop {
-    ghost use Rattle.ds_flat.specs.declared.fault.Stop.TheVariants.{Memory};
+impl<T: Drop> From<AllocFailed<T>> for NoNumber {
+    ghost use Rattle.ds_flat.specs.declared.fault.NoNumber.TheVariants.{Memory};
 
     ghost from_gives = { λ _ e. e ≡ Memory };
 
     fn from(_: AllocFailed<T>) -> Self {
-        Stop::Memory
+        NoNumber::Memory
     }
 }
 
-impl From<AllocError> for Stop {
-    ghost use Rattle.ds_flat.specs.declared.fault.Stop.TheVariants.{Memory};
+impl From<AllocError> for NoNumber {
+    ghost use Rattle.ds_flat.specs.declared.fault.NoNumber.TheVariants.{Memory};
 
     ghost from_gives = { λ _ e. e ≡ Memory };
 
     fn from(_: AllocError) -> Self {
-        Stop::Memory
+        NoNumber::Memory
     }
 }
 
-impl From<OutOfMemory> for Stop {
-    ghost use Rattle.ds_flat.specs.declared.fault.Stop.TheVariants.{Memory};
+impl From<OutOfMemory> for NoNumber {
+    ghost use Rattle.ds_flat.specs.declared.fault.NoNumber.TheVariants.{Memory};
 
     ghost from_gives = { λ _ e. e ≡ Memory };
 
     fn from(_: OutOfMemory) -> Self {
-        Stop::Memory
+        NoNumber::Memory
     }
 }

@@ -8,9 +8,9 @@ ghost use Rattle.std.proofs.lemmas.Slice.Eq.{bytes_eq-Decides};
 ghost use Rattle.ds_base.specs.Limit.{most_of};
 ghost use Rattle.ds_base.specs.declared.number.Limit.TheVariants.{Nets};
 ghost use Rattle.ds_flat.specs.Net.{has_net, number_of_net, with_net};
-ghost use Rattle.ds_flat.specs.Keys.{net_key, IsStop};
+ghost use Rattle.ds_flat.specs.Keys.{net_key, IsNoNumber};
 
-use crate::fault::Stop;
+use crate::fault::NoNumber;
 use ds_base::{NetId, OutOfMemory, Seq};
 use ds_design::Net;
 use indexmap::IndexSet;
@@ -80,10 +80,10 @@ impl<'m> NetList<'m> {
     }
 
     /// The number of a net, which is added where it is not there yet.
-    pub fn number(&mut self, net: NetKey<'m>) -> Result<NetId, Stop>
+    pub fn number(&mut self, net: NetKey<'m>) -> Result<NetId, NoNumber>
         ensures number { IfOk result (λ n. n ≡ number_of_net self.old (net_key net.entry)) }
         ensures ok { OnOk result (self.new ≡ with_net self.old (net_key net.entry)) }
-        ensures fault { IfErr result (λ e. IsStop e (with_net self.old (net_key net.entry))) }
+        ensures fault { IfErr result (λ e. IsNoNumber e (with_net self.old (net_key net.entry))) }
     {
         match self.set.get_index_of(&net) {
             Some(place) => Ok(NetId::new(place as u32)),
@@ -92,14 +92,14 @@ impl<'m> NetList<'m> {
     }
 
     // The number of a net that is not there yet.
-    fn added(&mut self, net: NetKey<'m>) -> Result<NetId, Stop>
+    fn added(&mut self, net: NetKey<'m>) -> Result<NetId, NoNumber>
         requires new { has_net self.old (net_key net) ≡ false }
         ensures number { IfOk result (λ n. n ≡ number_of_net self.old (net_key net.entry)) }
         ensures ok { OnOk result (self.new ≡ with_net self.old (net_key net.entry)) }
-        ensures fault { IfErr result (λ e. IsStop e (with_net self.old (net_key net.entry))) }
+        ensures fault { IfErr result (λ e. IsNoNumber e (with_net self.old (net_key net.entry))) }
     {
         if self.set.len() == 65_536 {
-            return Err(Stop::TooManyNets);
+            return Err(NoNumber::TooManyNets);
         }
         let (place, _) = self.set.insert_full(net)?;
         Ok(NetId::new(place as u32))

@@ -16,7 +16,7 @@ ghost use Rattle.ds_flat.specs.Run.{refusal_of, IsCopyOf};
 
 use crate::connect::connect;
 use crate::draft::Draft;
-use crate::fault::{FlatFault, FlatKind, FlatRefusal, Stop};
+use crate::fault::{FlatFault, FlatKind, FlatRefusal, NoNumber};
 use crate::frame::Open;
 use crate::library::{Found, Library, unknown_formal};
 use crate::stack::{Stack, extended};
@@ -67,15 +67,15 @@ pub fn too_many(line: u64, limit: Limit) -> FlatRefusal
 }
 
 /// The refusal where numbering stops.
-pub fn stopped(line: u64, stop: Stop) -> FlatRefusal
+pub fn stopped(line: u64, stop: NoNumber) -> FlatRefusal
     ensures { result ≡ refusal_of stop line }
 {
     match stop {
-        Stop::TooManyNets => FlatRefusal::Fault(FlatFault {
+        NoNumber::TooManyNets => FlatRefusal::Fault(FlatFault {
             line,
             kind: FlatKind::TooMany(Limit::Nets),
         }),
-        Stop::Memory => FlatRefusal::Memory,
+        NoNumber::Memory => FlatRefusal::Memory,
     }
 }
 

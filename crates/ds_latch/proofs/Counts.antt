@@ -4,7 +4,9 @@ use Rattle.std.specs.Prelude.{All}
 use Rattle.std.proofs.lemmas.Bool.{cases_eq, cases_lt}
 use Rattle.std.proofs.Math.Nat.{div-add-mod, mul-le-mul_left, mul-suc}
 use Rattle.ds_marked.specs.Graph.{Graph, Agrees, IsEnabled, counted}
-use Rattle.ds_latch.specs.Node.{Node, In, Out, Master, Slave, Split, IsNode, number_of, nodes, place_of}
+use Rattle.ds_latch.specs.Node.{Split, IsNode, number_of, nodes, place_of}
+use Rattle.ds_latch.specs.declared.node.Node.{Node}
+use Rattle.ds_latch.specs.declared.node.Node.TheVariants.{In, Out, Master, Slave}
 use Rattle.ds_latch.specs.Order.{IsDataEdge, to_master, to_out, to_slave, IsRequired, opens_first, closes_before_next, after_producer, before_reuse, open_tokens, close_tokens}
 use Rattle.ds_latch.specs.Plan.{IsPlan, IsController}
 use Rattle.ds_latch.specs.Firing.{changed, opening_read}

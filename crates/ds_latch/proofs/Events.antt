@@ -4,7 +4,9 @@ use Rattle.std.specs.Prelude.{Contains}
 use Rattle.std.proofs.lemmas.Bool.{cases_lt}
 use Rattle.std.proofs.lemmas.Bool.Decides.{Decides-ltb}
 use Rattle.std.proofs.Math.Nat.{zero-mod}
-use Rattle.ds_latch.specs.Node.{Node, In, Out, Master, Slave, Split, IsNode, number_of, opening, closing, nodes, extra_event, events_of, place_of}
+use Rattle.ds_latch.specs.Node.{Split, IsNode, number_of, opening, closing, nodes, extra_event, events_of, place_of}
+use Rattle.ds_latch.specs.declared.node.Node.{Node}
+use Rattle.ds_latch.specs.declared.node.Node.TheVariants.{In, Out, Master, Slave}
 use Rattle.ds_base.proofs.Lists.{Contains-head, Contains-tail, Contains-split}
 use Rattle.ds_latch.proofs.Counts.{number_below, places_differ}
 

@@ -4,18 +4,20 @@ use Rattle.std.specs.Prelude.{All, Contains}
 use Rattle.std.specs.List.{range_with_len}
 use Rattle.std.proofs.lemmas.Bool.{cases_eq}
 use Rattle.std.proofs.lemmas.List.{get_or-map, length-map}
-use Rattle.std.proofs.lemmas.List.Elements.{All-head, All-tail, Contains-append_cases, Contains-get_or}
+use Rattle.std.proofs.lemmas.List.Elements.{Contains-append_cases, Contains-get_or}
 use Rattle.std.proofs.lemmas.List.FromFn.{map-range_with_len_more}
 use Rattle.ds_base.specs.Values.{Row}
 use Rattle.ds_base.specs.declared.value.Value.TheVariants.{Zero}
 use Rattle.ds_cover.specs.Cover.{value_at, values_at}
-use Rattle.ds_design.specs.Circuit.{columns, data_nets, register_nets}
+use Rattle.ds_design.specs.Circuit.{columns, register_nets}
 use Rattle.std.proofs.Math.Nat.{zero-mod}
 use Rattle.ds_design.specs.Valuation.{IsValuation}
 use Rattle.ds_design.specs.Reach.{Reaches}
 use Rattle.ds_design.specs.Run.{IsRun, row_at}
 use Rattle.ds_marked.specs.Graph.{Graph, Agrees, IsEnabled, IsLegal, IsLegalFrom, counted}
-use Rattle.ds_latch.specs.Node.{Node, In, Out, Master, Slave, Split, IsNode, number_of, opening, closing, nodes, extra_event, place_of, members, nets_of, zeros}
+use Rattle.ds_latch.specs.Node.{Split, IsNode, number_of, opening, closing, nodes, extra_event, place_of, members, nets_of, zeros}
+use Rattle.ds_latch.specs.declared.node.Node.{Node}
+use Rattle.ds_latch.specs.declared.node.Node.TheVariants.{In, Out, Master, Slave}
 use Rattle.ds_latch.specs.Order.{IsSource, IsDataEdge, to_master, to_out, to_slave, opens_first, closes_before_next, after_producer, before_reuse, open_tokens, close_tokens, Supplies}
 use Rattle.ds_latch.specs.Plan.{IsSplit, IsController}
 use Rattle.ds_latch.specs.Numbered.{numbered}
@@ -25,6 +27,7 @@ use Rattle.ds_base.proofs.Lists.{map_agree, agree_from_map, Contains-map, get_or
 use Rattle.ds_design.proofs.Settled.{depends_on_sources}
 use Rattle.ds_latch.proofs.Events.{IsEvent, is_opening, is_closing, is_extra, event_of}
 use Rattle.ds_marked.proofs.Firings.{counted-same, counted-other, agrees_kept, within_kept}
+use Rattle.ds_latch.proofs.Turns.{run_settles, master_value}
 use Rattle.ds_latch.proofs.Counts.{order_ready, edge_tokens, read_tokens, number_below, places_differ, cases_changed}
 use Rattle.ds_base.proofs.Tests.{test_same, test_other}
 
@@ -32,13 +35,6 @@ use Rattle.ds_base.proofs.Tests.{test_same, test_other}
 register_value : (nets state : Row) (these : List ℕ) → values_at nets these ≡ state → (r net : ℕ) → r < length these → get_or these r net ≡ net → value_at nets net ≡ value_at state r
 register_value nets state these is r net inside at =
     ap (value_at nets) (sym at) ∙ (sym (get_or-map (value_at nets) these r net Zero inside) ∙ ap (λ values. get_or values r Zero) is)
-
--- reading a list at places, and then a list at what was read
-picked : (nets : Row) (these places : List ℕ) → All (λ r. r < length these) places → values_at nets (map (λ r. get_or these r 0) places) ≡ values_at (values_at nets these) places
-picked nets these [] within = refl
-picked nets these (r ∷ rs) within =
-    ap (λ b. b ∷ values_at nets (map (λ r. get_or these r 0) rs)) (sym (get_or-map (value_at nets) these r 0 Zero (All-head (λ r. r < length these) r rs within)))
-    ∙ ap (λ bs. value_at (values_at nets these) r ∷ bs) (picked nets these rs (All-tail (λ r. r < length these) r rs within))
 
 pub fires_count : (s : Split) (vectors : List Row) (now : State) (v : ℕ) (next : State) → Fires s vectors now v next → next.count ≡ counted v now.count
 fires_count s vectors now _ _ (opens n row is_node takes) = refl
@@ -122,26 +118,6 @@ module _ (s : Split) (g : Graph) (controller : IsController s g) (vectors : List
   abbrev pub V : Node → ℕ → Row
   V n k = numbered s vectors state nets n k
 
-  -- what the producers of a node have in turn k settles to the node's nets in that turn
-  pub run_settles : (n : Node) (k : ℕ) → k < length vectors → IsSettled s (λ p. V p (opening_read p k)) n (values_at (nets k) (nets_of s n))
-  run_settles n k below = record {
-    state = state k;
-    vector = row_at vectors k;
-    nets = nets k;
-    valuation = run.settles k below;
-    slaves = λ i edge. refl;
-    columns = λ edge. ap (V In) (sym (add-one k));
-    row_is = refl;
-  }
-
-  -- the data nets of a cluster in a turn have the value of its master
-  pub master_value : (i : ℕ) → i < length s.clusters → (k : ℕ) → k < length vectors → values_at (nets k) (nets_of s (Master i)) ≡ V (Master i) (suc k)
-  master_value i is_node k below =
-      let sizes : length (data_nets s.circuit) ≡ length s.circuit.registers = length-map s.circuit.registers (λ r. r.data_net) in
-      let within : All (λ r. r < length (data_nets s.circuit)) (members s i) = λ j d inside. (let w : get_or (members s i) j d < length s.circuit.registers = controller.split.within i [] is_node j d inside in omega arith) in
-      let turn : state (suc k) ≡ values_at (nets k) (data_nets s.circuit) = rw add-one at (run.steps k below) in
-      picked (nets k) (data_nets s.circuit) (members s i) within ∙ ap (λ w. values_at w (members s i)) (sym turn)
-
   pub record InStep (now : State) : Type 0 where
     pub agrees : All (Agrees now.count) g.arcs
     pub within : (v : ℕ) → now.count v ≤ length vectors
@@ -167,13 +143,13 @@ module _ (s : Split) (g : Graph) (controller : IsController s g) (vectors : List
     -- what settles as a node opens are the run's values at its nets
     settled : (n : Node) → IsNode s n → Settles s n → IsEnabled g (length vectors) now.count (opening n) → (row : Row) → IsSettled s (read_rows s now (now.count (opening n))) n row → row ≡ values_at (nets (now.count (opening n))) (nets_of s n)
     settled n is_node edges enabled row is =
-        settled_same s controller.split n edges (read_rows s now (now.count (opening n))) (λ p. V p (opening_read p (now.count (opening n)))) (reads n is_node enabled) row (values_at (nets (now.count (opening n))) (nets_of s n)) is (run_settles n (now.count (opening n)) enabled.below)
+        settled_same s controller.split n edges (read_rows s now (now.count (opening n))) (λ p. V p (opening_read p (now.count (opening n)))) (reads n is_node enabled) row (values_at (nets (now.count (opening n))) (nets_of s n)) is (run_settles s controller.split vectors state nets run n (now.count (opening n)) enabled.below)
 
     -- what a node takes as it opens is its next value
     taken : (n : Node) → IsNode s n → IsEnabled g (length vectors) now.count (opening n) → (row : Row) → Takes s vectors now (now.count (opening n)) n row → row ≡ V n (suc (now.count (opening n)))
     taken In is_node enabled row is = is
     taken Out is_node enabled row is = settled Out tt (settles_out s) enabled row is
-    taken (Master i) is_node enabled row is = settled (Master i) is_node (settles_master s i is_node) enabled row is ∙ master_value i is_node (now.count (opening (Master i))) enabled.below
+    taken (Master i) is_node enabled row is = settled (Master i) is_node (settles_master s i is_node) enabled row is ∙ master_value s controller.split vectors state nets run i is_node (now.count (opening (Master i))) enabled.below
     taken (Slave i) is_node enabled row is =
         is ∙ (reads (Slave i) is_node enabled (Master i) is_node (to_slave is_node) ∙ ap (V (Master i)) (add-one (now.count (opening (Slave i)))))
 
@@ -292,11 +268,11 @@ module _ (s : Split) (g : Graph) (controller : IsController s g) (vectors : List
   next_row now good In is_node enabled = (row_at vectors (now.count (opening In)), refl)
   next_row now good Out is_node enabled = (
     values_at (nets (now.count (opening Out))) (nets_of s Out),
-    settled_where s Out (λ p. V p (opening_read p (now.count (opening Out)))) (read_rows s now (now.count (opening Out))) (λ p is_p edge. sym (reads now good Out is_node enabled p is_p edge)) (values_at (nets (now.count (opening Out))) (nets_of s Out)) (run_settles Out (now.count (opening Out)) enabled.below),
+    settled_where s Out (λ p. V p (opening_read p (now.count (opening Out)))) (read_rows s now (now.count (opening Out))) (λ p is_p edge. sym (reads now good Out is_node enabled p is_p edge)) (values_at (nets (now.count (opening Out))) (nets_of s Out)) (run_settles s controller.split vectors state nets run Out (now.count (opening Out)) enabled.below),
   )
   next_row now good (Master i) is_node enabled = (
     values_at (nets (now.count (opening (Master i)))) (nets_of s (Master i)),
-    settled_where s (Master i) (λ p. V p (opening_read p (now.count (opening (Master i))))) (read_rows s now (now.count (opening (Master i)))) (λ p is_p edge. sym (reads now good (Master i) is_node enabled p is_p edge)) (values_at (nets (now.count (opening (Master i)))) (nets_of s (Master i))) (run_settles (Master i) (now.count (opening (Master i))) enabled.below),
+    settled_where s (Master i) (λ p. V p (opening_read p (now.count (opening (Master i))))) (read_rows s now (now.count (opening (Master i)))) (λ p is_p edge. sym (reads now good (Master i) is_node enabled p is_p edge)) (values_at (nets (now.count (opening (Master i)))) (nets_of s (Master i))) (run_settles s controller.split vectors state nets run (Master i) (now.count (opening (Master i))) enabled.below),
   )
   next_row now good (Slave i) is_node enabled = (read_rows s now (now.count (opening (Slave i))) (Master i), refl)
 

@@ -18,7 +18,9 @@ use Rattle.ds_design.specs.InRange.{IsInRange}
 use Rattle.ds_design.specs.Run.{IsRun}
 use Rattle.ds_design.specs.Trace.{IsTraceFrom}
 use Rattle.ds_design.proofs.Runs.{one_run, some_run}
-use Rattle.ds_latch.specs.Node.{Node, Slave, Split, IsNode, number_of, closing, members, nodes}
+use Rattle.ds_latch.specs.Node.{Split, IsNode, number_of, closing, members, nodes}
+use Rattle.ds_latch.specs.declared.node.Node.{Node}
+use Rattle.ds_latch.specs.declared.node.Node.TheVariants.{Slave}
 use Rattle.ds_latch.specs.Plan.{IsController, IsPlan, split_events}
 use Rattle.ds_latch.specs.Numbered.{numbered}
 use Rattle.ds_latch.specs.Firing.{State, first_state, FiresAll}

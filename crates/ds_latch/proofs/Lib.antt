@@ -1,4 +1,6 @@
+pub mod Numbers
 pub mod Counts
+pub mod Turns
 pub mod Flow
 pub mod Spelt
 pub mod Stable

@@ -1,7 +1,9 @@
 -- The nodes, their nets and the data edges do not depend on the initial row and the slack.
 use Rattle.std.proofs.Common.{◌≡◌, ℕ, ◌≤◌, List, length, refl, ◌∙◌}
 use Rattle.ds_base.specs.Values.{Row}
-use Rattle.ds_latch.specs.Node.{Node, In, Out, Master, Slave, Split, IsNode, nets_of, begun, slackened}
+use Rattle.ds_latch.specs.Node.{Split, IsNode, nets_of, begun, slackened}
+use Rattle.ds_latch.specs.declared.node.Node.{Node}
+use Rattle.ds_latch.specs.declared.node.Node.TheVariants.{In, Out, Master, Slave}
 use Rattle.ds_latch.specs.Order.{IsDataEdge, to_master, to_out, to_slave}
 use Rattle.ds_latch.specs.Latches.{AreParts}
 use Rattle.ds_latch.specs.declared.latches.Edge.{Edge}

@@ -8,7 +8,9 @@ use Rattle.ds_marked.specs.Graph.{Graph, IsArc, stay, along}
 use Rattle.ds_marked.specs.declared.marked.Arc.{Arc}
 use Rattle.ds_latch.specs.Plan.{node_events, split_events, IsSplit, IsPlan}
 use Rattle.ds_latch.proofs.Counts.{number_below}
-use Rattle.ds_latch.specs.Node.{nodes, IsNode, number_of, Node, In, Out, Master, Slave, Split, opening, closing}
+use Rattle.ds_latch.specs.Node.{nodes, IsNode, number_of, Split, opening, closing}
+use Rattle.ds_latch.specs.declared.node.Node.{Node}
+use Rattle.ds_latch.specs.declared.node.Node.TheVariants.{In, Out, Master, Slave}
 use Rattle.ds_latch.specs.Order.{IsDataEdge, to_master, to_out, to_slave, IsRequired, opens_first, closes_before_next, after_producer, before_reuse, open_tokens, close_tokens}
 
 -- the turn's part in which an event fires; four events make a cluster

@@ -9,7 +9,9 @@ use Rattle.ds_cover.specs.Cover.{value_at, values_at}
 use Rattle.ds_design.specs.Circuit.{data_nets}
 use Rattle.ds_design.specs.Run.{IsRun, row_at}
 use Rattle.ds_design.specs.Trace.{trace_line, trace_lines}
-use Rattle.ds_latch.specs.Node.{Node, Out, Slave, Split, IsNode, closing, members}
+use Rattle.ds_latch.specs.Node.{Split, IsNode, closing, members}
+use Rattle.ds_latch.specs.declared.node.Node.{Node}
+use Rattle.ds_latch.specs.declared.node.Node.TheVariants.{Out, Slave}
 use Rattle.ds_latch.specs.Plan.{IsSplit}
 use Rattle.ds_latch.specs.Numbered.{numbered}
 use Rattle.ds_latch.specs.Firing.{State, AreRegisters}

@@ -1,7 +1,8 @@
 -- An edge's two orders have one token more than the slack together, so an open consumer keeps what it read.
 use Rattle.std.proofs.Common.{◌≡◌, ◌≢◌, ℕ, ◌+◌, ◌<◌, ◌≤◌, arith}
 use Rattle.ds_marked.specs.Graph.{Graph, IsEnabled, IsConsistent}
-use Rattle.ds_latch.specs.Node.{Node, Split, opening, closing, place_of}
+use Rattle.ds_latch.specs.Node.{Split, opening, closing, place_of}
+use Rattle.ds_latch.specs.declared.node.Node.{Node}
 use Rattle.ds_latch.specs.Order.{IsDataEdge, after_producer, before_reuse, open_tokens, close_tokens}
 use Rattle.ds_latch.specs.Firing.{opening_read}
 use Rattle.ds_latch.specs.Plan.{IsController}

@@ -5,13 +5,16 @@ use Rattle.ds_base.specs.Values.{Row}
 use Rattle.ds_cover.specs.Cover.{values_at}
 use Rattle.ds_design.specs.Run.{IsRun}
 use Rattle.ds_marked.specs.Graph.{Graph, IsLegal}
-use Rattle.ds_latch.specs.Node.{Node, In, Out, Master, Slave, Split, IsNode, opening, closing, nets_of}
+use Rattle.ds_latch.specs.Node.{Split, IsNode, opening, closing, nets_of}
+use Rattle.ds_latch.specs.declared.node.Node.{Node}
+use Rattle.ds_latch.specs.declared.node.Node.TheVariants.{In, Out, Master, Slave}
 use Rattle.ds_latch.specs.Order.{IsSource, IsDataEdge, to_master, to_out, to_slave, opens_first, closes_before_next, after_producer, before_reuse, open_tokens, close_tokens}
 use Rattle.ds_latch.specs.Plan.{IsController}
 use Rattle.ds_latch.specs.Firing.{State, held, first_state, opening_read, FiresAll, IsSettled}
 use Rattle.ds_latch.specs.Transparent.{IsOpen, Makes, IsShowing}
 use Rattle.ds_latch.proofs.Counts.{edge_tokens, read_tokens}
-use Rattle.ds_latch.proofs.Flow.{V, InStep, Settles, settles_out, settles_master, settled_same, settled_where, run_settles, master_value, steps_kept}
+use Rattle.ds_latch.proofs.Flow.{V, InStep, Settles, settles_out, settles_master, settled_same, settled_where, steps_kept}
+use Rattle.ds_latch.proofs.Turns.{run_settles, master_value}
 
 module _ (s : Split) (g : Graph) (controller : IsController s g) (none : s.slack ≡ 0) (vectors : List Row) (state nets : ℕ → Row) (run : IsRun s.circuit s.initial vectors state nets) (now : State) (good : InStep s g controller vectors state nets run now) where
   abbrev W : Node → ℕ → Row
@@ -50,10 +53,10 @@ module _ (s : Split) (g : Graph) (controller : IsController s g) (none : s.slack
   held_settles n is_node is_open value =
       subst (λ (row : Row). IsSettled s (held s now) n row) (value ∙ sym (holds_open n is_node is_open))
       (settled_where s n (λ p. W p (opening_read p (now.count (closing n)))) (held s now) (λ p is_p edge. sym (holds_read p n is_p edge is_open)) (values_at (nets (now.count (closing n))) (nets_of s n))
-      (run_settles s g controller vectors state nets run n (now.count (closing n)) (below n is_open)))
+      (run_settles s controller.split vectors state nets run n (now.count (closing n)) (below n is_open)))
 
   master_is : (i : ℕ) → i < length s.clusters → IsOpen now (Master i) → values_at (nets (now.count (closing (Master i)))) (nets_of s (Master i)) ≡ W (Master i) (suc (now.count (closing (Master i))))
-  master_is i inside is_open = master_value s g controller vectors state nets run i inside (now.count (closing (Master i))) (below (Master i) is_open)
+  master_is i inside is_open = master_value s controller.split vectors state nets run i inside (now.count (closing (Master i))) (below (Master i) is_open)
 
   -- an open slave holds what its master holds
   slave_holds : (i : ℕ) → i < length s.clusters → IsOpen now (Slave i) → held s now (Slave i) ≡ held s now (Master i)
@@ -93,7 +96,7 @@ module _ (s : Split) (g : Graph) (controller : IsController s g) (none : s.slack
           | inl e ↦ showing.is_closed n is_node e
           | inr is_open ↦
               settled_same s controller.split n edges shown (λ p. W p (opening_read p (now.count (closing n)))) (reads n is_open sources slaves) (shown n) (values_at (nets (now.count (closing n))) (nets_of s n)) (settles is_open)
-              (run_settles s g controller vectors state nets run n (now.count (closing n)) (below n is_open))
+              (run_settles s controller.split vectors state nets run n (now.count (closing n)) (below n is_open))
               ∙ (value is_open ∙ sym (holds_open n is_node is_open))
         ]
 

@@ -14,7 +14,9 @@ use Rattle.std.proofs.lemmas.Map.Views.{Contains-from_any}
 use Rattle.ds_base.proofs.Pairs.{pairs-left, pairs-right}
 use Rattle.ds_design.specs.Circuit.{control_nets, data_nets, register_nets}
 use Rattle.ds_design.specs.InRange.{IsInRange}
-use Rattle.ds_latch.specs.Node.{Node, In, Out, Master, Slave, Split, IsNode, members, nets_of}
+use Rattle.ds_latch.specs.Node.{Split, IsNode, members, nets_of}
+use Rattle.ds_latch.specs.declared.node.Node.{Node}
+use Rattle.ds_latch.specs.declared.node.Node.TheVariants.{In, Out, Master, Slave}
 use Rattle.ds_latch.specs.Node.{nodes, number_of}
 use Rattle.ds_latch.specs.Plan.{IsSplit}
 use Rattle.ds_latch.proofs.Events.{node_at}

@@ -7,7 +7,9 @@ use Rattle.std.proofs.lemmas.List.{get_or_past}
 use Rattle.std.proofs.lemmas.List.FromFn.{length-map-range_with_len, get_or-map-range_with_len}
 use Rattle.ds_base.proofs.Lists.{lists_same}
 use Rattle.ds_marked.specs.Graph.{Graph}
-use Rattle.ds_latch.specs.Node.{Node, In, Out, Master, Slave, Split, begun}
+use Rattle.ds_latch.specs.Node.{Split, begun}
+use Rattle.ds_latch.specs.declared.node.Node.{Node}
+use Rattle.ds_latch.specs.declared.node.Node.TheVariants.{In, Out, Master, Slave}
 use Rattle.ds_latch.specs.Order.{IsRequired, opens_first, closes_before_next, after_producer, before_reuse, close_tokens}
 use Rattle.ds_latch.specs.Plan.{IsSplit, IsPlan, IsController}
 use Rattle.ds_latch.specs.Numbered.{numbered}

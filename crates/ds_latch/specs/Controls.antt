@@ -1,7 +1,8 @@
 -- What a controller graph keeps apart.
 use Rattle.std.specs.Prelude.{◌≡◌, ◌≢◌, ℕ, ◌+◌, ◌<◌, ◌↔◌}
 use Rattle.ds_marked.specs.Graph.{Graph, IsEnabled, IsConsistent, IsArc}
-use Rattle.ds_latch.specs.Node.{Node, Split, opening, closing, place_of}
+use Rattle.ds_latch.specs.Node.{Split, opening, closing, place_of}
+use Rattle.ds_latch.specs.declared.node.Node.{Node}
 use Rattle.ds_latch.specs.Order.{IsDataEdge, IsRequired}
 use Rattle.ds_latch.specs.Firing.{opening_read}
 use Rattle.ds_latch.specs.Plan.{split_events, IsSplit, IsPlan, IsController}

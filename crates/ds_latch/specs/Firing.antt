@@ -4,7 +4,9 @@ use Rattle.ds_cover.specs.Cover.{values_at}
 use Rattle.ds_design.specs.Valuation.{IsValuation}
 use Rattle.ds_design.specs.Run.{row_at}
 use Rattle.ds_marked.specs.Graph.{counted}
-use Rattle.ds_latch.specs.Node.{Node, In, Out, Master, Slave, Split, IsNode, number_of, opening}
+use Rattle.ds_latch.specs.Node.{Split, IsNode, number_of, opening}
+use Rattle.ds_latch.specs.declared.node.Node.{Node}
+use Rattle.ds_latch.specs.declared.node.Node.TheVariants.{In, Out, Master, Slave}
 use Rattle.ds_latch.specs.Node.{closing, extra_event, place_of, members, nets_of, zeros}
 use Rattle.ds_latch.specs.Order.{IsDataEdge}
 use Rattle.ds_base.specs.Values.{Row}

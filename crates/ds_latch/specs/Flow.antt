@@ -7,7 +7,9 @@ use Rattle.ds_design.specs.Valuation.{IsValuation}
 use Rattle.ds_design.specs.Run.{IsRun, row_at}
 use Rattle.ds_design.specs.Trace.{trace_line, trace_lines}
 use Rattle.ds_marked.specs.Graph.{Graph, IsLegal}
-use Rattle.ds_latch.specs.Node.{Node, In, Out, Split, IsNode, opening, closing, place_of, nets_of}
+use Rattle.ds_latch.specs.Node.{Split, IsNode, opening, closing, place_of, nets_of}
+use Rattle.ds_latch.specs.declared.node.Node.{Node}
+use Rattle.ds_latch.specs.declared.node.Node.TheVariants.{In, Out}
 use Rattle.ds_latch.specs.Plan.{IsSplit, IsController}
 use Rattle.ds_latch.specs.Numbered.{numbered}
 use Rattle.ds_latch.specs.Firing.{State, first_state, FiresAll, IsSettled, Takes, AreRegisters}

@@ -10,7 +10,8 @@ use Rattle.ds_design.specs.InRange.{IsInRange}
 use Rattle.ds_design.specs.Run.{IsRun, row_at}
 use Rattle.ds_design.specs.Trace.{IsTraceFrom, trace_line}
 use Rattle.ds_marked.specs.Graph.{Graph, IsEnabled, IsLegal, counts_after}
-use Rattle.ds_latch.specs.Node.{Out, Slave, Split, members}
+use Rattle.ds_latch.specs.Node.{Split, members}
+use Rattle.ds_latch.specs.declared.node.Node.TheVariants.{Out, Slave}
 use Rattle.ds_latch.specs.Plan.{IsPlan}
 use Rattle.ds_latch.specs.Firing.{State, first_state, FiresAll, AreRegisters}
 

@@ -1,6 +1,7 @@
 -- What follows of the numbers of nodes and events.
 use Rattle.std.specs.Prelude.{◌≡◌, ◌≢◌, ℕ, ◌+◌, ◌<◌, ◌≤◌, [], ◌∷◌, Contains}
-use Rattle.ds_latch.specs.Node.{Node, Split, IsNode, number_of, opening, closing, nodes}
+use Rattle.ds_latch.specs.Node.{Split, IsNode, number_of, opening, closing, nodes}
+use Rattle.ds_latch.specs.declared.node.Node.{Node}
 use Rattle.ds_latch.specs.Node.{extra_event, events_of, place_of}
 
 -- the events of a node are an opening and a closing, or one extra event, and each event is one

@@ -2,7 +2,9 @@
 use Rattle.std.specs.Prelude.{ℕ, zero, suc, List}
 use Rattle.ds_cover.specs.Cover.{values_at}
 use Rattle.ds_design.specs.Run.{row_at}
-use Rattle.ds_latch.specs.Node.{Node, In, Out, Master, Slave, Split, members, nets_of, zeros}
+use Rattle.ds_latch.specs.Node.{Split, members, nets_of, zeros}
+use Rattle.ds_latch.specs.declared.node.Node.{Node}
+use Rattle.ds_latch.specs.declared.node.Node.TheVariants.{In, Out, Master, Slave}
 use Rattle.ds_base.specs.Values.{Row}
 
 -- value k of a node, for a run's states and nets: of a slave its registers after k turns; of the

@@ -1,7 +1,9 @@
 -- Which node reads which, and the orders that this asks of a controller.
 use Rattle.std.specs.Prelude.{ℕ, ◌+◌, ◌<◌, ⊤, length, Contains}
 use Rattle.ds_design.specs.Reach.{Reaches}
-use Rattle.ds_latch.specs.Node.{Node, In, Out, Master, Slave, Split, IsNode, nets_of, opening}
+use Rattle.ds_latch.specs.Node.{Split, IsNode, nets_of, opening}
+use Rattle.ds_latch.specs.declared.node.Node.{Node}
+use Rattle.ds_latch.specs.declared.node.Node.TheVariants.{In, Out, Master, Slave}
 use Rattle.ds_latch.specs.Node.{closing}
 
 -- a net of one node is a net of the other or reaches one

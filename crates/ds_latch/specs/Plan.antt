@@ -4,7 +4,9 @@ use Rattle.std.specs.Prelude.{[], ◌∷◌, ◌++◌, length, codes, decimal, A
 use Rattle.std.specs.List.{flat_map, range_with_len}
 use Rattle.ds_design.specs.Accepted.{IsAccepted}
 use Rattle.ds_marked.specs.Graph.{Graph, Agrees, Walk, IsLive}
-use Rattle.ds_latch.specs.Node.{Node, In, Out, Master, Slave, Split}
+use Rattle.ds_latch.specs.Node.{Split}
+use Rattle.ds_latch.specs.declared.node.Node.{Node}
+use Rattle.ds_latch.specs.declared.node.Node.TheVariants.{In, Out, Master, Slave}
 use Rattle.ds_latch.specs.Order.{IsRequired}
 use Rattle.ds_marked.specs.declared.marked.Event.{Event}
 use Rattle.ds_marked.specs.declared.marked.Kind.TheVariants.{Rise, Fall}

@@ -2,7 +2,9 @@
 use Rattle.std.specs.Prelude.{◌≡◌, ℕ, ◌+◌, List, length}
 use Rattle.ds_design.specs.Run.{IsRun, row_at}
 use Rattle.ds_marked.specs.Graph.{Graph, IsLegal}
-use Rattle.ds_latch.specs.Node.{Node, In, Out, Master, Slave, Split, IsNode, opening, closing}
+use Rattle.ds_latch.specs.Node.{Split, IsNode, opening, closing}
+use Rattle.ds_latch.specs.declared.node.Node.{Node}
+use Rattle.ds_latch.specs.declared.node.Node.TheVariants.{In, Out, Master, Slave}
 use Rattle.ds_latch.specs.Plan.{IsController}
 use Rattle.ds_latch.specs.Firing.{State, held, first_state, FiresAll, IsSettled}
 use Rattle.ds_base.specs.Values.{Row}

@@ -3,7 +3,8 @@ use Rattle.std.specs.Prelude.{◌≡◌, ℕ, suc, ◌+◌, List, ◌++◌, leng
 use Rattle.std.specs.List.{range_with_len}
 use Rattle.ds_marked.specs.Graph.{Graph}
 use Rattle.ds_design.specs.Windows.{later}
-use Rattle.ds_latch.specs.Node.{Node, Split, begun}
+use Rattle.ds_latch.specs.Node.{Split, begun}
+use Rattle.ds_latch.specs.declared.node.Node.{Node}
 use Rattle.ds_latch.specs.Plan.{IsPlan, IsController}
 use Rattle.ds_latch.specs.Numbered.{numbered}
 use Rattle.ds_base.specs.Values.{Row}

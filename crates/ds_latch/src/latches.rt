@@ -2,7 +2,8 @@
 //! edges between nodes.
 ghost use Rattle.std.specs.Prelude.{◌≡◌, ◌≢◌, ◌+◌, ◌*◌, ◌<◌, ◌≤◌, ◌^◌, ℕ, List, All, AllPairs};
 ghost use Rattle.std.specs.Prelude.{Contains, length, slice_index_or, []};
-ghost use Rattle.ds_latch.specs.Node.{Node, Split, IsNode, number_of, nodes, nets_of, begun};
+ghost use Rattle.ds_latch.specs.Node.{Split, IsNode, number_of, nodes, nets_of, begun};
+ghost use Rattle.ds_latch.specs.declared.node.Node.{Node};
 ghost use Rattle.ds_latch.specs.Node.{slackened};
 ghost use Rattle.ds_latch.specs.Latches.{AreParts, HasEdges};
 ghost use Rattle.ds_latch.specs.Plan.{IsSplit};
@@ -117,6 +118,15 @@ impl<'a> Latches<'a> {
         ensures split { IsSplit self.now }
     {
         self.clusters.as_slice()
+    }
+
+    /// How many nodes there are.
+    pub fn nodes(&self) -> usize
+        ensures nodes { result ≡ nodes self.now }
+        ensures few { 2 * nodes self.now ≤ 1048576 }
+        ensures split { IsSplit self.now }
+    {
+        self.bits.as_slice().len()
     }
 
     /// The nets of each node.

@@ -7,7 +7,9 @@ use Rattle.std.proofs.lemmas.Bool.Decides.{eqb_tells}
 use Rattle.std.proofs.lemmas.List.{length-append}
 use Rattle.ds_base.specs.Values.{Row}
 use Rattle.ds_marked.specs.Graph.{Graph, IsLegal, IsLegalFrom, counted, counts_after}
-use Rattle.ds_latch.specs.Node.{Node, In, Out, Master, Slave, Split, IsNode, number_of, opening, closing, nodes}
+use Rattle.ds_latch.specs.Node.{Split, IsNode, number_of, opening, closing, nodes}
+use Rattle.ds_latch.specs.declared.node.Node.{Node}
+use Rattle.ds_latch.specs.declared.node.Node.TheVariants.{In, Out, Master, Slave}
 use Rattle.ds_latch.specs.Plan.{IsPlan, split_events}
 use Rattle.ds_latch.specs.Firing.{State, FiresAll}
 use Rattle.ds_latch.specs.Headline.{HasFiredAll}

@@ -4,9 +4,10 @@
 //! and a line without words is none. A caller sees `Lines` as a list of lines, each the number of
 //! its first physical line and its words. `lines` gives exactly the lines that the text stands for,
 //! and refuses a text exactly where it is too long. `Lines::line`, `word`, `words` and `number`
-//! lend parts of a line: the words are slices of the text. `trim` says what is cut at the end of a
-//! physical line, for readers that have no whole text. `laws` says what follows: joined lines are
-//! one text with a blank between, what is printed is read, a text may be read in two parts.
+//! lend parts of a line: the words are slices of the text. `word` and `name` lend and copy a word,
+//! and `place_of` finds a byte in one. `trim` says what is cut at the end of a physical line, for
+//! readers that have no whole text. `laws` says what follows: joined lines are one text with a
+//! blank between, what is printed is read, a text may be read in two parts.
 //!
 //! Not promised: an encoding. A word is bytes.
 #![tactic(auto)]
@@ -17,7 +18,9 @@ mod line;
 mod list;
 mod reader;
 mod span;
+mod words_of_line;
 
-pub use line::{blank, trim};
+pub use line::{blank, place_of, trim};
 pub use list::Lines;
 pub use reader::{LinesFault, lines};
+pub use words_of_line::{name, word};

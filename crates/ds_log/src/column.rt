@@ -5,8 +5,8 @@ ghost use Rattle.ds_outside.specs.Writes.{GoesOn};
 ghost use Rattle.ds_log.specs.Log.{column};
 
 use ds_base::Value;
-use ds_outside::{Sink, WriteFault};
-use ds_rows::{character, put};
+use ds_outside::{Sink, WriteFault, put};
+use ds_rows::character;
 
 /// Of rows of one width, which stand one after the other, writes the value of each at a place,
 /// unless a write has failed; where there is no row, `-`.

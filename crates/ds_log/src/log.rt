@@ -5,8 +5,7 @@ ghost use Rattle.ds_log.specs.Log.{fired_line, firing_text};
 
 use ds_base::EventId;
 use ds_latch::{Plan, event_text};
-use ds_outside::{Sink, WriteFault};
-use ds_rows::put;
+use ds_outside::{Sink, WriteFault, put};
 use itoa::Buffer;
 
 /// Writes the line of a firing: the event, and how often it has fired with this firing.

@@ -1,13 +1,15 @@
 //! Lines of what open nodes show.
 ghost use Rattle.std.specs.Prelude.{◌≡◌, ◌++◌, decimal};
-ghost use Rattle.ds_latch.specs.Node.{Node, number_of};
+ghost use Rattle.ds_latch.specs.Node.{number_of};
+ghost use Rattle.ds_latch.specs.declared.node.Node.{Node};
 ghost use Rattle.ds_latch.specs.Plan.{node_name};
 ghost use Rattle.ds_outside.specs.Writes.{GoesOn, Writes};
 ghost use Rattle.ds_log.specs.Log.{open_text};
 
 use ds_base::{LatchId, Row3};
-use ds_outside::{Sink, WriteFault};
-use ds_rows::{put, put_values};
+use ds_latch::Node;
+use ds_outside::{Sink, WriteFault, put};
+use ds_rows::put_values;
 use itoa::Buffer;
 
 /// Writes the line of an open node, by its number: its name, and the values that it shows, one
@@ -31,15 +33,11 @@ fn put_node<O: Sink>(
     ensures { (n : Node) → number_of n ≡ node → GoesOn so_far result (O.written out.old)
         (O.written out.new) (O.faults out.old) (O.faults out.new) (node_name n) }
 {
-    let number = node.number();
-    if number == 0 {
-        put(so_far, b"IN", out)
-    } else if number == 1 {
-        put(so_far, b"OUT", out)
-    } else if number % 2 == 0 {
-        put_numbered(so_far, b"M", number / 2 - 1, out)
-    } else {
-        put_numbered(so_far, b"S", number / 2 - 1, out)
+    match Node::of(node) {
+        Node::In => put(so_far, b"IN", out),
+        Node::Out => put(so_far, b"OUT", out),
+        Node::Master(i) => put_numbered(so_far, b"M", i, out),
+        Node::Slave(i) => put_numbered(so_far, b"S", i, out),
     }
 }
 

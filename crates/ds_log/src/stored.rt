@@ -7,8 +7,7 @@ ghost use Rattle.ds_design.specs.Trace.{value_text, values_text};
 ghost use Rattle.ds_outside.specs.Writes.{GoesOn};
 ghost use Rattle.ds_log.specs.Log.{at_place, value_words};
 
-use ds_outside::{Sink, WriteFault};
-use ds_rows::put;
+use ds_outside::{Sink, WriteFault, put};
 
 /// Of rows whose value words stand one row after the other, so many words a row, writes the value
 /// of each at a place, unless a write has failed; where there is no row, `-`. It reads one word a

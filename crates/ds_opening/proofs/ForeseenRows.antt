@@ -8,7 +8,9 @@ use Rattle.ds_base.specs.Values.{Row}
 use Rattle.ds_base.specs.declared.value.Value.TheVariants.{Zero}
 use Rattle.ds_cover.specs.Cover.{values_at}
 use Rattle.ds_design.specs.Circuit.{data_nets}
-use Rattle.ds_latch.specs.Node.{Node, In, Out, Master, Slave, Split, nodes, number_of}
+use Rattle.ds_latch.specs.Node.{Split, nodes, number_of}
+use Rattle.ds_latch.specs.declared.node.Node.{Node}
+use Rattle.ds_latch.specs.declared.node.Node.TheVariants.{In, Out, Master, Slave}
 use Rattle.ds_opening.specs.Foreseen.{ForeseesRows, foreseen, foreseen_rows, node_at, state_before}
 
 -- row l of the rows of value k

@@ -1,7 +1,8 @@
 -- Which rows are learnt.
 use Rattle.std.proofs.Common.{◌≡◌, ◌∙◌, ℕ, ◌+◌, ◌*◌, ◌%◌, Bool, true, false, eqb, get_or, refl, ap, ne_eqb, arith, ◌&&◌, ◌||◌}
 use Rattle.std.proofs.lemmas.Bool.{and_right, eqb-true, false≢true}
-use Rattle.ds_latch.specs.Node.{Master, number_of}
+use Rattle.ds_latch.specs.Node.{number_of}
+use Rattle.ds_latch.specs.declared.node.Node.TheVariants.{Master}
 use Rattle.ds_scratch.specs.Scratch.{Kept}
 use Rattle.ds_opening.specs.Learnt.{is_learnt, is_no_master}
 

@@ -7,7 +7,9 @@ use Rattle.ds_base.specs.Word.{count_of_words}
 use Rattle.ds_base.specs.Values.{Row}
 use Rattle.ds_cover.specs.Cover.{value_at}
 use Rattle.ds_design.specs.Circuit.{register_nets}
-use Rattle.ds_latch.specs.Node.{Node, In, Out, Master, Slave, Split, IsNode, number_of, members, nets_of}
+use Rattle.ds_latch.specs.Node.{Split, IsNode, number_of, members, nets_of}
+use Rattle.ds_latch.specs.declared.node.Node.{Node}
+use Rattle.ds_latch.specs.declared.node.Node.TheVariants.{In, Out, Master, Slave}
 use Rattle.ds_latch.specs.Numbered.{numbered}
 use Rattle.ds_latch.specs.Order.{IsDataEdge, to_slave}
 use Rattle.ds_opening.specs.Packed.{packed}

@@ -11,7 +11,9 @@ use Rattle.ds_base.proofs.Pairs.{pairs-between, pairs-left, pairs-right}
 use Rattle.ds_design.specs.Circuit.{Circuit, columns, register_nets}
 use Rattle.ds_design.specs.Levels.{table_nets}
 use Rattle.ds_groups.specs.Groups.{AreGroupsOf, Grouping, group_of}
-use Rattle.ds_latch.specs.Node.{Node, In, Out, Master, Slave, Split, IsNode, members, nets_of, nodes, number_of}
+use Rattle.ds_latch.specs.Node.{Split, IsNode, members, nets_of, nodes, number_of}
+use Rattle.ds_latch.specs.declared.node.Node.{Node}
+use Rattle.ds_latch.specs.declared.node.Node.TheVariants.{In, Out, Master, Slave}
 use Rattle.ds_latch.proofs.Counts.{number_below}
 use Rattle.ds_latch.specs.Order.{IsSource}
 use Rattle.ds_latch.specs.Plan.{IsSplit}

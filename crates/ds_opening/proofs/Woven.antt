@@ -7,18 +7,20 @@ use Rattle.ds_base.specs.Values.{Row}
 use Rattle.ds_cover.specs.Cover.{values_at}
 use Rattle.ds_design.specs.Circuit.{register_nets}
 use Rattle.ds_design.specs.InRange.{IsInRange}
-use Rattle.ds_latch.specs.Node.{Node, In, Out, Master, Slave, Split, IsNode, number_of, nodes, members, nets_of}
+use Rattle.ds_latch.specs.Node.{Split, IsNode, number_of, nodes, members, nets_of}
+use Rattle.ds_latch.specs.declared.node.Node.{Node}
+use Rattle.ds_latch.specs.declared.node.Node.TheVariants.{In, Out, Master, Slave}
 use Rattle.ds_latch.specs.Numbered.{numbered}
 use Rattle.ds_latch.specs.Order.{IsDataEdge, to_master, to_out, to_slave}
 use Rattle.ds_latch.specs.Plan.{IsSplit}
 use Rattle.ds_design.specs.declared.design.Register.{Register}
 use Rattle.ds_latch.proofs.Counts.{number_below}
+use Rattle.ds_latch.proofs.Turns.{picked}
 use Rattle.ds_settle.specs.Cone.{IsCone, IsPartSettled, Parts}
 use Rattle.ds_cones.specs.Cones.{IsSettlingAt}
 use Rattle.ds_cones.specs.Settled.{IsSettling, IsSupplied}
 use Rattle.ds_cones.proofs.NodeCones.{nets_within}
 use Rattle.ds_cones.proofs.Settled.{settles_next_value_lem}
-use Rattle.ds_cones.proofs.Taken.{picked}
 use Rattle.ds_opening.specs.Packed.{AreInside, AreLearnt, packed, packed_rows}
 use Rattle.ds_opening.specs.Woven.{IsFed, Turn, read_of, value_taken, woven}
 

@@ -11,7 +11,9 @@ use Rattle.ds_design.specs.InRange.{IsInRange}
 use Rattle.ds_design.specs.Accepted.{IsAccepted}
 use Rattle.ds_design.specs.Levels.{IsTableOrder}
 use Rattle.ds_design.specs.Run.{IsRun, row_at}
-use Rattle.ds_latch.specs.Node.{Node, In, Out, Master, Slave, Split, number_of, nodes}
+use Rattle.ds_latch.specs.Node.{Split, number_of, nodes}
+use Rattle.ds_latch.specs.declared.node.Node.{Node}
+use Rattle.ds_latch.specs.declared.node.Node.TheVariants.{In, Out, Master, Slave}
 use Rattle.ds_latch.specs.Numbered.{numbered}
 use Rattle.ds_design.specs.declared.design.Gate.{Gate}
 

@@ -9,7 +9,9 @@ use Rattle.ds_design.specs.Circuit.{Circuit}
 use Rattle.ds_design.specs.declared.design.Gate.{Gate}
 use Rattle.ds_groups.specs.Groups.{AreGroupsOf, Grouping, group_of}
 use Rattle.ds_groups.specs.Reads.{AreReads, ReadFrom, slots_with}
-use Rattle.ds_latch.specs.Node.{Node, In, Out, Master, Slave, Split, nets_of, nodes}
+use Rattle.ds_latch.specs.Node.{Split, nets_of, nodes}
+use Rattle.ds_latch.specs.declared.node.Node.{Node}
+use Rattle.ds_latch.specs.declared.node.Node.TheVariants.{In, Out, Master, Slave}
 use Rattle.ds_scratch.specs.Scratch.{Kept, Memory, Remembers, value_in}
 use Rattle.ds_settle.specs.Cone.{Parts as Cone, net_of, nets_of_tables}
 use Rattle.ds_cones.specs.Cones.{AreCones, IsSettlingAt}

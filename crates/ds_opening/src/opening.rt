@@ -8,7 +8,8 @@ ghost use Rattle.ds_design.specs.Banked.{IsBankOf};
 ghost use Rattle.ds_design.specs.InRange.{IsInRange};
 ghost use Rattle.ds_design.specs.Circuit.{columns};
 ghost use Rattle.ds_groups.specs.Groups.{group_of, tables_in};
-ghost use Rattle.ds_latch.specs.Node.{Node, IsNode, number_of, nets_of};
+ghost use Rattle.ds_latch.specs.Node.{IsNode, number_of, nets_of};
+ghost use Rattle.ds_latch.specs.declared.node.Node.{Node};
 ghost use Rattle.ds_latch.specs.Plan.{IsSplit};
 ghost use Rattle.ds_scratch.specs.Scratch.{HasSlot, Memory, Remembers};
 ghost use Rattle.ds_settle.specs.Cone.{nets_of_tables};
@@ -21,8 +22,8 @@ ghost use Rattle.ds_opening.specs.Noted.{IsAsLong, IsLearnt, IsNotedOpening, IsS
 ghost use Rattle.ds_opening.specs.Noted.{AreReadRows, IsSlot};
 ghost use Rattle.ds_opening.specs.Woven.{Turn, value_taken};
 
-use crate::packed::{push_all, push_row, push_words, put_values, words_of};
-use ds_base::{NetId, Seq};
+use crate::packed::{push_all, push_row, push_words, put_values};
+use ds_base::{NetId, Seq, words_of};
 use ds_design::{Netlist, Vectors};
 use ds_groups::Groups;
 use ds_latch::Latches;
@@ -209,6 +210,7 @@ fn set_group(netlist: &Netlist, groups: &Groups, number: usize, turn: u64, scrat
     if scratch.is_noted(number, turn) {
         return;
     }
+    // Read for the fact that its numbers name what is there.
     let _design = netlist.design();
     if keeps(groups, number, turn, scratch) {
         scratch.note(number, turn, true);

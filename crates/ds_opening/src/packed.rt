@@ -7,18 +7,7 @@ ghost use Rattle.ds_cover.specs.Cover.{values_at};
 ghost use Rattle.ds_settle.specs.Settle.{LeavesOthers};
 ghost use Rattle.ds_opening.specs.Packed.{AreAsBefore, Learns, packed};
 
-use ds_base::{NetId, Row3, Value};
-
-// How many words so many values take.
-pub(crate) fn words_of(count: usize) -> usize
-    ensures { result ≡ count_of_words count }
-{
-    if count % 32 == 0 {
-        count / 32
-    } else {
-        count / 32 + 1
-    }
-}
+use ds_base::{NetId, Row3, Value, words_of};
 
 // Puts the words of these nets' values behind what stands in `into`.
 pub(crate) fn push_words(nets: &Row3, these: &[NetId], into: &mut Vec<u64>)

@@ -1,4 +1,4 @@
-//! Files as the product sees them: bytes under names, which may or may not be told, and reads that
+//! Files as the program sees them: bytes under names, which may or may not be told, and reads that
 //! may fail.
 ghost use Rattle.std.specs.Prelude.{◌≡◌, ◌≢◌, ◌<◌, ◌≤◌, ◌^◌, ◌+◌, ℕ, List, [], ◌∷◌, ◌++◌, Option};
 ghost use Rattle.std.specs.Prelude.{Some, length, take, drop, IfOk, OnOk, OnErr};

@@ -45,7 +45,7 @@ impl Kept {
         ensures kept { self.new ≡ self.old ++ take result piece.now }
     {
         let n = piece.len().min(8192 - self.end);
-        put(&mut self.bytes, self.end, &piece[..n]);
+        put_at(&mut self.bytes, self.end, &piece[..n]);
         self.end += n;
         n
     }
@@ -89,7 +89,7 @@ impl Kept {
 }
 
 // Writes a piece into an array at a place.
-fn put(bytes: &mut [u8], at: usize, piece: &[u8])
+fn put_at(bytes: &mut [u8], at: usize, piece: &[u8])
     requires { at + length piece.now ≤ length bytes.old }
     ensures { bytes.new ≡ replaced bytes.old at piece.now }
 {

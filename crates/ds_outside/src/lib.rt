@@ -35,5 +35,5 @@ pub use host_files::HostFiles;
 pub use host_out::HostOut;
 pub use memory_files::MemoryFiles;
 pub use memory_sink::MemorySink;
-pub use sink::{Sink, WriteFault, write_all};
+pub use sink::{Sink, WriteFault, put, write_all};
 pub use sure_files::SureFiles;

@@ -1,7 +1,8 @@
-//! Outputs as the product sees them: writes that may be short and may fail.
+//! Outputs as the program sees them: writes that may be short and may fail.
 ghost use Rattle.std.specs.Prelude.{◌≡◌, ◌<◌, ◌≤◌, ℕ, List, Option, length, take, IfOk, OnOk};
 ghost use Rattle.std.specs.Prelude.{OnErr};
 ghost use Rattle.ds_outside.specs.Fault.{Rose};
+ghost use Rattle.ds_outside.specs.Writes.{GoesOn};
 ghost use Rattle.ds_outside.specs.Written.{appended, AppendsPart};
 
 /// A write failed.
@@ -41,4 +42,20 @@ pub fn write_all<S: Sink>(sink: &mut S, piece: &[u8]) -> Result<(), WriteFault>
         done += sink.write(&piece[done..])?;
     }
     Ok(())
+}
+
+/// Writes a piece, unless a write has failed: the answer so far is passed on, so that a line of
+/// many pieces is one chain of calls.
+pub fn put<S: Sink>(
+    so_far: Result<(), WriteFault>,
+    piece: &[u8],
+    sink: &mut S,
+) -> Result<(), WriteFault>
+    ensures { GoesOn so_far result (S.written sink.old) (S.written sink.new) (S.faults sink.old)
+        (S.faults sink.new) piece.now }
+{
+    match so_far {
+        Ok(()) => write_all(sink, piece),
+        Err(fault) => Err(fault),
+    }
 }

@@ -2,7 +2,8 @@
 use Rattle.std.proofs.Common.{◌≤◌, ℕ, [], ◌∷◌, arith, zero, suc}
 use Rattle.std.specs.List.{All}
 use Rattle.ds_marked.specs.Graph.{Graph, IsArc}
-use Rattle.ds_latch.specs.Node.{Split, In}
+use Rattle.ds_latch.specs.Node.{Split}
+use Rattle.ds_latch.specs.declared.node.Node.TheVariants.{In}
 use Rattle.ds_latch.specs.Order.{opens_first, closes_before_next}
 use Rattle.ds_control.specs.Control.{AreOrders}
 use Rattle.ds_order.specs.Order.{IsDistinct}

@@ -2,6 +2,7 @@
 use Rattle.std.proofs.Common.{◌≡◌, ◌∙◌, ℕ, ◌+◌, ◌<◌, ◌≤◌, Bool, true, false, List, [], ◌∷◌, length, drop, not, Option, None, Some, Result, Ok, Err, refl, arith, ap, ap₂, sym, subst, inl, inr, if◌then◌else◌, length-set, add-one}
 use Rattle.std.specs.Prelude.{nat_lt}
 use Rattle.std.proofs.Math.Seq.{drop-cons}
+use Rattle.std.proofs.lemmas.Option.{none-some, same_Some}
 use Rattle.std.proofs.lemmas.Bool.{cases_Bool, false≢true, lt-ltb, le-ltb}
 use Rattle.std.proofs.lemmas.List.{drop_all, length-map, length-replicate}
 use Rattle.ds_names.specs.Names.{place_of_name}
@@ -9,7 +10,8 @@ use Rattle.ds_marked.specs.Log.{event_text}
 use Rattle.ds_lines.specs.Line.{Line, line_or_none}
 use Rattle.ds_marked.specs.Graph.{Graph}
 use Rattle.ds_events.specs.Texts.{event_by_text, event_texts}
-use Rattle.ds_period.specs.Word.{delay_on, has_delay, written_delay, word_on}
+use Rattle.ds_lines.specs.Words.{word_at}
+use Rattle.ds_period.specs.Word.{delay_on, has_delay, written_delay}
 use Rattle.ds_period.specs.Read.{Given, HasOneEach, IsRead, arc_by_texts, arc_named, delays_from, delays_of, is_given, after_line, none_given, then_lines, with_delay}
 use Rattle.ds_period.specs.Step.{IsTaken, line_refusal}
 use Rattle.ds_period.specs.declared.fault.Refusal.{Refusal}
@@ -17,31 +19,20 @@ use Rattle.ds_period.specs.declared.fault.Refusal.TheVariants as refusal
 use Rattle.ds_period.specs.declared.fault.DelayKind.{DelayKind}
 use Rattle.ds_period.specs.declared.fault.DelayKind.TheVariants.{BadWord, UnknownOrder, RepeatedOrder}
 
-or_zero : Option ℕ → ℕ
-or_zero None = 0
-or_zero (Some n) = n
-
-some_same : (a b : ℕ) → (let o : Option ℕ = Some a in o ≡ Some b) → a ≡ b
-unfolding or_zero
-some_same a b e = ap or_zero e
-
-none_some : (a : ℕ) → (let o : Option ℕ = None in ¬ (o ≡ Some a))
-none_some a e = cc
-
 -- what is known where a line has a delay
 pub delay_is : (words : List (List ℕ)) (delay : ℕ) → delay_on words ≡ Some delay → (has_delay words ≡ true) × (written_delay words ≡ delay)
 delay_is words delay e = elim (cases_Bool (has_delay words)) [
-  | inl has ↦ (has, some_same _ _ (sym (ap (λ (b : Bool). if b then Some (written_delay words) else None) has) ∙ e))
-  | inr not_so ↦ absurd (none_some delay (sym (ap (λ (b : Bool). if b then Some (written_delay words) else None) not_so) ∙ e))
+  | inl has ↦ (has, same_Some _ _ (sym (ap (λ (b : Bool). if b then Some (written_delay words) else None) has) ∙ e))
+  | inr not_so ↦ absurd (none-some delay (sym (ap (λ (b : Bool). if b then Some (written_delay words) else None) not_so) ∙ e))
 ]
 
 module _ (g : Graph) (so_far : Given) (words : List (List ℕ)) where
   pub unknown : has_delay words ≡ true → length g.arcs ≤ arc_named g words
-      → after_line g so_far words ≡ Err (UnknownOrder (word_on words 0) (word_on words 1))
+      → after_line g so_far words ≡ Err (UnknownOrder (word_at words 0) (word_at words 1))
   unknown has past = let none : nat_lt (arc_named g words) (length g.arcs) ≡ false = le-ltb (arc_named g words) (length g.arcs) past in rw (has, none) refl
 
   pub repeated : has_delay words ≡ true → arc_named g words < length g.arcs → is_given so_far (arc_named g words) ≡ true
-      → after_line g so_far words ≡ Err (RepeatedOrder (word_on words 0) (word_on words 1))
+      → after_line g so_far words ≡ Err (RepeatedOrder (word_at words 0) (word_at words 1))
   repeated has inside again = let some : nat_lt (arc_named g words) (length g.arcs) ≡ true = lt-ltb (arc_named g words) (length g.arcs) inside in rw (has, some, again) refl
 
   pub taken : has_delay words ≡ true → arc_named g words < length g.arcs → is_given so_far (arc_named g words) ≡ false
@@ -49,12 +40,12 @@ module _ (g : Graph) (so_far : Given) (words : List (List ℕ)) where
   taken has inside fresh = let some : nat_lt (arc_named g words) (length g.arcs) ≡ true = lt-ltb (arc_named g words) (length g.arcs) inside in rw (has, some, fresh) refl
 
 -- the arc by the words of a line
-found_is : (g : Graph) (words : List (List ℕ)) (a b : List ℕ) → a ≡ word_on words 0 → b ≡ word_on words 1
+found_is : (g : Graph) (words : List (List ℕ)) (a b : List ℕ) → a ≡ word_at words 0 → b ≡ word_at words 1
     → arc_by_texts g a b ≡ arc_named g words
 found_is g words a b source target = ap₂ (λ (s t : List ℕ). arc_by_texts g s t) source target
 
 pub unknown_at : (g : Graph) (so_far : Given) (words : List (List ℕ)) (delay : ℕ) (a b s t : List ℕ) → delay_on words ≡ Some delay
-    → a ≡ word_on words 0 → b ≡ word_on words 1 → s ≡ word_on words 0 → t ≡ word_on words 1
+    → a ≡ word_at words 0 → b ≡ word_at words 1 → s ≡ word_at words 0 → t ≡ word_at words 1
     → length g.arcs ≤ arc_by_texts g a b → after_line g so_far words ≡ Err (UnknownOrder s t)
 unknown_at g so_far words delay a b s t has source target first second past =
     let same : arc_by_texts g a b ≡ arc_named g words = found_is g words a b source target in
@@ -62,7 +53,7 @@ unknown_at g so_far words delay a b s t has source target first second past =
     ∙ ap₂ (λ (x y : List ℕ). Err (UnknownOrder x y)) (sym first) (sym second)
 
 pub repeated_at : (g : Graph) (so_far : Given) (words : List (List ℕ)) (delay arc : ℕ) (a b s t : List ℕ) → delay_on words ≡ Some delay
-    → a ≡ word_on words 0 → b ≡ word_on words 1 → s ≡ word_on words 0 → t ≡ word_on words 1
+    → a ≡ word_at words 0 → b ≡ word_at words 1 → s ≡ word_at words 0 → t ≡ word_at words 1
     → arc ≡ arc_by_texts g a b → arc < length g.arcs → false ≡ not (is_given so_far arc)
     → after_line g so_far words ≡ Err (RepeatedOrder s t)
 repeated_at g so_far words delay arc a b s t has source target first second at inside fresh =
@@ -76,7 +67,7 @@ repeated_at g so_far words delay arc a b s t has source target first second at i
     not_false false e = absurd (false≢true e)
 
 pub taken_at : (g : Graph) (so_far new : Given) (words : List (List ℕ)) (delay arc : ℕ) (a b : List ℕ) → delay_on words ≡ Some delay
-    → a ≡ word_on words 0 → b ≡ word_on words 1
+    → a ≡ word_at words 0 → b ≡ word_at words 1
     → arc ≡ arc_by_texts g a b → arc < length g.arcs → true ≡ not (is_given so_far arc) → new ≡ with_delay so_far arc delay
     → after_line g so_far words ≡ Ok new
 taken_at g so_far new words delay arc a b has source target at inside fresh is =
@@ -116,7 +107,7 @@ choose false false false one two three given new e = cc
 pub one_each : (g : Graph) (old new : Given) (words : List (List ℕ)) → HasOneEach g old → after_line g old words ≡ Ok new → HasOneEach g new
 one_each g old new words sizes e =
     let same : with_delay old (arc_named g words) (written_delay words) ≡ new = choose (not (has_delay words)) (not (nat_lt (arc_named g words) (length g.arcs))) (is_given old (arc_named g words))
-    BadWord (UnknownOrder (word_on words 0) (word_on words 1)) (RepeatedOrder (word_on words 0) (word_on words 1)) (with_delay old (arc_named g words) (written_delay words)) new e in
+    BadWord (UnknownOrder (word_at words 0) (word_at words 1)) (RepeatedOrder (word_at words 0) (word_at words 1)) (with_delay old (arc_named g words) (written_delay words)) new e in
     subst (λ (r : Given). HasOneEach g r) same (
       length-set old.delays (arc_named g words) (written_delay words) ∙ sizes.0,
       length-set old.given (arc_named g words) true ∙ sizes.1,

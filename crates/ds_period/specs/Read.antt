@@ -7,7 +7,8 @@ use Rattle.ds_lines.specs.Line.{Line}
 use Rattle.ds_marked.specs.Graph.{Graph}
 use Rattle.ds_marked.specs.declared.marked.Arc.{Arc}
 use Rattle.ds_events.specs.Texts.{event_by_text}
-use Rattle.ds_period.specs.Word.{has_delay, written_delay, word_on}
+use Rattle.ds_lines.specs.Words.{word_at}
+use Rattle.ds_period.specs.Word.{has_delay, written_delay}
 use Rattle.ds_period.specs.declared.fault.DelayFault.{DelayFault}
 use Rattle.ds_period.specs.declared.fault.DelayKind.{DelayKind}
 use Rattle.ds_period.specs.declared.fault.DelayKind.TheVariants.{BadWord, UnknownOrder}
@@ -29,7 +30,7 @@ arc_by_texts g source target = arc_between g (event_by_text g source) (event_by_
 
 -- the arc that a line's first two words name
 abbrev pub arc_named : Graph → List (List ℕ) → ℕ
-arc_named g words = arc_by_texts g (word_on words 0) (word_on words 1)
+arc_named g words = arc_by_texts g (word_at words 0) (word_at words 1)
 
 -- the delays of the arcs so far, 0 where none is given, and to which arcs one is given
 pub record Given : Type 0 where
@@ -61,11 +62,11 @@ with_delay so_far arc delay = record {
 
 -- no arc has the ends that a line names
 abbrev pub unknown_order : List (List ℕ) → DelayKind
-unknown_order words = UnknownOrder (word_on words 0) (word_on words 1)
+unknown_order words = UnknownOrder (word_at words 0) (word_at words 1)
 
 -- an earlier line has the arc
 abbrev pub repeated_order : List (List ℕ) → DelayKind
-repeated_order words = RepeatedOrder (word_on words 0) (word_on words 1)
+repeated_order words = RepeatedOrder (word_at words 0) (word_at words 1)
 
 -- what a line gives, or what is wrong with it: the first of the kinds that hold
 abbrev pub after_line : Graph → Given → List (List ℕ) → Result Given DelayKind

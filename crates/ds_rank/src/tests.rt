@@ -24,19 +24,12 @@ fn event(alloc: Global, kind: Kind) -> Event
     Event { signal, kind }
 }
 
-fn arc(source: u32, target: u32, tokens: u8) -> Arc
-    ensures { result ≡ record { source = source; target = target; tokens = tokens } }
-{
-    Arc {
-        source: EventId::new(source),
-        target: EventId::new(target),
-        tokens,
-    }
-}
-
 #[test]
 fn ranks_rise_along_arcs_without_tokens(rt: HostRuntime) {
-    let Ok(graph) = graph(rt.alloc(), [arc(2, 1, 0), arc(0, 2, 0), arc(1, 0, 1)]) else {
+    let Ok(graph) = graph(
+        rt.alloc(),
+        [Arc::of(2, 1, 0), Arc::of(0, 2, 0), Arc::of(1, 0, 1)],
+    ) else {
         panic!(rt; "memory");
     };
     let Ok(ranks) = rank(rt.alloc(), &graph) else {
@@ -51,7 +44,10 @@ fn ranks_rise_along_arcs_without_tokens(rt: HostRuntime) {
 // The events 1 and 2 wait for each other.
 #[test]
 fn a_cycle_begins_at_its_least_event(rt: HostRuntime) {
-    let Ok(graph) = graph(rt.alloc(), [arc(2, 1, 0), arc(0, 1, 0), arc(1, 2, 0)]) else {
+    let Ok(graph) = graph(
+        rt.alloc(),
+        [Arc::of(2, 1, 0), Arc::of(0, 1, 0), Arc::of(1, 2, 0)],
+    ) else {
         panic!(rt; "memory");
     };
     let Err(RankFault::Cycle(events)) = rank(rt.alloc(), &graph) else {

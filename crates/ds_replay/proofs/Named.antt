@@ -10,7 +10,9 @@ use Rattle.ds_marked.specs.Graph.{Graph, IsKept}
 use Rattle.ds_marked.specs.declared.marked.Event.{Event}
 use Rattle.ds_marked.specs.declared.marked.Kind.TheVariants.{Rise, Fall, Dummy}
 use Rattle.ds_marked.specs.Log.{event_text}
-use Rattle.ds_latch.specs.Node.{Node, In, Out, Master, Slave, Split}
+use Rattle.ds_latch.specs.Node.{Split}
+use Rattle.ds_latch.specs.declared.node.Node.{Node}
+use Rattle.ds_latch.specs.declared.node.Node.TheVariants.{In, Out, Master, Slave}
 use Rattle.ds_latch.specs.Plan.{node_events, node_name, split_events}
 use Rattle.ds_lines.specs.Print.{IsWord}
 use Rattle.ds_replay.specs.Legal.{EndsInSign}

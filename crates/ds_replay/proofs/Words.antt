@@ -1,23 +1,13 @@
 -- The words of a line.
 use Rattle.std.proofs.Common.{◌≡◌, ◌∙◌, ℕ, Bool, true, List, Option, None, Some, inl, inr, ap, sym, if◌then◌else◌}
 use Rattle.std.specs.Str.Parse.{digits_value}
+use Rattle.std.proofs.lemmas.Option.{none-some, same_Some}
 use Rattle.std.proofs.lemmas.Bool.{cases_Bool}
 use Rattle.ds_replay.specs.Word.{is_firing, second_word, turn_of}
-
-or_zero : Option ℕ → ℕ
-or_zero None = 0
-or_zero (Some n) = n
-
-some_same : (a b : ℕ) → (let o : Option ℕ = Some a in o ≡ Some b) → a ≡ b
-unfolding or_zero
-some_same a b e = ap or_zero e
-
-none_some : (a : ℕ) → (let o : Option ℕ = None in ¬ (o ≡ Some a))
-none_some a e = cc
 
 -- what is known where a line has a number
 pub number_is : (words : List (List ℕ)) (turn : ℕ) → turn_of words ≡ Some turn → (is_firing words ≡ true) × (digits_value 10 (second_word words) ≡ turn)
 number_is words turn e = elim (cases_Bool (is_firing words)) [
-  | inl firing ↦ (firing, some_same _ _ (sym (ap (λ (b : Bool). if b then Some (digits_value 10 (second_word words)) else None) firing) ∙ e))
-  | inr not_so ↦ absurd (none_some turn (sym (ap (λ (b : Bool). if b then Some (digits_value 10 (second_word words)) else None) not_so) ∙ e))
+  | inl firing ↦ (firing, same_Some _ _ (sym (ap (λ (b : Bool). if b then Some (digits_value 10 (second_word words)) else None) firing) ∙ e))
+  | inr not_so ↦ absurd (none-some turn (sym (ap (λ (b : Bool). if b then Some (digits_value 10 (second_word words)) else None) not_so) ∙ e))
 ]

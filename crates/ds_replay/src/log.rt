@@ -36,6 +36,7 @@ pub fn replay<'a>(
             Err(why) => return Err(refusal(lines.number(i), why)),
         }
     }
+    // Called for the fact that some legal list leads here.
     state.reached();
     Ok(state)
 }

@@ -8,10 +8,10 @@ ghost use Rattle.ds_replay.specs.declared.fault.ReplayKind.TheVariants.{UnknownE
 use crate::ReplayKind;
 use crate::fault::Refusal;
 use crate::fire::fire;
-use crate::word::{first_of, turn_of};
-use ds_base::Seq;
+use crate::word::turn_of;
 use ds_events::Lookup;
 use ds_fire::State;
+use ds_lines::{name, word};
 use std::alloc::{AllocError, Global};
 
 /// Fires the event of a line.
@@ -27,9 +27,9 @@ pub fn step(
     let Some(turn) = turn_of(words) else {
         return Err(Refusal::Because(ReplayKind::BadWord));
     };
-    let name = first_of(words);
-    let Some(event) = events.find(name) else {
-        return Err(Refusal::Because(unknown(alloc, name)?));
+    let named = word(words, 0);
+    let Some(event) = events.find(named) else {
+        return Err(Refusal::Because(unknown(alloc, named)?));
     };
     match fire(turn, event, state) {
         Ok(()) => Ok(()),
@@ -41,6 +41,5 @@ pub fn step(
 fn unknown(alloc: Global, word: &[u8]) -> Result<ReplayKind, AllocError>
     ensures { IfOk result (λ kind. kind ≡ UnknownEvent word.now) }
 {
-    let name = Vec::from_slice(alloc, word)?;
-    Ok(ReplayKind::UnknownEvent(Seq::of(name)))
+    Ok(ReplayKind::UnknownEvent(name(alloc, word)?))
 }

@@ -1,6 +1,5 @@
-//! The words of a line.
-ghost use Rattle.std.specs.Prelude.{◌≡◌, ◌<◌, map, length};
-ghost use Rattle.ds_lines.specs.Words.{first_word};
+//! The number on a line.
+ghost use Rattle.std.specs.Prelude.{◌≡◌, map};
 ghost use Rattle.ds_replay.specs.Word.{turn_of as turn_of_words};
 
 use ds_events::{is_short, short_value};
@@ -13,12 +12,4 @@ pub fn turn_of(words: &[&[u8]]) -> Option<u64>
         return None;
     }
     Some(short_value(words[1]))
-}
-
-/// The first word.
-pub fn first_of<'a>(words: &[&'a [u8]]) -> &'a [u8]
-    requires { 0 < length words.now }
-    ensures { result.now ≡ first_word (map (λ w. w.now) words.now) }
-{
-    words[0]
 }

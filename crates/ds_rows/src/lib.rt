@@ -12,7 +12,6 @@
 
 mod fault;
 mod laws;
-mod piece;
 mod reader;
 mod register_name;
 #[cfg(test)]
@@ -22,7 +21,6 @@ mod vector;
 
 pub use fault::{VectorFault, VectorKind, VectorRefusal};
 pub use laws::{printed_is_read, worked_vectors};
-pub use piece::put;
 pub use reader::read_vectors;
 pub use register_name::put_register_name;
 pub use trace::{character, end_line, put_values, trace_line};

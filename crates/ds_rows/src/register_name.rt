@@ -3,9 +3,8 @@ ghost use Rattle.std.specs.Prelude.{◌<◌, ◌++◌, codes, decimal, length};
 ghost use Rattle.ds_outside.specs.Writes.{GoesOn};
 ghost use Rattle.ds_rows.specs.Nets.{net_text, register_of};
 
-use crate::piece::put;
 use ds_design::{Design, Net};
-use ds_outside::{Sink, WriteFault};
+use ds_outside::{Sink, WriteFault, put};
 use itoa::Buffer;
 
 /// Writes the name of a register, by its number, unless a write has failed: that of the net that it

@@ -5,7 +5,7 @@ use Rattle.std.specs.Prelude.{true, false, zero, suc}
 use mathlib.Core.Option.{some}
 use lib.ListN.{get_elem?}
 use Rattle.atomic_table.specs.Table.{Me, Step}
-use Rattle.ds_rule.specs.Run.{events, node_of, turns, opened}
+use Rattle.ds_rule.specs.Run.{no_run, events, node_of, turns, opened}
 use Rattle.ds_rule.specs.Words.{width, place, value}
 use Rattle.ds_rule.specs.Rule.{holds, tickets, seen, event}
 use Rattle.ds_rule.specs.declared.layout.DataEdge.{DataEdge}
@@ -130,16 +130,7 @@ taken_in v w = record v {
 abbrev pub spent : View
 spent = record {
   live = false;
-  run = record {
-    nodes = 0;
-    latches = 0;
-    arcs = [];
-    limit = 0;
-    edges = [];
-    lengths = [];
-    slack = 0;
-    rows = [];
-  };
+  run = no_run;
   holds = [];
   tickets = [];
   seen = [];

@@ -1,6 +1,6 @@
 -- What a run is of: nodes, their events, and the orders between events.
 -- The steps of the rule use these definitions by their laws alone (proofs/EventLaws).
-use Rattle.std.specs.Prelude.{◌≡◌, ℕ, ◌+◌, ◌-◌, ◌*◌, ◌/◌, ◌%◌, ◌<◌, ◌≤◌, Bool, List, cond, ◌==◌}
+use Rattle.std.specs.Prelude.{◌≡◌, ℕ, ◌+◌, ◌-◌, ◌*◌, ◌/◌, ◌%◌, ◌<◌, ◌≤◌, Bool, List, [], cond, ◌==◌}
 use Rattle.std.specs.Prelude.{◌&&◌, nat_lt}
 use mathlib.Core.Option.{some}
 use lib.ListN.{get_elem?}
@@ -26,6 +26,19 @@ pub record Run : Type 0 where
   pub slack : ℕ
   -- the values of all nodes, by turn
   pub rows : List Row
+
+-- the run of no pass
+abbrev pub no_run : Run
+no_run = record {
+  nodes = 0;
+  latches = 0;
+  arcs = [];
+  limit = 0;
+  edges = [];
+  lengths = [];
+  slack = 0;
+  rows = [];
+}
 
 -- how many events there are: two of each latch, then one of each other node
 unfoldable pub events : Run → ℕ

@@ -178,14 +178,19 @@ impl<J: Rows> Layout<J> {
         requires { self.now.latches < 4294967296 }
         ensures { result ≡ turns self.now event fired }
     {
-        if event < 2 * self.sizes.latches {
-            if event % 2 == 0 {
-                fired / 2 + fired % 2
-            } else {
-                fired / 2
-            }
-        } else {
-            fired
-        }
+        turns_of(self.sizes.latches, event, fired)
+    }
+}
+
+/// How often the event has fired, where its node has fired so often.
+pub fn turns_of(latches: usize, event: usize, fired: u64) -> u64
+    ensures { (run : Run) → latches ≡ run.latches → result ≡ turns run event fired }
+{
+    if event / 2 >= latches {
+        fired
+    } else if event % 2 == 0 {
+        fired / 2 + fired % 2
+    } else {
+        fired / 2
     }
 }

@@ -15,7 +15,7 @@ mod plays;
 mod sizes;
 mod view;
 
-pub use layout::{DataEdge, Layout, Rows};
+pub use layout::{DataEdge, Layout, Rows, turns_of};
 pub use plays::{Deal, Depart, Draw, Gather, Learn, Look, Order, Point, Publish, Read, Write};
 pub use sizes::Sizes;
 pub use view::View;

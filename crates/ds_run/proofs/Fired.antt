@@ -8,7 +8,9 @@ use Rattle.ds_marked.specs.Graph.{IsLegal, counts_after}
 use Rattle.ds_marked.proofs.Progress.{legal_is_consistent}
 use Rattle.ds_latch.specs.Firing.{State, FiresAll, first_row, first_state, held}
 use Rattle.ds_latch.specs.Flow.{IsInStep}
-use Rattle.ds_latch.specs.Node.{Node, In, Out, Master, Slave, Split, IsNode, closing, number_of, place_of}
+use Rattle.ds_latch.specs.Node.{Split, IsNode, closing, number_of, place_of}
+use Rattle.ds_latch.specs.declared.node.Node.{Node}
+use Rattle.ds_latch.specs.declared.node.Node.TheVariants.{In, Out, Master, Slave}
 use Rattle.ds_latch.specs.Numbered.{numbered}
 use Rattle.ds_latch.specs.Plan.{IsController, Planned}
 use Rattle.ds_latch.proofs.Counts.{accepted_controls}

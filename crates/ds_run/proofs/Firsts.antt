@@ -1,5 +1,5 @@
 -- The words of the values that the nodes have before they open.
-use Rattle.std.proofs.Common.{◌≡◌, ◌∙◌, ℕ, ◌+◌, ◌-◌, ◌*◌, ◌/◌, ◌%◌, ◌<◌, ◌≤◌, List, [], ◌∷◌, length, get_or, take, drop, replicate, refl, arith, ap, sym, subst, inl, inr}
+use Rattle.std.proofs.Common.{◌≡◌, ◌∙◌, ℕ, ◌-◌, ◌*◌, ◌<◌, List, [], ◌∷◌, length, get_or, take, drop, replicate, refl, arith, ap, sym, subst, inl, inr}
 use Rattle.std.specs.Prelude.{All}
 use Rattle.std.proofs.lemmas.Bool.{cases_lt}
 use Rattle.std.proofs.lemmas.List.{get_or-map, length-map}
@@ -9,8 +9,12 @@ use Rattle.ds_base.specs.Word.{code_of, number_of_values, word_of, count_of_word
 use Rattle.ds_base.specs.declared.value.Value.TheVariants.{Zero}
 use Rattle.ds_cover.specs.Cover.{value_at, values_at}
 use Rattle.ds_design.specs.Circuit.{register_nets}
-use Rattle.ds_latch.specs.Node.{Node, In, Out, Master, Slave, Split, IsNode, number_of, nodes, members, nets_of}
+use Rattle.ds_latch.specs.Node.{Split, IsNode, number_of, nodes, members, nets_of}
+use Rattle.ds_latch.specs.declared.node.Node.{Node}
+use Rattle.ds_latch.specs.declared.node.Node.TheVariants.{In, Out, Master, Slave}
+use Rattle.ds_latch.specs.Order.{open_tokens}
 use Rattle.ds_latch.proofs.Events.{node_at}
+use Rattle.ds_latch.proofs.Numbers.{same_node}
 use Rattle.ds_design.specs.Rows.{Rows}
 use Rattle.ds_groups.specs.Groups.{Grouping}
 use Rattle.ds_rule.specs.Run.{Run}
@@ -42,13 +46,6 @@ value-word : (run : Run) (l k i : ℕ) (values : Row) → values_in run l k ≡ 
 unfolding value
 value-word run l k i values is = ap (λ (r : Row). word_of r i) is
 
--- the cluster of the slave with a number
-abbrev pub cluster_at : ℕ → ℕ
-cluster_at number = (number - 3) / 2
-
-abbrev pub IsSlaveNumber : ℕ → Type 0
-IsSlaveNumber number = (3 ≤ number) × (number % 2 ≡ 1)
-
 module _ {s : Split} {vectors : Rows} {run : Run} {groups : Grouping} {order : List ℕ}
     {starts : List Row} (w : AreOpenings s vectors run groups order starts) where
   -- a node that has words is one of the split design
@@ -69,64 +66,57 @@ module _ {s : Split} {vectors : Rows} {run : Run} {groups : Grouping} {order : L
       value-word run (number_of n) 0 i (value_of_node w.planned n 0)
       (w.planned.values_are.of_node n is_node 0 (omega arith))
 
-  none : (n : Node) → IsNode s n → ¬ IsSlaveNumber (number_of n) → (i : ℕ)
-      → value run (number_of n) 0 i ≡ 0
+  none : (n : Node) → IsNode s n → open_tokens n ≡ 0 → (i : ℕ) → value run (number_of n) 0 i ≡ 0
   none In is_node other i = first_word In is_node i ∙ word-zeros (length (nets_of s In)) i
   none Out is_node other i = first_word Out is_node i ∙ word-zeros (length (nets_of s Out)) i
   none (Master j) is_node other i =
       first_word (Master j) is_node i ∙ word-zeros (length (nets_of s (Master j))) i
-  none (Slave j) is_node other i =
-      let high : 3 ≤ 2 * j + 3 = omega arith in
-      let odd : (2 * j + 3) % 2 ≡ 1 = omega arith in
-      absurd (other (high, odd))
+  none (Slave j) is_node other i = absurd (omega (other, arith))
 
-  module _ {asked : Run} (asked_is : asked ≡ run) {l number i : ℕ} (number_is : number ≡ l)
-      (inside : i < width asked l) where
+  module _ {asked : Run} (asked_is : asked ≡ run) {l i : ℕ} (inside : i < width asked l) where
     near : l < nodes s
     near = low l i (subst (λ (r : Run). i < width r l) asked_is inside)
 
     -- the first word of a node that is no slave
-    pub first_zero : ¬ IsSlaveNumber number → 0 ≡ value asked l 0 i
-    first_zero other =
-        let (n, is_node, is) = node_at s l near in
+    pub first_zero : (n : Node) → number_of n ≡ l → open_tokens n ≡ 0 → 0 ≡ value asked l 0 i
+    first_zero n at other =
+        let (m, is_node, is) = node_at s l near in
+        let same : m ≡ n = same_node m n (is ∙ sym at) in
         let is_zero : value run (number_of n) 0 i ≡ 0
-        = none n is_node (subst (λ (m : ℕ). ¬ IsSlaveNumber m) (number_is ∙ sym is) other) i in
+        = none n (subst (IsNode s) same is_node) other i in
         sym (ap (λ (r : Run). value r l 0 i) asked_is
-        ∙ (ap (λ (m : ℕ). value run m 0 i) (sym is) ∙ is_zero))
+        ∙ (ap (λ (m : ℕ). value run m 0 i) (sym at) ∙ is_zero))
 
-    module _ (slave : IsSlaveNumber number) where
-      cluster_low : cluster_at number < length s.clusters
-      cluster_low = omega (near, number_is, slave.0, slave.1, arith)
+    module _ (j : ℕ) (slave_is : number_of (Slave j) ≡ l) where
+      cluster_low : j < length s.clusters
+      cluster_low = omega (near, slave_is, arith)
 
-      slave_is : number_of (Slave (cluster_at number)) ≡ number
-      slave_is = omega (number_is, slave.0, slave.1, arith)
-
-      pub start_inside : cluster_at number < length starts
+      pub start_inside : j < length starts
       start_inside =
           let size : length starts ≡ length s.clusters
           = ap (λ (rows : List Row). length rows) w.starts_are
           ∙ length-map s.clusters (values_at s.initial) in
           omega (cluster_low, size, arith)
 
-      module _ {start : Row} (start_is : start ≡ get_or starts (cluster_at number) start) where
+      module _ {start : Row} (start_is : start ≡ get_or starts j start) where
         abbrev registers : List ℕ
-        registers = members s (cluster_at number)
+        registers = members s j
 
         start-values : start ≡ values_at s.initial registers
         start-values =
             start_is
-            ∙ (ap (λ (rows : List Row). get_or rows (cluster_at number) start) w.starts_are
-            ∙ get_or-map (values_at s.initial) s.clusters (cluster_at number) [] start cluster_low)
+            ∙ (ap (λ (rows : List Row). get_or rows j start) w.starts_are
+            ∙ get_or-map (values_at s.initial) s.clusters j [] start cluster_low)
 
         pub start_wide : 32 * i < length start
         start_wide =
             let size : length start ≡ length registers
             = ap (λ (r : Row). length r) start-values
             ∙ length-map registers (value_at s.initial) in
-            let nets : length (nets_of s (Slave (cluster_at number))) ≡ length registers
+            let nets : length (nets_of s (Slave j)) ≡ length registers
             = length-map registers (λ r. get_or (register_nets s.circuit) r 0) in
-            let wide : width asked l ≡ count_of_words (length (nets_of s (Slave (cluster_at number))))
-            = room_at w asked_is number_is (Slave (cluster_at number)) cluster_low slave_is in
+            let wide : width asked l ≡ count_of_words (length (nets_of s (Slave j)))
+            = (let here : l ≡ l = refl in room_at w asked_is here (Slave j) cluster_low slave_is) in
             omega (size, nets, wide, inside, arith)
 
         -- the first word of a slave
@@ -136,6 +126,6 @@ module _ {s : Split} {vectors : Rows} {run : Run} {groups : Grouping} {order : L
             = sym w.planned.values_are.clocked.starts in
             ap (λ (r : Row). word_of r i) start-values
             ∙ (ap (λ (r : Row). word_of (values_at r registers) i) begun
-            ∙ (sym (first_word (Slave (cluster_at number)) cluster_low i)
-            ∙ (ap (λ (m : ℕ). value run m 0 i) (slave_is ∙ number_is)
+            ∙ (sym (first_word (Slave j) cluster_low i)
+            ∙ (ap (λ (m : ℕ). value run m 0 i) slave_is
             ∙ ap (λ (r : Run). value r l 0 i) (sym asked_is))))

@@ -8,7 +8,9 @@ use Rattle.std.proofs.lemmas.Map.Keys.{IsDistinct-IsPermutation}
 use Rattle.std.proofs.lemmas.List.{get_or-map, length-map}
 use Rattle.std.proofs.lemmas.List.Sorted.{Contains-permutation, IsPermutation-map, IsPermutation-sym}
 use Rattle.ds_base.proofs.Lists.{get_or-self}
-use Rattle.ds_latch.specs.Node.{Node, In, Out, Master, Slave, Split, number_of}
+use Rattle.ds_latch.specs.Node.{Split, number_of}
+use Rattle.ds_latch.specs.declared.node.Node.{Node}
+use Rattle.ds_latch.specs.declared.node.Node.TheVariants.{In, Out, Master, Slave}
 use Rattle.ds_latch.specs.Order.{IsDataEdge, open_tokens}
 use Rattle.ds_latch.specs.Latches.{HasEdges}
 use Rattle.ds_latch.specs.declared.latches.Edge.{Edge}

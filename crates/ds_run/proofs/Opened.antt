@@ -2,7 +2,8 @@
 use Rattle.std.proofs.Common.{◌≡◌, ◌∙◌, ℕ, suc, ◌-◌, ◌<◌, ◌≤◌, List, length, Bool, refl, arith, ap, sym, subst}
 use Rattle.ds_base.specs.Word.{count_of_words}
 use Rattle.ds_base.specs.Values.{Row}
-use Rattle.ds_latch.specs.Node.{Node, Split, IsNode, number_of, nodes, nets_of}
+use Rattle.ds_latch.specs.Node.{Split, IsNode, number_of, nodes, nets_of}
+use Rattle.ds_latch.specs.declared.node.Node.{Node}
 use Rattle.ds_latch.specs.Order.{IsDataEdge, open_tokens}
 use Rattle.ds_latch.proofs.Events.{node_at}
 use Rattle.ds_design.specs.Rows.{Rows}

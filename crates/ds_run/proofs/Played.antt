@@ -5,7 +5,9 @@ use Rattle.std.specs.Prelude.{slice_index, slice_index_or}
 use Rattle.ds_base.specs.Values.{Row}
 use Rattle.ds_cover.specs.Cover.{value_at, values_at}
 use Rattle.ds_design.specs.Circuit.{data_nets, register_nets}
-use Rattle.ds_latch.specs.Node.{Node, Out, Slave, IsNode, number_of, members}
+use Rattle.ds_latch.specs.Node.{IsNode, number_of, members}
+use Rattle.ds_latch.specs.declared.node.Node.{Node}
+use Rattle.ds_latch.specs.declared.node.Node.TheVariants.{Out, Slave}
 use Rattle.ds_latch.specs.Firing.{AreRegisters}
 use Rattle.ds_latch.specs.Numbered.{numbered}
 use Rattle.ds_latch.specs.Plan.{Planned}

@@ -4,7 +4,8 @@ use Rattle.std.proofs.lemmas.Bool.{cases_lt}
 use mathlib.Core.Option.{some}
 use lib.ListN.{get_elem?}
 use Rattle.ds_base.specs.Values.{Row}
-use Rattle.ds_latch.specs.Node.{Node, IsNode, number_of, nodes}
+use Rattle.ds_latch.specs.Node.{IsNode, number_of, nodes}
+use Rattle.ds_latch.specs.declared.node.Node.{Node}
 use Rattle.ds_latch.specs.Plan.{Planned, split_events}
 use Rattle.ds_latch.proofs.Counts.{number_below}
 use Rattle.ds_latch.proofs.Rising.{events_long}

@@ -4,7 +4,8 @@ use Rattle.std.specs.List.{range_with_len}
 use Rattle.std.proofs.lemmas.List.FromFn.{map-range_with_len_more}
 use Rattle.ds_base.specs.Values.{Row}
 use Rattle.ds_base.specs.Word.{word_of, count_of_words}
-use Rattle.ds_latch.specs.Node.{Node, IsNode, number_of, nodes}
+use Rattle.ds_latch.specs.Node.{IsNode, number_of, nodes}
+use Rattle.ds_latch.specs.declared.node.Node.{Node}
 use Rattle.ds_latch.specs.Numbered.{numbered}
 use Rattle.ds_latch.specs.Plan.{Planned}
 use Rattle.ds_latch.proofs.Counts.{number_below}

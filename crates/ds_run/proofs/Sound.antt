@@ -12,7 +12,9 @@ use Rattle.ds_marked.specs.declared.marked.Arc.{Arc}
 use Rattle.ds_marked.specs.declared.marked.Event.{Event}
 use Rattle.ds_cover.specs.Cover.{value_at}
 use Rattle.ds_design.specs.Circuit.{columns, data_nets, register_nets}
-use Rattle.ds_latch.specs.Node.{Node, In, Out, Master, Slave, Split, number_of, nodes, members, nets_of, opening as node_opening, closing as node_closing}
+use Rattle.ds_latch.specs.Node.{Split, number_of, nodes, members, nets_of, opening as node_opening, closing as node_closing}
+use Rattle.ds_latch.specs.declared.node.Node.{Node}
+use Rattle.ds_latch.specs.declared.node.Node.TheVariants.{In, Out, Master, Slave}
 use Rattle.ds_latch.specs.Order.{IsDataEdge, IsRequired, opens_first, after_producer, before_reuse, open_tokens, close_tokens}
 use Rattle.ds_latch.specs.Plan.{IsController, IsPlan, Planned, split_events}
 use Rattle.ds_latch.specs.Numbered.{numbered}

@@ -4,7 +4,8 @@ use Rattle.ds_base.specs.Values.{Row}
 use Rattle.ds_design.specs.Circuit.{columns}
 use Rattle.ds_design.specs.InRange.{IsInRange}
 use Rattle.ds_design.specs.Levels.{IsTableOrder}
-use Rattle.ds_latch.specs.Node.{Node, Split, number_of, nodes}
+use Rattle.ds_latch.specs.Node.{Split, number_of, nodes}
+use Rattle.ds_latch.specs.declared.node.Node.{Node}
 use Rattle.ds_latch.specs.Plan.{IsSplit}
 use Rattle.ds_latch.proofs.Counts.{number_below}
 use Rattle.ds_rule.specs.Run.{Run}

@@ -1,7 +1,8 @@
 -- The record of a plan's run on vectors.
 use Rattle.std.specs.Prelude.{◌≡◌, ℕ, ◌+◌, ◌<◌, List, length, slice_index}
 use Rattle.ds_base.specs.Values.{Row}
-use Rattle.ds_latch.specs.Node.{Slave, Split, members, number_of}
+use Rattle.ds_latch.specs.Node.{Split, members, number_of}
+use Rattle.ds_latch.specs.declared.node.Node.TheVariants.{Slave}
 use Rattle.ds_latch.specs.Plan.{Planned, IsPlan}
 use Rattle.ds_rule.specs.Run.{closing}
 use Rattle.ds_rule.specs.Log.{Recorded}

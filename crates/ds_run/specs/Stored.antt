@@ -3,7 +3,8 @@ use Rattle.std.specs.Prelude.{◌≡◌, ℕ, List, [], length, map}
 use Rattle.std.specs.List.{range_with_len}
 use Rattle.ds_base.specs.Values.{Row}
 use Rattle.ds_latch.specs.Firing.{State, FiresAll, first_state, held}
-use Rattle.ds_latch.specs.Node.{Node, Split, IsNode, number_of}
+use Rattle.ds_latch.specs.Node.{Split, IsNode, number_of}
+use Rattle.ds_latch.specs.declared.node.Node.{Node}
 use Rattle.ds_latch.specs.Plan.{Planned}
 use Rattle.ds_rule.specs.Run.{Run, closing}
 use Rattle.ds_rule.specs.Rule.{tickets}

@@ -6,7 +6,7 @@ ghost use Rattle.ds_run.specs.Layout.{AreDataEdges};
 ghost use Rattle.ds_run.specs.Tokened.{tokened, tokens_of};
 
 use ds_base::{LatchId, OutOfMemory};
-use ds_latch::{DataEdge as Edge, Latches};
+use ds_latch::{DataEdge as Edge, Latches, Node};
 use ds_rule::DataEdge;
 use std::alloc::{AllocError, Global};
 
@@ -39,8 +39,7 @@ fn with_tokens(alloc: Global, given: &[Edge]) -> Result<Vec<DataEdge>, AllocErro
 fn tokens(producer: LatchId) -> u8
     ensures { result ≡ tokens_of producer }
 {
-    let number = producer.number();
-    if number % 2 == 1 && number > 2 { 1 } else { 0 }
+    Node::of(producer).open_tokens()
 }
 
 // Sorts by consumer.

@@ -1,5 +1,5 @@
 //! What computes the rows of a run.
-ghost use Rattle.std.specs.Prelude.{◌≡◌, ◌≤◌, ◌%◌, ◌↔◌, length, IfOk, IsTrue};
+ghost use Rattle.std.specs.Prelude.{◌≡◌, length, IfOk};
 ghost use Rattle.ds_design.specs.Circuit.{columns};
 ghost use Rattle.ds_design.specs.InRange.{IsInRange};
 ghost use Rattle.ds_latch.specs.Plan.{IsSplit};
@@ -15,7 +15,7 @@ use ds_cones::cones_of;
 use ds_design::Vectors;
 use ds_fabric::Compute;
 use ds_groups::Groups;
-use ds_latch::{Latches, Plan};
+use ds_latch::{Latches, Node, Plan};
 use ds_opening::{Opening, groups_of, is_learnt, open};
 use ds_rule::Layout;
 use ds_scratch::Scratch;
@@ -114,20 +114,23 @@ impl<'a, 'n> Compute for Openings<'a, 'n> {
     }
 
     fn cost(&self, node: LatchId) -> u64 {
-        let number = node.index();
-        let settles = number == 1 || (number > 0 && number % 2 == 0);
-        if !settles || number / 2 >= self.sizes.len() {
+        let place = match Node::of(node) {
+            Node::In | Node::Slave(_) => return 0,
+            Node::Out => 0,
+            Node::Master(i) => i as usize + 1,
+        };
+        if place >= self.sizes.len() {
             return 0;
         }
-        self.sizes[number / 2]
+        self.sizes[place]
     }
 
     fn first(&self, node: LatchId, i: usize) -> u64 {
-        let number = node.index();
-        if is_slave(number) {
-            self.starts[(number - 3) / 2].word(i)
-        } else {
-            0
+        match Node::of(node) {
+            Node::In => 0,
+            Node::Out => 0,
+            Node::Master(_) => 0,
+            Node::Slave(cluster) => self.starts[cluster as usize].word(i),
         }
     }
 
@@ -175,11 +178,4 @@ fn sizes_of(alloc: Global, cones: &[Cone]) -> Result<Vec<u64>, AllocError> {
 // The same of one cone.
 fn size_of_cone(cone: &Cone) -> u64 {
     (cone.tables().len() as u64).saturating_add(cone.sources().len() as u64)
-}
-
-// Whether the node with this number is a slave.
-fn is_slave(number: usize) -> bool
-    ensures { IsTrue result ↔ ((3 ≤ number) × (number % 2 ≡ 1)) }
-{
-    number >= 3 && number % 2 == 1
 }

@@ -15,7 +15,7 @@ use Rattle.ds_design.specs.declared.design.Gate.{Gate}
 use Rattle.ds_settle.specs.Cone.{IsCone, Parts, ReachesSome, net_of}
 use Rattle.ds_settle.specs.Walk.{AreFollowed, AreMet, AreReached, Grows, IsFound, IsMarked}
 use Rattle.ds_settle.proofs.Agree.{reaches_some_before}
-use Rattle.ds_settle.proofs.ByLevel.{order_by_level}
+use Rattle.ds_settle.proofs.InOrder.{order_by_level}
 use Rattle.ds_settle.proofs.Tables.{net_driven, net_is, same_table}
 
 none_marked : (n net : ℕ) → ¬ IsMarked (replicate n false) net

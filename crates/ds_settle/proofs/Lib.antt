@@ -1,7 +1,7 @@
 pub mod Agree
 pub mod Banked
 pub mod ByIndex
-pub mod ByLevel
+pub mod InOrder
 pub mod Driven
 pub mod Ended
 pub mod Meeting

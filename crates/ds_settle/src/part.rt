@@ -13,6 +13,7 @@ pub fn settle_part(netlist: &Netlist, cone: &Cone, nets: &mut Row3)
     requires nets { length nets.old ≡ length netlist.now.nets }
     ensures { IsPartSettled netlist.now cone.now nets.old nets.new }
 {
+    // Read for the facts that it is accepted, and that its numbers name what is there.
     let _design = netlist.design();
     netlist.bank().set_all(cone.tables(), nets);
 }

@@ -22,6 +22,7 @@ pub fn settle(netlist: &Netlist, state: &Row3, vector: &Row3, nets: &mut Row3)
 {
     set_sources(netlist, state, vector, nets);
     let series = netlist.series();
+    // Read for the facts that it is accepted, and that its numbers name what is there.
     let _design = netlist.design();
     if are_known(state, vector) {
         series.set_all_known(nets);

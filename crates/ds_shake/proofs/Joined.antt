@@ -1,7 +1,8 @@
 -- The nodes of a handshake, and its numbers.
 use Rattle.std.proofs.Common.{◌≡◌, ℕ, ◌+◌, ◌*◌, ◌<◌, ◌≤◌, List, length, get_or, sym, ◌∙◌, ap, subst, arith, All, Contains}
 use Rattle.ds_base.proofs.Lists.{get_or-self}
-use Rattle.ds_latch.specs.Node.{Node, Split, IsNode, number_of, nodes, opening, closing}
+use Rattle.ds_latch.specs.Node.{Split, IsNode, number_of, nodes, opening, closing}
+use Rattle.ds_latch.specs.declared.node.Node.{Node}
 use Rattle.ds_latch.specs.Order.{IsDataEdge, IsRequired, after_producer, before_reuse, open_tokens, close_tokens}
 use Rattle.ds_latch.proofs.Counts.{edge_tokens, number_below}
 use Rattle.ds_latch.proofs.Rising.{edge_nodes}

@@ -4,7 +4,8 @@ use Rattle.std.specs.List.{flat_map}
 use Rattle.ds_marked.specs.Graph.{Graph, AreEnds}
 use Rattle.ds_marked.specs.declared.marked.Arc.{Arc}
 use Rattle.ds_marked.specs.declared.marked.Event.{Event}
-use Rattle.ds_latch.specs.Node.{In, Out, Split, nodes}
+use Rattle.ds_latch.specs.Node.{Split, nodes}
+use Rattle.ds_latch.specs.declared.node.Node.TheVariants.{In, Out}
 use Rattle.ds_latch.specs.Plan.{node_events}
 use Rattle.ds_control.specs.Orders.{cluster_events, node_arcs}
 use Rattle.ds_shake.specs.Expansion.{IsExpansion, expanded_arcs, expanded_events, handshake_arcs, handshake_events}
@@ -20,12 +21,12 @@ made_events s all own events clusters is same pushed =
     pushed ∙ ap (λ (es : List Event). es ++ flat_map handshake_events all)
     (is ∙ ap (λ (cs : List (List ℕ)). node_events In ++ node_events Out ++ cluster_events (length cs)) same)
 
-pub made_arcs : (s : Split) (all : List Handshake) (none own arcs : List Arc) (clusters : List (List ℕ)) (slack : ℕ)
-    → none ≡ [] → clusters ≡ s.clusters → slack ≡ s.slack → own ≡ none ++ node_arcs (2 * length clusters + 2)
-    → arcs ≡ own ++ flat_map (handshake_arcs (2 * length clusters + 2) slack) all → arcs ≡ expanded_arcs s all
-made_arcs s all none own arcs clusters slack empty same as_far first pushed =
-    pushed ∙ (ap (λ (xs : List Arc). xs ++ flat_map (handshake_arcs (2 * length clusters + 2) slack) all) (first ∙ ap (λ (xs : List Arc). xs ++ node_arcs (2 * length clusters + 2)) empty)
-    ∙ (ap (λ (cs : List (List ℕ)). node_arcs (2 * length cs + 2) ++ flat_map (handshake_arcs (2 * length cs + 2) slack) all) same
+pub made_arcs : (s : Split) (all : List Handshake) (none own arcs : List Arc) (count slack : ℕ)
+    → none ≡ [] → count ≡ nodes s → slack ≡ s.slack → own ≡ none ++ node_arcs count
+    → arcs ≡ own ++ flat_map (handshake_arcs count slack) all → arcs ≡ expanded_arcs s all
+made_arcs s all none own arcs count slack empty same as_far first pushed =
+    pushed ∙ (ap (λ (xs : List Arc). xs ++ flat_map (handshake_arcs count slack) all) (first ∙ ap (λ (xs : List Arc). xs ++ node_arcs count) empty)
+    ∙ (ap (λ (n : ℕ). node_arcs n ++ flat_map (handshake_arcs n slack) all) same
     ∙ ap (λ (n : ℕ). node_arcs (nodes s) ++ flat_map (handshake_arcs (nodes s) n) all) as_far))
 
 module _ (s : Split) (all : List Handshake) (are : AreHandshakes s all) where

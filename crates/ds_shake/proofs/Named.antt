@@ -8,7 +8,8 @@ use Rattle.std.proofs.lemmas.List.Elements.{All-append}
 use Rattle.ds_marked.specs.declared.marked.Event.{Event}
 use Rattle.ds_marked.specs.declared.marked.Kind.{Kind}
 use Rattle.ds_marked.specs.declared.marked.Kind.TheVariants.{Rise, Fall, Dummy}
-use Rattle.ds_latch.specs.Node.{In, Out, Master, Slave, Split, nodes}
+use Rattle.ds_latch.specs.Node.{Split, nodes}
+use Rattle.ds_latch.specs.declared.node.Node.TheVariants.{In, Out, Master, Slave}
 use Rattle.ds_latch.specs.Plan.{node_events, split_events}
 use Rattle.ds_control.proofs.Named.{events_once}
 use Rattle.ds_control.proofs.Two.{pairs_append}

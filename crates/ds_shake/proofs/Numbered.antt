@@ -7,7 +7,8 @@ use Rattle.std.proofs.lemmas.List.{get_or-map, length-map, length-take-le, map_m
 use Rattle.std.proofs.lemmas.List.Sorted.{Contains-permutation, IsPermutation-sym, length_permutation}
 use Rattle.ds_base.proofs.Lists.{get_or-self}
 use Rattle.ds_base.proofs.Pairs.{get_or-left, get_or-right}
-use Rattle.ds_latch.specs.Node.{Node, Split, number_of}
+use Rattle.ds_latch.specs.Node.{Split, number_of}
+use Rattle.ds_latch.specs.declared.node.Node.{Node}
 use Rattle.ds_latch.specs.Order.{IsDataEdge}
 use Rattle.ds_latch.specs.Latches.{HasEdges}
 use Rattle.ds_latch.specs.declared.latches.Edge.{Edge}

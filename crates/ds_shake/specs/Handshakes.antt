@@ -1,7 +1,8 @@
 -- The data edges of a split design, each with its number.
 use Rattle.std.specs.Prelude.{◌≡◌, ◌⊎◌, ◌↔◌, ℕ, ◌<◌, List, length, AllPairs, Any}
 use Rattle.std.specs.List.{HoldsAt}
-use Rattle.ds_latch.specs.Node.{Node, Split, number_of}
+use Rattle.ds_latch.specs.Node.{Split, number_of}
+use Rattle.ds_latch.specs.declared.node.Node.{Node}
 use Rattle.ds_latch.specs.Order.{IsDataEdge}
 use Rattle.ds_shake.specs.declared.handshake.Handshake.{Handshake}
 

@@ -32,7 +32,7 @@ pub(crate) fn arcs_of(
     ensures { IfOk result (λ arcs. arcs.items ≡ expanded_arcs latches.now all.now) }
 {
     let frame = Frame {
-        nodes: 2 * latches.clusters().len() as u32 + 2,
+        nodes: latches.nodes() as u32,
         slack: latches.slack(),
     };
     let mut arcs = Vec::new(alloc);

@@ -33,7 +33,7 @@ pub fn expand(alloc: Global, latches: &Latches<'_>) -> Result<Marked, ShakeFault
     ensures fault { IfErr result (IsShakeFault latches.now) }
 {
     let all = handshakes(alloc, latches)?;
-    let nodes = 2 * latches.clusters().len() as u32 + 2;
+    let nodes = latches.nodes() as u32;
     if are_too_many(nodes, all.as_slice()) {
         return Err(ShakeFault::TooMany(Limit::Signals));
     }

@@ -5,7 +5,9 @@ use Rattle.std.proofs.lemmas.Bool.{cases_lt}
 use Rattle.std.proofs.lemmas.List.{length-map, length-replicate, length-set}
 use Rattle.std.proofs.lemmas.List.Elements.{Contains-push_cases, Contains-push, Contains-append_left}
 use Rattle.ds_design.specs.Circuit.{Circuit, initial_value}
-use Rattle.ds_latch.specs.Node.{Node, In, Out, Master, Slave, Split, IsNode, number_of, nodes, nets_of}
+use Rattle.ds_latch.specs.Node.{Split, IsNode, number_of, nodes, nets_of}
+use Rattle.ds_latch.specs.declared.node.Node.{Node}
+use Rattle.ds_latch.specs.declared.node.Node.TheVariants.{In, Out, Master, Slave}
 use Rattle.ds_latch.specs.Order.{IsDataEdge, to_master, to_out, to_slave, IsSource, Supplies}
 use Rattle.ds_latch.specs.Latches.{AreParts}
 use Rattle.ds_design.specs.declared.design.Register.{Register}

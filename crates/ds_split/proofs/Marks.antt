@@ -5,7 +5,9 @@ use Rattle.std.proofs.lemmas.Bool.{cases_eq}
 use Rattle.std.proofs.lemmas.List.{get_or_default, length-set, length-replicate}
 use Rattle.ds_base.proofs.Lists.{cases_Contains}
 use Rattle.ds_design.specs.Accepted.{IsAccepted}
-use Rattle.ds_latch.specs.Node.{Node, In, Out, Master, Slave, Split, IsNode, number_of, nodes, nets_of}
+use Rattle.ds_latch.specs.Node.{Split, IsNode, number_of, nodes, nets_of}
+use Rattle.ds_latch.specs.declared.node.Node.{Node}
+use Rattle.ds_latch.specs.declared.node.Node.TheVariants.{In, Out, Master, Slave}
 use Rattle.ds_latch.specs.Order.{IsSource}
 use Rattle.ds_latch.proofs.Counts.{number_below}
 use Rattle.ds_split.specs.Cluster.{HasEachOnce}

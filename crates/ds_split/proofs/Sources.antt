@@ -11,7 +11,9 @@ use Rattle.ds_design.specs.Accepted.{IsAccepted}
 use Rattle.ds_design.specs.Circuit.{columns, control_nets, data_nets, register_nets}
 use Rattle.ds_design.specs.InRange.{IsInRange}
 use Rattle.ds_design.specs.Levels.{table_nets}
-use Rattle.ds_latch.specs.Node.{Node, In, Out, Master, Slave, Split, IsNode, number_of, nets_of, members}
+use Rattle.ds_latch.specs.Node.{Split, IsNode, number_of, nets_of, members}
+use Rattle.ds_latch.specs.declared.node.Node.{Node}
+use Rattle.ds_latch.specs.declared.node.Node.TheVariants.{In, Out, Master, Slave}
 use Rattle.ds_design.specs.declared.design.Register.{Register}
 use Rattle.ds_split.specs.Cluster.{HasEachOnce}
 use Rattle.ds_split.specs.Groups.{group}

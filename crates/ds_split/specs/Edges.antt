@@ -1,6 +1,7 @@
 -- The data edges, as far as they are found.
 use Rattle.std.specs.Prelude.{◌≡◌, ◌≢◌, ℕ, ◌+◌, ◌*◌, ◌<◌, ◌≤◌, List, length, AllPairs, Contains}
-use Rattle.ds_latch.specs.Node.{Node, Split, number_of, nodes}
+use Rattle.ds_latch.specs.Node.{Split, number_of, nodes}
+use Rattle.ds_latch.specs.declared.node.Node.{Node}
 use Rattle.ds_latch.specs.Order.{IsDataEdge}
 use Rattle.ds_latch.specs.Latches.{HasEdges}
 use Rattle.ds_latch.specs.declared.latches.Edge.{Edge}

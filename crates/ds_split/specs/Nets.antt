@@ -4,7 +4,8 @@ use Rattle.std.specs.Prelude.{slice_index_or}
 use Rattle.ds_design.specs.Accepted.{IsAccepted}
 use Rattle.ds_design.specs.Circuit.{Circuit}
 use Rattle.ds_design.specs.InRange.{IsInRange}
-use Rattle.ds_latch.specs.Node.{Node, Split, IsNode, number_of, nodes, nets_of}
+use Rattle.ds_latch.specs.Node.{Split, IsNode, number_of, nodes, nets_of}
+use Rattle.ds_latch.specs.declared.node.Node.{Node}
 use Rattle.ds_latch.specs.Order.{IsSource}
 use Rattle.ds_split.specs.Cluster.{HasEachOnce}
 use Rattle.ds_split.specs.Split.{split_into}

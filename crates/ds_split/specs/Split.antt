@@ -4,7 +4,8 @@ use Rattle.ds_base.specs.Limit.{most_of}
 use Rattle.ds_base.specs.declared.number.Limit.TheVariants.{Clusters, Arcs}
 use Rattle.ds_base.specs.declared.number.Mode.{Mode}
 use Rattle.ds_design.specs.Circuit.{Circuit, initial_row}
-use Rattle.ds_latch.specs.Node.{Node, Split, nodes, number_of}
+use Rattle.ds_latch.specs.Node.{Split, nodes, number_of}
+use Rattle.ds_latch.specs.declared.node.Node.{Node}
 use Rattle.ds_latch.specs.Order.{IsDataEdge}
 use Rattle.ds_latch.specs.declared.latches.Edge.{Edge}
 use Rattle.ds_split.specs.Cluster.{HasTooManyClusters}

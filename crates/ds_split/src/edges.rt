@@ -9,7 +9,7 @@ use crate::search::Search;
 use crate::{Clusters, SplitFault};
 use ds_base::{Limit, NetId, OutOfMemory, Seq};
 use ds_design::Netlist;
-use ds_latch::DataEdge;
+use ds_latch::{DataEdge, Node};
 use ds_settle::Finder;
 use std::alloc::Global;
 
@@ -77,8 +77,13 @@ fn add(
         (IsFoundBelow (split_into netlist.now clusters.now) (2 * i + 4) search.new) }
     ensures same { finder.new ≡ finder.old }
 {
-    let master = 2 * i + 2;
-    search.consume(alloc, finder, nets[master].as_slice(), master as u32)?;
-    search.push(master as u32, master as u32 + 1)?;
+    let master = Node::Master(i as u32).latch();
+    search.consume(
+        alloc,
+        finder,
+        nets[master.index()].as_slice(),
+        master.number(),
+    )?;
+    search.push(master.number(), Node::Slave(i as u32).latch().number())?;
     Ok(())
 }

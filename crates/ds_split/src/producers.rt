@@ -6,6 +6,7 @@ ghost use Rattle.ds_split.specs.Split.{split_into};
 use crate::Clusters;
 use ds_base::{NetId, OutOfMemory, Seq};
 use ds_design::Netlist;
+use ds_latch::Node;
 use std::alloc::Global;
 
 // The producer of each net, one more than its number; 0 where there is none. `nets` are those of
@@ -23,8 +24,12 @@ pub(crate) fn producers_of(
     let mut producers = zeros(alloc, netlist.design().nets().len())?;
     mark(&mut producers, nets[0].as_slice(), 1);
     for i in 0..clusters.members().len() {
-        let slave = 2 * i + 3;
-        mark(&mut producers, nets[slave].as_slice(), slave as u32 + 1);
+        let slave = Node::Slave(i as u32).latch();
+        mark(
+            &mut producers,
+            nets[slave.index()].as_slice(),
+            slave.number() + 1,
+        );
     }
     Ok(producers)
 }

@@ -26,8 +26,10 @@ pub fn own_graph(alloc: Global, latches: &Latches<'_>) -> Result<Marked, OutOfMe
     ensures ok { IfOk result (IsGraphOf latches.now) }
     ensures ok_period { IfOk result HasPeriod }
 {
+    // Called for the law that it states.
     controllers_have_periods();
     let graph = controller(alloc, latches)?;
+    // Read for the facts that are known of the arcs of a graph.
     let _arcs = graph.arcs();
     Ok(graph)
 }

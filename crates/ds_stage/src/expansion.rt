@@ -36,6 +36,7 @@ fn expanded(alloc: Global, file: &str, latches: &Latches<'_>) -> Result<Marked, 
 {
     match expand(alloc, latches) {
         Ok(graph) => {
+            // Read for the facts that are known of the arcs of a graph.
             let _arcs = graph.arcs();
             Ok(graph)
         }

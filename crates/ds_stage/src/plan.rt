@@ -76,6 +76,7 @@ pub fn own_plan<'a>(alloc: Global, latches: Latches<'a>) -> Result<Plan<'a>, Lat
 {
     match controller(alloc, &latches) {
         Ok(graph) => {
+            // Read for the facts that are known of the arcs of a graph.
             let _arcs = graph.arcs();
             Ok(Plan::of(latches, graph))
         }
@@ -157,6 +158,7 @@ fn accepted_plan<'a>(
 ) -> Result<Plan<'a>, Stop>
     ensures { Answers (acceptable_stage name.now latches.entry graph) Never result }
 {
+    // Read for the facts that are known of the arcs of a graph.
     let _arcs = graph.arcs();
     match accept(alloc, latches, graph) {
         Ok(plan) => Ok(plan),

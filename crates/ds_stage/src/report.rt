@@ -7,7 +7,7 @@ ghost use Rattle.ds_stage.specs.Stages.{report_stage};
 
 use crate::stop::Stop;
 use ds_design::Netlist;
-use ds_outside::{Sink, WriteFault, write_all};
+use ds_outside::{Sink, WriteFault, put};
 use itoa::Buffer;
 
 /// Writes the nets other than the clock, the tables, the registers and the levels of a netlist.
@@ -39,15 +39,4 @@ pub fn put_count<O: Sink>(
     let so_far = put(so_far, b" ", out);
     let so_far = put(so_far, buffer.format(count).as_bytes(), out);
     put(so_far, b"\n", out)
-}
-
-// A piece, unless a write has failed.
-fn put<O: Sink>(so_far: Result<(), WriteFault>, piece: &[u8], out: &mut O) -> Result<(), WriteFault>
-    ensures { GoesOn so_far result (O.written out.old) (O.written out.new)
-        (O.faults out.old) (O.faults out.new) piece.now }
-{
-    match so_far {
-        Ok(()) => write_all(out, piece),
-        Err(fault) => Err(fault),
-    }
 }

@@ -28,6 +28,7 @@ pub fn split_netlist<'a>(
     };
     match split(alloc, netlist, &clusters) {
         Ok(latches) => {
+            // Read for the facts that are known of the edges.
             let _edges = latches.edges();
             Ok(latches)
         }

@@ -4,7 +4,9 @@ use Rattle.std.proofs.lemmas.Bool.{cases_eq}
 use Rattle.std.proofs.lemmas.List.{append-nil, get_or_append_left, get_or_push}
 use Rattle.ds_base.specs.Values.{Row}
 use Rattle.ds_marked.specs.Graph.{IsLegal}
-use Rattle.ds_latch.specs.Node.{Node, In, Out, Master, Slave, Split, opening, closing}
+use Rattle.ds_latch.specs.Node.{Split, opening, closing}
+use Rattle.ds_latch.specs.declared.node.Node.{Node}
+use Rattle.ds_latch.specs.declared.node.Node.TheVariants.{In, Out, Master, Slave}
 use Rattle.ds_latch.specs.Plan.{Planned}
 use Rattle.ds_fire.specs.Snapshot.{Snapshot, count_of, graph_of, held_row, is_open, limit_of, split_of}
 use Rattle.ds_fire.specs.Fired.{IsAfter, IsReached, IsSnapshotSound}

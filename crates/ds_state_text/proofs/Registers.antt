@@ -9,7 +9,8 @@ use Rattle.ds_base.specs.declared.value.Value.{Value}
 use Rattle.ds_base.specs.declared.value.Value.TheVariants.{Zero}
 use Rattle.ds_design.specs.Circuit.{Circuit}
 use Rattle.ds_marked.specs.Graph.{IsLegal}
-use Rattle.ds_latch.specs.Node.{Slave, Split, members}
+use Rattle.ds_latch.specs.Node.{Split, members}
+use Rattle.ds_latch.specs.declared.node.Node.TheVariants.{Slave}
 use Rattle.ds_latch.specs.Headline.{values_stored}
 use Rattle.ds_fire.specs.Snapshot.{Snapshot, graph_of, limit_of, rows_joined, split_of, stored_values}
 use Rattle.ds_fire.specs.Fired.{IsAfter, IsSnapshotSound}

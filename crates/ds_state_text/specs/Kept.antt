@@ -3,7 +3,8 @@ use Rattle.std.specs.Prelude.{◌≡◌, ℕ, Bool, List, [], ◌++◌, length, 
 use Rattle.std.specs.Prelude.{if◌then◌else◌}
 use Rattle.std.specs.List.{flat_map, range_with_len}
 use Rattle.ds_base.specs.Values.{Row}
-use Rattle.ds_latch.specs.Node.{Slave, members}
+use Rattle.ds_latch.specs.Node.{members}
+use Rattle.ds_latch.specs.declared.node.Node.TheVariants.{Slave}
 use Rattle.ds_latch.specs.Plan.{Planned}
 use Rattle.ds_fire.specs.Snapshot.{Snapshot, split_of, stored_values, count_of, held_row}
 use Rattle.ds_log.specs.Homes.{no_home}

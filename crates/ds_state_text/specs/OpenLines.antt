@@ -3,7 +3,9 @@ use Rattle.std.specs.Prelude.{◌≡◌, ℕ, ◌+◌, ◌<◌, true, List, [], 
 use Rattle.std.specs.Prelude.{if◌then◌else◌, slice_index_or}
 use Rattle.std.specs.List.{flat_map, range_with_len}
 use Rattle.ds_base.specs.Values.{Row}
-use Rattle.ds_latch.specs.Node.{Node, In, Out, Master, Slave, IsNode, number_of, nodes}
+use Rattle.ds_latch.specs.Node.{IsNode, number_of, nodes}
+use Rattle.ds_latch.specs.declared.node.Node.{Node}
+use Rattle.ds_latch.specs.declared.node.Node.TheVariants.{In, Out, Master, Slave}
 use Rattle.ds_latch.specs.Node.{opening, closing}
 use Rattle.ds_log.specs.Log.{open_text}
 use Rattle.ds_fire.specs.Snapshot.{Snapshot, split_of, held_row, is_open}

@@ -2,7 +2,7 @@
 -- were; where it is wanted, what open latches show.
 use Rattle.std.specs.Prelude.{◌≡◌, ℕ, List, ◌++◌, length, Bool, true, false}
 use Rattle.ds_base.specs.Values.{Row}
-use Rattle.ds_latch.specs.Node.{Node}
+use Rattle.ds_latch.specs.declared.node.Node.{Node}
 use Rattle.ds_latch.specs.Plan.{Planned}
 use Rattle.ds_latch.specs.Transparent.{IsShowing}
 use Rattle.ds_log.specs.StateText.{IsStateText}

@@ -1,14 +1,15 @@
 //! The lines of what open latches show.
 ghost use Rattle.std.specs.Prelude.{◌≡◌, ◌<◌, length};
 ghost use Rattle.std.specs.List.{flat_map, range_with_len};
-ghost use Rattle.ds_latch.specs.Node.{Node, IsNode, number_of, nodes};
+ghost use Rattle.ds_latch.specs.Node.{IsNode, number_of, nodes};
+ghost use Rattle.ds_latch.specs.declared.node.Node.{Node};
 ghost use Rattle.ds_fire.specs.Snapshot.{count_of, held_row, split_of};
 ghost use Rattle.ds_outside.specs.Writes.{GoesOn};
 ghost use Rattle.ds_state_text.specs.OpenLines.{AreShown, open_line_of, open_lines, open_pair};
 
 use ds_base::{LatchId, Row3};
 use ds_fire::State;
-use ds_latch::Latches;
+use ds_latch::{Latches, Node};
 use ds_log::open_line;
 use ds_outside::{Sink, WriteFault};
 
@@ -47,6 +48,7 @@ fn put_pairs<O: Sink>(
         (range_with_len 0 (length (split_of state.now).clusters))) }
 {
     let mut so_far = so_far;
+    // The edges are read for the fact that there are not too many nodes.
     let (_edges, clusters) = (latches.edges(), latches.clusters());
     for i in 0..clusters.len() {
         so_far = put_pair(so_far, state, i as u32, rows, out);
@@ -68,8 +70,8 @@ fn put_pair<O: Sink>(
     ensures { GoesOn so_far result (O.written out.old) (O.written out.new) (O.faults out.old)
         (O.faults out.new) (open_pair (count_of state.now) (held_row state.now) cluster) }
 {
-    let so_far = put_open(so_far, state, LatchId::new(2 * cluster + 2), rows, out);
-    put_open(so_far, state, LatchId::new(2 * cluster + 3), rows, out)
+    let so_far = put_open(so_far, state, Node::Master(cluster).latch(), rows, out);
+    put_open(so_far, state, Node::Slave(cluster).latch(), rows, out)
 }
 
 // Writes the line of a node, where it is open.

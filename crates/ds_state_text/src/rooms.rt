@@ -1,6 +1,7 @@
 //! What the text of a state takes before its first byte is written.
 ghost use Rattle.std.specs.Prelude.{◌≡◌, ◌<◌, ◌≤◌, IfOk, true, length};
-ghost use Rattle.ds_latch.specs.Node.{Node, IsNode, number_of, nodes, nets_of};
+ghost use Rattle.ds_latch.specs.Node.{IsNode, number_of, nodes, nets_of};
+ghost use Rattle.ds_latch.specs.declared.node.Node.{Node};
 ghost use Rattle.ds_fire.specs.Snapshot.{split_of};
 ghost use Rattle.ds_log.specs.Homes.{AreHomes};
 ghost use Rattle.ds_state_text.specs.OpenLines.{AreShown, IsShownAt};
@@ -74,6 +75,7 @@ fn shown_rows(
     ensures { IfOk result (λ rows. AreShown state.now rows.items) }
 {
     let mut nets = Row3::with_len(alloc, latches.netlist().design().nets().len())?;
+    // The edges are read for the fact that there are not too many nodes.
     let (_edges, bits) = (latches.edges(), latches.bits());
     let mut rows = Vec::with_capacity(alloc, bits.len())?;
     for number in 0..bits.len() {

@@ -11,12 +11,12 @@ ghost use Rattle.ds_state_text.specs.OpenLines.{AreShown};
 use crate::after_log::AfterLog;
 use crate::open_text::put_open_lines;
 use crate::rooms::Rooms;
-use ds_base::{LatchId, Row3};
+use ds_base::Row3;
 use ds_fire::State;
-use ds_latch::Latches;
+use ds_latch::{Latches, Node};
 use ds_log::{Home, put_column, put_fired};
-use ds_outside::{Behind, Buffered, Lent, Sink, WriteFault};
-use ds_rows::{put, put_register_name};
+use ds_outside::{Behind, Buffered, Lent, Sink, WriteFault, put};
+use ds_rows::put_register_name;
 
 /// Writes a line for each register, and the line of the firings, once a log has been fired; where
 /// what open latches show is wanted, then a line for each open node. No memory is taken but the
@@ -109,10 +109,11 @@ fn put_register<O: Sink>(
     ensures { GoesOn so_far result (O.written out.old) (O.written out.new) (O.faults out.old)
         (O.faults out.new) (register_line state.now homes.now r) }
 {
+    // The edges are read for the fact that there are not too many nodes.
     let (_edges, clusters) = (latches.edges(), latches.clusters());
     let home = homes[r];
     let width = clusters[home.cluster].as_slice().len();
-    let slave = LatchId::new(2 * home.cluster as u32 + 3);
+    let slave = Node::Slave(home.cluster as u32).latch();
     let so_far = put_register_name(so_far, latches.netlist().design(), r, out);
     let so_far = put(so_far, b": ", out);
     let so_far = put_column(so_far, state.stored(slave), width, home.place, out);

@@ -3,6 +3,7 @@ use Rattle.std.proofs.Common.{◌≡◌, ◌∙◌, ℕ, zero, suc, ◌+◌, ◌
 use Rattle.std.specs.Prelude.{◌||◌, nat_lt, slice_index_or, Result, Ok, Err, OnOk}
 use Rattle.ds_stream.specs.declared.fault.NextFault.{NextFault}
 use Rattle.std.specs.List.{list_any}
+use Rattle.std.proofs.Math.Bool.{or-false, or-true}
 use Rattle.std.proofs.lemmas.Bool.{cases_Bool, eqb-true, false≢true}
 use Rattle.std.proofs.lemmas.List.Elements.{All-nil, All-cons}
 use Rattle.std.proofs.lemmas.List.Folds.{list_any-append}
@@ -13,14 +14,6 @@ use Rattle.ds_stream.specs.Alike.{AreAlike, AreWrong, IsBegun, IsFull, IsLike, t
 use Rattle.ds_stream.specs.Stream.{Behind, Placed, longest, placed_in, placed_of, window}
 use Rattle.ds_stream.proofs.Cut.{AreEnds, cut_of, trimmed_at, trimmed_ends, trimmed-ends, trimmed-at, joined_at, joined_ends, joined-ends, joined-at, uncommented-behind, no_blank, blank_ends, plain_front}
 use Rattle.ds_stream.proofs.Wrong.{are_wrong, begins-append, words_of-blank}
-
-or_false : (b : Bool) → (b || false) ≡ b
-or_false true = refl
-or_false false = refl
-
-or_true : (b : Bool) → (b || true) ≡ true
-or_true true = refl
-or_true false = refl
 
 or_second : (a b : Bool) → (a || b) ≡ false → b ≡ false
 or_second true b none = absurd (false≢true (sym none))
@@ -187,7 +180,7 @@ end_like : (width : ℕ) (line : List ℕ) (byte : ℕ) → IsFull width line �
     → (is_joined line || is_backslash byte) ≡ is_joined line → IsLike width [] line [] (line ++ byte ∷ [])
 end_like width line byte full end plain same =
     let ends = one_end byte end in
-    let none : (is_backslash byte || false) ≡ is_backslash byte = or_false (is_backslash byte) in
+    let none : (is_backslash byte || false) ≡ is_backslash byte = or-false (is_backslash byte) in
     full_like width line (line ++ byte ∷ []) full (full_more width line (byte ∷ []) full plain)
     (sym (joined-ends line (byte ∷ []) ends ∙ (ap (λ (b : Bool). is_joined line || b) none ∙ same)))
     (inl (ap words_of (sym (trimmed-ends line (byte ∷ []) ends))))
@@ -200,10 +193,10 @@ no_backslash byte blank = elim (cases_Bool (is_backslash byte)) [
 
 pub blank_like : (width : ℕ) (line : List ℕ) (byte : ℕ) → IsFull width line → is_blank byte ≡ true → list_any is_hash (line ++ byte ∷ []) ≡ false → IsLike width [] line [] (line ++ byte ∷ [])
 blank_like width line byte full blank plain = end_like width line byte full (blank_ends byte blank) plain
-    (ap (λ (b : Bool). is_joined line || b) (no_backslash byte blank) ∙ or_false (is_joined line))
+    (ap (λ (b : Bool). is_joined line || b) (no_backslash byte blank) ∙ or-false (is_joined line))
 
 joined_backslash : (line : List ℕ) → is_joined (line ++ 92 ∷ []) ≡ true
-joined_backslash line = joined-ends line (92 ∷ []) (one_end 92 refl) ∙ or_true (is_joined line)
+joined_backslash line = joined-ends line (92 ∷ []) (one_end 92 refl) ∙ or-true (is_joined line)
 
 pub backslash_like : (width : ℕ) (line : List ℕ) → IsFull width line → list_any is_hash ((line ++ 92 ∷ []) ++ 92 ∷ []) ≡ false → list_any is_hash (line ++ 92 ∷ []) ≡ false
     → IsLike width [] (line ++ 92 ∷ []) [] ((line ++ 92 ∷ []) ++ 92 ∷ [])
@@ -330,7 +323,7 @@ plain_told false line plain = plain
 plain_told true line plain = list_any-append is_hash line (92 ∷ []) ∙ ap (λ (b : Bool). b || false) plain
 
 any_last : (line : List ℕ) (more : List ℕ) → list_any is_hash more ≡ true → list_any is_hash (line ++ more) ≡ true
-any_last line more some = list_any-append is_hash line more ∙ (ap (λ (b : Bool). list_any is_hash line || b) some ∙ or_true (list_any is_hash line))
+any_last line more some = list_any-append is_hash line more ∙ (ap (λ (b : Bool). list_any is_hash line || b) some ∙ or-true (list_any is_hash line))
 
 pub no_comment : (comment joined : Bool) (line more : List ℕ) → list_any is_hash (told_line comment joined line ++ more) ≡ false → comment ≡ false
 no_comment false joined line more plain = refl

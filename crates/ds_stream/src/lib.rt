@@ -14,9 +14,11 @@
 //! much was asked of it.
 #![tactic(auto)]
 
+mod bytes;
 mod fault;
 mod filling;
 pub mod laws;
+mod open_line;
 #[cfg(test)]
 mod pipe;
 mod reader;

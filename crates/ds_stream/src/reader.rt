@@ -114,7 +114,8 @@ impl VectorReader {
 
     /// The next so many vectors of a file, fewer only where it has no more. The first faulty line
     /// is told with its number in the file; on one line too many vectors come first, then its
-    /// width, then its characters. No byte is read behind the last line that is given.
+    /// width, then its characters. Where all are given, no byte behind the line of the last of them
+    /// is asked for; where fewer are, the file is read to its end.
     pub fn next<F: Files>(
         self,
         alloc: Global,

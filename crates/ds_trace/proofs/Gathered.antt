@@ -11,7 +11,8 @@ use Rattle.ds_base.specs.Word.{code_of, number_of_values}
 use Rattle.ds_base.specs.declared.value.Value.{Value}
 use Rattle.ds_base.specs.declared.value.Value.TheVariants.{Zero}
 use Rattle.ds_cover.specs.Cover.{value_at, values_at}
-use Rattle.ds_latch.specs.Node.{Slave, Split, members, number_of}
+use Rattle.ds_latch.specs.Node.{Split, members, number_of}
+use Rattle.ds_latch.specs.declared.node.Node.TheVariants.{Slave}
 use Rattle.ds_latch.specs.Plan.{IsSplit}
 use Rattle.ds_latch.specs.Firing.{AreRegisters}
 use Rattle.ds_rule.specs.Run.{Run}

@@ -8,7 +8,8 @@ use Rattle.ds_base.specs.Values.{Row}
 use Rattle.ds_design.specs.Circuit.{Circuit, register_nets}
 use Rattle.ds_latch.specs.Firing.{State}
 use Rattle.ds_latch.specs.Headline.{values_stored}
-use Rattle.ds_latch.specs.Node.{Slave, Split, members, number_of}
+use Rattle.ds_latch.specs.Node.{Split, members, number_of}
+use Rattle.ds_latch.specs.declared.node.Node.TheVariants.{Slave}
 use Rattle.ds_latch.specs.Plan.{Planned}
 use Rattle.ds_latch.proofs.Spelt.{range_agree}
 use Rattle.ds_log.specs.Homes.{AreHomes, IsHome, no_home}

@@ -4,7 +4,8 @@ use Rattle.std.proofs.lemmas.List.FromFn.{sum_by-map-range_with_len_more}
 use Rattle.ds_base.specs.Values.{Row}
 use Rattle.ds_cover.specs.Cover.{values_at}
 use Rattle.ds_design.specs.Circuit.{Circuit, initial_row}
-use Rattle.ds_latch.specs.Node.{Split, Out, number_of}
+use Rattle.ds_latch.specs.Node.{Split, number_of}
+use Rattle.ds_latch.specs.declared.node.Node.TheVariants.{Out}
 use Rattle.ds_latch.specs.Plan.{Planned}
 use Rattle.ds_design.specs.Run.{IsRun}
 use Rattle.ds_design.specs.Trace.{end_line, trace_line}

@@ -5,7 +5,8 @@ use Rattle.std.specs.List.{flat_map, range_with_len}
 use Rattle.ds_base.specs.Word.{count_of_words}
 use Rattle.ds_base.specs.Values.{Row}
 use Rattle.ds_marked.specs.Graph.{Graph}
-use Rattle.ds_latch.specs.Node.{Slave, Split, members, number_of}
+use Rattle.ds_latch.specs.Node.{Split, members, number_of}
+use Rattle.ds_latch.specs.declared.node.Node.TheVariants.{Slave}
 use Rattle.ds_latch.specs.Plan.{Planned}
 use Rattle.ds_outside.specs.Fault.{Rose}
 use Rattle.ds_outside.specs.Written.{appended, AppendsPart}

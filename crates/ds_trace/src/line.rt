@@ -10,7 +10,7 @@ ghost use Rattle.ds_trace.specs.Line.{AreSpread, HasLine, IsGathered};
 
 use ds_base::{LatchId, OutOfMemory, RegId, Row3, Value};
 use ds_fabric::Record;
-use ds_latch::Latches;
+use ds_latch::{Latches, Node};
 use std::alloc::Global;
 
 /// The rows of a line.
@@ -49,7 +49,7 @@ pub fn gather(latches: &Latches<'_>, fired: &Record, k: usize, line: &mut Line)
     // The edges are read for the fact that nodes are few, so that a number of one fits.
     let (_edges, clusters) = (latches.edges(), latches.clusters());
     for i in 0..clusters.len() {
-        let slave = LatchId::new(2 * i as u32 + 3);
+        let slave = Node::Slave(i as u32).latch();
         spread_row(fired, slave, k, clusters[i].as_slice(), &mut line.registers);
     }
 }

@@ -15,12 +15,11 @@ use crate::fault::RunFault;
 use crate::halt::Halt;
 use crate::left::Left;
 use crate::stored::put_values;
-use ds_base::LatchId;
 use ds_design::Vectors;
-use ds_latch::{Latches, Plan};
+use ds_latch::{Latches, Node, Plan};
 use ds_log::put_fired;
-use ds_outside::{Behind, Buffered, Gate, Lent, Sink, WriteFault};
-use ds_rows::{put, put_register_name};
+use ds_outside::{Behind, Buffered, Gate, Lent, Sink, WriteFault, put};
+use ds_rows::put_register_name;
 use ds_run::Workers;
 use std::alloc::Global;
 use std::marker::Brand;
@@ -140,7 +139,7 @@ fn put_register<O: Sink>(
     // The edges are read for the fact that nodes are few, so that a number of one fits.
     let _edges = latches.edges();
     let home = left.homes[r];
-    let slave = LatchId::new(2 * home.cluster as u32 + 3);
+    let slave = Node::Slave(home.cluster as u32).latch();
     let so_far = put_register_name(so_far, latches.netlist().design(), r, out);
     let so_far = put(so_far, b": ", out);
     let so_far = put_values(so_far, &left.fired, slave, home.place, out);

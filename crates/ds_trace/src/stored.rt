@@ -12,8 +12,7 @@ ghost use Rattle.ds_trace.specs.Latched.{rows_stored, word_values};
 use ds_base::LatchId;
 use ds_fabric::Record;
 use ds_log::put_stored;
-use ds_outside::{Sink, WriteFault};
-use ds_rows::put;
+use ds_outside::{Sink, WriteFault, put};
 
 /// Writes the value at a place of each row that a latch has stored, unless a write has failed;
 /// where there is no row, `-`.

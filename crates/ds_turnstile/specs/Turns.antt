@@ -8,7 +8,7 @@ use lib.ListN.{get_elem?}
 use Rattle.atomic_table.specs.Table.{State, Me, Step}
 use Rattle.ds_rule.specs.Rule.{holds, seen}
 use Rattle.atomic_table.specs.Seated.{TableId}
-use Rattle.ds_rule.specs.Run.{Run}
+use Rattle.ds_rule.specs.Run.{Run, no_run}
 use Rattle.ds_fabric.specs.Showing.{Showing}
 use Rattle.ds_turnstile.specs.declared.turn_view.TurnView.{TurnView}
 use Rattle.ds_turnstile.specs.declared.turning.Key.{Key}
@@ -27,19 +27,6 @@ no_table = record {
   block = 0;
   offset = 0;
   slot_names = [];
-}
-
--- the run of no pass
-abbrev pub no_run : Run
-no_run = record {
-  nodes = 0;
-  latches = 0;
-  arcs = [];
-  limit = 0;
-  edges = [];
-  lengths = [];
-  slack = 0;
-  rows = [];
 }
 
 -- a pass of this fabric that holds the node, and no other

@@ -17,6 +17,7 @@ pub(crate) fn arcs_by(
     requires arcs { AreAllIn arcs.items graph.now.arcs }
     ensures { IfOk result (λ arcs. HaveSameArcs arcs.items graph.now.arcs) }
 {
+    // Read for the facts that are known of the arcs of a graph.
     let _kept = graph.arcs();
     for event in order {
         push_from(&mut arcs, graph, *event)?;

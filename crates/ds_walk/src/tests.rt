@@ -25,16 +25,6 @@ fn event(alloc: Global, kind: Kind) -> Event
     Event { signal, kind }
 }
 
-fn arc(source: u32, target: u32, tokens: u8) -> Arc
-    ensures { result ≡ record { source = source; target = target; tokens = tokens } }
-{
-    Arc {
-        source: EventId::new(source),
-        target: EventId::new(target),
-        tokens,
-    }
-}
-
 // The events, the last one first.
 fn order() -> [EventId; 3]
     ensures { (v : ℕ) → v < 3 → Contains result v }
@@ -48,26 +38,36 @@ fn long(alloc: Global) -> Result<Vec<Arc>, OutOfMemory>
 {
     let mut asked: Vec<Arc> = Vec::new(alloc);
     for _ in 0..100 {
-        asked.push(arc(0, 2, 0))?;
-        asked.push(arc(1, 0, 1))?;
+        asked.push(Arc::of(0, 2, 0))?;
+        asked.push(Arc::of(1, 0, 1))?;
     }
-    asked.push(arc(1, 0, 0))?;
+    asked.push(Arc::of(1, 0, 0))?;
     Ok(asked)
 }
 
 // From 2 to 1 there is a walk of one token, by 0.
 #[test]
 fn an_order_is_given_by_a_walk(rt: HostRuntime) {
-    let arcs = [arc(0, 1, 0), arc(1, 2, 0), arc(2, 0, 1), arc(0, 2, 3)];
+    let arcs = [
+        Arc::of(0, 1, 0),
+        Arc::of(1, 2, 0),
+        Arc::of(2, 0, 1),
+        Arc::of(0, 2, 3),
+    ];
     let (Ok(graph), Ok(long)) = (graph(rt.alloc(), arcs), long(rt.alloc())) else {
         panic!(rt; "memory");
     };
-    let given = [arc(0, 2, 0), arc(2, 1, 1), arc(2, 2, 0), arc(1, 1, 1)];
+    let given = [
+        Arc::of(0, 2, 0),
+        Arc::of(2, 1, 1),
+        Arc::of(2, 2, 0),
+        Arc::of(1, 1, 1),
+    ];
     assert_eq!(rt;
         first_unmet(rt.alloc(), &graph, &order(), &given).ok(),
         Some(None)
     );
-    let lacking = [arc(0, 2, 1), arc(2, 1, 0), arc(1, 0, 0)];
+    let lacking = [Arc::of(0, 2, 1), Arc::of(2, 1, 0), Arc::of(1, 0, 0)];
     assert_eq!(rt;
         first_unmet(rt.alloc(), &graph, &order(), &lacking).ok(),
         Some(Some(1))
@@ -81,7 +81,12 @@ fn an_order_is_given_by_a_walk(rt: HostRuntime) {
 // Nothing leads to the event 0, and two arcs from it to the event 2.
 #[test]
 fn the_least_sums_are_those_of_walks(rt: HostRuntime) {
-    let arcs = [arc(0, 1, 1), arc(1, 2, 0), arc(2, 1, 1), arc(0, 2, 3)];
+    let arcs = [
+        Arc::of(0, 1, 1),
+        Arc::of(1, 2, 0),
+        Arc::of(2, 1, 1),
+        Arc::of(0, 2, 3),
+    ];
     let Ok(graph) = graph(rt.alloc(), arcs) else {
         panic!(rt; "memory");
     };
@@ -98,11 +103,16 @@ fn the_least_sums_are_those_of_walks(rt: HostRuntime) {
 // The events lead to each other without tokens, both ways along a row, against the order.
 #[test]
 fn an_order_is_given_along_a_knot(rt: HostRuntime) {
-    let arcs = [arc(2, 0, 0), arc(0, 2, 0), arc(0, 1, 0), arc(1, 0, 0)];
+    let arcs = [
+        Arc::of(2, 0, 0),
+        Arc::of(0, 2, 0),
+        Arc::of(0, 1, 0),
+        Arc::of(1, 0, 0),
+    ];
     let Ok(graph) = graph(rt.alloc(), arcs) else {
         panic!(rt; "memory");
     };
-    let given = [arc(2, 1, 0), arc(1, 2, 0), arc(2, 2, 0)];
+    let given = [Arc::of(2, 1, 0), Arc::of(1, 2, 0), Arc::of(2, 2, 0)];
     assert_eq!(rt;
         first_unmet(rt.alloc(), &graph, &order(), &given).ok(),
         Some(None)

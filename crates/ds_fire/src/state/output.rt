@@ -2,7 +2,9 @@
 ghost use Rattle.std.specs.Prelude.{◌≡◌, ◌↔◌, ◌<◌, ℕ, IsTrue, length, true};
 ghost use Rattle.ds_base.specs.Values.{Row};
 ghost use Rattle.ds_design.specs.Run.{row_at};
-ghost use Rattle.ds_latch.specs.Node.{Node, In, Master, Slave, IsNode, number_of, nodes, closing};
+ghost use Rattle.ds_latch.specs.Node.{IsNode, number_of, nodes, closing};
+ghost use Rattle.ds_latch.specs.declared.node.Node.{Node};
+ghost use Rattle.ds_latch.specs.declared.node.Node.TheVariants.{In, Master, Slave};
 ghost use Rattle.ds_latch.specs.Firing.{State as DefinedState, IsSettled};
 ghost use Rattle.ds_latch.specs.Transparent.{IsOpen, IsShowing};
 ghost use Rattle.ds_cones.specs.Taken.{TakesFrom};
@@ -12,6 +14,7 @@ ghost use Rattle.ds_fire.specs.Snapshot.{Shows, split_of, count_of, held_row, is
 use super::State;
 use crate::opening::{Opening, settle};
 use ds_base::{EventId, LatchId, Row3};
+use ds_latch::Node;
 use ds_settle::pick_values;
 
 impl State<'_> {
@@ -70,15 +73,11 @@ impl State<'_> {
             (held_row self.now) n into.new }
         ensures same { length nets.new ≡ length nets.old }
     {
-        let number = latch.number();
-        if number == 0 {
-            self.copy_vector(into);
-        } else if number % 2 == 0 {
-            self.copy_settled(latch, nets, into);
-        } else if number == 1 {
-            self.copy_settled(latch, nets, into);
-        } else {
-            self.copy_master(latch, into);
+        match Node::of(latch) {
+            Node::In => self.copy_vector(into),
+            Node::Out => self.copy_settled(latch, nets, into),
+            Node::Master(_) => self.copy_settled(latch, nets, into),
+            Node::Slave(_) => self.copy_master(latch, into),
         }
     }
 

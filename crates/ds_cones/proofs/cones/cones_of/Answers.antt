@@ -1,6 +1,8 @@
 use Rattle.std.proofs.Common.{◌≡◌, ◌∙◌, ◌<◌, ◌+◌, ◌++◌, ◌∷◌, [], ℕ, List, length, get_or, ap, sym, subst, arith, refl}
 use Rattle.std.proofs.lemmas.List.{length_push}
-use Rattle.ds_latch.specs.Node.{Node, Master, IsNode, nets_of}
+use Rattle.ds_latch.specs.Node.{IsNode, nets_of}
+use Rattle.ds_latch.specs.declared.node.Node.{Node}
+use Rattle.ds_latch.specs.declared.node.Node.TheVariants.{Master}
 use Rattle.ds_settle.specs.Cone.{IsCone, Parts}
 use Rattle.ds_cones.specs.Settled.{IsSettling}
 use Rattle.ds_cones.specs.Cones.{cone_place}

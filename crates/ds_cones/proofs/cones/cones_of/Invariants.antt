@@ -1,5 +1,6 @@
 use Rattle.std.proofs.Common.{◌≡◌, ◌<◌, ◌+◌, length, get_or}
-use Rattle.ds_latch.specs.Node.{Node, IsNode, nets_of}
+use Rattle.ds_latch.specs.Node.{IsNode, nets_of}
+use Rattle.ds_latch.specs.declared.node.Node.{Node}
 use Rattle.ds_settle.specs.Cone.{IsCone, Parts}
 use Rattle.ds_cones.specs.Settled.{IsSettling}
 use Rattle.ds_cones.specs.Cones.{cone_place}

@@ -1,5 +1,5 @@
 use Rattle.std.proofs.Common.{◌≡◌, ◌++◌}
-use Rattle.ds_latch.specs.Node.{In, Out}
+use Rattle.ds_latch.specs.declared.node.Node.TheVariants.{In, Out}
 use Rattle.ds_latch.specs.Plan.{node_events}
 use Rattle.ds_control.specs.Orders.{cluster_events}
 use Rattle.ds_control.proofs.events.node_events.Given as goal

@@ -2,7 +2,8 @@ use Rattle.std.proofs.Common.{◌≡◌, ◌≢◌, ◌∙◌, ◌++◌, ℕ, �
 use Rattle.ds_marked.specs.Graph.{Graph}
 use Rattle.ds_marked.specs.declared.marked.Arc.{Arc}
 use Rattle.ds_marked.specs.declared.marked.Event.{Event}
-use Rattle.ds_latch.specs.Node.{In, Out, Split, nodes}
+use Rattle.ds_latch.specs.Node.{Split, nodes}
+use Rattle.ds_latch.specs.declared.node.Node.TheVariants.{In, Out}
 use Rattle.ds_latch.specs.Plan.{IsPlan, node_events, split_events}
 use Rattle.ds_latch.proofs.Rising.{events_long, orders_are_accepted}
 use Rattle.ds_control.specs.Control.{AreOrders, IsSimple}

@@ -1,5 +1,5 @@
 use Rattle.std.proofs.Common.{◌≡◌, ◌<◌, ℕ, length}
-use Rattle.ds_latch.specs.Node.{In, Slave}
+use Rattle.ds_latch.specs.declared.node.Node.TheVariants.{In, Slave}
 use Rattle.ds_fire.specs.Feeds.{AreSourceNetsHoused}
 use Rattle.ds_fire.proofs.homes.homes_of.Given as goal
 

@@ -1,5 +1,6 @@
 use Rattle.std.proofs.Common.{◌≡◌, ◌<◌, ◌≤◌, ◌==◌, if◌then◌else◌, ℕ, length}
-use Rattle.ds_latch.specs.Node.{Node, IsNode, number_of, zeros}
+use Rattle.ds_latch.specs.Node.{IsNode, number_of, zeros}
+use Rattle.ds_latch.specs.declared.node.Node.{Node}
 use Rattle.ds_latch.specs.Firing.{first_row}
 use Rattle.ds_fire.specs.Snapshot.{row_index, rows_of}
 use Rattle.ds_fire.proofs.kept.first_rows.Given as goal

@@ -1,7 +1,8 @@
 use Rattle.std.proofs.Common.{◌≡◌, ◌∙◌, ◌<◌, ◌+◌, ◌*◌, ℕ, List, [], length, get_or, ap, sym, arith}
 use Rattle.std.proofs.lemmas.List.{get_or_default}
 use Rattle.ds_base.specs.Values.{Row}
-use Rattle.ds_latch.specs.Node.{In, Split, nodes, place_of}
+use Rattle.ds_latch.specs.Node.{Split, nodes, place_of}
+use Rattle.ds_latch.specs.declared.node.Node.TheVariants.{In}
 use Rattle.ds_fire.specs.Snapshot.{row_index}
 use Rattle.ds_fire.proofs.Settles.{place_low, zeroth}
 use Rattle.ds_fire.proofs.Shown.{index_inside}

@@ -2,7 +2,8 @@ use Rattle.std.proofs.Common.{◌≡◌, ◌<◌, ◌/◌, ℕ, List, length, ge
 use Rattle.std.specs.Prelude.{All}
 use Rattle.ds_base.specs.Values.{Row}
 use Rattle.ds_design.specs.Circuit.{Circuit}
-use Rattle.ds_latch.specs.Node.{Node, Split, nets_of, nodes, number_of}
+use Rattle.ds_latch.specs.Node.{Split, nets_of, nodes, number_of}
+use Rattle.ds_latch.specs.declared.node.Node.{Node}
 use Rattle.ds_latch.specs.Plan.{IsSplit}
 use Rattle.ds_latch.proofs.Counts.{number_below}
 use Rattle.ds_settle.specs.Cone.{AreInOrder, IsCone, IsPartSettled, Parts}

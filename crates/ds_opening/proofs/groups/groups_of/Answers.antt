@@ -5,7 +5,9 @@ use Rattle.ds_design.specs.Circuit.{Circuit}
 use Rattle.ds_design.specs.InRange.{IsInRange}
 use Rattle.ds_groups.specs.Groups.{AreGroupsOf, Grouping}
 use Rattle.ds_groups.specs.Reads.{AreReads}
-use Rattle.ds_latch.specs.Node.{In, IsNode, Master, Node, Out, Slave, Split, nets_of, nodes}
+use Rattle.ds_latch.specs.Node.{IsNode, Split, nets_of, nodes}
+use Rattle.ds_latch.specs.declared.node.Node.{Node}
+use Rattle.ds_latch.specs.declared.node.Node.TheVariants.{In, Master, Out, Slave}
 use Rattle.ds_latch.specs.Plan.{IsSplit}
 use Rattle.ds_latch.proofs.Events.{node_at as node_with}
 use Rattle.ds_settle.specs.Cone.{IsCone, Parts as Cone}

@@ -1,7 +1,8 @@
 use Rattle.std.proofs.Common.{◌≡◌, ◌∙◌, ◌<◌, ◌++◌, ◌∷◌, [], ℕ, List, arith, ap, get_or, length, map, refl, subst, sym}
 use Rattle.std.specs.List.{range_with_len}
 use Rattle.std.proofs.lemmas.List.FromFn.{map-range_with_len_more}
-use Rattle.ds_latch.specs.Node.{Node, Split, IsNode, nets_of, nodes, number_of}
+use Rattle.ds_latch.specs.Node.{Split, IsNode, nets_of, nodes, number_of}
+use Rattle.ds_latch.specs.declared.node.Node.{Node}
 use Rattle.ds_latch.proofs.Events.{node_at as node_with}
 use Rattle.ds_cones.proofs.NodeCones.{lent}
 use Rattle.ds_opening.specs.Foreseen.{node_at}

@@ -1,7 +1,9 @@
 use Rattle.std.proofs.Common.{◌≡◌, ◌≢◌, ◌⊎◌, ◌%◌, ℕ, inl, inr, sym, ◌∙◌, ◌+◌, ◌≤◌, ◌++◌, Bool, false, arith, ap, length, ◌-◌, take, drop}
 use Rattle.std.specs.Prelude.{IsTrue, vec_capacity, vec_len}
 use Rattle.ds_base.specs.Word.{count_of_words}
-use Rattle.ds_latch.specs.Node.{Node, In, Out, Master, Slave, nets_of, number_of}
+use Rattle.ds_latch.specs.Node.{nets_of, number_of}
+use Rattle.ds_latch.specs.declared.node.Node.{Node}
+use Rattle.ds_latch.specs.declared.node.Node.TheVariants.{In, Out, Master, Slave}
 use Rattle.ds_cones.specs.Settled.{IsSettling}
 use Rattle.ds_opening.specs.Learnt.{is_learnt}
 use Rattle.ds_opening.proofs.LearntRows.{master_unlearnt}

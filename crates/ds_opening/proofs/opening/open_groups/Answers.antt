@@ -2,7 +2,8 @@ use Rattle.std.proofs.Common.{◌≡◌, ◌∙◌, ◌<◌, ◌++◌, List, ℕ
 use Rattle.std.specs.Prelude.{All}
 use Rattle.ds_base.specs.Values.{Row}
 use Rattle.ds_cover.specs.Cover.{values_at}
-use Rattle.ds_latch.specs.Node.{IsNode, Node, Split, nets_of, nodes, number_of}
+use Rattle.ds_latch.specs.Node.{IsNode, Split, nets_of, nodes, number_of}
+use Rattle.ds_latch.specs.declared.node.Node.{Node}
 use Rattle.ds_latch.proofs.Counts.{number_below}
 use Rattle.ds_cones.proofs.NodeCones.{lent, nets_within}
 use Rattle.ds_opening.specs.Noted.{AreRowsLearnt}

@@ -8,7 +8,7 @@ pub returns-in-Ok : goal.returns-in-Ok
 returns-in-Ok c =
     let now = c.args.state.now in
     let words = map (λ w. w.now) c.args.words.now in
-    let (at, inside) = found_event (graph_of now) c.args.events.now words c.first_of-name.result.now c.in-Some-find.event c.requires c.first_of-name.ensures c.in-Some-find.ensures in (
+    let (at, inside) = found_event (graph_of now) c.args.events.now words c.word-named.result.now c.in-Some-find.event c.requires c.word-named.ensures c.in-Some-find.ensures in (
       line_is (graph_of now) (limit_of now) (count_of now) words c.in-Some.turn c.in-Some-find.event None (sym c.turn_of.ensures ∙ c.in-Some.is) at inside c.in-Ok.ensures.0,
       subst (λ (v : ℕ). IsFired now v c.fire.new.state) at c.in-Ok.ensures.1,
     )
@@ -17,5 +17,5 @@ pub returns-in-Err : goal.returns-in-Err
 returns-in-Err c =
     let now = c.args.state.now in
     let words = map (λ w. w.now) c.args.words.now in
-    let (at, inside) = found_event (graph_of now) c.args.events.now words c.first_of-name.result.now c.in-Some-find.event c.requires c.first_of-name.ensures c.in-Some-find.ensures in
+    let (at, inside) = found_event (graph_of now) c.args.events.now words c.word-named.result.now c.in-Some-find.event c.requires c.word-named.ensures c.in-Some-find.ensures in
     line_is (graph_of now) (limit_of now) (count_of now) words c.in-Some.turn c.in-Some-find.event (Some c.in-Err.kind) (sym c.turn_of.ensures ∙ c.in-Some.is) at inside c.in-Err.ensures

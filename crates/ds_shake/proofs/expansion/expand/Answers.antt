@@ -1,28 +1,22 @@
-use Rattle.std.proofs.Common.{◌≡◌, ℕ, List, length, ap, arith}
+use Rattle.std.proofs.Common.{◌≡◌, List, length, ap, arith}
 use Rattle.ds_accept.proofs.Planned.{plans_are_acceptable_lem}
 use Rattle.ds_shake.specs.declared.handshake.Handshake.{Handshake}
 use Rattle.ds_shake.proofs.Expanded.{expansion_is_plan}
 use Rattle.ds_shake.proofs.Simple.{expansion_is_simple}
 use Rattle.ds_shake.proofs.expansion.expand.Goals as goal
 
-pub overflow_cast-nodes : goal.overflow_cast-nodes
-overflow_cast-nodes c =
-    let clusters : length c.clusters.result.now ≡ length c.args.latches.now.clusters = ap (λ (cs : List (List ℕ)). length cs) c.clusters.ensures.clusters in
-    omega (clusters, c.in_ok-all.ensures.few, arith)
-
 pub are_too_many-requires : goal.are_too_many-requires
 are_too_many-requires c =
-    let clusters : length c.clusters.result.now ≡ length c.args.latches.now.clusters = ap (λ (cs : List (List ℕ)). length cs) c.clusters.ensures.clusters in
     let all : length c.as_slice.result.now ≡ length c.in_ok-all.all.items = ap (λ (hs : List Handshake). length hs) c.as_slice.ensures.value in
-    (omega (clusters, c.in_ok-all.ensures.few, arith), omega (all, c.in_ok-all.ensures.few, arith))
+    (omega (c.nodes-nodes.ensures.nodes, c.nodes-nodes.ensures.few, arith), omega (all, c.in_ok-all.ensures.few, arith))
 
 pub returns-clause-ok_simple : goal.returns-clause-ok_simple
 returns-clause-ok_simple c = expansion_is_simple c.args.latches.now c.in_ok-expanded.field-0 c.in_ok-expanded.ensures.ok
 
 pub returns-clause-ok_plan : goal.returns-clause-ok_plan
-returns-clause-ok_plan c = expansion_is_plan c.args.latches.now c.in_ok-expanded.field-0 c.clusters.ensures.split c.in_ok-expanded.ensures.ok
+returns-clause-ok_plan c = expansion_is_plan c.args.latches.now c.in_ok-expanded.field-0 c.nodes-nodes.ensures.split c.in_ok-expanded.ensures.ok
 
 pub returns-clause-ok_acceptable : goal.returns-clause-ok_acceptable
 returns-clause-ok_acceptable c =
     plans_are_acceptable_lem c.args.latches.now c.in_ok-expanded.field-0
-    (expansion_is_plan c.args.latches.now c.in_ok-expanded.field-0 c.clusters.ensures.split c.in_ok-expanded.ensures.ok)
+    (expansion_is_plan c.args.latches.now c.in_ok-expanded.field-0 c.nodes-nodes.ensures.split c.in_ok-expanded.ensures.ok)

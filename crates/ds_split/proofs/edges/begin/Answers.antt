@@ -1,7 +1,8 @@
 use Rattle.std.proofs.Common.{◌≡◌, ◌<◌, ℕ, List, length, refl, sym, ◌∙◌, ap, subst}
 use Rattle.std.specs.Prelude.{All}
 use Rattle.ds_design.specs.Circuit.{Circuit}
-use Rattle.ds_latch.specs.Node.{Out, nets_of, nodes}
+use Rattle.ds_latch.specs.Node.{nets_of, nodes}
+use Rattle.ds_latch.specs.declared.node.Node.TheVariants.{Out}
 use Rattle.ds_split.specs.Edges.{IsFoundBelow}
 use Rattle.ds_split.specs.Search.{Found, HasMet, IsCause}
 use Rattle.ds_split.specs.Split.{split_into}

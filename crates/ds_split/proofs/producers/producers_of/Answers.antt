@@ -1,7 +1,8 @@
 use Rattle.std.proofs.Common.{◌≡◌, ◌<◌, ℕ, ◌+◌, ◌*◌, List, length, replicate, refl, sym, ◌∙◌, ap, subst, arith}
 use Rattle.std.specs.Prelude.{All, Contains}
 use Rattle.ds_design.specs.Circuit.{Circuit}
-use Rattle.ds_latch.specs.Node.{In, Slave, nets_of}
+use Rattle.ds_latch.specs.Node.{nets_of}
+use Rattle.ds_latch.specs.declared.node.Node.TheVariants.{In, Slave}
 use Rattle.ds_split.specs.Nets.{AreProducersBelow, AreMarked}
 use Rattle.ds_split.specs.Split.{split_into}
 use Rattle.ds_split.proofs.NodeNets.{node_at}
@@ -41,7 +42,7 @@ mark-requires-in-loop-i c =
     let inside : c.loop-i.i < length c.args.clusters.now = omega (arith, ap length c.members-i-end.ensures) in
     let these : c.as_slice-in-loop-i.result.now ≡ nets_of (split_into c.args.netlist.now c.args.clusters.now) (Slave c.loop-i.i) =
     c.as_slice-in-loop-i.ensures ∙ node_at (split_into c.args.netlist.now c.args.clusters.now) c.args.nets.now c.requires.listed (Slave c.loop-i.i) inside
-    (2 * c.loop-i.i + 3) refl c.index-nets-slave.result c.index-nets-slave.is in
+    c.index.result (sym (c.index.ensures ∙ c.latch-slave.ensures)) c.index-nets-index.result c.index-nets-index.is in
     subst (λ (xs : List ℕ). All (λ net. net < length c.loop-i.producers.items) xs) (sym these)
     (subst (λ (n : ℕ). All (λ net. net < n) (nets_of (split_into c.args.netlist.now c.args.clusters.now) (Slave c.loop-i.i))) (sym c.loop-i.invariant.one_each)
     (nets_within (split_into c.args.netlist.now c.args.clusters.now) c.requires.accepted c.requires.each_once c.requires.in_range (Slave c.loop-i.i) inside))
@@ -51,10 +52,11 @@ loop-i-preserved c =
     let inside : c.loop-i.i < length c.args.clusters.now = omega (arith, ap length c.members-i-end.ensures) in
     let these : c.as_slice-in-loop-i.result.now ≡ nets_of (split_into c.args.netlist.now c.args.clusters.now) (Slave c.loop-i.i) =
     c.as_slice-in-loop-i.ensures ∙ node_at (split_into c.args.netlist.now c.args.clusters.now) c.args.nets.now c.requires.listed (Slave c.loop-i.i) inside
-    (2 * c.loop-i.i + 3) refl c.index-nets-slave.result c.index-nets-slave.is in
+    c.index.result (sym (c.index.ensures ∙ c.latch-slave.ensures)) c.index-nets-index.result c.index-nets-index.is in
     producers_slave (split_into c.args.netlist.now c.args.clusters.now) c.requires.accepted c.requires.each_once c.loop-i.i c.loop-i.producers.items c.mark-in-loop-i.new.producers.items inside c.loop-i.invariant
     (subst (λ (xs : List ℕ). AreMarked (Contains xs) (2 * c.loop-i.i + 3 + 1) c.loop-i.producers.items c.mark-in-loop-i.new.producers.items) these
-    c.mark-in-loop-i.ensures)
+    (subst (λ (k : ℕ). AreMarked (Contains c.as_slice-in-loop-i.result.now) (k + 1) c.loop-i.producers.items c.mark-in-loop-i.new.producers.items)
+    (c.number.ensures ∙ c.latch-slave.ensures) c.mark-in-loop-i.ensures))
 
 pub returns : goal.returns
 returns c =

@@ -1,5 +1,5 @@
 use Rattle.std.proofs.Common.{arith}
-use Rattle.ds_latch.specs.Node.{In, Out}
+use Rattle.ds_latch.specs.declared.node.Node.TheVariants.{In, Out}
 use Rattle.ds_outside.proofs.Then.{goes_on}
 use Rattle.ds_state_text.proofs.open_text.put_open_lines.Goals as goal
 

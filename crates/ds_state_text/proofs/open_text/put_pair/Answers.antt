@@ -1,5 +1,5 @@
 use Rattle.std.proofs.Common.{arith}
-use Rattle.ds_latch.specs.Node.{Master, Slave}
+use Rattle.ds_latch.specs.declared.node.Node.TheVariants.{Master, Slave}
 use Rattle.ds_outside.proofs.Then.{goes_on}
 use Rattle.ds_state_text.proofs.open_text.put_pair.Goals as goal
 

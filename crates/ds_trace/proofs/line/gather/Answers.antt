@@ -1,6 +1,7 @@
 use Rattle.std.proofs.Common.{◌≡◌, ◌∙◌, ◌<◌, ◌+◌, ℕ, List, [], length, get_or, ap, arith}
 use Rattle.std.proofs.lemmas.List.{get_or_default}
-use Rattle.ds_latch.specs.Node.{Slave, Split, members, number_of}
+use Rattle.ds_latch.specs.Node.{Split, members, number_of}
+use Rattle.ds_latch.specs.declared.node.Node.TheVariants.{Slave}
 use Rattle.ds_rule.specs.Run.{Run}
 use Rattle.ds_rule.specs.Words.{node_values as stored_at}
 use Rattle.ds_trace.proofs.Gathered.{gathered_all, one_cluster}
@@ -11,7 +12,7 @@ spread_row-requires-clause-stored c =
     let low : c.loop-i.i < length c.args.latches.now.clusters =
     omega (arith, ap length c.clusters-clusters.ensures.clusters) in
     let stored = c.requires.rows.stored c.loop-i.i low c.args.k (omega arith) in
-    rw c.new-slave.ensures stored
+    rw c.latch-slave.ensures stored
 
 pub loop-i-preserved : goal.loop-i-preserved
 loop-i-preserved c =
@@ -27,9 +28,9 @@ loop-i-preserved c =
     ∙ (c.index-clusters-i.is
     ∙ (ap (λ (cs : List (List ℕ)). get_or cs i cluster) c.clusters-clusters.ensures.clusters
     ∙ get_or_default s.clusters i cluster [] low)) in
-    let row : stored_at c.args.fired.now.shown.view.run c.new-slave.result (c.args.k + 1)
+    let row : stored_at c.args.fired.now.shown.view.run c.latch-slave.result (c.args.k + 1)
     ≡ stored_at c.args.fired.now.shown.view.run (number_of (Slave c.loop-i.i)) (c.args.k + 1) =
-    ap (λ (n : ℕ). stored_at run n (k + 1)) c.new-slave.ensures in
+    ap (λ (n : ℕ). stored_at run n (k + 1)) c.latch-slave.ensures in
     record {
       line = record {
         outputs = c.loop-i.invariant.line.outputs;
@@ -38,7 +39,7 @@ loop-i-preserved c =
       outputs = c.loop-i.invariant.outputs;
       right = λ other shows.
           one_cluster s run k i low c.as_slice.result.now are
-          (stored_at run c.new-slave.result (k + 1)) row c.loop-i.line.registers
+          (stored_at run c.latch-slave.result (k + 1)) row c.loop-i.line.registers
           c.spread_row.new.registers c.spread_row.ensures other shows
           (c.loop-i.invariant.right other shows);
     }

@@ -1,6 +1,7 @@
 use Rattle.std.proofs.Common.{◌≡◌, ◌∙◌, ◌<◌, ◌*◌, ℕ, ap, arith, subst, sym}
 use Rattle.ds_design.specs.Trace.{values_text}
-use Rattle.ds_latch.specs.Node.{Slave, number_of}
+use Rattle.ds_latch.specs.Node.{number_of}
+use Rattle.ds_latch.specs.declared.node.Node.TheVariants.{Slave}
 use Rattle.ds_outside.proofs.Then.{goes_on, with_text}
 use Rattle.ds_log.specs.Log.{at_place}
 use Rattle.ds_log.specs.declared.homes.Home.{Home}
@@ -17,7 +18,7 @@ put_values-so_far-requires-clause-near g c =
     c.args.r c.requires.inside home c.index-home.ensures in
     let near : number_of (Slave home.cluster) < c.args.left.now.fired.shown.view.run.latches =
     c.requires.words.near home.cluster here.is_cluster in
-    omega (arith, near, c.new-slave.ensures)
+    omega (arith, near, c.latch-slave.ensures)
 
 pub put_values-so_far-requires-clause-inside : goal.put_values-so_far-requires-clause-inside
 put_values-so_far-requires-clause-inside g c =
@@ -25,7 +26,7 @@ put_values-so_far-requires-clause-inside g c =
     let run : Run = c.args.left.now.fired.shown.view.run in
     let (here, same) = home_at c.args.latches.now c.args.left.now.homes.items c.requires.homes
     c.args.r c.requires.inside home c.index-home.ensures in
-    let is : c.new-slave.result ≡ number_of (Slave home.cluster) = omega (arith, c.new-slave.ensures) in
+    let is : c.latch-slave.result ≡ number_of (Slave home.cluster) = omega (arith, c.latch-slave.ensures) in
     let wide = c.requires.words.wide home.cluster here.is_cluster in
     subst (λ (l : ℕ). home.place < 32 * width run l) (sym is)
     (omega (arith, here.inside, wide))
@@ -35,7 +36,7 @@ returns g c =
     let home : Home = c.index-home.result.now in
     let (here, same) = home_at c.args.latches.now c.args.left.now.homes.items c.requires.homes
     c.args.r c.requires.inside home c.index-home.ensures in
-    let is : c.new-slave.result ≡ number_of (Slave home.cluster) = omega (arith, c.new-slave.ensures) in
+    let is : c.latch-slave.result ≡ number_of (Slave home.cluster) = omega (arith, c.latch-slave.ensures) in
     let told = ap (λ (l : ℕ). values_text (at_place home.place
     (rows_stored c.args.left.now.fired l))) is in
     with_text (line_is c.args.latches.now c.args.left.now.fired c.args.left.now.homes.items c.args.r

@@ -13,7 +13,7 @@ history-history-requires c = let v : View = c.args.self.now.shown.view in let ru
     ∙ ap (λ (x : Recorder). x.shown.view.run.latches) c.self.view_is in
     λ sound. omega (
       arith,
-      c.home.ensures run same,
+      c.node_of.ensures run same,
       ap (node_of run) c.index-number.ensures,
       node_below run c.args.event sound.among c.requires,
     )
@@ -25,5 +25,5 @@ returns c = let v : View = c.args.self.now.shown.view in let run : Run = v.run i
     let h = c.history-history.result.now in let i = c.history-history.ensures in
     c.turns_of.ensures run same
     ∙ (counted v h c.index-number.result i.counts i.tells
-    (sym (c.home.ensures run same) ∙ sym i.node_is)
+    (sym (c.node_of.ensures run same) ∙ sym i.node_is)
     ∙ ap (λ (e : ℕ). length (tickets v e)) c.index-number.ensures)

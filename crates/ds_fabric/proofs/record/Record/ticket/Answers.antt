@@ -15,7 +15,7 @@ history-history-requires c = let v : View = c.args.self.now.shown.view in let ru
     c.self.view_is c.self.invariant.keeps.tickets_long in
     λ sound. omega (
       arith,
-      c.home.ensures run same,
+      c.node_of.ensures run same,
       ap (node_of run) c.index-number.ensures,
       node_below run c.args.event sound.among
           (ticket_inside v c.args.event c.args.k long c.requires),
@@ -28,9 +28,9 @@ ticket-requires c = let v : View = c.args.self.now.shown.view in
     let h : History = c.history-history.result.now in let i = c.history-history.ensures in (
       v.run,
       same,
-      stands_in v h c.index-number.result i.tells (sym (c.home.ensures v.run same) ∙ sym i.node_is),
-      (ticket_told v c.home.result c.args.event c.index-number.result c.args.k h i
-          c.index-number.ensures (c.home.ensures v.run same) c.requires).0,
+      stands_in v h c.index-number.result i.tells (sym (c.node_of.ensures v.run same) ∙ sym i.node_is),
+      (ticket_told v c.node_of.result c.args.event c.index-number.result c.args.k h i
+          c.index-number.ensures (c.node_of.ensures v.run same) c.requires).0,
     )
 
 pub returns : goal.returns
@@ -38,6 +38,6 @@ returns c = let v : View = c.args.self.now.shown.view in
     let same : c.self.inside.latches ≡ v.run.latches = c.self.invariant.latches_is
     ∙ ap (λ (x : Recorder). x.shown.view.run.latches) c.self.view_is in
     c.ticket.ensures v.run same
-    ∙ (ticket_told v c.home.result c.args.event c.index-number.result c.args.k
+    ∙ (ticket_told v c.node_of.result c.args.event c.index-number.result c.args.k
     c.history-history.result.now c.history-history.ensures c.index-number.ensures
-    (c.home.ensures v.run same) c.requires).1
+    (c.node_of.ensures v.run same) c.requires).1

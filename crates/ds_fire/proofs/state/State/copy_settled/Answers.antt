@@ -3,7 +3,8 @@ use Rattle.std.specs.Prelude.{All}
 use Rattle.ds_base.specs.Values.{Row}
 use Rattle.ds_cover.specs.Cover.{values_at}
 use Rattle.ds_latch.specs.Firing.{IsSettled}
-use Rattle.ds_latch.specs.Node.{Node, Split, IsNode, nets_of, nodes, number_of}
+use Rattle.ds_latch.specs.Node.{Split, IsNode, nets_of, nodes, number_of}
+use Rattle.ds_latch.specs.declared.node.Node.{Node}
 use Rattle.ds_latch.proofs.Counts.{number_below}
 use Rattle.ds_cones.specs.Cones.{IsSettlingAt}
 use Rattle.ds_cones.proofs.NodeCones.{nets_within}

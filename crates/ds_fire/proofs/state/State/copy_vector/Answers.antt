@@ -1,5 +1,6 @@
 use Rattle.std.proofs.Common.{◌<◌, ℕ, sym, subst}
-use Rattle.ds_latch.specs.Node.{In, closing}
+use Rattle.ds_latch.specs.Node.{closing}
+use Rattle.ds_latch.specs.declared.node.Node.TheVariants.{In}
 use Rattle.ds_fire.specs.Fired.{IsReached, IsSnapshotSound}
 use Rattle.ds_fire.specs.Snapshot.{Snapshot, limit_of, count_of}
 use Rattle.ds_fire.proofs.Transparent.{vector_there}

@@ -1,7 +1,8 @@
 use Rattle.std.proofs.Common.{◌≡◌, ◌∙◌, ◌<◌, ◌≤◌, ◌+◌, ◌*◌, ◌^◌, ℕ, List, [], length, get_or, ap, sym, subst, arith}
 use Rattle.std.proofs.lemmas.List.{get_or_default}
 use Rattle.ds_base.specs.Values.{Row}
-use Rattle.ds_latch.specs.Node.{Node, Split, number_of, nodes, opening, place_of}
+use Rattle.ds_latch.specs.Node.{Split, number_of, nodes, opening, place_of}
+use Rattle.ds_latch.specs.declared.node.Node.{Node}
 use Rattle.ds_fire.specs.Inside.{snapshot_seen}
 use Rattle.ds_fire.specs.Turn.{AreTurnPlaces}
 use Rattle.ds_fire.specs.Snapshot.{Snapshot, split_of, count_of, held_row, rows_of}

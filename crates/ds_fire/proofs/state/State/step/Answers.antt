@@ -1,5 +1,6 @@
 use Rattle.std.proofs.Common.{◌≡◌, ℕ, get_or, sym, subst, refl}
-use Rattle.ds_latch.specs.Node.{Node, Split, IsNode, closing}
+use Rattle.ds_latch.specs.Node.{Split, IsNode, closing}
+use Rattle.ds_latch.specs.declared.node.Node.{Node}
 use Rattle.ds_fire.specs.Fired.{IsFired, IsReady}
 use Rattle.ds_fire.specs.Inside.{IsRunning, snapshot_seen}
 use Rattle.ds_fire.specs.Snapshot.{Snapshot}

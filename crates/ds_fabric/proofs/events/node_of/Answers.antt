@@ -1,6 +1,6 @@
 use Rattle.std.proofs.Common.{arith, sym}
 use Rattle.ds_rule.proofs.EventLaws.{node-low, node-high}
-use Rattle.ds_fabric.proofs.events.home.Goals as goal
+use Rattle.ds_fabric.proofs.events.node_of.Goals as goal
 
 pub returns-then-event-latches : goal.returns-then-event-latches
 returns-then-event-latches c = λ run is. sym

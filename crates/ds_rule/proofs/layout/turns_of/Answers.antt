@@ -1,6 +1,6 @@
 use Rattle.std.proofs.Common.{arith}
 use Rattle.ds_rule.proofs.EventLaws.{turns-low, turns-high}
-use Rattle.ds_fabric.proofs.events.turns_of.Goals as goal
+use Rattle.ds_rule.proofs.layout.turns_of.Goals as goal
 
 pub returns-then-event-latches : goal.returns-then-event-latches
 returns-then-event-latches c = λ run is. omega (
