@@ -1,3 +1,12 @@
+pub mod Steps
+pub mod Found
+pub mod Ordered
+pub mod Begun
+pub mod Lower
+pub mod Blocks
+pub mod Least
+pub mod Lowering
+pub mod Fewer
 pub mod Keys
 pub mod Counted
 pub mod Others

@@ -13,7 +13,7 @@ use Rattle.ds_latch.specs.Node.{Split}
 use Rattle.ds_latch.specs.Plan.{IsPlan, IsSplit, Reorders, split_events}
 use Rattle.ds_control.specs.Control.{AreOrders}
 use Rattle.ds_rank.specs.Rank.{AreRanks}
-use Rattle.ds_walk.specs.Given.{IsFirstUnmet, IsGiven}
+use Rattle.ds_accept.specs.Given.{IsFirstUnmet, IsGiven}
 use Rattle.ds_accept.specs.Accept.{AreGiven, AreThere, GivesOrder, IsAcceptable, EventStandsAt, extra_events}
 use Rattle.ds_accept.specs.Fault.{IsFirstMissing, StandsFirst}
 use Rattle.ds_accept.specs.Steps.{AreLeft, IsArcWithin, IsGivenBy, moved}

@@ -10,8 +10,8 @@ use Rattle.ds_latch.specs.Order.{IsRequired, opens_first, closes_before_next, af
 use Rattle.ds_latch.specs.Plan.{split_events}
 use Rattle.ds_latch.proofs.Counts.{edge_differs, same_node}
 use Rattle.ds_accept.specs.Accept.{EventStandsAt}
-use Rattle.ds_walk.proofs.Least.{one_list_of_sums_lem}
-use Rattle.ds_walk.specs.Sums.{AreLeastSums}
+use Rattle.ds_accept.proofs.Least.{one_list_of_sums_lem}
+use Rattle.ds_accept.specs.Sums.{AreLeastSums}
 use Rattle.ds_accept.specs.Fault.{IsFirstMissing, IsFirstWithout, ShowsLeast, StandsFirst}
 use Rattle.ds_accept.specs.Laws.{OneAcceptFault}
 use Rattle.ds_accept.specs.declared.fault.AcceptFault.TheVariants.{MissingEvent, MissingOrder, TokenFreeCycle, Memory}

@@ -1,6 +1,6 @@
 -- A graph with a fault is not acceptable.
 use Rattle.std.proofs.Common.{◌≡◌, ℕ, ◌<◌, List, [], ◌∷◌, arith, refl, subst, All}
-use Rattle.ds_order.specs.Order.{IsCycle, IsWalk}
+use Rattle.ds_rank.specs.Order.{IsCycle, IsWalk}
 use Rattle.ds_rank.specs.Rank.{HasFreeArc}
 use Rattle.ds_marked.specs.Graph.{Graph}
 use Rattle.ds_marked.specs.declared.marked.Arc.{Arc}
@@ -10,7 +10,7 @@ use Rattle.ds_accept.specs.Fault.{IsAcceptFault}
 use Rattle.ds_accept.specs.declared.fault.AcceptFault.{AcceptFault}
 use Rattle.ds_accept.specs.Laws.{AcceptFaultsAreRefused}
 use Rattle.ds_accept.specs.declared.fault.AcceptFault.TheVariants.{MissingEvent, MissingOrder, TokenFreeCycle, Memory}
-use Rattle.ds_order.proofs.Rising.{no_cycle}
+use Rattle.ds_rank.proofs.Rising.{no_cycle}
 use Rattle.ds_accept.proofs.Counted.{some_event}
 
 free_rises : (g : Graph) (rank : ℕ → ℕ) → All (λ arc. arc.tokens ≡ 0 → rank arc.source < rank arc.target) g.arcs

@@ -6,9 +6,9 @@ use Rattle.ds_marked.specs.Graph.{Graph}
 use Rattle.ds_latch.specs.Node.{Split}
 use Rattle.ds_latch.specs.Order.{IsRequired}
 use Rattle.ds_latch.specs.Plan.{split_events}
-use Rattle.ds_order.specs.Order.{IsCycle}
+use Rattle.ds_rank.specs.Order.{IsCycle}
 use Rattle.ds_rank.specs.Rank.{HasFreeArc}
-use Rattle.ds_walk.specs.Sums.{AreLeastSums}
+use Rattle.ds_accept.specs.Sums.{AreLeastSums}
 use Rattle.ds_accept.specs.Accept.{AreThere, AreGiven, GivesOrder, EventStandsAt}
 use Rattle.ds_accept.specs.declared.fault.AcceptFault.{AcceptFault}
 use Rattle.ds_accept.specs.declared.fault.AcceptFault.TheVariants.{MissingEvent}

@@ -1,5 +1,5 @@
 -- What follows of the definitions alone.
-use Rattle.std.specs.Prelude.{◌≡◌, ◌≢◌, ◌⊎◌, ◌≤◌, ℕ, List, length}
+use Rattle.std.specs.Prelude.{◌≡◌, ◌≢◌, ◌⊎◌, ◌≤◌, ℕ, List, length, ◌<◌, Option, Some, All}
 use Rattle.ds_marked.specs.Graph.{Graph, IsKept}
 use Rattle.ds_latch.specs.Node.{Split}
 use Rattle.ds_latch.specs.Plan.{IsAcceptedGraph, IsPlan, IsSplit, Planned}
@@ -7,6 +7,8 @@ use Rattle.ds_accept.specs.Accept.{IsAcceptable, IsPlanOf}
 use Rattle.ds_accept.specs.Fault.{IsAcceptFault}
 use Rattle.ds_accept.specs.declared.fault.AcceptFault.{AcceptFault}
 use Rattle.ds_accept.specs.declared.fault.AcceptFault.TheVariants.{Memory, TokenFreeCycle}
+use Rattle.ds_accept.specs.Sums.{AreLeastSums}
+use Rattle.ds_accept.specs.Lowered.{IsLowAt, sum_at}
 
 -- a graph with a fault is not acceptable
 abbrev pub AcceptFaultsAreRefused : Type 0
@@ -38,3 +40,14 @@ OneAcceptFault = (s : Split) (g : Graph) (one other : AcceptFault) → IsKept g 
     → other ≢ Memory
     → IsAcceptFault s g one → IsAcceptFault s g other
     → (one ≡ other) ⊎ (ShowsTokenFreeCycle one × ShowsTokenFreeCycle other)
+
+-- the least sums from an event are 0 at it, and rise along each arc by at most its tokens
+abbrev pub LeastSumsAreLow : Type 0
+LeastSumsAreLow = (g : Graph) (from : ℕ) (sums : List (Option ℕ)) → IsKept g
+    → from < length g.events → AreLeastSums g from sums
+    → (sum_at sums from ≡ Some 0) × All (IsLowAt sums) g.arcs
+
+-- a graph has one list of least sums from an event
+abbrev pub OneListOfSums : Type 0
+OneListOfSums = (g : Graph) (from : ℕ) (one other : List (Option ℕ)) → AreLeastSums g from one
+    → AreLeastSums g from other → one ≡ other

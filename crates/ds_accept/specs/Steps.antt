@@ -6,9 +6,9 @@ use Rattle.std.specs.List.{HoldsAt}
 use Rattle.ds_marked.specs.Graph.{Graph, IsKept, StandsBefore}
 use Rattle.ds_marked.specs.declared.marked.Arc.{Arc}
 use Rattle.ds_marked.specs.declared.marked.Event.{Event}
-use Rattle.ds_order.specs.Order.{IsCycle}
+use Rattle.ds_rank.specs.Order.{IsCycle}
 use Rattle.ds_rank.specs.Rank.{AreRanks, HasFreeArc}
-use Rattle.ds_walk.specs.Given.{IsFirstUnmet, IsGiven}
+use Rattle.ds_accept.specs.Given.{IsFirstUnmet, IsGiven}
 use Rattle.ds_latch.specs.Node.{Split}
 use Rattle.ds_latch.specs.Plan.{IsPlan, Reorders, split_events}
 use Rattle.ds_accept.specs.Accept.{IsAcceptable, extra_events, others_of}

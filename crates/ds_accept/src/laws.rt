@@ -2,6 +2,7 @@
 ghost use Rattle.ds_accept.specs.Laws.{AcceptableIsAccepted, AcceptFaultsAreRefused};
 ghost use Rattle.ds_accept.specs.Laws.{OneAcceptFault, OnePlan};
 ghost use Rattle.ds_accept.specs.Laws.{PlansAreAcceptable};
+ghost use Rattle.ds_accept.specs.Laws.{LeastSumsAreLow, OneListOfSums};
 
 /// A graph that has a fault is not acceptable.
 pub fn faults_are_refused()
@@ -26,4 +27,14 @@ pub fn one_plan()
 /// Two faults of one graph are the same fault, or both are cycles.
 pub fn one_fault()
     ensures { OneAcceptFault }
+{}
+
+/// The least sums from an event are 0 at it, and rise along each arc by at most its tokens.
+pub fn least_sums_are_low()
+    ensures { LeastSumsAreLow }
+{}
+
+/// A graph has one list of least sums from an event.
+pub fn one_list_of_sums()
+    ensures { OneListOfSums }
 {}

@@ -1,15 +1,14 @@
-//! The first order that no walk gives, or else a cycle of arcs without tokens.
+//! The last check of a graph: its orders by `first_unmet`, and no cycle of arcs without tokens.
 ghost use Rattle.std.specs.Prelude.{◌≡◌, ◌<◌, ℕ, length, All, Contains, MatchResult, None};
 ghost use Rattle.ds_marked.specs.Graph.{AreEnds};
-ghost use Rattle.ds_walk.specs.Given.{IsGiven};
+ghost use Rattle.ds_accept.specs.Given.{IsGiven};
 ghost use Rattle.ds_accept.specs.Steps.{AreWalked, IsMissing, IsUnmet};
 
-use crate::AcceptFault;
 use crate::ranked::{by_rank, in_turn};
+use crate::{AcceptFault, first_unmet, least_sums};
 use ds_base::EventId;
 use ds_marked::{Arc, Marked};
 use ds_rank::{RankFault, rank};
-use ds_walk::{first_unmet, least_sums};
 use std::alloc::Global;
 
 // Whether walks give these orders and no cycle of arcs is without tokens; else the first fault.

@@ -24,7 +24,7 @@ use Rattle.ds_stage.specs.PlanStage.{planned_stage}
 use Rattle.ds_stage.specs.AcceptStage.{ranks_stage}
 use Rattle.ds_app.specs.RunStage.{planned_run_stage, stopped_stage, traced_stage}
 use Rattle.ds_app.specs.Job.{run_stage, stages_of}
-use Rattle.ds_solo.specs.JobStages.{accept_stage, clock_stage, graph_stage, period_stage, replay_stage}
+use Rattle.ds_app.specs.JobStages.{accept_stage, clock_stage, graph_stage, period_stage, replay_stage}
 use Rattle.ds_stage.specs.ReplayStage.{replayed_stage}
 use Rattle.ds_stage.specs.PeriodStage.{measured_stage}
 use Rattle.ds_app.specs.Status.{AreTold, IsToldIn}

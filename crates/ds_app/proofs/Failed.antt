@@ -22,7 +22,7 @@ use Rattle.ds_latch.specs.Plan.{Planned}
 use Rattle.ds_design.specs.Rows.{Rows}
 use Rattle.ds_app.specs.RunStage.{planned_run_stage, stopped_stage, traced_stage}
 use Rattle.ds_app.specs.Job.{run_stage, stages_of}
-use Rattle.ds_solo.specs.JobStages.{accept_stage, clock_stage, graph_stage, period_stage, replay_stage}
+use Rattle.ds_app.specs.JobStages.{accept_stage, clock_stage, graph_stage, period_stage, replay_stage}
 use Rattle.ds_stage.proofs.PeriodStages.{measured_says}
 use Rattle.ds_stage.proofs.Expansions.{controller_says}
 use Rattle.ds_stage.proofs.Streamed.{streamed_says}

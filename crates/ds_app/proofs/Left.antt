@@ -14,7 +14,7 @@ use Rattle.ds_app.specs.Job.{run_stage, stages_of}
 use Rattle.ds_app.specs.RunStage.{planned_run_stage, stopped_run_stage, stopped_stage}
 use Rattle.ds_app.specs.Status.{HasWindows}
 use Rattle.ds_stage.proofs.Left.{LeavesNothing, giving_nothing, netlist_nothing, planned_nothing, then_nothing, vectors_nothing}
-use Rattle.ds_solo.proofs.Left.{accept_nothing, check_nothing, graph_nothing, period_nothing, replay_nothing}
+use Rattle.ds_app.proofs.LeftAlone.{accept_nothing, check_nothing, graph_nothing, period_nothing, replay_nothing}
 
 pub stopped_nothing : (held : List ℕ → Held) (vec : List ℕ) (log : Bool) (jobs stop : ℕ) (c : Circuit) (p : Planned)
     → LeavesNothing (stopped_run_stage held vec log jobs stop c p)

@@ -1,3 +1,12 @@
+pub mod Cycles
+pub mod LeftAlone
+pub mod Lent
+pub mod PlannedEnds
+pub mod ReplayEnds
+pub mod WindowEnds
+pub mod ClockEnds
+pub mod PeriodEnds
+pub mod PeriodTexts
 pub mod Left
 pub mod Exclusive
 pub mod Failed

@@ -15,17 +15,17 @@ use Rattle.ds_design.specs.Rows.{Rows}
 use Rattle.ds_design.specs.Trace.{end_line}
 use Rattle.ds_latch.specs.Plan.{Planned}
 use Rattle.ds_clocked.proofs.Turns.{whole_trace}
-use Rattle.ds_trace.specs.Ended.{IsRunEnd}
-use Rattle.ds_trace.specs.Logged.{IsLogOf, Listed}
-use Rattle.ds_trace.proofs.Ended.{end_spells_run}
-use Rattle.ds_trace.proofs.Logged.{legal_events, log_more}
+use Rattle.ds_run.specs.Ended.{IsRunEnd}
+use Rattle.ds_run.specs.Logged.{IsLogOf, Listed}
+use Rattle.ds_run.proofs.Ended.{end_spells_run}
+use Rattle.ds_run.proofs.Logged.{legal_events, log_more}
 use Rattle.ds_stage.specs.declared.stop.Stop.{Stop}
 use Rattle.ds_stage.specs.declared.stop.Stop.TheVariants.{Unwritten}
 use Rattle.ds_stage.specs.Ends.{Ends, Output}
 use Rattle.ds_stage.specs.Stage.{OfFile}
 use Rattle.ds_stage.specs.StreamStage.{most_vectors}
 use Rattle.ds_stage.proofs.Streamed.{AreWritten, GivenOf, Spells, given_whole, of_many}
-use Rattle.ds_solo.proofs.WindowEnds.{part_after}
+use Rattle.ds_app.proofs.WindowEnds.{part_after}
 use Rattle.ds_app.specs.RunStage.{streamed_run_stage, traced_stage}
 
 -- firings have a log

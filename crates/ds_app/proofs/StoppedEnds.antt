@@ -5,7 +5,7 @@ use Rattle.ds_outside.specs.declared.files.Which.{Which}
 use Rattle.ds_design.specs.Circuit.{Circuit}
 use Rattle.ds_design.specs.Rows.{Rows}
 use Rattle.ds_latch.specs.Plan.{Planned}
-use Rattle.ds_trace.specs.RunText.{IsRunText}
+use Rattle.ds_run.specs.RunText.{IsRunText}
 use Rattle.ds_stage.specs.declared.stop.Stop.{Stop}
 use Rattle.ds_stage.specs.Ends.{Ends, Output, RoseIn}
 use Rattle.ds_stage.specs.StreamStage.{most_vectors}

@@ -10,8 +10,8 @@ use Rattle.ds_design.specs.Run.{IsRun}
 use Rattle.ds_design.specs.Trace.{IsTrace}
 use Rattle.ds_demo.specs.Demo.{demo_design, demo_vectors}
 use Rattle.ds_demo.specs.Laws.{VectorsFit}
-use Rattle.ds_trace.specs.Summed.{IsSummed, ones_in}
-use Rattle.ds_trace.specs.declared.sums.Sums.{Sums}
+use Rattle.ds_run.specs.Summed.{IsSummed, ones_in}
+use Rattle.ds_run.specs.declared.sums.Sums.{Sums}
 use Rattle.ds_app.specs.DemoStage.{AreSums}
 
 -- the vectors fit the netlist of the design

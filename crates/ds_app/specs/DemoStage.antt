@@ -6,7 +6,7 @@ use Rattle.ds_design.specs.Run.{IsRun}
 use Rattle.ds_design.specs.Trace.{IsTrace}
 use Rattle.ds_demo.specs.Demo.{demo_design, demo_vectors}
 use Rattle.ds_demo.specs.Fold.{fold_of}
-use Rattle.ds_trace.specs.Summed.{ones_in}
+use Rattle.ds_run.specs.Summed.{ones_in}
 use Rattle.ds_stage.specs.Report.{count_line}
 use Rattle.ds_stage.specs.Stage.{Stage, giving}
 

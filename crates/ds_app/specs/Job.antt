@@ -9,8 +9,8 @@ use Rattle.ds_cmd.specs.declared.run.RunJob.{RunJob}
 use Rattle.ds_stage.specs.Stage.{Stage, then_stage}
 use Rattle.ds_stage.specs.Stages.{netlist_stage, report_stage}
 use Rattle.ds_stage.specs.PlanStage.{planned_stage}
-use Rattle.ds_solo.specs.JobStages.{accept_stage, clock_stage, graph_stage, period_stage}
-use Rattle.ds_solo.specs.JobStages.{replay_stage}
+use Rattle.ds_app.specs.JobStages.{accept_stage, clock_stage, graph_stage, period_stage}
+use Rattle.ds_app.specs.JobStages.{replay_stage}
 use Rattle.ds_app.specs.RunStage.{planned_run_stage}
 use Rattle.ds_app.specs.DemoStage.{demo_stage}
 

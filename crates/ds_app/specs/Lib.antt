@@ -1,4 +1,5 @@
 -- In the order in which to read.
+pub mod JobStages
 pub mod RunStage
 pub mod DemoStage
 pub mod Job

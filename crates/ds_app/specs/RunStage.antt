@@ -5,8 +5,8 @@ use Rattle.ds_outside.specs.Held.{Held}
 use Rattle.ds_design.specs.Circuit.{Circuit}
 use Rattle.ds_latch.specs.Plan.{Planned}
 use Rattle.ds_design.specs.Rows.{Rows}
-use Rattle.ds_trace.specs.RunText.{IsRunText}
-use Rattle.ds_trace.specs.Stopped.{IsStoppedText}
+use Rattle.ds_run.specs.RunText.{IsRunText}
+use Rattle.ds_run.specs.Stopped.{IsStoppedText}
 use Rattle.ds_stage.specs.Stage.{Stage, giving, then_stage}
 use Rattle.ds_stage.specs.Stages.{vectors_stage}
 use Rattle.ds_stage.specs.StreamStage.{most_vectors, streamed_stage}

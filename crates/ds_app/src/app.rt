@@ -6,16 +6,16 @@ ghost use Rattle.ds_app.specs.Interleavings.{Interleavings};
 ghost use Rattle.ds_app.specs.Job.{stages_of};
 ghost use Rattle.ds_app.specs.Status.{Call, IsAnswered, Reports, SaysStop, SaysUsage};
 
+use crate::accept::accept;
+use crate::check::check;
+use crate::clock::clock;
 use crate::demo::demo;
+use crate::graph::graph;
+use crate::period::period;
+use crate::replay::replay;
 use crate::run::run;
 use ds_cmd::{Job, UsageFault, parse};
 use ds_outside::{Files, Gate, Sink, write_all};
-use ds_solo::accept::accept;
-use ds_solo::check::check;
-use ds_solo::clock::clock;
-use ds_solo::graph::graph;
-use ds_solo::period::period;
-use ds_solo::replay::replay;
 use ds_stage::Stop;
 use std::thread::Threads;
 

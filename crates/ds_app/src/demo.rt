@@ -18,9 +18,8 @@ use ds_design::{Design, Netlist};
 use ds_latch::Plan;
 use ds_netlist::{NetFault, levelise};
 use ds_outside::{Gate, Sink, WriteFault};
-use ds_run::Workers;
+use ds_run::{Sums, Workers, sum_run};
 use ds_stage::{Stop, own_plan, put_count, split_netlist};
-use ds_trace::{Sums, sum_run};
 use std::alloc::Global;
 use std::thread::Threads;
 

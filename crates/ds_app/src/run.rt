@@ -2,10 +2,9 @@
 ghost use Rattle.std.specs.Prelude.{◌≡◌, ◌≤◌, ◌<◌, Bool, IfOk, true, false, Some, None};
 ghost use Rattle.ds_design.specs.Circuit.{initial_row};
 ghost use Rattle.ds_cmd.specs.declared.job.Job.TheVariants.{Run};
-ghost use Rattle.ds_trace.specs.Ended.{IsSomeLog, WritesEnd};
-ghost use Rattle.ds_trace.specs.Logged.{IsLogOf};
+ghost use Rattle.ds_run.specs.Ended.{IsSomeLog, WritesEnd};
+ghost use Rattle.ds_run.specs.Logged.{IsLogOf};
 ghost use Rattle.ds_stage.specs.Ends.{Ends, RoseIn, output_between};
-ghost use Rattle.ds_stage.specs.StreamStage.{most_vectors as most_vectors_of};
 ghost use Rattle.ds_app.specs.Job.{stages_of};
 ghost use Rattle.ds_app.specs.RunStage.{planned_run_stage, streamed_run_stage};
 
@@ -14,10 +13,9 @@ use ds_base::{OutOfMemory, Row3};
 use ds_cmd::RunJob;
 use ds_latch::Plan;
 use ds_outside::{Files, Gate, Sink, WriteFault};
-use ds_run::Workers;
-use ds_stage::{Splitting, Stop, WINDOW, plan_netlist, read_netlist, read_window};
+use ds_run::{Log, RunFault, RunWindow, Workers, end_run, write_window};
+use ds_stage::{Splitting, Stop, WINDOW, most_vectors, plan_netlist, read_netlist, read_window};
 use ds_stream::VectorReader;
-use ds_trace::{Log, RunFault, RunWindow, end_run, write_window};
 use std::alloc::Global;
 use std::thread::Threads;
 
@@ -157,11 +155,4 @@ fn log_for(alloc: Global, plan: &Plan<'_>, wanted: bool) -> Result<Option<Log>, 
     } else {
         Ok(None)
     }
-}
-
-// How many vectors there may be: a log keeps all firings.
-fn most_vectors(log: bool) -> u64
-    ensures { result ≡ most_vectors_of log }
-{
-    if log { 65_536 } else { 4_294_967_295 }
 }

@@ -1,7 +1,7 @@
 //! `run --stop`: the run of a plan that is stopped, and what its registers have stored then.
 ghost use Rattle.std.specs.Prelude.{◌≡◌, ◌≤◌, ◌<◌, length};
 ghost use Rattle.ds_design.specs.Circuit.{columns};
-ghost use Rattle.ds_trace.specs.Stopped.{IsStoppedText};
+ghost use Rattle.ds_run.specs.Stopped.{IsStoppedText};
 ghost use Rattle.ds_stage.specs.Ends.{Ends, Never, RoseIn, output_between};
 ghost use Rattle.ds_stage.specs.Stage.{giving};
 ghost use Rattle.ds_app.specs.RunStage.{stopped_run_stage};
@@ -9,9 +9,8 @@ ghost use Rattle.ds_app.specs.RunStage.{stopped_run_stage};
 use ds_cmd::RunJob;
 use ds_latch::Plan;
 use ds_outside::{Files, Gate, Sink};
-use ds_run::Workers;
+use ds_run::{Halt, RunFault, Workers, write_stopped};
 use ds_stage::{Stop, read_rows};
-use ds_trace::{Halt, RunFault, write_stopped};
 use std::thread::Threads;
 
 /// A plan, and after how many firings each worker stops.

@@ -6,7 +6,7 @@ use Rattle.std.proofs.lemmas.Slice.Eq.{bytes_eq-Decides}
 use Rattle.std.proofs.lemmas.List.{get_or_append_left, length-append}
 use Rattle.std.proofs.Math.Seq.{get_or-append_seam}
 use Rattle.std.proofs.lemmas.List.Folds.{list_any_at}
-use Rattle.ds_names.specs.Names.{has_name, with_name}
+use Rattle.ds_lines.specs.Names.{has_name, with_name}
 use Rattle.ds_astg.specs.Signals.{Declared, with_declared}
 use Rattle.ds_astg.specs.Place.{Places}
 use Rattle.ds_astg.specs.Line.{declare, may_declare}

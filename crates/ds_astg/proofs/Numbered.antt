@@ -5,7 +5,7 @@ use Rattle.std.proofs.lemmas.List.{map-append, length-map, length-append, get_or
 use Rattle.std.proofs.lemmas.List.Sums.{sum_by-append, sum_by_more_le, sum_by-le}
 use Rattle.std.proofs.lemmas.Option.{slice_get_past, slice_get-get_or}
 use Rattle.std.proofs.Math.Seq.{get_or-append_seam, take-append_seam}
-use Rattle.ds_names.specs.Names.{has_name, place_of_name, with_name}
+use Rattle.ds_lines.specs.Names.{has_name, place_of_name, with_name}
 use Rattle.ds_astg.specs.Signals.{Declared, count_events, event_count, first_event, role_of}
 use Rattle.ds_astg.specs.Numbered.{AreNumbered, roles_of}
 use Rattle.ds_astg.specs.declared.role.Role.{Role}

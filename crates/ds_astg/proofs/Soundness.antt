@@ -4,7 +4,7 @@ use Rattle.std.proofs.lemmas.Bool.{cases_Bool, cases_lt}
 use Rattle.std.proofs.lemmas.List.{length-append, length-set, get_or_past}
 use Rattle.std.proofs.lemmas.List.Elements.{All-cons, All-set, All-append}
 use Rattle.ds_lines.specs.Words.{word_at}
-use Rattle.ds_names.specs.Names.{has_name, place_of_name}
+use Rattle.ds_lines.specs.Names.{has_name, place_of_name}
 use Rattle.ds_astg.specs.Word.{is_signed, fall_of, last_byte, has_slash, has_reserved}
 use Rattle.ds_astg.specs.Turn.{then_do, all_of}
 use Rattle.ds_astg.specs.Signals.{Declared, count_events, event_count, role_of}

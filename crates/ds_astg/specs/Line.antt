@@ -6,7 +6,7 @@ use Rattle.std.specs.Str.{bytes_eq}
 use Rattle.ds_lines.specs.Words.{word_at}
 use Rattle.ds_base.specs.Limit.{most_of}
 use Rattle.ds_base.specs.declared.number.Limit.TheVariants.{Signals as SignalsLimit}
-use Rattle.ds_names.specs.Names.{has_name}
+use Rattle.ds_lines.specs.Names.{has_name}
 use Rattle.ds_lines.specs.Line.{Line}
 use Rattle.ds_astg.specs.Word.{first_byte, is_signal}
 use Rattle.ds_astg.specs.Signals.{Declared, no_names, with_declared, role_of, may_have}

@@ -1,7 +1,7 @@
 -- What a word of the graph part stands for.
 use Rattle.std.specs.Prelude.{ℕ, ◌+◌, List, Option, None, Some, Result, Ok, Err}
 use Rattle.std.specs.Prelude.{if◌then◌else◌}
-use Rattle.ds_names.specs.Names.{place_of_name}
+use Rattle.ds_lines.specs.Names.{place_of_name}
 use Rattle.ds_astg.specs.Word.{has_slash, has_reserved, is_signed, without_last, fall_of}
 use Rattle.ds_astg.specs.Signals.{Declared, role_of, first_event}
 use Rattle.ds_astg.specs.declared.role.Role.{Role}

@@ -122,7 +122,7 @@ impl<'a> Places<'a> {
         if self.has(key) {
             return Ok(());
         }
-        if self.keys.len() >= 1_048_576 {
+        if self.keys.len() as u64 >= Limit::Arcs.most() {
             return Err(Refusal::Because(AstgKind::TooMany(Limit::Arcs)));
         }
         self.places.push(place)?;

@@ -6,7 +6,7 @@ ghost use Rattle.ds_astg.specs.Signals.{no_names, role_of, with_declared, may_ha
 ghost use Rattle.ds_astg.specs.Line.{declare as declare_in, declare_all as declare_words};
 ghost use Rattle.ds_astg.specs.Line.{may_declare as may_declare_in};
 ghost use Rattle.ds_astg.specs.Node.{event_in, first_number};
-ghost use Rattle.ds_names.specs.Names.{has_name};
+ghost use Rattle.ds_lines.specs.Names.{has_name};
 ghost use Rattle.ds_astg.specs.Steps.{IsGraphKind};
 
 use crate::declaration::Declaration;
@@ -16,8 +16,7 @@ use crate::places::Places;
 use crate::role::{Role, may_have};
 use crate::word::{is_signal, name_in};
 use ds_base::{Limit, OutOfMemory};
-use ds_lines::{name, word};
-use ds_names::Names;
+use ds_lines::{Names, name, word};
 use std::alloc::Global;
 use std::marker::Model;
 
@@ -124,7 +123,7 @@ impl<'a> Signals<'a> {
         if self.has(word) {
             return Ok(());
         }
-        if self.names.len() >= 65_536 {
+        if self.names.len() as u64 >= Limit::Signals.most() {
             return Err(Refusal::Because(AstgKind::TooMany(Limit::Signals)));
         }
         self.add(role, word)?;

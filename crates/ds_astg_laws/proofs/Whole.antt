@@ -9,7 +9,7 @@ use Rattle.std.proofs.lemmas.List.Sorted.{IsPermutation-refl}
 use Rattle.std.proofs.Math.Seq.{get_or-append_seam}
 use Rattle.ds_lines.specs.Words.{word_at}
 use Rattle.ds_lines.specs.Print.{numbered_lines}
-use Rattle.ds_names.specs.Names.{has_name}
+use Rattle.ds_lines.specs.Names.{has_name}
 use Rattle.ds_astg.specs.Signals.{Declared, with_declared, role_of, may_have}
 use Rattle.ds_astg.specs.declared.role.Role.{Role}
 use Rattle.ds_astg.specs.declared.role.Role.TheVariants.{Signal, Dummy}

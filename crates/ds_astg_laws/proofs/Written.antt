@@ -11,7 +11,7 @@ use Rattle.std.proofs.lemmas.Fmt.{decimal_digit, decimal-digits_of}
 use Rattle.std.specs.Int.Digits.{digits_of, AllBelowBase}
 use Rattle.std.proofs.lemmas.Int.Digits.{all_below_base_digits_of}
 use Rattle.std.proofs.Math.Seq.{get_or-append_seam}
-use Rattle.ds_names.specs.Names.{place_of_name}
+use Rattle.ds_lines.specs.Names.{place_of_name}
 use Rattle.ds_marked.specs.declared.marked.Event.{Event}
 use Rattle.ds_marked.specs.declared.marked.Kind.TheVariants.{Rise, Fall, Dummy as DummyKind}
 use Rattle.ds_marked.specs.Log.{event_text}

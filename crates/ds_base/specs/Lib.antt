@@ -1,5 +1,9 @@
+-- In the order in which to read.
 pub mod Limit
 pub mod Greatest
 pub mod Values
 pub mod Word
 pub mod Lent
+pub mod Turns
+pub mod Scratch
+pub mod LentNets

@@ -11,7 +11,7 @@ use Rattle.std.proofs.lemmas.List.{length-take-le, length-drop}
 use Rattle.std.proofs.lemmas.List.Elements.{All-from_recursion}
 use Rattle.ds_lines.specs.First.{where_true}
 use Rattle.ds_lines.specs.Words.{word_at}
-use Rattle.ds_models.specs.Source.{IsPlaneByte, IsTableText, IsLatchText, IsUseText}
+use Rattle.ds_design.specs.Source.{IsPlaneByte, IsTableText, IsLatchText, IsUseText}
 use Rattle.ds_blif.specs.Form.{is_plane_byte, is_row_form, is_init, has_bad_init}
 use Rattle.ds_blif.specs.Form.{is_pair, formal_of, is_latch_form, is_level_latch, has_bad_pairs}
 use Rattle.ds_blif.specs.Fault.{row_fault, names_fault, latch_fault}

@@ -8,9 +8,9 @@ use Rattle.std.proofs.lemmas.List.Elements.{All-from_recursion}
 use Rattle.ds_lines.specs.First.{unless_fault}
 use Rattle.ds_lines.specs.Words.{word_at}
 use Rattle.ds_lines.specs.Line.{Line}
-use Rattle.ds_models.specs.Source.{IsPart, IsBlif}
-use Rattle.ds_models.specs.declared.blif.Part.{Part}
-use Rattle.ds_models.specs.declared.blif.BlifModel.{BlifModel}
+use Rattle.ds_design.specs.Source.{IsPart, IsBlif}
+use Rattle.ds_design.specs.declared.blif.Part.{Part}
+use Rattle.ds_design.specs.declared.blif.BlifModel.{BlifModel}
 use Rattle.ds_blif.specs.Head.{head_of}
 use Rattle.ds_blif.specs.State.{State, after_head, after, own_fault}
 use Rattle.ds_blif.specs.State.{end_fault, first_fault}

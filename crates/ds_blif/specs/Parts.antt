@@ -14,17 +14,17 @@ use Rattle.ds_blif.specs.declared.head.Head.TheVariants.{Row, Names, Model, Inpu
 use Rattle.ds_blif.specs.declared.head.Head.TheVariants.{Latch, Subckt, End, Skipped, Unknown}
 use Rattle.ds_design.specs.declared.design.Edge.{Edge}
 use Rattle.ds_design.specs.declared.design.Edge.TheVariants.{Rising, Falling}
-use Rattle.ds_models.specs.declared.blif.TableText.{TableText}
-use Rattle.ds_models.specs.declared.blif.LatchText.{LatchText}
-use Rattle.ds_models.specs.declared.blif.Pair.{Pair}
-use Rattle.ds_models.specs.declared.blif.UseText.{UseText}
-use Rattle.ds_models.specs.declared.blif.Part.{Part}
-use Rattle.ds_models.specs.declared.blif.Part.TheVariants.{Inputs as InputsPart}
-use Rattle.ds_models.specs.declared.blif.Part.TheVariants.{Outputs as OutputsPart}
-use Rattle.ds_models.specs.declared.blif.Part.TheVariants.{Clock as ClockPart, Table as TablePart}
-use Rattle.ds_models.specs.declared.blif.Part.TheVariants.{Latch as LatchPart, Subckt as SubcktPart}
-use Rattle.ds_models.specs.declared.blif.Command.{Command}
-use Rattle.ds_models.specs.declared.blif.BlifModel.{BlifModel}
+use Rattle.ds_design.specs.declared.blif.TableText.{TableText}
+use Rattle.ds_design.specs.declared.blif.LatchText.{LatchText}
+use Rattle.ds_design.specs.declared.blif.Pair.{Pair}
+use Rattle.ds_design.specs.declared.blif.UseText.{UseText}
+use Rattle.ds_design.specs.declared.blif.Part.{Part}
+use Rattle.ds_design.specs.declared.blif.Part.TheVariants.{Inputs as InputsPart}
+use Rattle.ds_design.specs.declared.blif.Part.TheVariants.{Outputs as OutputsPart}
+use Rattle.ds_design.specs.declared.blif.Part.TheVariants.{Clock as ClockPart, Table as TablePart}
+use Rattle.ds_design.specs.declared.blif.Part.TheVariants.{Latch as LatchPart, Subckt as SubcktPart}
+use Rattle.ds_design.specs.declared.blif.Command.{Command}
+use Rattle.ds_design.specs.declared.blif.BlifModel.{BlifModel}
 
 -- what some lines stand for: the rows at their front and whether these list where a table is 1, the
 -- commands up to the next model, the models

@@ -5,7 +5,7 @@ use Rattle.ds_lines.specs.Line.{Line}
 use Rattle.ds_blif.specs.declared.fault.BlifFault.{BlifFault}
 use Rattle.ds_blif.specs.declared.fault.BlifRefusal.{BlifRefusal}
 use Rattle.ds_blif.specs.declared.fault.BlifRefusal.TheVariants.{Memory, Fault}
-use Rattle.ds_models.specs.declared.blif.BlifModel.{BlifModel}
+use Rattle.ds_design.specs.declared.blif.BlifModel.{BlifModel}
 use Rattle.ds_blif.specs.State.{first_fault}
 use Rattle.ds_blif.specs.Parts.{models_of}
 

@@ -4,8 +4,8 @@ ghost use Rattle.ds_blif.specs.Parts.{models_of};
 
 use crate::building::Building;
 use ds_base::{OutOfMemory, Seq};
+use ds_design::BlifModel;
 use ds_lines::Lines;
-use ds_models::BlifModel;
 use std::alloc::Global;
 
 /// The models of the lines. Of lines with a fault they are some models.

@@ -7,14 +7,14 @@ ghost use Rattle.ds_blif.specs.Parts.{Parts, no_parts, with_row as with_row_of};
 ghost use Rattle.ds_blif.specs.Parts.{without_rows as without_rows_of};
 ghost use Rattle.ds_blif.specs.Parts.{with_command as with_command_of, with_model as with_model_of};
 ghost use Rattle.ds_blif.specs.Parts.{with_head as with_head_of, table_of as table_of_words};
-ghost use Rattle.ds_models.specs.declared.blif.Part.TheVariants.{Table as TablePart};
+ghost use Rattle.ds_design.specs.declared.blif.Part.TheVariants.{Table as TablePart};
 
 use crate::head::{Head, head_of};
 use crate::part::{is_on, latch_of, plane_of, table_of, use_of};
 use crate::word::{word_or_none, words_behind};
 use ds_base::{OutOfMemory, Seq};
+use ds_design::{BlifModel, Command, Part, Word};
 use ds_lines::word;
-use ds_models::{BlifModel, Command, Part, Word};
 use std::alloc::Global;
 use std::marker::Model;
 use std::mem::replace;

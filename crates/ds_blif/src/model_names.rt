@@ -5,8 +5,7 @@ ghost use Rattle.ds_blif.specs.Fault.{model_fault};
 ghost use Rattle.ds_blif.specs.State.{IsKind};
 
 use crate::fault::{BlifKind, Refusal};
-use ds_lines::{name, word};
-use ds_names::Names;
+use ds_lines::{Names, name, word};
 use std::alloc::Global;
 
 /// Adds the name of this model's head to the names of the models.

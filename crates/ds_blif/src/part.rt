@@ -12,8 +12,7 @@ ghost use Rattle.ds_blif.specs.Parts.{pair_of as pair_of_word, use_of as use_of_
 use crate::subckt::{formal, place_of_equals};
 use crate::word::{behind, is, word_or_none};
 use ds_base::{OutOfMemory, Seq};
-use ds_design::Edge;
-use ds_models::{LatchText, Pair, TableText, UseText, Word, Words};
+use ds_design::{Edge, LatchText, Pair, TableText, UseText, Word, Words};
 use std::alloc::Global;
 
 /// The characters of a row's inputs.

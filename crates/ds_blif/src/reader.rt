@@ -10,8 +10,8 @@ ghost use Rattle.ds_blif.specs.Text.{models_of_text, ReadsModels};
 use crate::build::build;
 use crate::check::check;
 use crate::fault::BlifRefusal;
+use ds_design::Blif;
 use ds_lines::Lines;
-use ds_models::Blif;
 use std::alloc::Global;
 
 /// The models that the lines stand for, the main one first, or their first fault. A text without

@@ -7,7 +7,7 @@ ghost use Rattle.ds_blif.specs.State.{wants_model as wants_open_model};
 
 use crate::head::Head;
 use crate::row::output;
-use ds_names::Names;
+use ds_lines::Names;
 use std::alloc::Global;
 use std::marker::Model;
 

@@ -8,8 +8,7 @@ ghost use Rattle.ds_blif.specs.Fault.{subckt_fault as subckt_fault_in};
 
 use crate::fault::BlifKind;
 use ds_base::OutOfMemory;
-use ds_lines::word;
-use ds_names::Names;
+use ds_lines::{Names, word};
 use std::alloc::Global;
 
 /// Where the first `=` of a word stands, its length where there is none.

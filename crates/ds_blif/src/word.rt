@@ -3,7 +3,7 @@ ghost use Rattle.std.specs.Prelude.{◌≡◌, ◌<◌, length, drop};
 ghost use Rattle.std.specs.Str.{bytes_eq};
 ghost use Rattle.ds_lines.specs.Words.{texts, word_at};
 
-use ds_models::Words;
+use ds_design::Words;
 
 /// Whether two words are the same.
 pub fn is(word: &[u8], text: &[u8]) -> bool

@@ -21,13 +21,13 @@ use Rattle.ds_blif.specs.declared.fault.BlifKind.{BlifKind}
 use Rattle.ds_blif.specs.declared.fault.BlifFault.{BlifFault}
 use Rattle.ds_design.specs.declared.design.Edge.{Edge}
 use Rattle.ds_design.specs.declared.design.Edge.TheVariants.{Rising, Falling}
-use Rattle.ds_models.specs.declared.blif.TableText.{TableText}
-use Rattle.ds_models.specs.declared.blif.LatchText.{LatchText}
-use Rattle.ds_models.specs.declared.blif.UseText.{UseText}
-use Rattle.ds_models.specs.declared.blif.Part.{Part}
-use Rattle.ds_models.specs.declared.blif.Part.TheVariants.{Inputs, Outputs, Clock, Table, Latch, Subckt}
-use Rattle.ds_models.specs.declared.blif.Command.{Command}
-use Rattle.ds_models.specs.declared.blif.BlifModel.{BlifModel}
+use Rattle.ds_design.specs.declared.blif.TableText.{TableText}
+use Rattle.ds_design.specs.declared.blif.LatchText.{LatchText}
+use Rattle.ds_design.specs.declared.blif.UseText.{UseText}
+use Rattle.ds_design.specs.declared.blif.Part.{Part}
+use Rattle.ds_design.specs.declared.blif.Part.TheVariants.{Inputs, Outputs, Clock, Table, Latch, Subckt}
+use Rattle.ds_design.specs.declared.blif.Command.{Command}
+use Rattle.ds_design.specs.declared.blif.BlifModel.{BlifModel}
 use Rattle.ds_blif_laws.proofs.Heads.{head_inputs, head_outputs, head_clock, head_names, head_latch, head_subckt, head_model, head_end, head_row}
 use Rattle.ds_blif_laws.proofs.Printed.{numbered-append, models_parts}
 use Rattle.ds_blif.proofs.First.{fault_from, fault_from_is}

@@ -4,11 +4,11 @@ use Rattle.std.specs.List.{AllByRecursion, flat_map}
 use Rattle.ds_lines.specs.First.{first_of, unless_fault}
 use Rattle.ds_lines.specs.Words.{word_at}
 use Rattle.ds_lines.specs.Line.{Line}
-use Rattle.ds_models.specs.declared.blif.Part.{Part}
-use Rattle.ds_models.specs.declared.blif.Part.TheVariants.{Inputs as InputsPart, Outputs as OutputsPart, Clock as ClockPart, Table as TablePart, Latch as LatchPart, Subckt as SubcktPart}
-use Rattle.ds_models.specs.declared.blif.Command.{Command}
-use Rattle.ds_models.specs.declared.blif.TableText.{TableText}
-use Rattle.ds_models.specs.declared.blif.BlifModel.{BlifModel}
+use Rattle.ds_design.specs.declared.blif.Part.{Part}
+use Rattle.ds_design.specs.declared.blif.Part.TheVariants.{Inputs as InputsPart, Outputs as OutputsPart, Clock as ClockPart, Table as TablePart, Latch as LatchPart, Subckt as SubcktPart}
+use Rattle.ds_design.specs.declared.blif.Command.{Command}
+use Rattle.ds_design.specs.declared.blif.TableText.{TableText}
+use Rattle.ds_design.specs.declared.blif.BlifModel.{BlifModel}
 use Rattle.ds_blif.specs.Parts.{Parts, latch_of, plane_of, table_of, use_of, with_command, with_head, parts_of, models_of}
 use Rattle.ds_blif.specs.Text.{models_of_text}
 use Rattle.ds_blif_laws.specs.InParts.{AreInParts, Group, as_rows, begins_model, command_in, head_at, is_outer, items_of, model_in, part_by, rows_among}

@@ -11,14 +11,14 @@ use Rattle.ds_blif.specs.Parts.{Parts, parts_of, with_head, with_command, latch_
 use Rattle.ds_blif_laws.specs.Print.{bit_word, words_of_row, part_words, command_words, model_words, placed_commands, models_at_lines, pair_word, type_words, edge_word}
 use Rattle.ds_design.specs.declared.design.Edge.{Edge}
 use Rattle.ds_design.specs.declared.design.Edge.TheVariants.{Rising, Falling}
-use Rattle.ds_models.specs.declared.blif.TableText.{TableText}
-use Rattle.ds_models.specs.declared.blif.LatchText.{LatchText}
-use Rattle.ds_models.specs.declared.blif.UseText.{UseText}
-use Rattle.ds_models.specs.declared.blif.Pair.{Pair}
-use Rattle.ds_models.specs.declared.blif.Part.{Part}
-use Rattle.ds_models.specs.declared.blif.Part.TheVariants.{Inputs, Outputs, Clock, Table, Latch, Subckt}
-use Rattle.ds_models.specs.declared.blif.Command.{Command}
-use Rattle.ds_models.specs.declared.blif.BlifModel.{BlifModel}
+use Rattle.ds_design.specs.declared.blif.TableText.{TableText}
+use Rattle.ds_design.specs.declared.blif.LatchText.{LatchText}
+use Rattle.ds_design.specs.declared.blif.UseText.{UseText}
+use Rattle.ds_design.specs.declared.blif.Pair.{Pair}
+use Rattle.ds_design.specs.declared.blif.Part.{Part}
+use Rattle.ds_design.specs.declared.blif.Part.TheVariants.{Inputs, Outputs, Clock, Table, Latch, Subckt}
+use Rattle.ds_design.specs.declared.blif.Command.{Command}
+use Rattle.ds_design.specs.declared.blif.BlifModel.{BlifModel}
 use Rattle.std.proofs.Math.Seq.{take-append_seam, get_or-append_seam, drop-append-add}
 use Rattle.std.proofs.lemmas.List.{append-nil}
 use Rattle.ds_lines.specs.Words.{word_at}

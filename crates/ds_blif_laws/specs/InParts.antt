@@ -6,13 +6,13 @@ use Rattle.std.specs.List.{AllByRecursion, filter, flat_map}
 use Rattle.std.specs.Option.{option_map_or}
 use Rattle.ds_lines.specs.Words.{word_at}
 use Rattle.ds_lines.specs.Line.{Line}
-use Rattle.ds_models.specs.declared.blif.Part.{Part}
-use Rattle.ds_models.specs.declared.blif.Part.TheVariants.{Inputs as InputsPart}
-use Rattle.ds_models.specs.declared.blif.Part.TheVariants.{Outputs as OutputsPart}
-use Rattle.ds_models.specs.declared.blif.Part.TheVariants.{Clock as ClockPart, Table as TablePart}
-use Rattle.ds_models.specs.declared.blif.Part.TheVariants.{Latch as LatchPart, Subckt as SubcktPart}
-use Rattle.ds_models.specs.declared.blif.Command.{Command}
-use Rattle.ds_models.specs.declared.blif.BlifModel.{BlifModel}
+use Rattle.ds_design.specs.declared.blif.Part.{Part}
+use Rattle.ds_design.specs.declared.blif.Part.TheVariants.{Inputs as InputsPart}
+use Rattle.ds_design.specs.declared.blif.Part.TheVariants.{Outputs as OutputsPart}
+use Rattle.ds_design.specs.declared.blif.Part.TheVariants.{Clock as ClockPart, Table as TablePart}
+use Rattle.ds_design.specs.declared.blif.Part.TheVariants.{Latch as LatchPart, Subckt as SubcktPart}
+use Rattle.ds_design.specs.declared.blif.Command.{Command}
+use Rattle.ds_design.specs.declared.blif.BlifModel.{BlifModel}
 use Rattle.ds_blif.specs.Head.{head_of}
 use Rattle.ds_blif_laws.specs.InOrder.{is_model, is_row}
 use Rattle.ds_blif.specs.Parts.{Parts, is_on, latch_of, no_parts, plane_of, table_of, use_of}

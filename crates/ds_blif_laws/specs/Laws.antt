@@ -3,8 +3,8 @@ use Rattle.std.specs.Prelude.{◌≡◌, ℕ, List, [], ◌∷◌, Ok}
 use Rattle.std.specs.List.{AllByRecursion}
 use Rattle.ds_lines.specs.Line.{Line, lines_of}
 use Rattle.ds_lines.specs.Print.{numbered_lines, text_of, IsPlain}
-use Rattle.ds_models.specs.Source.{IsBlif}
-use Rattle.ds_models.specs.declared.blif.BlifModel.{BlifModel}
+use Rattle.ds_design.specs.Source.{IsBlif}
+use Rattle.ds_design.specs.declared.blif.BlifModel.{BlifModel}
 use Rattle.ds_blif.specs.State.{State, fault_by}
 use Rattle.ds_blif_laws.specs.InOrder.{fault_in_order}
 use Rattle.ds_blif.specs.Text.{models_of_text}

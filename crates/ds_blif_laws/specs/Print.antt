@@ -3,12 +3,12 @@ use Rattle.std.specs.Prelude.{ℕ, ◌+◌, Bool, true, false, List, [], ◌∷�
 use Rattle.std.specs.Prelude.{Option, None, Some}
 use Rattle.ds_design.specs.declared.design.Edge.{Edge}
 use Rattle.ds_design.specs.declared.design.Edge.TheVariants.{Rising, Falling}
-use Rattle.ds_models.specs.declared.blif.Pair.{Pair}
-use Rattle.ds_models.specs.declared.blif.Part.{Part}
-use Rattle.ds_models.specs.declared.blif.Part.TheVariants.{Inputs, Outputs, Clock, Table, Latch}
-use Rattle.ds_models.specs.declared.blif.Part.TheVariants.{Subckt}
-use Rattle.ds_models.specs.declared.blif.Command.{Command}
-use Rattle.ds_models.specs.declared.blif.BlifModel.{BlifModel}
+use Rattle.ds_design.specs.declared.blif.Pair.{Pair}
+use Rattle.ds_design.specs.declared.blif.Part.{Part}
+use Rattle.ds_design.specs.declared.blif.Part.TheVariants.{Inputs, Outputs, Clock, Table, Latch}
+use Rattle.ds_design.specs.declared.blif.Part.TheVariants.{Subckt}
+use Rattle.ds_design.specs.declared.blif.Command.{Command}
+use Rattle.ds_design.specs.declared.blif.BlifModel.{BlifModel}
 
 -- `1` or `0`
 abbrev pub bit_word : Bool → List ℕ

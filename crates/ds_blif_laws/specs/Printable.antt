@@ -6,15 +6,15 @@ use Rattle.std.specs.Str.{bytes_eq}
 use Rattle.ds_blif.specs.Form.{is_plane_byte, is_equals, has_bad_pairs}
 use Rattle.ds_blif_laws.specs.Print.{pair_word}
 use Rattle.ds_design.specs.declared.design.Edge.{Edge}
-use Rattle.ds_models.specs.declared.blif.TableText.{TableText}
-use Rattle.ds_models.specs.declared.blif.LatchText.{LatchText}
-use Rattle.ds_models.specs.declared.blif.Pair.{Pair}
-use Rattle.ds_models.specs.declared.blif.UseText.{UseText}
-use Rattle.ds_models.specs.declared.blif.Part.{Part}
-use Rattle.ds_models.specs.declared.blif.Part.TheVariants.{Inputs, Outputs, Clock, Table, Latch}
-use Rattle.ds_models.specs.declared.blif.Part.TheVariants.{Subckt}
-use Rattle.ds_models.specs.declared.blif.Command.{Command}
-use Rattle.ds_models.specs.declared.blif.BlifModel.{BlifModel}
+use Rattle.ds_design.specs.declared.blif.TableText.{TableText}
+use Rattle.ds_design.specs.declared.blif.LatchText.{LatchText}
+use Rattle.ds_design.specs.declared.blif.Pair.{Pair}
+use Rattle.ds_design.specs.declared.blif.UseText.{UseText}
+use Rattle.ds_design.specs.declared.blif.Part.{Part}
+use Rattle.ds_design.specs.declared.blif.Part.TheVariants.{Inputs, Outputs, Clock, Table, Latch}
+use Rattle.ds_design.specs.declared.blif.Part.TheVariants.{Subckt}
+use Rattle.ds_design.specs.declared.blif.Command.{Command}
+use Rattle.ds_design.specs.declared.blif.BlifModel.{BlifModel}
 
 -- a row for so many inputs
 pub record IsPlane (width : ℕ) (plane : List ℕ) : Type 0 where

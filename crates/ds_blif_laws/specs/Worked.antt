@@ -6,12 +6,12 @@ use Rattle.ds_lines.specs.Worked.{physical}
 use Rattle.ds_base.specs.declared.number.Limit.TheVariants.{TableInputs}
 use Rattle.ds_design.specs.declared.design.Edge.{Edge}
 use Rattle.ds_design.specs.declared.design.Edge.TheVariants.{Rising, Falling}
-use Rattle.ds_models.specs.declared.blif.Part.TheVariants.{Inputs, Outputs, Clock, Table, Latch}
-use Rattle.ds_models.specs.declared.blif.Part.TheVariants.{Subckt}
-use Rattle.ds_models.specs.declared.blif.TableText.{TableText}
-use Rattle.ds_models.specs.declared.blif.LatchText.{LatchText}
-use Rattle.ds_models.specs.declared.blif.Pair.{Pair}
-use Rattle.ds_models.specs.declared.blif.BlifModel.{BlifModel}
+use Rattle.ds_design.specs.declared.blif.Part.TheVariants.{Inputs, Outputs, Clock, Table, Latch}
+use Rattle.ds_design.specs.declared.blif.Part.TheVariants.{Subckt}
+use Rattle.ds_design.specs.declared.blif.TableText.{TableText}
+use Rattle.ds_design.specs.declared.blif.LatchText.{LatchText}
+use Rattle.ds_design.specs.declared.blif.Pair.{Pair}
+use Rattle.ds_design.specs.declared.blif.BlifModel.{BlifModel}
 use Rattle.ds_blif.specs.Fault.{names_fault}
 use Rattle.ds_blif.specs.Text.{models_of_text}
 use Rattle.ds_blif.specs.declared.fault.BlifKind.{BlifKind}

@@ -14,15 +14,28 @@
 //!
 //! `laws` has what follows from that meaning alone. That the characters of a row are `0`, `1` or
 //! `-` is not asked: another one matches no known value.
+//!
+//! The tables of a bank in the order in which they are set, those of up to four inputs in lists by
+//! kind. A `Series` keeps a bank and an order of its tables; `Selections` keep several lists of
+//! some tables of a bank that is lent. `Series::set_all` and `Selections::set` give what the tables
+//! of the order or of a list drive its value, one after another: they read lists of nine values, or
+//! words of 27, that are exact for unknown values too. `Series::set_all_known`, where each table
+//! finds its inputs known, reads short words. All set the same as the bank does, table by table.
 #![tactic(auto)]
 
 mod bank;
 mod entry;
 mod entry_value;
 pub mod laws;
+mod lists;
 mod mask;
+mod nine;
 mod packed;
 mod rows;
+mod run;
+mod selections;
+mod series;
+mod small;
 mod table;
 mod ternary;
 mod truth;
@@ -32,4 +45,6 @@ pub use bank::Bank;
 pub use entry::Quick;
 pub use entry_value::value_of_bit;
 pub use packed::Packed;
+pub use selections::Selections;
+pub use series::Series;
 pub use table::Table;

@@ -12,3 +12,4 @@ pub mod Run
 pub mod Trace
 pub mod Windows
 pub mod Laws
+pub mod Source

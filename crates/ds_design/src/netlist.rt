@@ -10,8 +10,7 @@ ghost use Rattle.ds_design.specs.Levels.{AreLevels, IsDepth, IsTableOrder, net_c
 
 use crate::{Design, Register};
 use ds_base::{NetId, Seq};
-use ds_cover::Bank;
-use ds_series::Series;
+use ds_cover::{Bank, Series};
 use std::marker::Model;
 
 /// A design that is accepted, with its columns, the level of each net, and its tables packed, by

@@ -1,7 +1,7 @@
 -- What a fabric shows, and how its parts fit.
 use Rattle.std.specs.Prelude.{◌≡◌, ℕ, true}
 use Rattle.atomic_table.specs.Seated.{TableId}
-use Rattle.ds_scratch.specs.Scratch.{Memory}
+use Rattle.ds_base.specs.Scratch.{Memory}
 use Rattle.ds_rule.specs.Run.{Run}
 use Rattle.ds_rule.specs.Sound.{IsSound}
 use Rattle.ds_rule.specs.Words.{size}

@@ -4,7 +4,7 @@ use mathlib.Core.Option.{some}
 use lib.ListN.{get_elem?}
 use Rattle.atomic_table.specs.Table.{Me}
 use Rattle.atomic_table.specs.Seated.{TableId}
-use Rattle.ds_scratch.specs.Scratch.{Kept, Memory, Remembers}
+use Rattle.ds_base.specs.Scratch.{Kept, Memory, Remembers}
 use Rattle.ds_rule.specs.Run.{Run, events, node_of, turns}
 use Rattle.ds_rule.specs.Sound.{IsSound, read_words}
 use Rattle.ds_rule.specs.Log.{firings, Recorded}

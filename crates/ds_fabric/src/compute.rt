@@ -1,13 +1,12 @@
 //! What a fabric asks of who computes the rows.
 ghost use Rattle.std.specs.Prelude.{◌≡◌, ◌<◌, ◌≤◌, ◌+◌, ◌++◌, ℕ, Bool, IfOk, length, vec_len};
 ghost use Rattle.std.specs.Prelude.{vec_capacity};
-ghost use Rattle.ds_scratch.specs.Scratch.{Kept, Memory, Remembers};
+ghost use Rattle.ds_base.specs.Scratch.{Kept, Memory, Remembers};
 ghost use Rattle.ds_rule.specs.Run.{Run};
 ghost use Rattle.ds_rule.specs.Words.{width, value};
 ghost use Rattle.ds_rule.specs.Rows.{row, supply_but};
 
-use ds_base::{LatchId, OutOfMemory};
-use ds_scratch::Scratch;
+use ds_base::{LatchId, OutOfMemory, Scratch};
 use std::alloc::Global;
 
 /// How the row of an opening comes from the rows of its producers: what settles in a run.

@@ -1,7 +1,7 @@
 //! The shared table with its calls: `build` makes it and the pass of all nodes, `step` fires,
 //! `deal`, `deal_bare` and `gather` hand nodes from pass to pass, `finish` makes the record.
 ghost use Rattle.std.specs.Prelude.{◌≡◌, ◌<◌, ◌≤◌, ◌+◌, true, ℕ, OnOk, OnErr, IfOk, length};
-ghost use Rattle.ds_scratch.specs.Scratch.{Remembers};
+ghost use Rattle.ds_base.specs.Scratch.{Remembers};
 ghost use Rattle.ds_rule.specs.Sound.{IsSound};
 ghost use Rattle.ds_rule.specs.Log.{Recorded};
 ghost use Rattle.ds_rule.specs.Rule.{holds, tickets};
@@ -20,9 +20,8 @@ use crate::places::{alone, find, note_from, numbered, take_out};
 use crate::record::Record;
 use crate::step::Step;
 use atomic_table::Table;
-use ds_base::{LatchId, OutOfMemory};
+use ds_base::{LatchId, OutOfMemory, Scratch};
 use ds_rule::{Layout, Order, Rows, View};
-use ds_scratch::Scratch;
 use std::alloc::Global;
 use std::marker::Model;
 use std::snapshot::Snapshot;

@@ -4,7 +4,7 @@
 ghost use Rattle.std.specs.Prelude.{ℕ, List, ◌≡◌, ◌<◌, ◌≤◌, ◌+◌, ◌++◌, true, length, slice_set};
 ghost use mathlib.Core.Option.{some};
 ghost use lib.ListN.{get_elem?};
-ghost use Rattle.ds_scratch.specs.Scratch.{Remembers};
+ghost use Rattle.ds_base.specs.Scratch.{Remembers};
 ghost use Rattle.ds_rule.specs.Run.{next, opens, Enabled};
 ghost use Rattle.ds_rule.specs.Words.{width};
 ghost use Rattle.ds_rule.specs.Rows.{row, IsOpening};
@@ -27,9 +27,8 @@ use crate::learnt::Learnt;
 use crate::rows::{read_rows, write_row};
 use crate::step::Step;
 use atomic_table::Seat;
-use ds_base::{ArcId, EventId, LatchId};
+use ds_base::{ArcId, EventId, LatchId, Scratch};
 use ds_rule::{Depart, Draw, Publish, Rows, View};
-use ds_scratch::Scratch;
 
 /// Fires the next event of the history's node, if what its sources show is enough.
 pub fn advance<J: Rows, C: Compute>(

@@ -1,4 +1,4 @@
-use ds_scratch::Scratch;
+use ds_base::Scratch;
 
 /// The rows that a scratch has learnt for this turn: an opening of the turn need not read them.
 #[derive(Drop)]

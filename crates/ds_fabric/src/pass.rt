@@ -6,9 +6,8 @@ ghost use Rattle.ds_fabric.specs.Showing.{IsCounted};
 use crate::history::History;
 use crate::places::{find, has};
 use atomic_table::Seat;
-use ds_base::LatchId;
+use ds_base::{LatchId, Scratch};
 use ds_rule::View;
-use ds_scratch::Scratch;
 use std::marker::Model;
 
 /// What one thread knows of a fabric, and the nodes that it holds.

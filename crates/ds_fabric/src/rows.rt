@@ -4,7 +4,7 @@ ghost use Rattle.std.specs.Prelude.{ℕ, ◌≡◌, ◌<◌, ◌≤◌, ◌+◌,
 ghost use Rattle.std.specs.Prelude.{vec_len, vec_capacity};
 ghost use mathlib.Core.Option.{some};
 ghost use lib.ListN.{get_elem?};
-ghost use Rattle.ds_scratch.specs.Scratch.{Remembers};
+ghost use Rattle.ds_base.specs.Scratch.{Remembers};
 ghost use Rattle.ds_rule.specs.Sound.{IsSound, read_words};
 ghost use Rattle.ds_rule.specs.Words.{width, place};
 ghost use Rattle.ds_rule.specs.Rows.{row, supply_but, IsStarts, IsOpening};

@@ -1,6 +1,6 @@
 //! Steps in a scratch that the caller has, which is one for all passes that a worker steps.
 ghost use Rattle.std.specs.Prelude.{ℕ, ◌≡◌, true, IfOk, length, vec_capacity};
-ghost use Rattle.ds_scratch.specs.Scratch.{Remembers};
+ghost use Rattle.ds_base.specs.Scratch.{Remembers};
 ghost use Rattle.ds_rule.specs.Rule.{holds};
 ghost use Rattle.ds_fabric.specs.Stepped.{Stepped};
 ghost use Rattle.ds_fabric.specs.Showing.{IsOf, IsPass, Stays};
@@ -14,9 +14,8 @@ use crate::pass::Pass;
 use crate::places::find;
 use crate::step::Step;
 use atomic_table::Seat;
-use ds_base::{LatchId, OutOfMemory};
+use ds_base::{LatchId, OutOfMemory, Scratch};
 use ds_rule::{Rows, View};
-use ds_scratch::Scratch;
 use std::alloc::Global;
 
 impl<'a, J: Rows, C: Compute> Fabric<'a, J, C> {

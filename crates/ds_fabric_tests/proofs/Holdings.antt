@@ -6,7 +6,7 @@ use Rattle.ds_rule.specs.Run.{Run, events}
 use Rattle.ds_rule.proofs.EventLaws.{events-is}
 use Rattle.ds_rule.specs.Rule.{holds}
 use Rattle.ds_rule.specs.declared.view.View.{View}
-use Rattle.ds_scratch.specs.Scratch.{Remembers}
+use Rattle.ds_base.specs.Scratch.{Remembers}
 use Rattle.ds_fabric.specs.Base.{Base}
 use Rattle.ds_fabric.specs.Showing.{Showing, IsFabricBegun, IsDealt, IsLeft, Stays}
 use Rattle.ds_fabric_tests.specs.Toggle.{toggle, Holding, HoldsBoth, HoldsSlave, HoldsMaster}

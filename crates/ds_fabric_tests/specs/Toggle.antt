@@ -6,7 +6,7 @@ use Rattle.ds_base.specs.declared.value.Value.TheVariants.{Zero, One}
 use Rattle.ds_marked.specs.declared.marked.Arc.{Arc}
 use Rattle.ds_rule.specs.declared.layout.DataEdge.{DataEdge}
 use Rattle.ds_rule.specs.Run.{Run}
-use Rattle.ds_scratch.specs.Scratch.{Memory}
+use Rattle.ds_base.specs.Scratch.{Memory}
 use Rattle.ds_fabric.specs.Base.{Base}
 use Rattle.ds_fabric.specs.Showing.{Showing, Belongs}
 

@@ -3,11 +3,10 @@ ghost use Rattle.std.specs.Prelude.{◌≡◌, ◌<◌, ℕ, IfOk, OnOk, false};
 ghost use Rattle.ds_fabric_tests.specs.Toggle.{arc, edge, turned, toggle, one_net};
 ghost use Rattle.ds_fabric_tests.specs.Toggle.{HoldsBoth, HoldsSlave, HoldsMaster};
 
-use ds_base::{ArcId, EventId, LatchId, OutOfMemory};
+use ds_base::{ArcId, EventId, LatchId, OutOfMemory, Scratch};
 use ds_fabric::{Compute, Fabric, Pass, Record, Step};
 use ds_marked::Arc;
 use ds_rule::{DataEdge, Layout, Rows, Sizes};
-use ds_scratch::Scratch;
 use std::alloc::Global;
 
 /// Node 0 is the slave, node 1 the master.

@@ -13,8 +13,8 @@ use Rattle.ds_latch.specs.Plan.{IsSplit}
 use Rattle.ds_design.specs.declared.design.Register.{Register}
 use Rattle.ds_settle.specs.Cone.{IsCone, Parts}
 use Rattle.ds_settle.proofs.Agree.{sources_known}
-use Rattle.ds_cones.specs.Settled.{IsSettling}
-use Rattle.ds_cones.proofs.Settled.{settling_used}
+use Rattle.ds_split.specs.Settled.{IsSettling}
+use Rattle.ds_split.proofs.Settled.{settling_used}
 use Rattle.ds_fire.specs.Feeds.{AreSourceNetsHoused, AreSourceHomes, IsSourceHome, IsNetOfNode, IsSourceNetPlacedOrKept, home_of}
 use Rattle.ds_fire.specs.declared.homes.Home.{Home}
 

@@ -16,7 +16,7 @@ use Rattle.ds_latch.specs.declared.node.Node.TheVariants.{In, Out, Master, Slave
 use Rattle.ds_latch.specs.Firing.{IsSettled, opening_read}
 use Rattle.ds_latch.proofs.Counts.{number_below, same_node}
 use Rattle.ds_fire.specs.Snapshot.{row_index, rows_of}
-use Rattle.ds_cones.specs.Settled.{IsSettling}
+use Rattle.ds_split.specs.Settled.{IsSettling}
 use Rattle.ds_fire.specs.Feeds.{IsSourceHome, home_of, no_source_home}
 use Rattle.ds_fire.specs.History.{Stored}
 use Rattle.ds_fire.specs.Turn.{AreTurnPlaces, AreRows, IsClosed, IsLoaded, IsOpened, IsThere, Opens, home_index, home_value, rooms_of, values_of}

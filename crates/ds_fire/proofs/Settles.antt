@@ -22,7 +22,7 @@ use Rattle.ds_latch.proofs.Flow.{settles_from_all}
 use Rattle.ds_settle.specs.Cone.{IsCone, IsPartSettled, Parts}
 use Rattle.ds_settle.proofs.Agree.{cone_settles}
 use Rattle.ds_fire.specs.Snapshot.{row_index}
-use Rattle.ds_cones.specs.Settled.{IsSettling}
+use Rattle.ds_split.specs.Settled.{IsSettling}
 use Rattle.ds_latch.proofs.Turns.{picked}
 use Rattle.ds_fire.specs.Feeds.{IsSourceHome, home_of}
 use Rattle.ds_fire.specs.Turn.{AreTurnPlaces, AreRows, IsLoaded, home_index, home_value, state_with}

@@ -16,8 +16,8 @@ use Rattle.ds_latch.specs.Transparent.{IsOpen, IsShowing, Makes}
 use Rattle.ds_latch.proofs.Counts.{accepted_controls}
 use Rattle.ds_latch.proofs.Flow.{one_row_taken, settled_where}
 use Rattle.ds_latch.proofs.Transparent.{transparent_latches}
-use Rattle.ds_cones.specs.Settled.{IsSettling}
-use Rattle.ds_cones.specs.Taken.{TakesFrom, showing}
+use Rattle.ds_split.specs.Settled.{IsSettling}
+use Rattle.ds_split.specs.Taken.{TakesFrom, showing}
 use Rattle.ds_fire.specs.Snapshot.{Snapshot, Shows, split_of, graph_of, limit_of, count_of, held_row, is_open, rows_of, width_of}
 use Rattle.ds_fire.specs.Fired.{IsReached, IsSnapshotSound}
 use Rattle.ds_fire.proofs.Settles.{place_low, read}

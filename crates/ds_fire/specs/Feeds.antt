@@ -3,7 +3,7 @@ use Rattle.std.specs.Prelude.{◌≡◌, ◌⊎◌, ℕ, ◌<◌, List, length, 
 use Rattle.ds_latch.specs.Node.{Split, IsNode, number_of, nets_of}
 use Rattle.ds_latch.specs.declared.node.Node.{Node}
 use Rattle.ds_latch.specs.Order.{IsSource}
-use Rattle.ds_cones.specs.Cones.{AreCones}
+use Rattle.ds_split.specs.Cones.{AreCones}
 use Rattle.ds_fire.specs.declared.feeds.Feeds.{Feeds}
 use Rattle.ds_fire.specs.declared.homes.Home.{Home}
 

@@ -7,9 +7,9 @@ ghost use Rattle.ds_fire.specs.Feeds.{AreFeeds};
 
 use crate::homes::{Home, homes_of};
 use ds_base::OutOfMemory;
-use ds_cones::cones_of;
 use ds_latch::Latches;
 use ds_settle::Cone;
+use ds_split::cones_of;
 use std::alloc::Global;
 
 // The cones of OUT, M0, M1, .., and for each net of IN or of a slave, where its value is kept.

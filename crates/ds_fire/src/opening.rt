@@ -8,7 +8,7 @@ ghost use Rattle.ds_latch.specs.Plan.{IsSplit};
 ghost use Rattle.ds_latch.specs.Node.{IsNode, number_of, nodes};
 ghost use Rattle.ds_latch.specs.declared.node.Node.{Node};
 ghost use Rattle.ds_latch.specs.declared.node.Node.TheVariants.{In, Slave};
-ghost use Rattle.ds_cones.specs.Cones.{IsSettlingAt};
+ghost use Rattle.ds_split.specs.Cones.{IsSettlingAt};
 ghost use Rattle.ds_fire.specs.Feeds.{AreFeeds, home_of};
 ghost use Rattle.ds_fire.specs.Turn.{AreLow, AreRows, IsLoaded, IsOpened, IsThere};
 ghost use Rattle.ds_fire.specs.Turn.{IsSettledOn, Opens, home_index};

@@ -7,7 +7,7 @@ use Rattle.std.proofs.lemmas.Bool.{cases_Bool}
 use Rattle.std.proofs.lemmas.List.{take_more}
 use Rattle.std.proofs.lemmas.Slice.Eq.{bytes_eq-Decides}
 use Rattle.ds_design.specs.declared.design.Net.{Net}
-use Rattle.ds_models.specs.declared.blif.Pair.{Pair}
+use Rattle.ds_design.specs.declared.blif.Pair.{Pair}
 use Rattle.ds_flat.specs.declared.fault.NoNumber.{NoNumber}
 use Rattle.ds_flat.specs.Net.{Binding, Scope, net_of_name, with_net, numbered_names}
 use Rattle.ds_flat.specs.Copies.{actuals_in, bindings_in}

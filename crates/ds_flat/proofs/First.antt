@@ -1,7 +1,7 @@
 -- The main model's copy is the whole.
 use Rattle.std.proofs.Common.{◌≡◌, ℕ, suc, ◌-◌, ◌<◌, List, [], ◌∷◌, length, Result, Ok, Err, refl, sym, ap, ◌∙◌, arith, get_or, subst}
-use Rattle.ds_models.specs.declared.blif.BlifModel.{BlifModel}
-use Rattle.ds_models.specs.declared.blif.Command.{Command}
+use Rattle.ds_design.specs.declared.blif.BlifModel.{BlifModel}
+use Rattle.ds_design.specs.declared.blif.Command.{Command}
 use Rattle.ds_design.specs.Circuit.{Circuit}
 use Rattle.ds_flat.specs.declared.fault.FlatFault.{FlatFault}
 use Rattle.ds_flat.specs.declared.frame.Open.{Open}
@@ -16,9 +16,9 @@ use Rattle.std.specs.Str.{bytes_eq}
 use Rattle.std.proofs.lemmas.Slice.Eq.{bytes_eq-Decides}
 use Rattle.std.specs.List.{position_or_len}
 use Rattle.std.specs.Prelude.{All, true}
-use Rattle.ds_names.specs.Names.{place_of_name}
+use Rattle.ds_lines.specs.Names.{place_of_name}
 use Rattle.ds_design.specs.InRange.{IsInRange}
-use Rattle.ds_models.specs.Source.{IsBlif, IsPart}
+use Rattle.ds_design.specs.Source.{IsBlif, IsPart}
 use Rattle.ds_flat.specs.Interface.{names_of_models}
 use Rattle.ds_flat.specs.Run.{IsRestKept}
 

@@ -6,9 +6,9 @@ use Rattle.ds_base.specs.declared.number.Limit.TheVariants.{Nets, Tables, Regist
 use Rattle.ds_design.specs.declared.design.Net.{Net}
 use Rattle.ds_design.specs.declared.design.Gate.{Gate}
 use Rattle.ds_design.specs.declared.design.Register.{Register}
-use Rattle.ds_models.specs.declared.blif.BlifModel.{BlifModel}
-use Rattle.ds_models.specs.declared.blif.Pair.{Pair}
-use Rattle.ds_models.specs.declared.blif.UseText.{UseText}
+use Rattle.ds_design.specs.declared.blif.BlifModel.{BlifModel}
+use Rattle.ds_design.specs.declared.blif.Pair.{Pair}
+use Rattle.ds_design.specs.declared.blif.UseText.{UseText}
 use Rattle.ds_design.specs.Circuit.{Circuit}
 use Rattle.ds_flat.specs.declared.fault.FlatKind.TheVariants.{TooMany}
 use Rattle.ds_flat.specs.declared.fault.FlatRefusal.{FlatRefusal}

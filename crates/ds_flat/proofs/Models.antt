@@ -8,10 +8,10 @@ use Rattle.std.proofs.lemmas.Bool.{cases_Bool}
 use Rattle.std.proofs.lemmas.List.{map-append, map_more, take_more}
 use Rattle.std.proofs.lemmas.List.Folds.{list_any-append}
 use Rattle.std.proofs.lemmas.Slice.Eq.{bytes_eq-Decides}
-use Rattle.ds_names.specs.Names.{has_name, place_of_name, with_name}
-use Rattle.ds_models.specs.declared.blif.BlifModel.{BlifModel}
-use Rattle.ds_models.specs.declared.blif.Command.{Command}
-use Rattle.ds_models.specs.declared.blif.Pair.{Pair}
+use Rattle.ds_lines.specs.Names.{has_name, place_of_name, with_name}
+use Rattle.ds_design.specs.declared.blif.BlifModel.{BlifModel}
+use Rattle.ds_design.specs.declared.blif.Command.{Command}
+use Rattle.ds_design.specs.declared.blif.Pair.{Pair}
 use Rattle.ds_flat.specs.Copies.{model_named, ports_in, ports_of, unknown_formal}
 use Rattle.ds_flat.specs.Interface.{names_of_models, with_names, with_ports_of, ports_by, IsLibrary, Finds}
 

@@ -6,7 +6,7 @@ use Rattle.std.specs.Prelude.{slice_index_or}
 use Rattle.std.proofs.lemmas.Bool.{cases_Bool}
 use Rattle.ds_design.specs.declared.design.Net.{Net}
 use Rattle.std.specs.Option.{option_map}
-use Rattle.ds_models.specs.declared.blif.LatchText.{LatchText}
+use Rattle.ds_design.specs.declared.blif.LatchText.{LatchText}
 use Rattle.ds_flat.specs.declared.fault.NoNumber.{NoNumber}
 use Rattle.ds_flat.specs.declared.fault.NoNumber.TheVariants.{TooManyNets, Memory}
 use Rattle.ds_flat.specs.Net.{Scope, Numbered, has_net, number_of_net, with_net, net_of_name, numbered_nets, numbered_names}

@@ -11,9 +11,9 @@ use Rattle.std.proofs.lemmas.List.Sums.{prefix_len-le-length}
 use Rattle.ds_design.specs.declared.design.Net.{Net}
 use Rattle.ds_design.specs.declared.design.Gate.{Gate}
 use Rattle.ds_design.specs.declared.design.Register.{Register}
-use Rattle.ds_models.specs.declared.blif.Part.{Part}
-use Rattle.ds_models.specs.declared.blif.Part.TheVariants.{Inputs, Outputs, Clock, Table, Latch, Subckt}
-use Rattle.ds_models.specs.Source.{IsPart}
+use Rattle.ds_design.specs.declared.blif.Part.{Part}
+use Rattle.ds_design.specs.declared.blif.Part.TheVariants.{Inputs, Outputs, Clock, Table, Latch, Subckt}
+use Rattle.ds_design.specs.Source.{IsPart}
 use Rattle.ds_design.specs.Circuit.{Circuit}
 use Rattle.ds_design.specs.InRange.{IsInRange}
 use Rattle.ds_flat.specs.Net.{Scope, Numbered, same_net, has_net, number_of_net, with_net, net_of_name, numbered_nets, numbered_names}

@@ -3,8 +3,8 @@ use Rattle.std.proofs.Common.{◌≡◌, ℕ, suc, ◌+◌, ◌-◌, ◌*◌, �
 use Rattle.std.proofs.Common.{sym, ap, ◌∙◌, subst, inl, inr, arith}
 use Rattle.std.specs.Str.{bytes_eq}
 use Rattle.std.proofs.lemmas.Bool.{cases_Bool}
-use Rattle.ds_models.specs.declared.blif.BlifModel.{BlifModel}
-use Rattle.ds_models.specs.declared.blif.Command.{Command}
+use Rattle.ds_design.specs.declared.blif.BlifModel.{BlifModel}
+use Rattle.ds_design.specs.declared.blif.Command.{Command}
 use Rattle.ds_design.specs.Circuit.{Circuit}
 use Rattle.ds_flat.specs.declared.frame.Open.{Open}
 use Rattle.ds_flat.specs.Copies.{model_named}

@@ -10,10 +10,10 @@ use Rattle.std.proofs.lemmas.List.{length-map}
 use Rattle.std.proofs.lemmas.List.Elements.{All-head, All-tail}
 use Rattle.std.proofs.lemmas.Slice.Eq.{bytes_eq-Decides}
 use Rattle.ds_base.specs.declared.number.Limit.TheVariants.{Copies}
-use Rattle.ds_names.specs.Names.{place_of_name}
-use Rattle.ds_models.specs.declared.blif.BlifModel.{BlifModel}
-use Rattle.ds_models.specs.declared.blif.Pair.{Pair}
-use Rattle.ds_models.specs.declared.blif.UseText.{UseText}
+use Rattle.ds_lines.specs.Names.{place_of_name}
+use Rattle.ds_design.specs.declared.blif.BlifModel.{BlifModel}
+use Rattle.ds_design.specs.declared.blif.Pair.{Pair}
+use Rattle.ds_design.specs.declared.blif.UseText.{UseText}
 use Rattle.ds_flat.specs.declared.fault.FlatFault.{FlatFault}
 use Rattle.ds_flat.specs.declared.fault.FlatKind.TheVariants.{UnknownFormal, Recursive, TooMany}
 use Rattle.ds_flat.specs.declared.fault.FlatRefusal.{FlatRefusal}

@@ -7,13 +7,13 @@ use Rattle.std.specs.Str.{bytes_eq}
 use Rattle.ds_base.specs.declared.number.Limit.{Limit}
 use Rattle.ds_base.specs.declared.number.Limit.TheVariants.{Copies, Nets, Tables, Registers}
 use Rattle.ds_base.specs.Limit.{most_of}
-use Rattle.ds_models.specs.declared.blif.Part.{Part}
-use Rattle.ds_models.specs.declared.blif.Part.TheVariants.{Inputs, Outputs, Clock, Table, Latch}
-use Rattle.ds_models.specs.declared.blif.Part.TheVariants.{Subckt}
-use Rattle.ds_models.specs.declared.blif.Pair.{Pair}
-use Rattle.ds_models.specs.declared.blif.UseText.{UseText}
-use Rattle.ds_models.specs.declared.blif.Command.{Command}
-use Rattle.ds_models.specs.declared.blif.BlifModel.{BlifModel}
+use Rattle.ds_design.specs.declared.blif.Part.{Part}
+use Rattle.ds_design.specs.declared.blif.Part.TheVariants.{Inputs, Outputs, Clock, Table, Latch}
+use Rattle.ds_design.specs.declared.blif.Part.TheVariants.{Subckt}
+use Rattle.ds_design.specs.declared.blif.Pair.{Pair}
+use Rattle.ds_design.specs.declared.blif.UseText.{UseText}
+use Rattle.ds_design.specs.declared.blif.Command.{Command}
+use Rattle.ds_design.specs.declared.blif.BlifModel.{BlifModel}
 use Rattle.ds_design.specs.Circuit.{Circuit}
 use Rattle.ds_flat.specs.declared.fault.FlatKind.{FlatKind}
 use Rattle.ds_flat.specs.declared.fault.FlatKind.TheVariants.{UnknownModel, Recursive}

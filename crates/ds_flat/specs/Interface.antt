@@ -1,8 +1,8 @@
 -- The names of models and of their interfaces, each once.
 use Rattle.std.specs.Prelude.{◌≡◌, ◌<◌, ℕ, List, [], ◌∷◌, map, length, Some}
-use Rattle.ds_names.specs.Names.{with_name, place_of_name}
-use Rattle.ds_models.specs.declared.blif.BlifModel.{BlifModel}
-use Rattle.ds_models.specs.declared.blif.Command.{Command}
+use Rattle.ds_lines.specs.Names.{with_name, place_of_name}
+use Rattle.ds_design.specs.declared.blif.BlifModel.{BlifModel}
+use Rattle.ds_design.specs.declared.blif.Command.{Command}
 use Rattle.ds_flat.specs.Copies.{ports_in, model_named}
 
 -- with more names, each where it is not there yet

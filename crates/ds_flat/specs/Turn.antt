@@ -1,6 +1,6 @@
 -- One turn of the copies that are being taken.
 use Rattle.std.specs.Prelude.{◌≡◌, ◌<◌, ◌+◌, ◌-◌, ◌*◌, ℕ, List, [], ◌∷◌, length, Ok}
-use Rattle.ds_models.specs.declared.blif.BlifModel.{BlifModel}
+use Rattle.ds_design.specs.declared.blif.BlifModel.{BlifModel}
 use Rattle.ds_design.specs.Circuit.{Circuit}
 use Rattle.ds_design.specs.InRange.{IsInRange}
 use Rattle.ds_flat.specs.declared.step.Turn.{Turn}

@@ -1,7 +1,7 @@
 -- A use in the innermost copy.
 use Rattle.std.specs.Prelude.{ℕ, List, [], ◌∷◌, Result, Ok}
-use Rattle.ds_models.specs.declared.blif.BlifModel.{BlifModel}
-use Rattle.ds_models.specs.declared.blif.UseText.{UseText}
+use Rattle.ds_design.specs.declared.blif.BlifModel.{BlifModel}
+use Rattle.ds_design.specs.declared.blif.UseText.{UseText}
 use Rattle.ds_flat.specs.declared.fault.FlatFault.{FlatFault}
 use Rattle.ds_flat.specs.Copies.{Flat, Frame, Opened, ◌>>=◌, open_use}
 use Rattle.ds_flat.specs.Run.{run_frames}

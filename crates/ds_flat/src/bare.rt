@@ -5,7 +5,7 @@ ghost use Rattle.ds_flat.specs.Bare.{adds_nothing as adds_nothing_in, needed as 
 
 use crate::lent::Lent;
 use ds_base::OutOfMemory;
-use ds_models::{BlifModel, Command, Part};
+use ds_design::{BlifModel, Command, Part};
 use std::alloc::Global;
 use std::marker::Model;
 
@@ -18,7 +18,7 @@ pub struct Bare<'m> {
 }
 
 impl<'m> Model for Bare<'m> {
-    ghost use Rattle.ds_models.specs.declared.blif.BlifModel.{BlifModel};
+    ghost use Rattle.ds_design.specs.declared.blif.BlifModel.{BlifModel};
 
     ghost Value = { BlifModel };
 

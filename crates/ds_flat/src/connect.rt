@@ -8,7 +8,7 @@ ghost use Rattle.ds_flat.specs.Run.{connected};
 use crate::fault::NoNumber;
 use crate::nets::NetList;
 use crate::scope::Scope;
-use ds_models::Pair;
+use ds_design::Pair;
 use std::alloc::Global;
 
 /// The connected formals of a use in the next copy, each with the caller's net, which is numbered.

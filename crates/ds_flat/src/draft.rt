@@ -1,7 +1,7 @@
 //! A flat design that is being made.
 ghost use Rattle.std.specs.Prelude.{◌≡◌, ◌≢◌, OnOk, IfOk, IfErr, AllPairs};
 ghost use Rattle.ds_design.specs.Circuit.{Circuit};
-ghost use Rattle.ds_models.specs.Source.{IsPart, IsTableText};
+ghost use Rattle.ds_design.specs.Source.{IsPart, IsTableText};
 ghost use Rattle.ds_flat.specs.Net.{numbered_names, net_of_name, number_of_net, with_net};
 ghost use Rattle.ds_flat.specs.Command.{with_inputs, with_outputs, with_clocks, with_part};
 ghost use Rattle.ds_flat.specs.Command.{with_table, with_register, latch_names};
@@ -16,8 +16,7 @@ use crate::ports::Ports;
 use crate::scope::Scope;
 use ds_base::{Limit, Name, NetId, OutOfMemory, Seq};
 use ds_cover::Table;
-use ds_design::{Gate, Register};
-use ds_models::{LatchText, Part, TableText, Word, Words};
+use ds_design::{Gate, LatchText, Part, Register, TableText, Word, Words};
 use std::alloc::Global;
 use std::marker::Model;
 
@@ -92,11 +91,11 @@ impl<'m> Draft<'m> {
     pub fn passed_limit(&self) -> Option<Limit>
         ensures { result ≡ limit_of self.now }
     {
-        if self.nets.len() > 65_536 {
+        if self.nets.len() as u64 > Limit::Nets.most() {
             Some(Limit::Nets)
-        } else if self.tables.len() > 65_536 {
+        } else if self.tables.len() as u64 > Limit::Tables.most() {
             Some(Limit::Tables)
-        } else if self.registers.len() > 16_384 {
+        } else if self.registers.len() as u64 > Limit::Registers.most() {
             Some(Limit::Registers)
         } else {
             None

@@ -1,6 +1,6 @@
 //! The flat design of a text's models.
 ghost use Rattle.std.specs.Prelude.{◌≡◌, Ok, length, IfOk, MatchResult, slice_index_or, []};
-ghost use Rattle.ds_models.specs.Source.{IsBlif};
+ghost use Rattle.ds_design.specs.Source.{IsBlif};
 ghost use Rattle.ds_design.specs.InRange.{IsInRange};
 ghost use Rattle.ds_flat.specs.Copies.{flat_of};
 ghost use Rattle.ds_flat.specs.Run.{IsFault, IsRestKept, HaveParts, run_rest};
@@ -18,8 +18,7 @@ use crate::scope::Scope;
 use crate::stack::Stack;
 use crate::step::{State, Turn};
 use ds_base::{OutOfMemory, Seq};
-use ds_design::Design;
-use ds_models::Blif;
+use ds_design::{Blif, Design};
 use std::alloc::Global;
 
 /// The flat design of the main model, the first of the text: each use of a model is replaced by

@@ -1,7 +1,7 @@
 //! A command that is lent.
 ghost use Rattle.std.specs.Prelude.{◌≡◌};
 
-use ds_models::Command;
+use ds_design::Command;
 use std::marker::Model;
 
 /// A command of a text's model, where it stands. Contracts see the command.
@@ -11,7 +11,7 @@ pub struct Lent<'m> {
 }
 
 impl<'m> Model for Lent<'m> {
-    ghost use Rattle.ds_models.specs.declared.blif.Command.{Command};
+    ghost use Rattle.ds_design.specs.declared.blif.Command.{Command};
 
     ghost Value = { Command };
 

@@ -8,8 +8,8 @@ ghost use Rattle.ds_flat.specs.Interface.{with_ports_of, with_names as names_wit
 use crate::bare::Bare;
 use crate::lent::Lent;
 use ds_base::OutOfMemory;
-use ds_models::{Pair, Part, Word, Words};
-use ds_names::Names;
+use ds_design::{Pair, Part, Word, Words};
+use ds_lines::Names;
 use std::alloc::Global;
 use std::marker::Model;
 
@@ -23,7 +23,7 @@ pub struct Library<'b, 'm> {
 
 impl<'b, 'm> Model for Library<'b, 'm> {
     ghost use Rattle.std.specs.Prelude.{List};
-    ghost use Rattle.ds_models.specs.declared.blif.BlifModel.{BlifModel};
+    ghost use Rattle.ds_design.specs.declared.blif.BlifModel.{BlifModel};
     ghost use Rattle.ds_flat.specs.Interface.{IsLibrary};
 
     ghost Value = { List BlifModel };

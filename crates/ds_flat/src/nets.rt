@@ -11,7 +11,7 @@ ghost use Rattle.ds_flat.specs.Net.{has_net, number_of_net, with_net};
 ghost use Rattle.ds_flat.specs.Keys.{net_key, IsNoNumber};
 
 use crate::fault::NoNumber;
-use ds_base::{NetId, OutOfMemory, Seq};
+use ds_base::{Limit, NetId, OutOfMemory, Seq};
 use ds_design::Net;
 use indexmap::IndexSet;
 use std::alloc::Global;
@@ -98,7 +98,7 @@ impl<'m> NetList<'m> {
         ensures ok { OnOk result (self.new ≡ with_net self.old (net_key net.entry)) }
         ensures fault { IfErr result (λ e. IsNoNumber e (with_net self.old (net_key net.entry))) }
     {
-        if self.set.len() == 65_536 {
+        if self.set.len() as u64 == Limit::Nets.most() {
             return Err(NoNumber::TooManyNets);
         }
         let (place, _) = self.set.insert_full(net)?;

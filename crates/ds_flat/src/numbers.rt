@@ -7,7 +7,7 @@ use crate::fault::NoNumber;
 use crate::nets::NetList;
 use crate::scope::Scope;
 use ds_base::NetId;
-use ds_models::{Word, Words};
+use ds_design::{Word, Words};
 use std::alloc::Global;
 
 // The number of a name.

@@ -2,9 +2,9 @@
 ghost use Rattle.std.specs.Prelude.{◌≡◌, ◌≤◌, ◌<◌, ◌∷◌, ◌==◌, length, map, All, IfOk, IfErr};
 ghost use Rattle.std.specs.Prelude.{MatchResult, List, ℕ, Ok};
 ghost use Rattle.std.specs.List.{list_any};
-ghost use Rattle.ds_names.specs.Names.{place_of_name};
+ghost use Rattle.ds_lines.specs.Names.{place_of_name};
 ghost use Rattle.ds_base.specs.declared.number.Limit.TheVariants.{Copies};
-ghost use Rattle.ds_models.specs.Source.{IsUseText, IsPart};
+ghost use Rattle.ds_design.specs.Source.{IsUseText, IsPart};
 ghost use Rattle.ds_flat.specs.declared.fault.FlatFault.{FlatFault as Fault_of};
 ghost use Rattle.ds_flat.specs.declared.fault.FlatKind.TheVariants.{UnknownModel, UnknownFormal};
 ghost use Rattle.ds_flat.specs.declared.fault.FlatKind.TheVariants.{Recursive, TooMany};
@@ -21,7 +21,7 @@ use crate::frame::Open;
 use crate::library::{Found, Library, unknown_formal};
 use crate::stack::{Stack, extended};
 use ds_base::{Limit, Name, OutOfMemory, Seq};
-use ds_models::{UseText, Word};
+use ds_design::{UseText, Word};
 use std::alloc::Global;
 
 /// A name of its own.
@@ -152,7 +152,7 @@ pub fn checked<'l, 'b, 'm>(
             if is_open(found.place, top, below) {
                 return Err(recursive(alloc, line, &call.model, top, below));
             }
-            if copies == 65_536 {
+            if copies as u64 == Limit::Copies.most() {
                 return Err(too_many(line, Limit::Copies));
             }
             match unknown_formal(found.ports, call.pairs.as_slice()) {

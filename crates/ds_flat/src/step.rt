@@ -1,6 +1,6 @@
 //! The commands of the copies, one after the other.
 ghost use Rattle.std.specs.Prelude.{◌≡◌, ◌≤◌, ℕ, Ok, IfOk, MatchResult, option_map};
-ghost use Rattle.ds_models.specs.Source.{IsPart, IsUseText};
+ghost use Rattle.ds_design.specs.Source.{IsPart, IsUseText};
 ghost use Rattle.ds_flat.specs.Command.{with_part};
 ghost use Rattle.ds_flat.specs.Copies.{flat_within, use_in as use_of_part};
 ghost use Rattle.ds_flat.specs.Run.{run_rest, after_take, HaveParts, IsRestKept, IsFault};
@@ -14,7 +14,7 @@ use crate::library::Library;
 use crate::open::{checked, open, stopped, too_many};
 use crate::scope::Scope;
 use crate::stack::Stack;
-use ds_models::{Command, Part, UseText};
+use ds_design::{Command, Part, UseText};
 use std::alloc::Global;
 use std::marker::Model;
 

@@ -14,12 +14,12 @@ use Rattle.ds_design.specs.Circuit.{Circuit}
 use Rattle.ds_design.specs.declared.design.Net.{Net}
 use Rattle.ds_design.specs.declared.design.Gate.{Gate}
 use Rattle.ds_design.specs.declared.design.Register.{Register}
-use Rattle.ds_models.specs.declared.blif.BlifModel.{BlifModel}
-use Rattle.ds_models.specs.declared.blif.Command.{Command}
-use Rattle.ds_models.specs.declared.blif.LatchText.{LatchText}
-use Rattle.ds_models.specs.declared.blif.Part.{Part}
-use Rattle.ds_models.specs.declared.blif.Part.TheVariants.{Inputs, Outputs, Clock, Table, Latch, Subckt}
-use Rattle.ds_models.specs.declared.blif.UseText.{UseText}
+use Rattle.ds_design.specs.declared.blif.BlifModel.{BlifModel}
+use Rattle.ds_design.specs.declared.blif.Command.{Command}
+use Rattle.ds_design.specs.declared.blif.LatchText.{LatchText}
+use Rattle.ds_design.specs.declared.blif.Part.{Part}
+use Rattle.ds_design.specs.declared.blif.Part.TheVariants.{Inputs, Outputs, Clock, Table, Latch, Subckt}
+use Rattle.ds_design.specs.declared.blif.UseText.{UseText}
 use Rattle.ds_flat.specs.declared.fault.FlatFault.{FlatFault}
 use Rattle.ds_flat.specs.Net.{Scope, Numbered, has_net, net_of_name, number_of_net, numbered_nets, numbered_names, same_net, with_net}
 use Rattle.ds_flat.specs.Command.{latch_names, numbered_latch, with_part}

@@ -1,10 +1,11 @@
 //! A plan: latches together with a graph that controls them.
-ghost use Rattle.std.specs.Prelude.{◌≡◌, ℕ, List, length};
+ghost use Rattle.std.specs.Prelude.{◌≡◌, ◌*◌, length};
 ghost use Rattle.ds_latch.specs.Node.{begun};
 ghost use Rattle.ds_latch.specs.Plan.{IsController, IsPlan, Planned};
 
 use crate::Latches;
 use ds_base::Row3;
+use ds_design::Vectors;
 use ds_marked::Marked;
 use std::marker::Model;
 
@@ -56,6 +57,13 @@ impl<'a> Plan<'a> {
         ensures controls { IsController self.now.split self.now.graph }
     {
         &self.graph
+    }
+
+    /// How often its events fire in all where each fires once a vector.
+    pub fn most_firings(&self, vectors: &Vectors) -> u64
+        ensures { result ≡ length self.now.graph.events * length vectors.now.rows }
+    {
+        self.graph.events().len() as u64 * vectors.count() as u64
     }
 
     /// The registers start as this row says.

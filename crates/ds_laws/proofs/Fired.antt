@@ -6,7 +6,7 @@ use Rattle.ds_latch.specs.Plan.{Planned}
 use Rattle.ds_replay.specs.Replay.{replay_of}
 use Rattle.ds_replay.specs.Printed.{HasOwnWords, IsFront}
 use Rattle.ds_replay.proofs.Printed.{printed_behind, trace_is_front}
-use Rattle.ds_trace.specs.RunText.{IsRunText}
+use Rattle.ds_run.specs.RunText.{IsRunText}
 use Rattle.ds_laws.specs.Logs.{IsFiredWhole}
 
 pub logged_is_fired : (p : Planned) → HasOwnWords p.graph → (vectors : List Row) → length vectors < 10 ^ 10

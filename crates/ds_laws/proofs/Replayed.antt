@@ -22,16 +22,16 @@ use Rattle.ds_latch.specs.Transparent.{IsShowing}
 use Rattle.ds_latch.proofs.Headline.{headline}
 use Rattle.ds_netlist.specs.Laws.{FaultsAreRefused}
 use Rattle.ds_split.specs.Laws.{OneClustering}
-use Rattle.ds_log.specs.Log.{fired_line, stored_text}
+use Rattle.ds_rows.specs.Log.{fired_line, stored_text}
 use Rattle.ds_rows.specs.Nets.{register_of}
-use Rattle.ds_log.specs.StateText.{IsStateText}
+use Rattle.ds_rows.specs.StateText.{IsStateText}
 use Rattle.ds_cmd.specs.declared.job.Job.TheVariants.{Run, Replay}
 use Rattle.ds_cmd.specs.declared.replay.ReplayJob.{ReplayJob}
 use Rattle.ds_cmd.specs.declared.run.RunJob.{RunJob}
 use Rattle.ds_stage.specs.Stage.{then_stage}
-use Rattle.ds_state_text.specs.OpenLines.{open_lines}
+use Rattle.ds_replay.specs.OpenLines.{open_lines}
 use Rattle.ds_stage.specs.PlanStage.{planned_stage}
-use Rattle.ds_state_text.specs.ReplayText.{IsReplayText}
+use Rattle.ds_replay.specs.ReplayText.{IsReplayText}
 use Rattle.ds_stage.specs.ReplayStage.{log_stage, replayed_stage}
 use Rattle.ds_stage.specs.Stages.{netlist_stage, vectors_stage}
 use Rattle.ds_stage.proofs.Exclusive.{netlist_exclusive, vectors_exclusive}
@@ -42,9 +42,9 @@ use Rattle.ds_stage.proofs.OwnWords.{planned_words}
 use Rattle.ds_stage.proofs.PlanAccepted.{planned_circuit, planned_is_plan}
 use Rattle.ds_stage.proofs.PlanExclusive.{planned_exclusive}
 use Rattle.ds_laws.specs.Logs.{IsFiredWhole, IsShort, ReplaysAll, SaysAllFired, logged_run, replay_after}
-use Rattle.ds_trace.specs.RunText.{IsRunText}
+use Rattle.ds_run.specs.RunText.{IsRunText}
 use Rattle.ds_laws.proofs.Fired.{logged_is_fired}
-use Rattle.ds_solo.specs.JobStages.{replay_stage}
+use Rattle.ds_app.specs.JobStages.{replay_stage}
 use Rattle.ds_app.specs.Job.{stages_of}
 use Rattle.ds_app.specs.Status.{AreTold, IsToldIn}
 use Rattle.ds_app.proofs.Exclusive.{told_file}

@@ -17,7 +17,7 @@ use Rattle.ds_latch.proofs.Counts.{number_below}
 use Rattle.ds_latch.proofs.Flow.{fires_count}
 use Rattle.ds_latch.proofs.Rising.{events_long}
 use Rattle.ds_marked.proofs.Firings.{counted-same, counted-other}
-use Rattle.ds_state_text.specs.OpenLines.{open_line_of, open_lines, open_pair}
+use Rattle.ds_replay.specs.OpenLines.{open_line_of, open_lines, open_pair}
 
 -- how often the first events have fired together
 total : (ℕ → ℕ) → ℕ → ℕ

@@ -12,10 +12,10 @@ use Rattle.ds_cmd.specs.declared.job.Job.{Job}
 use Rattle.ds_cmd.specs.declared.job.Job.TheVariants.{Run, Replay}
 use Rattle.ds_cmd.specs.declared.replay.ReplayJob.{ReplayJob}
 use Rattle.ds_cmd.specs.declared.run.RunJob.{RunJob}
-use Rattle.ds_log.specs.Log.{fired_line}
+use Rattle.ds_rows.specs.Log.{fired_line}
 use Rattle.ds_replay.specs.Replay.{replay_of}
 use Rattle.ds_replay.specs.Printed.{HasOwnWords}
-use Rattle.ds_trace.specs.RunText.{IsRunText}
+use Rattle.ds_run.specs.RunText.{IsRunText}
 use Rattle.ds_app.specs.Job.{stages_of}
 use Rattle.ds_app.specs.Status.{AreTold}
 

@@ -10,3 +10,4 @@ pub mod Window
 pub mod Laws
 pub mod Span
 pub mod Draft
+pub mod Names

@@ -3,9 +3,9 @@ use Rattle.std.proofs.Common.{◌≡◌, ◌⊎◌, ◌<◌, ℕ, List, [], ◌�
 use Rattle.std.specs.List.{All, Contains}
 use Rattle.std.proofs.lemmas.List.Elements.{All-contains}
 use Rattle.ds_design.specs.declared.design.Gate.{Gate}
-use Rattle.ds_order.specs.declared.edge.Edge.{Edge}
-use Rattle.ds_order.specs.Order.{HasEdge, source_at, target_at}
-use Rattle.ds_order.specs.Search.{EndsAreNodes}
+use Rattle.ds_rank.specs.declared.edge.Edge.{Edge}
+use Rattle.ds_rank.specs.Order.{HasEdge, source_at, target_at}
+use Rattle.ds_rank.specs.Search.{EndsAreNodes}
 use Rattle.ds_netlist.specs.Edges.{FeedsIn, edges_into, edges_of}
 
 -- an edge behind the first one

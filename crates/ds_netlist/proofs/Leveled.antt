@@ -16,7 +16,7 @@ use Rattle.ds_design.proofs.ByLevel.{le_greatest, not_read}
 use Rattle.ds_design.proofs.Controlled.{among_yes, among_no}
 use Rattle.ds_netlist.specs.Edges.{AreNetRanks, floor_in}
 use Rattle.ds_netlist.specs.Fault.{fault_of, is_in, several_clocks, mixed_edges, driven_clock, clock_as_data, multiply_driven, undriven}
-use Rattle.ds_series.specs.Series.{Ordered}
+use Rattle.ds_cover.specs.Series.{Ordered}
 use Rattle.ds_design.specs.Banked.{IsBankOf}
 use Rattle.ds_netlist.specs.Verdict.{AreNetlistParts}
 use Rattle.ds_netlist.specs.declared.fault.NetFault.TheVariants.{DrivenClock, ClockAsData}

@@ -3,7 +3,7 @@ use Rattle.std.proofs.Common.{◌≡◌, ◌≢◌, ◌⊎◌, ◌∙◌, ℕ, �
 use Rattle.std.specs.Prelude.{All, IsErrAnd, MatchResult, Result}
 use Rattle.std.specs.Option.{option_or}
 use Rattle.std.proofs.lemmas.List.Elements.{All-cons, All-contains}
-use Rattle.ds_order.specs.Order.{IsCycle, IsWalk}
+use Rattle.ds_rank.specs.Order.{IsCycle, IsWalk}
 use Rattle.ds_design.specs.Circuit.{Circuit, control_nets, used}
 use Rattle.ds_design.specs.InRange.{IsInRange}
 use Rattle.ds_design.specs.Accepted.{IsAccepted}
@@ -14,7 +14,7 @@ use Rattle.ds_netlist.specs.Edges.{IsCycleOnly}
 use Rattle.ds_netlist.specs.Verdict.{IsRefusal}
 use Rattle.ds_netlist.specs.declared.fault.NetFault.{NetFault}
 use Rattle.ds_netlist.specs.declared.fault.NetFault.TheVariants.{SeveralClocks, MixedEdges, DrivenClock, ClockAsData, MultiplyDriven, Undriven, CombinationalCycle, Memory}
-use Rattle.ds_order.proofs.Rising.{no_cycle}
+use Rattle.ds_rank.proofs.Rising.{no_cycle}
 use Rattle.ds_netlist.proofs.Firsts.{or_some}
 use Rattle.ds_netlist.proofs.Checked.{IsFound, IsPlain, apart_clock, clocks_found, data_found, driven_found, edges_found, multiply_found, no_mixed, no_multiply, no_other, no_undriven, undriven_found}
 

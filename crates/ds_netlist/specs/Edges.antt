@@ -4,8 +4,8 @@ use Rattle.std.specs.List.{flat_map, list_any}
 use Rattle.ds_design.specs.Circuit.{Circuit}
 use Rattle.ds_design.specs.Reach.{Feeds}
 use Rattle.ds_design.specs.declared.design.Gate.{Gate}
-use Rattle.ds_order.specs.declared.edge.Edge.{Edge}
-use Rattle.ds_order.specs.Order.{IsCycle, IsRanks}
+use Rattle.ds_rank.specs.declared.edge.Edge.{Edge}
+use Rattle.ds_rank.specs.Order.{IsCycle, IsRanks}
 use Rattle.ds_netlist.specs.declared.fault.NetFault.{NetFault}
 use Rattle.ds_netlist.specs.declared.fault.NetFault.TheVariants.{SeveralClocks, MixedEdges}
 use Rattle.ds_netlist.specs.declared.fault.NetFault.TheVariants.{DrivenClock, ClockAsData}

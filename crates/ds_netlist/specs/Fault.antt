@@ -9,7 +9,7 @@ use Rattle.ds_design.specs.Reach.{Feeds}
 use Rattle.ds_design.specs.declared.design.Edge.{Edge}
 use Rattle.ds_design.specs.declared.design.Edge.TheVariants.{Rising, Falling}
 use Rattle.ds_design.specs.declared.design.Register.{Register}
-use Rattle.ds_order.specs.Order.{IsCycle}
+use Rattle.ds_rank.specs.Order.{IsCycle}
 use Rattle.ds_netlist.specs.Drivers.{drivers_of}
 use Rattle.ds_netlist.specs.declared.fault.Driver.{Driver}
 use Rattle.ds_netlist.specs.declared.fault.NetFault.{NetFault}

@@ -12,8 +12,8 @@ use crate::lists::{column_nets, control_names};
 use crate::order::table_order;
 use crate::packed::series_of;
 use ds_base::{NetId, Seq};
+use ds_cover::Series;
 use ds_design::{Design, Netlist};
-use ds_series::Series;
 use std::alloc::Global;
 
 /// Checks a design and levels its nets. A refusal gives the design back.

@@ -7,7 +7,7 @@ ghost use Rattle.ds_netlist.specs.declared.fault.NetFault.TheVariants.{Combinati
 use crate::NetFault;
 use ds_base::{NetId, Seq};
 use ds_design::{Design, Gate};
-use ds_order::{Edge, OrderFault, ranks};
+use ds_rank::{Edge, OrderFault, least_ranks};
 use std::alloc::{AllocError, Global};
 
 // The rank of each net, or a cycle.
@@ -18,7 +18,7 @@ pub(crate) fn level_nets(alloc: Global, design: &Design) -> Result<Vec<u64>, Net
     let tables = design.tables();
     let edges = edges(alloc, tables)?;
     let floors = floors(alloc, tables, design.nets().len())?;
-    match ranks(alloc, floors.as_slice(), edges.as_slice()) {
+    match least_ranks(alloc, floors.as_slice(), edges.as_slice()) {
         Ok(levels) => Ok(levels),
         Err(OrderFault::Cycle(nodes)) => Err(cycle_of(alloc, nodes.as_slice())),
         Err(OrderFault::Memory) => Err(NetFault::Memory),

@@ -3,9 +3,8 @@ ghost use Rattle.std.specs.Prelude.{◌≡◌, ◌<◌, length, All, IfOk};
 ghost use Rattle.ds_design.specs.Banked.{IsBankOf};
 
 use ds_base::OutOfMemory;
-use ds_cover::Bank;
+use ds_cover::{Bank, Series};
 use ds_design::Gate;
-use ds_series::Series;
 use std::alloc::Global;
 
 // The tables packed, in this order.

@@ -12,8 +12,8 @@ use Rattle.ds_base.specs.Values.{Row}
 use Rattle.ds_base.specs.Word.{word_of, count_of_words}
 use Rattle.ds_base.proofs.Lists.{Contains-head, map_agree}
 use Rattle.ds_cover.specs.Cover.{value_at, values_at}
-use Rattle.ds_groups.proofs.Flat.{has_filter, has_flat}
-use Rattle.ds_scratch.specs.Scratch.{Kept, Memory, Remembers}
+use Rattle.ds_opening.proofs.Flat.{has_filter, has_flat}
+use Rattle.ds_base.specs.Scratch.{Kept, Memory, Remembers}
 use Rattle.ds_opening.specs.Learnt.{is_learnt}
 use Rattle.ds_opening.specs.Noted.{AreReadRows, AreRowsLearnt, IsLearnt, IsSlot}
 use Rattle.ds_opening.specs.Packed.{packed, packed_rows}

@@ -6,7 +6,7 @@ use Rattle.std.proofs.lemmas.Bool.{cases_eq}
 use Rattle.std.specs.List.{flat_map}
 use Rattle.std.proofs.lemmas.Grind.{flat_map-append}
 use Rattle.std.proofs.lemmas.List.Concat.{flat_map-cons}
-use Rattle.ds_groups.specs.Groups.{Grouping, group_of, tables_in}
+use Rattle.ds_opening.specs.Groups.{Grouping, group_of, tables_in}
 use Rattle.std.proofs.lemmas.List.{append-nil, drop_more, get_or-set_other, get_or-set_same, length-set, map-append, take_more}
 use Rattle.std.proofs.lemmas.List.Elements.{All-contains, Contains-append_cases, Contains-get_or}
 use Rattle.ds_base.specs.Values.{Row}
@@ -21,8 +21,8 @@ use Rattle.ds_design.specs.Banked.{IsBankOf}
 use Rattle.ds_design.specs.Circuit.{Circuit}
 use Rattle.ds_design.specs.InRange.{IsInRange}
 use Rattle.ds_design.specs.declared.design.Gate.{Gate}
-use Rattle.ds_scratch.specs.Lent.{with_nets}
-use Rattle.ds_scratch.specs.Scratch.{HoldsTurn, IsNoted, Kept, Memory, Remembers, value_in}
+use Rattle.ds_base.specs.LentNets.{with_nets}
+use Rattle.ds_base.specs.Scratch.{HoldsTurn, IsNoted, Kept, Memory, Remembers, value_in}
 use Rattle.ds_settle.specs.Cone.{net_of, nets_of_tables}
 use Rattle.ds_settle.specs.Settle.{LeavesOthers}
 use Rattle.ds_settle.proofs.SetBits.{value_at-set_other}

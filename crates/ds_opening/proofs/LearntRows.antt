@@ -3,7 +3,7 @@ use Rattle.std.proofs.Common.{◌≡◌, ◌∙◌, ℕ, ◌+◌, ◌*◌, ◌%�
 use Rattle.std.proofs.lemmas.Bool.{and_right, eqb-true, false≢true}
 use Rattle.ds_latch.specs.Node.{number_of}
 use Rattle.ds_latch.specs.declared.node.Node.TheVariants.{Master}
-use Rattle.ds_scratch.specs.Scratch.{Kept}
+use Rattle.ds_base.specs.Scratch.{Kept}
 use Rattle.ds_opening.specs.Learnt.{is_learnt, is_no_master}
 
 -- no row of a master is learnt

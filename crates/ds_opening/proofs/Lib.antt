@@ -1,3 +1,13 @@
+pub mod Front
+pub mod Moves
+pub mod Numbered
+pub mod Same
+pub mod Found
+pub mod Lacks
+pub mod Flat
+pub mod Grouped
+pub mod Housed
+pub mod Searched
 pub mod Packs
 pub mod Filled
 pub mod Woven

@@ -8,29 +8,29 @@ use Rattle.ds_base.specs.Values.{Row}
 use Rattle.ds_cover.specs.Cover.{value_at, values_at}
 use Rattle.ds_cover.proofs.Keeps.{value_agrees}
 use Rattle.ds_design.specs.declared.design.Gate.{Gate}
-use Rattle.ds_groups.specs.Reads.{ReadFrom}
+use Rattle.ds_opening.specs.Reads.{ReadFrom}
 use Rattle.ds_opening.specs.Foreseen.{node_at}
 use Rattle.ds_opening.specs.Noted.{AreDriven, AreGroupsBefore, HasReads, all_learnt_nets, learnt_nets, nets_of_turn, FindInputs, AreGroupSlots, AreConeGroups, AreRowsLearnt, IsAsKnown, IsLearnt, AreReadRows, IsSettlingOpening, IsSlot, slots_of}
 use Rattle.ds_design.specs.Circuit.{Circuit}
 use Rattle.ds_design.specs.InRange.{IsInRange}
 use Rattle.ds_design.specs.Run.{row_at}
-use Rattle.ds_groups.specs.Groups.{Grouping, IsGrouped, group_of, tables_in}
+use Rattle.ds_opening.specs.Groups.{Grouping, IsGrouped, group_of, tables_in}
 use Rattle.ds_latch.specs.Node.{Split, IsNode, nets_of, nodes, number_of}
 use Rattle.ds_latch.specs.declared.node.Node.{Node}
 use Rattle.ds_latch.specs.declared.node.Node.TheVariants.{In, Out, Master, Slave}
 use Rattle.ds_latch.specs.Order.{IsDataEdge, IsSource}
 use Rattle.ds_latch.specs.Plan.{IsSplit}
 use Rattle.ds_latch.proofs.Counts.{number_below}
-use Rattle.ds_scratch.specs.Scratch.{Kept, Memory, Remembers}
+use Rattle.ds_base.specs.Scratch.{Kept, Memory, Remembers}
 use Rattle.ds_settle.specs.Cone.{IsCone, Parts as Cone, nets_of_tables}
 use Rattle.ds_opening.specs.Learnt.{is_learnt}
 use Rattle.ds_opening.specs.declared.opening.Opening.{Opening}
-use Rattle.ds_cones.specs.Cones.{cone_place}
-use Rattle.ds_cones.specs.Settled.{IsSettling}
+use Rattle.ds_split.specs.Cones.{cone_place}
+use Rattle.ds_split.specs.Settled.{IsSettling}
 use Rattle.ds_opening.specs.Woven.{Turn, value_taken}
 use Rattle.ds_opening.proofs.Fed.{cone_finds, these_learnt}
-use Rattle.ds_cones.proofs.NodeCones.{place_is}
-use Rattle.ds_cones.proofs.Settled.{sources_agree, turn_value}
+use Rattle.ds_split.proofs.NodeCones.{place_is}
+use Rattle.ds_split.proofs.Settled.{sources_agree, turn_value}
 use Rattle.ds_opening.proofs.Slots.{slot_of_group, slot_of_source, slots_apart, slots_long}
 use Rattle.ds_opening.proofs.Woven.{from_is, no_master, no_out, numbers_inside, numbers_within, supplied}
 

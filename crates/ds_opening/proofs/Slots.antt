@@ -10,7 +10,7 @@ use Rattle.ds_base.proofs.Lists.{Any-from_map}
 use Rattle.ds_base.proofs.Pairs.{pairs-between, pairs-left, pairs-right}
 use Rattle.ds_design.specs.Circuit.{Circuit, columns, register_nets}
 use Rattle.ds_design.specs.Levels.{table_nets}
-use Rattle.ds_groups.specs.Groups.{AreGroupsOf, Grouping, group_of}
+use Rattle.ds_opening.specs.Groups.{AreGroupsOf, Grouping, group_of}
 use Rattle.ds_latch.specs.Node.{Split, IsNode, members, nets_of, nodes, number_of}
 use Rattle.ds_latch.specs.declared.node.Node.{Node}
 use Rattle.ds_latch.specs.declared.node.Node.TheVariants.{In, Out, Master, Slave}

@@ -9,8 +9,8 @@ use Rattle.ds_cover.specs.Cover.{value_at}
 use Rattle.ds_cover.proofs.Keeps.{value_agrees}
 use Rattle.ds_design.specs.Circuit.{Circuit}
 use Rattle.ds_design.specs.declared.design.Gate.{Gate}
-use Rattle.ds_groups.specs.Groups.{Grouping, group_of}
-use Rattle.ds_scratch.specs.Scratch.{HoldsTurn, Kept, Memory, Remembers, value_in}
+use Rattle.ds_opening.specs.Groups.{Grouping, group_of}
+use Rattle.ds_base.specs.Scratch.{HoldsTurn, Kept, Memory, Remembers, value_in}
 use Rattle.ds_settle.specs.Cone.{net_of, nets_of_tables}
 use Rattle.ds_settle.proofs.Tables.{net_is}
 use Rattle.ds_opening.specs.Noted.{AreDriven, FindInputs, HasReads, IsAsKnown, IsGroupBefore, IsSlot, KeepsGroup, nets_of_turn}

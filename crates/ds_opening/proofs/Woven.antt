@@ -17,10 +17,10 @@ use Rattle.ds_design.specs.declared.design.Register.{Register}
 use Rattle.ds_latch.proofs.Counts.{number_below}
 use Rattle.ds_latch.proofs.Turns.{picked}
 use Rattle.ds_settle.specs.Cone.{IsCone, IsPartSettled, Parts}
-use Rattle.ds_cones.specs.Cones.{IsSettlingAt}
-use Rattle.ds_cones.specs.Settled.{IsSettling, IsSupplied}
-use Rattle.ds_cones.proofs.NodeCones.{nets_within}
-use Rattle.ds_cones.proofs.Settled.{settles_next_value_lem}
+use Rattle.ds_split.specs.Cones.{IsSettlingAt}
+use Rattle.ds_split.specs.Settled.{IsSettling, IsSupplied}
+use Rattle.ds_split.proofs.NodeCones.{nets_within}
+use Rattle.ds_split.proofs.Settled.{settles_next_value_lem}
 use Rattle.ds_opening.specs.Packed.{AreInside, AreLearnt, packed, packed_rows}
 use Rattle.ds_opening.specs.Woven.{IsFed, Turn, read_of, value_taken, woven}
 

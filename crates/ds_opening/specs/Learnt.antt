@@ -1,6 +1,6 @@
 -- Which rows of nodes are learnt in a scratch.
 use Rattle.std.specs.Prelude.{ℕ, ◌+◌, ◌%◌, ◌==◌, ◌&&◌, ◌||◌, Bool, slice_index}
-use Rattle.ds_scratch.specs.Scratch.{Kept}
+use Rattle.ds_base.specs.Scratch.{Kept}
 
 -- whether the node with this number is no master: the others learn the rows of IN and of slaves as
 -- they settle, and nobody reads OUT

@@ -1,4 +1,14 @@
 -- In the order in which to read.
+pub mod Classes
+pub mod Gaps
+pub mod Lacking
+pub mod Numbers
+pub mod Members
+pub mod Lists
+pub mod Groups
+pub mod Reads
+pub mod Homes
+pub mod Seen
 pub mod Packed
 pub mod Woven
 pub mod Foreseen

@@ -7,14 +7,14 @@ use Rattle.ds_base.specs.Values.{Row}
 use Rattle.ds_cover.specs.Cover.{value_at, value_of}
 use Rattle.ds_design.specs.Circuit.{Circuit}
 use Rattle.ds_design.specs.declared.design.Gate.{Gate}
-use Rattle.ds_groups.specs.Groups.{AreGroupsOf, Grouping, group_of}
-use Rattle.ds_groups.specs.Reads.{AreReads, ReadFrom, slots_with}
+use Rattle.ds_opening.specs.Groups.{AreGroupsOf, Grouping, group_of}
+use Rattle.ds_opening.specs.Reads.{AreReads, ReadFrom, slots_with}
 use Rattle.ds_latch.specs.Node.{Split, nets_of, nodes}
 use Rattle.ds_latch.specs.declared.node.Node.{Node}
 use Rattle.ds_latch.specs.declared.node.Node.TheVariants.{In, Out, Master, Slave}
-use Rattle.ds_scratch.specs.Scratch.{Kept, Memory, Remembers, value_in}
+use Rattle.ds_base.specs.Scratch.{Kept, Memory, Remembers, value_in}
 use Rattle.ds_settle.specs.Cone.{Parts as Cone, net_of, nets_of_tables}
-use Rattle.ds_cones.specs.Cones.{AreCones, IsSettlingAt}
+use Rattle.ds_split.specs.Cones.{AreCones, IsSettlingAt}
 use Rattle.ds_opening.specs.Foreseen.{node_at}
 use Rattle.ds_opening.specs.Learnt.{is_learnt}
 use Rattle.ds_opening.specs.Packed.{AreInside, AreLearnt, Learns, packed_rows}

@@ -1,54 +1,150 @@
-//! The groups of the tables that the nodes settle.
-ghost use Rattle.std.specs.Prelude.{◌≡◌, IfOk};
-ghost use Rattle.ds_design.specs.InRange.{IsInRange};
-ghost use Rattle.ds_latch.specs.Node.{Split, nets_of};
-ghost use Rattle.ds_latch.specs.Plan.{IsSplit};
-ghost use Rattle.ds_cones.specs.Cones.{AreCones};
-ghost use Rattle.ds_opening.specs.Foreseen.{node_at};
-ghost use Rattle.ds_opening.specs.Noted.{AreConeGroups, all_learnt_nets, learnt_nets};
+//! Groups of tables, the groups of each cone, and the slots that each group reads.
+ghost use Rattle.std.specs.Prelude.{◌≡◌, ◌<◌, ◌^◌, ℕ, All, Contains, IfOk, List, [], length};
+ghost use Rattle.std.specs.Prelude.{slice_index_or};
+ghost use Rattle.ds_cover.specs.Bank.{AreNetsWithin, after_tables};
+ghost use Rattle.ds_settle.specs.Cone.{IsCone};
+ghost use Rattle.ds_opening.specs.Classes.{AreClasses, HasTables};
+ghost use Rattle.ds_opening.specs.Groups.{AreGroupsOf, group_of};
+ghost use Rattle.ds_opening.specs.Lacking.{AreByLacking};
+ghost use Rattle.ds_opening.specs.Reads.{AreReads};
 
-use ds_base::{NetId, OutOfMemory, Seq};
-use ds_groups::Groups;
-use ds_latch::Latches;
+use crate::classes::classes_of;
+use crate::lacking::by_lacking;
+use crate::lists::lists_of;
+use crate::members::members_of;
+use crate::numbers::{Numbers, numbered};
+use crate::reads::{are_large, reads_of};
+use ds_base::{NetId, OutOfMemory, Row3, Seq};
+use ds_cover::Selections;
+use ds_design::Netlist;
 use ds_settle::Cone;
 use std::alloc::Global;
+use std::marker::Model;
 
-/// The groups of the cones of OUT, M0, M1, .., with what each reads. The cones are taken.
-pub fn groups_of<'n>(
+/// The tables of each group, ready to be set, the numbers of each cone's groups, and the slots that
+/// each group reads. Contracts see the packed tables of the netlist and the three lists.
+pub struct Groups<'n> {
+    selections: Selections<'n>,
+    lists: Vec<Seq<u32>>,
+    reads: Vec<Seq<usize>>,
+    has_reads: bool,
+}
+
+impl<'n> Drop for Groups<'n> {
+    fn drop(self) {
+        let Groups {
+            selections: _,
+            lists: _,
+            reads: _,
+            has_reads: _,
+        } = self;
+    }
+}
+
+impl<'n> Model for Groups<'n> {
+    ghost use Rattle.ds_opening.specs.Groups.{Grouping};
+
+    ghost Value = { Grouping };
+
+    ghost view = { λ g. record {
+      bank = g.selections.tables;
+      groups = g.selections.lists;
+      lists = g.lists.items;
+      reads = g.reads.items;
+    } };
+}
+
+impl<'n> Groups<'n> {
+    /// The groups of the tables of these cones. What a group drives is the slot with its number,
+    /// and these other lists of nets are the slots behind. The cones are taken, so that none of
+    /// them is kept once the lists of groups are there.
+    pub fn of(
+        alloc: Global,
+        netlist: &'n Netlist,
+        cones: Vec<Cone>,
+        others: &[Seq<NetId>],
+    ) -> Result<Self, OutOfMemory>
+        requires cones { All (λ cone. (these : List ℕ) × IsCone netlist.now these cone)
+            cones.items }
+        requires others { All (λ these. All (λ net. net < length netlist.now.nets) these)
+            others.now }
+        ensures ok { IfOk result (AreGroupsOf netlist.now cones.items) }
+        ensures reads { IfOk result (AreReads netlist.now others.now) }
+    {
+        let design = netlist.design();
+        let tables = design.tables().len();
+        let order = netlist.order();
+        let numbers = numbers_of(alloc, cones.as_slice(), order, tables)?;
+        let lists = lists_of(alloc, cones.as_slice(), &numbers)?;
+        drop(cones);
+        let groups = members_of(alloc, order, &numbers)?;
+        drop(numbers);
+        let reads = reads_of(alloc, design, groups.as_slice(), others)?;
+        let selections = Selections::of(alloc, netlist.bank(), groups.as_slice())?;
+        Ok(Groups {
+            selections,
+            lists,
+            reads,
+            has_reads: are_large(groups.len(), tables),
+        })
+    }
+
+    /// How many groups there are.
+    pub fn count(&self) -> usize
+        ensures value { result ≡ length self.now.groups }
+        ensures few { result < 2 ^ 63 }
+    {
+        self.selections.count()
+    }
+
+    /// Sets what the tables of a group drive, one after another.
+    pub fn set(&self, number: usize, nets: &mut Row3)
+        requires number { number < length self.now.groups }
+        requires within { All (λ t. AreNetsWithin t nets.old) self.now.bank }
+        ensures { nets.new ≡ after_tables self.now.bank nets.old (group_of self.now number) }
+    {
+        self.selections.set(number, nets);
+    }
+
+    /// The groups of a cone.
+    pub fn of_cone(&self, cone: usize) -> &[u32]
+        requires { cone < length self.now.lists }
+        ensures { result.now ≡ slice_index_or self.now.lists cone [] }
+    {
+        self.lists[cone].as_slice()
+    }
+
+    /// Whether it is known of some group what it reads.
+    pub fn has_reads(&self) -> bool {
+        self.has_reads
+    }
+
+    /// The slots that a group reads; with its own among them, it may read what is in no slot.
+    pub fn reads(&self, number: usize) -> &[usize]
+        requires { number < length self.now.reads }
+        ensures { result.now ≡ slice_index_or self.now.reads number [] }
+    {
+        self.reads[number].as_slice()
+    }
+}
+
+// A number for each table, the same where the same cones have them, by how many cones lack it.
+fn numbers_of(
     alloc: Global,
-    latches: &Latches<'n>,
-    cones: Vec<Cone>,
-) -> Result<Groups<'n>, OutOfMemory>
-    requires design { IsInRange latches.now.circuit × IsSplit latches.now }
-    requires cones { AreCones latches.now cones.items }
-    ensures ok { IfOk result (AreConeGroups latches.now) }
-{
-    let learnt = learnt_of(alloc, latches)?;
-    Groups::of(alloc, latches.netlist(), cones, learnt.as_slice())
-}
+    cones: &[Cone],
+    order: &[u32],
+    tables: usize,
+) -> Result<Numbers, OutOfMemory>
+    requires cones { All (HasTables tables) cones.now }
+    requires order { All (λ k. k < tables) order.now }
+    requires all { (k : ℕ) → k < tables → Contains order.now k }
+    requires few { length order.now < 2 ^ 32 }
 
-// What others learn of each node.
-fn learnt_of(alloc: Global, latches: &Latches<'_>) -> Result<Vec<Seq<NetId>>, OutOfMemory>
-    requires { IsSplit latches.now }
-    ensures { IfOk result (λ lists. lists.items ≡ all_learnt_nets latches.now) }
+    ensures ok { IfOk result (λ v. AreClasses cones.now tables v.of.items) }
+    ensures below { IfOk result (λ v. All (λ n. n < v.count) v.of.items) }
+    ensures rising { IfOk result (λ v. AreByLacking cones.now v.of.items) }
 {
-    // The edges are read for the fact that there are not too many nodes.
-    let (bits, _edges) = (latches.bits(), latches.edges());
-    let mut lists = Vec::with_capacity(alloc, bits.len())?;
-    for node in 0..bits.len() {
-        lists.push(nets_learnt(alloc, node, bits[node].as_slice())?)?;
-    }
-    Ok(lists)
-}
-
-// What others learn of the node with this number, which has these nets.
-fn nets_learnt(alloc: Global, node: usize, these: &[NetId]) -> Result<Seq<NetId>, OutOfMemory>
-    ensures { IfOk result (λ list. (s : Split) → nets_of s (node_at node) ≡ these.now
-        → list ≡ learnt_nets s (node_at node)) }
-{
-    let mut list = Vec::new(alloc);
-    if node == 0 || (node > 1 && node % 2 == 1) {
-        list.extend_from_slice(these)?;
-    }
-    Ok(Seq::of(list))
+    let classes = classes_of(alloc, cones, tables)?;
+    let sorted = by_lacking(alloc, cones, order, tables)?;
+    numbered(alloc, &classes, sorted.as_slice())
 }

@@ -3,8 +3,8 @@
 ghost use Rattle.std.specs.Prelude.{◌≡◌, ◌+◌, ◌<◌, length};
 ghost use Rattle.ds_opening.specs.Learnt.{is_learnt as learnt_row, is_no_master as no_master};
 
-use ds_groups::Groups;
-use ds_scratch::Scratch;
+use crate::Groups;
+use ds_base::Scratch;
 
 /// Whether the row of the node with this number is learnt for this turn: an opening of the turn
 /// takes no words of it.

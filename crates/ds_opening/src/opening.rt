@@ -7,11 +7,11 @@ ghost use Rattle.ds_cover.specs.Cover.{values_at};
 ghost use Rattle.ds_design.specs.Banked.{IsBankOf};
 ghost use Rattle.ds_design.specs.InRange.{IsInRange};
 ghost use Rattle.ds_design.specs.Circuit.{columns};
-ghost use Rattle.ds_groups.specs.Groups.{group_of, tables_in};
+ghost use Rattle.ds_opening.specs.Groups.{group_of, tables_in};
 ghost use Rattle.ds_latch.specs.Node.{IsNode, number_of, nets_of};
 ghost use Rattle.ds_latch.specs.declared.node.Node.{Node};
 ghost use Rattle.ds_latch.specs.Plan.{IsSplit};
-ghost use Rattle.ds_scratch.specs.Scratch.{HasSlot, Memory, Remembers};
+ghost use Rattle.ds_base.specs.Scratch.{HasSlot, Memory, Remembers};
 ghost use Rattle.ds_settle.specs.Cone.{nets_of_tables};
 ghost use Rattle.ds_opening.specs.Packed.{AreInside, packed};
 ghost use Rattle.ds_base.specs.Word.{count_of_words};
@@ -22,12 +22,11 @@ ghost use Rattle.ds_opening.specs.Noted.{IsAsLong, IsLearnt, IsNotedOpening, IsS
 ghost use Rattle.ds_opening.specs.Noted.{AreReadRows, IsSlot};
 ghost use Rattle.ds_opening.specs.Woven.{Turn, value_taken};
 
+use crate::Groups;
 use crate::packed::{push_all, push_row, push_words, put_values};
-use ds_base::{NetId, Seq, words_of};
+use ds_base::{NetId, Scratch, Seq, words_of};
 use ds_design::{Netlist, Vectors};
-use ds_groups::Groups;
 use ds_latch::Latches;
-use ds_scratch::Scratch;
 
 /// The opening of the node with a number, in a turn, from 1 on, and what it reads: of each producer
 /// whose row is not learnt its number, and behind it the words of its row.

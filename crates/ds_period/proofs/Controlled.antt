@@ -6,7 +6,7 @@ use Rattle.ds_latch.specs.Node.{Split}
 use Rattle.ds_latch.specs.declared.node.Node.TheVariants.{In}
 use Rattle.ds_latch.specs.Order.{opens_first, closes_before_next}
 use Rattle.ds_control.specs.Control.{AreOrders}
-use Rattle.ds_order.specs.Order.{IsDistinct}
+use Rattle.ds_rank.specs.Order.{IsDistinct}
 use Rattle.ds_period.specs.Timing.{HasCycle, Leads}
 use Rattle.ds_period.specs.Controller.{ControllersHavePeriods}
 

@@ -5,11 +5,11 @@ use Rattle.std.proofs.Math.Seq.{drop-cons}
 use Rattle.std.proofs.lemmas.Option.{none-some, same_Some}
 use Rattle.std.proofs.lemmas.Bool.{cases_Bool, false≢true, lt-ltb, le-ltb}
 use Rattle.std.proofs.lemmas.List.{drop_all, length-map, length-replicate}
-use Rattle.ds_names.specs.Names.{place_of_name}
+use Rattle.ds_lines.specs.Names.{place_of_name}
 use Rattle.ds_marked.specs.Log.{event_text}
 use Rattle.ds_lines.specs.Line.{Line, line_or_none}
 use Rattle.ds_marked.specs.Graph.{Graph}
-use Rattle.ds_events.specs.Texts.{event_by_text, event_texts}
+use Rattle.ds_rows.specs.Texts.{event_by_text, event_texts}
 use Rattle.ds_lines.specs.Words.{word_at}
 use Rattle.ds_period.specs.Word.{delay_on, has_delay, written_delay}
 use Rattle.ds_period.specs.Read.{Given, HasOneEach, IsRead, arc_by_texts, arc_named, delays_from, delays_of, is_given, after_line, none_given, then_lines, with_delay}

@@ -6,7 +6,7 @@ use Rattle.std.specs.List.{position_or_len}
 use Rattle.ds_lines.specs.Line.{Line}
 use Rattle.ds_marked.specs.Graph.{Graph}
 use Rattle.ds_marked.specs.declared.marked.Arc.{Arc}
-use Rattle.ds_events.specs.Texts.{event_by_text}
+use Rattle.ds_rows.specs.Texts.{event_by_text}
 use Rattle.ds_lines.specs.Words.{word_at}
 use Rattle.ds_period.specs.Word.{has_delay, written_delay}
 use Rattle.ds_period.specs.declared.fault.DelayFault.{DelayFault}

@@ -3,9 +3,9 @@ use Rattle.std.proofs.Common.{◌≡◌, ◌≢◌, ◌∙◌, ◌<◌, ◌≤�
 use Rattle.std.specs.List.{All, Any}
 use Rattle.std.proofs.lemmas.Bool.{cases_eq}
 use Rattle.ds_marked.specs.declared.marked.Arc.{Arc}
-use Rattle.ds_order.specs.declared.edge.Edge.{Edge}
-use Rattle.ds_order.specs.Order.{HasEdge, source_at, target_at}
-use Rattle.ds_order.specs.Search.{EndsAreNodes}
+use Rattle.ds_rank.specs.declared.edge.Edge.{Edge}
+use Rattle.ds_rank.specs.Order.{HasEdge, source_at, target_at}
+use Rattle.ds_rank.specs.Search.{EndsAreNodes}
 use Rattle.ds_rank.specs.Free.{edge_of_arc, free_part, with_free}
 
 -- an arc without tokens leads from u to v

@@ -3,7 +3,7 @@ use Rattle.std.proofs.Common.{◌≡◌, inl, inr, ℕ, zero, suc, ◌+◌, ◌<
 use Rattle.std.proofs.lemmas.Bool.{cases_lt}
 use Rattle.std.proofs.lemmas.List.{get_or_past}
 use Rattle.std.proofs.lemmas.Grind.{same_number_lists}
-use Rattle.ds_order.specs.Order.{IsRanks}
+use Rattle.ds_rank.specs.Order.{IsRanks}
 use Rattle.ds_rank.specs.Laws.{OneListOfRanks}
 use Rattle.ds_rank.specs.Rank.{HasFreeArc}
 

@@ -2,7 +2,7 @@
 use Rattle.std.specs.Prelude.{◌≡◌, ◌<◌, ⊤, ℕ, List, length, slice_index, All, Any}
 use Rattle.ds_marked.specs.Graph.{Graph}
 use Rattle.ds_marked.specs.declared.marked.Arc.{Arc}
-use Rattle.ds_order.specs.Order.{IsCycle, IsRanks}
+use Rattle.ds_rank.specs.Order.{IsCycle, IsRanks}
 use Rattle.ds_rank.specs.declared.fault.RankFault.{RankFault}
 use Rattle.ds_rank.specs.declared.fault.RankFault.TheVariants.{Cycle, Memory}
 

@@ -4,10 +4,9 @@ ghost use Rattle.ds_rank.specs.Rank.{AreRanks, IsRankFault};
 ghost use Rattle.ds_rank.specs.Free.{IsFreePart, edge_of_arc};
 ghost use Rattle.ds_rank.specs.declared.fault.RankFault.TheVariants.{Cycle, Memory};
 
-use crate::{RankFault, Ranks};
+use crate::{Edge, OrderFault, RankFault, Ranks, least_ranks};
 use ds_base::{EventId, Seq};
 use ds_marked::{Arc, Marked};
-use ds_order::{Edge, OrderFault, ranks};
 use std::alloc::{AllocError, Global};
 
 /// The rank of each event: 0 where no arc without tokens enters it, and else one more than the
@@ -24,7 +23,7 @@ pub fn rank(alloc: Global, graph: &Marked) -> Result<Ranks, RankFault>
     let Ok(floors) = zeros(alloc, graph.events().len()) else {
         return Err(RankFault::Memory);
     };
-    match ranks(alloc, floors.as_slice(), edges.as_slice()) {
+    match least_ranks(alloc, floors.as_slice(), edges.as_slice()) {
         Ok(numbers) => Ok(Ranks::of(numbers)),
         Err(OrderFault::Cycle(nodes)) => Err(cycle_of(alloc, nodes.as_slice())),
         Err(OrderFault::Memory) => Err(RankFault::Memory),

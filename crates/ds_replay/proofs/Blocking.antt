@@ -5,7 +5,7 @@ use Rattle.std.proofs.lemmas.Bool.{cases_Bool, eq-eqb, eqb-true, lt-ltb, ltb-tru
 use Rattle.std.proofs.lemmas.Bool.Decides.{eqb_tells}
 use Rattle.std.proofs.lemmas.List.Sums.{position_or_len_is}
 use Rattle.std.proofs.lemmas.List.{length-map}
-use Rattle.ds_names.specs.Names.{place_of_name}
+use Rattle.ds_lines.specs.Names.{place_of_name}
 use Rattle.ds_marked.specs.Log.{event_text}
 use Rattle.ds_marked.specs.Graph.{Graph, IsEnabled}
 use Rattle.ds_marked.specs.Blocked.{IsBlocked, IsFirstLackingArc, Lacks}
@@ -15,8 +15,8 @@ use Rattle.ds_marked.specs.declared.blocked.Blocked.TheVariants as blocked
 use Rattle.std.specs.Str.Parse.{digits_value}
 use Rattle.ds_lines.specs.First.{first_of}
 use Rattle.ds_lines.specs.Words.{first_word}
-use Rattle.ds_events.proofs.Numbers.{both}
-use Rattle.ds_events.specs.Texts.{event_by_text, event_texts}
+use Rattle.ds_rows.proofs.Numbers.{both}
+use Rattle.ds_rows.specs.Texts.{event_by_text, event_texts}
 use Rattle.ds_replay.specs.Word.{second_word, turn_of}
 use Rattle.ds_replay.specs.Replay.{event_fault, fault_of_firing, lacks_token, least_lacking}
 use Rattle.ds_replay.specs.Step.{kind_of}

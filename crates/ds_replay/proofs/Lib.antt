@@ -6,3 +6,5 @@ pub mod Lines
 pub mod Logs
 pub mod Printed
 pub mod Named
+pub mod OpenTexts
+pub mod Registers

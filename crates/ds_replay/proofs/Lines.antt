@@ -21,10 +21,10 @@ use Rattle.ds_marked.specs.declared.marked.Arc.{Arc}
 use Rattle.ds_marked.specs.declared.marked.Event.{Event}
 use Rattle.ds_marked.specs.declared.marked.Kind.TheVariants.{Rise}
 use Rattle.ds_marked.specs.Log.{event_text, IsEventText, IsFiringLine, IsTurnWord, LineFault, bad_word, unknown_event, wrong_turn, over_limit, not_enabled}
-use Rattle.ds_events.proofs.Numbers.{all_digits, both}
-use Rattle.ds_events.proofs.Places.{place_some}
-use Rattle.ds_events.specs.Number.{is_decimal, is_short_number}
-use Rattle.ds_events.specs.Texts.{event_by_text, event_texts}
+use Rattle.ds_rows.proofs.Numbers.{all_digits, both}
+use Rattle.ds_rows.proofs.Places.{place_some}
+use Rattle.ds_rows.specs.Number.{is_decimal, is_short_number}
+use Rattle.ds_rows.specs.Texts.{event_by_text, event_texts}
 use Rattle.ds_replay.specs.Word.{is_firing, second_word}
 use Rattle.ds_replay.specs.Replay.{event_fault, fault_of_firing, lacks_token, least_lacking}
 use Rattle.ds_replay.specs.Legal.{HasKind, HasOwnTexts}

@@ -9,7 +9,7 @@ use Rattle.ds_marked.specs.declared.marked.Event.{Event}
 use Rattle.ds_marked.specs.declared.marked.Kind.{Kind}
 use Rattle.ds_marked.specs.declared.marked.Kind.TheVariants.{Rise, Fall, Dummy}
 use Rattle.ds_marked.specs.Log.{event_text, sign, IsLegalLogFrom, LineFault}
-use Rattle.ds_events.specs.Texts.{event_by_text}
+use Rattle.ds_rows.specs.Texts.{event_by_text}
 use Rattle.ds_replay.specs.Replay.{fault_of_firing, log_fault_or, log_of, replay_from, replay_of, with_first}
 use Rattle.ds_replay.specs.Legal.{EndsInSign, HasKind, HasOwnTexts, HasPlainDummies, IsFirstFault, words_of_lines}
 use Rattle.ds_replay.specs.declared.fault.ReplayFault.{ReplayFault}

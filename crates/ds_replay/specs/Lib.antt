@@ -6,3 +6,6 @@ pub mod Legal
 pub mod Printed
 pub mod Worked
 pub mod Step
+pub mod OpenLines
+pub mod ReplayText
+pub mod Kept

@@ -9,7 +9,7 @@ use Rattle.ds_lines.specs.Words.{first_word}
 use Rattle.ds_lines.specs.Line.{Line}
 use Rattle.ds_marked.specs.Graph.{Graph, counted}
 use Rattle.ds_marked.specs.declared.marked.Arc.{Arc}
-use Rattle.ds_events.specs.Texts.{event_by_text}
+use Rattle.ds_rows.specs.Texts.{event_by_text}
 use Rattle.ds_replay.specs.Word.{second_word, is_firing}
 use Rattle.ds_replay.specs.declared.fault.ReplayFault.{ReplayFault}
 use Rattle.ds_replay.specs.declared.fault.ReplayKind.{ReplayKind}

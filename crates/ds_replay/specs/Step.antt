@@ -5,7 +5,7 @@ use Rattle.ds_marked.specs.declared.blocked.Blocked.{Blocked}
 use Rattle.ds_marked.specs.declared.blocked.Blocked.TheVariants as blocked
 use Rattle.ds_fire.specs.Snapshot.{Snapshot, graph_of, limit_of, count_of}
 use Rattle.ds_fire.specs.Fired.{IsFired}
-use Rattle.ds_events.specs.Texts.{event_by_text}
+use Rattle.ds_rows.specs.Texts.{event_by_text}
 use Rattle.ds_replay.specs.Replay.{event_fault, fault_of_firing}
 use Rattle.ds_replay.specs.declared.fault.Refusal.{Refusal}
 use Rattle.ds_replay.specs.declared.fault.Refusal.TheVariants as refusal

@@ -2,7 +2,7 @@
 use Rattle.std.specs.Prelude.{ℕ, Bool, List, [], length, Option, None, Some, slice_index_or, ◌==◌}
 use Rattle.std.specs.Prelude.{◌&&◌, if◌then◌else◌}
 use Rattle.std.specs.Str.Parse.{digits_value}
-use Rattle.ds_events.specs.Number.{is_short_number}
+use Rattle.ds_rows.specs.Number.{is_short_number}
 
 -- the second word of a line
 abbrev pub second_word : List (List ℕ) → List ℕ

@@ -9,10 +9,10 @@ use crate::start::start;
 use crate::step::step;
 use crate::{ReplayFault, ReplayRefusal};
 use ds_design::Vectors;
-use ds_events::{Lookup, texts_of};
 use ds_fire::State;
 use ds_latch::Plan;
 use ds_lines::Lines;
+use ds_rows::{Lookup, texts_of};
 use std::alloc::Global;
 
 /// The state after the firings of a log, each event at most once a vector. Reading begins behind

@@ -1,7 +1,7 @@
 //! One line of a log.
 ghost use Rattle.std.specs.Prelude.{◌≡◌, map, IfOk};
 ghost use Rattle.ds_fire.specs.Snapshot.{graph_of};
-ghost use Rattle.ds_events.specs.Texts.{event_texts};
+ghost use Rattle.ds_rows.specs.Texts.{event_texts};
 ghost use Rattle.ds_replay.specs.Step.{StepsTo};
 ghost use Rattle.ds_replay.specs.declared.fault.ReplayKind.TheVariants.{UnknownEvent};
 
@@ -9,9 +9,9 @@ use crate::ReplayKind;
 use crate::fault::Refusal;
 use crate::fire::fire;
 use crate::word::turn_of;
-use ds_events::Lookup;
 use ds_fire::State;
 use ds_lines::{name, word};
+use ds_rows::Lookup;
 use std::alloc::{AllocError, Global};
 
 /// Fires the event of a line.

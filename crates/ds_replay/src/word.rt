@@ -2,7 +2,7 @@
 ghost use Rattle.std.specs.Prelude.{◌≡◌, map};
 ghost use Rattle.ds_replay.specs.Word.{turn_of as turn_of_words};
 
-use ds_events::{is_short, short_value};
+use ds_rows::{is_short, short_value};
 
 /// The number on a line of two words, the second one to ten digits; `None` for another line.
 pub fn turn_of(words: &[&[u8]]) -> Option<u64>

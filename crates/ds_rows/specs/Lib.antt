@@ -3,3 +3,9 @@ pub mod Vector
 pub mod Print
 pub mod Nets
 pub mod Worked
+pub mod Log
+pub mod Homes
+pub mod StateText
+pub mod Number
+pub mod Texts
+pub mod Lookup

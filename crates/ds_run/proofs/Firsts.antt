@@ -16,7 +16,7 @@ use Rattle.ds_latch.specs.Order.{open_tokens}
 use Rattle.ds_latch.proofs.Events.{node_at}
 use Rattle.ds_latch.proofs.Numbers.{same_node}
 use Rattle.ds_design.specs.Rows.{Rows}
-use Rattle.ds_groups.specs.Groups.{Grouping}
+use Rattle.ds_opening.specs.Groups.{Grouping}
 use Rattle.ds_rule.specs.Run.{Run}
 use Rattle.ds_rule.specs.Words.{value, node_values as values_in, width}
 use Rattle.ds_rule.proofs.PlaceLaws.{width-is}

@@ -11,7 +11,14 @@ pub mod Firsts
 pub mod Records
 pub mod Firings
 pub mod Windows
-pub mod Played
+pub mod NodeRecords
 pub mod Fired
 pub mod Halted
 pub mod Remembered
+pub mod Gathered
+pub mod Turns
+pub mod Logged
+pub mod Summed
+pub mod Ended
+pub mod Pieces
+pub mod Stops

@@ -7,7 +7,7 @@ use Rattle.ds_latch.specs.declared.node.Node.{Node}
 use Rattle.ds_latch.specs.Order.{IsDataEdge, open_tokens}
 use Rattle.ds_latch.proofs.Events.{node_at}
 use Rattle.ds_design.specs.Rows.{Rows}
-use Rattle.ds_groups.specs.Groups.{Grouping}
+use Rattle.ds_opening.specs.Groups.{Grouping}
 use Rattle.ds_opening.specs.Packed.{packed}
 use Rattle.ds_opening.specs.Woven.{IsOpeningOf, Turn, read_of, value_taken}
 use Rattle.ds_rule.specs.Run.{Run}

@@ -9,10 +9,10 @@ use Rattle.ds_design.specs.Circuit.{columns}
 use Rattle.ds_design.specs.Rows.{Rows}
 use Rattle.ds_design.specs.Run.{IsRun}
 use Rattle.ds_design.proofs.Runs.{one_run}
-use Rattle.ds_groups.specs.Groups.{Grouping}
+use Rattle.ds_opening.specs.Groups.{Grouping}
 use Rattle.ds_latch.specs.Node.{Split}
 use Rattle.ds_rule.specs.Run.{Run}
-use Rattle.ds_scratch.specs.Scratch.{Kept, Remembers, value_in}
+use Rattle.ds_base.specs.Scratch.{Kept, Remembers, value_in}
 use Rattle.ds_opening.specs.Foreseen.{nets_in, state_before}
 use Rattle.ds_opening.proofs.Foreseen.{foresees_run_lem}
 use Rattle.ds_opening.specs.Learnt.{is_learnt}

@@ -1,10 +1,20 @@
 -- In the order in which to read.
 pub mod Layout
 pub mod Tokened
-pub mod Laws
 pub mod Openings
 pub mod Played
 pub mod Halted
 pub mod Firings
 pub mod Windows
 pub mod Stored
+pub mod RunText
+pub mod Logged
+pub mod Ended
+pub mod Laws
+pub mod Appends
+pub mod Stopped
+pub mod Latched
+pub mod Left
+pub mod Line
+pub mod Summed
+pub mod Refused

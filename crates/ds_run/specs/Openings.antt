@@ -10,8 +10,8 @@ use Rattle.ds_design.specs.Levels.{IsTableOrder}
 use Rattle.ds_latch.specs.Node.{Split}
 use Rattle.ds_latch.specs.Plan.{IsSplit}
 use Rattle.ds_design.specs.Rows.{Rows}
-use Rattle.ds_groups.specs.Groups.{Grouping}
-use Rattle.ds_scratch.specs.Scratch.{Memory}
+use Rattle.ds_opening.specs.Groups.{Grouping}
+use Rattle.ds_base.specs.Scratch.{Memory}
 use Rattle.ds_opening.specs.Foreseen.{nets_in}
 use Rattle.ds_opening.specs.Noted.{AreConeGroups, slots_of}
 use Rattle.ds_rule.specs.Run.{Run}

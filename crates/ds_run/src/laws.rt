@@ -1,8 +1,10 @@
-//! Laws of the definitions, each the contract of a function that does nothing.
+//! Laws of the definitions, each the contract of a function that does nothing; the last ones say
+//! that what a run writes is put together from its windows.
 ghost use Rattle.ds_run.specs.Firings.{FiringsAreLegal, RecordsAreLegal};
 ghost use Rattle.ds_run.specs.Laws.{RunsAreAccepted, RunsAreSound, RunsHaveGraphs};
 ghost use Rattle.ds_run.specs.Stored.{FabricsShowFirst, RecordsStoreAsFired, StoresAsFired};
 ghost use Rattle.ds_run.specs.Windows.{FiringsInWindows};
+ghost use Rattle.ds_run.specs.Laws.{EndSpellsRun, LogsGoOn, WindowsSpellRun};
 
 /// The run of a plan is sound.
 pub fn runs_are_sound()
@@ -49,4 +51,19 @@ pub fn stores_as_fired()
 /// The fabric of a run, as it is built, shows the first state of firing.
 pub fn fabrics_show_first()
     ensures { FabricsShowFirst }
+{}
+
+/// A log that takes window after window is the log of all their turns.
+pub fn logs_go_on()
+    ensures { LogsGoOn }
+{}
+
+/// The lines of all turns and the end of a run are its text.
+pub fn end_spells_run()
+    ensures { EndSpellsRun }
+{}
+
+/// The lines of windows, one after another, and the end of a run are its text.
+pub fn windows_spell_run()
+    ensures { WindowsSpellRun }
 {}

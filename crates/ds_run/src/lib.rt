@@ -1,4 +1,4 @@
-//! The run of a plan on vectors, by workers on the shared table.
+//! The run of a plan on vectors, by workers on the shared table, with its trace and its log.
 //!
 //! `layout_of` lays a plan out as the rule of the table takes it: its nodes and arcs, the data
 //! edges by consumer, the lengths of the rows, and the values of the clocked run, which no code
@@ -10,19 +10,50 @@
 //! firings of windows, one after another (`laws`). `run_to` has each worker stop after so many
 //! firings: they are a legal list, and what is stored is what firing stores by that list. Nothing
 //! is promised of time, or of which worker fires what.
+//!
+//! The trace and the log of a plan that workers have run. `write_window` runs a window of the
+//! vectors, from any registers and turn on, with so many workers, and writes the trace of what its
+//! nodes have stored, turn by turn: the outputs that OUT stored, and the registers that the slaves
+//! stored in the turn before. A `Log` takes the firings, until `end_run` writes the last line and
+//! that log. `write_stopped` stops the workers early and writes what the registers have stored by
+//! then, which is what firing stores by the log. Each takes all memory before its first byte.
+//! `sum_run` gives the number of ones in the outputs and the sum of the trace, and keeps one line
+//! at a time. What is written and summed is that of the clocked run, whatever the workers do. By
+//! the laws windows, one after another, are the text of the run; `ds_laws` says that what is
+//! written with a log is read as one.
 #![tactic(auto)]
 
 mod edges;
+mod end;
+mod fault;
 mod foreseen;
+mod halt;
 pub mod laws;
 mod layout;
+mod left;
 mod lengths;
+mod line;
+mod line_text;
+mod log;
 mod openings;
 mod play;
+mod played;
 mod starts;
+mod stopped;
+mod stored;
+mod sums;
+mod trace;
+mod window;
 
 pub use ds_runner::Workers;
+pub use end::end_run;
+pub use fault::RunFault;
 pub use foreseen::Foreseen;
+pub use halt::Halt;
 pub use layout::layout_of;
+pub use log::Log;
 pub use openings::Openings;
 pub use play::{run, run_to};
+pub use stopped::write_stopped;
+pub use sums::{Sums, sum_run};
+pub use window::{RunWindow, write_window};

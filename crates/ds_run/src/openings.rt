@@ -10,16 +10,14 @@ ghost use Rattle.ds_rule.specs.Sound.{IsSound};
 
 use crate::foreseen::Foreseen;
 use crate::starts::starts_of;
-use ds_base::{LatchId, OutOfMemory, Row3};
-use ds_cones::cones_of;
+use ds_base::{LatchId, OutOfMemory, Row3, Scratch};
 use ds_design::Vectors;
 use ds_fabric::Compute;
-use ds_groups::Groups;
 use ds_latch::{Latches, Node, Plan};
-use ds_opening::{Opening, groups_of, is_learnt, open};
+use ds_opening::{Groups, Opening, groups_of, is_learnt, open};
 use ds_rule::Layout;
-use ds_scratch::Scratch;
 use ds_settle::Cone;
+use ds_split::cones_of;
 use std::alloc::{AllocError, Global};
 use std::marker::Model;
 

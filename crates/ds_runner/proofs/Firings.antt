@@ -11,8 +11,8 @@ use Rattle.ds_rule.proofs.EventLaws.{events-is, event_below, node-high, node-low
 use Rattle.ds_rule.proofs.Lists.{get-listed}
 use Rattle.ds_fabric.specs.Base.{Base}
 use Rattle.ds_fabric.specs.Showing.{IsCounted, Showing}
-use Rattle.ds_turnstile.specs.Turns.{Alone, sum_below}
-use Rattle.ds_turnstile.proofs.Wheels.{sum_same}
+use Rattle.ds_runner.specs.Turns.{Alone, sum_below}
+use Rattle.ds_runner.proofs.Wheels.{sum_same}
 use Rattle.ds_runner.specs.Work.{all_tickets, tickets_below}
 use Rattle.ds_runner.proofs.Sums.{sum-next}
 

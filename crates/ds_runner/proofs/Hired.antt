@@ -11,12 +11,12 @@ use Rattle.ds_rule.specs.Rule.{first_view, holds, seen}
 use Rattle.ds_rule.specs.Plays.{taken_in}
 use Rattle.ds_rule.specs.declared.view.View.{View}
 use Rattle.ds_rule.proofs.Lists.{at_end, replicate-default}
-use Rattle.ds_scratch.specs.Scratch.{Remembers}
+use Rattle.ds_base.specs.Scratch.{Remembers}
 use Rattle.ds_fabric.specs.Base.{Base}
 use Rattle.ds_fabric.specs.Showing.{Showing, Belongs, IsDealt, IsLeft}
-use Rattle.ds_turnstile.specs.Turns.{Alone, HasNone, base, fabric_of, has_out, joined, keeps_parts, one_part, run_of}
-use Rattle.ds_turnstile.specs.Shown.{AreAlone, IsTurnstileClosed, Stile}
-use Rattle.ds_turnstile.specs.declared.turn_view.TurnView.{TurnView}
+use Rattle.ds_runner.specs.Turns.{Alone, HasNone, base, fabric_of, has_out, joined, keeps_parts, one_part, run_of}
+use Rattle.ds_runner.specs.Shown.{AreAlone, IsTurnstileClosed, Stile}
+use Rattle.ds_runner.specs.declared.turn_view.TurnView.{TurnView}
 use Rattle.ds_runner.specs.Work.{AreSingle, HasPassOfEach, HasFrom, IsLent, IsUnfired, IsWithin, IsWorker, made_of}
 use Rattle.ds_runner.specs.declared.worker.Worker.{Worker}
 use Rattle.ds_runner.proofs.Work.{first_both, only_has, second_both, without_has, written}

@@ -1,4 +1,8 @@
 -- Sums, tickets and firings; then lemmas of passes, turns and rounds, and of the end.
+pub mod Starts
+pub mod Wheels
+pub mod LastTurns
+pub mod Shelves
 pub mod Sums
 pub mod Tickets
 pub mod Firings

@@ -2,8 +2,8 @@
 use Rattle.std.proofs.Common.{◌≡◌, ◌≢◌, ℕ, zero, suc, ◌+◌, ◌*◌, ◌<◌, ◌≤◌, sym, refl, ap, subst, arith, suc-mul}
 use mathlib.Core.Logic.{dite}
 use native.Mathlib.Decide.{ℕ_discrete}
-use Rattle.ds_turnstile.specs.Turns.{sum_below}
-use Rattle.ds_turnstile.proofs.Wheels.{sum_same}
+use Rattle.ds_runner.specs.Turns.{sum_below}
+use Rattle.ds_runner.proofs.Wheels.{sum_same}
 
 pub sum-next : (f : ℕ → ℕ) (n : ℕ) → sum_below f (n + 1) ≡ sum_below f n + f n
 sum-next f n = let next : n + 1 ≡ suc n = omega arith in ap (sum_below f) next

@@ -15,8 +15,8 @@ use Rattle.ds_fabric.specs.Showing.{IsCounted}
 use Rattle.ds_fabric.specs.Stepped.{Stepped}
 use Rattle.ds_fabric.specs.declared.step.Step.{Step}
 use Rattle.ds_fabric.specs.declared.step.Step.TheVariants.{Fired, NotYet, Done}
-use Rattle.ds_turnstile.specs.Turns.{sum_below}
-use Rattle.ds_turnstile.proofs.Wheels.{sum_same}
+use Rattle.ds_runner.specs.Turns.{sum_below}
+use Rattle.ds_runner.proofs.Wheels.{sum_same}
 use Rattle.ds_runner.specs.Work.{tickets_below, all_tickets}
 use Rattle.ds_runner.proofs.Sums.{sum_none, sum_up, sum_most}
 

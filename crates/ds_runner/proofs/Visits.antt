@@ -2,9 +2,9 @@
 use Rattle.std.proofs.Common.{◌≡◌, ℕ, ◌∙◌, sym, subst, false}
 use mathlib.Core.Logic.{dite}
 use native.Mathlib.Decide.{ℕ_discrete}
-use Rattle.ds_turnstile.specs.Turns.{HasNone, has_out}
-use Rattle.ds_turnstile.specs.Shown.{TakesPass, GivesBack}
-use Rattle.ds_turnstile.specs.declared.turn_view.TurnView.{TurnView}
+use Rattle.ds_runner.specs.Turns.{HasNone, has_out}
+use Rattle.ds_runner.specs.Shown.{TakesPass, GivesBack}
+use Rattle.ds_runner.specs.declared.turn_view.TurnView.{TurnView}
 
 -- nor after a pass that was taken came back
 pub given_none : (v u w : TurnView) (l f h : ℕ) → HasNone v → TakesPass v u l f → GivesBack u w l h → HasNone w

@@ -17,7 +17,7 @@ use Rattle.ds_rule.specs.declared.view.View.{View}
 use Rattle.ds_rule.proofs.Progress.{all_done}
 use Rattle.ds_rule.proofs.EventLaws.{node-next, fired_most, event_below}
 use Rattle.ds_rule.proofs.Lists.{has_below, get-listed}
-use Rattle.ds_scratch.specs.Scratch.{Memory}
+use Rattle.ds_base.specs.Scratch.{Memory}
 use Rattle.ds_fabric.specs.Base.{Base}
 use Rattle.ds_fabric.specs.Showing.{Showing, Belongs}
 use Rattle.ds_fabric.specs.Stepped.{Stepped}
@@ -25,8 +25,8 @@ use Rattle.ds_fabric.specs.declared.step.Step.{Step}
 use Rattle.ds_fabric.specs.declared.step.Step.TheVariants.{Fired, NotYet, Done}
 use Rattle.ds_runner.specs.Work.{HasFrom, Moved}
 use Rattle.ds_runner.specs.Work.{left, Advances, AdvancesBelow}
-use Rattle.ds_turnstile.specs.Turns.{sum_below}
-use Rattle.ds_turnstile.proofs.Wheels.{sum_same}
+use Rattle.ds_runner.specs.Turns.{sum_below}
+use Rattle.ds_runner.proofs.Wheels.{sum_same}
 
 pub moved_on : (o : Memory) (p q r : Showing) → Moved o p q → Moved o q r → Moved o p r
 moved_on o p q r m n = record {

@@ -3,15 +3,15 @@ use Rattle.std.specs.Prelude.{◌≡◌, ℕ, ◌<◌, ◌≤◌, ◌+◌, ◌-�
 use Rattle.std.specs.Prelude.{All, [], length, vec_capacity, Option, None, Some}
 use mathlib.Core.Option.{some}
 use lib.ListN.{get_elem?}
-use Rattle.ds_scratch.specs.Scratch.{Memory, Remembers}
+use Rattle.ds_base.specs.Scratch.{Memory, Remembers}
 use Rattle.ds_rule.specs.Run.{Run, events}
 use Rattle.ds_rule.specs.Rule.{holds, seen, tickets}
 use Rattle.ds_rule.specs.Progress.{Stuck}
 use Rattle.ds_rule.specs.declared.view.View.{View}
 use Rattle.ds_fabric.specs.Base.{Base}
 use Rattle.ds_fabric.specs.Showing.{Showing, Belongs}
-use Rattle.ds_turnstile.specs.Turns.{Alone, HasNone, fabric_of, run_of, base, sum_below}
-use Rattle.ds_turnstile.specs.Shown.{Stile, IsTurnOf}
+use Rattle.ds_runner.specs.Turns.{Alone, HasNone, fabric_of, run_of, base, sum_below}
+use Rattle.ds_runner.specs.Shown.{Stile, IsTurnOf}
 use Rattle.ds_runner.specs.declared.budget.Budget.{Budget}
 use Rattle.ds_runner.specs.declared.crew.Crew.{Crew}
 use Rattle.ds_runner.specs.declared.fired.Fired.{Fired}

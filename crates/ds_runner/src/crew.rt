@@ -1,7 +1,7 @@
+use crate::Turn;
 use crate::gear::Gear;
 use crate::worker::Worker;
 use ds_fabric::Pass;
-use ds_turnstile::Turn;
 
 /// Workers with what they share, the turn that is left, and the vector in which the passes come
 /// back.

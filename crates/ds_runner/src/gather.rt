@@ -2,19 +2,19 @@
 //! takes the passes in.
 ghost use Rattle.std.specs.Prelude.{◌≡◌, ◌<◌, ◌≤◌, ◌+◌, All, length, sum_by};
 ghost use Rattle.ds_fabric.specs.Showing.{Belongs};
-ghost use Rattle.ds_turnstile.specs.Turns.{HasNone, base};
-ghost use Rattle.ds_turnstile.specs.Shown.{IsTurnOf};
+ghost use Rattle.ds_runner.specs.Turns.{HasNone, base};
+ghost use Rattle.ds_runner.specs.Shown.{IsTurnOf};
 ghost use Rattle.ds_runner.specs.Work.{HasBetween, AreSingle, IsCrew, made_of, all_tickets};
 
 use crate::crew::Crew;
 use crate::gear::Gear;
 use crate::site::Site;
 use crate::worker::Worker;
+use crate::{Turn, Turnstile};
 use ds_base::LatchId;
 use ds_fabric::{Compute, Pass};
 use ds_outside::Gate;
 use ds_rule::Rows;
-use ds_turnstile::{Turn, Turnstile};
 
 /// Takes the passes of all nodes in, of workers who are back.
 pub fn gather<J: Rows, C: Compute, G: Gate>(

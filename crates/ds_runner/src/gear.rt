@@ -1,5 +1,5 @@
+use crate::Turnstile;
 use crossbeam_deque::Stealer;
-use ds_turnstile::Turnstile;
 
 /// What the workers share: the turnstile with the passes of all nodes, a handle to steal from each
 /// worker's hints, and the number of the first arc from each event.

@@ -3,8 +3,8 @@
 ghost use Rattle.std.specs.Prelude.{◌≡◌, ◌<◌, ◌≤◌, ◌+◌, IfOk, OnOk, All, length};
 ghost use Rattle.std.specs.Prelude.{vec_capacity};
 ghost use Rattle.ds_fabric.specs.Showing.{Belongs};
-ghost use Rattle.ds_turnstile.specs.Turns.{HasNone, base};
-ghost use Rattle.ds_turnstile.specs.Shown.{IsTurnOf};
+ghost use Rattle.ds_runner.specs.Turns.{HasNone, base};
+ghost use Rattle.ds_runner.specs.Shown.{IsTurnOf};
 ghost use Rattle.ds_runner.specs.Work.{HasFrom, IsLent, AreSingle, HasPassOfEach, IsWithin, IsCrew};
 ghost use Rattle.ds_runner.specs.Work.{IsUnfired};
 
@@ -17,12 +17,12 @@ use crate::site::Site;
 use crate::targets::arcs_from;
 use crate::trail::Trail;
 use crate::worker::Worker;
+use crate::{Turn, Turnstile};
 use crossbeam_deque::Stealer;
 use ds_base::{LatchId, OutOfMemory};
 use ds_fabric::{Compute, Pass};
 use ds_outside::Gate;
 use ds_rule::Rows;
-use ds_turnstile::{Turn, Turnstile};
 use std::alloc::Global;
 
 /// So many workers, with a turn more for the caller. The pass is left without nodes.

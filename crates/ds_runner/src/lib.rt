@@ -5,12 +5,21 @@
 //! takes the pass of any node that is due, steps it once or twice, and gives it back. A worker
 //! looks first where it was told of a node, then among its own part of the nodes, then at what
 //! others were told, then everywhere. It ends once all is done, or its budget is used up, of takes,
-//! of firings or of looks in rounds without a take. Then the caller
-//! takes all passes in and fires what is left; with one job it fires all. The record at the end is
-//! that of one legal list in which each event stands as often as it may fire, whatever the gate
-//! does and however threads are timed. With a quota each worker ends after so many firings, and the
-//! caller fires only while fewer have fired in all: the list has that many events, or all, or more,
-//! but at most as many for each worker. Nothing is promised of time, or of which worker fires what.
+//! of firings or of looks in rounds without a take. Then the caller takes all passes in and fires
+//! what is left; with one job it fires all. The record at the end is that of one legal list in
+//! which each event stands as often as it may fire, whatever the gate does and however threads are
+//! timed. With a quota each worker ends after so many firings, and the caller fires only while
+//! fewer have fired in all: the list has that many events, or all, or more, but at most as many for
+//! each worker. Nothing is promised of time, or of which worker fires what.
+//!
+//! A turnstile: any thread takes the pass of any node, one thread at a time. A `Turnstile` is seen
+//! as its table, the passes that it was built with, and the number of turns. It has a word and a
+//! slot a node: at home the slot has the node's pass. A `Turn` shows its parts, the nodes that it
+//! has out, each with its firings at the take, `made`, what the firings of the passes that it gave
+//! back grew by, `won` and `missed`, the takes that had the pass and those that found it out.
+//! `build` gives one turn with all parts, `split` and `join` pass parts on, `take` and `give` move
+//! a pass, and `close` has all passes back, in order. Nothing is promised of who takes what, or
+//! that a take ever wins.
 #![tactic(auto)]
 
 mod budget;
@@ -20,18 +29,27 @@ mod drive;
 mod fired;
 mod gather;
 mod gear;
+mod hands;
 mod hints;
 mod hire;
 mod parts;
 mod rest;
 mod ring;
 mod search;
+mod shelf;
 mod site;
 mod targets;
 mod trail;
+mod turn;
+mod turn_view;
+mod turning;
+mod turnstile;
 mod unit;
 mod visit;
 mod worker;
 mod workers;
 
+pub use turn::Turn;
+pub use turn_view::TurnView;
+pub use turnstile::Turnstile;
 pub use workers::{Workers, run};

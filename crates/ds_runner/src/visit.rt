@@ -1,8 +1,8 @@
 //! One visit to a node: its pass is taken, stepped, and given back.
 ghost use Rattle.std.specs.Prelude.{◌≡◌, ◌<◌, ◌≤◌, ◌+◌, MatchOption};
-ghost use Rattle.ds_scratch.specs.Scratch.{Remembers};
+ghost use Rattle.ds_base.specs.Scratch.{Remembers};
 ghost use Rattle.ds_rule.specs.Rule.{seen};
-ghost use Rattle.ds_turnstile.specs.Turns.{Alone};
+ghost use Rattle.ds_runner.specs.Turns.{Alone};
 ghost use Rattle.ds_runner.specs.Work.{HasPassOfEach, IsWorker, fired_count};
 
 use crate::fired::Fired;
@@ -10,11 +10,10 @@ use crate::gear::Gear;
 use crate::site::Site;
 use crate::unit::arrive;
 use crate::worker::Worker;
-use ds_base::LatchId;
+use ds_base::{LatchId, Scratch};
 use ds_fabric::{Compute, Pass, Step};
 use ds_outside::Gate;
 use ds_rule::Rows;
-use ds_scratch::Scratch;
 
 /// Takes the pass of the node, steps it, and once more where it fired and another firing is
 /// allowed, and gives it back: behind an opening the closing of the same node is mostly due. It

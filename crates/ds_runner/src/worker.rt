@@ -1,6 +1,6 @@
+use crate::Turn;
 use crate::trail::Trail;
-use ds_scratch::Scratch;
-use ds_turnstile::Turn;
+use ds_base::Scratch;
 
 /// A worker: its number, its turn, its scratch, and where it looks for nodes.
 #[derive(Drop)]

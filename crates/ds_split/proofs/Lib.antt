@@ -9,3 +9,6 @@ pub mod Sources
 pub mod Marks
 pub mod DataEdges
 pub mod OneClustering
+pub mod Taken
+pub mod Settled
+pub mod NodeCones

@@ -1,6 +1,7 @@
+-- In the order in which to read.
 pub mod Bus
-pub mod Keys
 pub mod Cluster
+pub mod Keys
 pub mod Groups
 pub mod Split
 pub mod Nets
@@ -8,3 +9,6 @@ pub mod Search
 pub mod Edges
 pub mod Worked
 pub mod Laws
+pub mod Taken
+pub mod Settled
+pub mod Cones

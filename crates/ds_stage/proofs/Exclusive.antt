@@ -7,12 +7,12 @@ use Rattle.ds_lines.specs.Line.{Line}
 use Rattle.ds_blif.specs.Text.{models_of_text}
 use Rattle.ds_flat.specs.Copies.{flat_of}
 use Rattle.ds_design.specs.Circuit.{Circuit, columns}
-use Rattle.ds_models.specs.declared.blif.BlifModel.{BlifModel}
+use Rattle.ds_design.specs.declared.blif.BlifModel.{BlifModel}
 use Rattle.ds_netlist.specs.Laws.{FaultsAreRefused}
 use Rattle.ds_netlist.specs.declared.fault.NetFault.{NetFault}
 use Rattle.ds_netlist.specs.declared.fault.NetFault.TheVariants as net
 use Rattle.ds_rows.specs.Vector.{vectors_of}
-use Rattle.ds_faults.specs.FaultText.{IsNetFaultText, net_fault_text}
+use Rattle.ds_stage.specs.FaultText.{IsNetFaultText, net_fault_text}
 use Rattle.ds_stage.specs.Stage.{Stage, IsExclusive, then_stage}
 use Rattle.ds_stage.specs.Stages.{OfBytes, accepted_stage, design_stage, file_stage, flat_or_line, lines_stage, models_or_line, netlist_stage, result_stage, rows_stage, rows_or_line, text_stage, vectors_stage}
 

@@ -9,7 +9,7 @@ use Rattle.ds_outside.specs.declared.files.Which.TheVariants as which
 use Rattle.ds_base.specs.Values.{Row}
 use Rattle.ds_base.specs.declared.number.Mode.{Mode}
 use Rattle.ds_lines.specs.Line.{Line}
-use Rattle.ds_models.specs.declared.blif.BlifModel.{BlifModel}
+use Rattle.ds_design.specs.declared.blif.BlifModel.{BlifModel}
 use Rattle.ds_blif.specs.Text.{models_of_text}
 use Rattle.ds_flat.specs.Copies.{flat_of}
 use Rattle.ds_design.specs.Circuit.{Circuit, columns}
@@ -24,7 +24,7 @@ use Rattle.ds_stage.specs.SplitStage.{split_stage}
 use Rattle.ds_stage.specs.GraphStage.{IsGraphOf, controller_stage, drawn_stage, wanted_stage}
 use Rattle.ds_astg.specs.Text.{graph_text}
 use Rattle.ds_stage.specs.PlanStage.{IsOwnPlan, acceptable_stage, graph_or_line, marked_stage, plan_stage, planned_stage}
-use Rattle.ds_state_text.specs.ReplayText.{IsReplayText}
+use Rattle.ds_replay.specs.ReplayText.{IsReplayText}
 use Rattle.ds_stage.specs.ReplayStage.{fired_stage, log_stage, replayed_stage}
 use Rattle.ds_stage.specs.PeriodStage.{IsPeriodText, delays_stage, given_stage, measured_stage, timed_stage}
 use Rattle.ds_stage.specs.Ends.{Stops}

@@ -1,3 +1,4 @@
+pub mod TextParts
 pub mod Ends
 pub mod Exclusive
 pub mod Expansions

@@ -8,7 +8,7 @@ use Rattle.ds_latch.specs.Plan.{Planned}
 use Rattle.ds_replay.specs.declared.fault.ReplayFault.{ReplayFault}
 use Rattle.ds_stage.specs.Stage.{OfFile, Stage, IsExclusive, giving, then_stage}
 use Rattle.ds_stage.specs.Stages.{lines_stage, text_stage}
-use Rattle.ds_state_text.specs.ReplayText.{IsReplayText}
+use Rattle.ds_replay.specs.ReplayText.{IsReplayText}
 use Rattle.ds_stage.specs.ReplayStage.{fired_stage, kept_after, kept_stage, log_stage, replayed_stage}
 use Rattle.ds_stage.specs.Ends.{Never}
 use Rattle.ds_stage.proofs.Exclusive.{then_not_refused}

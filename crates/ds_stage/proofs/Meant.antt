@@ -11,7 +11,7 @@ use Rattle.ds_lines.specs.Line.{Line}
 use Rattle.ds_blif.specs.Text.{models_of_text}
 use Rattle.ds_blif.specs.declared.fault.BlifFault.{BlifFault}
 use Rattle.ds_blif.proofs.WellFormed.{read_well_formed}
-use Rattle.ds_models.specs.declared.blif.BlifModel.{BlifModel}
+use Rattle.ds_design.specs.declared.blif.BlifModel.{BlifModel}
 use Rattle.ds_design.specs.Circuit.{Circuit, columns}
 use Rattle.ds_design.specs.InRange.{IsInRange}
 use Rattle.ds_design.specs.Rows.{Rows}

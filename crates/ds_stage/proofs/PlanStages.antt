@@ -11,7 +11,7 @@ use Rattle.ds_accept.specs.declared.fault.AcceptFault.{AcceptFault}
 use Rattle.ds_accept.specs.declared.fault.AcceptFault.TheVariants as accept
 use Rattle.ds_stage.specs.Stage.{OfFile, IsExclusive, giving, then_stage}
 use Rattle.ds_stage.specs.Stages.{lines_stage, text_stage}
-use Rattle.ds_faults.specs.GraphText.{IsAcceptText, accept_text}
+use Rattle.ds_stage.specs.GraphText.{IsAcceptText, accept_text}
 use Rattle.ds_stage.specs.PlanStage.{IsOwnPlan, acceptable_stage, marked_stage, named_stage}
 use Rattle.ds_stage.specs.Ends.{Never}
 use Rattle.ds_stage.proofs.OneGraph.{one_graph}

@@ -16,7 +16,7 @@ use Rattle.ds_split.specs.declared.fault.SplitFault.TheVariants.{TooMany}
 use Rattle.ds_split.specs.declared.fault.SplitFault.TheVariants as split
 use Rattle.ds_split.proofs.DataEdges.{same_edge}
 use Rattle.ds_split.proofs.Pigeons.{few_different}
-use Rattle.ds_faults.specs.FaultText.{file_line, too_many_text}
+use Rattle.ds_stage.specs.FaultText.{file_line, too_many_text}
 use Rattle.ds_stage.specs.Ends.{Never, SaysRefused, SaysSplit, Stops}
 use Rattle.ds_stage.specs.SplitStage.{IsSplitLine, split_stage}
 use Rattle.ds_stage.specs.declared.stop.Stop.{Stop}

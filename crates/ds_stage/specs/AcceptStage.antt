@@ -4,7 +4,7 @@ use Rattle.std.specs.List.{flat_map, range_with_len}
 use Rattle.ds_marked.specs.Graph.{Graph}
 use Rattle.ds_latch.specs.Plan.{Planned}
 use Rattle.ds_rank.specs.Rank.{AreRanks}
-use Rattle.ds_log.specs.Log.{firing_text}
+use Rattle.ds_rows.specs.Log.{firing_text}
 use Rattle.ds_stage.specs.Stage.{Stage, giving}
 
 -- each event in order, those of the nodes and then any others, with its rank: a line as that of a

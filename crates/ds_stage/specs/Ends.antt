@@ -5,7 +5,7 @@ use Rattle.ds_outside.specs.Written.{appended, AppendsPart}
 use Rattle.ds_outside.specs.declared.files.Which.{Which}
 use Rattle.ds_stage.specs.declared.stop.Stop.{Stop}
 use Rattle.ds_stage.specs.declared.stop.Stop.TheVariants.{Refused, Unread, Unwritten, Memory}
-use Rattle.ds_faults.specs.FaultText.{file_line, too_many_text, unread_line}
+use Rattle.ds_stage.specs.FaultText.{file_line, too_many_text, unread_line}
 use Rattle.ds_split.specs.declared.fault.SplitFault.{SplitFault}
 use Rattle.ds_split.specs.declared.fault.SplitFault.TheVariants.{TooMany}
 use Rattle.ds_split.specs.declared.fault.SplitFault.TheVariants as split

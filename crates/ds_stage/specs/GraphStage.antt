@@ -8,7 +8,7 @@ use Rattle.ds_control.specs.Control.{AreOrders, IsSimple}
 use Rattle.ds_shake.specs.Expansion.{IsExpansion, IsShakeFault}
 use Rattle.ds_shake.specs.declared.fault.ShakeFault.TheVariants.{TooMany}
 use Rattle.ds_astg.specs.Text.{graph_text}
-use Rattle.ds_faults.specs.FaultText.{file_line, too_many_text}
+use Rattle.ds_stage.specs.FaultText.{file_line, too_many_text}
 use Rattle.ds_stage.specs.Stage.{Stage, giving, leaves_nothing, then_stage}
 
 -- the graph of a split design: its events are those of the nodes, its arcs exactly the required

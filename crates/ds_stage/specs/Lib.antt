@@ -1,4 +1,6 @@
 -- In the order in which to read.
+pub mod FaultText
+pub mod GraphText
 pub mod Stage
 pub mod Report
 pub mod Stages

@@ -15,7 +15,7 @@ use Rattle.ds_period.specs.declared.fault.DelayFault.{DelayFault}
 use Rattle.ds_period.specs.declared.fault.DelayKind.{DelayKind}
 use Rattle.ds_period.specs.declared.fault.DelayKind.TheVariants.{BadWord, UnknownOrder}
 use Rattle.ds_period.specs.declared.fault.DelayKind.TheVariants.{RepeatedOrder}
-use Rattle.ds_faults.specs.FaultText.{with_blanks, numbered_line}
+use Rattle.ds_stage.specs.FaultText.{with_blanks, numbered_line}
 use Rattle.ds_stage.specs.GraphStage.{IsGraphOf}
 use Rattle.ds_stage.specs.Stage.{Stage, giving, then_stage}
 use Rattle.ds_stage.specs.Stages.{lines_stage, result_stage}

@@ -13,8 +13,8 @@ use Rattle.ds_astg.specs.declared.fault.AstgFault.{AstgFault}
 use Rattle.ds_accept.specs.Accept.{IsAcceptable, IsPlanOf}
 use Rattle.ds_accept.specs.Fault.{IsAcceptFault}
 use Rattle.ds_accept.specs.declared.fault.AcceptFault.{AcceptFault}
-use Rattle.ds_faults.specs.FaultText.{file_line, numbered_line}
-use Rattle.ds_faults.specs.GraphText.{IsAcceptText, astg_text}
+use Rattle.ds_stage.specs.FaultText.{file_line, numbered_line}
+use Rattle.ds_stage.specs.GraphText.{IsAcceptText, astg_text}
 use Rattle.ds_stage.specs.Stage.{Stage, giving, leaves_nothing, then_stage}
 use Rattle.ds_stage.specs.Stages.{lines_stage, result_stage}
 use Rattle.ds_stage.specs.SplitStage.{split_stage}

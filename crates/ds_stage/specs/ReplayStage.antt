@@ -16,9 +16,9 @@ use Rattle.ds_replay.specs.declared.fault.ReplayFault.{ReplayFault}
 use Rattle.ds_replay.specs.declared.fault.ReplayKind.{ReplayKind}
 use Rattle.ds_replay.specs.declared.fault.ReplayKind.TheVariants.{BadWord, UnknownEvent, WrongTurn}
 use Rattle.ds_replay.specs.declared.fault.ReplayKind.TheVariants.{OverLimit, NotEnabled}
-use Rattle.ds_faults.specs.FaultText.{numbered_line}
-use Rattle.ds_state_text.specs.ReplayText.{IsReplayText}
-use Rattle.ds_state_text.specs.Kept.{IsAfterLog}
+use Rattle.ds_stage.specs.FaultText.{numbered_line}
+use Rattle.ds_replay.specs.ReplayText.{IsReplayText}
+use Rattle.ds_replay.specs.Kept.{IsAfterLog}
 use Rattle.ds_stage.specs.Stage.{Stage, giving, leaves_nothing, then_stage}
 use Rattle.ds_stage.specs.Stages.{lines_stage}
 

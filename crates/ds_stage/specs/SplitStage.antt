@@ -7,7 +7,7 @@ use Rattle.ds_design.specs.Circuit.{Circuit}
 use Rattle.ds_latch.specs.Node.{Split}
 use Rattle.ds_split.specs.Cluster.{HasTooManyClusters, IsClustering}
 use Rattle.ds_split.specs.Split.{HasTooManyOrders, split_into}
-use Rattle.ds_faults.specs.FaultText.{file_line, too_many_text}
+use Rattle.ds_stage.specs.FaultText.{file_line, too_many_text}
 use Rattle.ds_stage.specs.Stage.{Stage, leaves_nothing}
 
 -- the registers of a circuit in few enough clusters, and the circuit split by them

@@ -6,7 +6,7 @@ use Rattle.ds_outside.specs.Held.{Held, untold, absent, bytes}
 use Rattle.ds_outside.specs.declared.files.Which.{Which}
 use Rattle.ds_outside.specs.declared.files.Which.TheVariants.{Net, Vectors}
 use Rattle.ds_lines.specs.Line.{Line, lines_of}
-use Rattle.ds_models.specs.declared.blif.BlifModel.{BlifModel}
+use Rattle.ds_design.specs.declared.blif.BlifModel.{BlifModel}
 use Rattle.ds_design.specs.Circuit.{Circuit, columns}
 use Rattle.ds_design.specs.Accepted.{IsAccepted}
 use Rattle.ds_design.specs.Levels.{IsDepth}
@@ -20,8 +20,8 @@ use Rattle.ds_netlist.specs.Fault.{IsNetFault}
 use Rattle.ds_netlist.specs.declared.fault.NetFault.{NetFault}
 use Rattle.ds_rows.specs.Vector.{vectors_of}
 use Rattle.ds_rows.specs.declared.fault.VectorFault.{VectorFault}
-use Rattle.ds_faults.specs.FaultText.{file_line, numbered_line, unread_line, too_long_text}
-use Rattle.ds_faults.specs.FaultText.{blif_text, flat_text, IsNetFaultText, vector_text}
+use Rattle.ds_stage.specs.FaultText.{file_line, numbered_line, unread_line, too_long_text}
+use Rattle.ds_stage.specs.FaultText.{blif_text, flat_text, IsNetFaultText, vector_text}
 use Rattle.ds_stage.specs.Report.{report_text}
 use Rattle.ds_stage.specs.Stage.{Stage, giving, leaves_nothing, then_stage}
 

@@ -14,7 +14,7 @@ use Rattle.ds_stream.specs.declared.fault.StreamKind.{StreamKind}
 use Rattle.ds_stream.specs.declared.fault.StreamKind.TheVariants.{TooMany, BadWidth, BadBit}
 use Rattle.ds_stage.specs.declared.stop.Stop.{Stop}
 use Rattle.ds_stage.specs.declared.stop.Stop.TheVariants.{Refused, Unread, Unwritten, Memory}
-use Rattle.ds_faults.specs.FaultText.{file_line, numbered_line, unread_line}
+use Rattle.ds_stage.specs.FaultText.{file_line, numbered_line, unread_line}
 use Rattle.ds_stage.specs.Stage.{Stage, leaves_nothing}
 use Rattle.ds_stage.specs.Stages.{OfBytes}
 

@@ -7,7 +7,7 @@ use Rattle.ds_stream.specs.Stream.{Shown}
 use Rattle.ds_stream.specs.declared.fault.NextFault.{NextFault}
 use Rattle.ds_stage.specs.declared.stop.Stop.{Stop}
 use Rattle.ds_stage.specs.declared.stop.Stop.TheVariants.{Refused, Unread, Unwritten, Memory}
-use Rattle.ds_faults.specs.FaultText.{unread_line}
+use Rattle.ds_stage.specs.FaultText.{unread_line}
 use Rattle.ds_stage.specs.Stage.{OfFile}
 use Rattle.ds_stage.specs.StreamStage.{IsStreamLine}
 

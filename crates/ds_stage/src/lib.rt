@@ -1,28 +1,41 @@
 //! The stages of a job: from its files to netlist, vectors, plan and state, with their texts.
 //!
-//! A stage says four things: what it may give, which lines refuse it, which line says that a
-//! file was not read (`specs/Stage`), and which text it leaves on the output where it stops: none,
-//! but for vectors that are read window by window (`specs/StreamStage`). A call here does one
-//! stage. It gives what the stage may give, or a `Stop`, which has the line that the stage says, or
-//! says that memory was wanted or that a write failed (`specs/Ends`). The last stage of a job
-//! writes a text: it was appended whole, or a first part of it and a write failed.
+//! A stage says four things: what it may give, which lines refuse it, which line says that a file
+//! was not read (`specs/Stage`), and which text it leaves on the output where it stops: none, but
+//! for vectors that are read window by window (`specs/StreamStage`). A call here does one stage. It
+//! gives what the stage may give, or a `Stop`, which has the line that the stage says, or says that
+//! memory was wanted or that a write failed (`specs/Ends`). The last stage of a job writes a text:
+//! it was appended whole, or a first part of it and a write failed.
 //!
 //! `read_netlist` and `read_rows` read netlist and vectors (`specs/Stages`), `read_window` the next
 //! 4,096 vectors of a stream (`specs/StreamStops`), `split_netlist` makes latches
 //! (`specs/SplitStage`), `plan_netlist`, `plan_named` and `own_plan` plans (`specs/PlanStage`),
 //! `read_log` the state after a log (`specs/ReplayStage`), and `write_state` its text, which is
-//! that of `ds_state_text`; all memory is taken before its first byte is written. `read_timing`
-//! reads the delays of `own_graph` (`specs/PeriodStage`), and `wanted_graph` makes the graph that
-//! is written (`specs/GraphStage`). `write_report` writes the report on a netlist (`specs/Report`).
-//! The lines of faults are those of `ds_faults`; the texts on streams, logs and delays stand here.
-//! When memory is wanted is not promised.
+//! that of `ds_replay`; all memory is taken before its first byte is written. `read_timing` reads
+//! the delays of `own_graph` (`specs/PeriodStage`), and `wanted_graph` makes the graph that is
+//! written (`specs/GraphStage`). `write_report` writes the report on a netlist (`specs/Report`).
+//!
+//! The lines that name faults of files, and the texts that stand in them. A line has the file, the
+//! number of the line where there is one, and the text of the fault; `file_line`, `numbered_line`
+//! and `unread_line` make it, and `too_many` the text of a limit that is passed. The texts are
+//! those of the readers' faults, each given exactly (`specs/FaultText`, `specs/GraphText`):
+//! `blif_text` and `flat_text` of a line of a netlist, `net_fault_text` of a design that is not
+//! accepted, with the names of its nets, `vector_text` of a line of vectors that are read whole,
+//! `astg_text` of a line of a graph, and `accept_text` of a graph that is not accepted, with its
+//! events. The texts on windows of vectors, on logs and on delays stand with their stages.
+//! `put_event` and `put_events` put events behind a text, or for want of memory a first part of
+//! them. Want of memory has no text, and when it comes is not promised.
 #![tactic(auto)]
 
 mod delays;
 mod expansion;
+mod fault_line;
+mod fault_text;
+mod graph_text;
 pub mod laws;
 mod log;
 mod log_text;
+mod net_text;
 mod plan;
 mod report;
 mod source;
@@ -34,7 +47,11 @@ mod stream;
 
 pub use delays::{own_graph, read_timing};
 pub use expansion::wanted_graph;
+pub use fault_line::{file_line, numbered_line, too_many, unread_line};
+pub use fault_text::{blif_text, flat_text, vector_text};
+pub use graph_text::{accept_text, astg_text, put_event, put_events};
 pub use log::read_log;
+pub use net_text::net_fault_text;
 pub use plan::{own_plan, plan_named, plan_netlist};
 pub use report::{put_count, write_report};
 pub use source::{read_netlist, read_rows};
@@ -42,4 +59,4 @@ pub use split::split_netlist;
 pub use splitting::Splitting;
 pub use state_text::write_state;
 pub use stop::Stop;
-pub use stream::{WINDOW, read_window};
+pub use stream::{WINDOW, most_vectors, read_window};

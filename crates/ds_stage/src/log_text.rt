@@ -3,8 +3,8 @@ ghost use Rattle.std.specs.Prelude.{◌≡◌, ◌++◌, [], IfOk, OnOk, slice_g
 ghost use Rattle.std.specs.Option.{option_map_or};
 ghost use Rattle.ds_stage.specs.ReplayStage.{ends_text, log_text as log_text_of};
 
+use crate::put_event;
 use ds_base::ArcId;
-use ds_faults::put_event;
 use ds_marked::Marked;
 use ds_replay::ReplayKind;
 use std::alloc::{AllocError, Global};

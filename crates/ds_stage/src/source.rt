@@ -6,8 +6,8 @@ ghost use Rattle.ds_flat.specs.Copies.{flat_of};
 ghost use Rattle.ds_design.specs.Circuit.{columns};
 ghost use Rattle.ds_netlist.specs.Fault.{IsNetFault};
 ghost use Rattle.ds_netlist.specs.Named.{IsNamed};
-ghost use Rattle.ds_faults.specs.FaultText.{file_line as file_line_of, too_long_text};
-ghost use Rattle.ds_faults.specs.FaultText.{numbered_line as numbered_line_of, too_many_text};
+ghost use Rattle.ds_stage.specs.FaultText.{file_line as file_line_of, too_long_text};
+ghost use Rattle.ds_stage.specs.FaultText.{numbered_line as numbered_line_of, too_many_text};
 ghost use Rattle.ds_stage.specs.Ends.{Answers, Never, RoseIn, SaysRefused, SaysUnread, Stops};
 ghost use Rattle.ds_stage.specs.Stage.{then_stage};
 ghost use Rattle.ds_stage.specs.Stages.{accepted_stage, design_stage, flat_or_line, lines_stage};
@@ -15,16 +15,15 @@ ghost use Rattle.ds_stage.specs.Stages.{models_or_line, netlist_stage, result_st
 ghost use Rattle.ds_stage.specs.Stages.{text_stage, vectors_stage};
 
 use crate::stop::Stop;
-use ds_base::{Limit, OutOfMemory, Seq};
-use ds_blif::{BlifFault, BlifRefusal, read};
-use ds_design::{Design, Netlist, Vectors};
-use ds_faults::{
+use crate::{
     blif_text, file_line, flat_text, net_fault_text, numbered_line, too_many, unread_line,
     vector_text,
 };
+use ds_base::{Limit, OutOfMemory, Seq};
+use ds_blif::{BlifFault, BlifRefusal, read};
+use ds_design::{Blif, Design, Netlist, Vectors};
 use ds_flat::{FlatFault, FlatRefusal, flatten};
 use ds_lines::{Lines, LinesFault, lines};
-use ds_models::Blif;
 use ds_netlist::{NetFault, levelise};
 use ds_outside::{Files, ReadFault, Which, read_whole};
 use ds_rows::{VectorFault, VectorRefusal, read_vectors};

@@ -1,7 +1,7 @@
 //! The text of a state, as the last stage of a job.
-ghost use Rattle.std.specs.Prelude.{◌≡◌, ◌*◌, length, true};
+ghost use Rattle.std.specs.Prelude.{◌≡◌, true};
 ghost use Rattle.ds_fire.specs.Snapshot.{split_of};
-ghost use Rattle.ds_state_text.specs.Kept.{IsKeptText};
+ghost use Rattle.ds_replay.specs.Kept.{IsKeptText};
 ghost use Rattle.ds_stage.specs.Ends.{Ends, Never, output_between};
 ghost use Rattle.ds_stage.specs.Stage.{giving};
 
@@ -9,7 +9,7 @@ use crate::stop::Stop;
 use ds_design::Vectors;
 use ds_latch::Plan;
 use ds_outside::{Lent, Sink};
-use ds_state_text::{AfterLog, Rooms, write_behind};
+use ds_replay::{AfterLog, Rooms, write_behind};
 use std::alloc::Global;
 use std::marker::Brand;
 
@@ -31,18 +31,11 @@ pub fn write_state<O: Sink>(
 {
     let latches = plan.latches();
     let rooms = Rooms::of(alloc, latches, after)?;
-    let most = most_of(plan, vectors);
+    let most = plan.most_firings(vectors);
     let lent = Lent { sink: out };
     let (_, result) = write_behind::<O, Brand>(latches, &rooms, after, most, lent);
     match result {
         Ok(()) => Ok(()),
         Err(_) => Err(Stop::Unwritten),
     }
-}
-
-// How many firings there may be.
-fn most_of(plan: &Plan<'_>, vectors: &Vectors) -> u64
-    ensures { result ≡ length plan.now.graph.events * length vectors.now.rows }
-{
-    plan.graph().events().len() as u64 * vectors.count() as u64
 }

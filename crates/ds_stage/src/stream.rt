@@ -2,11 +2,13 @@
 ghost use Rattle.std.specs.Prelude.{◌≡◌, ◌≤◌, ℕ, List, IfOk, MatchResult};
 ghost use Rattle.ds_stream.specs.Next.{FitsHeld, GivesHeld, IsBehind};
 ghost use Rattle.ds_stage.specs.Ends.{RoseIn};
+ghost use Rattle.ds_stage.specs.StreamStage.{most_vectors as most_vectors_of};
 ghost use Rattle.ds_stage.specs.StreamStage.{stream_text as stream_text_of};
 ghost use Rattle.ds_stage.specs.StreamStops.{StopsWindow};
 
 use crate::source::{refused, refused_at, unread};
 use crate::stop::Stop;
+use ds_base::Limit;
 use ds_design::Vectors;
 use ds_outside::Files;
 use ds_stream::{NextFault, StreamFault, StreamKind, VectorReader};
@@ -15,6 +17,17 @@ use std::alloc::{AllocError, Global};
 
 /// How many vectors a window has.
 pub const WINDOW: usize = 4096;
+
+/// How many vectors a stream may have: a log keeps all firings.
+pub fn most_vectors(log: bool) -> u64
+    ensures { result ≡ most_vectors_of log }
+{
+    if log {
+        Limit::Vectors.most()
+    } else {
+        4_294_967_295
+    }
+}
 
 /// The next `WINDOW` vectors of a file, fewer only where it has no more, or what refuses them.
 pub fn read_window<F: Files>(

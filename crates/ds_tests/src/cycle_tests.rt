@@ -1,9 +1,8 @@
 //! The period beside a plain slow way to find it, by all cycles.
 use ds_base::{EventId, Mode};
-use ds_faults::put_event;
 use ds_marked::{Arc, Marked};
 use ds_outside::OpenGate;
-use ds_stage::{Stop, own_graph, read_netlist, split_netlist};
+use ds_stage::{Stop, own_graph, put_event, read_netlist, split_netlist};
 use ds_trial::{files, printed};
 use rand_core::SeedableRng;
 use rand_core::utils::NextWord;

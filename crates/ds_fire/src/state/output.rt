@@ -7,8 +7,8 @@ ghost use Rattle.ds_latch.specs.declared.node.Node.{Node};
 ghost use Rattle.ds_latch.specs.declared.node.Node.TheVariants.{In, Master, Slave};
 ghost use Rattle.ds_latch.specs.Firing.{State as DefinedState, IsSettled};
 ghost use Rattle.ds_latch.specs.Transparent.{IsOpen, IsShowing};
-ghost use Rattle.ds_cones.specs.Taken.{TakesFrom};
-ghost use Rattle.ds_cones.specs.Cones.{IsSettlingAt};
+ghost use Rattle.ds_split.specs.Taken.{TakesFrom};
+ghost use Rattle.ds_split.specs.Cones.{IsSettlingAt};
 ghost use Rattle.ds_fire.specs.Snapshot.{Shows, split_of, count_of, held_row, is_open, width_of};
 
 use super::State;

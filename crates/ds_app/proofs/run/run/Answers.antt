@@ -12,7 +12,7 @@ use Rattle.ds_stage.specs.Stages.{netlist_stage}
 use Rattle.ds_stage.specs.Ends.{Ends, Output, RoseIn, output_between}
 use Rattle.ds_stage.proofs.Ends.{never_fell}
 use Rattle.ds_stage.proofs.PlanAccepted.{planned_circuit, planned_start}
-use Rattle.ds_solo.proofs.PlannedEnds.{ends_planned, stops_netlist, stops_plan}
+use Rattle.ds_app.proofs.PlannedEnds.{ends_planned, stops_netlist, stops_plan}
 use Rattle.ds_app.proofs.StoppedEnds.{planned_run_since}
 use Rattle.ds_app.proofs.run.run.Goals as goal
 

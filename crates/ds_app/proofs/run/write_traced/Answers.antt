@@ -18,11 +18,11 @@ use Rattle.ds_clocked.specs.Appends.{AppendsLines, AppendsLinesPart}
 use Rattle.ds_marked.specs.Graph.{Graph}
 use Rattle.ds_design.specs.InRange.{IsInRange}
 use Rattle.ds_latch.specs.Node.{Split, begun}
-use Rattle.ds_trace.specs.Logged.{IsLogOf, LogGrows}
-use Rattle.ds_trace.proofs.Ended.{logs_go_on}
+use Rattle.ds_run.specs.Logged.{IsLogOf, LogGrows}
+use Rattle.ds_run.proofs.Ended.{logs_go_on}
 use Rattle.ds_app.specs.RunStage.{traced_stage}
 use Rattle.ds_app.proofs.RunEnds.{ends_of_file, few_vectors, run_end_of, run_ends_part, run_ends_whole, run_spells}
-use Rattle.ds_solo.proofs.WindowEnds.{is_there, more_here, stops_here}
+use Rattle.ds_app.proofs.WindowEnds.{is_there, more_here, stops_here}
 use Rattle.ds_app.proofs.run.write_traced.Goals as goal
 
 pub new-reader-requires : goal.new-reader-requires

@@ -2,7 +2,7 @@ use Rattle.std.proofs.Common.{◌≡◌, ℕ, ◌+◌, ◌-◌, ◌≤◌, List,
 use Rattle.ds_base.specs.Values.{Row}
 use Rattle.ds_outside.specs.declared.files.Which.{Which}
 use Rattle.ds_stream.specs.Next.{FitsHeld}
-use Rattle.ds_trace.specs.Logged.{IsLogOf}
+use Rattle.ds_run.specs.Logged.{IsLogOf}
 use Rattle.ds_stage.specs.StreamStage.{most_vectors}
 use Rattle.ds_stage.proofs.Streamed.{AreWritten, GivenOf, IsReaderOf}
 use Rattle.ds_app.proofs.run.write_traced.Given as goal

@@ -5,7 +5,7 @@ use Rattle.ds_design.specs.Circuit.{Circuit}
 use Rattle.ds_design.specs.Rows.{Rows}
 use Rattle.ds_latch.specs.Node.{Split}
 use Rattle.ds_latch.specs.Plan.{Planned}
-use Rattle.ds_trace.specs.Stopped.{IsStoppedText}
+use Rattle.ds_run.specs.Stopped.{IsStoppedText}
 use Rattle.ds_stage.specs.Stage.{OfFile}
 use Rattle.ds_stage.specs.Stages.{vectors_stage}
 use Rattle.ds_stage.specs.declared.stop.Stop.{Stop}

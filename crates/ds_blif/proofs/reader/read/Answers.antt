@@ -1,6 +1,6 @@
 use Rattle.std.proofs.Common.{subst, sym, List}
-use Rattle.ds_models.specs.Source.{IsBlif}
-use Rattle.ds_models.specs.declared.blif.BlifModel.{BlifModel}
+use Rattle.ds_design.specs.Source.{IsBlif}
+use Rattle.ds_design.specs.declared.blif.BlifModel.{BlifModel}
 use Rattle.ds_blif.proofs.WellFormed.{well_formed}
 use Rattle.ds_blif.proofs.reader.read.Goals as goal
 

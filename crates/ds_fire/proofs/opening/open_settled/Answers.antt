@@ -5,7 +5,7 @@ use Rattle.std.proofs.lemmas.List.{get_or_default}
 use Rattle.ds_base.specs.Values.{Row}
 use Rattle.ds_latch.specs.Node.{nets_of}
 use Rattle.ds_latch.proofs.Counts.{number_below}
-use Rattle.ds_cones.proofs.NodeCones.{nets_within}
+use Rattle.ds_split.proofs.NodeCones.{nets_within}
 use Rattle.ds_fire.specs.Turn.{IsSettledOn}
 use Rattle.ds_fire.proofs.Opened.{bits_are, opened_settled, settling_inside, settling_wide}
 use Rattle.ds_fire.proofs.opening.open_settled.Goals as goal

@@ -7,8 +7,8 @@ use Rattle.ds_latch.specs.declared.node.Node.{Node}
 use Rattle.ds_latch.specs.Plan.{IsSplit}
 use Rattle.ds_latch.proofs.Counts.{number_below}
 use Rattle.ds_settle.specs.Cone.{AreInOrder, IsCone, IsPartSettled, Parts}
-use Rattle.ds_cones.specs.Cones.{IsSettlingAt}
-use Rattle.ds_cones.proofs.NodeCones.{cone_at}
+use Rattle.ds_split.specs.Cones.{IsSettlingAt}
+use Rattle.ds_split.proofs.NodeCones.{cone_at}
 use Rattle.ds_fire.specs.Feeds.{AreFeeds, IsSourceHome, home_of}
 use Rattle.ds_fire.specs.declared.feeds.Feeds.{Feeds}
 use Rattle.ds_fire.specs.Turn.{IsLoaded, IsThere}

@@ -1,5 +1,5 @@
 use Rattle.std.proofs.Common.{◌∙◌, ◌∷◌, ap, sym, subst, arith}
-use Rattle.ds_models.specs.declared.blif.Command.{Command}
+use Rattle.ds_design.specs.declared.blif.Command.{Command}
 use Rattle.ds_flat.specs.declared.frame.Open.{Open}
 use Rattle.ds_flat.specs.Run.{Rest, IsRestKept}
 use Rattle.ds_flat.specs.Turn.{most_turns}

@@ -13,15 +13,15 @@ returns-then-is_open-clause-fault c =
     c.args.copies c.in-Some.found.model.now found.named c.recursive.result
     (sym among ∙ sym c.if-is_open.ensures) c.recursive.ensures
 
-pub returns-then-copies-eq65536-clause-fault : goal.returns-then-copies-eq65536-clause-fault
-returns-then-copies-eq65536-clause-fault c =
+pub returns-then-copies-most-clause-fault : goal.returns-then-copies-most-clause-fault
+returns-then-copies-most-clause-fault c =
     let path = c.args.top.now.name.now ∷ path_of c.args.below.now.frames in
     let found = found_as c.args.library.now _ _ _ _ _ c.get.ensures c.in-Some.ensures in
     let among = is_open_named c.args.library.now c.args.call.now.model c.in-Some.found.place path _
     found.place found.within c.requires.known in
     refuses_copies c.args.library.now path c.args.top.now.scope c.args.line c.args.call.now
     c.args.copies c.in-Some.found.model.now found.named (sym among ∙ sym c.if-is_open.ensures)
-    c.too_many.result c.if-copies-eq65536.true c.too_many.ensures
+    c.too_many.result (c.if-copies-most.true ∙ c.most.ensures) c.too_many.ensures
 
 pub returns-in-Some-unknown_formal-clause-fault : goal.returns-in-Some-unknown_formal-clause-fault
 returns-in-Some-unknown_formal-clause-fault c =
@@ -31,7 +31,7 @@ returns-in-Some-unknown_formal-clause-fault c =
     found.place found.within c.requires.known in
     refuses_formal c.args.library.now path c.args.top.now.scope c.args.line c.args.call.now
     c.args.copies c.in-Some.found.model.now found.named (sym among ∙ sym c.if-is_open.ensures)
-    (few_copies c.args.copies c.requires.copies c.if-copies-eq65536.false)
+    (few_copies c.args.copies c.requires.copies (λ full. c.if-copies-most.false (full ∙ sym c.most.ensures)))
     c.unknown_formal_of.result c.in-Some-unknown_formal.formal.now
     (formal_as c.in-Some.found.model.now _ _ _ _ found.ports c.as_slice.ensures
     c.in-Some-unknown_formal.ensures)
@@ -45,6 +45,6 @@ returns-in-None-unknown_formal-clause-ok c =
     found.place found.within c.requires.known in
     copies_model c.args.library.now path c.args.top.now.scope c.args.line c.args.call.now
     c.args.copies c.in-Some.found.model.now found.named (sym among ∙ sym c.if-is_open.ensures)
-    (few_copies c.args.copies c.requires.copies c.if-copies-eq65536.false)
+    (few_copies c.args.copies c.requires.copies (λ full. c.if-copies-most.false (full ∙ sym c.most.ensures)))
     (formal_as c.in-Some.found.model.now _ _ _ _ found.ports c.as_slice.ensures
     c.in-None-unknown_formal.ensures)

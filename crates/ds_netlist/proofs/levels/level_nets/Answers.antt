@@ -2,17 +2,17 @@ use Rattle.std.proofs.Common.{◌≡◌, ◌∙◌, ℕ, List, length, ap, sym, 
 use Rattle.std.specs.List.{slice_index}
 use Rattle.ds_design.specs.declared.design.Gate.{Gate}
 use Rattle.ds_design.specs.declared.design.Net.{Net}
-use Rattle.ds_order.specs.declared.edge.Edge.{Edge}
-use Rattle.ds_order.specs.Order.{HasEdge, IsCycle}
-use Rattle.ds_order.proofs.By.{cycle_by, ranks_by}
+use Rattle.ds_rank.specs.declared.edge.Edge.{Edge}
+use Rattle.ds_rank.specs.Order.{HasEdge, IsCycle}
+use Rattle.ds_rank.proofs.By.{cycle_by, ranks_by}
 use Rattle.ds_netlist.specs.Edges.{IsCycleOnly, edges_of, floor_in}
 use Rattle.ds_design.specs.Reach.{Feeds}
 use Rattle.ds_netlist.specs.declared.fault.NetFault.{NetFault}
 use Rattle.ds_netlist.proofs.Fed.{fed_ends, fed_from, fed_into}
 use Rattle.ds_netlist.proofs.levels.level_nets.Goals as goal
 
-pub ranks-requires-clause-ends : goal.ranks-requires-clause-ends
-ranks-requires-clause-ends c =
+pub least_ranks-requires-clause-ends : goal.least_ranks-requires-clause-ends
+least_ranks-requires-clause-ends c =
     let edges : c.as_slice-2.result.now ≡ edges_of c.args.design.now.tables =
     c.as_slice-2.ensures.value ∙ c.in_ok-edges.ensures.ok ∙ ap edges_of c.tables-tables.ensures.tables in
     let size : length c.as_slice.result.now ≡ length c.args.design.now.nets =

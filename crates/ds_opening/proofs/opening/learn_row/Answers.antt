@@ -1,6 +1,6 @@
 use Rattle.std.proofs.Common.{◌≡◌, ◌∙◌, ◌-◌, ◌<◌, ℕ, List, length, ap, subst, sym, true}
 use Rattle.ds_base.specs.Values.{Row}
-use Rattle.ds_scratch.specs.Scratch.{HoldsTurn, Kept}
+use Rattle.ds_base.specs.Scratch.{HoldsTurn, Kept}
 use Rattle.ds_settle.specs.Settle.{LeavesOthers}
 use Rattle.ds_opening.specs.Packed.{AreAsBefore, Learns}
 use Rattle.ds_opening.proofs.Learnt.{held_before, now_noted}

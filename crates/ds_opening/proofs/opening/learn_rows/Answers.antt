@@ -1,7 +1,7 @@
 use Rattle.std.proofs.Common.{◌≡◌, ◌∙◌, ◌<◌, ◌≤◌, ◌+◌, ◌-◌, ℕ, List, [], arith, length, ap, get_or, refl, subst, sym, take, drop}
 use Rattle.ds_base.specs.Word.{count_of_words}
 use Rattle.ds_cover.specs.Cover.{values_at}
-use Rattle.ds_cones.proofs.NodeCones.{lent}
+use Rattle.ds_split.proofs.NodeCones.{lent}
 use Rattle.ds_opening.specs.Noted.{IsLearnt, IsSlot}
 use Rattle.ds_opening.specs.Packed.{AreInside, packed}
 use Rattle.ds_opening.proofs.Filled.{IsReadTo, of_next, read_all, read_first, read_more, room, row_is}

@@ -4,7 +4,7 @@ use Rattle.ds_base.specs.Word.{count_of_words}
 use Rattle.ds_latch.specs.Node.{nets_of, number_of}
 use Rattle.ds_latch.specs.declared.node.Node.{Node}
 use Rattle.ds_latch.specs.declared.node.Node.TheVariants.{In, Out, Master, Slave}
-use Rattle.ds_cones.specs.Settled.{IsSettling}
+use Rattle.ds_split.specs.Settled.{IsSettling}
 use Rattle.ds_opening.specs.Learnt.{is_learnt}
 use Rattle.ds_opening.proofs.LearntRows.{master_unlearnt}
 use Rattle.ds_opening.proofs.Slaves.{slave_reads, slave_room, slave_takes}

@@ -5,7 +5,7 @@ use Rattle.ds_cover.specs.Cover.{values_at}
 use Rattle.ds_latch.specs.Node.{IsNode, Split, nets_of, nodes, number_of}
 use Rattle.ds_latch.specs.declared.node.Node.{Node}
 use Rattle.ds_latch.proofs.Counts.{number_below}
-use Rattle.ds_cones.proofs.NodeCones.{lent, nets_within}
+use Rattle.ds_split.proofs.NodeCones.{lent, nets_within}
 use Rattle.ds_opening.specs.Noted.{AreRowsLearnt}
 use Rattle.ds_opening.specs.Packed.{packed}
 use Rattle.ds_opening.specs.Woven.{value_taken}

@@ -4,8 +4,8 @@ use Rattle.std.proofs.lemmas.List.{length-set}
 use Rattle.ds_base.specs.Values.{Row}
 use Rattle.ds_cover.specs.Bank.{Driven, AreNetsWithin, after_tables}
 use Rattle.ds_design.specs.Circuit.{Circuit}
-use Rattle.ds_groups.specs.Groups.{Grouping, group_of}
-use Rattle.ds_scratch.specs.Scratch.{Kept}
+use Rattle.ds_opening.specs.Groups.{Grouping, group_of}
+use Rattle.ds_base.specs.Scratch.{Kept}
 use Rattle.ds_settle.specs.Cone.{nets_of_tables}
 use Rattle.ds_settle.proofs.Banked.{all_within}
 use Rattle.ds_opening.specs.Noted.{IsAsKnown, KeepsGroup}

@@ -1,8 +1,8 @@
 use Rattle.std.proofs.Common.{◌∙◌, ◌<◌, ℕ, List, length, get_or}
 use Rattle.ds_base.specs.Values.{Row}
 use Rattle.ds_design.specs.Circuit.{Circuit}
-use Rattle.ds_groups.specs.Groups.{Grouping, group_of, tables_in}
-use Rattle.ds_scratch.specs.Scratch.{Kept, Memory, Remembers}
+use Rattle.ds_opening.specs.Groups.{Grouping, group_of, tables_in}
+use Rattle.ds_base.specs.Scratch.{Kept, Memory, Remembers}
 use Rattle.ds_settle.specs.Cone.{nets_of_tables}
 use Rattle.ds_opening.specs.Noted.{FindInputs, AreGroupSlots, AreGroupsBefore, IsAsKnown, IsLearnt}
 use Rattle.ds_opening.proofs.Learnt.{groups_more, rest_finds}

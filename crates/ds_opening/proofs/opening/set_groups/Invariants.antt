@@ -1,7 +1,7 @@
 use Rattle.std.proofs.Common.{drop, take}
 use Rattle.ds_base.specs.Values.{Row}
-use Rattle.ds_groups.specs.Groups.{tables_in}
-use Rattle.ds_scratch.specs.Scratch.{Memory, Remembers}
+use Rattle.ds_opening.specs.Groups.{tables_in}
+use Rattle.ds_base.specs.Scratch.{Memory, Remembers}
 use Rattle.ds_settle.specs.Cone.{nets_of_tables}
 use Rattle.ds_opening.specs.Noted.{FindInputs, AreGroupSlots, AreGroupsBefore, IsAsKnown, IsAsLong, IsLearnt}
 use Rattle.ds_opening.proofs.opening.set_groups.Given as goal

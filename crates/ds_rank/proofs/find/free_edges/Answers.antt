@@ -1,7 +1,7 @@
 use Rattle.std.proofs.Common.{◌≡◌, ◌∙◌, ◌+◌, List, [], ◌∷◌, ◌++◌, take, ap, sym, ap₂, Vec, Global}
 use Rattle.std.proofs.lemmas.List.{take_more, append-nil}
 use Rattle.ds_marked.specs.declared.marked.Arc.{Arc}
-use Rattle.ds_order.specs.declared.edge.Edge.{Edge}
+use Rattle.ds_rank.specs.declared.edge.Edge.{Edge}
 use Rattle.ds_rank.specs.Free.{free_part}
 use Rattle.ds_rank.proofs.Freed.{free_join, free_yes, free_no}
 use Rattle.ds_rank.proofs.find.free_edges.Goals as goal

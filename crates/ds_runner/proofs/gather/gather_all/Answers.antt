@@ -4,13 +4,13 @@ use lib.ListN.{get_elem?}
 use Rattle.atomic_table.proofs.Lists.{at_last, at_longer}
 use Rattle.ds_rule.specs.Rule.{holds, seen}
 use Rattle.ds_rule.specs.declared.view.View.{View}
-use Rattle.ds_scratch.specs.Scratch.{Remembers}
+use Rattle.ds_base.specs.Scratch.{Remembers}
 use Rattle.ds_fabric.specs.Base.{Base}
 use Rattle.ds_fabric.specs.Showing.{Showing}
-use Rattle.ds_turnstile.specs.Turns.{Alone, sum_below}
+use Rattle.ds_runner.specs.Turns.{Alone, sum_below}
 use Rattle.ds_runner.specs.Work.{AreSingle}
 use Rattle.ds_runner.proofs.Hired.{taken_last}
-use Rattle.ds_turnstile.proofs.Starts.{fires-at, fires_of, sum-fires}
+use Rattle.ds_runner.proofs.Starts.{fires-at, fires_of, sum-fires}
 use Rattle.ds_runner.proofs.Firings.{taken_tickets, tickets-nodes}
 use Rattle.ds_rule.specs.Run.{Run}
 use Rattle.ds_runner.proofs.gather.gather_all.Goals as goal

@@ -4,7 +4,7 @@ use lib.ListN.{get_elem?}
 use Rattle.ds_rule.specs.Run.{node_of, turns}
 use Rattle.ds_rule.specs.Rule.{holds, tickets}
 use Rattle.ds_fabric.specs.Showing.{Belongs, Showing}
-use Rattle.ds_turnstile.proofs.Starts.{fires_of}
+use Rattle.ds_runner.proofs.Starts.{fires_of}
 use Rattle.ds_runner.specs.Work.{AreSingle}
 use Rattle.ds_runner.proofs.gather.gather_all.Given as goal
 

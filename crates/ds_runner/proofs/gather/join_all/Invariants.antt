@@ -1,6 +1,6 @@
 use Rattle.std.proofs.Common.{◌≡◌, ◌+◌, All, length, sum_by}
-use Rattle.ds_turnstile.specs.Turns.{HasNone}
-use Rattle.ds_turnstile.specs.Shown.{IsTurnOf}
+use Rattle.ds_runner.specs.Turns.{HasNone}
+use Rattle.ds_runner.specs.Shown.{IsTurnOf}
 use Rattle.ds_runner.specs.Work.{made_of}
 use Rattle.ds_runner.specs.declared.worker.Worker.{Worker}
 use Rattle.ds_runner.proofs.gather.join_all.Given as goal

@@ -4,7 +4,7 @@ use Rattle.ds_rule.specs.Rule.{holds, seen}
 use Rattle.ds_rule.specs.declared.view.View.{View}
 use Rattle.ds_fabric.specs.Base.{Base}
 use Rattle.ds_fabric.specs.Showing.{Showing, IsDealt, IsLeft}
-use Rattle.ds_turnstile.specs.Turns.{Alone}
+use Rattle.ds_runner.specs.Turns.{Alone}
 use Rattle.ds_runner.proofs.Hired.{dealt_alone, lent_one, one_more_single, unfired-more}
 use Rattle.ds_runner.proofs.hire.deal_all.Goals as goal
 

@@ -1,6 +1,6 @@
 use Rattle.std.proofs.Common.{◌≡◌, ◌≤◌, length}
 use Rattle.std.specs.Prelude.{vec_capacity}
-use Rattle.ds_turnstile.specs.Turns.{base}
+use Rattle.ds_runner.specs.Turns.{base}
 use Rattle.ds_runner.specs.Work.{AreSingle, IsLent}
 use Rattle.ds_runner.proofs.hire.deal_all.Given as goal
 

@@ -1,6 +1,6 @@
 use Rattle.std.proofs.Common.{◌≡◌, ◌∙◌, ◌∷◌, [], ◌-◌, List, ap, arith, le_of_eq, length, length-append, subst}
-use Rattle.ds_turnstile.specs.declared.turn_view.TurnView.{TurnView}
-use Rattle.ds_scratch.specs.Scratch.{Remembers}
+use Rattle.ds_runner.specs.declared.turn_view.TurnView.{TurnView}
+use Rattle.ds_base.specs.Scratch.{Remembers}
 use Rattle.ds_fabric.specs.Base.{Base}
 use Rattle.ds_runner.specs.Work.{IsWithin}
 use Rattle.ds_runner.specs.declared.worker.Worker.{Worker}

@@ -1,7 +1,7 @@
 use Rattle.std.proofs.Common.{◌≡◌, ◌≤◌, ◌+◌, All, length}
 use Rattle.std.specs.Prelude.{vec_capacity}
-use Rattle.ds_turnstile.specs.Turns.{HasNone}
-use Rattle.ds_turnstile.specs.Shown.{IsTurnOf}
+use Rattle.ds_runner.specs.Turns.{HasNone}
+use Rattle.ds_runner.specs.Shown.{IsTurnOf}
 use Rattle.ds_runner.specs.Work.{IsWithin}
 use Rattle.ds_runner.proofs.hire.enlist.Given as goal
 

@@ -1,5 +1,5 @@
 use Rattle.std.proofs.Common.{◌∙◌, ap, arith}
-use Rattle.ds_turnstile.specs.Turns.{base}
+use Rattle.ds_runner.specs.Turns.{base}
 use Rattle.ds_runner.specs.Work.{HasPassOfEach}
 use Rattle.ds_runner.proofs.Hired.{all_workers, are_alone, opened_fits}
 use Rattle.ds_runner.proofs.hire.hire.Goals as goal

@@ -1,5 +1,5 @@
 use Rattle.std.proofs.Common.{◌∙◌, ap, sym}
-use Rattle.ds_names.proofs.Keys.{position_some, position_none}
+use Rattle.ds_lines.proofs.Keys.{position_some, position_none}
 use Rattle.ds_astg.specs.Keys.{key_of}
 use Rattle.ds_astg.specs.Place.{Places as Kept, number_of_place}
 use Rattle.ds_astg.proofs.Keys.{place_key}

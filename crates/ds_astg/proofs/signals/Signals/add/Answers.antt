@@ -1,5 +1,5 @@
 use Rattle.std.proofs.Common.{◌≡◌, ◌<◌, false, length, subst, sym, refl, arith}
-use Rattle.ds_names.specs.Names.{has_name}
+use Rattle.ds_lines.specs.Names.{has_name}
 use Rattle.ds_astg.specs.Signals.{Declared}
 use Rattle.ds_astg.proofs.Numbered.{all_few, named_one, numbered_one}
 use Rattle.ds_astg.proofs.signals.Signals.add.Goals as goal

@@ -1,6 +1,6 @@
 use Rattle.std.proofs.Common.{◌∙◌, ap, ℕ, nat_lt}
 use Rattle.std.specs.Str.{bytes_eq}
-use Rattle.ds_names.specs.Names.{has_name}
+use Rattle.ds_lines.specs.Names.{has_name}
 use Rattle.ds_astg.specs.Signals.{Declared}
 use Rattle.ds_astg.proofs.Choices.{any_place}
 use Rattle.ds_astg.proofs.signals.Signals.has.Goals as goal

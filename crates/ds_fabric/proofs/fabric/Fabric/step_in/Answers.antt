@@ -1,5 +1,5 @@
 use Rattle.std.proofs.Common.{◌≡◌, ◌∙◌, ap, arith, sym, subst, true}
-use Rattle.ds_scratch.specs.Scratch.{Remembers}
+use Rattle.ds_base.specs.Scratch.{Remembers}
 use Rattle.ds_rule.specs.Rule.{holds}
 use Rattle.ds_rule.specs.declared.view.View.{View}
 use Rattle.ds_fabric.specs.Showing.{Showing}

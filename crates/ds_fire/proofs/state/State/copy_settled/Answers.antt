@@ -6,8 +6,8 @@ use Rattle.ds_latch.specs.Firing.{IsSettled}
 use Rattle.ds_latch.specs.Node.{Split, IsNode, nets_of, nodes, number_of}
 use Rattle.ds_latch.specs.declared.node.Node.{Node}
 use Rattle.ds_latch.proofs.Counts.{number_below}
-use Rattle.ds_cones.specs.Cones.{IsSettlingAt}
-use Rattle.ds_cones.proofs.NodeCones.{nets_within}
+use Rattle.ds_split.specs.Cones.{IsSettlingAt}
+use Rattle.ds_split.proofs.NodeCones.{nets_within}
 use Rattle.ds_fire.specs.Fired.{IsSnapshotSound}
 use Rattle.ds_fire.specs.Snapshot.{Snapshot, split_of, held_row}
 use Rattle.ds_fire.specs.Turn.{IsSettledOn}

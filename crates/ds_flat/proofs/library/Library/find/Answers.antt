@@ -1,5 +1,5 @@
 use Rattle.std.proofs.Common.{◌≡◌, subst, None, List}
-use Rattle.ds_models.specs.declared.blif.BlifModel.{BlifModel}
+use Rattle.ds_design.specs.declared.blif.BlifModel.{BlifModel}
 use Rattle.ds_flat.specs.Copies.{model_named}
 use Rattle.ds_flat.specs.Interface.{Finds}
 use Rattle.ds_flat.proofs.Models.{finds, finds_none}

@@ -1,5 +1,5 @@
 use Rattle.std.proofs.Common.{◌∙◌, ap, []}
-use Rattle.ds_names.specs.Names.{with_name}
+use Rattle.ds_lines.specs.Names.{with_name}
 use Rattle.ds_flat.specs.Interface.{with_ports_of}
 use Rattle.ds_flat.proofs.Models.{names_more, ports_more}
 use Rattle.ds_flat.proofs.library.Library.of.Goals as goal

@@ -1,5 +1,5 @@
 use Rattle.std.proofs.Common.{◌∙◌, sym, false}
-use Rattle.ds_names.proofs.Keys.{position_some}
+use Rattle.ds_lines.proofs.Keys.{position_some}
 use Rattle.ds_flat.proofs.Keys.{same_key, key_has, key_number, key_there}
 use Rattle.ds_flat.proofs.nets.NetList.number.Goals as goal
 

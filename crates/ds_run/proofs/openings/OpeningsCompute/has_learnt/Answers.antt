@@ -1,7 +1,7 @@
 use Rattle.std.proofs.Common.{◌≡◌, ◌∙◌, ap, arith, length, sym}
 use Rattle.ds_latch.specs.Node.{Split, nodes}
 use Rattle.ds_rule.specs.Run.{Run}
-use Rattle.ds_scratch.specs.Scratch.{Memory}
+use Rattle.ds_base.specs.Scratch.{Memory}
 use Rattle.ds_opening.specs.Learnt.{is_learnt}
 use Rattle.ds_opening.proofs.Slots.{slots_long}
 use Rattle.ds_run.specs.Openings.{RunWithMemory, memory_of}

@@ -3,7 +3,7 @@ use Rattle.std.specs.Prelude.{IfOk}
 use Rattle.ds_design.specs.Circuit.{Circuit}
 use Rattle.ds_design.specs.declared.design.Net.{Net}
 use Rattle.ds_latch.specs.Node.{Split}
-use Rattle.ds_scratch.specs.Scratch.{Memory, Remembers}
+use Rattle.ds_base.specs.Scratch.{Memory, Remembers}
 use Rattle.ds_opening.specs.Noted.{slots_of}
 use Rattle.ds_opening.proofs.Slots.{slots_long}
 use Rattle.ds_run.specs.Openings.{RunWithMemory, memory_of}

@@ -1,0 +1,5 @@
+use Rattle.ds_accept.proofs.Least.{one_list_of_sums_lem}
+use Rattle.ds_accept.proofs.laws.one_list_of_sums.Goals as goal
+
+pub returns : goal.returns
+returns c = one_list_of_sums_lem

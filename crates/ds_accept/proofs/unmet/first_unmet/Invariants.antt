@@ -1,0 +1,10 @@
+use Rattle.std.proofs.Common.{length, ◌-◌}
+use Rattle.std.specs.List.{AllWithin}
+use Rattle.ds_accept.specs.Given.{IsGiven}
+use Rattle.ds_accept.proofs.unmet.first_unmet.Given as goal
+
+abbrev pub invariant-loop-from : goal.invariant-loop-from
+invariant-loop-from l = AllWithin (IsGiven l.graph) l.asked 0 l.from
+
+abbrev pub decreases-loop-from : goal.decreases-loop-from
+decreases-loop-from l = length l.asked - l.from

@@ -1,0 +1,49 @@
+-- Jobs that run no threads and leave nothing where they stop: all that do not write as they read.
+use Rattle.std.proofs.Common.{ℕ, List, Some}
+use Rattle.ds_outside.specs.Held.{Held}
+use Rattle.ds_design.specs.Circuit.{Circuit}
+use Rattle.ds_design.specs.Rows.{Rows}
+use Rattle.ds_latch.specs.Plan.{Planned}
+use Rattle.ds_cmd.specs.declared.accept.AcceptJob.{AcceptJob}
+use Rattle.ds_cmd.specs.declared.graph.GraphJob.{GraphJob}
+use Rattle.ds_cmd.specs.declared.period.PeriodJob.{PeriodJob}
+use Rattle.ds_cmd.specs.declared.replay.ReplayJob.{ReplayJob}
+use Rattle.ds_stage.specs.Stage.{then_stage}
+use Rattle.ds_stage.specs.Stages.{netlist_stage, report_stage, vectors_stage}
+use Rattle.ds_stage.specs.SplitStage.{split_stage}
+use Rattle.ds_stage.specs.GraphStage.{controller_stage}
+use Rattle.ds_stage.specs.PlanStage.{planned_stage}
+use Rattle.ds_stage.specs.AcceptStage.{ranks_stage}
+use Rattle.ds_stage.specs.ReplayStage.{replayed_stage}
+use Rattle.ds_stage.specs.PeriodStage.{measured_stage}
+use Rattle.ds_app.specs.JobStages.{accept_stage, graph_stage, period_stage, replay_stage}
+use Rattle.ds_stage.proofs.Left.{LeavesNothing, controller_nothing, giving_nothing, measured_nothing, netlist_nothing, planned_nothing, replayed_nothing, split_nothing, then_nothing, vectors_nothing}
+
+pub report_nothing : (c : Circuit) → LeavesNothing (report_stage c)
+report_nothing c = giving_nothing (report_stage c).means
+
+pub check_nothing : (held : List ℕ → Held) (file : List ℕ) → LeavesNothing (then_stage (netlist_stage held file) report_stage)
+check_nothing held file = then_nothing (netlist_stage held file) report_stage (netlist_nothing held file) report_nothing
+
+pub graph_nothing : (held : List ℕ → Held) (job : GraphJob) → LeavesNothing (then_stage (netlist_stage held job.net) (graph_stage job))
+graph_nothing held job =
+    then_nothing (netlist_stage held job.net) (graph_stage job) (netlist_nothing held job.net)
+    (λ c. then_nothing (split_stage job.net job.clusters c) (controller_stage job.net job.shake) (split_nothing job.net job.clusters c) (controller_nothing job.net job.shake))
+
+pub replay_nothing : (held : List ℕ → Held) (job : ReplayJob) → LeavesNothing (then_stage (netlist_stage held job.net) (replay_stage held job))
+replay_nothing held job =
+    then_nothing (netlist_stage held job.net) (replay_stage held job) (netlist_nothing held job.net)
+    (λ c. then_nothing (planned_stage held job.net job.graph job.clusters job.slack c) (λ (p : Planned). then_stage (vectors_stage held job.vec c) (λ (vectors : Rows). replayed_stage held job.log job.transparent p vectors.rows))
+    (planned_nothing held job.net job.graph job.clusters job.slack c)
+    (λ p. then_nothing (vectors_stage held job.vec c) (λ (vectors : Rows). replayed_stage held job.log job.transparent p vectors.rows)
+    (vectors_nothing held job.vec c) (λ vectors. replayed_nothing held job.log job.transparent p vectors.rows)))
+
+pub accept_nothing : (held : List ℕ → Held) (job : AcceptJob) → LeavesNothing (then_stage (netlist_stage held job.net) (accept_stage held job))
+accept_nothing held job =
+    then_nothing (netlist_stage held job.net) (accept_stage held job) (netlist_nothing held job.net)
+    (λ c. then_nothing (planned_stage held job.net (Some job.graph) job.clusters 0 c) ranks_stage (planned_nothing held job.net (Some job.graph) job.clusters 0 c) (λ p. giving_nothing (ranks_stage p).means))
+
+pub period_nothing : (held : List ℕ → Held) (job : PeriodJob) → LeavesNothing (then_stage (netlist_stage held job.net) (period_stage held job))
+period_nothing held job =
+    then_nothing (netlist_stage held job.net) (period_stage held job) (netlist_nothing held job.net)
+    (λ c. then_nothing (split_stage job.net job.clusters c) (measured_stage held job.delays) (split_nothing job.net job.clusters c) (measured_nothing held job.delays))

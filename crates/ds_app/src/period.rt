@@ -1,0 +1,79 @@
+//! `period`: the exact period of the controller graph.
+ghost use Rattle.std.specs.Prelude.{◌≡◌, length};
+ghost use Rattle.ds_period.specs.Controller.{HasPeriod};
+ghost use Rattle.ds_stage.specs.Ends.{Ends, Never, RoseIn, output_between};
+ghost use Rattle.ds_stage.specs.PeriodStage.{IsPeriodText, measured_stage};
+ghost use Rattle.ds_stage.specs.Stage.{giving, then_stage};
+ghost use Rattle.ds_stage.specs.Stages.{netlist_stage};
+ghost use Rattle.ds_app.specs.JobStages.{period_stage};
+
+use crate::period_text::period_text;
+use ds_cmd::PeriodJob;
+use ds_latch::Latches;
+use ds_marked::Marked;
+use ds_outside::{Files, Sink, write_all};
+use ds_period::Delays;
+use ds_stage::{Stop, own_graph, read_netlist, read_timing, split_netlist};
+use std::alloc::Global;
+
+/// Reads a netlist and the delays of its required orders, and writes the period of its controller
+/// graph.
+#[tactic(auto)]
+pub fn period<F: Files, O: Sink>(
+    alloc: Global,
+    job: &PeriodJob,
+    files: &mut F,
+    out: &mut O,
+) -> Result<(), Stop>
+    ensures value { Ends (then_stage (netlist_stage (F.held files.old) job.now.net)
+        (period_stage (F.held files.old) job.now))
+        (RoseIn (F.faults files.old) (F.faults files.new))
+        (output_between O.written O.faults out.old out.new) result }
+
+    ensures same_held { F.held files.new ≡ F.held files.old }
+{
+    let net = job.net.as_str();
+    let delays = job.delays.as_str();
+    let netlist = read_netlist(alloc, files, net)?;
+    let latches = split_netlist(alloc, net, &netlist, job.clusters)?;
+    measure(alloc, &latches, delays, files, out)
+}
+
+// Reads the delays of the required orders of a split netlist, and writes the period.
+fn measure<F: Files, O: Sink>(
+    alloc: Global,
+    latches: &Latches<'_>,
+    delays: &str,
+    files: &mut F,
+    out: &mut O,
+) -> Result<(), Stop>
+    ensures value { Ends (measured_stage (F.held files.old) delays.now latches.now)
+        (RoseIn (F.faults files.old) (F.faults files.new))
+        (output_between O.written O.faults out.old out.new) result }
+
+    ensures same_held { F.held files.new ≡ F.held files.old }
+{
+    let graph = own_graph(alloc, latches)?;
+    let delays = read_timing(alloc, files, delays, &graph)?;
+    write_period(alloc, &graph, &delays, out)
+}
+
+// Writes the period of a graph, once all of its text is there.
+fn write_period<O: Sink>(
+    alloc: Global,
+    graph: &Marked,
+    delays: &Delays,
+    out: &mut O,
+) -> Result<(), Stop>
+    requires one_each { length delays.now ≡ length graph.now.arcs }
+    requires period { HasPeriod graph.now }
+    ensures { Ends (giving (IsPeriodText graph.now delays.now)) Never
+        (output_between O.written O.faults out.old out.new) result }
+{
+    let period = ds_period::period(alloc, graph, delays)?;
+    let text = period_text(alloc, graph, &period)?;
+    match write_all(out, &text) {
+        Ok(()) => Ok(()),
+        Err(_) => Err(Stop::Unwritten),
+    }
+}

@@ -1,3 +1,0 @@
-pub mod Taken
-pub mod Settled
-pub mod NodeCones

@@ -1,5 +1,0 @@
-use Rattle.ds_cones.proofs.Settled.{settles_next_value_lem}
-use Rattle.ds_cones.proofs.laws.settles_next_value.Goals as goal
-
-pub returns : goal.returns
-returns c = settles_next_value_lem

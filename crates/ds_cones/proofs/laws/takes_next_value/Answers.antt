@@ -1,5 +1,0 @@
-use Rattle.ds_cones.proofs.Taken.{takes_next_value_lem}
-use Rattle.ds_cones.proofs.laws.takes_next_value.Goals as goal
-
-pub returns : goal.returns
-returns c = takes_next_value_lem

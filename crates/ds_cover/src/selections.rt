@@ -1,0 +1,107 @@
+//! Some tables of a bank that is lent, in several lists, each in the order in which it is set.
+ghost use Rattle.std.specs.Prelude.{◌≡◌, ◌<◌, ◌≤◌, ◌^◌, [], length, All, IfOk, slice_index_or};
+ghost use Rattle.ds_cover.specs.Bank.{AreNetsWithin, after_tables};
+ghost use Rattle.ds_cover.specs.Series.{part_of};
+
+use crate::Bank;
+use crate::lists::Lists;
+use crate::run::{Run, add_from, set_runs};
+use ds_base::{OutOfMemory, Row3, Seq};
+use std::alloc::Global;
+use std::marker::Model;
+
+/// Some tables of a bank that others have too, in several lists. Contracts see all tables of the
+/// bank, and the lists. All lists stand in the same few vectors.
+pub struct Selections<'a> {
+    bank: &'a Bank,
+    order: Vec<u32>,
+    lists: Lists,
+    runs: Vec<Run>,
+    // The runs of list n begin at the bound n and end at the bound n + 1.
+    bounds: Vec<usize>,
+}
+
+impl<'a> Drop for Selections<'a> {
+    fn drop(self) {
+        let Selections {
+            bank: _,
+            order: _,
+            lists: _,
+            runs: _,
+            bounds: _,
+        } = self;
+    }
+}
+
+impl<'a> Model for Selections<'a> {
+    ghost use Rattle.std.specs.Prelude.{◌<◌, length, All};
+    ghost use Rattle.ds_cover.specs.Selections.{AreBounded, Selected, lists_between};
+    ghost use Rattle.ds_cover.specs.Series.{in_table_order, parts_of_lists};
+
+    ghost Value = { Selected };
+
+    ghost view = { λ s. record {
+      tables = s.bank.now;
+      lists = lists_between s.order.items s.runs.items s.bounds.items;
+    } };
+
+    ghost invariant = { λ s. All (λ k. k < length s.bank.now) s.order.items
+        × AreBounded (parts_of_lists s.lists) (in_table_order s.bank.now s.order.items) s.runs.items
+        s.bounds.items };
+}
+
+impl<'a> Selections<'a> {
+    /// The tables of these lists.
+    pub fn of(alloc: Global, bank: &'a Bank, lists: &[Seq<u32>]) -> Result<Self, OutOfMemory>
+        requires { All (λ list. All (λ k. k < length bank.now) list) lists.now }
+        ensures ok { IfOk result (λ s. s ≡ record { tables = bank.now; lists = lists.now }) }
+    {
+        let mut order = Vec::new(alloc);
+        let mut kinds = Lists::new(alloc);
+        let mut runs = Vec::new(alloc);
+        let mut bounds = Vec::with_capacity(alloc, lists.len() + 1)?;
+        bounds.push(0)?;
+        for list in lists {
+            let start = order.len();
+            order.extend_from_slice(list.as_slice())?;
+            add_from(&mut kinds, &mut runs, bank, order.as_slice(), start)?;
+            bounds.push(runs.len())?;
+        }
+        Ok(Selections {
+            bank,
+            order,
+            lists: kinds,
+            runs,
+            bounds,
+        })
+    }
+
+    /// How many lists there are.
+    pub fn count(&self) -> usize
+        ensures value { result ≡ length self.now.lists }
+        ensures few { result < 2 ^ 63 }
+    {
+        self.bounds.len() - 1
+    }
+
+    /// Sets what the tables of a list drive, one after another.
+    pub fn set(&self, number: usize, nets: &mut Row3)
+        requires number { number < length self.now.lists }
+        requires within { All (λ t. AreNetsWithin t nets.old) self.now.tables }
+        ensures { nets.new ≡ after_tables self.now.tables nets.old
+            (slice_index_or self.now.lists number []) }
+    {
+        let (first, end) = (self.bounds[number], self.bounds[number + 1]);
+        let runs = between(self.runs.as_slice(), first, end);
+        set_runs(runs, &self.lists, self.bank, self.order.as_slice(), nets);
+    }
+}
+
+// The runs from one place on, up to another.
+fn between(runs: &[Run], first: usize, end: usize) -> &[Run]
+    requires low { first ≤ end }
+    requires inside { end ≤ length runs.now }
+    ensures { result.now ≡ part_of first end runs.now }
+{
+    &runs[first..end]
+}

@@ -1,5 +1,0 @@
-use Rattle.ds_groups.specs.Lacking.{AreLackingSoFar}
-use Rattle.ds_groups.proofs.lacking.lacking_of.Given as goal
-
-abbrev pub invariant-loop-cone : goal.invariant-loop-cone
-invariant-loop-cone l = AreLackingSoFar l.cones l.cone-index l.tables l.counts.items

@@ -1,0 +1,216 @@
+-- The slots that groups read, found one by one.
+use Rattle.std.proofs.Common.{◌≡◌, ◌∙◌, ℕ, ◌+◌, ◌<◌, ◌≤◌, List, [], ◌∷◌, ◌++◌, length, get_or}
+use Rattle.std.proofs.Common.{map, sym, ap, subst, arith, inl, inr, length-append}
+use Rattle.std.proofs.Common.{Err, Ok, Result}
+use Rattle.std.specs.List.{range_with_len}
+use Rattle.std.proofs.lemmas.List.FromFn.{get_or-map-range_with_len, length-map-range_with_len}
+use Rattle.ds_base.proofs.Lists.{Contains-head}
+use Rattle.std.specs.Prelude.{All, Contains, IfOk}
+use Rattle.std.proofs.Math.ListN.{set}
+use Rattle.std.proofs.lemmas.Bool.{cases_eq, cases_lt}
+use Rattle.std.proofs.lemmas.List.{get_or-set_other, get_or_append_left, get_or_past, get_or_push}
+use Rattle.std.proofs.lemmas.List.{length-map, length-set}
+use Rattle.std.proofs.lemmas.List.Elements.{All-contains, All-nil, All-push, All-set, All-weaker}
+use Rattle.std.proofs.lemmas.List.Elements.{Contains-append_left, Contains-push}
+use Rattle.std.proofs.lemmas.List.Elements.{Contains-push_cases}
+use Rattle.ds_design.specs.Circuit.{Circuit}
+use Rattle.ds_design.specs.InRange.{IsInRange}
+use Rattle.ds_design.specs.declared.design.Gate.{Gate}
+use Rattle.ds_settle.specs.Cone.{nets_of_tables}
+use Rattle.ds_opening.specs.Homes.{AreNetHomes}
+use Rattle.ds_opening.specs.Reads.{IsInSlots, ReadFrom}
+use Rattle.ds_opening.specs.Seen.{AreAt, AreReadBy, AreReadsOf, AreSearched, AreSeen, IsReadAt, IsReadBy}
+
+-- a home is still found where more is
+pub at_kept : (homes : List ℕ) (own : ℕ) (list more : List ℕ) → ((s : ℕ) → Contains list s → Contains more s)
+    → (net : ℕ) → IsReadAt homes own list net → IsReadAt homes own more net
+at_kept homes own list more kept net (inl e) = inl e
+at_kept homes own list more kept net (inr has) = inr (kept (get_or homes net 0) has)
+
+-- a slot more
+seen_new : (own : ℕ) (seen list : List ℕ) → AreSeen own seen list → (home : ℕ) → home < length seen
+    → AreSeen own (set seen home (own + 1)) (list ++ home ∷ [])
+seen_new own seen list are home inside =
+    let size : length (set seen home (own + 1)) ≡ length seen = length-set seen home (own + 1) in
+    record {
+      within = subst (λ (n : ℕ). All (λ s. s < n) (list ++ home ∷ [])) (sym size)
+          (All-push (λ s. s < length seen) list home are.within inside);
+      low = All-set (λ s. s ≤ own + 1) seen home (own + 1) (omega arith) are.low;
+      stamped = λ s low is. elim (cases_eq s home) [
+        | inl e ↦ inr (subst (Contains (list ++ home ∷ [])) (sym e) (Contains-push list home))
+        | inr ne ↦
+            elim (are.stamped s (omega (low, size, arith)) (sym (get_or-set_other seen home s (own + 1) 0 ne) ∙ is)) [
+              | inl e ↦ inl e
+              | inr has ↦ inr (Contains-append_left list (home ∷ []) s has)
+            ]
+      ];
+    }
+
+module _ (homes : List ℕ) (own slots : ℕ) (before nets seen list : List ℕ)
+    (are : AreSearched homes own slots before nets seen list) (net : ℕ)
+    (inside : get_or homes net 0 < length seen) where
+  -- a net whose home is found
+  pub searched_old : get_or seen (get_or homes net 0) 0 ≡ own + 1
+      → AreSearched homes own slots before (nets ++ net ∷ []) seen list
+  searched_old is = record {
+    found = are.found;
+    long = are.long;
+    at = All-push (IsReadAt homes own list) nets net are.at (are.found.stamped (get_or homes net 0) inside is);
+    kept = are.kept;
+  }
+
+  -- a net with a new one
+  pub searched_new : AreSearched homes own slots before (nets ++ net ∷ [])
+      (set seen (get_or homes net 0) (own + 1)) (list ++ get_or homes net 0 ∷ [])
+  searched_new =
+      let home : ℕ = get_or homes net 0 in
+      let more : (s : ℕ) → Contains list s → Contains (list ++ home ∷ []) s =
+      λ s has. Contains-append_left list (home ∷ []) s has in
+      record {
+        found = seen_new own seen list are.found home inside;
+        long = length-set seen home (own + 1) ∙ are.long;
+        at = All-push (IsReadAt homes own (list ++ home ∷ [])) nets net
+            (All-weaker (IsReadAt homes own list) (IsReadAt homes own (list ++ home ∷ []))
+            (at_kept homes own list (list ++ home ∷ []) more) nets are.at)
+            (inr (Contains-push list home));
+        kept = λ s has. more s (are.kept s has);
+      }
+
+-- a table more
+pub at_more : (c : Circuit) (homes : List ℕ) (own : ℕ) (list more done : List ℕ) (table : ℕ)
+    → AreAt c homes own list done → ((s : ℕ) → Contains list s → Contains more s)
+    → ((d : Gate) → All (IsReadAt homes own more) (get_or c.tables table d).table.inputs)
+    → AreAt c homes own more (done ++ table ∷ [])
+at_more c homes own list more done table are kept step k d has = elim (Contains-push_cases done table k has) [
+  | inl early ↦
+      All-weaker (IsReadAt homes own list) (IsReadAt homes own more) (at_kept homes own list more kept)
+      (get_or c.tables k d).table.inputs (are k d early)
+  | inr e ↦
+      subst (λ (n : ℕ). All (IsReadAt homes own more) (get_or c.tables n d).table.inputs) e (step d)
+]
+
+-- a group more
+pub reads_more : (c : Circuit) (homes : List ℕ) (slots n : ℕ) (groups reads : List (List ℕ)) (list : List ℕ)
+    → AreReadBy c homes slots n groups reads → IsReadBy c homes slots n (get_or groups n []) list
+    → AreReadBy c homes slots (n + 1) groups (reads ++ list ∷ [])
+reads_more c homes slots n groups reads list are step =
+    let size : length reads ≡ n = are.one_each in
+    record {
+      one_each = length-append reads (list ∷ []) ∙ ap (λ (m : ℕ). m + 1) size;
+      each = λ a low. elim (cases_eq a n) [
+        | inl e ↦
+            subst (λ (m : ℕ). IsReadBy c homes slots m (get_or groups m []) (get_or (reads ++ list ∷ []) m [])) (sym e)
+            (subst (IsReadBy c homes slots n (get_or groups n [])) (sym (get_or_push reads list [] n size)) step)
+        | inr ne ↦
+            (let before : a < n = omega (low, ne, arith) in
+            subst (IsReadBy c homes slots a (get_or groups a []))
+            (sym (get_or_append_left reads (list ∷ []) [] a (omega (before, size, arith)))) (are.each a before))
+      ];
+    }
+
+-- once all groups have their lists
+one_below : (a most : ℕ) → a < most → All (λ s. s < most) (a ∷ [])
+one_below a most inside k d low = elim (cases_eq k 0) [
+  | inl e ↦ subst (λ (n : ℕ). get_or (a ∷ []) n d < most) (sym e) inside
+  | inr ne ↦ absurd (let h : k < 1 = low in omega (h, ne, arith))
+]
+
+-- where there is no group, no table reads anything
+no_tables : (c : Circuit) (groups slots : List (List ℕ)) (a : ℕ) (list : List ℕ) → length groups ≤ a
+    → ReadFrom c slots a list (get_or groups a [])
+no_tables c groups slots a list past k d has =
+    absurd (let (i, low, is) = subst (λ (xs : List ℕ). Contains xs k) (get_or_past groups a [] past) has in
+    let h : i < 0 = low in omega (h, arith))
+
+module _ (c : Circuit) (in_range : IsInRange c) (others groups reads : List (List ℕ)) (homes : List ℕ)
+    (within : All (λ these. All (λ k. k < length c.tables) these) groups)
+    (are_homes : AreNetHomes (map (nets_of_tables c) groups ++ others) (length c.nets) homes)
+    (are : AreReadBy c homes (length groups + length others) (length groups) groups reads) where
+  abbrev slots : List (List ℕ)
+  slots = map (nets_of_tables c) groups ++ others
+
+  many : length slots ≡ length groups + length others
+  many = length-append (map (nets_of_tables c) groups) others
+      ∙ ap (λ (n : ℕ). n + length others) (length-map groups (nets_of_tables c))
+
+  module _ (a : ℕ) (inside : a < length groups) where
+    abbrev list : List ℕ
+    list = get_or reads a []
+
+    by : IsReadBy c homes (length groups + length others) a (get_or groups a []) (get_or reads a [])
+    by = are.each a inside
+
+    found : (net : ℕ) → net < length c.nets → IsReadAt homes a list net → IsInSlots slots a list net
+    found net low (inl e) =
+        (get_or homes net 0, inl e, are_homes.has net low (omega (e, inside, many, arith)))
+    found net low (inr has) =
+        let near : get_or homes net 0 < length groups + length others =
+        All-contains (λ s. s < length groups + length others) list (get_or homes net 0) by.within has in
+        (get_or homes net 0, inr has, are_homes.has net low (omega (near, many, arith)))
+
+    all_found : ¬ Contains list a → (k : ℕ) (d : Gate) → Contains (get_or groups a []) k
+        → All (IsInSlots slots a list) (get_or c.tables k d).table.inputs
+    all_found free k d has i e low =
+        let table : k < length c.tables =
+        All-contains (λ k. k < length c.tables) (get_or groups a []) k (within a [] inside) has in
+        let nets : All (λ net. net < length c.nets) (get_or c.tables k d).table.inputs = (in_range.tables k d table).0 in
+        found (get_or (get_or c.tables k d).table.inputs i e) (nets i e low) (by.each free k d has i e low)
+
+  pub are_reads : AreReadsOf c others groups reads
+  are_reads bank lists = record {
+    one_each = are.one_each;
+    within = λ a. elim (cases_lt a (length groups)) [
+      | inl inside ↦ (by a inside).within
+      | inr past ↦
+          (let size : length reads ≡ length groups = are.one_each in
+          subst (λ (xs : List ℕ). All (λ s. s < length groups + length others) xs)
+          (sym (get_or_past reads a [] (omega (past, size, arith)))) (All-nil (λ s. s < length groups + length others)))
+    ];
+    each = λ a free. elim (cases_lt a (length groups)) [
+      | inl inside ↦ all_found a inside free
+      | inr past ↦ no_tables c groups slots a (get_or reads a []) past
+    ];
+  }
+
+-- what follows where there is an answer
+pub if_ok : {T E : Type 0} (r : Result T E) (P Q : T → Type 0) → ((x : T) → P x → Q x) → IfOk r P → IfOk r Q
+if_ok (Ok x) P Q so is = so x is
+if_ok (Err e) P Q so is = tt
+
+-- a list of the own slot says nothing
+pub own_by : (c : Circuit) (homes : List ℕ) (slots own : ℕ) (tables list : List ℕ) → own < slots
+    → list ≡ own ∷ [] → IsReadBy c homes slots own tables list
+own_by c homes slots own tables these inside is = record {
+  within = subst (λ (xs : List ℕ). All (λ s. s < slots) xs) (sym is) (one_below own slots inside);
+  each = λ free. absurd (free (subst (λ (xs : List ℕ). Contains xs own) (sym is) (Contains-head own [])));
+}
+
+-- lists of own slots say nothing
+pub own_read : (c : Circuit) (others groups reads : List (List ℕ))
+    → reads ≡ map (λ own. own ∷ []) (range_with_len 0 (length groups))
+    → AreReadsOf c others groups reads
+own_read c others groups reads is bank lists = record {
+  one_each = ap (λ (xs : List (List ℕ)). length xs) is ∙ size;
+  within = λ a. elim (cases_lt a count) [
+    | inl inside ↦ subst (λ (xs : List ℕ). All (λ s. s < count + length others) xs) (sym (here a inside))
+        (one_below a (count + length others) (omega (inside, arith)))
+    | inr past ↦ subst (λ (xs : List ℕ). All (λ s. s < count + length others) xs)
+        (sym (ap (λ (xs : List (List ℕ)). get_or xs a []) is
+        ∙ get_or_past (map (λ own. own ∷ []) (range_with_len 0 count)) a [] (omega (past, size, arith))))
+        (All-nil (λ s. s < count + length others))
+  ];
+  each = λ a free. elim (cases_lt a count) [
+    | inl inside ↦ absurd (free (subst (λ (xs : List ℕ). Contains xs a) (sym (here a inside)) (Contains-head a [])))
+    | inr past ↦ no_tables c groups (map (nets_of_tables c) groups ++ others) a (get_or reads a []) past
+  ];
+}
+  where
+    count : ℕ
+    count = length groups
+
+    size : length (map (λ own. own ∷ []) (range_with_len 0 count)) ≡ count
+    size = length-map-range_with_len (λ own. own ∷ []) 0 count
+
+    here : (a : ℕ) → a < count → get_or reads a [] ≡ a ∷ []
+    here a inside = ap (λ (xs : List (List ℕ)). get_or xs a []) is
+        ∙ get_or-map-range_with_len (λ own. own ∷ []) 0 count a a [] inside (omega arith)

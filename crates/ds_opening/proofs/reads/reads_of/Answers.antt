@@ -1,0 +1,47 @@
+use Rattle.std.proofs.Common.{◌≡◌, ◌∙◌, ◌<◌, ◌≤◌, ◌+◌, [], ℕ, List, length, get_or, map, ◌∷◌, sym, subst, arith}
+use Rattle.std.specs.List.{range_with_len}
+use Rattle.std.proofs.lemmas.List.Elements.{All-weaker}
+use Rattle.ds_base.proofs.Lists.{get_or-default}
+use Rattle.ds_design.specs.Circuit.{Circuit}
+use Rattle.ds_opening.specs.Seen.{AreReadBy, AreReadsOf, IsReadBy}
+use Rattle.ds_opening.proofs.Searched.{are_reads, if_ok, own_read, reads_more}
+use Rattle.ds_opening.proofs.reads.reads_of.Goals as goal
+
+pub loop-own-preserved : goal.loop-own-preserved
+loop-own-preserved c =
+    let d : Circuit = c.args.design.now in
+    let homes : List ℕ = c.in_ok-homes.homes.items in
+    let groups : List (List ℕ) = c.args.groups.now in
+    let slots : ℕ = length groups + length c.args.others.now in
+    let own : ℕ = c.loop-own.own in
+    let by : IsReadBy d homes slots own (get_or groups own []) c.in_ok-read_by.field-0 =
+    subst (λ (xs : List ℕ). IsReadBy d homes slots own xs c.in_ok-read_by.field-0)
+    (c.as_slice.ensures ∙ (c.index-groups-own.is ∙ get_or-default groups own c.index-groups-own.result [] c.loop-own-test.true))
+    (subst (λ (n : ℕ). IsReadBy d homes n own c.as_slice.result.now c.in_ok-read_by.field-0) c.loop-own.invariant.long c.in_ok-read_by.ensures.ok) in
+    record {
+      are = subst (λ (rs : List (List ℕ)). AreReadBy d homes slots (own + 1) groups rs) (sym c.in_ok-push.ensures.items)
+          (reads_more d homes slots own groups c.loop-own.reads.items c.in_ok-read_by.field-0 c.loop-own.invariant.are by);
+      long = c.in_ok-read_by.ensures.same ∙ c.loop-own.invariant.long;
+      unseen = All-weaker (λ s. s ≤ own + 1) (λ s. s < own + 1 + 1) (λ s low. omega (low, arith)) c.read_by.new.seen.items c.in_ok-read_by.ensures.seen;
+    }
+
+pub returns : goal.returns
+returns c =
+    let d : Circuit = c.args.design.now in
+    let homes : List ℕ = c.in_ok-homes.homes.items in
+    let groups : List (List ℕ) = c.args.groups.now in
+    let others : List (List ℕ) = c.args.others.now in
+    let at_end : c.loop-own.own ≡ length groups = omega (c.loop-own-test.false, c.loop-own.auto.own-end, arith) in
+    record {
+      ok = are_reads d c.requires.in_range others groups c.loop-own.reads.items homes c.requires.groups c.in_ok-homes.ensures.ok
+          (subst (λ (n : ℕ). AreReadBy d homes (length groups + length others) n groups c.loop-own.reads.items) at_end c.loop-own.invariant.are);
+    }
+
+pub returns-then-not-are_large : goal.returns-then-not-are_large
+returns-then-not-are_large c = record {
+  ok = if_ok c.own_lists.result
+      (λ v. v.items ≡ map (λ own. own ∷ []) (range_with_len 0 (length c.args.groups.now)))
+      (λ v. AreReadsOf c.args.design.now c.args.others.now c.args.groups.now v.items)
+      (λ v is. own_read c.args.design.now c.args.others.now c.args.groups.now v.items is)
+      c.own_lists.ensures.ok;
+}

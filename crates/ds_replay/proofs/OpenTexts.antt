@@ -1,0 +1,126 @@
+-- The text of a state with the lines of what its open latches show.
+use Rattle.std.proofs.Common.{◌≡◌, ◌∙◌, ℕ, ◌+◌, ◌*◌, ◌<◌, ◌==◌, if◌then◌else◌, Bool, true, false, List, [], ◌∷◌, ◌++◌, Option, Result, Ok, Err, length, get_or, refl, arith, ap, ap₂, sym, subst, inl, inr}
+use Rattle.std.proofs.lemmas.Bool.{cases_eq}
+use Rattle.std.proofs.lemmas.List.{append-nil, get_or_append_left, get_or_push}
+use Rattle.ds_base.specs.Values.{Row}
+use Rattle.ds_marked.specs.Graph.{IsLegal}
+use Rattle.ds_latch.specs.Node.{Split, opening, closing}
+use Rattle.ds_latch.specs.declared.node.Node.{Node}
+use Rattle.ds_latch.specs.declared.node.Node.TheVariants.{In, Out, Master, Slave}
+use Rattle.ds_latch.specs.Plan.{Planned}
+use Rattle.ds_fire.specs.Snapshot.{Snapshot, count_of, graph_of, held_row, is_open, limit_of, split_of}
+use Rattle.ds_fire.specs.Fired.{IsAfter, IsReached, IsSnapshotSound}
+use Rattle.ds_latch.proofs.Spelt.{range_agree}
+use Rattle.ds_fire.proofs.Transparent.{held_is_shown}
+use Rattle.ds_outside.specs.Writes.{GoesOn, Writes}
+use Rattle.ds_outside.proofs.Then.{after_ok}
+use Rattle.ds_rows.specs.Homes.{AreHomes}
+use Rattle.ds_rows.specs.Log.{open_text}
+use Rattle.ds_rows.specs.StateText.{IsStateText}
+use Rattle.ds_rows.specs.declared.homes.Home.{Home}
+use Rattle.ds_replay.specs.OpenLines.{IsShownAt, open_line_of, open_lines, open_pair}
+use Rattle.ds_replay.specs.ReplayText.{IsOpenText, IsReplayText}
+use Rattle.ds_replay.specs.Kept.{IsKeptText, open_part, state_text}
+use Rattle.ds_replay.proofs.Registers.{text_of_kept}
+
+-- one row more
+pub shown_more : (kept : Snapshot) (rows : List Row) (k : ℕ) (row : Row) → length rows ≡ k
+    → ((j : ℕ) → j < k → IsShownAt kept j (get_or rows j [])) → IsShownAt kept k row
+    → (j : ℕ) → j < k + 1 → IsShownAt kept j (get_or (rows ++ row ∷ []) j [])
+shown_more kept rows k row long before here j below =
+    elim (cases_eq j k) [
+      | inl e ↦
+          subst (λ (r : Row). IsShownAt kept j r) (sym (get_or_push rows row [] j (long ∙ sym e)))
+          (subst (λ (n : ℕ). IsShownAt kept n row) (sym e) here)
+      | inr ne ↦
+          subst (λ (r : Row). IsShownAt kept j r) (sym (get_or_append_left rows (row ∷ []) [] j (omega arith)))
+          (before j (omega arith))
+    ]
+
+-- counts that are the same open the same nodes
+module _ (one other : ℕ → ℕ) (same : (v : ℕ) → one v ≡ other v) (shown : Node → Row) where
+  line_agrees : (n : Node) → open_line_of one shown n ≡ open_line_of other shown n
+  line_agrees n =
+      ap₂ (λ (a b : ℕ). if a == b + 1 then open_text n (shown n) else []) (same (opening n)) (same (closing n))
+
+  pub lines_agree : (clusters : ℕ) → open_lines one shown clusters ≡ open_lines other shown clusters
+  lines_agree clusters =
+      ap₂ (λ (a b : List ℕ). a ++ b) (ap₂ (λ (a b : List ℕ). a ++ b) (line_agrees In) (line_agrees Out))
+      (range_agree (open_pair one shown) (open_pair other shown) 0 clusters
+      (λ i below. ap₂ (λ (a b : List ℕ). a ++ b) (line_agrees (Master i)) (line_agrees (Slave i))))
+
+-- a closed node has no line
+pub closed_line : (kept : Snapshot) (n : Node) → is_open kept n ≡ false → open_line_of (count_of kept) (held_row kept) n ≡ []
+closed_line kept n is = ap (λ (test : Bool). if test then open_text n (held_row kept n) else []) is
+
+-- an open one has the line of what it holds
+pub open_line_is : (kept : Snapshot) (n : Node) (row : Row) → is_open kept n ≡ true → row ≡ held_row kept n
+    → open_text n row ≡ open_line_of (count_of kept) (held_row kept) n
+open_line_is kept n row is same =
+    ap (open_text n) same ∙ sym (ap (λ (test : Bool). if test then open_text n (held_row kept n) else []) is)
+
+-- after a failure nothing more is written
+pub none_more : {T E : Type 0} (e : E) (a : Result T E) (w : Option (List ℕ)) (f : ℕ) (text : List ℕ) → a ≡ Err e → GoesOn a (Err e) w w f f text
+none_more {T} {E} e a w f text is =
+    subst (λ (b : Result T E). GoesOn b (Err e) w w f f text) (sym is)
+    (record { on_ok = tt; on_err = (refl, refl, omega arith) })
+
+-- what is written first goes on from nothing
+pub first_more : {T E : Type 0} (x : T) (a b : Result T E) (w0 w1 : Option (List ℕ)) (f0 f1 : ℕ) (text : List ℕ) → a ≡ Ok x → Writes b w0 w1 f0 f1 text → GoesOn a b w0 w1 f0 f1 text
+first_more {T} {E} x a b w0 w1 f0 f1 text is writes =
+    subst (λ (c : Result T E). GoesOn c b w0 w1 f0 f1 text) (sym is) (after_ok writes)
+
+-- behind the text of the state that is kept, the lines of its open nodes
+open_of_kept : (kept : Snapshot) (events : List ℕ) (homes : List Home) (fired most : ℕ)
+    → IsLegal (graph_of kept) (limit_of kept) events → IsAfter kept events → IsSnapshotSound kept → AreHomes (split_of kept) homes
+    → fired ≡ length events → most ≡ length (graph_of kept).events * limit_of kept → IsReached kept → (split_of kept).slack ≡ 0
+    → IsOpenText kept.planned kept.vectors events (state_text kept homes fired most ++ open_lines (count_of kept) (held_row kept) (length (split_of kept).clusters))
+unfolding text_of_kept
+open_of_kept kept events homes fired most legal (now, all, shows) sound are many each reached none = record {
+  stored = state_text kept homes fired most;
+  is_stored = text_of_kept kept events homes fired most legal (now, all, shows) sound are many each;
+  shown = held_row kept;
+  showing = (held_is_shown kept sound reached none now shows).0;
+  spelt = ap (λ (lines : List ℕ). state_text kept homes fired most ++ lines)
+      (sym (lines_agree now.count (count_of kept) shows.counts (held_row kept) (length (split_of kept).clusters)));
+}
+
+-- where they are wanted, they are all of the part, and else nothing is
+pub part_wanted : (transparent : Bool) (kept : Snapshot) → transparent ≡ true
+    → open_part transparent kept ≡ open_lines (count_of kept) (held_row kept) (length (split_of kept).clusters)
+part_wanted transparent kept is =
+    ap (λ (test : Bool). if test then open_lines (count_of kept) (held_row kept) (length (split_of kept).clusters) else []) is
+
+pub part_unwanted : (transparent : Bool) (kept : Snapshot) → transparent ≡ false → open_part transparent kept ≡ []
+part_unwanted transparent kept is =
+    ap (λ (test : Bool). if test then open_lines (count_of kept) (held_row kept) (length (split_of kept).clusters) else []) is
+
+-- with or without them
+replay_of_kept : (transparent : Bool) (kept : Snapshot) (events : List ℕ) (homes : List Home) (fired most : ℕ)
+    → IsLegal (graph_of kept) (limit_of kept) events → IsAfter kept events → IsSnapshotSound kept → AreHomes (split_of kept) homes
+    → fired ≡ length events → most ≡ length (graph_of kept).events * limit_of kept → IsReached kept
+    → (transparent ≡ true → (split_of kept).slack ≡ 0)
+    → IsReplayText transparent kept.planned kept.vectors events (state_text kept homes fired most ++ open_part transparent kept)
+replay_of_kept true kept events homes fired most legal after sound are many each reached none =
+    open_of_kept kept events homes fired most legal after sound are many each reached (none refl)
+replay_of_kept false kept events homes fired most legal after sound are many each reached none =
+    subst (λ (text : List ℕ). IsStateText kept.planned kept.vectors events text) (sym (append-nil (state_text kept homes fired most)))
+    (text_of_kept kept events homes fired most legal after sound are many each)
+
+-- so whatever log led to it
+pub text_is : (transparent : Bool) (kept : Snapshot) (s : Split) (homes : List Home) (fired most : ℕ) → split_of kept ≡ s
+    → (transparent ≡ true → (split_of kept).slack ≡ 0) → AreHomes s homes → most ≡ length (graph_of kept).events * limit_of kept
+    → IsKeptText transparent kept fired (state_text kept homes fired most ++ open_part transparent kept)
+text_is transparent kept s homes fired most split none are each = record {
+  is = λ planned vectors events after.
+      let text : List ℕ = state_text kept homes fired most ++ open_part transparent kept in
+      let plan : kept.planned ≡ planned = after.state.planned_is in
+      let rows : kept.vectors ≡ vectors = after.state.vectors_are in
+      let legal : IsLegal (graph_of kept) (limit_of kept) events =
+      subst (λ (p : Planned). IsLegal p.graph (limit_of kept) events) (sym plan)
+      (subst (λ (vs : List Row). IsLegal planned.graph (length vs) events) (sym rows) after.state.legal) in
+      let homes_are : AreHomes (split_of kept) homes = subst (λ (t : Split). AreHomes t homes) (sym split) are in
+      subst (λ (p : Planned). IsReplayText transparent p vectors events (state_text kept homes fired most ++ open_part transparent kept)) plan
+      (subst (λ (vs : List Row). IsReplayText transparent kept.planned vs events (state_text kept homes fired most ++ open_part transparent kept)) rows
+      (replay_of_kept transparent kept events homes fired most legal after.state.after after.state.sound homes_are after.count each after.state.reached none));
+}

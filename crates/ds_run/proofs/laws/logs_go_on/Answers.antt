@@ -1,0 +1,5 @@
+use Rattle.ds_run.proofs.Ended.{logs_go_on}
+use Rattle.ds_run.proofs.laws.logs_go_on.Goals as goal
+
+pub returns : goal.returns
+returns c = logs_go_on

@@ -1,0 +1,103 @@
+use Rattle.std.proofs.Common.{◌≡◌, ◌∙◌, ◌<◌, ◌+◌, ◌^◌, ℕ, List, length, refl, ap, sym, subst, arith}
+use Rattle.ds_base.specs.Values.{Row}
+use Rattle.ds_latch.specs.Node.{Split}
+use Rattle.ds_latch.specs.Plan.{Planned}
+use Rattle.ds_fabric.specs.Showing.{Recorder}
+use Rattle.ds_run.specs.Layout.{AreValues}
+use Rattle.ds_run.specs.Line.{HasLine}
+use Rattle.ds_run.specs.Summed.{ones_in, ones_of}
+use Rattle.ds_run.proofs.NodeRecords.{has_slaves, out_stored, out_wide}
+use Rattle.ds_run.proofs.Turns.{gathered_is, line_read, outputs_long, outputs_read}
+use Rattle.ds_run.proofs.Summed.{all_folded, none_folded, ones_more, outputs_few, turn_folded}
+use Rattle.ds_run.proofs.sums.sum_turns.Goals as goal
+
+pub loop-k-init : goal.loop-k-init
+loop-k-init c = record {
+  line = c.requires.line;
+  registers = λ values. c.requires.registers ∙ sym values.clocked.starts;
+  ones = λ values. refl;
+  few = omega arith;
+  folded = none_folded c.args.played.now.plan.now.split c.args.played.now.vectors.now.rows
+      c.args.line.now.registers
+      c.args.fold.now c.requires.registers c.requires.fold;
+}
+
+pub row-requires-clause-stored : goal.row-requires-clause-stored
+row-requires-clause-stored c =
+    let stored = out_stored c.args.played.now.plan.now c.args.played.now.vectors.now.rows
+    c.args.played.now.fired.now
+    c.requires.played c.loop-k.k (omega arith) in
+    rw c.new.ensures stored
+
+pub row-requires-clause-length : goal.row-requires-clause-length
+row-requires-clause-length c =
+    let wide = out_wide c.args.played.now.plan.now c.args.played.now.vectors.now.rows
+    c.args.played.now.fired.now
+    c.requires.played in
+    rw c.new.ensures (c.loop-k.invariant.line.outputs ∙ sym wide)
+
+pub overflow_add-ones : goal.overflow_add-ones
+overflow_add-ones c =
+    let long : length c.row.new.into ≡ length c.args.played.now.plan.now.split.circuit.outputs =
+    outputs_long c.args.played.now.plan.now c.args.played.now.vectors.now.rows
+    c.args.played.now.fired.now c.requires.played
+    c.loop-k.k (omega arith) c.new.result c.row.new.into c.new.ensures c.row.ensures in
+    let few : length c.args.played.now.plan.now.split.circuit.outputs < 2 ^ 32 =
+    outputs_few c.args.played.now.plan.now c.args.played.now.vectors.now.rows
+    c.args.played.now.fired.now c.requires.played in
+    omega arith
+
+pub gather-requires-clause-rows : goal.gather-requires-clause-rows
+gather-requires-clause-rows c =
+    let slaves = has_slaves c.args.played.now.plan.now c.args.played.now.vectors.now.rows
+    c.args.played.now.fired.now
+    c.requires.played (c.loop-k.k + 1) (omega arith) in
+    rw c.latches.ensures slaves
+
+pub gather-requires-clause-line : goal.gather-requires-clause-line
+gather-requires-clause-line c =
+    line_read c.args.played.now.plan.now c.args.played.now.vectors.now.rows
+    c.args.played.now.fired.now c.requires.played c.loop-k.k
+    (omega arith) c.latches.result.now c.loop-k.line c.new.result c.row.new.into c.latches.ensures
+    c.loop-k.invariant.line c.new.ensures c.row.ensures
+
+pub loop-k-preserved : goal.loop-k-preserved
+loop-k-preserved c =
+    let p : Planned = c.args.played.now.plan.now in
+    let vectors : List Row = c.args.played.now.vectors.now.rows in
+    let r : Recorder = c.args.played.now.fired.now in
+    let k : ℕ = c.loop-k.k in
+    let t : Split = c.latches.result.now in
+    let below : c.loop-k.k < length c.args.played.now.vectors.now.rows = omega arith in
+    let long : length c.row.new.into ≡ length c.args.played.now.plan.now.split.circuit.outputs =
+    outputs_long p vectors r c.requires.played k below c.new.result c.row.new.into c.new.ensures
+    c.row.ensures in
+    let few : length c.args.played.now.plan.now.split.circuit.outputs < 2 ^ 32 =
+    outputs_few p vectors r c.requires.played in
+    record {
+      line = subst (λ (q : Split). HasLine q c.gather.new.line) c.latches.ensures
+          c.gather.ensures.line;
+      registers = gathered_is p vectors r c.requires.played k below t c.gather.new.line.registers
+          c.latches.ensures c.gather.ensures.gathered;
+      ones = λ values.
+          ap (λ (n : ℕ). n + c.count_ones-ones.result) (c.loop-k.invariant.ones values)
+          ∙ (ap (λ (n : ℕ). ones_in p.split.circuit values.nets k + n)
+          (c.count_ones-ones.ensures.value ∙ ap ones_of (outputs_read p vectors r c.requires.played
+          k below values c.new.result c.row.new.into c.new.ensures c.row.ensures))
+          ∙ sym (ones_more p.split.circuit values.nets k));
+      few = omega arith;
+      folded = turn_folded p vectors r c.requires.played k below t c.new.result c.row.new.into
+          c.loop-k.line.registers c.gather.new.line.registers c.loop-k.fold c.add_line.new.fold
+          c.new.ensures c.row.ensures c.loop-k.invariant.registers c.latches.ensures
+          c.gather.ensures.gathered c.loop-k.invariant.folded
+          c.in_ok-add_line.ensures;
+    }
+
+pub returns : goal.returns
+returns c =
+    let values : AreValues c.args.played.now.plan.now.split c.args.played.now.vectors.now.rows
+    c.args.played.now.fired.now.shown.view.run = c.requires.played.planned.values_are in
+    all_folded c.args.played.now.plan.now c.args.played.now.vectors.now.rows c.loop-k.k
+    c.loop-k.ones
+    c.loop-k.line.registers c.loop-k.fold values.state values.nets (omega arith) values.clocked
+    (c.loop-k.invariant.ones values) c.loop-k.invariant.folded

@@ -1,0 +1,17 @@
+-- What a window of a run leaves on a sink.
+use Rattle.std.specs.Prelude.{◌≡◌, ◌≢◌, ℕ, ◌≤◌, List, Option, Result, Err, IfOk}
+use Rattle.ds_base.specs.Values.{Row}
+use Rattle.ds_latch.specs.Node.{Split}
+use Rattle.ds_outside.specs.Fault.{Rose}
+use Rattle.ds_clocked.specs.Appends.{AppendsLines, AppendsLinesPart}
+use Rattle.ds_run.specs.declared.fault.RunFault.{RunFault}
+use Rattle.ds_run.specs.declared.fault.RunFault.TheVariants.{Memory, Write}
+
+-- what a call promises that writes the lines of a split design, from a turn on, and nothing else
+pub record EndsLines (s : Split) (first : ℕ) (vectors : List Row) (result : Result Row RunFault)
+    (old new : Option (List ℕ)) (before now : ℕ) : Type 0 where
+  pub ok : IfOk result (AppendsLines s.circuit first s.initial vectors old new)
+  pub part : result ≡ Err Write → AppendsLinesPart s.circuit first s.initial vectors old new
+  pub no_memory : result ≢ Err Memory
+  pub never_falls : before ≤ now
+  pub cause : result ≡ Err Write → Rose before now

@@ -1,0 +1,148 @@
+//! The firings of a run, as lines. A log takes the firings of a run as they are known, and counts
+//! how often each event has fired as it writes them.
+ghost use Rattle.std.specs.Prelude.{◌≡◌, ◌<◌, ℕ, List, [], All, IfOk, OnErr, OnOk, length};
+ghost use Rattle.std.specs.Prelude.{replicate};
+ghost use Rattle.ds_marked.specs.Graph.{IsLegal};
+ghost use Rattle.ds_fabric.specs.Showing.{IsFiredInOrder};
+ghost use Rattle.ds_rule.specs.Rule.{tickets};
+ghost use Rattle.ds_rows.specs.Log.{firing_text};
+ghost use Rattle.ds_outside.specs.Writes.{GoesOn};
+ghost use Rattle.ds_run.specs.Left.{IsLogOfRecord};
+ghost use Rattle.ds_run.specs.Logged.{HasLog, IsLogText, IsLonger, WritesLog};
+ghost use Rattle.ds_run.specs.Played.{IsPlayed};
+
+use crate::laws::firings_are_legal;
+use crate::played::Played;
+use ds_base::{EventId, OutOfMemory};
+use ds_fabric::Record;
+use ds_latch::Plan;
+use ds_marked::Counts;
+use ds_outside::{Sink, WriteFault, put};
+use ds_rows::firing_line;
+use std::alloc::Global;
+use std::marker::Model;
+
+/// The firings of a run so far, the first one first. Contracts see their events, and how many
+/// events there is a count for.
+pub struct Log {
+    events: Vec<EventId>,
+    // By which the firings are counted as they are written.
+    counts: Counts,
+}
+
+impl Drop for Log {
+    fn drop(self) {
+        let Log {
+            events: _,
+            counts: _,
+        } = self;
+    }
+}
+
+impl Model for Log {
+    ghost use Rattle.std.specs.Prelude.{length};
+    ghost use Rattle.ds_run.specs.Logged.{Listed};
+
+    ghost Value = { Listed };
+
+    ghost view = { λ log. record { events = log.events.items; kinds = length log.counts } };
+}
+
+impl Log {
+    /// Before the first firing of a plan.
+    pub fn new(alloc: Global, plan: &Plan<'_>) -> Result<Self, OutOfMemory>
+        ensures { IfOk result (λ log. log ≡ record {
+          events = [];
+          kinds = length plan.now.graph.events;
+        }) }
+    {
+        Ok(Log {
+            events: Vec::new(alloc),
+            counts: Counts::zero(alloc, plan.graph().events().len())?,
+        })
+    }
+
+    /// Of a record of firings.
+    pub(crate) fn fired(alloc: Global, plan: &Plan<'_>, fired: &Record) -> Result<Self, OutOfMemory>
+        ensures { IfOk result (IsLogOfRecord plan.now.graph fired.now) }
+    {
+        Ok(Log {
+            events: fired.firings(alloc)?,
+            counts: Counts::zero(alloc, plan.graph().events().len())?,
+        })
+    }
+
+    /// Takes the firings of a run that went to its end, behind those that it has.
+    pub(crate) fn take(&mut self, alloc: Global, played: &Played<'_, '_>) -> Result<(), OutOfMemory>
+        requires played { IsPlayed played.now.plan.now played.now.vectors.now.rows
+            played.now.fired.now }
+        ensures ok { OnOk result (IsLonger played.now.plan.now.graph
+            (length played.now.vectors.now.rows) self.old self.new) }
+        ensures same { OnErr result (self.new ≡ self.old) }
+    {
+        firings_are_legal();
+        let fired = played.fired.firings(alloc)?;
+        self.events.extend_from_slice(fired.as_slice())?;
+        Ok(())
+    }
+
+    /// Writes the line `firings` and a line for each firing, unless a write has failed.
+    pub(crate) fn write<O: Sink>(
+        &mut self,
+        so_far: Result<(), WriteFault>,
+        plan: &Plan<'_>,
+        out: &mut O,
+    ) -> Result<(), WriteFault>
+        requires log { All (λ event. event < length plan.now.graph.events) self.old.events }
+        requires kinds { self.old.kinds ≡ length plan.now.graph.events }
+        ensures writes { (text : List ℕ) × IsLogText plan.now.graph self.old.events text
+            × GoesOn so_far result (O.written out.old) (O.written out.new)
+            (O.faults out.old) (O.faults out.new) text }
+        ensures same { self.new ≡ self.old }
+    {
+        self.counts.begin();
+        let so_far = put(so_far, b"firings\n", out);
+        write_log(so_far, plan, self.events.as_slice(), &mut self.counts, out)
+    }
+}
+
+// Writes a line for each firing, unless a write has failed.
+fn write_log<O: Sink>(
+    so_far: Result<(), WriteFault>,
+    plan: &Plan<'_>,
+    events: &[EventId],
+    counts: &mut Counts,
+    out: &mut O,
+) -> Result<(), WriteFault>
+    requires log { All (λ event. event < length plan.now.graph.events) events.now }
+    requires counts { counts.old ≡ replicate (length plan.now.graph.events) 0 }
+    ensures writes { WritesLog plan.now.graph events.now so_far result
+        (O.written out.old) (O.written out.new) (O.faults out.old) (O.faults out.new) }
+    ensures same_kinds { length counts.new ≡ length counts.old }
+{
+    let mut so_far = so_far;
+    for i in 0..events.len() {
+        let event = events[i];
+        counts.add_one(event);
+        so_far = put_firing(so_far, plan, event, counts.at(event), out);
+    }
+    so_far
+}
+
+// The line of a firing, unless a write has failed.
+fn put_firing<O: Sink>(
+    so_far: Result<(), WriteFault>,
+    plan: &Plan<'_>,
+    event: EventId,
+    turn: u64,
+    out: &mut O,
+) -> Result<(), WriteFault>
+    requires { event < length plan.now.graph.events }
+    ensures { GoesOn so_far result (O.written out.old) (O.written out.new)
+        (O.faults out.old) (O.faults out.new) (firing_text plan.now.graph event turn) }
+{
+    match so_far {
+        Ok(()) => firing_line(plan, event, turn, out),
+        Err(fault) => Err(fault),
+    }
+}

@@ -1,0 +1,62 @@
+//! What a latch has stored, as it is written.
+ghost use Rattle.std.specs.Prelude.{◌≡◌, ◌+◌, ◌*◌, ◌<◌, ◌≤◌, length, map};
+ghost use Rattle.std.specs.List.{range_with_len};
+ghost use Rattle.ds_design.specs.Trace.{values_text};
+ghost use Rattle.ds_outside.specs.Writes.{GoesOn};
+ghost use Rattle.ds_rows.specs.Log.{at_place, value_words};
+ghost use Rattle.ds_rule.specs.Run.{closing};
+ghost use Rattle.ds_rule.specs.Rule.{tickets};
+ghost use Rattle.ds_rule.specs.Words.{width};
+ghost use Rattle.ds_run.specs.Latched.{rows_stored, word_values};
+
+use ds_base::LatchId;
+use ds_fabric::Record;
+use ds_outside::{Sink, WriteFault, put};
+use ds_rows::put_stored;
+
+/// Writes the value at a place of each row that a latch has stored, unless a write has failed;
+/// where there is no row, `-`.
+pub fn put_values<O: Sink>(
+    so_far: Result<(), WriteFault>,
+    fired: &Record,
+    latch: LatchId,
+    place: usize,
+    out: &mut O,
+) -> Result<(), WriteFault>
+    requires near { latch < fired.now.shown.view.run.latches }
+    requires inside { place < 32 * width fired.now.shown.view.run latch }
+    ensures { GoesOn so_far result (O.written out.old) (O.written out.new) (O.faults out.old)
+        (O.faults out.new) (values_text (at_place place (rows_stored fired.now latch))) }
+{
+    let rows = fired.stored(latch);
+    if rows == 0 {
+        return put(so_far, b"-", out);
+    }
+    let mut so_far = so_far;
+    let mut piece = [0; 64];
+    let mut done = 0;
+    'writing: while done < rows {
+        let count = (rows - done).min(64);
+        gather(&mut piece[..count], fired, latch, place / 32, done);
+        so_far = put_stored(so_far, &piece[..count], 1, place % 32, out);
+        done += count;
+    }
+    so_far
+}
+
+// Fills a piece with word i of each stored row, from a row on.
+fn gather(piece: &mut [u64], fired: &Record, latch: LatchId, i: usize, from: usize)
+    requires near { latch < fired.now.shown.view.run.latches }
+    requires inside { i < width fired.now.shown.view.run latch }
+    requires within { from + length piece.old
+        ≤ length (tickets fired.now.shown.view (closing latch)) }
+    requires few { from + length piece.old < 18446744073709551616 }
+    ensures same { length piece.new ≡ length piece.old }
+    ensures value { piece.new ≡ value_words 1
+        (map (word_values fired.now.shown.view.run latch i)
+        (range_with_len (from + 1) (length piece.old))) }
+{
+    for k in 0..piece.len() {
+        piece[k] = fired.word(latch, from + k, i);
+    }
+}

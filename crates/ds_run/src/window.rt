@@ -1,0 +1,177 @@
+//! A window of a run: a plan begun with the registers before it, run on its vectors and written.
+ghost use Rattle.std.specs.Prelude.{◌≡◌, ◌+◌, ◌<◌, ◌≤◌, ◌^◌, length, Err, IfOk, OnErr, OnOk};
+ghost use Rattle.ds_design.specs.Circuit.{columns};
+ghost use Rattle.ds_outside.specs.Fault.{Rose};
+ghost use Rattle.ds_clocked.specs.Appends.{AppendsLines, AppendsLinesPart, WritesLines};
+ghost use Rattle.ds_run.specs.Appends.{EndsLines};
+ghost use Rattle.ds_run.specs.Line.{HasLine};
+ghost use Rattle.ds_run.specs.Logged.{LogGrows};
+ghost use Rattle.ds_run.specs.Played.{IsPlayed};
+
+use crate::fault::RunFault;
+use crate::line::Line;
+use crate::log::Log;
+use crate::played::Played;
+use crate::trace::write_turns;
+use crate::{Workers, run};
+use ds_base::{OutOfMemory, Row3};
+use ds_design::Vectors;
+use ds_fabric::Record;
+use ds_latch::Plan;
+use ds_outside::{Behind, Buffered, Gate, Lent, Sink, WriteFault};
+use std::alloc::Global;
+use std::marker::Brand;
+use std::thread::Threads;
+
+/// A plan begun with the registers before the window, the vectors of the window, and the number of
+/// its first turn in the whole run.
+#[derive(Clone, Copy)]
+pub struct RunWindow<'a, 'n> {
+    pub plan: &'a Plan<'n>,
+    pub vectors: &'a Vectors,
+    pub first: u64,
+}
+
+/// Runs a window by these workers and writes its lines, without the line `end`. Gives the registers
+/// after its last turn, one value per register. Where a log is kept, it takes the firings of the
+/// window. Without vectors nobody runs. After `Memory` nothing is written and the log is as it was,
+/// after `Write` a first part of the lines is written and the log has the firings.
+pub fn write_window<R: Threads + Sync, G: Gate, O: Sink>(
+    alloc: Global,
+    window: &RunWindow<'_, '_>,
+    workers: &Workers<'_, R, G>,
+    log: &mut Option<Log>,
+    out: &mut O,
+) -> Result<Row3, RunFault>
+    requires width { window.now.vectors.now.width
+        ≡ length (columns window.now.plan.now.split.circuit) }
+    requires few { window.now.first + length window.now.vectors.now.rows < 2 ^ 64 }
+    requires jobs { (0 < workers.now.jobs) × (workers.now.jobs ≤ 64) }
+
+    ensures ok { IfOk result (AppendsLines window.now.plan.now.split.circuit window.now.first
+        window.now.plan.now.split.initial window.now.vectors.now.rows
+        (O.written out.old) (O.written out.new)) }
+    ensures ok_row { IfOk result (λ row. length row
+        ≡ length window.now.plan.now.split.circuit.registers) }
+    ensures ok_log { OnOk result (LogGrows window.now.plan.now.graph
+        (length window.now.vectors.now.rows) log.old log.new) }
+
+    // After a fault.
+    ensures part { result ≡ Err RunFault.Write
+        → AppendsLinesPart window.now.plan.now.split.circuit window.now.first
+        window.now.plan.now.split.initial window.now.vectors.now.rows
+        (O.written out.old) (O.written out.new) }
+    ensures same { result ≡ Err RunFault.Memory → O.written out.new ≡ O.written out.old }
+    ensures same_log { result ≡ Err RunFault.Memory → log.new ≡ log.old }
+    ensures back_log { result ≡ Err RunFault.Write → LogGrows window.now.plan.now.graph
+        (length window.now.vectors.now.rows) log.old log.new }
+
+    // When a write failed.
+    ensures never_falls { O.faults out.old ≤ O.faults out.new }
+    ensures cause { result ≡ Err RunFault.Write → Rose (O.faults out.old) (O.faults out.new) }
+{
+    let Ok(mut line) = Line::of(alloc, window.plan.latches()) else {
+        return Err(RunFault::Memory);
+    };
+    if window.vectors.count() == 0 {
+        return Ok(line.registers);
+    }
+    let Ok(fired) = fire(alloc, window, workers, log) else {
+        return Err(RunFault::Memory);
+    };
+    let played = Played {
+        plan: window.plan,
+        vectors: window.vectors,
+        fired: &fired,
+    };
+    write_lines(&played, window.first, line, out)
+}
+
+// Runs a window to its end, and has the log take its firings.
+fn fire<R: Threads + Sync, G: Gate>(
+    alloc: Global,
+    window: &RunWindow<'_, '_>,
+    workers: &Workers<'_, R, G>,
+    log: &mut Option<Log>,
+) -> Result<Record, OutOfMemory>
+    requires width { window.now.vectors.now.width
+        ≡ length (columns window.now.plan.now.split.circuit) }
+    requires jobs { (0 < workers.now.jobs) × (workers.now.jobs ≤ 64) }
+    ensures ok { IfOk result (IsPlayed window.now.plan.now window.now.vectors.now.rows) }
+    ensures ok_log { OnOk result (LogGrows window.now.plan.now.graph
+        (length window.now.vectors.now.rows) log.old log.new) }
+    ensures same { OnErr result (log.new ≡ log.old) }
+{
+    let fired = run(alloc, window.plan, window.vectors, workers)?;
+    let played = Played {
+        plan: window.plan,
+        vectors: window.vectors,
+        fired: &fired,
+    };
+    take_in(alloc, &played, log)?;
+    Ok(fired)
+}
+
+// Has a log, where one is kept, take the firings of a window.
+fn take_in(alloc: Global, played: &Played<'_, '_>, log: &mut Option<Log>) -> Result<(), OutOfMemory>
+    requires played { IsPlayed played.now.plan.now played.now.vectors.now.rows
+        played.now.fired.now }
+    ensures ok { OnOk result (LogGrows played.now.plan.now.graph
+        (length played.now.vectors.now.rows) log.old log.new) }
+    ensures same { OnErr result (log.new ≡ log.old) }
+{
+    match log {
+        Some(log) => log.take(alloc, played),
+        None => Ok(()),
+    }
+}
+
+// Writes the lines of a run from this number on, and gives the registers after it.
+fn write_lines<O: Sink>(
+    played: &Played<'_, '_>,
+    first: u64,
+    line: Line,
+    out: &mut O,
+) -> Result<Row3, RunFault>
+    requires played { IsPlayed played.now.plan.now played.now.vectors.now.rows
+        played.now.fired.now }
+    requires few { first + length played.now.vectors.now.rows < 2 ^ 64 }
+    requires line { HasLine played.now.plan.now.split line }
+    requires registers { line.registers ≡ played.now.plan.now.split.initial }
+    ensures { EndsLines played.now.plan.now.split first played.now.vectors.now.rows result
+        (O.written out.old) (O.written out.new) (O.faults out.old) (O.faults out.new) }
+{
+    let mut line = line;
+    let lent = Lent { sink: out };
+    let (_, result) = lines_behind::<O, Brand>(played, first, &mut line, lent);
+    match result {
+        Ok(()) => Ok(line.registers),
+        Err(_) => Err(RunFault::Write),
+    }
+}
+
+// Writes the lines by way of a buffer, and leaves the registers after them.
+fn lines_behind<'a, O: Sink, B: Behind>(
+    played: &Played<'_, '_>,
+    first: u64,
+    line: &mut Line,
+    behind: Lent<'a, O>,
+) -> (Lent<'a, O>, Result<(), WriteFault>)
+    requires played { IsPlayed played.now.plan.now played.now.vectors.now.rows
+        played.now.fired.now }
+    requires few { first + length played.now.vectors.now.rows < 2 ^ 64 }
+    requires line { HasLine played.now.plan.now.split line.old }
+    requires registers { line.old.registers ≡ played.now.plan.now.split.initial }
+    requires same { behind.sink.ghost_name ≡ B.name }
+    requires before { O.written behind.sink.now ≡ B.before }
+
+    ensures ok { WritesLines result.1 played.now.plan.now.split.circuit first
+        played.now.plan.now.split.initial played.now.vectors.now.rows line.new.registers
+        B.before (O.written result.0.sink.now)
+        (O.faults behind.entry.sink.now) (O.faults result.0.sink.now) }
+    ensures same { result.0.sink.ghost_name ≡ B.name }
+{
+    let mut buffered: Buffered<'a, O, B> = Buffered::new(behind);
+    let so_far = write_turns(played, first, line, &mut buffered);
+    buffered.finish(so_far)
+}

@@ -1,6 +1,0 @@
-use Rattle.std.proofs.Common.{drop}
-use Rattle.ds_series.proofs.Left.{IsLeft}
-use Rattle.ds_series.proofs.run.set_runs.Given as goal
-
-abbrev pub invariant-loop-run : goal.invariant-loop-run
-invariant-loop-run l = IsLeft l.bank l.order l.initial.nets l.nets l.runs (drop l.run-index l.runs)

@@ -1,6 +1,0 @@
-use Rattle.ds_series.specs.Series.{parts_of_lists}
-use Rattle.ds_series.proofs.Between.{AreListed}
-use Rattle.ds_series.proofs.selections.Selections.of.Given as goal
-
-abbrev pub invariant-loop-list : goal.invariant-loop-list
-invariant-loop-list l = AreListed (parts_of_lists l.kinds) l.bank l.lists l.list-index l.order.items l.runs.items l.bounds.items

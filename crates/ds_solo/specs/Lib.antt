@@ -1,2 +1,0 @@
--- In the order in which to read.
-pub mod JobStages

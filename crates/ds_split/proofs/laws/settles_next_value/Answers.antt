@@ -1,0 +1,5 @@
+use Rattle.ds_split.proofs.Settled.{settles_next_value_lem}
+use Rattle.ds_split.proofs.laws.settles_next_value.Goals as goal
+
+pub returns : goal.returns
+returns c = settles_next_value_lem

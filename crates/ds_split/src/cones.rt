@@ -1,0 +1,47 @@
+//! The cones of the nodes that settle.
+ghost use Rattle.std.specs.Prelude.{◌≡◌, IfOk};
+ghost use Rattle.ds_design.specs.InRange.{IsInRange};
+ghost use Rattle.ds_latch.specs.declared.node.Node.{Node};
+ghost use Rattle.ds_latch.specs.Node.{number_of};
+ghost use Rattle.ds_latch.specs.Plan.{IsSplit};
+ghost use Rattle.ds_split.specs.Cones.{AreCones, IsConeAt, IsSettlingAt};
+
+use ds_base::OutOfMemory;
+use ds_latch::{Latches, Node};
+use ds_settle::{Cone, Finder};
+use std::alloc::Global;
+
+/// The cones of OUT, M0, M1, ..
+pub fn cones_of(alloc: Global, latches: &Latches) -> Result<Vec<Cone>, OutOfMemory>
+    requires { IsInRange latches.now.circuit × IsSplit latches.now }
+    ensures ok { IfOk result (λ v. AreCones latches.now v.items) }
+{
+    let mut finder = Finder::of(alloc, latches.netlist())?;
+    let mut cones = Vec::with_capacity(alloc, latches.clusters().len() + 1)?;
+    cones.push(cone_of(alloc, latches, &mut finder, Node::Out)?)?;
+    // The nodes are counted for the fact that there are not too many.
+    let _nodes = latches.nodes();
+    for i in 0..latches.clusters().len() {
+        cones.push(cone_of(alloc, latches, &mut finder, Node::Master(i as u32))?)?;
+    }
+    Ok(cones)
+}
+
+// The cone of a node.
+fn cone_of(
+    alloc: Global,
+    latches: &Latches,
+    finder: &mut Finder,
+    node: Node,
+) -> Result<Cone, OutOfMemory>
+    requires design { IsInRange latches.now.circuit × IsSplit latches.now }
+    requires finder { finder.old ≡ latches.now.circuit }
+    requires node { (n : Node) × IsSettlingAt latches.now n (number_of node) }
+    ensures ok { IfOk result (IsConeAt latches.now (number_of node)) }
+    ensures same { finder.new ≡ finder.old }
+{
+    // The nodes are counted for the fact that there are not too many.
+    let _nodes = latches.nodes();
+    let place = node.latch().index();
+    finder.cone(alloc, latches.bits()[place].as_slice())
+}

@@ -1,2 +1,0 @@
-pub mod OpenTexts
-pub mod Registers

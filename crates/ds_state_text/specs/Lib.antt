@@ -1,4 +1,0 @@
--- In the order in which to read.
-pub mod OpenLines
-pub mod ReplayText
-pub mod Kept

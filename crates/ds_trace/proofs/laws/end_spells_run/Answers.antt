@@ -1,5 +1,0 @@
-use Rattle.ds_trace.proofs.Ended.{end_spells_run}
-use Rattle.ds_trace.proofs.laws.end_spells_run.Goals as goal
-
-pub returns : goal.returns
-returns c = end_spells_run

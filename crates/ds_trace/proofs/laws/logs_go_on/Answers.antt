@@ -1,5 +1,0 @@
-use Rattle.ds_trace.proofs.Ended.{logs_go_on}
-use Rattle.ds_trace.proofs.laws.logs_go_on.Goals as goal
-
-pub returns : goal.returns
-returns c = logs_go_on

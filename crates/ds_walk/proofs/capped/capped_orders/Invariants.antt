@@ -1,6 +1,0 @@
-use Rattle.std.proofs.Common.{◌≡◌, map, take}
-use Rattle.ds_walk.specs.Given.{capped}
-use Rattle.ds_walk.proofs.capped.capped_orders.Given as goal
-
-abbrev pub invariant-loop-order : goal.invariant-loop-order
-invariant-loop-order l = l.few.items ≡ map capped (take l.order-index l.asked)

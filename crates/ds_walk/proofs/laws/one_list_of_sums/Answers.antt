@@ -1,5 +1,0 @@
-use Rattle.ds_walk.proofs.Least.{one_list_of_sums_lem}
-use Rattle.ds_walk.proofs.laws.one_list_of_sums.Goals as goal
-
-pub returns : goal.returns
-returns c = one_list_of_sums_lem
