@@ -121,12 +121,7 @@ AreTold held (Period job) = (held job.net ≢ untold) × (held job.delays ≢ un
 abbrev pub HasWindows : Job → Type 0
 HasWindows (Run job) = job.stop ≡ None
 HasWindows (Clock job) = Unit {0}
-HasWindows (Check net) = ⊥
-HasWindows (Graph job) = ⊥
-HasWindows (Replay job) = ⊥
-HasWindows (Accept job) = ⊥
-HasWindows (Demo job) = ⊥
-HasWindows (Period job) = ⊥
+HasWindows job = ⊥
 
 -- the words are no command line, or that of a job that writes nothing before it has all its text
 abbrev pub WritesLast : List (List ℕ) → Type 0

@@ -1,5 +1,5 @@
 -- What a line adds to what was read before it.
-use Rattle.std.specs.Prelude.{ℕ, Bool, true, false, not, List, [], ◌∷◌, ◌++◌, length, drop, codes}
+use Rattle.std.specs.Prelude.{ℕ, Bool, true, false, not, List, length, drop, codes}
 use Rattle.std.specs.Prelude.{Option, None, Some, Result, Ok, Err, ◌==◌, ◌||◌, ◌&&◌, nat_lt}
 use Rattle.std.specs.Prelude.{if◌then◌else◌}
 use Rattle.std.specs.Str.{bytes_eq}
@@ -82,23 +82,11 @@ declare_all role ps names signals = all_of (declare role ps) names signals
 abbrev pub model_line : List (List ℕ) → State → Result State AstgKind
 model_line words state =
     if state.is_named || not (length words == 2) then Err (BadWord (word_at words 0))
-    else Ok (record {
-      is_named = true;
-      is_open = false;
-      is_marked = state.is_marked;
-      signals = state.signals;
-      places = state.places;
-    })
+    else Ok (record state { is_named = true; is_open = false })
 
 -- with these signals, the graph part closed
 abbrev pub with_signals : State → Declared → State
-with_signals state signals = record {
-  is_named = state.is_named;
-  is_open = false;
-  is_marked = state.is_marked;
-  signals = signals;
-  places = state.places;
-}
+with_signals state signals = record state { is_open = false; signals = signals }
 
 -- a line that declares names as such
 abbrev pub declaration_line : Role → List (List ℕ) → State → Result State AstgKind
@@ -108,33 +96,15 @@ declaration_line role words state =
 
 -- with the graph part open
 abbrev pub with_graph_open : State → State
-with_graph_open state = record {
-  is_named = state.is_named;
-  is_open = true;
-  is_marked = state.is_marked;
-  signals = state.signals;
-  places = state.places;
-}
+with_graph_open state = record state { is_open = true }
 
 -- with these places
 abbrev pub with_places : State → Places → State
-with_places state places = record {
-  is_named = state.is_named;
-  is_open = state.is_open;
-  is_marked = state.is_marked;
-  signals = state.signals;
-  places = places;
-}
+with_places state places = record state { places = places }
 
 -- with these places and a marking, the graph part closed
 abbrev pub with_marking : State → Places → State
-with_marking state places = record {
-  is_named = state.is_named;
-  is_open = false;
-  is_marked = true;
-  signals = state.signals;
-  places = places;
-}
+with_marking state places = record state { is_open = false; is_marked = true; places = places }
 
 -- a line of the graph part
 abbrev pub body_line : ℕ → List (List ℕ) → State → Result State AstgKind

@@ -20,21 +20,11 @@ may_be (Some other) event = other == event
 
 -- a place with this source
 abbrev pub from_event : Place → ℕ → Place
-from_event place event = record {
-  line = place.line;
-  source = Some event;
-  target = place.target;
-  tokens = place.tokens;
-}
+from_event place event = record place { source = Some event }
 
 -- a place with this target
 abbrev pub to_event : Place → ℕ → Place
-to_event place event = record {
-  line = place.line;
-  source = place.source;
-  target = Some event;
-  tokens = place.tokens;
-}
+to_event place event = record place { target = Some event }
 
 -- the place with a number and a name has this source, and no second one
 abbrev pub with_source : ℕ → List ℕ → ℕ → Places → Result Places AstgKind

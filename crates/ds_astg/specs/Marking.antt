@@ -61,12 +61,7 @@ key_in signals text =
 
 -- a place with tokens
 abbrev pub with_tokens : Place → ℕ → Place
-with_tokens place tokens = record {
-  line = place.line;
-  source = place.source;
-  target = place.target;
-  tokens = Some tokens;
-}
+with_tokens place tokens = record place { tokens = Some tokens }
 
 -- a place that stands before and has no entry yet
 abbrev pub is_unmarked : Places → Key → Bool

@@ -1,8 +1,8 @@
 -- What a list of lines stands for: a marked graph, or its first fault.
 use Rattle.std.specs.Prelude.{ℕ, Bool, true, false, not, List, [], ◌∷◌, ◌++◌, Option, None}
-use Rattle.std.specs.Prelude.{Some, Result, Ok, Err, ◌==◌, ◌&&◌, ◌||◌, nat_lt, nat_le, is_some, map}
+use Rattle.std.specs.Prelude.{Some, Result, ◌==◌, ◌&&◌, ◌||◌, nat_lt, nat_le, is_some, map}
 use Rattle.std.specs.Prelude.{if◌then◌else◌}
-use Rattle.ds_lines.specs.First.{unless_fault}
+use Rattle.ds_lines.specs.First.{unless_fault, behind_line}
 use Rattle.ds_lines.specs.Words.{word_at}
 use Rattle.ds_lines.specs.Line.{Line}
 use Rattle.ds_marked.specs.Graph.{Graph}
@@ -19,7 +19,7 @@ use Rattle.ds_astg.specs.declared.role.Role.TheVariants.{Signal, Dummy}
 use Rattle.ds_astg.specs.declared.place.Place.{Place}
 use Rattle.ds_astg.specs.declared.fault.AstgKind.{AstgKind}
 use Rattle.ds_astg.specs.declared.fault.AstgKind.TheVariants.{NotMarkedGraph}
-use Rattle.ds_astg.specs.declared.fault.AstgFault.{AstgFault}
+use Rattle.ds_lines.specs.declared.at.At.{At}
 
 -- nothing is read behind such a line
 abbrev pub ends : Head → Bool
@@ -78,7 +78,7 @@ abbrev pub lacks : Place → Bool
 lacks place = not (is_some place.source && is_some place.target)
 
 -- the first place that lacks a source or a target, on the line where it first stands
-abbrev pub lacking : List Key → List Place → Option AstgFault
+abbrev pub lacking : List Key → List Place → Option (At AstgKind)
 lacking [] places = None
 lacking (key ∷ keys) [] = None
 lacking (key ∷ keys) (place ∷ places) =
@@ -93,23 +93,17 @@ graph_of_parts signals ps = record {
 }
 
 -- what all lines stand for, if these are all
-abbrev pub end_of : State → Result Graph AstgFault
+abbrev pub end_of : State → Result Graph (At AstgKind)
 end_of state = unless_fault (lacking state.places.keys state.places.places)
     (graph_of_parts state.signals state.places)
 
--- goes on behind a line, unless it has a fault
-abbrev pub behind : ℕ → Result State AstgKind → (State → Result Graph AstgFault)
-    → Result Graph AstgFault
-behind line (Ok state) rest = rest state
-behind line (Err kind) rest = Err (record { line = line; kind = kind })
-
 -- what lines stand for, behind others of which this was read
-abbrev pub graph_from : List Line → State → Result Graph AstgFault
+abbrev pub graph_from : List Line → State → Result Graph (At AstgKind)
 graph_from [] state = end_of state
 graph_from (line ∷ lines) state =
     if ends (graph_head_of (word_at line.words 0)) then end_of state
-    else behind line.number (step line state) (graph_from lines)
+    else behind_line line.number (step line state) (graph_from lines)
 
 -- what lines stand for
-abbrev pub graph_of_lines : List Line → Result Graph AstgFault
+abbrev pub graph_of_lines : List Line → Result Graph (At AstgKind)
 graph_of_lines lines = graph_from lines start

@@ -1,8 +1,6 @@
 //! Why a text stands for no graph.
-ghost use Rattle.std.specs.Prelude.{◌≡◌};
-
-use ds_base::{Limit, Name, OutOfMemory};
-use std::alloc::{AllocError, AllocFailed};
+use ds_base::{Limit, Name, Refusal};
+use ds_lines::At;
 
 /// What is wrong with a word of a line.
 #[derive(Drop)]
@@ -25,73 +23,8 @@ pub enum AstgKind {
     TooMany(Limit),
 }
 
-/// The first fault of a text: the number of its line, from 1, and its kind.
-#[derive(Drop)]
-pub struct AstgFault {
-    pub line: u64,
-    pub kind: AstgKind,
-}
+/// The first fault of a text.
+pub type AstgFault = At<AstgKind>;
 
 /// Why a text is not read: its first fault, or want of memory.
-#[derive(Drop)]
-pub enum AstgRefusal {
-    Fault(AstgFault),
-    Memory,
-}
-
-impl From<OutOfMemory> for AstgRefusal {
-    ghost use Rattle.ds_astg.specs.declared.fault.AstgRefusal.TheVariants.{Memory};
-
-    ghost from_gives = { λ _ e. e ≡ Memory };
-
-    fn from(_: OutOfMemory) -> Self {
-        AstgRefusal::Memory
-    }
-}
-
-impl From<AllocError> for AstgRefusal {
-    ghost use Rattle.ds_astg.specs.declared.fault.AstgRefusal.TheVariants.{Memory};
-
-    ghost from_gives = { λ _ e. e ≡ Memory };
-
-    fn from(_: AllocError) -> Self {
-        AstgRefusal::Memory
-    }
-}
-
-/// Why a line is refused, or want of memory.
-#[derive(Drop)]
-pub enum Refusal {
-    Memory,
-    Because(AstgKind),
-}
-
-impl From<AllocError> for Refusal {
-    ghost use Rattle.ds_astg.specs.declared.fault.Refusal.TheVariants.{Memory};
-
-    ghost from_gives = { λ _ e. e ≡ Memory };
-
-    fn from(_: AllocError) -> Self {
-        Refusal::Memory
-    }
-}
-
-impl From<OutOfMemory> for Refusal {
-    ghost use Rattle.ds_astg.specs.declared.fault.Refusal.TheVariants.{Memory};
-
-    ghost from_gives = { λ _ e. e ≡ Memory };
-
-    fn from(_: OutOfMemory) -> Self {
-        Refusal::Memory
-    }
-}
-
-impl<T: Drop> From<AllocFailed<T>> for Refusal {
-    ghost use Rattle.ds_astg.specs.declared.fault.Refusal.TheVariants.{Memory};
-
-    ghost from_gives = { λ _ e. e ≡ Memory };
-
-    fn from(_: AllocFailed<T>) -> Self {
-        Refusal::Memory
-    }
-}
+pub type AstgRefusal = Refusal<AstgFault>;

@@ -1,11 +1,11 @@
 //! The graph of what was read.
 ghost use Rattle.std.specs.Prelude.{◌≡◌, ◌≢◌, ◌≤◌, ◌++◌, AllPairs, None, IfOk, OnOk, length, map};
+ghost use Rattle.ds_base.specs.Refusal.{IsMeant};
 ghost use Rattle.ds_astg.specs.Signals.{count_events};
 ghost use Rattle.ds_astg.specs.Read.{all_events, arc_of as arc_in, end_of, named_events};
 ghost use Rattle.ds_astg.specs.Read.{graph_of_parts, or_zero as or_zero_in};
 ghost use Rattle.ds_astg.specs.Read.{lacking as lacking_in, lacks as lacks_in};
 ghost use Rattle.ds_astg.specs.Sound.{ArePlaces, IsStateSound};
-ghost use Rattle.ds_astg.specs.Steps.{ReadsGraph};
 
 use crate::fault::{AstgFault, AstgKind, AstgRefusal};
 use crate::place::Place;
@@ -13,23 +13,23 @@ use crate::places::Places;
 use crate::role::Role;
 use crate::signals::Signals;
 use crate::state::State;
-use ds_base::{EventId, OutOfMemory, Seq};
-use ds_lines::name;
+use ds_base::{EventId, OutOfMemory, Refusal, Seq};
+use ds_lines::{At, name};
 use ds_marked::{Arc, Event, Kind, Marked};
 use std::alloc::{AllocError, Global};
 
 /// The graph of what was read, where each place has a source and a target.
 pub fn graph_of(alloc: Global, state: &State<'_>) -> Result<Marked, AstgRefusal>
     requires { IsStateSound state.now }
-    ensures { ReadsGraph result (end_of state.now) }
+    ensures { IsMeant result (end_of state.now) }
 {
     match lacking(alloc, &state.places) {
-        Err(_) => return Err(AstgRefusal::Memory),
-        Ok(Some(fault)) => return Err(AstgRefusal::Fault(fault)),
+        Err(_) => return Err(Refusal::Memory),
+        Ok(Some(fault)) => return Err(Refusal::Fault(fault)),
         Ok(None) => (),
     }
     match marked(alloc, &state.signals, &state.places) {
-        Err(_) => Err(AstgRefusal::Memory),
+        Err(_) => Err(Refusal::Memory),
         Ok(graph) => Ok(graph),
     }
 }
@@ -140,7 +140,7 @@ fn lacking(alloc: Global, places: &Places<'_>) -> Result<Option<AstgFault>, Allo
         let place = places.place(i);
         if lacks(place) {
             let kind = AstgKind::NotMarkedGraph(name(alloc, places.name(i))?);
-            return Ok(Some(AstgFault {
+            return Ok(Some(At {
                 line: place.line,
                 kind,
             }));

@@ -1,20 +1,22 @@
 //! A line of the graph part.
 ghost use Rattle.std.specs.Prelude.{◌≡◌, ◌<◌, length, Ok, IfErr, OnOk, drop};
+ghost use Rattle.ds_base.specs.Refusal.{RefusesAs};
 ghost use Rattle.ds_lines.specs.Words.{texts};
 ghost use Rattle.ds_astg.specs.Links.{link as link_in, link_word as link_word_in};
 ghost use Rattle.ds_astg.specs.Links.{link_words as link_words_in, into_place as into_place_in};
 ghost use Rattle.ds_astg.specs.Links.{with_node as with_node_in, with_source as with_source_in};
 ghost use Rattle.ds_astg.specs.Links.{with_target as with_target_in, graph_line as graph_line_in};
 ghost use Rattle.ds_astg.specs.Keys.{node_seen};
-ghost use Rattle.ds_astg.specs.Steps.{IsGraphKind, IsGraphRefusal};
+ghost use Rattle.ds_astg.specs.Steps.{IsGraphRefusal};
 ghost use Rattle.ds_astg.specs.declared.fault.AstgKind.TheVariants.{NotMarkedGraph};
 
-use crate::fault::{AstgKind, Refusal};
+use crate::fault::AstgKind;
 use crate::key::Key;
 use crate::node::{Node, node_of};
 use crate::place::{Place, may_be};
 use crate::places::Places;
 use crate::signals::Signals;
+use ds_base::Refusal;
 use ds_lines::{name, word};
 use std::alloc::Global;
 
@@ -39,28 +41,32 @@ pub fn graph_line<'a>(
     places: &mut Places<'a>,
     line: u64,
     words: &[&'a [u8]],
-) -> Result<(), Refusal>
+) -> Result<(), Refusal<AstgKind>>
     requires { 0 < length words.now }
     ensures ok { OnOk result
         (graph_line_in signals.now line (texts words.now) places.old ≡ Ok places.new) }
     ensures fault { IfErr result
-        (λ e. IsGraphKind e (graph_line_in signals.now line (texts words.now) places.old)) }
+        (λ e. RefusesAs e (graph_line_in signals.now line (texts words.now) places.old)) }
 {
     let first = word(words, 0);
     let node = node_of(alloc, signals, first)?;
     if words.len() < 2 {
-        return Err(Refusal::Because(AstgKind::BadWord(name(alloc, first)?)));
+        return Err(Refusal::Fault(AstgKind::BadWord(name(alloc, first)?)));
     }
     with_node(places, line, node)?;
     link_words(alloc, signals, places, Source { line, node }, words)
 }
 
 // From here on a source stands there.
-fn with_node<'a>(places: &mut Places<'a>, line: u64, source: Node<'a>) -> Result<(), Refusal>
+fn with_node<'a>(
+    places: &mut Places<'a>,
+    line: u64,
+    source: Node<'a>,
+) -> Result<(), Refusal<AstgKind>>
     ensures ok { OnOk result
         (with_node_in line (node_seen source.entry) places.old ≡ Ok places.new) }
     ensures fault { IfErr result
-        (λ e. IsGraphKind e (with_node_in line (node_seen source.entry) places.old)) }
+        (λ e. RefusesAs e (with_node_in line (node_seen source.entry) places.old)) }
 {
     match source {
         Node::Event(_) => Ok(()),
@@ -75,13 +81,13 @@ fn link_words<'a>(
     places: &mut Places<'a>,
     source: Source<'a>,
     words: &[&'a [u8]],
-) -> Result<(), Refusal>
+) -> Result<(), Refusal<AstgKind>>
     requires { 0 < length words.now }
     ensures ok { OnOk result
         (link_words_in signals.now source.entry.line (node_seen source.entry.node)
         (drop 1 (texts words.now)) places.old ≡ Ok places.new) }
     ensures fault { IfErr result
-        (λ e. IsGraphKind e (link_words_in signals.now source.entry.line
+        (λ e. RefusesAs e (link_words_in signals.now source.entry.line
         (node_seen source.entry.node)
         (drop 1 (texts words.now)) places.old)) }
 {
@@ -98,13 +104,13 @@ fn link_word<'a>(
     places: &mut Places<'a>,
     source: Source<'a>,
     word: &'a [u8],
-) -> Result<(), Refusal>
+) -> Result<(), Refusal<AstgKind>>
     ensures ok { OnOk result
         (link_word_in signals.now source.entry.line (node_seen source.entry.node) word.now
         places.old
         ≡ Ok places.new) }
     ensures fault { IfErr result
-        (λ e. IsGraphKind e (link_word_in signals.now source.entry.line
+        (λ e. RefusesAs e (link_word_in signals.now source.entry.line
         (node_seen source.entry.node)
         word.now places.old)) }
 {
@@ -118,12 +124,12 @@ fn link<'a>(
     places: &mut Places<'a>,
     source: Source<'a>,
     target: Node<'a>,
-) -> Result<(), Refusal>
+) -> Result<(), Refusal<AstgKind>>
     ensures ok { OnOk result
         (link_in source.entry.line (node_seen source.entry.node) (node_seen target.entry) places.old
         ≡ Ok places.new) }
     ensures fault { IfErr result
-        (λ e. IsGraphKind e (link_in source.entry.line (node_seen source.entry.node)
+        (λ e. RefusesAs e (link_in source.entry.line (node_seen source.entry.node)
         (node_seen target.entry)
         places.old)) }
 {
@@ -152,9 +158,9 @@ fn into_place<'a>(
     line: u64,
     event: u32,
     name: &'a [u8],
-) -> Result<(), Refusal>
+) -> Result<(), Refusal<AstgKind>>
     ensures ok { OnOk result (into_place_in line event name.now places.old ≡ Ok places.new) }
-    ensures fault { IfErr result (λ e. IsGraphKind e
+    ensures fault { IfErr result (λ e. RefusesAs e
         (into_place_in line event name.now places.old)) }
 {
     places.add(Key::Named(name), Place::named(line))?;
@@ -168,11 +174,11 @@ fn with_source(
     places: &mut Places<'_>,
     named: Numbered<'_>,
     event: u32,
-) -> Result<(), Refusal>
+) -> Result<(), Refusal<AstgKind>>
     ensures ok { OnOk result (with_source_in named.entry.number named.entry.name.now event
         places.old ≡ Ok places.new) }
     ensures fault { IfErr result
-        (λ e. IsGraphKind e (with_source_in named.entry.number named.entry.name.now event
+        (λ e. RefusesAs e (with_source_in named.entry.number named.entry.name.now event
         places.old)) }
 {
     let place = places.place(named.number);
@@ -189,11 +195,11 @@ fn with_target(
     places: &mut Places<'_>,
     named: Numbered<'_>,
     event: u32,
-) -> Result<(), Refusal>
+) -> Result<(), Refusal<AstgKind>>
     ensures ok { OnOk result (with_target_in named.entry.number named.entry.name.now event
         places.old ≡ Ok places.new) }
     ensures fault { IfErr result
-        (λ e. IsGraphKind e (with_target_in named.entry.number named.entry.name.now event
+        (λ e. RefusesAs e (with_target_in named.entry.number named.entry.name.now event
         places.old)) }
 {
     let place = places.place(named.number);
@@ -205,8 +211,8 @@ fn with_target(
 }
 
 // A place is none of a marked graph.
-fn not_marked(alloc: Global, word: &[u8]) -> Result<(), Refusal>
+fn not_marked(alloc: Global, word: &[u8]) -> Result<(), Refusal<AstgKind>>
     ensures { IsGraphRefusal (NotMarkedGraph word.now) result }
 {
-    Err(Refusal::Because(AstgKind::NotMarkedGraph(name(alloc, word)?)))
+    Err(Refusal::Fault(AstgKind::NotMarkedGraph(name(alloc, word)?)))
 }

@@ -1,21 +1,23 @@
 //! The marking: entries between braces.
 ghost use Rattle.std.specs.Prelude.{◌≡◌, Ok, IfErr, IfOk, OnOk, drop, option_map};
+ghost use Rattle.ds_base.specs.Refusal.{RefusesAs};
 ghost use Rattle.ds_lines.specs.Words.{texts};
 ghost use Rattle.ds_astg.specs.Marking.{closed as closed_in, entries_of as entries_in};
 ghost use Rattle.ds_astg.specs.Marking.{is_unmarked as is_unmarked_in};
 ghost use Rattle.ds_astg.specs.Marking.{mark as mark_in, mark_all as mark_all_in};
 ghost use Rattle.ds_astg.specs.Marking.{mark_key as mark_key_in};
 ghost use Rattle.ds_astg.specs.Keys.{key_of};
-ghost use Rattle.ds_astg.specs.Steps.{IsGraphKind, IsGraphRefusal};
+ghost use Rattle.ds_astg.specs.Steps.{IsGraphRefusal};
 ghost use Rattle.ds_astg.specs.declared.fault.AstgKind.TheVariants.{BadMarking};
 
 use crate::entry_key::key_in;
-use crate::fault::{AstgKind, Refusal};
+use crate::fault::AstgKind;
 use crate::key::Key;
 use crate::places::Places;
 use crate::signals::Signals;
 use crate::tokens::tokens_of;
 use crate::word::{before, first_byte, last_byte, rest, without_last};
+use ds_base::Refusal;
 use ds_lines::{name, word};
 use std::alloc::{AllocError, Global};
 
@@ -25,11 +27,11 @@ pub fn mark_all<'a>(
     signals: &Signals<'a>,
     places: &mut Places<'a>,
     entries: &[&'a [u8]],
-) -> Result<(), Refusal>
+) -> Result<(), Refusal<AstgKind>>
     ensures ok { OnOk result
         (mark_all_in signals.now (texts entries.now) places.old ≡ Ok places.new) }
     ensures fault { IfErr result
-        (λ e. IsGraphKind e (mark_all_in signals.now (texts entries.now) places.old)) }
+        (λ e. RefusesAs e (mark_all_in signals.now (texts entries.now) places.old)) }
 {
     for i in 0..entries.len() {
         mark(alloc, signals, places, word(entries, i))?;
@@ -43,9 +45,9 @@ fn mark<'a>(
     signals: &Signals<'a>,
     places: &mut Places<'a>,
     entry: &'a [u8],
-) -> Result<(), Refusal>
+) -> Result<(), Refusal<AstgKind>>
     ensures ok { OnOk result (mark_in signals.now entry.now places.old ≡ Ok places.new) }
-    ensures fault { IfErr result (λ e. IsGraphKind e (mark_in signals.now entry.now places.old)) }
+    ensures fault { IfErr result (λ e. RefusesAs e (mark_in signals.now entry.now places.old)) }
 {
     if entry.len() == 0 {
         return Ok(());
@@ -66,11 +68,11 @@ fn mark_key<'a>(
     entry: &[u8],
     key: Key<'a>,
     tokens: u8,
-) -> Result<(), Refusal>
+) -> Result<(), Refusal<AstgKind>>
     ensures ok { OnOk result
         (mark_key_in entry.now (key_of key.entry) tokens places.old ≡ Ok places.new) }
     ensures fault { IfErr result
-        (λ e. IsGraphKind e (mark_key_in entry.now (key_of key.entry) tokens places.old)) }
+        (λ e. RefusesAs e (mark_key_in entry.now (key_of key.entry) tokens places.old)) }
 {
     if !is_unmarked(places, key) {
         return bad_marking(alloc, entry);
@@ -89,10 +91,10 @@ fn is_unmarked<'a>(places: &Places<'a>, key: Key<'a>) -> bool
 }
 
 /// An entry that is none.
-pub fn bad_marking(alloc: Global, word: &[u8]) -> Result<(), Refusal>
+pub fn bad_marking(alloc: Global, word: &[u8]) -> Result<(), Refusal<AstgKind>>
     ensures { IsGraphRefusal (BadMarking word.now) result }
 {
-    Err(Refusal::Because(AstgKind::BadMarking(name(alloc, word)?)))
+    Err(Refusal::Fault(AstgKind::BadMarking(name(alloc, word)?)))
 }
 
 /// The entries between braces, where these are there.

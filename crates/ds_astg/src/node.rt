@@ -1,12 +1,13 @@
 //! What a word of the graph part stands for.
 ghost use Rattle.std.specs.Prelude.{◌≡◌, Ok, MatchResult};
+ghost use Rattle.ds_base.specs.Refusal.{RefusesAs};
 ghost use Rattle.ds_astg.specs.Node.{node_of_word as node_in};
 ghost use Rattle.ds_astg.specs.Keys.{node_seen};
-ghost use Rattle.ds_astg.specs.Steps.{IsGraphKind};
 
-use crate::fault::{AstgKind, Refusal};
+use crate::fault::AstgKind;
 use crate::signals::Signals;
 use crate::word::{has_reserved, has_slash, is_signed};
+use ds_base::Refusal;
 use ds_lines::name;
 use std::alloc::Global;
 
@@ -22,22 +23,20 @@ pub fn node_of<'a>(
     alloc: Global,
     signals: &Signals<'a>,
     word: &'a [u8],
-) -> Result<Node<'a>, Refusal>
+) -> Result<Node<'a>, Refusal<AstgKind>>
     ensures { MatchResult result
         (λ n. node_in signals.now word.now ≡ Ok (node_seen n))
-        (λ e. IsGraphKind e (node_in signals.now word.now)) }
+        (λ e. RefusesAs e (node_in signals.now word.now)) }
 {
     if has_slash(word) {
-        return Err(Refusal::Because(AstgKind::Instance(name(alloc, word)?)));
+        return Err(Refusal::Fault(AstgKind::Instance(name(alloc, word)?)));
     }
     if has_reserved(word) {
-        return Err(Refusal::Because(AstgKind::BadWord(name(alloc, word)?)));
+        return Err(Refusal::Fault(AstgKind::BadWord(name(alloc, word)?)));
     }
     match signals.event(word) {
         Some(event) => Ok(Node::Event(event)),
-        None if is_signed(word) => Err(Refusal::Because(AstgKind::UnknownSignal(name(
-            alloc, word,
-        )?))),
+        None if is_signed(word) => Err(Refusal::Fault(AstgKind::UnknownSignal(name(alloc, word)?))),
         None => Ok(Node::Place(word)),
     }
 }

@@ -1,15 +1,15 @@
 //! The places of a graph text.
 ghost use Rattle.std.specs.Prelude.{◌≡◌, ◌<◌, ◌≤◌, [], length, Ok, IfErr, IfOk, OnOk};
+ghost use Rattle.ds_base.specs.Refusal.{RefusesAs};
 ghost use Rattle.ds_astg.specs.Keys.{key_of};
 ghost use Rattle.ds_astg.specs.Place.{Places as Kept, has_place, name_at, no_places};
 ghost use Rattle.ds_astg.specs.Place.{number_of_place};
 ghost use Rattle.ds_astg.specs.Place.{with_place, place_at, with_place_at};
-ghost use Rattle.ds_astg.specs.Steps.{IsGraphKind};
 
-use crate::fault::{AstgKind, Refusal};
+use crate::fault::AstgKind;
 use crate::key::{Key, name_of};
 use crate::place::Place;
-use ds_base::{Limit, OutOfMemory};
+use ds_base::{Limit, OutOfMemory, Refusal};
 use indexmap::IndexSet;
 use std::alloc::Global;
 use std::marker::Model;
@@ -114,16 +114,16 @@ impl<'a> Places<'a> {
     }
 
     /// Adds a place where it does not stand before.
-    pub fn add(&mut self, key: Key<'a>, place: Place) -> Result<(), Refusal>
+    pub fn add(&mut self, key: Key<'a>, place: Place) -> Result<(), Refusal<AstgKind>>
         ensures ok { OnOk result (with_place (key_of key.entry) place self.old ≡ Ok self.new) }
         ensures fault { IfErr result
-            (λ e. IsGraphKind e (with_place (key_of key.entry) place self.old)) }
+            (λ e. RefusesAs e (with_place (key_of key.entry) place self.old)) }
     {
         if self.has(key) {
             return Ok(());
         }
         if self.keys.len() as u64 >= Limit::Arcs.most() {
-            return Err(Refusal::Because(AstgKind::TooMany(Limit::Arcs)));
+            return Err(Refusal::Fault(AstgKind::TooMany(Limit::Arcs)));
         }
         self.places.push(place)?;
         self.keys.insert(key)?;

@@ -1,21 +1,21 @@
 //! The signals of a graph text, and dummies among them.
 ghost use Rattle.std.specs.Prelude.{◌≡◌, ◌≢◌, ◌<◌, ◌≤◌, length, false, Ok, Some};
 ghost use Rattle.std.specs.Prelude.{IfErr, IfOk, IfSome, OnOk, AllPairs, option_map, slice_get};
+ghost use Rattle.ds_base.specs.Refusal.{RefusesAs};
 ghost use Rattle.ds_lines.specs.Words.{texts, word_at};
 ghost use Rattle.ds_astg.specs.Signals.{no_names, role_of, with_declared, may_have as may_have_in};
 ghost use Rattle.ds_astg.specs.Line.{declare as declare_in, declare_all as declare_words};
 ghost use Rattle.ds_astg.specs.Line.{may_declare as may_declare_in};
 ghost use Rattle.ds_astg.specs.Node.{event_in, first_number};
 ghost use Rattle.ds_lines.specs.Names.{has_name};
-ghost use Rattle.ds_astg.specs.Steps.{IsGraphKind};
 
 use crate::declaration::Declaration;
-use crate::fault::{AstgKind, Refusal};
+use crate::fault::AstgKind;
 use crate::key::Key;
 use crate::places::Places;
 use crate::role::{Role, may_have};
 use crate::word::{is_signal, name_in};
-use ds_base::{Limit, OutOfMemory};
+use ds_base::{Limit, OutOfMemory, Refusal};
 use ds_lines::{Names, name, word};
 use std::alloc::Global;
 use std::marker::Model;
@@ -93,11 +93,11 @@ impl<'a> Signals<'a> {
         role: Role,
         places: &Places<'a>,
         words: &[&'a [u8]],
-    ) -> Result<(), Refusal>
+    ) -> Result<(), Refusal<AstgKind>>
         ensures ok { OnOk result
             (declare_words role places.now (texts words.now) self.old ≡ Ok self.new) }
         ensures fault { IfErr result
-            (λ e. IsGraphKind e (declare_words role places.now (texts words.now) self.old)) }
+            (λ e. RefusesAs e (declare_words role places.now (texts words.now) self.old)) }
     {
         for i in 0..words.len() {
             self.declare(alloc, role, places, word(words, i))?;
@@ -112,19 +112,19 @@ impl<'a> Signals<'a> {
         role: Role,
         places: &Places<'a>,
         word: &'a [u8],
-    ) -> Result<(), Refusal>
+    ) -> Result<(), Refusal<AstgKind>>
         ensures ok { OnOk result (declare_in role places.now word.now self.old ≡ Ok self.new) }
         ensures fault { IfErr result
-            (λ e. IsGraphKind e (declare_in role places.now word.now self.old)) }
+            (λ e. RefusesAs e (declare_in role places.now word.now self.old)) }
     {
         if !self.may_declare(role, places, word) {
-            return Err(Refusal::Because(AstgKind::BadWord(name(alloc, word)?)));
+            return Err(Refusal::Fault(AstgKind::BadWord(name(alloc, word)?)));
         }
         if self.has(word) {
             return Ok(());
         }
         if self.names.len() as u64 >= Limit::Signals.most() {
-            return Err(Refusal::Because(AstgKind::TooMany(Limit::Signals)));
+            return Err(Refusal::Fault(AstgKind::TooMany(Limit::Signals)));
         }
         self.add(role, word)?;
         Ok(())

@@ -1,20 +1,22 @@
 //! What was read of a graph text.
 ghost use Rattle.std.specs.Prelude.{◌≡◌, ◌<◌, length, Ok, IfErr, OnOk};
+ghost use Rattle.ds_base.specs.Refusal.{RefusesAs};
 ghost use Rattle.ds_lines.specs.Words.{texts};
 ghost use Rattle.ds_astg.specs.Line.{State as Known, start, model_line as model_line_in};
 ghost use Rattle.ds_astg.specs.Line.{declaration_line as declaration_line_in};
 ghost use Rattle.ds_astg.specs.Line.{body_line as body_line_in, marking_line as marking_line_in};
 ghost use Rattle.ds_astg.specs.Line.{step_by};
-ghost use Rattle.ds_astg.specs.Steps.{IsGraphKind, IsGraphRefusal};
+ghost use Rattle.ds_astg.specs.Steps.{IsGraphRefusal};
 ghost use Rattle.ds_astg.specs.declared.fault.AstgKind.TheVariants.{BadWord};
 
-use crate::fault::{AstgKind, Refusal};
+use crate::fault::AstgKind;
 use crate::head::Head;
 use crate::links::graph_line;
 use crate::marking::{bad_marking, entries_of, mark_all};
 use crate::places::Places;
 use crate::role::Role;
 use crate::signals::Signals;
+use ds_base::Refusal;
 use ds_lines::{name, word};
 use std::alloc::Global;
 use std::marker::Model;
@@ -64,11 +66,11 @@ impl<'a> State<'a> {
         head: Head,
         line: u64,
         words: &[&'a [u8]],
-    ) -> Result<(), Refusal>
+    ) -> Result<(), Refusal<AstgKind>>
         requires { 0 < length words.now }
         ensures ok { OnOk result (step_by head line (texts words.now) self.old ≡ Ok self.new) }
         ensures fault { IfErr result
-            (λ e. IsGraphKind e (step_by head line (texts words.now) self.old)) }
+            (λ e. RefusesAs e (step_by head line (texts words.now) self.old)) }
     {
         match head {
             Head::Body => self.body_line(alloc, line, words),
@@ -83,17 +85,22 @@ impl<'a> State<'a> {
             Head::End => Ok(()),
             Head::Unknown => {
                 let command = name(alloc, word(words, 0))?;
-                Err(Refusal::Because(AstgKind::Unsupported(command)))
+                Err(Refusal::Fault(AstgKind::Unsupported(command)))
             }
         }
     }
 
     // A line of the graph part.
-    fn body_line(&mut self, alloc: Global, line: u64, words: &[&'a [u8]]) -> Result<(), Refusal>
+    fn body_line(
+        &mut self,
+        alloc: Global,
+        line: u64,
+        words: &[&'a [u8]],
+    ) -> Result<(), Refusal<AstgKind>>
         requires { 0 < length words.now }
         ensures ok { OnOk result (body_line_in line (texts words.now) self.old ≡ Ok self.new) }
         ensures fault { IfErr result
-            (λ e. IsGraphKind e (body_line_in line (texts words.now) self.old)) }
+            (λ e. RefusesAs e (body_line_in line (texts words.now) self.old)) }
     {
         if !self.is_open {
             return bad_word(alloc, word(words, 0));
@@ -103,10 +110,10 @@ impl<'a> State<'a> {
     }
 
     // A line that names the model.
-    fn model_line(&mut self, alloc: Global, words: &[&'a [u8]]) -> Result<(), Refusal>
+    fn model_line(&mut self, alloc: Global, words: &[&'a [u8]]) -> Result<(), Refusal<AstgKind>>
         requires { 0 < length words.now }
         ensures ok { OnOk result (model_line_in (texts words.now) self.old ≡ Ok self.new) }
-        ensures fault { IfErr result (λ e. IsGraphKind e
+        ensures fault { IfErr result (λ e. RefusesAs e
             (model_line_in (texts words.now) self.old)) }
     {
         if self.is_named || words.len() != 2 {
@@ -123,12 +130,12 @@ impl<'a> State<'a> {
         alloc: Global,
         role: Role,
         words: &[&'a [u8]],
-    ) -> Result<(), Refusal>
+    ) -> Result<(), Refusal<AstgKind>>
         requires { 0 < length words.now }
         ensures ok { OnOk result
             (declaration_line_in role (texts words.now) self.old ≡ Ok self.new) }
         ensures fault { IfErr result
-            (λ e. IsGraphKind e (declaration_line_in role (texts words.now) self.old)) }
+            (λ e. RefusesAs e (declaration_line_in role (texts words.now) self.old)) }
     {
         self.signals
             .declare_all(alloc, role, &self.places, &words[1..])?;
@@ -137,10 +144,10 @@ impl<'a> State<'a> {
     }
 
     // The marking.
-    fn marking_line(&mut self, alloc: Global, words: &[&'a [u8]]) -> Result<(), Refusal>
+    fn marking_line(&mut self, alloc: Global, words: &[&'a [u8]]) -> Result<(), Refusal<AstgKind>>
         requires { 0 < length words.now }
         ensures ok { OnOk result (marking_line_in (texts words.now) self.old ≡ Ok self.new) }
-        ensures fault { IfErr result (λ e. IsGraphKind e
+        ensures fault { IfErr result (λ e. RefusesAs e
             (marking_line_in (texts words.now) self.old)) }
     {
         let command = word(words, 0);
@@ -160,8 +167,8 @@ impl<'a> State<'a> {
 }
 
 // A word that is none.
-fn bad_word(alloc: Global, word: &[u8]) -> Result<(), Refusal>
+fn bad_word(alloc: Global, word: &[u8]) -> Result<(), Refusal<AstgKind>>
     ensures { IsGraphRefusal (BadWord word.now) result }
 {
-    Err(Refusal::Because(AstgKind::BadWord(name(alloc, word)?)))
+    Err(Refusal::Fault(AstgKind::BadWord(name(alloc, word)?)))
 }

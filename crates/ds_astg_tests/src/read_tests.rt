@@ -1,7 +1,8 @@
 //! Texts that are read.
 ghost use Rattle.std.specs.Prelude.{◌≡◌};
 
-use ds_astg::{AstgKind, AstgRefusal, read};
+use ds_astg::{AstgKind, read};
+use ds_base::Refusal;
 use ds_lines::{LinesFault, lines};
 use ds_marked::Kind;
 use std::alloc::{AllocError, Global};
@@ -12,8 +13,8 @@ fn fault_line(alloc: Global, text: &[u8]) -> Result<u64, LinesFault> {
     let lines = lines(alloc, text)?;
     match read(alloc, &lines) {
         Ok(_) => Ok(0),
-        Err(AstgRefusal::Fault(fault)) => Ok(fault.line),
-        Err(AstgRefusal::Memory) => Err(LinesFault::Memory),
+        Err(Refusal::Fault(fault)) => Ok(fault.line),
+        Err(Refusal::Memory) => Err(LinesFault::Memory),
     }
 }
 
@@ -75,11 +76,11 @@ fn has_fault(
     let lines = lines(alloc, text)?;
     match read(alloc, &lines) {
         Ok(_) => Ok(false),
-        Err(AstgRefusal::Fault(fault)) => {
+        Err(Refusal::Fault(fault)) => {
             let (is, of) = said(&fault.kind);
             Ok(fault.line == line && is == kind && of == word)
         }
-        Err(AstgRefusal::Memory) => Err(LinesFault::Memory),
+        Err(Refusal::Memory) => Err(LinesFault::Memory),
     }
 }
 

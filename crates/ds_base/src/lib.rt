@@ -8,7 +8,7 @@
 //! `Name` is one of bytes. `Limit` says how many of what there may be.
 //!
 //! What takes memory answers `OutOfMemory` where none is found, and `Seq::push` hands the item back
-//! then; when that is, nothing promises.
+//! then; when that is, nothing promises. A `Refusal` is a fault, or want of memory.
 //!
 //! A row to work in that remembers what it holds. Who computes rows of nets works in a row for all
 //! of them. A `Scratch` is such a row, and beside it a turn for each slot: a slot is some of the
@@ -33,6 +33,7 @@
 mod list;
 mod memory;
 mod number;
+mod refusal;
 mod row3;
 mod scratch;
 mod value;
@@ -40,6 +41,7 @@ mod value;
 pub use list::Seq;
 pub use memory::OutOfMemory;
 pub use number::{ArcId, EventId, LatchId, Limit, Mode, NetId, RegId};
+pub use refusal::Refusal;
 pub use row3::{Row3, words_of};
 pub use scratch::Scratch;
 pub use value::Value;

@@ -2,14 +2,14 @@
 use Rattle.std.proofs.Common.{◌≡◌, ℕ, Bool, true, false}
 use Rattle.std.proofs.Common.{not, List, [], ◌∷◌, Option, None, Some}
 use Rattle.std.proofs.Common.{refl, inl, inr, ◌⊎◌, ◌&&◌, ◌||◌}
-use Rattle.ds_lines.specs.First.{where_true, first_of}
+use Rattle.ds_lines.specs.First.{where_true, first_of, fault_or}
 use Rattle.ds_lines.specs.Words.{word_at}
-use Rattle.ds_blif.specs.State.{State, own_fault, fault_by, line_fault_or}
+use Rattle.ds_blif.specs.State.{State, own_fault, fault_by}
 use Rattle.ds_blif.specs.State.{is_unknown, wants_model}
 use Rattle.ds_blif.specs.declared.head.Head.{Head}
 use Rattle.ds_blif.specs.declared.fault.BlifKind.{BlifKind}
 use Rattle.ds_blif.specs.declared.fault.BlifKind.TheVariants.{Unsupported, NoModel}
-use Rattle.ds_blif.specs.declared.fault.BlifFault.{BlifFault}
+use Rattle.ds_lines.specs.declared.at.At.{At}
 
 -- where no kind holds
 pub first_none : (kind : Option BlifKind) (kinds : List (Option BlifKind))
@@ -59,12 +59,12 @@ or_right true b is = absurd (cc)
 or_right false b is = is
 
 -- where no line has a fault
-pub line_none : (kind : Option BlifKind) (number : ℕ) (rest : Option BlifFault)
-    → line_fault_or kind number rest ≡ None → kind ≡ None
+pub line_none : (kind : Option BlifKind) (number : ℕ) (rest : Option (At BlifKind))
+    → fault_or kind number rest ≡ None → kind ≡ None
 line_none None number rest is = refl
 line_none (Some kind) number rest is = absurd (cc)
 
-pub lines_none : (kind : Option BlifKind) (number : ℕ) (rest : Option BlifFault)
-    → line_fault_or kind number rest ≡ None → rest ≡ None
+pub lines_none : (kind : Option BlifKind) (number : ℕ) (rest : Option (At BlifKind))
+    → fault_or kind number rest ≡ None → rest ≡ None
 lines_none None number rest is = is
 lines_none (Some kind) number rest is = absurd (cc)

@@ -20,13 +20,14 @@ use Rattle.ds_blif.specs.Text.{models_of_text}
 use Rattle.ds_blif.specs.declared.head.Head.{Head}
 use Rattle.ds_blif.specs.declared.head.Head.TheVariants.{Row, Names, Model, Inputs, Outputs, Clock}
 use Rattle.ds_blif.specs.declared.head.Head.TheVariants.{Latch, Subckt, End, Skipped, Unknown}
-use Rattle.ds_blif.specs.declared.fault.BlifFault.{BlifFault}
+use Rattle.ds_lines.specs.declared.at.At.{At}
 use Rattle.ds_blif.proofs.First.{fault_from, fault_from_is}
 use Rattle.ds_blif.proofs.Distinct.{AreNew, distinct_from_new}
 use Rattle.ds_blif.proofs.NoFault.{own_none}
 use Rattle.ds_blif.proofs.NoFault.{line_none, lines_none}
 use Rattle.ds_blif.proofs.PartsFit.{RowsFit, no_rows, row_fits, table_fits, latch_fits}
 use Rattle.ds_blif.proofs.PartsFit.{use_fits, name_new}
+use Rattle.ds_blif.specs.declared.fault.BlifKind.{BlifKind}
 
 -- parts that are well formed behind lines that leave this open
 record Follows (state : State) (parts : Parts) : Type 0 where
@@ -130,12 +131,12 @@ well_formed lines none =
       parts = All-from_recursion _ (models_of lines) f.models;
     }
 
-read_none : (fault : Option BlifFault) (all models : List BlifModel)
+read_none : (fault : Option (At BlifKind)) (all models : List BlifModel)
     → unless_fault fault all ≡ Ok models → fault ≡ None
 read_none None all models is = refl
 read_none (Some fault) all models is = absurd (cc)
 
-read_models : (fault : Option BlifFault) (all models : List BlifModel)
+read_models : (fault : Option (At BlifKind)) (all models : List BlifModel)
     → unless_fault fault all ≡ Ok models → all ≡ models
 read_models None all models is = cc
 read_models (Some fault) all models is = absurd (cc)

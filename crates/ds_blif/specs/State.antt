@@ -1,7 +1,7 @@
 -- What the lines before a line leave open, and the first fault of a list of lines.
-use Rattle.std.specs.Prelude.{◌≡◌, ℕ, ◌-◌, Bool, true, false, not, List, [], ◌∷◌, ◌++◌, length}
+use Rattle.std.specs.Prelude.{ℕ, ◌-◌, Bool, true, false, not, List, [], ◌∷◌, ◌++◌, length}
 use Rattle.std.specs.Prelude.{Option, None, Some, ◌&&◌}
-use Rattle.ds_lines.specs.First.{where_true, first_of}
+use Rattle.ds_lines.specs.First.{where_true, first_of, fault_or}
 use Rattle.ds_lines.specs.Words.{word_at}
 use Rattle.ds_lines.specs.Line.{Line}
 use Rattle.ds_blif.specs.Head.{head_of}
@@ -11,11 +11,7 @@ use Rattle.ds_blif.specs.Fault.{names_fault, subckt_fault, model_fault}
 use Rattle.ds_blif.specs.declared.head.Head.{Head}
 use Rattle.ds_blif.specs.declared.head.Head.TheVariants.{Row, Names, Model}
 use Rattle.ds_blif.specs.declared.head.Head.TheVariants.{Latch, Subckt, End, Skipped, Unknown}
-use Rattle.ds_blif.specs.declared.fault.BlifFault.{BlifFault}
-use Rattle.ds_blif.specs.declared.fault.BlifRefusal.{BlifRefusal}
-use Rattle.ds_blif.specs.declared.fault.BlifRefusal.TheVariants.{Memory as NoMemory, Fault}
-use Rattle.ds_blif.specs.declared.fault.Refusal.{Refusal}
-use Rattle.ds_blif.specs.declared.fault.Refusal.TheVariants.{Memory, Because}
+use Rattle.ds_lines.specs.declared.at.At.{At}
 use Rattle.ds_blif.specs.declared.fault.BlifKind.{BlifKind}
 use Rattle.ds_blif.specs.declared.fault.BlifKind.TheVariants.{Unsupported, NoModel}
 
@@ -103,11 +99,6 @@ fault_by head state words = first_of (
 abbrev pub fault_in : State → List (List ℕ) → Option BlifKind
 fault_in state words = fault_by (head_of (word_at words 0)) state words
 
--- a refusal gives this kind, unless memory was wanted
-abbrev pub IsKind : Refusal → Option BlifKind → Type 0
-IsKind Memory fault = Unit {0}
-IsKind (Because kind) fault = fault ≡ Some kind
-
 -- what lines leave open, the nearest line first
 abbrev pub state_of : List Line → State
 state_of [] = before_lines
@@ -118,23 +109,13 @@ abbrev pub fault_of_line : List Line → Line → Option BlifKind
 fault_of_line earlier line = fault_in (state_of earlier) line.words
 
 -- the fault at the end of a text: it has no model
-abbrev pub end_fault : List (List ℕ) → Option BlifFault
+abbrev pub end_fault : List (List ℕ) → Option (At BlifKind)
 end_fault [] = Some (record { line = 1; kind = NoModel })
 end_fault (model ∷ models) = None
 
--- a fault of this line, else a fault behind it
-abbrev pub line_fault_or : Option BlifKind → ℕ → Option BlifFault → Option BlifFault
-line_fault_or None number rest = rest
-line_fault_or (Some kind) number rest = Some (record { line = number; kind = kind })
-
 -- the first fault of lines after these, the nearest first
-abbrev pub first_fault : List Line → List Line → Option BlifFault
+abbrev pub first_fault : List Line → List Line → Option (At BlifKind)
 first_fault earlier [] = end_fault (state_of earlier).models
-first_fault earlier (line ∷ lines) = line_fault_or (fault_of_line earlier line) line.number
+first_fault earlier (line ∷ lines) = fault_or (fault_of_line earlier line) line.number
     (first_fault (line
     ∷ earlier) lines)
-
--- a refusal of a text is this fault, unless memory was wanted
-abbrev pub IsFirstBlifFault : BlifRefusal → Option BlifFault → Type 0
-IsFirstBlifFault NoMemory fault = Unit {0}
-IsFirstBlifFault (Fault first) fault = fault ≡ Some first

@@ -1,13 +1,15 @@
 //! The first fault of a list of lines.
 ghost use Rattle.std.specs.Prelude.{◌≡◌, ◌<◌, None, [], length, MatchResult};
+ghost use Rattle.ds_base.specs.Refusal.{TellsFault};
+ghost use Rattle.ds_lines.specs.First.{fault_or};
 ghost use Rattle.ds_lines.specs.Line.{line_or_none};
-ghost use Rattle.ds_blif.specs.State.{State as Before, first_fault, fault_in, line_fault_or, after};
-ghost use Rattle.ds_blif.specs.State.{IsFirstBlifFault};
+ghost use Rattle.ds_blif.specs.State.{State as Before, first_fault, fault_in, after};
 
-use crate::fault::{BlifFault, BlifKind, BlifRefusal, Refusal};
+use crate::fault::{BlifKind, BlifRefusal};
 use crate::state::{State, initial};
 use crate::step::step;
-use ds_lines::Lines;
+use ds_base::Refusal;
+use ds_lines::{At, Lines, on_line};
 use std::alloc::Global;
 
 // Goes on to the state behind a line, or tells the fault of the line.
@@ -21,23 +23,19 @@ fn check_line<'a>(
     ensures { MatchResult result
         (λ _. (fault_in state.old (line_or_none lines.now i).words ≡ None) × (state.new ≡ after
         (line_or_none lines.now i).words state.old))
-        (λ e. IsFirstBlifFault e (line_fault_or
+        (λ e. TellsFault e (fault_or
         (fault_in state.old (line_or_none lines.now i).words)
         (line_or_none lines.now i).number None)) }
 {
     match step(alloc, state, lines.line(i)) {
         Ok(()) => Ok(()),
-        Err(Refusal::Memory) => Err(BlifRefusal::Memory),
-        Err(Refusal::Because(kind)) => {
-            let line = lines.number(i);
-            Err(BlifRefusal::Fault(BlifFault { line, kind }))
-        }
+        Err(why) => Err(on_line(lines.number(i), why)),
     }
 }
 
 /// Whether the lines are free of faults.
 pub fn check<'a>(alloc: Global, lines: &Lines<'a>) -> Result<(), BlifRefusal>
-    ensures { MatchResult result (λ _. first_fault [] lines.now ≡ None) (λ e. IsFirstBlifFault e
+    ensures { MatchResult result (λ _. first_fault [] lines.now ≡ None) (λ e. TellsFault e
         (first_fault [] lines.now)) }
 {
     let mut state: State<'a> = initial(alloc);
@@ -45,7 +43,7 @@ pub fn check<'a>(alloc: Global, lines: &Lines<'a>) -> Result<(), BlifRefusal>
         check_line(alloc, &mut state, lines, i)?;
     }
     if state.models.len() == 0 {
-        Err(BlifRefusal::Fault(BlifFault {
+        Err(Refusal::Fault(At {
             line: 1,
             kind: BlifKind::NoModel,
         }))

@@ -1,8 +1,6 @@
 //! Why a text stands for no models.
-ghost use Rattle.std.specs.Prelude.{◌≡◌};
-
-use ds_base::{Limit, Name, OutOfMemory};
-use std::alloc::AllocError;
+use ds_base::{Limit, Name, Refusal};
+use ds_lines::At;
 
 /// What is wrong with a line, in the order in which the kinds are looked for.
 #[derive(Drop)]
@@ -30,63 +28,8 @@ pub enum BlifKind {
     MixedRows,
 }
 
-/// The first fault of a text: the number of its line, from 1, and its kind.
-#[derive(Drop)]
-pub struct BlifFault {
-    pub line: u64,
-    pub kind: BlifKind,
-}
+/// The first fault of a text.
+pub type BlifFault = At<BlifKind>;
 
 /// Why a text is not read: its first fault, or want of memory.
-#[derive(Drop)]
-pub enum BlifRefusal {
-    Fault(BlifFault),
-    Memory,
-}
-
-impl From<AllocError> for BlifRefusal {
-    ghost use Rattle.ds_blif.specs.declared.fault.BlifRefusal.TheVariants.{Memory};
-
-    ghost from_gives = { λ _ e. e ≡ Memory };
-
-    fn from(_: AllocError) -> Self {
-        BlifRefusal::Memory
-    }
-}
-
-impl From<OutOfMemory> for BlifRefusal {
-    ghost use Rattle.ds_blif.specs.declared.fault.BlifRefusal.TheVariants.{Memory};
-
-    ghost from_gives = { λ _ e. e ≡ Memory };
-
-    fn from(_: OutOfMemory) -> Self {
-        BlifRefusal::Memory
-    }
-}
-
-/// Why a line is refused, or want of memory.
-#[derive(Drop)]
-pub enum Refusal {
-    Memory,
-    Because(BlifKind),
-}
-
-impl From<AllocError> for Refusal {
-    ghost use Rattle.ds_blif.specs.declared.fault.Refusal.TheVariants.{Memory};
-
-    ghost from_gives = { λ _ e. e ≡ Memory };
-
-    fn from(_: AllocError) -> Self {
-        Refusal::Memory
-    }
-}
-
-impl From<OutOfMemory> for Refusal {
-    ghost use Rattle.ds_blif.specs.declared.fault.Refusal.TheVariants.{Memory};
-
-    ghost from_gives = { λ _ e. e ≡ Memory };
-
-    fn from(_: OutOfMemory) -> Self {
-        Refusal::Memory
-    }
-}
+pub type BlifRefusal = Refusal<BlifFault>;

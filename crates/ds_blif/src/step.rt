@@ -1,20 +1,21 @@
 //! One line after the lines before it.
 ghost use Rattle.std.specs.Prelude.{◌≡◌, ◌≢◌, ◌<◌, None, true, length, IfOk, MatchResult};
 ghost use Rattle.std.specs.Prelude.{option_map};
+ghost use Rattle.ds_base.specs.Refusal.{TellsFault};
 ghost use Rattle.ds_lines.specs.Words.{texts};
 ghost use Rattle.ds_blif.specs.Fault.{names_fault as names_fault_in};
-ghost use Rattle.ds_blif.specs.State.{State as Before, IsKind, own_fault as own_fault_in, fault_by};
+ghost use Rattle.ds_blif.specs.State.{State as Before, own_fault as own_fault_in, fault_by};
 ghost use Rattle.ds_blif.specs.State.{fault_in, after_head, after};
 ghost use Rattle.ds_blif.specs.declared.head.Head.TheVariants.{Model as ModelHead};
 
-use crate::fault::{BlifKind, Refusal};
+use crate::fault::BlifKind;
 use crate::head::{Head, head_of};
 use crate::latch::latch_fault;
 use crate::model_names::add_model;
 use crate::row::row_fault;
 use crate::state::{State, first_after, open_after, table_after, wants_model};
 use crate::subckt::subckt_fault;
-use ds_base::{Limit, OutOfMemory};
+use ds_base::{Limit, OutOfMemory, Refusal};
 use ds_lines::{name, word};
 use std::alloc::Global;
 
@@ -85,12 +86,16 @@ fn go_on<'a>(head: Head, state: &mut State<'a>, words: &[&'a [u8]])
 }
 
 // A model's head.
-fn model_step<'a>(alloc: Global, state: &mut State<'a>, words: &[&'a [u8]]) -> Result<(), Refusal>
+fn model_step<'a>(
+    alloc: Global,
+    state: &mut State<'a>,
+    words: &[&'a [u8]],
+) -> Result<(), Refusal<BlifKind>>
     requires some { 0 < length words.now }
     ensures { MatchResult result
         (λ _. (fault_by ModelHead state.old (texts words.now) ≡ None) × (state.new ≡ after_head
         ModelHead (texts words.now) state.old))
-        (λ e. IsKind e (fault_by ModelHead state.old (texts words.now))) }
+        (λ e. TellsFault e (fault_by ModelHead state.old (texts words.now))) }
 {
     match add_model(alloc, &mut state.models, words) {
         Ok(()) => {
@@ -104,12 +109,16 @@ fn model_step<'a>(alloc: Global, state: &mut State<'a>, words: &[&'a [u8]]) -> R
 }
 
 /// Goes on to the state behind a line, or tells the fault of the line.
-pub fn step<'a>(alloc: Global, state: &mut State<'a>, words: &[&'a [u8]]) -> Result<(), Refusal>
+pub fn step<'a>(
+    alloc: Global,
+    state: &mut State<'a>,
+    words: &[&'a [u8]],
+) -> Result<(), Refusal<BlifKind>>
     requires { 0 < length words.now }
     ensures { MatchResult result
         (λ _. (fault_in state.old (texts words.now) ≡ None) × (state.new ≡ after
         (texts words.now) state.old))
-        (λ e. IsKind e (fault_in state.old (texts words.now))) }
+        (λ e. TellsFault e (fault_in state.old (texts words.now))) }
 {
     let head = head_of(word(words, 0));
     if head == Head::Model {
@@ -117,7 +126,7 @@ pub fn step<'a>(alloc: Global, state: &mut State<'a>, words: &[&'a [u8]]) -> Res
     }
     match line_fault(alloc, head, state, words) {
         Err(OutOfMemory) => Err(Refusal::Memory),
-        Ok(Some(kind)) => Err(Refusal::Because(kind)),
+        Ok(Some(kind)) => Err(Refusal::Fault(kind)),
         Ok(None) => {
             go_on(head, state, words);
             Ok(())

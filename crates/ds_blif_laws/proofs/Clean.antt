@@ -2,7 +2,7 @@
 use Rattle.std.proofs.Common.{◌≡◌, ℕ, zero, suc, ◌+◌, ◌-◌, ◌≤◌, Bool, true, false, List, [], ◌∷◌, ◌++◌, map, length, Option, None, Some, Ok, codes, refl, ap, ◌∙◌, arith, append_assoc, nat_lt, ◌==◌, length-append}
 use Rattle.std.specs.List.{AllByRecursion}
 use Rattle.std.proofs.lemmas.Bool.{le-ltb, eq-eqb}
-use Rattle.ds_lines.specs.First.{first_of, unless_fault}
+use Rattle.ds_lines.specs.First.{first_of, unless_fault, fault_or}
 use Rattle.ds_lines.specs.Words.{word_at}
 use Rattle.ds_lines.specs.Line.{Line, lines_of}
 use Rattle.ds_lines.specs.Print.{numbered_lines, text_of, IsPlain}
@@ -10,7 +10,7 @@ use Rattle.ds_lines.proofs.Printed.{lines_of-text_of}
 use Rattle.ds_blif.specs.Head.{head_of}
 use Rattle.ds_blif.specs.Form.{is_row_form, is_latch_form, is_level_latch, has_bad_init, output_of, is_init}
 use Rattle.ds_blif.specs.Fault.{names_fault, latch_fault, subckt_fault, differs}
-use Rattle.ds_blif.specs.State.{State, after_head, fault_by, line_fault_or, end_fault, first_after, first_fault}
+use Rattle.ds_blif.specs.State.{State, after_head, fault_by, end_fault, first_after, first_fault}
 use Rattle.ds_blif.specs.Parts.{Parts, models_of}
 use Rattle.ds_blif.specs.Text.{models_of_text}
 use Rattle.ds_blif_laws.specs.Print.{models_at_lines, bit_word, words_of_row, part_words, command_words, model_words, type_words, pair_word}
@@ -18,7 +18,7 @@ use Rattle.ds_blif_laws.specs.Printable.{IsPlane, IsTable, IsLatch, IsUse, IsPri
 use Rattle.ds_blif.specs.declared.head.Head.{Head}
 use Rattle.ds_blif.specs.declared.head.Head.TheVariants.{Row, Names, Model, Inputs as InputsHead, Outputs as OutputsHead, Clock as ClockHead, Latch as LatchHead, Subckt as SubcktHead, End}
 use Rattle.ds_blif.specs.declared.fault.BlifKind.{BlifKind}
-use Rattle.ds_blif.specs.declared.fault.BlifFault.{BlifFault}
+use Rattle.ds_lines.specs.declared.at.At.{At}
 use Rattle.ds_design.specs.declared.design.Edge.{Edge}
 use Rattle.ds_design.specs.declared.design.Edge.TheVariants.{Rising, Falling}
 use Rattle.ds_design.specs.declared.blif.TableText.{TableText}
@@ -52,9 +52,9 @@ step_clean : (head : Head) (words : List (List ℕ)) (n : ℕ) (state : State) (
     → fault_from state (record { number = n; words = words } ∷ tail) ≡ fault_from
     (after_head head words state) tail
 step_clean head words n state tail is clean =
-    ap (λ h. line_fault_or (fault_by h state words) n (fault_from (after_head h words state) tail)) is
+    ap (λ h. fault_or (fault_by h state words) n (fault_from (after_head h words state) tail)) is
     ∙ ap (λ (k : Option BlifKind).
-    line_fault_or k n (fault_from (after_head head words state) tail)) clean
+    fault_or k n (fault_from (after_head head words state) tail)) clean
 
 names_clean : (word : List ℕ) (inputs : List (List ℕ)) (output : List ℕ) → length inputs ≤ 1024
     → names_fault (word ∷ inputs ++ output ∷ []) ≡ None
@@ -282,7 +282,7 @@ printed model models are =
     let lines : List Line = numbered_lines 1 (model_words (model ∷ models)) in
     let none : first_fault [] lines ≡ None = fault_from_is [] lines ∙ models_clean [] 1 (model
     ∷ models) are tt in
-    ap (λ (k : Option BlifFault). unless_fault k (models_of lines)) none
+    ap (λ (k : Option (At BlifKind)). unless_fault k (models_of lines)) none
     ∙ ap (λ (p : Parts). unless_fault None p.models) (models_parts [] 1 (model ∷ models) are)
 
 -- the text that prints models is read as these models

@@ -15,7 +15,7 @@ use Rattle.ds_blif_laws.specs.InParts.{AreInParts, Group, as_rows, begins_model,
 use Rattle.ds_blif.specs.State.{State, fault_by, fault_of_line, first_fault, open_after, state_of, wants_model}
 use Rattle.ds_blif.specs.declared.head.Head.{Head}
 use Rattle.ds_blif.specs.declared.head.Head.TheVariants.{Row, Names, Model, Inputs, Outputs, Clock, Latch, Subckt, End, Skipped, Unknown}
-use Rattle.ds_blif.specs.declared.fault.BlifFault.{BlifFault}
+use Rattle.ds_lines.specs.declared.at.At.{At}
 use Rattle.ds_blif.specs.declared.fault.BlifKind.{BlifKind}
 use Rattle.ds_blif.specs.declared.fault.BlifKind.TheVariants.{NoModel}
 use Rattle.ds_blif.proofs.NoFault.{first_none, line_none, lines_none, rest_none, test_false}
@@ -204,7 +204,7 @@ none_before earlier (line ∷ lines) closed none =
     (λ still. none_before (line ∷ earlier) lines (ap (λ (is_open : Bool). open_after (head_at line) is_open) closed ∙ still) rest)
 
 -- what is read unless there is a fault
-read_given : (fault : Option BlifFault) (given models : List BlifModel) → unless_fault fault given ≡ Ok models → (fault ≡ None) × (models ≡ given)
+read_given : (fault : Option (At BlifKind)) (given models : List BlifModel) → unless_fault fault given ≡ Ok models → (fault ≡ None) × (models ≡ given)
 read_given None given models is = (refl, (cc))
 read_given (Some fault) given models is = absurd (cc)
 

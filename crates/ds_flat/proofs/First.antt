@@ -3,7 +3,7 @@ use Rattle.std.proofs.Common.{◌≡◌, ℕ, suc, ◌-◌, ◌<◌, List, [], �
 use Rattle.ds_design.specs.declared.blif.BlifModel.{BlifModel}
 use Rattle.ds_design.specs.declared.blif.Command.{Command}
 use Rattle.ds_design.specs.Circuit.{Circuit}
-use Rattle.ds_flat.specs.declared.fault.FlatFault.{FlatFault}
+use Rattle.ds_lines.specs.declared.at.At.{At}
 use Rattle.ds_flat.specs.declared.frame.Open.{Open}
 use Rattle.ds_flat.specs.Net.{Scope}
 use Rattle.ds_flat.specs.Copies.{Flat, Frame, Opened, ◌>>=◌, flat_of, expand, main_copy, empty_design, take_all, most_depth}
@@ -21,9 +21,10 @@ use Rattle.ds_design.specs.InRange.{IsInRange}
 use Rattle.ds_design.specs.Source.{IsBlif, IsPart}
 use Rattle.ds_flat.specs.Interface.{names_of_models}
 use Rattle.ds_flat.specs.Run.{IsRestKept}
+use Rattle.ds_flat.specs.declared.fault.FlatKind.{FlatKind}
 
 -- no frames follow
-bind_nothing : (models : List BlifModel) (rest : List Frame) (r : Result Flat FlatFault)
+bind_nothing : (models : List BlifModel) (rest : List Frame) (r : Result Flat (At FlatKind))
     → rest ≡ [] → (r >>= run_frames models rest) ≡ r
 bind_nothing models rest (Ok flat) none = run-empty models rest flat none
 bind_nothing models rest (Err fault) none = refl
@@ -64,7 +65,7 @@ first_at d [] main below first design deep most some is none name commands scope
 first_at d (model ∷ models) main below first design deep most some is none name commands scope empty =
     let all : List BlifModel = model ∷ models in
     let flat : Flat = record { copies = 0; design = design } in
-    ap (λ (r : Result Flat FlatFault). r >>= λ (flat : Flat). Ok flat.design)
+    ap (λ (r : Result Flat (At FlatKind)). r >>= λ (flat : Flat). Ok flat.design)
     (alone d all (frame_on first (path_of below.frames)) below.frames flat none
     (ap (λ (fs : List Frame). 65536 - length fs) none ∙ deep))
     ∙ (ap (λ (o : Opened). expand (suc d) all o >>= λ (flat : Flat). Ok flat.design)

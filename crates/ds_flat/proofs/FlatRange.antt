@@ -14,7 +14,7 @@ use Rattle.ds_design.specs.declared.blif.UseText.{UseText}
 use Rattle.ds_design.specs.Circuit.{Circuit}
 use Rattle.ds_design.specs.InRange.{IsInRange}
 use Rattle.ds_design.specs.Source.{IsPart}
-use Rattle.ds_flat.specs.declared.fault.FlatFault.{FlatFault}
+use Rattle.ds_lines.specs.declared.at.At.{At}
 use Rattle.ds_flat.specs.Net.{Scope}
 use Rattle.ds_flat.specs.Command.{with_part}
 use Rattle.ds_flat.specs.Copies.{Flat, Opened, ◌>>=◌, actuals_in, copy_unless, expand, flat_of, main_copy, model_named, most_depth, next_copy, open_model, open_use, opened_within, ports_of, take_all, take_command, take_part, unknown_formal, use_in}
@@ -22,6 +22,7 @@ use Rattle.ds_flat.specs.Run.{HaveParts}
 use Rattle.ds_flat.proofs.Grown.{WithinLimits, within_given}
 use Rattle.ds_flat.proofs.Ranges.{empty_in_range, part_in_range, use_in_range}
 use Rattle.ds_flat.proofs.Uses.{named_all}
+use Rattle.ds_flat.specs.declared.fault.FlatKind.{FlatKind}
 
 -- the commands are well formed
 abbrev ArePartsIn : List Command → Type 0
@@ -41,7 +42,7 @@ if_each P (Ok value) each = each value refl
 if_each P (Err fault) each = tt
 
 -- what comes next has what it is given
-if_next : {A B : Type 0} (P : A → Type 0) (Q : B → Type 0) (first : Result A FlatFault) (next : A → Result B FlatFault)
+if_next : {A B : Type 0} (P : A → Type 0) (Q : B → Type 0) (first : Result A (At FlatKind)) (next : A → Result B (At FlatKind))
     → IfOk first P → ((value : A) → P value → IfOk (next value) Q) → IfOk (first >>= next) Q
 if_next P Q (Ok value) next is each = each value is
 if_next P Q (Err fault) next is each = tt
@@ -97,10 +98,10 @@ use_ready models fine path scope line call flat range =
 
 module _ (models : List BlifModel) (fine : HaveParts models) where
   -- each copy that is taken is in range
-  abbrev Keeps : (Opened → Result Flat FlatFault) → Type 0
+  abbrev Keeps : (Opened → Result Flat (At FlatKind)) → Type 0
   Keeps callee = (opened : Opened) → IsReady opened → IfOk (callee opened) HasRange
 
-  command_ranges : (callee : Opened → Result Flat FlatFault) → Keeps callee → (path : List (List ℕ)) (scope : Scope) (command : Command)
+  command_ranges : (callee : Opened → Result Flat (At FlatKind)) → Keeps callee → (path : List (List ℕ)) (scope : Scope) (command : Command)
       (call : Option UseText) (flat : Flat) → HasRange flat → IsPart command.part
       → IfOk (take_command callee models path scope command call flat) HasRange
   command_ranges callee keeps path scope command None flat range part = part_ranges scope command.line command.part flat range part
@@ -108,7 +109,7 @@ module _ (models : List BlifModel) (fine : HaveParts models) where
       if_next IsReady HasRange (open_use models path scope command.line call flat) callee
       (use_ready models fine path scope command.line call flat range) keeps
 
-  all_range : (callee : Opened → Result Flat FlatFault) → Keeps callee → (path : List (List ℕ)) (scope : Scope) (commands : List Command)
+  all_range : (callee : Opened → Result Flat (At FlatKind)) → Keeps callee → (path : List (List ℕ)) (scope : Scope) (commands : List Command)
       (flat : Flat) → HasRange flat → ArePartsIn commands → IfOk (take_all callee models path scope commands flat) HasRange
   all_range callee keeps path scope [] flat range parts = range
   all_range callee keeps path scope (command ∷ commands) flat range parts =
@@ -131,4 +132,4 @@ flat_ranges (main ∷ models) fine =
     (λ flat is. is)
 
 pub flat_in_range : (models : List BlifModel) → HaveParts models → (c : Circuit) → flat_of models ≡ Ok c → IsInRange c
-flat_in_range models fine c is = subst (λ (r : Result Circuit FlatFault). IfOk r IsInRange) is (flat_ranges models fine)
+flat_in_range models fine c is = subst (λ (r : Result Circuit (At FlatKind)). IfOk r IsInRange) is (flat_ranges models fine)

@@ -11,11 +11,14 @@ use Rattle.ds_design.specs.declared.blif.Pair.{Pair}
 use Rattle.ds_design.specs.declared.blif.UseText.{UseText}
 use Rattle.ds_design.specs.Circuit.{Circuit}
 use Rattle.ds_flat.specs.declared.fault.FlatKind.TheVariants.{TooMany}
-use Rattle.ds_flat.specs.declared.fault.FlatRefusal.{FlatRefusal}
+use Rattle.ds_base.specs.declared.refusal.Refusal.{Refusal}
+use Rattle.ds_base.specs.Refusal.{RefusesAs}
+use Rattle.ds_lines.specs.declared.at.At.{At}
 use Rattle.ds_flat.specs.Net.{Scope, numbered_names}
 use Rattle.ds_flat.specs.Copies.{Opened, passed_limit, unless_passed, opened_within, next_copy, actuals_in}
-use Rattle.ds_flat.specs.Run.{IsFault, IsFlatRefusal}
+use Rattle.ds_flat.specs.Run.{IsFlatRefusal}
 use Rattle.ds_flat.proofs.Uses.{refused}
+use Rattle.ds_flat.specs.declared.fault.FlatKind.{FlatKind}
 
 -- a design with the nets of a use
 pub grown_is : (scope : Scope) (name : List ℕ) (nets : List Net) (inputs outputs clocks : List ℕ)
@@ -33,18 +36,18 @@ grown_is scope name nets inputs outputs clocks tables registers d new given pair
 
 -- a limit is passed on a line
 pub passed_fault : {A : Type 0} (c : Circuit) (line : ℕ) (value : A) (limit : Limit)
-    (refusal : FlatRefusal) → Some limit ≡ passed_limit c
+    (refusal : Refusal (At FlatKind)) → Some limit ≡ passed_limit c
     → IsFlatRefusal refusal (record { line = line; kind = TooMany limit })
-    → IsFault refusal (unless_passed (passed_limit c) line value)
+    → RefusesAs refusal (unless_passed (passed_limit c) line value)
 passed_fault {A} c line value limit refusal is given =
     refused refusal _ _ given (ap (λ (l : Option Limit). unless_passed l line value) (sym is))
 
 pub limit_fault : (path : List (List ℕ)) (scope : Scope) (call : UseText) (model : BlifModel)
-    (copies : ℕ) (design after : Circuit) (line : ℕ) (limit : Limit) (refusal : FlatRefusal)
+    (copies : ℕ) (design after : Circuit) (line : ℕ) (limit : Limit) (refusal : Refusal (At FlatKind))
     → after ≡ record design { nets = (numbered_names scope design.nets (actuals_in call.pairs)).nets }
     → Some limit ≡ passed_limit after
     → IsFlatRefusal refusal (record { line = line; kind = TooMany limit })
-    → IsFault refusal (opened_within line (next_copy path scope call model (record { copies = copies; design = design })))
+    → RefusesAs refusal (opened_within line (next_copy path scope call model (record { copies = copies; design = design })))
 limit_fault path scope call model copies design after line limit refusal grown is given =
     let o : Opened = next_copy path scope call model (record { copies = copies; design = design }) in
     passed_fault o.flat.design line o limit refusal (is ∙ ap passed_limit grown) given

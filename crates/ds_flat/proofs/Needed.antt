@@ -16,7 +16,7 @@ use Rattle.ds_design.specs.declared.blif.Command.{Command}
 use Rattle.ds_design.specs.declared.blif.BlifModel.{BlifModel}
 use Rattle.ds_design.specs.Source.{IsBlif, IsPart}
 use Rattle.ds_design.specs.Circuit.{Circuit}
-use Rattle.ds_flat.specs.declared.fault.FlatFault.{FlatFault}
+use Rattle.ds_lines.specs.declared.at.At.{At}
 use Rattle.ds_flat.specs.Net.{Scope}
 use Rattle.ds_flat.specs.Command.{with_part, with_ports}
 use Rattle.ds_flat.specs.Copies.{Flat, Opened, ◌>>=◌, passed_limit, unless_passed, model_named}
@@ -25,6 +25,7 @@ use Rattle.ds_flat.specs.Copies.{copy_unless, open_model, open_use, use_in, flat
 use Rattle.ds_flat.specs.Copies.{take_all, expand, main_copy, most_depth, flat_of}
 use Rattle.ds_flat.specs.Bare.{adds_nothing, needed, bare}
 use Rattle.ds_flat.proofs.Grown.{passed_by}
+use Rattle.ds_flat.specs.declared.fault.FlatKind.{FlatKind}
 
 -- a part that adds nothing leaves the design
 ports_nothing : (copy : ℕ) (ports : List ℕ) → with_ports copy ports [] ≡ ports
@@ -88,7 +89,7 @@ bare_copy o = record {
 }
 
 -- a command that adds nothing is taken
-taken_nothing : (callee : Opened → Result Flat FlatFault) (models : List BlifModel)
+taken_nothing : (callee : Opened → Result Flat (At FlatKind)) (models : List BlifModel)
     (path : List (List ℕ)) (scope : Scope) (command : Command) (flat : Flat)
     → adds_nothing command.part ≡ true → IsFew flat
     → take_command callee models path scope command (use_in command.part) flat ≡ Ok flat
@@ -117,7 +118,7 @@ ports_bare (command ∷ commands) = elim (cases_Bool (adds_nothing command.part)
 ]
 
 -- what a use opens among the models and among the bare ones
-abbrev OpensBare : Result Opened FlatFault → Result Opened FlatFault → Type 0
+abbrev OpensBare : Result Opened (At FlatKind) → Result Opened (At FlatKind) → Type 0
 OpensBare (Ok o) other = (other ≡ Ok (bare_copy o)) × IsFew o.flat
 OpensBare (Err fault) other = other ≡ Err fault
 
@@ -157,34 +158,34 @@ opens_use models path scope line call flat =
     (opens_model path scope line call flat (model_named models call.model))
 
 -- what takes a copy, and what takes it without the commands that add nothing
-record TakeSame (f g : Opened → Result Flat FlatFault) : Type 0 where
+record TakeSame (f g : Opened → Result Flat (At FlatKind)) : Type 0 where
   same : (o : Opened) → IsFew o.flat → f o ≡ g (bare_copy o)
   few : (o : Opened) (flat : Flat) → IsFew o.flat → f o ≡ Ok flat → IsFew flat
 
-bind_same : (f g : Opened → Result Flat FlatFault) → TakeSame f g
-    → (r s : Result Opened FlatFault) → OpensBare r s → (r >>= f) ≡ (s >>= g)
+bind_same : (f g : Opened → Result Flat (At FlatKind)) → TakeSame f g
+    → (r s : Result Opened (At FlatKind)) → OpensBare r s → (r >>= f) ≡ (s >>= g)
 bind_same f g take (Ok o) s is =
-    take.same o is.1 ∙ sym (ap (λ (t : Result Opened FlatFault). t >>= g) is.0)
+    take.same o is.1 ∙ sym (ap (λ (t : Result Opened (At FlatKind)). t >>= g) is.0)
 bind_same f g take (Err fault) s is =
-    sym (ap (λ (t : Result Opened FlatFault). t >>= g) is)
+    sym (ap (λ (t : Result Opened (At FlatKind)). t >>= g) is)
 
-bind_few : (f g : Opened → Result Flat FlatFault) → TakeSame f g
-    → (r s : Result Opened FlatFault) → OpensBare r s → (flat : Flat) → (r >>= f) ≡ Ok flat
+bind_few : (f g : Opened → Result Flat (At FlatKind)) → TakeSame f g
+    → (r s : Result Opened (At FlatKind)) → OpensBare r s → (flat : Flat) → (r >>= f) ≡ Ok flat
     → IsFew flat
 bind_few f g take (Ok o) s is flat gives = take.few o flat is.1 gives
 bind_few f g take (Err fault) s is flat gives = absurd (cc)
 
-rest_same : (r : Result Flat FlatFault) (h k : Flat → Result Flat FlatFault)
+rest_same : (r : Result Flat (At FlatKind)) (h k : Flat → Result Flat (At FlatKind))
     → ((x : Flat) → r ≡ Ok x → h x ≡ k x) → (r >>= h) ≡ (r >>= k)
 rest_same (Ok x) h k each = each x refl
 rest_same (Err fault) h k each = refl
 
-rest_few : (r : Result Flat FlatFault) (h : Flat → Result Flat FlatFault) (flat : Flat)
+rest_few : (r : Result Flat (At FlatKind)) (h : Flat → Result Flat (At FlatKind)) (flat : Flat)
     → ((x : Flat) → r ≡ Ok x → h x ≡ Ok flat → IsFew flat) → (r >>= h) ≡ Ok flat → IsFew flat
 rest_few (Ok x) h flat each is = each x refl is
 rest_few (Err fault) h flat each is = absurd (cc)
 
-module _ (f g : Opened → Result Flat FlatFault) (take : TakeSame f g) (models : List BlifModel)
+module _ (f g : Opened → Result Flat (At FlatKind)) (take : TakeSame f g) (models : List BlifModel)
     (path : List (List ℕ)) (scope : Scope) where
   command_same : (command : Command) (asked : Option UseText) (flat : Flat)
       → take_command f models path scope command asked flat
@@ -212,7 +213,7 @@ module _ (f g : Opened → Result Flat FlatFault) (take : TakeSame f g) (models 
       ≡ take_all g (map bare models) path scope (needed commands) flat
   all_same [] flat few = refl
   all_same (command ∷ commands) flat few = elim (cases_Bool (adds_nothing command.part)) [
-    | inl nothing ↦ rw nothing (ap (λ (r : Result Flat FlatFault).
+    | inl nothing ↦ rw nothing (ap (λ (r : Result Flat (At FlatKind)).
         r >>= take_all f models path scope commands)
         (taken_nothing f models path scope command flat nothing few)
         ∙ all_same commands flat few)
@@ -221,7 +222,7 @@ module _ (f g : Opened → Result Flat FlatFault) (take : TakeSame f g) (models 
         (take_all f models path scope commands)
         (take_all g (map bare models) path scope (needed commands))
         (λ x is. all_same commands x (command_few command (use_in command.part) flat x is))
-        ∙ ap (λ (r : Result Flat FlatFault).
+        ∙ ap (λ (r : Result Flat (At FlatKind)).
         r >>= take_all g (map bare models) path scope (needed commands))
         (command_same command (use_in command.part) flat))
   ]
@@ -255,7 +256,7 @@ few_first main = refl
 -- the flat design, or the fault, is that of the models without the commands that add nothing
 pub flat_of-bare : (models : List BlifModel) → flat_of models ≡ flat_of (map bare models)
 flat_of-bare [] = refl
-flat_of-bare (main ∷ models) = ap (λ (r : Result Flat FlatFault). r >>= λ (flat : Flat). Ok flat.design)
+flat_of-bare (main ∷ models) = ap (λ (r : Result Flat (At FlatKind)). r >>= λ (flat : Flat). Ok flat.design)
     ((expand_same most_depth (main ∷ models)).same (main_copy main) (few_first main))
 
 parts_needed : (commands : List Command) → All (λ command. IsPart command.part) commands

@@ -12,20 +12,21 @@ use Rattle.ds_design.specs.declared.blif.Command.{Command}
 use Rattle.ds_design.specs.declared.blif.BlifModel.{BlifModel}
 use Rattle.ds_design.specs.Source.{IsPart, IsUseText}
 use Rattle.ds_design.specs.Circuit.{Circuit}
-use Rattle.ds_flat.specs.declared.fault.FlatFault.{FlatFault}
+use Rattle.ds_lines.specs.declared.at.At.{At}
 use Rattle.ds_flat.specs.Net.{Scope}
 use Rattle.ds_flat.specs.Copies.{Flat, Frame, Opened, ◌>>=◌, take_command, use_in, open_use, open_model, expand}
 use Rattle.ds_flat.specs.Copies.{model_named}
 use Rattle.ds_flat.specs.Run.{Rest, run_frames, after_take}
 use Rattle.ds_flat.specs.Use.{after_use}
 use Rattle.ds_flat.proofs.Steps.{after_take-use}
+use Rattle.ds_flat.specs.declared.fault.FlatKind.{FlatKind}
 
 -- nothing is opened
-abbrev IsErr : Result Opened FlatFault → Type 0
+abbrev IsErr : Result Opened (At FlatKind) → Type 0
 IsErr (Ok o) = ⊥
 IsErr (Err fault) = Unit {0}
 
-if_err : (b c : Bool) (x y z : Result Opened FlatFault) → IsErr x → IsErr z → c ≡ false
+if_err : (b c : Bool) (x y z : Result Opened (At FlatKind)) → IsErr x → IsErr z → c ≡ false
     → IsErr (if b then x else (if c then y else z))
 if_err true c x y z first last no_more = first
 if_err false c x y z first last no_more =
@@ -38,8 +39,8 @@ open_err path scope line call flat None full = tt
 open_err path scope line call flat (Some model) full =
     if_err (list_any (bytes_eq call.model) path) (nat_lt flat.copies 65536) _ _ _ tt tt full
 
-no_opened : (r : Result Opened FlatFault) (f h : Opened → Result Flat FlatFault)
-    (g : Flat → Result Flat FlatFault) → IsErr r → ((r >>= f) >>= g) ≡ (r >>= h)
+no_opened : (r : Result Opened (At FlatKind)) (f h : Opened → Result Flat (At FlatKind))
+    (g : Flat → Result Flat (At FlatKind)) → IsErr r → ((r >>= f) >>= g) ≡ (r >>= h)
 no_opened (Ok o) f h g none = absurd none
 no_opened (Err fault) f h g none = refl
 
@@ -81,5 +82,5 @@ none_left [] none = refl
 none_left (command ∷ commands) none = absurd (omega arith)
 
 -- what a rest comes to where nothing is left to take
-abbrev pub ended : Rest → Circuit → Result Flat FlatFault
+abbrev pub ended : Rest → Circuit → Result Flat (At FlatKind)
 ended rest design = Ok (record { copies = rest.flat.copies; design = design })

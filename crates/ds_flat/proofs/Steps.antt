@@ -4,28 +4,30 @@ use Rattle.std.proofs.Common.{Result, Ok, Err, refl, sym, ap, ◌∙◌, arith, 
 use Rattle.ds_design.specs.declared.blif.UseText.{UseText}
 use Rattle.ds_design.specs.declared.blif.Command.{Command}
 use Rattle.ds_design.specs.declared.blif.BlifModel.{BlifModel}
-use Rattle.ds_flat.specs.declared.fault.FlatFault.{FlatFault}
-use Rattle.ds_flat.specs.declared.fault.FlatRefusal.{FlatRefusal}
-use Rattle.ds_flat.specs.declared.fault.FlatRefusal.TheVariants.{Memory, Fault}
+use Rattle.ds_lines.specs.declared.at.At.{At}
+use Rattle.ds_base.specs.declared.refusal.Refusal.{Refusal}
+use Rattle.ds_base.specs.declared.refusal.Refusal.TheVariants.{Memory, Fault}
+use Rattle.ds_base.specs.Refusal.{RefusesAs}
 use Rattle.ds_flat.specs.Net.{Scope}
 use Rattle.ds_flat.specs.Copies.{Flat, Frame, Opened, ◌>>=◌, take_all, take_command, take_part, use_in, open_use, expand}
-use Rattle.ds_flat.specs.Run.{run_frames, IsFault, after_take}
+use Rattle.ds_flat.specs.Run.{run_frames, after_take}
 use Rattle.ds_flat.specs.Use.{after_use}
+use Rattle.ds_flat.specs.declared.fault.FlatKind.{FlatKind}
 
-pub bind-assoc : {A B C : Type 0} (r : Result A FlatFault) (f : A → Result B FlatFault)
-    (g : B → Result C FlatFault) → ((r >>= f) >>= g) ≡ (r >>= λ x. f x >>= g)
+pub bind-assoc : {A B C : Type 0} (r : Result A (At FlatKind)) (f : A → Result B (At FlatKind))
+    (g : B → Result C (At FlatKind)) → ((r >>= f) >>= g) ≡ (r >>= λ x. f x >>= g)
 bind-assoc (Ok x) f g = refl
 bind-assoc (Err e) f g = refl
 
 -- a fault stays the fault of what would follow
-pub fault_bind : {A B : Type 0} (e : FlatRefusal) (r : Result A FlatFault)
-    (f : A → Result B FlatFault) → IsFault e r → IsFault e (r >>= f)
+pub fault_bind : {A B : Type 0} (e : Refusal (At FlatKind)) (r : Result A (At FlatKind))
+    (f : A → Result B (At FlatKind)) → RefusesAs e r → RefusesAs e (r >>= f)
 fault_bind Memory r f is = tt
-fault_bind {A} {B} (Fault fault) r f is = ap (λ (x : Result A FlatFault). x >>= f) is
+fault_bind {A} {B} (Fault fault) r f is = ap (λ (x : Result A (At FlatKind)). x >>= f) is
 
-pub fault_same : {A : Type 0} (e : FlatRefusal) (x y : Result A FlatFault) → x ≡ y → IsFault e x
-    → IsFault e y
-fault_same {A} e x y same is = subst (λ (r : Result A FlatFault). IsFault e r) same is
+pub fault_same : {A : Type 0} (e : Refusal (At FlatKind)) (x y : Result A (At FlatKind)) → x ≡ y → RefusesAs e x
+    → RefusesAs e y
+fault_same {A} e x y same is = subst (λ (r : Result A (At FlatKind)). RefusesAs e r) same is
 
 -- a frame without commands is left
 pub run_frames-done : (models : List BlifModel) (frame : Frame) (frames : List Frame) (flat : Flat)
@@ -48,7 +50,7 @@ run_frames-take models path scope frames command commands flat =
     (run_frames models frames)
 
 -- what is opened, and then the frames below it
-opened_first : (models : List BlifModel) (d : ℕ) (rest : List Frame) (r : Result Opened FlatFault)
+opened_first : (models : List BlifModel) (d : ℕ) (rest : List Frame) (r : Result Opened (At FlatKind))
     → 65536 - length rest ≡ d
     → ((r >>= expand (suc d) models) >>= run_frames models rest)
     ≡ (r >>= λ (o : Opened). run_frames models (o.frame ∷ rest) o.flat)
@@ -64,7 +66,7 @@ pub after_take-use : (models : List BlifModel) (frame : Frame) (frames : List Fr
 after_take-use models frame frames flat command call is few =
     let deep : 65536 - length frames ≡ suc (65535 - length frames) = omega arith in
     let deeper : 65536 - length (frame ∷ frames) ≡ 65535 - length frames = omega arith in
-    let r : Result Opened FlatFault = open_use models frame.path frame.scope command.line call flat in
+    let r : Result Opened (At FlatKind) = open_use models frame.path frame.scope command.line call flat in
     ap (λ u. take_command (expand (65536 - length frames) models) models frame.path frame.scope
     command u flat >>= run_frames models (frame ∷ frames)) is
     ∙ (ap (λ d. (r >>= expand d models) >>= run_frames models (frame ∷ frames)) deep
@@ -78,12 +80,12 @@ pub taken_part : (models : List BlifModel) (frame : Frame) (frames : List Frame)
 taken_part models frame frames flat next command none is =
     sym (ap (λ u. take_command (expand (65536 - length frames) models) models frame.path frame.scope
     command u flat >>= run_frames models (frame ∷ frames)) none
-    ∙ ap (λ (r : Result Flat FlatFault). r >>= run_frames models (frame ∷ frames)) is)
+    ∙ ap (λ (r : Result Flat (At FlatKind)). r >>= run_frames models (frame ∷ frames)) is)
 
 pub part_fault : (models : List BlifModel) (frame : Frame) (frames : List Frame) (flat : Flat)
-    (command : Command) (e : FlatRefusal) → use_in command.part ≡ None
-    → IsFault e (take_part frame.scope command.line command.part flat)
-    → IsFault e (after_take models (frame ∷ frames) flat command)
+    (command : Command) (e : Refusal (At FlatKind)) → use_in command.part ≡ None
+    → RefusesAs e (take_part frame.scope command.line command.part flat)
+    → RefusesAs e (after_take models (frame ∷ frames) flat command)
 part_fault models frame frames flat command e none fault =
     rw none (fault_bind e (take_part frame.scope command.line command.part flat)
     (run_frames models (frame ∷ frames)) fault)

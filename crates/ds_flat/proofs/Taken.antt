@@ -5,41 +5,43 @@ use Rattle.ds_design.specs.declared.blif.UseText.{UseText}
 use Rattle.ds_design.specs.declared.blif.Command.{Command}
 use Rattle.ds_design.specs.declared.blif.BlifModel.{BlifModel}
 use Rattle.ds_design.specs.Circuit.{Circuit}
-use Rattle.ds_flat.specs.declared.fault.FlatFault.{FlatFault}
-use Rattle.ds_flat.specs.declared.fault.FlatRefusal.{FlatRefusal}
+use Rattle.ds_lines.specs.declared.at.At.{At}
+use Rattle.ds_base.specs.declared.refusal.Refusal.{Refusal}
+use Rattle.ds_base.specs.Refusal.{RefusesAs}
 use Rattle.ds_flat.specs.declared.frame.Open.{Open}
 use Rattle.ds_flat.specs.Net.{Scope}
 use Rattle.ds_flat.specs.Copies.{Flat, Frame, Opened, ◌>>=◌, open_use, opened_within, next_copy}
 use Rattle.ds_flat.specs.Stack.{Stacked, frame_on, put_on, path_of}
-use Rattle.ds_flat.specs.Run.{run_frames, Rest, run_rest, IsFault, CopiesModel, RefusesUse, opened_on, after_take}
+use Rattle.ds_flat.specs.Run.{run_frames, Rest, run_rest, CopiesModel, RefusesUse, opened_on, after_take}
 use Rattle.ds_flat.specs.Use.{after_use}
 use Rattle.ds_flat.proofs.Kept.{rest_of}
 use Rattle.ds_flat.proofs.Steps.{fault_bind, fault_same, run_frames-done, run_frames-take}
+use Rattle.ds_flat.specs.declared.fault.FlatKind.{FlatKind}
 
 -- what a copy sees as its path
 abbrev pub path_at : Open → Stacked → List (List ℕ)
 path_at top below = top.name.now ∷ path_of below.frames
 
 -- what is left after a use
-abbrev pub after_use_of : List BlifModel → Rest → ℕ → UseText → Result Flat FlatFault
+abbrev pub after_use_of : List BlifModel → Rest → ℕ → UseText → Result Flat (At FlatKind)
 after_use_of models rest line call = after_use models rest.frames rest.flat line call
 
 module _ (models : List BlifModel) (top : Open) (below : Stacked) (copies : ℕ) (design : Circuit)
     (line : ℕ) (call : UseText) (rest : Rest) (view : rest_of top below copies design ≡ rest) where
-  pub use_refused : (e : FlatRefusal)
+  pub use_refused : (e : Refusal (At FlatKind))
       → RefusesUse e models (path_at top below) top.scope line call copies
-      → IsFault e (after_use_of models rest line call)
+      → RefusesAs e (after_use_of models rest line call)
   use_refused e refuses =
-      subst (λ (r : Rest). IsFault e (after_use_of models r line call)) view
+      subst (λ (r : Rest). RefusesAs e (after_use_of models r line call)) view
       (fault_bind e (open_use models (path_at top below) top.scope line call (record { copies = copies; design = design })) _ (refuses design))
 
   module _ (model : BlifModel)
       (copies_it : CopiesModel models (path_at top below) top.scope line call copies model) where
-    pub use_fault : (e : FlatRefusal)
-        → IsFault e (opened_within line (next_copy (path_at top below) top.scope call model (record { copies = copies; design = design })))
-        → IsFault e (after_use_of models rest line call)
+    pub use_fault : (e : Refusal (At FlatKind))
+        → RefusesAs e (opened_within line (next_copy (path_at top below) top.scope call model (record { copies = copies; design = design })))
+        → RefusesAs e (after_use_of models rest line call)
     use_fault e fault =
-        subst (λ (r : Rest). IsFault e (after_use_of models r line call)) view
+        subst (λ (r : Rest). RefusesAs e (after_use_of models r line call)) view
         (fault_bind e (open_use models (path_at top below) top.scope line call (record { copies = copies; design = design })) _
         (fault_same e _ _ (sym (copies_it design)) fault))
 
@@ -50,7 +52,7 @@ module _ (models : List BlifModel) (top : Open) (below : Stacked) (copies : ℕ)
         → run_rest models (rest_of next pushed (copies + 1) after) ≡ after_use_of models rest line call
     use_value next pushed after is on =
         ap (λ (s : Stacked). run_rest models (rest_of next s (copies + 1) after)) on
-        ∙ (sym (ap (λ (r : Result Opened FlatFault). r >>= λ (o : Opened). run_frames models (o.frame
+        ∙ (sym (ap (λ (r : Result Opened (At FlatKind)). r >>= λ (o : Opened). run_frames models (o.frame
         ∷ frame_on top (path_of below.frames) ∷ below.frames) o.flat) (copies_it design ∙ is))
         ∙ ap (λ (r : Rest). after_use_of models r line call) view)
 

@@ -14,21 +14,23 @@ use Rattle.ds_lines.specs.Names.{place_of_name}
 use Rattle.ds_design.specs.declared.blif.BlifModel.{BlifModel}
 use Rattle.ds_design.specs.declared.blif.Pair.{Pair}
 use Rattle.ds_design.specs.declared.blif.UseText.{UseText}
-use Rattle.ds_flat.specs.declared.fault.FlatFault.{FlatFault}
+use Rattle.ds_lines.specs.declared.at.At.{At}
 use Rattle.ds_flat.specs.declared.fault.FlatKind.TheVariants.{UnknownFormal, Recursive, TooMany}
-use Rattle.ds_flat.specs.declared.fault.FlatRefusal.{FlatRefusal}
-use Rattle.ds_flat.specs.declared.fault.FlatRefusal.TheVariants.{Fault, Memory}
+use Rattle.ds_base.specs.declared.refusal.Refusal.{Refusal}
+use Rattle.ds_base.specs.declared.refusal.Refusal.TheVariants.{Fault, Memory}
+use Rattle.ds_base.specs.Refusal.{RefusesAs}
 use Rattle.ds_flat.specs.Net.{Scope}
 use Rattle.ds_flat.specs.Copies.{model_named, unknown_formal, ports_of, path_from}
 use Rattle.ds_flat.specs.Interface.{names_of_models, ports_by, Finds}
-use Rattle.ds_flat.specs.Run.{IsFault, IsFlatRefusal, CopiesModel, RefusesUse}
+use Rattle.ds_flat.specs.Run.{IsFlatRefusal, CopiesModel, RefusesUse}
 use Rattle.ds_flat.proofs.Models.{one_place, unknown-ports_by}
+use Rattle.ds_flat.specs.declared.fault.FlatKind.{FlatKind}
 
 -- a refusal with the fault that a text has
-pub refused : {A : Type 0} (refusal : FlatRefusal) (fault : FlatFault) (text : Result A FlatFault)
-    → IsFlatRefusal refusal fault → text ≡ Err fault → IsFault refusal text
+pub refused : {A : Type 0} (refusal : Refusal (At FlatKind)) (fault : At FlatKind) (text : Result A (At FlatKind))
+    → IsFlatRefusal refusal fault → text ≡ Err fault → RefusesAs refusal text
 refused Memory fault text given is = tt
-refused {A} (Fault other) fault text given is = is ∙ ap (λ (f : FlatFault). Err f) (sym given)
+refused {A} (Fault other) fault text given is = is ∙ ap (λ (f : At FlatKind). Err f) (sym given)
 
 -- whether a model is among those that are being copied, by the places of their names
 open_at : (names : List (List ℕ)) (name model : List ℕ) → place_of_name names name < length names
@@ -74,14 +76,14 @@ module _ (models : List BlifModel) (path : List (List ℕ)) (scope : Scope) (lin
     (copies : ℕ) where
   module _ (model : BlifModel) (named : model_named models call.model ≡ Some model) where
     -- the model is being copied
-    pub refuses_open : (refusal : FlatRefusal) → list_any (bytes_eq call.model) path ≡ true
+    pub refuses_open : (refusal : Refusal (At FlatKind)) → list_any (bytes_eq call.model) path ≡ true
         → IsFlatRefusal refusal (record { line = line; kind = Recursive (path_from call.model path) })
         → RefusesUse refusal models path scope line call copies
     refuses_open refusal there given design = refused refusal _ _ given (rw (named, there) refl)
 
     module _ (new : list_any (bytes_eq call.model) path ≡ false) where
       -- there are as many copies as there may be
-      pub refuses_copies : (refusal : FlatRefusal) → copies ≡ 65536
+      pub refuses_copies : (refusal : Refusal (At FlatKind)) → copies ≡ 65536
           → IsFlatRefusal refusal (record { line = line; kind = TooMany Copies })
           → RefusesUse refusal models path scope line call copies
       refuses_copies refusal full given design =
@@ -93,7 +95,7 @@ module _ (models : List BlifModel) (path : List (List ℕ)) (scope : Scope) (lin
         less = (Decides-ltb copies 65536).1 few
 
         -- a formal is unknown
-        pub refuses_formal : (refusal : FlatRefusal) (formal : List ℕ)
+        pub refuses_formal : (refusal : Refusal (At FlatKind)) (formal : List ℕ)
             → Some formal ≡ unknown_formal (ports_of model.commands) call.pairs
             → IsFlatRefusal refusal (record { line = line; kind = UnknownFormal formal })
             → RefusesUse refusal models path scope line call copies

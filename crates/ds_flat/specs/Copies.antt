@@ -8,7 +8,7 @@ use Rattle.ds_base.specs.declared.number.Limit.{Limit}
 use Rattle.ds_base.specs.declared.number.Limit.TheVariants.{Copies, Nets, Tables, Registers}
 use Rattle.ds_base.specs.Limit.{most_of}
 use Rattle.ds_design.specs.declared.blif.Part.{Part}
-use Rattle.ds_design.specs.declared.blif.Part.TheVariants.{Inputs, Outputs, Clock, Table, Latch}
+use Rattle.ds_design.specs.declared.blif.Part.TheVariants.{Inputs, Outputs, Clock}
 use Rattle.ds_design.specs.declared.blif.Part.TheVariants.{Subckt}
 use Rattle.ds_design.specs.declared.blif.Pair.{Pair}
 use Rattle.ds_design.specs.declared.blif.UseText.{UseText}
@@ -18,7 +18,7 @@ use Rattle.ds_design.specs.Circuit.{Circuit}
 use Rattle.ds_flat.specs.declared.fault.FlatKind.{FlatKind}
 use Rattle.ds_flat.specs.declared.fault.FlatKind.TheVariants.{UnknownModel, Recursive}
 use Rattle.ds_flat.specs.declared.fault.FlatKind.TheVariants.{UnknownFormal, TooMany}
-use Rattle.ds_flat.specs.declared.fault.FlatFault.{FlatFault}
+use Rattle.ds_lines.specs.declared.at.At.{At}
 use Rattle.ds_flat.specs.Net.{Binding, Scope, net_of_name, numbered_names}
 use Rattle.ds_flat.specs.Command.{with_part}
 
@@ -41,13 +41,13 @@ pub record Opened : Type 0 where
 
 infixl 10 ◌>>=◌
 -- what comes next, unless there was a fault
-abbrev pub ◌>>=◌ : {A B : Type 0} → Result A FlatFault → (A → Result B FlatFault)
-    → Result B FlatFault
+abbrev pub ◌>>=◌ : {A B : Type 0} → Result A (At FlatKind) → (A → Result B (At FlatKind))
+    → Result B (At FlatKind)
 (Ok value) >>= next = next value
 (Err fault) >>= next = Err fault
 
 -- a fault of a line
-abbrev pub fault_at : {A : Type 0} → ℕ → FlatKind → Result A FlatFault
+abbrev pub fault_at : {A : Type 0} → ℕ → FlatKind → Result A (At FlatKind)
 fault_at line kind = Err (record { line = line; kind = kind })
 
 -- the first limit that a design passes, if there is one
@@ -58,7 +58,7 @@ passed_limit c =
     else (if nat_lt (most_of Registers) (length c.registers) then Some Registers else None))
 
 -- a value, unless a limit is passed
-abbrev pub unless_passed : {A : Type 0} → Option Limit → ℕ → A → Result A FlatFault
+abbrev pub unless_passed : {A : Type 0} → Option Limit → ℕ → A → Result A (At FlatKind)
 unless_passed None line value = Ok value
 unless_passed (Some limit) line value = fault_at line (TooMany limit)
 
@@ -79,9 +79,7 @@ abbrev pub ports_in : Part → List (List ℕ)
 ports_in (Inputs names) = names
 ports_in (Outputs names) = names
 ports_in (Clock names) = names
-ports_in (Table text) = []
-ports_in (Latch text) = []
-ports_in (Subckt call) = []
+ports_in part = []
 
 -- the names of a model's interface, as they are written
 abbrev pub ports_of : List Command → List (List ℕ)
@@ -125,17 +123,17 @@ next_copy path scope call model flat = record {
 }
 
 -- a copy, unless the use passes a limit
-abbrev pub opened_within : ℕ → Opened → Result Opened FlatFault
+abbrev pub opened_within : ℕ → Opened → Result Opened (At FlatKind)
 opened_within line opened = unless_passed (passed_limit opened.flat.design) line opened
 
 -- the next copy, unless some formal of the use is unknown
-abbrev pub copy_unless : Option (List ℕ) → ℕ → Opened → Result Opened FlatFault
+abbrev pub copy_unless : Option (List ℕ) → ℕ → Opened → Result Opened (At FlatKind)
 copy_unless None line opened = opened_within line opened
 copy_unless (Some formal) line opened = fault_at line (UnknownFormal formal)
 
 -- what a use opens, where its model is this: a model is no part of itself, and copies are limited
 abbrev pub open_model : List (List ℕ) → Scope → ℕ → UseText → Flat → Option BlifModel
-    → Result Opened FlatFault
+    → Result Opened (At FlatKind)
 open_model path scope line call flat None = fault_at line (UnknownModel call.model)
 open_model path scope line call flat (Some model) =
     if list_any (bytes_eq call.model) path
@@ -147,7 +145,7 @@ open_model path scope line call flat (Some model) =
 
 -- what a use opens
 abbrev pub open_use : List BlifModel → List (List ℕ) → Scope → ℕ → UseText → Flat
-    → Result Opened FlatFault
+    → Result Opened (At FlatKind)
 open_use models path scope line call flat = open_model path scope line call flat
     (model_named models call.model)
 
@@ -157,35 +155,35 @@ use_in (Subckt call) = Some call
 use_in part = None
 
 -- what was taken, with another design, unless that passes a limit
-abbrev pub flat_within : ℕ → ℕ → Circuit → Result Flat FlatFault
+abbrev pub flat_within : ℕ → ℕ → Circuit → Result Flat (At FlatKind)
 flat_within copies line c = unless_passed (passed_limit c) line (record {
   copies = copies;
   design = c;
 })
 
 -- a command other than a use is taken
-abbrev pub take_part : Scope → ℕ → Part → Flat → Result Flat FlatFault
+abbrev pub take_part : Scope → ℕ → Part → Flat → Result Flat (At FlatKind)
 take_part scope line part flat = flat_within flat.copies line (with_part scope line part
     flat.design)
 
 -- a command is taken, or the use that it is, where `callee` takes the copy that a use opens
-abbrev pub take_command : (Opened → Result Flat FlatFault) → List BlifModel → List (List ℕ)
-    → Scope → Command → Option UseText → Flat → Result Flat FlatFault
+abbrev pub take_command : (Opened → Result Flat (At FlatKind)) → List BlifModel → List (List ℕ)
+    → Scope → Command → Option UseText → Flat → Result Flat (At FlatKind)
 take_command callee models path scope command None flat =
     take_part scope command.line command.part flat
 take_command callee models path scope command (Some call) flat =
     open_use models path scope command.line call flat >>= callee
 
 -- commands are taken in order
-abbrev pub take_all : (Opened → Result Flat FlatFault) → List BlifModel → List (List ℕ) → Scope
-    → List Command → Flat → Result Flat FlatFault
+abbrev pub take_all : (Opened → Result Flat (At FlatKind)) → List BlifModel → List (List ℕ) → Scope
+    → List Command → Flat → Result Flat (At FlatKind)
 take_all callee models path scope [] flat = Ok flat
 take_all callee models path scope (command ∷ commands) flat =
     take_command callee models path scope command (use_in command.part) flat
     >>= take_all callee models path scope commands
 
 -- the commands of a copy are taken, with less than so many copies in one another
-abbrev pub expand : ℕ → List BlifModel → Opened → Result Flat FlatFault
+abbrev pub expand : ℕ → List BlifModel → Opened → Result Flat (At FlatKind)
 expand zero models opened = fault_at 0 (TooMany Copies)
 expand (suc depth) models opened =
     take_all (expand depth models) models opened.frame.path opened.frame.scope
@@ -220,7 +218,7 @@ most_depth = most_of Copies + 1
 
 -- the flat design of models, the first of which is the main one. As each copy in another has a
 -- greater number, there are never more in one another than there may be copies beside copy 0
-abbrev pub flat_of : List BlifModel → Result Circuit FlatFault
+abbrev pub flat_of : List BlifModel → Result Circuit (At FlatKind)
 flat_of [] = Ok (empty_design [])
 flat_of (main ∷ models) = expand most_depth (main ∷ models) (main_copy main)
     >>= λ (flat : Flat). Ok flat.design

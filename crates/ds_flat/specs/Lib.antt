@@ -2,7 +2,6 @@
 pub mod Net
 pub mod Command
 pub mod Copies
-pub mod Text
 pub mod Bare
 pub mod Keys
 pub mod Interface

@@ -1,6 +1,6 @@
 -- What is left to take, and what it comes to.
 use Rattle.std.specs.Prelude.{◌≡◌, ◌<◌, ◌≤◌, ◌+◌, ◌-◌, ◌++◌, ℕ, List, [], ◌∷◌, map, length, All}
-use Rattle.std.specs.Prelude.{Result, Ok, Err, if◌then◌else◌}
+use Rattle.std.specs.Prelude.{Result, Ok, if◌then◌else◌}
 use Rattle.std.specs.Str.{bytes_eq}
 use Rattle.ds_base.specs.declared.number.Limit.TheVariants.{Nets}
 use Rattle.ds_lines.specs.Names.{place_of_name}
@@ -11,10 +11,11 @@ use Rattle.ds_design.specs.declared.blif.UseText.{UseText}
 use Rattle.ds_design.specs.Source.{IsPart}
 use Rattle.ds_design.specs.Circuit.{Circuit}
 use Rattle.ds_design.specs.InRange.{IsInRange}
-use Rattle.ds_flat.specs.declared.fault.FlatFault.{FlatFault}
+use Rattle.ds_lines.specs.declared.at.At.{At}
 use Rattle.ds_flat.specs.declared.fault.FlatKind.TheVariants.{TooMany}
-use Rattle.ds_flat.specs.declared.fault.FlatRefusal.{FlatRefusal}
-use Rattle.ds_flat.specs.declared.fault.FlatRefusal.TheVariants.{Fault, Memory}
+use Rattle.ds_base.specs.declared.refusal.Refusal.{Refusal}
+use Rattle.ds_base.specs.declared.refusal.Refusal.TheVariants.{Fault, Memory}
+use Rattle.ds_base.specs.Refusal.{RefusesAs}
 use Rattle.ds_flat.specs.declared.fault.NoNumber.{NoNumber}
 use Rattle.ds_flat.specs.declared.fault.NoNumber.TheVariants.{TooManyNets, Memory as NoMemory}
 use Rattle.ds_flat.specs.declared.frame.Open.{Open}
@@ -23,10 +24,11 @@ use Rattle.ds_flat.specs.Copies.{Flat, Frame, Opened, ◌>>=◌, use_in, take_co
 use Rattle.ds_flat.specs.Copies.{open_use, opened_within, next_copy, bindings_in}
 use Rattle.ds_flat.specs.Interface.{names_of_models}
 use Rattle.ds_flat.specs.Stack.{frame_on, path_of}
+use Rattle.ds_flat.specs.declared.fault.FlatKind.{FlatKind}
 
 -- what taking these frames gives, the innermost first: the outermost may have so many copies in one
 -- another
-unfoldable pub run_frames : List BlifModel → List Frame → Flat → Result Flat FlatFault
+unfoldable pub run_frames : List BlifModel → List Frame → Flat → Result Flat (At FlatKind)
 run_frames models [] flat = Ok flat
 run_frames models (frame ∷ frames) flat =
     take_all (expand (65536 - length frames) models) models frame.path frame.scope frame.commands
@@ -40,16 +42,11 @@ pub record Rest : Type 0 where
   pub flat : Flat
 
 -- what it comes to
-abbrev pub run_rest : List BlifModel → Rest → Result Flat FlatFault
+abbrev pub run_rest : List BlifModel → Rest → Result Flat (At FlatKind)
 run_rest models rest = run_frames models rest.frames rest.flat
 
--- a refusal is this fault, unless memory was wanted
-abbrev pub IsFault : {A : Type 0} → FlatRefusal → Result A FlatFault → Type 0
-IsFault Memory text = Unit {0}
-IsFault (Fault fault) text = text ≡ Err fault
-
 -- the refusal that a stop is on a line
-abbrev pub refusal_of : NoNumber → ℕ → FlatRefusal
+abbrev pub refusal_of : NoNumber → ℕ → Refusal (At FlatKind)
 refusal_of TooManyNets line = Fault (record { line = line; kind = TooMany Nets })
 refusal_of NoMemory line = Memory
 
@@ -81,7 +78,7 @@ pub record IsRestKept (models : List BlifModel) (rest : Rest) : Type 0 where
   pub in_range : IsInRange rest.flat.design
 
 -- a command of the innermost copy is taken, and then what is left
-abbrev pub after_take : List BlifModel → List Frame → Flat → Command → Result Flat FlatFault
+abbrev pub after_take : List BlifModel → List Frame → Flat → Command → Result Flat (At FlatKind)
 after_take models [] flat command = Ok flat
 after_take models (frame ∷ frames) flat command =
     take_command (expand (65536 - length frames) models) models frame.path frame.scope command
@@ -94,7 +91,7 @@ connected caller pair scope = record scope {
 }
 
 -- a refusal with this fault, unless memory was wanted
-abbrev pub IsFlatRefusal : FlatRefusal → FlatFault → Type 0
+abbrev pub IsFlatRefusal : Refusal (At FlatKind) → At FlatKind → Type 0
 IsFlatRefusal Memory fault = Unit {0}
 IsFlatRefusal (Fault given) fault = given ≡ fault
 
@@ -107,10 +104,10 @@ CopiesModel models path scope line call copies model = (design : Circuit)
     (record { copies = copies; design = design }))
 
 -- a use is refused, whatever the design so far
-abbrev pub RefusesUse : FlatRefusal → List BlifModel → List (List ℕ) → Scope → ℕ → UseText → ℕ
-    → Type 0
+abbrev pub RefusesUse : Refusal (At FlatKind) → List BlifModel → List (List ℕ) → Scope → ℕ → UseText
+    → ℕ → Type 0
 RefusesUse refusal models path scope line call copies = (design : Circuit)
-    → IsFault refusal (open_use models path scope line call (record {
+    → RefusesAs refusal (open_use models path scope line call (record {
       copies = copies;
       design = design;
     }))

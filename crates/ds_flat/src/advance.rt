@@ -1,6 +1,7 @@
 //! A turn of the copies that are being taken.
 ghost use Rattle.std.specs.Prelude.{MatchResult};
-ghost use Rattle.ds_flat.specs.Run.{run_rest, HaveParts, IsRestKept, IsFault};
+ghost use Rattle.ds_base.specs.Refusal.{RefusesAs};
+ghost use Rattle.ds_flat.specs.Run.{run_rest, HaveParts, IsRestKept};
 ghost use Rattle.ds_flat.specs.Turn.{GivesTurn, LeavesCopies};
 
 use crate::draft::Draft;
@@ -19,7 +20,7 @@ pub fn advance<'b, 'm>(
     requires kept { IsRestKept library.now state }
     requires parts { HaveParts library.now }
     ensures { MatchResult result (λ turn. GivesTurn library.now turn state.entry)
-        (λ e. IsFault e (run_rest library.now state.entry)) }
+        (λ e. RefusesAs e (run_rest library.now state.entry)) }
 {
     let State {
         top,

@@ -1,7 +1,8 @@
 //! Why models have no flat design.
 ghost use Rattle.std.specs.Prelude.{◌≡◌};
 
-use ds_base::{Limit, Name, OutOfMemory, Seq};
+use ds_base::{Limit, Name, OutOfMemory, Refusal, Seq};
+use ds_lines::At;
 use std::alloc::{AllocError, AllocFailed};
 
 /// What is wrong with a command.
@@ -15,49 +16,11 @@ pub enum FlatKind {
     TooMany(Limit),
 }
 
-/// The first fault, and the number of its command's line.
-#[derive(Drop)]
-pub struct FlatFault {
-    pub line: u64,
-    pub kind: FlatKind,
-}
+/// The first fault: that of the command on this line.
+pub type FlatFault = At<FlatKind>;
 
 /// A fault of the models, or want of memory.
-#[derive(Drop)]
-pub enum FlatRefusal {
-    Fault(FlatFault),
-    Memory,
-}
-
-impl From<OutOfMemory> for FlatRefusal {
-    ghost use Rattle.ds_flat.specs.declared.fault.FlatRefusal.TheVariants.{Memory};
-
-    ghost from_gives = { λ _ e. e ≡ Memory };
-
-    fn from(_: OutOfMemory) -> Self {
-        FlatRefusal::Memory
-    }
-}
-
-impl From<AllocError> for FlatRefusal {
-    ghost use Rattle.ds_flat.specs.declared.fault.FlatRefusal.TheVariants.{Memory};
-
-    ghost from_gives = { λ _ e. e ≡ Memory };
-
-    fn from(_: AllocError) -> Self {
-        FlatRefusal::Memory
-    }
-}
-
-impl<T: Drop> From<AllocFailed<T>> for FlatRefusal {
-    ghost use Rattle.ds_flat.specs.declared.fault.FlatRefusal.TheVariants.{Memory};
-
-    ghost from_gives = { λ _ e. e ≡ Memory };
-
-    fn from(_: AllocFailed<T>) -> Self {
-        FlatRefusal::Memory
-    }
-}
+pub type FlatRefusal = Refusal<FlatFault>;
 
 /// Why a name has no number, or want of memory.
 #[derive(Clone, Copy, Debug, PartialEq, Eq)]

@@ -1,11 +1,11 @@
 //! The flat design of a text's models.
 ghost use Rattle.std.specs.Prelude.{◌≡◌, Ok, length, IfOk, MatchResult, slice_index_or, []};
+ghost use Rattle.ds_base.specs.Refusal.{IsMeant, RefusesAs};
 ghost use Rattle.ds_design.specs.Source.{IsBlif};
 ghost use Rattle.ds_design.specs.InRange.{IsInRange};
 ghost use Rattle.ds_flat.specs.Copies.{flat_of};
-ghost use Rattle.ds_flat.specs.Run.{IsFault, IsRestKept, HaveParts, run_rest};
+ghost use Rattle.ds_flat.specs.Run.{IsRestKept, HaveParts, run_rest};
 ghost use Rattle.ds_flat.specs.Turn.{ComesTo};
-ghost use Rattle.ds_flat.specs.Text.{Flattens};
 
 use crate::advance::advance;
 use crate::bare::{Bare, bare_models};
@@ -17,25 +17,25 @@ use crate::library::Library;
 use crate::scope::Scope;
 use crate::stack::Stack;
 use crate::step::{State, Turn};
-use ds_base::{OutOfMemory, Seq};
+use ds_base::{OutOfMemory, Refusal, Seq};
 use ds_design::{Blif, Design};
 use std::alloc::Global;
 
 /// The flat design of the main model, the first of the text: each use of a model is replaced by
 /// the model's commands, as the next copy. The first command that has a fault gives the fault.
 pub fn flatten(alloc: Global, blif: &Blif<'_>) -> Result<Design, FlatRefusal>
-    ensures { Flattens result (flat_of blif.now) }
+    ensures { IsMeant result (flat_of blif.now) }
 {
     match bare_models(alloc, blif.models()) {
         Ok(models) => flattened(alloc, models.as_slice()),
-        Err(_) => Err(FlatRefusal::Memory),
+        Err(_) => Err(Refusal::Memory),
     }
 }
 
 // The flat design of models without the commands that add nothing.
 fn flattened(alloc: Global, models: &[Bare<'_>]) -> Result<Design, FlatRefusal>
     requires { IsBlif models.now }
-    ensures { Flattens result (flat_of models.now) }
+    ensures { IsMeant result (flat_of models.now) }
 {
     match all_copies(alloc, models) {
         Ok(draft) => {
@@ -51,12 +51,12 @@ fn all_copies<'m>(alloc: Global, models: &[Bare<'m>]) -> Result<Draft<'m>, FlatR
     requires { IsBlif models.now }
     ensures { MatchResult result
         (λ d. (flat_of models.entry.now ≡ Ok d) × IsInRange d)
-        (λ e. IsFault e (flat_of models.entry.now)) }
+        (λ e. RefusesAs e (flat_of models.entry.now)) }
 {
     match Library::of(alloc, models) {
-        Err(_) => Err(FlatRefusal::Memory),
+        Err(_) => Err(Refusal::Memory),
         Ok(library) => match Stack::new(alloc, models.len()) {
-            Err(_) => Err(FlatRefusal::Memory),
+            Err(_) => Err(Refusal::Memory),
             Ok(below) => from_first(alloc, &library, &models[0], below),
         },
     }
@@ -73,7 +73,7 @@ fn from_first<'b, 'm>(
     requires main { main.now ≡ slice_index_or library.now 0 main.now }
     requires below { below ≡ record { frames = []; places = []; models = length library.now } }
     ensures { MatchResult result (λ d. (flat_of library.now ≡ Ok d) × IsInRange d)
-        (λ e. IsFault e (flat_of library.now)) }
+        (λ e. RefusesAs e (flat_of library.now)) }
 {
     let first = Open {
         model: 0,
@@ -102,7 +102,7 @@ fn all_taken<'b, 'm>(
     requires kept { IsRestKept library.now state }
     requires parts { HaveParts library.now }
     ensures { MatchResult result (λ d. ComesTo library.now d state.entry)
-        (λ e. IsFault e (run_rest library.now state.entry)) }
+        (λ e. RefusesAs e (run_rest library.now state.entry)) }
 {
     let mut state = state;
     'turns: loop {

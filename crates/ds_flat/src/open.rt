@@ -4,24 +4,25 @@ ghost use Rattle.std.specs.Prelude.{MatchResult, List, ℕ, Ok};
 ghost use Rattle.std.specs.List.{list_any};
 ghost use Rattle.ds_lines.specs.Names.{place_of_name};
 ghost use Rattle.ds_base.specs.declared.number.Limit.TheVariants.{Copies};
+ghost use Rattle.ds_base.specs.Refusal.{RefusesAs};
 ghost use Rattle.ds_design.specs.Source.{IsUseText, IsPart};
-ghost use Rattle.ds_flat.specs.declared.fault.FlatFault.{FlatFault as Fault_of};
 ghost use Rattle.ds_flat.specs.declared.fault.FlatKind.TheVariants.{UnknownModel, UnknownFormal};
 ghost use Rattle.ds_flat.specs.declared.fault.FlatKind.TheVariants.{Recursive, TooMany};
 ghost use Rattle.ds_flat.specs.Copies.{path_from as path_from_of, opened_within, next_copy};
 ghost use Rattle.ds_flat.specs.Interface.{names_of_models, Finds};
 ghost use Rattle.ds_flat.specs.Stack.{path_of};
-ghost use Rattle.ds_flat.specs.Run.{IsFault, IsFlatRefusal, CopiesModel, RefusesUse, opened_on};
+ghost use Rattle.ds_flat.specs.Run.{IsFlatRefusal, CopiesModel, RefusesUse, opened_on};
 ghost use Rattle.ds_flat.specs.Run.{refusal_of, IsCopyOf};
 
 use crate::connect::connect;
 use crate::draft::Draft;
-use crate::fault::{FlatFault, FlatKind, FlatRefusal, NoNumber};
+use crate::fault::{FlatKind, FlatRefusal, NoNumber};
 use crate::frame::Open;
 use crate::library::{Found, Library, unknown_formal};
 use crate::stack::{Stack, extended};
-use ds_base::{Limit, Name, OutOfMemory, Seq};
+use ds_base::{Limit, Name, OutOfMemory, Refusal, Seq};
 use ds_design::{UseText, Word};
+use ds_lines::At;
 use std::alloc::Global;
 
 /// A name of its own.
@@ -36,11 +37,11 @@ fn unknown_model(alloc: Global, line: u64, name: &Word<'_>) -> FlatRefusal
     ensures { IsFlatRefusal result (record { line = line; kind = UnknownModel name.now }) }
 {
     match name_of(alloc, name) {
-        Ok(name) => FlatRefusal::Fault(FlatFault {
+        Ok(name) => Refusal::Fault(At {
             line,
             kind: FlatKind::UnknownModel(name),
         }),
-        Err(_) => FlatRefusal::Memory,
+        Err(_) => Refusal::Memory,
     }
 }
 
@@ -48,11 +49,11 @@ fn unknown_formal_of(alloc: Global, line: u64, name: &Word<'_>) -> FlatRefusal
     ensures { IsFlatRefusal result (record { line = line; kind = UnknownFormal name.now }) }
 {
     match name_of(alloc, name) {
-        Ok(name) => FlatRefusal::Fault(FlatFault {
+        Ok(name) => Refusal::Fault(At {
             line,
             kind: FlatKind::UnknownFormal(name),
         }),
-        Err(_) => FlatRefusal::Memory,
+        Err(_) => Refusal::Memory,
     }
 }
 
@@ -60,7 +61,7 @@ fn unknown_formal_of(alloc: Global, line: u64, name: &Word<'_>) -> FlatRefusal
 pub fn too_many(line: u64, limit: Limit) -> FlatRefusal
     ensures { IsFlatRefusal result (record { line = line; kind = TooMany limit }) }
 {
-    FlatRefusal::Fault(FlatFault {
+    Refusal::Fault(At {
         line,
         kind: FlatKind::TooMany(limit),
     })
@@ -71,11 +72,11 @@ pub fn stopped(line: u64, stop: NoNumber) -> FlatRefusal
     ensures { result ≡ refusal_of stop line }
 {
     match stop {
-        NoNumber::TooManyNets => FlatRefusal::Fault(FlatFault {
+        NoNumber::TooManyNets => Refusal::Fault(At {
             line,
             kind: FlatKind::TooMany(Limit::Nets),
         }),
-        NoNumber::Memory => FlatRefusal::Memory,
+        NoNumber::Memory => Refusal::Memory,
     }
 }
 
@@ -106,11 +107,11 @@ fn recursive(
     }) }
 {
     match path_names(alloc, name, top, below) {
-        Ok(path) => FlatRefusal::Fault(FlatFault {
+        Ok(path) => Refusal::Fault(At {
             line,
             kind: FlatKind::Recursive(Seq::of(path)),
         }),
-        Err(_) => FlatRefusal::Memory,
+        Err(_) => Refusal::Memory,
     }
 }
 
@@ -179,7 +180,7 @@ pub fn open<'b, 'm>(
         (λ r. (path : List (List ℕ)) → opened_within line (next_copy path top.now.scope
         call.entry.now found.entry.model.now (record { copies = copies; design = draft.entry }))
         ≡ Ok (opened_on path r.0 copies r.1))
-        (λ e. (path : List (List ℕ)) → IsFault e (opened_within line (next_copy path top.now.scope
+        (λ e. (path : List (List ℕ)) → RefusesAs e (opened_within line (next_copy path top.now.scope
         call.entry.now found.entry.model.now (record { copies = copies; design = draft.entry })))) }
     ensures model { IfOk result (λ r. IsCopyOf r.0 found.entry.place found.entry.model.now) }
 {

@@ -1,9 +1,10 @@
 //! The commands of the copies, one after the other.
 ghost use Rattle.std.specs.Prelude.{◌≡◌, ◌≤◌, ℕ, Ok, IfOk, MatchResult, option_map};
+ghost use Rattle.ds_base.specs.Refusal.{RefusesAs};
 ghost use Rattle.ds_design.specs.Source.{IsPart, IsUseText};
 ghost use Rattle.ds_flat.specs.Command.{with_part};
 ghost use Rattle.ds_flat.specs.Copies.{flat_within, use_in as use_of_part};
-ghost use Rattle.ds_flat.specs.Run.{run_rest, after_take, HaveParts, IsRestKept, IsFault};
+ghost use Rattle.ds_flat.specs.Run.{run_rest, after_take, HaveParts, IsRestKept};
 ghost use Rattle.ds_flat.specs.Turn.{most_turns};
 ghost use Rattle.ds_flat.specs.Use.{after_use};
 
@@ -14,6 +15,7 @@ use crate::library::Library;
 use crate::open::{checked, open, stopped, too_many};
 use crate::scope::Scope;
 use crate::stack::Stack;
+use ds_base::Refusal;
 use ds_design::{Command, Part, UseText};
 use std::alloc::Global;
 use std::marker::Model;
@@ -71,7 +73,7 @@ fn take_part<'m>(
         (λ d. (copies : ℕ) → flat_within copies command.entry.now.line
         (with_part scope.now command.entry.now.line command.entry.now.part draft.entry)
         ≡ Ok (record { copies = copies; design = d }))
-        (λ e. (copies : ℕ) → IsFault e (flat_within copies command.entry.now.line
+        (λ e. (copies : ℕ) → RefusesAs e (flat_within copies command.entry.now.line
         (with_part scope.now command.entry.now.line command.entry.now.part draft.entry))) }
 {
     let mut draft = draft;
@@ -101,7 +103,7 @@ fn take_use<'b, 'm>(
     ensures value { MatchResult result
         (λ s. run_rest library.now s
         ≡ after_use library.now state.entry.frames state.entry.flat line call.entry.now)
-        (λ e. IsFault e
+        (λ e. RefusesAs e
         (after_use library.now state.entry.frames state.entry.flat line call.entry.now)) }
 {
     let State {
@@ -115,7 +117,7 @@ fn take_use<'b, 'm>(
         Ok(found) => match open(alloc, &top, found, copies, draft, line, call) {
             Err(refusal) => Err(refusal),
             Ok((next, draft)) => match below.pushed(top) {
-                Err(_) => Err(FlatRefusal::Memory),
+                Err(_) => Err(Refusal::Memory),
                 Ok(below) => Ok(State {
                     top: next,
                     below,
@@ -143,7 +145,7 @@ pub fn take<'b, 'm>(
     ensures value { MatchResult result
         (λ s. run_rest library.now s
         ≡ after_take library.now state.entry.frames state.entry.flat command.entry.now)
-        (λ e. IsFault e
+        (λ e. RefusesAs e
         (after_take library.now state.entry.frames state.entry.flat command.entry.now)) }
 {
     match use_in(&command.part) {

@@ -20,12 +20,13 @@ use Rattle.ds_design.specs.declared.blif.LatchText.{LatchText}
 use Rattle.ds_design.specs.declared.blif.Part.{Part}
 use Rattle.ds_design.specs.declared.blif.Part.TheVariants.{Inputs, Outputs, Clock, Table, Latch, Subckt}
 use Rattle.ds_design.specs.declared.blif.UseText.{UseText}
-use Rattle.ds_flat.specs.declared.fault.FlatFault.{FlatFault}
+use Rattle.ds_lines.specs.declared.at.At.{At}
 use Rattle.ds_flat.specs.Net.{Scope, Numbered, has_net, net_of_name, number_of_net, numbered_nets, numbered_names, same_net, with_net}
 use Rattle.ds_flat.specs.Command.{latch_names, numbered_latch, with_part}
 use Rattle.ds_flat.specs.Copies.{Flat, Opened, ◌>>=◌, actuals_in, copy_unless, empty_design, expand, flat_of, main_copy, model_named, most_depth, next_copy, open_model, open_use, passed_limit, ports_of, take_all, take_command, take_part, unknown_formal, use_in}
 use Rattle.ds_flat_laws.specs.InCopies.{ComeTo, IsOfCopies, InCopy, copied, done, gate_by, names_by, nets_by, number_by, plain, register_by}
 use Rattle.ds_flat.proofs.Grown.{passed_by}
+use Rattle.ds_flat.specs.declared.fault.FlatKind.{FlatKind}
 
 -- a net is itself
 same_self : (net : Net) → same_net net net ≡ true
@@ -278,7 +279,7 @@ record Taken (models : List BlifModel) (scope : Scope) (commands : List Command)
   design : after.design ≡ add_all placed before.design
 
 -- what comes before and what comes next
-then_ok : {A B : Type 0} (first : Result A FlatFault) (next : A → Result B FlatFault) (b : B) → (first >>= next) ≡ Ok b → (a : A) × (first ≡ Ok a) × (next a ≡ Ok b)
+then_ok : {A B : Type 0} (first : Result A (At FlatKind)) (next : A → Result B (At FlatKind)) (b : B) → (first >>= next) ≡ Ok b → (a : A) × (first ≡ Ok a) × (next a ≡ Ok b)
 then_ok (Ok a) next b is = (a, refl, is)
 then_ok (Err fault) next b is = absurd (cc)
 
@@ -323,7 +324,7 @@ model_opened path scope line call flat (Some model) opened is = elim (cases_Bool
 
 module _ (models : List BlifModel) where
   -- each copy that is taken is what its commands come to
-  abbrev Takes : (Opened → Result Flat FlatFault) → Type 0
+  abbrev Takes : (Opened → Result Flat (At FlatKind)) → Type 0
   Takes callee = (opened : Opened) (after : Flat) → callee opened ≡ Ok after → Taken models opened.frame.scope opened.frame.commands opened.flat after
 
   -- one command and those behind it
@@ -341,7 +342,7 @@ module _ (models : List BlifModel) where
         design = rest.design ∙ ap (add_all rest.placed) same;
       }
 
-  behind_use : (callee : Opened → Result Flat FlatFault) → Takes callee → (path : List (List ℕ)) (scope : Scope) (command : Command) (commands : List Command)
+  behind_use : (callee : Opened → Result Flat (At FlatKind)) → Takes callee → (path : List (List ℕ)) (scope : Scope) (command : Command) (commands : List Command)
       (call : UseText) (before mid after : Flat) → use_in command.part ≡ Some call
       → (open_use models path scope command.line call before >>= callee) ≡ Ok mid → Taken models scope commands mid after
       → Taken models scope (command ∷ commands) before after
@@ -359,14 +360,14 @@ module _ (models : List BlifModel) where
             ∙ sym (add_both inner.placed rest.placed (added scope command.line command.part before.design)));
       }
 
-  behind_command : (callee : Opened → Result Flat FlatFault) → Takes callee → (path : List (List ℕ)) (scope : Scope) (command : Command) (commands : List Command)
+  behind_command : (callee : Opened → Result Flat (At FlatKind)) → Takes callee → (path : List (List ℕ)) (scope : Scope) (command : Command) (commands : List Command)
       (call : Option UseText) (before mid after : Flat) → use_in command.part ≡ call
       → take_command callee models path scope command call before ≡ Ok mid → Taken models scope commands mid after
       → Taken models scope (command ∷ commands) before after
   behind_command callee takes path scope command commands None before mid after is_use is rest = behind_plain scope command commands before mid after is_use is rest
   behind_command callee takes path scope command commands (Some call) before mid after is_use is rest = behind_use callee takes path scope command commands call before mid after is_use is rest
 
-  all_taken : (callee : Opened → Result Flat FlatFault) → Takes callee → (path : List (List ℕ)) (scope : Scope) (commands : List Command) (before after : Flat)
+  all_taken : (callee : Opened → Result Flat (At FlatKind)) → Takes callee → (path : List (List ℕ)) (scope : Scope) (commands : List Command) (before after : Flat)
       → take_all callee models path scope commands before ≡ Ok after → Taken models scope commands before after
   unfolding add_all
   all_taken callee takes path scope [] before after is =

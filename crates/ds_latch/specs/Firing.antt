@@ -77,24 +77,22 @@ Takes s vectors now opened (Slave i) row = row ≡ read_rows s now opened (Maste
 
 -- an opening puts a row at the node's next place
 abbrev pub opened_state : Split → State → Node → Row → State
-opened_state s now n row = record {
+opened_state s now n row = record now {
   count = counted (opening n) now.count;
   rows = changed n (placed (place_of s (now.count (opening n) + 1)) row (now.rows n)) now.rows;
-  stored = now.stored;
 }
 
 -- a closing appends the row of its opening to what the node has stored
 abbrev pub closed_state : Split → State → Node → State
-closed_state s now n = record {
+closed_state s now n = record now {
   count = counted (closing n) now.count;
-  rows = now.rows;
   stored = changed n (now.stored n ++ now.rows n (place_of s (now.count (closing n) + 1))
       ∷ []) now.stored;
 }
 
 -- an extra event changes its count alone
 abbrev pub counted_state : State → ℕ → State
-counted_state now v = record { count = counted v now.count; rows = now.rows; stored = now.stored }
+counted_state now v = record now { count = counted v now.count }
 
 -- one firing
 pub data Fires (s : Split) (vectors : List Row) (now : State) : ℕ → State → Type 0 where

@@ -5,9 +5,10 @@
 //! its first physical line and its words. `lines` gives exactly the lines that the text stands for,
 //! and refuses a text exactly where it is too long. `Lines::line`, `word`, `words` and `number`
 //! lend parts of a line: the words are slices of the text. `word` and `name` lend and copy a word,
-//! and `place_of` finds a byte in one. `trim` says what is cut at the end of a physical line, for
-//! readers that have no whole text. `laws` says what follows: joined lines are one text with a
-//! blank between, what is printed is read, a text may be read in two parts.
+//! and `place_of` finds a byte in one. What is wrong with a line is an `At`, its number and a kind.
+//! `trim` says what is cut at the end of a physical line, for readers that have no whole text.
+//! `laws` says what follows: joined lines are one text with a blank between, what is printed is
+//! read, a text may be read in two parts.
 //!
 //! Not promised: an encoding. A word is bytes.
 //!
@@ -18,6 +19,7 @@
 //! caller's text, found by their hash; nothing is copied.
 #![tactic(auto)]
 
+mod at;
 mod draft;
 pub mod laws;
 mod line;
@@ -27,6 +29,7 @@ mod reader;
 mod span;
 mod words_of_line;
 
+pub use at::{At, on_line};
 pub use line::{blank, place_of, trim};
 pub use list::Lines;
 pub use names::Names;

@@ -35,20 +35,17 @@ several_clocks (a ∷ names) = option_map (λ b. SeveralClocks a b) (find (λ b.
 -- whether a register takes the rising edge
 abbrev pub is_rising : Option Edge → Bool
 is_rising (Some Rising) = true
-is_rising (Some Falling) = false
-is_rising None = false
+is_rising edge = false
 
 -- whether a register takes the falling edge
 abbrev pub is_falling : Option Edge → Bool
-is_falling (Some Rising) = false
 is_falling (Some Falling) = true
-is_falling None = false
+is_falling edge = false
 
 -- two registers, where both are there
 abbrev pub both_edges : Option ℕ → Option ℕ → Option NetFault
 both_edges (Some a) (Some b) = Some (MixedEdges a b)
-both_edges (Some a) None = None
-both_edges None other = None
+both_edges one other = None
 
 -- the first register with a rising edge and the first with a falling one, where there are both
 abbrev pub mixed_edges : List Register → Option NetFault
@@ -92,9 +89,4 @@ fault_of c = first_some (several_clocks (control_nets c) ∷ mixed_edges c.regis
 abbrev pub IsNetFault : Circuit → NetFault → Type 0
 IsNetFault c Memory = Unit {0}
 IsNetFault c (CombinationalCycle nets) = (fault_of c ≡ None) × IsCycle (Feeds c) nets
-IsNetFault c (SeveralClocks a b) = fault_of c ≡ Some (SeveralClocks a b)
-IsNetFault c (MixedEdges a b) = fault_of c ≡ Some (MixedEdges a b)
-IsNetFault c (DrivenClock net) = fault_of c ≡ Some (DrivenClock net)
-IsNetFault c (ClockAsData net) = fault_of c ≡ Some (ClockAsData net)
-IsNetFault c (MultiplyDriven net d e) = fault_of c ≡ Some (MultiplyDriven net d e)
-IsNetFault c (Undriven net) = fault_of c ≡ Some (Undriven net)
+IsNetFault c fault = fault_of c ≡ Some fault

@@ -5,6 +5,7 @@ use Rattle.std.proofs.Math.Seq.{drop-cons}
 use Rattle.std.proofs.lemmas.Option.{none-some, same_Some}
 use Rattle.std.proofs.lemmas.Bool.{cases_Bool, false≢true, lt-ltb, le-ltb}
 use Rattle.std.proofs.lemmas.List.{drop_all, length-map, length-replicate}
+use Rattle.ds_base.specs.Refusal.{RefusesAs}
 use Rattle.ds_lines.specs.Names.{place_of_name}
 use Rattle.ds_marked.specs.Log.{event_text}
 use Rattle.ds_lines.specs.Line.{Line, line_or_none}
@@ -12,10 +13,11 @@ use Rattle.ds_marked.specs.Graph.{Graph}
 use Rattle.ds_rows.specs.Texts.{event_by_text, event_texts}
 use Rattle.ds_lines.specs.Words.{word_at}
 use Rattle.ds_period.specs.Word.{delay_on, has_delay, written_delay}
-use Rattle.ds_period.specs.Read.{Given, HasOneEach, IsRead, arc_by_texts, arc_named, delays_from, delays_of, is_given, after_line, none_given, then_lines, with_delay}
-use Rattle.ds_period.specs.Step.{IsTaken, line_refusal}
-use Rattle.ds_period.specs.declared.fault.Refusal.{Refusal}
-use Rattle.ds_period.specs.declared.fault.Refusal.TheVariants as refusal
+use Rattle.ds_period.specs.Read.{Given, HasOneEach, arc_by_texts, arc_named, delays_from, delays_of, is_given, after_line, none_given, with_delay}
+use Rattle.ds_period.specs.Step.{IsTaken}
+use Rattle.ds_base.specs.declared.refusal.Refusal.{Refusal}
+use Rattle.ds_base.specs.declared.refusal.Refusal.TheVariants.{Memory, Fault}
+use Rattle.ds_lines.specs.First.{behind_line, refusal_on}
 use Rattle.ds_period.specs.declared.fault.DelayKind.{DelayKind}
 use Rattle.ds_period.specs.declared.fault.DelayKind.TheVariants.{BadWord, UnknownOrder, RepeatedOrder}
 
@@ -127,7 +129,7 @@ taken_none g lines so_far e = subst (λ (r : Given). AreTaken g lines 0 r) (sym 
 -- the lines from one on
 from_here : (g : Graph) (lines : List Line) (i : ℕ) (so_far : Given) → i < length lines
     → delays_from g so_far (drop i lines)
-    ≡ then_lines (line_or_none lines i).number (after_line g so_far (line_or_none lines i).words) (λ next. delays_from g next (drop (i + 1) lines))
+    ≡ behind_line (line_or_none lines i).number (after_line g so_far (line_or_none lines i).words) (λ next. delays_from g next (drop (i + 1) lines))
 from_here g lines i so_far inside =
     ap (λ (ls : List Line). delays_from g so_far ls)
     (drop-cons lines i (line_or_none [] 0) inside ∙ ap (λ (n : ℕ). line_or_none lines i ∷ drop n lines) (sym (add-one i)))
@@ -137,20 +139,20 @@ pub taken_more : (g : Graph) (lines : List Line) (i : ℕ) (old new : Given) (wo
 taken_more g lines i old new words inside are e before = record {
   sizes = one_each g old new words before.sizes e;
   rest = before.rest ∙ from_here g lines i old inside
-      ∙ ap (λ (ws : List (List ℕ)). then_lines (line_or_none lines i).number (after_line g old ws) (λ next. delays_from g next (drop (i + 1) lines))) (sym are)
-      ∙ ap (λ (r : Result Given DelayKind). then_lines (line_or_none lines i).number r (λ next. delays_from g next (drop (i + 1) lines))) e;
+      ∙ ap (λ (ws : List (List ℕ)). behind_line (line_or_none lines i).number (after_line g old ws) (λ next. delays_from g next (drop (i + 1) lines))) (sym are)
+      ∙ ap (λ (r : Result Given DelayKind). behind_line (line_or_none lines i).number r (λ next. delays_from g next (drop (i + 1) lines))) e;
 }
 
 pub taken_all : (g : Graph) (lines : List Line) (i : ℕ) (so_far : Given) → length lines ≤ i → AreTaken g lines i so_far
     → delays_of g lines ≡ Ok so_far.delays
 taken_all g lines i so_far past are = are.rest ∙ ap (λ (ls : List Line). delays_from g so_far ls) (drop_all i lines past)
 
-pub refused : (g : Graph) (lines : List Line) (i : ℕ) (old new : Given) (words : List (List ℕ)) (why : Refusal) (line : ℕ) → i < length lines
+pub refused : (g : Graph) (lines : List Line) (i : ℕ) (old new : Given) (words : List (List ℕ)) (why : Refusal DelayKind) (line : ℕ) → i < length lines
     → words ≡ (line_or_none lines i).words → line ≡ (line_or_none lines i).number
-    → IsTaken g old words new (Err why) → AreTaken g lines i old → IsRead g lines (Err (line_refusal line why))
-refused g lines i old new words refusal.Memory line inside are number takes before = tt
-refused g lines i old new words (refusal.Because kind) line inside are number takes before =
+    → IsTaken g old words new (Err why) → AreTaken g lines i old → RefusesAs (refusal_on line why) (delays_of g lines)
+refused g lines i old new words Memory line inside are number takes before = tt
+refused g lines i old new words (Fault kind) line inside are number takes before =
     before.rest ∙ from_here g lines i old inside
-    ∙ ap (λ (ws : List (List ℕ)). then_lines (line_or_none lines i).number (after_line g old ws) (λ next. delays_from g next (drop (i + 1) lines))) (sym are)
-    ∙ ap (λ (r : Result Given DelayKind). then_lines (line_or_none lines i).number r (λ next. delays_from g next (drop (i + 1) lines))) takes
+    ∙ ap (λ (ws : List (List ℕ)). behind_line (line_or_none lines i).number (after_line g old ws) (λ next. delays_from g next (drop (i + 1) lines))) (sym are)
+    ∙ ap (λ (r : Result Given DelayKind). behind_line (line_or_none lines i).number r (λ next. delays_from g next (drop (i + 1) lines))) takes
     ∙ ap (λ (n : ℕ). Err (record { line = n; kind = kind })) (sym number)

@@ -6,12 +6,13 @@ use Rattle.std.proofs.lemmas.Bool.{false≢true, ltb-true}
 use Rattle.std.proofs.lemmas.List.{get_or-replicate, get_or-set_other, get_or-set_same, length-replicate}
 use Rattle.std.proofs.lemmas.List.Elements.{All-cons}
 use Rattle.std.proofs.lemmas.List.Kept.{AllPairs-cons}
+use Rattle.ds_lines.specs.First.{behind_line}
 use Rattle.ds_lines.specs.Line.{Line}
 use Rattle.ds_marked.specs.Graph.{Graph}
 use Rattle.ds_period.specs.Word.{has_delay, written_delay}
-use Rattle.ds_period.specs.Read.{Given, HasOneEach, after_line, arc_named, delays_from, is_given, none_given, repeated_order, then_lines, unknown_order, with_delay}
+use Rattle.ds_period.specs.Read.{Given, HasOneEach, after_line, arc_named, delays_from, is_given, none_given, repeated_order, unknown_order, with_delay}
 use Rattle.ds_period.specs.Written.{DelaysAreWritten, GivesDelay}
-use Rattle.ds_period.specs.declared.fault.DelayFault.{DelayFault}
+use Rattle.ds_lines.specs.declared.at.At.{At}
 use Rattle.ds_period.specs.declared.fault.DelayKind.{DelayKind}
 use Rattle.ds_period.specs.declared.fault.DelayKind.TheVariants.{BadWord}
 use Rattle.ds_period.proofs.Taking.{one_each}
@@ -44,8 +45,8 @@ line_taken g old new words e =
     }
 
 -- where the lines from one on give delays, it is taken
-first_taken : (number : ℕ) (r : Result Given DelayKind) (rest : Given → Result (List ℕ) DelayFault) (delays : List ℕ)
-    → then_lines number r rest ≡ Ok delays → (next : Given) × (r ≡ Ok next) × (rest next ≡ Ok delays)
+first_taken : (number : ℕ) (r : Result Given DelayKind) (rest : Given → Result (List ℕ) (At DelayKind)) (delays : List ℕ)
+    → behind_line number r rest ≡ Ok delays → (next : Given) × (r ≡ Ok next) × (rest next ≡ Ok delays)
 first_taken number (Ok next) rest delays e = (next, refl, e)
 first_taken number (Err kind) rest delays e = absurd cc
 

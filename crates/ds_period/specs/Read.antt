@@ -1,5 +1,5 @@
 -- The delays that lines give the arcs of a graph, or the first fault of the lines.
-use Rattle.std.specs.Prelude.{◌≡◌, ⊤, ℕ, Bool, true, false, not, List, [], ◌∷◌, length}
+use Rattle.std.specs.Prelude.{◌≡◌, ℕ, Bool, true, false, not, List, [], ◌∷◌, length}
 use Rattle.std.specs.Prelude.{replicate, slice_index_or, slice_set, Result, Ok, Err, nat_lt, ◌==◌}
 use Rattle.std.specs.Prelude.{◌&&◌, if◌then◌else◌}
 use Rattle.std.specs.List.{position_or_len}
@@ -9,12 +9,11 @@ use Rattle.ds_marked.specs.declared.marked.Arc.{Arc}
 use Rattle.ds_rows.specs.Texts.{event_by_text}
 use Rattle.ds_lines.specs.Words.{word_at}
 use Rattle.ds_period.specs.Word.{has_delay, written_delay}
-use Rattle.ds_period.specs.declared.fault.DelayFault.{DelayFault}
+use Rattle.ds_lines.specs.declared.at.At.{At}
 use Rattle.ds_period.specs.declared.fault.DelayKind.{DelayKind}
 use Rattle.ds_period.specs.declared.fault.DelayKind.TheVariants.{BadWord, UnknownOrder}
 use Rattle.ds_period.specs.declared.fault.DelayKind.TheVariants.{RepeatedOrder}
-use Rattle.ds_period.specs.declared.fault.DelayRefusal.{DelayRefusal}
-use Rattle.ds_period.specs.declared.fault.DelayRefusal.TheVariants.{Memory, Fault}
+use Rattle.ds_lines.specs.First.{behind_line}
 
 -- an arc leads from u to v
 abbrev pub is_from_to : ℕ → ℕ → Arc → Bool
@@ -76,24 +75,12 @@ after_line g so_far words =
     else if is_given so_far (arc_named g words) then Err (repeated_order words)
     else Ok (with_delay so_far (arc_named g words) (written_delay words))
 
--- a fault of the line of this number, else what the lines behind it give
-abbrev pub then_lines : ℕ → Result Given DelayKind → (Given → Result (List ℕ) DelayFault)
-    → Result (List ℕ) DelayFault
-then_lines number (Ok so_far) rest = rest so_far
-then_lines number (Err kind) rest = Err (record { line = number; kind = kind })
-
 -- the delays of the arcs after these lines, or the first fault
-abbrev pub delays_from : Graph → Given → List Line → Result (List ℕ) DelayFault
+abbrev pub delays_from : Graph → Given → List Line → Result (List ℕ) (At DelayKind)
 delays_from g so_far [] = Ok so_far.delays
 delays_from g so_far (line ∷ lines) =
-    then_lines line.number (after_line g so_far line.words) (λ next. delays_from g next lines)
+    behind_line line.number (after_line g so_far line.words) (λ next. delays_from g next lines)
 
 -- the delays that lines give, or the first fault
-abbrev pub delays_of : Graph → List Line → Result (List ℕ) DelayFault
+abbrev pub delays_of : Graph → List Line → Result (List ℕ) (At DelayKind)
 delays_of g lines = delays_from g (none_given g) lines
-
--- the delays that lines give, or their first fault, unless memory was wanted
-abbrev pub IsRead : Graph → List Line → Result (List ℕ) DelayRefusal → Type 0
-IsRead g lines (Ok delays) = delays_of g lines ≡ Ok delays
-IsRead g lines (Err Memory) = ⊤
-IsRead g lines (Err (Fault fault)) = delays_of g lines ≡ Err fault

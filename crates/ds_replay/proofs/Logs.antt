@@ -12,7 +12,7 @@ use Rattle.ds_marked.specs.Log.{event_text, sign, IsLegalLogFrom, LineFault}
 use Rattle.ds_rows.specs.Texts.{event_by_text}
 use Rattle.ds_replay.specs.Replay.{fault_of_firing, log_fault_or, log_of, replay_from, replay_of, with_first}
 use Rattle.ds_replay.specs.Legal.{EndsInSign, HasKind, HasOwnTexts, HasPlainDummies, IsFirstFault, words_of_lines}
-use Rattle.ds_replay.specs.declared.fault.ReplayFault.{ReplayFault}
+use Rattle.ds_lines.specs.declared.at.At.{At}
 use Rattle.ds_replay.specs.declared.fault.ReplayKind.{ReplayKind}
 use Rattle.ds_replay.proofs.Lines.{clean, clean_is, faulty}
 
@@ -51,24 +51,24 @@ own_texts g once plain i j d less inside same =
     once i j d less inside (same_event (get_or g.events i d) (get_or g.events j d) (plain i d (omega arith)) (plain j d inside) same)
 
 -- what the first line gives and what the others give
-ok_or : Result (List ℕ) ReplayFault → List ℕ
+ok_or : Result (List ℕ) (At ReplayKind) → List ℕ
 ok_or (Ok events) = events
 ok_or (Err fault) = []
 
-ok_same : (a b : List ℕ) → (let r : Result (List ℕ) ReplayFault = Ok a in r ≡ Ok b) → a ≡ b
+ok_same : (a b : List ℕ) → (let r : Result (List ℕ) (At ReplayKind) = Ok a in r ≡ Ok b) → a ≡ b
 unfolding ok_or
 ok_same a b e = ap ok_or e
 
-err_or : ReplayFault → Result (List ℕ) ReplayFault → ReplayFault
+err_or : At ReplayKind → Result (List ℕ) (At ReplayKind) → At ReplayKind
 err_or fault (Ok events) = fault
 err_or fault (Err other) = other
 
-err_same : (a b : ReplayFault) → (let r : Result (List ℕ) ReplayFault = Err a in r ≡ Err b) → a ≡ b
+err_same : (a b : At ReplayKind) → (let r : Result (List ℕ) (At ReplayKind) = Err a in r ≡ Err b) → a ≡ b
 unfolding err_or
 err_same a b e = ap (err_or a) e
 
 -- the lines fire these events, so they are a legal log of them
-legal_line : (g : Graph) (limit : ℕ) (count : ℕ → ℕ) (line : Line) (lines : List Line) (events : List ℕ) (kind : Option ReplayKind) (rest : Result (List ℕ) ReplayFault)
+legal_line : (g : Graph) (limit : ℕ) (count : ℕ → ℕ) (line : Line) (lines : List Line) (events : List ℕ) (kind : Option ReplayKind) (rest : Result (List ℕ) (At ReplayKind))
     → ((more : List ℕ) → replay_from g limit (counted (event_by_text g (first_word line.words)) count) lines ≡ Ok more → IsLegalLogFrom g limit (counted (event_by_text g (first_word line.words)) count) (words_of_lines lines) more)
     → fault_of_firing g limit count line.words ≡ kind
     → replay_from g limit (counted (event_by_text g (first_word line.words)) count) lines ≡ rest
@@ -97,7 +97,7 @@ fires g own limit count (line ∷ lines) (v ∷ events) (here, rest) =
     rw (none, at, fires g own limit (counted v count) lines events rest) refl
 
 -- the first fault
-abbrev IsFaultFrom : Graph → ℕ → (ℕ → ℕ) → List Line → ReplayFault → Type 0
+abbrev IsFaultFrom : Graph → ℕ → (ℕ → ℕ) → List Line → At ReplayKind → Type 0
 IsFaultFrom g limit count lines fault =
     (before : List Line) × (line : Line) × (behind : List Line) × (events : List ℕ)
     × (lines ≡ before ++ line ∷ behind)
@@ -105,7 +105,7 @@ IsFaultFrom g limit count lines fault =
     × (fault.line ≡ line.number)
     × (why : LineFault g limit (counts_after count events) line.words) × HasKind why fault.kind
 
-fault_line : (g : Graph) (limit : ℕ) (count : ℕ → ℕ) (line : Line) (lines : List Line) (fault : ReplayFault) (kind : Option ReplayKind) (rest : Result (List ℕ) ReplayFault)
+fault_line : (g : Graph) (limit : ℕ) (count : ℕ → ℕ) (line : Line) (lines : List Line) (fault : At ReplayKind) (kind : Option ReplayKind) (rest : Result (List ℕ) (At ReplayKind))
     → (replay_from g limit (counted (event_by_text g (first_word line.words)) count) lines ≡ Err fault → IsFaultFrom g limit (counted (event_by_text g (first_word line.words)) count) lines fault)
     → fault_of_firing g limit count line.words ≡ kind
     → replay_from g limit (counted (event_by_text g (first_word line.words)) count) lines ≡ rest
@@ -119,15 +119,15 @@ fault_line g limit count line lines fault None (Err other) later is same e =
 fault_line g limit count line lines fault (Some kind) rest later is same e =
     let same_fault : record { line = line.number; kind = kind } ≡ fault = err_same (record { line = line.number; kind = kind }) fault e in
     let (why, has) = faulty g limit count line.words kind is in
-    ([], line, lines, [], refl, tt, sym (ap (λ (f : ReplayFault). f.line) same_fault), why, subst (λ (f : ReplayFault). HasKind why f.kind) same_fault has)
+    ([], line, lines, [], refl, tt, sym (ap (λ (f : At ReplayKind). f.line) same_fault), why, subst (λ (f : At ReplayKind). HasKind why f.kind) same_fault has)
 
-first_fault : (g : Graph) (limit : ℕ) (count : ℕ → ℕ) (lines : List Line) (fault : ReplayFault) → replay_from g limit count lines ≡ Err fault → IsFaultFrom g limit count lines fault
+first_fault : (g : Graph) (limit : ℕ) (count : ℕ → ℕ) (lines : List Line) (fault : At ReplayKind) → replay_from g limit count lines ≡ Err fault → IsFaultFrom g limit count lines fault
 first_fault g limit count [] fault e = cc
 first_fault g limit count (line ∷ lines) fault e =
     fault_line g limit count line lines fault (fault_of_firing g limit count line.words) (replay_from g limit (counted (event_by_text g (first_word line.words)) count) lines)
     (λ same. first_fault g limit (counted (event_by_text g (first_word line.words)) count) lines fault same) refl refl e
 
-pub refuses : (g : Graph) (limit : ℕ) (lines : List Line) (fault : ReplayFault) → replay_of g limit lines ≡ Err fault → IsFirstFault g limit (log_of lines) fault
+pub refuses : (g : Graph) (limit : ℕ) (lines : List Line) (fault : At ReplayKind) → replay_of g limit lines ≡ Err fault → IsFirstFault g limit (log_of lines) fault
 refuses g limit lines fault e =
     let (before, at, behind, events, split, log, number, why, kind) = first_fault g limit (λ _. 0) (log_of lines) fault e in
     record { before = before; line = at; behind = behind; lines_are = split; events = events; legal = log; number = number; why = why; kind = kind }

@@ -14,23 +14,24 @@ use Rattle.ds_fire.specs.Fired.{IsAfter, IsFired, IsReached, IsSnapshotSound}
 use Rattle.ds_fire.proofs.Reached.{fired_after, kept_counts}
 use Rattle.ds_rows.specs.Texts.{event_by_text}
 use Rattle.ds_replay.specs.Replayed.{IsReplayed, Replays}
-use Rattle.ds_replay.specs.Step.{StepsTo, log_refusal_of}
-use Rattle.ds_replay.specs.declared.fault.Refusal.{Refusal}
-use Rattle.ds_replay.specs.declared.fault.Refusal.TheVariants as refusal
+use Rattle.ds_replay.specs.Step.{StepsTo}
+use Rattle.ds_base.specs.declared.refusal.Refusal.{Refusal}
+use Rattle.ds_base.specs.declared.refusal.Refusal.TheVariants.{Memory, Fault}
+use Rattle.ds_lines.specs.First.{refusal_on}
 use Rattle.ds_replay.specs.Replay.{fault_of_firing, log_fault_or, replay_from, replay_of, start_of, with_first}
-use Rattle.ds_replay.specs.declared.fault.ReplayFault.{ReplayFault}
+use Rattle.ds_lines.specs.declared.at.At.{At}
 use Rattle.ds_replay.specs.declared.fault.ReplayKind.{ReplayKind}
 
 -- events, and then what the lines behind them give
-abbrev pub onto : List ℕ → Result (List ℕ) ReplayFault → Result (List ℕ) ReplayFault
+abbrev pub onto : List ℕ → Result (List ℕ) (At ReplayKind) → Result (List ℕ) (At ReplayKind)
 onto events (Ok more) = Ok (events ++ more)
 onto events (Err fault) = Err fault
 
-onto_nil : (rest : Result (List ℕ) ReplayFault) → rest ≡ onto [] rest
+onto_nil : (rest : Result (List ℕ) (At ReplayKind)) → rest ≡ onto [] rest
 onto_nil (Ok more) = refl
 onto_nil (Err fault) = refl
 
-onto_first : (events : List ℕ) (v : ℕ) (rest : Result (List ℕ) ReplayFault) → onto events (with_first v rest) ≡ onto (events ++ v ∷ []) rest
+onto_first : (events : List ℕ) (v : ℕ) (rest : Result (List ℕ) (At ReplayKind)) → onto events (with_first v rest) ≡ onto (events ++ v ∷ []) rest
 onto_first events v (Ok more) = ap Ok (sym (append_assoc events (v ∷ []) more))
 onto_first events v (Err fault) = refl
 
@@ -73,14 +74,14 @@ fired_none planned vectors lines i kept at first =
     }
 
 -- a line more, which has no fault
-rest_more : (g : Graph) (limit : ℕ) (count : ℕ → ℕ) (lines : List Line) (i : ℕ) (events : List ℕ) (all : Result (List ℕ) ReplayFault) → i < length lines
+rest_more : (g : Graph) (limit : ℕ) (count : ℕ → ℕ) (lines : List Line) (i : ℕ) (events : List ℕ) (all : Result (List ℕ) (At ReplayKind)) → i < length lines
     → fault_of_firing g limit count (line_or_none lines i).words ≡ None
     → all ≡ onto events (replay_from g limit count (drop i lines))
     → all ≡ onto (events ++ event_by_text g (first_word (line_or_none lines i).words) ∷ []) (replay_from g limit (counted (event_by_text g (first_word (line_or_none lines i).words)) count) (drop (i + 1) lines))
 rest_more g limit count lines i events all inside clean is =
     let line : Line = line_or_none lines i in
     let v : ℕ = event_by_text g (first_word line.words) in
-    let rest : Result (List ℕ) ReplayFault = replay_from g limit (counted v count) (drop (i + 1) lines) in
+    let rest : Result (List ℕ) (At ReplayKind) = replay_from g limit (counted v count) (drop (i + 1) lines) in
     is
     ∙ (ap (λ (ls : List Line). onto events (replay_from g limit count ls)) (drop-cons lines i (line_or_none [] 0) inside ∙ ap (λ (n : ℕ). line ∷ drop n lines) (sym (add-one i)))
     ∙ (ap (λ (kind : Option ReplayKind). onto events (log_fault_or kind line.number (with_first v rest))) clean
@@ -161,9 +162,9 @@ steps_more planned vectors lines i old new words inside are (clean, fired) befor
     (subst (λ (ws : List (List ℕ)). IsFired old (event_by_text (graph_of old) (first_word ws)) new) are fired)
     before
 
-pub refused : (planned : Planned) (vectors : List Row) (lines : List Line) (i : ℕ) (old new : Snapshot) (words : List (List ℕ)) (why : Refusal) (line : ℕ) → i < length lines → words ≡ (line_or_none lines i).words
+pub refused : (planned : Planned) (vectors : List Row) (lines : List Line) (i : ℕ) (old new : Snapshot) (words : List (List ℕ)) (why : Refusal ReplayKind) (line : ℕ) → i < length lines → words ≡ (line_or_none lines i).words
     → line ≡ (line_or_none lines i).number → StepsTo old words new (Err why)
-    → IsFiredTo planned vectors lines i old → Replays planned vectors lines (Err (log_refusal_of line why))
-refused planned vectors lines i old new words refusal.Memory line inside are number step before = tt
-refused planned vectors lines i old new words (refusal.Because kind) line inside are number step before =
+    → IsFiredTo planned vectors lines i old → Replays planned vectors lines (Err (refusal_on line why))
+refused planned vectors lines i old new words Memory line inside are number step before = tt
+refused planned vectors lines i old new words (Fault kind) line inside are number step before =
     fired_not planned vectors lines i old kind line inside (subst (λ (ws : List (List ℕ)). fault_of_firing (graph_of old) (limit_of old) (count_of old) ws ≡ Some kind) are step) number before

@@ -8,7 +8,7 @@ use Rattle.ds_marked.specs.declared.marked.Kind.TheVariants.{Dummy}
 use Rattle.ds_marked.specs.Log.{event_text, IsLegalLogFrom, LineFault, bad_word, unknown_event}
 use Rattle.ds_marked.specs.Log.{wrong_turn, over_limit, not_enabled}
 use Rattle.ds_replay.specs.Replay.{log_of, replay_of}
-use Rattle.ds_replay.specs.declared.fault.ReplayFault.{ReplayFault}
+use Rattle.ds_lines.specs.declared.at.At.{At}
 use Rattle.ds_replay.specs.declared.fault.ReplayKind.{ReplayKind}
 use Rattle.ds_replay.specs.declared.fault.ReplayKind.TheVariants.{BadWord, UnknownEvent, WrongTurn}
 use Rattle.ds_replay.specs.declared.fault.ReplayKind.TheVariants.{OverLimit, NotEnabled}
@@ -46,7 +46,7 @@ HasKind {g} {limit} {count} (not_enabled v number event turn below not_ready) ki
 
 -- the fault is that of one of these lines, and the lines before it are a legal log
 pub record IsFirstFault (g : Graph) (limit : ℕ) (lines : List Line)
-    (fault : ReplayFault) : Type 0 where
+    (fault : At ReplayKind) : Type 0 where
   pub before : List Line
   pub line : Line
   pub behind : List Line
@@ -75,5 +75,5 @@ FiresEachLine = (g : Graph) (limit : ℕ) (lines : List Line) (events : List ℕ
 
 -- a fault is the first one of the lines that are read
 abbrev pub RefusesFirstFaults : Type 0
-RefusesFirstFaults = (g : Graph) (limit : ℕ) (lines : List Line) (fault : ReplayFault)
+RefusesFirstFaults = (g : Graph) (limit : ℕ) (lines : List Line) (fault : At ReplayKind)
     → replay_of g limit lines ≡ Err fault → IsFirstFault g limit (log_of lines) fault

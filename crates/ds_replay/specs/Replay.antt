@@ -11,7 +11,7 @@ use Rattle.ds_marked.specs.Graph.{Graph, counted}
 use Rattle.ds_marked.specs.declared.marked.Arc.{Arc}
 use Rattle.ds_rows.specs.Texts.{event_by_text}
 use Rattle.ds_replay.specs.Word.{second_word, is_firing}
-use Rattle.ds_replay.specs.declared.fault.ReplayFault.{ReplayFault}
+use Rattle.ds_lines.specs.declared.at.At.{At}
 use Rattle.ds_replay.specs.declared.fault.ReplayKind.{ReplayKind}
 use Rattle.ds_replay.specs.declared.fault.ReplayKind.TheVariants.{BadWord, UnknownEvent, WrongTurn}
 use Rattle.ds_replay.specs.declared.fault.ReplayKind.TheVariants.{OverLimit, NotEnabled}
@@ -44,18 +44,18 @@ fault_of_firing g limit count words = first_of (
     ∷ [])
 
 -- a fault of the line of this number, else what the lines behind it give
-abbrev pub log_fault_or : Option ReplayKind → ℕ → Result (List ℕ) ReplayFault
-    → Result (List ℕ) ReplayFault
+abbrev pub log_fault_or : Option ReplayKind → ℕ → Result (List ℕ) (At ReplayKind)
+    → Result (List ℕ) (At ReplayKind)
 log_fault_or None number rest = rest
 log_fault_or (Some kind) number rest = Err (record { line = number; kind = kind })
 
 -- an event, and then others
-abbrev pub with_first : ℕ → Result (List ℕ) ReplayFault → Result (List ℕ) ReplayFault
+abbrev pub with_first : ℕ → Result (List ℕ) (At ReplayKind) → Result (List ℕ) (At ReplayKind)
 with_first v (Ok events) = Ok (v ∷ events)
 with_first v (Err fault) = Err fault
 
 -- the events that lines fire one after another from these counts on, or the first fault
-abbrev pub replay_from : Graph → ℕ → (ℕ → ℕ) → List Line → Result (List ℕ) ReplayFault
+abbrev pub replay_from : Graph → ℕ → (ℕ → ℕ) → List Line → Result (List ℕ) (At ReplayKind)
 replay_from g limit count [] = Ok []
 replay_from g limit count (line ∷ lines) = log_fault_or (fault_of_firing g limit count line.words)
     line.number
@@ -77,5 +77,5 @@ abbrev pub log_of : List Line → List Line
 log_of lines = drop (start_of lines) lines
 
 -- the events that a log fires, each at most so often, or its first fault
-abbrev pub replay_of : Graph → ℕ → List Line → Result (List ℕ) ReplayFault
+abbrev pub replay_of : Graph → ℕ → List Line → Result (List ℕ) (At ReplayKind)
 replay_of g limit lines = replay_from g limit (λ _. 0) (log_of lines)

@@ -7,8 +7,10 @@ use Rattle.ds_latch.specs.Plan.{Planned}
 use Rattle.ds_fire.specs.Snapshot.{Snapshot}
 use Rattle.ds_fire.specs.Fired.{IsAfter, IsReached, IsSnapshotSound}
 use Rattle.ds_replay.specs.Replay.{replay_of}
-use Rattle.ds_replay.specs.declared.fault.ReplayRefusal.{ReplayRefusal}
-use Rattle.ds_replay.specs.declared.fault.ReplayRefusal.TheVariants.{Memory, Fault}
+use Rattle.ds_base.specs.declared.refusal.Refusal.{Refusal}
+use Rattle.ds_lines.specs.declared.at.At.{At}
+use Rattle.ds_base.specs.declared.refusal.Refusal.TheVariants.{Memory, Fault}
+use Rattle.ds_replay.specs.declared.fault.ReplayKind.{ReplayKind}
 
 -- the state of a plan and vectors after a legal list of firings
 pub record IsReplayed (planned : Planned) (vectors : List Row) (events : List ℕ)
@@ -22,7 +24,8 @@ pub record IsReplayed (planned : Planned) (vectors : List Row) (events : List �
 
 -- the state after the events of the lines, or the first fault of the lines, unless memory was
 -- wanted
-abbrev pub Replays : Planned → List Row → List Line → Result Snapshot ReplayRefusal → Type 0
+abbrev pub Replays : Planned → List Row → List Line → Result Snapshot (Refusal (At ReplayKind))
+    → Type 0
 Replays planned vectors lines (Ok kept) =
     (events : List ℕ) × (replay_of planned.graph (length vectors) lines ≡ Ok events)
     × IsReplayed planned vectors events kept

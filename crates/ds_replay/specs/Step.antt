@@ -7,12 +7,10 @@ use Rattle.ds_fire.specs.Snapshot.{Snapshot, graph_of, limit_of, count_of}
 use Rattle.ds_fire.specs.Fired.{IsFired}
 use Rattle.ds_rows.specs.Texts.{event_by_text}
 use Rattle.ds_replay.specs.Replay.{event_fault, fault_of_firing}
-use Rattle.ds_replay.specs.declared.fault.Refusal.{Refusal}
-use Rattle.ds_replay.specs.declared.fault.Refusal.TheVariants as refusal
+use Rattle.ds_base.specs.declared.refusal.Refusal.{Refusal}
 use Rattle.ds_replay.specs.declared.fault.ReplayKind.{ReplayKind}
 use Rattle.ds_replay.specs.declared.fault.ReplayKind.TheVariants.{OverLimit, NotEnabled}
-use Rattle.ds_replay.specs.declared.fault.ReplayRefusal.{ReplayRefusal}
-use Rattle.ds_replay.specs.declared.fault.ReplayRefusal.TheVariants.{Memory, Fault}
+use Rattle.ds_base.specs.declared.refusal.Refusal.TheVariants.{Memory, Fault}
 
 -- the kind of what keeps an event from firing
 abbrev pub kind_of : Blocked → ReplayKind
@@ -27,15 +25,11 @@ FiresTo old v turn new (Err kind) = event_fault (graph_of old) (limit_of old) (c
     ≡ Some kind
 
 -- the event of a line has fired, or this is what is wrong with the line
-abbrev pub StepsTo : Snapshot → List (List ℕ) → Snapshot → Result (Unit {0}) Refusal → Type 0
+abbrev pub StepsTo : Snapshot → List (List ℕ) → Snapshot → Result (Unit {0}) (Refusal ReplayKind)
+    → Type 0
 StepsTo old words new (Ok done) =
     (fault_of_firing (graph_of old) (limit_of old) (count_of old) words ≡ None)
     × IsFired old (event_by_text (graph_of old) (first_word words)) new
-StepsTo old words new (Err refusal.Memory) = Unit {0}
-StepsTo old words new (Err (refusal.Because kind)) =
+StepsTo old words new (Err Memory) = Unit {0}
+StepsTo old words new (Err (Fault kind)) =
     fault_of_firing (graph_of old) (limit_of old) (count_of old) words ≡ Some kind
-
--- the refusal of a log with such a line
-abbrev pub log_refusal_of : ℕ → Refusal → ReplayRefusal
-log_refusal_of line refusal.Memory = Memory
-log_refusal_of line (refusal.Because kind) = Fault (record { line = line; kind = kind })

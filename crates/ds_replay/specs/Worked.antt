@@ -4,9 +4,10 @@ use Rattle.ds_lines.specs.Line.{lines_of}
 use Rattle.ds_marked.specs.Graph.{Graph}
 use Rattle.ds_marked.specs.declared.marked.Kind.TheVariants.{Rise, Fall, Dummy}
 use Rattle.ds_replay.specs.Replay.{replay_of}
-use Rattle.ds_replay.specs.declared.fault.ReplayFault.{ReplayFault}
+use Rattle.ds_lines.specs.declared.at.At.{At}
 use Rattle.ds_replay.specs.declared.fault.ReplayKind.TheVariants.{BadWord, UnknownEvent, WrongTurn}
 use Rattle.ds_replay.specs.declared.fault.ReplayKind.TheVariants.{OverLimit, NotEnabled}
+use Rattle.ds_replay.specs.declared.fault.ReplayKind.{ReplayKind}
 
 -- a signal that rises, and falls after that
 abbrev pub one_signal : Graph
@@ -18,7 +19,7 @@ one_signal = record {
 }
 
 -- what a text fires of it, each event at most twice
-abbrev pub log_read : List ℕ → Result (List ℕ) ReplayFault
+abbrev pub log_read : List ℕ → Result (List ℕ) (At ReplayKind)
 log_read text = replay_of one_signal 2 (lines_of text)
 
 -- the same signal, and a dummy between its rise and its fall

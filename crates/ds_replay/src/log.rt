@@ -1,17 +1,15 @@
 //! The top call: the lines of a log are read one after another, and each event fires if it may.
 ghost use Rattle.std.specs.Prelude.{◌≡◌, length};
 ghost use Rattle.ds_design.specs.Circuit.{columns};
-ghost use Rattle.ds_replay.specs.Step.{log_refusal_of};
 ghost use Rattle.ds_replay.specs.Replayed.{Replays};
 
-use crate::fault::Refusal;
+use crate::ReplayRefusal;
 use crate::start::start;
 use crate::step::step;
-use crate::{ReplayFault, ReplayRefusal};
 use ds_design::Vectors;
 use ds_fire::State;
 use ds_latch::Plan;
-use ds_lines::Lines;
+use ds_lines::{Lines, on_line};
 use ds_rows::{Lookup, texts_of};
 use std::alloc::Global;
 
@@ -33,20 +31,10 @@ pub fn replay<'a>(
     for i in start(lines)..lines.count() {
         match step(alloc, lines.line(i), &events, &mut state) {
             Ok(()) => {}
-            Err(why) => return Err(refusal(lines.number(i), why)),
+            Err(why) => return Err(on_line(lines.number(i), why)),
         }
     }
     // Called for the fact that some legal list leads here.
     state.reached();
     Ok(state)
-}
-
-// The refusal of a log with such a line.
-fn refusal(line: u64, why: Refusal) -> ReplayRefusal
-    ensures { result ≡ log_refusal_of line why }
-{
-    match why {
-        Refusal::Memory => ReplayRefusal::Memory,
-        Refusal::Because(kind) => ReplayRefusal::Fault(ReplayFault { line, kind }),
-    }
 }

@@ -6,9 +6,9 @@ ghost use Rattle.ds_replay.specs.Step.{StepsTo};
 ghost use Rattle.ds_replay.specs.declared.fault.ReplayKind.TheVariants.{UnknownEvent};
 
 use crate::ReplayKind;
-use crate::fault::Refusal;
 use crate::fire::fire;
 use crate::word::turn_of;
+use ds_base::Refusal;
 use ds_fire::State;
 use ds_lines::{name, word};
 use ds_rows::Lookup;
@@ -20,20 +20,20 @@ pub fn step(
     words: &[&[u8]],
     events: &Lookup<'_>,
     state: &mut State<'_>,
-) -> Result<(), Refusal>
+) -> Result<(), Refusal<ReplayKind>>
     requires { events.now ≡ event_texts (graph_of state.old) }
     ensures { StepsTo state.old (map (λ w. w.now) words.now) state.new result }
 {
     let Some(turn) = turn_of(words) else {
-        return Err(Refusal::Because(ReplayKind::BadWord));
+        return Err(Refusal::Fault(ReplayKind::BadWord));
     };
     let named = word(words, 0);
     let Some(event) = events.find(named) else {
-        return Err(Refusal::Because(unknown(alloc, named)?));
+        return Err(Refusal::Fault(unknown(alloc, named)?));
     };
     match fire(turn, event, state) {
         Ok(()) => Ok(()),
-        Err(kind) => Err(Refusal::Because(kind)),
+        Err(kind) => Err(Refusal::Fault(kind)),
     }
 }
 

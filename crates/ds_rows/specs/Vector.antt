@@ -1,10 +1,10 @@
 -- What lines stand for as vectors, and their first fault.
-use Rattle.std.specs.Prelude.{◌≡◌, ℕ, ◌+◌, Bool, true, not, List, [], ◌∷◌, map, length}
-use Rattle.std.specs.Prelude.{codes, Option, None, Some, Result, Ok, Err, slice_index_or, ◌==◌}
+use Rattle.std.specs.Prelude.{ℕ, ◌+◌, Bool, true, not, List, [], ◌∷◌, map, length}
+use Rattle.std.specs.Prelude.{codes, Option, None, Result, ◌==◌}
 use Rattle.std.specs.Prelude.{◌||◌, ◌&&◌, if◌then◌else◌, nat_lt}
 use Rattle.std.specs.List.{list_all}
 use Rattle.std.specs.Str.{bytes_eq}
-use Rattle.ds_lines.specs.First.{where_true, first_of, unless_fault}
+use Rattle.ds_lines.specs.First.{where_true, first_of, unless_fault, fault_or}
 use Rattle.ds_lines.specs.Words.{first_word}
 use Rattle.ds_base.specs.Limit.{most_of}
 use Rattle.ds_base.specs.Values.{Row}
@@ -15,9 +15,7 @@ use Rattle.ds_design.specs.Rows.{Rows}
 use Rattle.ds_lines.specs.Line.{Line}
 use Rattle.ds_rows.specs.declared.fault.VectorKind.{VectorKind}
 use Rattle.ds_rows.specs.declared.fault.VectorKind.TheVariants.{TooMany, BadWidth, BadBit}
-use Rattle.ds_rows.specs.declared.fault.VectorFault.{VectorFault}
-use Rattle.ds_rows.specs.declared.fault.VectorRefusal.{VectorRefusal}
-use Rattle.ds_rows.specs.declared.fault.VectorRefusal.TheVariants.{Memory, Fault}
+use Rattle.ds_lines.specs.declared.at.At.{At}
 
 -- `0`, `1` or `x`
 abbrev pub is_bit : ℕ → Bool
@@ -49,15 +47,10 @@ fault_of_vector width seen words = first_of (
     ∷ where_true (not (has_bits width words)) BadBit
     ∷ [])
 
--- a fault of the line of this number, else a fault behind it
-abbrev pub vector_fault_or : Option VectorKind → ℕ → Option VectorFault → Option VectorFault
-vector_fault_or None number rest = rest
-vector_fault_or (Some kind) number rest = Some (record { line = number; kind = kind })
-
 -- the first fault of lines, where so many vectors stand before them
-abbrev pub first_vector_fault : ℕ → ℕ → List Line → Option VectorFault
+abbrev pub first_vector_fault : ℕ → ℕ → List Line → Option (At VectorKind)
 first_vector_fault width seen [] = None
-first_vector_fault width seen (line ∷ lines) = vector_fault_or
+first_vector_fault width seen (line ∷ lines) = fault_or
     (fault_of_vector width seen line.words) line.number
     (first_vector_fault width (seen + 1) lines)
 
@@ -66,12 +59,6 @@ abbrev pub rows_of_lines : ℕ → List Line → List Row
 rows_of_lines width lines = map (λ line. row_of width line.words) lines
 
 -- what lines stand for as vectors of a width: their rows, or their first fault
-abbrev pub vectors_of : ℕ → List Line → Result Rows VectorFault
+abbrev pub vectors_of : ℕ → List Line → Result Rows (At VectorKind)
 vectors_of width lines = unless_fault (first_vector_fault width 0 lines)
     (record { width = width; rows = rows_of_lines width lines })
-
--- a reader's answer is what the lines stand for, unless memory was wanted
-abbrev pub Reads : Result Rows VectorRefusal → Result Rows VectorFault → Type 0
-Reads (Ok rows) meant = meant ≡ Ok rows
-Reads (Err Memory) meant = Unit {0}
-Reads (Err (Fault fault)) meant = meant ≡ Err fault

@@ -1,6 +1,6 @@
 //! Why vectors are refused.
-use ds_base::{Limit, OutOfMemory};
-use std::alloc::AllocFailed;
+use ds_base::{Limit, Refusal};
+use ds_lines::At;
 
 /// What is wrong with a line of vectors.
 #[derive(Clone, Copy, Debug, PartialEq, Eq)]
@@ -13,40 +13,8 @@ pub enum VectorKind {
     BadBit,
 }
 
-/// The first fault of a text: the number of its line, from 1, and what is wrong there.
-#[derive(Clone, Copy, Debug, PartialEq, Eq)]
-pub struct VectorFault {
-    pub line: u64,
-    pub kind: VectorKind,
-}
+/// The first fault of a text.
+pub type VectorFault = At<VectorKind>;
 
-/// Why vectors are not read.
-#[derive(Clone, Copy, Debug, PartialEq, Eq)]
-pub enum VectorRefusal {
-    /// The lines have a fault.
-    Fault(VectorFault),
-    /// Memory was wanted and not found.
-    Memory,
-}
-
-impl From<OutOfMemory> for VectorRefusal {
-    ghost use Rattle.std.specs.Prelude.{◌≡◌};
-    ghost use Rattle.ds_rows.specs.declared.fault.VectorRefusal.TheVariants.{Memory};
-
-    ghost from_gives = { λ _ why. why ≡ Memory };
-
-    fn from(_: OutOfMemory) -> Self {
-        VectorRefusal::Memory
-    }
-}
-
-impl<T: Drop> From<AllocFailed<T>> for VectorRefusal {
-    ghost use Rattle.std.specs.Prelude.{◌≡◌};
-    ghost use Rattle.ds_rows.specs.declared.fault.VectorRefusal.TheVariants.{Memory};
-
-    ghost from_gives = { λ _ why. why ≡ Memory };
-
-    fn from(_: AllocFailed<T>) -> Self {
-        VectorRefusal::Memory
-    }
-}
+/// Why vectors are not read: their first fault, or want of memory.
+pub type VectorRefusal = Refusal<VectorFault>;

@@ -34,8 +34,6 @@ mod reader;
 mod register_name;
 mod shown;
 mod stored;
-#[cfg(test)]
-mod tests;
 mod texts;
 mod trace;
 mod vector;

@@ -105,16 +105,9 @@ pub record HasTooManyArcs (s : Split) : Type 0 where
 
 -- what there is too much of
 abbrev pub HasTooMany : Split → Limit → Type 0
-HasTooMany s limit.Bytes = ⊥
-HasTooMany s limit.TableInputs = ⊥
-HasTooMany s limit.Copies = ⊥
-HasTooMany s limit.Nets = ⊥
-HasTooMany s limit.Tables = ⊥
-HasTooMany s limit.Registers = ⊥
-HasTooMany s limit.Clusters = ⊥
-HasTooMany s limit.Arcs = HasTooManyArcs s
 HasTooMany s limit.Signals = HasTooManySignals s
-HasTooMany s limit.Vectors = ⊥
+HasTooMany s limit.Arcs = HasTooManyArcs s
+HasTooMany s limit = ⊥
 
 -- the fault is what the design shows
 abbrev pub IsShakeFault : Split → ShakeFault → Type 0

@@ -12,9 +12,9 @@ use Rattle.ds_netlist.specs.Laws.{FaultsAreRefused}
 use Rattle.ds_netlist.specs.declared.fault.NetFault.{NetFault}
 use Rattle.ds_netlist.specs.declared.fault.NetFault.TheVariants as net
 use Rattle.ds_rows.specs.Vector.{vectors_of}
-use Rattle.ds_stage.specs.FaultText.{IsNetFaultText, net_fault_text}
+use Rattle.ds_stage.specs.FaultText.{IsNetFaultText, blif_text, flat_text, net_fault_text, vector_text}
 use Rattle.ds_stage.specs.Stage.{Stage, IsExclusive, then_stage}
-use Rattle.ds_stage.specs.Stages.{OfBytes, accepted_stage, design_stage, file_stage, flat_or_line, lines_stage, models_or_line, netlist_stage, result_stage, rows_stage, rows_or_line, text_stage, vectors_stage}
+use Rattle.ds_stage.specs.Stages.{OfBytes, accepted_stage, design_stage, file_stage, lines_stage, netlist_stage, read_or_line, result_stage, rows_stage, text_stage, vectors_stage}
 
 -- stages that are each exclusive are together
 pub then_exclusive : {A B : Type 0} (first : Stage A) (next : A → Stage B) → IsExclusive first → ((a : A) → IsExclusive (next a)) → IsExclusive (then_stage first next)
@@ -62,8 +62,8 @@ result_exclusive r = record { one = λ a b is also. one_ok r a b is also; not_re
 
 design_exclusive : (file : List ℕ) (lines : List Line) → IsExclusive (design_stage file lines)
 design_exclusive file lines =
-    then_exclusive (result_stage (models_or_line file (models_of_text lines))) (λ (models : List BlifModel). result_stage (flat_or_line file (flat_of models)))
-    (result_exclusive (models_or_line file (models_of_text lines))) (λ models. result_exclusive (flat_or_line file (flat_of models)))
+    then_exclusive (result_stage (read_or_line file blif_text (models_of_text lines))) (λ (models : List BlifModel). result_stage (read_or_line file flat_text (flat_of models)))
+    (result_exclusive (read_or_line file blif_text (models_of_text lines))) (λ models. result_exclusive (read_or_line file flat_text (flat_of models)))
 
 -- a fault that has a text is not want of memory
 shown_fault : (c : Circuit) (fault : NetFault) (text : List ℕ) → IsNetFaultText c fault text → fault ≢ net.Memory
@@ -89,4 +89,4 @@ netlist_exclusive law held file told =
 pub vectors_exclusive : (held : List ℕ → Held) (vec : List ℕ) (c : Circuit) → held vec ≢ untold → IsExclusive (vectors_stage held vec c)
 vectors_exclusive held vec c told =
     then_exclusive (lines_stage held Vectors vec) (rows_stage vec (length (columns c))) (lines_exclusive held Vectors vec told)
-    (λ lines. result_exclusive (rows_or_line vec (vectors_of (length (columns c)) lines)))
+    (λ lines. result_exclusive (read_or_line vec vector_text (vectors_of (length (columns c)) lines)))

@@ -9,10 +9,12 @@ use Rattle.ds_blif.specs.Text.{models_of_text}
 use Rattle.ds_flat.specs.Copies.{flat_of}
 use Rattle.ds_design.specs.Circuit.{Circuit, columns}
 use Rattle.ds_design.specs.declared.blif.BlifModel.{BlifModel}
+use Rattle.ds_stage.specs.GraphText.{astg_text}
+use Rattle.ds_stage.specs.FaultText.{blif_text, flat_text}
 use Rattle.ds_stage.specs.Stage.{OfFile, Stage, giving, then_stage}
-use Rattle.ds_stage.specs.Stages.{accepted_stage, design_stage, file_stage, flat_or_line, lines_stage, models_or_line, netlist_stage, result_stage, rows_stage, vectors_stage}
+use Rattle.ds_stage.specs.Stages.{accepted_stage, design_stage, file_stage, lines_stage, netlist_stage, read_or_line, result_stage, rows_stage, vectors_stage}
 use Rattle.ds_stage.specs.SplitStage.{split_stage}
-use Rattle.ds_stage.specs.PlanStage.{acceptable_stage, graph_or_line, marked_stage, plan_stage, planned_stage}
+use Rattle.ds_stage.specs.PlanStage.{acceptable_stage, marked_stage, plan_stage, planned_stage}
 use Rattle.ds_replay.specs.ReplayText.{IsReplayText}
 use Rattle.ds_stage.specs.ReplayStage.{fired_stage, log_stage, replayed_stage}
 use Rattle.ds_base.specs.Values.{Row}
@@ -40,7 +42,7 @@ lines_say held which name failed line (rose, spelt) = record { which = which; na
 
 design_says : (file : List ℕ) (failed : OfFile) (lines : List Line) → Says (design_stage file lines) failed
 design_says file failed lines =
-    then_says (result_stage (models_or_line file (models_of_text lines))) (λ (models : List BlifModel). result_stage (flat_or_line file (flat_of models))) failed
+    then_says (result_stage (read_or_line file blif_text (models_of_text lines))) (λ (models : List BlifModel). result_stage (read_or_line file flat_text (flat_of models))) failed
     (λ line none. absurd none) (λ models line none. absurd none)
 
 pub netlist_says : (held : List ℕ → Held) (file : List ℕ) (failed : OfFile) → Says (netlist_stage held file) failed
@@ -57,7 +59,7 @@ plan_says : (held : List ℕ → Held) (graph : Option (List ℕ)) (failed : OfF
 plan_says held None failed s = λ line none. absurd none
 plan_says held (Some file) failed s =
     then_says (lines_stage held which.Graph file) (marked_stage file s) failed (lines_say held which.Graph file failed)
-    (λ lines. then_says (result_stage (graph_or_line file (graph_of_lines lines))) (acceptable_stage file s) failed (λ line none. absurd none) (λ g line none. absurd none))
+    (λ lines. then_says (result_stage (read_or_line file astg_text (graph_of_lines lines))) (acceptable_stage file s) failed (λ line none. absurd none) (λ g line none. absurd none))
 
 pub planned_says : (held : List ℕ → Held) (net : List ℕ) (graph : Option (List ℕ)) (mode : Mode) (slack : ℕ) (failed : OfFile) (c : Circuit) → Says (planned_stage held net graph mode slack c) failed
 planned_says held net graph mode slack failed c =

@@ -16,14 +16,16 @@ use Rattle.ds_design.specs.Circuit.{Circuit, columns}
 use Rattle.ds_latch.specs.Node.{Split, nodes, slackened}
 use Rattle.ds_latch.specs.Plan.{Planned}
 use Rattle.ds_astg.specs.Read.{graph_of_lines}
+use Rattle.ds_stage.specs.GraphText.{astg_text}
+use Rattle.ds_stage.specs.FaultText.{blif_text, flat_text}
 use Rattle.ds_stage.specs.declared.stop.Stop.{Stop}
 use Rattle.ds_stage.specs.declared.stop.Stop.TheVariants.{Refused, Unread, Unwritten, Memory}
 use Rattle.ds_stage.specs.Stage.{OfFile, Stage, giving, leaves_nothing, then_stage}
-use Rattle.ds_stage.specs.Stages.{accepted_stage, design_stage, file_stage, flat_or_line, lines_stage, models_or_line, netlist_stage, result_stage, rows_stage, vectors_stage}
+use Rattle.ds_stage.specs.Stages.{accepted_stage, design_stage, file_stage, lines_stage, netlist_stage, read_or_line, result_stage, rows_stage, vectors_stage}
 use Rattle.ds_stage.specs.SplitStage.{split_stage}
 use Rattle.ds_stage.specs.GraphStage.{IsGraphOf, controller_stage, drawn_stage, wanted_stage}
 use Rattle.ds_astg.specs.Text.{graph_text}
-use Rattle.ds_stage.specs.PlanStage.{IsOwnPlan, acceptable_stage, graph_or_line, marked_stage, plan_stage, planned_stage}
+use Rattle.ds_stage.specs.PlanStage.{IsOwnPlan, acceptable_stage, marked_stage, plan_stage, planned_stage}
 use Rattle.ds_replay.specs.ReplayText.{IsReplayText}
 use Rattle.ds_stage.specs.ReplayStage.{fired_stage, log_stage, replayed_stage}
 use Rattle.ds_stage.specs.PeriodStage.{IsPeriodText, delays_stage, given_stage, measured_stage, timed_stage}
@@ -74,8 +76,8 @@ lines_nothing held which name = record { may = no_text (lines_stage held which n
 
 design_nothing : (file : List ℕ) (lines : List Line) → LeavesNothing (design_stage file lines)
 design_nothing file lines =
-    then_nothing (result_stage (models_or_line file (models_of_text lines))) (λ (models : List BlifModel). result_stage (flat_or_line file (flat_of models)))
-    (result_nothing (models_or_line file (models_of_text lines))) (λ models. result_nothing (flat_or_line file (flat_of models)))
+    then_nothing (result_stage (read_or_line file blif_text (models_of_text lines))) (λ (models : List BlifModel). result_stage (read_or_line file flat_text (flat_of models)))
+    (result_nothing (read_or_line file blif_text (models_of_text lines))) (λ models. result_nothing (read_or_line file flat_text (flat_of models)))
 
 accepted_nothing : (file : List ℕ) (c : Circuit) → LeavesNothing (accepted_stage file c)
 accepted_nothing file c = record { may = no_text (accepted_stage file c); only = λ failed stop text is. is }
@@ -96,8 +98,8 @@ split_nothing file mode c = record { may = no_text (split_stage file mode c); on
 
 marked_nothing : (file : List ℕ) (s : Split) (lines : List Line) → LeavesNothing (marked_stage file s lines)
 marked_nothing file s lines =
-    then_nothing (result_stage (graph_or_line file (graph_of_lines lines))) (acceptable_stage file s)
-    (result_nothing (graph_or_line file (graph_of_lines lines)))
+    then_nothing (result_stage (read_or_line file astg_text (graph_of_lines lines))) (acceptable_stage file s)
+    (result_nothing (read_or_line file astg_text (graph_of_lines lines)))
     (λ g. record { may = no_text (acceptable_stage file s g); only = λ failed stop text is. is })
 
 plan_nothing : (held : List ℕ → Held) (graph : Option (List ℕ)) (s : Split) → LeavesNothing (plan_stage held graph s)

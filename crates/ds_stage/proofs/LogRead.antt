@@ -7,9 +7,10 @@ use Rattle.ds_outside.specs.Held.{Held, bytes}
 use Rattle.ds_lines.specs.Line.{Line, lines_of}
 use Rattle.ds_latch.specs.Plan.{Planned}
 use Rattle.ds_replay.specs.Replay.{replay_of}
-use Rattle.ds_replay.specs.declared.fault.ReplayFault.{ReplayFault}
+use Rattle.ds_lines.specs.declared.at.At.{At}
 use Rattle.ds_stage.specs.Stages.{OfBytes, text_stage}
 use Rattle.ds_stage.specs.ReplayStage.{log_stage}
+use Rattle.ds_replay.specs.declared.fault.ReplayKind.{ReplayKind}
 
 -- a text of bytes that are told
 told_text : (h : Held) (log text : List ℕ) → h ≡ bytes text → length text ≤ most_of Bytes
@@ -29,7 +30,7 @@ pub log_read : (held : List ℕ → Held) (log text : List ℕ) → held log ≡
 log_read held log text is short p vectors events fires = (lines_of text, told_text (held log) log text is short, fires)
 
 -- one list of events comes of lines
-one_list : (r : Result (List ℕ) ReplayFault) (a b : List ℕ) → r ≡ Ok a → r ≡ Ok b → a ≡ b
+one_list : (r : Result (List ℕ) (At ReplayKind)) (a b : List ℕ) → r ≡ Ok a → r ≡ Ok b → a ≡ b
 one_list r a b is also = cc
 
 -- and of the log

@@ -5,7 +5,7 @@ use Rattle.ds_outside.specs.Held.{Held, FrontIsHeld}
 use Rattle.ds_outside.specs.declared.files.Which.TheVariants.{Log}
 use Rattle.ds_lines.specs.Line.{Line}
 use Rattle.ds_latch.specs.Plan.{Planned}
-use Rattle.ds_replay.specs.declared.fault.ReplayFault.{ReplayFault}
+use Rattle.ds_lines.specs.declared.at.At.{At}
 use Rattle.ds_stage.specs.Stage.{OfFile, Stage, IsExclusive, giving, then_stage}
 use Rattle.ds_stage.specs.Stages.{lines_stage, text_stage}
 use Rattle.ds_replay.specs.ReplayText.{IsReplayText}
@@ -13,6 +13,7 @@ use Rattle.ds_stage.specs.ReplayStage.{fired_stage, kept_after, kept_stage, log_
 use Rattle.ds_stage.specs.Ends.{Never}
 use Rattle.ds_stage.proofs.Exclusive.{then_not_refused}
 use Rattle.ds_stage.proofs.Stages.{IsWider, read_means, read_refused, wider_first}
+use Rattle.ds_replay.specs.declared.fault.ReplayKind.{ReplayKind}
 
 -- the log of a text that was read is that of the file
 pub log_wider : (held : List ℕ → Held) (log text : List ℕ) (planned : Planned) (vectors : List Row) (more : OfFile) → FrontIsHeld (held log) 16777217 text
@@ -35,7 +36,7 @@ fired_not_refused : (file : List ℕ) (planned : Planned) (vectors : List Row) (
     → (fired_stage file planned vectors lines).means events → ¬ (fired_stage file planned vectors lines).refused line
 fired_not_refused file planned vectors lines events line is (fault, faulty, spelt) = ok_or_fault _ _ _ is faulty
   where
-    ok_or_fault : (r : Result (List ℕ) ReplayFault) (events : List ℕ) (fault : ReplayFault) → r ≡ Ok events → r ≡ Err fault → ⊥
+    ok_or_fault : (r : Result (List ℕ) (At ReplayKind)) (events : List ℕ) (fault : At ReplayKind) → r ≡ Ok events → r ≡ Err fault → ⊥
     ok_or_fault r events fault is also = cc
 
 -- a first stage that is not refused where it gives something is enough, where the second only gives

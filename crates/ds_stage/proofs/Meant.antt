@@ -4,22 +4,19 @@ use Rattle.std.specs.Prelude.{All, nat_lt, if◌then◌else◌}
 use Rattle.std.proofs.lemmas.Bool.{cases_Bool, eqb-true}
 use Rattle.std.proofs.lemmas.Bool.Decides.{Decides-ltb}
 use Rattle.std.proofs.lemmas.List.{length-map}
-use Rattle.ds_lines.specs.First.{where_true, first_of, unless_fault}
+use Rattle.ds_lines.specs.First.{where_true, first_of, unless_fault, fault_or}
 use Rattle.ds_lines.specs.Words.{first_word}
 use Rattle.ds_outside.specs.Held.{Held}
 use Rattle.ds_lines.specs.Line.{Line}
 use Rattle.ds_blif.specs.Text.{models_of_text}
-use Rattle.ds_blif.specs.declared.fault.BlifFault.{BlifFault}
+use Rattle.ds_lines.specs.declared.at.At.{At}
 use Rattle.ds_blif.proofs.WellFormed.{read_well_formed}
-use Rattle.ds_design.specs.declared.blif.BlifModel.{BlifModel}
 use Rattle.ds_design.specs.Circuit.{Circuit, columns}
 use Rattle.ds_design.specs.InRange.{IsInRange}
 use Rattle.ds_design.specs.Rows.{Rows}
 use Rattle.ds_flat.specs.Copies.{flat_of}
-use Rattle.ds_flat.specs.declared.fault.FlatFault.{FlatFault}
 use Rattle.ds_flat.proofs.FlatRange.{flat_in_range}
-use Rattle.ds_rows.specs.Vector.{fault_of_vector, vector_fault_or, first_vector_fault, has_bits, has_width, row_of, rows_of_lines, value_of_character, vectors_of}
-use Rattle.ds_rows.specs.declared.fault.VectorFault.{VectorFault}
+use Rattle.ds_rows.specs.Vector.{fault_of_vector, first_vector_fault, has_bits, has_width, row_of, rows_of_lines, value_of_character, vectors_of}
 use Rattle.ds_rows.specs.declared.fault.VectorKind.{VectorKind}
 use Rattle.ds_base.specs.Values.{Row}
 use Rattle.ds_stream.specs.Bounded.{fault_under}
@@ -27,28 +24,19 @@ use Rattle.ds_stream.specs.Stream.{Placed, longest, placed_lines, stream_from, s
 use Rattle.ds_stream.specs.declared.fault.StreamKind.{StreamKind}
 use Rattle.ds_stream.specs.declared.fault.StreamKind.TheVariants.{TooMany, BadWidth, BadBit}
 use Rattle.ds_stream.proofs.WindowLaws.{cases_Option}
-use Rattle.ds_stage.specs.Stages.{flat_or_line, models_or_line, netlist_stage, rows_or_line, vectors_stage}
+use Rattle.ds_stage.specs.FaultText.{blif_text, flat_text, vector_text}
+use Rattle.ds_stage.specs.Stages.{netlist_stage, read_or_line, vectors_stage}
 
--- models that come of no fault
-models_meant : (file : List ℕ) (r : Result (List BlifModel) BlifFault) (models : List BlifModel) → models_or_line file r ≡ Ok models → r ≡ Ok models
-models_meant file (Ok given) models is = cc
-models_meant file (Err fault) models is = cc
-
--- a design that comes of no fault
-flat_meant : (file : List ℕ) (r : Result Circuit FlatFault) (c : Circuit) → flat_or_line file r ≡ Ok c → r ≡ Ok c
-flat_meant file (Ok given) c is = cc
-flat_meant file (Err fault) c is = cc
-
--- rows that come of no fault
-rows_meant : (file : List ℕ) (r : Result Rows VectorFault) (rows : Rows) → rows_or_line file r ≡ Ok rows → r ≡ Ok rows
-rows_meant file (Ok given) rows is = cc
-rows_meant file (Err fault) rows is = cc
+-- what is read comes of no fault
+pub read_meant : {A K : Type 0} (file : List ℕ) (text : K → List ℕ) (r : Result A (At K)) (read : A) → read_or_line file text r ≡ Ok read → r ≡ Ok read
+read_meant file text (Ok given) read is = cc
+read_meant file text (Err fault) read is = cc
 
 -- each number in the netlist of a file names what is there, whatever lines the file has
 pub netlist_in_range : (held : List ℕ → Held) (net : List ℕ) (c : Circuit) → (netlist_stage held net).means c → IsInRange c
 netlist_in_range held net c (flat, (lines, are, (models, read, is_flat)), (is, accepted)) =
-    let parts = (read_well_formed lines models (models_meant net (models_of_text lines) models read)).parts in
-    let range : IsInRange flat = flat_in_range models parts flat (flat_meant net (flat_of models) flat is_flat) in
+    let parts = (read_well_formed lines models (read_meant net blif_text (models_of_text lines) models read)).parts in
+    let range : IsInRange flat = flat_in_range models parts flat (read_meant net flat_text (flat_of models) flat is_flat) in
     rw is range
 
 -- where none of three kinds holds, the test of the second does
@@ -79,7 +67,7 @@ row_wide (suc w) words e =
     rw some (length-map (first_word words) value_of_character ∙ eqb-true _ _ wide)
 
 -- neither a line nor those behind it have a fault
-neither : (kind : Option VectorKind) (number : ℕ) (rest : Option VectorFault) → vector_fault_or kind number rest ≡ None → (kind ≡ None) × (rest ≡ None)
+neither : (kind : Option VectorKind) (number : ℕ) (rest : Option (At VectorKind)) → fault_or kind number rest ≡ None → (kind ≡ None) × (rest ≡ None)
 neither None number rest e = (refl, e)
 neither (Some kind) number rest e = cc
 
@@ -104,7 +92,7 @@ rows_few width seen (line ∷ lines) low none =
     omega (arith, more)
 
 -- what is given unless there is a fault
-given_none : (fault : Option VectorFault) (given rows : Rows) → unless_fault fault given ≡ Ok rows → (fault ≡ None) × (rows ≡ given)
+given_none : (fault : Option (At VectorKind)) (given rows : Rows) → unless_fault fault given ≡ Ok rows → (fault ≡ None) × (rows ≡ given)
 given_none None given rows e = (refl, (cc))
 given_none (Some fault) given rows e = cc
 
@@ -114,7 +102,7 @@ pub vectors_wide : (held : List ℕ → Held) (vec : List ℕ) (c : Circuit) (ve
 vectors_wide held vec c vectors (lines, are, read) =
     let width : ℕ = length (columns c) in
     let given : Rows = record { width = width; rows = rows_of_lines width lines } in
-    let (none, is) = given_none (first_vector_fault width 0 lines) given vectors (rows_meant vec (vectors_of width lines) vectors read) in
+    let (none, is) = given_none (first_vector_fault width 0 lines) given vectors (read_meant vec vector_text (vectors_of width lines) vectors read) in
     subst (λ (rows : Rows). All (λ vector. length vector ≡ width) rows.rows) (sym is) (rows_wide width 0 lines none)
 
 -- there are no more of them than the limit
@@ -123,7 +111,7 @@ pub vectors_few : (held : List ℕ → Held) (vec : List ℕ) (c : Circuit) (vec
 vectors_few held vec c vectors (lines, are, read) =
     let width : ℕ = length (columns c) in
     let given : Rows = record { width = width; rows = rows_of_lines width lines } in
-    let (none, is) = given_none (first_vector_fault width 0 lines) given vectors (rows_meant vec (vectors_of width lines) vectors read) in
+    let (none, is) = given_none (first_vector_fault width 0 lines) given vectors (read_meant vec vector_text (vectors_of width lines) vectors read) in
     let few : 0 + length lines ≤ 65536 = rows_few width 0 lines (omega arith) none in
     let long : length (rows_of_lines width lines) ≡ length lines = length-map lines (λ line. row_of width line.words) in
     subst (λ (rows : Rows). length rows.rows ≤ 65536) (sym is) (omega (arith, few, long))

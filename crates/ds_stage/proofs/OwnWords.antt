@@ -1,5 +1,5 @@
 -- Each event of a plan is written as a word of its own.
-use Rattle.std.proofs.Common.{◌≡◌, ◌≢◌, ℕ, ◌≤◌, ◌^◌, not, List, length, Option, None, Some, Result, Ok, Err, refl, arith, ap, sym, subst}
+use Rattle.std.proofs.Common.{◌≡◌, ◌≢◌, ℕ, ◌≤◌, ◌^◌, not, List, length, Option, None, Some, refl, arith, ap, sym, subst}
 use Rattle.std.specs.Prelude.{All}
 use Rattle.std.specs.List.{list_any}
 use Rattle.std.proofs.lemmas.List.Elements.{All-append, All-filter}
@@ -12,13 +12,14 @@ use Rattle.ds_design.specs.Circuit.{Circuit}
 use Rattle.ds_latch.specs.Node.{Split, slackened}
 use Rattle.ds_latch.specs.Plan.{Planned, split_events}
 use Rattle.ds_astg.specs.Read.{graph_of_lines}
-use Rattle.ds_astg.specs.declared.fault.AstgFault.{AstgFault}
 use Rattle.ds_accept.specs.Accept.{extra_events, is_same_event}
 use Rattle.ds_replay.specs.Printed.{HasOwnWords}
 use Rattle.ds_replay.proofs.Named.{IsSpelt, all_spelt, nodes_have_own_words, spelt_have_own_words}
+use Rattle.ds_stage.proofs.Meant.{read_meant}
+use Rattle.ds_stage.specs.GraphText.{astg_text}
 use Rattle.ds_stage.specs.Stages.{OfBytes, text_stage}
 use Rattle.ds_stage.specs.SplitStage.{IsInClusters}
-use Rattle.ds_stage.specs.PlanStage.{IsNamedPlan, IsOwnPlan, graph_or_line, planned_stage}
+use Rattle.ds_stage.specs.PlanStage.{IsNamedPlan, IsOwnPlan, planned_stage}
 use Rattle.ds_stage.proofs.LineWords.{HaveWords, lines_have_words}
 use Rattle.ds_stage.proofs.ReadNames.{graph_spelt}
 
@@ -32,11 +33,6 @@ few_clusters mode c s slack is =
 -- the plan with the controller graph
 own_words : (s : Split) (p : Planned) → length s.clusters ≤ 2 ^ 64 → IsOwnPlan s p → HasOwnWords p.graph
 own_words s p few own = nodes_have_own_words s p.graph own.graph.kept few own.graph.events
-
--- a graph that comes of no fault
-graph_meant : (file : List ℕ) (r : Result Graph AstgFault) (g : Graph) → graph_or_line file r ≡ Ok g → r ≡ Ok g
-graph_meant file (Ok given) g is = cc
-graph_meant file (Err fault) g is = cc
 
 -- the lines of a file that tells what it holds
 file_words : (h : Held) (file : List ℕ) → h ≢ untold → (lines : List Line) → OfBytes h (λ text. (text_stage file text).means lines) → HaveWords lines
@@ -58,4 +54,4 @@ planned_words held net None mode slack told c p (s, (is, few), own) =
     own_words (slackened s slack) p (few_clusters mode c s slack is) own
 planned_words held net (Some file) mode slack told c p (s, (is, few), (lines, are, (g, read, named))) =
     let have : HaveWords lines = file_words (held file) file (told file refl) lines are in
-    named_words (slackened s slack) g p (few_clusters mode c s slack is) (graph_spelt lines g have (graph_meant file (graph_of_lines lines) g read)) named
+    named_words (slackened s slack) g p (few_clusters mode c s slack is) (graph_spelt lines g have (read_meant file astg_text (graph_of_lines lines) g read)) named

@@ -10,9 +10,9 @@ use Rattle.ds_period.specs.Read.{delays_of}
 use Rattle.ds_stage.specs.declared.stop.Stop.{Stop}
 use Rattle.ds_stage.specs.Ends.{Ends, Never, Output, RoseIn}
 use Rattle.ds_stage.specs.GraphStage.{IsGraphOf}
-use Rattle.ds_stage.specs.PeriodStage.{IsPeriodText, delays_or_line, delays_stage, given_stage, measured_stage, timed_stage}
+use Rattle.ds_stage.specs.PeriodStage.{IsPeriodText, delay_text, delays_stage, given_stage, measured_stage, timed_stage}
 use Rattle.ds_stage.specs.Stage.{OfFile, Stage, IsExclusive, giving, then_stage}
-use Rattle.ds_stage.specs.Stages.{lines_stage, text_stage}
+use Rattle.ds_stage.specs.Stages.{lines_stage, read_or_line, text_stage}
 use Rattle.ds_stage.proofs.Ends.{ends_more, rose_since}
 use Rattle.ds_stage.proofs.Exclusive.{lines_exclusive, result_exclusive, then_exclusive, then_not_refused}
 use Rattle.ds_stage.proofs.Left.{measured_nothing}
@@ -58,7 +58,7 @@ module _ (held : List ℕ → Held) (file : List ℕ) where
     delays_exclusive g =
         then_exclusive (lines_stage held Delays file) (given_stage file g)
         (lines_exclusive held Delays file told)
-        (λ lines. result_exclusive (delays_or_line file (delays_of g lines)))
+        (λ lines. result_exclusive (read_or_line file delay_text (delays_of g lines)))
 
     timed_not_refused : (g : Graph) (text line : List ℕ)
         → (timed_stage held file g).means text → ¬ (timed_stage held file g).refused line

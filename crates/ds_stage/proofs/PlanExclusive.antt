@@ -10,11 +10,12 @@ use Rattle.ds_latch.specs.Node.{Split, slackened}
 use Rattle.ds_split.specs.Cluster.{HasTooManyClusters}
 use Rattle.ds_split.specs.Split.{HasTooManyOrders, split_into}
 use Rattle.ds_split.specs.Laws.{OneClustering}
+use Rattle.ds_stage.specs.GraphText.{astg_text}
 use Rattle.ds_stage.specs.Stage.{IsExclusive}
-use Rattle.ds_stage.specs.Stages.{lines_stage, result_stage}
+use Rattle.ds_stage.specs.Stages.{lines_stage, read_or_line, result_stage}
 use Rattle.ds_stage.specs.SplitStage.{IsInClusters, IsSplitLine, split_stage}
 use Rattle.ds_astg.specs.Read.{graph_of_lines}
-use Rattle.ds_stage.specs.PlanStage.{acceptable_stage, graph_or_line, marked_stage, named_stage, plan_stage, planned_stage}
+use Rattle.ds_stage.specs.PlanStage.{acceptable_stage, marked_stage, named_stage, plan_stage, planned_stage}
 use Rattle.ds_stage.proofs.PlanStages.{acceptable_exclusive, own_exclusive}
 use Rattle.ds_stage.proofs.Exclusive.{lines_exclusive, result_exclusive, then_exclusive}
 
@@ -44,8 +45,8 @@ split_exclusive law file mode c = record {
 named_exclusive : (held : List ℕ → Held) (file : List ℕ) → held file ≢ untold → (s : Split) → IsExclusive (named_stage held file s)
 named_exclusive held file told s =
     then_exclusive (lines_stage held which.Graph file) (marked_stage file s) (lines_exclusive held which.Graph file told)
-    (λ lines. then_exclusive (result_stage (graph_or_line file (graph_of_lines lines))) (acceptable_stage file s)
-    (result_exclusive (graph_or_line file (graph_of_lines lines))) (λ g. acceptable_exclusive file s g))
+    (λ lines. then_exclusive (result_stage (read_or_line file astg_text (graph_of_lines lines))) (acceptable_stage file s)
+    (result_exclusive (read_or_line file astg_text (graph_of_lines lines))) (λ g. acceptable_exclusive file s g))
 
 plan_exclusive : (held : List ℕ → Held) (graph : Option (List ℕ)) → ((file : List ℕ) → graph ≡ Some file → held file ≢ untold) → (s : Split) → IsExclusive (plan_stage held graph s)
 plan_exclusive held None told s = own_exclusive s

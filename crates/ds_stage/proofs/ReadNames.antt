@@ -8,7 +8,7 @@ use Rattle.std.proofs.lemmas.List.{append-nil, length-append}
 use Rattle.std.proofs.lemmas.List.Elements.{All-cons}
 use Rattle.std.proofs.lemmas.List.Folds.{list_any-append}
 use Rattle.std.proofs.Math.Seq.{get_or-append_seam}
-use Rattle.ds_lines.specs.First.{unless_fault}
+use Rattle.ds_lines.specs.First.{unless_fault, behind_line}
 use Rattle.ds_lines.specs.Words.{word_at}
 use Rattle.ds_lines.specs.Line.{Line, is_blank, is_hash, is_newline, is_some}
 use Rattle.ds_lines.specs.Print.{IsWord}
@@ -19,10 +19,10 @@ use Rattle.ds_astg.specs.Line.{State, start, step, step_by, graph_head_of, may_d
 use Rattle.ds_astg.specs.Links.{graph_line}
 use Rattle.ds_astg.specs.Marking.{entries_of, mark_all}
 use Rattle.ds_astg.specs.Place.{Places}
-use Rattle.ds_astg.specs.Read.{all_events, behind, end_of, ends, graph_from, graph_of_lines, graph_of_parts, lacking}
+use Rattle.ds_astg.specs.Read.{all_events, end_of, ends, graph_from, graph_of_lines, graph_of_parts, lacking}
 use Rattle.ds_astg.specs.Signals.{Declared, with_declared}
 use Rattle.ds_astg.specs.Word.{has_reserved, has_slash, is_signal, is_signed, last_byte}
-use Rattle.ds_astg.specs.declared.fault.AstgFault.{AstgFault}
+use Rattle.ds_lines.specs.declared.at.At.{At}
 use Rattle.ds_astg.specs.declared.fault.AstgKind.{AstgKind}
 use Rattle.ds_astg.specs.declared.head.Head.{Head}
 use Rattle.ds_astg.specs.declared.head.Head.TheVariants.{Body, Model, Signals, Dummies, Graph as GraphPart, Marking, End, Unknown}
@@ -176,7 +176,7 @@ events_spelt (name ∷ names) (Dummy ∷ roles) (is, are) =
     All-cons IsSpelt dummy (all_events names roles) (subst IsWord (sym (append-nil name)) is.word, λ e. not_signed name is.plain) (events_spelt names roles are)
 
 -- where nothing is at fault, the graph of the parts is given
-given_of : (fault : Option AstgFault) (given g : Graph) → unless_fault fault given ≡ Ok g → given ≡ g
+given_of : (fault : Option (At AstgKind)) (given g : Graph) → unless_fault fault given ≡ Ok g → given ≡ g
 given_of None given g is = cc
 given_of (Some fault) given g is = cc
 
@@ -186,7 +186,7 @@ end_spelt state g are is =
     subst (λ (h : Graph). All IsSpelt h.events) same (events_spelt state.signals.names state.signals.roles are)
 
 -- what goes on behind a line goes on behind one without a fault
-behind_was : (line : ℕ) (r : Result State AstgKind) (rest : State → Result Graph AstgFault) (g : Graph) → behind line r rest ≡ Ok g → (state : State) × (r ≡ Ok state) × (rest state ≡ Ok g)
+behind_was : (line : ℕ) (r : Result State AstgKind) (rest : State → Result Graph (At AstgKind)) (g : Graph) → behind_line line r rest ≡ Ok g → (state : State) × (r ≡ Ok state) × (rest state ≡ Ok g)
 behind_was line (Ok state) rest g is = (state, refl, is)
 behind_was line (Err kind) rest g is = absurd (cc)
 

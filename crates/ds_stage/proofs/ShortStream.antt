@@ -7,16 +7,18 @@ use Rattle.ds_lines.specs.Line.{Line, lines_of}
 use Rattle.ds_design.specs.Circuit.{Circuit, columns}
 use Rattle.ds_design.specs.Rows.{Rows}
 use Rattle.ds_rows.specs.Vector.{vectors_of}
-use Rattle.ds_rows.specs.declared.fault.VectorFault.{VectorFault}
+use Rattle.ds_lines.specs.declared.at.At.{At}
 use Rattle.ds_stream.specs.Bounded.{told_whole}
 use Rattle.ds_stream.specs.Stream.{stream_of}
 use Rattle.ds_stream.specs.StreamLaws.{as_next, result_of}
 use Rattle.ds_stream.proofs.Short.{is_read_whole}
-use Rattle.ds_stage.specs.Stages.{OfBytes, rows_or_line, vectors_stage}
+use Rattle.ds_stage.specs.FaultText.{vector_text}
+use Rattle.ds_stage.specs.Stages.{OfBytes, read_or_line, vectors_stage}
 use Rattle.ds_stage.specs.StreamStage.{gives_held, streamed_stage}
+use Rattle.ds_rows.specs.declared.fault.VectorKind.{VectorKind}
 
 -- what is told as these rows is these rows
-rows_told : (r : Result Rows VectorFault) (rows : Rows) → as_next (told_whole r) ≡ Ok rows → r ≡ Ok rows
+rows_told : (r : Result Rows (At VectorKind)) (rows : Rows) → as_next (told_whole r) ≡ Ok rows → r ≡ Ok rows
 rows_told (Ok given) rows is = cc
 rows_told (Err fault) rows is = cc
 
@@ -38,4 +40,4 @@ pub short_is_whole : (held : List ℕ → Held) (vec : List ℕ) (c : Circuit) (
     → (streamed_stage held vec 65536 c).means vectors → (vectors_stage held vec c).means vectors
 short_is_whole held vec c vectors told short means =
     let (lines, are, read) = of_held (held vec) (length (columns c)) vectors told short means in
-    (lines, are, ap (rows_or_line vec) read)
+    (lines, are, ap (read_or_line vec vector_text) read)

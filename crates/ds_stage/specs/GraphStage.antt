@@ -9,7 +9,7 @@ use Rattle.ds_shake.specs.Expansion.{IsExpansion, IsShakeFault}
 use Rattle.ds_shake.specs.declared.fault.ShakeFault.TheVariants.{TooMany}
 use Rattle.ds_astg.specs.Text.{graph_text}
 use Rattle.ds_stage.specs.FaultText.{file_line, too_many_text}
-use Rattle.ds_stage.specs.Stage.{Stage, giving, leaves_nothing, then_stage}
+use Rattle.ds_stage.specs.Stage.{Stage, giving, judging, then_stage}
 
 -- the graph of a split design: its events are those of the nodes, its arcs exactly the required
 -- orders, in order and none twice
@@ -32,12 +32,7 @@ IsShakeLine file s line = (limit : Limit) × IsShakeFault s (TooMany limit)
 -- the graph that is wanted: of the required orders, or its expansion, which a limit may refuse
 abbrev pub wanted_stage : List ℕ → Bool → Split → Stage Graph
 wanted_stage file false s = giving (IsGraphOf s)
-wanted_stage file true s = record {
-  means = IsExpansionOf s;
-  refused = IsShakeLine file s;
-  unread = λ _ _. ⊥;
-  leaves = λ _. leaves_nothing;
-}
+wanted_stage file true s = judging (IsExpansionOf s) (IsShakeLine file s)
 
 -- the text of a graph under the name of the main model: the signals of the nodes are its own
 abbrev pub drawn_stage : Split → Graph → Stage (List ℕ)

@@ -1,5 +1,5 @@
 -- The delays of a controller graph's orders, and the text of its period.
-use Rattle.std.specs.Prelude.{◌≡◌, ℕ, List, ◌++◌, Result, Ok, Err, codes, decimal, length, map}
+use Rattle.std.specs.Prelude.{◌≡◌, ℕ, List, ◌++◌, codes, decimal, length, map}
 use Rattle.std.specs.Prelude.{slice_index}
 use Rattle.std.specs.List.{flat_map, range_with_len}
 use Rattle.ds_outside.specs.Held.{Held}
@@ -11,14 +11,13 @@ use Rattle.ds_marked.specs.Log.{text_of_event}
 use Rattle.ds_period.specs.Period.{IsPeriod}
 use Rattle.ds_period.specs.Read.{delays_of}
 use Rattle.ds_period.specs.Timing.{timed_arcs}
-use Rattle.ds_period.specs.declared.fault.DelayFault.{DelayFault}
 use Rattle.ds_period.specs.declared.fault.DelayKind.{DelayKind}
 use Rattle.ds_period.specs.declared.fault.DelayKind.TheVariants.{BadWord, UnknownOrder}
 use Rattle.ds_period.specs.declared.fault.DelayKind.TheVariants.{RepeatedOrder}
-use Rattle.ds_stage.specs.FaultText.{with_blanks, numbered_line}
+use Rattle.ds_stage.specs.FaultText.{with_blanks}
 use Rattle.ds_stage.specs.GraphStage.{IsGraphOf}
 use Rattle.ds_stage.specs.Stage.{Stage, giving, then_stage}
-use Rattle.ds_stage.specs.Stages.{lines_stage, result_stage}
+use Rattle.ds_stage.specs.Stages.{lines_stage, read_or_line, result_stage}
 
 -- the fault of a line of delays
 abbrev pub delay_text : DelayKind → List ℕ
@@ -26,14 +25,9 @@ delay_text BadWord = codes "bad word"
 delay_text (UnknownOrder from to) = codes "unknown order " ++ from ++ codes " to " ++ to
 delay_text (RepeatedOrder from to) = codes "repeated order " ++ from ++ codes " to " ++ to
 
--- the delays of lines, one an arc, or the line of their first fault
-abbrev pub delays_or_line : List ℕ → Result (List ℕ) DelayFault → Result (List ℕ) (List ℕ)
-delays_or_line file (Ok delays) = Ok delays
-delays_or_line file (Err fault) = Err (numbered_line file fault.line (delay_text fault.kind))
-
 -- the delays that lines give the arcs of a graph
 abbrev pub given_stage : List ℕ → Graph → List Line → Stage (List ℕ)
-given_stage file g lines = result_stage (delays_or_line file (delays_of g lines))
+given_stage file g lines = result_stage (read_or_line file delay_text (delays_of g lines))
 
 -- the delays of a file
 abbrev pub delays_stage : (List ℕ → Held) → List ℕ → Graph → Stage (List ℕ)

@@ -1,5 +1,5 @@
 -- The plan of a job: that of its controller graph, or that of a graph in a file.
-use Rattle.std.specs.Prelude.{◌≡◌, ℕ, List, Option, None, Some, Result, Ok, Err}
+use Rattle.std.specs.Prelude.{◌≡◌, ℕ, List, Option, None, Some}
 use Rattle.ds_base.specs.declared.number.Mode.{Mode}
 use Rattle.ds_outside.specs.Held.{Held}
 use Rattle.ds_outside.specs.declared.files.Which.TheVariants as which
@@ -9,21 +9,15 @@ use Rattle.ds_design.specs.Circuit.{Circuit}
 use Rattle.ds_latch.specs.Node.{Split, slackened}
 use Rattle.ds_latch.specs.Plan.{Planned}
 use Rattle.ds_astg.specs.Read.{graph_of_lines}
-use Rattle.ds_astg.specs.declared.fault.AstgFault.{AstgFault}
 use Rattle.ds_accept.specs.Accept.{IsAcceptable, IsPlanOf}
 use Rattle.ds_accept.specs.Fault.{IsAcceptFault}
 use Rattle.ds_accept.specs.declared.fault.AcceptFault.{AcceptFault}
-use Rattle.ds_stage.specs.FaultText.{file_line, numbered_line}
+use Rattle.ds_stage.specs.FaultText.{file_line}
 use Rattle.ds_stage.specs.GraphText.{IsAcceptText, astg_text}
-use Rattle.ds_stage.specs.Stage.{Stage, giving, leaves_nothing, then_stage}
-use Rattle.ds_stage.specs.Stages.{lines_stage, result_stage}
+use Rattle.ds_stage.specs.Stage.{Stage, giving, judging, then_stage}
+use Rattle.ds_stage.specs.Stages.{lines_stage, read_or_line, result_stage}
 use Rattle.ds_stage.specs.SplitStage.{split_stage}
 use Rattle.ds_stage.specs.GraphStage.{IsGraphOf}
-
--- the graph of lines, or the line of their first fault
-abbrev pub graph_or_line : List ℕ → Result Graph AstgFault → Result Graph (List ℕ)
-graph_or_line file (Ok graph) = Ok graph
-graph_or_line file (Err fault) = Err (numbered_line file fault.line (astg_text fault.kind))
 
 -- a plan that has a split design and its controller graph
 pub record IsOwnPlan (s : Split) (p : Planned) : Type 0 where
@@ -40,18 +34,15 @@ pub record IsNamedPlan (s : Split) (g : Graph) (p : Planned) : Type 0 where
 -- the plan of a graph that is acceptable, or the line of its first fault; where that is a cycle, of
 -- any cycle
 abbrev pub acceptable_stage : List ℕ → Split → Graph → Stage Planned
-acceptable_stage file s g = record {
-  means = λ p. IsNamedPlan s g p;
-  refused = λ line. (fault : AcceptFault) × (text : List ℕ) × IsAcceptFault s g fault
-      × IsAcceptText g fault text × (line ≡ file_line file text);
-  unread = λ _ _. ⊥;
-  leaves = λ _. leaves_nothing;
-}
+acceptable_stage file s g = judging (IsNamedPlan s g)
+    (λ line. (fault : AcceptFault) × (text : List ℕ) × IsAcceptFault s g fault
+    × IsAcceptText g fault text × (line ≡ file_line file text))
 
 -- the plan of the graph of lines
 abbrev pub marked_stage : List ℕ → Split → List Line → Stage Planned
 marked_stage file s lines =
-    then_stage (result_stage (graph_or_line file (graph_of_lines lines))) (acceptable_stage file s)
+    then_stage (result_stage (read_or_line file astg_text (graph_of_lines lines)))
+    (acceptable_stage file s)
 
 -- the plan of the graph of a file
 abbrev pub named_stage : (List ℕ → Held) → List ℕ → Split → Stage Planned

@@ -12,14 +12,14 @@ use Rattle.ds_latch.specs.Plan.{Planned}
 use Rattle.ds_marked.specs.Log.{text_of_event}
 use Rattle.ds_fire.specs.Snapshot.{Snapshot}
 use Rattle.ds_replay.specs.Replay.{replay_of}
-use Rattle.ds_replay.specs.declared.fault.ReplayFault.{ReplayFault}
+use Rattle.ds_lines.specs.declared.at.At.{At}
 use Rattle.ds_replay.specs.declared.fault.ReplayKind.{ReplayKind}
 use Rattle.ds_replay.specs.declared.fault.ReplayKind.TheVariants.{BadWord, UnknownEvent, WrongTurn}
 use Rattle.ds_replay.specs.declared.fault.ReplayKind.TheVariants.{OverLimit, NotEnabled}
 use Rattle.ds_stage.specs.FaultText.{numbered_line}
 use Rattle.ds_replay.specs.ReplayText.{IsReplayText}
 use Rattle.ds_replay.specs.Kept.{IsAfterLog}
-use Rattle.ds_stage.specs.Stage.{Stage, giving, leaves_nothing, then_stage}
+use Rattle.ds_stage.specs.Stage.{Stage, giving, judging, then_stage}
 use Rattle.ds_stage.specs.Stages.{lines_stage}
 
 -- the ends of an arc
@@ -37,14 +37,11 @@ log_text g (NotEnabled arc) = codes "not enabled: "
 
 -- the events that the lines of a log fire one after another, or the line of their first fault
 abbrev pub fired_stage : List ℕ → Planned → List Row → List Line → Stage (List ℕ)
-fired_stage file planned vectors lines = record {
-  means = λ events. replay_of planned.graph (length vectors) lines ≡ Ok events;
-  refused = λ line. (fault : ReplayFault)
-      × (replay_of planned.graph (length vectors) lines ≡ Err fault)
-      × (line ≡ numbered_line file fault.line (log_text planned.graph fault.kind));
-  unread = λ _ _. ⊥;
-  leaves = λ _. leaves_nothing;
-}
+fired_stage file planned vectors lines = judging
+    (λ events. replay_of planned.graph (length vectors) lines ≡ Ok events)
+    (λ line. (fault : At ReplayKind)
+    × (replay_of planned.graph (length vectors) lines ≡ Err fault)
+    × (line ≡ numbered_line file fault.line (log_text planned.graph fault.kind)))
 
 -- the events that the log of a file fires
 abbrev pub log_stage : (List ℕ → Held) → List ℕ → Planned → List Row → Stage (List ℕ)

@@ -8,7 +8,7 @@ use Rattle.ds_latch.specs.Node.{Split}
 use Rattle.ds_split.specs.Cluster.{HasTooManyClusters, IsClustering}
 use Rattle.ds_split.specs.Split.{HasTooManyOrders, split_into}
 use Rattle.ds_stage.specs.FaultText.{file_line, too_many_text}
-use Rattle.ds_stage.specs.Stage.{Stage, leaves_nothing}
+use Rattle.ds_stage.specs.Stage.{Stage, judging}
 
 -- the registers of a circuit in few enough clusters, and the circuit split by them
 pub record IsInClusters (mode : Mode) (c : Circuit) (s : Split) : Type 0 where
@@ -26,9 +26,5 @@ IsSplitLine file mode c line =
 
 -- a circuit split into latches that ask for few enough orders, or the line that refuses it
 abbrev pub split_stage : List ℕ → Mode → Circuit → Stage Split
-split_stage file mode c = record {
-  means = λ s. IsInClusters mode c s × ¬ HasTooManyOrders s;
-  refused = IsSplitLine file mode c;
-  unread = λ _ _. ⊥;
-  leaves = λ _. leaves_nothing;
-}
+split_stage file mode c =
+    judging (λ s. IsInClusters mode c s × ¬ HasTooManyOrders s) (IsSplitLine file mode c)

@@ -25,14 +25,18 @@ leaves_nothing (Unread line) text = text ≡ []
 leaves_nothing Unwritten text = ⊥
 leaves_nothing Memory text = text ≡ []
 
--- a stage that only gives
-abbrev pub giving : {A : Type 0} → (A → Type 0) → Stage A
-giving means = record {
+-- a stage that gives or refuses: it reads no file, and leaves nothing
+abbrev pub judging : {A : Type 0} → (A → Type 0) → (List ℕ → Type 0) → Stage A
+judging means refused = record {
   means = means;
-  refused = λ _. ⊥;
+  refused = refused;
   unread = λ _ _. ⊥;
   leaves = λ _. leaves_nothing;
 }
+
+-- a stage that only gives
+abbrev pub giving : {A : Type 0} → (A → Type 0) → Stage A
+giving means = judging means (λ _. ⊥)
 
 -- a stage may stop so; a failed write and want of memory are free
 abbrev pub MayStop : {A : Type 0} → Stage A → OfFile → Stop → Type 0

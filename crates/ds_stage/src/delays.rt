@@ -5,20 +5,20 @@ ghost use Rattle.ds_period.specs.Read.{delays_of};
 ghost use Rattle.ds_stage.specs.Ends.{Answers, Never, RoseIn};
 ghost use Rattle.ds_stage.specs.GraphStage.{IsGraphOf};
 ghost use Rattle.ds_stage.specs.Stage.{then_stage};
-ghost use Rattle.ds_stage.specs.Stages.{result_stage, text_stage};
-ghost use Rattle.ds_stage.specs.PeriodStage.{delay_text as delay_text_of, delays_or_line};
+ghost use Rattle.ds_stage.specs.Stages.{read_or_line, result_stage, text_stage};
+ghost use Rattle.ds_stage.specs.PeriodStage.{delay_text as delay_text_of};
 ghost use Rattle.ds_stage.specs.PeriodStage.{delays_stage, given_stage};
 
 use crate::source::{lines_in, read_text, refused_at};
 use crate::stop::Stop;
-use ds_base::{Name, OutOfMemory};
+use ds_base::{Name, OutOfMemory, Refusal};
 use ds_control::controller;
 use ds_latch::Latches;
-use ds_lines::Lines;
+use ds_lines::{At, Lines};
 use ds_marked::Marked;
 use ds_outside::{Files, Which};
 use ds_period::laws::controllers_have_periods;
-use ds_period::{DelayFault, DelayKind, DelayRefusal, Delays, read_delays};
+use ds_period::{DelayKind, Delays, read_delays};
 use std::alloc::{AllocError, Global};
 
 /// The controller graph of latches, which has a period.
@@ -64,16 +64,17 @@ fn delays_in(alloc: Global, name: &str, text: &[u8], graph: &Marked) -> Result<D
 
 // The delays of lines.
 fn given(alloc: Global, name: &str, lines: &Lines<'_>, graph: &Marked) -> Result<Delays, Stop>
-    ensures value { Answers (result_stage (delays_or_line name.now (delays_of graph.now lines.now)))
+    ensures value { Answers (result_stage (read_or_line name.now delay_text_of
+        (delays_of graph.now lines.now)))
         Never result }
     ensures one_each { IfOk result (λ delays. length delays ≡ length graph.now.arcs) }
 {
     match read_delays(alloc, graph, lines) {
         Ok(delays) => Ok(delays),
-        Err(DelayRefusal::Fault(DelayFault { line, kind })) => {
+        Err(Refusal::Fault(At { line, kind })) => {
             Err(refused_at(alloc, name, line, delay_text(alloc, &kind)))
         }
-        Err(DelayRefusal::Memory) => Err(Stop::Memory),
+        Err(Refusal::Memory) => Err(Stop::Memory),
     }
 }
 

@@ -9,11 +9,13 @@ ghost use Rattle.ds_stage.specs.ReplayStage.{fired_stage, kept_after, kept_stage
 use crate::log_text::log_text;
 use crate::source::{lines_in, read_text, refused_at};
 use crate::stop::Stop;
+use ds_base::Refusal;
 use ds_design::Vectors;
 use ds_fire::State;
 use ds_latch::Plan;
+use ds_lines::At;
 use ds_outside::{Files, Which};
-use ds_replay::{ReplayFault, ReplayRefusal, firings, replay};
+use ds_replay::{firings, replay};
 use std::alloc::Global;
 
 /// The state after the firings of a file's log, and how many they are, or what refuses it.
@@ -51,10 +53,10 @@ fn fired_in<'a>(
     let lines = lines_in(alloc, name, text)?;
     match replay(alloc, plan, vectors, &lines) {
         Ok(state) => Ok((state, firings(&lines) as u64)),
-        Err(ReplayRefusal::Fault(ReplayFault { line, kind })) => {
+        Err(Refusal::Fault(At { line, kind })) => {
             let text = log_text(alloc, plan.graph(), &kind);
             Err(refused_at(alloc, name, line, text))
         }
-        Err(ReplayRefusal::Memory) => Err(Stop::Memory),
+        Err(Refusal::Memory) => Err(Stop::Memory),
     }
 }

@@ -4,8 +4,9 @@ ghost use Rattle.ds_astg.specs.Read.{graph_of_lines as graph_in_lines};
 ghost use Rattle.ds_accept.specs.Fault.{IsAcceptFault};
 ghost use Rattle.ds_stage.specs.Ends.{Answers, Never, RoseIn, Stops};
 ghost use Rattle.ds_stage.specs.Stage.{then_stage};
-ghost use Rattle.ds_stage.specs.Stages.{result_stage, text_stage};
-ghost use Rattle.ds_stage.specs.PlanStage.{IsOwnPlan, acceptable_stage, graph_or_line};
+ghost use Rattle.ds_stage.specs.Stages.{read_or_line, result_stage, text_stage};
+ghost use Rattle.ds_stage.specs.GraphText.{astg_text as astg_text_of};
+ghost use Rattle.ds_stage.specs.PlanStage.{IsOwnPlan, acceptable_stage};
 ghost use Rattle.ds_stage.specs.PlanStage.{marked_stage, named_stage, plan_stage, planned_stage};
 
 use crate::source::{lines_in, read_text, refused, refused_at};
@@ -14,13 +15,13 @@ use crate::splitting::Splitting;
 use crate::stop::Stop;
 use crate::{accept_text, astg_text};
 use ds_accept::{AcceptFault, accept};
-use ds_astg::{AstgFault, AstgRefusal, read};
-use ds_base::Mode;
+use ds_astg::read;
+use ds_base::{Mode, Refusal};
 use ds_cmd::FileName;
 use ds_control::controller;
 use ds_design::Netlist;
 use ds_latch::{Latches, Plan};
-use ds_lines::Lines;
+use ds_lines::{At, Lines};
 use ds_marked::Marked;
 use ds_outside::{Files, Which};
 use std::alloc::Global;
@@ -137,15 +138,15 @@ fn plan_in<'a>(
 
 // The graph of lines.
 fn graph_in(alloc: Global, name: &str, lines: &Lines<'_>) -> Result<Marked, Stop>
-    ensures { Answers (result_stage (graph_or_line name.now (graph_in_lines lines.now)))
+    ensures { Answers (result_stage (read_or_line name.now astg_text_of (graph_in_lines lines.now)))
         Never result }
 {
     match read(alloc, lines) {
         Ok(graph) => Ok(graph),
-        Err(AstgRefusal::Fault(AstgFault { line, kind })) => {
+        Err(Refusal::Fault(At { line, kind })) => {
             Err(refused_at(alloc, name, line, astg_text(alloc, &kind)))
         }
-        Err(AstgRefusal::Memory) => Err(Stop::Memory),
+        Err(Refusal::Memory) => Err(Stop::Memory),
     }
 }
 

@@ -6,27 +6,28 @@ ghost use Rattle.ds_flat.specs.Copies.{flat_of};
 ghost use Rattle.ds_design.specs.Circuit.{columns};
 ghost use Rattle.ds_netlist.specs.Fault.{IsNetFault};
 ghost use Rattle.ds_netlist.specs.Named.{IsNamed};
-ghost use Rattle.ds_stage.specs.FaultText.{file_line as file_line_of, too_long_text};
+ghost use Rattle.ds_stage.specs.FaultText.{blif_text as blif_text_of, flat_text as flat_text_of};
+ghost use Rattle.ds_stage.specs.FaultText.{file_line as file_line_of};
 ghost use Rattle.ds_stage.specs.FaultText.{numbered_line as numbered_line_of, too_many_text};
 ghost use Rattle.ds_stage.specs.Ends.{Answers, Never, RoseIn, SaysRefused, SaysUnread, Stops};
 ghost use Rattle.ds_stage.specs.Stage.{then_stage};
-ghost use Rattle.ds_stage.specs.Stages.{accepted_stage, design_stage, flat_or_line, lines_stage};
-ghost use Rattle.ds_stage.specs.Stages.{models_or_line, netlist_stage, result_stage, rows_stage};
-ghost use Rattle.ds_stage.specs.Stages.{text_stage, vectors_stage};
+ghost use Rattle.ds_stage.specs.Stages.{accepted_stage, design_stage, lines_stage, netlist_stage};
+ghost use Rattle.ds_stage.specs.Stages.{read_or_line, result_stage, rows_stage, text_stage};
+ghost use Rattle.ds_stage.specs.Stages.{vectors_stage};
 
 use crate::stop::Stop;
 use crate::{
     blif_text, file_line, flat_text, net_fault_text, numbered_line, too_many, unread_line,
     vector_text,
 };
-use ds_base::{Limit, OutOfMemory, Seq};
-use ds_blif::{BlifFault, BlifRefusal, read};
+use ds_base::{Limit, OutOfMemory, Refusal, Seq};
+use ds_blif::read;
 use ds_design::{Blif, Design, Netlist, Vectors};
-use ds_flat::{FlatFault, FlatRefusal, flatten};
-use ds_lines::{Lines, LinesFault, lines};
+use ds_flat::flatten;
+use ds_lines::{At, Lines, LinesFault, lines};
 use ds_netlist::{NetFault, levelise};
 use ds_outside::{Files, ReadFault, Which, read_whole};
-use ds_rows::{VectorFault, VectorRefusal, read_vectors};
+use ds_rows::read_vectors;
 use std::alloc::Global;
 
 // One byte more than a text may have, so that a text that is too long shows.
@@ -151,28 +152,30 @@ fn design_in(alloc: Global, name: &str, text: &[u8]) -> Result<Design, Stop>
 
 // The models of the lines of a netlist.
 fn models_in<'l>(alloc: Global, name: &str, lines: &'l Lines<'_>) -> Result<Blif<'l>, Stop>
-    ensures { Answers (result_stage (models_or_line name.now (models_of_text lines.entry.now)))
+    ensures { Answers (result_stage (read_or_line name.now blif_text_of
+        (models_of_text lines.entry.now)))
         Never result }
 {
     match read(alloc, lines) {
         Ok(blif) => Ok(blif),
-        Err(BlifRefusal::Fault(BlifFault { line, kind })) => {
+        Err(Refusal::Fault(At { line, kind })) => {
             Err(refused_at(alloc, name, line, blif_text(alloc, &kind)))
         }
-        Err(BlifRefusal::Memory) => Err(Stop::Memory),
+        Err(Refusal::Memory) => Err(Stop::Memory),
     }
 }
 
 // The flat design of models.
 fn flat_in(alloc: Global, name: &str, blif: &Blif<'_>) -> Result<Design, Stop>
-    ensures { Answers (result_stage (flat_or_line name.now (flat_of blif.now))) Never result }
+    ensures { Answers (result_stage (read_or_line name.now flat_text_of (flat_of blif.now)))
+        Never result }
 {
     match flatten(alloc, blif) {
         Ok(design) => Ok(design),
-        Err(FlatRefusal::Fault(FlatFault { line, kind })) => {
+        Err(Refusal::Fault(At { line, kind })) => {
             Err(refused_at(alloc, name, line, flat_text(alloc, &kind)))
         }
-        Err(FlatRefusal::Memory) => Err(Stop::Memory),
+        Err(Refusal::Memory) => Err(Stop::Memory),
     }
 }
 
@@ -207,9 +210,9 @@ fn rows_in(alloc: Global, name: &str, text: &[u8], width: usize) -> Result<Vecto
     let lines = lines_in(alloc, name, text)?;
     match read_vectors(alloc, &lines, width) {
         Ok(vectors) => Ok(vectors),
-        Err(VectorRefusal::Fault(VectorFault { line, kind })) => {
+        Err(Refusal::Fault(At { line, kind })) => {
             Err(refused_at(alloc, name, line, vector_text(alloc, kind)))
         }
-        Err(VectorRefusal::Memory) => Err(Stop::Memory),
+        Err(Refusal::Memory) => Err(Stop::Memory),
     }
 }

@@ -10,8 +10,9 @@ use crate::source::{refused, refused_at, unread};
 use crate::stop::Stop;
 use ds_base::Limit;
 use ds_design::Vectors;
+use ds_lines::At;
 use ds_outside::Files;
-use ds_stream::{NextFault, StreamFault, StreamKind, VectorReader};
+use ds_stream::{NextFault, StreamKind, VectorReader};
 use itoa::Buffer;
 use std::alloc::{AllocError, Global};
 
@@ -51,7 +52,7 @@ pub fn read_window<F: Files>(
 {
     match reader.next(alloc, files, name, WINDOW) {
         Ok(given) => Ok(given),
-        Err(NextFault::Vector(StreamFault { line, kind })) => {
+        Err(NextFault::Vector(At { line, kind })) => {
             Err(refused_at(alloc, name, line, stream_text(alloc, kind)))
         }
         Err(NextFault::TooLong) => Err(refused(alloc, name, b"too long (limit 281474976710656)")),

@@ -12,10 +12,11 @@ use Rattle.ds_stream.specs.Stream.{Behind, Placed, stop_of, longest, placed_in, 
 use Rattle.ds_stream.specs.StreamLaws.{as_next, result_of}
 use Rattle.ds_stream.specs.declared.fault.NextFault.{NextFault}
 use Rattle.ds_stream.specs.declared.fault.NextFault.TheVariants.{TooLong}
-use Rattle.ds_rows.specs.declared.fault.VectorFault.{VectorFault}
-use Rattle.ds_stream.specs.declared.fault.StreamFault.{StreamFault}
+use Rattle.ds_lines.specs.declared.at.At.{At}
 use Rattle.ds_stream.proofs.Placed.{are_lines}
 use Rattle.ds_stream.proofs.WindowLaws.{cases_Option}
+use Rattle.ds_rows.specs.declared.fault.VectorKind.{VectorKind}
+use Rattle.ds_stream.specs.declared.fault.StreamKind.{StreamKind}
 
 -- each line ends at a place or before
 abbrev pub AreWithin : ℕ → List Placed → Type 0
@@ -60,7 +61,7 @@ rows_in (Ok rows) = rows.rows
 rows_in (Err why) = []
 
 -- a row before those of an answer
-row_before : (width : ℕ) (row : Row) (stop : Option NextFault) (rows more : List Row) (fault : Option StreamFault)
+row_before : (width : ℕ) (row : Row) (stop : Option NextFault) (rows more : List Row) (fault : Option (At StreamKind))
     → result_of width stop rows ≡ as_next (unless_fault fault (record { width = width; rows = more }))
     → result_of width stop (row ∷ rows) ≡ as_next (unless_fault fault (record { width = width; rows = row ∷ more }))
 row_before width row None rows more None is =
@@ -89,7 +90,7 @@ short_is_read width most text few =
     ∙ ap (λ (ls : List Line). as_next (vectors_under most width ls)) (are_lines text)
 
 -- the first fault of vectors that are read whole, with the number for the limit
-abbrev told_fault : Option VectorFault → Option StreamFault
+abbrev told_fault : Option (At VectorKind) → Option (At StreamKind)
 told_fault None = None
 told_fault (Some fault) = Some (record { line = fault.line; kind = told_kind fault.kind })
 
@@ -106,14 +107,14 @@ first_fault_of_limit width seen (line ∷ lines) = elim (cases_Bool (nat_lt seen
   ])
 ]
 
-told_unless : (fault : Option VectorFault) (rows : Rows) → unless_fault (told_fault fault) rows ≡ told_whole (unless_fault fault rows)
+told_unless : (fault : Option (At VectorKind)) (rows : Rows) → unless_fault (told_fault fault) rows ≡ told_whole (unless_fault fault rows)
 told_unless None rows = refl
 told_unless (Some fault) rows = refl
 
 pub of_the_limit : (width : ℕ) (lines : List Line) → vectors_under 65536 width lines ≡ told_whole (vectors_of width lines)
 of_the_limit width lines =
     let rows : Rows = record { width = width; rows = rows_of_lines width lines } in
-    ap (λ (f : Option StreamFault). unless_fault f rows) (first_fault_of_limit width 0 lines) ∙ told_unless (first_vector_fault width 0 lines) rows
+    ap (λ (f : Option (At StreamKind)). unless_fault f rows) (first_fault_of_limit width 0 lines) ∙ told_unless (first_vector_fault width 0 lines) rows
 
 pub is_read_whole : (width : ℕ) (text : List ℕ) → length text ≤ 16777216
     → result_of width (stream_of width 65536 text).stop (stream_of width 65536 text).rows ≡ as_next (told_whole (vectors_of width (lines_of text)))

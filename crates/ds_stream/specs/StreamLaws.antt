@@ -12,7 +12,8 @@ use Rattle.ds_stream.specs.Stream.{Behind, FitsText, Shown, RowWindow, beginning
 use Rattle.ds_stream.specs.Stream.{least_bytes, next_window, placed_behind, placed_lines, stream_of}
 use Rattle.ds_stream.specs.declared.fault.NextFault.{NextFault}
 use Rattle.ds_stream.specs.declared.fault.NextFault.TheVariants.{Vector}
-use Rattle.ds_stream.specs.declared.fault.StreamFault.{StreamFault}
+use Rattle.ds_lines.specs.declared.at.At.{At}
+use Rattle.ds_stream.specs.declared.fault.StreamKind.{StreamKind}
 
 -- a window and the next one, by why the first one has no more
 abbrev pub goes_on_from : Option NextFault → RowWindow → RowWindow → RowWindow
@@ -61,7 +62,7 @@ result_of width None rows = Ok (record { width = width; rows = rows })
 result_of width (Some why) rows = Err why
 
 -- a fault as that of a reader of windows
-abbrev pub as_next : Result Rows StreamFault → Result Rows NextFault
+abbrev pub as_next : Result Rows (At StreamKind) → Result Rows NextFault
 as_next (Ok rows) = Ok rows
 as_next (Err fault) = Err (Vector fault)
 

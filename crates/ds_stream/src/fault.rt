@@ -1,5 +1,6 @@
 //! Why the next vectors of a file are not given.
 use ds_base::OutOfMemory;
+use ds_lines::At;
 use std::alloc::{AllocError, AllocFailed};
 
 /// What is wrong with a line of a file that is read in windows.
@@ -13,16 +14,11 @@ pub enum StreamKind {
     BadBit,
 }
 
-/// The first fault of a file that is read in windows: the number of its line, from 1, and what is
-/// wrong there.
-#[derive(Clone, Copy, Debug, PartialEq, Eq)]
-pub struct StreamFault {
-    pub line: u64,
-    pub kind: StreamKind,
-}
+/// The first fault of a file that is read in windows.
+pub type StreamFault = At<StreamKind>;
 
 /// Why the next vectors of a file are not given.
-#[derive(Clone, Copy, Debug, PartialEq, Eq)]
+#[derive(Drop, Debug)]
 pub enum NextFault {
     /// A line has a fault.
     Vector(StreamFault),

@@ -19,11 +19,7 @@ mod fault;
 mod filling;
 pub mod laws;
 mod open_line;
-#[cfg(test)]
-mod pipe;
 mod reader;
-#[cfg(test)]
-mod tests;
 mod word;
 
 pub use fault::{NextFault, StreamFault, StreamKind};

@@ -7,11 +7,11 @@ ghost use Rattle.ds_stream.specs.Alike.{IsFull, IsLike};
 ghost use Rattle.ds_stream.specs.Filling.{ClosesLine, IsLater};
 ghost use Rattle.ds_stream.specs.Word.{GivesRow};
 
+use crate::NextFault;
 use crate::filling::Filling;
 use crate::word::{fault_of, row_of};
-use crate::{NextFault, StreamFault};
 use ds_base::Row3;
-use ds_lines::{blank, trim};
+use ds_lines::{At, blank, trim};
 use std::alloc::Global;
 
 impl Filling {
@@ -109,7 +109,7 @@ impl Filling {
         let line = &self.line[..kept];
         if let Some(kind) = fault_of(self.most, self.seen, self.width, line) {
             let line = self.first;
-            return Err(NextFault::Vector(StreamFault { line, kind }));
+            return Err(NextFault::Vector(At { line, kind }));
         }
         let row = row_of(alloc, self.width, line)?;
         Ok(Some(row))

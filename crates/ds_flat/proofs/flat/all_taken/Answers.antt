@@ -2,10 +2,11 @@ use Rattle.std.proofs.Common.{◌∙◌, ap, sym, Ok, Result, refl, subst}
 use Rattle.ds_flat.specs.Turn.{GivesTurn}
 use Rattle.ds_flat.specs.declared.step.Turn.{Turn}
 use Rattle.ds_flat.specs.declared.step.Turn.TheVariants.{Next, Done}
-use Rattle.ds_flat.specs.declared.fault.FlatFault.{FlatFault}
+use Rattle.ds_lines.specs.declared.at.At.{At}
 use Rattle.ds_flat.specs.Copies.{Flat, ◌>>=◌}
 use Rattle.ds_flat.proofs.Steps.{fault_same}
 use Rattle.ds_flat.proofs.flat.all_taken.Goals as goal
+use Rattle.ds_flat.specs.declared.fault.FlatKind.{FlatKind}
 
 pub turns-init : goal.turns-init
 turns-init c = record { kept = c.requires.kept; so_far = refl }
@@ -22,7 +23,7 @@ returns-in-Ok-Done c =
     subst (λ (t : Turn). GivesTurn c.args.library.now t c.turns.state) c.in-Ok-Done.field-0-is
     c.in-Ok-Done.ensures in
     record {
-      same = ap (λ (r : Result Flat FlatFault). r >>= λ (flat : Flat). Ok flat.design)
+      same = ap (λ (r : Result Flat (At FlatKind)). r >>= λ (flat : Flat). Ok flat.design)
           (sym c.turns.invariant.so_far ∙ ends.same);
       in_range = ends.in_range;
     }

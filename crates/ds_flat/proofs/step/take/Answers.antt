@@ -1,6 +1,7 @@
 use Rattle.std.proofs.Common.{◌∙◌, ap, sym, subst, arith}
+use Rattle.ds_base.specs.Refusal.{RefusesAs}
 use Rattle.ds_flat.specs.Stack.{frame_on, path_of}
-use Rattle.ds_flat.specs.Run.{Rest, IsRestKept, IsFault, after_take}
+use Rattle.ds_flat.specs.Run.{Rest, IsRestKept, after_take}
 use Rattle.ds_flat.proofs.Kept.{kept_part}
 use Rattle.ds_flat.proofs.Steps.{taken_part, part_fault, fault_same}
 use Rattle.ds_flat.proofs.Opens.{after_take-any, use_fine}
@@ -59,7 +60,7 @@ returns-in-Ok-take_part-clause-value c =
 
 pub returns-clause-value : goal.returns-clause-value
 returns-clause-value c =
-    subst (λ (r : Rest). IsFault c.in-Err-take_part.refusal
+    subst (λ (r : Rest). RefusesAs c.in-Err-take_part.refusal
     (after_take c.args.library.now r.frames r.flat c.args.command.now)) c.state.view_is
     (part_fault c.args.library.now
     (frame_on c.state.inside.top (path_of c.state.inside.below.frames))

@@ -1,9 +1,10 @@
 //! Windows that are read by pieces and of a pipe, limits, failed reads, and lines of any length.
 use crate::pipe::Pipe;
-use crate::{NextFault, StreamFault, StreamKind, VectorReader};
 use ds_base::{Seq, Value};
 use ds_design::Vectors;
+use ds_lines::At;
 use ds_outside::{Entry, MemoryFiles};
+use ds_stream::{NextFault, StreamKind, VectorReader};
 use std::alloc::{AllocError, Global};
 use std::test::Fail;
 
@@ -32,7 +33,7 @@ fn is_fault(
     wanted: StreamKind,
 ) -> bool {
     match answer {
-        Err(NextFault::Vector(StreamFault { line, kind })) => *line == number && *kind == wanted,
+        Err(NextFault::Vector(At { line, kind })) => *line == number && *kind == wanted,
         _ => false,
     }
 }
