@@ -1,7 +1,7 @@
 //! `accept`: the ranks of a graph of the user's that is accepted.
-ghost use Rattle.std.specs.Prelude.{◌≡◌, ◌<◌, IfOk, length};
-ghost use Rattle.ds_outside.specs.Writes.{GoesOn, Writes};
-ghost use Rattle.ds_rows.specs.Log.{firing_text};
+ghost use Rattle.std.specs.Prelude.{◌≡◌, IfOk, length};
+ghost use Rattle.ds_outside.specs.Pen.{Puts};
+ghost use Rattle.ds_outside.specs.Writes.{Writes};
 ghost use Rattle.ds_rank.specs.Rank.{AreRanks};
 ghost use Rattle.ds_stage.specs.Ends.{Ends, Never, RoseIn, output_between};
 ghost use Rattle.ds_stage.specs.AcceptStage.{rank_lines, ranks_stage, ranks_text};
@@ -12,12 +12,11 @@ ghost use Rattle.ds_app.specs.JobStages.{accept_stage};
 use ds_base::{EventId, OutOfMemory};
 use ds_cmd::AcceptJob;
 use ds_latch::Plan;
-use ds_outside::{Behind, Buffered, Files, Lent, Sink, WriteFault, put};
+use ds_outside::{Buffered, Files, Pen, Sink, WriteFault};
 use ds_rank::{RankFault, Ranks, rank};
-use ds_rows::firing_line;
+use ds_rows::put_firing;
 use ds_stage::{Stop, plan_named, read_netlist};
 use std::alloc::Global;
-use std::marker::Brand;
 
 /// Reads a netlist, accepts the graph for it, and writes the ranks of its events.
 #[tactic(auto)]
@@ -47,8 +46,7 @@ fn write_accepted<O: Sink>(alloc: Global, plan: &Plan<'_>, out: &mut O) -> Resul
         (output_between O.written O.faults out.old out.new) result }
 {
     let ranks = ranks_of(alloc, plan)?;
-    let (_, result) = write_behind::<O, Brand>(plan, &ranks, Lent { sink: out });
-    match result {
+    match write_ranks(plan, &ranks, out) {
         Ok(()) => Ok(()),
         Err(_) => Err(Stop::Unwritten),
     }
@@ -66,59 +64,25 @@ fn ranks_of(alloc: Global, plan: &Plan<'_>) -> Result<Ranks, OutOfMemory>
 }
 
 // Writes the text by way of a buffer.
-fn write_behind<'a, O: Sink, B: Behind>(
-    plan: &Plan<'_>,
-    ranks: &Ranks,
-    behind: Lent<'a, O>,
-) -> (Lent<'a, O>, Result<(), WriteFault>)
+fn write_ranks<O: Sink>(plan: &Plan<'_>, ranks: &Ranks, out: &mut O) -> Result<(), WriteFault>
     requires ranks { AreRanks plan.now.graph ranks.now }
-    requires same { behind.sink.ghost_name ≡ B.name }
-    requires before { O.written behind.sink.now ≡ B.before }
-
-    ensures ok { Writes result.1 B.before (O.written result.0.sink.now)
-        (O.faults behind.entry.sink.now) (O.faults result.0.sink.now)
-        (ranks_text plan.now.graph ranks.now) }
-    ensures same { result.0.sink.ghost_name ≡ B.name }
+    ensures { Writes result (O.written out.old) (O.written out.new) (O.faults out.old)
+        (O.faults out.new) (ranks_text plan.now.graph ranks.now) }
 {
-    let mut buffered: Buffered<'a, O, B> = Buffered::new(behind);
-    let so_far = put(Ok(()), b"accepted\n", &mut buffered);
-    let so_far = put_ranks(so_far, plan, ranks, &mut buffered);
-    buffered.finish(so_far)
+    let mut pen = Buffered::new(out);
+    pen.put(b"accepted\n");
+    put_ranks(plan, ranks, &mut pen);
+    pen.finish()
 }
 
-// Writes the lines of all events, unless a write has failed.
-fn put_ranks<O: Sink>(
-    so_far: Result<(), WriteFault>,
-    plan: &Plan<'_>,
-    ranks: &Ranks,
-    out: &mut O,
-) -> Result<(), WriteFault>
+// Writes the lines of all events: each with its rank.
+fn put_ranks<P: Pen>(plan: &Plan<'_>, ranks: &Ranks, pen: &mut P)
     requires { AreRanks plan.now.graph ranks.now }
-    ensures { GoesOn so_far result (O.written out.old) (O.written out.new) (O.faults out.old)
-        (O.faults out.new) (rank_lines plan.now.graph ranks.now (length plan.now.graph.events)) }
+    ensures { Puts (P.writing pen.old) (P.writing pen.new)
+        (rank_lines plan.now.graph ranks.now (length plan.now.graph.events)) }
 {
-    let mut so_far = so_far;
     for v in 0..plan.graph().events().len() {
         let event = EventId::new(v as u32);
-        so_far = put_rank(so_far, plan, event, ranks.at(event), out);
-    }
-    so_far
-}
-
-// Writes the line of an event, unless a write has failed.
-fn put_rank<O: Sink>(
-    so_far: Result<(), WriteFault>,
-    plan: &Plan<'_>,
-    event: EventId,
-    rank: u64,
-    out: &mut O,
-) -> Result<(), WriteFault>
-    requires { event < length plan.now.graph.events }
-    ensures { GoesOn so_far result (O.written out.old) (O.written out.new) (O.faults out.old)
-        (O.faults out.new) (firing_text plan.now.graph event rank) }
-{
-    match so_far {
-        Ok(()) => firing_line(plan, event, rank, out),
-        Err(fault) => Err(fault),
+        put_firing(plan, event, ranks.at(event), pen);
     }
 }

@@ -17,7 +17,7 @@ use ds_demo::make;
 use ds_design::{Design, Netlist};
 use ds_latch::Plan;
 use ds_netlist::{NetFault, levelise};
-use ds_outside::{Gate, Sink, WriteFault};
+use ds_outside::{Gate, OnSink, Pen, Sink, WriteFault};
 use ds_run::{Sums, Workers, sum_run};
 use ds_stage::{Stop, own_plan, put_count, split_netlist};
 use std::alloc::Global;
@@ -39,14 +39,14 @@ pub fn demo<R: AllocGlobal + Threads + Sync, G: Gate, O: Sink>(
     let Ok(sums) = sums_of(rt, job, gate) else {
         return Err(Stop::Memory);
     };
-    match put_summary(job.registers, job.turns, sums.ones, sums.fold, out) {
+    match write_summary(job.registers, job.turns, sums.ones, sums.fold, out) {
         Ok(()) => Ok(()),
         Err(_) => Err(Stop::Unwritten),
     }
 }
 
 // The four lines.
-fn put_summary<O: Sink>(
+fn write_summary<O: Sink>(
     registers: u32,
     turns: u32,
     ones: u64,
@@ -58,10 +58,12 @@ fn put_summary<O: Sink>(
         (O.faults out.new) (summary_text registers turns ones fold) }
 {
     let firings = 4 * turns as u64 * (registers as u64 + 1);
-    let so_far = put_count(Ok(()), b"turns", turns as u64, out);
-    let so_far = put_count(so_far, b"firings", firings, out);
-    let so_far = put_count(so_far, b"ones", ones, out);
-    put_count(so_far, b"fold", fold, out)
+    let mut pen = OnSink::new(out);
+    put_count(b"turns", turns as u64, &mut pen);
+    put_count(b"firings", firings, &mut pen);
+    put_count(b"ones", ones, &mut pen);
+    put_count(b"fold", fold, &mut pen);
+    pen.finish()
 }
 
 // What the run of a made design sums up to.

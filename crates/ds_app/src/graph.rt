@@ -1,7 +1,5 @@
 //! `graph`: the controller graph of a netlist, or its expansion.
 ghost use Rattle.std.specs.Prelude.{◌≡◌};
-ghost use Rattle.ds_outside.specs.Writes.{Writes};
-ghost use Rattle.ds_astg.specs.Text.{graph_text};
 ghost use Rattle.ds_stage.specs.Ends.{Ends, Never, RoseIn, output_between};
 ghost use Rattle.ds_stage.specs.GraphStage.{controller_stage, drawn_stage};
 ghost use Rattle.ds_stage.specs.Stage.{then_stage};
@@ -12,10 +10,9 @@ use ds_astg::write;
 use ds_cmd::GraphJob;
 use ds_latch::Latches;
 use ds_marked::Marked;
-use ds_outside::{Behind, Buffered, Files, Lent, Sink, WriteFault};
+use ds_outside::{Files, Sink};
 use ds_stage::{Stop, read_netlist, split_netlist, wanted_graph};
 use std::alloc::Global;
-use std::marker::Brand;
 
 /// Reads a netlist, and writes its controller graph, or the expansion of it.
 #[tactic(auto)]
@@ -62,29 +59,8 @@ fn write_graph<O: Sink>(latches: &Latches<'_>, graph: &Marked, out: &mut O) -> R
     let _edges = latches.edges();
     let own = latches.bits().len() as u32;
     let name = latches.netlist().design().name();
-    let (_, result) = write_behind::<O, Brand>(name, own, graph, Lent { sink: out });
-    match result {
+    match write(name, own, graph, out) {
         Ok(()) => Ok(()),
         Err(_) => Err(Stop::Unwritten),
     }
-}
-
-// Writes a graph by way of a buffer.
-fn write_behind<'a, O: Sink, B: Behind>(
-    name: &[u8],
-    own: u32,
-    graph: &Marked,
-    behind: Lent<'a, O>,
-) -> (Lent<'a, O>, Result<(), WriteFault>)
-    requires same { behind.sink.ghost_name ≡ B.name }
-    requires before { O.written behind.sink.now ≡ B.before }
-
-    ensures ok { Writes result.1 B.before (O.written result.0.sink.now)
-        (O.faults behind.entry.sink.now) (O.faults result.0.sink.now)
-        (graph_text name.now own graph.now) }
-    ensures same { result.0.sink.ghost_name ≡ B.name }
-{
-    let mut buffered: Buffered<'a, O, B> = Buffered::new(behind);
-    let so_far = write(name, own, graph, &mut buffered);
-    buffered.finish(so_far)
 }

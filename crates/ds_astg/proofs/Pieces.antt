@@ -3,17 +3,16 @@ use Rattle.std.proofs.Common.{◌≡◌, ℕ, zero, suc, ◌+◌, ◌-◌, ◌<�
 use Rattle.std.proofs.lemmas.Bool.{cases_eq}
 use Rattle.std.proofs.lemmas.List.{append-nil}
 use Rattle.std.specs.Prelude.{codes}
-use Rattle.ds_outside.specs.Writes.{GoesOn}
-use Rattle.ds_outside.proofs.Then.{goes_on, with_text}
+use Rattle.ds_outside.specs.Pen.{Puts, Writing}
+use Rattle.ds_outside.proofs.Pens.{puts_on, with_put}
 use Rattle.ds_astg.specs.Pieces.{all_below, line_with}
 
 pub all_below-next : (piece : ℕ → List ℕ) (n : ℕ) → all_below piece (n + 1) ≡ all_below piece n ++ piece n
 all_below-next piece n = ap (all_below piece) (add-one n)
 
 -- one piece more
-pub one_more : {T E : Type 0} {a b c : Result T E} {w0 w1 w2 : Option (List ℕ)} {f0 f1 f2 : ℕ} (piece : ℕ → List ℕ) (n : ℕ)
-    → GoesOn a b w0 w1 f0 f1 (all_below piece n) → GoesOn b c w1 w2 f1 f2 (piece n) → GoesOn a c w0 w2 f0 f2 (all_below piece (n + 1))
-one_more piece n before here = with_text (sym (all_below-next piece n)) (goes_on before here)
+pub one_more : {a b c : Writing} (piece : ℕ → List ℕ) (n : ℕ) → Puts a b (all_below piece n) → Puts b c (piece n) → Puts a c (all_below piece (n + 1))
+one_more piece n before here = with_put (sym (all_below-next piece n)) (puts_on before here)
 
 -- where all pieces from one number up to another are empty, they add nothing
 pub silent : (piece : ℕ → List ℕ) (low count : ℕ) → ((k : ℕ) → low ≤ k → k < low + count → piece k ≡ []) → all_below piece (low + count) ≡ all_below piece low

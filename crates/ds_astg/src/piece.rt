@@ -1,43 +1,32 @@
-//! Pieces of a text, each written unless a write has failed.
+//! Pieces of a text.
 ghost use Rattle.std.specs.Prelude.{◌≡◌, ◌<◌, length};
-ghost use Rattle.ds_outside.specs.Writes.{GoesOn};
+ghost use Rattle.ds_outside.specs.Pen.{Puts};
 ghost use Rattle.ds_marked.specs.Graph.{Graph};
 ghost use Rattle.ds_marked.specs.Log.{text_of_event};
 ghost use Rattle.ds_astg.specs.Text.{have_same_ends, is_further as is_further_in, place_name};
 
 use ds_base::EventId;
 use ds_marked::{Arc, Marked};
-use ds_outside::{Sink, WriteFault, put};
+use ds_outside::Pen;
 use itoa::Buffer;
 
 /// Writes the event with a number.
-pub fn put_event<O: Sink>(
-    so_far: Result<(), WriteFault>,
-    graph: &Marked,
-    event: EventId,
-    out: &mut O,
-) -> Result<(), WriteFault>
+pub fn put_event<P: Pen>(graph: &Marked, event: EventId, pen: &mut P)
     requires { event < length graph.now.events }
-    ensures { GoesOn so_far result (O.written out.old) (O.written out.new) (O.faults out.old)
-        (O.faults out.new) (text_of_event graph.now event) }
+    ensures { Puts (P.writing pen.old) (P.writing pen.new) (text_of_event graph.now event) }
 {
     let text = graph.text(event);
-    let so_far = put(so_far, text.name, out);
-    put(so_far, text.sign, out)
+    pen.put(text.name);
+    pen.put(text.sign);
 }
 
 /// Writes the name of an arc's own place.
-pub fn put_place<O: Sink>(
-    so_far: Result<(), WriteFault>,
-    arc: usize,
-    out: &mut O,
-) -> Result<(), WriteFault>
-    ensures { GoesOn so_far result (O.written out.old) (O.written out.new) (O.faults out.old)
-        (O.faults out.new) (place_name arc) }
+pub fn put_place<P: Pen>(arc: usize, pen: &mut P)
+    ensures { Puts (P.writing pen.old) (P.writing pen.new) (place_name arc) }
 {
     let mut buffer = Buffer::new();
-    let so_far = put(so_far, b"p", out);
-    put(so_far, buffer.format(arc).as_bytes(), out)
+    pen.put(b"p");
+    pen.put(buffer.format(arc).as_bytes());
 }
 
 /// Whether an arc with the same ends stands before this one.

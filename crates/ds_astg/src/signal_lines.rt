@@ -1,28 +1,22 @@
 //! The lines that declare the signals of a graph that is written.
 ghost use Rattle.std.specs.Prelude.{◌≡◌, ◌*◌, ◌<◌, ◌↔◌, length, take, drop, codes, IsTrue};
-ghost use Rattle.ds_outside.specs.Writes.{GoesOn};
+ghost use Rattle.ds_outside.specs.Pen.{Puts};
 ghost use Rattle.ds_astg.specs.Pieces.{line_with};
 ghost use Rattle.ds_astg.specs.Text.{signal_lines, signal_of, signals_text};
 
 use ds_marked::{Event, Kind};
-use ds_outside::{Sink, WriteFault, put};
+use ds_outside::Pen;
 
 /// Writes the lines of the signals that rise among the events: of the first ones, which are so
 /// many, and of the further ones, where there are some.
-pub fn put_signal_lines<O: Sink>(
-    so_far: Result<(), WriteFault>,
-    own: u32,
-    events: &[Event],
-    out: &mut O,
-) -> Result<(), WriteFault>
-    ensures { GoesOn so_far result (O.written out.old) (O.written out.new) (O.faults out.old)
-        (O.faults out.new) (signal_lines own events.now) }
+pub fn put_signal_lines<P: Pen>(own: u32, events: &[Event], pen: &mut P)
+    ensures { Puts (P.writing pen.old) (P.writing pen.new) (signal_lines own events.now) }
 {
     let (first, further) = parted(own, events);
-    let so_far = put(so_far, b".outputs", out);
-    let so_far = put_signals(so_far, first, out);
-    let so_far = put(so_far, b"\n", out);
-    put_further(so_far, further, out)
+    pen.put(b".outputs");
+    put_signals(first, pen);
+    pen.put(b"\n");
+    put_further(further, pen);
 }
 
 // The events of so many signals, two of each, and the events behind them.
@@ -38,20 +32,16 @@ fn parted(own: u32, events: &[Event]) -> (&[Event], &[Event])
 }
 
 // Writes the line of the further signals, where there are some.
-fn put_further<O: Sink>(
-    so_far: Result<(), WriteFault>,
-    events: &[Event],
-    out: &mut O,
-) -> Result<(), WriteFault>
-    ensures { GoesOn so_far result (O.written out.old) (O.written out.new) (O.faults out.old)
-        (O.faults out.new) (line_with (codes ".internal") (signals_text events.now)) }
+fn put_further<P: Pen>(events: &[Event], pen: &mut P)
+    ensures { Puts (P.writing pen.old) (P.writing pen.new)
+        (line_with (codes ".internal") (signals_text events.now)) }
 {
     if !has_signal(events) {
-        return so_far;
+        return;
     }
-    let so_far = put(so_far, b".internal", out);
-    let so_far = put_signals(so_far, events, out);
-    put(so_far, b"\n", out)
+    pen.put(b".internal");
+    put_signals(events, pen);
+    pen.put(b"\n");
 }
 
 // Whether a signal rises among the events.
@@ -67,36 +57,24 @@ fn has_signal(events: &[Event]) -> bool
 }
 
 // Writes the signals that rise.
-fn put_signals<O: Sink>(
-    so_far: Result<(), WriteFault>,
-    events: &[Event],
-    out: &mut O,
-) -> Result<(), WriteFault>
-    ensures { GoesOn so_far result (O.written out.old) (O.written out.new) (O.faults out.old)
-        (O.faults out.new) (signals_text events.now) }
+fn put_signals<P: Pen>(events: &[Event], pen: &mut P)
+    ensures { Puts (P.writing pen.old) (P.writing pen.new) (signals_text events.now) }
 {
-    let mut so_far = so_far;
     for event in events {
-        so_far = put_signal(so_far, event, out);
+        put_signal(event, pen);
     }
-    so_far
 }
 
 // Writes the signal of an event, where it rises.
-fn put_signal<O: Sink>(
-    so_far: Result<(), WriteFault>,
-    event: &Event,
-    out: &mut O,
-) -> Result<(), WriteFault>
-    ensures { GoesOn so_far result (O.written out.old) (O.written out.new) (O.faults out.old)
-        (O.faults out.new) (signal_of event.now) }
+fn put_signal<P: Pen>(event: &Event, pen: &mut P)
+    ensures { Puts (P.writing pen.old) (P.writing pen.new) (signal_of event.now) }
 {
     match event.kind {
         Kind::Rise => {
-            let so_far = put(so_far, b" ", out);
-            put(so_far, event.signal.as_slice(), out)
+            pen.put(b" ");
+            pen.put(event.signal.as_slice());
         }
-        Kind::Fall => so_far,
-        Kind::Dummy => so_far,
+        Kind::Fall => {}
+        Kind::Dummy => {}
     }
 }

@@ -1,5 +1,5 @@
 -- One more turn of a run.
-use Rattle.std.proofs.Common.{◌≡◌, ℕ, ◌+◌, ◌<◌, List, [], ◌∷◌, ◌++◌, length, drop, refl, arith, ap, sym, ◌∙◌, subst, Option, Result, add-zero}
+use Rattle.std.proofs.Common.{◌≡◌, ℕ, ◌+◌, ◌<◌, List, [], ◌∷◌, ◌++◌, length, drop, refl, arith, ap, sym, ◌∙◌, subst, add-zero}
 use Rattle.std.proofs.lemmas.List.{drop_more, append_assoc, append-nil}
 use Rattle.std.proofs.Math.Seq.{drop-length}
 use Rattle.ds_base.specs.Values.{Row}
@@ -9,25 +9,24 @@ use Rattle.ds_design.specs.Valuation.{IsValuation}
 use Rattle.ds_design.specs.Run.{row_at}
 use Rattle.ds_design.specs.Trace.{IsTrace, AreLines, trace_line, end_line}
 use Rattle.ds_design.proofs.Runs.{trace_by_turns}
-use Rattle.ds_outside.specs.Writes.{GoesOn}
-use Rattle.ds_outside.proofs.Then.{goes_on, nothing}
 use Rattle.ds_clocked.specs.Loop.{IsWrittenTo}
 
-pub no_turn : {T E : Type 0} (c : Circuit) (first : ℕ) (start : Row) (vectors : List Row) (answered : Result T E) (w : Option (List ℕ)) (f : ℕ) → IsWrittenTo c first start vectors 0 start answered answered w w f f
-no_turn c first start vectors answered w f = record {
+pub no_turn : (c : Circuit) (first : ℕ) (start : Row) (vectors : List Row) (IsWritten : List ℕ → Type 0) → IsWritten [] → IsWrittenTo c first start vectors 0 start IsWritten
+no_turn c first start vectors IsWritten none = record {
   text = [];
-  goes_on = nothing answered w f;
+  written = none;
   rest = λ rest last from. subst (λ (turn : ℕ). AreLines c turn start vectors rest last) (add-zero first) from;
 }
 
-pub one_turn : {T E : Type 0} (c : Circuit) (first : ℕ) (start : Row) (vectors : List Row) (k : ℕ) (state nets : Row) (answered so_far next : Result T E) (w0 w1 w2 : Option (List ℕ)) (f0 f1 f2 : ℕ) → k < length vectors
-    → IsWrittenTo c first start vectors k state answered so_far w0 w1 f0 f1 → IsValuation c state (row_at vectors k) nets → GoesOn so_far next w1 w2 f1 f2 (trace_line (first + k) (values_at nets c.outputs) state)
-    → IsWrittenTo c first start vectors (k + 1) (values_at nets (data_nets c)) answered next w0 w2 f0 f2
-one_turn c first start vectors k state nets answered so_far next w0 w1 w2 f0 f1 f2 inside done settled line =
+pub one_turn : (c : Circuit) (first : ℕ) (start : Row) (vectors : List Row) (k : ℕ) (state nets : Row) (Before After : List ℕ → Type 0) → k < length vectors
+    → IsWrittenTo c first start vectors k state Before → IsValuation c state (row_at vectors k) nets
+    → ((text : List ℕ) → Before text → After (text ++ trace_line (first + k) (values_at nets c.outputs) state))
+    → IsWrittenTo c first start vectors (k + 1) (values_at nets (data_nets c)) After
+one_turn c first start vectors k state nets Before After inside done settled line =
     let text : List ℕ = trace_line (first + k) (values_at nets c.outputs) state in
     record {
       text = done.text ++ text;
-      goes_on = goes_on done.goes_on line;
+      written = line done.text done.written;
       rest = λ rest last from.
           let turn : first + (k + 1) ≡ first + k + 1 = omega arith in
           let from_here : AreLines c (first + k + 1) (values_at nets (data_nets c)) (drop (k + 1) vectors) rest last = subst (λ (t : ℕ). AreLines c t (values_at nets (data_nets c)) (drop (k + 1) vectors) rest last) turn from in
@@ -37,12 +36,12 @@ one_turn c first start vectors k state nets answered so_far next w0 w1 w2 f0 f1 
           subst (λ (t : List ℕ). AreLines c first start vectors t last) (sym (append_assoc done.text text rest)) all;
     }
 
-pub last_turn : {T E : Type 0} (c : Circuit) (first : ℕ) (start : Row) (vectors : List Row) (k : ℕ) (state : Row) (answered so_far : Result T E) (w0 w1 : Option (List ℕ)) (f0 f1 : ℕ) → k ≡ length vectors
-    → IsWrittenTo c first start vectors k state answered so_far w0 w1 f0 f1 → (lines : List ℕ) × AreLines c first start vectors lines state × GoesOn answered so_far w0 w1 f0 f1 lines
-last_turn c first start vectors k state answered so_far w0 w1 f0 f1 all done =
+pub last_turn : (c : Circuit) (first : ℕ) (start : Row) (vectors : List Row) (k : ℕ) (state : Row) (IsWritten : List ℕ → Type 0) → k ≡ length vectors
+    → IsWrittenTo c first start vectors k state IsWritten → (lines : List ℕ) × AreLines c first start vectors lines state × IsWritten lines
+last_turn c first start vectors k state IsWritten all done =
     let none_left : drop k vectors ≡ [] = ap (λ (n : ℕ). drop n vectors) all ∙ drop-length vectors in
     let end : AreLines c (first + k) state (drop k vectors) [] state = subst (λ (vs : List Row). AreLines c (first + k) state vs [] state) (sym none_left) (refl, refl) in
-    (done.text, subst (λ (t : List ℕ). AreLines c first start vectors t state) (append-nil done.text) (done.rest [] state end), done.goes_on)
+    (done.text, subst (λ (t : List ℕ). AreLines c first start vectors t state) (append-nil done.text) (done.rest [] state end), done.written)
 
 pub whole_trace : (c : Circuit) (start : Row) (vectors : List Row) (lines : List ℕ) (last : Row) → start ≡ initial_row c → AreLines c 0 start vectors lines last → IsTrace c vectors (lines ++ end_line last)
 whole_trace c start vectors lines last is are = record {

@@ -3,6 +3,7 @@ use Rattle.std.specs.Prelude.{◌≡◌, ℕ, List, Option, Result}
 use Rattle.ds_base.specs.Values.{Row}
 use Rattle.ds_design.specs.Circuit.{Circuit}
 use Rattle.ds_design.specs.Trace.{AreLines}
+use Rattle.ds_outside.specs.Pen.{Puts, Writing}
 use Rattle.ds_outside.specs.Written.{appended, AppendsPart}
 use Rattle.ds_outside.specs.Writes.{Writes}
 
@@ -26,3 +27,8 @@ abbrev pub WritesLines : {T E : Type 0} → Result T E → Circuit → ℕ → R
 WritesLines result c first start vectors last old new before now =
     (lines : List ℕ) × AreLines c first start vectors lines last
     × Writes result old new before now lines
+
+-- a pen went over the lines from a turn and a row on, up to this row
+abbrev pub PutsLines : Writing → Writing → Circuit → ℕ → Row → List Row → Row → Type 0
+PutsLines old new c first start vectors last =
+    (lines : List ℕ) × AreLines c first start vectors lines last × Puts old new lines

@@ -1,21 +1,17 @@
 //! The clocked run, turn by turn: the nets are settled, the line is written, and each register
 //! takes its data net. The text goes through a buffer, and all memory is taken before the first
 //! byte.
-ghost use Rattle.std.specs.Prelude.{◌≡◌, ◌+◌, ◌^◌, ◌<◌, ◌≤◌, length, map, All, IfOk};
+ghost use Rattle.std.specs.Prelude.{◌≡◌, ◌+◌, ◌^◌, ◌<◌, ◌≤◌, length, IfOk};
 ghost use Rattle.ds_outside.specs.Fault.{Rose};
-ghost use Rattle.ds_cover.specs.Cover.{values_at};
-ghost use Rattle.ds_design.specs.Circuit.{columns, data_nets};
-ghost use Rattle.ds_design.specs.Trace.{trace_line as trace_text};
-ghost use Rattle.ds_outside.specs.Writes.{GoesOn};
-ghost use Rattle.ds_clocked.specs.Appends.{AppendsLines, AppendsLinesPart, WritesLines};
+ghost use Rattle.ds_design.specs.Circuit.{columns};
+ghost use Rattle.ds_clocked.specs.Appends.{AppendsLines, AppendsLinesPart, PutsLines, WritesLines};
 
 use ds_base::{NetId, OutOfMemory, Row3};
 use ds_design::{Netlist, Register, Vectors};
-use ds_outside::{Behind, Buffered, Lent, Sink, WriteFault};
-use ds_rows::trace_line;
+use ds_outside::{Buffered, Pen, Sink, WriteFault};
+use ds_rows::put_trace_line;
 use ds_settle::{pick_data, pick_values, settle};
 use std::alloc::Global;
-use std::marker::Brand;
 
 /// Why a trace is not written whole: a write failed, or memory was wanted and not found.
 #[derive(Clone, Copy, Debug, PartialEq, Eq)]
@@ -56,9 +52,7 @@ pub fn simulate_from<O: Sink>(
         return Err(SimFault::Memory);
     };
     rows.state.copy_from(start);
-    let lent = Lent { sink: out };
-    let (_, result) = lines_behind::<O, Brand>(netlist, first, vectors, &mut rows, lent);
-    match result {
+    match write_turns(netlist, first, vectors, &mut rows, out) {
         Ok(()) => Ok(rows.state),
         Err(_) => Err(SimFault::Write),
     }
@@ -86,32 +80,6 @@ fn rows_for(alloc: Global, netlist: &Netlist) -> Result<Rows, OutOfMemory>
 }
 
 // Writes the lines of these turns by way of a buffer, and leaves the row after them in `rows`.
-fn lines_behind<'a, O: Sink, B: Behind>(
-    netlist: &Netlist,
-    first: u64,
-    vectors: &Vectors,
-    rows: &mut Rows,
-    behind: Lent<'a, O>,
-) -> (Lent<'a, O>, Result<(), WriteFault>)
-    requires width { vectors.now.width ≡ length (columns netlist.now) }
-    requires state { length rows.old.state ≡ length netlist.now.registers }
-    requires nets { length rows.old.nets ≡ length netlist.now.nets }
-    requires outputs { length rows.old.outputs ≡ length netlist.now.outputs }
-    requires few { first + length vectors.now.rows < 2 ^ 64 }
-    requires same { behind.sink.ghost_name ≡ B.name }
-    requires before { O.written behind.sink.now ≡ B.before }
-
-    ensures ok { WritesLines result.1 netlist.now first rows.old.state vectors.now.rows
-        rows.new.state B.before (O.written result.0.sink.now)
-        (O.faults behind.entry.sink.now) (O.faults result.0.sink.now) }
-    ensures same { result.0.sink.ghost_name ≡ B.name }
-{
-    let mut buffered: Buffered<'a, O, B> = Buffered::new(behind);
-    let so_far = write_turns(netlist, first, vectors, rows, &mut buffered);
-    buffered.finish(so_far)
-}
-
-// Writes the lines of these turns, and leaves the row after them in `rows`.
 fn write_turns<O: Sink>(
     netlist: &Netlist,
     first: u64,
@@ -127,31 +95,28 @@ fn write_turns<O: Sink>(
     ensures { WritesLines result netlist.now first rows.old.state vectors.now.rows rows.new.state
         (O.written out.old) (O.written out.new) (O.faults out.old) (O.faults out.new) }
 {
+    let mut pen = Buffered::new(out);
+    put_turns(netlist, first, vectors, rows, &mut pen);
+    pen.finish()
+}
+
+// Writes the lines of these turns, and leaves the row after them in `rows`.
+fn put_turns<P: Pen>(netlist: &Netlist, first: u64, vectors: &Vectors, rows: &mut Rows, pen: &mut P)
+    requires width { vectors.now.width ≡ length (columns netlist.now) }
+    requires state { length rows.old.state ≡ length netlist.now.registers }
+    requires nets { length rows.old.nets ≡ length netlist.now.nets }
+    requires outputs { length rows.old.outputs ≡ length netlist.now.outputs }
+    requires few { first + length vectors.now.rows < 2 ^ 64 }
+    ensures { PutsLines (P.writing pen.old) (P.writing pen.new) netlist.now first
+        rows.old.state vectors.now.rows rows.new.state }
+{
     let design = netlist.design();
     let registers = design.registers();
     let outputs = design.outputs();
-    let mut so_far = Ok(());
     for k in 0..vectors.count() {
         settle(netlist, &rows.state, vectors.row(k), &mut rows.nets);
         pick_values(&rows.nets, outputs, &mut rows.outputs);
-        so_far = put_line(so_far, first + k as u64, &rows.outputs, &rows.state, out);
+        put_trace_line(first + k as u64, &rows.outputs, &rows.state, pen);
         pick_data(&rows.nets, registers, &mut rows.state);
-    }
-    so_far
-}
-
-fn put_line<O: Sink>(
-    so_far: Result<(), WriteFault>,
-    k: u64,
-    outputs: &Row3,
-    registers: &Row3,
-    out: &mut O,
-) -> Result<(), WriteFault>
-    ensures { GoesOn so_far result (O.written out.old) (O.written out.new)
-        (O.faults out.old) (O.faults out.new) (trace_text k outputs.now registers.now) }
-{
-    match so_far {
-        Ok(()) => trace_line(k, outputs, registers, out),
-        Err(fault) => Err(fault),
     }
 }

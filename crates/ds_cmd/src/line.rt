@@ -1,9 +1,10 @@
 //! The top call: the words to a job. `clap` splits them, and each command reads its values.
-ghost use Rattle.std.specs.Prelude.{◌≡◌, ◌⊎◌, map, IfOk};
-ghost use Rattle.clap.specs.Words.{kind_of, subcommand_rows_of};
+ghost use Rattle.std.specs.Prelude.{◌≡◌, ◌⊎◌, drop, map, IfOk};
+ghost use Rattle.clap.specs.Words.{found_of, kind_of, rows_of, subcommand_rows_of};
 ghost use Rattle.ds_cmd.specs.Allowed.{AreAllowed};
 ghost use Rattle.ds_cmd.specs.Fault.{Gives};
-ghost use Rattle.ds_cmd.specs.Line.{job_in, job_of};
+ghost use Rattle.ds_cmd.specs.Commands.{commands};
+ghost use Rattle.ds_cmd.specs.Line.{job_in, job_of, named_job};
 
 use crate::command::desync_command;
 use crate::{Job, UsageFault, accept, check, clock, demo, graph, period, replay, run};
@@ -42,6 +43,13 @@ fn job(alloc: Global, matches: &ArgMatches<'_>) -> Result<Job, UsageFault>
     let Some((name, values)) = matches.subcommand() else {
         return Err(UsageFault::Line);
     };
+    job_named(alloc, name, values)
+}
+
+// The job of the command of this name.
+fn job_named(alloc: Global, name: &str, values: &ArgMatches<'_>) -> Result<Job, UsageFault>
+    ensures { Gives (named_job name.now (rows_of (found_of values.now)) commands) result }
+{
     if name == "run" {
         run::job(alloc, values)
     } else if name == "clock" {
@@ -50,7 +58,16 @@ fn job(alloc: Global, matches: &ArgMatches<'_>) -> Result<Job, UsageFault>
         check::job(alloc, values)
     } else if name == "graph" {
         graph::job(alloc, values)
-    } else if name == "replay" {
+    } else {
+        further_job(alloc, name, values)
+    }
+}
+
+// The same of those behind the first four.
+fn further_job(alloc: Global, name: &str, values: &ArgMatches<'_>) -> Result<Job, UsageFault>
+    ensures { Gives (named_job name.now (rows_of (found_of values.now)) (drop 4 commands)) result }
+{
+    if name == "replay" {
         replay::job(alloc, values)
     } else if name == "accept" {
         accept::job(alloc, values)

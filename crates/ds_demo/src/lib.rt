@@ -15,8 +15,6 @@ mod fold;
 pub mod laws;
 mod parts;
 mod rows;
-#[cfg(test)]
-mod tests;
 
 pub use demo::make;
 pub use fold::Fold;

@@ -79,22 +79,3 @@ impl<'a> Names<'a> {
         }
     }
 }
-
-#[cfg(test)]
-mod tests {
-    use super::*;
-    use std::test::Fail;
-
-    #[test]
-    fn each_word_has_one_place(rt: HostRuntime) -> Result<(), Fail> {
-        let mut names = Names::new(rt.alloc());
-        for (word, place, added) in [(b"a", 0, true), (b"b", 1, true), (b"a", 0, false)] {
-            let given = names.insert(word.as_slice()).ok().ok_or("no memory")?;
-            assert_eq!(rt; given, (place, added));
-        }
-        assert_eq!(rt; names.len(), 2);
-        assert_eq!(rt; names.place(b"b"), 1);
-        assert_eq!(rt; names.place(b"c"), 2);
-        Ok(())
-    }
-}

@@ -47,33 +47,3 @@ pub fn lines(alloc: Global, text: &[u8]) -> Result<Lines<'_>, LinesFault>
     draft.close()?;
     Ok(draft.into_lines())
 }
-
-#[cfg(test)]
-mod tests {
-    use super::*;
-    use std::test::Fail;
-
-    // The parts of one line, one by one and whole, and the number of a line behind a joined one.
-    #[test]
-    fn the_parts_of_a_line(rt: HostRuntime) -> Result<(), Fail> {
-        let text = b"# head\n.names a \\\n\tb\r\n\n.end # tail";
-        let lines = lines(rt.alloc(), text)?;
-        assert_eq!(rt; lines.count(), 2);
-        assert_eq!(rt; lines.number(0), 2);
-        assert_eq!(rt; lines.number(1), 5);
-        assert_eq!(rt; lines.words(0), 3);
-        assert_eq!(rt; lines.words(1), 1);
-        assert_eq!(rt; lines.word(0, 2), b"b".as_slice());
-        assert_eq!(rt; lines.line(1)[0], b".end".as_slice());
-        Ok(())
-    }
-
-    #[test]
-    fn refusals_are_told_in_words(rt: HostRuntime) -> Result<(), Fail> {
-        let long = format!(in rt.alloc(); "{}", LinesFault::TooLong)?;
-        assert_eq!(rt; long.as_str(), "the text has more than 16777216 bytes");
-        let memory = format!(in rt.alloc(); "{}", LinesFault::Memory)?;
-        assert_eq!(rt; memory.as_str(), "out of memory");
-        Ok(())
-    }
-}

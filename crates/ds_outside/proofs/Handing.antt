@@ -1,11 +1,11 @@
 -- What the inner sink has, while bytes are handed on.
 use Rattle.std.proofs.Common.{◌≡◌, ℕ, ◌+◌, ◌-◌, ◌≤◌, ◌⊎◌, inl, inr, subst, length-append, List, ◌++◌, length, take, drop, Option, None, Some, refl, sym, ap, ◌∙◌, arith}
-use Rattle.std.specs.Prelude.{Result, Ok, Err, IsErr}
+use Rattle.std.specs.Prelude.{Result, Ok, Err, IsOk, IsErr, OnOk, OnErr}
 use Rattle.std.proofs.lemmas.Bool.{false≢true}
 use Rattle.std.proofs.Math.Seq.{take-append-add, take-length}
 use Rattle.std.proofs.lemmas.List.{take-take, take-append-drop, take-append-le, take_rest, drop-drop, length-take}
 use Rattle.ds_outside.specs.Written.{appended, AppendsPart}
-use Rattle.ds_outside.specs.Handing.{Grew, IsBetween, HandsOn, front}
+use Rattle.ds_outside.specs.Handing.{Grew, front}
 use Rattle.ds_outside.specs.Fault.{Rose}
 use Rattle.ds_outside.specs.Writes.{Writes}
 use Rattle.ds_outside.proofs.Appended.{appended-append}
@@ -23,6 +23,19 @@ grew_more (Some bytes) (Some more) piece grew =
     let front_is : take (length bytes) more ≡ bytes = cc in
     let inside : length bytes ≤ length more = omega (arith, length-take (length bytes) more, ap length front_is) in
     ap Some (take-append-le (length bytes) more piece inside) ∙ grew
+
+-- an inner sink, which had this before, has a first part of what the outer one has
+abbrev pub IsBetween : Option (List ℕ) → Option (List ℕ) → Option (List ℕ) → Type 0
+IsBetween before inner outer = Grew before inner × Grew inner outer
+
+-- a buffer let its bytes go over to the inner sink: all of them where no write failed, else a first
+-- part
+pub record HandsOn {T E : Type 0} (so_far result : Result T E)
+    (before inner outer : Option (List ℕ)) (faults now : ℕ) : Type 0 where
+  pub ok : OnOk result (IsOk so_far × (inner ≡ outer))
+  pub part : IsBetween before inner outer
+  pub never_falls : faults ≤ now
+  pub cause : OnErr result (IsErr so_far ⊎ Rose faults now)
 
 -- a front of a text that was appended is a front of the text
 between_part : (before inner outer : Option (List ℕ)) (text : List ℕ) → IsBetween before inner outer → AppendsPart before outer text → AppendsPart before inner text

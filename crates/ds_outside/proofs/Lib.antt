@@ -1,5 +1,5 @@
 pub mod Appended
 pub mod Then
-pub mod Begun
 pub mod Front
 pub mod Handing
+pub mod Pens

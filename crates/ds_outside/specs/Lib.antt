@@ -4,4 +4,5 @@ pub mod Held
 pub mod Written
 pub mod Handing
 pub mod Writes
+pub mod Pen
 pub mod Memory

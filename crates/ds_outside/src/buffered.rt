@@ -1,136 +1,77 @@
-//! A buffer before a sink. Proofs know the sink behind it by a name, so that what was written
-//! through the buffer is known of the sink.
-ghost use Rattle.std.specs.Prelude.{◌≡◌, ◌≤◌, ℕ, List, [], Option, None, OnOk, OnErr};
-ghost use Rattle.ds_outside.specs.Fault.{Rose};
+//! A pen that keeps bytes back.
+ghost use Rattle.std.specs.Prelude.{◌≡◌};
+ghost use Rattle.ds_outside.specs.Pen.{Finishes, begun_on};
 ghost use Rattle.ds_outside.specs.Written.{appended};
 ghost use Rattle.ds_outside.specs.Writes.{Writes};
-ghost use Rattle.ds_outside.specs.Handing.{Grew, HandsOn};
 
 use crate::kept::Kept;
-use crate::{Sink, WriteFault};
-use std::marker::{Brand, PhantomData};
+use crate::{Pen, Sink, WriteFault};
 
-/// Which sink stands behind a buffer, and what it held at first. Proofs alone see it: the caller of
-/// a function with this bound passes `Brand`, and picks the name and the bytes of its sink.
-pub trait Behind {
-    ghost name: { ℕ };
-
-    ghost before: { Option (List ℕ) };
-}
-
-impl Behind for Brand {
-    ghost name = { 0 };
-
-    ghost before = { None };
-}
-
-/// A sink that is lent to a buffer, and that `Buffered::finish` gives back. It goes from call to
-/// call by value, so that the name by which proofs know it stays.
+/// A pen that keeps up to 8,192 bytes back before it hands them on to a sink, so that many small
+/// pieces cost few writes there. What is kept when it is let go is lost: call `finish`.
 #[derive(Drop)]
-pub struct Lent<'a, O> {
+pub struct Buffered<'a, O: Sink> {
     pub sink: &'a mut O,
-}
-
-/// A sink that keeps up to 8,192 bytes back before it hands them on to another one, so that many
-/// small pieces cost few writes there. What is kept when it is let go is lost: call `finish`.
-#[derive(Drop)]
-pub struct Buffered<'a, O: Sink, B: Behind> {
-    inner: &'a mut O,
     kept: Kept,
-    of: PhantomData<B>,
-    ghost same: { inner.ghost_name ≡ B.name },
-    ghost grew: { Grew B.before (O.written inner.now) },
+    so_far: Result<(), WriteFault>,
 }
 
-impl<'a, O: Sink, B: Behind> Buffered<'a, O, B> {
-    /// Keeps nothing yet.
-    pub fn new(behind: Lent<'a, O>) -> Self
-        requires same { behind.sink.ghost_name ≡ B.name }
-        requires before { O.written behind.sink.now ≡ B.before }
-
-        ensures written { ⟦<Self as Sink>⟧.written result ≡ B.before }
-        ensures faults { ⟦<Self as Sink>⟧.faults result ≡ O.faults behind.entry.sink.now }
+impl<'a, O: Sink> Buffered<'a, O> {
+    /// Nothing is written yet.
+    pub fn new(sink: &'a mut O) -> Self
+        ensures same { result.sink.ghost_name ≡ sink.entry.ghost_name }
+        ensures begun { ⟦<Self as Pen>⟧.writing result
+            ≡ begun_on sink.entry.ghost_name (O.written sink.old) (O.faults sink.old) }
     {
-        let Lent { sink } = behind;
         Buffered {
-            inner: sink,
+            sink,
             kept: Kept::new(),
-            of: PhantomData,
+            so_far: Ok(()),
         }
     }
 
-    /// Hands on what is kept.
-    pub fn flush(&mut self) -> Result<(), WriteFault>
-        ensures ok { OnOk result (self.new.kept ≡ []) }
-        ensures same { ⟦<Self as Sink>⟧.written self.new ≡ ⟦<Self as Sink>⟧.written self.old }
-
-        ensures never_falls { ⟦<Self as Sink>⟧.faults self.old ≤ ⟦<Self as Sink>⟧.faults self.new }
-        ensures cause { OnErr result
-            (Rose (⟦<Self as Sink>⟧.faults self.old) (⟦<Self as Sink>⟧.faults self.new)) }
-    {
-        self.kept.hand_on(self.inner)
-    }
-
-    /// Hands on what is kept, where all was written so far, and gives the inner sink back. The
-    /// inner sink then has all that was written, or a first part of it.
-    pub fn finish(self, so_far: Result<(), WriteFault>) -> (Lent<'a, O>, Result<(), WriteFault>)
-        ensures same { result.0.sink.ghost_name ≡ B.name }
-        ensures hands_on { HandsOn so_far result.1
-            B.before (O.written result.0.sink.now) (⟦<Self as Sink>⟧.written self.entry)
-            (⟦<Self as Sink>⟧.faults self.entry) (O.faults result.0.sink.now) }
+    /// Hands on what is kept, where all was written so far, and says whether all was. The sink then
+    /// has all that was written, or a first part of it.
+    pub fn finish(self) -> Result<(), WriteFault>
+        ensures { Finishes (⟦<Self as Pen>⟧.writing self.entry) result
+            (O.written self.exit.0.now) (O.faults self.exit.0.now) }
     {
         let Buffered {
-            inner,
+            sink,
             mut kept,
-            ..
+            so_far,
         } = self;
-        let result = kept.hand_on_after(so_far, inner);
-        (Lent { sink: inner }, result)
+        kept.hand_on_after(so_far, sink)
     }
 }
 
-impl<'a, O: Sink, B: Behind> Sink for Buffered<'a, O, B> {
-    ghost written = { λ b. appended (O.written b.inner.now) b.kept };
+impl<'a, O: Sink> Pen for Buffered<'a, O> {
+    ghost writing = { λ b. record {
+      name = b.sink.ghost_name;
+      handed = O.written b.sink.now;
+      written = appended (O.written b.sink.now) b.kept;
+      faults = O.faults b.sink.now;
+      so_far = b.so_far;
+    } };
 
-    ghost faults = { λ b. O.faults b.inner.now };
-
-    fn write(&mut self, piece: &[u8]) -> Result<usize, WriteFault> {
-        let n = self.kept.keep(piece);
-        if n > 0 || piece.is_empty() {
-            return Ok(n);
-        }
-        self.kept.hand_on(self.inner)?;
-        Ok(self.kept.keep(piece))
+    fn put(&mut self, piece: &[u8]) {
+        self.so_far = self.kept.take_after(self.so_far, piece, self.sink);
     }
 }
 
 #[cfg(test)]
 mod tests {
     use super::*;
-    use crate::{MemorySink, write_all};
+    use crate::MemorySink;
 
     // Writes a piece through a buffer: how a caller uses one.
     fn write_through<O: Sink>(piece: &[u8], out: &mut O) -> Result<(), WriteFault>
         ensures { Writes result (O.written out.old) (O.written out.new)
             (O.faults out.old) (O.faults out.new) piece.now }
     {
-        let (_, result) = write_behind::<O, Brand>(piece, Lent { sink: out });
-        result
-    }
-
-    fn write_behind<'a, O: Sink, B: Behind>(
-        piece: &[u8],
-        behind: Lent<'a, O>,
-    ) -> (Lent<'a, O>, Result<(), WriteFault>)
-        requires same { behind.sink.ghost_name ≡ B.name }
-        requires before { O.written behind.sink.now ≡ B.before }
-        ensures same { result.0.sink.ghost_name ≡ B.name }
-        ensures writes { Writes result.1 B.before (O.written result.0.sink.now)
-            (O.faults behind.entry.sink.now) (O.faults result.0.sink.now) piece.now }
-    {
-        let mut buffered: Buffered<'a, O, B> = Buffered::new(behind);
-        let so_far = write_all(&mut buffered, piece);
-        buffered.finish(so_far)
+        let mut pen = Buffered::new(out);
+        pen.put(piece);
+        pen.finish()
     }
 
     // The sink takes six bytes a call, and its second call fails.

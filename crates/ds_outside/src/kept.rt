@@ -1,9 +1,10 @@
 //! The bytes that a buffer holds back.
 ghost use Rattle.std.specs.Prelude.{◌≡◌, ◌+◌, ◌<◌, ◌≤◌, ◌++◌, ℕ, List, [], Option, length, take};
-ghost use Rattle.std.specs.Prelude.{drop, OnOk, OnErr, IsOk, IsErr, ◌⊎◌};
+ghost use Rattle.std.specs.Prelude.{drop, OnOk, OnErr, IfOk, IsOk, IsErr, ◌⊎◌};
 ghost use Rattle.ds_outside.specs.Fault.{Rose};
 ghost use Rattle.ds_outside.specs.Written.{appended};
 ghost use Rattle.ds_outside.specs.Handing.{GrewOn, replaced};
+ghost use Rattle.ds_outside.specs.Writes.{GoesOn, Writes};
 
 use crate::{Sink, WriteFault};
 use std::marker::Model;
@@ -66,6 +67,59 @@ impl Kept {
         self.start = 0;
         self.end = 0;
         Ok(())
+    }
+
+    // Keeps the first bytes of a piece, at least one where there is one, and says how many; where
+    // there is no room all that is kept is handed on before.
+    fn take_some<O: Sink>(&mut self, piece: &[u8], sink: &mut O) -> Result<usize, WriteFault>
+        ensures within { IfOk result (λ n. n ≤ length piece.now) }
+        ensures some { IfOk result (λ n. 0 < length piece.now → 0 < n) }
+        ensures ok { IfOk result (λ n. appended (O.written sink.new) self.new
+            ≡ appended (appended (O.written sink.old) self.old) (take n piece.now)) }
+        ensures err { OnErr result (appended (O.written sink.new) self.new
+            ≡ appended (O.written sink.old) self.old) }
+        ensures grew { GrewOn (O.written sink.old) (O.written sink.new) }
+        ensures never_falls { O.faults sink.old ≤ O.faults sink.new }
+        ensures cause { OnErr result (Rose (O.faults sink.old) (O.faults sink.new)) }
+    {
+        let n = self.keep(piece);
+        if n > 0 || piece.is_empty() {
+            return Ok(n);
+        }
+        self.hand_on(sink)?;
+        Ok(self.keep(piece))
+    }
+
+    // Keeps a piece whole, or a first part of it where a write fails.
+    fn take<O: Sink>(&mut self, piece: &[u8], sink: &mut O) -> Result<(), WriteFault>
+        ensures writes { Writes result (appended (O.written sink.old) self.old)
+            (appended (O.written sink.new) self.new) (O.faults sink.old) (O.faults sink.new)
+            piece.now }
+        ensures grew { GrewOn (O.written sink.old) (O.written sink.new) }
+    {
+        let mut done = 0;
+        while done < piece.len() {
+            done += self.take_some(&piece[done..], sink)?;
+        }
+        Ok(())
+    }
+
+    // Keeps a piece, unless a write has failed before.
+    pub(crate) fn take_after<O: Sink>(
+        &mut self,
+        so_far: Result<(), WriteFault>,
+        piece: &[u8],
+        sink: &mut O,
+    ) -> Result<(), WriteFault>
+        ensures goes_on { GoesOn so_far result (appended (O.written sink.old) self.old)
+            (appended (O.written sink.new) self.new) (O.faults sink.old) (O.faults sink.new)
+            piece.now }
+        ensures grew { GrewOn (O.written sink.old) (O.written sink.new) }
+    {
+        match so_far {
+            Ok(()) => self.take(piece, sink),
+            Err(fault) => Err(fault),
+        }
     }
 
     // Hands all on, unless a write has failed before.

@@ -5,10 +5,13 @@
 //! rose in the call, or stands at its last value.
 //!
 //! `read_whole` gives the first bytes that are held, and `write_all` appends a piece, or a first
-//! part of it and a fault. `Buffered` keeps bytes back before a sink, so that small pieces cost few
-//! writes. `MemoryFiles`, `SureFiles` and `MemorySink` tell their bytes; `HostFiles` and `HostOut`,
-//! over the system's files and writers, tell none, so that nothing is promised of these bytes. A
-//! `Gate` is where a test may hold a worker back.
+//! part of it and a fault. A text is written piece by piece by a `Pen`: what writes a part of it
+//! answers nothing, and `finish` says whether all was written. `OnSink` hands each piece on at
+//! once; `Buffered` keeps bytes back, so that small pieces cost few writes.
+//!
+//! `MemoryFiles`, `SureFiles` and `MemorySink` tell their bytes; `HostFiles` and `HostOut`, over
+//! the system's files and writers, tell none, so that nothing is promised of these bytes. A `Gate`
+//! is where a test may hold a worker back.
 #![tactic(auto)]
 
 mod buffered;
@@ -22,11 +25,13 @@ mod kept;
 mod last_name;
 mod memory_files;
 mod memory_sink;
+mod on_sink;
 mod opened;
+mod pen;
 mod sink;
 mod sure_files;
 
-pub use buffered::{Behind, Buffered, Lent};
+pub use buffered::Buffered;
 pub use entry::Entry;
 pub use faults::Faults;
 pub use files::{Failed, Files, ReadFault, Which, read_whole};
@@ -35,5 +40,7 @@ pub use host_files::HostFiles;
 pub use host_out::HostOut;
 pub use memory_files::MemoryFiles;
 pub use memory_sink::MemorySink;
-pub use sink::{Sink, WriteFault, put, write_all};
+pub use on_sink::OnSink;
+pub use pen::Pen;
+pub use sink::{Sink, WriteFault, write_all};
 pub use sure_files::SureFiles;

@@ -44,9 +44,8 @@ pub fn write_all<S: Sink>(sink: &mut S, piece: &[u8]) -> Result<(), WriteFault>
     Ok(())
 }
 
-/// Writes a piece, unless a write has failed: the answer so far is passed on, so that a line of
-/// many pieces is one chain of calls.
-pub fn put<S: Sink>(
+/// Writes a piece, unless a write has failed before.
+pub(crate) fn put<S: Sink>(
     so_far: Result<(), WriteFault>,
     piece: &[u8],
     sink: &mut S,

@@ -1,5 +1,5 @@
 -- The text of a state with the lines of what its open latches show.
-use Rattle.std.proofs.Common.{◌≡◌, ◌∙◌, ℕ, ◌+◌, ◌*◌, ◌<◌, ◌==◌, if◌then◌else◌, Bool, true, false, List, [], ◌∷◌, ◌++◌, Option, Result, Ok, Err, length, get_or, refl, arith, ap, ap₂, sym, subst, inl, inr}
+use Rattle.std.proofs.Common.{◌≡◌, ◌∙◌, ℕ, ◌+◌, ◌*◌, ◌<◌, ◌==◌, if◌then◌else◌, Bool, true, false, List, [], ◌∷◌, ◌++◌, length, get_or, refl, arith, ap, ap₂, sym, subst, inl, inr}
 use Rattle.std.proofs.lemmas.Bool.{cases_eq}
 use Rattle.std.proofs.lemmas.List.{append-nil, get_or_append_left, get_or_push}
 use Rattle.ds_base.specs.Values.{Row}
@@ -12,8 +12,6 @@ use Rattle.ds_fire.specs.Snapshot.{Snapshot, count_of, graph_of, held_row, is_op
 use Rattle.ds_fire.specs.Fired.{IsAfter, IsReached, IsSnapshotSound}
 use Rattle.ds_latch.proofs.Spelt.{range_agree}
 use Rattle.ds_fire.proofs.Transparent.{held_is_shown}
-use Rattle.ds_outside.specs.Writes.{GoesOn, Writes}
-use Rattle.ds_outside.proofs.Then.{after_ok}
 use Rattle.ds_rows.specs.Homes.{AreHomes}
 use Rattle.ds_rows.specs.Log.{open_text}
 use Rattle.ds_rows.specs.StateText.{IsStateText}
@@ -58,17 +56,6 @@ pub open_line_is : (kept : Snapshot) (n : Node) (row : Row) → is_open kept n �
     → open_text n row ≡ open_line_of (count_of kept) (held_row kept) n
 open_line_is kept n row is same =
     ap (open_text n) same ∙ sym (ap (λ (test : Bool). if test then open_text n (held_row kept n) else []) is)
-
--- after a failure nothing more is written
-pub none_more : {T E : Type 0} (e : E) (a : Result T E) (w : Option (List ℕ)) (f : ℕ) (text : List ℕ) → a ≡ Err e → GoesOn a (Err e) w w f f text
-none_more {T} {E} e a w f text is =
-    subst (λ (b : Result T E). GoesOn b (Err e) w w f f text) (sym is)
-    (record { on_ok = tt; on_err = (refl, refl, omega arith) })
-
--- what is written first goes on from nothing
-pub first_more : {T E : Type 0} (x : T) (a b : Result T E) (w0 w1 : Option (List ℕ)) (f0 f1 : ℕ) (text : List ℕ) → a ≡ Ok x → Writes b w0 w1 f0 f1 text → GoesOn a b w0 w1 f0 f1 text
-first_more {T} {E} x a b w0 w1 f0 f1 text is writes =
-    subst (λ (c : Result T E). GoesOn c b w0 w1 f0 f1 text) (sym is) (after_ok writes)
 
 -- behind the text of the state that is kept, the lines of its open nodes
 open_of_kept : (kept : Snapshot) (events : List ℕ) (homes : List Home) (fired most : ℕ)

@@ -4,9 +4,9 @@
 //! `read_vectors` gives exactly the rows that the lines stand for, or exactly their first fault;
 //! the characters `0`, `1` and `x` are values there, and no other one. `trace_line` and `end_line`
 //! write exactly the line of a turn and the last line, or a first part of it where a write fails;
-//! neither takes memory. What begins with `put` writes a piece of a text, such as a row or the name
-//! of a register, and writers of other crates chain these. `are_bits` and `values_of` read a word
-//! of such characters. By the laws what prints rows is read as these rows.
+//! neither takes memory. What begins with `put` writes a piece of a text by a pen, such as a row,
+//! the name of a register or one of these lines. `are_bits` and `values_of` read a word of such
+//! characters. By the laws what prints rows is read as these rows.
 //!
 //! Lines of logs and of what latches have stored, written; `ds_replay` reads logs. `firing_line`
 //! writes exactly the line of a firing, `open_line` that of what an open node shows, `put_fired`
@@ -42,13 +42,13 @@ pub use column::put_column;
 pub use fault::{VectorFault, VectorKind, VectorRefusal};
 pub use homes::{Home, homes_of};
 pub use laws::{printed_is_read, worked_vectors};
-pub use log::{firing_line, put_fired};
+pub use log::{firing_line, put_fired, put_firing};
 pub use lookup::Lookup;
 pub use number::{is_short, short_value};
 pub use reader::read_vectors;
 pub use register_name::put_register_name;
-pub use shown::open_line;
+pub use shown::{open_line, put_open_line};
 pub use stored::put_stored;
 pub use texts::texts_of;
-pub use trace::{character, end_line, put_values, trace_line};
+pub use trace::{character, end_line, put_end_line, put_trace_line, put_values, trace_line};
 pub use vector::{are_bits, values_of};

@@ -4,40 +4,31 @@ ghost use Rattle.ds_base.specs.Values.{Row};
 ghost use Rattle.ds_base.specs.Word.{code_of};
 ghost use Rattle.ds_base.specs.declared.value.Value.{Value};
 ghost use Rattle.ds_design.specs.Trace.{value_text, values_text};
-ghost use Rattle.ds_outside.specs.Writes.{GoesOn};
+ghost use Rattle.ds_outside.specs.Pen.{Puts};
 ghost use Rattle.ds_rows.specs.Log.{at_place, value_words};
 
-use ds_outside::{Sink, WriteFault, put};
+use ds_outside::Pen;
 
 /// Of rows whose value words stand one row after the other, so many words a row, writes the value
-/// of each at a place, unless a write has failed; where there is no row, `-`. It reads one word a
-/// row.
-pub fn put_stored<O: Sink>(
-    so_far: Result<(), WriteFault>,
-    words: &[u64],
-    words_a_row: usize,
-    place: usize,
-    out: &mut O,
-) -> Result<(), WriteFault>
+/// of each at a place; where there is no row, `-`. It reads one word a row.
+pub fn put_stored<P: Pen>(words: &[u64], words_a_row: usize, place: usize, pen: &mut P)
     requires { place < 32 * words_a_row }
     ensures { (rows : List Row) → words.now ≡ value_words words_a_row rows
-        → GoesOn so_far result (O.written out.old) (O.written out.new) (O.faults out.old)
-        (O.faults out.new) (values_text (at_place place rows)) }
+        → Puts (P.writing pen.old) (P.writing pen.new) (values_text (at_place place rows)) }
 {
     let rows = words.len() / words_a_row;
     if rows == 0 {
-        return put(so_far, b"-", out);
+        pen.put(b"-");
+        return;
     }
-    let mut so_far = so_far;
     let mut piece = [0; 64];
     let mut done = 0;
     'writing: while done < rows {
         let count = (rows - done).min(64);
         fill(&mut piece[..count], words, words_a_row, place, done);
-        so_far = put(so_far, &piece[..count], out);
+        pen.put(&piece[..count]);
         done += count;
     }
-    so_far
 }
 
 // Fills a piece with the characters of the values at a place, from a row on.

@@ -12,13 +12,14 @@ use Rattle.ds_cover.specs.Cover.{value_at, values_at}
 use Rattle.ds_design.specs.Circuit.{Circuit, data_nets, initial_row}
 use Rattle.ds_design.specs.Trace.{AreLines, IsTrace, end_line}
 use Rattle.ds_design.proofs.Windows.{lines_in_windows}
-use Rattle.ds_outside.specs.Writes.{GoesOn}
-use Rattle.ds_outside.proofs.Then.{goes_on, nothing}
+use Rattle.ds_outside.specs.Pen.{Puts, Writing}
+use Rattle.ds_outside.proofs.Pens.{puts_on}
+use Rattle.ds_outside.proofs.Then.{appended-nil}
 use Rattle.ds_clocked.specs.Appends.{AppendsLines}
 use Rattle.ds_clocked.proofs.Turns.{whole_trace}
 use Rattle.ds_marked.specs.Log.{IsLog}
 use Rattle.ds_run.proofs.Logged.{legal_events}
-use Rattle.ds_run.specs.Logged.{HasLog, IsLogOf, IsLogText, IsLonger, Listed, WritesLog}
+use Rattle.ds_run.specs.Logged.{HasLog, IsLogOf, IsLogText, IsLonger, Listed, PutsLog}
 use Rattle.ds_run.specs.Ended.{AreWindows, IsKnownLog, IsSomeLog, WrittenWindow}
 use Rattle.ds_run.specs.Laws.{EndSpellsRun, LogsGoOn, WindowsSpellRun}
 
@@ -118,16 +119,12 @@ windows_spell_run p wanted windows last log text are has ended =
     last log text
     (windows_joined p.split.circuit 0 (initial_row p.split.circuit) windows last are) has ended
 
--- all was answered
-abbrev answered : Result (Unit {0}) (Unit {0})
-answered = Ok tt
-
 -- without vectors there are no lines, and the registers stay
 pub no_lines : (c : Circuit) (first : ℕ) (start : Row) (vectors : List Row) (last : Row)
     (w : Option (List ℕ)) → length vectors ≡ 0 → last ≡ start
     → AppendsLines c first start vectors w w last
 no_lines c first start [] last w none is =
-    ([], (refl, is), (nothing answered w 0).on_ok.ok)
+    ([], (refl, is), sym (appended-nil w))
 no_lines c first start (v ∷ vectors) last w none is = absurd (omega (none, arith))
 
 -- the registers after some lines are as many as before
@@ -156,14 +153,13 @@ known_some g (Some log) (true, turns, has) =
     (legal_events g turns (λ _. 0) log.events has.listed.legal, has.kinds)
 
 -- the line `firings` and the lines behind it
-pub log_text : {T E : Type 0} {a b c : Result T E} {w0 w1 w2 : Option (List ℕ)} {f0 f1 f2 : ℕ}
-    (g : Graph) (events these : List ℕ) → these ≡ events
-    → GoesOn a b w0 w1 f0 f1 (codes "firings\n") → WritesLog g these b c w1 w2 f1 f2
-    → (text : List ℕ) × IsLogText g events text × GoesOn a c w0 w2 f0 f2 text
-log_text g events these same head (lines, logged, goes) = (
+pub log_text : {a b c : Writing} (g : Graph) (events these : List ℕ) → these ≡ events
+    → Puts a b (codes "firings\n") → PutsLog b c g these
+    → (text : List ℕ) × IsLogText g events text × Puts a c text
+log_text g events these same head (lines, logged, puts) = (
   codes "firings\n" ++ lines,
   (lines, subst (λ (es : List ℕ). IsLog g es lines) same logged, refl),
-  goes_on head goes,
+  puts_on head puts,
 )
 
 -- a log by its parts

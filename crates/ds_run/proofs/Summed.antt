@@ -1,5 +1,5 @@
 -- What a run sums up to, turn by turn.
-use Rattle.std.proofs.Common.{◌≡◌, ◌∙◌, ℕ, ◌+◌, ◌^◌, ◌<◌, ◌≤◌, List, [], ◌++◌, length, get_or, Some, Result, Ok, refl, ap, sym, subst, arith, zero-add}
+use Rattle.std.proofs.Common.{◌≡◌, ◌∙◌, ℕ, ◌+◌, ◌^◌, ◌<◌, ◌≤◌, List, ◌++◌, length, get_or, ap, sym, subst, arith, zero-add}
 use Rattle.std.proofs.lemmas.List.FromFn.{sum_by-map-range_with_len_more}
 use Rattle.ds_base.specs.Values.{Row}
 use Rattle.ds_cover.specs.Cover.{values_at}
@@ -9,8 +9,6 @@ use Rattle.ds_latch.specs.declared.node.Node.TheVariants.{Out}
 use Rattle.ds_latch.specs.Plan.{Planned}
 use Rattle.ds_design.specs.Run.{IsRun}
 use Rattle.ds_design.specs.Trace.{end_line, trace_line}
-use Rattle.ds_outside.specs.Writes.{GoesOn}
-use Rattle.ds_outside.proofs.Then.{with_text}
 use Rattle.ds_clocked.specs.Loop.{IsWrittenTo}
 use Rattle.ds_clocked.proofs.Turns.{last_turn, no_turn, whole_trace}
 use Rattle.ds_demo.specs.Fold.{Folded, nothing, fold_after}
@@ -44,37 +42,19 @@ outputs_few p vectors r played =
     let few : get_or lengths 1 0 < 2 ^ 32 = played.planned.lengths_are.few 1 0 inside in
     omega (arith, out_wide p vectors r played)
 
--- all was taken
-abbrev pub taken_all : Result (Unit {0}) (Unit {0})
-taken_all = Ok tt
-
--- the lines of so many turns were added, up to these registers: what a sink that has nothing but
--- these lines would have taken
+-- the lines of so many turns were added, up to these registers
 abbrev pub IsFoldedTo : Split → List Row → ℕ → Row → Folded → Type 0
 IsFoldedTo s vectors turns row fold =
-    (text : List ℕ) × (fold ≡ fold_after nothing text)
-    × IsWrittenTo s.circuit 0 s.initial vectors turns row taken_all taken_all
-    (Some []) (Some text) 0 0
-
--- what goes to a sink in memory that takes all
-taken : (text piece : List ℕ)
-    → GoesOn taken_all taken_all (Some text) (Some (text ++ piece)) 0 0 piece
-taken text piece = record {
-  on_ok = record { ok = refl; err = tt; never_falls = omega arith; cause = tt };
-  on_err = tt;
-}
+    IsWrittenTo s.circuit 0 s.initial vectors turns row (λ text. fold ≡ fold_after nothing text)
 
 -- before the first turn
 pub none_folded : (s : Split) (vectors : List Row) (row : Row) (fold : Folded) → row ≡ s.initial
     → fold ≡ nothing → IsFoldedTo s vectors 0 row fold
 unfolding fold_after
-none_folded s vectors row fold starts none = (
-  [],
-  none,
-  subst (λ (row : Row). IsWrittenTo s.circuit 0 s.initial vectors 0 row taken_all taken_all
-      (Some []) (Some []) 0 0) (sym starts)
-      (no_turn s.circuit 0 s.initial vectors taken_all (Some []) 0),
-)
+none_folded s vectors row fold starts none =
+    let IsAdded : List ℕ → Type 0 = λ text. fold ≡ fold_after nothing text in
+    subst (λ (row : Row). IsWrittenTo s.circuit 0 s.initial vectors 0 row IsAdded) (sym starts)
+    (no_turn s.circuit 0 s.initial vectors IsAdded none)
 
 -- one turn more
 pub turn_folded : (p : Planned) (vectors : List Row) (r : Recorder)
@@ -88,16 +68,15 @@ pub turn_folded : (p : Planned) (vectors : List Row) (r : Recorder)
     → more ≡ fold_after fold (trace_line k outputs before)
     → IsFoldedTo p.split vectors (k + 1) next more
 turn_folded p vectors r played k below t n outputs before next fold more at is was same gathered
-    (text, folded, done) added = (
-      text ++ trace_line k outputs before,
-      added ∙ (ap (λ (f : Folded). fold_after f (trace_line k outputs before)) folded
-          ∙ fold_after-append nothing text (trace_line k outputs before)),
-      turn_written p vectors r played k below 0 t n outputs before next taken_all taken_all taken_all
-          (Some []) (Some text) (Some (text ++ trace_line k outputs before)) 0 0 0
-          at is was same gathered done
-          (with_text (ap (λ (turn : ℕ). trace_line turn outputs before) (sym (zero-add k)))
-          (taken text (trace_line k outputs before))),
-    )
+    done added =
+    turn_written p vectors r played k below 0 t n outputs before next
+    (λ text. fold ≡ fold_after nothing text) (λ text. more ≡ fold_after nothing text)
+    at is was same gathered done
+    (λ text folded. added
+    ∙ (ap (λ (f : Folded). fold_after f (trace_line k outputs before)) folded
+    ∙ (fold_after-append nothing text (trace_line k outputs before)
+    ∙ ap (λ (turn : ℕ). fold_after nothing (text ++ trace_line turn outputs before))
+    (sym (zero-add k)))))
 
 -- after the last turn
 pub all_folded : (p : Planned) (vectors : List Row) (k ones : ℕ) (last : Row) (fold : Folded)
@@ -105,10 +84,9 @@ pub all_folded : (p : Planned) (vectors : List Row) (k ones : ℕ) (last : Row) 
     → k ≡ length vectors → IsRun p.split.circuit p.split.initial vectors state nets
     → ones ≡ ones_in p.split.circuit nets k
     → IsFoldedTo p.split vectors k last fold → IsSummedTo p vectors ones last fold
-all_folded p vectors k ones last fold state nets all run count (text, folded, done) =
-    let (lines, are, goes) = last_turn p.split.circuit 0 p.split.initial vectors k last taken_all
-    taken_all (Some []) (Some text) 0 0 all done in
-    let same : text ≡ lines = cc goes.on_ok.ok in
+all_folded p vectors k ones last fold state nets all run count done =
+    let (lines, are, folded) = last_turn p.split.circuit 0 p.split.initial vectors k last
+    (λ text. fold ≡ fold_after nothing text) all done in
     record {
       state = state;
       nets = nets;
@@ -116,7 +94,7 @@ all_folded p vectors k ones last fold state nets all run count (text, folded, do
       ones_are = count ∙ ap (ones_in p.split.circuit nets) all;
       lines = lines;
       are = are;
-      folded = folded ∙ ap (fold_after nothing) same;
+      folded = folded;
     }
 
 -- with the last line

@@ -1,5 +1,5 @@
 -- A turn of a run that went to its end.
-use Rattle.std.proofs.Common.{◌≡◌, ◌∙◌, ℕ, ◌+◌, ◌<◌, List, length, Option, Result, ap, sym, subst}
+use Rattle.std.proofs.Common.{◌≡◌, ◌∙◌, ℕ, ◌+◌, ◌<◌, List, ◌++◌, length, ap, sym, subst}
 use Rattle.std.proofs.lemmas.List.{length-map}
 use Rattle.ds_base.specs.Values.{Row}
 use Rattle.ds_cover.specs.Cover.{value_at, values_at}
@@ -9,8 +9,6 @@ use Rattle.ds_latch.specs.Plan.{Planned}
 use Rattle.ds_design.specs.Run.{row_at}
 use Rattle.ds_design.specs.Trace.{trace_line}
 use Rattle.ds_design.specs.Valuation.{IsValuation}
-use Rattle.ds_outside.specs.Writes.{GoesOn}
-use Rattle.ds_outside.proofs.Then.{with_text}
 use Rattle.ds_clocked.specs.Loop.{IsWrittenTo}
 use Rattle.ds_clocked.proofs.Turns.{one_turn}
 use Rattle.ds_rule.specs.Words.{node_values as stored_at}
@@ -62,18 +60,15 @@ module _ (p : Planned) (vectors : List Row) (r : Recorder) (played : IsPlayed p 
       (values.state (k + 1)) (registers_are p vectors r played k below values)
 
   -- one line more was written
-  pub turn_written : {T E : Type 0} (first : ℕ) (t : Split) (n : ℕ) (outputs before next : Row)
-      (answered so_far after : Result T E) (w0 w1 w2 : Option (List ℕ)) (f0 f1 f2 : ℕ) → n ≡ 1
+  pub turn_written : (first : ℕ) (t : Split) (n : ℕ) (outputs before next : Row)
+      (Before After : List ℕ → Type 0) → n ≡ 1
       → outputs ≡ stored_at r.shown.view.run n (k + 1)
       → ((values : AreValues p.split vectors r.shown.view.run) → before ≡ values.state k)
       → t ≡ p.split → IsGathered t r.shown.view.run k next
-      → IsWrittenTo p.split.circuit first p.split.initial vectors k before answered so_far w0 w1 f0
-      f1
-      → GoesOn so_far after w1 w2 f1 f2 (trace_line (first + k) outputs before)
-      → IsWrittenTo p.split.circuit first p.split.initial vectors (k + 1) next answered after w0 w2
-      f0 f2
-  turn_written {T} {E} first t n outputs before next answered so_far after w0 w1 w2 f0 f1 f2 at is
-      was same gathered done line =
+      → IsWrittenTo p.split.circuit first p.split.initial vectors k before Before
+      → ((text : List ℕ) → Before text → After (text ++ trace_line (first + k) outputs before))
+      → IsWrittenTo p.split.circuit first p.split.initial vectors (k + 1) next After
+  turn_written first t n outputs before next Before After at is was same gathered done line =
       let values : AreValues p.split vectors r.shown.view.run = played.planned.values_are in
       let nets : Row = played.planned.values_are.nets k in
       let settled : IsValuation p.split.circuit before (row_at vectors k) nets =
@@ -85,6 +80,6 @@ module _ (p : Planned) (vectors : List Row) (r : Recorder) (played : IsPlayed p 
       ≡ trace_line (first + k) (values_at nets p.split.circuit.outputs) before =
       ap (λ (o : Row). trace_line (first + k) o before) (outputs_read values n outputs at is) in
       subst (λ (row : Row). IsWrittenTo p.split.circuit first p.split.initial vectors (k + 1) row
-      answered after w0 w2 f0 f2) taken
-      (one_turn p.split.circuit first p.split.initial vectors k before nets answered so_far after
-      w0 w1 w2 f0 f1 f2 below done settled (with_text spelt line))
+      After) taken
+      (one_turn p.split.circuit first p.split.initial vectors k before nets Before After below done
+      settled (λ text had. subst (λ (l : List ℕ). After (text ++ l)) spelt (line text had)))

@@ -1,10 +1,10 @@
 -- The firings of a run, and their lines.
 use Rattle.std.specs.Prelude.{◌≡◌, ℕ, ⊤, Bool, true, false, List, ◌++◌, length, codes}
-use Rattle.std.specs.Prelude.{Option, None, Some, Result}
+use Rattle.std.specs.Prelude.{Option, None, Some}
 use Rattle.ds_marked.specs.Graph.{Graph}
 use Rattle.ds_marked.specs.Log.{IsLog}
 use Rattle.ds_marked.specs.Window.{IsWindow}
-use Rattle.ds_outside.specs.Writes.{GoesOn}
+use Rattle.ds_outside.specs.Pen.{Puts, Writing}
 
 -- what a clause sees of a log: its firings, the first one first, and how many events it can count
 pub record Listed : Type 0 where
@@ -35,11 +35,9 @@ LogGrows g turns None new = new ≡ None
 LogGrows g turns (Some old) None = ⊥
 LogGrows g turns (Some old) (Some new) = IsLonger g turns old new
 
--- the lines of these firings go on from what was answered before them
-abbrev pub WritesLog : {T E : Type 0} → Graph → List ℕ → Result T E → Result T E
-    → Option (List ℕ) → Option (List ℕ) → ℕ → ℕ → Type 0
-WritesLog g events answered result old new before now =
-    (text : List ℕ) × IsLog g events text × GoesOn answered result old new before now text
+-- a pen went over the lines of these firings
+abbrev pub PutsLog : Writing → Writing → Graph → List ℕ → Type 0
+PutsLog old new g events = (text : List ℕ) × IsLog g events text × Puts old new text
 
 -- the line `firings`, and behind it the lines of these firings
 abbrev pub IsLogText : Graph → List ℕ → List ℕ → Type 0

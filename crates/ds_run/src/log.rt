@@ -2,13 +2,9 @@
 //! how often each event has fired as it writes them.
 ghost use Rattle.std.specs.Prelude.{◌≡◌, ◌<◌, ℕ, List, [], All, IfOk, OnErr, OnOk, length};
 ghost use Rattle.std.specs.Prelude.{replicate};
-ghost use Rattle.ds_marked.specs.Graph.{IsLegal};
-ghost use Rattle.ds_fabric.specs.Showing.{IsFiredInOrder};
-ghost use Rattle.ds_rule.specs.Rule.{tickets};
-ghost use Rattle.ds_rows.specs.Log.{firing_text};
-ghost use Rattle.ds_outside.specs.Writes.{GoesOn};
+ghost use Rattle.ds_outside.specs.Pen.{Puts};
 ghost use Rattle.ds_run.specs.Left.{IsLogOfRecord};
-ghost use Rattle.ds_run.specs.Logged.{HasLog, IsLogText, IsLonger, WritesLog};
+ghost use Rattle.ds_run.specs.Logged.{IsLogText, IsLonger, PutsLog};
 ghost use Rattle.ds_run.specs.Played.{IsPlayed};
 
 use crate::laws::firings_are_legal;
@@ -17,8 +13,8 @@ use ds_base::{EventId, OutOfMemory};
 use ds_fabric::Record;
 use ds_latch::Plan;
 use ds_marked::Counts;
-use ds_outside::{Sink, WriteFault, put};
-use ds_rows::firing_line;
+use ds_outside::Pen;
+use ds_rows::put_firing;
 use std::alloc::Global;
 use std::marker::Model;
 
@@ -86,63 +82,30 @@ impl Log {
         Ok(())
     }
 
-    /// Writes the line `firings` and a line for each firing, unless a write has failed.
-    pub(crate) fn write<O: Sink>(
-        &mut self,
-        so_far: Result<(), WriteFault>,
-        plan: &Plan<'_>,
-        out: &mut O,
-    ) -> Result<(), WriteFault>
+    /// Writes the line `firings` and a line for each firing.
+    pub(crate) fn write<P: Pen>(&mut self, plan: &Plan<'_>, pen: &mut P)
         requires log { All (λ event. event < length plan.now.graph.events) self.old.events }
         requires kinds { self.old.kinds ≡ length plan.now.graph.events }
         ensures writes { (text : List ℕ) × IsLogText plan.now.graph self.old.events text
-            × GoesOn so_far result (O.written out.old) (O.written out.new)
-            (O.faults out.old) (O.faults out.new) text }
+            × Puts (P.writing pen.old) (P.writing pen.new) text }
         ensures same { self.new ≡ self.old }
     {
         self.counts.begin();
-        let so_far = put(so_far, b"firings\n", out);
-        write_log(so_far, plan, self.events.as_slice(), &mut self.counts, out)
+        pen.put(b"firings\n");
+        put_firings(plan, self.events.as_slice(), &mut self.counts, pen);
     }
 }
 
-// Writes a line for each firing, unless a write has failed.
-fn write_log<O: Sink>(
-    so_far: Result<(), WriteFault>,
-    plan: &Plan<'_>,
-    events: &[EventId],
-    counts: &mut Counts,
-    out: &mut O,
-) -> Result<(), WriteFault>
+// Writes a line for each firing.
+fn put_firings<P: Pen>(plan: &Plan<'_>, events: &[EventId], counts: &mut Counts, pen: &mut P)
     requires log { All (λ event. event < length plan.now.graph.events) events.now }
     requires counts { counts.old ≡ replicate (length plan.now.graph.events) 0 }
-    ensures writes { WritesLog plan.now.graph events.now so_far result
-        (O.written out.old) (O.written out.new) (O.faults out.old) (O.faults out.new) }
+    ensures writes { PutsLog (P.writing pen.old) (P.writing pen.new) plan.now.graph events.now }
     ensures same_kinds { length counts.new ≡ length counts.old }
 {
-    let mut so_far = so_far;
     for i in 0..events.len() {
         let event = events[i];
         counts.add_one(event);
-        so_far = put_firing(so_far, plan, event, counts.at(event), out);
-    }
-    so_far
-}
-
-// The line of a firing, unless a write has failed.
-fn put_firing<O: Sink>(
-    so_far: Result<(), WriteFault>,
-    plan: &Plan<'_>,
-    event: EventId,
-    turn: u64,
-    out: &mut O,
-) -> Result<(), WriteFault>
-    requires { event < length plan.now.graph.events }
-    ensures { GoesOn so_far result (O.written out.old) (O.written out.new)
-        (O.faults out.old) (O.faults out.new) (firing_text plan.now.graph event turn) }
-{
-    match so_far {
-        Ok(()) => firing_line(plan, event, turn, out),
-        Err(fault) => Err(fault),
+        put_firing(plan, event, counts.at(event), pen);
     }
 }

@@ -3,7 +3,7 @@ ghost use Rattle.std.specs.Prelude.{◌≡◌, ◌<◌, ◌≤◌, Ok, Err, OnOk
 ghost use Rattle.std.specs.List.{flat_map, range_with_len};
 ghost use Rattle.ds_design.specs.Circuit.{columns};
 ghost use Rattle.ds_outside.specs.Fault.{Rose};
-ghost use Rattle.ds_outside.specs.Writes.{GoesOn};
+ghost use Rattle.ds_outside.specs.Pen.{Puts};
 ghost use Rattle.ds_rows.specs.Homes.{AreHomes};
 ghost use Rattle.ds_run.specs.Ended.{IsKnownLog};
 ghost use Rattle.ds_run.specs.Left.{EndsLeft, HasWords, WritesLeft, home_line};
@@ -16,10 +16,9 @@ use crate::halt::Halt;
 use crate::left::Left;
 use crate::stored::put_values;
 use ds_latch::{Latches, Node};
-use ds_outside::{Behind, Buffered, Gate, Lent, Sink, WriteFault, put};
+use ds_outside::{Buffered, Gate, Pen, Sink, WriteFault};
 use ds_rows::{put_fired, put_register_name};
 use std::alloc::Global;
-use std::marker::Brand;
 use std::thread::Threads;
 
 /// Runs a plan by these workers until it is to stop, and writes for each register what it has
@@ -63,75 +62,56 @@ fn write_left<O: Sink>(halt: &Halt<'_, '_>, left: Left, out: &mut O) -> Result<(
     ensures { EndsLeft halt.now.plan.now halt.now.vectors.now.rows left result
         (O.written out.old) (O.written out.new) (O.faults out.old) (O.faults out.new) }
 {
-    let lent = Lent { sink: out };
-    let (_, result) = left_behind::<O, Brand>(halt, left, lent);
-    match result {
+    match write_state(halt, left, out) {
         Ok(()) => Ok(()),
         Err(_) => Err(RunFault::Write),
     }
 }
 
 // Writes it by way of a buffer.
-fn left_behind<'a, O: Sink, B: Behind>(
-    halt: &Halt<'_, '_>,
-    left: Left,
-    behind: Lent<'a, O>,
-) -> (Lent<'a, O>, Result<(), WriteFault>)
+fn write_state<O: Sink>(halt: &Halt<'_, '_>, left: Left, out: &mut O) -> Result<(), WriteFault>
     requires words { HasWords halt.now.plan.now.split left.fired }
     requires homes { AreHomes halt.now.plan.now.split left.homes.items }
     requires log { IsKnownLog halt.now.plan.now.graph left.log }
-    requires same { behind.sink.ghost_name ≡ B.name }
-    requires before { O.written behind.sink.now ≡ B.before }
-
-    ensures ok { WritesLeft result.1 halt.now.plan.now halt.now.vectors.now.rows left
-        B.before (O.written result.0.sink.now)
-        (O.faults behind.entry.sink.now) (O.faults result.0.sink.now) }
-    ensures same { result.0.sink.ghost_name ≡ B.name }
+    ensures { WritesLeft result halt.now.plan.now halt.now.vectors.now.rows left
+        (O.written out.old) (O.written out.new) (O.faults out.old) (O.faults out.new) }
 {
     let mut left = left;
     let most = halt.plan.most_firings(halt.vectors);
-    let mut buffered: Buffered<'a, O, B> = Buffered::new(behind);
-    let so_far = put_registers(halt.plan.latches(), &left, &mut buffered);
-    let so_far = put_fired(so_far, left.fired.fired(), most, &mut buffered);
-    let so_far = put_log(so_far, halt.plan, &mut left.log, &mut buffered);
-    buffered.finish(so_far)
+    let mut pen = Buffered::new(out);
+    put_registers(halt.plan.latches(), &left, &mut pen);
+    put_fired(left.fired.fired(), most, &mut pen);
+    put_log(halt.plan, &mut left.log, &mut pen);
+    pen.finish()
 }
 
 // Writes the lines of all registers.
-fn put_registers<O: Sink>(latches: &Latches<'_>, left: &Left, out: &mut O) -> Result<(), WriteFault>
+fn put_registers<P: Pen>(latches: &Latches<'_>, left: &Left, pen: &mut P)
     requires words { HasWords latches.now left.now.fired }
     requires homes { AreHomes latches.now left.now.homes.items }
-    ensures { GoesOn (Ok tt) result (O.written out.old) (O.written out.new) (O.faults out.old)
-        (O.faults out.new) (flat_map (home_line latches.now left.now.fired left.now.homes.items)
+    ensures { Puts (P.writing pen.old) (P.writing pen.new)
+        (flat_map (home_line latches.now left.now.fired left.now.homes.items)
         (range_with_len 0 (length left.now.homes.items))) }
 {
-    let mut so_far = Ok(());
     for r in 0..left.homes.len() {
-        so_far = put_register(so_far, latches, left, r, out);
+        put_register(latches, left, r, pen);
     }
-    so_far
 }
 
 // Writes the line of a register.
-fn put_register<O: Sink>(
-    so_far: Result<(), WriteFault>,
-    latches: &Latches<'_>,
-    left: &Left,
-    r: usize,
-    out: &mut O,
-) -> Result<(), WriteFault>
+fn put_register<P: Pen>(latches: &Latches<'_>, left: &Left, r: usize, pen: &mut P)
     requires words { HasWords latches.now left.now.fired }
     requires homes { AreHomes latches.now left.now.homes.items }
     requires inside { r < length left.now.homes.items }
-    ensures { GoesOn so_far result (O.written out.old) (O.written out.new) (O.faults out.old)
-        (O.faults out.new) (home_line latches.now left.now.fired left.now.homes.items r) }
+    ensures { Puts (P.writing pen.old) (P.writing pen.new)
+        (home_line latches.now left.now.fired left.now.homes.items r) }
 {
     // The edges are read for the fact that nodes are few, so that a number of one fits.
     let _edges = latches.edges();
     let home = left.homes[r];
     let slave = Node::Slave(home.cluster as u32).latch();
-    let so_far = put_register_name(so_far, latches.netlist().design(), r, out);
-    let so_far = put(so_far, b": ", out);
-    let so_far = put_values(so_far, &left.fired, slave, home.place, out);
-    put(so_far, b"\n", out)
+    put_register_name(latches.netlist().design(), r, pen);
+    pen.put(b": ");
+    put_values(&left.fired, slave, home.place, pen);
+    pen.put(b"\n");
 }

@@ -2,7 +2,7 @@
 ghost use Rattle.std.specs.Prelude.{◌≡◌, ◌+◌, ◌*◌, ◌<◌, ◌≤◌, length, map};
 ghost use Rattle.std.specs.List.{range_with_len};
 ghost use Rattle.ds_design.specs.Trace.{values_text};
-ghost use Rattle.ds_outside.specs.Writes.{GoesOn};
+ghost use Rattle.ds_outside.specs.Pen.{Puts};
 ghost use Rattle.ds_rows.specs.Log.{at_place, value_words};
 ghost use Rattle.ds_rule.specs.Run.{closing};
 ghost use Rattle.ds_rule.specs.Rule.{tickets};
@@ -11,37 +11,29 @@ ghost use Rattle.ds_run.specs.Latched.{rows_stored, word_values};
 
 use ds_base::LatchId;
 use ds_fabric::Record;
-use ds_outside::{Sink, WriteFault, put};
+use ds_outside::Pen;
 use ds_rows::put_stored;
 
-/// Writes the value at a place of each row that a latch has stored, unless a write has failed;
-/// where there is no row, `-`.
-pub fn put_values<O: Sink>(
-    so_far: Result<(), WriteFault>,
-    fired: &Record,
-    latch: LatchId,
-    place: usize,
-    out: &mut O,
-) -> Result<(), WriteFault>
+/// Writes the value at a place of each row that a latch has stored; where there is no row, `-`.
+pub fn put_values<P: Pen>(fired: &Record, latch: LatchId, place: usize, pen: &mut P)
     requires near { latch < fired.now.shown.view.run.latches }
     requires inside { place < 32 * width fired.now.shown.view.run latch }
-    ensures { GoesOn so_far result (O.written out.old) (O.written out.new) (O.faults out.old)
-        (O.faults out.new) (values_text (at_place place (rows_stored fired.now latch))) }
+    ensures { Puts (P.writing pen.old) (P.writing pen.new)
+        (values_text (at_place place (rows_stored fired.now latch))) }
 {
     let rows = fired.stored(latch);
     if rows == 0 {
-        return put(so_far, b"-", out);
+        pen.put(b"-");
+        return;
     }
-    let mut so_far = so_far;
     let mut piece = [0; 64];
     let mut done = 0;
     'writing: while done < rows {
         let count = (rows - done).min(64);
         gather(&mut piece[..count], fired, latch, place / 32, done);
-        so_far = put_stored(so_far, &piece[..count], 1, place % 32, out);
+        put_stored(&piece[..count], 1, place % 32, pen);
         done += count;
     }
-    so_far
 }
 
 // Fills a piece with word i of each stored row, from a row on.

@@ -2,7 +2,7 @@
 ghost use Rattle.std.specs.Prelude.{◌≡◌, ◌+◌, ◌<◌, ◌≤◌, ◌^◌, length, Err, IfOk, OnErr, OnOk};
 ghost use Rattle.ds_design.specs.Circuit.{columns};
 ghost use Rattle.ds_outside.specs.Fault.{Rose};
-ghost use Rattle.ds_clocked.specs.Appends.{AppendsLines, AppendsLinesPart, WritesLines};
+ghost use Rattle.ds_clocked.specs.Appends.{AppendsLines, AppendsLinesPart};
 ghost use Rattle.ds_run.specs.Appends.{EndsLines};
 ghost use Rattle.ds_run.specs.Line.{HasLine};
 ghost use Rattle.ds_run.specs.Logged.{LogGrows};
@@ -18,9 +18,8 @@ use ds_base::{OutOfMemory, Row3};
 use ds_design::Vectors;
 use ds_fabric::Record;
 use ds_latch::Plan;
-use ds_outside::{Behind, Buffered, Gate, Lent, Sink, WriteFault};
+use ds_outside::{Gate, Sink};
 use std::alloc::Global;
-use std::marker::Brand;
 use std::thread::Threads;
 
 /// A plan begun with the registers before the window, the vectors of the window, and the number of
@@ -142,36 +141,8 @@ fn write_lines<O: Sink>(
         (O.written out.old) (O.written out.new) (O.faults out.old) (O.faults out.new) }
 {
     let mut line = line;
-    let lent = Lent { sink: out };
-    let (_, result) = lines_behind::<O, Brand>(played, first, &mut line, lent);
-    match result {
+    match write_turns(played, first, &mut line, out) {
         Ok(()) => Ok(line.registers),
         Err(_) => Err(RunFault::Write),
     }
-}
-
-// Writes the lines by way of a buffer, and leaves the registers after them.
-fn lines_behind<'a, O: Sink, B: Behind>(
-    played: &Played<'_, '_>,
-    first: u64,
-    line: &mut Line,
-    behind: Lent<'a, O>,
-) -> (Lent<'a, O>, Result<(), WriteFault>)
-    requires played { IsPlayed played.now.plan.now played.now.vectors.now.rows
-        played.now.fired.now }
-    requires few { first + length played.now.vectors.now.rows < 2 ^ 64 }
-    requires line { HasLine played.now.plan.now.split line.old }
-    requires registers { line.old.registers ≡ played.now.plan.now.split.initial }
-    requires same { behind.sink.ghost_name ≡ B.name }
-    requires before { O.written behind.sink.now ≡ B.before }
-
-    ensures ok { WritesLines result.1 played.now.plan.now.split.circuit first
-        played.now.plan.now.split.initial played.now.vectors.now.rows line.new.registers
-        B.before (O.written result.0.sink.now)
-        (O.faults behind.entry.sink.now) (O.faults result.0.sink.now) }
-    ensures same { result.0.sink.ghost_name ≡ B.name }
-{
-    let mut buffered: Buffered<'a, O, B> = Buffered::new(behind);
-    let so_far = write_turns(played, first, line, &mut buffered);
-    buffered.finish(so_far)
 }

@@ -107,7 +107,7 @@ pub record HasTooManyArcs (s : Split) : Type 0 where
 abbrev pub HasTooMany : Split → Limit → Type 0
 HasTooMany s limit.Signals = HasTooManySignals s
 HasTooMany s limit.Arcs = HasTooManyArcs s
-HasTooMany s limit = ⊥
+HasTooMany s which = ⊥
 
 -- the fault is what the design shows
 abbrev pub IsShakeFault : Split → ShakeFault → Type 0

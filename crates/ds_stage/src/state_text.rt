@@ -8,10 +8,9 @@ ghost use Rattle.ds_stage.specs.Stage.{giving};
 use crate::stop::Stop;
 use ds_design::Vectors;
 use ds_latch::Plan;
-use ds_outside::{Lent, Sink};
-use ds_replay::{AfterLog, Rooms, write_behind};
+use ds_outside::Sink;
+use ds_replay::{AfterLog, Rooms, write_kept};
 use std::alloc::Global;
-use std::marker::Brand;
 
 /// Writes a line for each register, and the line of the firings, once a log has been fired; where
 /// what open latches show is wanted, then a line for each open node. All memory is taken before the
@@ -32,9 +31,7 @@ pub fn write_state<O: Sink>(
     let latches = plan.latches();
     let rooms = Rooms::of(alloc, latches, after)?;
     let most = plan.most_firings(vectors);
-    let lent = Lent { sink: out };
-    let (_, result) = write_behind::<O, Brand>(latches, &rooms, after, most, lent);
-    match result {
+    match write_kept(latches, &rooms, after, most, out) {
         Ok(()) => Ok(()),
         Err(_) => Err(Stop::Unwritten),
     }

@@ -1,17 +1,17 @@
 use Rattle.std.proofs.Common.{◌∙◌, ap, sym}
 use Rattle.ds_marked.specs.declared.marked.Arc.{Arc}
 use Rattle.ds_marked.specs.Log.{text_of_event}
-use Rattle.ds_outside.proofs.Then.{goes_on, with_text}
+use Rattle.ds_outside.proofs.Pens.{puts_on, with_put}
 use Rattle.ds_astg.proofs.Texts.{arc_is, name_of_ends, name_of_place}
 use Rattle.ds_astg.proofs.entry.put_name.Goals as goal
 
 pub returns-then-is_further : goal.returns-then-is_further
-returns-then-is_further g c = with_text (name_of_place c.args.graph.now c.args.arc (sym c.is_further.ensures ∙ c.if-is_further.true)) c.put_place.ensures
+returns-then-is_further g c = with_put (name_of_place c.args.graph.now c.args.arc (sym c.is_further.ensures ∙ c.if-is_further.true)) c.put_place.ensures
 
 pub returns : goal.returns
 returns g c =
     let source = sym c.index-arcs-arc.is ∙ arc_is c.args.graph.now c.arcs-arcs.result.now c.args.arc c.index-arcs-arc.result c.arcs-arcs.ensures.arcs c.requires c.index-arcs-arc.is in
     let target = sym c.index-arcs-arc-2.is ∙ arc_is c.args.graph.now c.arcs-arcs.result.now c.args.arc c.index-arcs-arc-2.result c.arcs-arcs.ensures.arcs c.requires c.index-arcs-arc-2.is in
-    with_text (name_of_ends c.args.graph.now c.args.arc (sym c.is_further.ensures ∙ c.if-is_further.false))
-    (goes_on (goes_on (goes_on (goes_on c.put-so_far.ensures (with_text (ap (λ (a : Arc). text_of_event c.args.graph.now a.source) source) c.put_event-so_far.ensures)) c.put-so_far-2.ensures)
-    (with_text (ap (λ (a : Arc). text_of_event c.args.graph.now a.target) target) c.put_event-so_far-2.ensures)) c.put.ensures)
+    with_put (name_of_ends c.args.graph.now c.args.arc (sym c.is_further.ensures ∙ c.if-is_further.false))
+    (puts_on (puts_on (puts_on (puts_on c.put.ensures (with_put (ap (λ (a : Arc). text_of_event c.args.graph.now a.source) source) c.put_event.ensures)) c.put-2.ensures)
+    (with_put (ap (λ (a : Arc). text_of_event c.args.graph.now a.target) target) c.put_event-2.ensures)) c.put-3.ensures)

@@ -1,7 +1,7 @@
 use Rattle.std.proofs.Common.{sym}
-use Rattle.ds_outside.proofs.Then.{goes_on, with_text}
+use Rattle.ds_outside.proofs.Pens.{puts_on, with_put}
 use Rattle.ds_astg.proofs.Texts.{one_signal_more}
 use Rattle.ds_astg.proofs.signal_lines.put_signals.Goals as goal
 
 pub loop-event-preserved : goal.loop-event-preserved
-loop-event-preserved g c = with_text (sym (one_signal_more c.args.events.now c.loop-event.event-index c.event-item.result c.loop-event-test.true c.event-item.is)) (goes_on c.loop-event.invariant c.put_signal-so_far.ensures)
+loop-event-preserved g c = with_put (sym (one_signal_more c.args.events.now c.loop-event.event-index c.event-item.result c.loop-event-test.true c.event-item.is)) (puts_on c.loop-event.invariant c.put_signal.ensures)

@@ -3,7 +3,7 @@ use Rattle.std.proofs.lemmas.List.{get_or_default}
 use Rattle.ds_latch.specs.Node.{Split, members}
 use Rattle.ds_latch.specs.declared.node.Node.TheVariants.{Slave}
 use Rattle.ds_fire.specs.Snapshot.{split_of, stored_values}
-use Rattle.ds_outside.proofs.Then.{goes_on, with_text}
+use Rattle.ds_outside.proofs.Pens.{puts_on, with_put}
 use Rattle.ds_rows.specs.Homes.{no_home}
 use Rattle.ds_rows.specs.declared.homes.Home.{Home}
 use Rattle.ds_replay.proofs.Registers.{line_is}
@@ -19,5 +19,5 @@ returns g c =
     ∙ (ap (λ (cs : List (List ℕ)). get_or cs home.cluster c.index-clusters-home.result) c.clusters-clusters.ensures.clusters ∙ get_or_default c.args.latches.now.clusters home.cluster c.index-clusters-home.result [] inside))) in
     let is_cluster : (get_or c.args.homes.now c.args.r no_home).cluster < length (split_of c.args.state.now).clusters = subst (λ (s : Split). home.cluster < length s.clusters) (sym c.requires.split) inside in
     let stored : c.stored.result.now ≡ stored_values c.args.state.now (Slave (get_or c.args.homes.now c.args.r no_home).cluster) = c.stored.ensures.value (Slave home.cluster) is_cluster (sym c.latch-slave.ensures) in
-    with_text (line_is c.args.state.now c.args.latches.now c.args.homes.now c.args.r c.design.result.now (length c.as_slice-width.result.now) c.stored.result.now c.requires.split (c.design.ensures.design ∙ c.netlist.ensures.netlist) wide stored)
-    (goes_on (goes_on (goes_on c.put_register_name-so_far.ensures c.put-so_far.ensures) c.put_column-so_far.ensures) c.put.ensures)
+    with_put (line_is c.args.state.now c.args.latches.now c.args.homes.now c.args.r c.design.result.now (length c.as_slice-width.result.now) c.stored.result.now c.requires.split (c.design.ensures.design ∙ c.netlist.ensures.netlist) wide stored)
+    (puts_on (puts_on (puts_on c.put_register_name.ensures c.put.ensures) c.put_column.ensures) c.put-2.ensures)

@@ -1,6 +1,6 @@
 use Rattle.std.proofs.Common.{◌≡◌, List, take, length, ◌-◌, ◌≤◌, ◌/◌}
 use Rattle.ds_base.specs.Values.{Row}
-use Rattle.ds_outside.specs.Writes.{GoesOn}
+use Rattle.ds_outside.specs.Pen.{Puts}
 use Rattle.ds_rows.specs.Log.{at_place, value_words}
 use Rattle.ds_rows.proofs.Values.{value_chars}
 use Rattle.ds_rows.proofs.stored.put_stored.Given as goal
@@ -8,7 +8,7 @@ use Rattle.ds_rows.proofs.stored.put_stored.Given as goal
 abbrev pub invariant-writing : goal.invariant-writing
 invariant-writing g l = record {
   within : l.done ≤ length l.words / l.words_a_row;
-  written : (rows : List Row) → l.words ≡ value_words l.words_a_row rows → GoesOn l.initial.so_far l.so_far (g.O.Sink.written l.initial.out) (g.O.Sink.written l.out) (g.O.Sink.faults l.initial.out) (g.O.Sink.faults l.out) (value_chars (take l.done (at_place l.place rows)));
+  written : (rows : List Row) → l.words ≡ value_words l.words_a_row rows → Puts (g.P.Pen.writing l.initial.pen) (g.P.Pen.writing l.pen) (value_chars (take l.done (at_place l.place rows)));
 }
 
 abbrev pub decreases-writing : goal.decreases-writing

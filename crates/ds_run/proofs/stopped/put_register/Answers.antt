@@ -2,7 +2,7 @@ use Rattle.std.proofs.Common.{◌≡◌, ◌∙◌, ◌<◌, ◌*◌, ℕ, ap, a
 use Rattle.ds_design.specs.Trace.{values_text}
 use Rattle.ds_latch.specs.Node.{number_of}
 use Rattle.ds_latch.specs.declared.node.Node.TheVariants.{Slave}
-use Rattle.ds_outside.proofs.Then.{goes_on, with_text}
+use Rattle.ds_outside.proofs.Pens.{puts_on, with_put}
 use Rattle.ds_rows.specs.Log.{at_place}
 use Rattle.ds_rows.specs.declared.homes.Home.{Home}
 use Rattle.ds_rule.specs.Run.{Run}
@@ -11,8 +11,8 @@ use Rattle.ds_run.specs.Latched.{rows_stored}
 use Rattle.ds_run.proofs.Stops.{home_at, line_is}
 use Rattle.ds_run.proofs.stopped.put_register.Goals as goal
 
-pub put_values-so_far-requires-clause-near : goal.put_values-so_far-requires-clause-near
-put_values-so_far-requires-clause-near g c =
+pub put_values-requires-clause-near : goal.put_values-requires-clause-near
+put_values-requires-clause-near g c =
     let home : Home = c.index-home.result.now in
     let (here, same) = home_at c.args.latches.now c.args.left.now.homes.items c.requires.homes
     c.args.r c.requires.inside home c.index-home.ensures in
@@ -20,8 +20,8 @@ put_values-so_far-requires-clause-near g c =
     c.requires.words.near home.cluster here.is_cluster in
     omega (arith, near, c.latch-slave.ensures)
 
-pub put_values-so_far-requires-clause-inside : goal.put_values-so_far-requires-clause-inside
-put_values-so_far-requires-clause-inside g c =
+pub put_values-requires-clause-inside : goal.put_values-requires-clause-inside
+put_values-requires-clause-inside g c =
     let home : Home = c.index-home.result.now in
     let run : Run = c.args.left.now.fired.shown.view.run in
     let (here, same) = home_at c.args.latches.now c.args.left.now.homes.items c.requires.homes
@@ -39,7 +39,7 @@ returns g c =
     let is : c.latch-slave.result ≡ number_of (Slave home.cluster) = omega (arith, c.latch-slave.ensures) in
     let told = ap (λ (l : ℕ). values_text (at_place home.place
     (rows_stored c.args.left.now.fired l))) is in
-    with_text (line_is c.args.latches.now c.args.left.now.fired c.args.left.now.homes.items c.args.r
+    with_put (line_is c.args.latches.now c.args.left.now.fired c.args.left.now.homes.items c.args.r
     c.design.result.now home (c.design.ensures.design ∙ c.netlist.ensures.netlist) same)
-    (goes_on (goes_on (goes_on c.put_register_name-so_far.ensures c.put-so_far.ensures)
-    (with_text told c.put_values-so_far.ensures)) c.put.ensures)
+    (puts_on (puts_on (puts_on c.put_register_name.ensures c.put.ensures)
+    (with_put told c.put_values.ensures)) c.put-2.ensures)

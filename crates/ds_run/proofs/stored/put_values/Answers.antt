@@ -3,7 +3,7 @@ use Rattle.std.specs.List.{range_with_len}
 use Rattle.std.proofs.lemmas.List.{length-take-le, take_at}
 use Rattle.ds_design.specs.Trace.{value_text, values_text}
 use Rattle.ds_rows.specs.Log.{at_place, value_words}
-use Rattle.ds_outside.proofs.Then.{goes_on, nothing, with_text}
+use Rattle.ds_outside.proofs.Pens.{puts_nothing, puts_on, with_put}
 use Rattle.ds_rule.specs.Run.{Run}
 use Rattle.ds_rule.specs.Words.{node_values}
 use Rattle.ds_run.specs.Latched.{word_values}
@@ -13,7 +13,7 @@ use Rattle.ds_run.proofs.stored.put_values.Goals as goal
 pub writing-init : goal.writing-init
 writing-init g c = record {
   within = omega arith;
-  written = nothing c.args.so_far (g.O.Sink.written c.args.out.now) (g.O.Sink.faults c.args.out.now);
+  written = puts_nothing (g.P.Pen.writing c.args.pen.now);
 }
 
 pub writing-preserved : goal.writing-preserved
@@ -31,21 +31,21 @@ writing-preserved g c = let run : Run = c.args.fired.now.shown.view.run in
     (map (word_values run l (place / 32)) (range_with_len (done + 1) n))) long) in
     record {
       within = omega arith;
-      written = with_text (text_more run l place done count some)
-          (goes_on c.writing.invariant.written (c.put_stored-so_far.ensures
+      written = with_put (text_more run l place done count some)
+          (puts_on c.writing.invariant.written (c.put_stored.ensures
           (map (word_values run l (place / 32)) (range_with_len (done + 1) count)) words));
     }
 
 pub returns-then-rows-eq0 : goal.returns-then-rows-eq0
 returns-then-rows-eq0 g c = let run : Run = c.args.fired.now.shown.view.run in
     let l : ℕ = c.args.latch in
-    with_text (ap (λ (n : ℕ). values_text (at_place c.args.place (map (node_values run l)
+    with_put (ap (λ (n : ℕ). values_text (at_place c.args.place (map (node_values run l)
     (range_with_len 1 n)))) (sym c.if-rows-eq0.true ∙ c.stored-rows.ensures.value)) c.put.ensures
 
 pub returns : goal.returns
 returns g c = let run : Run = c.args.fired.now.shown.view.run in let l : ℕ = c.args.latch in
     let all : c.writing.done ≡ c.stored-rows.result = omega arith in
-    with_text (ap (λ (n : ℕ). map value_text (map (values_of run l c.args.place)
+    with_put (ap (λ (n : ℕ). map value_text (map (values_of run l c.args.place)
     (range_with_len 1 n))) all ∙ (text_all run l c.args.place c.stored-rows.result (omega arith)
     ∙ ap (λ (n : ℕ). values_text (at_place c.args.place (map (node_values run l)
     (range_with_len 1 n)))) c.stored-rows.ensures.value)) c.writing.invariant.written

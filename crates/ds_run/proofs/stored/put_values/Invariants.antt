@@ -1,15 +1,14 @@
 use Rattle.std.proofs.Common.{◌-◌, ◌≤◌, map}
 use Rattle.std.specs.List.{range_with_len}
 use Rattle.ds_design.specs.Trace.{value_text}
-use Rattle.ds_outside.specs.Writes.{GoesOn}
+use Rattle.ds_outside.specs.Pen.{Puts}
 use Rattle.ds_run.proofs.Pieces.{values_of}
 use Rattle.ds_run.proofs.stored.put_values.Given as goal
 
 abbrev pub invariant-writing : goal.invariant-writing
 invariant-writing g l = record {
   within : l.done ≤ l.rows;
-  written : GoesOn l.initial.so_far l.so_far (g.O.Sink.written l.initial.out)
-      (g.O.Sink.written l.out) (g.O.Sink.faults l.initial.out) (g.O.Sink.faults l.out)
+  written : Puts (g.P.Pen.writing l.initial.pen) (g.P.Pen.writing l.pen)
       (map value_text (map (values_of l.fn.fired.shown.view.run l.fn.latch l.fn.place)
       (range_with_len 1 l.done)));
 }

@@ -5,8 +5,8 @@ use Rattle.ds_run.specs.Logged.{Listed}
 use Rattle.ds_run.proofs.Ended.{listing, log_text}
 use Rattle.ds_run.proofs.log.Log.write.Goals as goal
 
-pub write_log-requires-clause-counts : goal.write_log-requires-clause-counts
-write_log-requires-clause-counts g c =
+pub put_firings-requires-clause-counts : goal.put_firings-requires-clause-counts
+put_firings-requires-clause-counts g c =
     c.begin.ensures
     ∙ ap (λ n. replicate n 0) (ap (λ (log : Listed). log.kinds) c.self.view_is ∙ c.requires.kinds)
 
@@ -14,11 +14,11 @@ pub returns-clause-writes : goal.returns-clause-writes
 returns-clause-writes g c =
     log_text c.args.plan.now.graph c.args.self.now.events c.as_slice.result.now
     (c.as_slice.ensures.value ∙ ap (λ (log : Listed). log.events) c.self.view_is)
-    c.put-so_far.ensures c.write_log.ensures.writes
+    c.put.ensures c.put_firings.ensures.writes
 
 pub returns-clause-same : goal.returns-clause-same
 returns-clause-same g c =
     ap (λ n. listing c.self.inside.events.items n)
-    (c.write_log.ensures.same_kinds
+    (c.put_firings.ensures.same_kinds
     ∙ (ap length c.begin.ensures ∙ length-replicate (length c.self.inside.counts) 0))
     ∙ c.self.view_is

@@ -1,4 +1,0 @@
-use Rattle.ds_app.proofs.graph.write_graph.Given as goal
-
-abbrev pub ghosts-write_behind : goal.ghosts-write_behind
-ghosts-write_behind g a = record { name = a.behind.sink.ghost_name; before = g.O.Sink.written a.behind.sink.now }

@@ -1,8 +1,0 @@
-use Rattle.ds_outside.proofs.Handing.{handed_on}
-use Rattle.ds_outside.proofs.Begun.{begun}
-use Rattle.ds_clocked.proofs.run.lines_behind.Goals as goal
-
-pub returns-clause-ok : goal.returns-clause-ok
-returns-clause-ok g c =
-    let (text, are, writes) = c.write_turns-so_far.ensures in
-    (text, are, handed_on c.write_turns-so_far.result c.finish.result.1 c.finish.ensures.hands_on (begun c.new-buffered.ensures.written c.new-buffered.ensures.faults writes))

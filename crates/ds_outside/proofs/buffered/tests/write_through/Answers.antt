@@ -1,0 +1,8 @@
+use Rattle.std.proofs.Common.{rules}
+use Rattle.ds_outside.proofs.Pens.{finished}
+use Rattle.ds_outside.proofs.buffered.tests.write_through.Goals as goal
+
+pub returns : goal.returns
+returns g c =
+    let done = finished c.new-pen.ensures.begun c.put.ensures c.finish.ensures in
+    search rules

@@ -1,4 +1,0 @@
-use Rattle.ds_outside.proofs.buffered.tests.write_through.Given as goal
-
-abbrev pub ghosts-write_behind : goal.ghosts-write_behind
-ghosts-write_behind g a = record { name = a.behind.sink.ghost_name; before = g.O.Sink.written a.behind.sink.now }
