@@ -2,7 +2,7 @@
 ghost use Rattle.ds_outside.specs.Pen.{Puts, Writing};
 
 /// Writes a text piece by piece. Behind a write that has failed nothing more is written, and the
-/// last answer says so; so what writes a part of a text takes a pen and answers nothing.
+/// pen's `finish` says so; so what writes a part of a text takes a pen and answers nothing.
 pub trait Pen {
     /// How far the text is.
     ghost writing: { Self → Writing };

@@ -8,14 +8,14 @@
 //! the name of a register or one of these lines. `are_bits` and `values_of` read a word of such
 //! characters. By the laws what prints rows is read as these rows.
 //!
-//! Lines of logs and of what latches have stored, written; `ds_replay` reads logs. `firing_line`
-//! writes exactly the line of a firing, `open_line` that of what an open node shows, `put_fired`
-//! how many firings there were; or a first part of it where a write fails. A caller sees stored
-//! values as rows that stand one behind the other, as values (`put_column`) or as words of 32
-//! values (`put_stored`). `homes_of` finds in which cluster each register stands, and at which
-//! place; of the calls on logs and states it alone takes memory. The line of a register, and that
-//! of all that a state has stored, are those of `specs/StateText`. How many calls of the sink a
-//! line takes is not promised.
+//! Lines of logs and of what latches have stored, written; `ds_replay` reads logs. `put_firing`
+//! writes exactly the line of a firing, `put_open_line` that of what an open node shows,
+//! `put_fired` how many firings there were; `firing_line` and `open_line` write theirs to a sink,
+//! or a first part of it where a write fails. A caller sees stored values as rows that stand one
+//! behind the other, as values (`put_column`) or as words of 32 values (`put_stored`). `homes_of`
+//! finds in which cluster each register stands, and at which place; of the calls on logs and states
+//! it alone takes memory. The line of a register, and that of all that a state has stored, are
+//! those of `specs/StateText`. How many calls of the sink a line takes is not promised.
 //!
 //! Events by their texts, and the short numbers that stand beside them on a line. `texts_of` makes
 //! the text of each event of a graph, and `Lookup` finds the first event with a text by its hash:
