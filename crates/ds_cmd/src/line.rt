@@ -63,7 +63,7 @@ fn job_named(alloc: Global, name: &str, values: &ArgMatches<'_>) -> Result<Job, 
     }
 }
 
-// The same of those behind the first four.
+// The job of the command of this name, of those behind the first four.
 fn further_job(alloc: Global, name: &str, values: &ArgMatches<'_>) -> Result<Job, UsageFault>
     ensures { Gives (named_job name.now (rows_of (found_of values.now)) (drop 4 commands)) result }
 {

@@ -29,7 +29,7 @@ pub fn end_run<O: Sink>(
     pen.finish()
 }
 
-// What stands behind the trace.
+// Writes the line `firings` and the log, where one was kept.
 pub(crate) fn put_log<P: Pen>(plan: &Plan<'_>, log: &mut Option<Log>, pen: &mut P)
     requires log { IsKnownLog plan.now.graph log.old }
     ensures writes { (text : List ℕ) × IsLogPart plan.now.graph log.old text
