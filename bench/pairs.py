@@ -40,7 +40,15 @@ def mapped(folder, tables, turns):
     return [prefix + ".blif", prefix + ".vec"]
 
 
-def compared(folder):
+def graph_of(folder, program, net):
+    """The file of the controller graph of a netlist."""
+    path = os.path.join(folder, "graph.g")
+    with open(path, "w") as file:
+        subprocess.run([program, "graph", net], stdout=file, check=True)
+    return path
+
+
+def compared(folder, program):
     """The jobs of two programs: a name, and the words."""
     deep = workers.pipeline(folder, 10000, 20, 25, 20)
     wide = workers.pipeline(folder, 10000, 25, 40, 10)
@@ -56,6 +64,9 @@ def compared(folder):
     yield "check, pipeline 20x25x20", ["check", deep[0]]
     net = limits.write(folder, "dense.blif", limits.dense(722))
     yield "graph, 722 registers, 1,046,904 orders", ["graph", net]
+    yield "the same, accept", ["accept", net, graph_of(folder, program, net)]
+    words = ["--clusters", "bus", "--jobs", "1", "--log"]
+    yield "run, 25 clusters, jobs 1, log", ["run"] + deep + words
     yield "replay, 524,288 firings", replay_toggle(folder)
 
 
@@ -138,7 +149,7 @@ def main():
     with tempfile.TemporaryDirectory() as folder:
         if len(programs) == 2:
             jobs = ((name, True, dict(zip(("old", "new"), ([path] + words for path in programs))))
-                    for name, words in compared(folder))
+                    for name, words in compared(folder, programs[0]))
         else:
             jobs = ((name, same, {kind: programs + words for kind, words in found.items()})
                     for name, same, found in kinds(folder))
