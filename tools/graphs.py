@@ -10,11 +10,11 @@ ENTRY = re.compile(r"^(?:<([^,<>]+),([^,<>]+)>|([^<>=]+))(?:=(\d+))?$")
 
 
 class Graph:
-    """The signals of a graph, of which most are nodes, its dummies, its places by their names, and
-    the tokens of each."""
+    """The signals of a graph, of which most are nodes, and its dummies, each with its number; its
+    places by their names, and the tokens of each; the arcs into each event."""
 
     def __init__(self, lines):
-        self.name, self.nodes, self.dummies = "graph", [], []
+        self.name, self.nodes, self.dummies = "graph", {}, {}
         self.sources, self.targets, self.tokens = {}, {}, {}
         for number, words in joined(lines):
             if words and words[0] == ".end":
@@ -25,6 +25,9 @@ class Graph:
                 raise BadText("line %d: %s" % (number, error)) from None
         if not self.nodes:
             raise BadText("the text has no nodes")
+        self.into = {}
+        for source, target, tokens in self.arcs():
+            self.into.setdefault(target, []).append((source, tokens))
 
     def read(self, words):
         if not words or words[0] == ".graph":
@@ -32,9 +35,9 @@ class Graph:
         if words[0] == ".model":
             self.name = " ".join(words[1:])
         elif words[0] in (".inputs", ".outputs", ".internal"):
-            self.nodes += [word for word in words[1:] if word not in self.nodes]
+            declare(self.nodes, words[1:])
         elif words[0] == ".dummy":
-            self.dummies += [word for word in words[1:] if word not in self.dummies]
+            declare(self.dummies, words[1:])
         elif words[0] == ".marking":
             self.mark(" ".join(words[1:]).strip("{} ").split())
         elif words[0].startswith("."):
@@ -87,6 +90,12 @@ class Graph:
                 back = reached.get(second + "-", {})
                 if source[-1] == target[-1] == "+" and source in back and carries(first, second):
                     yield (first, second), list(dict.fromkeys(names + back[source]))
+
+
+def declare(names, words):
+    """Numbers the words that are not yet among some names."""
+    for word in words:
+        names.setdefault(word, len(names))
 
 
 def node_of(event):

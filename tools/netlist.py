@@ -5,7 +5,7 @@ Used by the other tools. Of a netlist that is refused it may give anything, or `
 
 from streams import BadText, joined
 
-MOST_COPIES = 65536
+MOST_COPIES, MOST_REGISTERS = 65536, 16384
 COMMANDS = (".latch", ".subckt")
 STARTS = {"0": "0", "1": "1", "2": "0"}
 TOP_COMMANDS = (".inputs", ".outputs", ".clock") + COMMANDS
@@ -44,16 +44,16 @@ class Netlist:
 
     def __init__(self, text, has_tables=False):
         self.name, self.edge = "", "re"
-        self.inputs, self.outputs, self.controls, self.registers = [], [], [], []
-        self.data, self.starts, self.tables = [], [], []
+        self.inputs, self.outputs, self.controls = {}, {}, {}
+        self.registers, self.data, self.starts, self.tables = [], [], [], []
         try:
             models = models_of(text, has_tables)
             self.name = models[0][0]
             self._take_all(dict(models))
         except (IndexError, KeyError):
             raise NotAccepted("desync check refuses this netlist") from None
-        controls = set(self.controls)
-        self.columns = [net for net in self.inputs if net not in controls]
+        self.columns = [net for net in self.inputs if net not in self.controls]
+        self.outputs, self.controls = list(self.outputs), list(self.controls)
 
     def _take_all(self, models):
         copies = 0
@@ -80,17 +80,18 @@ class Netlist:
             return
         nets = [bound.get(word, (copy, word)) for word in words[1:]]
         if words[0] == ".latch":
+            if len(self.registers) == MOST_REGISTERS:
+                raise NotAccepted("desync check refuses this netlist")
             self.data.append(nets[0])
             self.registers.append(nets[1])
             self.starts.append(STARTS.get(words[-1], "x") if len(words) in (4, 6) else "x")
             if len(words) > 4:
                 self.edge = words[3]
             if len(words) > 4 and words[4] != "NIL":
-                self.controls.append(nets[3])
+                self.controls[nets[3]] = None
         lists = {".inputs": self.inputs, ".outputs": self.outputs, ".clock": self.controls}
         if copy == 0 and words[0] in lists:
-            kept = lists[words[0]]
-            kept[:] = dict.fromkeys(kept + nets)
+            lists[words[0]].update(dict.fromkeys(nets))
 
 
 def printed(net):
