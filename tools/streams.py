@@ -16,23 +16,41 @@ class Parser(argparse.ArgumentParser):
     def error(self, message):
         self.exit(2, "%s: %s\n" % (self.prog, message))
 
+    def print_help(self, file=None):
+        put(self.prog, "utf-8", [self.format_help().rstrip("\n")])
+
 
 def parser(name, description):
     form = argparse.RawDescriptionHelpFormatter
     return Parser(prog=name, description=description, formatter_class=form)
 
 
+def as_bytes(word):
+    """A name of the command line as those of files are kept: its bytes as latin-1."""
+    return os.fsencode(word).decode("latin-1")
+
+
+def shown(text):
+    """Names, whose bytes are kept as latin-1, as a text."""
+    return text.encode("latin-1").decode("utf-8", "replace")
+
+
+def told(text):
+    """A refusal, with what cannot be seen written as an escape: a byte order mark is `\\ufeff`."""
+    return "".join(c if c.isprintable() else ascii(c)[1:-1] for c in shown(text))
+
+
 def given(name, encoding):
     """The standard input. Where it is closed, it says so in the name of a tool, and ends with 1."""
     if sys.stdin is None:
         sys.exit("%s: the standard input is closed" % name)
-    sys.stdin.reconfigure(encoding=encoding)
+    sys.stdin.reconfigure(encoding=encoding, newline="")
     return sys.stdin
 
 
 def text_of(name, path):
     """The text of a file or, where none is named, of the standard input."""
-    if not path:
+    if path is None:
         return given(name, "latin-1").read()
     with open(path, encoding="latin-1", newline="") as file:
         return file.read()
@@ -70,7 +88,11 @@ def put(name, encoding, lines):
 def start(name, main):
     """Runs a tool. What it cannot read it says in one line, and ends with 1."""
     signal.signal(signal.SIGPIPE, signal.SIG_DFL)
+    if signal.getsignal(signal.SIGINT) == signal.default_int_handler:
+        signal.signal(signal.SIGINT, signal.SIG_DFL)
     try:
         main()
-    except (OSError, BadText) as error:
+    except BadText as error:
+        sys.exit("%s: %s" % (name, told(str(error))))
+    except OSError as error:
         sys.exit("%s: %s" % (name, error))
