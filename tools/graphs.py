@@ -6,7 +6,7 @@ from streams import BadText, joined
 
 EVENT = re.compile(r"^(.+)([+-])$")
 NODE = re.compile(r"^(IN|OUT|[MS]\d+)$")
-ENTRY = re.compile(r"^(?:<([^,<>]+),([^,<>]+)>|([^<>=]+))(?:=(\d+))?$")
+ENTRY = re.compile(r"^(?:<([^,<>]+),([^,<>]+)>|([^<>=]+))(?:=(\d{1,3}))?$")
 
 
 class Graph:
@@ -39,7 +39,8 @@ class Graph:
         elif words[0] == ".dummy":
             declare(self.dummies, words[1:])
         elif words[0] == ".marking":
-            self.mark(" ".join(words[1:]).strip("{} ").split())
+            entries = " ".join(words[1:]).strip("{} ").split(" ")
+            self.mark(entry for entry in entries if entry)
         elif words[0].startswith("."):
             raise BadText("unknown command %s" % words[0])
         else:
