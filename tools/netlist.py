@@ -21,14 +21,16 @@ def models_of(text, has_tables):
     Of all but the first model only registers, uses and tables matter. A table is `.names`, its rows
     and its nets, where tables are asked for.
     """
-    models, rows = [], []
+    models, rows, size = [], [], 0
     for _, words in joined(text.split("\n")):
         if words and words[0] == ".model":
             models.append((words[1], []))
         elif words and words[0] == ".names" and has_tables:
-            rows = []
+            rows, size = [], 1 + (len(words) > 2)
             models[-1][1].append([".names", rows] + words[1:])
         elif words and words[0][0] != "." and has_tables:
+            if len(words) != size:
+                raise NotAccepted("desync check refuses this netlist")
             rows.append(words)
         elif words and words[0] in (TOP_COMMANDS if len(models) == 1 else COMMANDS):
             models[-1][1].append(words)
