@@ -168,7 +168,7 @@ module _ (held : List ℕ → Held) (net vec log : List ℕ) (graph : Option (Li
 module _ (faults : FaultsAreRefused) (one : OneClustering) (held : List ℕ → Held) (job : ReplayJob)
     (told_net : held job.net ≢ untold) (told_vec : held job.vec ≢ untold) (told : IsToldIn held job.graph) where
   -- a text of the job is one of the netlist, the plan and the vectors that there are
-  of_these : (c : Circuit) → (netlist_stage held job.net).means c → (p : Planned) → (planned_stage held job.net job.graph job.clusters job.slack c).means p
+  pub of_these : (c : Circuit) → (netlist_stage held job.net).means c → (p : Planned) → (planned_stage held job.net job.graph job.clusters job.slack c).means p
       → (vectors : Rows) → (vectors_stage held job.vec c).means vectors
       → (text : List ℕ) → (then_stage (netlist_stage held job.net) (replay_stage held job)).means text
       → (replayed_stage held job.log job.transparent p vectors.rows).means text

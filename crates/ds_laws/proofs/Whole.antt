@@ -84,7 +84,7 @@ all_long g turns events legal all =
     sym sum ∙ (sym after ∙ each)
 
 -- firings count as their list does
-counts_are : (s : Split) (vectors : List Row) (old now : State) (events : List ℕ) → FiresAll s vectors old events now
+pub counts_are : (s : Split) (vectors : List Row) (old now : State) (events : List ℕ) → FiresAll s vectors old events now
     → now.count ≡ counts_after old.count events
 counts_are s vectors old now [] same = ap (λ (t : State). t.count) same
 counts_are s vectors old now (v ∷ events) (next, fires, rest) =

@@ -1,6 +1,6 @@
 -- What a run prints with its log is replayed to its end.
 use Rattle.std.specs.Prelude.{◌≡◌, ℕ, ◌<◌, ◌≤◌, ◌^◌, Bool, true, List, ◌++◌, length}
-use Rattle.std.specs.Prelude.{Ok, None}
+use Rattle.std.specs.Prelude.{Ok, None, Some, false, codes}
 use Rattle.ds_base.specs.Limit.{most_of}
 use Rattle.ds_base.specs.Values.{Row}
 use Rattle.ds_base.specs.declared.number.Limit.TheVariants.{Bytes}
@@ -71,3 +71,25 @@ PrintedIsReplayed = (held : List ℕ → Held) (job : RunJob) (log : List ℕ) (
     → (stages_of held (Run (logged_run job))).means printed
     → held log ≡ bytes printed → IsShort (held log) → IsShort (held job.vec)
     → ReplaysAll held (Replay (replay_after job log transparent))
+
+-- a run that stops, with its log
+abbrev pub stopped_run : RunJob → ℕ → RunJob
+stopped_run job stop = record job { log = true; stop = Some stop }
+
+-- a job has one text, which stands before a log
+pub record ReplaysFront (held : List ℕ → Held) (job : Job) (printed : List ℕ) : Type 0 where
+  pub text : List ℕ
+  pub is_text : (stages_of held job).means text
+  pub one : (other : List ℕ) → (stages_of held job).means other → other ≡ text
+  pub log : List ℕ
+  pub front : printed ≡ text ++ codes "firings\n" ++ log
+
+-- what `run --stop --log` prints is read and fired to its end by `replay` of the same netlist,
+-- vectors, graph, mode and slack, where the log holds these bytes and is not too long; and what
+-- that prints are the lines before the log, with what each register has stored
+abbrev pub StoppedIsReplayed : Type 0
+StoppedIsReplayed = (held : List ℕ → Held) (job : RunJob) (stop : ℕ) (log printed : List ℕ)
+    → AreTold held (Run (stopped_run job stop))
+    → (stages_of held (Run (stopped_run job stop))).means printed
+    → held log ≡ bytes printed → IsShort (held log)
+    → ReplaysFront held (Replay (replay_after job log false)) printed

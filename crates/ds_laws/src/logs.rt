@@ -1,5 +1,5 @@
 //! Laws of logs: what is written is read, and fired to its end.
-ghost use Rattle.ds_laws.specs.Logs.{LoggedIsFired, PrintedIsReplayed};
+ghost use Rattle.ds_laws.specs.Logs.{LoggedIsFired, PrintedIsReplayed, StoppedIsReplayed};
 
 /// What a run with its log writes is read as a log and fired to its end.
 pub fn logged_is_fired()
@@ -9,4 +9,10 @@ pub fn logged_is_fired()
 /// What `run --log` prints is read and fired to its end by `replay` of the same files.
 pub fn printed_is_replayed()
     ensures { PrintedIsReplayed }
+{}
+
+/// What `run --stop --log` prints is read and fired to its end by `replay` of the same files, which
+/// prints the lines before the log again.
+pub fn stopped_is_replayed()
+    ensures { StoppedIsReplayed }
 {}

@@ -1,0 +1,5 @@
+use Rattle.ds_laws.proofs.Plain.{names_are_plain}
+use Rattle.ds_laws.proofs.names.names_are_plain.Goals as goal
+
+pub returns : goal.returns
+returns c = names_are_plain
