@@ -1,29 +1,31 @@
 -- Firings leave one text of a state.
-use Rattle.std.proofs.Common.{◌≡◌, ◌∙◌, ℕ, zero, suc, ◌+◌, ◌*◌, ◌<◌, List, ◌++◌, length, get_or, map, refl, arith, ap, ap₂, sym}
-use Rattle.std.specs.Prelude.{Contains}
-use Rattle.std.specs.List.{flat_map, range_with_len}
+use Rattle.std.proofs.Common.{◌≡◌, ◌∙◌, ℕ, zero, suc, ◌+◌, ◌*◌, ◌<◌, List, ◌++◌, length, get_or, map, refl, arith, ap, ap₂, sym, length-append}
 use Rattle.std.proofs.lemmas.List.{get_or-map, get_or_default}
 use Rattle.std.proofs.lemmas.Simd.{map-map}
+use Rattle.std.specs.Prelude.{Contains}
+use Rattle.std.specs.List.{flat_map, range_with_len}
 use Rattle.ds_base.proofs.Lists.{map_agree}
 use Rattle.ds_base.specs.Values.{Row}
 use Rattle.ds_base.specs.declared.value.Value.TheVariants.{Zero}
 use Rattle.ds_cover.specs.Cover.{value_at}
 use Rattle.ds_design.specs.Run.{IsRun}
-use Rattle.ds_marked.specs.Graph.{IsLegal}
-use Rattle.ds_latch.specs.Node.{Split, closing, members}
+use Rattle.ds_marked.specs.Graph.{IsLegal, counts_after}
+use Rattle.ds_latch.specs.Node.{Split, closing, members, nodes, number_of}
 use Rattle.ds_latch.specs.declared.node.Node.TheVariants.{Slave}
-use Rattle.ds_latch.specs.Plan.{IsPlan, IsSplit, Planned}
+use Rattle.ds_latch.specs.Plan.{IsPlan, IsSplit, Planned, split_events}
 use Rattle.ds_latch.specs.Numbered.{numbered}
 use Rattle.ds_latch.specs.Firing.{State, first_state, FiresAll}
 use Rattle.ds_latch.specs.Flow.{IsInStep}
-use Rattle.ds_latch.specs.Headline.{StandsAt, values_stored}
-use Rattle.ds_latch.proofs.Counts.{accepted_controls}
+use Rattle.ds_latch.specs.Headline.{StandsAt, values_clocked, values_stored}
+use Rattle.ds_latch.proofs.Counts.{accepted_controls, number_below}
 use Rattle.ds_latch.proofs.Flow.{flow_equivalence}
+use Rattle.ds_latch.proofs.Rising.{events_long}
 use Rattle.ds_split.proofs.Sources.{flat_apart}
 use Rattle.ds_rows.specs.Log.{fired_line, stored_text}
 use Rattle.ds_rows.specs.Nets.{register_of}
 use Rattle.ds_rows.specs.StateText.{HasStored, IsStateText}
-use Rattle.ds_laws.proofs.Whole.{counts_are}
+use Rattle.ds_laws.specs.Logs.{WholeStatesAreClocked}
+use Rattle.ds_laws.proofs.Whole.{all_long, counts_are}
 
 -- a register stands in one cluster
 one_cluster : (s : Split) → IsSplit s → (r c d p q : ℕ) → StandsAt s r c p → StandsAt s r d q → c ≡ d
@@ -74,3 +76,25 @@ module _ (p : Planned) (plan : IsPlan p.split p.graph) (vectors : List Row) (sta
       ap (stored_text (register_of p.split.circuit r))
       (values_one is.now also.now is.fires also.fires r (is.values r) (also.values r) (is.stored r (omega (arith, low))) (also.stored r (omega (arith, low))))) in
       is.spelt ∙ (ap (λ (t : List ℕ). t ++ fired_line (length events) (length p.graph.events * length vectors)) lines ∙ sym also.spelt)
+
+-- where every event has fired once a vector, each register has stored its clocked values
+pub whole_states_are_clocked : WholeStatesAreClocked
+whole_states_are_clocked p plan vectors state nets run events legal all text is =
+    let s : Split = p.split in
+    let n : ℕ = length s.circuit.registers in
+    let now : State = is.now in
+    let step : IsInStep s vectors state nets now = flow_equivalence s p.graph (accepted_controls s p.graph plan) vectors state nets run events legal now is.fires in
+    let counts : now.count ≡ counts_after (λ _. 0) events = counts_are s vectors (first_state s) now events is.fires in
+    let long : length p.graph.events ≡ length (split_events s) + length plan.extra = ap length plan.events ∙ length-append (split_events s) plan.extra in
+    let own : length (split_events s) ≡ 2 * nodes s = events_long s in
+    let values : (r : ℕ) → r < n → is.values r ≡ values_clocked state (length vectors) r = λ r low.
+    let (cluster, place, at, stored) = is.stored r low in
+    let node : number_of (Slave cluster) < nodes s = number_below s (Slave cluster) at.is_cluster in
+    let closed : now.count (closing (Slave cluster)) ≡ length vectors = ap (λ (count : ℕ → ℕ). count (closing (Slave cluster))) counts ∙ all (closing (Slave cluster)) (omega (arith, node, long, own)) in
+    stored ∙ (values_are s vectors state nets now step r cluster place at ∙ ap (λ (k : ℕ). values_clocked state k r) closed) in
+    let lines : flat_map (λ r. stored_text (register_of s.circuit r) (is.values r)) (range_with_len 0 n)
+    ≡ flat_map (λ r. stored_text (register_of s.circuit r) (values_clocked state (length vectors) r)) (range_with_len 0 n) =
+    texts_agree (λ r. stored_text (register_of s.circuit r) (is.values r)) (λ r. stored_text (register_of s.circuit r) (values_clocked state (length vectors) r)) 0 n
+    (λ r low. ap (stored_text (register_of s.circuit r)) (values r (omega (arith, low)))) in
+    let most : ℕ = length p.graph.events * length vectors in
+    is.spelt ∙ ap₂ (λ (front : List ℕ) (fired : ℕ). front ++ fired_line fired most) lines (all_long p.graph (length vectors) events legal all)

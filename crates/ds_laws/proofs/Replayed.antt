@@ -1,9 +1,9 @@
 -- What a run with its log prints is replayed to its end.
 use Rattle.std.proofs.Common.{◌≡◌, ◌≢◌, ◌∙◌, ℕ, ◌*◌, ◌<◌, ◌≤◌, Bool, true, false, List, [], ◌++◌, length, get_or, Option, ◌⊎◌, inl, inr, refl, arith, ap, sym, subst}
-use Rattle.std.specs.Prelude.{All}
-use Rattle.std.specs.List.{flat_map, range_with_len}
 use Rattle.std.proofs.lemmas.Bool.{cases_lt}
 use Rattle.std.proofs.lemmas.List.{append-nil, get_or_default}
+use Rattle.std.specs.Prelude.{All}
+use Rattle.std.specs.List.{flat_map, range_with_len}
 use Rattle.ds_base.specs.Limit.{most_of}
 use Rattle.ds_base.specs.Values.{Row}
 use Rattle.ds_base.specs.declared.number.Limit.TheVariants.{Bytes}
@@ -14,6 +14,7 @@ use Rattle.ds_design.specs.Accepted.{IsAccepted}
 use Rattle.ds_design.specs.Circuit.{Circuit, columns}
 use Rattle.ds_design.specs.InRange.{IsInRange}
 use Rattle.ds_design.specs.Rows.{Rows}
+use Rattle.ds_design.specs.Run.{IsRun}
 use Rattle.ds_latch.specs.Node.{Split, members}
 use Rattle.ds_latch.specs.Plan.{IsPlan, IsSplit, Planned}
 use Rattle.ds_latch.specs.Firing.{State, first_state, FiresAll, held as held_of}
@@ -29,9 +30,7 @@ use Rattle.ds_cmd.specs.declared.job.Job.TheVariants.{Run, Replay}
 use Rattle.ds_cmd.specs.declared.replay.ReplayJob.{ReplayJob}
 use Rattle.ds_cmd.specs.declared.run.RunJob.{RunJob}
 use Rattle.ds_stage.specs.Stage.{then_stage}
-use Rattle.ds_replay.specs.OpenLines.{open_lines}
 use Rattle.ds_stage.specs.PlanStage.{planned_stage}
-use Rattle.ds_replay.specs.ReplayText.{IsReplayText}
 use Rattle.ds_stage.specs.ReplayStage.{log_stage, replayed_stage}
 use Rattle.ds_stage.specs.Stages.{netlist_stage, vectors_stage}
 use Rattle.ds_stage.proofs.Exclusive.{netlist_exclusive, vectors_exclusive}
@@ -41,14 +40,17 @@ use Rattle.ds_stage.proofs.Meant.{netlist_in_range, vectors_few, vectors_wide}
 use Rattle.ds_stage.proofs.OwnWords.{planned_words}
 use Rattle.ds_stage.proofs.PlanAccepted.{planned_circuit, planned_is_plan}
 use Rattle.ds_stage.proofs.PlanExclusive.{planned_exclusive}
+use Rattle.ds_replay.specs.OpenLines.{open_lines}
+use Rattle.ds_replay.specs.ReplayText.{IsReplayText}
 use Rattle.ds_laws.specs.Logs.{IsFiredWhole, IsShort, ReplaysAll, SaysAllFired, logged_run, replay_after}
-use Rattle.ds_run.specs.RunText.{IsRunText}
 use Rattle.ds_laws.proofs.Fired.{logged_is_fired}
+use Rattle.ds_laws.proofs.Whole.{all_long, no_open_lines, none_open}
+use Rattle.ds_laws.proofs.OneState.{state_one}
+use Rattle.ds_run.specs.RunText.{IsRunText}
 use Rattle.ds_app.specs.JobStages.{replay_stage}
 use Rattle.ds_app.specs.Job.{stages_of}
 use Rattle.ds_app.specs.Status.{AreTold, IsToldIn}
 use Rattle.ds_app.proofs.Exclusive.{told_file}
-use Rattle.ds_laws.proofs.Whole.{all_long, no_open_lines, none_open}
 
 -- a register of a split design stands in a cluster
 stands : (s : Split) → IsSplit s → (r : ℕ) → r < length s.circuit.registers → (cluster : ℕ) × (place : ℕ) × StandsAt s r cluster place
@@ -85,13 +87,23 @@ module _ (p : Planned) (plan : IsPlan p.split p.graph) (vectors : List Row) (eve
       let front : List ℕ = flat_map (λ r. stored_text (register_of p.split.circuit r) (is.values r)) (range_with_len 0 (length p.split.circuit.registers)) in
       (front, most, is.spelt ∙ ap (λ (n : ℕ). front ++ fired_line n most) as_many)
 
-  pub says : (transparent : Bool) (text : List ℕ) → IsReplayText transparent p vectors events text → SaysAllFired text
-  says false text is = state_says text is
-  says true text is =
+  -- a text is that of the state alone: nothing is open
+  state_alone : (transparent : Bool) (text : List ℕ) → IsReplayText transparent p vectors events text → IsStateText p vectors events text
+  state_alone false text is = is
+  state_alone true text is =
       let none : open_lines is.is_stored.now.count is.shown (length p.split.clusters) ≡ [] =
       no_open_lines p.split p.graph plan vectors events (first_state p.split) is.is_stored.now refl all is.is_stored.fires is.shown in
       let whole : text ≡ is.stored = is.spelt ∙ (ap (λ (lines : List ℕ). is.stored ++ lines) none ∙ append-nil is.stored) in
-      subst SaysAllFired (sym whole) (state_says is.stored is.is_stored)
+      subst (IsStateText p vectors events) (sym whole) is.is_stored
+
+  pub says : (transparent : Bool) (text : List ℕ) → IsReplayText transparent p vectors events text → SaysAllFired text
+  says transparent text is = state_says text (state_alone transparent text is)
+
+  -- so there is no other
+  pub one_text : (state nets : ℕ → Row) → IsRun p.split.circuit p.split.initial vectors state nets → (transparent : Bool) (text other : List ℕ)
+      → IsReplayText transparent p vectors events text → IsReplayText transparent p vectors events other → text ≡ other
+  one_text state nets run transparent text other is also =
+      state_one p plan vectors state nets run events legal text other (state_alone transparent text is) (state_alone transparent other also)
 
   -- there is a text
   module _ (now : State) (fires : FiresAll p.split vectors (first_state p.split) events now) where
@@ -158,12 +170,22 @@ module _ (held : List ℕ → Held) (net vec log : List ℕ) (graph : Option (Li
       let (text, is) = some_text p plan_is vectors.rows whole.events whole.legal whole.all now fires transparent in
       (text, (whole.events, is_read, is))
 
-  -- and each text says so
-  pub each_says : (text : List ℕ) → (replayed_stage held log transparent p vectors.rows).means text → SaysAllFired text
-  each_says text (events, means, is) =
+  -- and it alone, and says so
+  pub text_alone : (text : List ℕ) → (replayed_stage held log transparent p vectors.rows).means text → text ≡ text_there.0
+  text_alone text (events, means, is) =
+      let (found, (known, read_so, is_found)) = text_there in
       let one : events ≡ whole.events = log_one held log printed is_log p vectors.rows whole.events events whole.fires means in
-      says p plan_is vectors.rows whole.events whole.legal whole.all transparent text
+      let same : known ≡ whole.events = log_one held log printed is_log p vectors.rows whole.events known whole.fires read_so in
+      one_text p plan_is vectors.rows whole.events whole.legal whole.all runs.state runs.nets runs.run transparent text found
       (subst (λ (es : List ℕ). IsReplayText transparent p vectors.rows es text) one is)
+      (subst (λ (es : List ℕ). IsReplayText transparent p vectors.rows es found) same is_found)
+
+  pub text_says : SaysAllFired text_there.0
+  text_says =
+      let (found, (known, read_so, is_found)) = text_there in
+      let same : known ≡ whole.events = log_one held log printed is_log p vectors.rows whole.events known whole.fires read_so in
+      says p plan_is vectors.rows whole.events whole.legal whole.all transparent found
+      (subst (λ (es : List ℕ). IsReplayText transparent p vectors.rows es found) same is_found)
 
 module _ (faults : FaultsAreRefused) (one : OneClustering) (held : List ℕ → Held) (job : ReplayJob)
     (told_net : held job.net ≢ untold) (told_vec : held job.vec ≢ untold) (told : IsToldIn held job.graph) where
@@ -189,11 +211,12 @@ printed_is_replayed faults one held job log transparent printed (told_net, told_
     (c, netlist, (p, planned, (vectors, streamed, (same, logged)))) is_log short_log short_vec =
     let short : length printed ≤ most_of Bytes = short_log printed is_log in
     let read : (vectors_stage held job.vec c).means vectors = short_is_whole held job.vec c vectors told_vec short_vec streamed in
-    let (text, is) = text_there held job.net job.vec log job.graph job.clusters job.slack transparent printed is_log short c netlist p planned vectors read told logged in
+    let there = text_there held job.net job.vec log job.graph job.clusters job.slack transparent printed is_log short c netlist p planned vectors read told logged in
     record {
-      text = text;
-      is_text = (c, netlist, (p, planned, (vectors, read, is)));
-      each = λ other means.
-          each_says held job.net job.vec log job.graph job.clusters job.slack transparent printed is_log short c netlist p planned vectors read told logged other
+      text = there.0;
+      is_text = (c, netlist, (p, planned, (vectors, read, there.1)));
+      one = λ other means.
+          text_alone held job.net job.vec log job.graph job.clusters job.slack transparent printed is_log short c netlist p planned vectors read told logged other
           (of_these faults one held (replay_after job log transparent) told_net told_vec told c netlist p planned vectors read other means);
+      says = text_says held job.net job.vec log job.graph job.clusters job.slack transparent printed is_log short c netlist p planned vectors read told logged;
     }

@@ -1,18 +1,23 @@
 -- What a run prints with its log is replayed to its end.
-use Rattle.std.specs.Prelude.{◌≡◌, ℕ, ◌<◌, ◌≤◌, ◌^◌, Bool, true, List, ◌++◌, length}
+use Rattle.std.specs.Prelude.{◌≡◌, ℕ, ◌*◌, ◌<◌, ◌≤◌, ◌^◌, Bool, true, List, ◌++◌, length}
+use Rattle.std.specs.List.{flat_map, range_with_len}
 use Rattle.std.specs.Prelude.{Ok, None, Some, false, codes}
 use Rattle.ds_base.specs.Limit.{most_of}
 use Rattle.ds_base.specs.Values.{Row}
 use Rattle.ds_base.specs.declared.number.Limit.TheVariants.{Bytes}
 use Rattle.ds_outside.specs.Held.{Held, bytes}
 use Rattle.ds_lines.specs.Line.{lines_of}
+use Rattle.ds_design.specs.Run.{IsRun}
 use Rattle.ds_marked.specs.Graph.{IsLegal, counts_after}
-use Rattle.ds_latch.specs.Plan.{Planned}
+use Rattle.ds_latch.specs.Plan.{IsPlan, Planned}
+use Rattle.ds_latch.specs.Headline.{HasFiredAll, values_clocked}
 use Rattle.ds_cmd.specs.declared.job.Job.{Job}
 use Rattle.ds_cmd.specs.declared.job.Job.TheVariants.{Run, Replay}
 use Rattle.ds_cmd.specs.declared.replay.ReplayJob.{ReplayJob}
 use Rattle.ds_cmd.specs.declared.run.RunJob.{RunJob}
-use Rattle.ds_rows.specs.Log.{fired_line}
+use Rattle.ds_rows.specs.Log.{fired_line, stored_text}
+use Rattle.ds_rows.specs.Nets.{register_of}
+use Rattle.ds_rows.specs.StateText.{IsStateText}
 use Rattle.ds_replay.specs.Replay.{replay_of}
 use Rattle.ds_replay.specs.Printed.{HasOwnWords}
 use Rattle.ds_run.specs.RunText.{IsRunText}
@@ -32,15 +37,29 @@ LoggedIsFired = (p : Planned) → HasOwnWords p.graph
     → (vectors : List Row) → length vectors < 10 ^ 10
     → (text : List ℕ) → IsRunText true p vectors text → IsFiredWhole p (length vectors) text
 
+-- where a legal list has each event once a vector, the text of the state behind it has for each
+-- register its clocked values, and says that there were all firings that there may be
+abbrev pub WholeStatesAreClocked : Type 0
+WholeStatesAreClocked = (p : Planned) → IsPlan p.split p.graph → (vectors : List Row)
+    → (state nets : ℕ → Row) → IsRun p.split.circuit p.split.initial vectors state nets
+    → (events : List ℕ) → IsLegal p.graph (length vectors) events
+    → HasFiredAll p.graph (length vectors) events
+    → (text : List ℕ) → IsStateText p vectors events text
+    → text ≡ flat_map (λ r. stored_text (register_of p.split.circuit r)
+    (values_clocked state (length vectors) r))
+    (range_with_len 0 (length p.split.circuit.registers))
+    ++ fired_line (length p.graph.events * length vectors) (length p.graph.events * length vectors)
+
 -- the last line says that there were all firings that there may be
 abbrev pub SaysAllFired : List ℕ → Type 0
 SaysAllFired text = (before : List ℕ) × (all : ℕ) × (text ≡ before ++ fired_line all all)
 
--- a job has a text, and each of its texts says that there were all firings that there may be
+-- a job has one text, which says that there were all firings that there may be
 pub record ReplaysAll (held : List ℕ → Held) (job : Job) : Type 0 where
   pub text : List ℕ
   pub is_text : (stages_of held job).means text
-  pub each : (other : List ℕ) → (stages_of held job).means other → SaysAllFired other
+  pub one : (other : List ℕ) → (stages_of held job).means other → other ≡ text
+  pub says : SaysAllFired text
 
 -- the bytes that are held are no more than a text may have that is read whole
 abbrev pub IsShort : Held → Type 0

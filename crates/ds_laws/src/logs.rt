@@ -1,9 +1,15 @@
 //! Laws of logs: what is written is read, and fired to its end.
 ghost use Rattle.ds_laws.specs.Logs.{LoggedIsFired, PrintedIsReplayed, StoppedIsReplayed};
+ghost use Rattle.ds_laws.specs.Logs.{WholeStatesAreClocked};
 
 /// What a run with its log writes is read as a log and fired to its end.
 pub fn logged_is_fired()
     ensures { LoggedIsFired }
+{}
+
+/// Behind a whole log the text of the state has for each register its clocked values.
+pub fn whole_states_are_clocked()
+    ensures { WholeStatesAreClocked }
 {}
 
 /// What `run --log` prints is read and fired to its end by `replay` of the same files.
