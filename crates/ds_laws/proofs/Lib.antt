@@ -6,3 +6,13 @@ pub mod Front
 pub mod OneState
 pub mod Stopped
 pub mod Handshakes
+pub mod Determined
+pub mod OneText
+pub mod Stored
+pub mod ReadRows
+pub mod EarlyFault
+pub mod Ranked
+pub mod OneRequired
+pub mod KnownRuns
+pub mod KnownTraces
+pub mod SoFar

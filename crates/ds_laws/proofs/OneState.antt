@@ -35,7 +35,7 @@ one_cluster s split r c d p q at other =
     flat_apart s.clusters split.once c d r here there
 
 -- texts of agreeing parts
-texts_agree : (f g : ℕ → List ℕ) (a n : ℕ) → ((r : ℕ) → r < a + n → f r ≡ g r) → flat_map f (range_with_len a n) ≡ flat_map g (range_with_len a n)
+pub texts_agree : (f g : ℕ → List ℕ) (a n : ℕ) → ((r : ℕ) → r < a + n → f r ≡ g r) → flat_map f (range_with_len a n) ≡ flat_map g (range_with_len a n)
 texts_agree f g a zero agree = refl
 texts_agree f g a (suc n) agree =
     ap₂ (λ (xs ys : List ℕ). xs ++ ys) (agree a (omega arith)) (texts_agree f g (a + 1) n (λ r low. agree r (omega (arith, low))))

@@ -1,3 +1,8 @@
+pub mod Orders
+pub mod Shaken
+pub mod Latches
 pub mod Names
 pub mod Logs
-pub mod Shaken
+pub mod OneText
+pub mod Answered
+pub mod Known
