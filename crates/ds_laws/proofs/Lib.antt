@@ -13,6 +13,4 @@ pub mod ReadRows
 pub mod EarlyFault
 pub mod Ranked
 pub mod OneRequired
-pub mod KnownRuns
-pub mod KnownTraces
 pub mod SoFar

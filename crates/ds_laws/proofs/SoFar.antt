@@ -5,7 +5,7 @@ use Rattle.ds_latch.specs.Plan.{IsController}
 use Rattle.ds_latch.proofs.Counts.{accepted_controls}
 use Rattle.ds_latch.proofs.Flow.{InStep, steps_kept}
 use Rattle.ds_latch.proofs.Headline.{stored_begins}
-use Rattle.ds_laws.specs.Known.{StatesAreClockedSoFar}
+use Rattle.ds_laws.specs.Logs.{StatesAreClockedSoFar}
 
 pub states_are_clocked_so_far : StatesAreClockedSoFar
 states_are_clocked_so_far p plan vectors state nets run events legal text is =

@@ -5,4 +5,3 @@ pub mod Names
 pub mod Logs
 pub mod OneText
 pub mod Answered
-pub mod Known

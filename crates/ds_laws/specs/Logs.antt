@@ -10,7 +10,7 @@ use Rattle.ds_lines.specs.Line.{lines_of}
 use Rattle.ds_design.specs.Run.{IsRun}
 use Rattle.ds_marked.specs.Graph.{IsLegal, counts_after}
 use Rattle.ds_latch.specs.Plan.{IsPlan, Planned}
-use Rattle.ds_latch.specs.Headline.{HasFiredAll, values_clocked}
+use Rattle.ds_latch.specs.Headline.{BeginsWith, HasFiredAll, values_clocked}
 use Rattle.ds_cmd.specs.declared.job.Job.{Job}
 use Rattle.ds_cmd.specs.declared.job.Job.TheVariants.{Run, Replay}
 use Rattle.ds_cmd.specs.declared.replay.ReplayJob.{ReplayJob}
@@ -112,3 +112,17 @@ StoppedIsReplayed = (held : List ℕ → Held) (job : RunJob) (stop : ℕ) (log 
     → (stages_of held (Run (stopped_run job stop))).means printed
     → held log ≡ bytes printed → IsShort (held log)
     → ReplaysFront held (Replay (replay_after job log false)) printed
+
+-- behind any legal list, the text of the state has for each register the first of its clocked
+-- values, and says how many firings there were
+abbrev pub StatesAreClockedSoFar : Type 0
+StatesAreClockedSoFar = (p : Planned) → IsPlan p.split p.graph → (vectors : List Row)
+    → (state nets : ℕ → Row) → IsRun p.split.circuit p.split.initial vectors state nets
+    → (events : List ℕ) → IsLegal p.graph (length vectors) events
+    → (text : List ℕ) → IsStateText p vectors events text
+    → (values : ℕ → Row)
+    × ((r : ℕ) → r < length p.split.circuit.registers
+    → BeginsWith (values_clocked state (length vectors) r) (values r))
+    × (text ≡ flat_map (λ r. stored_text (register_of p.split.circuit r) (values r))
+    (range_with_len 0 (length p.split.circuit.registers))
+    ++ fired_line (length events) (length p.graph.events * length vectors))

@@ -2,20 +2,18 @@
 //! does nothing.
 //!
 //! Of texts: a job has one text, but for what its workers fire and which slowest cycle is shown,
-//! and `run` prints what `clock` prints; where every initial value and every vector is known, no
-//! value of a run is unknown and its trace has no `x`. Of logs: what `run --log` writes is read
-//! and fired to its end, and `replay` then shows the clocked values of each register, and of a
-//! part of a log the first of them; what `run --stop --log` writes is fired to where that run has
-//! stopped, and `replay` prints what it printed, for the names of registers, as they are printed,
-//! are words that a reader takes. Of latches: what an open node has read stays until it closes,
-//! and a finished run has stored the clocked registers. Of orders: there is one from an event to
+//! and `run` prints what `clock` prints. Of logs: what `run --log` writes is read and fired to its
+//! end, and `replay` then shows the clocked values of each register, and of a part of a log the
+//! first of them; what `run --stop --log` writes is fired to where that run has stopped, and
+//! `replay` prints what it printed, for the names of registers, as they are printed, are words
+//! that a reader takes. Of latches: what an open node has read stays until it closes, and a
+//! finished run has stored the clocked registers. Of orders: there is one from an event to
 //! another, ranks exclude circles, and in what `graph --shake` writes those of a data edge go by
 //! way of its request and its acknowledge. Of statuses: a fault has its own where no read failed
 //! that a stage before it needs.
 #![tactic(auto)]
 
 mod answers;
-mod known;
 mod latches;
 mod logs;
 mod names;
@@ -23,10 +21,10 @@ mod orders;
 mod texts;
 
 pub use answers::exact_fault_early;
-pub use known::{known_runs_are_known, known_traces_are_known, states_are_clocked_so_far};
 pub use latches::{read_rows_stay, stored_are_there};
 pub use logs::{
-    logged_is_fired, printed_is_replayed, stopped_is_replayed, whole_states_are_clocked,
+    logged_is_fired, printed_is_replayed, states_are_clocked_so_far, stopped_is_replayed,
+    whole_states_are_clocked,
 };
 pub use names::names_are_plain;
 pub use orders::{one_order, orders_go_by_handshakes, ranked_has_no_cycle};

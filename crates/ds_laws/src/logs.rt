@@ -1,6 +1,6 @@
 //! Laws of logs: what is written is read, and fired to its end.
 ghost use Rattle.ds_laws.specs.Logs.{LoggedIsFired, PrintedIsReplayed, StoppedIsReplayed};
-ghost use Rattle.ds_laws.specs.Logs.{WholeStatesAreClocked};
+ghost use Rattle.ds_laws.specs.Logs.{StatesAreClockedSoFar, WholeStatesAreClocked};
 
 /// What a run with its log writes is read as a log and fired to its end.
 pub fn logged_is_fired()
@@ -10,6 +10,12 @@ pub fn logged_is_fired()
 /// Behind a whole log the text of the state has for each register its clocked values.
 pub fn whole_states_are_clocked()
     ensures { WholeStatesAreClocked }
+{}
+
+/// Behind any legal list the text of the state has for each register the first of its clocked
+/// values.
+pub fn states_are_clocked_so_far()
+    ensures { StatesAreClockedSoFar }
 {}
 
 /// What `run --log` prints is read and fired to its end by `replay` of the same files.

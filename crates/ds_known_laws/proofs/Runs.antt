@@ -15,7 +15,7 @@ use Rattle.ds_design.specs.Circuit.{Circuit, columns, data_nets, register_nets}
 use Rattle.ds_design.specs.Run.{IsRun, row_at}
 use Rattle.ds_design.specs.Valuation.{IsValuation}
 use Rattle.ds_design.proofs.Settled.{kept_from_sources}
-use Rattle.ds_laws.specs.Known.{KnownRunsAreKnown}
+use Rattle.ds_known_laws.specs.Known.{KnownRunsAreKnown}
 
 -- a value that is zero or one
 abbrev IsKnown : Value → Type 0

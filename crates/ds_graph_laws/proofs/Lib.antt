@@ -1,0 +1,6 @@
+pub mod FewArcs
+pub mod GraphLines
+pub mod ModelName
+pub mod GraphSignals
+pub mod PrintedPlans
+pub mod Taken

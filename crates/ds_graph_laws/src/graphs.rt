@@ -1,0 +1,13 @@
+//! Laws of graphs that are printed: they are read back, and taken.
+ghost use Rattle.ds_graph_laws.specs.Printed.{PrintedGraphsAreRead, PrintedGraphsAreTaken};
+
+/// What `graph` prints, with `--shake` or without, is read as the graph that was printed.
+pub fn printed_graphs_are_read()
+    ensures { PrintedGraphsAreRead }
+{}
+
+/// What `graph` prints, with `--shake` or without, `accept` of the same netlist and clusters does
+/// not refuse.
+pub fn printed_graphs_are_taken()
+    ensures { PrintedGraphsAreTaken }
+{}
