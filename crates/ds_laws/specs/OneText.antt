@@ -9,7 +9,7 @@ use Rattle.ds_cmd.specs.declared.run.RunJob.{RunJob}
 use Rattle.ds_app.specs.Job.{stages_of}
 use Rattle.ds_app.specs.Status.{AreTold}
 
--- the job prints nothing that is its workers', and no cycle of several
+-- the job is not `period`, and no `run` that prints its log or stops
 abbrev pub IsDetermined : Job → Type 0
 IsDetermined (Run job) = (job.log ≡ false) × (job.stop ≡ None)
 IsDetermined (Period job) = ⊥

@@ -1,11 +1,11 @@
 //! Laws of the program as a whole, on which nothing stands; each is the contract of a function that
 //! does nothing.
 //!
-//! Of texts: a job has one text, but for what its workers fire and which slowest cycle is shown,
-//! and `run` prints what `clock` prints. Of logs: what `run --log` writes is read and fired to its
-//! end, and `replay` then shows the clocked values of each register, and of a part of a log the
-//! first of them; what `run --stop --log` writes is fired to where that run has stopped, and
-//! `replay` prints what it printed, for the names of registers, as they are printed, are words
+//! Of texts: a job has one text, but of `period`, and of `run` with `--log` or `--stop`, nothing
+//! is said; and `run` prints what `clock` prints. Of logs: what `run --log` writes is read and
+//! fired to its end, and `replay` then shows the clocked values of each register, and of a part of
+//! a log the first of them; what `run --stop --log` writes is fired to where that run has stopped,
+//! and `replay` prints what it printed, for the names of registers, as they are printed, are words
 //! that a reader takes. Of latches: what an open node has read stays until it closes, and a
 //! finished run has stored the clocked registers. Of orders: there is one from an event to
 //! another, ranks exclude circles, and in what `graph --shake` writes those of a data edge go by

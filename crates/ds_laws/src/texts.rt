@@ -1,8 +1,8 @@
 //! Laws of what jobs print: it is determined by their files.
 ghost use Rattle.ds_laws.specs.OneText.{JobsHaveOneText, RunsPrintTheClockedTrace};
 
-/// A job has one text at most, where its files tell what they hold; but the log of a run, or where
-/// it stops, is its workers', and of several slowest cycles `period` may show any.
+/// A job has one text at most, where its files tell what they hold. Nothing is said of `run` with
+/// `--log` or `--stop`, whose workers decide what fires when, and nothing of `period`.
 pub fn jobs_have_one_text()
     ensures { JobsHaveOneText }
 {}

@@ -9,7 +9,7 @@ use Rattle.atomic_table.proofs.Lists.{at_longer}
 use Rattle.ds_marked.specs.declared.marked.Arc.{Arc}
 use Rattle.ds_rule.specs.Run.{Run}
 use Rattle.ds_rule.specs.Log.{times, places, IsLegalList}
-use Rattle.ds_rule.proofs.Lists.{at_end, at_get, there_is}
+use Rattle.ds_rule.proofs.Lists.{at_below, at_end, at_get, there_is}
 use Rattle.ds_rule.proofs.Logs.{places-here, places-else, length-places, ticket_below}
 use Rattle.ds_table_laws.specs.Drawn.{TicketsFollow}
 
@@ -58,11 +58,13 @@ tickets_follow_lem run tickets many sound r m a at j behind inside =
     let source = r.all a.source near-source in
     let target = r.all a.target near-target in
     let (t, here) = there_is (places a.target r.log) j (omega (arith, ap length target)) in
-    let (s, stood, below) = lower run m a at r.log r.legal j t behind here in
-    omega (
-      arith,
-      ap (λ ts. get_or ts (j - a.tokens) 0) source,
-      ap (λ ts. get_or ts j 0) target,
-      at_get (places a.source r.log) (j - a.tokens) s 0 stood,
-      at_get (places a.target r.log) j t 0 here,
+    let (s, stood, below) = lower run m a at r.log r.legal j t behind here in (
+      omega (arith, at_below (places a.source r.log) (j - a.tokens) s stood, ap length source),
+      omega (
+        arith,
+        ap (λ ts. get_or ts (j - a.tokens) 0) source,
+        ap (λ ts. get_or ts j 0) target,
+        at_get (places a.source r.log) (j - a.tokens) s 0 stood,
+        at_get (places a.target r.log) j t 0 here,
+      ),
     )

@@ -17,10 +17,11 @@ TicketsAreNumbers = (run : Run) (tickets : ℕ → List ℕ) (many : ℕ) → Re
     → get_elem? (tickets d) j ≡ some t → get_elem? (tickets e) k ≡ some t
     → (t < many) × (d ≡ e) × (j ≡ k))
 
--- along each arc a firing of its target has a higher ticket than the firing of its source that it
--- waits for, which is numbered lower by the tokens of the arc
+-- along each arc the firing of its source that a firing of its target waits for, which is numbered
+-- lower by the tokens of the arc, is there and has a lower ticket
 abbrev pub TicketsFollow : Type 0
 TicketsFollow = (run : Run) (tickets : ℕ → List ℕ) (many : ℕ) → IsSound run
     → Recorded run tickets many → (m : ℕ) (a : Arc) → get_elem? run.arcs m ≡ some a
     → (j : ℕ) → a.tokens ≤ j → j < length (tickets a.target)
-    → slice_index (tickets a.source) (j - a.tokens) < slice_index (tickets a.target) j
+    → (j - a.tokens < length (tickets a.source))
+    × (slice_index (tickets a.source) (j - a.tokens) < slice_index (tickets a.target) j)

@@ -6,7 +6,7 @@ pub fn tickets_are_numbers()
     ensures { TicketsAreNumbers }
 {}
 
-/// Along each arc a firing has a higher ticket than the firing that it waits for.
+/// Along each arc the firing that a firing waits for is there, and has a lower ticket.
 pub fn tickets_follow()
     ensures { TicketsFollow }
 {}
