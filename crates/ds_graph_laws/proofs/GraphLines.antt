@@ -4,7 +4,6 @@ use Rattle.std.specs.Prelude.{All, codes, decimal}
 use Rattle.std.specs.List.{AllByRecursion, list_any, suffix_len}
 use Rattle.std.specs.Option.{option_map_or}
 use Rattle.std.proofs.lemmas.Bool.{cases_Bool, false≢true}
-use Rattle.std.proofs.lemmas.List.Folds.{list_any-append}
 use Rattle.std.proofs.lemmas.List.Sums.{suffix_len_is}
 use Rattle.std.proofs.lemmas.Option.{slice_get-get_or}
 use Rattle.ds_lines.specs.Line.{is_blank, is_end, is_hash, is_newline, is_some}
@@ -17,6 +16,7 @@ use Rattle.ds_astg.specs.Text.{arc_at, entry_name, is_further, place_name, token
 use Rattle.ds_astg_laws.specs.Written.{arc_words, body_lines, entry_words, event_lines, graph_words, line_behind, lists_below, marking_words, place_lines, rest_lines, target_word}
 use Rattle.ds_astg_laws.proofs.Written.{NoDigit, none_decimal}
 use Rattle.ds_stage.proofs.LineWords.{both_all}
+use Rattle.ds_laws.proofs.Plain.{each_drop, each_take, lacks_both}
 
 -- a text whose last byte is not cut at the end of a line
 abbrev pub IsUncut : List ℕ → Type 0
@@ -78,10 +78,6 @@ lacks_less p q less [] none = refl
 lacks_less p q less (byte ∷ bytes) none =
     let (here, behind) = lacks_parts p byte bytes none in
     lacks_cons q byte bytes (less byte here) (lacks_less p q less bytes behind)
-
--- no byte of two texts
-lacks_both : (p : ℕ → Bool) (xs ys : List ℕ) → list_any p xs ≡ false → list_any p ys ≡ false → list_any p (xs ++ ys) ≡ false
-lacks_both p xs ys none more = rw (list_any-append p xs ys, none, more) refl
 
 -- clean words: two after one another, a number behind one
 some_both : (xs ys : List ℕ) → is_some xs ≡ true → is_some (xs ++ ys) ≡ true
@@ -179,12 +175,6 @@ named_plain head name clean word uncut = record {
   each = (clean_word head clean, (word, tt));
   end = nothing_cut (head ++ 32 ∷ name) (uncut_both head (32 ∷ name) (uncut_behind 32 name uncut));
 }
-
--- what holds of each element holds of the first and of those behind them
-each_part : {A : Type 0} (P : A → Type 0) (n : ℕ) (xs : List A) → AllByRecursion P xs → AllByRecursion P (take n xs) × AllByRecursion P (drop n xs)
-each_part P zero xs all = (tt, all)
-each_part P (suc n) [] all = (tt, tt)
-each_part P (suc n) (x ∷ xs) (here, all) = let (first, rest) = each_part P n xs all in ((here, first), rest)
 
 -- the lists below a number
 each_below : {X : Type 0} (P : X → Type 0) (piece : ℕ → List X) (n : ℕ) → ((k : ℕ) → k < n → AllByRecursion P (piece k)) → AllByRecursion P (lists_below piece n)
@@ -311,8 +301,8 @@ module _ (g : Graph) (kept : IsKept g) (few : length g.arcs ≤ 1048576) (tokens
   graph_plain name word uncut own signals are = (
     named_plain (codes ".model") name (record { some = refl; none = refl }) word uncut,
     (
-      line_plain (codes ".outputs") (take own signals) (record { some = refl; none = refl }, (each_part IsClean own signals are).0),
+      line_plain (codes ".outputs") (take own signals) (record { some = refl; none = refl }, each_take IsClean own signals are),
       both_all IsPlain (line_behind (codes ".internal") (drop own signals)) (rest_lines g)
-          (behind_plain (codes ".internal") (drop own signals) (record { some = refl; none = refl }) (each_part IsClean own signals are).1) rest_plain,
+          (behind_plain (codes ".internal") (drop own signals) (record { some = refl; none = refl }) (each_drop IsClean own signals are)) rest_plain,
     ),
   )

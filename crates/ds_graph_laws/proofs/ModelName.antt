@@ -1,11 +1,10 @@
 -- The name of the main model of a netlist is a word, whose last byte is not cut at the end of a line.
-use Rattle.std.proofs.Common.{◌≡◌, ◌≢◌, ◌∙◌, ◌==◌, ◌⊎◌, ℕ, zero, suc, ◌+◌, ◌-◌, ◌<◌, true, false, not, List, [], ◌∷◌, ◌++◌, length, get_or, reverse, take, Option, None, Some, Result, Ok, Err, inl, inr, refl, arith, ap, sym, subst}
+use Rattle.std.proofs.Common.{◌≡◌, ◌≢◌, ◌∙◌, ◌==◌, ◌⊎◌, ℕ, zero, suc, ◌+◌, ◌-◌, ◌<◌, true, false, not, List, [], ◌∷◌, ◌++◌, length, get_or, reverse, take, Option, None, Some, Result, Ok, inl, inr, refl, arith, ap, sym, subst}
 use Rattle.std.specs.Prelude.{IfOk, nat_lt}
 use Rattle.std.specs.List.{AllByRecursion, filter, list_any, onto_first, slice_split, suffix_len}
 use Rattle.std.specs.Str.{bytes_eq}
 use Rattle.std.proofs.lemmas.Bool.{cases_Bool, cases_lt, eqb-true}
 use Rattle.ds_base.specs.Limit.{most_of}
-use Rattle.ds_base.specs.declared.number.Limit.{Limit}
 use Rattle.ds_base.specs.declared.number.Limit.TheVariants.{Copies}
 use Rattle.ds_outside.specs.Held.{Held, untold, absent, bytes}
 use Rattle.ds_lines.specs.First.{unless_fault, where_true}
@@ -31,7 +30,7 @@ use Rattle.ds_blif.proofs.First.{fault_from, fault_from_is}
 use Rattle.ds_blif.proofs.NoFault.{first_none, line_none, lines_none, not_false, own_none, test_false}
 use Rattle.ds_blif.proofs.WellFormed.{read_well_formed}
 use Rattle.ds_flat.specs.Command.{with_part}
-use Rattle.ds_flat.specs.Copies.{Flat, Opened, ◌>>=◌, copy_unless, expand, flat_of, main_copy, model_named, most_depth, next_copy, open_model, open_use, passed_limit, ports_of, take_all, take_command, take_part, unknown_formal, unless_passed, use_in}
+use Rattle.ds_flat.specs.Copies.{Flat, Opened, copy_unless, expand, flat_of, main_copy, model_named, most_depth, next_copy, open_model, open_use, passed_limit, ports_of, take_all, take_command, take_part, unknown_formal, use_in}
 use Rattle.ds_flat.specs.Net.{Scope}
 use Rattle.ds_flat.specs.declared.fault.FlatKind.{FlatKind}
 use Rattle.ds_stage.specs.FaultText.{blif_text, flat_text}
@@ -41,6 +40,7 @@ use Rattle.ds_stage.proofs.Meant.{read_meant}
 use Rattle.std.proofs.lemmas.List.Sums.{prefix_len_stops}
 use Rattle.std.proofs.lemmas.List.{get_or-reverse, get_or-take, length-reverse, length-take-le}
 use Rattle.ds_graph_laws.proofs.GraphLines.{IsUncut, neither, uncut_behind}
+use Rattle.ds_laws.proofs.Plain.{if_next, unless_holds}
 
 -- the last of some words is not cut
 abbrev EndsUncut : List (List ℕ) → Type 0
@@ -234,11 +234,6 @@ module _ (name : List ℕ) where
   abbrev OpensName : Opened → Type 0
   OpensName opened = opened.flat.design.name ≡ name
 
-  -- a value that passes no limit
-  unless_holds : {A : Type 0} (P : A → Type 0) (limit : Option Limit) (line : ℕ) (value : A) → P value → IfOk (unless_passed limit line value) P
-  unless_holds P None line value is = is
-  unless_holds P (Some limit) line value is = tt
-
   -- a command leaves the name
   part_keeps : (scope : Scope) (line : ℕ) (part : Part) (c : Circuit) → (with_part scope line part c).name ≡ c.name
   part_keeps scope line (InputsPart names) c = refl
@@ -270,12 +265,6 @@ module _ (name : List ℕ) where
       | inr many ↦ rw (new, many) tt
     ]
   ]
-
-  -- what comes next has what it is given
-  if_next : {A B : Type 0} (P : A → Type 0) (Q : B → Type 0) (first : Result A (At FlatKind)) (next : A → Result B (At FlatKind))
-      → IfOk first P → ((value : A) → P value → IfOk (next value) Q) → IfOk (first >>= next) Q
-  if_next P Q (Ok value) next is each = each value is
-  if_next P Q (Err fault) next is each = tt
 
   module _ (models : List BlifModel) where
     abbrev Keeps : (Opened → Result Flat (At FlatKind)) → Type 0
@@ -311,7 +300,7 @@ module _ (name : List ℕ) where
 -- a flat design has the name of the main model
 flat_named : (main : BlifModel) (models : List BlifModel) → IfOk (flat_of (main ∷ models)) (λ c. c.name ≡ main.name)
 flat_named main models =
-    if_next main.name (HasName main.name) (λ (c : Circuit). c.name ≡ main.name) (expand most_depth (main ∷ models) (main_copy main)) (λ (flat : Flat). Ok flat.design)
+    if_next (HasName main.name) (λ (c : Circuit). c.name ≡ main.name) (expand most_depth (main ∷ models) (main_copy main)) (λ (flat : Flat). Ok flat.design)
     (copies_kept main.name (main ∷ models) most_depth (main_copy main) refl)
     (λ flat has. has)
 

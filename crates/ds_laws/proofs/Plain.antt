@@ -49,12 +49,13 @@ either_way P true x y first second = first
 either_way P false x y first second = second
 
 -- what holds of each element holds of some
-each_take : {A : Type 0} (P : A → Type 0) (n : ℕ) (xs : List A) → AllByRecursion P xs → AllByRecursion P (take n xs)
+pub each_take : {A : Type 0} (P : A → Type 0) (n : ℕ) (xs : List A) → AllByRecursion P xs → AllByRecursion P (take n xs)
 each_take P zero xs all = tt
 each_take P (suc n) [] all = tt
 each_take P (suc n) (x ∷ xs) (here, all) = (here, each_take P n xs all)
 
-each_drop : {A : Type 0} (P : A → Type 0) (n : ℕ) (xs : List A) → AllByRecursion P xs → AllByRecursion P (drop n xs)
+-- and of those behind them
+pub each_drop : {A : Type 0} (P : A → Type 0) (n : ℕ) (xs : List A) → AllByRecursion P xs → AllByRecursion P (drop n xs)
 each_drop P zero xs all = all
 each_drop P (suc n) [] all = tt
 each_drop P (suc n) (x ∷ xs) (here, all) = each_drop P n xs all
@@ -71,7 +72,8 @@ nothing_plain = record { no_blank = refl; no_newline = refl; no_hash = refl }
 word_plain : (word : List ℕ) → IsWord word → IsPlainName word
 word_plain word is = record { no_blank = is.no_blank; no_newline = is.no_newline; no_hash = is.no_hash }
 
-lacks_both : (p : ℕ → Bool) (xs ys : List ℕ) → list_any p xs ≡ false → list_any p ys ≡ false → list_any p (xs ++ ys) ≡ false
+-- no byte of two texts
+pub lacks_both : (p : ℕ → Bool) (xs ys : List ℕ) → list_any p xs ≡ false → list_any p ys ≡ false → list_any p (xs ++ ys) ≡ false
 lacks_both p xs ys none more = rw (list_any-append p xs ys, none, more) refl
 
 both_plain : (xs ys : List ℕ) → IsPlainName xs → IsPlainName ys → IsPlainName (xs ++ ys)
@@ -260,12 +262,13 @@ record IsReady (opened : Opened) : Type 0 where
   flat : HasPlain opened.flat
 
 -- what comes next has what it is given
-if_next : {A B : Type 0} (P : A → Type 0) (Q : B → Type 0) (first : Result A (At FlatKind)) (next : A → Result B (At FlatKind))
+pub if_next : {A B : Type 0} (P : A → Type 0) (Q : B → Type 0) (first : Result A (At FlatKind)) (next : A → Result B (At FlatKind))
     → IfOk first P → ((value : A) → P value → IfOk (next value) Q) → IfOk (first >>= next) Q
 if_next P Q (Ok value) next is each = each value is
 if_next P Q (Err fault) next is each = tt
 
-unless_holds : {A : Type 0} (P : A → Type 0) (limit : Option Limit) (line : ℕ) (value : A) → P value → IfOk (unless_passed limit line value) P
+-- a value that passes no limit
+pub unless_holds : {A : Type 0} (P : A → Type 0) (limit : Option Limit) (line : ℕ) (value : A) → P value → IfOk (unless_passed limit line value) P
 unless_holds P None line value is = is
 unless_holds P (Some limit) line value is = tt
 

@@ -1,5 +1,5 @@
-//! Laws of the program as a whole, on which nothing stands; each is the contract of a function that
-//! does nothing.
+//! Laws of the program as a whole, on which nothing of the program stands; each is the contract of
+//! a function that does nothing.
 //!
 //! Of texts: a job has one text, but of `period`, and of `run` with `--log` or `--stop`, nothing
 //! is said; and `run` prints what `clock` prints. Of logs: what `run --log` writes is read and
