@@ -8,3 +8,4 @@ pub mod PlaceLines
 pub mod EntryLine
 pub mod Whole
 pub mod Lines
+pub mod ReadKept

@@ -2,6 +2,8 @@
 use Rattle.std.specs.Prelude.{◌≡◌, ◌≢◌, ℕ, ◌<◌, ◌^◌, true, List, ◌++◌, codes, slice_get}
 use Rattle.std.specs.Prelude.{AllPairs, Ok, Some, false}
 use Rattle.std.specs.List.{list_any}
+use Rattle.ds_lines.specs.Line.{Line}
+use Rattle.ds_marked.specs.Graph.{Graph, IsKept}
 use Rattle.ds_marked.specs.declared.marked.Event.{Event}
 use Rattle.ds_marked.specs.Log.{event_text}
 use Rattle.ds_astg.specs.Word.{is_byte, is_signal}
@@ -10,7 +12,7 @@ use Rattle.ds_astg.specs.Node.{node_of_word, event_in}
 use Rattle.ds_astg.specs.Node.Node.{Event as EventNode, Place as PlaceNode}
 use Rattle.ds_astg.specs.Place.Key.{Between}
 use Rattle.ds_astg.specs.Marking.{key_in, place_text, tokens_of_entry}
-use Rattle.ds_astg.specs.Read.{all_events}
+use Rattle.ds_astg.specs.Read.{all_events, graph_of_lines}
 use Rattle.ds_astg.specs.Text.{place_name, tokens_text}
 use Rattle.ds_astg.specs.declared.role.Role.TheVariants.{Dummy}
 
@@ -39,3 +41,8 @@ EndsAreRead = (signals : Declared) (source target : List ℕ) (u v : ℕ)
     → event_in signals source ≡ Some u → event_in signals target ≡ Some v
     → list_any (is_byte 44) source ≡ false
     → key_in signals (codes "<" ++ source ++ codes "," ++ target ++ codes ">") ≡ Some (Between u v)
+
+-- the graph that lines stand for is kept: its arcs join its events and are in order, and no event
+-- stands twice
+abbrev pub ReadGraphsAreKept : Type 0
+ReadGraphsAreKept = (lines : List Line) (g : Graph) → graph_of_lines lines ≡ Ok g → IsKept g

@@ -1,5 +1,6 @@
 //! Laws of the definitions, each the contract of a function that does nothing.
-ghost use Rattle.ds_astg_laws.specs.Laws.{EndsAreRead, EventsAreRead, PlacesAreRead, TokensAreRead};
+ghost use Rattle.ds_astg_laws.specs.Laws.{EndsAreRead, EventsAreRead, PlacesAreRead};
+ghost use Rattle.ds_astg_laws.specs.Laws.{ReadGraphsAreKept, TokensAreRead};
 ghost use Rattle.ds_astg_laws.specs.Written.{WrittenIsRead, WrittenTextIsRead};
 ghost use Rattle.ds_astg_laws.specs.Worked.{GraphFaultsAreWorked, GraphsAreWorked, ToggleIsWorked};
 
@@ -46,4 +47,9 @@ pub fn written_is_read()
 /// The text that a graph is written as stands for it, where its lines are such as are printed.
 pub fn written_text_is_read()
     ensures { WrittenTextIsRead }
+{}
+
+/// The graph that lines stand for is kept: no event stands twice, and its arcs are in order.
+pub fn read_graphs_are_kept()
+    ensures { ReadGraphsAreKept }
 {}

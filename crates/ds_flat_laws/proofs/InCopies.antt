@@ -311,7 +311,7 @@ unless_opened : (formal : Option (List ℕ)) (line : ℕ) (next opened : Opened)
 unless_opened None line next opened is = (passed_by (passed_limit next.flat.design) line next opened is).1
 unless_opened (Some formal) line next opened is = absurd (cc)
 
-model_opened : (path : List (List ℕ)) (scope : Scope) (line : ℕ) (call : UseText) (flat : Flat) (named : Option BlifModel) (opened : Opened)
+pub model_opened : (path : List (List ℕ)) (scope : Scope) (line : ℕ) (call : UseText) (flat : Flat) (named : Option BlifModel) (opened : Opened)
     → open_model path scope line call flat named ≡ Ok opened → (model : BlifModel) × (named ≡ Some model) × (opened ≡ next_copy path scope call model flat)
 model_opened path scope line call flat None opened is = absurd (cc)
 model_opened path scope line call flat (Some model) opened is = elim (cases_Bool (list_any (bytes_eq call.model) path)) [

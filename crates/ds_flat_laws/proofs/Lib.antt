@@ -1,1 +1,2 @@
 pub mod InCopies
+pub mod Circles

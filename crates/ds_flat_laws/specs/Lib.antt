@@ -1,4 +1,5 @@
 -- In the order in which to read.
 pub mod InCopies
+pub mod Circles
 pub mod Worked
 pub mod Laws

@@ -1,4 +1,5 @@
 //! Laws of the definitions, each the contract of a function that does nothing.
+ghost use Rattle.ds_flat_laws.specs.Circles.{RecursiveFaultsAreCircles};
 ghost use Rattle.ds_flat_laws.specs.InCopies.{FlatDesignsAreOfCopies};
 ghost use Rattle.ds_flat_laws.specs.Laws.{FlatDesignsAreInRange};
 ghost use Rattle.ds_flat_laws.specs.Worked.{FlatDesignsAreWorked};
@@ -11,6 +12,11 @@ pub fn flat_designs_are_in_range()
 /// The nets, tables and registers of the flat design are those of the copies, each once, in order.
 pub fn flat_designs_are_of_copies()
     ensures { FlatDesignsAreOfCopies }
+{}
+
+/// The models that a fault says to be recursive are a circle, each of which uses the next.
+pub fn recursive_faults_are_circles()
+    ensures { RecursiveFaultsAreCircles }
 {}
 
 /// Short lists of models, worked by hand, give these flat designs and faults.

@@ -4,3 +4,4 @@ pub mod ModelName
 pub mod GraphSignals
 pub mod PrintedPlans
 pub mod Taken
+pub mod Ranks

@@ -1,5 +1,6 @@
 //! Laws of graphs that are printed: they are read back, and taken.
 ghost use Rattle.ds_graph_laws.specs.Printed.{PrintedGraphsAreRead, PrintedGraphsAreTaken};
+ghost use Rattle.ds_graph_laws.specs.Printed.{PrintedGraphsHaveRanks};
 
 /// What `graph` prints, with `--shake` or without, is read as the graph that was printed.
 pub fn printed_graphs_are_read()
@@ -10,4 +11,9 @@ pub fn printed_graphs_are_read()
 /// not refuse.
 pub fn printed_graphs_are_taken()
     ensures { PrintedGraphsAreTaken }
+{}
+
+/// And it has a text of it: the ranks of its events.
+pub fn printed_graphs_have_ranks()
+    ensures { PrintedGraphsHaveRanks }
 {}

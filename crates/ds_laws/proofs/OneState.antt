@@ -24,8 +24,9 @@ use Rattle.ds_split.proofs.Sources.{flat_apart}
 use Rattle.ds_rows.specs.Log.{fired_line, stored_text}
 use Rattle.ds_rows.specs.Nets.{register_of}
 use Rattle.ds_rows.specs.StateText.{HasStored, IsStateText}
+use Rattle.ds_firing_laws.proofs.Lists.{whole_long}
 use Rattle.ds_laws.specs.Logs.{WholeStatesAreClocked}
-use Rattle.ds_laws.proofs.Whole.{all_long, counts_are}
+use Rattle.ds_laws.proofs.Whole.{counts_are}
 
 -- a register stands in one cluster
 one_cluster : (s : Split) → IsSplit s → (r c d p q : ℕ) → StandsAt s r c p → StandsAt s r d q → c ≡ d
@@ -97,4 +98,4 @@ whole_states_are_clocked p plan vectors state nets run events legal all text is 
     texts_agree (λ r. stored_text (register_of s.circuit r) (is.values r)) (λ r. stored_text (register_of s.circuit r) (values_clocked state (length vectors) r)) 0 n
     (λ r low. ap (stored_text (register_of s.circuit r)) (values r (omega (arith, low)))) in
     let most : ℕ = length p.graph.events * length vectors in
-    is.spelt ∙ ap₂ (λ (front : List ℕ) (fired : ℕ). front ++ fired_line fired most) lines (all_long p.graph (length vectors) events legal all)
+    is.spelt ∙ ap₂ (λ (front : List ℕ) (fired : ℕ). front ++ fired_line fired most) lines (whole_long p.graph (length vectors) events legal all)

@@ -42,9 +42,10 @@ use Rattle.ds_stage.proofs.PlanAccepted.{planned_circuit, planned_is_plan}
 use Rattle.ds_stage.proofs.PlanExclusive.{planned_exclusive}
 use Rattle.ds_replay.specs.OpenLines.{open_lines}
 use Rattle.ds_replay.specs.ReplayText.{IsReplayText}
+use Rattle.ds_firing_laws.proofs.Lists.{whole_long}
 use Rattle.ds_laws.specs.Logs.{IsFiredWhole, IsShort, ReplaysAll, SaysAllFired, logged_run, replay_after}
 use Rattle.ds_laws.proofs.Fired.{logged_is_fired}
-use Rattle.ds_laws.proofs.Whole.{all_long, no_open_lines, none_open}
+use Rattle.ds_laws.proofs.Whole.{no_open_lines, none_open}
 use Rattle.ds_laws.proofs.OneState.{state_one}
 use Rattle.ds_run.specs.RunText.{IsRunText}
 use Rattle.ds_app.specs.JobStages.{replay_stage}
@@ -78,7 +79,7 @@ module _ (p : Planned) (plan : IsPlan p.split p.graph) (vectors : List Row) (eve
     (all : HasFiredAll p.graph (length vectors) events) where
   -- as many firings as there may be
   as_many : length events ≡ length p.graph.events * length vectors
-  as_many = all_long p.graph (length vectors) events legal all
+  as_many = whole_long p.graph (length vectors) events legal all
 
   -- the text says so
   state_says : (text : List ℕ) → IsStateText p vectors events text → SaysAllFired text

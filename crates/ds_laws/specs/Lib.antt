@@ -4,4 +4,5 @@ pub mod Latches
 pub mod Names
 pub mod Logs
 pub mod OneText
+pub mod OneLine
 pub mod Answered

@@ -9,8 +9,9 @@
 //! that a reader takes. Of latches: what an open node has read stays until it closes, and a
 //! finished run has stored the clocked registers. Of orders: there is one from an event to
 //! another, ranks exclude circles, and in what `graph --shake` writes those of a data edge go by
-//! way of its request and its acknowledge. Of statuses: a fault has its own where no read failed
-//! that a stage before it needs.
+//! way of its request and its acknowledge. Of refused jobs: two lines that refuse one are the same,
+//! or name cycles; and a fault has its own status where no read failed that a stage before it
+//! needs.
 #![tactic(auto)]
 
 mod answers;
@@ -20,7 +21,7 @@ mod names;
 mod orders;
 mod texts;
 
-pub use answers::exact_fault_early;
+pub use answers::{exact_fault_early, jobs_have_one_line};
 pub use latches::{read_rows_stay, stored_are_there};
 pub use logs::{
     logged_is_fired, printed_is_replayed, states_are_clocked_so_far, stopped_is_replayed,

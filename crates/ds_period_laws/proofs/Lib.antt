@@ -1,0 +1,10 @@
+pub mod Most
+pub mod Repeated
+pub mod Cycles
+pub mod Divided
+pub mod Ratios
+pub mod Raised
+pub mod Exist
+pub mod Graphs
+pub mod Lowest
+pub mod Agree

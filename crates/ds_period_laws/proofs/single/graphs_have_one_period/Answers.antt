@@ -1,0 +1,5 @@
+use Rattle.ds_period_laws.proofs.Agree.{graphs_have_one_period}
+use Rattle.ds_period_laws.proofs.single.graphs_have_one_period.Goals as goal
+
+pub returns : goal.returns
+returns c = graphs_have_one_period

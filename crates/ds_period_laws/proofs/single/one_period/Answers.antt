@@ -1,0 +1,5 @@
+use Rattle.ds_period_laws.proofs.Agree.{one_period}
+use Rattle.ds_period_laws.proofs.single.one_period.Goals as goal
+
+pub returns : goal.returns
+returns c = one_period

@@ -1,0 +1,5 @@
+-- In the order in which to read.
+pub mod Rounds
+pub mod Closed
+pub mod Ranked
+pub mod Decided

@@ -1,0 +1,5 @@
+use Rattle.ds_rank_laws.proofs.Decided.{designs_have_depth}
+use Rattle.ds_rank_laws.proofs.designs.designs_have_depth.Goals as goal
+
+pub returns : goal.returns
+returns c = designs_have_depth

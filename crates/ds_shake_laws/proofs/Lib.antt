@@ -1,0 +1,4 @@
+pub mod SortedEnds
+pub mod Numbering
+pub mod Expanded
+pub mod Controllers

@@ -1,0 +1,9 @@
+pub mod Chosen
+pub mod Reached
+pub mod DataEdgesListed
+pub mod Clusterings
+pub mod Slack
+pub mod Decided
+pub mod Sorting
+pub mod SortedArcs
+pub mod Controllers

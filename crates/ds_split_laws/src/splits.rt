@@ -1,0 +1,23 @@
+//! Laws of what there is for a split design.
+ghost use Rattle.ds_split_laws.specs.Total.{ClusteringsExist, ControllersExist, EdgesAreListed};
+ghost use Rattle.ds_split_laws.specs.Total.{SplitsAreDecided};
+
+/// The data edges of a split design can be listed, each once.
+pub fn edges_are_listed()
+    ensures { EdgesAreListed }
+{}
+
+/// The registers of a circuit have clusters, by each mode.
+pub fn clusterings_exist()
+    ensures { ClusteringsExist }
+{}
+
+/// A circuit has too many clusters, or a split design with too many orders, or one without.
+pub fn splits_are_decided()
+    ensures { SplitsAreDecided }
+{}
+
+/// A split design that does not ask for too many orders has a controller graph, at every slack.
+pub fn controllers_exist()
+    ensures { ControllersExist }
+{}

@@ -1,0 +1,10 @@
+pub mod Decided
+pub mod StreamDecided
+pub mod Netlists
+pub mod Splits
+pub mod Plans
+pub mod Texts
+pub mod Demos
+pub mod EachJob
+pub mod Told
+pub mod PeriodTexts

@@ -1,0 +1,5 @@
+-- In the order in which to read.
+pub mod There
+pub mod Decided
+pub mod Statuses
+pub mod Periods

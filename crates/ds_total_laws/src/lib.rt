@@ -1,0 +1,19 @@
+//! Laws of all jobs, on which nothing of the program stands; each is the contract of a function
+//! that does nothing. Where all files of a job are there, with bytes, its stages mean some text, or
+//! refuse with some line: no job is without an answer. So the status of a call whose files are
+//! there is told: its text is written, or a line refuses it, where it wants no memory and none of
+//! its reads and writes failed. And what `period` prints is one text but for the line of the cycle.
+//!
+//! `specs/There` says which files a job names, and when they are there; `specs/Decided` says what
+//! is decided. `proofs/EachJob` puts the law together, stage by stage, from the laws that ranks,
+//! walks, splits, graphs, plans, firings and periods are there. That no stage does both is the law
+//! `jobs_are_exclusive` of `ds_app`.
+#![tactic(auto)]
+
+mod jobs;
+mod periods;
+mod statuses;
+
+pub use jobs::jobs_are_decided;
+pub use periods::{one_period_text, periods_have_one_text};
+pub use statuses::statuses_are_told;
