@@ -2,7 +2,7 @@
 ghost use Rattle.ds_accept_laws.specs.Decided.{EventsAreDecided, GraphsAreDecided};
 
 /// Each event of a node is one of the graph, or there is a first one that the graph lacks.
-pub fn every_event_is_looked_up()
+pub fn events_are_decided()
     ensures { EventsAreDecided }
 {}
 

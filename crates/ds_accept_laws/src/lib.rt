@@ -8,6 +8,6 @@ mod graphs;
 mod plans;
 mod walks;
 
-pub use graphs::{every_event_is_looked_up, graphs_are_decided};
+pub use graphs::{events_are_decided, graphs_are_decided};
 pub use plans::acceptable_graphs_have_plans;
 pub use walks::{least_is_shown, least_sums_exist, walks_are_decided};

@@ -1,7 +1,7 @@
 //! Laws of existence, on which nothing of the program stands: there are traces, legal lists of
-//! firings, and texts of runs, of stopped runs and of replayed logs. They follow of the definitions
-//! alone, and no call finds what is there; each law is the contract of a function that does
-//! nothing.
+//! firings, and texts of runs, of stopped runs and of replayed logs. They follow from the
+//! definitions alone, and no call finds what is there; each law is the contract of a function that
+//! does nothing.
 #![tactic(auto)]
 
 mod firings;

@@ -22,7 +22,8 @@ pub fn stopped_texts_exist()
     ensures { StoppedTextsExist }
 {}
 
-/// A log that is replayed has a text, with or without what open latches show.
+/// A legal log that is replayed has a text, and one with what open latches show where there is no
+/// slack.
 pub fn replay_texts_exist()
     ensures { ReplayTextsExist }
 {}

@@ -49,7 +49,7 @@ PrintedGraphsAreTaken = (held : List ℕ → Held) (job : GraphJob) (graph print
     → held graph ≡ bytes printed → length printed ≤ most_of Bytes
     → (line : List ℕ) → ¬ (stages_of held (Accept (accept_after job graph))).refused line
 
--- and it has a text of it: the ranks of its events
+-- so `accept` of what `graph` prints has a text: the ranks of its events
 abbrev pub PrintedGraphsHaveRanks : Type 0
 PrintedGraphsHaveRanks = (held : List ℕ → Held) (job : GraphJob) (graph printed : List ℕ)
     → AreTold held (GraphCommand job) → (stages_of held (GraphCommand job)).means printed

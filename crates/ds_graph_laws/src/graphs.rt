@@ -13,7 +13,7 @@ pub fn printed_graphs_are_taken()
     ensures { PrintedGraphsAreTaken }
 {}
 
-/// And it has a text of it: the ranks of its events.
+/// `accept` of what `graph` prints has a text: the ranks of its events.
 pub fn printed_graphs_have_ranks()
     ensures { PrintedGraphsHaveRanks }
 {}

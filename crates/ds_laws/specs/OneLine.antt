@@ -15,7 +15,7 @@ NamesBehind file text line =
 abbrev pub IsCycleText : List ℕ → Type 0
 IsCycleText text = (text ≡ codes "combinational cycle:") ⊎ (text ≡ codes "token-free cycle:")
 
--- two lines name cycles of one file, in a netlist both or in a graph both
+-- two lines begin as those of cycles do, of one file, in a netlist both or in a graph both
 pub record NameCycles (line other : List ℕ) : Type 0 where
   pub file : List ℕ
   pub text : List ℕ

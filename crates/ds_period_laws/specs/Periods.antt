@@ -17,12 +17,13 @@ abbrev pub SomePeriod : List Timed → ℕ → Type 0
 SomePeriod arcs count = (p q : ℕ) × (cycle potentials : List ℕ)
     × IsPeriod arcs count p q cycle potentials
 
--- arcs between events have a period where each closed walk has a token and some walk is closed
+-- arcs between events have a period where each closed walk has a token and some has an arc
 abbrev pub PeriodsExist : Type 0
 PeriodsExist = (arcs : List Timed) (count : ℕ) → AreEvents count arcs → HasTokens arcs
     → HasClosed arcs → SomePeriod arcs count
 
--- a graph of which a period is asked has one, with any delay an arc
+-- a graph with tokens on each cycle, with some cycle, and no two arcs of the same ends, has a
+-- period, whatever the delays are, one for each arc
 abbrev pub GraphsHavePeriods : Type 0
 GraphsHavePeriods = (g : Graph) → HasPeriod g → (delays : List ℕ) → length delays ≡ length g.arcs
     → SomePeriod (timed_arcs g.arcs delays) (length g.events)

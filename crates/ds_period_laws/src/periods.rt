@@ -2,12 +2,14 @@
 ghost use Rattle.ds_period_laws.specs.Periods.{ControllersAreTimed, DelaysAreOneEach};
 ghost use Rattle.ds_period_laws.specs.Periods.{GraphsHavePeriods, PeriodsExist};
 
-/// Arcs whose closed walks have tokens have a period, if some walk is closed.
+/// Arcs between events whose closed walks have tokens have a period, if some closed walk has an
+/// arc.
 pub fn periods_exist()
     ensures { PeriodsExist }
 {}
 
-/// A graph of which a period is asked has one, with any delay an arc.
+/// A graph with tokens on each cycle, with some cycle, and no two arcs of the same ends, has a
+/// period, whatever the delays of its arcs are.
 pub fn graphs_have_periods()
     ensures { GraphsHavePeriods }
 {}

@@ -6,13 +6,13 @@ use Rattle.ds_rank.specs.Rank.{AreRanks, HasFreeArc}
 use Rattle.ds_rank.specs.Search.{EndsAreNodes}
 use Rattle.ds_rank.specs.declared.edge.Edge.{Edge}
 
--- edges between nodes give the nodes ranks, or some of them lead in a circle
+-- edges between nodes give the nodes ranks, above any floors, or some of them lead in a circle
 abbrev pub RanksOrCycle : Type 0
 RanksOrCycle = (edges : List Edge) (count : ℕ) (floor : ℕ → ℕ) → EndsAreNodes count edges
     → ((ranks : List ℕ) × IsRanks (HasEdge edges) count floor ranks)
     ⊎ ((nodes : List ℕ) × IsCycle (HasEdge edges) nodes)
 
--- a graph has ranks, or a cycle of arcs without tokens
+-- a graph whose arcs join its events has ranks, or a cycle of arcs without tokens
 abbrev pub EventsHaveRanksOrCycle : Type 0
 EventsHaveRanksOrCycle = (g : Graph) → AreEnds (length g.events) g.arcs
     → ((ranks : List ℕ) × AreRanks g ranks) ⊎ ((events : List ℕ) × IsCycle (HasFreeArc g) events)

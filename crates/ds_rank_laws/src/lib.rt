@@ -1,10 +1,10 @@
-//! Laws that ranks exist or a cycle does, by the definitions alone, on which nothing of the program
-//! stands; each is the contract of a function that does nothing.
+//! Laws of ranks and of accepted designs, on which nothing of the program stands: by the
+//! definitions alone there are ranks or a cycle. Each is the contract of a function that does
+//! nothing.
 //!
 //! Of edges between nodes and of the arcs without tokens of a graph: there are ranks, or there is a
 //! cycle; and a graph in which nothing waits for itself has ranks. Of designs: one whose numbers
-//! name what is there is accepted or has a fault, and an accepted one has a depth. So a definition
-//! that speaks of ranks, of a fault or of a depth is never without what it speaks of.
+//! name what is there is accepted or has a fault, and an accepted one has a depth.
 #![tactic(auto)]
 
 mod designs;

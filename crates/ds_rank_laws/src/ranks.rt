@@ -2,7 +2,7 @@
 ghost use Rattle.ds_rank_laws.specs.Ranked.{EventsHaveRanksOrCycle, LiveGraphsHaveRanks};
 ghost use Rattle.ds_rank_laws.specs.Ranked.{RanksOrCycle};
 
-/// Edges between nodes give the nodes ranks, or some of them lead in a circle.
+/// Edges between nodes give the nodes ranks, above any floors, or some of them lead in a circle.
 pub fn ranks_or_cycle()
     ensures { RanksOrCycle }
 {}

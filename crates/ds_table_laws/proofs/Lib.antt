@@ -2,3 +2,4 @@ pub mod Numbered
 pub mod Rising
 pub mod Flying
 pub mod Reached
+pub mod Answered

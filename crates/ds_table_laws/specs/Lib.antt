@@ -1,3 +1,4 @@
 -- In the order in which to read.
 pub mod Drawn
 pub mod Counts
+pub mod Steps

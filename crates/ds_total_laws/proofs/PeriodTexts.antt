@@ -1,10 +1,11 @@
 -- What `period` prints is one text, but for the line of the cycle.
-use Rattle.std.proofs.Common.{◌≡◌, ◌∙◌, ℕ, List, ap, sym, subst}
+use Rattle.std.proofs.Common.{◌≡◌, ◌∙◌, ℕ, List, ap, length, sym, subst}
 use Rattle.ds_outside.specs.declared.files.Which.TheVariants.{Delays}
-use Rattle.ds_marked.specs.Graph.{Graph}
 use Rattle.ds_netlist.proofs.Refused.{faults_are_refused_lem}
 use Rattle.ds_split.proofs.OneClustering.{one_clustering_lem}
+use Rattle.ds_period.specs.Period.{IsPeriod}
 use Rattle.ds_period.specs.Read.{delays_of}
+use Rattle.ds_period.specs.Timing.{timed_arcs}
 use Rattle.ds_period_laws.proofs.Agree.{graphs_have_one_period}
 use Rattle.ds_stage.specs.GraphStage.{IsGraphOf}
 use Rattle.ds_stage.specs.PeriodStage.{IsPeriodText, delay_text, delays_stage, given_stage, measured_stage, period_text, timed_stage}
@@ -15,7 +16,7 @@ use Rattle.ds_stage.proofs.Exclusive.{lines_exclusive, netlist_exclusive, result
 use Rattle.ds_stage.proofs.OneGraph.{one_graph}
 use Rattle.ds_stage.proofs.PlanExclusive.{split_exclusive}
 use Rattle.ds_app.specs.JobStages.{period_stage}
-use Rattle.ds_total_laws.specs.Periods.{DifferInCycle, OnePeriodText, PeriodsHaveOneText}
+use Rattle.ds_total_laws.specs.Periods.{HaveOnePeriod, OnePeriodText, PeriodsHaveOneText}
 
 -- two texts of the period of a graph differ in the line of the cycle alone
 pub one_period_text : OnePeriodText
@@ -27,6 +28,10 @@ one_period_text g delays text other is also =
       potentials = is.potentials;
       cycle = is.cycle;
       other_cycle = also.cycle;
+      period = is.period;
+      other_period = subst (λ (heights : List ℕ). IsPeriod (timed_arcs g.arcs delays) (length g.events) is.p is.q also.cycle heights) (sym potentials)
+          (subst (λ (n : ℕ). IsPeriod (timed_arcs g.arcs delays) (length g.events) is.p n also.cycle also.potentials) (sym q)
+          (subst (λ (n : ℕ). IsPeriod (timed_arcs g.arcs delays) (length g.events) n also.q also.cycle also.potentials) (sym p) also.period));
       spelt = is.spelt;
       other_spelt = also.spelt ∙ sym (ap (λ (n : ℕ). period_text g n is.q also.cycle is.potentials) p
           ∙ (ap (λ (n : ℕ). period_text g also.p n also.cycle is.potentials) q
@@ -35,24 +40,30 @@ one_period_text g delays text other is also =
 
 -- what two results of a stage have in common behind one that gives one thing at most
 behind_one : {A B : Type 0} (agree : B → B → Type 0) (first : Stage A) (next : A → Stage B) → ((a b : A) → first.means a → first.means b → a ≡ b)
-    → ((a : A) (x y : B) → (next a).means x → (next a).means y → agree x y)
+    → ((a : A) → first.means a → (x y : B) → (next a).means x → (next a).means y → agree x y)
     → (x y : B) → (then_stage first next).means x → (then_stage first next).means y → agree x y
 behind_one {A} {B} agree first next one each x y (a, is, gives) (b, also, more) =
-    each a x y gives (subst (λ (d : A). (next d).means y) (one b a also is) more)
-
--- some graph, by which two texts differ in the line of the cycle alone
-abbrev Agree : List ℕ → List ℕ → Type 0
-Agree text other = (g : Graph) × DifferInCycle g text other
+    each a is x y gives (subst (λ (d : A). (next d).means y) (one b a also is) more)
 
 -- two texts of `period` differ in it alone
 pub periods_have_one_text : PeriodsHaveOneText
 periods_have_one_text held job (told, delays_told) =
-    behind_one Agree (netlist_stage held job.net) (period_stage held job) ((netlist_exclusive faults_are_refused_lem held job.net told).one) (λ c.
-    behind_one Agree (split_stage job.net job.clusters c) (measured_stage held job.delays) ((split_exclusive one_clustering_lem job.net job.clusters c).one) (λ s.
-    behind_one Agree (giving (IsGraphOf s)) (timed_stage held job.delays) (one_graph s) (λ g.
+    behind_one (HaveOnePeriod held job) (netlist_stage held job.net) (period_stage held job) ((netlist_exclusive faults_are_refused_lem held job.net told).one) (λ c is_netlist.
+    behind_one (HaveOnePeriod held job) (split_stage job.net job.clusters c) (measured_stage held job.delays) ((split_exclusive one_clustering_lem job.net job.clusters c).one) (λ s is_split.
+    behind_one (HaveOnePeriod held job) (giving (IsGraphOf s)) (timed_stage held job.delays) (one_graph s) (λ g is_graph.
     let file : List ℕ = job.delays in
     let delays_once : IsExclusive (delays_stage held file g) =
     then_exclusive (lines_stage held Delays file) (given_stage file g) (lines_exclusive held Delays file delays_told)
     (λ lines. result_exclusive (read_or_line file delay_text (delays_of g lines))) in
-    behind_one Agree (delays_stage held file g) (λ (delays : List ℕ). giving (IsPeriodText g delays)) delays_once.one
-    (λ delays text other is also. (g, one_period_text g delays text other is also)))))
+    behind_one (HaveOnePeriod held job) (delays_stage held file g) (λ (delays : List ℕ). giving (IsPeriodText g delays)) delays_once.one
+    (λ delays are_delays text other is also. record {
+      circuit = c;
+      split = s;
+      graph = g;
+      delays = delays;
+      is_netlist = is_netlist;
+      is_split = is_split;
+      is_graph = is_graph;
+      are_delays = are_delays;
+      differ = one_period_text g delays text other is also;
+    }))))

@@ -11,7 +11,8 @@ use Rattle.ds_total_laws.specs.There.{FilesAreThere}
 abbrev pub IsDecided : {A : Type 0} → Stage A → Type 0
 IsDecided {A} stage = ((a : A) × stage.means a) ⊎ ((line : List ℕ) × stage.refused line)
 
--- a job of allowed numbers, whose files are there, has a text, or a line that refuses it
+-- a job of allowed numbers, whose files are there and tell what they hold, has a text, or a line
+-- that refuses it
 abbrev pub JobsAreDecided : Type 0
 JobsAreDecided = (held : List ℕ → Held) (job : Job) → AreAllowed job → FilesAreThere held job
     → IsDecided (stages_of held job)

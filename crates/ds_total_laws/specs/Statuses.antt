@@ -6,8 +6,9 @@ use Rattle.ds_cmd.specs.declared.job.Job.{Job}
 use Rattle.ds_app.specs.Status.{Call, IsAnswered, IsDone, IsRefused, NoneFailed}
 use Rattle.ds_total_laws.specs.There.{FilesAreThere}
 
--- a call whose words are a job, each file of which is there, and none of whose reads and writes of
--- its text failed, wants memory, or has written the job's text, or a line refuses it
+-- a call whose words are a job, each file of which is there and tells what it holds, and none of
+-- whose reads and writes of its text failed, wants memory, or has written the job's text, or a line
+-- refuses it
 abbrev pub StatusesAreTold : Type 0
 StatusesAreTold = (call : Call) (status : ℕ) → IsAnswered call status → (job : Job)
     → job_of call.words ≡ Ok job → FilesAreThere call.held job → NoneFailed call

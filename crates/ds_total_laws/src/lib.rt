@@ -1,13 +1,13 @@
 //! Laws of all jobs, on which nothing of the program stands; each is the contract of a function
-//! that does nothing. Where all files of a job are there, with bytes, its stages mean some text, or
-//! refuse with some line: no job is without an answer. So the status of a call whose files are
-//! there is told: its text is written, or a line refuses it, where it wants no memory and none of
-//! its reads and writes failed. And what `period` prints is one text but for the line of the cycle.
+//! that does nothing. Where all files of a job are there and tell what they hold, its stages mean
+//! some text, or refuse with some line: no job is without an answer. So the status of a call is
+//! told, none of whose reads and writes failed: its text is written, or a line refuses it, or it
+//! wants memory. And what `period` prints is one text but for the line of the cycle.
 //!
-//! `specs/There` says which files a job names, and when they are there; `specs/Decided` says what
-//! is decided. `proofs/EachJob` puts the law together, stage by stage, from the laws that ranks,
-//! walks, splits, graphs, plans, firings and periods are there. That no stage does both is the law
-//! `jobs_are_exclusive` of `ds_app`.
+//! `specs/There` says which files a job names, and when they are there: they have bytes;
+//! `specs/Decided` says what is decided. `proofs/EachJob` puts the law together, stage by stage,
+//! from the laws that ranks, walks, splits, graphs, plans, firings and periods are there. That no
+//! stage does both is the law `jobs_are_exclusive` of `ds_app`.
 #![tactic(auto)]
 
 mod jobs;
