@@ -8,6 +8,7 @@ pub mod Stopped
 pub mod Handshakes
 pub mod Determined
 pub mod OneText
+pub mod OneTrace
 pub mod OneLine
 pub mod Stored
 pub mod ReadRows

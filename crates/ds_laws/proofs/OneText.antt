@@ -62,7 +62,7 @@ then_one {A} {B} first next one each x y (a, is, gives) (b, also, more) =
 
 -- a trace
 module _ (c : Circuit) (accepts : IsAccepted c) (vectors : List Row) where
-  trace_one : (text other : List ℕ) → IsTrace c vectors text → IsTrace c vectors other → other ≡ text
+  pub trace_one : (text other : List ℕ) → IsTrace c vectors text → IsTrace c vectors other → other ≡ text
   trace_one text other is also =
       let a = is.is_trace in
       let b = also.is_trace in

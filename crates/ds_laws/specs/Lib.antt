@@ -4,5 +4,6 @@ pub mod Latches
 pub mod Names
 pub mod Logs
 pub mod OneText
+pub mod OneTrace
 pub mod OneLine
 pub mod Answered

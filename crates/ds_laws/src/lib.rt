@@ -1,17 +1,17 @@
 //! Laws of the program as a whole, on which nothing of the program stands; each is the contract of
 //! a function that does nothing.
 //!
-//! Of texts: a job has one text, but of `period`, and of `run` with `--log` or `--stop`, nothing
-//! is said; and `run` prints what `clock` prints. Of logs: what `run --log` writes is read and
-//! fired to its end, and `replay` then shows the clocked values of each register, and of a part of
-//! a log the first of them; what `run --stop --log` writes is fired to where that run has stopped,
-//! and `replay` prints what it printed, for the names of registers, as they are printed, are words
-//! that a reader takes. Of latches: what an open node has read stays until it closes, and a
-//! finished run has stored the clocked registers. Of orders: there is one from an event to
-//! another, ranks exclude circles, and in what `graph --shake` writes those of a data edge go by
-//! way of its request and its acknowledge. Of refused jobs: two lines that refuse one are the same,
-//! or name cycles; and a fault has its own status where no read failed that a stage before it
-//! needs.
+//! Of texts: a job has one text, but of `period`, and of `run` with `--log` or `--stop`, nothing is
+//! said; `run` prints what `clock` prints, and with `--log` prints it before its log. Of logs: what
+//! `run --log` writes is read and fired to its end, and `replay` then shows the clocked values of
+//! each register, and of a part of a log the first of them; what `run --stop --log` writes is fired
+//! to where that run has stopped, and `replay` prints what it printed, for the names of registers,
+//! as they are printed, are words that a reader takes. Of latches: what an open node has read stays
+//! until it closes, and a finished run has stored the clocked registers. Of orders: there is one
+//! from an event to another, ranks exclude circles, and in what `graph --shake` writes those of a
+//! data edge go by way of its request and its acknowledge. Of refused jobs: two lines that refuse
+//! one are the same, or name cycles; and a fault has its own status where no read failed that a
+//! stage before it needs.
 #![tactic(auto)]
 
 mod answers;
@@ -29,4 +29,4 @@ pub use logs::{
 };
 pub use names::names_are_plain;
 pub use orders::{one_order, orders_go_by_handshakes, ranked_has_no_cycle};
-pub use texts::{jobs_have_one_text, runs_print_the_clocked_trace};
+pub use texts::{jobs_have_one_text, logged_runs_have_one_trace, runs_print_the_clocked_trace};

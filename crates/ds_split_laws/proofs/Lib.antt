@@ -7,3 +7,4 @@ pub mod Decided
 pub mod Sorting
 pub mod SortedArcs
 pub mod Controllers
+pub mod Counted

@@ -1,4 +1,5 @@
 //! Laws of what there is for a split design.
+ghost use Rattle.ds_split_laws.specs.Counted.{ControllersAreCounted};
 ghost use Rattle.ds_split_laws.specs.Total.{ClusteringsExist, ControllersExist, EdgesAreListed};
 ghost use Rattle.ds_split_laws.specs.Total.{SplitsAreDecided};
 
@@ -20,4 +21,9 @@ pub fn splits_are_decided()
 /// A split design that does not ask for too many orders has a controller graph, at every slack.
 pub fn controllers_exist()
     ensures { ControllersExist }
+{}
+
+/// A controller graph has two arcs for each node and two for each data edge.
+pub fn controllers_are_counted()
+    ensures { ControllersAreCounted }
 {}
