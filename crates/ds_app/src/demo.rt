@@ -17,7 +17,7 @@ use ds_demo::make;
 use ds_design::{Design, Netlist};
 use ds_latch::Plan;
 use ds_netlist::{NetFault, levelise};
-use ds_outside::{Gate, OnSink, Pen, Sink, WriteFault};
+use ds_outside::{Gate, OnSink, Sink, WriteFault};
 use ds_run::{Sums, Workers, sum_run};
 use ds_stage::{Stop, own_plan, put_count, split_netlist};
 use std::alloc::Global;

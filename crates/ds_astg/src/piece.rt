@@ -1,7 +1,6 @@
 //! Pieces of a text.
 ghost use Rattle.std.specs.Prelude.{◌≡◌, ◌<◌, length};
 ghost use Rattle.ds_outside.specs.Pen.{Puts};
-ghost use Rattle.ds_marked.specs.Graph.{Graph};
 ghost use Rattle.ds_marked.specs.Log.{text_of_event};
 ghost use Rattle.ds_astg.specs.Text.{have_same_ends, is_further as is_further_in, place_name};
 

@@ -4,8 +4,8 @@ use Rattle.ds_base.specs.Values.{Row}
 use Rattle.ds_design.specs.Circuit.{Circuit}
 use Rattle.ds_design.specs.Trace.{AreLines}
 
--- so many turns are done: what was written of them, before the lines of the rest, are the lines of
--- all
+-- so many turns are done: what was written of them, with the lines of the rest behind it, is the
+-- lines of all
 pub record IsWrittenTo (c : Circuit) (first : ℕ) (start : Row) (vectors : List Row)
     (turns : ℕ) (state : Row) (IsWritten : List ℕ → Type 0) : Type 0 where
   pub text : List ℕ

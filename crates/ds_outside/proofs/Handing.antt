@@ -1,4 +1,5 @@
--- What the inner sink has, while bytes are handed on.
+-- What a sink has while a pen hands bytes on to it: `inner` is what the sink has, `outer` what it
+-- has once all is handed on.
 use Rattle.std.proofs.Common.{◌≡◌, ℕ, ◌+◌, ◌-◌, ◌≤◌, ◌⊎◌, inl, inr, subst, length-append, List, ◌++◌, length, take, drop, Option, None, Some, refl, sym, ap, ◌∙◌, arith}
 use Rattle.std.specs.Prelude.{Result, Ok, Err, IsOk, IsErr, OnOk, OnErr}
 use Rattle.std.proofs.lemmas.Bool.{false≢true}
@@ -24,12 +25,11 @@ grew_more (Some bytes) (Some more) piece grew =
     let inside : length bytes ≤ length more = omega (arith, length-take (length bytes) more, ap length front_is) in
     ap Some (take-append-le (length bytes) more piece inside) ∙ grew
 
--- an inner sink, which had this before, has a first part of what the outer one has
+-- a sink, which had this before, has a first part of what it has once all is handed on
 abbrev pub IsBetween : Option (List ℕ) → Option (List ℕ) → Option (List ℕ) → Type 0
 IsBetween before inner outer = Grew before inner × Grew inner outer
 
--- a buffer let its bytes go over to the inner sink: all of them where no write failed, else a first
--- part
+-- a pen handed on what it kept back: all of it where no write failed, else a first part
 pub record HandsOn {T E : Type 0} (so_far result : Result T E)
     (before inner outer : Option (List ℕ)) (faults now : ℕ) : Type 0 where
   pub ok : OnOk result (IsOk so_far × (inner ≡ outer))
@@ -52,7 +52,7 @@ between_part (Some bytes) (Some some) outer text (grew, rest) (n, within, is) =
     let parts : some ≡ bytes ++ take j text = sym inner_is ∙ (ap (λ (k : ℕ). take k (bytes ++ take n text)) sum ∙ (take-append-add bytes (take n text) j ∙ ap (λ (t : List ℕ). bytes ++ t) (take-take j n text (omega arith)))) in
     (j, omega arith, ap Some parts)
 
--- what a call left on the buffer is the text or a first part of it
+-- what a call left behind what there was is the text or a first part of it
 part_of : {T E : Type 0} (so_far : Result T E) {before outer : Option (List ℕ)} {f0 f1 : ℕ} {text : List ℕ} → Writes so_far before outer f0 f1 text → AppendsPart before outer text
 part_of (Ok _) {before = before} {text = text} writes = (length text, omega arith, writes.ok ∙ ap (appended before) (sym (take-length text)))
 part_of (Err _) writes = writes.err

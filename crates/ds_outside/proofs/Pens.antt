@@ -6,7 +6,7 @@ use Rattle.ds_outside.specs.Pen.{Finishes, Puts, Writing, begun_on}
 use Rattle.ds_outside.specs.Writes.{Writes}
 use Rattle.ds_outside.specs.declared.sink.WriteFault.{WriteFault}
 use Rattle.ds_outside.proofs.Handing.{handed_on}
-use Rattle.ds_outside.proofs.Then.{goes_on, nothing, with_text}
+use Rattle.ds_outside.proofs.Then.{goes_on, nothing}
 
 -- one piece, and then another
 pub puts_on : {a b c : Writing} {p q : List ℕ} → Puts a b p → Puts b c q → Puts a c (p ++ q)

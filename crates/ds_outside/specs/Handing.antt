@@ -1,4 +1,4 @@
--- A sink that keeps bytes back before another one.
+-- A list with a piece replaced, and what stands in front of what there is now.
 use Rattle.std.specs.Prelude.{◌≡◌, ℕ, ◌+◌, List, ◌++◌, length, take, drop, Option, None, Some}
 
 -- a list with a piece in place of what was there from a place on

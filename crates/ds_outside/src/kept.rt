@@ -1,5 +1,5 @@
 //! The bytes that a pen keeps back.
-ghost use Rattle.std.specs.Prelude.{◌≡◌, ◌+◌, ◌<◌, ◌≤◌, ◌++◌, ℕ, List, [], Option, length, take};
+ghost use Rattle.std.specs.Prelude.{◌≡◌, ◌+◌, ◌<◌, ◌≤◌, ◌++◌, ℕ, List, [], length, take};
 ghost use Rattle.std.specs.Prelude.{drop, OnOk, OnErr, IfOk, IsOk, IsErr, ◌⊎◌};
 ghost use Rattle.ds_outside.specs.Fault.{Rose};
 ghost use Rattle.ds_outside.specs.Written.{appended};
