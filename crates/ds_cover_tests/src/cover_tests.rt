@@ -1,4 +1,6 @@
 //! Tables, the same packed, and banks of one table, each with the value that a case gives.
+ghost use Rattle.std.specs.Prelude.{◌<◌, All, IsTrue};
+
 use ds_base::{NetId, OutOfMemory, Row3, Seq, Value};
 use ds_cover::{Bank, Packed, Table};
 use std::alloc::Global;
@@ -51,20 +53,26 @@ struct Case<'t> {
 
 // The case of a line, where it tells one.
 fn case_of(line: &str) -> Option<Case<'_>> {
-    let (width, rest) = line.split_once(' ')?;
-    let (kind, rest) = rest.split_once(' ')?;
+    let (width, on, rest) = kind_of(line)?;
     let (nets, rest) = rest.split_once(' ')?;
     let (value, rows) = rest.split_once(' ')?;
-    let Ok(width) = width.parse::<u32>() else {
-        return None;
-    };
     Some(Case {
         width,
-        on: kind == "on",
+        on,
         nets,
         value: value_of(value),
         rows,
     })
+}
+
+// How many inputs a line tells, whether its rows list the ones, and the rest of the line.
+fn kind_of(line: &str) -> Option<(u32, bool, &str)> {
+    let (width, rest) = line.split_once(' ')?;
+    let (kind, rest) = rest.split_once(' ')?;
+    match width.parse::<u32>() {
+        Ok(width) => Some((width, kind == "on", rest)),
+        Err(_) => None,
+    }
 }
 
 // The value of a character.
@@ -112,27 +120,47 @@ fn nets_and_one(alloc: Global, text: &str, width: usize) -> Result<Row3, OutOfMe
     Ok(Row3::of(values))
 }
 
-// A table of the first nets, with these rows, a blank between two; no rows for a point.
-fn table(alloc: Global, width: u32, rows: &str, on: bool) -> Result<Option<Table>, OutOfMemory> {
+// The first nets.
+fn inputs(alloc: Global, width: u32) -> Result<Seq<NetId>, OutOfMemory> {
     let mut inputs = Vec::new(alloc);
     for net in 0..width {
         inputs.push(NetId::new(net))?;
     }
-    let mut list = Vec::new(alloc);
+    Ok(Seq::of(inputs))
+}
+
+// These rows, a blank between two; no rows for a point.
+fn list(alloc: Global, rows: &str, width: usize) -> Result<Seq<Seq<u8>>, OutOfMemory> {
+    let mut list = Seq::new(alloc);
     if rows != "." {
         for text in rows.split(' ') {
-            list.push(Seq::of(spread(alloc, text, width as usize)?))?;
+            list.push(Seq::of(spread(alloc, text, width)?))?;
         }
     }
-    let count = inputs.len();
-    if list
+    Ok(list)
+}
+
+// A table of the first nets, with these rows; none where a row has not a character for each.
+fn table(alloc: Global, width: u32, rows: &str, on: bool) -> Result<Option<Table>, OutOfMemory> {
+    let rows = list(alloc, rows, width as usize)?;
+    let inputs = inputs(alloc, width)?;
+    let count = inputs.as_slice().len();
+    let fit = rows
+        .as_slice()
         .iter()
-        .all(|row: &Seq<u8>| row.as_slice().len() == count)
-    {
-        Ok(Some(Table::of(Seq::of(inputs), Seq::of(list), on)))
+        .all(|row| row.as_slice().len() == count);
+    Ok(if fit {
+        Some(Table::of(inputs, rows, on))
     } else {
-        Ok(None)
-    }
+        None
+    })
+}
+
+// Whether a table reads the first so many nets alone.
+fn reads_first(table: &Table, count: usize) -> bool
+    ensures { IsTrue result → All (λ net. net < count) table.now.inputs }
+{
+    table.inputs().iter().all(|net| net.index() < count)
 }
 
 // The value of the table, and the value of the same table packed.
@@ -142,8 +170,7 @@ fn values(
     nets: &Row3,
 ) -> Result<Option<(Value, Value)>, OutOfMemory> {
     let packed = Packed::of(alloc, table)?;
-    let count = nets.len();
-    if table.inputs().iter().all(|net| net.index() < count) {
+    if reads_first(table, nets.len()) {
         Ok(Some((table.value(nets), packed.value(nets))))
     } else {
         Ok(None)
@@ -159,19 +186,14 @@ fn set_last(
     others: &mut Row3,
 ) -> Result<Option<(Value, Value)>, OutOfMemory> {
     let count = nets.len();
-    if count == 0 || count > 4096 || others.len() != count {
+    if count == 0 || count > 4096 || others.len() != count || !reads_first(table, count) {
         return Ok(None);
     }
-    let last = NetId::new(count as u32 - 1);
     let mut bank = Bank::new(alloc);
-    bank.add(table, last)?;
-    if table.inputs().iter().all(|net| net.index() < count) {
-        bank.set(0, nets);
-        bank.set_all(&[0], others);
-        Ok(Some((nets.value(count - 1), others.value(count - 1))))
-    } else {
-        Ok(None)
-    }
+    bank.add(table, NetId::new(count as u32 - 1))?;
+    bank.set(0, nets);
+    bank.set_all(&[0], others);
+    Ok(Some((nets.value(count - 1), others.value(count - 1))))
 }
 
 // Whether the table of a line has its value.
@@ -179,11 +201,17 @@ fn is_had(alloc: Global, line: &str) -> Result<bool, OutOfMemory> {
     let Some(case) = case_of(line) else {
         return Ok(false);
     };
-    let Some(table) = table(alloc, case.width, case.rows, case.on)? else {
-        return Ok(false);
-    };
+    match table(alloc, case.width, case.rows, case.on)? {
+        Some(table) => has_value(alloc, &table, &case),
+        None => Ok(false),
+    }
+}
+
+// Whether a table has the value of a case.
+fn has_value(alloc: Global, table: &Table, case: &Case<'_>) -> Result<bool, OutOfMemory> {
     let nets = nets(alloc, case.nets, case.width as usize)?;
-    Ok(values(alloc, &table, &nets)? == Some((case.value, case.value)))
+    let got = values(alloc, table, &nets)?;
+    Ok(got == Some((case.value, case.value)))
 }
 
 // Whether a bank of the table of a line sets the net behind the inputs to its value.
@@ -191,62 +219,79 @@ fn is_set(alloc: Global, line: &str) -> Result<bool, OutOfMemory> {
     let Some(case) = case_of(line) else {
         return Ok(false);
     };
-    let Some(table) = table(alloc, case.width, case.rows, case.on)? else {
-        return Ok(false);
-    };
+    match table(alloc, case.width, case.rows, case.on)? {
+        Some(table) => sets_value(alloc, &table, &case),
+        None => Ok(false),
+    }
+}
+
+// Whether a bank of a table sets the net behind the inputs to the value of a case.
+fn sets_value(alloc: Global, table: &Table, case: &Case<'_>) -> Result<bool, OutOfMemory> {
     let mut row = nets_and_one(alloc, case.nets, case.width as usize)?;
     let mut other = nets_and_one(alloc, case.nets, case.width as usize)?;
-    let got = set_last(alloc, &table, &mut row, &mut other)?;
+    let got = set_last(alloc, table, &mut row, &mut other)?;
     Ok(got == Some((case.value, case.value)))
 }
 
 // A table and the same packed.
 #[test]
-fn a_packed_table_has_the_value_of_its_rows(rt: HostRuntime) -> Result<(), OutOfMemory> {
+fn a_packed_table_has_the_value_of_its_rows(rt: HostRuntime) {
     for line in CASES.lines() {
-        let holds = is_had(rt.alloc(), line)?;
-        assert!(rt; holds, "{line}");
+        assert!(rt; matches!(is_had(rt.alloc(), line), Ok(true)), "{line}");
     }
-    Ok(())
 }
 
 // The table drives a net behind its inputs.
 #[test]
-fn a_bank_sets_what_its_table_drives(rt: HostRuntime) -> Result<(), OutOfMemory> {
+fn a_bank_sets_what_its_table_drives(rt: HostRuntime) {
     for line in CASES.lines() {
-        let holds = is_set(rt.alloc(), line)?;
-        assert!(rt; holds, "{line}");
+        assert!(rt; matches!(is_set(rt.alloc(), line), Ok(true)), "{line}");
     }
-    Ok(())
+}
+
+// Adds a table of the first nets, with these rows, to a bank; not where they are not its rows.
+fn add(alloc: Global, bank: &mut Bank, width: u32, rows: &str) -> Result<(), OutOfMemory> {
+    match table(alloc, width, rows, true)? {
+        Some(table) => bank.add(&table, NetId::new(width)),
+        None => Ok(()),
+    }
+}
+
+// How many tables a bank has, and how many once two are added.
+fn counts(alloc: Global) -> Result<(usize, usize), OutOfMemory> {
+    let mut bank = Bank::new(alloc);
+    let before = bank.len();
+    add(alloc, &mut bank, 2, "1")?;
+    add(alloc, &mut bank, 0, ".")?;
+    Ok((before, bank.len()))
 }
 
 // The tables of a bank have the numbers from 0.
 #[test]
-fn a_bank_counts_its_tables(rt: HostRuntime) -> Result<(), OutOfMemory> {
-    let alloc = rt.alloc();
-    let one = table(alloc, 2, "1", true)?;
-    let other = table(alloc, 0, ".", true)?;
-    let (Some(one), Some(other)) = (one, other) else {
-        panic!(rt; "no tables");
-    };
-    let mut bank = Bank::new(alloc);
-    assert_eq!(rt; bank.len(), 0);
-    bank.add(&one, NetId::new(2))?;
-    bank.add(&other, NetId::new(3))?;
-    assert_eq!(rt; bank.len(), 2);
-    Ok(())
+fn a_bank_counts_its_tables(rt: HostRuntime) {
+    assert!(rt; matches!(counts(rt.alloc()), Ok((0, 2))));
+}
+
+// The value of a table on these nets; none where it reads others.
+fn value_on(table: &Table, nets: &Row3) -> Option<Value> {
+    if reads_first(table, nets.len()) {
+        Some(table.value(nets))
+    } else {
+        None
+    }
+}
+
+// The value of a table of two rows, the first input unknown.
+fn value_of_two_rows(alloc: Global) -> Result<Option<Value>, OutOfMemory> {
+    let row = nets(alloc, "x1", 2)?;
+    Ok(match table(alloc, 2, "1- -1", true)? {
+        Some(table) => value_on(&table, &row),
+        None => None,
+    })
 }
 
 // The value of a table that is not packed.
 #[test]
-fn a_table_has_its_value(rt: HostRuntime) -> Result<(), OutOfMemory> {
-    let alloc = rt.alloc();
-    let row = nets(alloc, "x1", 2)?;
-    let Some(table) = table(alloc, 2, "1- -1", true)? else {
-        panic!(rt; "no table");
-    };
-    let few = table.inputs().iter().all(|net| net.index() < 2);
-    assert!(rt; few && row.len() == 2);
-    assert_eq!(rt; table.value(&row), Value::One);
-    Ok(())
+fn a_table_has_its_value(rt: HostRuntime) {
+    assert!(rt; matches!(value_of_two_rows(rt.alloc()), Ok(Some(Value::One))));
 }
