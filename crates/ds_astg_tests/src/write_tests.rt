@@ -6,8 +6,7 @@ use ds_base::{OutOfMemory, Seq};
 use ds_lines::lines;
 use ds_marked::{Arc, Event, Kind, Marked};
 use ds_outside::MemorySink;
-use std::alloc::Global;
-use std::test::Fail;
+use std::alloc::{AllocError, Global};
 
 fn graph(alloc: Global) -> Result<Marked, OutOfMemory>
     ensures { IfOk result (λ g. length g.events ≡ 2) }
@@ -37,14 +36,20 @@ p1 a-
 .end
 ";
 
+// Whether this is written of a graph, where so many signals are its own.
+fn writes(alloc: Global, graph: &Marked, own: u32, want: &[u8]) -> bool {
+    let Ok(mut sink) = MemorySink::with_room(alloc, 100) else {
+        return false;
+    };
+    write(b"m", own, graph, &mut sink).is_ok() && sink.bytes() == want
+}
+
 #[test]
 fn a_second_arc_with_the_same_ends_is_a_place(rt: HostRuntime) {
-    let (Ok(graph), Ok(mut sink)) = (graph(rt.alloc()), MemorySink::with_room(rt.alloc(), 100))
-    else {
+    let Ok(graph) = graph(rt.alloc()) else {
         panic!(rt; "memory");
     };
-    assert!(rt; write(b"m", 1, &graph, &mut sink).is_ok());
-    assert_eq!(rt; sink.bytes(), TEXT);
+    assert!(rt; writes(rt.alloc(), &graph, 1, TEXT));
 }
 
 // The lines behind those of two signals.
@@ -57,30 +62,30 @@ b- a+
 .end
 ";
 
-// What is written of the graph for which a text stands, where so many signals are its own.
-fn written(alloc: Global, text: &str, own: u32) -> Option<String> {
-    let lines = lines(alloc, text.as_bytes()).ok()?;
-    let graph = read(alloc, &lines).ok()?;
-    let mut sink = MemorySink::with_room(alloc, 100).ok()?;
-    write(b"m", own, &graph, &mut sink).ok()?;
-    let text = str::from_utf8(sink.bytes()).ok()?;
-    String::from_str(alloc, text).ok()
+// Whether a text is written again of the graph for which it stands.
+fn is_written_again(alloc: Global, text: &[u8], own: u32) -> bool {
+    let Ok(lines) = lines(alloc, text) else {
+        return false;
+    };
+    match read(alloc, &lines) {
+        Ok(graph) => writes(alloc, &graph, own, text),
+        Err(_) => false,
+    }
+}
+
+// Whether two signals are declared so, where so many are the graph's own.
+fn are_declared(alloc: Global, own: u32, declared: &str) -> Result<bool, AllocError> {
+    let text = format!(in alloc; ".model m\n{declared}{REST}")?;
+    Ok(is_written_again(alloc, text.as_bytes(), own))
 }
 
 #[test]
-fn further_signals_are_internal(rt: HostRuntime) -> Result<(), Fail> {
-    let signals = [
-        ".outputs\n.internal a b\n",
-        ".outputs a\n.internal b\n",
-        ".outputs a b\n",
-        ".outputs a b\n",
-    ];
-    for (own, declared) in signals.iter().enumerate() {
-        let text = format!(in rt.alloc(); ".model m\n{declared}{REST}")?;
-        let Some(again) = written(rt.alloc(), text.as_str(), own as u32) else {
-            panic!(rt; "not written");
-        };
-        assert_eq!(rt; again.as_str(), text.as_str());
-    }
-    Ok(())
+fn further_signals_are_internal(rt: HostRuntime) {
+    let alloc = rt.alloc();
+    let both = are_declared(alloc, 0, ".outputs\n.internal a b\n");
+    let one = are_declared(alloc, 1, ".outputs a\n.internal b\n");
+    assert!(rt; matches!((both, one), (Ok(true), Ok(true))));
+    let none = are_declared(alloc, 2, ".outputs a b\n");
+    let past = are_declared(alloc, 3, ".outputs a b\n");
+    assert!(rt; matches!((none, past), (Ok(true), Ok(true))));
 }
