@@ -1,6 +1,5 @@
 //! Lines that are no command line, as lines of texts, each text for one fault.
-use crate::words::says;
-use std::test::Fail;
+use crate::words::first_other;
 
 // Lines that are no command line.
 const REFUSED: &str = "\
@@ -188,25 +187,16 @@ d|replay|n|v|l|--transparent|--clusters|two
 ";
 
 #[test]
-fn other_lines_are_refused(rt: HostRuntime) -> Result<(), Fail> {
-    for line in REFUSED.lines() {
-        assert!(rt; says(rt.alloc(), line, "line")?, "{line}");
-    }
-    Ok(())
+fn other_lines_are_refused(rt: HostRuntime) {
+    assert_eq!(rt; first_other(rt.alloc(), REFUSED, "line"), None);
 }
 
 #[test]
-fn numbers_out_of_form_or_range_are_refused(rt: HostRuntime) -> Result<(), Fail> {
-    for line in NUMBERS.lines() {
-        assert!(rt; says(rt.alloc(), line, "number")?, "{line}");
-    }
-    Ok(())
+fn numbers_out_of_form_or_range_are_refused(rt: HostRuntime) {
+    assert_eq!(rt; first_other(rt.alloc(), NUMBERS, "number"), None);
 }
 
 #[test]
-fn there_are_three_modes(rt: HostRuntime) -> Result<(), Fail> {
-    for line in MODES.lines() {
-        assert!(rt; says(rt.alloc(), line, "mode")?, "{line}");
-    }
-    Ok(())
+fn there_are_three_modes(rt: HostRuntime) {
+    assert_eq!(rt; first_other(rt.alloc(), MODES, "mode"), None);
 }

@@ -1,109 +1,139 @@
 //! Lines of texts, and what is said of them. Words are parted by `|`, the program's name first; so
 //! are those of a job, which stands behind ` -> `. A line that begins with `#` says what follows.
 use ds_base::Mode;
-use ds_cmd::{DemoJob, FileName, Job, RunJob, UsageFault, parse};
+use ds_cmd::{DemoJob, FileName, GraphJob, Job, ReplayJob, RunJob, UsageFault, parse};
 use std::alloc::{AllocError, Global};
 
-// The word of a mode.
-fn word(mode: &Mode) -> &str {
-    match mode {
-        Mode::Each => "each",
-        Mode::One => "one",
-        Mode::Bus => "bus",
+// A part of a job: a word, or a number.
+#[derive(Clone, Copy)]
+enum Part<'p> {
+    Word(&'p str),
+    Number(u64),
+}
+
+// Whether words stand for these parts, one for each in order.
+fn stand_for(words: &[&str], parts: &[Part<'_>]) -> bool {
+    if words.len() != parts.len() {
+        return false;
     }
+    for (word, part) in words.iter().zip(parts) {
+        let same = match *part {
+            Part::Word(text) => *word == text,
+            Part::Number(number) => word.parse::<u64>() == Ok(number),
+        };
+        if !same {
+            return false;
+        }
+    }
+    true
+}
+
+// The name of a file.
+fn file(name: &FileName) -> Part<'_> {
+    Part::Word(name.as_str())
 }
 
 // The name behind an option; `none` where there is none.
-fn name(file: &Option<FileName>) -> &str {
-    match file {
-        Some(name) => name.as_str(),
-        None => "none",
+fn option(name: &Option<FileName>) -> Part<'_> {
+    match name {
+        Some(name) => file(name),
+        None => Part::Word("none"),
     }
 }
 
-// These words, with `|` between them.
-fn joined(alloc: Global, words: &[&str]) -> Result<String, AllocError> {
-    let mut text = String::new(alloc);
-    for i in 0..words.len() {
-        if i > 0 {
-            text.push_str("|")?;
-        }
-        text.push_str(words[i])?;
-    }
-    Ok(text)
+// The word of a mode.
+fn mode(mode: &Mode) -> Part<'static> {
+    Part::Word(match mode {
+        Mode::Each => "each",
+        Mode::One => "one",
+        Mode::Bus => "bus",
+    })
 }
 
-// A job, with `|` between its words, its numbers and what is wanted beside.
-fn words_of(alloc: Global, job: &Job) -> Result<String, AllocError> {
-    let mut words = files_of(alloc, job)?;
-    words.push_str(options_of(alloc, job)?.as_str())?;
-    words.push_str(numbers_of(alloc, job)?.as_str())?;
-    Ok(words)
+// The word of what is wanted, or is not.
+fn wanted(is: bool) -> Part<'static> {
+    Part::Word(if is { "true" } else { "false" })
 }
 
-// The word of a job, and its files.
-fn files_of(alloc: Global, job: &Job) -> Result<String, AllocError> {
+// Whether a job has these words: its own, its files, its mode, its numbers, and what is wanted
+// beside.
+fn has_words(job: &Job, words: &[&str]) -> bool {
     match job {
-        Job::Run(job) => joined(alloc, &["run", job.net.as_str(), job.vec.as_str()]),
-        Job::Clock(job) => joined(alloc, &["clock", job.net.as_str(), job.vec.as_str()]),
-        Job::Check(net) => joined(alloc, &["check", net.as_str()]),
-        Job::Graph(job) => joined(alloc, &["graph", job.net.as_str()]),
-        Job::Replay(job) => joined(
-            alloc,
-            &[
-                "replay",
-                job.net.as_str(),
-                job.vec.as_str(),
-                job.log.as_str(),
-            ],
+        Job::Run(job) => is_run(job, words),
+        Job::Clock(job) => stand_for(
+            words,
+            &[Part::Word("clock"), file(&job.net), file(&job.vec)],
         ),
-        Job::Accept(job) => joined(alloc, &["accept", job.net.as_str(), job.graph.as_str()]),
-        Job::Period(job) => joined(alloc, &["period", job.net.as_str(), job.delays.as_str()]),
-        Job::Demo(_) => joined(alloc, &["demo"]),
+        Job::Check(net) => stand_for(words, &[Part::Word("check"), file(net)]),
+        Job::Graph(job) => is_graph(job, words),
+        Job::Replay(job) => is_replay(job, words),
+        Job::Accept(job) => has_mode(words, "accept", &job.net, &job.graph, &job.clusters),
+        Job::Period(job) => has_mode(words, "period", &job.net, &job.delays, &job.clusters),
+        Job::Demo(job) => is_demo(job, words),
     }
 }
 
-// The graph of a job and its mode, each behind `|`.
-fn options_of(alloc: Global, job: &Job) -> Result<String, AllocError> {
-    match job {
-        Job::Run(job) => joined(alloc, &["", name(&job.graph), word(&job.clusters)]),
-        Job::Replay(job) => joined(alloc, &["", name(&job.graph), word(&job.clusters)]),
-        Job::Graph(job) => joined(alloc, &["", word(&job.clusters)]),
-        Job::Accept(job) => joined(alloc, &["", word(&job.clusters)]),
-        Job::Period(job) => joined(alloc, &["", word(&job.clusters)]),
-        _ => Ok(String::new(alloc)),
-    }
+// Whether these are the words of a job with two files and a mode.
+fn has_mode(words: &[&str], job: &str, net: &FileName, other: &FileName, clusters: &Mode) -> bool {
+    let parts = [Part::Word(job), file(net), file(other), mode(clusters)];
+    stand_for(words, &parts)
 }
 
-// The numbers of a job and what is wanted beside, each behind `|`.
-fn numbers_of(alloc: Global, job: &Job) -> Result<String, AllocError> {
-    match job {
-        Job::Run(job) => run_numbers(alloc, job),
-        Job::Graph(job) => format!(in alloc; "|{}", job.shake),
-        Job::Replay(job) => format!(in alloc; "|{}|{}", job.slack, job.transparent),
-        Job::Demo(job) => demo_numbers(alloc, job),
-        _ => Ok(String::new(alloc)),
-    }
+// Whether these are the words of a graph.
+fn is_graph(job: &GraphJob, words: &[&str]) -> bool {
+    let (mode, shake) = (mode(&job.clusters), wanted(job.shake));
+    stand_for(words, &[Part::Word("graph"), file(&job.net), mode, shake])
 }
 
-// The threads of a run, whether a log is wanted, its slack, and where it stops.
-fn run_numbers(alloc: Global, job: &RunJob) -> Result<String, AllocError> {
-    match job.stop {
-        Some(stop) => format!(in alloc; "|{}|{}|{}|{stop}", job.jobs, job.log, job.slack),
-        None => format!(in alloc; "|{}|{}|{}|none", job.jobs, job.log, job.slack),
-    }
+// Whether these are the words of a run.
+fn is_run(job: &RunJob, words: &[&str]) -> bool {
+    let stop = match job.stop {
+        Some(stop) => Part::Number(stop),
+        None => Part::Word("none"),
+    };
+    let parts = [
+        Part::Word("run"),
+        file(&job.net),
+        file(&job.vec),
+        option(&job.graph),
+        mode(&job.clusters),
+        Part::Number(job.jobs as u64),
+        wanted(job.log),
+        Part::Number(job.slack as u64),
+        stop,
+    ];
+    stand_for(words, &parts)
 }
 
-// The numbers of a demonstration.
-fn demo_numbers(alloc: Global, job: &DemoJob) -> Result<String, AllocError> {
-    format!(in alloc;
-        "|{}|{}|{}|{}",
-        job.seed, job.registers, job.turns, job.jobs
-    )
+// Whether these are the words of a replay.
+fn is_replay(job: &ReplayJob, words: &[&str]) -> bool {
+    let parts = [
+        Part::Word("replay"),
+        file(&job.net),
+        file(&job.vec),
+        file(&job.log),
+        option(&job.graph),
+        mode(&job.clusters),
+        Part::Number(job.slack as u64),
+        wanted(job.transparent),
+    ];
+    stand_for(words, &parts)
+}
+
+// Whether these are the words of a demonstration.
+fn is_demo(job: &DemoJob, words: &[&str]) -> bool {
+    let parts = [
+        Part::Word("demo"),
+        Part::Number(job.seed),
+        Part::Number(job.registers as u64),
+        Part::Number(job.turns as u64),
+        Part::Number(job.jobs as u64),
+    ];
+    stand_for(words, &parts)
 }
 
 // The word of a fault.
-fn fault_word(fault: UsageFault) -> &'static str {
+fn fault_word(fault: &UsageFault) -> &'static str {
     match fault {
         UsageFault::Line => "line",
         UsageFault::Number => "number",
@@ -112,20 +142,29 @@ fn fault_word(fault: UsageFault) -> &'static str {
     }
 }
 
-// What is said of the words of a line: the words of its job, or the word of its fault.
-fn answer(alloc: Global, line: &str) -> Result<String, AllocError> {
-    let words: Vec<&str> = line.split('|').collect(alloc)?;
-    match parse(alloc, &words) {
-        Ok(job) => words_of(alloc, &job),
-        Err(fault) => String::from_str(alloc, fault_word(fault)),
+// Whether an answer is said in these words: those of its job, or the word of its fault.
+fn is_said(answer: Result<Job, UsageFault>, words: &[&str]) -> bool {
+    match &answer {
+        Ok(job) => has_words(job, words),
+        Err(fault) => stand_for(words, &[Part::Word(fault_word(fault))]),
     }
 }
 
-/// Whether this is said of the words of a line; `#` begins no line.
-pub fn says(alloc: Global, line: &str, want: &str) -> Result<bool, AllocError> {
-    if line.starts_with('#') {
-        return Ok(true);
+// Whether this is said of the words of a line.
+fn says(alloc: Global, line: &str, want: &str) -> Result<bool, AllocError> {
+    let words: Vec<&str> = line.split('|').collect(alloc)?;
+    let wanted: Vec<&str> = want.split('|').collect(alloc)?;
+    Ok(is_said(parse(alloc, &words), &wanted))
+}
+
+/// The first of these lines of which something else is said than what stands behind ` -> ` in it,
+/// or than `want` where nothing does.
+pub fn first_other<'l>(alloc: Global, lines: &'l str, want: &str) -> Option<&'l str> {
+    for line in lines.lines() {
+        let (words, want) = line.split_once(" -> ").unwrap_or((line, want));
+        if !line.starts_with('#') && !matches!(says(alloc, words, want), Ok(true)) {
+            return Some(line);
+        }
     }
-    let said = answer(alloc, line)?;
-    Ok(said.as_str() == want)
+    None
 }
