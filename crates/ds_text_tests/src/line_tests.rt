@@ -1,41 +1,58 @@
 //! Lines of a text, their words, and names in order.
 
-use ds_lines::{LinesFault, Names, lines};
-use std::test::Fail;
+use ds_base::OutOfMemory;
+use ds_lines::{Lines, LinesFault, Names, lines};
+use std::alloc::{AllocError, Global};
+
+// Whether there are two lines, the first of three words, the second of one.
+fn have_parts(lines: &Lines<'_>) -> bool {
+    if lines.count() != 2 || lines.words(0) != 3 || lines.words(1) != 1 {
+        return false;
+    }
+    let numbers = (lines.number(0), lines.number(1)) == (2, 5);
+    numbers && lines.word(0, 2) == b"b".as_slice() && lines.line(1)[0] == b".end".as_slice()
+}
 
 // The parts of one line, one by one and whole, and the number of a line behind a joined one.
 #[test]
-fn the_parts_of_a_line(rt: HostRuntime) -> Result<(), Fail> {
+fn the_parts_of_a_line(rt: HostRuntime) {
     let text = b"# head\n.names a \\\n\tb\r\n\n.end # tail";
-    let lines = lines(rt.alloc(), text)?;
-    assert_eq!(rt; lines.count(), 2);
-    assert_eq!(rt; lines.number(0), 2);
-    assert_eq!(rt; lines.number(1), 5);
-    assert_eq!(rt; lines.words(0), 3);
-    assert_eq!(rt; lines.words(1), 1);
-    assert_eq!(rt; lines.word(0, 2), b"b".as_slice());
-    assert_eq!(rt; lines.line(1)[0], b".end".as_slice());
-    Ok(())
+    let Ok(lines) = lines(rt.alloc(), text) else {
+        panic!(rt; "no lines");
+    };
+    assert!(rt; have_parts(&lines));
+}
+
+// Whether a refusal is told in these words.
+fn is_told(alloc: Global, fault: LinesFault, want: &str) -> Result<bool, AllocError> {
+    let text = format!(in alloc; "{fault}")?;
+    Ok(text.as_str() == want)
 }
 
 #[test]
-fn refusals_are_told_in_words(rt: HostRuntime) -> Result<(), Fail> {
-    let long = format!(in rt.alloc(); "{}", LinesFault::TooLong)?;
-    assert_eq!(rt; long.as_str(), "the text has more than 16777216 bytes");
-    let memory = format!(in rt.alloc(); "{}", LinesFault::Memory)?;
-    assert_eq!(rt; memory.as_str(), "out of memory");
-    Ok(())
+fn refusals_are_told_in_words(rt: HostRuntime) {
+    let alloc = rt.alloc();
+    let long = "the text has more than 16777216 bytes";
+    assert!(rt; matches!(is_told(alloc, LinesFault::TooLong, long), Ok(true)));
+    assert!(rt;
+        matches!(
+            is_told(alloc, LinesFault::Memory, "out of memory"),
+            Ok(true)
+        )
+    );
+}
+
+// Whether two words have a place each, also where one is added again, and a third has none.
+fn have_places(alloc: Global) -> Result<bool, OutOfMemory> {
+    let mut names = Names::new(alloc);
+    let first = names.insert(b"a")?;
+    let second = names.insert(b"b")?;
+    let again = names.insert(b"a")?;
+    let added = first == (0, true) && second == (1, true) && again == (0, false);
+    Ok(added && (names.len(), names.place(b"b"), names.place(b"c")) == (2, 1, 2))
 }
 
 #[test]
-fn each_word_has_one_place(rt: HostRuntime) -> Result<(), Fail> {
-    let mut names = Names::new(rt.alloc());
-    for (word, place, added) in [(b"a", 0, true), (b"b", 1, true), (b"a", 0, false)] {
-        let given = names.insert(word.as_slice()).ok().ok_or("no memory")?;
-        assert_eq!(rt; given, (place, added));
-    }
-    assert_eq!(rt; names.len(), 2);
-    assert_eq!(rt; names.place(b"b"), 1);
-    assert_eq!(rt; names.place(b"c"), 2);
-    Ok(())
+fn each_word_has_one_place(rt: HostRuntime) {
+    assert!(rt; matches!(have_places(rt.alloc()), Ok(true)));
 }
