@@ -1,5 +1,5 @@
 -- The nets of the nodes, and the cone of each that settles.
-use Rattle.std.proofs.Common.{◌≡◌, ◌∙◌, ℕ, ◌+◌, ◌/◌, ◌<◌, List, [], ◌∷◌, ◌++◌, length, get_or, not, arith, ap, sym, subst, inl, inr, ◌==◌}
+use Rattle.std.proofs.Common.{◌≡◌, ◌∙◌, ℕ, ◌+◌, ◌/◌, ◌<◌, List, [], ◌∷◌, ◌++◌, length, get_or, not, arith, ap, refl, sym, subst, inl, inr, ◌==◌}
 use Rattle.std.specs.Prelude.{All}
 use Rattle.std.specs.List.{list_any}
 use Rattle.std.proofs.lemmas.Bool.{cases_eq}
@@ -56,6 +56,24 @@ pub cone_at : (s : Split) (cones : List Parts) → AreCones s cones → (number 
 cone_at s cones are number cone is n at =
     subst (IsCone s.circuit (nets_of s n)) (ap (λ (k : ℕ). get_or cones k cone) (place_is n at.settling ∙ ap (λ (m : ℕ). m / 2) at.is) ∙ sym is)
     (are.each n at.node at.settling cone)
+
+-- the first cone, that of OUT
+pub cones_begun : (s : Split) (cones : List Parts) (cone : Parts) → cones ≡ cone ∷ [] → IsConeAt s 1 cone
+    → (n : Node) → IsNode s n → IsSettling n → cone_place n < 1 → (d : Parts) → IsCone s.circuit (nets_of s n) (get_or cones (cone_place n) d)
+cones_begun s cones cone is at In is_node settling below d = absurd settling
+cones_begun s cones cone is at Out is_node settling below d =
+    subst (λ (xs : List Parts). IsCone s.circuit (nets_of s Out) (get_or xs 0 d)) (sym is) (at Out (record { node = is_node; settling = settling; is = refl }))
+cones_begun s cones cone is at (Master i) is_node settling below d = absurd (omega arith)
+cones_begun s cones cone is at (Slave i) is_node settling below d = absurd settling
+
+-- all cones
+pub cones_all : (s : Split) (cones : List Parts) (i : ℕ) → i ≡ length s.clusters
+    → ((n : Node) → IsNode s n → IsSettling n → cone_place n < i + 1 → (d : Parts) → IsCone s.circuit (nets_of s n) (get_or cones (cone_place n) d))
+    → (n : Node) → IsNode s n → IsSettling n → (d : Parts) → IsCone s.circuit (nets_of s n) (get_or cones (cone_place n) d)
+cones_all s cones i all each In is_node settling d = absurd settling
+cones_all s cones i all each Out is_node settling d = each Out is_node settling (omega arith) d
+cones_all s cones i all each (Master j) is_node settling d = each (Master j) is_node settling (let low : j < length s.clusters = is_node in omega arith) d
+cones_all s cones i all each (Slave j) is_node settling d = absurd settling
 
 -- one cone more
 pub cones_more : (s : Split) (cones : List Parts) (cone : Parts) (i : ℕ) → length cones ≡ i + 1

@@ -1,5 +1,5 @@
 -- The cone of each node that settles.
-use Rattle.std.specs.Prelude.{◌≡◌, ℕ, ◌+◌, List, length, slice_index_or}
+use Rattle.std.specs.Prelude.{◌≡◌, ℕ, ◌+◌, List, [], ◌∷◌, ◌++◌, length, slice_index_or}
 use Rattle.ds_latch.specs.Node.{Split, IsNode, number_of, nets_of}
 use Rattle.ds_latch.specs.declared.node.Node.{Node}
 use Rattle.ds_latch.specs.declared.node.Node.TheVariants.{In, Out, Master, Slave}
@@ -15,6 +15,10 @@ pub record IsSettlingAt (s : Split) (n : Node) (number : ℕ) : Type 0 where
 -- the cone of the node with this number, where it settles
 abbrev pub IsConeAt : Split → ℕ → Cone → Type 0
 IsConeAt s number cone = (n : Node) → IsSettlingAt s n number → IsCone s.circuit (nets_of s n) cone
+
+-- with the cone of the node with this number at the end
+abbrev pub HasConeMore : Split → ℕ → List Cone → List Cone → Type 0
+HasConeMore s number old new = (cone : Cone) × IsConeAt s number cone × (new ≡ old ++ cone ∷ [])
 
 -- the place of the cone of a node that settles: OUT, M0, M1, ..
 abbrev pub cone_place : Node → ℕ

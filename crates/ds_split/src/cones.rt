@@ -1,10 +1,10 @@
 //! The cones of the nodes that settle.
-ghost use Rattle.std.specs.Prelude.{◌≡◌, IfOk};
+ghost use Rattle.std.specs.Prelude.{◌≡◌, IfOk, OnOk};
 ghost use Rattle.ds_design.specs.InRange.{IsInRange};
 ghost use Rattle.ds_latch.specs.declared.node.Node.{Node};
 ghost use Rattle.ds_latch.specs.Node.{number_of};
 ghost use Rattle.ds_latch.specs.Plan.{IsSplit};
-ghost use Rattle.ds_split.specs.Cones.{AreCones, IsConeAt, IsSettlingAt};
+ghost use Rattle.ds_split.specs.Cones.{AreCones, HasConeMore, IsConeAt, IsSettlingAt};
 
 use ds_base::OutOfMemory;
 use ds_latch::{Latches, Node};
@@ -17,14 +17,42 @@ pub fn cones_of(alloc: Global, latches: &Latches) -> Result<Vec<Cone>, OutOfMemo
     ensures ok { IfOk result (λ v. AreCones latches.now v.items) }
 {
     let mut finder = Finder::of(alloc, latches.netlist())?;
+    cones_by(alloc, latches, &mut finder)
+}
+
+// The cones, by a finder of the netlist.
+fn cones_by(alloc: Global, latches: &Latches, finder: &mut Finder) -> Result<Vec<Cone>, OutOfMemory>
+    requires design { IsInRange latches.now.circuit × IsSplit latches.now }
+    requires finder { finder.old ≡ latches.now.circuit }
+    ensures { IfOk result (λ v. AreCones latches.now v.items) }
+{
     let mut cones = Vec::with_capacity(alloc, latches.clusters().len() + 1)?;
-    cones.push(cone_of(alloc, latches, &mut finder, Node::Out)?)?;
+    add(alloc, latches, finder, Node::Out, &mut cones)?;
     // The nodes are counted for the fact that there are not too many.
     let _nodes = latches.nodes();
     for i in 0..latches.clusters().len() {
-        cones.push(cone_of(alloc, latches, &mut finder, Node::Master(i as u32))?)?;
+        add(alloc, latches, finder, Node::Master(i as u32), &mut cones)?;
     }
     Ok(cones)
+}
+
+// Adds the cone of a node.
+fn add(
+    alloc: Global,
+    latches: &Latches,
+    finder: &mut Finder,
+    node: Node,
+    cones: &mut Vec<Cone>,
+) -> Result<(), OutOfMemory>
+    requires design { IsInRange latches.now.circuit × IsSplit latches.now }
+    requires finder { finder.old ≡ latches.now.circuit }
+    requires node { (n : Node) × IsSettlingAt latches.now n (number_of node) }
+    ensures ok { OnOk result
+        (HasConeMore latches.now (number_of node) cones.old.items cones.new.items) }
+    ensures same { finder.new ≡ finder.old }
+{
+    cones.push(cone_of(alloc, latches, finder, node)?)?;
+    Ok(())
 }
 
 // The cone of a node.

@@ -25,14 +25,30 @@ pub(crate) fn edges_of(
     ensures ok { IfOk result (AreEdges (split_into netlist.now clusters.now)) }
     ensures fault { IfErr result (IsSplitFault (split_into netlist.now clusters.now)) }
 {
-    let most = 524_288 - nets.len();
     let mut finder = Finder::of(alloc, netlist)?;
-    let mut search = begin(alloc, netlist, clusters, nets, &mut finder)?;
+    edges_by(alloc, netlist, clusters, nets, &mut finder)
+}
+
+// The data edges, by a finder of the netlist.
+fn edges_by(
+    alloc: Global,
+    netlist: &Netlist,
+    clusters: &Clusters,
+    nets: &[Seq<NetId>],
+    finder: &mut Finder<'_>,
+) -> Result<Seq<DataEdge>, SplitFault>
+    requires nodes { AreNodes netlist.now clusters.now nets.now }
+    requires finder { finder.old ≡ netlist.now }
+    ensures ok { IfOk result (AreEdges (split_into netlist.now clusters.now)) }
+    ensures fault { IfErr result (IsSplitFault (split_into netlist.now clusters.now)) }
+{
+    let most = 524_288 - nets.len();
+    let mut search = begin(alloc, netlist, clusters, nets, finder)?;
     for i in 0..clusters.members().len() {
         if search.len() > most {
             return Err(SplitFault::TooMany(Limit::Arcs));
         }
-        add(alloc, netlist, clusters, nets, &mut finder, &mut search, i)?;
+        add(alloc, netlist, clusters, nets, finder, &mut search, i)?;
     }
     if search.len() > most {
         return Err(SplitFault::TooMany(Limit::Arcs));

@@ -1,15 +1,19 @@
 //! The latch graph of a netlist and its clusters.
-ghost use Rattle.std.specs.Prelude.{◌≡◌, length, map, IfOk, IfErr};
+ghost use Rattle.std.specs.Prelude.{◌≡◌, ◌<◌, length, map, IfOk, IfErr};
+ghost use Rattle.ds_design.specs.Accepted.{IsAccepted};
 ghost use Rattle.ds_design.specs.Circuit.{initial_value};
+ghost use Rattle.ds_design.specs.InRange.{IsInRange};
 ghost use Rattle.ds_split.specs.Cluster.{HasEachOnce};
+ghost use Rattle.ds_split.specs.Edges.{AreEdges};
+ghost use Rattle.ds_split.specs.Nets.{AreNodes};
 ghost use Rattle.ds_split.specs.Split.{split_into, IsSplitFault};
 
 use crate::edges::edges_of;
 use crate::nets::node_nets;
 use crate::{Clusters, SplitFault};
-use ds_base::{Limit, OutOfMemory, RegId, Row3, Seq};
+use ds_base::{Limit, NetId, OutOfMemory, RegId, Row3, Seq};
 use ds_design::{Netlist, Register};
-use ds_latch::Latches;
+use ds_latch::{DataEdge, Latches};
 use ds_settle::set_initial;
 use std::alloc::Global;
 
@@ -33,9 +37,26 @@ pub fn split<'a>(
     }
     let initial = initial_values(alloc, netlist.design().registers())?;
     let members = copied(alloc, clusters.members())?;
+    let (nets, edges) = nets_and_edges(alloc, netlist, clusters)?;
+    Ok(Latches::of(netlist, initial, members, nets, edges))
+}
+
+// The nets of the nodes, and the data edges.
+fn nets_and_edges(
+    alloc: Global,
+    netlist: &Netlist,
+    clusters: &Clusters,
+) -> Result<(Seq<Seq<NetId>>, Seq<DataEdge>), SplitFault>
+    requires design { IsInRange netlist.now × IsAccepted netlist.now }
+    requires each_once { HasEachOnce (length netlist.now.registers) clusters.now }
+    requires few { length clusters.now < 262144 }
+    ensures ok { IfOk result (λ r. AreNodes netlist.now clusters.now r.0
+        × AreEdges (split_into netlist.now clusters.now) r.1) }
+    ensures fault { IfErr result (IsSplitFault (split_into netlist.now clusters.now)) }
+{
     let nets = node_nets(alloc, netlist, clusters)?;
     let edges = edges_of(alloc, netlist, clusters, nets.as_slice())?;
-    Ok(Latches::of(netlist, initial, members, nets, edges))
+    Ok((nets, edges))
 }
 
 // The values that the registers start at.

@@ -1,5 +1,6 @@
 //! The nets of the nodes.
-ghost use Rattle.std.specs.Prelude.{◌≡◌, ◌<◌, length, map, All, IfOk, slice_index_or};
+ghost use Rattle.std.specs.Prelude.{◌≡◌, ◌<◌, ◌++◌, ◌∷◌, [], length, map, All, IfOk};
+ghost use Rattle.std.specs.Prelude.{OnOk, slice_index_or};
 ghost use Rattle.ds_split.specs.Cluster.{HasEachOnce};
 ghost use Rattle.ds_split.specs.Nets.{HasNets};
 ghost use Rattle.ds_split.specs.Split.{split_into};
@@ -22,20 +23,38 @@ pub(crate) fn node_nets(
     let design = netlist.design();
     let registers = design.registers();
     let mut nets = Vec::new(alloc);
-    nets.push(copied(alloc, netlist.columns())?)?;
-    nets.push(copied(alloc, design.outputs())?)?;
+    add_copy(alloc, netlist.columns(), &mut nets)?;
+    add_copy(alloc, design.outputs(), &mut nets)?;
     for cluster in clusters.members() {
-        nets.push(data_nets(alloc, registers, cluster.as_slice())?)?;
-        nets.push(driven_nets(alloc, registers, cluster.as_slice())?)?;
+        add_cluster(alloc, registers, cluster.as_slice(), &mut nets)?;
     }
     Ok(Seq::of(nets))
 }
 
-// The same nets.
-fn copied(alloc: Global, nets: &[NetId]) -> Result<Seq<NetId>, OutOfMemory>
-    ensures { IfOk result (λ copy. copy ≡ nets.now) }
+// Adds a copy of these nets.
+fn add_copy(alloc: Global, these: &[NetId], nets: &mut Vec<Seq<NetId>>) -> Result<(), OutOfMemory>
+    ensures { OnOk result (nets.new.items ≡ nets.old.items ++ these.now ∷ []) }
 {
-    Ok(Seq::of(nets.to_vec(alloc)?))
+    nets.push(Seq::of(these.to_vec(alloc)?))?;
+    Ok(())
+}
+
+// Adds the data nets of a cluster's registers, and the nets that they drive.
+fn add_cluster(
+    alloc: Global,
+    registers: &[Register],
+    cluster: &[RegId],
+    nets: &mut Vec<Seq<NetId>>,
+) -> Result<(), OutOfMemory>
+    requires { All (λ r. r < length registers.now) cluster.now }
+    ensures { OnOk result (nets.new.items ≡
+        (nets.old.items
+        ++ map (λ r. slice_index_or (map (λ r. r.data_net) registers.now) r 0) cluster.now ∷ [])
+        ++ map (λ r. slice_index_or (map (λ r. r.output) registers.now) r 0) cluster.now ∷ []) }
+{
+    nets.push(data_nets(alloc, registers, cluster)?)?;
+    nets.push(driven_nets(alloc, registers, cluster)?)?;
+    Ok(())
 }
 
 // The data nets of a cluster's registers.

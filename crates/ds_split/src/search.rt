@@ -11,11 +11,20 @@ use std::marker::Model;
 
 // The producer of each net, one more than its number, or 0; for each producer the last consumer
 // that it was met for; and the edges that are found.
-#[derive(Drop)]
 pub(crate) struct Search {
     producers: Vec<u32>,
     seen: Vec<u32>,
     edges: Vec<DataEdge>,
+}
+
+impl Drop for Search {
+    fn drop(self) {
+        let Search {
+            producers: _,
+            seen: _,
+            edges: _,
+        } = self;
+    }
 }
 
 impl Model for Search {
@@ -57,7 +66,12 @@ impl Search {
     pub(crate) fn into_edges(self) -> Vec<DataEdge>
         ensures { result.items ≡ self.edges }
     {
-        self.edges
+        let Search {
+            producers: _,
+            seen: _,
+            edges,
+        } = self;
+        edges
     }
 
     // Finds the edges into a consumer that has these nets.

@@ -4,7 +4,7 @@ use Rattle.ds_latch.specs.declared.node.Node.{Node}
 use Rattle.ds_settle.specs.Cone.{IsCone, Parts}
 use Rattle.ds_split.specs.Settled.{IsSettling}
 use Rattle.ds_split.specs.Cones.{cone_place}
-use Rattle.ds_split.proofs.cones.cones_of.Given as goal
+use Rattle.ds_split.proofs.cones.cones_by.Given as goal
 
 abbrev pub invariant-loop-i : goal.invariant-loop-i
 invariant-loop-i l = record {
