@@ -1,8 +1,8 @@
 -- The drivers of the nets, table by table.
 use Rattle.std.proofs.Common.{◌≡◌, ◌≢◌, ◌∙◌, ℕ, ◌+◌, ◌<◌, List, Option, Some, None, length, get_or, sym, arith, inl, inr, subst}
-use Rattle.std.proofs.Math.ListN.{set}
+use Rattle.std.proofs.Math.ListN.{replicate, set}
 use Rattle.std.proofs.lemmas.Bool.{cases_eq}
-use Rattle.std.proofs.lemmas.List.{get_or-set_other, get_or-set_same, length-set}
+use Rattle.std.proofs.lemmas.List.{get_or-replicate, get_or-set_other, get_or-set_same, length-replicate, length-set}
 use Rattle.ds_design.specs.Circuit.{Circuit}
 use Rattle.ds_settle.specs.Cone.{net_of}
 use Rattle.ds_settle.specs.Walk.{AreDrivers, IsDriver}
@@ -14,6 +14,13 @@ module _ (c : Circuit) where
     | inr ne ↦ free j (omega arith)
   ]
   other_driver k net (Some j) apart is = (omega (arith, is.0), is.1)
+
+  -- no table yet
+  pub drivers_none : AreDrivers c 0 (replicate {A = Option ℕ} (length c.nets) None)
+  drivers_none = record {
+    one_each = length-replicate {A = Option ℕ} (length c.nets) None;
+    each = λ net low. subst (IsDriver c 0 net) (sym (get_or-replicate {A = Option ℕ} (length c.nets) net None None low)) (λ k below. absurd (omega arith));
+  }
 
   -- one more table
   pub drivers_more : (k net : ℕ) (drivers : List (Option ℕ)) → net_of c k ≡ net → net < length c.nets → AreDrivers c k drivers → AreDrivers c (k + 1) (set drivers net (Some k))
