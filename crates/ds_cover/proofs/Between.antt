@@ -4,7 +4,7 @@ use Rattle.std.specs.Prelude.{All}
 use Rattle.std.proofs.Math.Seq.{drop-append_seam}
 use Rattle.std.proofs.lemmas.Bool.{cases_eq}
 use Rattle.std.proofs.lemmas.List.{get_or_append_left, get_or_default, get_or_push, length-map, map-append, take_all}
-use Rattle.std.proofs.lemmas.List.Elements.{All-append, All-head, All-push, All-tail, All-weaker}
+use Rattle.std.proofs.lemmas.List.Elements.{All-append, All-nil, All-head, All-push, All-tail, All-weaker}
 use Rattle.ds_base.specs.Values.{Row}
 use Rattle.ds_cover.specs.Bank.{Driven, after_tables, driven_at}
 use Rattle.ds_cover.proofs.Kept.{part_stays}
@@ -80,6 +80,22 @@ pub record AreListed (parts : Parts) (bank : List Driven) (lists : List (List �
   pub size : length bounds ≡ n + 1
   pub last : get_or bounds n 0 ≡ length runs
   pub listed : lists_between order runs bounds ≡ take n lists
+
+-- no list yet
+pub listed_none : (bank : List Driven) (lists : List (List ℕ)) → AreListed (record { twos = []; nines = []; threes = []; three_words = []; fours = [] }) bank lists 0 [] [] (0 ∷ [])
+listed_none bank lists = record {
+  places = All-nil (λ k. k < length bank);
+  even = record { twos = refl; threes = refl };
+  bounded = record {
+    each = All-nil (IsRunOfTables (record { twos = []; nines = []; threes = []; three_words = []; fours = [] }) (in_table_order bank []));
+    some = omega arith;
+    inside = All-push (λ b. b ≤ 0) [] 0 (All-nil (λ b. b ≤ 0)) (omega arith);
+    rising = λ i low. absurd (omega arith);
+  };
+  size = refl;
+  last = refl;
+  listed = refl;
+}
 
 -- one list more
 module _ (old new : Parts) (bank : List Driven) (lists : List (List ℕ)) (n : ℕ) (order list : List ℕ) (before after : List Run) (bounds : List ℕ)

@@ -1,13 +1,14 @@
 //! Some tables of a bank that is lent, in several lists, each in the order in which it is set.
-ghost use Rattle.std.specs.Prelude.{◌≡◌, ◌<◌, ◌≤◌, ◌^◌, [], length, All, IfOk, slice_index_or};
+ghost use Rattle.std.specs.Prelude.{◌≡◌, ◌<◌, ◌≤◌, ◌^◌, [], ◌∷◌, ◌++◌, length, All, IfOk, OnOk};
+ghost use Rattle.std.specs.Prelude.{slice_index_or};
 ghost use Rattle.ds_cover.specs.Bank.{AreNetsWithin, after_tables};
-ghost use Rattle.ds_cover.specs.Series.{part_of};
+ghost use Rattle.ds_cover.specs.Series.{AreAdded, AreEven, in_table_order, part_of, parts_of_lists};
 
 use crate::Bank;
 use crate::lists::Lists;
 use crate::run::{Run, add_from, set_runs};
 use ds_base::{OutOfMemory, Row3, Seq};
-use std::alloc::Global;
+use std::alloc::{AllocError, Global};
 use std::marker::Model;
 
 /// Some tables of a bank that others have too, in several lists. Contracts see all tables of the
@@ -56,15 +57,12 @@ impl<'a> Selections<'a> {
         requires { All (λ list. All (λ k. k < length bank.now) list) lists.now }
         ensures ok { IfOk result (λ s. s ≡ record { tables = bank.now; lists = lists.now }) }
     {
+        let mut bounds = first_bound(alloc, lists.len() + 1)?;
         let mut order = Vec::new(alloc);
         let mut kinds = Lists::new(alloc);
         let mut runs = Vec::new(alloc);
-        let mut bounds = Vec::with_capacity(alloc, lists.len() + 1)?;
-        bounds.push(0)?;
         for list in lists {
-            let start = order.len();
-            order.extend_from_slice(list.as_slice())?;
-            add_from(&mut kinds, &mut runs, bank, order.as_slice(), start)?;
+            add_list(bank, list.as_slice(), &mut order, &mut kinds, &mut runs)?;
             bounds.push(runs.len())?;
         }
         Ok(Selections {
@@ -104,4 +102,36 @@ fn between(runs: &[Run], first: usize, end: usize) -> &[Run]
     ensures { result.now ≡ part_of first end runs.now }
 {
     &runs[first..end]
+}
+
+// The bound before the first list, with room for so many.
+fn first_bound(alloc: Global, room: usize) -> Result<Vec<usize>, AllocError>
+    ensures { IfOk result (λ bounds. bounds.items ≡ 0 ∷ []) }
+{
+    let mut bounds = Vec::with_capacity(alloc, room)?;
+    bounds.push(0)?;
+    Ok(bounds)
+}
+
+// Adds a list behind the order, its tables to the lists of their kinds, and its runs behind those
+// that are there.
+fn add_list(
+    bank: &Bank,
+    list: &[u32],
+    order: &mut Vec<u32>,
+    kinds: &mut Lists,
+    runs: &mut Vec<Run>,
+) -> Result<(), AllocError>
+    requires places { All (λ k. k < length bank.now) order.old.items }
+    requires within { All (λ k. k < length bank.now) list.now }
+    requires even { AreEven (parts_of_lists kinds.old) }
+    ensures ok_order { OnOk result (order.new.items ≡ order.old.items ++ list.now) }
+    ensures ok_added { OnOk result (AreAdded (parts_of_lists kinds.old) (parts_of_lists kinds.new)
+        (in_table_order bank.now order.new.items) (length order.old.items) runs.old.items
+        runs.new.items) }
+{
+    let start = order.len();
+    order.extend_from_slice(list)?;
+    add_from(kinds, runs, bank, order.as_slice(), start)?;
+    Ok(())
 }

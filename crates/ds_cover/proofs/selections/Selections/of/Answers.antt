@@ -1,9 +1,32 @@
-use Rattle.std.proofs.Common.{◌≡◌, ◌∙◌, ◌+◌, ◌<◌, ◌++◌, [], List, ℕ, arith, get_or, length, subst, sym}
+use Rattle.std.proofs.Common.{◌≡◌, ◌∙◌, ◌+◌, ◌<◌, ◌++◌, [], List, ℕ, ap, arith, get_or, length, subst, sym}
 use Rattle.std.specs.Prelude.{All}
-use Rattle.std.proofs.lemmas.List.{get_or_default, take_more}
-use Rattle.ds_cover.specs.Series.{AreAdded, in_table_order, parts_of_lists}
-use Rattle.ds_cover.proofs.Between.{AreListed, listed_more}
+use Rattle.std.proofs.lemmas.List.{get_or_default, take_all, take_more}
+use Rattle.ds_cover.specs.Selections.{Selected}
+use Rattle.ds_cover.specs.Series.{AreAdded, Parts, in_table_order, parts_of_lists}
+use Rattle.ds_cover.specs.declared.run.Run.{Run}
+use Rattle.ds_cover.proofs.Between.{AreListed, listed_more, listed_none}
 use Rattle.ds_cover.proofs.selections.Selections.of.Goals as goal
+
+pub add_list-requires-clause-places : goal.add_list-requires-clause-places
+add_list-requires-clause-places c = c.loop-list.invariant.places
+
+pub add_list-requires-clause-within : goal.add_list-requires-clause-within
+add_list-requires-clause-within c =
+    let item : c.as_slice.result.now ≡ get_or c.args.lists.now c.loop-list.list-index [] =
+    c.as_slice.ensures ∙ (c.list-item.is ∙ get_or_default c.args.lists.now c.loop-list.list-index c.list-item.result [] c.loop-list-test.true) in
+    subst (λ (xs : List ℕ). All (λ k. k < length c.args.bank.now) xs) (sym item) (c.requires c.loop-list.list-index [] c.loop-list-test.true)
+
+pub add_list-requires-clause-even : goal.add_list-requires-clause-even
+add_list-requires-clause-even c = c.loop-list.invariant.even
+
+pub loop-list-init : goal.loop-list-init
+loop-list-init c =
+    let bank = c.args.bank.now in
+    let lists : List (List ℕ) = c.args.lists.now in
+    subst (λ (ps : Parts). AreListed ps bank lists 0 c.new-order.result.items c.new-runs.result.items c.in_ok-bounds.bounds.items) (sym c.new-kinds.ensures)
+    (subst (λ (ns : List ℕ). AreListed (record { twos = []; nines = []; threes = []; three_words = []; fours = [] }) bank lists 0 ns c.new-runs.result.items c.in_ok-bounds.bounds.items) (sym c.new-order.ensures.items)
+    (subst (λ (rs : List Run). AreListed (record { twos = []; nines = []; threes = []; three_words = []; fours = [] }) bank lists 0 [] rs c.in_ok-bounds.bounds.items) (sym c.new-runs.ensures.items)
+    (subst (λ (bs : List ℕ). AreListed (record { twos = []; nines = []; threes = []; three_words = []; fours = [] }) bank lists 0 [] [] bs) (sym c.in_ok-bounds.ensures) (listed_none bank lists))))
 
 pub loop-list-preserved : goal.loop-list-preserved
 loop-list-preserved c =
@@ -14,14 +37,21 @@ loop-list-preserved c =
     let list : List ℕ = c.as_slice.result.now in
     let before : List ℕ = c.loop-list.order.items in
     let item : c.as_slice.result.now ≡ get_or lists i [] = c.as_slice.ensures ∙ (c.list-item.is ∙ get_or_default lists i c.list-item.result [] inside) in
-    let order : c.as_slice-in-loop-list.result.now ≡ before ++ list = c.as_slice-in-loop-list.ensures.value ∙ c.in_ok-extend_from_slice.ensures.items in
-    let start : c.len-start.result ≡ length before = omega (c.len-start.ensures, c.loop-list.order.ok.0, arith) in
-    let added : AreAdded (parts_of_lists c.loop-list.kinds) (parts_of_lists c.add_from.new.lists) (in_table_order bank (before ++ list)) (length before) c.loop-list.runs.items c.add_from.new.runs.items =
-    subst (λ (m : ℕ). AreAdded (parts_of_lists c.loop-list.kinds) (parts_of_lists c.add_from.new.lists) (in_table_order bank (before ++ list)) m c.loop-list.runs.items c.add_from.new.runs.items) start
-    (subst (λ (ns : List ℕ). AreAdded (parts_of_lists c.loop-list.kinds) (parts_of_lists c.add_from.new.lists) (in_table_order bank ns) c.len-start.result c.loop-list.runs.items c.add_from.new.runs.items) order c.in_ok-add_from.ensures) in
+    let order : c.add_list.new.order.items ≡ before ++ list = c.in_ok-add_list.ensures.ok_order in
+    let added : AreAdded (parts_of_lists c.loop-list.kinds) (parts_of_lists c.add_list.new.kinds) (in_table_order bank (before ++ list)) (length before) c.loop-list.runs.items c.add_list.new.runs.items =
+    subst (λ (ns : List ℕ). AreAdded (parts_of_lists c.loop-list.kinds) (parts_of_lists c.add_list.new.kinds) (in_table_order bank ns) (length before) c.loop-list.runs.items c.add_list.new.runs.items) order c.in_ok-add_list.ensures.ok_added in
     let within : All (λ k. k < length bank) list = subst (λ (xs : List ℕ). All (λ k. k < length bank) xs) (sym item) (c.requires i [] inside) in
-    let end : c.len.result ≡ length c.add_from.new.runs.items = omega (c.len.ensures, c.add_from.new.runs.ok.0, arith) in
-    subst (λ (ns : List ℕ). AreListed (parts_of_lists c.add_from.new.lists) bank lists (i + 1) ns c.add_from.new.runs.items c.push-in-loop-list.new.self.items) (sym c.in_ok-extend_from_slice.ensures.items)
-    (subst (λ (bs : List ℕ). AreListed (parts_of_lists c.add_from.new.lists) bank lists (i + 1) (before ++ list) c.add_from.new.runs.items bs) (sym c.in_ok-push-2.ensures.items)
-    (listed_more (parts_of_lists c.loop-list.kinds) (parts_of_lists c.add_from.new.lists) bank lists i before list c.loop-list.runs.items c.add_from.new.runs.items c.loop-list.bounds.items
+    let end : c.len.result ≡ length c.add_list.new.runs.items = omega (c.len.ensures, c.add_list.new.runs.ok.0, arith) in
+    subst (λ (ns : List ℕ). AreListed (parts_of_lists c.add_list.new.kinds) bank lists (i + 1) ns c.add_list.new.runs.items c.push.new.self.items) (sym order)
+    (subst (λ (bs : List ℕ). AreListed (parts_of_lists c.add_list.new.kinds) bank lists (i + 1) (before ++ list) c.add_list.new.runs.items bs) (sym c.in_ok-push.ensures.items)
+    (listed_more (parts_of_lists c.loop-list.kinds) (parts_of_lists c.add_list.new.kinds) bank lists i before list c.loop-list.runs.items c.add_list.new.runs.items c.loop-list.bounds.items
     c.loop-list.invariant within added c.len.result end item inside (take_more lists i [] inside)))
+
+pub invariant_of-result : goal.invariant_of-result
+invariant_of-result g = (g.loop-list.invariant.places, g.loop-list.invariant.bounded)
+
+pub returns : goal.returns
+returns c =
+    let lists : List (List ℕ) = c.args.lists.now in
+    let made : List (List ℕ) → Selected = λ ls. record { tables = c.args.bank.now; lists = ls } in
+    record { ok = ap made (c.loop-list.invariant.listed ∙ take_all c.loop-list.list-index lists c.loop-list-test.false) }
