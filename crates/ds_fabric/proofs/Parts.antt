@@ -2,6 +2,7 @@
 -- event tells.
 use Rattle.std.proofs.Common.{◌≡◌, ℕ, ◌+◌, ◌<◌, ◌≤◌, List, [], ◌∷◌, ◌++◌, length, get_or, true}
 use Rattle.std.proofs.Common.{sym, refl, ap, ◌∙◌, subst, arith, length-append, ⊎_elim}
+use Rattle.std.proofs.Common.{slice_index_or}
 use Rattle.std.proofs.lemmas.List.{append_assoc, append-nil}
 use mathlib.Core.Logic.{dite}
 use native.Mathlib.Decide.{ℕ_discrete, dec_lt}
@@ -21,7 +22,7 @@ use Rattle.ds_fabric.specs.Looks.{LooksOn, Enough, IsSeenLacking}
 use Rattle.ds_fabric.specs.Into.{fired_of, IsInto, ArePart, AreIntoBelow, IsLinedUp}
 use Rattle.ds_fabric.specs.declared.arc_in.ArcIn.{ArcIn}
 use Rattle.ds_fabric.proofs.Views.{looks_more, seen-here, seen_rises, gives_up}
-use Rattle.ds_fabric.proofs.Chains.{arc-there}
+use Rattle.ds_fabric.proofs.Chains.{arc-there, read-off}
 
 -- the last place of a list with one number more
 get-last : (xs : List ℕ) (m j : ℕ) → j ≡ length xs → get_or (xs ++ m ∷ []) j 0 ≡ m
@@ -167,6 +168,11 @@ EnoughIn run w turn numbers first i = (j : ℕ) → first ≤ j → j < i
     → turn ≤ count run (seen w) (arc_numbered run (get_or numbers j 0)).source
     + (arc_numbered run (get_or numbers j 0)).tokens
 
+-- there is no place before the first
+pub none_before : (run : Run) (w : View) (turn : ℕ) (numbers : List ℕ) (first i : ℕ) → first ≡ i
+    → EnoughIn run w turn numbers first i
+none_before run w turn numbers first i is j from below = absurd (omega arith)
+
 -- enough on the whole part of an event is enough
 pub enough_all : (run : Run) (w : View) (event turn first last : ℕ) (arcs : List ArcIn)
     (numbers : List ℕ) → ArePart run event 0 first last arcs numbers
@@ -236,6 +242,16 @@ entry_into run event i starts numbers arcs ys d near all is from below =
     let inside : i < length arcs = omega (arith, part.inside) in
     subst (λ (zs : List ArcIn). IsInto run event (get_or numbers i 0) (get_or zs i d)) (sym is)
     (part.each i (get_or arcs i d) from below (at_or arcs i d inside))
+
+-- where the part of an event begins and ends, read off
+pub ends_read : (run : Run) (event a b : ℕ) (starts numbers : List ℕ) (arcs : List ArcIn)
+    → event < events run → AreIntoBelow run (events run) starts arcs numbers
+    → a ≡ slice_index_or starts event a → b ≡ slice_index_or starts (event + 1) b
+    → (get_or starts event 0 ≡ a) × (get_or starts (event + 1) 0 ≡ b) × (a ≤ b)
+ends_read run event a b starts numbers arcs near all a-is b-is =
+    let first = read-off starts event a (omega (arith, all.starts_long)) a-is in
+    let last = read-off starts (event + 1) b (omega (arith, all.starts_long)) b-is in
+    (first, last, omega (arith, first, last, (all.parts event near).order))
 
 -- its node, and the word of the node's count
 pub look_near : (run : Run) (event i : ℕ) (starts numbers : List ℕ) (arcs ys : List ArcIn)

@@ -1,16 +1,16 @@
 -- The edges of a node are those of a range.
 use Rattle.std.proofs.Common.{◌≡◌, ◌≢◌, ◌∙◌, ◌<◌, ◌≤◌, ◌+◌, ◌-◌, ℕ, zero, suc, List, [], ◌∷◌, ◌++◌}
 use Rattle.std.proofs.Common.{length, get_or, Bool, true, false}
-use Rattle.std.proofs.Common.{ap, sym, subst, arith, refl, slice_index_or}
+use Rattle.std.proofs.Common.{ap, sym, subst, arith, refl, slice_index_or, length-append}
 use mathlib.Core.Logic.{dite}
 use mathlib.Core.Option.{some}
 use lib.ListN.{get_elem?}
-use native.Mathlib.Decide.{dec_lt}
-use Rattle.atomic_table.proofs.Lists.{at_index}
+use native.Mathlib.Decide.{ℕ_discrete, dec_lt}
+use Rattle.atomic_table.proofs.Lists.{at_index, at_last}
 use Rattle.ds_rule.specs.Run.{Run}
 use Rattle.ds_rule.specs.Sound.{IsSound, edge_at}
 use Rattle.ds_rule.specs.Rows.{row, supply_but}
-use Rattle.ds_rule.proofs.Lists.{at_get}
+use Rattle.ds_rule.proofs.Lists.{at_get, get-first}
 use Rattle.ds_rule.proofs.RowLaws.{supply_but-past, supply_but-into, supply_but-known}
 use Rattle.ds_rule.proofs.RowLaws.{edge-there}
 use Rattle.ds_rule.specs.declared.layout.DataEdge.{DataEdge}
@@ -80,6 +80,27 @@ stops run node i sound near before here = record {
   below = before;
   above = λ k p h. (let up = sound.by_consumer i k p h in omega arith);
 }
+
+-- the first edge of one node more
+pub firsts_more : (run : Run) (node at : ℕ) (firsts firsts' : List ℕ) → length firsts ≡ node
+    → ((x : ℕ) → x < node → IsFrom run x (get_or firsts x 0)) → IsFrom run node at
+    → firsts' ≡ firsts ++ at ∷ []
+    → (length firsts' ≡ node + 1)
+    × ((x : ℕ) → x < node + 1 → IsFrom run x (get_or firsts' x 0))
+    × (at ≤ length run.edges) × ((k : ℕ) → k < at → (edge_at run k).consumer < node + 1)
+firsts_more run node at firsts firsts' long each is more =
+    let last : get_or (firsts ++ at ∷ []) node 0 ≡ at =
+    at_get (firsts ++ at ∷ []) node at 0 (at_last firsts at node long) in (
+      ap (λ (xs : List ℕ). length xs) more ∙ omega (arith, length-append firsts (at ∷ []), long),
+      λ x h. subst (λ (xs : List ℕ). IsFrom run x (get_or xs x 0)) (sym more)
+          (dite (ℕ_discrete x node)
+          (λ e. subst (λ (y : ℕ). IsFrom run y (get_or (firsts ++ at ∷ []) y 0)) (sym e)
+          (subst (IsFrom run node) (sym last) is))
+          (λ n. subst (IsFrom run x) (sym (get-first firsts (at ∷ []) x (omega arith)))
+          (each x (omega arith)))),
+      is.near,
+      λ k h. (let low = is.below k h in omega arith),
+    )
 
 -- an edge that was read
 pub edge_read : (run : Run) (es : List DataEdge) (i : ℕ) (e : DataEdge) → es ≡ run.edges

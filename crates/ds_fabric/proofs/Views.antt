@@ -1,6 +1,6 @@
 -- What loads change in a view, and what a search for missing tokens tells.
 use Rattle.std.proofs.Common.{◌≡◌, ℕ, ◌+◌, ◌<◌, ◌≤◌, ◌≢◌, Bool, true, false, List, length}
-use Rattle.std.proofs.Common.{get_or, sym, refl, ap, ◌∙◌, subst, arith, le_trans}
+use Rattle.std.proofs.Common.{get_or, sym, refl, ap, ◌∙◌, subst, arith, le_refl, le_trans}
 use Rattle.std.proofs.Common.{length-set}
 use Rattle.std.proofs.Common.{get_or-set_other, get_or-set_same}
 use mathlib.Core.Logic.{dite}
@@ -30,6 +30,21 @@ seen_rises v l r x near up = dite (ℕ_discrete x l)
 -- what is held before is held after, and the other way
 pub has_after : (u v : View) (l : ℕ) → LooksOn u v → holds v l ≡ holds u l
 has_after u v l q = ap (λ (hs : List Bool). get_or hs l false) q.holds_same
+
+-- before any load
+pub looks_none : (v : View) → LooksOn v v
+looks_none v = record {
+  live = refl;
+  run = refl;
+  holds_same = refl;
+  tickets_same = refl;
+  drawn = refl;
+  stage = refl;
+  seen_long = refl;
+  seen_up = λ l. le_refl _;
+  looks_up = le_refl _;
+  own = λ l h. refl;
+}
 
 pub looks_more : (u v : View) (l r : ℕ) → LooksOn u v → l < length v.seen → seen v l ≤ r
     → (holds v l ≡ true → r ≡ seen v l) → LooksOn u (after_look v l r)

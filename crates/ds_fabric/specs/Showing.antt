@@ -59,6 +59,14 @@ pub record IsFabricBegun (run : Run) (f : Base) (p : Showing) : Type 0 where
   pub many : p.many ≡ run.nodes
   pub room : p.room ≡ run.nodes
 
+-- the fabric of a run, and the one seat at its table
+pub record IsStood (run : Run) (m : Memory) (f : Base) (id : TableId) (me : Me ℕ View)
+    : Type 0 where
+  pub run_is : f.run ≡ run
+  pub memory : f.memory ≡ m
+  pub table : id ≡ f.table_id
+  pub first : me ≡ (first_view run, [])
+
 -- a new pass that holds the node alone
 pub record IsDealt (old : Showing) (node room : ℕ) (p : Showing) : Type 0 where
   pub table : p.table_id ≡ old.table_id

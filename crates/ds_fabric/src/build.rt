@@ -1,6 +1,7 @@
 //! How a table begins: its words, each node's first row among them, and a history for each node
 //! with room for all its firings.
-ghost use Rattle.std.specs.Prelude.{ℕ, ◌≡◌, ◌<◌, ◌≤◌, ◌+◌, ◌++◌, length, slice_index, replicate};
+ghost use Rattle.std.specs.Prelude.{ℕ, ◌≡◌, ◌<◌, ◌≤◌, ◌+◌, ◌*◌, ◌++◌, length, slice_index};
+ghost use Rattle.std.specs.Prelude.{replicate};
 ghost use Rattle.std.specs.Prelude.{vec_capacity, IfOk, OnOk};
 ghost use Rattle.ds_rule.specs.Sound.{IsSound, read_words};
 ghost use Rattle.ds_rule.specs.Words.{width};
@@ -29,12 +30,29 @@ pub fn lay<J: Rows, C: Compute>(
     let mut words = zero_words(alloc, run.nodes() + 1)?;
     let mut starts = Vec::new(alloc);
     for node in 0..run.nodes() {
-        let width = run.width(node);
         starts.push(words.len())?;
-        first_row(openings, node, width, &mut words)?;
-        pad(&mut words, run.slack() * width)?;
+        lay_node(run, openings, node, &mut words)?;
     }
     Ok((words, starts))
+}
+
+// The rows of a node: its first one, and zeros for the others.
+fn lay_node<J: Rows, C: Compute>(
+    run: &Layout<J>,
+    openings: &C,
+    node: usize,
+    words: &mut Vec<u64>,
+) -> Result<(), OutOfMemory>
+    requires sound { IsSound run.now }
+    requires openings { C.run openings.now ≡ run.now }
+    requires near { node < run.now.nodes }
+    ensures { OnOk result (words.new.items ≡ (words.old.items ++ row run.now node 0)
+        ++ replicate (run.now.slack * width run.now node) 0) }
+{
+    let width = run.width(node);
+    first_row(openings, node, width, words)?;
+    pad(words, run.slack() * width)?;
+    Ok(())
 }
 
 // So many zeros.

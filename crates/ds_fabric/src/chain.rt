@@ -1,3 +1,5 @@
+//! The arcs into each event as a chain, from the last one back: where the arcs are found before they
+//! are laid out side by side.
 ghost use Rattle.std.specs.Prelude.{◌≡◌, IfOk, length, replicate};
 ghost use Rattle.ds_rule.specs.Sound.{IsSound};
 ghost use Rattle.ds_fabric.specs.Chained.{AreChained};
@@ -10,10 +12,15 @@ use std::alloc::Global;
 /// For each event, the arcs into it. `heads` has the place of the last arc into each event, `links`
 /// from each arc that of the one before; a place is one more than an arc's number, and 0 where
 /// there is none.
-#[derive(Drop)]
 pub struct Chains {
     pub heads: Vec<usize>,
     pub links: Vec<usize>,
+}
+
+impl Drop for Chains {
+    fn drop(self) {
+        let Chains { heads: _, links: _ } = self;
+    }
 }
 
 impl Chains {

@@ -8,18 +8,18 @@ ghost use Rattle.ds_rule.specs.Rule.{holds, tickets};
 ghost use Rattle.ds_rule.specs.Plays.{taken_in};
 ghost use Rattle.ds_fabric.specs.Stepped.{Stepped};
 ghost use Rattle.ds_fabric.specs.Showing.{Belongs, IsFabricBegun, IsCounted, IsDealt, IsLeft, IsOf};
-ghost use Rattle.ds_fabric.specs.Showing.{Stays, no_scratch};
+ghost use Rattle.ds_fabric.specs.Showing.{Stays, IsStood, no_scratch};
 
 use crate::build::{histories, lay};
 use crate::compute::Compute;
 use crate::hands::{cut, mend, shut};
 use crate::incoming::Incoming;
-use crate::index::{Index, firsts};
+use crate::index::Index;
 use crate::pass::Pass;
 use crate::places::{alone, find, note_from, numbered, take_out};
 use crate::record::Record;
 use crate::step::Step;
-use atomic_table::Table;
+use atomic_table::{Seat, Table};
 use ds_base::{LatchId, OutOfMemory, Scratch};
 use ds_rule::{Layout, Order, Rows, View};
 use std::alloc::Global;
@@ -65,22 +65,11 @@ impl<'a, J: Rows, C: Compute> Fabric<'a, J, C> {
         requires openings { C.run openings.now ≡ run.now }
         ensures { IfOk result (λ r. IsFabricBegun run.now r.0 r.1) }
     {
-        let (words, starts) = lay(alloc, run, openings)?;
-        let firsts = firsts(alloc, run)?;
-        let index = Index { starts, firsts };
-        let incoming = Incoming::of(alloc, run)?;
         let nodes = histories(alloc, run)?;
         let places = numbered(alloc, run.nodes())?;
         let scratch = openings.scratch(alloc)?;
-        let (table, seat) = Table::of_words(alloc, words.as_slice(), run)?;
+        let (fabric, seat) = Fabric::stand(alloc, run, openings)?;
         let room = run.nodes() as u32;
-        let fabric = Fabric {
-            run,
-            openings,
-            incoming,
-            index,
-            table,
-        };
         let pass = Pass {
             seat,
             nodes,
@@ -89,6 +78,31 @@ impl<'a, J: Rows, C: Compute> Fabric<'a, J, C> {
             room,
         };
         Ok((fabric, pass))
+    }
+
+    // The shared table of a run in which nothing has fired, and the one seat at it.
+    fn stand(
+        alloc: Global,
+        run: &'a Layout<J>,
+        openings: &'a C,
+    ) -> Result<(Fabric<'a, J, C>, Seat<u8, View>), OutOfMemory>
+        requires sound { IsSound run.now }
+        requires openings { C.run openings.now ≡ run.now }
+        ensures { IfOk result (λ r. IsStood run.now (C.memory openings.now) r.0 r.1.table_id
+            r.1.me) }
+    {
+        let (words, starts) = lay(alloc, run, openings)?;
+        let index = Index::of(alloc, run, starts)?;
+        let incoming = Incoming::of(alloc, run)?;
+        let (table, seat) = Table::of_words(alloc, words.as_slice(), run)?;
+        let fabric = Fabric {
+            run,
+            openings,
+            incoming,
+            index,
+            table,
+        };
+        Ok((fabric, seat))
     }
 
     /// Fires the next event of the node, if what its sources show is enough. It takes no memory and

@@ -1,6 +1,6 @@
 //! Hints: what a node costs, and plain looks without a seat, which tell nothing, as what was seen
 //! may have changed since.
-ghost use Rattle.std.specs.Prelude.{◌<◌};
+ghost use Rattle.std.specs.Prelude.{◌<◌, ◌≤◌};
 ghost use Rattle.ds_rule.specs.Run.{events};
 
 use crate::compute::Compute;
@@ -49,11 +49,7 @@ impl<'a, J: Rows, C: Compute> Fabric<'a, J, C> {
     {
         let start = self.incoming.starts[event];
         let end = self.incoming.starts[event + 1];
-        let middle = if first < end - start {
-            start + first
-        } else {
-            start
-        };
+        let middle = place_in(start, end, first);
         let board = &self.table.shared;
         let ahead = lacking_between(board, &self.incoming, turn, middle, end);
         let found = if ahead.is_some() {
@@ -63,5 +59,17 @@ impl<'a, J: Rows, C: Compute> Fabric<'a, J, C> {
         };
         let at = found?;
         Some(at.saturating_sub(start))
+    }
+}
+
+// The place so far behind the start, and the start where that would not be before the end.
+fn place_in(start: usize, end: usize, first: usize) -> usize
+    requires { start ≤ end }
+    ensures { (start ≤ result) × (result ≤ end) }
+{
+    if first < end - start {
+        start + first
+    } else {
+        start
     }
 }

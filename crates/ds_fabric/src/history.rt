@@ -9,13 +9,24 @@ use crate::events::ticket_place;
 /// What a pass keeps of one node. `turns` has what its firings told, turn by turn, `stride` words a
 /// turn: of a latch the row of the opening, its ticket, and that of the closing, of another node
 /// the ticket of its one event. `from` is room for the numbers and the rows of its producers.
-#[derive(Drop)]
 pub struct History {
     pub node: usize,
     pub fired: u64,
     pub stride: usize,
     pub turns: Vec<u64>,
     pub from: Vec<u64>,
+}
+
+impl Drop for History {
+    fn drop(self) {
+        let History {
+            node: _,
+            fired: _,
+            stride: _,
+            turns: _,
+            from: _,
+        } = self;
+    }
 }
 
 impl History {

@@ -11,10 +11,34 @@ use std::alloc::Global;
 
 /// Where the rows of each node begin among the words, and its edges among the edges, which stand by
 /// consumer. `firsts` has one place more.
-#[derive(Drop)]
 pub struct Index {
     pub starts: Vec<usize>,
     pub firsts: Vec<usize>,
+}
+
+impl Drop for Index {
+    fn drop(self) {
+        let Index {
+            starts: _,
+            firsts: _,
+        } = self;
+    }
+}
+
+impl Index {
+    /// Of where the rows of each node begin.
+    pub fn of<J: Rows>(
+        alloc: Global,
+        run: &Layout<J>,
+        starts: Vec<usize>,
+    ) -> Result<Index, OutOfMemory>
+        requires { IsSound run.now }
+        ensures starts { IfOk result (λ x. x.starts.items ≡ starts.items) }
+        ensures firsts { IfOk result (λ x. AreFirstEdges run.now x.firsts.items) }
+    {
+        let firsts = firsts(alloc, run)?;
+        Ok(Index { starts, firsts })
+    }
 }
 
 /// So many zeros.
@@ -24,8 +48,8 @@ pub fn zeros(alloc: Global, count: usize) -> Result<Vec<usize>, OutOfMemory>
     Ok(vec![in alloc; 0usize; count]?)
 }
 
-/// The first edge of each node.
-pub fn firsts<J: Rows>(alloc: Global, run: &Layout<J>) -> Result<Vec<usize>, OutOfMemory>
+// The first edge of each node.
+fn firsts<J: Rows>(alloc: Global, run: &Layout<J>) -> Result<Vec<usize>, OutOfMemory>
     requires { IsSound run.now }
     ensures { IfOk result (λ v. AreFirstEdges run.now v.items) }
 {

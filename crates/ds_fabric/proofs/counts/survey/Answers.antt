@@ -3,18 +3,80 @@ use Rattle.std.proofs.Common.{get_or, length}
 use Rattle.std.proofs.lemmas.Bool.{false≢true}
 use Rattle.ds_rule.specs.Run.{Run}
 use Rattle.ds_rule.specs.Plays.{Sat}
+use Rattle.ds_rule.proofs.EventLaws.{events-is}
 use Rattle.ds_rule.specs.declared.view.View.{View}
 use Rattle.ds_fabric.specs.Chained.{arc_numbered}
-use Rattle.ds_fabric.specs.Looks.{IsSeenLacking}
+use Rattle.ds_fabric.specs.Looks.{LooksOn, IsSeenLacking}
 use Rattle.ds_fabric.specs.Into.{fired_of, IsInto}
 use Rattle.ds_fabric.specs.declared.arc_in.ArcIn.{ArcIn}
 use Rattle.ds_fabric.specs.declared.arc_in.Source.TheVariants.{Opening}
 use Rattle.ds_fabric.proofs.Chains.{read-off}
-use Rattle.ds_fabric.proofs.Parts.{entry_into, look_near, enough_all, goes_on, stops}
+use Rattle.ds_fabric.proofs.Parts.{ends_read, entry_into, look_near, none_before}
+use Rattle.ds_fabric.proofs.Parts.{enough_all, goes_on, stops}
+use Rattle.ds_fabric.proofs.Views.{looks_none}
+use Rattle.ds_fabric.proofs.counts.survey.Given
 use Rattle.ds_fabric.proofs.counts.survey.Goals as goal
+use Rattle.ds_fabric.proofs.counts.survey.Goals.{After-look-fired}
 
 not-less : (a b : ℕ) → (a < b → ⊥) → b ≤ a
 not-less a b h = omega arith
+
+pub index-i-requires : goal.index-i-requires
+index-i-requires g c = let all = c.requires.incoming in
+    omega (arith, all.starts_long, c.requires.few.1)
+
+pub overflow_add-event : goal.overflow_add-event
+overflow_add-event g c =
+    omega (arith, c.requires.few.1, events-is c.args.ground.now.run.now, c.requires.table.1.sound.few)
+
+pub index-i-end-requires : goal.index-i-end-requires
+index-i-end-requires g c = let all = c.requires.incoming in
+    omega (arith, all.starts_long, c.requires.few.1)
+
+pub loop-i-init : goal.loop-i-init
+loop-i-init g c =
+    let numbers : List ℕ = c.args.ground.now.incoming.now.numbers.items in
+    let e = ends_read c.args.ground.now.run.now c.args.event c.index-i.result.now
+    c.index-i-end.result.now c.args.ground.now.incoming.now.starts.items numbers
+    c.args.ground.now.incoming.now.arcs.items c.requires.few.1 c.requires.incoming
+    c.index-i.ensures c.index-i-end.ensures in (
+      refl,
+      refl,
+      looks_none c.args.seat.now.me.0,
+      none_before c.args.ground.now.run.now c.args.seat.now.me.0 c.args.turn numbers _ _ e.0,
+      omega (arith, e.0),
+      sym e.1,
+    )
+
+pub bounds-arcs-i : goal.bounds-arcs-i
+bounds-arcs-i g c =
+    omega (
+      arith,
+      c.loop-i-test.true,
+      c.loop-i.invariant.5,
+      (c.requires.incoming.parts c.args.event c.requires.few.1).inside,
+      ap (λ (xs : List ArcIn). length xs) c.as_slice-arcs.ensures.value,
+    )
+
+pub look-fired-requires-clause-table : goal.look-fired-requires-clause-table
+look-fired-requires-clause-table g c =
+    (c.loop-i.invariant.0 ∙ c.requires.table.0, c.requires.table.1)
+
+pub look-fired-requires-clause-rests : goal.look-fired-requires-clause-rests
+look-fired-requires-clause-rests g c = let q = c.loop-i.invariant.2 in
+    (q.live ∙ c.requires.rests.0, q.stage ∙ c.requires.rests.1)
+
+-- the place of the arc that is looked at is one of the event's
+place : (g : Given.Over) (c : After-look-fired g)
+    → (c.loop-i.i < get_or c.args.ground.now.incoming.now.starts.items (c.args.event + 1) 0)
+    × (c.loop-i.i < length c.args.ground.now.incoming.now.numbers.items)
+place g c = let all = c.requires.incoming in
+    let below : c.loop-i.i < get_or c.args.ground.now.incoming.now.starts.items (c.args.event + 1) 0 =
+    omega (arith, c.loop-i-test.true, c.loop-i.invariant.5) in
+    (below, omega (arith, below, (all.parts c.args.event c.requires.few.1).inside, all.numbers_long))
+
+pub index-requires : goal.index-requires
+index-requires g c = omega (arith, (place g (goal.at.index-requires g c).After-look-fired).1)
 
 pub look-fired-requires-clause-near : goal.look-fired-requires-clause-near
 look-fired-requires-clause-near g c =
@@ -23,32 +85,64 @@ look-fired-requires-clause-near g c =
     c.requires.table.1.sound c.requires.few.1 c.requires.incoming c.as_slice-arcs.ensures.value
     c.loop-i.invariant.4 (omega (arith, c.loop-i-test.true, c.loop-i.invariant.5))
 
+-- the arc that is looked at
+looked_at : (g : Given.Over) (c : After-look-fired g)
+    → IsInto c.args.ground.now.run.now c.args.event
+    (get_or c.args.ground.now.incoming.now.numbers.items c.loop-i.i 0)
+    (get_or c.as_slice-arcs.result.now c.loop-i.i
+    (record { node = 0; ahead = 0; source = Opening }))
+looked_at g c =
+    entry_into c.args.ground.now.run.now c.args.event c.loop-i.i
+    c.args.ground.now.incoming.now.starts.items c.args.ground.now.incoming.now.numbers.items
+    c.args.ground.now.incoming.now.arcs.items c.as_slice-arcs.result.now _ c.requires.few.1
+    c.requires.incoming c.as_slice-arcs.ensures.value c.loop-i.invariant.4 (place g c).0
+
+-- what the look tells where it shows too few tokens
+halted : (g : Given.Over) (c : After-look-fired g)
+    → fired_of (get_or c.as_slice-arcs.result.now c.loop-i.i
+    (record { node = 0; ahead = 0; source = Opening })).source c.look-fired.result
+    + (arc_numbered c.args.ground.now.run.now
+    (get_or c.args.ground.now.incoming.now.numbers.items c.loop-i.i 0)).tokens < c.args.turn
+    → LooksOn c.args.seat.now.me.0 c.look-fired.new.seat.me.0
+    × IsSeenLacking c.args.ground.now.run.now c.args.seat.now.me.0 c.look-fired.new.seat.me.0
+    c.args.event c.args.turn (get_or c.args.ground.now.incoming.now.numbers.items c.loop-i.i 0)
+    (fired_of (get_or c.as_slice-arcs.result.now c.loop-i.i
+    (record { node = 0; ahead = 0; source = Opening })).source c.look-fired.result)
+halted g c short = let e = c.look-fired.ensures in
+    stops c.args.ground.now.run.now c.args.event c.args.turn
+    (get_or c.args.ground.now.incoming.now.numbers.items c.loop-i.i 0) c.args.seat.now.me.0
+    c.loop-i.seat.me c.look-fired.new.seat.me
+    (get_or c.as_slice-arcs.result.now c.loop-i.i
+    (record { node = 0; ahead = 0; source = Opening })) c.look-fired.result
+    c.requires.table.1.sound (looked_at g c) e.me c.loop-i.invariant.2 c.requires.rests.2 e.up e.own
+    short
+
+pub returns-then-lacks-clause-table : goal.returns-then-lacks-clause-table
+returns-then-lacks-clause-table g c = (
+  c.look-fired.ensures.table ∙ c.loop-i.invariant.0,
+  ap (λ (y : Sat). y.1) c.look-fired.ensures.me ∙ c.loop-i.invariant.1,
+)
+
+pub returns-then-lacks-clause-looks : goal.returns-then-lacks-clause-looks
+returns-then-lacks-clause-looks g c =
+    let a = (goal.at.returns-then-lacks-clause-looks g c).After-look-fired in
+    let into = looked_at g a in (halted g a ((c.if-lacks.ensures _ into.says.ahead_is).0 refl)).0
+
 pub returns-then-lacks-clause-some : goal.returns-then-lacks-clause-some
 returns-then-lacks-clause-some g c =
-    let run : Run = c.args.ground.now.run.now in let i : ℕ = c.loop-i.i in let inv = c.loop-i.invariant in
+    let run : Run = c.args.ground.now.run.now in let i : ℕ = c.loop-i.i in
     let numbers : List ℕ = c.args.ground.now.incoming.now.numbers.items in
     let x : ArcIn = get_or c.as_slice-arcs.result.now i
     (record { node = 0; ahead = 0; source = Opening }) in
     let v : View = c.args.seat.now.me.0 in let w : View = c.look-fired.new.seat.me.0 in
-    let r : ℕ = c.look-fired.result in let e = c.look-fired.ensures in let k : ℕ = get_or numbers i 0 in
-    let all = c.requires.incoming in
-    let below : i < get_or c.args.ground.now.incoming.now.starts.items (c.args.event + 1) 0 =
-    omega (arith, c.loop-i-test.true, inv.5) in
-    let into : IsInto run c.args.event k x =
-    entry_into run c.args.event i c.args.ground.now.incoming.now.starts.items numbers
-    c.args.ground.now.incoming.now.arcs.items c.as_slice-arcs.result.now _ c.requires.few.1 all
-    c.as_slice-arcs.ensures.value inv.4 below in
-    let tokens : ℕ = (arc_numbered run k).tokens in
-    let short : fired_of x.source r + tokens < c.args.turn =
-    (c.if-lacks.ensures tokens into.says.ahead_is).0 refl in
-    let got = stops run c.args.event c.args.turn k v c.loop-i.seat.me c.look-fired.new.seat.me x r
-    c.requires.table.1.sound into e.me inv.2 c.requires.rests.2 e.up e.own short in
-    let inside : i < length numbers =
-    omega (arith, (all.parts c.args.event c.requires.few.1).inside, all.numbers_long) in
+    let a = (goal.at.returns-then-lacks-clause-some g c).After-look-fired in
+    let into = looked_at g a in
     subst (λ (n : ℕ). IsSeenLacking run v w c.args.event c.args.turn c.index.result.now n)
     (sym c.turns.ensures)
-    (subst (λ (n : ℕ). IsSeenLacking run v w c.args.event c.args.turn n (fired_of x.source r))
-    (read-off numbers i c.index.result.now inside c.index.ensures) got.1)
+    (subst (λ (n : ℕ). IsSeenLacking run v w c.args.event c.args.turn n
+    (fired_of x.source c.look-fired.result))
+    (read-off numbers i c.index.result.now (place g a).1 c.index.ensures)
+    (halted g a ((c.if-lacks.ensures _ into.says.ahead_is).0 refl)).1)
 
 pub loop-i-preserved : goal.loop-i-preserved
 loop-i-preserved g c =
@@ -57,12 +151,8 @@ loop-i-preserved g c =
     let x : ArcIn = get_or c.as_slice-arcs.result.now i
     (record { node = 0; ahead = 0; source = Opening }) in
     let r : ℕ = c.look-fired.result in let e = c.look-fired.ensures in
-    let below : i < get_or c.args.ground.now.incoming.now.starts.items (c.args.event + 1) 0 =
-    omega (arith, c.loop-i-test.true, inv.5) in
     let into : IsInto run c.args.event (get_or numbers i 0) x =
-    entry_into run c.args.event i c.args.ground.now.incoming.now.starts.items numbers
-    c.args.ground.now.incoming.now.arcs.items c.as_slice-arcs.result.now _ c.requires.few.1
-    c.requires.incoming c.as_slice-arcs.ensures.value inv.4 below in
+    looked_at g (goal.at.loop-i-preserved g c).After-look-fired in
     let tokens : ℕ = (arc_numbered run (get_or numbers i 0)).tokens in
     let here : c.args.turn ≤ fired_of x.source r + tokens =
     not-less (fired_of x.source r + tokens) c.args.turn
@@ -78,6 +168,12 @@ loop-i-preserved g c =
       omega (arith, inv.4),
       inv.5,
     )
+
+pub returns-clause-table : goal.returns-clause-table
+returns-clause-table g c = (c.loop-i.invariant.0, c.loop-i.invariant.1)
+
+pub returns-clause-looks : goal.returns-clause-looks
+returns-clause-looks g c = c.loop-i.invariant.2
 
 pub returns-clause-none : goal.returns-clause-none
 returns-clause-none g c =

@@ -1,4 +1,4 @@
-use Rattle.std.proofs.Common.{◌≡◌, ◌<◌, ◌+◌, ◌-◌, ◌∙◌, ℕ, ap, arith, sym, subst}
+use Rattle.std.proofs.Common.{◌≡◌, ◌<◌, ◌+◌, ◌-◌, ◌∙◌, ℕ, List, ap, arith, sym, subst}
 use Rattle.std.proofs.Common.{length}
 use Rattle.ds_rule.specs.Run.{Run, node_of}
 use Rattle.ds_marked.specs.declared.marked.Arc.{Arc}
@@ -22,6 +22,37 @@ back-init g c = let run : Run = c.args.run.now in let q = c.requires.chains in
       lined_none run c.args.event h c.args.arcs.now.items c.args.numbers.now.items c.requires.long
           last,
     )
+
+pub index-at-requires : goal.index-at-requires
+index-at-requires g c = omega (arith, c.requires.chains.heads_long, c.requires.near)
+
+pub bounds-all-number : goal.bounds-all-number
+bounds-all-number g c =
+    omega (
+      arith,
+      c.back.invariant.0,
+      c.back-test.true,
+      ap (λ (xs : List Arc). length xs) c.arcs-all.ensures,
+    )
+
+pub of-requires-clause-latches : goal.of-requires-clause-latches
+of-requires-clause-latches g c = omega (arith, c.requires.sound.few)
+
+pub overflow_cast-number : goal.overflow_cast-number
+overflow_cast-number g c =
+    omega (arith, c.back.invariant.0, c.back-test.true, c.requires.sound.few_arcs)
+
+pub index-at-requires-in-back : goal.index-at-requires-in-back
+index-at-requires-in-back g c =
+    omega (arith, c.requires.chains.links_long, c.back.invariant.0, c.back-test.true)
+
+pub back-smaller : goal.back-smaller
+back-smaller g c = let run : Run = c.args.run.now in let q = c.requires.chains in
+    let m : ℕ = c.back.at - 1 in
+    let below : m < length run.arcs = omega (arith, c.back.invariant.0, c.back-test.true) in
+    let got = read-off c.args.chains.now.links.items m c.index-at-in-back.result.now
+    (omega (arith, q.links_long, below)) c.index-at-in-back.ensures in
+    omega (arith, got, (q.link m below).below, c.back-test.true)
 
 pub of-requires-clause-near : goal.of-requires-clause-near
 of-requires-clause-near g c = let run : Run = c.args.run.now in

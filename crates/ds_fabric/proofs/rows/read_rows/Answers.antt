@@ -46,6 +46,18 @@ loop-i-init g c = let run : Run = c.args.ground.now.run.now in let q = c.require
       Rattle.std.proofs.Common.le_refl _,
     )
 
+pub bounds-edges-i : goal.bounds-edges-i
+bounds-edges-i g c = let run : Run = c.args.ground.now.run.now in
+    let end = from_read run c.args.ground.now.index.now.firsts.items (c.args.node + 1)
+    c.index-end.result.now c.requires.table.1.ranged (omega (arith, c.requires.flight.0.near))
+    c.index-end.ensures in
+    omega (
+      arith,
+      end.near,
+      c.loop-i-test.true,
+      ap (λ (xs : List DataEdge). length xs) c.edges-edges.ensures,
+    )
+
 pub has_learnt-requires-clause-producer : goal.has_learnt-requires-clause-producer
 has_learnt-requires-clause-producer g c =
     let h = edge_is g (goal.at.has_learnt-requires-clause-producer g c).After-index-edges-i in
@@ -54,6 +66,10 @@ has_learnt-requires-clause-producer g c =
 
 pub has_learnt-requires-clause-remembers : goal.has_learnt-requires-clause-remembers
 has_learnt-requires-clause-remembers g c = c.requires.openings.1
+
+pub read_row-requires-clause-table : goal.read_row-requires-clause-table
+read_row-requires-clause-table g c =
+    (c.loop-i.invariant.0 ∙ c.requires.table.0, c.requires.table.1)
 
 pub read_row-requires-clause-flight : goal.read_row-requires-clause-flight
 read_row-requires-clause-flight g c = let run : Run = c.args.ground.now.run.now in
@@ -120,6 +136,12 @@ loop-i-preserved-then-has_learnt g c =
       inv.4,
       omega (arith, inv.5),
     )
+
+pub returns-clause-seat : goal.returns-clause-seat
+returns-clause-seat g c = let inv = c.loop-i.invariant in (inv.0, inv.1, inv.2)
+
+pub returns-clause-room : goal.returns-clause-room
+returns-clause-room g c = c.loop-i.invariant.4
 
 pub returns-clause-value : goal.returns-clause-value
 returns-clause-value g c = let run : Run = c.args.ground.now.run.now in let q = c.requires.table.1 in
