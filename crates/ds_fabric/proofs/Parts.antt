@@ -114,6 +114,18 @@ part_longer run event n first last arcs xs numbers ks long old =
       all = λ k a b to. let f = old.all k a b to in (f.0, f.1, f.2, same f.0 f.2 ∙ f.3);
     }
 
+-- below the first event there is no part
+pub into_none : (run : Run) (starts numbers : List ℕ) (arcs : List ArcIn) → starts ≡ 0 ∷ []
+    → numbers ≡ [] → arcs ≡ [] → AreIntoBelow run 0 starts arcs numbers
+into_none run starts numbers arcs is none none' = record {
+  starts_long = ap (λ (xs : List ℕ). length xs) is;
+  numbers_long = ap (λ (xs : List ℕ). length xs) none
+      ∙ sym (ap (λ (xs : List ArcIn). length xs) none');
+  ends = ap (λ (xs : List ℕ). get_or xs 0 0) is
+      ∙ sym (ap (λ (xs : List ArcIn). length xs) none');
+  parts = λ e h. absurd (omega arith);
+}
+
 -- the part of one event more
 pub into_more : (run : Run) (n : ℕ) (starts starts' numbers numbers' : List ℕ)
     (arcs arcs' : List ArcIn) → AreIntoBelow run n starts arcs numbers

@@ -1,5 +1,5 @@
-//! The arcs into each event as a chain, from the last one back: where the arcs are found before they
-//! are laid out side by side.
+//! The arcs into each event as a chain, from the last one back: where the arcs are found before
+//! they are laid out side by side.
 ghost use Rattle.std.specs.Prelude.{◌≡◌, IfOk, length, replicate};
 ghost use Rattle.ds_rule.specs.Sound.{IsSound};
 ghost use Rattle.ds_fabric.specs.Chained.{AreChained};

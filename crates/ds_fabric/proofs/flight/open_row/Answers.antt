@@ -39,11 +39,5 @@ compute-requires-clause-from g c =
 pub compute-requires-clause-remembers : goal.compute-requires-clause-remembers
 compute-requires-clause-remembers g c = c.requires.openings.1
 
-pub returns-clause-seat : goal.returns-clause-seat
-returns-clause-seat g c = (
-  c.write_row.ensures.seat.0 ∙ c.read_rows.ensures.seat.0,
-  c.write_row.ensures.seat.1 ∙ c.read_rows.ensures.seat.1,
-)
-
 pub returns-clause-remembers : goal.returns-clause-remembers
 returns-clause-remembers g c = c.compute.ensures.remembers

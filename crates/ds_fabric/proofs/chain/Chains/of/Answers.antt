@@ -49,3 +49,17 @@ loop-i-preserved g c = let run : Run = c.args.run.now in let i : ℕ = c.loop-i.
     (omega (arith, n.1, c.loop-i.invariant.heads_long)) c.index.ensures)) in
     chained_next run i t hs c.loop-i.links.items c.push.new.self.items n.0 n.1 c.loop-i.invariant
     (c.in_ok-push.ensures.items ∙ ap (λ (x : ℕ). c.loop-i.links.items ++ x ∷ []) was)
+
+pub bounds-arcs-i : goal.bounds-arcs-i
+bounds-arcs-i g c = omega (arith, c.loop-i-test.true)
+
+pub returns : goal.returns
+returns g c = let run : Run = c.args.run.now in
+    subst (λ (n : ℕ). IsChained run n c.loop-i.heads.items c.loop-i.links.items)
+    (omega (
+      arith,
+      c.loop-i-test.false,
+      c.loop-i.auto.i-end,
+      ap (λ (xs : List Arc). length xs) c.arcs-arcs.ensures,
+    ))
+    c.loop-i.invariant
