@@ -1,7 +1,7 @@
 -- Events that are put in the order of their ranks are all there.
-use Rattle.std.proofs.Common.{◌≡◌, inl, inr, ℕ, ◌+◌, ◌<◌, List, [], ◌∷◌, ◌++◌, length, get_or, map, sym, ◌∙◌, ap, subst, arith, Contains, IsPermutation}
+use Rattle.std.proofs.Common.{◌≡◌, inl, inr, ℕ, ◌+◌, ◌<◌, List, [], ◌∷◌, ◌++◌, length, length-append, get_or, map, sym, ◌∙◌, ap, subst, arith, Contains, IsPermutation}
 use Rattle.std.proofs.lemmas.Bool.{cases_eq}
-use Rattle.std.proofs.lemmas.List.{get_or-map, length-map}
+use Rattle.std.proofs.lemmas.List.{get_or-map, get_or_append_left, get_or_push, length-map}
 use Rattle.std.proofs.lemmas.List.Elements.{Contains-append_left, Contains-push}
 use Rattle.std.proofs.lemmas.List.Sorted.{Contains-permutation}
 use Rattle.ds_base.proofs.Lists.{get_or-self}
@@ -28,3 +28,16 @@ in_turn_more k order all v low = elim (cases_eq v k) [
   | inl last ↦ subst (Contains (order ++ k ∷ [])) (sym last) (Contains-push order k)
   | inr early ↦ Contains-append_left order (k ∷ []) v (all v (omega (low, early, arith)))
 ]
+
+-- an event more with its rank, in turn
+pub ranked_more : (k : ℕ) (all more : List Ranked) (r : Ranked) → AreRanked k all → r.event ≡ k → more ≡ all ++ r ∷ [] → AreRanked (k + 1) more
+ranked_more k all more r are is longer = record {
+  one_each = ap (λ (xs : List Ranked). length xs) longer ∙ (length-append all (r ∷ []) ∙ ap (λ (n : ℕ). n + 1) are.one_each);
+  at = λ v low d. subst (λ (xs : List Ranked). (get_or xs v d).event ≡ v) (sym longer) (elim (cases_eq v k) [
+    | inl last ↦ ap (λ (x : Ranked). x.event) (get_or_push all r d v (are.one_each ∙ sym last)) ∙ (is ∙ sym last)
+    | inr early ↦
+        (let before : v < k = omega (low, early, arith) in
+        let inside : v < length all = rw are.one_each before in
+        ap (λ (x : Ranked). x.event) (get_or_append_left all (r ∷ []) d v inside) ∙ are.at v before d)
+  ]);
+}

@@ -161,3 +161,14 @@ module _ (g h : Graph) (forth : AreAllIn h.arcs g.arcs) (back : AreAllIn g.arcs 
 
     pub unmet_whole_by : (first : Option ℕ) (k : ℕ) → first ≡ Some k → to ≤ length asked → IsFirstUnmetBelow h asked from to first → IsFirstUnmet g asked (Some k)
     unmet_whole_by first k e size is = unmet_whole k size (subst (IsFirstUnmetBelow h asked from to) e is)
+
+  -- the first of all orders that is not given
+  pub first_too : (asked : List Arc) (first : Option ℕ) → IsFirstUnmet h asked first → IsFirstUnmet g asked first
+  first_too asked None all = λ k d inside. given_too (get_or asked k d) (all k d inside)
+  first_too asked (Some place) (inside, (none, before)) = (
+    inside,
+    (
+      λ d. not_given_too (get_or asked place d) (none d),
+      λ k d low high. given_too (get_or asked k d) (before k d low high),
+    ),
+  )

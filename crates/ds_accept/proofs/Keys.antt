@@ -115,24 +115,33 @@ module _ (key : Key) (keys : List Key) (codes : List Code) (view : map key_code 
             s.nowhere high k below (sym (at k d below) ∙ (same ∙ sym is))))
       ]
 
-module _ (events : List Event) (once : AllPairs (λ a b. a ≢ b) events) (i : ℕ) (inside : i < length events)
-    (keys : List Key) (view : map key_code keys ≡ map event_code (take i events)) where
-  -- the keys of one event more
-  pub one_more : (e : Event) → e ≡ get_or events i e → (key : Key) → key_code key ≡ event_code e → (all : List Key)
-      → all ≡ (if list_any (same_key key) keys then keys else keys ++ key ∷ [])
-      → map key_code all ≡ map event_code (take (i + 1) events)
-  one_more e is key key_is all all_is = elim (cases_Bool (list_any (same_key key) keys)) [
+  -- a code more, behind the others
+  pub put_behind : (code : Code) → key_code key ≡ code → IsMissingCode codes code → (all : List Key)
+      → all ≡ (if list_any (same_key key) keys then keys else keys ++ key ∷ []) → map key_code all ≡ codes ++ code ∷ []
+  put_behind code is none all all_is = elim (cases_Bool (list_any (same_key key) keys)) [
     | inl there ↦ absurd (
         let (k, low, same) = any_there key keys there in
-        let size : length keys ≡ i = sym (length-map keys key_code) ∙ (ap (λ (cs : List Code). length cs) view ∙ (length-map (take i events) event_code ∙ length-take-le i events (omega arith))) in
-        let below : k < i = rw size at low in
-        let in_take : k < length (take i events) = rw (length-take-le i events (omega arith)) below in
-        let code : key_code (get_or keys k key) ≡ event_code (get_or events k e) =
-        sym (get_or-map key_code keys k key (event_code e) low) ∙ (ap (λ (cs : List Code). get_or cs k (event_code e)) view ∙ (get_or-map event_code (take i events) k e (event_code e) in_take ∙ ap event_code (get_or-take i events k e below))) in
-        let events_same : get_or events k e ≡ e = one_event (get_or events k e) e (sym code ∙ (same ∙ key_is)) in
-        once k i e below inside (events_same ∙ is))
+        none k (rw size low) code (at k code low ∙ (same ∙ is)))
     | inr fresh ↦ (
         let longer : all ≡ keys ++ key ∷ [] = all_is ∙ rw fresh refl in
-        ap (λ (ks : List Key). map key_code ks) longer ∙ (map-append key_code keys (key ∷ []) ∙ (ap (λ (cs : List Code). cs ++ key_code key ∷ []) view
-        ∙ (ap (λ (c : Code). map event_code (take i events) ++ c ∷ []) (key_is ∙ ap event_code is) ∙ sym (map_more event_code events i e inside)))))
+        ap (λ (ks : List Key). map key_code ks) longer ∙ (map-append key_code keys (key ∷ [])
+        ∙ (ap (λ (cs : List Code). cs ++ key_code key ∷ []) view ∙ ap (λ (c : Code). codes ++ c ∷ []) is)))
   ]
+
+module _ (events : List Event) (i : ℕ) (inside : i < length events) (e : Event) (is : e ≡ get_or events i e)
+    (codes : List Code) (view : codes ≡ map event_code (take i events)) where
+  -- the code of an event is none of those before it
+  pub not_before : AllPairs (λ a b. a ≢ b) events → IsMissingCode codes (event_code e)
+  not_before once k low d same =
+      let short : length (take i events) ≡ i = length-take-le i events (omega arith) in
+      let count : length codes ≡ i = ap (λ (cs : List Code). length cs) view ∙ (length-map (take i events) event_code ∙ short) in
+      let below : k < i = rw count at low in
+      let in_take : k < length (take i events) = rw short below in
+      let code : get_or codes k d ≡ event_code (get_or events k e) =
+      ap (λ (cs : List Code). get_or cs k d) view ∙ (get_or-map event_code (take i events) k e d in_take ∙ ap event_code (get_or-take i events k e below)) in
+      once k i e below inside (one_event (get_or events k e) e (sym code ∙ same) ∙ is)
+
+  -- the codes of one event more
+  pub one_more : (more : List Code) → more ≡ codes ++ event_code e ∷ [] → more ≡ map event_code (take (i + 1) events)
+  one_more more longer = longer ∙ (ap (λ (cs : List Code). cs ++ event_code e ∷ []) view
+      ∙ (ap (λ (x : Event). map event_code (take i events) ++ event_code x ∷ []) is ∙ sym (map_more event_code events i e inside)))

@@ -1,6 +1,5 @@
 -- A graph with a fault is not acceptable.
-use Rattle.std.proofs.Common.{◌≡◌, ℕ, ◌<◌, List, [], ◌∷◌, arith, refl, subst, All}
-use Rattle.ds_rank.specs.Order.{IsCycle, IsWalk}
+use Rattle.std.proofs.Common.{◌≡◌, ℕ, ◌<◌, refl, subst, All}
 use Rattle.ds_rank.specs.Rank.{HasFreeArc}
 use Rattle.ds_marked.specs.Graph.{Graph}
 use Rattle.ds_marked.specs.declared.marked.Arc.{Arc}

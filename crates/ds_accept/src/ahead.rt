@@ -1,5 +1,5 @@
 //! Arcs that are taken ahead of all, so that one sweep is enough.
-ghost use Rattle.std.specs.Prelude.{IfOk};
+ghost use Rattle.std.specs.Prelude.{IfOk, OnOk};
 ghost use Rattle.ds_accept.specs.Masks.{AreAllIn};
 
 use crate::arcs::push_from;
@@ -32,11 +32,25 @@ fn arcs_by_knots(alloc: Global, graph: &Marked, left: &[EventId]) -> Result<Vec<
     let mut knots = Knots::new(alloc, graph.events().len())?;
     let mut arcs: Vec<Arc> = Vec::new(alloc);
     for event in left.iter().rev() {
-        knots.gather(graph, *event)?;
-        knots.push_arcs(graph, &mut arcs)?;
-        push_from(&mut arcs, graph, *event)?;
+        push_knot(graph, &mut knots, &mut arcs, *event)?;
     }
     Ok(arcs)
+}
+
+// The arcs of the knot of an event and those from it, behind those that are there.
+fn push_knot(
+    graph: &Marked,
+    knots: &mut Knots,
+    arcs: &mut Vec<Arc>,
+    event: EventId,
+) -> Result<(), OutOfMemory>
+    requires { AreAllIn arcs.old.items graph.now.arcs }
+    ensures { OnOk result (AreAllIn arcs.new.items graph.now.arcs) }
+{
+    knots.gather(graph, event)?;
+    knots.push_arcs(graph, arcs)?;
+    push_from(arcs, graph, event)?;
+    Ok(())
 }
 
 // Whether no arc without tokens leads to its source or to an event before it.

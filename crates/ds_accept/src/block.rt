@@ -1,6 +1,7 @@
 //! Orders from at most 64 sources.
 ghost use Rattle.std.specs.Prelude.{◌≡◌, ◌+◌, ◌-◌, ◌*◌, ◌<◌, ◌≤◌, ◌↔◌, ℕ, All, IfOk, IsTrue};
 ghost use Rattle.std.specs.Prelude.{length, slice_index};
+ghost use Rattle.std.specs.Int.{bit_at};
 ghost use Rattle.ds_marked.specs.Graph.{AreEnds};
 ghost use Rattle.ds_accept.specs.Masks.{IsBlock, IsFoundBy, IsFirstNotFound};
 
@@ -10,10 +11,18 @@ use ds_marked::Arc;
 use std::alloc::{AllocError, Global};
 
 // Orders that stand together, the bit of each one's source, and the source of each bit.
-#[derive(Drop)]
 pub(crate) struct Block {
     pub(crate) sources: Vec<EventId>,
     pub(crate) bits: Vec<u32>,
+}
+
+impl Drop for Block {
+    fn drop(self) {
+        let Block {
+            sources: _,
+            bits: _,
+        } = self;
+    }
 }
 
 impl Block {
@@ -89,9 +98,18 @@ fn is_found(order: &Arc, bit: u32, events: usize, levels: usize, masks: &[u64]) 
     ensures { IsTrue result ↔ IsFoundBy events masks.now order.now bit }
 {
     for level in 0..usize::from(order.tokens) + 1 {
-        if (masks[level * events + order.target.index()] >> bit) & 1 == 1 {
+        let place = level * events + order.target.index();
+        if has_bit(masks[place], bit) {
             return true;
         }
     }
     false
+}
+
+// Whether a word has this bit.
+fn has_bit(word: u64, bit: u32) -> bool
+    requires { bit < 64 }
+    ensures { IsTrue result ↔ bit_at word bit ≡ 1 }
+{
+    (word >> bit) & 1 == 1
 }

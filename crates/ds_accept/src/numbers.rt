@@ -1,5 +1,6 @@
 //! Events of a list, found by their hash.
-ghost use Rattle.std.specs.Prelude.{◌≡◌, ◌≢◌, AllPairs, IfOk, MatchOption, map};
+ghost use Rattle.std.specs.Prelude.{◌≡◌, ◌≢◌, ◌++◌, ◌∷◌, [], AllPairs, IfOk, MatchOption, OnOk};
+ghost use Rattle.std.specs.Prelude.{map};
 ghost use Rattle.ds_accept.specs.Codes.{event_code, key_code, sign_of, IsMissingCode, StandsAtCode};
 
 use ds_base::OutOfMemory;
@@ -41,11 +42,22 @@ impl<'a> Numbers<'a> {
         requires { AllPairs (λ a b. a ≢ b) events.now }
         ensures { IfOk result (λ n. n ≡ map event_code events.now) }
     {
-        let mut keys = IndexSet::new(alloc);
+        let mut numbers = Numbers {
+            keys: IndexSet::new(alloc),
+        };
         for event in events {
-            keys.insert_full(key_of(event))?;
+            numbers.put(event)?;
         }
-        Ok(Numbers { keys })
+        Ok(numbers)
+    }
+
+    // Puts an event behind the others.
+    fn put(&mut self, event: &'a Event) -> Result<(), OutOfMemory>
+        requires { IsMissingCode self.old (event_code event.now) }
+        ensures { OnOk result (self.new ≡ self.old ++ event_code event.now ∷ []) }
+    {
+        self.keys.insert_full(key_of(event))?;
+        Ok(())
     }
 
     /// The place of an event.

@@ -1,6 +1,8 @@
 //! From a graph to a plan, or to its fault.
 ghost use Rattle.std.specs.Prelude.{◌≡◌, IfErr, IfOk, MatchResult};
 ghost use Rattle.ds_marked.specs.Graph.{IsKept};
+ghost use Rattle.ds_latch.specs.Plan.{IsPlan, split_events};
+ghost use Rattle.ds_control.specs.Control.{AreOrders};
 ghost use Rattle.ds_accept.specs.Accept.{IsAcceptable, IsPlanOf};
 ghost use Rattle.ds_accept.specs.Fault.{IsAcceptFault};
 ghost use Rattle.ds_accept.specs.Steps.{IsOrdered};
@@ -45,9 +47,25 @@ fn check(alloc: Global, latches: &Latches<'_>, graph: &Marked) -> Result<Marked,
         (IsAcceptFault latches.now graph.now) }
 {
     let required = controller(alloc, latches)?;
-    let places = places_of(alloc, &required, graph)?;
-    let other = ordered(alloc, graph, &required)?;
-    let asked = orders_asked(alloc, &required, &other, places.as_slice())?;
+    check_required(alloc, latches, &required, graph)
+}
+
+// The same against the graph of the required orders.
+fn check_required(
+    alloc: Global,
+    latches: &Latches<'_>,
+    required: &Marked,
+    graph: &Marked,
+) -> Result<Marked, AcceptFault>
+    requires events { required.now.events ≡ split_events latches.now }
+    requires orders { AreOrders latches.now required.now }
+    requires plan { IsPlan latches.now required.now }
+    ensures checked { MatchResult result (IsOrdered latches.now graph.now)
+        (IsAcceptFault latches.now graph.now) }
+{
+    let places = places_of(alloc, required, graph)?;
+    let other = ordered(alloc, graph, required)?;
+    let asked = orders_asked(alloc, required, &other, places.as_slice())?;
     check_walks(alloc, graph, asked.as_slice())?;
     Ok(other)
 }

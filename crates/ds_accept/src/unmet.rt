@@ -31,26 +31,14 @@ pub fn first_unmet(
     if asked.is_empty() {
         return Ok(None);
     }
-    let events = graph.events().len();
     let arcs = arcs_by(arcs_ahead(alloc, graph, order)?, graph, order)?;
-    let few = capped_orders(alloc, asked)?;
-    let levels = usize::from(most_tokens(asked)) + 1;
     let search = Search {
         arcs: arcs.as_slice(),
         asked,
-        events,
-        levels,
+        events: graph.events().len(),
+        levels: usize::from(most_tokens(asked)) + 1,
     };
-    let mut from = 0;
-    while from < asked.len() {
-        let block = Block::of(alloc, asked, from)?;
-        let unmet = unmet_of(alloc, &search, few.as_slice(), from, &block)?;
-        match unmet {
-            Some(place) => return Ok(Some(place)),
-            None => from += block.len(),
-        }
-    }
-    Ok(None)
+    first_along(alloc, &search)
 }
 
 // The greatest number of tokens.
@@ -64,6 +52,28 @@ fn most_tokens(asked: &[Arc]) -> u8
         }
     }
     most
+}
+
+// The first order that no walk gives, block by block.
+fn first_along(alloc: Global, search: &Search<'_>) -> Result<Option<usize>, OutOfMemory>
+    requires ends { AreEnds search.now.events search.now.arcs.now }
+    requires asked { AreEnds search.now.events search.now.asked.now }
+    requires levels { All (λ arc. arc.tokens < search.now.levels) search.now.asked.now }
+    requires few { (0 < search.now.levels) × (search.now.levels ≤ 256)
+        × (search.now.events < 2 ^ 32) }
+    ensures { IfOk result (IsFirstUnmet (along_arcs search.now.arcs.now) search.now.asked.now) }
+{
+    let few = capped_orders(alloc, search.asked)?;
+    let mut from = 0;
+    while from < search.asked.len() {
+        let block = Block::of(alloc, search.asked, from)?;
+        let unmet = unmet_of(alloc, search, few.as_slice(), from, &block)?;
+        match unmet {
+            Some(place) => return Ok(Some(place)),
+            None => from += block.len(),
+        }
+    }
+    Ok(None)
 }
 
 // The first order of a block that no walk gives. With more than two levels it is tried first

@@ -8,7 +8,7 @@ use crate::ranked::{by_rank, in_turn};
 use crate::{AcceptFault, first_unmet, least_sums};
 use ds_base::EventId;
 use ds_marked::{Arc, Marked};
-use ds_rank::{RankFault, rank};
+use ds_rank::{RankFault, Ranks, rank};
 use std::alloc::Global;
 
 // Whether walks give these orders and no cycle of arcs is without tokens; else the first fault.
@@ -17,20 +17,43 @@ pub(crate) fn check_walks(alloc: Global, graph: &Marked, asked: &[Arc]) -> Resul
     ensures { MatchResult result (λ _. AreWalked graph.now asked.now)
         (IsUnmet graph.now asked.now) }
 {
-    let events = graph.events().len();
     match rank(alloc, graph) {
         Ok(ranks) => {
-            let order = by_rank(alloc, events, &ranks)?;
-            find_walks(alloc, graph, order.as_slice(), asked)?;
+            find_by_rank(alloc, graph, &ranks, asked)?;
             Ok(())
         }
         Err(RankFault::Cycle(cycle)) => {
-            let order = in_turn(alloc, events)?;
-            find_walks(alloc, graph, order.as_slice(), asked)?;
+            find_in_turn(alloc, graph, asked)?;
             Err(AcceptFault::TokenFreeCycle(cycle))
         }
         Err(RankFault::Memory) => Err(AcceptFault::Memory),
     }
+}
+
+// Whether walks give these orders, or the first one that none gives, by the ranks of the events.
+fn find_by_rank(
+    alloc: Global,
+    graph: &Marked,
+    ranks: &Ranks,
+    asked: &[Arc],
+) -> Result<(), AcceptFault>
+    requires ends { AreEnds (length graph.now.events) asked.now }
+    requires ranks { length ranks.now ≡ length graph.now.events }
+    ensures { MatchResult result (λ _. All (IsGiven graph.now) asked.now)
+        (IsUnmet graph.now asked.now) }
+{
+    let order = by_rank(alloc, graph.events().len(), ranks)?;
+    find_walks(alloc, graph, order.as_slice(), asked)
+}
+
+// The same of events as they stand.
+fn find_in_turn(alloc: Global, graph: &Marked, asked: &[Arc]) -> Result<(), AcceptFault>
+    requires { AreEnds (length graph.now.events) asked.now }
+    ensures { MatchResult result (λ _. All (IsGiven graph.now) asked.now)
+        (IsUnmet graph.now asked.now) }
+{
+    let order = in_turn(alloc, graph.events().len())?;
+    find_walks(alloc, graph, order.as_slice(), asked)
 }
 
 // Whether walks give these orders, or the first one that none gives.

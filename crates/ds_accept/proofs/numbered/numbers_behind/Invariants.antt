@@ -1,5 +1,5 @@
 use Rattle.ds_accept.proofs.Numbering.{AreNumberedTo}
-use Rattle.ds_accept.proofs.numbered.numbers_of.Given as goal
+use Rattle.ds_accept.proofs.numbered.numbers_behind.Given as goal
 
 abbrev pub invariant-loop-event : goal.invariant-loop-event
 invariant-loop-event l = AreNumberedTo l.known l.graph l.events l.event-index l.numbers.items
