@@ -1,10 +1,11 @@
-ghost use Rattle.std.specs.Prelude.{◌≡◌};
+//! Vectors as they are read, line by line.
+ghost use Rattle.std.specs.Prelude.{◌≡◌, ◌++◌, ◌∷◌, ◌<◌, [], length, map, OnOk};
 ghost use Rattle.ds_base.specs.Refusal.{IsMeant};
-ghost use Rattle.ds_rows.specs.Vector.{vectors_of};
+ghost use Rattle.ds_rows.specs.Vector.{vectors_of, row_of as row_of_words};
 
 use crate::VectorRefusal;
 use crate::vector::{fault_of, row_of};
-use ds_base::{Refusal, Seq};
+use ds_base::{OutOfMemory, Refusal, Row3, Seq};
 use ds_design::Vectors;
 use ds_lines::{At, Lines};
 use std::alloc::Global;
@@ -26,7 +27,22 @@ pub fn read_vectors(
             let line = lines.number(i);
             return Err(Refusal::Fault(At { line, kind }));
         }
-        rows.push(row_of(alloc, width, words)?)?;
+        push_row(alloc, width, words, &mut rows)?;
     }
     Ok(Vectors::of(width, rows))
+}
+
+// Puts the row of a line behind others.
+fn push_row(
+    alloc: Global,
+    width: usize,
+    words: &[&[u8]],
+    rows: &mut Seq<Row3>,
+) -> Result<(), OutOfMemory>
+    requires { 0 < length words.now }
+    ensures { OnOk result (rows.new
+        ≡ rows.old ++ row_of_words width (map (λ w. w.now) words.now) ∷ []) }
+{
+    rows.push(row_of(alloc, width, words)?)?;
+    Ok(())
 }

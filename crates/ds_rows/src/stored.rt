@@ -41,7 +41,8 @@ fn fill(piece: &mut [u8], words: &[u64], words_a_row: usize, place: usize, from:
     let word = place / 32;
     let behind = 2 * (place % 32);
     for i in 0..piece.len() {
-        let rest = words[(from + i) * words_a_row + word] >> behind;
+        let at = (from + i) * words_a_row + word;
+        let rest = words[at] >> behind;
         piece[i] = character_of(rest % 4);
     }
 }

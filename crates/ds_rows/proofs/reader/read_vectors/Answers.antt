@@ -10,6 +10,6 @@ loop-i-preserved c =
     let lines = c.args.lines.now in
     let i = c.loop-i.i in
     let clean : fault_of_vector c.args.width i (line_or_none lines i).words ≡ None = ap (fault_of_vector c.args.width i) (sym c.line-words.ensures.value) ∙ (sym c.fault_of.ensures ∙ c.in_default.is) in
-    let is = c.in_ok-row_of.ensures ∙ ap (row_of c.args.width) c.line-words.ensures.value in
-    subst (λ (rows : List Row). IsRead c.args.width (i + 1) lines rows) (sym c.in_ok-push.ensures.ok)
-    (read_more c.args.width i lines c.loop-i.rows c.in_ok-row_of.field-0 (omega arith) c.loop-i.invariant clean is)
+    let is = ap (row_of c.args.width) c.line-words.ensures.value in
+    subst (λ (rows : List Row). IsRead c.args.width (i + 1) lines rows) (sym c.in_ok-push_row.ensures)
+    (read_more c.args.width i lines c.loop-i.rows _ (omega arith) c.loop-i.invariant clean is)
