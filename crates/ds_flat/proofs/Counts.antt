@@ -1,8 +1,9 @@
 -- How many copies of each model wait.
 use Rattle.std.proofs.Common.{◌≡◌, ◌≢◌, ℕ, ◌+◌, ◌-◌, ◌<◌, ◌≤◌, true, false, List, [], ◌∷◌, ◌==◌}
-use Rattle.std.proofs.Common.{length, get_or, refl, sym, ap, ◌∙◌, subst, arith, inl, inr, nat_lt, eq-eqb, set, length-set, get_or-set_same, get_or-set_other}
+use Rattle.std.proofs.Common.{length, get_or, refl, sym, ap, ◌∙◌, subst, arith, inl, inr, nat_lt, eq-eqb, set, length-set, get_or-set_same, get_or-set_other, replicate}
 use Rattle.std.specs.List.{list_any}
 use Rattle.std.proofs.lemmas.Bool.{cases_Bool, eqb-true}
+use Rattle.std.proofs.lemmas.List.{get_or-replicate, length-replicate}
 use Rattle.std.proofs.lemmas.List.Elements.{All-head, All-tail, All-cons}
 use Rattle.ds_flat.specs.Stack.{AreCounts, times_among}
 
@@ -109,6 +110,10 @@ pub counts_few : (counts places : List ℕ) (place : ℕ) → AreCounts counts p
 counts_few counts places place are inside =
     let e = are.counted place inside in omega (arith, times_few place places)
 
-pub counts_none : (counts : List ℕ) → ((k : ℕ) → k < length counts → get_or counts k 0 ≡ 0)
+pub counts_none : (counts : List ℕ) (models : ℕ) → counts ≡ replicate models 0
     → AreCounts counts []
-counts_none counts zeros = record { within = λ k d below. absurd (omega arith); counted = zeros }
+counts_none counts models zeros =
+    subst (λ (all : List ℕ). AreCounts all []) (sym zeros) (record {
+      within = λ k d below. absurd (omega arith);
+      counted = λ k inside. get_or-replicate models k 0 0 (omega (arith, length-replicate {A = ℕ} models 0));
+    })

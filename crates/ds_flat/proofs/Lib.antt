@@ -1,6 +1,7 @@
 pub mod Keys
 pub mod Bindings
 pub mod NumberLemmas
+pub mod Fronts
 pub mod Models
 pub mod Counts
 pub mod Frames

@@ -21,7 +21,6 @@ use std::alloc::Global;
 use std::marker::Model;
 
 /// The main model's name, the nets, the interface, the tables and the registers so far.
-#[derive(Drop)]
 pub struct Draft<'m> {
     pub name: &'m [u8],
     pub nets: NetList<'m>,
@@ -30,6 +29,20 @@ pub struct Draft<'m> {
     pub clocks: Ports,
     pub tables: Vec<Gate>,
     pub registers: Vec<Register>,
+}
+
+impl Drop for Draft<'_> {
+    fn drop(self) {
+        let Draft {
+            tables: _,
+            registers: _,
+            name: _,
+            nets: _,
+            inputs: _,
+            outputs: _,
+            clocks: _,
+        } = self;
+    }
 }
 
 impl<'m> Model for Draft<'m> {
@@ -85,6 +98,23 @@ impl<'m> Draft<'m> {
             outputs,
             clocks,
         })
+    }
+
+    /// The tables and the registers.
+    pub fn into_parts(self) -> (Vec<Gate>, Vec<Register>)
+        ensures tables { result.0.items ≡ self.entry.tables }
+        ensures registers { result.1.items ≡ self.entry.registers }
+    {
+        let Draft {
+            name: _,
+            nets: _,
+            inputs: _,
+            outputs: _,
+            clocks: _,
+            tables,
+            registers,
+        } = self;
+        (tables, registers)
     }
 
     /// The first limit that it passes.

@@ -120,11 +120,7 @@ fn finish(alloc: Global, draft: Draft<'_>) -> Result<Design, OutOfMemory>
     ensures { IfOk result (λ d. d ≡ draft.entry) }
 {
     let head = draft.head(alloc)?;
-    let Draft {
-        tables,
-        registers,
-        ..
-    } = draft;
+    let (tables, registers) = draft.into_parts();
     let Head {
         name,
         nets,

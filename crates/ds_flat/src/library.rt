@@ -1,9 +1,11 @@
 //! The models of a text, by name, with their interfaces.
-ghost use Rattle.std.specs.Prelude.{◌≡◌, ◌≢◌, ◌<◌, None, Some, [], length, option_map, AllPairs};
-ghost use Rattle.std.specs.Prelude.{MatchOption, IfOk, OnOk};
+ghost use Rattle.std.specs.Prelude.{◌≡◌, ◌≢◌, ◌<◌, ◌++◌, ◌∷◌, None, Some, [], length, option_map};
+ghost use Rattle.std.specs.Prelude.{AllPairs, MatchOption, IfOk, OnOk};
+ghost use Rattle.ds_lines.specs.Names.{with_name};
 ghost use Rattle.ds_flat.specs.Copies.{model_named, unknown_formal as unknown_formal_in};
 ghost use Rattle.ds_flat.specs.Copies.{ports_in as ports_in_part};
-ghost use Rattle.ds_flat.specs.Interface.{with_ports_of, with_names as names_with, Finds};
+ghost use Rattle.ds_flat.specs.Interface.{with_ports_of, with_names as names_with};
+ghost use Rattle.ds_flat.specs.Interface.{ports_by, Finds};
 
 use crate::bare::Bare;
 use crate::lent::Lent;
@@ -14,11 +16,20 @@ use std::alloc::Global;
 use std::marker::Model;
 
 /// Models, their names, and the names of each one's interface.
-#[derive(Drop)]
 pub struct Library<'b, 'm> {
     models: &'b [Bare<'m>],
     names: Names<'m>,
     ports: Vec<Names<'m>>,
+}
+
+impl Drop for Library<'_, '_> {
+    fn drop(self) {
+        let Library {
+            models: _,
+            names: _,
+            ports: _,
+        } = self;
+    }
 }
 
 impl<'b, 'm> Model for Library<'b, 'm> {
@@ -50,8 +61,7 @@ impl<'b, 'm> Library<'b, 'm> {
         let mut names: Names<'m> = Names::new(alloc);
         let mut ports = Vec::with_capacity(alloc, models.len())?;
         for model in models {
-            names.insert(model.name())?;
-            ports.push(ports_in(alloc, model.commands())?)?;
+            add_model(alloc, &mut names, &mut ports, model)?;
         }
         Ok(Library {
             models,
@@ -96,6 +106,21 @@ pub fn unknown_formal<'p>(ports: &Names<'_>, pairs: &'p [Pair<'p>]) -> Option<&'
         }
     }
     None
+}
+
+// With the name of a model, and the names of its interface.
+fn add_model<'m>(
+    alloc: Global,
+    names: &mut Names<'m>,
+    ports: &mut Vec<Names<'m>>,
+    model: &Bare<'m>,
+) -> Result<(), OutOfMemory>
+    ensures names { OnOk result (names.new ≡ with_name names.old model.now.name) }
+    ensures ports { OnOk result (ports.new.items ≡ ports.old.items ++ ports_by model.now ∷ []) }
+{
+    names.insert(model.name())?;
+    ports.push(ports_in(alloc, model.commands())?)?;
+    Ok(())
 }
 
 // The names of an interface, each once.

@@ -164,27 +164,26 @@ pub fn checked<'l, 'b, 'm>(
     }
 }
 
-/// The copy that a use opens, over the design with the nets of the use, or why there is none.
+/// The copy that a use opens, where the nets of the use come to the design, or why there is none.
 pub fn open<'b, 'm>(
     alloc: Global,
     top: &Open<'b, 'm>,
     found: Found<'_, 'b, 'm>,
     copies: u32,
-    draft: Draft<'m>,
+    draft: &mut Draft<'m>,
     line: u64,
     call: &'m UseText<'m>,
-) -> Result<(Open<'b, 'm>, Draft<'m>), FlatRefusal>
+) -> Result<Open<'b, 'm>, FlatRefusal>
     requires call { IsUseText call.now }
     requires few { copies < 65536 }
     ensures value { MatchResult result
-        (λ r. (path : List (List ℕ)) → opened_within line (next_copy path top.now.scope
-        call.entry.now found.entry.model.now (record { copies = copies; design = draft.entry }))
-        ≡ Ok (opened_on path r.0 copies r.1))
+        (λ next. (path : List (List ℕ)) → opened_within line (next_copy path top.now.scope
+        call.entry.now found.entry.model.now (record { copies = copies; design = draft.old }))
+        ≡ Ok (opened_on path next copies draft.new))
         (λ e. (path : List (List ℕ)) → RefusesAs e (opened_within line (next_copy path top.now.scope
-        call.entry.now found.entry.model.now (record { copies = copies; design = draft.entry })))) }
-    ensures model { IfOk result (λ r. IsCopyOf r.0 found.entry.place found.entry.model.now) }
+        call.entry.now found.entry.model.now (record { copies = copies; design = draft.old })))) }
+    ensures model { IfOk result (λ next. IsCopyOf next found.entry.place found.entry.model.now) }
 {
-    let mut draft = draft;
     match connect(
         alloc,
         &mut draft.nets,
@@ -193,15 +192,12 @@ pub fn open<'b, 'm>(
         call.pairs.as_slice(),
     ) {
         Ok(scope) => match draft.passed_limit() {
-            None => Ok((
-                Open {
-                    model: found.place,
-                    name: found.model.name(),
-                    scope,
-                    commands: found.model.commands(),
-                },
-                draft,
-            )),
+            None => Ok(Open {
+                model: found.place,
+                name: found.model.name(),
+                scope,
+                commands: found.model.commands(),
+            }),
             Some(limit) => Err(too_many(line, limit)),
         },
         Err(stop) => Err(stopped(line, stop)),

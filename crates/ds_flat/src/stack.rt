@@ -12,10 +12,18 @@ use std::alloc::Global;
 use std::marker::Model;
 
 /// Copies that wait for one in them, and for each model how many of its copies they are.
-#[derive(Drop)]
 pub struct Stack<'b, 'm> {
     frames: Vec<Open<'b, 'm>>,
     counts: Vec<usize>,
+}
+
+impl Drop for Stack<'_, '_> {
+    fn drop(self) {
+        let Stack {
+            frames: _,
+            counts: _,
+        } = self;
+    }
 }
 
 impl<'b, 'm> Model for Stack<'b, 'm> {
@@ -39,10 +47,7 @@ impl<'b, 'm> Stack<'b, 'm> {
     pub fn new(alloc: Global, models: usize) -> Result<Self, OutOfMemory>
         ensures { IfOk result (λ s. s ≡ record { frames = []; places = []; models = models }) }
     {
-        let mut counts = Vec::with_capacity(alloc, models)?;
-        for _ in 0..models {
-            counts.push(0)?;
-        }
+        let counts: Vec<usize> = vec![in alloc; 0; models]?;
         Ok(Stack {
             frames: Vec::new(alloc),
             counts,

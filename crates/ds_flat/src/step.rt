@@ -61,25 +61,24 @@ fn use_in<'p, 'm>(part: &'p Part<'m>) -> Option<&'p UseText<'m>>
     }
 }
 
-// A command other than a use is taken.
+// A command other than a use is taken. After a refusal the design holds a part of it.
 fn take_part<'m>(
     alloc: Global,
     scope: &Scope<'m>,
-    draft: Draft<'m>,
+    draft: &mut Draft<'m>,
     command: &'m Command<'m>,
-) -> Result<Draft<'m>, FlatRefusal>
+) -> Result<(), FlatRefusal>
     requires { IsPart command.now.part }
     ensures { MatchResult result
-        (λ d. (copies : ℕ) → flat_within copies command.entry.now.line
-        (with_part scope.now command.entry.now.line command.entry.now.part draft.entry)
-        ≡ Ok (record { copies = copies; design = d }))
+        (λ _. (copies : ℕ) → flat_within copies command.entry.now.line
+        (with_part scope.now command.entry.now.line command.entry.now.part draft.old)
+        ≡ Ok (record { copies = copies; design = draft.new }))
         (λ e. (copies : ℕ) → RefusesAs e (flat_within copies command.entry.now.line
-        (with_part scope.now command.entry.now.line command.entry.now.part draft.entry))) }
+        (with_part scope.now command.entry.now.line command.entry.now.part draft.old))) }
 {
-    let mut draft = draft;
     match draft.add(alloc, scope, command.line, &command.part) {
         Ok(()) => match draft.passed_limit() {
-            None => Ok(draft),
+            None => Ok(()),
             Some(limit) => Err(too_many(command.line, limit)),
         },
         Err(stop) => Err(stopped(command.line, stop)),
@@ -110,13 +109,13 @@ fn take_use<'b, 'm>(
         top,
         below,
         copies,
-        draft,
+        mut draft,
     } = state;
     match checked(alloc, library, &top, &below, copies, line, call) {
         Err(refusal) => Err(refusal),
-        Ok(found) => match open(alloc, &top, found, copies, draft, line, call) {
+        Ok(found) => match open(alloc, &top, found, copies, &mut draft, line, call) {
             Err(refusal) => Err(refusal),
-            Ok((next, draft)) => match below.pushed(top) {
+            Ok(next) => match below.pushed(top) {
                 Err(_) => Err(Refusal::Memory),
                 Ok(below) => Ok(State {
                     top: next,
@@ -149,19 +148,16 @@ pub fn take<'b, 'm>(
         (after_take library.now state.entry.frames state.entry.flat command.entry.now)) }
 {
     match use_in(&command.part) {
-        Some(call) => match take_use(alloc, library, state, command.line, call) {
-            Ok(next) => Ok(next),
-            Err(refusal) => Err(refusal),
-        },
+        Some(call) => take_use(alloc, library, state, command.line, call),
         None => {
             let State {
                 top,
                 below,
                 copies,
-                draft,
+                mut draft,
             } = state;
-            match take_part(alloc, &top.scope, draft, command) {
-                Ok(draft) => Ok(State {
+            match take_part(alloc, &top.scope, &mut draft, command) {
+                Ok(()) => Ok(State {
                     top,
                     below,
                     copies,

@@ -40,7 +40,7 @@ returns-clause-value c =
     use_value c.args.library.now c.state.inside.top c.state.inside.below c.state.inside.copies
     c.state.inside.draft c.args.line c.args.call.now c.args.state c.state.view_is
     c.in-Ok.found.model.now c.in-Ok.ensures.ok c.in-Ok-open.next c.in-Ok-pushed.below
-    c.in-Ok-open.draft
+    c.open.new.draft
     (c.in-Ok-open.ensures.value (c.state.inside.top.name.now ∷ path_of c.state.inside.below.frames))
     c.in-Ok-pushed.ensures
 
@@ -48,10 +48,10 @@ pub returns-clause-kept : goal.returns-clause-kept
 returns-clause-kept c =
     let kept = subst (λ (r : Rest). IsRestKept c.args.library.now r) (sym c.state.view_is) c.requires.kept in
     subst (λ (s : Stacked). IsRestKept c.args.library.now (rest_of c.in-Ok-open.next s
-    (c.state.inside.copies + 1) c.in-Ok-open.draft)) (sym c.in-Ok-pushed.ensures)
+    (c.state.inside.copies + 1) c.open.new.draft)) (sym c.in-Ok-pushed.ensures)
     (kept_use c.args.library.now c.state.inside.top c.state.inside.below c.state.inside.copies
     c.state.inside.draft kept c.args.line c.args.call.now c.in-Ok.found.model.now
-    c.in-Ok.found.place c.in-Ok.found.ports.now c.in-Ok-open.next c.in-Ok-open.draft
+    c.in-Ok.found.place c.in-Ok.found.ports.now c.in-Ok-open.next c.open.new.draft
     c.requires.parts c.in-Ok.ensures.found c.in-Ok.ensures.few
     (c.in-Ok-open.ensures.value (c.state.inside.top.name.now ∷ path_of c.state.inside.below.frames))
     c.in-Ok-open.ensures.model)
@@ -59,12 +59,12 @@ returns-clause-kept c =
 pub returns-clause-less : goal.returns-clause-less
 returns-clause-less c =
     subst (λ (s : Stacked). most_turns c.args.library.now (rest_of c.in-Ok-open.next s
-    (c.state.inside.copies + 1) c.in-Ok-open.draft) ≤ most_turns c.args.library.now c.args.state)
+    (c.state.inside.copies + 1) c.open.new.draft) ≤ most_turns c.args.library.now c.args.state)
     (sym c.in-Ok-pushed.ensures)
     (subst (λ (r : Rest). most_turns c.args.library.now (rest_of c.in-Ok-open.next (put_on
-    c.state.inside.top c.state.inside.below) (c.state.inside.copies + 1) c.in-Ok-open.draft)
+    c.state.inside.top c.state.inside.below) (c.state.inside.copies + 1) c.open.new.draft)
     ≤ most_turns c.args.library.now r) c.state.view_is
     (turns_use c.args.library.now c.state.inside.top c.state.inside.below c.state.inside.copies
     c.state.inside.draft c.in-Ok-open.next c.args.call.now.model c.in-Ok.found.model.now
-    c.in-Ok.found.place c.in-Ok-open.draft c.in-Ok.ensures.found.named c.in-Ok-open.ensures.model
+    c.in-Ok.found.place c.open.new.draft c.in-Ok.ensures.found.named c.in-Ok-open.ensures.model
     c.in-Ok.ensures.few))

@@ -7,5 +7,6 @@ use Rattle.ds_flat.proofs.stack.Stack.new.Goals as goal
 
 pub invariant_of-result : goal.invariant_of-result
 invariant_of-result c =
-    subst (λ (items : List Open). AreCounts c.loop.counts.items (places_of (reverse items)))
-    (sym c.new.ensures.items) (counts_none c.loop.counts.items c.loop.invariant.zeros)
+    subst (λ (items : List Open). AreCounts c.in_ok-counts.counts.items (places_of (reverse items)))
+    (sym c.new.ensures.items) (counts_none c.in_ok-counts.counts.items c.args.models
+    (c.in_ok-counts.ensures.items_if_clones_equal (λ y same. same)))
