@@ -1,5 +1,5 @@
 -- The record of a run that went to its end, or stopped before it.
-use Rattle.std.proofs.Common.{◌≡◌, ℕ, ◌+◌, ◌-◌, ◌*◌, ◌<◌, ◌≤◌, List, length, sym, ap, ◌∙◌, subst, arith, true, Option, None, Some}
+use Rattle.std.proofs.Common.{◌≡◌, ℕ, ◌+◌, ◌-◌, ◌*◌, ◌<◌, ◌≤◌, List, Bool, length, sym, ap, ◌∙◌, subst, arith, true, false, get_or, Option, None, Some}
 use Rattle.std.proofs.Common.{mul_left_comm, mul-le-mul_right, one-mul}
 use mathlib.Core.Logic.{dite}
 use native.Mathlib.Decide.{dec_lt}
@@ -10,8 +10,9 @@ use Rattle.ds_rule.specs.Rule.{holds, seen, tickets}
 use Rattle.ds_rule.specs.declared.view.View.{View}
 use Rattle.ds_rule.proofs.EventLaws.{node_below}
 use Rattle.ds_rule.proofs.Logs.{length-places, log_most}
-use Rattle.ds_fabric.specs.Showing.{Recorder, IsCounted}
-use Rattle.ds_runner.specs.Work.{IsRest, quota_of, all_tickets, tickets_below}
+use Rattle.ds_fabric.specs.Base.{Base}
+use Rattle.ds_fabric.specs.Showing.{Belongs, Recorder, Showing, IsCounted}
+use Rattle.ds_runner.specs.Work.{HasFrom, IsRest, Moved, quota_of, all_tickets, tickets_below}
 use Rattle.ds_runner.specs.Whole.{IsWhole}
 use Rattle.ds_runner.specs.Stopped.{IsStopped, IsRunRecord, all_firings}
 use Rattle.ds_runner.proofs.Sums.{sum_all}
@@ -96,3 +97,22 @@ ended (Some quota) jobs run v r before rest sound some-job shown run-is recorded
     (tickets-many run v r.many sound.among run-is recorded) few
     (subst (λ (n : ℕ). all_tickets v ≤ before + n) is most)
     (subst (λ (n : ℕ). all_tickets v < before + n → IsWhole run r) is done)
+
+-- after steps a pass holds what it held
+pub still_holds : (b : Base) (p q : Showing) → Belongs b p → HasFrom p.view 0 → Moved b.memory p q
+    → (l : ℕ) → l < b.run.nodes → holds q.view l ≡ true
+still_holds b p q fits has moved l near = ap (λ (hs : List Bool). get_or hs l false) moved.holds_same
+    ∙ has l (omega arith) (omega (arith, near, ap (λ (r : Run). r.nodes) fits.run))
+
+-- the record of a pass that the caller went on with
+pub finished : (quota : Option ℕ) (jobs : ℕ) (b : Base) (p q : Showing) (r : Recorder) (rest : ℕ) → IsSound b.run → 0 < jobs
+    → Belongs b p → HasFrom p.view 0 → all_tickets p.view ≤ jobs * quota_of quota → IsRest quota (all_tickets p.view) rest
+    → Moved b.memory p q → all_tickets q.view ≤ all_tickets p.view + rest
+    → (all_tickets q.view < all_tickets p.view + rest → (e : ℕ) → node_of b.run e < b.run.nodes
+    → b.run.limit ≤ count b.run (seen q.view) e)
+    → r.shown ≡ q → Recorded b.run (tickets q.view) r.many → IsCounted q.view → IsRunRecord quota jobs b.run r
+finished quota jobs b p q r rest sound some-job fits has few is moved most done shown recorded counted =
+    let view : r.shown.view ≡ q.view = ap (λ (x : Showing). x.view) shown in
+    let same : q.view.run ≡ b.run = moved.run ∙ fits.run in
+    ended quota jobs b.run q.view r (all_tickets p.view) rest sound some-job view same recorded few is most
+    (λ short. whole b.run q.view r view same recorded counted (still_holds b p q fits has moved) (done short))

@@ -1,5 +1,6 @@
 -- Lemmas of passes that are dealt, workers who are hired, and turns that come back.
-use Rattle.std.proofs.Common.{◌≡◌, ℕ, zero, suc, ◌+◌, ◌<◌, ◌≤◌, true, false, List, [], ◌∷◌, ◌++◌, length, get_or, replicate, sym, refl, ap, ◌∙◌, subst, arith, ⊎_elim, All, sum_by, suc-mul, ◌*◌, take, drop}
+use Rattle.std.proofs.Common.{◌≡◌, ℕ, zero, suc, ◌+◌, ◌-◌, ◌<◌, ◌≤◌, le_of_eq, true, false, List, [], ◌∷◌, ◌++◌, length, get_or, replicate, sym, refl, ap, ◌∙◌, subst, arith, ⊎_elim, All, sum_by, suc-mul, ◌*◌, take, drop}
+use Rattle.std.specs.Prelude.{vec_capacity}
 use Rattle.std.proofs.lemmas.List.Sums.{sum_by-cons}
 use mathlib.Core.Logic.{dite}
 use native.Mathlib.Decide.{ℕ_discrete}
@@ -15,10 +16,12 @@ use Rattle.ds_base.specs.Scratch.{Remembers}
 use Rattle.ds_fabric.specs.Base.{Base}
 use Rattle.ds_fabric.specs.Showing.{Showing, Belongs, IsDealt, IsLeft}
 use Rattle.ds_runner.specs.Turns.{Alone, HasNone, base, fabric_of, has_out, joined, keeps_parts, one_part, run_of}
-use Rattle.ds_runner.specs.Shown.{AreAlone, IsTurnstileClosed, Stile}
+use Rattle.ds_runner.specs.Shown.{AreAlone, IsTurnOf, IsTurnstileClosed, IsTurnstileOpened, Stile, Turned}
 use Rattle.ds_runner.specs.declared.turn_view.TurnView.{TurnView}
-use Rattle.ds_runner.specs.Work.{AreSingle, HasPassOfEach, HasFrom, IsLent, IsUnfired, IsWithin, IsWorker, made_of}
+use Rattle.ds_runner.specs.Work.{AreSingle, HasPassOfEach, HasFrom, IsCrew, IsLent, IsUnfired, IsWithin, IsWorker, made_of}
+use Rattle.ds_runner.specs.declared.crew.Crew.{Crew}
 use Rattle.ds_runner.specs.declared.worker.Worker.{Worker}
+use Rattle.ds_runner.proofs.Borders.{one_longer}
 use Rattle.ds_runner.proofs.Work.{first_both, only_has, second_both, without_has, written}
 
 -- one pass more
@@ -159,6 +162,62 @@ all_workers b s n [] all = All-nil (IsWorker b s)
 all_workers b s n (w ∷ ws) all =
     All-cons (IsWorker b s) w ws (All-head (IsWithin b s n) w ws all).worker
     (all_workers b s n ws (All-tail (IsWithin b s n) w ws all))
+
+-- so many of the workers are hired, for whom there is room, and the turn has the other parts
+pub record IsHiring (b : Base) (s : Stile) (number count room : ℕ) (ws : List Worker) (t : Turned) : Type 0 where
+  pub are : All (IsWithin b s 0) ws
+  pub many : length ws ≡ number
+  pub belongs : IsTurnOf s t
+  pub none : HasNone t.view
+  pub parts : t.view.parts + number ≡ count + 1
+  pub fits : count ≤ room
+  pub made : t.view.made ≡ 0
+
+-- one worker more, whose turn was split off
+pub one_more_hired : (b : Base) (s : Stile) (number count : ℕ) {room room' : ℕ} (ws vs : List Worker) (w : Worker) (t u : Turned)
+    → IsHiring b s number count room ws t → number < count → vs ≡ ws ++ w ∷ [] → room' ≡ room → IsTurnOf s u
+    → u.view ≡ keeps_parts t.view → IsTurnOf s w.turn → w.turn.view ≡ one_part t.view → Remembers b.memory w.scratch
+    → IsHiring b s (number + 1) count room' vs u
+one_more_hired b s number count ws vs w t u hiring near is same fits left own new remembers =
+    let one : IsWithin b s 0 w = record {
+      worker = record {
+        belongs = own;
+        none = part_none t.view w.turn.view new;
+        one = ap (λ (v : TurnView). v.parts) new;
+        remembers = remembers;
+      };
+      few = le_of_eq (ap (λ (v : TurnView). v.made) new);
+    } in
+    let parts : u.view.parts ≡ t.view.parts - 1 = ap (λ (v : TurnView). v.parts) left in record {
+      are = all_more (IsWithin b s 0) ws vs w is hiring.are one;
+      many = omega (arith, one_longer ws vs w is, hiring.many);
+      belongs = fits;
+      none = keeps_none t.view u.view left hiring.none;
+      parts = omega (arith, parts, hiring.parts, near);
+      fits = omega (arith, same, hiring.fits);
+      made = ap (λ (v : TurnView). v.made) left ∙ hiring.made;
+    }
+
+-- what was hired is a crew: the turnstile was opened over the passes, and each worker has a turn
+pub is_crew : (b : Base) (k : Crew) (ps : List Showing) (t : Turned) (count : ℕ) → AreSingle b ps → length ps ≡ b.run.nodes
+    → 0 < b.run.nodes → base 0 ps ≡ 0 → IsTurnstileOpened ps (count + 1) k.gear.stile t
+    → IsTurnOf k.gear.stile k.turn × HasNone k.turn.view × (k.turn.view.parts ≡ 1) × (k.turn.view.made ≡ 0)
+    → All (IsWithin b k.gear.stile 0) k.workers.items × (length k.workers.items ≡ count) → 0 < count
+    → k.passes.items ≡ [] → b.run.nodes ≤ vec_capacity k.passes → IsCrew b k
+is_crew b k ps t count all long some_nodes unfired opened turn hired some_count empty room =
+    let fits : HasPassOfEach b k.gear.stile =
+    opened_fits b ps k.gear.stile all (omega (arith, long, some_nodes)) long opened.given_is in record {
+      fits = fits;
+      belongs = turn.0;
+      none = turn.1;
+      made = turn.3;
+      unfired = ap (base 0) opened.given_is ∙ unfired;
+      parts = omega (arith, turn.2, hired.1, opened.turns_is);
+      are = all_workers b k.gear.stile 0 k.workers.items hired.0;
+      some_workers = omega (arith, hired.1, some_count);
+      empty = empty;
+      room = omega (arith, fits.long, room);
+    }
 
 -- the first pass has all nodes
 pub first_has : (run : Run) (v : View) → v ≡ first_view run → HasFrom v 0

@@ -2,6 +2,7 @@
 //! a turn. All memory that workers need is taken here.
 ghost use Rattle.std.specs.Prelude.{◌≡◌, ◌<◌, ◌≤◌, ◌+◌, IfOk, OnOk, All, length};
 ghost use Rattle.std.specs.Prelude.{vec_capacity};
+ghost use Rattle.ds_base.specs.Scratch.{Remembers};
 ghost use Rattle.ds_fabric.specs.Showing.{Belongs};
 ghost use Rattle.ds_runner.specs.Turns.{HasNone, base};
 ghost use Rattle.ds_runner.specs.Shown.{IsTurnOf};
@@ -19,7 +20,7 @@ use crate::trail::Trail;
 use crate::worker::Worker;
 use crate::{Turn, Turnstile};
 use crossbeam_deque::Stealer;
-use ds_base::{LatchId, OutOfMemory};
+use ds_base::{LatchId, OutOfMemory, Scratch};
 use ds_fabric::{Compute, Pass};
 use ds_outside::Gate;
 use ds_rule::Rows;
@@ -42,11 +43,9 @@ pub fn hire<J: Rows, C: Compute, G: Gate>(
         × All (IsWithin site.now c.gear.stile 0) c.workers.items) }
     ensures ok_lent { OnOk result (IsLent site.now pass.old 0 site.now.run.nodes pass.new) }
 {
-    let arcs_from = arcs_from(alloc, site.run)?;
     let mut passes = deal_all(alloc, site, pass)?;
     let (stile, mut turn) = Turnstile::build(alloc, &mut passes, count + 1)?;
-    let workers = enlist(alloc, site, &stile, &mut turn, count)?;
-    let stealers = stealers_of(alloc, &workers)?;
+    let (workers, stealers, arcs_from) = staff(alloc, site, &stile, &mut turn, count)?;
     let gear = Gear {
         stile,
         stealers,
@@ -86,6 +85,31 @@ fn deal_all<J: Rows, C: Compute, G: Gate>(
     Ok(passes)
 }
 
+// So many workers, each with a turn, and one part is left; a handle to steal from each worker's
+// hints; and for each event the first arc from it.
+fn staff<J: Rows, C: Compute, G: Gate>(
+    alloc: Global,
+    site: &Site<'_, '_, J, C, G>,
+    stile: &Turnstile,
+    turn: &mut Turn,
+    count: u32,
+) -> Result<(Vec<Worker>, Vec<Stealer<u32>>, Vec<usize>), OutOfMemory>
+    requires count { (0 < count) × (count ≤ 64) }
+    requires fits { HasPassOfEach site.now stile.now × IsTurnOf stile.now turn.old }
+    requires turn { HasNone turn.old.view × (turn.old.view.parts ≡ count + 1) }
+    requires made { turn.old.view.made ≡ 0 }
+
+    ensures ok { IfOk result (λ r. All (IsWithin site.now stile.now 0) r.0.items
+        × (length r.0.items ≡ count)) }
+    ensures ok_turn { OnOk result (IsTurnOf stile.now turn.new × HasNone turn.new.view
+        × (turn.new.view.parts ≡ 1) × (turn.new.view.made ≡ 0)) }
+{
+    let arcs_from = arcs_from(alloc, site.run)?;
+    let workers = enlist(alloc, site, stile, turn, count)?;
+    let stealers = stealers_of(alloc, &workers)?;
+    Ok((workers, stealers, arcs_from))
+}
+
 // So many workers, each with a turn; one part is left.
 fn enlist<J: Rows, C: Compute, G: Gate>(
     alloc: Global,
@@ -107,9 +131,9 @@ fn enlist<J: Rows, C: Compute, G: Gate>(
     let borders = borders_of(alloc, site, count)?;
     let mut workers = Vec::with_capacity(alloc, count as usize)?;
     'hiring: for number in 0..count {
-        let scratch = site.fabric.scratch(alloc)?;
-        let part = number as usize;
-        let trail = trail_of(alloc, borders[part], borders[part + 1], site.run.nodes())?;
+        let at = number as usize;
+        let part = Ring::over(borders[at], borders[at + 1]);
+        let (scratch, trail) = outfit(alloc, site, part)?;
         let own = stile.split(turn);
         workers.push_reserved(Worker {
             number,
@@ -121,12 +145,25 @@ fn enlist<J: Rows, C: Compute, G: Gate>(
     Ok(workers)
 }
 
-// Where a worker looks: its part are the nodes from `first` up to but not including `end`.
-fn trail_of(alloc: Global, first: usize, end: usize, nodes: usize) -> Result<Trail, OutOfMemory> {
+// What a worker works in, and where it looks.
+fn outfit<J: Rows, C: Compute, G: Gate>(
+    alloc: Global,
+    site: &Site<'_, '_, J, C, G>,
+    part: Ring,
+) -> Result<(Scratch, Trail), OutOfMemory>
+    ensures { IfOk result (λ r. Remembers site.now.memory r.0) }
+{
+    let scratch = site.fabric.scratch(alloc)?;
+    let trail = trail_of(alloc, part, site.run.nodes())?;
+    Ok((scratch, trail))
+}
+
+// Where a worker looks: in its own part of the nodes, and in all of them.
+fn trail_of(alloc: Global, part: Ring, nodes: usize) -> Result<Trail, OutOfMemory> {
     let hints = Hints::of(alloc)?;
     Ok(Trail {
         hints,
-        part: Ring::over(first, end),
+        part,
         all: Ring::over(0, nodes),
         begins: vec![in alloc; 0u8; nodes]?,
         soon: false,
@@ -137,7 +174,7 @@ fn trail_of(alloc: Global, first: usize, end: usize, nodes: usize) -> Result<Tra
 fn stealers_of(alloc: Global, workers: &[Worker]) -> Result<Vec<Stealer<u32>>, OutOfMemory> {
     let mut stealers = Vec::with_capacity(alloc, workers.len())?;
     for i in 0..workers.len() {
-        stealers.push(workers[i].trail.hints.stealer()?)?;
+        stealers.push_reserved(workers[i].trail.hints.stealer()?);
     }
     Ok(stealers)
 }

@@ -46,8 +46,14 @@ pub fn tell_targets<J: Rows, C: Compute, G: Gate>(
 pub fn arcs_from<J: Rows>(alloc: Global, run: &Layout<J>) -> Result<Vec<usize>, OutOfMemory>
     requires { IsSound run.now }
 {
+    let mut firsts = vec![in alloc; run.arcs().len(); run.nodes() + run.latches()]?;
+    note_firsts(run, firsts.as_mut_slice());
+    Ok(firsts)
+}
+
+// Notes each arc at its source, the last arc first: what stays is the first of each source.
+fn note_firsts<J: Rows>(run: &Layout<J>, firsts: &mut [usize]) {
     let arcs = run.arcs();
-    let mut firsts = vec![in alloc; arcs.len(); run.nodes() + run.latches()]?;
     for i in 0..arcs.len() {
         let k = arcs.len() - 1 - i;
         let source = arcs[k].source.index();
@@ -55,5 +61,4 @@ pub fn arcs_from<J: Rows>(alloc: Global, run: &Layout<J>) -> Result<Vec<usize>, 
             firsts[source] = k;
         }
     }
-    Ok(firsts)
 }

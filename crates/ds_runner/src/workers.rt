@@ -4,7 +4,7 @@ ghost use Rattle.std.specs.Prelude.{◌≡◌, ◌<◌, ◌≤◌, ◌+◌, ◌*
 ghost use Rattle.std.specs.Prelude.{slice_index_or};
 ghost use Rattle.ds_rule.specs.Sound.{IsSound};
 ghost use Rattle.ds_rule.specs.Progress.{IsRunAccepted};
-ghost use Rattle.ds_fabric.specs.Showing.{Belongs};
+ghost use Rattle.ds_fabric.specs.Showing.{Belongs, IsFabricBegun};
 ghost use Rattle.ds_runner.specs.Work.{HasFrom, HasPassOfEach, IsWithin, IsUnfired, all_tickets};
 ghost use Rattle.ds_runner.specs.Work.{quota_of};
 ghost use Rattle.ds_runner.specs.Stopped.{IsRunRecord};
@@ -61,28 +61,38 @@ pub fn run<R: Threads + Sync, J: Rows + Sync, C: Compute + Sync, G: Gate>(
     ensures { IfOk result (IsRunRecord quota workers.now.jobs run.now) }
 {
     let (fabric, mut pass) = Fabric::build(alloc, run, openings)?;
-    let number = if workers.jobs == 1 || run.nodes() < 2 {
-        0
-    } else {
-        workers.jobs
-    };
-    if number > 0 {
-        let site = Site {
-            fabric: &fabric,
-            run,
-            gate: workers.gate,
-        };
-        let budget = budget(&site, workers.jobs, quota);
-        share(workers.threads, alloc, &site, &mut pass, budget)?;
-    }
-    let rest = rest(run, &pass, quota);
     let site = Site {
         fabric: &fabric,
         run,
         gate: workers.gate,
     };
+    let number = share_out(alloc, &site, &mut pass, workers, quota)?;
+    let rest = rest(run, &pass, quota);
     complete(&site, &mut pass, Caller { number, rest });
     Ok(fabric.finish(pass))
+}
+
+// Shares the run among workers, where there are several, and two nodes or more. The number of the
+// caller.
+fn share_out<R: Threads + Sync, J: Rows + Sync, C: Compute + Sync, G: Gate>(
+    alloc: Global,
+    site: &Site<'_, '_, J, C, G>,
+    pass: &mut Pass,
+    workers: &Workers<'_, R, G>,
+    quota: Option<u64>,
+) -> Result<u32, OutOfMemory>
+    requires begun { IsFabricBegun site.now.run site.now pass.old }
+    requires jobs { (0 < workers.now.jobs) × (workers.now.jobs ≤ 64) }
+    ensures ok { OnOk result (Belongs site.now pass.new × HasFrom pass.new.view 0) }
+    ensures ok_few { OnOk result (all_tickets pass.new.view
+        ≤ workers.now.jobs * quota_of quota) }
+{
+    if workers.jobs == 1 || site.run.nodes() < 2 {
+        return Ok(0);
+    }
+    let budget = budget(site, workers.jobs, quota);
+    share(workers.threads, alloc, site, pass, budget)?;
+    Ok(workers.jobs)
 }
 
 // Workers fire what they can. Then the pass has all nodes again.

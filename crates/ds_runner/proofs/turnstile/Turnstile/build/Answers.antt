@@ -1,8 +1,11 @@
-use Rattle.std.proofs.Common.{◌≡◌, ◌∙◌, ℕ, ◌<◌, List, Some, map, replicate, length, ap, sym, subst, arith}
+use Rattle.std.proofs.Common.{◌≡◌, ◌∙◌, ℕ, ◌<◌, Bool, List, Some, false, map, replicate, length, ap, sym, subst, arith}
+use Rattle.atomic_table.specs.Seated.{TableId}
 use Rattle.atomic_table.specs.Table.{opening}
+use Rattle.ds_rule.proofs.Lists.{replicate-default}
 use Rattle.ds_fabric.specs.Showing.{Showing}
-use Rattle.ds_runner.specs.Turns.{Slot, Turning, nodes_of_key, first_turn}
-use Rattle.ds_runner.specs.Shown.{AreAlone}
+use Rattle.ds_runner.specs.Turns.{Slot, TurnSeat, Turning, fabric_of, first_turn, has_out, nodes_of_key, run_of}
+use Rattle.ds_runner.specs.Shown.{AreAlone, IsTurnstileOpened}
+use Rattle.ds_runner.specs.declared.turn_view.TurnView.{TurnView}
 use Rattle.ds_runner.specs.declared.turning.Key.{Key}
 use Rattle.ds_runner.proofs.Starts.{turning_starts}
 use Rattle.ds_runner.proofs.turnstile.Turnstile.build.Goals as goal
@@ -20,3 +23,29 @@ begun k ps n ws zs xs given some-turns few each count lent words slots =
 pub new-requires : goal.new-requires
 new-requires c = begun (record { passes = c.of.result; turns = c.args.turns }) c.args.passes.now.items c.len.result c.as_slice.result.now c.in_ok-words.words.items c.shelve.new.slots.items
     (ap (λ v. v.items) c.of.ensures) c.requires.turns (omega (arith, c.ranges.turns.fits)) c.requires.alone (omega (arith, c.len.ensures)) c.as_slice.ensures.value c.in_ok-words.ensures.words c.shelve.ensures.moved
+
+-- what a turnstile shows that is made of a key, and its first turn
+opened : (k key : Key) (ps : List Showing) (id id' : TableId) (v : TurnView) → key ≡ k → k.passes.value.items ≡ ps → id' ≡ id
+    → v ≡ first_turn k
+    → IsTurnstileOpened ps k.turns (record { table_id = id; given = key.passes.value.items; turns = key.turns }) (record { table_id = id'; view = v })
+opened k key ps id id' v same given table first =
+    let given-is : key.passes.value.items ≡ k.passes.value.items = ap (λ (x : Key). x.passes.value.items) same in record {
+      given_is = given-is ∙ given;
+      turns_is = ap (λ (x : Key). x.turns) same;
+      belongs = record {
+        table = table;
+        fabric_is = ap (λ (x : TurnView). x.fabric) first ∙ ap fabric_of (sym given-is);
+        run_is = ap (λ (x : TurnView). x.run) first ∙ ap run_of (sym given-is);
+      };
+      parts = ap (λ (x : TurnView). x.parts) first;
+      none = λ l. ap (λ (x : TurnView). has_out x l) first ∙ replicate-default {A = Bool} (nodes_of_key k) l false;
+      made = ap (λ (x : TurnView). x.made) first;
+      missed = ap (λ (x : TurnView). x.missed) first;
+      won = ap (λ (x : TurnView). x.won) first;
+    }
+
+pub returns-in-Ok-clause-ok : goal.returns-in-Ok-clause-ok
+returns-in-Ok-clause-ok c = let made = c.in-Ok.ensures.ok in
+    opened (record { passes = c.of.result; turns = c.args.turns }) c.in-Ok.table.shared.key c.args.passes.now.items
+    c.in-Ok.table.shared.table_id c.in-Ok.seat.table_id c.in-Ok.seat.me.0 made.5 (ap (λ v. v.items) c.of.ensures) made.2
+    (ap (λ (m : TurnSeat). m.0) made.4)
