@@ -1,5 +1,5 @@
 -- What a line gives, by its tests, and the lines that are taken so far.
-use Rattle.std.proofs.Common.{◌≡◌, ◌∙◌, ℕ, ◌+◌, ◌<◌, ◌≤◌, Bool, true, false, List, [], ◌∷◌, length, drop, not, Option, None, Some, Result, Ok, Err, refl, arith, ap, ap₂, sym, subst, inl, inr, if◌then◌else◌, length-set, add-one}
+use Rattle.std.proofs.Common.{◌≡◌, ◌∙◌, ℕ, ◌+◌, ◌<◌, ◌≤◌, Bool, true, false, List, [], ◌∷◌, length, drop, not, None, Some, Result, Ok, Err, refl, arith, ap, ap₂, sym, subst, inl, inr, if◌then◌else◌, length-set, add-one}
 use Rattle.std.specs.Prelude.{nat_lt}
 use Rattle.std.proofs.Math.Seq.{drop-cons}
 use Rattle.std.proofs.lemmas.Option.{none-some, same_Some}
@@ -46,23 +46,22 @@ found_is : (g : Graph) (words : List (List ℕ)) (a b : List ℕ) → a ≡ word
     → arc_by_texts g a b ≡ arc_named g words
 found_is g words a b source target = ap₂ (λ (s t : List ℕ). arc_by_texts g s t) source target
 
-pub unknown_at : (g : Graph) (so_far : Given) (words : List (List ℕ)) (delay : ℕ) (a b s t : List ℕ) → delay_on words ≡ Some delay
-    → a ≡ word_at words 0 → b ≡ word_at words 1 → s ≡ word_at words 0 → t ≡ word_at words 1
-    → length g.arcs ≤ arc_by_texts g a b → after_line g so_far words ≡ Err (UnknownOrder s t)
-unknown_at g so_far words delay a b s t has source target first second past =
+pub unknown_at : (g : Graph) (so_far : Given) (words : List (List ℕ)) (delay : ℕ) (a b : List ℕ) (kind : DelayKind) → delay_on words ≡ Some delay
+    → a ≡ word_at words 0 → b ≡ word_at words 1 → kind ≡ UnknownOrder (word_at words 0) (word_at words 1)
+    → length g.arcs ≤ arc_by_texts g a b → after_line g so_far words ≡ Err kind
+unknown_at g so_far words delay a b kind has source target is past =
     let same : arc_by_texts g a b ≡ arc_named g words = found_is g words a b source target in
-    unknown g so_far words (delay_is words delay has).0 (omega arith)
-    ∙ ap₂ (λ (x y : List ℕ). Err (UnknownOrder x y)) (sym first) (sym second)
+    unknown g so_far words (delay_is words delay has).0 (omega arith) ∙ ap (λ (k : DelayKind). Err k) (sym is)
 
-pub repeated_at : (g : Graph) (so_far : Given) (words : List (List ℕ)) (delay arc : ℕ) (a b s t : List ℕ) → delay_on words ≡ Some delay
-    → a ≡ word_at words 0 → b ≡ word_at words 1 → s ≡ word_at words 0 → t ≡ word_at words 1
+pub repeated_at : (g : Graph) (so_far : Given) (words : List (List ℕ)) (delay arc : ℕ) (a b : List ℕ) (kind : DelayKind) → delay_on words ≡ Some delay
+    → a ≡ word_at words 0 → b ≡ word_at words 1 → kind ≡ RepeatedOrder (word_at words 0) (word_at words 1)
     → arc ≡ arc_by_texts g a b → arc < length g.arcs → false ≡ not (is_given so_far arc)
-    → after_line g so_far words ≡ Err (RepeatedOrder s t)
-repeated_at g so_far words delay arc a b s t has source target first second at inside fresh =
+    → after_line g so_far words ≡ Err kind
+repeated_at g so_far words delay arc a b kind has source target is at inside fresh =
     let same : arc ≡ arc_named g words = at ∙ found_is g words a b source target in
     repeated g so_far words (delay_is words delay has).0 (omega arith)
     (ap (λ (k : ℕ). is_given so_far k) (sym same) ∙ not_false (is_given so_far arc) fresh)
-    ∙ ap₂ (λ (x y : List ℕ). Err (RepeatedOrder x y)) (sym first) (sym second)
+    ∙ ap (λ (k : DelayKind). Err k) (sym is)
   where
     not_false : (x : Bool) → false ≡ not x → x ≡ true
     not_false true e = refl
