@@ -1,12 +1,10 @@
 -- A line that is closed.
-use Rattle.std.proofs.Common.{◌≡◌, ◌∙◌, ℕ, zero, suc, ◌+◌, ◌-◌, ◌≤◌, ◌<◌, ◌==◌, ◌&&◌, not, Bool, true, false, List, [], ◌∷◌, ◌++◌, None, Some, Result, Ok, Err, length, refl, ap, sym, subst, arith, append_assoc}
+use Rattle.std.proofs.Common.{◌≡◌, ◌∙◌, ℕ, suc, ◌+◌, ◌-◌, ◌≤◌, ◌<◌, not, Bool, true, false, List, [], ◌∷◌, ◌++◌, None, Some, Result, Ok, Err, length, refl, ap, sym, subst, arith, append_assoc}
 use Rattle.std.specs.Prelude.{nat_lt, if◌then◌else◌}
-use Rattle.std.proofs.lemmas.Bool.{eqb-true}
-use Rattle.std.proofs.lemmas.List.{append-nil, length-map}
-use Rattle.ds_lines.specs.Words.{first_word}
+use Rattle.std.proofs.lemmas.List.{append-nil}
 use Rattle.ds_base.specs.Values.{Row}
 use Rattle.ds_lines.specs.Line.{is_some, words_in}
-use Rattle.ds_rows.specs.Vector.{has_bits, has_width, row_of, value_of_character}
+use Rattle.ds_rows.specs.Vector.{has_bits, has_width, row_of}
 use Rattle.ds_stream.specs.declared.fault.StreamKind.{StreamKind}
 use Rattle.ds_stream.specs.Bounded.{fault_under}
 use Rattle.ds_stream.specs.Stream.{Behind, Placed, stop_of, longest, placed_of, window}

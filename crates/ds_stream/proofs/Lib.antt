@@ -12,3 +12,4 @@ pub mod Nexting
 pub mod Plain
 pub mod Stepping
 pub mod Least
+pub mod WorkedLines

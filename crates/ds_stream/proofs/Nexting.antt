@@ -8,7 +8,7 @@ use Rattle.ds_outside.specs.Held.{Held, ReadsHeld, ReadsFrom, untold, absent, by
 use Rattle.ds_stream.specs.Bounded.{fault_under}
 use Rattle.ds_stream.specs.Stream.{Behind, FitsText, Placed, Shown, RowWindow, beginning, longest, next_window, placed_lines, window}
 use Rattle.ds_stream.specs.Filling.{EndsHere, Filled, TakesBytes, TellsWhy, on_text}
-use Rattle.ds_stream.specs.Next.{FitsHeld, GivesHeld, IsNext, Refuses, RefusesHeld}
+use Rattle.ds_stream.specs.Next.{FitsHeld, GivesHeld, IsBehind, IsNext, Refuses, RefusesHeld}
 use Rattle.ds_stream.specs.declared.fault.NextFault.{NextFault}
 use Rattle.ds_stream.specs.declared.fault.NextFault.TheVariants.{Memory, Read, TooLong, Vector}
 use Rattle.ds_stream.proofs.Behind.{fits_again, goes_on_behind}
@@ -261,6 +261,23 @@ fault_in (Err why) = why
 pub never_unread : (why : NextFault) (f g : Filled) (taken : List ℕ) → TakesBytes (Err why) f g taken → why ≡ Read → ⊥
 never_unread why f g taken takes is =
     subst (λ (w : NextFault). TellsWhy w (on_text f (f.place + length taken + 0) (taken ++ [])).stop) is (takes (f.place + length taken + 0) [] refl)
+
+-- nor is the end
+pub end_read : (why : NextFault) (f g : Filled) → EndsHere (Err why) f g → why ≡ Read → ⊥
+end_read why f g ends is = subst (λ (w : NextFault). TellsWhy w (on_text f f.place []).stop) is ends
+
+-- a reader behind the rows that are given
+pub behind_rows : (shown : Shown) (count : ℕ) (f : Filled) (after : Shown) (rows : List Row) → after ≡ reader_of f → rows ≡ f.rows
+    → f.width ≡ shown.width → f.most ≡ shown.most → f.seen ≡ shown.given + length f.rows → f.seen + f.missing ≡ shown.given + count
+    → IsBehind shown count after rows
+behind_rows shown count f after rows reader are width most seen sum =
+    let long : length rows ≡ length f.rows = ap (λ (rs : List Row). length rs) are in
+    record {
+      width = ap (λ (s : Shown). s.width) reader ∙ width;
+      most = ap (λ (s : Shown). s.most) reader ∙ most;
+      given = ap (λ (s : Shown). s.given) reader ∙ (omega (arith, seen, long));
+      few = omega (arith, seen, sum, long);
+    }
 
 -- what is given fits again
 pub fits_behind : (h : Held) (shown : Shown) (count : ℕ) (after : Shown) (rows : List Row) → GivesHeld h shown count after rows → FitsHeld h after

@@ -1,5 +1,5 @@
 -- Bytes that are taken piece by piece.
-use Rattle.std.proofs.Common.{◌≡◌, ◌∙◌, ℕ, ◌+◌, ◌≤◌, ◌<◌, List, [], ◌∷◌, ◌++◌, Ok, take, drop, refl, ap, sym, arith, append_assoc}
+use Rattle.std.proofs.Common.{◌≡◌, ◌∙◌, ℕ, ◌+◌, List, ◌++◌, Ok, take, drop, refl, ap, sym, arith, append_assoc}
 use Rattle.std.proofs.lemmas.List.{drop-drop, take-append-drop}
 use Rattle.ds_stream.specs.Filling.{Filled, IsLater, TakesBytes, on_text}
 

@@ -5,7 +5,7 @@ use Rattle.ds_outside.specs.Held.{Held, ReadsHeld}
 use Rattle.ds_stream.specs.Filling.{Filled, TakesBytes}
 use Rattle.ds_stream.specs.Stream.{Shown}
 use Rattle.ds_stream.specs.Next.{FitsHeld, GivesHeld}
-use Rattle.ds_stream.proofs.Nexting.{SoFar, given_to_end, given_whole, reader_of, refused_at_end, refused_behind, fault_in, never_unread, take-within, so_far_at_first, so_far_behind, fits_behind}
+use Rattle.ds_stream.proofs.Nexting.{SoFar, behind_rows, end_read, given_to_end, given_whole, reader_of, refused_at_end, refused_behind, fault_in, never_unread, take-within, so_far_at_first, so_far_behind, fits_behind}
 use Rattle.ds_stream.proofs.reader.VectorReader.next.Given
 use Rattle.ds_stream.proofs.reader.VectorReader.next.Goals as goal
 use Rattle.ds_stream.proofs.reader.VectorReader.next.Goals.{After-end, After-take}
@@ -145,3 +145,70 @@ pub returns-in-Ok-end-clause-fits : goal.returns-in-Ok-end-clause-fits
 returns-in-Ok-end-clause-fits g c =
     subst (λ (h : List ℕ → Held). FitsHeld (h c.args.name.now) c.finish.result.0) (sym (c.in-Ok-eq0.ensures.same_held ∙ c.reading.invariant.same_held))
     (fits_behind (g.F.Files.held c.args.files.now c.args.name.now) c.args.self c.args.count c.finish.result.0 c.finish.result.1.rows (returns-in-Ok-end-clause-gives g c))
+
+pub returns-clause-behind : goal.returns-clause-behind
+returns-clause-behind g c =
+    behind_rows c.args.self c.args.count c.reading.filling c.finish-2.result.0 c.finish-2.result.1.rows c.finish-2.ensures.reader (ap (λ r. r.rows) c.finish-2.ensures.rows)
+    c.reading.invariant.width c.reading.invariant.most c.reading.invariant.seen c.reading.invariant.sum
+
+pub returns-clause-width : goal.returns-clause-width
+returns-clause-width g c = ap (λ r. r.width) c.finish-2.ensures.rows ∙ c.reading.invariant.width
+
+pub returns-clause-same_held : goal.returns-clause-same_held
+returns-clause-same_held g c = c.reading.invariant.same_held
+
+pub returns-clause-never_falls : goal.returns-clause-never_falls
+returns-clause-never_falls g c = c.reading.invariant.never_falls
+
+pub returns-clause-other_kinds : goal.returns-clause-other_kinds
+returns-clause-other_kinds g c = c.reading.invariant.other_kinds
+
+pub returns-in-Ok-end-clause-behind : goal.returns-in-Ok-end-clause-behind
+returns-in-Ok-end-clause-behind g c =
+    let same = c.in-Ok-end.ensures.same in
+    behind_rows c.args.self c.args.count c.end.new.self c.finish.result.0 c.finish.result.1.rows c.finish.ensures.reader (ap (λ r. r.rows) c.finish.ensures.rows)
+    (same.width ∙ c.reading.invariant.width) (same.most ∙ c.reading.invariant.most) (omega (arith, same.rows, c.reading.invariant.seen))
+    (same.seen ∙ c.reading.invariant.sum)
+
+pub returns-in-Ok-end-clause-width : goal.returns-in-Ok-end-clause-width
+returns-in-Ok-end-clause-width g c = ap (λ r. r.width) c.finish.ensures.rows ∙ (c.in-Ok-end.ensures.same.width ∙ c.reading.invariant.width)
+
+pub returns-in-Ok-end-clause-same_held : goal.returns-in-Ok-end-clause-same_held
+returns-in-Ok-end-clause-same_held g c = c.in-Ok-eq0.ensures.same_held ∙ c.reading.invariant.same_held
+
+pub returns-in-Ok-end-clause-never_falls : goal.returns-in-Ok-end-clause-never_falls
+returns-in-Ok-end-clause-never_falls g c = λ w n. omega (arith, c.reading.invariant.never_falls w n, c.in-Ok-eq0.ensures.never_falls w n)
+
+pub returns-in-Ok-end-clause-other_kinds : goal.returns-in-Ok-end-clause-other_kinds
+returns-in-Ok-end-clause-other_kinds g c = λ w n ne. c.in-Ok-eq0.ensures.other_kinds w n ne ∙ c.reading.invariant.other_kinds w n ne
+
+pub returns-in-Err-end-clause-same_held : goal.returns-in-Err-end-clause-same_held
+returns-in-Err-end-clause-same_held g c = c.in-Ok-eq0.ensures.same_held ∙ c.reading.invariant.same_held
+
+pub returns-in-Err-end-clause-never_falls : goal.returns-in-Err-end-clause-never_falls
+returns-in-Err-end-clause-never_falls g c = λ w n. omega (arith, c.reading.invariant.never_falls w n, c.in-Ok-eq0.ensures.never_falls w n)
+
+pub returns-in-Err-end-clause-other_kinds : goal.returns-in-Err-end-clause-other_kinds
+returns-in-Err-end-clause-other_kinds g c = λ w n ne. c.in-Ok-eq0.ensures.other_kinds w n ne ∙ c.reading.invariant.other_kinds w n ne
+
+pub returns-in-Err-take-clause-same_held : goal.returns-in-Err-take-clause-same_held
+returns-in-Err-take-clause-same_held g c = c.in-Ok.ensures.same_held ∙ c.reading.invariant.same_held
+
+pub returns-in-Err-take-clause-never_falls : goal.returns-in-Err-take-clause-never_falls
+returns-in-Err-take-clause-never_falls g c = λ w n. omega (arith, c.reading.invariant.never_falls w n, c.in-Ok.ensures.never_falls w n)
+
+pub returns-in-Err-take-clause-other_kinds : goal.returns-in-Err-take-clause-other_kinds
+returns-in-Err-take-clause-other_kinds g c = λ w n ne. c.in-Ok.ensures.other_kinds w n ne ∙ c.reading.invariant.other_kinds w n ne
+
+pub returns-in-Err-clause-same_held : goal.returns-in-Err-clause-same_held
+returns-in-Err-clause-same_held g c = c.in-Err.ensures.same_held ∙ c.reading.invariant.same_held
+
+pub returns-in-Err-clause-never_falls : goal.returns-in-Err-clause-never_falls
+returns-in-Err-clause-never_falls g c = λ w n. omega (arith, c.reading.invariant.never_falls w n, c.in-Err.ensures.never_falls w n)
+
+pub returns-in-Err-clause-other_kinds : goal.returns-in-Err-clause-other_kinds
+returns-in-Err-clause-other_kinds g c = λ w n ne. c.in-Err.ensures.other_kinds w n ne ∙ c.reading.invariant.other_kinds w n ne
+
+pub returns-in-Err-end-clause-cause : goal.returns-in-Err-end-clause-cause
+returns-in-Err-end-clause-cause g c = λ is.
+    absurd (end_read c.in-Err-end.why c.reading.filling c.end.new.self c.in-Err-end.ensures.ends (ap fault_in is))
