@@ -1,10 +1,58 @@
 -- The homes of nets.
 use Rattle.std.proofs.Common.{◌≡◌, ◌∙◌, ◌⊎◌, ℕ, ◌+◌, ◌-◌, ◌<◌, ◌^◌, List, [], ◌++◌, length, get_or}
-use Rattle.std.proofs.Common.{replicate, sym, ap, subst, arith, inl, inr, length-append}
-use Rattle.std.specs.Prelude.{Contains}
+use Rattle.std.proofs.Common.{replicate, refl, sym, ap, subst, arith, inl, inr, length-append}
+use Rattle.std.specs.Prelude.{All, Contains}
+use Rattle.std.proofs.Math.ListN.{set}
+use Rattle.std.proofs.lemmas.Bool.{cases_eq}
 use Rattle.std.proofs.lemmas.List.{get_or-append-add, get_or-replicate, get_or_append_left, length-replicate}
-use Rattle.ds_base.proofs.Lists.{get_or-default}
+use Rattle.std.proofs.lemmas.List.{get_or-set_other, get_or-set_same, length-set}
+use Rattle.std.proofs.lemmas.List.Elements.{Contains-get_or}
+use Rattle.ds_base.proofs.Lists.{Contains-map, get_or-default}
+use Rattle.ds_design.specs.Circuit.{Circuit}
+use Rattle.ds_design.specs.InRange.{IsInRange}
+use Rattle.ds_design.specs.declared.design.Gate.{Gate}
+use Rattle.ds_settle.specs.Cone.{net_of, nets_of_tables}
+use Rattle.ds_settle.proofs.Tables.{net_is}
 use Rattle.ds_opening.specs.Homes.{AreNetHomes, AreNetsHoused, IsHoused}
+
+-- before the first net
+pub housed_none : (slot : ℕ) (nets old : List ℕ) → IsHoused slot nets old old
+housed_none slot nets old = record { same = refl; each = λ net. inl refl }
+
+-- one net more
+pub housed_one : (slot : ℕ) (nets old now : List ℕ) (net : ℕ) → IsHoused slot nets old now
+    → net < length now → Contains nets net → IsHoused slot nets old (set now net slot)
+housed_one slot nets old now net so_far inside has = record {
+  same = length-set now net slot ∙ so_far.same;
+  each = λ x. elim (cases_eq x net) [
+    | inl e ↦ inr (
+      ap (λ (n : ℕ). get_or (set now net slot) n 0) e ∙ get_or-set_same now net slot 0 inside,
+      subst (λ (n : ℕ). Contains nets n) (sym e) has,
+    )
+    | inr ne ↦
+        (let kept : get_or (set now net slot) x 0 ≡ get_or now x 0 = get_or-set_other now net x slot 0 ne in
+        elim (so_far.each x) [
+          | inl still ↦ inl (kept ∙ still)
+          | inr (home, there) ↦ inr (kept ∙ home, there)
+        ])
+  ];
+}
+
+-- the net of one table more
+pub housed_table : (c : Circuit) (tables : List ℕ) (slot i : ℕ) (old now : List ℕ) (gates : List Gate) (gate : Gate)
+    (net : ℕ) → IsInRange c → All (λ k. k < length c.tables) tables → length old ≡ length c.nets
+    → i < length tables → gates ≡ c.tables → net ≡ (get_or gates (get_or tables i 0) gate).output
+    → IsHoused slot (nets_of_tables c tables) old now
+    → IsHoused slot (nets_of_tables c tables) old (set now net slot)
+housed_table c tables slot i old now gates gate net in_range within long inside same is so_far =
+    let table : ℕ = get_or tables i 0 in
+    let low : table < length c.tables = within i 0 inside in
+    let at : net ≡ (get_or c.tables table gate).output =
+    is ∙ ap (λ (gs : List Gate). (get_or gs table gate).output) same in
+    let near : (get_or c.tables table gate).output < length c.nets = (in_range.tables table gate low).1 in
+    housed_one slot (nets_of_tables c tables) old now net so_far (omega (at, near, so_far.same, long, arith))
+    (subst (λ (n : ℕ). Contains (nets_of_tables c tables) n) (net_is c table gate low ∙ sym at)
+    (Contains-map (net_of c) tables table (Contains-get_or tables i 0 inside)))
 
 -- the nets of one list more
 pub housed_more : (first : ℕ) (lists : List (List ℕ)) (old now new : List ℕ) (slot j : ℕ) (nets : List ℕ)

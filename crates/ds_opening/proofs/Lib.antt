@@ -7,6 +7,8 @@ pub mod Lacks
 pub mod Flat
 pub mod Grouped
 pub mod Housed
+pub mod Anew
+pub mod Gathered
 pub mod Searched
 pub mod Packs
 pub mod Filled

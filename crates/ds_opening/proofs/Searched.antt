@@ -1,16 +1,16 @@
 -- The slots that groups read, found one by one.
-use Rattle.std.proofs.Common.{◌≡◌, ◌∙◌, ℕ, ◌+◌, ◌<◌, ◌≤◌, List, [], ◌∷◌, ◌++◌, length, get_or}
-use Rattle.std.proofs.Common.{map, sym, ap, subst, arith, inl, inr, length-append}
+use Rattle.std.proofs.Common.{◌≡◌, ◌∙◌, ◌⊎◌, ℕ, ◌+◌, ◌-◌, ◌<◌, ◌≤◌, ◌^◌, List, [], ◌∷◌, ◌++◌, length, get_or}
+use Rattle.std.proofs.Common.{map, replicate, sym, ap, subst, arith, inl, inr, length-append}
 use Rattle.std.proofs.Common.{Err, Ok, Result}
 use Rattle.std.specs.List.{range_with_len}
 use Rattle.std.proofs.lemmas.List.FromFn.{get_or-map-range_with_len, length-map-range_with_len}
 use Rattle.ds_base.proofs.Lists.{Contains-head}
-use Rattle.std.specs.Prelude.{All, Contains, IfOk}
+use Rattle.std.specs.Prelude.{All, Contains, IfOk, OnOk}
 use Rattle.std.proofs.Math.ListN.{set}
 use Rattle.std.proofs.lemmas.Bool.{cases_eq, cases_lt}
 use Rattle.std.proofs.lemmas.List.{get_or-set_other, get_or_append_left, get_or_past, get_or_push}
 use Rattle.std.proofs.lemmas.List.{length-map, length-set}
-use Rattle.std.proofs.lemmas.List.Elements.{All-contains, All-nil, All-push, All-set, All-weaker}
+use Rattle.std.proofs.lemmas.List.Elements.{All-contains, All-nil, All-push, All-replicate, All-set, All-weaker}
 use Rattle.std.proofs.lemmas.List.Elements.{Contains-append_left, Contains-push}
 use Rattle.std.proofs.lemmas.List.Elements.{Contains-push_cases}
 use Rattle.ds_design.specs.Circuit.{Circuit}
@@ -88,6 +88,65 @@ at_more c homes own list more done table are kept step k d has = elim (Contains-
   | inr e ↦
       subst (λ (n : ℕ). All (IsReadAt homes own more) (get_or c.tables n d).table.inputs) e (step d)
 ]
+
+-- before the first group
+pub reads_none : (c : Circuit) (homes : List ℕ) (slots : ℕ) (groups reads : List (List ℕ)) → reads ≡ []
+    → AreReadBy c homes slots 0 groups reads
+reads_none c homes slots groups reads is = record {
+  one_each = ap (λ (rs : List (List ℕ)). length rs) is;
+  each = λ a low. absurd (omega (low, arith));
+}
+
+-- a home is a slot that has a place among those seen, or there is none
+pub homes_low : (c : Circuit) (groups others : List (List ℕ)) (count places : ℕ) (homes : List ℕ)
+    → AreNetHomes (map (nets_of_tables c) groups ++ others) count homes
+    → places ≡ length groups + length others
+    → All (λ s. (s < places) ⊎ (s ≡ 2 ^ 64 - 1)) homes
+homes_low c groups others count places homes are size =
+    subst (λ (n : ℕ). All (λ s. (s < n) ⊎ (s ≡ 2 ^ 64 - 1)) homes)
+    (length-append (map (nets_of_tables c) groups) others
+    ∙ (ap (λ (n : ℕ). n + length others) (length-map groups (nets_of_tables c)) ∙ sym size)) are.low
+
+-- where no slot has a stamp
+pub unseen_slots : (count : ℕ) (seen : List ℕ) → seen ≡ replicate count 0 → All (λ s. s < 0 + 1) seen
+unseen_slots count seen is =
+    subst (λ (xs : List ℕ). All (λ s. s < 0 + 1) xs) (sym is)
+    (All-replicate (λ s. s < 0 + 1) count 0 (omega arith))
+
+-- where the own slot alone has a stamp
+pub seen_own : (own : ℕ) (seen : List ℕ) → own < length seen → All (λ s. s < own + 1) seen
+    → AreSeen own (set seen own (own + 1)) []
+seen_own own seen inside low = record {
+  within = All-nil (λ s. s < length (set seen own (own + 1)));
+  low = All-set (λ s. s ≤ own + 1) seen own (own + 1) (omega arith)
+      (All-weaker (λ s. s < own + 1) (λ s. s ≤ own + 1) (λ s below. omega (below, arith)) seen low);
+  stamped = λ s within is. elim (cases_eq s own) [
+    | inl e ↦ inl e
+    | inr ne ↦ absurd (let size : length (set seen own (own + 1)) ≡ length seen = length-set seen own (own + 1) in
+        let below : get_or seen s 0 < own + 1 = low s 0 (omega (within, size, arith)) in
+        omega (below, sym (get_or-set_other seen own s (own + 1) 0 ne) ∙ is, arith))
+  ];
+}
+
+-- before the first table
+pub at_none : (c : Circuit) (homes : List ℕ) (own : ℕ) (list : List ℕ) → AreAt c homes own list []
+at_none c homes own list k d has =
+    absurd (let (j, inside, is) = has in let h : j < 0 = inside in omega (h, arith))
+
+-- what a table reads has its places among the homes
+pub inputs_low : (c : Circuit) → IsInRange c → (gates : List Gate) (gate : Gate) (table : ℕ)
+    (inputs homes lent : List ℕ) → table < length c.tables → gates ≡ c.tables
+    → inputs ≡ (get_or gates table gate).table.inputs → length homes ≡ length c.nets → lent ≡ homes
+    → All (λ net. net < length lent) inputs
+inputs_low c in_range gates gate table inputs homes lent low same is long at =
+    subst (λ (n : ℕ). All (λ net. net < n) inputs) (sym (ap (λ (xs : List ℕ). length xs) at ∙ long))
+    (subst (λ (xs : List ℕ). All (λ net. net < length c.nets) xs)
+    (sym (is ∙ ap (λ (gs : List Gate). (get_or gs table gate).table.inputs) same)) (in_range.tables table gate low).0)
+
+-- what holds in any case
+pub on_ok : {T E : Type 0} (r : Result T E) (P : Type 0) → P → OnOk r P
+on_ok (Ok x) P p = p
+on_ok (Err e) P p = tt
 
 -- a group more
 pub reads_more : (c : Circuit) (homes : List ℕ) (slots n : ℕ) (groups reads : List (List ℕ)) (list : List ℕ)

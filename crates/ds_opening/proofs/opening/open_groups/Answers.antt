@@ -1,17 +1,24 @@
-use Rattle.std.proofs.Common.{◌≡◌, ◌∙◌, ◌<◌, ◌++◌, List, ℕ, [], arith, length, ap, get_or, subst, sym}
-use Rattle.std.specs.Prelude.{All}
+use Rattle.std.proofs.Common.{◌≡◌, ◌∙◌, ◌<◌, ◌≤◌, ◌+◌, ◌++◌, List, ℕ, [], arith, length, ap, get_or, subst, sym}
+use Rattle.std.specs.Prelude.{All, vec_capacity, vec_len}
+use Rattle.ds_base.specs.Word.{count_of_words}
 use Rattle.ds_base.specs.Values.{Row}
 use Rattle.ds_cover.specs.Cover.{values_at}
+use Rattle.ds_design.specs.Banked.{IsBankOf}
+use Rattle.ds_design.specs.Circuit.{Circuit}
 use Rattle.ds_latch.specs.Node.{IsNode, Split, nets_of, nodes, number_of}
 use Rattle.ds_latch.specs.declared.node.Node.{Node}
 use Rattle.ds_latch.proofs.Counts.{number_below}
 use Rattle.ds_split.proofs.NodeCones.{lent, nets_within}
+use Rattle.ds_opening.specs.Groups.{group_of}
 use Rattle.ds_opening.specs.Noted.{AreRowsLearnt}
 use Rattle.ds_opening.specs.Packed.{packed}
 use Rattle.ds_opening.specs.Woven.{value_taken}
 use Rattle.ds_opening.proofs.Noting.{grouped, has_reads, node_slots, numbers, reads, settled_is, value}
 use Rattle.ds_opening.proofs.Stayed.{reads_on}
 use Rattle.ds_opening.proofs.opening.open_groups.Goals as goal
+
+pub learn_rows-requires-clause-turn : goal.learn_rows-requires-clause-turn
+learn_rows-requires-clause-turn c = let (n, t, m, o) = c.requires.settling in o.some
 
 pub learn_rows-requires-clause-slots : goal.learn_rows-requires-clause-slots
 learn_rows-requires-clause-slots c =
@@ -24,6 +31,24 @@ set_groups-requires-clause-slots c =
     reads_on c.args.groups.now c.args.scratch.now c.learn_rows.new.scratch c.learn_rows.ensures.same.turns
     c.learn_rows.ensures.same.stayed
     (has_reads c.requires.design.1 c.requires.design.0 c.bits-bits.result.now c.bits-bits.ensures.one_each c.bits-bits.ensures.nets c.requires.groups o)
+
+pub set_groups-requires-clause-turn : goal.set_groups-requires-clause-turn
+set_groups-requires-clause-turn c = let (n, t, m, o) = c.requires.settling in o.some
+
+pub set_groups-requires-clause-packed : goal.set_groups-requires-clause-packed
+set_groups-requires-clause-packed c =
+    subst (λ (d : Circuit). IsBankOf d.tables c.args.groups.now.bank) (sym c.netlist.ensures.netlist) c.requires.groups.are.packed
+
+pub set_groups-requires-clause-tables : goal.set_groups-requires-clause-tables
+set_groups-requires-clause-tables c =
+    subst (λ (d : Circuit). (a : ℕ) → All (λ k. k < length d.tables) (group_of c.args.groups.now a))
+    (sym c.netlist.ensures.netlist) c.requires.groups.are.within
+
+pub set_groups-requires-clause-nets : goal.set_groups-requires-clause-nets
+set_groups-requires-clause-nets c =
+    let (n, t, m, o) = c.requires.settling in
+    c.learn_rows.ensures.same.nets ∙ (o.memory.remembers.nets ∙ (o.memory.nets
+    ∙ ap (λ (d : Circuit). length d.nets) (sym c.netlist.ensures.netlist)))
 
 pub learn_rows-requires-clause-few : goal.learn_rows-requires-clause-few
 learn_rows-requires-clause-few c =
@@ -63,6 +88,17 @@ push_words-requires-clause-within c =
     ap (λ (r : Row). length r) c.nets.ensures ∙ (c.set_groups.ensures.same.nets ∙ (c.learn_rows.ensures.same.nets ∙ (o.memory.remembers.nets ∙ o.memory.nets))) in
     subst (λ (xs : List ℕ). All (λ net. net < length c.nets.result.now) xs) (sym these)
     (subst (λ (k : ℕ). All (λ net. net < k) (nets_of s n)) (sym size) (nets_within s c.requires.design.1 c.requires.design.0 n o.at.node))
+
+pub push_words-requires-clause-room : goal.push_words-requires-clause-room
+push_words-requires-clause-room c =
+    let (n, t, m, o) = c.requires.settling in
+    let s : Split = c.args.latches.now in
+    subst (λ (xs : List ℕ). vec_len c.args.into.now + count_of_words (length xs) ≤ vec_capacity c.args.into.now)
+    (sym (these_are s c.bits-bits.result.now c.bits-bits.ensures.one_each c.bits-bits.ensures.nets n o.at.node c.args.opening.now.number o.at.is c.index-bits-opening.result c.as_slice.result.now c.as_slice.ensures c.index-bits-opening.is))
+    (c.requires.room n o.at.node o.at.is)
+
+pub returns-clause-room : goal.returns-clause-room
+returns-clause-room c = c.push_words.ensures.room
 
 pub returns-clause-value : goal.returns-clause-value
 returns-clause-value c n t m o =

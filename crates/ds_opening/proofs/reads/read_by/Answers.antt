@@ -1,12 +1,41 @@
-use Rattle.std.proofs.Common.{◌≡◌, ◌∙◌, ◌∷◌, ◌<◌, [], ℕ, List, length, get_or, take, sym, ap, subst}
+use Rattle.std.proofs.Common.{◌≡◌, ◌∙◌, ◌⊎◌, ◌∷◌, ◌+◌, ◌-◌, ◌<◌, ◌≤◌, ◌^◌, [], ℕ, List, length, get_or, set, take, sym, ap, subst, arith}
 use Rattle.std.specs.Prelude.{All}
-use Rattle.std.proofs.lemmas.List.{take_all, take_more}
+use Rattle.std.proofs.lemmas.List.{length-set, take_all, take_more}
 use Rattle.ds_base.proofs.Lists.{get_or-default}
 use Rattle.ds_design.specs.Circuit.{Circuit}
 use Rattle.ds_design.specs.declared.design.Gate.{Gate}
-use Rattle.ds_opening.specs.Seen.{AreAt, IsReadAt, IsReadBy}
-use Rattle.ds_opening.proofs.Searched.{at_more, if_ok, own_by}
+use Rattle.ds_opening.specs.Seen.{AreAt, AreSeen, IsReadAt, IsReadBy}
+use Rattle.ds_opening.proofs.Searched.{at_more, at_none, if_ok, inputs_low, on_ok, own_by, seen_own}
 use Rattle.ds_opening.proofs.reads.read_by.Goals as goal
+
+pub loop-table-init : goal.loop-table-init
+loop-table-init c =
+    let own : ℕ = c.args.own in
+    let seen : List ℕ = c.args.seen.now.items in
+    record {
+      at = at_none c.args.housed.now.design.now c.args.housed.now.homes.items own c.new-list.result;
+      seen = subst (λ (xs : List ℕ). AreSeen own (set seen own (own + 1)) xs) (sym c.new-list.ensures)
+          (seen_own own seen c.requires.own c.requires.unseen);
+      same = length-set seen own (own + 1);
+    }
+
+pub add_homes-requires-clause-nets : goal.add_homes-requires-clause-nets
+add_homes-requires-clause-nets c =
+    inputs_low c.args.housed.now.design.now c.tables-gates.ensures.in_range c.tables-gates.result.now c.index-gates-table.result
+    (get_or c.args.tables.now c.loop-table.table-index 0) c.inputs-inputs.result.now c.args.housed.now.homes.items
+    c.as_slice.result.now (c.requires.tables c.loop-table.table-index 0 c.loop-table-test.true) c.tables-gates.ensures.tables
+    c.inputs-inputs.ensures c.requires.nets c.as_slice.ensures.value
+
+pub add_homes-requires-clause-homes : goal.add_homes-requires-clause-homes
+add_homes-requires-clause-homes c =
+    subst (λ (xs : List ℕ). All (λ s. (s < length c.loop-table.seen.items) ⊎ (s ≡ 2 ^ 64 - 1)) xs) (sym c.as_slice.ensures.value)
+    (subst (λ (n : ℕ). All (λ s. (s < n) ⊎ (s ≡ 2 ^ 64 - 1)) c.args.housed.now.homes.items) (sym c.loop-table.invariant.same) c.requires.homes)
+
+pub add_homes-requires-clause-own : goal.add_homes-requires-clause-own
+add_homes-requires-clause-own c = omega (c.requires.own, c.loop-table.invariant.same, arith)
+
+pub add_homes-requires-clause-seen : goal.add_homes-requires-clause-seen
+add_homes-requires-clause-seen c = c.loop-table.invariant.seen
 
 pub loop-table-preserved : goal.loop-table-preserved
 loop-table-preserved c =
@@ -51,3 +80,18 @@ returns-then-not-branch-clause-ok c =
     (IsReadBy d homes (length c.args.seen.now.items) c.args.own c.args.tables.now)
     (λ list is. own_by d homes (length c.args.seen.now.items) c.args.own c.args.tables.now list c.requires.own is)
     c.own_list.ensures.ok
+
+pub returns-clause-same : goal.returns-clause-same
+returns-clause-same c = c.loop-table.invariant.same
+
+pub returns-clause-seen : goal.returns-clause-seen
+returns-clause-seen c = c.loop-table.invariant.seen.low
+
+pub returns-then-not-branch-clause-same : goal.returns-then-not-branch-clause-same
+returns-then-not-branch-clause-same c =
+    on_ok c.own_list.result (length c.add_homes.new.seen.items ≡ length c.args.seen.now.items)
+    (c.in_ok-add_homes.ensures.same ∙ c.loop-table.invariant.same)
+
+pub returns-then-not-branch-clause-seen : goal.returns-then-not-branch-clause-seen
+returns-then-not-branch-clause-seen c =
+    on_ok c.own_list.result (All (λ s. s ≤ c.args.own + 1) c.add_homes.new.seen.items) c.in_ok-add_homes.ensures.seen.low

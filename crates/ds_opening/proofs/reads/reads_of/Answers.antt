@@ -1,11 +1,54 @@
-use Rattle.std.proofs.Common.{◌≡◌, ◌∙◌, ◌<◌, ◌≤◌, ◌+◌, [], ℕ, List, length, get_or, map, ◌∷◌, sym, subst, arith}
+use Rattle.std.proofs.Common.{◌≡◌, ◌∙◌, ◌<◌, ◌≤◌, ◌+◌, [], ℕ, List, length, get_or, map, ◌∷◌, ap, replicate, sym, subst, arith}
+use Rattle.std.specs.Prelude.{All}
 use Rattle.std.specs.List.{range_with_len}
+use Rattle.std.proofs.lemmas.List.{length-replicate}
 use Rattle.std.proofs.lemmas.List.Elements.{All-weaker}
 use Rattle.ds_base.proofs.Lists.{get_or-default}
 use Rattle.ds_design.specs.Circuit.{Circuit}
 use Rattle.ds_opening.specs.Seen.{AreReadBy, AreReadsOf, IsReadBy}
-use Rattle.ds_opening.proofs.Searched.{are_reads, if_ok, own_read, reads_more}
+use Rattle.ds_opening.proofs.Searched.{are_reads, homes_low, if_ok, own_read, reads_more, reads_none, unseen_slots}
 use Rattle.ds_opening.proofs.reads.reads_of.Goals as goal
+
+pub homes_of-requires-clause-groups : goal.homes_of-requires-clause-groups
+homes_of-requires-clause-groups c = c.requires.groups
+
+pub homes_of-requires-clause-others : goal.homes_of-requires-clause-others
+homes_of-requires-clause-others c = c.requires.others
+
+pub loop-own-init : goal.loop-own-init
+loop-own-init c =
+    let groups : List (List ℕ) = c.args.groups.now in
+    let slots : ℕ = length groups + length c.args.others.now in
+    let seen : c.in_ok-seen.seen.items ≡ replicate {A = ℕ} slots 0 =
+    c.in_ok-seen.ensures.items_if_clones_equal (λ y e. e) in
+    record {
+      are = reads_none c.args.design.now c.in_ok-homes.homes.items slots groups c.in_ok-reads.reads.items c.in_ok-reads.ensures.items;
+      long = ap (λ (xs : List ℕ). length xs) seen ∙ length-replicate {A = ℕ} slots 0;
+      unseen = unseen_slots slots c.in_ok-seen.seen.items seen;
+    }
+
+pub read_by-requires-clause-tables : goal.read_by-requires-clause-tables
+read_by-requires-clause-tables c =
+    let groups : List (List ℕ) = c.args.groups.now in
+    let own : ℕ = c.loop-own.own in
+    subst (λ (xs : List ℕ). All (λ k. k < length c.args.design.now.tables) xs)
+    (sym (c.as_slice.ensures ∙ (c.index-groups-own.is ∙ get_or-default groups own c.index-groups-own.result [] c.loop-own-test.true)))
+    (c.requires.groups own [] c.loop-own-test.true)
+
+pub read_by-requires-clause-nets : goal.read_by-requires-clause-nets
+read_by-requires-clause-nets c = c.in_ok-homes.ensures.ok.one_each
+
+pub read_by-requires-clause-homes : goal.read_by-requires-clause-homes
+read_by-requires-clause-homes c =
+    homes_low c.args.design.now c.args.groups.now c.args.others.now (length c.args.design.now.nets) (length c.loop-own.seen.items)
+    c.in_ok-homes.homes.items c.in_ok-homes.ensures.ok c.loop-own.invariant.long
+
+pub read_by-requires-clause-own : goal.read_by-requires-clause-own
+read_by-requires-clause-own c =
+    omega (c.loop-own-test.true, c.loop-own.invariant.long, arith)
+
+pub read_by-requires-clause-unseen : goal.read_by-requires-clause-unseen
+read_by-requires-clause-unseen c = c.loop-own.invariant.unseen
 
 pub loop-own-preserved : goal.loop-own-preserved
 loop-own-preserved c =

@@ -1,6 +1,7 @@
 use Rattle.std.proofs.Common.{◌≡◌, ◌≤◌, ◌∙◌, ◌<◌, ℕ, List, length, arith, sym, ap, subst}
-use Rattle.std.specs.Prelude.{All}
+use Rattle.std.specs.Prelude.{All, Contains}
 use Rattle.ds_design.specs.Circuit.{Circuit}
+use Rattle.ds_design.specs.InRange.{IsInRange}
 use Rattle.ds_design.specs.Levels.{IsTableOrder}
 use Rattle.ds_design.specs.declared.design.Gate.{Gate}
 use Rattle.ds_cover.specs.Selections.{Selected}
@@ -22,6 +23,18 @@ numbers_of-requires-clause-cones c =
     subst (λ (cs : List Cone). All (HasTables (length c.tables-tables.result.now)) cs) (sym c.as_slice.ensures.value)
     (subst (λ (n : ℕ). All (HasTables n) c.args.cones.items) (sym size) (have_tables c.args.netlist.now c.args.cones.items c.requires.cones))
 
+pub numbers_of-requires-clause-order : goal.numbers_of-requires-clause-order
+numbers_of-requires-clause-order c =
+    let size : length c.tables-tables.result.now ≡ length c.args.netlist.now.tables =
+    ap (λ (ts : List Gate). length ts) c.tables-tables.ensures.tables ∙ ap (λ (d : Circuit). length d.tables) c.design-design.ensures.design in
+    subst (λ (n : ℕ). All (λ k. k < n) c.order-order.result.now) (sym size) c.order-order.ensures.places
+
+pub numbers_of-requires-clause-all : goal.numbers_of-requires-clause-all
+numbers_of-requires-clause-all c =
+    let size : length c.tables-tables.result.now ≡ length c.args.netlist.now.tables =
+    ap (λ (ts : List Gate). length ts) c.tables-tables.ensures.tables ∙ ap (λ (d : Circuit). length d.tables) c.design-design.ensures.design in
+    subst (λ (n : ℕ). (k : ℕ) → k < n → Contains c.order-order.result.now k) (sym size) c.order-order.ensures.all
+
 pub numbers_of-requires-clause-few : goal.numbers_of-requires-clause-few
 numbers_of-requires-clause-few c =
     let few : length c.order-order.result.now ≤ length c.args.netlist.now.tables =
@@ -35,6 +48,28 @@ lists_of-requires-clause-tables c =
     let long : length c.in_ok-numbers.numbers.of.items ≡ length c.tables-tables.result.now = c.in_ok-numbers.ensures.ok.one_each in
     subst (λ (cs : List Cone). All (HasTables (length c.in_ok-numbers.numbers.of.items)) cs) (sym c.as_slice-2.ensures.value)
     (subst (λ (n : ℕ). All (HasTables n) c.args.cones.items) (sym (long ∙ size)) (have_tables c.args.netlist.now c.args.cones.items c.requires.cones))
+
+pub lists_of-requires-clause-below : goal.lists_of-requires-clause-below
+lists_of-requires-clause-below c = c.in_ok-numbers.ensures.below
+
+pub members_of-requires-clause-within : goal.members_of-requires-clause-within
+members_of-requires-clause-within c =
+    let size : length c.tables-tables.result.now ≡ length c.args.netlist.now.tables =
+    ap (λ (ts : List Gate). length ts) c.tables-tables.ensures.tables ∙ ap (λ (d : Circuit). length d.tables) c.design-design.ensures.design in
+    let long : length c.in_ok-numbers.numbers.of.items ≡ length c.tables-tables.result.now = c.in_ok-numbers.ensures.ok.one_each in
+    subst (λ (n : ℕ). All (λ k. k < n) c.order-order.result.now) (sym (long ∙ size)) c.order-order.ensures.places
+
+pub members_of-requires-clause-below : goal.members_of-requires-clause-below
+members_of-requires-clause-below c = c.in_ok-numbers.ensures.below
+
+pub reads_of-requires-clause-in_range : goal.reads_of-requires-clause-in_range
+reads_of-requires-clause-in_range c =
+    subst (λ (d : Circuit). IsInRange d) (sym c.design-design.ensures.design) c.design-design.ensures.in_range
+
+pub reads_of-requires-clause-others : goal.reads_of-requires-clause-others
+reads_of-requires-clause-others c =
+    subst (λ (d : Circuit). All (λ these. All (λ net. net < length d.nets) these) c.args.others.now)
+    (sym c.design-design.ensures.design) c.requires.others
 
 -- what members are asked to be
 members_low : (d : Circuit) (order numbers : List ℕ) (count : ℕ) (groups items : List (List ℕ)) → IsTableOrder d order
