@@ -1,5 +1,5 @@
 -- Tables are gathered by their numbers, one after another.
-use Rattle.std.proofs.Common.{◌≡◌, ◌≢◌, ◌∙◌, ℕ, ◌<◌, List, [], ◌∷◌, ◌++◌, length, get_or, if◌then◌else◌}
+use Rattle.std.proofs.Common.{◌≡◌, ◌≢◌, ◌∙◌, ℕ, ◌<◌, List, [], ◌∷◌, ◌++◌, get_or, if◌then◌else◌}
 use Rattle.std.proofs.Common.{replicate, sym, ap, subst, arith, inl, inr}
 use Rattle.std.specs.Prelude.{◌==◌, Bool}
 use Rattle.std.proofs.Math.ListN.{set}

@@ -1,4 +1,3 @@
-use Rattle.std.proofs.Common.{refl}
 use Rattle.ds_settle.specs.Cone.{nets_of_tables}
 use Rattle.ds_opening.proofs.Housed.{housed_none, housed_table}
 use Rattle.ds_opening.proofs.homes.house_tables.Goals as goal

@@ -1,11 +1,18 @@
 use Rattle.std.proofs.Common.{◌≡◌, ◌≢◌, ◌⊎◌, ◌%◌, ℕ, inl, inr, sym, ◌∙◌, ◌+◌, ◌≤◌, ◌++◌, Bool, false, arith, ap, length, ◌-◌, take, drop}
 use Rattle.std.specs.Prelude.{IsTrue, vec_capacity, vec_len}
+use Rattle.std.specs.Prelude.{List}
+use Rattle.ds_base.specs.Scratch.{Kept, Memory}
+use Rattle.ds_base.specs.Values.{Row}
 use Rattle.ds_base.specs.Word.{count_of_words}
-use Rattle.ds_latch.specs.Node.{nets_of, number_of}
+use Rattle.ds_latch.specs.Node.{Split, nets_of, number_of}
 use Rattle.ds_latch.specs.declared.node.Node.{Node}
 use Rattle.ds_latch.specs.declared.node.Node.TheVariants.{In, Out, Master, Slave}
 use Rattle.ds_split.specs.Settled.{IsSettling}
+use Rattle.ds_opening.specs.Groups.{Grouping}
 use Rattle.ds_opening.specs.Learnt.{is_learnt}
+use Rattle.ds_opening.specs.Noted.{IsNotedOpening, IsSettlingOpening}
+use Rattle.ds_opening.specs.Woven.{Turn}
+use Rattle.ds_opening.specs.declared.opening.Opening.{Opening}
 use Rattle.ds_opening.proofs.LearntRows.{master_unlearnt}
 use Rattle.ds_opening.proofs.Slaves.{slave_reads, slave_room, slave_takes}
 use Rattle.ds_opening.proofs.opening.open.Goals as goal
@@ -23,6 +30,40 @@ settles (Slave i) number is some which = elim which [
   | inl one ↦ absurd (omega (is, one, arith))
   | inr even ↦ absurd (omega (is, even, arith))
 ]
+
+-- an opening of a node that settles
+settling_opening : (s : Split) (rows : List Row) (g : Grouping) (o : Opening) (k : Kept) (n : Node) (t : Turn) (m : Memory)
+    → IsNotedOpening s rows g o k n t m → o.number ≢ 0 → (o.number ≡ 1) ⊎ (o.number % 2 ≡ 0)
+    → IsSettlingOpening s g o k n t m
+settling_opening s rows g o k n t m is some which = record {
+  some = is.some;
+  at = record {
+    node = is.opening.node;
+    settling = settles n o.number is.opening.is some which;
+    is = is.opening.is;
+  };
+  fed = is.opening.fed;
+  memory = is.memory;
+}
+
+pub open_groups-requires-clause-design : goal.open_groups-requires-clause-design
+open_groups-requires-clause-design c = c.requires.design
+
+pub open_groups-requires-clause-groups : goal.open_groups-requires-clause-groups
+open_groups-requires-clause-groups c = c.requires.groups
+
+pub open_groups-requires-clause-settling : goal.open_groups-requires-clause-settling
+open_groups-requires-clause-settling c =
+    let (n, t, m, o) = c.requires.opening in (
+      n,
+      t,
+      m,
+      settling_opening c.args.latches.now c.args.vectors.now.rows c.args.groups.now c.args.opening.now c.args.scratch.now n t m o
+          c.if-opening-eq0.false (c.has_cone.ensures.0 c.if-has_cone.true),
+    )
+
+pub open_groups-requires-clause-room : goal.open_groups-requires-clause-room
+open_groups-requires-clause-room c = c.requires.room
 
 pub slice_bounds-words-count : goal.slice_bounds-words-count
 slice_bounds-words-count c =
@@ -52,15 +93,23 @@ returns-else-has_cone-clause-value c n t m o =
     (is_learnt (length c.args.groups.now.groups) c.args.scratch.now c.args.opening.now.turn)
     (master_unlearnt (length c.args.groups.now.groups) c.args.scratch.now c.args.opening.now.turn) c.args.opening.now.from.now n t o.opening)
 
+pub returns-else-has_cone-clause-remembers : goal.returns-else-has_cone-clause-remembers
+returns-else-has_cone-clause-remembers c n t m o = o.memory.remembers
+
+pub returns-else-has_cone-clause-room : goal.returns-else-has_cone-clause-room
+returns-else-has_cone-clause-room c = c.push_all.ensures.room
+
+pub returns-then-has_cone-clause-value : goal.returns-then-has_cone-clause-value
+returns-then-has_cone-clause-value c n t m o =
+    c.open_groups.ensures.value n t m
+    (settling_opening c.args.latches.now c.args.vectors.now.rows c.args.groups.now c.args.opening.now c.args.scratch.now n t m o
+    c.if-opening-eq0.false (c.has_cone.ensures.0 c.if-has_cone.true))
+
 pub returns-then-has_cone-clause-remembers : goal.returns-then-has_cone-clause-remembers
 returns-then-has_cone-clause-remembers c n t m o =
-    c.open_groups.ensures.remembers n t m (record {
-      some = o.some;
-      at = record {
-        node = o.opening.node;
-        settling = settles n c.args.opening.now.number o.opening.is c.if-opening-eq0.false (c.has_cone.ensures.0 c.if-has_cone.true);
-        is = o.opening.is;
-      };
-      fed = o.opening.fed;
-      memory = o.memory;
-    })
+    c.open_groups.ensures.remembers n t m
+    (settling_opening c.args.latches.now c.args.vectors.now.rows c.args.groups.now c.args.opening.now c.args.scratch.now n t m o
+    c.if-opening-eq0.false (c.has_cone.ensures.0 c.if-has_cone.true))
+
+pub returns-then-has_cone-clause-room : goal.returns-then-has_cone-clause-room
+returns-then-has_cone-clause-room c = c.open_groups.ensures.room
