@@ -1,5 +1,5 @@
 -- What keeps an event from firing with a number.
-use Rattle.std.proofs.Common.{◌≡◌, ◌≢◌, ◌∙◌, ◌==◌, ℕ, ◌+◌, ◌<◌, ◌≤◌, true, false, List, [], ◌∷◌, length, get_or, Option, None, Some, inl, inr, refl, arith, ap, sym}
+use Rattle.std.proofs.Common.{◌≡◌, ◌≢◌, ◌∙◌, ◌==◌, ℕ, ◌+◌, ◌<◌, ◌≤◌, true, false, List, [], ◌∷◌, length, get_or, Option, None, Some, inl, inr, refl, arith, ap, sym, subst}
 use Rattle.std.specs.Prelude.{nat_lt}
 use Rattle.std.proofs.lemmas.Bool.{cases_Bool, eq-eqb, eqb-true, lt-ltb, ltb-true, le-ltb}
 use Rattle.std.proofs.lemmas.Bool.Decides.{eqb_tells}
@@ -21,8 +21,8 @@ use Rattle.ds_replay.specs.Word.{second_word, turn_of}
 use Rattle.ds_replay.specs.Replay.{event_fault, fault_of_firing, lacks_token, least_lacking}
 use Rattle.ds_replay.specs.Step.{kind_of}
 use Rattle.ds_replay.specs.declared.fault.ReplayKind.{ReplayKind}
-use Rattle.ds_replay.specs.declared.fault.ReplayKind.TheVariants.{WrongTurn}
-use Rattle.ds_replay.proofs.Words.{number_is}
+use Rattle.ds_replay.specs.declared.fault.ReplayKind.TheVariants.{BadWord, UnknownEvent, WrongTurn}
+use Rattle.ds_replay.proofs.Words.{no_number, number_is}
 
 -- some arc
 abbrev any : Arc
@@ -90,3 +90,24 @@ pub found_event : (g : Graph) (texts : List (List ℕ)) (words : List (List ℕ)
 found_event g texts words name v are first (at, inside) =
     let long : length texts ≡ length g.events = ap length are ∙ length-map g.events event_text in
     (at ∙ (ap (λ (ts : List (List ℕ)). place_of_name ts name) are ∙ ap (event_by_text g) first), omega (arith, long, inside))
+
+-- a line of other words
+pub bad_line : (g : Graph) (limit : ℕ) (count : ℕ → ℕ) (words : List (List ℕ)) → turn_of words ≡ None
+    → fault_of_firing g limit count words ≡ Some BadWord
+bad_line g limit count words is = let fails = no_number words is in rw fails refl
+
+-- a line of an event that is not among the texts
+pub unknown_line : (g : Graph) (limit : ℕ) (count : ℕ → ℕ) (texts words : List (List ℕ)) (name : List ℕ) (turn : ℕ) (kind : ReplayKind)
+    → turn_of words ≡ Some turn → texts ≡ event_texts g → name ≡ first_word words → length texts ≤ place_of_name texts name
+    → kind ≡ UnknownEvent name → fault_of_firing g limit count words ≡ Some kind
+unknown_line g limit count texts words name turn kind is are first past kind_is =
+    let (firing, number) = number_is words turn is in
+    let long : length texts ≡ length g.events = ap length are ∙ length-map g.events event_text in
+    let high : length g.events ≤ event_by_text g (first_word words) =
+    subst (λ (w : List ℕ). length g.events ≤ event_by_text g w) first
+    (subst (λ (ts : List (List ℕ)). length g.events ≤ place_of_name ts name) are
+    (subst (λ (n : ℕ). n ≤ place_of_name texts name) long past)) in
+    let other : nat_lt (event_by_text g (first_word words)) (length g.events) ≡ false =
+    le-ltb (event_by_text g (first_word words)) (length g.events) high in
+    let here : fault_of_firing g limit count words ≡ Some (UnknownEvent (first_word words)) = rw (firing, other) refl in
+    here ∙ ap (λ (k : ReplayKind). Some k) (ap UnknownEvent (sym first) ∙ sym kind_is)

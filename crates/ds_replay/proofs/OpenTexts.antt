@@ -1,25 +1,58 @@
 -- The text of a state with the lines of what its open latches show.
-use Rattle.std.proofs.Common.{◌≡◌, ◌∙◌, ℕ, ◌+◌, ◌*◌, ◌<◌, ◌==◌, if◌then◌else◌, Bool, true, false, List, [], ◌∷◌, ◌++◌, length, get_or, refl, arith, ap, ap₂, sym, subst, inl, inr}
+use Rattle.std.proofs.Common.{◌≡◌, ◌∙◌, ℕ, ◌+◌, ◌*◌, ◌<◌, ◌==◌, if◌then◌else◌, Bool, true, false, List, [], ◌∷◌, ◌++◌, length, get_or, replicate, refl, arith, ap, ap₂, sym, subst, inl, inr}
 use Rattle.std.proofs.lemmas.Bool.{cases_eq}
-use Rattle.std.proofs.lemmas.List.{append-nil, get_or_append_left, get_or_push}
+use Rattle.std.proofs.lemmas.List.{append-nil, get_or_append_left, get_or_push, length-replicate}
 use Rattle.ds_base.specs.Values.{Row}
 use Rattle.ds_marked.specs.Graph.{IsLegal}
-use Rattle.ds_latch.specs.Node.{Split, opening, closing}
+use Rattle.ds_base.specs.declared.value.Value.TheVariants.{Zero}
+use Rattle.ds_latch.specs.Node.{IsNode, Split, opening, closing, nets_of, nodes, number_of}
 use Rattle.ds_latch.specs.declared.node.Node.{Node}
 use Rattle.ds_latch.specs.declared.node.Node.TheVariants.{In, Out, Master, Slave}
 use Rattle.ds_latch.specs.Plan.{Planned}
 use Rattle.ds_fire.specs.Snapshot.{Snapshot, count_of, graph_of, held_row, is_open, limit_of, split_of}
 use Rattle.ds_fire.specs.Fired.{IsAfter, IsReached, IsSnapshotSound}
 use Rattle.ds_latch.proofs.Spelt.{range_agree}
+use Rattle.ds_fire.proofs.Opened.{bits_are}
 use Rattle.ds_fire.proofs.Transparent.{held_is_shown}
 use Rattle.ds_rows.specs.Homes.{AreHomes}
 use Rattle.ds_rows.specs.Log.{open_text}
 use Rattle.ds_rows.specs.StateText.{IsStateText}
 use Rattle.ds_rows.specs.declared.homes.Home.{Home}
-use Rattle.ds_replay.specs.OpenLines.{IsShownAt, open_line_of, open_lines, open_pair}
+use Rattle.ds_replay.specs.OpenLines.{AreShown, IsShownAt, open_line_of, open_lines, open_pair}
 use Rattle.ds_replay.specs.ReplayText.{IsOpenText, IsReplayText}
 use Rattle.ds_replay.specs.Kept.{IsKeptText, open_part, state_text}
 use Rattle.ds_replay.proofs.Registers.{text_of_kept}
+
+-- no row
+pub none_shown : (kept : Snapshot) (rows : List Row) → rows ≡ []
+    → (length rows ≡ 0) × ((j : ℕ) → j < 0 → IsShownAt kept j (get_or rows j []))
+none_shown kept rows is = (ap (λ (rs : List Row). length rs) is, λ j below. absurd (omega arith))
+
+-- a row of as many values as the node with a number has nets
+pub row_wide : (kept : Snapshot) (s : Split) (bits : List (List ℕ)) (number node : ℕ) (bit nets : List ℕ) (row : Row)
+    → split_of kept ≡ s → row ≡ replicate (length nets) Zero → nets ≡ bit → number < length bits → bit ≡ get_or bits number bit
+    → ((n : Node) → IsNode s n → get_or bits (number_of n) [] ≡ nets_of s n) → node ≡ number
+    → (n : Node) → IsNode (split_of kept) n → number_of n ≡ node → length row ≡ length (nets_of (split_of kept) n)
+row_wide kept s bits number node bit nets row split row_is nets_are inside is lent node_is =
+    subst (λ (t : Split). (n : Node) → IsNode t n → number_of n ≡ node → length row ≡ length (nets_of t n)) (sym split)
+    (λ n is_node e.
+    ap (λ (r : Row). length r) row_is
+    ∙ (length-replicate (length nets) Zero
+    ∙ ap (λ (ns : List ℕ). length ns) (nets_are ∙ bits_are s bits number bit inside is lent n is_node (e ∙ node_is))))
+
+-- the rows of all nodes
+pub all_shown : (kept : Snapshot) (s : Split) (rows : List Row) (number count : ℕ) → split_of kept ≡ s → length rows ≡ number
+    → ((j : ℕ) → j < number → IsShownAt kept j (get_or rows j [])) → number ≡ count → count ≡ nodes s → AreShown kept rows
+all_shown kept s rows number count split long shown end one_each = record {
+  one_each = long ∙ (end ∙ (one_each ∙ ap nodes (sym split)));
+  each = λ k below. shown k (subst (λ (n : ℕ). k < n) long below);
+}
+
+-- a node with this number
+pub node_there : (kept : Snapshot) (s : Split) (node number count : ℕ) → split_of kept ≡ s → node ≡ number → number < count
+    → count ≡ nodes s → node < nodes (split_of kept)
+node_there kept s node number count split node_is inside one_each =
+    subst (λ (t : Split). node < nodes t) (sym split) (omega (arith, node_is, inside, one_each))
 
 -- one row more
 pub shown_more : (kept : Snapshot) (rows : List Row) (k : ℕ) (row : Row) → length rows ≡ k
