@@ -3,7 +3,7 @@ ghost use Rattle.std.specs.Prelude.{◌≡◌, ◌<◌, IfSome};
 ghost use Rattle.ds_fabric_tests.specs.Toggle.{toggle, HoldsBoth};
 
 use crate::toggle::{Toggle, begin, end, fired, has, layout, step};
-use ds_base::{EventId, LatchId, Row3, Value};
+use ds_base::{EventId, LatchId, OutOfMemory, Row3, Value};
 use ds_fabric::{Fabric, Pass, Record, unpack};
 use ds_rule::Layout;
 use std::alloc::Global;
@@ -54,68 +54,76 @@ fn record_of(alloc: Global, run: &Layout<Toggle>, many: u64) -> Option<Record>
     }
 }
 
-#[test]
-fn a_register_turns_over(rt: HostRuntime) {
-    let Ok(run) = layout(rt.alloc()) else {
-        panic!(rt; "memory");
+// The same of a run that is laid out anew.
+fn record_after(alloc: Global, many: u64) -> Option<Record>
+    ensures { IfSome result (λ r. r.shown.view.run ≡ toggle) }
+{
+    let Ok(run) = layout(alloc) else {
+        return None;
     };
-    let Some(record) = record_of(rt.alloc(), &run, 8) else {
-        panic!(rt; "firings");
-    };
-    let Ok(firings) = record.firings(rt.alloc()) else {
-        panic!(rt; "memory");
-    };
+    record_of(alloc, &run, many)
+}
+
+// Whether these are the events of all firings, in order.
+fn are_firings(events: &[EventId]) -> bool {
     let mut at = 0;
     for (want, _) in FIRINGS {
-        assert!(rt; at < firings.len());
-        assert_eq!(rt; firings[at], EventId::new(want));
+        if at >= events.len() || events[at] != EventId::new(want) {
+            return false;
+        }
         at += 1;
     }
-    assert_eq!(rt; at, firings.len());
+    at == events.len()
+}
+
+// Whether a record has all firings.
+fn has_firings(alloc: Global, from: &Record) -> Result<bool, OutOfMemory> {
+    let firings = from.firings(alloc)?;
+    Ok(are_firings(&firings))
+}
+
+#[test]
+fn a_register_turns_over(rt: HostRuntime) {
+    let Some(record) = record_after(rt.alloc(), 8) else {
+        panic!(rt; "firings");
+    };
+    assert!(rt; matches!(has_firings(rt.alloc(), &record), Ok(true)));
 }
 
 #[test]
 fn each_event_has_its_tickets(rt: HostRuntime) {
-    let Ok(run) = layout(rt.alloc()) else {
-        panic!(rt; "memory");
-    };
-    let Some(record) = record_of(rt.alloc(), &run, 7) else {
+    let Some(record) = record_after(rt.alloc(), 7) else {
         panic!(rt; "firings");
     };
-    assert!(rt; has(&record, 0, &[2, 6]));
-    assert!(rt; has(&record, 1, &[3]));
-    assert!(rt; has(&record, 2, &[0, 4]));
-    assert!(rt; has(&record, 3, &[1, 5]));
+    let slave = has(&record, 0, &[2, 6]) && has(&record, 1, &[3]);
+    assert!(rt; slave && has(&record, 2, &[0, 4]) && has(&record, 3, &[1, 5]));
+}
+
+// The words of both rows that a latch may store.
+type Words = (Option<u64>, Option<u64>);
+
+// Whether the slave and the master have stored these words after so many firings.
+fn stores(alloc: Global, many: u64, slave: Words, master: Words) -> bool {
+    match record_after(alloc, many) {
+        Some(record) => words_of(&record, 0) == slave && words_of(&record, 1) == master,
+        None => false,
+    }
 }
 
 // The values are one and zero, turn by turn, with the codes 1 and 0. A latch that is open has not
 // stored what it shows.
 #[test]
 fn a_latch_stores_when_it_closes(rt: HostRuntime) {
-    let Ok(run) = layout(rt.alloc()) else {
-        panic!(rt; "memory");
-    };
-    let one = Some(1);
-    let zero = Some(0);
-    for (many, slave, master) in [
-        (0, (None, None), (None, None)),
-        (1, (None, None), (None, None)),
-        (2, (None, None), (one, None)),
-        (3, (None, None), (one, None)),
-        (4, (one, None), (one, None)),
-        (7, (one, None), (one, zero)),
-        (8, (one, zero), (one, zero)),
-    ] {
-        let Some(record) = record_of(rt.alloc(), &run, many) else {
-            panic!(rt; "firings");
-        };
-        assert_eq!(rt; words_of(&record, 0), slave, "{many}");
-        assert_eq!(rt; words_of(&record, 1), master, "{many}");
-    }
+    let alloc = rt.alloc();
+    let (none, one, both) = ((None, None), (Some(1), None), (Some(1), Some(0)));
+    let opened = stores(alloc, 0, none, none) && stores(alloc, 1, none, none);
+    assert!(rt; opened && stores(alloc, 2, none, one) && stores(alloc, 3, none, one));
+    let closed = stores(alloc, 4, one, one) && stores(alloc, 7, one, both);
+    assert!(rt; closed && stores(alloc, 8, both, both));
 }
 
-// The words of both rows that a latch may store.
-fn words_of(from: &Record, node: u32) -> (Option<u64>, Option<u64>)
+// The words that a latch has stored.
+fn words_of(from: &Record, node: u32) -> Words
     requires run { from.now.shown.view.run ≡ toggle }
     requires node { node < 2 }
 {
@@ -135,26 +143,21 @@ fn word_of(from: &Record, node: u32, k: usize) -> Option<u64>
     }
 }
 
+// Whether a latch has stored a one and then a zero.
+fn has_values(alloc: Global, from: &Record, node: u32) -> bool
+    requires run { from.now.shown.view.run ≡ toggle }
+    requires node { node < 2 }
+{
+    value_of(alloc, from, node, 0) == Some(Value::One)
+        && value_of(alloc, from, node, 1) == Some(Value::Zero)
+}
+
 #[test]
 fn a_stored_row_has_its_values(rt: HostRuntime) {
-    let Ok(run) = layout(rt.alloc()) else {
-        panic!(rt; "memory");
-    };
-    let Some(record) = record_of(rt.alloc(), &run, 8) else {
+    let Some(record) = record_after(rt.alloc(), 8) else {
         panic!(rt; "firings");
     };
-    for node in 0..2u32 {
-        assert_eq!(rt;
-            value_of(rt.alloc(), &record, node, 0),
-            Some(Value::One),
-            "{node}"
-        );
-        assert_eq!(rt;
-            value_of(rt.alloc(), &record, node, 1),
-            Some(Value::Zero),
-            "{node}"
-        );
-    }
+    assert!(rt; has_values(rt.alloc(), &record, 0) && has_values(rt.alloc(), &record, 1));
 }
 
 // The value of a stored row; none where it is not stored, or memory is lacking.
@@ -183,8 +186,6 @@ fn a_row_is_read_back(rt: HostRuntime) {
         panic!(rt; "memory");
     };
     unpack(&[36], &mut row);
-    assert!(rt; row.len() == 3);
-    assert_eq!(rt; row.value(0), Value::Zero);
-    assert_eq!(rt; row.value(1), Value::One);
-    assert_eq!(rt; row.value(2), Value::Unknown);
+    assert!(rt; row.len() == 3 && row.value(0) == Value::Zero);
+    assert!(rt; row.value(1) == Value::One && row.value(2) == Value::Unknown);
 }
