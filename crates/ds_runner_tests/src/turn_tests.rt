@@ -1,12 +1,14 @@
 //! Two turns on three nodes, on one thread and on two.
 ghost use Rattle.std.specs.Prelude.{◌≡◌, IsTrue};
-ghost use Rattle.ds_runner_tests.specs.Trio.{IsTrioStile, IsIdle, IsFresh, HasMissed};
+ghost use Rattle.ds_runner_tests.specs.Trio.{trio, IsTrioStile, IsIdle, IsFresh, HasMissed};
 
 use crate::hand::{Hand, fires, set_up, shut};
 use crate::trio::{Trio, begin, layout};
-use ds_base::LatchId;
+use ds_base::{LatchId, OutOfMemory};
 use ds_fabric::Fabric;
+use ds_rule::Layout;
 use ds_runner::Turnstile;
+use std::alloc::Global;
 use std::thread;
 use std::thread::Threads;
 
@@ -30,23 +32,45 @@ fn misses(fabric: &Fabric<Trio, Trio>, stile: &Turnstile, one: &mut Hand, two: &
     tried.is_none()
 }
 
+// Once the second hand has missed node 1, which is back then, each hand fires a node.
+fn misses_and_fires(
+    fabric: &Fabric<Trio, Trio>,
+    stile: &Turnstile,
+    one: &mut Hand,
+    two: &mut Hand,
+) -> bool
+    requires stile { IsTrioStile fabric.now stile.now }
+    requires one { IsIdle fabric.now stile.now one.old.turn one.old.scratch }
+    requires two { IsIdle fabric.now stile.now two.old.turn two.old.scratch
+        × IsFresh two.old.turn.view }
+
+    ensures one { IsIdle fabric.now stile.now one.new.turn one.new.scratch }
+    ensures two { IsIdle fabric.now stile.now two.new.turn two.new.scratch }
+{
+    let missed = misses(fabric, stile, one, two);
+    let back = stile.seems_home(LatchId::new(1)) && one.turn.parts() == 1;
+    let first = fires(fabric, stile, one, 1, 2) == Some(2);
+    let second = fires(fabric, stile, two, 2, 1) == Some(1);
+    missed && back && first && second
+}
+
+// Whether they do so, and what has fired is there once the turnstile is shut.
+fn is_missed(alloc: Global, run: &Layout<Trio>) -> Result<bool, OutOfMemory>
+    requires { run.now ≡ trio }
+{
+    let (fabric, mut passes) = begin(alloc, run)?;
+    let (stile, mut one, mut two) = set_up(alloc, &fabric, &mut passes)?;
+    let done = misses_and_fires(&fabric, &stile, &mut one, &mut two);
+    let all = shut(&fabric, stile, one, two, &mut passes);
+    Ok(done && all == (0, 2, 1))
+}
+
 #[test]
 fn a_node_that_is_out_is_missed(rt: HostRuntime) {
     let Ok(run) = layout(rt.alloc()) else {
         panic!(rt; "memory");
     };
-    let Ok((fabric, mut passes)) = begin(rt.alloc(), &run) else {
-        panic!(rt; "memory");
-    };
-    let Ok((stile, mut one, mut two)) = set_up(rt.alloc(), &fabric, &mut passes) else {
-        panic!(rt; "memory");
-    };
-    assert!(rt; misses(&fabric, &stile, &mut one, &mut two));
-    assert!(rt; stile.seems_home(LatchId::new(1)));
-    assert_eq!(rt; one.turn.parts(), 1);
-    assert_eq!(rt; fires(&fabric, &stile, &mut one, 1, 2), Some(2));
-    assert_eq!(rt; fires(&fabric, &stile, &mut two, 2, 1), Some(1));
-    assert_eq!(rt; shut(&fabric, stile, one, two, &mut passes), (0, 2, 1));
+    assert!(rt; matches!(is_missed(rt.alloc(), &run), Ok(true)));
 }
 
 // Two threads, each with a hand of its own: one fires node 1 twice, the other node 2 once.
@@ -70,20 +94,23 @@ fn both_at_once(
     )
 }
 
+// Whether both threads fire their nodes, and what has fired is there once the turnstile is shut.
+fn are_fired<R: AllocGlobal + Threads>(rt: &R, run: &Layout<Trio>) -> Result<bool, OutOfMemory>
+    requires { run.now ≡ trio }
+{
+    let (fabric, mut passes) = begin(rt.alloc(), run)?;
+    let (stile, mut one, mut two) = set_up(rt.alloc(), &fabric, &mut passes)?;
+    let both = both_at_once(rt, &fabric, &stile, &mut one, &mut two);
+    let all = shut(&fabric, stile, one, two, &mut passes);
+    Ok(both == (Some(2), Some(1)) && all == (0, 2, 1))
+}
+
 #[test]
 fn two_threads_fire_their_nodes(rt: HostRuntime) {
     let Ok(run) = layout(rt.alloc()) else {
         panic!(rt; "memory");
     };
     for _ in 0..100u32 {
-        let Ok((fabric, mut passes)) = begin(rt.alloc(), &run) else {
-            panic!(rt; "memory");
-        };
-        let Ok((stile, mut one, mut two)) = set_up(rt.alloc(), &fabric, &mut passes) else {
-            panic!(rt; "memory");
-        };
-        let both = both_at_once(&rt, &fabric, &stile, &mut one, &mut two);
-        assert_eq!(rt; both, (Some(2), Some(1)));
-        assert_eq!(rt; shut(&fabric, stile, one, two, &mut passes), (0, 2, 1));
+        assert!(rt; matches!(are_fired(&rt, &run), Ok(true)));
     }
 }
