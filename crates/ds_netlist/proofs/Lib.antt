@@ -7,3 +7,4 @@ pub mod Found
 pub mod Refused
 pub mod Leveled
 pub mod OneLevel
+pub mod Listed
