@@ -1,7 +1,9 @@
 -- What is kept before the first firing.
-use Rattle.std.proofs.Common.{◌≡◌, ◌∙◌, ℕ, ◌+◌, ◌-◌, ◌*◌, ◌/◌, ◌%◌, ◌^◌, ◌<◌, ◌≤◌, ◌==◌, if◌then◌else◌, List, [], ◌∷◌, ◌++◌, length, get_or, replicate, inl, inr, refl, arith, ap, sym}
+use Rattle.std.proofs.Common.{◌≡◌, ◌∙◌, ℕ, ◌+◌, ◌-◌, ◌*◌, ◌/◌, ◌%◌, ◌^◌, ◌<◌, ◌≤◌, ◌==◌, if◌then◌else◌, List, [], ◌∷◌, ◌++◌, length, get_or, replicate, inl, inr, refl, arith, ap, sym, subst}
 use Rattle.std.proofs.lemmas.Bool.{cases_eq, cases_lt}
-use Rattle.std.proofs.lemmas.List.{get_or-map, get_or_append_left, get_or_past, get_or_push, get_or-replicate, length-append, length-map, length-replicate}
+use Rattle.std.specs.Prelude.{All}
+use Rattle.std.proofs.lemmas.List.{get_or-map, get_or_append_left, get_or_default, get_or_past, get_or_push, get_or-replicate, length-append, length-map, length-replicate, length_push}
+use Rattle.std.proofs.lemmas.List.Elements.{All-push}
 use Rattle.std.proofs.lemmas.Nat.{div-mul-add, mod-mul-add}
 use Rattle.std.proofs.Math.Nat.{zero-mul}
 use Rattle.ds_base.proofs.Tests.{test_same, test_other}
@@ -138,3 +140,50 @@ plan_events s g plan =
     let long : length (split_events s) ≡ 2 * nodes s = events_long s in
     let events_are : length g.events ≡ length (split_events s) + length plan.extra = ap length plan.events ∙ length-append (split_events s) plan.extra in
     omega arith
+
+-- the histories of the first nodes, which have stored nothing
+pub record AreEmptyBelow (limit i : ℕ) (bits : List (List ℕ)) (stored : List Stored) : Type 0 where
+  pub one_each : length stored ≡ i
+  pub none : All (λ h. h.values ≡ []) stored
+  pub room : (j : ℕ) (d : Stored) (e : List ℕ) → j < i → (get_or stored j d).room ≡ limit * length (get_or bits j e)
+
+pub none_empty : (limit : ℕ) (bits : List (List ℕ)) (stored : List Stored) → stored ≡ [] → AreEmptyBelow limit 0 bits stored
+none_empty limit bits stored is = record {
+  one_each = ap (λ (hs : List Stored). length hs) is;
+  none = subst (λ (hs : List Stored). All (λ h. h.values ≡ []) hs) (sym is) (λ k d lt. absurd (omega arith));
+  room = λ j d e lt. absurd (omega arith);
+}
+
+-- one history more
+pub more_empty : (limit i : ℕ) (bits : List (List ℕ)) (stored stored' : List Stored) (h : Stored) (nets d' : List ℕ)
+    → AreEmptyBelow limit i bits stored → stored' ≡ stored ++ h ∷ [] → h ≡ record { values = []; room = limit * length nets }
+    → nets ≡ get_or bits i d' → i < length bits → AreEmptyBelow limit (i + 1) bits stored'
+more_empty limit i bits stored stored' h nets d' before is h_is nets_are inside =
+    let all : All (λ x. x.values ≡ []) (stored ++ h ∷ []) =
+    All-push (λ (x : Stored). x.values ≡ []) stored h before.none (ap (λ (x : Stored). x.values) h_is) in
+    record {
+      one_each = ap (λ (hs : List Stored). length hs) is ∙ (length_push stored h ∙ ap (λ (n : ℕ). n + 1) before.one_each);
+      none = subst (λ (hs : List Stored). All (λ x. x.values ≡ []) hs) (sym is) all;
+      room = λ j d e lt. ap (λ (hs : List Stored). (get_or hs j d).room) is ∙ elim (cases_eq j i) [
+        | inl same ↦
+            ap (λ (x : Stored). x.room) (get_or_push stored h d j (before.one_each ∙ sym same))
+            ∙ (ap (λ (x : Stored). x.room) h_is
+            ∙ ap (λ (ns : List ℕ). limit * length ns)
+            (nets_are ∙ (get_or_default bits i d' e inside ∙ ap (λ (k : ℕ). get_or bits k e) (sym same))))
+        | inr ne ↦
+            ap (λ (x : Stored). x.room) (get_or_append_left stored (h ∷ []) d j (let low : j < length stored = omega (arith, before.one_each) in low))
+            ∙ before.room j d e (omega arith)
+      ];
+    }
+
+-- the histories of all nodes
+pub all_empty : (s : Split) (limit i : ℕ) (bits : List (List ℕ)) (stored : List Stored) → AreEmptyBelow limit i bits stored
+    → i ≡ length bits → length bits ≡ nodes s → ((n : Node) → IsNode s n → get_or bits (number_of n) [] ≡ nets_of s n)
+    → AreEmpty s limit stored
+all_empty s limit i bits stored all end one_each nets = record {
+  one_each = all.one_each ∙ (end ∙ one_each);
+  none = all.none;
+  room = λ n is_node d.
+      (let low : number_of n < nodes s = number_below s n is_node in
+      all.room (number_of n) d [] (omega arith) ∙ ap (λ (ns : List ℕ). limit * length ns) (nets n is_node));
+}

@@ -8,3 +8,4 @@ pub mod Lawful
 pub mod Fed
 pub mod First
 pub mod Transparent
+pub mod Pushed

@@ -1,5 +1,5 @@
 -- The rows after an opening, as the code puts them.
-use Rattle.std.proofs.Common.{◌≡◌, ◌∙◌, ℕ, suc, ◌+◌, ◌-◌, ◌*◌, ◌/◌, ◌%◌, ◌<◌, List, [], ◌++◌, length, get_or, take, drop, inl, inr, refl, arith, ap, sym, subst, add-zero}
+use Rattle.std.proofs.Common.{◌≡◌, ◌∙◌, ℕ, suc, ◌+◌, ◌-◌, ◌*◌, ◌/◌, ◌%◌, ◌<◌, ◌≤◌, List, [], ◌++◌, length, get_or, take, drop, inl, inr, refl, arith, ap, sym, subst, add-zero}
 use Rattle.std.specs.List.{AllWithin}
 use Rattle.std.proofs.Math.ListN.{set}
 use Rattle.std.proofs.Math.Nat.{suc-mul}
@@ -114,6 +114,27 @@ module _ (s : Split) (vectors rows : List Row) (are : AreRows s rows) (opened : 
     master_at =
         let here : number * places.each + places.next ≡ row_index s (number_of (Slave i)) (place_of s (opened + 1)) = slave_at in
         let before : row_index s (number_of (Slave i)) (place_of s (opened + 1)) ≡ row_index s (number_of (Master i)) (place_of s (opened + 1)) + (s.slack + 1) = master_before s i (place_of s (opened + 1)) in
+        let each : places.each ≡ s.slack + 1 = at.each in
+        omega arith
+
+    pub slave_inside : number * places.each + places.next < length rows
+    slave_inside =
+        let here : number * places.each + places.next ≡ row_index s (number_of (Slave i)) (place_of s (opened + 1)) = slave_at in
+        let below : row_index s (number_of (Slave i)) (place_of s (opened + 1)) < nodes s * (s.slack + 1) =
+        index_inside s (number_of (Slave i)) (place_of s (opened + 1)) (number_below s (Slave i) is_node) (place_low s (opened + 1)) in
+        let long : length rows ≡ nodes s * (s.slack + 1) = are.one_each in
+        omega arith
+
+    pub each_before : places.each ≤ number * places.each + places.next
+    each_before =
+        let here : number * places.each + places.next ≡ row_index s (number_of (Slave i)) (place_of s (opened + 1)) = slave_at in
+        let before : row_index s (number_of (Slave i)) (place_of s (opened + 1)) ≡ row_index s (number_of (Master i)) (place_of s (opened + 1)) + (s.slack + 1) = master_before s i (place_of s (opened + 1)) in
+        let each : places.each ≡ s.slack + 1 = at.each in
+        omega arith
+
+    pub each_under : number * places.each + places.next - places.each < number * places.each + places.next
+    each_under =
+        let before : places.each ≤ number * places.each + places.next = each_before in
         let each : places.each ≡ s.slack + 1 = at.each in
         omega arith
 

@@ -1,13 +1,15 @@
 -- From what a turn leaves to a firing.
-use Rattle.std.proofs.Common.{◌≡◌, ◌∙◌, ℕ, suc, ◌+◌, ◌*◌, ◌<◌, ◌≤◌, List, [], length, get_or, refl, arith, ap, sym, subst}
+use Rattle.std.proofs.Common.{◌≡◌, ◌∙◌, ℕ, suc, ◌+◌, ◌-◌, ◌*◌, ◌^◌, ◌<◌, ◌≤◌, List, [], length, get_or, refl, arith, ap, sym, subst}
 use Rattle.std.proofs.Math.ListN.{set}
 use Rattle.std.proofs.Math.Nat.{mul-le-mul_right, suc-mul}
 use Rattle.std.proofs.lemmas.List.{get_or-map, length-append, length-map}
 use Rattle.ds_base.specs.Values.{Row}
+use Rattle.ds_design.specs.Circuit.{columns}
+use Rattle.ds_design.specs.InRange.{IsInRange}
 use Rattle.ds_marked.proofs.Progress.{legal_is_consistent}
 use Rattle.ds_latch.specs.Node.{Split, IsNode, number_of, nodes, nets_of, closing}
 use Rattle.ds_latch.specs.declared.node.Node.{Node}
-use Rattle.ds_latch.specs.Plan.{split_events}
+use Rattle.ds_latch.specs.Plan.{IsSplit, split_events}
 use Rattle.ds_latch.proofs.Counts.{number_below}
 use Rattle.ds_latch.proofs.Events.{IsEvent, is_opening, is_closing, is_extra, event_of}
 use Rattle.ds_latch.proofs.Rising.{events_long}
@@ -20,6 +22,7 @@ use Rattle.ds_latch.specs.Plan.{Planned}
 use Rattle.ds_design.specs.Rows.{Rows}
 use Rattle.ds_fire.specs.Inside.{IsRunning, snapshot_seen}
 use Rattle.ds_fire.specs.declared.feeds.Feeds.{Feeds}
+use Rattle.ds_fire.specs.Feeds.{AreFeeds}
 use Rattle.ds_fire.proofs.Reached.{kept_counts, reached_after}
 use Rattle.ds_fire.proofs.Shown.{Turned, fired, kept_next}
 
@@ -108,3 +111,39 @@ stepped planned vectors counts counts' kept kept' feeds v run may is turned =
         fed = run.fed;
       },
     )
+
+-- what a turn asks for, of the split design as it is lent
+module _ (planned : Planned) (vectors : Rows) (counts : List ℕ) (kept : Kept) (feeds : Feeds)
+    (run : IsRunning (snapshot_seen planned vectors counts kept) vectors kept feeds) (s : Split) (is : s ≡ planned.split) where
+  pub design_there : IsInRange s.circuit × IsSplit s
+  design_there = subst (λ (t : Split). IsInRange t.circuit × IsSplit t) (sym is) (run.sound.in_range, run.sound.plan.split)
+
+  pub width_there : vectors.width ≡ length (columns s.circuit)
+  width_there = subst (λ (t : Split). vectors.width ≡ length (columns t.circuit)) (sym is) run.width
+
+  pub feeds_there : AreFeeds s feeds
+  feeds_there = subst (λ (t : Split). AreFeeds t feeds) (sym is) run.fed
+
+  pub rows_there : AreRows s kept.rows.items
+  rows_there = subst (λ (t : Split). AreRows t kept.rows.items) (sym is) (are_rows (snapshot_seen planned vectors counts kept) run.sound)
+
+  pub nets_there : length kept.nets ≡ length s.circuit.nets
+  nets_there = subst (λ (t : Split). length kept.nets ≡ length t.circuit.nets) (sym is) run.nets
+
+  pub stored_there : length kept.stored.items ≡ nodes s
+  stored_there = subst (λ (t : Split). length kept.stored.items ≡ nodes t) (sym is)
+      (sym (length-map kept.stored.items (λ (h : Stored). h.values)) ∙ run.sound.stored)
+
+  -- an event that may fire is there, and has not fired too often
+  module _ (v count : ℕ) (may : IsReady (snapshot_seen planned vectors counts kept) v) where
+    pub counted : v < length counts
+    counted = (let inside = may.event in omega (arith, inside, run.sound.counts))
+
+    pub in_reach : count ≡ get_or counts v 0 → count < length vectors.rows
+    in_reach e = subst (λ (n : ℕ). n < length vectors.rows) (sym e) may.below
+
+    pub few_firings : count ≡ get_or counts v 0 → count < 2 ^ 32
+    few_firings e = (let below = in_reach e in omega (arith, below, run.few))
+
+    pub may_count : get_or counts v 0 < 2 ^ 64 - 1
+    may_count = (let below = may.below in omega (arith, below, run.few))

@@ -5,7 +5,7 @@ use Rattle.ds_fire.specs.Fired.{IsFired, IsReady}
 use Rattle.ds_fire.specs.Inside.{IsRunning, snapshot_seen}
 use Rattle.ds_fire.specs.Snapshot.{Snapshot}
 use Rattle.ds_fire.specs.Turn.{HasRowRoom, IsTurned}
-use Rattle.ds_fire.proofs.Turning.{room_more, stepped}
+use Rattle.ds_fire.proofs.Turning.{counted, design_there, feeds_there, few_firings, in_reach, may_count, nets_there, room_more, rows_there, stepped, stored_there, width_there}
 use Rattle.ds_fire.proofs.state.State.step.Goals as goal
 
 pub turn-requires-clause-room : goal.turn-requires-clause-room
@@ -35,3 +35,46 @@ invariant_of-self c = (both c).1
 
 pub returns : goal.returns
 returns c = subst (λ (k : Snapshot). IsFired k c.args.event (snapshot_seen c.self.inside.plan.now c.self.inside.vectors.now c.add_one.new.self c.turn.new.kept)) c.self.view_is (both c).0
+
+pub at-count-requires : goal.at-count-requires
+at-count-requires c =
+    let may : IsReady (snapshot_seen c.self.inside.plan.now c.self.inside.vectors.now c.self.inside.counts c.self.inside.kept) c.args.event = subst (λ (k : Snapshot). IsReady k c.args.event) (sym c.self.view_is) c.requires in
+    counted c.self.inside.plan.now c.self.inside.vectors.now c.self.inside.counts c.self.inside.kept c.self.inside.feeds c.self.invariant c.self.inside.plan.now.split refl c.args.event 0 may
+
+pub turn-requires-clause-vector : goal.turn-requires-clause-vector
+turn-requires-clause-vector c =
+    let may : IsReady (snapshot_seen c.self.inside.plan.now c.self.inside.vectors.now c.self.inside.counts c.self.inside.kept) c.args.event = subst (λ (k : Snapshot). IsReady k c.args.event) (sym c.self.view_is) c.requires in
+    in_reach c.self.inside.plan.now c.self.inside.vectors.now c.self.inside.counts c.self.inside.kept c.self.inside.feeds c.self.invariant c.self.inside.plan.now.split refl c.args.event c.at-count.result may c.at-count.ensures
+
+pub turn-requires-clause-few : goal.turn-requires-clause-few
+turn-requires-clause-few c =
+    let may : IsReady (snapshot_seen c.self.inside.plan.now c.self.inside.vectors.now c.self.inside.counts c.self.inside.kept) c.args.event = subst (λ (k : Snapshot). IsReady k c.args.event) (sym c.self.view_is) c.requires in
+    few_firings c.self.inside.plan.now c.self.inside.vectors.now c.self.inside.counts c.self.inside.kept c.self.inside.feeds c.self.invariant c.self.inside.plan.now.split refl c.args.event c.at-count.result may c.at-count.ensures
+
+pub turn-requires-clause-design : goal.turn-requires-clause-design
+turn-requires-clause-design c = design_there c.self.inside.plan.now c.self.inside.vectors.now c.self.inside.counts c.self.inside.kept c.self.inside.feeds c.self.invariant c.latches.result.now c.latches.ensures
+
+pub turn-requires-clause-width : goal.turn-requires-clause-width
+turn-requires-clause-width c = width_there c.self.inside.plan.now c.self.inside.vectors.now c.self.inside.counts c.self.inside.kept c.self.inside.feeds c.self.invariant c.latches.result.now c.latches.ensures
+
+pub turn-requires-clause-feeds : goal.turn-requires-clause-feeds
+turn-requires-clause-feeds c = feeds_there c.self.inside.plan.now c.self.inside.vectors.now c.self.inside.counts c.self.inside.kept c.self.inside.feeds c.self.invariant c.latches.result.now c.latches.ensures
+
+pub turn-requires-clause-rows : goal.turn-requires-clause-rows
+turn-requires-clause-rows c = rows_there c.self.inside.plan.now c.self.inside.vectors.now c.self.inside.counts c.self.inside.kept c.self.inside.feeds c.self.invariant c.latches.result.now c.latches.ensures
+
+pub turn-requires-clause-nets : goal.turn-requires-clause-nets
+turn-requires-clause-nets c = nets_there c.self.inside.plan.now c.self.inside.vectors.now c.self.inside.counts c.self.inside.kept c.self.inside.feeds c.self.invariant c.latches.result.now c.latches.ensures
+
+pub turn-requires-clause-stored : goal.turn-requires-clause-stored
+turn-requires-clause-stored c = stored_there c.self.inside.plan.now c.self.inside.vectors.now c.self.inside.counts c.self.inside.kept c.self.inside.feeds c.self.invariant c.latches.result.now c.latches.ensures
+
+pub add_one-requires-clause-inside : goal.add_one-requires-clause-inside
+add_one-requires-clause-inside c =
+    let may : IsReady (snapshot_seen c.self.inside.plan.now c.self.inside.vectors.now c.self.inside.counts c.self.inside.kept) c.args.event = subst (λ (k : Snapshot). IsReady k c.args.event) (sym c.self.view_is) c.requires in
+    counted c.self.inside.plan.now c.self.inside.vectors.now c.self.inside.counts c.self.inside.kept c.self.inside.feeds c.self.invariant c.self.inside.plan.now.split refl c.args.event 0 may
+
+pub add_one-requires-clause-room : goal.add_one-requires-clause-room
+add_one-requires-clause-room c =
+    let may : IsReady (snapshot_seen c.self.inside.plan.now c.self.inside.vectors.now c.self.inside.counts c.self.inside.kept) c.args.event = subst (λ (k : Snapshot). IsReady k c.args.event) (sym c.self.view_is) c.requires in
+    may_count c.self.inside.plan.now c.self.inside.vectors.now c.self.inside.counts c.self.inside.kept c.self.inside.feeds c.self.invariant c.self.inside.plan.now.split refl c.args.event 0 may
