@@ -1,5 +1,5 @@
 //! Passes that are dealt and gathered, on one thread and on two.
-ghost use Rattle.std.specs.Prelude.{◌≡◌, ◌<◌, IfSome};
+ghost use Rattle.std.specs.Prelude.{◌≡◌, ◌<◌, IfSome, OnOk};
 ghost use Rattle.ds_fabric_tests.specs.Toggle.{toggle, HoldsBoth, HoldsMaster, HoldsSlave};
 
 use crate::toggle::{
@@ -82,18 +82,29 @@ fn is_completed(fabric: &Fabric<Toggle, Toggle>, pass: &mut Pass) -> bool
     both && closed && opened && last && slave && master && counts
 }
 
-// Whether a run on two passes, which are one at last, fires as it must.
+// Whether two passes, which are one again at last, fire as they must.
+fn passes_fire(
+    alloc: Global,
+    fabric: &Fabric<Toggle, Toggle>,
+    pass: &mut Pass,
+) -> Result<bool, OutOfMemory>
+    requires { HoldsBoth fabric.now pass.old }
+{
+    let mut other = part(alloc, fabric, pass)?;
+    let apart = are_apart(fabric, pass, &other);
+    let first = waits_for_the_master(fabric, pass, &mut other);
+    let second = waits_for_the_slave(fabric, pass, &mut other);
+    unite(fabric, pass, other);
+    let third = is_completed(fabric, pass);
+    Ok(apart && first && second && third)
+}
+
+// Whether those of a run do.
 fn fires_in_turn(alloc: Global, run: &Layout<Toggle>) -> Result<bool, OutOfMemory>
     requires { run.now ≡ toggle }
 {
     let (fabric, mut pass) = begin(alloc, run)?;
-    let mut other = part(alloc, &fabric, &mut pass)?;
-    let apart = are_apart(&fabric, &pass, &other);
-    let first = waits_for_the_master(&fabric, &mut pass, &mut other);
-    let second = waits_for_the_slave(&fabric, &mut pass, &mut other);
-    unite(&fabric, &mut pass, other);
-    let third = is_completed(&fabric, &mut pass);
-    Ok(apart && first && second && third)
+    passes_fire(alloc, &fabric, &mut pass)
 }
 
 #[test]
@@ -149,8 +160,23 @@ fn goes_on(fabric: &Fabric<Toggle, Toggle>, pass: &mut Pass, tried: Step) -> boo
     opened == fired(0, 1, 2) && closed && again
 }
 
-// The record of a run on two threads up to the master's second opening; none where memory is
-// lacking or another event fired.
+// Whether two threads, and then one, fire up to the master's second opening.
+fn threads_fire<R: AllocGlobal + Threads>(
+    rt: &R,
+    fabric: &Fabric<Toggle, Toggle>,
+    pass: &mut Pass,
+) -> Result<bool, OutOfMemory>
+    requires { HoldsBoth fabric.now pass.old }
+    ensures { OnOk result (HoldsBoth fabric.now pass.new) }
+{
+    let mut other = part(rt.alloc(), fabric, pass)?;
+    let (both, tried) = both_at_once(rt, fabric, pass, &mut other);
+    unite(fabric, pass, other);
+    let on = goes_on(fabric, pass, tried);
+    Ok(both && on)
+}
+
+// The record of these firings; none where memory is lacking or another event fired.
 fn record_of<R: AllocGlobal + Threads>(rt: &R, run: &Layout<Toggle>) -> Option<Record>
     requires { run.now ≡ toggle }
     ensures { IfSome result (λ r. r.shown.view.run ≡ toggle) }
@@ -158,15 +184,9 @@ fn record_of<R: AllocGlobal + Threads>(rt: &R, run: &Layout<Toggle>) -> Option<R
     let Ok((fabric, mut pass)) = begin(rt.alloc(), run) else {
         return None;
     };
-    let Ok(mut other) = part(rt.alloc(), &fabric, &mut pass) else {
-        return None;
-    };
-    let (both, tried) = both_at_once(rt, &fabric, &mut pass, &mut other);
-    unite(&fabric, &mut pass, other);
-    if both && goes_on(&fabric, &mut pass, tried) {
-        Some(end(fabric, pass))
-    } else {
-        None
+    match threads_fire(rt, &fabric, &mut pass) {
+        Ok(true) => Some(end(fabric, pass)),
+        _ => None,
     }
 }
 
