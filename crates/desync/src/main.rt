@@ -5,9 +5,7 @@
 //! what reaches a terminal, no clause says.
 #![tactic(auto)]
 
-ghost use Rattle.std.specs.Prelude.{◌≡◌, IfOk, map, string_bytes};
-
-use ds_app::desync_main;
+use ds_app::{desync_main, lend_words};
 use ds_outside::{HostFiles, HostOut, OpenGate, write_all};
 use std::alloc::{AllocError, Global};
 use std::env;
@@ -30,7 +28,7 @@ fn do_words<R: AllocGlobal + Threads + Sync>(
     rt: &R,
     words: &[String],
 ) -> ExitCode {
-    match texts_of(rt.alloc(), words) {
+    match lend_words(rt.alloc(), words) {
         Ok(all) => ExitCode::from(status_of(host, rt, &all)),
         Err(AllocError) => say_memory(host),
     }
@@ -70,16 +68,4 @@ fn words_in(alloc: Global, given: Args) -> Result<Vec<String>, AllocError> {
         words.push(word)?;
     }
     Ok(words)
-}
-
-// The same, as they stand in memory.
-fn texts_of(alloc: Global, words: &[String]) -> Result<Vec<&str>, AllocError>
-    ensures { IfOk result (λ texts. map (λ t. t.now) texts.items
-        ≡ map (λ w. string_bytes w) words.now) }
-{
-    let mut texts = Vec::with_capacity(alloc, words.len())?;
-    for word in words {
-        texts.push(word.as_str())?;
-    }
-    Ok(texts)
 }

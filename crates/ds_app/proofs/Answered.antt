@@ -1,5 +1,5 @@
 -- Each way in which a call may end has its status, and no other.
-use Rattle.std.proofs.Common.{◌≡◌, ◌∙◌, ◌⊎◌, ℕ, List, [], Ok, Err, inl, inr, ap, refl, arith, sym, subst}
+use Rattle.std.proofs.Common.{◌≡◌, ◌∙◌, ◌⊎◌, ℕ, List, [], Result, Ok, Err, inl, inr, ap, refl, arith, sym, subst}
 use Rattle.std.specs.Prelude.{codes}
 use Rattle.ds_outside.specs.Fault.{Rose}
 use Rattle.ds_outside.specs.Written.{appended, AppendsPart}
@@ -11,10 +11,10 @@ use Rattle.ds_cmd.specs.declared.fault.UsageFault.{UsageFault}
 use Rattle.ds_cmd.specs.declared.fault.UsageFault.TheVariants as usage
 use Rattle.ds_stage.specs.declared.stop.Stop.{Stop}
 use Rattle.ds_stage.specs.declared.stop.Stop.TheVariants.{Refused, Unread, Unwritten, Memory}
-use Rattle.ds_stage.specs.Ends.{Ends, Output, RoseIn}
+use Rattle.ds_stage.specs.Ends.{Ends, RoseIn}
 use Rattle.ds_app.specs.Job.{stages_of}
 use Rattle.ds_stage.specs.Stage.{leaves_nothing}
-use Rattle.ds_app.specs.Status.{AreTold, Call, HasWindows, IsAnswered, HasLeft, IsWanting, Reports, SaysStop, SaysUsage, WritesLast}
+use Rattle.ds_app.specs.Status.{AreTold, Call, HasWindows, IsAnswered, HasLeft, IsWanting, Reports, SaysEnd, SaysStop, SaysUsage, WritesLast}
 use Rattle.ds_stage.proofs.Left.{LeavesNothing, nothing_appended}
 use Rattle.ds_app.proofs.Left.{job_nothing}
 use Rattle.ds_app.proofs.Exclusive.{job_not_refused}
@@ -25,7 +25,7 @@ same_job : (words : List (List ℕ)) (job other : Job) → job_of words ≡ Ok j
 same_job words job other is also = cc
 
 -- and words with a job are a command line
-no_fault : (words : List (List ℕ)) (job : Job) (fault : UsageFault) → job_of words ≡ Ok job → job_of words ≡ Err fault → ⊥
+pub no_fault : (words : List (List ℕ)) (job : Job) (fault : UsageFault) → job_of words ≡ Ok job → job_of words ≡ Err fault → ⊥
 no_fault words job fault is faulty = cc
 
 -- a job has no text and a fault
@@ -46,7 +46,7 @@ wanting_same : (call : Call) → WritesLast call.words → IsWanting call → ca
 wanting_same call last (inl same) = same
 wanting_same call last (inr (job, is, left)) = left_same call job Memory (job_nothing call.held job (last job is)) (λ text none. none) left
 
-pub answered_done : (call : Call) (job : Job) (text : List ℕ) → job_of call.words ≡ Ok job → (stages_of call.held job).means text
+answered_done : (call : Call) (job : Job) (text : List ℕ) → job_of call.words ≡ Ok job → (stages_of call.held job).means text
     → call.out.new ≡ appended call.out.old text → call.err.new ≡ call.err.old → IsAnswered call 0
 answered_done call job text is means written silent = record {
   known = omega arith;
@@ -154,7 +154,7 @@ answered_usage call fault faulty same reported = record {
 }
 
 -- what ended a job says the status
-pub answered_stop : (A : Type 0) (call : Call) (job : Job) (stop : Stop) (status : ℕ) → job_of call.words ≡ Ok job
+answered_stop : (A : Type 0) (call : Call) (job : Job) (stop : Stop) (status : ℕ) → job_of call.words ≡ Ok job
     → Ends {A = A} (stages_of call.held job) (RoseIn call.before call.now) call.out (Err stop) → SaysStop stop call.err status → IsAnswered call status
 answered_stop A call job (Refused line) status is (refused, (text, left, written)) (e, reported) =
     subst (λ (s : ℕ). IsAnswered call s) (sym e) (answered_refused call job line is refused (record { text = text; is_left = left; written = written }) reported)
@@ -164,6 +164,13 @@ answered_stop A call job Unwritten status is (text, means, part, cause) (e, repo
     subst (λ (s : ℕ). IsAnswered call s) (sym e) (answered_unwritten call job text is means part cause reported)
 answered_stop A call job Memory status is (text, left, written) (e, reported) =
     subst (λ (s : ℕ). IsAnswered call s) (sym e) (answered_memory call (inr (job, is, record { text = text; is_left = left; written = written })) reported)
+
+-- so does a job that is done
+pub answered_end : (call : Call) (job : Job) (ended : Result (Unit {0}) Stop) (status : ℕ) → job_of call.words ≡ Ok job
+    → Ends (stages_of call.held job) (RoseIn call.before call.now) call.out ended → SaysEnd ended call.err status → IsAnswered call status
+answered_end call job (Ok done) status is (text, means, written) (e, silent) =
+    subst (λ (s : ℕ). IsAnswered call s) (sym e) (answered_done call job text is means written silent)
+answered_end call job (Err stop) status is ends says = answered_stop (Unit {0}) call job stop status is ends says
 
 -- words that are no command line, or for which there was no memory, say the status
 pub answered_words : (call : Call) (fault : UsageFault) (status : ℕ) → (fault ≡ usage.Memory) ⊎ (job_of call.words ≡ Err fault)
@@ -175,10 +182,3 @@ answered_words call usage.Number status (inr is) same (e, reported) = subst (λ 
 answered_words call usage.Mode status (inl memory) same says = cc
 answered_words call usage.Mode status (inr is) same (e, reported) = subst (λ (s : ℕ). IsAnswered call s) (sym e) (answered_usage call usage.Mode is same reported)
 answered_words call usage.Memory status either same (e, reported) = subst (λ (s : ℕ). IsAnswered call s) (sym e) (answered_memory call (inl same) reported)
-
--- what ends a job is no fault of the words
-pub stop_is_not_two : (stop : Stop) (err : Output) (status : ℕ) → SaysStop stop err status → status ≡ 2 → ⊥
-stop_is_not_two (Refused line) err status (e, reported) two = omega arith
-stop_is_not_two (Unread line) err status (e, reported) two = omega arith
-stop_is_not_two Unwritten err status (e, reported) two = omega arith
-stop_is_not_two Memory err status (e, reported) two = omega arith

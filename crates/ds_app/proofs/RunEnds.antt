@@ -104,6 +104,5 @@ few_vectors false = omega arith
 few_vectors true = omega arith
 
 -- the end of a run by the same graph and the same registers
-pub run_end_of : (g other : Graph) (kept : Option Listed) (state shown : Row) (text : List ℕ) → g ≡ other → shown ≡ state → IsRunEnd other kept shown text → IsRunEnd g kept state text
-run_end_of g other kept state shown text same is end =
-    subst (λ (row : Row). IsRunEnd g kept row text) is (subst (λ (k : Graph). IsRunEnd k kept shown text) (sym same) end)
+pub run_end_of : (g other : Graph) (kept : Option Listed) (state : Row) (text : List ℕ) → g ≡ other → IsRunEnd other kept state text → IsRunEnd g kept state text
+run_end_of g other kept state text same end = subst (λ (k : Graph). IsRunEnd k kept state text) (sym same) end

@@ -1,5 +1,6 @@
 -- What a call of the program answers, and what it leaves on its outputs.
-use Rattle.std.specs.Prelude.{◌≡◌, ◌≢◌, ◌⊎◌, ℕ, ◌≤◌, List, Option, None, Some, Ok, Err, codes}
+use Rattle.std.specs.Prelude.{◌≡◌, ◌≢◌, ◌⊎◌, ℕ, ◌≤◌, List, Option, None, Some, Result, Ok, Err}
+use Rattle.std.specs.Prelude.{codes}
 use Rattle.ds_outside.specs.Held.{Held, untold}
 use Rattle.ds_outside.specs.Fault.{Rose}
 use Rattle.ds_outside.specs.Written.{appended, AppendsPart}
@@ -35,6 +36,11 @@ SaysStop (Refused line) err status = (status ≡ 1) × Reports err line
 SaysStop (Unread line) err status = (status ≡ 3) × Reports err line
 SaysStop Memory err status = (status ≡ 4) × Reports err (codes "desync: out of memory\n")
 SaysStop Unwritten err status = (status ≡ 5) × Reports err (codes "desync: cannot write\n")
+
+-- the status of a job that is done, without a line, or those of what ended it
+abbrev pub SaysEnd : Result (Unit {0}) Stop → Output → ℕ → Type 0
+SaysEnd (Ok done) err status = (status ≡ 0) × (err.new ≡ err.old)
+SaysEnd (Err stop) err status = SaysStop stop err status
 
 -- the line and the status of words that are no command line
 abbrev pub SaysUsage : UsageFault → Output → ℕ → Type 0

@@ -4,7 +4,7 @@ ghost use Rattle.ds_cmd.specs.Allowed.{AreAllowed};
 ghost use Rattle.ds_stage.specs.Ends.{Ends, RoseIn, output_between};
 ghost use Rattle.ds_app.specs.Interleavings.{Interleavings};
 ghost use Rattle.ds_app.specs.Job.{stages_of};
-ghost use Rattle.ds_app.specs.Status.{Call, IsAnswered, Reports, SaysStop, SaysUsage};
+ghost use Rattle.ds_app.specs.Status.{Call, IsAnswered, Reports, SaysEnd, SaysStop, SaysUsage};
 
 use crate::accept::accept;
 use crate::check::check;
@@ -63,10 +63,10 @@ pub fn desync_main<R: AllocGlobal + Threads + Sync, F: Files, O: Sink, E: Sink, 
     ensures interleavings { Interleavings (F.held files.old) (map (λ w. w.now) words.now) }
 {
     match parse(rt.alloc(), words) {
-        Ok(job) => match do_job(rt, &job, gate, files, out) {
-            Ok(()) => 0,
-            Err(stop) => say_stop(&stop, err),
-        },
+        Ok(job) => {
+            let ended = do_job(rt, &job, gate, files, out);
+            say_end(ended, err)
+        }
         Err(fault) => say_usage(fault, err),
     }
 }
@@ -112,6 +112,16 @@ fn say_usage<E: Sink>(fault: UsageFault, err: &mut E) -> u8
             say(b"desync: out of memory\n", err);
             4
         }
+    }
+}
+
+// Says how a job ended, and answers the status: of one that is done it says nothing.
+fn say_end<E: Sink>(ended: Result<(), Stop>, err: &mut E) -> u8
+    ensures { SaysEnd ended (output_between E.written E.faults err.old err.new) result }
+{
+    match ended {
+        Ok(()) => 0,
+        Err(stop) => say_stop(&stop, err),
     }
 }
 

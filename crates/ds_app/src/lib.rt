@@ -43,5 +43,7 @@ mod period_text;
 pub mod replay;
 mod run;
 mod stopped;
+mod words;
 
 pub use app::desync_main;
+pub use words::lend_words;

@@ -1,10 +1,15 @@
 //! `run`: the run of a plan by workers.
-ghost use Rattle.std.specs.Prelude.{◌≡◌, ◌≤◌, ◌<◌, Bool, IfOk, true, false, Some, None};
-ghost use Rattle.ds_design.specs.Circuit.{initial_row};
+ghost use Rattle.std.specs.Prelude.{◌≡◌, ◌≤◌, ◌<◌, ◌⊎◌, length, Bool, IfOk};
+ghost use Rattle.std.specs.Prelude.{true, false, Some, None};
+ghost use Rattle.ds_design.specs.Circuit.{columns, initial_row};
 ghost use Rattle.ds_cmd.specs.declared.job.Job.TheVariants.{Run};
+ghost use Rattle.ds_stream.specs.Next.{FitsHeld};
 ghost use Rattle.ds_run.specs.Ended.{IsSomeLog, WritesEnd};
 ghost use Rattle.ds_run.specs.Logged.{IsLogOf};
+ghost use Rattle.ds_run.specs.declared.fault.RunFault.TheVariants as faults;
+ghost use Rattle.ds_stage.specs.declared.stop.Stop.TheVariants.{Memory, Unwritten};
 ghost use Rattle.ds_stage.specs.Ends.{Ends, RoseIn, output_between};
+ghost use Rattle.ds_stage.specs.StreamStage.{most_vectors as most_vectors_of};
 ghost use Rattle.ds_app.specs.Job.{stages_of};
 ghost use Rattle.ds_app.specs.RunStage.{planned_run_stage, streamed_run_stage};
 
@@ -103,8 +108,7 @@ fn write_traced<R: AllocGlobal + Threads + Sync, G: Gate, F: Files, O: Sink>(
     let _design = plan.latches().netlist().design();
     let _graph = plan.graph();
     let mut log = log_for(alloc, plan, job.log)?;
-    let width = plan.latches().netlist().columns().len();
-    let mut reader = VectorReader::new(width, most_vectors(job.log));
+    let mut reader = reader_for(plan, job.log);
     let mut first = 0;
     let mut more = true;
     'windows: while more {
@@ -117,33 +121,50 @@ fn write_traced<R: AllocGlobal + Threads + Sync, G: Gate, F: Files, O: Sink>(
         };
         match write_window(alloc, &window, workers, &mut log, out) {
             Ok(row) => plan.begin(&row),
-            Err(RunFault::Write) => return Err(Stop::Unwritten),
-            Err(RunFault::Memory) => return Err(Stop::Memory),
+            Err(fault) => return Err(stop_of(fault)),
         }
         reader = behind;
         first = reader.given();
         more = turns == WINDOW;
     }
-    match end_traced(plan, plan.latches().initial(), log, out) {
+    match end_traced(plan, log, out) {
         Ok(()) => Ok(()),
         Err(_) => Err(Stop::Unwritten),
     }
 }
 
+// What ends the job where a window is not written whole.
+pub(crate) fn stop_of(fault: RunFault) -> Stop
+    ensures { ((fault ≡ faults.Write) × (result ≡ Unwritten))
+        ⊎ ((fault ≡ faults.Memory) × (result ≡ Memory)) }
+{
+    match fault {
+        RunFault::Write => Stop::Unwritten,
+        RunFault::Memory => Stop::Memory,
+    }
+}
+
 // Writes the end of a run, and gives its log up.
 #[tactic(auto)]
-fn end_traced<O: Sink>(
-    plan: &Plan<'_>,
-    registers: &Row3,
-    log: Option<Log>,
-    out: &mut O,
-) -> Result<(), WriteFault>
+fn end_traced<O: Sink>(plan: &Plan<'_>, log: Option<Log>, out: &mut O) -> Result<(), WriteFault>
     requires log { IsSomeLog plan.now.graph log }
-    ensures { WritesEnd result plan.now.graph log registers.now
+    ensures { WritesEnd result plan.now.graph log plan.now.split.initial
         (O.written out.old) (O.written out.new) (O.faults out.old) (O.faults out.new) }
 {
     let mut log = log;
-    end_run(plan, registers, &mut log, out)
+    end_run(plan, plan.latches().initial(), &mut log, out)
+}
+
+// The reader before the first vector of a plan's netlist.
+#[tactic(auto)]
+fn reader_for(plan: &Plan<'_>, log: bool) -> VectorReader
+    ensures width { result.width ≡ length (columns plan.now.split.circuit) }
+    ensures most { result.most ≡ most_vectors_of log }
+    ensures given { result.given ≡ 0 }
+    ensures fits { (held : _) → FitsHeld held result }
+{
+    let width = plan.latches().netlist().columns().len();
+    VectorReader::new(width, most_vectors(log))
 }
 
 // The log before the first firing of a plan, where one is wanted.

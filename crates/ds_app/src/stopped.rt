@@ -6,10 +6,11 @@ ghost use Rattle.ds_stage.specs.Ends.{Ends, Never, RoseIn, output_between};
 ghost use Rattle.ds_stage.specs.Stage.{giving};
 ghost use Rattle.ds_app.specs.RunStage.{stopped_run_stage};
 
+use crate::run::stop_of;
 use ds_cmd::RunJob;
 use ds_latch::Plan;
 use ds_outside::{Files, Gate, Sink};
-use ds_run::{Halt, RunFault, Workers, write_stopped};
+use ds_run::{Halt, Workers, write_stopped};
 use ds_stage::{Stop, read_rows};
 use std::thread::Threads;
 
@@ -67,7 +68,6 @@ fn write_halted<R: AllocGlobal + Threads + Sync, G: Gate, O: Sink>(
 {
     match write_stopped(workers.threads.alloc(), halt, workers, log, out) {
         Ok(()) => Ok(()),
-        Err(RunFault::Write) => Err(Stop::Unwritten),
-        Err(RunFault::Memory) => Err(Stop::Memory),
+        Err(fault) => Err(stop_of(fault)),
     }
 }

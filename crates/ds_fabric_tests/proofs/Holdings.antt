@@ -1,7 +1,5 @@
 -- Passes of the fabric of the tests: which nodes they hold after each call.
-use Rattle.std.proofs.Common.{◌≡◌, ◌<◌, ◌+◌, ◌||◌, ℕ, zero, suc, List, Bool, true, false}
-use Rattle.std.proofs.Common.{length, get_or, set, replicate, [], ◌∷◌, sym, ap, ◌∙◌, subst}
-use Rattle.std.proofs.Common.{arith}
+use Rattle.std.proofs.Common.{◌≡◌, ◌<◌, ◌+◌, ◌||◌, ℕ, zero, suc, List, Bool, true, false, length, get_or, set, replicate, [], ◌∷◌, sym, ap, ◌∙◌, subst, arith}
 use Rattle.ds_rule.specs.Run.{Run, events}
 use Rattle.ds_rule.proofs.EventLaws.{events-is}
 use Rattle.ds_rule.specs.Rule.{holds}

@@ -1,6 +1,5 @@
 -- The run of the tests meets what a run must, and its rows by number.
-use Rattle.std.proofs.Common.{◌≡◌, ◌<◌, ◌≤◌, ◌+◌, ◌%◌, ◌*◌, ℕ, zero, suc, List, [], ◌∷◌, length}
-use Rattle.std.proofs.Common.{sym, subst, refl, arith, cond, Bool, true, false, ◌==◌}
+use Rattle.std.proofs.Common.{◌≡◌, ◌<◌, ◌≤◌, ◌+◌, ◌%◌, ◌*◌, ℕ, zero, suc, List, [], ◌∷◌, length, sym, subst, refl, arith, cond, Bool, true, false, ◌==◌}
 use mathlib.Core.Option.{some, some-injective, some-ne-none}
 use lib.ListN.{get_elem?}
 use Rattle.ds_marked.specs.declared.marked.Arc.{Arc}

@@ -1,13 +1,12 @@
 -- A walk that meets a source again has a closed walk in it.
 use Rattle.std.proofs.Common.{◌≡◌, ◌≢◌, ◌⊎◌, ◌∙◌, ◌<◌, ◌≤◌, ◌+◌, ℕ, List, [], ◌∷◌, ◌++◌, length, length-append, get_or, true, false, inl, inr, zero, suc, arith, ap, refl, sym, subst}
-use Rattle.std.specs.List.{Contains, AllByRecursion, list_any}
+use Rattle.std.specs.List.{Contains, AllByRecursion, list_any, IsDistinct as IsDistinctBy}
 use Rattle.std.proofs.lemmas.Bool.{cases_eq}
 use Rattle.std.proofs.lemmas.List.{get_or_default}
 use Rattle.std.proofs.lemmas.List.Folds.{Any-from_list_any}
 use Rattle.std.proofs.lemmas.Map.Steps.{length-le_from_distinct_below}
 use Rattle.std.proofs.lemmas.Bool.Decides.{Decides-eqb, nat_tests}
 use Rattle.std.proofs.Math.Dec.{eqb}
-use Rattle.std.specs.List.{IsDistinct as IsDistinctBy}
 use Rattle.ds_rank.specs.Order.{IsDistinct}
 use Rattle.ds_period.specs.declared.timed.Timed.{Timed}
 use Rattle.ds_period.specs.Walk.{IsChain, walk_delay, walk_tokens}

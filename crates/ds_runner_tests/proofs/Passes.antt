@@ -1,7 +1,5 @@
 -- Passes of the fabric of the tests: which nodes they hold once they are dealt.
-use Rattle.std.proofs.Common.{◌≡◌, ◌<◌, ◌+◌, ℕ, zero, suc, List, Bool, true, false}
-use Rattle.std.proofs.Common.{length, get_or, replicate, [], ◌∷◌, sym, refl, ap, ◌∙◌, subst}
-use Rattle.std.proofs.Common.{arith, le_refl, get_or-set_same, get_or-set_other}
+use Rattle.std.proofs.Common.{◌≡◌, ◌<◌, ◌+◌, ℕ, zero, suc, List, Bool, true, false, length, get_or, replicate, [], ◌∷◌, sym, refl, ap, ◌∙◌, subst, arith, le_refl, get_or-set_same, get_or-set_other}
 use Rattle.std.proofs.lemmas.List.{length-replicate}
 use mathlib.Core.Option.{some, some-injective, some-ne-none}
 use lib.ListN.{get_elem?}

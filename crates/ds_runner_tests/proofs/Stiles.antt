@@ -1,6 +1,5 @@
 -- A turnstile of the passes of the tests, and its turns.
-use Rattle.std.proofs.Common.{◌≡◌, ◌∙◌, ◌+◌, ◌-◌, ℕ, List, [], ◌∷◌, length, refl, sym, ap, subst}
-use Rattle.std.proofs.Common.{◌<◌, get_or, true, arith}
+use Rattle.std.proofs.Common.{◌≡◌, ◌∙◌, ◌+◌, ◌-◌, ℕ, List, [], ◌∷◌, length, refl, sym, ap, subst, ◌<◌, get_or, true, arith}
 use mathlib.Core.Option.{some}
 use lib.ListN.{get_elem?}
 use Rattle.ds_rule.specs.Run.{Run}
@@ -9,8 +8,7 @@ use Rattle.ds_rule.proofs.Lists.{at_or, same_at}
 use Rattle.ds_base.specs.Scratch.{Kept, Remembers}
 use Rattle.ds_fabric.specs.Base.{Base}
 use Rattle.ds_fabric.specs.Showing.{Showing}
-use Rattle.ds_runner.specs.Turns.{Alone, HasNone, fabric_of, run_of, keeps_parts, one_part}
-use Rattle.ds_runner.specs.Turns.{has_out, base}
+use Rattle.ds_runner.specs.Turns.{Alone, HasNone, fabric_of, run_of, keeps_parts, one_part, has_out, base}
 use Rattle.ds_runner.specs.Shown.{Stile, Turned, AreAlone, IsTurnstileOpened, IsTurnOf, IsTurnstileClosed}
 use Rattle.ds_runner.specs.declared.turn_view.TurnView.{TurnView}
 use Rattle.ds_runner_tests.specs.Trio.{AreTrio, IsTrioStile, IsIdle}

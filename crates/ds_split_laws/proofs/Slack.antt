@@ -1,12 +1,10 @@
 -- Data edges do not depend on the slack.
-use Rattle.std.proofs.Common.{◌↔◌, ℕ, List}
+use Rattle.std.proofs.Common.{◌↔◌, ℕ}
 use Rattle.ds_latch.specs.Node.{Split, IsNode, slackened}
 use Rattle.ds_latch.specs.declared.node.Node.{Node}
 use Rattle.ds_latch.specs.declared.node.Node.TheVariants.{In, Out, Master, Slave}
 use Rattle.ds_latch.specs.Order.{IsDataEdge, to_master, to_out, to_slave, IsSource, Supplies}
-use Rattle.ds_latch.specs.Latches.{HasEdges}
 use Rattle.ds_latch.specs.Plan.{IsSplit}
-use Rattle.ds_latch.specs.declared.latches.Edge.{Edge}
 use Rattle.ds_split.specs.Split.{HasTooManyOrders}
 
 module _ (s : Split) (slack : ℕ) where
@@ -36,13 +34,6 @@ module _ (s : Split) (slack : ℕ) where
 -- a data edge is one at every slack
 pub edge_at_slack : (s : Split) (slack : ℕ) (p c : Node) → IsDataEdge s p c ↔ IsDataEdge (slackened s slack) p c
 edge_at_slack s slack p c = (edge_slackened s slack p c, edge_slackened (slackened s slack) s.slack p c)
-
--- the data edges are the same at every slack
-pub edges_at_slack : (s : Split) (slack : ℕ) (edges : List Edge) → HasEdges s edges → HasEdges (slackened s slack) edges
-edges_at_slack s slack edges has p c = (
-  λ edge. (has p c).0 ((edge_at_slack s slack p c).1 edge),
-  λ there. (edge_at_slack s slack p c).0 ((has p c).1 there),
-)
 
 -- there are too many orders at one slack where there are at another
 pub too_many_at_slack : (s : Split) (slack : ℕ) → HasTooManyOrders s → HasTooManyOrders (slackened s slack)

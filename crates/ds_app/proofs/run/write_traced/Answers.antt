@@ -1,16 +1,16 @@
 use Rattle.std.specs.Prelude.{All}
-use Rattle.std.proofs.Common.{◌≡◌, ◌∙◌, ◌==◌, ◌++◌, ◌+◌, ℕ, Bool, List, [], Option, Ok, Err, length, ap, arith, refl, subst, sym}
+use Rattle.std.proofs.Common.{◌≡◌, ◌∙◌, ◌==◌, ◌++◌, ◌+◌, ℕ, Bool, List, [], Option, Ok, Err, inl, inr, length, ap, arith, refl, subst, sym}
 use Rattle.std.proofs.lemmas.Result.{err_from_is_err_and}
 use Rattle.ds_base.specs.Values.{Row}
 use Rattle.ds_outside.specs.Held.{Held}
 use Rattle.ds_outside.specs.declared.files.Which.{Which}
 use Rattle.ds_design.specs.Circuit.{Circuit, columns, initial_row}
 use Rattle.ds_latch.specs.Plan.{Planned}
-use Rattle.ds_stream.specs.Stream.{Shown}
-use Rattle.ds_stage.specs.Stage.{OfFile}
-use Rattle.ds_stage.specs.Ends.{Output, RoseIn, output_between}
+use Rattle.ds_stage.specs.Ends.{Ends, Output, RoseIn, output_between}
+use Rattle.ds_stage.specs.declared.stop.Stop.{Stop}
 use Rattle.ds_stage.specs.declared.stop.Stop.TheVariants.{Memory, Unwritten}
-use Rattle.ds_stage.specs.StreamStage.{most_vectors}
+use Rattle.ds_stage.specs.Stage.{OfFile, then_stage}
+use Rattle.ds_stage.specs.StreamStage.{most_vectors, streamed_stage}
 use Rattle.ds_stage.proofs.Streamed.{AreWritten, GivenOf, memory_stops, none_written, of_many, of_none, unwritten_window, written_more}
 use Rattle.ds_stage.proofs.Ends.{rose_since}
 use Rattle.ds_stream.specs.Next.{FitsHeld}
@@ -21,12 +21,9 @@ use Rattle.ds_latch.specs.Node.{Split, begun}
 use Rattle.ds_run.specs.Logged.{IsLogOf, LogGrows}
 use Rattle.ds_run.proofs.Ended.{logs_go_on}
 use Rattle.ds_app.specs.RunStage.{traced_stage}
-use Rattle.ds_app.proofs.RunEnds.{ends_of_file, few_vectors, run_end_of, run_ends_part, run_ends_whole, run_spells}
+use Rattle.ds_app.proofs.RunEnds.{ends_of_file, run_end_of, run_ends_part, run_ends_whole, run_spells}
 use Rattle.ds_app.proofs.WindowEnds.{is_there, more_here, stops_here}
 use Rattle.ds_app.proofs.run.write_traced.Goals as goal
-
-pub new-reader-requires : goal.new-reader-requires
-new-reader-requires g c = rw c.most_vectors.ensures (few_vectors c.args.job.now.log)
 
 pub windows-init : goal.windows-init
 windows-init g c =
@@ -35,16 +32,15 @@ windows-init g c =
     let p : Planned = c.args.plan.now in
     let most : ℕ = most_vectors c.args.job.now.log in
     let w : Option (List ℕ) = g.O.Sink.written c.args.out.now in
-    let is = c.new-reader.ensures.value in
     record {
       same_held = refl;
       never_falls = λ w n. omega arith;
       never_fell = omega arith;
       circuit = refl;
       graph = refl;
-      fits = c.new-reader.ensures.fits (held vec);
-      of = record { width = ap (λ (s : Shown). s.width) is ∙ (ap length c.columns-width.ensures ∙ ap (λ (k : Circuit). length (columns k)) (c.netlist-2.ensures.netlist ∙ ap (λ (t : Split). t.circuit) c.latches-2.ensures)); most_is = ap (λ (s : Shown). s.most) is ∙ c.most_vectors.ensures };
-      first_is = sym (ap (λ (s : Shown). s.given) is);
+      fits = c.reader_for-reader.ensures.fits (held vec);
+      of = record { width = c.reader_for-reader.ensures.width; most_is = c.reader_for-reader.ensures.most };
+      first_is = sym c.reader_for-reader.ensures.given;
       few = omega arith;
       logged = c.in_ok-log.ensures;
       so_far = ([], of_none (held vec) p.split.circuit most, subst (λ (row : Row). AreWritten p.split.circuit [] row w w) (sym c.requires.start) (none_written p.split.circuit w));
@@ -87,8 +83,8 @@ write_window-requires-clause-width g c _ _ =
     subst (λ (k : Circuit). c.in_ok-behind.vectors.width ≡ length (columns k)) (sym c.windows.invariant.circuit)
     (c.in_ok-behind.ensures.width ∙ c.windows.invariant.of.width)
 
-pub returns-in-Err-Write-clause-value : goal.returns-in-Err-Write-clause-value
-returns-in-Err-Write-clause-value g c =
+pub returns-in-Err-clause-value : goal.returns-in-Err-clause-value
+returns-in-Err-clause-value g c =
     let held : List ℕ → Held = g.F.Files.held c.args.files.now in
     let later : List ℕ → Held = g.F.Files.held c.windows.files in
     let vec : List ℕ = c.as_str-vec.result.now in
@@ -101,34 +97,28 @@ returns-in-Err-Write-clause-value g c =
     let next : List Row = c.in_ok-behind.vectors.rows in
     let out : Output = (output_between g.O.Sink.written g.O.Sink.faults c.args.out.now c.write_window.new.out) in
     let failed : OfFile = RoseIn (g.F.Files.faults c.args.files.now) (g.F.Files.faults c.read_window.new.files) in
-    let wide : All (λ (row : Row). length row ≡ length (columns circuit)) next =
-    subst (λ (w : ℕ). All (λ (row : Row). length row ≡ w) next) (c.in_ok-behind.ensures.width ∙ kept.of.width) c.count-turns.ensures.kept.one_width in
-    let part : AppendsLinesPart circuit c.windows.first c.windows.plan.split.initial next (g.O.Sink.written c.windows.out) (g.O.Sink.written c.write_window.new.out) =
-    subst (λ (k : Circuit). AppendsLinesPart k c.windows.first c.windows.plan.split.initial next (g.O.Sink.written c.windows.out) (g.O.Sink.written c.write_window.new.out)) kept.circuit
-    (c.in-Err-Write.ensures.part (ap Err c.in-Err-Write.field-0-is)) in
-    ends_of_file held vec c.args.job.now.vec log p failed out (Err Unwritten) c.as_str-vec.ensures
-    (unwritten_window circuit (subst IsInRange (c.netlist.ensures.netlist ∙ ap (λ (t : Split). t.circuit) c.latches.ensures) c.design-design.ensures.in_range) c.graph-graph.ensures.accepted.split.accepted most (traced_stage log circuit p) (run_spells p c.graph-graph.ensures.accepted.live log) held vec failed (Unit {0})
-    out (g.O.Sink.written c.windows.out) c.windows.first (length next == 4096) rows c.windows.plan.split.initial next
-    (is_there held later kept.same_held vec circuit most c.windows.reader kept.of kept.fits c.windows.first kept.first_is c.windows.more c.windows-test.true rows is c.in_ok-behind.behind next c.in_ok-behind.ensures.gives)
-    (of_many (held vec) circuit most c.windows.first c.windows.more rows is)
-    (more_here held later kept.same_held vec circuit most c.windows.reader kept.of kept.fits c.windows.first kept.first_is c.windows.more c.windows-test.true rows is c.in_ok-behind.behind next c.in_ok-behind.ensures.gives wide)
-    written part
-    (rose_since (g.O.Sink.faults c.args.out.now) (g.O.Sink.faults c.windows.out) (g.O.Sink.faults c.write_window.new.out) kept.never_fell (c.in-Err-Write.ensures.cause (ap Err c.in-Err-Write.field-0-is))))
-
-pub returns-in-Err-Memory-clause-value : goal.returns-in-Err-Memory-clause-value
-returns-in-Err-Memory-clause-value g c =
-    let held : List ℕ → Held = g.F.Files.held c.args.files.now in
-    let vec : List ℕ = c.as_str-vec.result.now in
-    let p : Planned = c.args.plan.now in
-    let log : Bool = c.args.job.now.log in
-    let kept = c.windows.invariant in
-    let (rows, is, written) = kept.so_far in
-    let out : Output = (output_between g.O.Sink.written g.O.Sink.faults c.args.out.now c.write_window.new.out) in
-    let failed : OfFile = RoseIn (g.F.Files.faults c.args.files.now) (g.F.Files.faults c.read_window.new.files) in
-    ends_of_file held vec c.args.job.now.vec log p failed out (Err Memory) c.as_str-vec.ensures
-    (memory_stops (Unit {0}) held vec p.split.circuit (most_vectors log) (traced_stage log p.split.circuit p) failed out c.windows.first rows c.windows.plan.split.initial
-    (subst (λ (b : Bool). GivenOf (held vec) p.split.circuit (most_vectors log) c.windows.first b rows) c.windows-test.true is)
-    (subst (λ (w : Option (List ℕ)). AreWritten p.split.circuit rows c.windows.plan.split.initial (g.O.Sink.written c.args.out.now) w) (sym (c.in-Err-Memory.ensures.same (ap Err c.in-Err-Memory.field-0-is))) written))
+    ends_of_file held vec c.args.job.now.vec log p failed out (Err c.stop_of.result) c.as_str-vec.ensures
+    (elim c.stop_of.ensures [
+      | inl (e, is_stop) ↦
+          let wide : All (λ (row : Row). length row ≡ length (columns circuit)) next =
+          subst (λ (w : ℕ). All (λ (row : Row). length row ≡ w) next) (c.in_ok-behind.ensures.width ∙ kept.of.width) c.count-turns.ensures.kept.one_width in
+          let part : AppendsLinesPart circuit c.windows.first c.windows.plan.split.initial next (g.O.Sink.written c.windows.out) (g.O.Sink.written c.write_window.new.out) =
+          subst (λ (k : Circuit). AppendsLinesPart k c.windows.first c.windows.plan.split.initial next (g.O.Sink.written c.windows.out) (g.O.Sink.written c.write_window.new.out)) kept.circuit
+          (c.in-Err.ensures.part (ap Err e)) in
+          subst (λ (s : Stop). Ends {A = Unit {0}} (then_stage (streamed_stage held vec most circuit) (traced_stage log circuit p)) failed out (Err s)) (sym is_stop)
+          (unwritten_window circuit (subst IsInRange (c.netlist.ensures.netlist ∙ ap (λ (t : Split). t.circuit) c.latches.ensures) c.design-design.ensures.in_range) c.graph-graph.ensures.accepted.split.accepted most (traced_stage log circuit p) (run_spells p c.graph-graph.ensures.accepted.live log) held vec failed (Unit {0})
+          out (g.O.Sink.written c.windows.out) c.windows.first (length next == 4096) rows c.windows.plan.split.initial next
+          (is_there held later kept.same_held vec circuit most c.windows.reader kept.of kept.fits c.windows.first kept.first_is c.windows.more c.windows-test.true rows is c.in_ok-behind.behind next c.in_ok-behind.ensures.gives)
+          (of_many (held vec) circuit most c.windows.first c.windows.more rows is)
+          (more_here held later kept.same_held vec circuit most c.windows.reader kept.of kept.fits c.windows.first kept.first_is c.windows.more c.windows-test.true rows is c.in_ok-behind.behind next c.in_ok-behind.ensures.gives wide)
+          written part
+          (rose_since (g.O.Sink.faults c.args.out.now) (g.O.Sink.faults c.windows.out) (g.O.Sink.faults c.write_window.new.out) kept.never_fell (c.in-Err.ensures.cause (ap Err e))))
+      | inr (e, is_stop) ↦
+          subst (λ (s : Stop). Ends {A = Unit {0}} (then_stage (streamed_stage held vec most circuit) (traced_stage log circuit p)) failed out (Err s)) (sym is_stop)
+          (memory_stops (Unit {0}) held vec circuit most (traced_stage log circuit p) failed out c.windows.first rows c.windows.plan.split.initial
+          (subst (λ (b : Bool). GivenOf (held vec) circuit most c.windows.first b rows) c.windows-test.true is)
+          (subst (λ (w : Option (List ℕ)). AreWritten circuit rows c.windows.plan.split.initial (g.O.Sink.written c.args.out.now) w) (sym (c.in-Err.ensures.same (ap Err e))) written))
+    ])
 
 pub windows-preserved : goal.windows-preserved
 windows-preserved g c =
@@ -192,23 +182,23 @@ returns-in-Ok-end_traced-clause-value g c =
     ends_of_file held vec c.args.job.now.vec log p failed out (Ok tt) c.as_str-vec.ensures
     (run_ends_whole held vec p log failed out (g.O.Sink.written c.windows.out) c.windows.first rows c.windows.plan.split.initial
     (subst (λ (b : Bool). GivenOf (held vec) p.split.circuit (most_vectors log) c.windows.first b rows) c.windows-test.false is) written
-    c.windows.log kept.logged text (run_end_of p.graph c.windows.plan.graph c.windows.log c.windows.plan.split.initial c.initial.result.now text (sym kept.graph) (c.initial.ensures.initial ∙ ap (λ (t : Split). t.initial) c.latches-3.ensures) end) writes.ok)
+    c.windows.log kept.logged text (run_end_of p.graph c.windows.plan.graph c.windows.log c.windows.plan.split.initial text (sym kept.graph) end) writes.ok)
 
-pub returns-in-Err-clause-value : goal.returns-in-Err-clause-value
-returns-in-Err-clause-value g c =
+pub returns-in-Err-end_traced-clause-value : goal.returns-in-Err-end_traced-clause-value
+returns-in-Err-end_traced-clause-value g c =
     let held : List ℕ → Held = g.F.Files.held c.args.files.now in
     let vec : List ℕ = c.as_str-vec.result.now in
     let p : Planned = c.args.plan.now in
     let log : Bool = c.args.job.now.log in
     let kept = c.windows.invariant in
     let (rows, is, written) = kept.so_far in
-    let (text, end, writes) = c.in-Err.ensures in
+    let (text, end, writes) = c.in-Err-end_traced.ensures in
     let out : Output = (output_between g.O.Sink.written g.O.Sink.faults c.args.out.now c.end_traced.new.out) in
     let failed : OfFile = RoseIn (g.F.Files.faults c.args.files.now) (g.F.Files.faults c.windows.files) in
     ends_of_file held vec c.args.job.now.vec log p failed out (Err Unwritten) c.as_str-vec.ensures
     (run_ends_part held vec p log failed out (g.O.Sink.written c.windows.out) c.windows.first rows c.windows.plan.split.initial
     (subst (λ (b : Bool). GivenOf (held vec) p.split.circuit (most_vectors log) c.windows.first b rows) c.windows-test.false is) written
-    c.windows.log kept.logged text (run_end_of p.graph c.windows.plan.graph c.windows.log c.windows.plan.split.initial c.initial.result.now text (sym kept.graph) (c.initial.ensures.initial ∙ ap (λ (t : Split). t.initial) c.latches-3.ensures) end) writes.err
+    c.windows.log kept.logged text (run_end_of p.graph c.windows.plan.graph c.windows.log c.windows.plan.split.initial text (sym kept.graph) end) writes.err
     (rose_since (g.O.Sink.faults c.args.out.now) (g.O.Sink.faults c.windows.out) (g.O.Sink.faults c.end_traced.new.out) kept.never_fell writes.cause))
 
 pub end_traced-requires : goal.end_traced-requires
