@@ -137,7 +137,7 @@ WritesLast words = (job : Job) → job_of words ≡ Ok job → ¬ HasWindows job
 abbrev pub NoneFailed : Call → Type 0
 NoneFailed call = (which : Which) (name : List ℕ) → ¬ RoseIn call.before call.now which name
 
--- each status has its cause, and each cause its status; want of memory (4) alone is free
+-- each status has its cause, and where nothing fails each cause has its status; 4 alone is free
 pub record IsAnswered (call : Call) (status : ℕ) : Type 0 where
   pub known : status ≤ 5
   pub done : status ≡ 0 → IsDone call

@@ -43,7 +43,7 @@ pub fn desync_main<R: AllocGlobal + Threads + Sync, F: Files, O: Sink, E: Sink, 
     err: &mut E,
     gate: &G,
 ) -> u8
-    // Each status has its cause, and each cause its status.
+    // Each status has its cause, and where nothing fails each cause has its status.
     ensures answered { IsAnswered (record {
       words = map (λ w. w.now) words.now;
       held = F.held files.old;

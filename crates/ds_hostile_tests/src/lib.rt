@@ -1,5 +1,5 @@
 //! Tests of the program as a whole in a hostile outside: its top call over files and outputs that
-//! fail, that give and take little at a time, that are cut, and that are long.
+//! fail, that give and take little at a time, and that are cut.
 //!
 //! Nothing stands on this crate. `Watched` is a double of the files that tells which read was the
 //! last one, `Trial` one run over such files and two outputs, and `Jobs` has the command lines
@@ -16,8 +16,6 @@ mod failing_tests;
 mod held_tests;
 #[cfg(test)]
 mod jobs;
-#[cfg(test)]
-mod long_tests;
 #[cfg(test)]
 mod trial;
 #[cfg(test)]

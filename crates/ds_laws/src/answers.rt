@@ -2,7 +2,7 @@
 ghost use Rattle.ds_laws.specs.Answered.{ExactFaultEarly};
 ghost use Rattle.ds_laws.specs.OneLine.{JobsHaveOneLine};
 
-/// A fault is answered by status 1 where no read failed that a stage before it needs.
+/// A fault is answered by status 1 where no read failed that its stage or one before it needs.
 pub fn exact_fault_early()
     ensures { ExactFaultEarly }
 {}

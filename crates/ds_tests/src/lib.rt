@@ -1,10 +1,9 @@
-//! Tests of the program as a whole, of the graphs that it makes, accepts and times, and of the
-//! faults of files: its top call over files in memory.
+//! Tests of the whole program, of graphs that it makes, accepts and times, over files in memory.
 //!
 //! Nothing stands on this crate. Most tests are texts that tell runs, which `ds_trial` plays. The
 //! other tests make long texts and random designs, or compare the period with a plain slow way.
-//! Tests of `run` and of traces stand in `ds_run_tests` and `ds_jobs_tests`, those of states in
-//! `ds_state_tests`.
+//! Tests of `run`, of traces and of the faults of netlists stand in `ds_run_tests` and
+//! `ds_jobs_tests`, those of states in `ds_state_tests`.
 #![tactic(auto)]
 
 #[cfg(test)]
@@ -13,8 +12,6 @@ mod accept_tests;
 mod cycle_tests;
 #[cfg(test)]
 mod dummy_tests;
-#[cfg(test)]
-mod fault_tests;
 #[cfg(test)]
 mod graph_tests;
 #[cfg(test)]
