@@ -3,3 +3,4 @@ pub mod Rising
 pub mod Flying
 pub mod Reached
 pub mod Answered
+pub mod Turned

@@ -2,3 +2,4 @@
 pub mod Drawn
 pub mod Counts
 pub mod Steps
+pub mod Turned
