@@ -1,3 +1,4 @@
+pub mod NothingNew
 pub mod Numbers
 pub mod Counts
 pub mod Turns

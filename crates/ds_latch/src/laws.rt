@@ -2,7 +2,7 @@
 ghost use Rattle.ds_latch.specs.Flow.{FlowEquivalence, SettlesFromAll, SomeFiring};
 ghost use Rattle.ds_latch.specs.Flow.{StoredRowsSpellTrace, OneRowTaken};
 ghost use Rattle.ds_latch.specs.Controls.{AcceptedControls, OrdersAreAccepted, RequiredOrdersRise};
-ghost use Rattle.ds_latch.specs.Controls.{Stability, StabilityWithoutSlack};
+ghost use Rattle.ds_latch.specs.Controls.{NothingNewFires, Stability, StabilityWithoutSlack};
 ghost use Rattle.ds_latch.specs.Transparent.{TransparentLatches};
 ghost use Rattle.ds_latch.specs.Windows.{PlanBegins, StoredInWindows, ValuesInWindows};
 ghost use Rattle.ds_latch.specs.Headline.{Headline};
@@ -86,6 +86,11 @@ pub fn settles_from_all()
 /// The required orders alone are an accepted graph.
 pub fn orders_are_accepted()
     ensures { OrdersAreAccepted }
+{}
+
+/// An accepted graph lets nothing fire that the required orders do not.
+pub fn nothing_new_fires()
+    ensures { NothingNewFires }
 {}
 
 /// In whatever order the latches of an accepted graph fire, they do what the clocked circuit does.
