@@ -1,7 +1,8 @@
 use Rattle.std.proofs.Common.{◌≡◌, ◌+◌, ◌<◌, ◌≤◌, ◌∙◌, ℕ, List, ap, refl, sym, arith, subst}
 use mathlib.Core.Option.{some}
 use lib.ListN.{get_elem?}
-use Rattle.ds_rule.specs.Run.{Run}
+use Rattle.ds_rule.specs.Run.{Run, Enabled}
+use Rattle.ds_rule.specs.Rule.{seen}
 use Rattle.ds_rule.specs.Plays.{Sat}
 use Rattle.ds_rule.specs.declared.view.View.{View}
 use Rattle.ds_rule.proofs.EventLaws.{events-is}
@@ -144,7 +145,9 @@ returns-clause-step g c =
     (sym c.new-event.ensures)
     (fires run me c.survey.new.seat.me lent.0 w h.node c.next-event.result
     (c.turns-before.result + 1) t c.requires.run lent.2 (tells me h lent).has q.looks q.table.1
-    n.event_is (ap (λ (x : ℕ). x + 1) n.before_is) within q.none e.fresh
+    n.event_is (ap (λ (x : ℕ). x + 1) n.before_is) within
+    (subst (Enabled run (seen c.survey.new.seat.me.0)) (sym c.next-event.ensures)
+    (ready g (goal.at.returns-clause-step g c).In_default).ready) e.fresh
     (ap (λ (m : Sat). m.0) e.me))
 
 pub returns-clause-keeps : goal.returns-clause-keeps
