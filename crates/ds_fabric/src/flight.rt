@@ -10,7 +10,7 @@ ghost use Rattle.ds_rule.specs.Words.{width};
 ghost use Rattle.ds_rule.specs.Rows.{row, IsOpening};
 ghost use Rattle.ds_rule.specs.Rule.{holds, seen};
 ghost use Rattle.ds_rule.specs.Plays.{after_depart, after_draw, after_publish};
-ghost use Rattle.ds_fabric.specs.Base.{IsBuilt, IsAway};
+ghost use Rattle.ds_fabric.specs.Base.{IsAway};
 ghost use Rattle.ds_fabric.specs.Told.{new_row};
 ghost use Rattle.ds_fabric.specs.Noted.{HasFired};
 ghost use Rattle.ds_fabric.specs.Into.{AreInto};
@@ -37,12 +37,9 @@ pub fn advance<J: Rows, C: Compute>(
     history: &mut History,
     scratch: &mut Scratch,
 ) -> Step
-    requires table { (seat.old.table_id ≡ ground.now.board.now.table_id)
-        × IsBuilt ground.now.board.now.table_id ground.now.board.now.key ground.now.run.now
-        ground.now.index.now }
+    requires table { seat.old.table_id ≡ ground.now.board.now.table_id }
     requires incoming { AreInto ground.now.run.now ground.now.incoming.now }
-    requires openings { (C.run ground.now.openings.now ≡ ground.now.run.now)
-        × Remembers (C.memory ground.now.openings.now) scratch.old }
+    requires remembers { Remembers (C.memory ground.now.openings.now) scratch.old }
     requires run { seat.old.me.0.run ≡ ground.now.run.now }
     requires keeps { (nodes : List History) × (i : ℕ) × Keeps seat.old.me nodes
         × (get_elem? nodes i ≡ some history.old) }
@@ -84,11 +81,8 @@ fn fire<J: Rows, C: Compute>(
     history: &mut History,
     scratch: &mut Scratch,
 ) -> u64
-    requires table { (seat.old.table_id ≡ ground.now.board.now.table_id)
-        × IsBuilt ground.now.board.now.table_id ground.now.board.now.key ground.now.run.now
-        ground.now.index.now }
-    requires openings { (C.run ground.now.openings.now ≡ ground.now.run.now)
-        × Remembers (C.memory ground.now.openings.now) scratch.old }
+    requires table { seat.old.table_id ≡ ground.now.board.now.table_id }
+    requires remembers { Remembers (C.memory ground.now.openings.now) scratch.old }
     requires rests { (seat.old.me.0.live ≡ true) × (seat.old.me.0.stage ≡ 0)
         × (seat.old.me.0.run ≡ ground.now.run.now) }
     requires held { (holds seat.old.me.0 history.old.node ≡ true)
@@ -124,11 +118,8 @@ fn prepare<J: Rows, C: Compute>(
     history: &mut History,
     scratch: &mut Scratch,
 )
-    requires table { (seat.old.table_id ≡ ground.now.board.now.table_id)
-        × IsBuilt ground.now.board.now.table_id ground.now.board.now.key ground.now.run.now
-        ground.now.index.now }
-    requires openings { (C.run ground.now.openings.now ≡ ground.now.run.now)
-        × Remembers (C.memory ground.now.openings.now) scratch.old }
+    requires table { seat.old.table_id ≡ ground.now.board.now.table_id }
+    requires remembers { Remembers (C.memory ground.now.openings.now) scratch.old }
     requires flight { IsAway ground.now.run.now seat.old.me.0 history.old.node
         × (history.old.fired ≡ seen seat.old.me.0 history.old.node)
         × (history.old.node < ground.now.run.now.nodes) }
@@ -160,11 +151,8 @@ fn open_row<J: Rows, C: Compute>(
     scratch: &mut Scratch,
     turn: u64,
 )
-    requires table { (seat.old.table_id ≡ ground.now.board.now.table_id)
-        × IsBuilt ground.now.board.now.table_id ground.now.board.now.key ground.now.run.now
-        ground.now.index.now }
-    requires openings { (C.run ground.now.openings.now ≡ ground.now.run.now)
-        × Remembers (C.memory ground.now.openings.now) scratch.old }
+    requires table { seat.old.table_id ≡ ground.now.board.now.table_id }
+    requires remembers { Remembers (C.memory ground.now.openings.now) scratch.old }
     requires flight { IsOpening ground.now.run.now seat.old.me.0 history.old.node turn
         × IsAway ground.now.run.now seat.old.me.0 history.old.node }
     requires within { (history.old.node < ground.now.run.now.latches)

@@ -29,12 +29,12 @@ few run v l f short is on = let n = node-next run l f in
     omega (arith, fired_most run l f run.limit below)
 
 pub load-requires : goal.load-requires
-load-requires g c = let q = c.requires.table.1.over in let run : Run = c.args.ground.now.run.now in
+load-requires g c = let q = c.args.ground.now.built.over in let run : Run = c.args.ground.now.run.now in
     let n : ℕ = c.args.ground.now.board.now.table_id.slots in let l : ℕ = c.args.history.now.node in
     let h = c.requires.held in
     let P : Run → Type 0 = λ r. Allows (Lawful r) n c.args.seat.now.id c.args.seat.now.me (l + 1)
     (λ y. y) (departed (step n (l + 1) 0 0 none) c.args.seat.now.me) in (
-      c.requires.table.0,
+      c.requires.table,
       omega (arith, q.sized, counts_inside run (l + 1) (omega (arith, h.1))),
       subst P (sym q.keyed) (departs run n c.args.seat.now.id c.args.seat.now.me l
           (l + 1) refl h.1 c.requires.rests.0 c.requires.rests.1 h.0
@@ -66,7 +66,7 @@ prepare-requires-clause-flight g c = let l : ℕ = c.args.history.now.node in
     )
 
 pub fetch_add-ticket-requires : goal.fetch_add-ticket-requires
-fetch_add-ticket-requires g c = let q = c.requires.table.1.over in
+fetch_add-ticket-requires g c = let q = c.args.ground.now.built.over in
     let l : ℕ = c.args.history.now.node in let m : Sat = c.args.seat.now.me in
     let run : Run = c.args.ground.now.run.now in let n : ℕ = c.args.ground.now.board.now.table_id.slots in
     let left : c.load.new.seat.me ≡ (after_depart m.0 l, m.1) = c.load.ensures.2
@@ -76,7 +76,7 @@ fetch_add-ticket-requires g c = let q = c.requires.table.1.over in
     ∙ ap (λ (x : Sat). (record x.0 { written = k }, x.1)) left in
     let P : Run → Sat → Type 0 = λ r x. Allows (Lawful r) n c.prepare.new.seat.id x 0
     (λ y. (y + 1) % 2 ^ 64) (drew (step n 0 1 0 none) x) in (
-      c.prepare.ensures.seat.0 ∙ (c.load.ensures.0 ∙ c.requires.table.0),
+      c.prepare.ensures.seat.0 ∙ (c.load.ensures.0 ∙ c.requires.table),
       omega (arith, q.sized, counts_inside run 0 (omega arith)),
       subst (λ r. P r c.prepare.new.seat.me) (sym q.keyed) (subst (P run) (sym now)
           (draws run n c.prepare.new.seat.id (
@@ -91,11 +91,11 @@ overflow_add-history g c = let run : Run = c.args.ground.now.run.now in
     omega (
       arith,
       c.prepare.ensures.same.fired,
-      few run c.args.seat.now.me.0 l c.args.history.now.fired c.requires.table.1.over.sound.short c.requires.held.2 c.requires.ready,
+      few run c.args.seat.now.me.0 l c.args.history.now.fired c.args.ground.now.built.over.sound.short c.requires.held.2 c.requires.ready,
     )
 
 pub store-requires : goal.store-requires
-store-requires g c = let q = c.requires.table.1.over in let l : ℕ = c.args.history.now.node in
+store-requires g c = let q = c.args.ground.now.built.over in let l : ℕ = c.args.history.now.node in
     let m : Sat = c.args.seat.now.me in let run : Run = c.args.ground.now.run.now in
     let n : ℕ = c.args.ground.now.board.now.table_id.slots in
     let left : c.load.new.seat.me ≡ (after_depart m.0 l, m.1) = c.load.ensures.2
@@ -110,7 +110,7 @@ store-requires g c = let q = c.requires.table.1.over in let l : ℕ = c.args.his
     let P : Run → Sat → Type 0 = λ r x. Allows (Lawful r) n c.fetch_add-ticket.new.seat.id x (l + 1)
     (λ _. F + 1) (λ _. published (step n (l + 1) (F + 1) 0 none) x (F + 1)) in (
       c.fetch_add-ticket.ensures.0 ∙ (c.prepare.ensures.seat.0
-          ∙ (c.load.ensures.0 ∙ c.requires.table.0)),
+          ∙ (c.load.ensures.0 ∙ c.requires.table)),
       omega (arith, q.sized, counts_inside run (l + 1) (omega (arith, c.requires.held.1))),
       subst (λ r. P r c.fetch_add-ticket.new.seat.me) (sym q.keyed) (subst (P run) (sym drawn)
           (publishes run n c.fetch_add-ticket.new.seat.id
@@ -125,7 +125,7 @@ note-requires-clause-few g c = let run : Run = c.args.ground.now.run.now in
     omega (
       arith,
       c.prepare.ensures.same.fired,
-      few run c.args.seat.now.me.0 l c.args.history.now.fired c.requires.table.1.over.sound.short c.requires.held.2 c.requires.ready,
+      few run c.args.seat.now.me.0 l c.args.history.now.fired c.args.ground.now.built.over.sound.short c.requires.held.2 c.requires.ready,
     )
 
 pub prepare-requires-clause-ready : goal.prepare-requires-clause-ready
