@@ -96,8 +96,28 @@ fn joins(last: &Run, run: &Run) -> bool
     }
 }
 
+// Sets what the tables of these runs drive, one after another, where each finds its inputs known.
+pub(crate) fn set_known_runs(
+    runs: &[Run],
+    lists: &Lists,
+    bank: &Bank,
+    order: &[u32],
+    nets: &mut Row3,
+)
+    requires places { All (λ k. k < length bank.now) order.now }
+    requires runs { All (IsRunOfTables (parts_of_lists lists.now)
+        (in_table_order bank.now order.now)) runs.now }
+    requires within { All (λ t. AreNetsWithin t nets.old) bank.now }
+    requires known { FindsKnown (in_table_order bank.now (numbers_of order.now runs.now)) nets.old }
+    ensures { nets.new ≡ after_tables bank.now nets.old (numbers_of order.now runs.now) }
+{
+    for run in runs {
+        set_known(run, lists, bank, order, nets);
+    }
+}
+
 // Sets what the tables of a run drive, where each finds its inputs known.
-pub(crate) fn set_known(run: &Run, lists: &Lists, bank: &Bank, order: &[u32], nets: &mut Row3)
+fn set_known(run: &Run, lists: &Lists, bank: &Bank, order: &[u32], nets: &mut Row3)
     requires places { All (λ k. k < length bank.now) order.now }
     requires run { IsRunOfTables (parts_of_lists lists.now) (in_table_order bank.now order.now)
         run.now }
