@@ -82,12 +82,12 @@ pub record AreListed (parts : Parts) (bank : List Driven) (lists : List (List �
   pub listed : lists_between order runs bounds ≡ take n lists
 
 -- no list yet
-pub listed_none : (bank : List Driven) (lists : List (List ℕ)) → AreListed (record { twos = []; nines = []; threes = []; three_words = []; fours = [] }) bank lists 0 [] [] (0 ∷ [])
+pub listed_none : (bank : List Driven) (lists : List (List ℕ)) → AreListed (record { twos = []; nines = []; threes = []; three_words = []; fours = []; fives = []; sixes = [] }) bank lists 0 [] [] (0 ∷ [])
 listed_none bank lists = record {
   places = All-nil (λ k. k < length bank);
   even = record { twos = refl; threes = refl };
   bounded = record {
-    each = All-nil (IsRunOfTables (record { twos = []; nines = []; threes = []; three_words = []; fours = [] }) (in_table_order bank []));
+    each = All-nil (IsRunOfTables (record { twos = []; nines = []; threes = []; three_words = []; fours = []; fives = []; sixes = [] }) (in_table_order bank []));
     some = omega arith;
     inside = All-push (λ b. b ≤ 0) [] 0 (All-nil (λ b. b ≤ 0)) (omega arith);
     rising = λ i low. absurd (omega arith);

@@ -9,6 +9,7 @@ ghost use Rattle.ds_cover.specs.Series.{parts_of_lists};
 use crate::Bank;
 use crate::lists::Lists;
 use crate::small::{set_fours, set_threes, set_twos, set_worded_threes, set_worded_twos};
+use crate::wide::{set_fives, set_sixes};
 use ds_base::Row3;
 use std::alloc::AllocError;
 
@@ -21,7 +22,11 @@ pub enum Kind {
     Threes,
     /// Four.
     Fours,
-    /// None, or more than four.
+    /// Five.
+    Fives,
+    /// Six.
+    Sixes,
+    /// None, or more than six.
     Others,
 }
 
@@ -91,6 +96,8 @@ fn joins(last: &Run, run: &Run) -> bool
         (Kind::Twos, Kind::Twos)
         | (Kind::Threes, Kind::Threes)
         | (Kind::Fours, Kind::Fours)
+        | (Kind::Fives, Kind::Fives)
+        | (Kind::Sixes, Kind::Sixes)
         | (Kind::Others, Kind::Others) => last.end == run.first,
         _ => false,
     }
@@ -129,11 +136,15 @@ fn set_known(run: &Run, lists: &Lists, bank: &Bank, order: &[u32], nets: &mut Ro
     let twos = lists.twos.as_slice();
     let threes = lists.threes.as_slice();
     let fours = lists.fours.as_slice();
+    let fives = lists.fives.as_slice();
+    let sixes = lists.sixes.as_slice();
     let (first, end) = (run.first, run.end);
     match run.kind {
         Kind::Twos => set_twos(&twos[first..end], nets),
         Kind::Threes => set_threes(&threes[first..end], nets),
         Kind::Fours => set_fours(&fours[first..end], nets),
+        Kind::Fives => set_fives(&fives[first..end], nets),
+        Kind::Sixes => set_sixes(&sixes[first..end], nets),
         Kind::Others => bank.set_all(own_order(run, order), nets),
     }
 }
@@ -168,7 +179,7 @@ fn set_run(run: &Run, lists: &Lists, bank: &Bank, order: &[u32], nets: &mut Row3
     match run.kind {
         Kind::Twos => set_worded_twos(&twos[first..end], &nines[first..end], nets),
         Kind::Threes => set_worded_threes(&threes[first..end], &three_words[first..end], nets),
-        Kind::Fours | Kind::Others => bank.set_all(own_order(run, order), nets),
+        _ => bank.set_all(own_order(run, order), nets),
     }
 }
 

@@ -1,4 +1,4 @@
-//! The tables of a bank in the order in which they are set, those of up to four inputs by kinds.
+//! The tables of a bank in the order in which they are set, those of up to six inputs by kinds.
 ghost use Rattle.std.specs.Prelude.{◌≡◌, ◌<◌, length, All, IfErr, IfOk};
 ghost use Rattle.ds_cover.specs.Bank.{AreNetsWithin, after_tables};
 ghost use Rattle.ds_cover.specs.Series.{AreRuns, FindsKnown, in_table_order, parts_of_lists};
