@@ -69,11 +69,11 @@ install: $(PROGRAM)
 	install -m 644 $(wildcard $(PACKAGE)/commands/*.py) "$(LIBRARY)/desync_tools/commands"
 	install -m 644 $(wildcard $(PACKAGE)/page/*) "$(LIBRARY)/desync_tools/page"
 	for tool in $(TOOLS); do \
-	    ln -sf "../share/desync/tools/$$tool" "$(TO)/bin/desync-$$tool" && \
-	    tools/house/manual $$tool > "$(MANUAL)/desync-$$tool.1" && \
-	    tools/house/completion bash $$tool > "$(BASH)/desync-$$tool" && \
-	    tools/house/completion zsh $$tool > "$(ZSH)/_desync-$$tool" || exit 1; \
+	    ln -sf "../share/desync/tools/$$tool" "$(TO)/bin/desync-$$tool" || exit 1; \
 	done
+	tools/house/manual --into "$(MANUAL)" $(TOOLS)
+	tools/house/completion --into "$(BASH)" bash $(TOOLS)
+	tools/house/completion --into "$(ZSH)" zsh $(TOOLS)
 	install -m 644 VERSION README.md CHANGELOG.md CONTRIBUTING.md "$(DOCUMENTS)"
 	install -m 644 $(wildcard docs/*.md docs/*.svg docs/*.html) "$(DOCUMENTS)/docs"
 	install -m 644 $(wildcard examples/*.*) "$(DOCUMENTS)/examples"

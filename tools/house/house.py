@@ -71,6 +71,12 @@ def read(name: str) -> str:
         return file.read()
 
 
+def write(path: str, lines: Iterable[str]) -> None:
+    """Writes a file of some lines."""
+    with open(path, "w", encoding="utf-8") as file:
+        file.writelines(line + "\n" for line in lines)
+
+
 def placed(
     names: Iterable[str],
     kinds: Sequence[str] = ("src", "specs", "proofs"),
