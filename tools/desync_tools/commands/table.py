@@ -1,10 +1,10 @@
 """Prints a trace as a table, a column a bus, with the names of the netlist.
 
-It reads the trace from a file or, where none is named, from the standard input. A row is a turn:
-the columns of the vectors where --vectors names them, the outputs, and the registers before it. The
-first row says which part is which, and the second has the names. The last row has the registers after
-the last turn, and `-` for what is not known then. A digit of which some bits are `x` is `X`, and
-`x` where all are.
+It reads the trace from a file or, where none is named, from the standard input. The first row says
+which part is which, the second has the names. Each further row is a turn: the columns of the
+vectors where --vectors names them, the outputs, and the registers before it. The last row has the
+registers after the last turn, and `-` for what is not known then. A digit of which some bits are
+`x` is `X`, and `x` where all are.
 """
 
 from __future__ import annotations
