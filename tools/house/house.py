@@ -1,14 +1,26 @@
 """What the tools that look at the repository share: files, crates, functions, definitions."""
 
+from __future__ import annotations
+
 import os
 import re
 import signal
 import subprocess
 import sys
+from typing import Callable, Iterable, Iterator, NoReturn, Optional, Sequence
 
-from streams import Parser, parser  # noqa: F401, for the tools
+HERE = os.path.dirname(os.path.realpath(__file__))
+TOOLS = os.path.dirname(HERE)
+ROOT = os.path.dirname(TOOLS)
+sys.path.insert(1, TOOLS)
 
-ROOT = os.path.dirname(os.path.dirname(os.path.abspath(__file__)))
+from desync_tools.command import Parser as Parser  # noqa: E402, F401, for the tools
+from desync_tools.command import parser as parser  # noqa: E402, F401, for the tools
+from desync_tools.text import in_words  # noqa: E402
+
+# (first place, last place) of a part of a text. The crates of crates.txt, each with those below.
+Range = tuple[int, int]
+Listed = dict[str, list[str]]
 # Crates on which nothing but tests stands.
 FOR_TESTS = {"ds_trial"}
 PLACED = re.compile(r"crates/(\w+)/(src|specs|proofs)/(.+)\.(rt|antt)$")
@@ -17,9 +29,7 @@ SKIPPED = re.compile(
     r"|b?'(?:[^'\\\n]|\\(?:x[0-9a-fA-F]{2}|u\{[^}]*\}|.))'",
     re.S,
 )
-FUNCTION = re.compile(
-    r"^([ \t]*)(pub(?:\([a-z]+\))? )?(?:(?:const|unsafe|final) )*fn (\w+)", re.M
-)
+FUNCTION = re.compile(r"^([ \t]*)(pub(?:\([a-z]+\))? )?(?:(?:const|unsafe|final) )*fn (\w+)", re.M)
 CLAUSE = re.compile(r"\b(requires|ensures)\b\s*(\w*)\s*$")
 DEFINITION = re.compile(
     r"^(?:(?:unfoldable|abbrev|pub|record|data) )*pub (?:(?:abbrev|record|data) )*([^\s:(){}]+)"
@@ -31,7 +41,7 @@ IMPORT = re.compile(
 )
 
 
-def files():
+def files() -> list[str]:
     """The paths of the repository's files, in order, without links and what `rt` makes."""
     command = ["git", "ls-files", "-co", "--exclude-standard"]
     try:
@@ -42,7 +52,7 @@ def files():
     return sorted(name for name in set(names) if is_ours(name))
 
 
-def walked():
+def walked() -> Iterator[str]:
     """The paths of all files, where there is no git to ask."""
     for folder, below, names in os.walk(ROOT):
         below[:] = [name for name in below if name not in (".git", "out", "__pycache__")]
@@ -50,18 +60,28 @@ def walked():
             yield os.path.relpath(os.path.join(folder, name), ROOT)
 
 
-def is_ours(name):
+def is_ours(name: str) -> bool:
     path = os.path.join(ROOT, name)
     return bool(name) and "/out/" not in name and os.path.isfile(path) and not os.path.islink(path)
 
 
-def read(name):
+def read(name: str) -> str:
     """The text of a file of the repository."""
     with open(os.path.join(ROOT, name), encoding="utf-8", errors="replace") as file:
         return file.read()
 
 
-def placed(names, kinds=("src", "specs", "proofs"), ends=("rt", "antt")):
+def write(path: str, lines: Iterable[str]) -> None:
+    """Writes a file of some lines."""
+    with open(path, "w", encoding="utf-8") as file:
+        file.writelines(line + "\n" for line in lines)
+
+
+def placed(
+    names: Iterable[str],
+    kinds: Sequence[str] = ("src", "specs", "proofs"),
+    ends: Sequence[str] = ("rt", "antt"),
+) -> Iterator[tuple[str, str]]:
     """(path, crate) of each file that lies in these parts of a crate and has such an ending."""
     for name in names:
         found = PLACED.match(name)
@@ -69,9 +89,9 @@ def placed(names, kinds=("src", "specs", "proofs"), ends=("rt", "antt")):
             yield name, found[1]
 
 
-def crates():
+def crates() -> Listed:
     """The crates of crates.txt in its order, each with the names that it stands on."""
-    found = {}
+    found: dict[str, list[str]] = {}
     for line in read("crates.txt").splitlines():
         head, colon, below = line.split("#")[0].partition(":")
         if colon:
@@ -79,9 +99,10 @@ def crates():
     return found
 
 
-def all_below(listed, crate):
+def all_below(listed: Listed, crate: str) -> set[str]:
     """All crates of the repository on which one stands, itself too."""
-    seen, waiting = set(), [crate]
+    seen: set[str] = set()
+    waiting = [crate]
     while waiting:
         one = waiting.pop()
         if one in listed and one not in seen:
@@ -90,12 +111,12 @@ def all_below(listed, crate):
     return seen
 
 
-def blanked(text):
+def blanked(text: str) -> str:
     """A text of code with blanks in place of comments, texts and characters."""
     return SKIPPED.sub(lambda found: re.sub(r"[^\n]", " ", found[0]), text)
 
 
-def closing(code, at):
+def closing(code: str, at: int) -> int:
     """The place behind the bracket that closes the one at a place."""
     depth = 0
     for here in range(at, len(code)):
@@ -108,36 +129,42 @@ def closing(code, at):
     return len(code)
 
 
-def line_of(text, at):
+def line_of(text: str, at: int) -> int:
+    """The number of the line of a place."""
     return text.count("\n", 0, at) + 1
 
 
 class Function:
     """A function of a file: where it stands, its parameters, its clauses and its body."""
 
-    def __init__(self, path, code, found, blocks, testing):
+    def __init__(self, path: str, file: "File", found: re.Match[str]) -> None:
+        code = file.code
         self.path, self.name, self.is_public = path, found[3], found[2] == "pub "
         self.start, self.line = found.start(), line_of(code, found.start(3))
-        around = [name for low, high, name in blocks if low <= self.start < high]
-        self.owner = around[-1] if around else None
-        self.is_test = any(low <= self.start < high for low, high in testing)
+        around = [name for low, high, name in file.blocks if low <= self.start < high]
+        self.owner: Optional[str] = around[-1] if around else None
+        self.is_test = any(low <= self.start < high for low, high in file.testing)
         self.parameters, at = parameters(code, found.end())
-        self.clauses, self.body = [], None
+        # The kind, the name and the range of each clause.
+        self.clauses: list[tuple[str, str, Range]] = []
+        self.body: Optional[Range] = None
+        self.result, self.end = "()", at
         self.read_rest(code, at)
 
-    def read_rest(self, code, at):
+    def read_rest(self, code: str, at: int) -> None:
         """What stands behind the parameters: the answer's type, the clauses, the body."""
-        begin = at
+        begin, is_told = at, False
         while at < len(code):
             if code[at] in "([":
                 at = closing(code, at)
             elif code[at] == ";":
-                self.result, self.end = self.result_in(code[begin:at]), at
+                self.result = self.result if is_told else self.result_in(code[begin:at])
+                self.end = at
                 return
             elif code[at] == "{":
                 clause, end = CLAUSE.search(code[begin:at]), closing(code, at)
-                if not hasattr(self, "result"):
-                    self.result = self.result_in(code[begin:at])
+                if not is_told:
+                    self.result, is_told = self.result_in(code[begin:at]), True
                 if not clause:
                     self.body, self.end = (at + 1, end - 1), end
                     return
@@ -148,17 +175,18 @@ class Function:
         self.end = at
 
     @staticmethod
-    def result_in(text):
+    def result_in(text: str) -> str:
+        """The type of the answer."""
         behind = r"(?:\bwhere\b.*|\brequires\b.*|\bensures\b.*)?$"
         found = re.match(r"\s*->\s*(.*?)\s*" + behind, text, re.S)
         return " ".join(found[1].split()) if found else "()"
 
-    def size(self, code):
+    def size(self, code: str) -> int:
         """The number of lines between the brackets of the body."""
         return max(0, code.count("\n", *self.body) - 1) if self.body else 0
 
 
-def parameters(code, at):
+def parameters(code: str, at: int) -> tuple[list[str], int]:
     """The parameters behind a function's name, without `self`, and the place behind them."""
     if code[at : at + 1] == "<":
         depth = 0
@@ -168,7 +196,8 @@ def parameters(code, at):
             if depth == 0:
                 break
     end = closing(code, at)
-    parts, depth, begin = [], 0, at + 1
+    parts: list[str] = []
+    depth, begin = 0, at + 1
     for here in range(at + 1, end):
         c = code[here]
         depth += (c in "([{<") - (c in ")]}" or c == ">" and code[here - 1] not in "-=")
@@ -179,9 +208,9 @@ def parameters(code, at):
     return [part for part in parts if part and not receiver.match(part)], end
 
 
-def owners(code):
+def owners(code: str) -> list[tuple[int, int, str]]:
     """(first place, last place, type or trait) of each block of methods."""
-    found = []
+    found: list[tuple[int, int, str]] = []
     for block in re.finditer(r"^(?:pub )?(?:unsafe )?(?:impl|trait)\b([^{;]*)\{", code, re.M):
         head = re.sub(r"<[^<>]*(?:<[^<>]*(?:<[^<>]*>[^<>]*)*>[^<>]*)*>", "", block[1])
         words = re.findall(r"\w+", head.split(" for ")[-1].split(" where ")[0].split(":")[0])
@@ -189,9 +218,9 @@ def owners(code):
     return found
 
 
-def testing_ranges(code):
+def testing_ranges(code: str) -> list[Range]:
     """The ranges of a file that are there for tests alone."""
-    ranges = []
+    ranges: list[Range] = []
     for found in re.finditer(r"#\[cfg\(test\)\]\s*(?:pub )?mod \w+ \{", code):
         ranges.append((found.start(), closing(code, found.end() - 1)))
     for found in re.finditer(r"#\[test\]", code):
@@ -199,9 +228,9 @@ def testing_ranges(code):
     return ranges
 
 
-def testing_files(names):
+def testing_files(names: Iterable[str]) -> set[str]:
     """The paths of the modules that stand behind `#[cfg(test)]` in their crate."""
-    found = set()
+    found: set[str] = set()
     for name, crate in placed(names, ("src",), ("rt",)):
         for module in re.findall(r"#\[cfg\(test\)\]\s*(?:pub )?mod (\w+);", read(name)):
             folder = os.path.dirname(name)
@@ -209,32 +238,44 @@ def testing_files(names):
     return found
 
 
+class File:
+    """What the functions of a file are found by: its text without comments, the blocks of methods
+    and the ranges that are there for tests."""
+
+    def __init__(self, text: str, is_test: bool) -> None:
+        self.code = blanked(text)
+        self.blocks = owners(self.code)
+        self.testing = [(0, len(self.code))] if is_test else testing_ranges(self.code)
+
+
 class Source:
     """A file of code: its text, its text without comments, and its functions."""
 
-    def __init__(self, path, crate, is_test):
+    def __init__(self, path: str, crate: str, is_test: bool) -> None:
         self.path, self.crate, self.is_test = path, crate, is_test
         self.text = read(path)
-        self.code = blanked(self.text)
         self.lines = self.text.split("\n")
-        self.testing = [(0, len(self.code))] if is_test else testing_ranges(self.code)
-        heads, blocks = FUNCTION.finditer(self.code), owners(self.code)
-        self.functions = [Function(path, self.code, one, blocks, self.testing) for one in heads]
+        file = File(self.text, is_test)
+        self.code, self.testing = file.code, file.testing
+        heads = FUNCTION.finditer(self.code)
+        self.functions = [Function(path, file, one) for one in heads]
 
-    def is_testing(self, at):
+    def is_testing(self, at: int) -> bool:
+        """Whether a place is there for tests."""
         return any(low <= at < high for low, high in self.testing)
 
 
-def sources(names):
+def sources(names: Sequence[str]) -> list[Source]:
     """Each file of code."""
     tests = testing_files(names)
     tests |= {name for name, crate in placed(names, ("src",), ("rt",)) if crate in FOR_TESTS}
     return [Source(name, crate, name in tests) for name, crate in placed(names, ("src",), ("rt",))]
 
 
-def definitions(text):
+def definitions(text: str) -> list[tuple[str, int, int]]:
     """(name, first line, last line), counted from 0, of each public definition of a specs file."""
-    lines, found = text.split("\n"), []
+    lines = text.split("\n")
+    found: list[tuple[str, int, int]] = []
     heads = [at for at, line in enumerate(lines) if is_head(line)]
     for at in heads:
         end = at + 1
@@ -243,33 +284,34 @@ def definitions(text):
             end += 1
         while not lines[end - 1].strip():
             end -= 1
-        found.append((name[1].rstrip(":"), at, end))
+        found.append((name[1].rstrip(":") if name else "", at, end))
     return found
 
 
-def is_head(line):
+def is_head(line: str) -> bool:
     """Whether a line of a specs file begins a definition."""
     return bool(DEFINITION.match(line)) and not re.match(r"pub (mod|use)\b", line)
 
 
-def imports(text):
+def imports(text: str) -> dict[str, tuple[str, Optional[str]]]:
     """name -> the module and the name there, of each `use` and `ghost use` of a text."""
-    found = {}
+    found: dict[str, tuple[str, Optional[str]]] = {}
     for path, names, other in IMPORT.findall(text):
         if not names:
             found[other or path.split(".")[-1]] = (path, None)
-        for part in filter(None, (part.strip() for part in names.split(","))):
+        parts: list[str] = [part.strip() for part in names.split(",") if part.strip()]
+        for part in parts:
             name, _, new = part.partition(" as ")
             found[new or name] = (path, name)
     return found
 
 
-def start(name, main):
+def start(name: str, main: Callable[[], object]) -> None:
     """Runs a tool. Where its output is closed or cannot be written, it says so, and ends with 1."""
     signal.signal(signal.SIGPIPE, signal.SIG_DFL)
     if sys.stdout is None:
         sys.exit("%s: the standard output is closed" % name)
-    status = None
+    status: Optional[SystemExit] = None
     try:
         try:
             main()
@@ -277,13 +319,19 @@ def start(name, main):
             status = ended
         sys.stdout.flush()
     except OSError as error:
-        sys.stderr.write("%s: %s\n" % (name, error))
+        sys.stderr.write("%s: %s\n" % (name, said(error)))
         sys.stderr.flush()
         os._exit(1)
     if status is not None:
         raise status
 
 
-def told(name, why):
+def said(error: OSError) -> str:
+    """What the system says, in words."""
+    about = "%s: " % error.filename if error.filename else ""
+    return about + in_words(error)
+
+
+def told(name: str, why: str) -> NoReturn:
     """Ends a tool with one line that says why it cannot go on."""
     sys.exit("%s: %s" % (name, why))

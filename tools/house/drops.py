@@ -5,7 +5,10 @@ dropped. A value counts by the vectors inside it: a `Vec` or a text 1, a map 4, 
 its fields, an enum the largest of its variants; a type with a drop written by hand counts 1.
 """
 
+from __future__ import annotations
+
 import re
+from typing import Iterator
 
 import house
 
@@ -19,8 +22,11 @@ WAY_OUT = re.compile(r"\?(?=[;,.)\s])|\breturn\b")
 class Weights:
     """What values of each type weigh, and what each function of one name gives."""
 
-    def __init__(self, sources):
-        self.shapes, self.by_hand, self.known, self.gives = {}, set(), dict(KNOWN), {}
+    def __init__(self, sources: list[house.Source]) -> None:
+        self.shapes: dict[str, tuple[str, str]] = {}
+        self.by_hand: set[str] = set()
+        self.known = dict(KNOWN)
+        self.gives: dict[str, set[str]] = {}
         for source in sources:
             self.by_hand |= set(BY_HAND.findall(source.code))
             for found in TYPE.finditer(source.code):
@@ -30,12 +36,12 @@ class Weights:
                 result = one.result.replace("Self", one.owner or "")
                 self.gives.setdefault(one.name, set()).add(result)
 
-    def of_type(self, text):
+    def of_type(self, text: str) -> int:
         """What a value of a type weighs."""
         text = re.sub(r"&(?:'\w+ )?(?:mut )?(?:\[[^\]]*\]|[\w:]+(?:<[^<>]*>)?)", "", text)
         return sum(self.of_name(word) for word in re.findall(r"\w+", text))
 
-    def of_name(self, name):
+    def of_name(self, name: str) -> int:
         if name not in self.known:
             self.known[name] = 0
             kind, inside = self.shapes.get(name, ("struct", ""))
@@ -44,19 +50,20 @@ class Weights:
             self.known[name] = min(weight, 1) if name in self.by_hand else weight
         return self.known[name]
 
-    def of_call(self, text):
+    def of_call(self, text: str) -> int:
         """What a call gives that ends a `let .. = ..?;`, without what it may refuse with."""
         called = re.findall(r"(\w+)\s*(?:::<[^>]*>)?\(", text)
-        results = self.gives.get(called[0], set()) if called else set()
+        results: set[str] = self.gives.get(called[0], set()) if called else set()
         if len(results) != 1:
             return 1
         found = re.match(r"(?:Result|Option)<(.*?)(?:, \w+(?:<.*>)?)?>$", next(iter(results)))
         return self.of_type(found[1]) if found else 1
 
 
-def split(text):
+def split(text: str) -> list[str]:
     """The parts of a text between commas that stand in no bracket."""
-    parts, depth, begin = [], 0, 0
+    parts: list[str] = []
+    depth = begin = 0
     for at, c in enumerate(text):
         depth += (c in "([{<") - (c in ")]}>")
         if c == "," and depth == 0:
@@ -66,13 +73,13 @@ def split(text):
     return [part.partition(":")[2] or part for part in parts]
 
 
-def moved(body, name, at):
+def moved(body: str, name: str, at: int) -> int:
     """Where a value is given on, behind a place, or the end."""
     found = re.compile(r"[(,{]\s*%s\s*[,)}]|\b%s\.into_" % (name, name)).search(body, at)
     return found.start() if found else len(body)
 
 
-def values(body, one, weights):
+def values(body: str, one: house.Function, weights: Weights) -> Iterator[tuple[int, int, int]]:
     """(from, to, weight) of each owned value of a function."""
     for parameter in one.parameters:
         name, _, kind = parameter.partition(":")
@@ -83,7 +90,7 @@ def values(body, one, weights):
         yield found.end(), moved(body, found[1], found.end()), weights.of_call(found[2])
 
 
-def cost(source, one, weights):
+def cost(source: house.Source, one: house.Function, weights: Weights) -> int:
     """The sum over all ways out of a function of what lives there."""
     if not one.body:
         return 0

@@ -1,12 +1,19 @@
 """Places the clusters of a split netlist in columns, from IN on the left to OUT on the right."""
 
+from __future__ import annotations
+
+from typing import Iterable, Iterator
+
 BOX, GAP, ROW, COLUMN, TALLEST = 84, 12, 92, 264, 10
 MARGIN = 60
+# What follows each vertex, where a vertex is IN, OUT or a cluster's number, as a text.
+After = dict[str, list[str]]
+Point = list[float]
 
 
-def follows(edges):
-    """What follows each vertex, where a vertex is IN, OUT or a cluster's number, as a text."""
-    after = {"IN": set(), "OUT": set()}
+def follows(edges: Iterable[tuple[str, str]]) -> After:
+    """What follows each vertex."""
+    after: dict[str, set[str]] = {"IN": set(), "OUT": set()}
     for producer, consumer in edges:
         first, second = producer.lstrip("MS"), consumer.lstrip("MS")
         after.setdefault(first, set())
@@ -16,16 +23,19 @@ def follows(edges):
     return {vertex: sorted(after[vertex], key=order) for vertex in sorted(after, key=order)}
 
 
-def order(vertex):
+def order(vertex: str) -> int:
     """IN, then the clusters, then OUT."""
     return {"IN": -1, "OUT": 1 << 30}.get(vertex) or int(vertex)
 
 
-def finished(after):
-    """The vertices as a search ends with them, last first: but for loops each before those behind."""
-    seen, done = set(), []
+def finished(after: After) -> list[str]:
+    """The vertices as a search ends with them, last first: but for loops in order."""
+    seen: set[str] = set()
+    done: list[str] = []
     for root in after:
-        waiting = [(root, iter(after[root]))] if root not in seen else []
+        waiting: list[tuple[str, Iterator[str]]] = []
+        if root not in seen:
+            waiting.append((root, iter(after[root])))
         seen.add(root)
         while waiting:
             vertex, rest = waiting[-1]
@@ -39,7 +49,7 @@ def finished(after):
     return done[::-1]
 
 
-def depths(after):
+def depths(after: After) -> dict[str, int]:
     """The longest way to each vertex, along edges that do not lead back."""
     line = finished(after)
     at = {vertex: place for place, vertex in enumerate(line)}
@@ -54,13 +64,15 @@ def depths(after):
     return depth
 
 
-def columns(after):
+def columns(after: After) -> list[list[str]]:
     """The vertices column by column, each near what it reads."""
-    depth, before = depths(after), {vertex: [] for vertex in after}
+    depth = depths(after)
+    before: dict[str, list[str]] = {vertex: [] for vertex in after}
     for vertex, behind in after.items():
         for one in behind:
             before[one].append(vertex)
-    found, height = [], {}
+    found: list[list[str]] = []
+    height: dict[str, float] = {}
     for level in sorted(set(depth.values())):
         here = [vertex for vertex in after if depth[vertex] == level]
         middle = {
@@ -74,12 +86,13 @@ def columns(after):
     return found
 
 
-def places(edges):
+def places(edges: Iterable[tuple[str, str]]) -> tuple[dict[str, Point], Point]:
     """The middle of each node's box, and the width and height of the whole picture."""
     after = follows(edges)
     found = columns(after)
     tall = max(map(len, found))
-    place, x = {}, MARGIN
+    place: dict[str, Point] = {}
+    x = MARGIN
     for column in found:
         pairs = any(vertex.isdigit() for vertex in column)
         for row, vertex in enumerate(column):
