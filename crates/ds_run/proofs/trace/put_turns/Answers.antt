@@ -14,8 +14,8 @@ use Rattle.ds_run.proofs.trace.put_turns.Goals as goal
 
 pub loop-k-init : goal.loop-k-init
 loop-k-init g c =
-    let s : Split = c.args.played.now.plan.now.split in
-    let vectors : List Row = c.args.played.now.vectors.now.rows in
+    let s : Split = c.args.stored.now.plan.now.split in
+    let vectors : List Row = g.vectors in
     let none = Puts (g.P.Pen.writing c.args.pen.now) (g.P.Pen.writing c.args.pen.now) in
     record {
       line = c.requires.line;
@@ -27,40 +27,40 @@ loop-k-init g c =
 
 pub row-requires-clause-stored : goal.row-requires-clause-stored
 row-requires-clause-stored g c =
-    let stored = out_stored c.args.played.now.plan.now c.args.played.now.vectors.now.rows
-    c.args.played.now.fired.now
-    c.requires.played c.loop-k.k (omega arith) in
+    let stored = out_stored c.args.stored.now.plan.now g.vectors
+    c.args.stored.now.fired.now
+    c.requires.played c.loop-k.k (omega (arith, c.requires.turns)) in
     rw c.new.ensures stored
 
 pub row-requires-clause-length : goal.row-requires-clause-length
 row-requires-clause-length g c =
-    let wide = out_wide c.args.played.now.plan.now c.args.played.now.vectors.now.rows
-    c.args.played.now.fired.now
+    let wide = out_wide c.args.stored.now.plan.now g.vectors
+    c.args.stored.now.fired.now
     c.requires.played in
     rw c.new.ensures (c.loop-k.invariant.line.outputs ∙ sym wide)
 
 pub gather-requires-clause-rows : goal.gather-requires-clause-rows
 gather-requires-clause-rows g c =
-    let slaves = has_slaves c.args.played.now.plan.now c.args.played.now.vectors.now.rows
-    c.args.played.now.fired.now
-    c.requires.played (c.loop-k.k + 1) (omega arith) in
+    let slaves = has_slaves c.args.stored.now.plan.now g.vectors
+    c.args.stored.now.fired.now
+    c.requires.played (c.loop-k.k + 1) (omega (arith, c.requires.turns)) in
     rw c.latches.ensures slaves
 
 pub gather-requires-clause-line : goal.gather-requires-clause-line
 gather-requires-clause-line g c =
-    line_read c.args.played.now.plan.now c.args.played.now.vectors.now.rows
-    c.args.played.now.fired.now c.requires.played c.loop-k.k
-    (omega arith) c.latches.result.now c.loop-k.line c.new.result c.row.new.into c.latches.ensures
+    line_read c.args.stored.now.plan.now g.vectors
+    c.args.stored.now.fired.now c.requires.played c.loop-k.k
+    (omega (arith, c.requires.turns)) c.latches.result.now c.loop-k.line c.new.result c.row.new.into c.latches.ensures
     c.loop-k.invariant.line c.new.ensures c.row.ensures
 
 pub loop-k-preserved : goal.loop-k-preserved
 loop-k-preserved g c =
-    let p : Planned = c.args.played.now.plan.now in
-    let vectors : List Row = c.args.played.now.vectors.now.rows in
-    let r : Recorder = c.args.played.now.fired.now in
+    let p : Planned = c.args.stored.now.plan.now in
+    let vectors : List Row = g.vectors in
+    let r : Recorder = c.args.stored.now.fired.now in
     let k : ℕ = c.loop-k.k in
     let t : Split = c.latches.result.now in
-    let below : c.loop-k.k < length c.args.played.now.vectors.now.rows = omega arith in
+    let below : c.loop-k.k < length g.vectors = omega (arith, c.requires.turns) in
     record {
       line = subst (λ (q : Split). HasLine q c.gather.new.line) c.latches.ensures
           c.gather.ensures.line;
@@ -77,8 +77,8 @@ loop-k-preserved g c =
 
 pub returns : goal.returns
 returns g c =
-    let s : Split = c.args.played.now.plan.now.split in
-    last_turn s.circuit c.args.first s.initial c.args.played.now.vectors.now.rows
+    let s : Split = c.args.stored.now.plan.now.split in
+    last_turn s.circuit c.args.first s.initial g.vectors
     c.loop-k.k c.loop-k.line.registers
     (Puts (g.P.Pen.writing c.args.pen.now) (g.P.Pen.writing c.loop-k.pen))
-    (omega arith) c.loop-k.invariant.written
+    (omega (arith, c.requires.turns)) c.loop-k.invariant.written

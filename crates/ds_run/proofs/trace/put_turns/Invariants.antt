@@ -7,12 +7,12 @@ use Rattle.ds_run.proofs.trace.put_turns.Given as goal
 
 abbrev pub invariant-loop-k : goal.invariant-loop-k
 invariant-loop-k g l = record {
-  line : HasLine l.played.plan.now.split l.line;
+  line : HasLine l.stored.plan.now.split l.line;
   registers :
-      (values : AreValues l.played.plan.now.split l.played.vectors.now.rows
-      l.played.fired.now.shown.view.run)
+      (values : AreValues l.stored.plan.now.split g.vectors
+      l.stored.fired.now.shown.view.run)
       → l.line.registers ≡ values.state l.k;
-  written : IsWrittenTo l.played.plan.now.split.circuit l.first l.played.plan.now.split.initial
-      l.played.vectors.now.rows l.k l.line.registers
+  written : IsWrittenTo l.stored.plan.now.split.circuit l.first l.stored.plan.now.split.initial
+      g.vectors l.k l.line.registers
       (Puts (g.P.Pen.writing l.initial.pen) (g.P.Pen.writing l.pen));
 }
