@@ -84,12 +84,8 @@ pub record Output : Type 0 where
 -- the output that a sink is, from one of its values to another; `Sink::written` and `Sink::faults`
 -- tell of each
 abbrev pub output_between : {S : Type 0} → (S → Option (List ℕ)) → (S → ℕ) → S → S → Output
-output_between written faults old new = record {
-  old = written old;
-  new = written new;
-  before = faults old;
-  now = faults new;
-}
+output_between written faults old new =
+    record { old = written old; new = written new; before = faults old; now = faults new }
 
 -- a text that the stage leaves where it stops so was appended
 abbrev pub Leaves : {A : Type 0} → Stage A → OfFile → Output → Stop → Type 0
