@@ -1,10 +1,10 @@
-//! The trace of what the nodes of a plan have stored. The vectors are a value of the contracts
-//! alone: the code has their number.
-ghost use Rattle.std.specs.Prelude.{◌≡◌, ◌+◌, ◌<◌, ◌^◌, List, length};
+//! The trace of what the nodes of a plan have stored. The contracts alone speak of the vectors: the
+//! code has their number.
+ghost use Rattle.std.specs.Prelude.{◌≡◌, ◌+◌, ◌<◌, ◌^◌, List};
 ghost use Rattle.ds_base.specs.Values.{Row};
 ghost use Rattle.ds_clocked.specs.Appends.{PutsLines, WritesLines};
 ghost use Rattle.ds_run.specs.Line.{HasLine};
-ghost use Rattle.ds_run.specs.Played.{IsPlayed};
+ghost use Rattle.ds_run.specs.Played.{IsPlayedOn};
 
 use crate::line::{Line, gather};
 use crate::stored_turns::StoredTurns;
@@ -20,13 +20,14 @@ pub fn write_turns<O: Sink>(
     line: &mut Line,
     out: &mut O,
 ) -> Result<(), WriteFault>
-    ghost vectors: { List Row }
-    requires played { IsPlayed stored.now.plan.now vectors stored.now.fired.now }
-    requires turns { length vectors ≡ stored.now.turns }
+    requires stored { (vectors : List Row)
+        × IsPlayedOn stored.now.plan.now stored.now.turns stored.now.fired.now vectors }
     requires few { first + stored.now.turns < 2 ^ 64 }
     requires line { HasLine stored.now.plan.now.split line.old }
     requires registers { line.old.registers ≡ stored.now.plan.now.split.initial }
-    ensures { WritesLines result stored.now.plan.now.split.circuit first
+    ensures { (vectors : List Row)
+        → IsPlayedOn stored.now.plan.now stored.now.turns stored.now.fired.now vectors
+        → WritesLines result stored.now.plan.now.split.circuit first
         stored.now.plan.now.split.initial vectors line.new.registers
         (O.written out.old) (O.written out.new) (O.faults out.old) (O.faults out.new) }
 {
@@ -37,13 +38,14 @@ pub fn write_turns<O: Sink>(
 
 // The same by a pen.
 fn put_turns<P: Pen>(stored: &StoredTurns<'_, '_>, first: u64, line: &mut Line, pen: &mut P)
-    ghost vectors: { List Row }
-    requires played { IsPlayed stored.now.plan.now vectors stored.now.fired.now }
-    requires turns { length vectors ≡ stored.now.turns }
+    requires stored { (vectors : List Row)
+        × IsPlayedOn stored.now.plan.now stored.now.turns stored.now.fired.now vectors }
     requires few { first + stored.now.turns < 2 ^ 64 }
     requires line { HasLine stored.now.plan.now.split line.old }
     requires registers { line.old.registers ≡ stored.now.plan.now.split.initial }
-    ensures { PutsLines (P.writing pen.old) (P.writing pen.new)
+    ensures { (vectors : List Row)
+        → IsPlayedOn stored.now.plan.now stored.now.turns stored.now.fired.now vectors
+        → PutsLines (P.writing pen.old) (P.writing pen.new)
         stored.now.plan.now.split.circuit first stored.now.plan.now.split.initial
         vectors line.new.registers }
 {
