@@ -10,7 +10,8 @@ use Rattle.ds_stage.proofs.Ends.{ends_more}
 use Rattle.ds_stage.proofs.Left.{giving_nothing}
 use Rattle.ds_app.proofs.Lent.{accept_ends}
 use Rattle.ds_app.proofs.PlannedEnds.{ends_planned, stops_netlist, stops_plan}
-use Rattle.ds_stage.proofs.Counts.{unread_or_so, unwritten_or, well_read}
+use Rattle.ds_stage.proofs.Counts.{unwritten_or, well_read}
+use Rattle.ds_app.proofs.Since.{unread_since}
 use Rattle.ds_app.proofs.accept.accept.Goals as goal
 
 pub returns-in_err-netlist-clause-value : goal.returns-in_err-netlist-clause-value
@@ -57,7 +58,7 @@ returns-in_err-netlist-clause-same_writes g c =
 pub returns-in_err-plan-clause-same_reads : goal.returns-in_err-plan-clause-same_reads
 returns-in_err-plan-clause-same_reads g c =
     let p = err_from_is_err_and c.from_residual-in_err-plan.result c.from_residual-in_err-plan.ensures.1 in
-    rw (p.1, p.2) (unread_or_so c.in_err-plan.field-0.0 (λ same. same ∙ c.in_ok-netlist.ensures.same_reads) c.in_err-plan.ensures.same_reads)
+    rw (p.1, p.2) (unread_since c.in_err-plan.field-0.0 c.in_ok-netlist.ensures.same_reads c.in_err-plan.ensures.same_reads)
 
 pub returns-in_err-plan-clause-same_writes : goal.returns-in_err-plan-clause-same_writes
 returns-in_err-plan-clause-same_writes g c =

@@ -16,7 +16,8 @@ use Rattle.ds_app.proofs.RunEnds.{few_vectors}
 use Rattle.ds_app.proofs.WindowEnds.{is_there, more_here, state_long, stops_here}
 use Rattle.ds_stage.proofs.Ends.{rose_since}
 use Rattle.ds_stream.specs.Next.{FitsHeld}
-use Rattle.ds_stage.proofs.Counts.{unread_or_so, unwritten_or}
+use Rattle.ds_stage.proofs.Counts.{unwritten_or}
+use Rattle.ds_app.proofs.Since.{unread_since}
 use Rattle.ds_app.proofs.clock.write_clocked.Goals as goal
 
 pub new-reader-requires : goal.new-reader-requires
@@ -181,7 +182,7 @@ returns-in_err-state-clause-same_writes g c =
 pub returns-in_err-behind-clause-same_reads : goal.returns-in_err-behind-clause-same_reads
 returns-in_err-behind-clause-same_reads g c =
     let p = err_from_is_err_and c.from_residual-in_err-behind.result c.from_residual-in_err-behind.ensures.1 in
-    rw (p.1, p.2) (unread_or_so c.in_err-behind.field-0.0 (λ same. same ∙ c.windows.invariant.same_reads) c.in_err-behind.ensures.same_reads)
+    rw (p.1, p.2) (unread_since c.in_err-behind.field-0.0 c.windows.invariant.same_reads c.in_err-behind.ensures.same_reads)
 
 pub returns-in_err-behind-clause-same_writes : goal.returns-in_err-behind-clause-same_writes
 returns-in_err-behind-clause-same_writes g c =

@@ -8,7 +8,8 @@ use Rattle.ds_stage.specs.Ends.{Output, RoseIn, output_between}
 use Rattle.ds_stage.proofs.PeriodStages.{measured_since}
 use Rattle.ds_app.proofs.Lent.{period_ends}
 use Rattle.ds_app.proofs.PeriodEnds.{ends_measured, stops_netlist, stops_split}
-use Rattle.ds_stage.proofs.Counts.{unread_or, unwritten_or, well_read_so}
+use Rattle.ds_stage.proofs.Counts.{unread_or, unwritten_or}
+use Rattle.ds_app.proofs.Since.{well_read_since}
 use Rattle.ds_app.proofs.period.period.Goals as goal
 
 pub returns-in_err-netlist-clause-value : goal.returns-in_err-netlist-clause-value
@@ -68,7 +69,7 @@ returns-in_err-latches-clause-same_writes g c =
     rw (p.1, p.2) (unwritten_or c.in_err-latches.field-0.0 refl)
 
 pub returns-clause-same_reads : goal.returns-clause-same_reads
-returns-clause-same_reads g c = well_read_so c.measure.result (λ same. same ∙ c.in_ok-netlist.ensures.same_reads) c.measure.ensures.same_reads
+returns-clause-same_reads g c = well_read_since c.measure.result c.in_ok-netlist.ensures.same_reads c.measure.ensures.same_reads
 
 pub returns-clause-same_writes : goal.returns-clause-same_writes
 returns-clause-same_writes g c = c.measure.ensures.same_writes

@@ -9,7 +9,8 @@ use Rattle.ds_stage.proofs.PlanAccepted.{planned_circuit, planned_in_clusters}
 use Rattle.ds_app.proofs.Lent.{replay_ends}
 use Rattle.ds_app.proofs.PlannedEnds.{stops_netlist, stops_plan}
 use Rattle.ds_app.proofs.ReplayEnds.{ends_log, logged_job, stops_log, stops_vectors}
-use Rattle.ds_stage.proofs.Counts.{unread_or_so, unwritten_or, well_read}
+use Rattle.ds_stage.proofs.Counts.{unwritten_or, well_read}
+use Rattle.ds_app.proofs.Since.{unread_since}
 use Rattle.ds_app.proofs.replay.replay.Goals as goal
 
 pub returns-in_err-netlist-clause-value : goal.returns-in_err-netlist-clause-value
@@ -103,7 +104,7 @@ returns-in_err-netlist-clause-same_writes g c =
 pub returns-in_err-plan-clause-same_reads : goal.returns-in_err-plan-clause-same_reads
 returns-in_err-plan-clause-same_reads g c =
     let p = err_from_is_err_and c.from_residual-in_err-plan.result c.from_residual-in_err-plan.ensures.1 in
-    rw (p.1, p.2) (unread_or_so c.in_err-plan.field-0.0 (λ same. same ∙ c.in_ok-netlist.ensures.same_reads) c.in_err-plan.ensures.same_reads)
+    rw (p.1, p.2) (unread_since c.in_err-plan.field-0.0 c.in_ok-netlist.ensures.same_reads c.in_err-plan.ensures.same_reads)
 
 pub returns-in_err-plan-clause-same_writes : goal.returns-in_err-plan-clause-same_writes
 returns-in_err-plan-clause-same_writes g c =
@@ -113,7 +114,7 @@ returns-in_err-plan-clause-same_writes g c =
 pub returns-in_err-vectors-clause-same_reads : goal.returns-in_err-vectors-clause-same_reads
 returns-in_err-vectors-clause-same_reads g c =
     let p = err_from_is_err_and c.from_residual-in_err-vectors.result c.from_residual-in_err-vectors.ensures.1 in
-    rw (p.1, p.2) (unread_or_so c.in_err-vectors.field-0.0 (λ same. same ∙ (c.in_ok-plan.ensures.same_reads ∙ c.in_ok-netlist.ensures.same_reads)) c.in_err-vectors.ensures.same_reads)
+    rw (p.1, p.2) (unread_since c.in_err-vectors.field-0.0 (c.in_ok-plan.ensures.same_reads ∙ c.in_ok-netlist.ensures.same_reads) c.in_err-vectors.ensures.same_reads)
 
 pub returns-in_err-vectors-clause-same_writes : goal.returns-in_err-vectors-clause-same_writes
 returns-in_err-vectors-clause-same_writes g c =
@@ -123,7 +124,7 @@ returns-in_err-vectors-clause-same_writes g c =
 pub returns-in_err-state-clause-same_reads : goal.returns-in_err-state-clause-same_reads
 returns-in_err-state-clause-same_reads g c =
     let p = err_from_is_err_and c.from_residual-in_err-state.result c.from_residual-in_err-state.ensures.1 in
-    rw (p.1, p.2) (unread_or_so c.in_err-state.field-0.0 (λ same. same ∙ (c.in_ok-vectors.ensures.same_reads ∙ (c.in_ok-plan.ensures.same_reads ∙ c.in_ok-netlist.ensures.same_reads))) c.in_err-state.ensures.same_reads)
+    rw (p.1, p.2) (unread_since c.in_err-state.field-0.0 (c.in_ok-vectors.ensures.same_reads ∙ (c.in_ok-plan.ensures.same_reads ∙ c.in_ok-netlist.ensures.same_reads)) c.in_err-state.ensures.same_reads)
 
 pub returns-in_err-state-clause-same_writes : goal.returns-in_err-state-clause-same_writes
 returns-in_err-state-clause-same_writes g c =

@@ -24,7 +24,8 @@ use Rattle.ds_app.specs.RunStage.{traced_stage}
 use Rattle.ds_app.proofs.RunEnds.{ends_of_file, run_end_of, run_ends_part, run_ends_whole, run_spells}
 use Rattle.ds_app.proofs.WindowEnds.{is_there, more_here, stops_here}
 use Rattle.ds_stage.specs.Ends.{UnreadOr, UnwrittenOr}
-use Rattle.ds_stage.proofs.Counts.{unread_or, unread_or_so, unwritten_or}
+use Rattle.ds_stage.proofs.Counts.{unread_or, unwritten_or}
+use Rattle.ds_app.proofs.Since.{unread_since}
 use Rattle.ds_app.proofs.run.write_traced.Goals as goal
 
 pub windows-init : goal.windows-init
@@ -224,7 +225,7 @@ returns-in_err-log-clause-same_writes g c =
 pub returns-in_err-behind-clause-same_reads : goal.returns-in_err-behind-clause-same_reads
 returns-in_err-behind-clause-same_reads g c =
     let p = err_from_is_err_and c.from_residual-in_err-behind.result c.from_residual-in_err-behind.ensures.1 in
-    rw (p.1, p.2) (unread_or_so c.in_err-behind.field-0.0 (λ same. same ∙ c.windows.invariant.same_reads) c.in_err-behind.ensures.same_reads)
+    rw (p.1, p.2) (unread_since c.in_err-behind.field-0.0 c.windows.invariant.same_reads c.in_err-behind.ensures.same_reads)
 
 pub returns-in_err-behind-clause-same_writes : goal.returns-in_err-behind-clause-same_writes
 returns-in_err-behind-clause-same_writes g c =
