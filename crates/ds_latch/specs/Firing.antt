@@ -24,9 +24,7 @@ held s now n = now.rows n (place_of s (now.count (opening n)))
 -- at first slaves hold their initial values
 abbrev pub first_row : Split → Node → Row
 first_row s (Slave i) = values_at s.initial (members s i)
-first_row s (Master i) = zeros s (Master i)
-first_row s In = zeros s In
-first_row s Out = zeros s Out
+first_row s n = zeros s n
 
 -- at first nothing has fired; what no node holds is zeros
 abbrev pub first_state : Split → State
