@@ -45,10 +45,8 @@ placed place x f other = if other == place then x else f other
 -- which opening of a producer a consumer reads that has opened so often: of a slave the one before,
 -- of others the same one
 abbrev pub opening_read : Node → ℕ → ℕ
-opening_read In opened = opened + 1
-opening_read Out opened = opened + 1
-opening_read (Master i) opened = opened + 1
 opening_read (Slave i) opened = opened
+opening_read n opened = opened + 1
 
 -- what a consumer that has opened so often reads of each producer
 abbrev pub read_rows : Split → State → ℕ → Node → Row
