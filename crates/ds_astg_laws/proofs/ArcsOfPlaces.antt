@@ -15,7 +15,7 @@ use Rattle.ds_astg.specs.Sound.{IsStateSound}
 use Rattle.ds_astg.specs.declared.place.Place.{Place}
 use Rattle.ds_astg.proofs.Soundness.{step_sound}
 use Rattle.ds_astg_laws.proofs.ReadKept.{behind_was, given_of, if_was, start_sound}
-use Rattle.ds_astg_laws.specs.Places.{ArcsAreOfPlaces, IsReadTo, JoinsEvents, at_end, behind, behind_all}
+use Rattle.ds_astg_laws.specs.Places.{ArcsAreOfPlaces, LinesLeadTo, JoinsEvents, at_end, behind, behind_all}
 
 -- arcs are put in order, none is lost
 swapped : (a b : Arc) (arcs : List Arc) → IsPermutation (a ∷ b ∷ arcs) (b ∷ a ∷ arcs)
@@ -52,7 +52,7 @@ all_join (key ∷ keys) (place ∷ places) each none = elim (cases_Bool (lacks p
 -- what was read behind all lines
 record HasRead (lines : List Line) (state : State) (g : Graph) : Type 0 where
   last : State
-  read : IsReadTo lines state last
+  read : LinesLeadTo lines state last
   sound : IsStateSound last
   done : end_of last ≡ Ok g
 

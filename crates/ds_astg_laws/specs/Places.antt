@@ -8,13 +8,13 @@ use Rattle.ds_astg.specs.Read.{all_events, arc_of, ends, graph_of_lines}
 use Rattle.ds_astg.specs.declared.place.Place.{Place}
 
 -- what was read behind lines, one after another, up to one behind which nothing is read
-pub data IsReadTo : List Line → State → State → Type 0 where
-  behind_all : {state : State} → IsReadTo [] state state
+pub data LinesLeadTo : List Line → State → State → Type 0 where
+  behind_all : {state : State} → LinesLeadTo [] state state
   at_end : {line : Line} {lines : List Line} {state : State}
-      → ends (graph_head_of (word_at line.words 0)) ≡ true → IsReadTo (line ∷ lines) state state
+      → ends (graph_head_of (word_at line.words 0)) ≡ true → LinesLeadTo (line ∷ lines) state state
   behind : {line : Line} {lines : List Line} {state next last : State}
       → ends (graph_head_of (word_at line.words 0)) ≡ false → step line state ≡ Ok next
-      → IsReadTo lines next last → IsReadTo (line ∷ lines) state last
+      → LinesLeadTo lines next last → LinesLeadTo (line ∷ lines) state last
 
 -- a place leads from an event to an event
 abbrev pub JoinsEvents : Place → Type 0
@@ -25,7 +25,7 @@ JoinsEvents place = (u v : ℕ) × (place.source ≡ Some u) × (place.target �
 -- its target with the tokens of its entry, none where it has no entry
 pub record HasArcOfEachPlace (lines : List Line) (g : Graph) : Type 0 where
   pub last : State
-  pub read : IsReadTo lines start last
+  pub read : LinesLeadTo lines start last
   pub events : g.events ≡ all_events last.signals.names last.signals.roles
   pub whole : All JoinsEvents last.places.places
   pub arcs : IsPermutation (map arc_of last.places.places) g.arcs

@@ -1,6 +1,6 @@
 //! What follows of the text of a marked graph, on which nothing of the program stands.
 //!
-//! What `ds_astg` writes is read as the same graph, what is read is kept, and it has an arc for each
+//! What `ds_astg` writes is read as the same graph; what is read is kept, and has an arc for each
 //! place of the text, with its tokens, and no other; and graphs, faults and the parts of a text,
 //! short ones that are worked by hand, stand for what they should. Each law is the contract of a
 //! function that does nothing.

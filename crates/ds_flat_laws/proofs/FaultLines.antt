@@ -22,7 +22,7 @@ use Rattle.ds_flat.specs.declared.fault.FlatKind.TheVariants.{Recursive, TooMany
 use Rattle.ds_flat.proofs.Uses.{named_all}
 use Rattle.ds_flat_laws.proofs.Circles.{fault_of_either}
 use Rattle.ds_flat_laws.proofs.InCopies.{command_grows, model_opened}
-use Rattle.ds_flat_laws.specs.Laws.{FaultsAreOnLines, HasLine}
+use Rattle.ds_flat_laws.specs.Laws.{FaultsAreOnLines, HasCommandOn}
 
 -- a fault that is given on a line is on it
 limit_line : {A : Type 0} (limit : Option Limit) (line : ℕ) (value : A) (fault : At FlatKind) → unless_passed limit line value ≡ Err fault → line ≡ fault.line
@@ -69,7 +69,7 @@ few_copies path scope line call flat (Some model) opened is = elim (cases_Bool (
 module _ (models : List BlifModel) where
   -- each command stands on a line of the models
   abbrev AreThere : List Command → Type 0
-  AreThere commands = All (λ command. HasLine models command.line) commands
+  AreThere commands = All (λ command. HasCommandOn models command.line) commands
 
   -- a copy that is opened with less than so many others in it
   record IsLow (depth : ℕ) (opened : Opened) : Type 0 where
@@ -79,7 +79,7 @@ module _ (models : List BlifModel) where
 
   -- its faults are on lines
   abbrev ShowLines : ℕ → Type 0
-  ShowLines depth = (opened : Opened) (fault : At FlatKind) → IsLow depth opened → expand depth models opened ≡ Err fault → HasLine models fault.line
+  ShowLines depth = (opened : Opened) (fault : At FlatKind) → IsLow depth opened → expand depth models opened ≡ Err fault → HasCommandOn models fault.line
 
   models_there : All (λ model. AreThere model.commands) models
   models_there k d inside j e within = (
@@ -91,11 +91,11 @@ module _ (models : List BlifModel) where
   )
 
   module _ (depth : ℕ) (show : ShowLines depth) (path : List (List ℕ)) (scope : Scope) where
-    on_line : (command : Command) (fault : At FlatKind) → HasLine models command.line → command.line ≡ fault.line → HasLine models fault.line
-    on_line command fault there same = subst (HasLine models) same there
+    on_line : (command : Command) (fault : At FlatKind) → HasCommandOn models command.line → command.line ≡ fault.line → HasCommandOn models fault.line
+    on_line command fault there same = subst (HasCommandOn models) same there
 
-    command_line : (command : Command) (call : Option UseText) (flat : Flat) (fault : At FlatKind) → HasLine models command.line → most_of Copies < suc depth + flat.copies
-        → take_command (expand depth models) models path scope command call flat ≡ Err fault → HasLine models fault.line
+    command_line : (command : Command) (call : Option UseText) (flat : Flat) (fault : At FlatKind) → HasCommandOn models command.line → most_of Copies < suc depth + flat.copies
+        → take_command (expand depth models) models path scope command call flat ≡ Err fault → HasCommandOn models fault.line
     command_line command None flat fault there low is =
         let next = with_part scope command.line command.part flat.design in
         on_line command fault there (limit_line {A = Flat} (passed_limit next) command.line (record { copies = flat.copies; design = next }) fault is)
@@ -112,15 +112,15 @@ module _ (models : List BlifModel) where
         ]
 
     all_lines : (commands : List Command) (flat : Flat) (fault : At FlatKind) → AreThere commands → most_of Copies < suc depth + flat.copies
-        → take_all (expand depth models) models path scope commands flat ≡ Err fault → HasLine models fault.line
+        → take_all (expand depth models) models path scope commands flat ≡ Err fault → HasCommandOn models fault.line
     all_lines [] flat fault there low is = absurd (cc)
     all_lines (command ∷ commands) flat fault there low is =
         elim (fault_of_either (take_command (expand depth models) models path scope command (use_in command.part) flat) (take_all (expand depth models) models path scope commands) fault is) [
-          | inl here ↦ command_line command (use_in command.part) flat fault (All-head (λ (c : Command). HasLine models c.line) command commands there) low here
+          | inl here ↦ command_line command (use_in command.part) flat fault (All-head (λ (c : Command). HasCommandOn models c.line) command commands there) low here
           | inr behind ↦
               let (next, before, later) = behind in
               let grows : flat.copies ≤ next.copies = command_grows models depth path scope command flat next before in
-              all_lines commands next fault (All-tail (λ (c : Command). HasLine models c.line) command commands there) (omega arith) later
+              all_lines commands next fault (All-tail (λ (c : Command). HasCommandOn models c.line) command commands there) (omega arith) later
         ]
 
   copies_lines : (depth : ℕ) → ShowLines depth

@@ -15,11 +15,11 @@ FlatDesignsAreInRange = (models : List BlifModel) (c : Circuit) → IsBlif model
     → IsInRange c
 
 -- a command of some model stands on a line
-abbrev pub HasLine : List BlifModel → ℕ → Type 0
-HasLine models line = Any (λ model. Any (λ command. command.line ≡ line) model.commands) models
+abbrev pub HasCommandOn : List BlifModel → ℕ → Type 0
+HasCommandOn models line = Any (λ model. Any (λ command. command.line ≡ line) model.commands) models
 
 -- the line of a fault is that of a command: the bound on copies in one another, whose fault would
 -- have line 0, is never used up
 abbrev pub FaultsAreOnLines : Type 0
 FaultsAreOnLines = (models : List BlifModel) (fault : At FlatKind) → flat_of models ≡ Err fault
-    → HasLine models fault.line
+    → HasCommandOn models fault.line

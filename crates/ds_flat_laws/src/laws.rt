@@ -19,7 +19,8 @@ pub fn recursive_faults_are_circles()
     ensures { RecursiveFaultsAreCircles }
 {}
 
-/// The line of a fault is that of a command, so the bound on copies in one another is never used up.
+/// The line of a fault is that of a command, so the bound on copies in one another is never used
+/// up.
 pub fn faults_are_on_lines()
     ensures { FaultsAreOnLines }
 {}

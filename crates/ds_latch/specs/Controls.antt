@@ -1,12 +1,12 @@
 -- What a controller graph keeps apart.
-use Rattle.std.specs.Prelude.{◌≡◌, ◌≢◌, ℕ, ◌+◌, ◌*◌, ◌<◌, ◌↔◌, List, ltb}
+use Rattle.std.specs.Prelude.{◌≡◌, ◌≢◌, ℕ, ◌+◌, ◌*◌, ◌<◌, ◌↔◌, List, map, ltb}
 use Rattle.std.specs.List.{filter}
-use Rattle.ds_marked.specs.Graph.{Graph, IsEnabled, IsLegal, IsConsistent, IsArc}
+use Rattle.ds_marked.specs.Graph.{Graph, IsEnabled, IsKept, IsLegal, IsConsistent, IsArc}
 use Rattle.ds_latch.specs.Node.{Split, nodes, opening, closing, place_of}
 use Rattle.ds_latch.specs.declared.node.Node.{Node}
 use Rattle.ds_latch.specs.Order.{IsDataEdge, IsRequired}
 use Rattle.ds_latch.specs.Firing.{opening_read}
-use Rattle.ds_latch.specs.Plan.{split_events, IsSplit, IsPlan, IsController}
+use Rattle.ds_latch.specs.Plan.{split_events, IsSplit, IsPlan, IsController, Reorders}
 
 -- an accepted graph controls its design
 abbrev pub AcceptedControls : Type 0
@@ -50,3 +50,10 @@ NothingNewFires = (s : Split) (g orders : Graph) → IsPlan s g → orders.event
     → ((u v tokens : ℕ) → IsRequired s u v tokens ↔ IsArc orders u v tokens)
     → (limit : ℕ) (events : List ℕ) → IsLegal g limit events
     → IsLegal orders limit (node_firings s events)
+
+-- a legal list of a graph is one of the same graph with its events at other places, by their
+-- numbers there: so is one of the graph of a file a list of its plan
+abbrev pub ReorderedIsLegal : Type 0
+ReorderedIsLegal = (from to : Graph) → IsKept from → (reorders : Reorders from to)
+    → (limit : ℕ) (events : List ℕ) → IsLegal from limit events
+    → IsLegal to limit (map reorders.place events)
