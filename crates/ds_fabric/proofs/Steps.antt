@@ -20,8 +20,7 @@ fires_if_enabled run v w l (Fired event turn ticket) sound s all =
     λ x near. dite (ℕ_discrete x l)
     (λ e. at_departure-here v w l x e ∙ ap (seen v) (sym e))
     (λ n. at_departure-else v w l x n ∙ s.no_other x n (all x near)) in
-    let own : node_of run event ≡ l = ap (node_of run) s.event_is ∙ node-next run l (seen v l) in
-    (
+    let own : node_of run event ≡ l = ap (node_of run) s.event_is ∙ node-next run l (seen v l) in (
       λ _. subst (Enabled run (seen v)) s.event_is (enabled_same run (seen_at_departure v w l)
           (seen v) event (at_departure-here v w l (node_of run event) own ∙ ap (seen v) (sym own))
           (λ k a at into. left (node_of run a.source) (sound.named k a at).0) s.enabled),

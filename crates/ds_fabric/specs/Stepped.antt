@@ -50,7 +50,8 @@ has_fired (Fired event turn ticket) = true
 has_fired (NotYet arc n) = false
 has_fired Done = false
 
--- where the pass holds all nodes, the step fires exactly where the next event of the node is enabled
+-- where the pass holds all nodes, the step fires exactly where the next event of the node is
+-- enabled
 abbrev pub FiresIfEnabled : Run → View → ℕ → Step → Type 0
 FiresIfEnabled run v l step = ((x : ℕ) → x < run.nodes → holds v x ≡ true)
     → (has_fired step ≡ true) ↔ Enabled run (seen v) (next run l (seen v l))
