@@ -25,7 +25,7 @@ use Rattle.ds_design.specs.Banked.{IsBankOf}
 use Rattle.ds_opening.specs.Groups.{AreGroupsOf, Grouping, IsGrouped, group_of, tables_in}
 use Rattle.ds_opening.specs.Lists.{AreFound, AreLists, IsListOf}
 use Rattle.ds_opening.specs.Members.{AreMembers, tables_numbered}
-use Rattle.ds_opening.specs.Scheduled.{AreScheduled, IsBefore, Reads}
+use Rattle.ds_opening.specs.Scheduled.{AreScheduled, ReadsNothingOf, Reads}
 use Rattle.ds_opening.specs.Lacking.{AreByLacking, cones_without}
 use Rattle.ds_opening.proofs.Flat.{filter_has, flat_has, has_filter, has_flat, nothing, pairs_flat}
 use Rattle.ds_opening.proofs.Lacks.{count_same, has_true, lacks_false}
@@ -36,7 +36,7 @@ no_cone = record { tables = []; sources = [] }
 
 -- an order, by pairs
 pub order_from_pairs : (c : Circuit) (xs : List ℕ) → All (λ k. k < length c.tables) xs
-    → AllPairs (IsBefore c) xs → All (λ k. IsBefore c k k) xs → AreInOrder c xs
+    → AllPairs (ReadsNothingOf c) xs → All (λ k. ReadsNothingOf c k k) xs → AreInOrder c xs
 order_from_pairs c xs within pairs selves = record {
   within = within;
   before = λ i j d below inside. elim (cases_eq i j) [
@@ -220,7 +220,7 @@ module _ (c : Circuit) (order : List ℕ) (ordered : IsTableOrder c order) (cone
     pub same_number : number x ≡ number y
     same_number = (classes.same x y low_x low_y).1 have_same
 
-  not_self : (k : ℕ) → k < length c.tables → IsBefore c k k
+  not_self : (k : ℕ) → k < length c.tables → ReadsNothingOf c k k
   not_self k low d =
       let (i, inside, is) = ordered.all k low in
       let same : get_or order i 0 ≡ k = get_or_default order i 0 k inside ∙ is in
@@ -230,15 +230,15 @@ module _ (c : Circuit) (order : List ℕ) (ordered : IsTableOrder c order) (cone
   numbered : (a i d : ℕ) → i < length (tables_numbered scheduled numbers a) → number (get_or (tables_numbered scheduled numbers a) i d) ≡ a
   numbered a i d inside = eqb-true (number (get_or (tables_numbered scheduled numbers a) i d)) a (filter_passes (λ k. number k == a) scheduled i d inside)
 
-  group_pairs : (a : ℕ) → AllPairs (IsBefore c) (group_of g a)
+  group_pairs : (a : ℕ) → AllPairs (ReadsNothingOf c) (group_of g a)
   group_pairs a = elim (cases_lt a count) [
     | inl low ↦
-        subst (λ (xs : List ℕ). AllPairs (IsBefore c) xs) (sym (are_members.each a low))
-        (λ i j d under inside. AllPairs-filter (λ x y. number x ≡ number y → IsBefore c x y) (λ k. number k == a) scheduled are_scheduled.before i j d under inside
+        subst (λ (xs : List ℕ). AllPairs (ReadsNothingOf c) xs) (sym (are_members.each a low))
+        (λ i j d under inside. AllPairs-filter (λ x y. number x ≡ number y → ReadsNothingOf c x y) (λ k. number k == a) scheduled are_scheduled.before i j d under inside
         (numbered a i d (omega (under, inside, arith)) ∙ sym (numbered a j d inside)))
     | inr past ↦
         (let size : length groups ≡ count = are_members.one_each in
-        subst (λ (xs : List ℕ). AllPairs (IsBefore c) xs) (sym (get_or_past groups a [] (omega (past, size, arith))))
+        subst (λ (xs : List ℕ). AllPairs (ReadsNothingOf c) xs) (sym (get_or_past groups a [] (omega (past, size, arith))))
         (λ i j d under inside. absurd (let h : j < 0 = inside in omega (h, arith))))
   ]
 
@@ -258,7 +258,7 @@ module _ (c : Circuit) (order : List ℕ) (ordered : IsTableOrder c order) (cone
         once = list_i.found.once;
         order = order_from_pairs c (tables_in g list)
             (λ j e near. low (get_or (tables_in g list) j e) (Contains-get_or (tables_in g list) j e near))
-            (pairs_flat (IsBefore c) (group_of g) list (λ j e near. group_pairs (get_or list j e))
+            (pairs_flat (ReadsNothingOf c) (group_of g) list (λ j e near. group_pairs (get_or list j e))
             (λ j m e under near x y has_x has_y d reads.
             let (low_x, is_x) = member_in (get_or list j e) x has_x in
             let (low_y, is_y) = member_in (get_or list m e) y has_y in

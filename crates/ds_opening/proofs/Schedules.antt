@@ -14,7 +14,7 @@ use Rattle.ds_settle.specs.Cone.{net_of}
 use Rattle.ds_settle.specs.Walk.{AreDrivers, IsDriver}
 use Rattle.ds_settle.proofs.Tables.{net_is, same_table}
 use Rattle.ds_opening.specs.Ranked.{IsByRank}
-use Rattle.ds_opening.specs.Scheduled.{AreDriversBelow, AreLower, AreReadWithin, AreScheduled, IsBefore, IsLower, Reads}
+use Rattle.ds_opening.specs.Scheduled.{AreDriversBelow, AreLower, AreReadWithin, AreScheduled, ReadsNothingOf, IsLower, Reads}
 
 -- the driver of a net that a table drives is this table
 the_driver : (c : Circuit) (net k : ℕ) (driver : Option ℕ) → IsAccepted c → k < length c.tables → net_of c k ≡ net

@@ -95,8 +95,8 @@ fn rank_read(driver: Option<u32>, table: usize, numbers: &[u32], ranks: &[usize]
     }
 }
 
-// The next rank behind this one of a table of so many inputs: in the same round where that is one of
-// its kind, else in the next one of these.
+// The next rank behind this one, of a table of so many inputs: in the same round where that is one
+// of its kind, else in the next one of these.
 fn rank_behind(read: usize, inputs: usize) -> usize {
     let kind = if inputs == 0 {
         KINDS - 1
