@@ -9,10 +9,13 @@ JOBS ?= 1
 OUT = out
 VERSION := $(shell cat VERSION)
 NAME = desync-$(VERSION)-x86_64-linux
-TOOLS = g2dot latches play ports table testbench trace2vcd vectors
-MODULES = buses.py clusters.py graphs.py layers.py netlist.py play.html play_page.js play_rule.js streams.py traces.py
+PACKAGE = tools/desync_tools
+TOOLS = $(filter-out __init__,$(basename $(notdir $(wildcard $(PACKAGE)/commands/*.py))))
 TO = $(DESTDIR)$(PREFIX)
-COMPLETIONS = $(TO)/share/bash-completion/completions
+MANUAL = $(TO)/share/man/man1
+BASH = $(TO)/share/bash-completion/completions
+ZSH = $(TO)/share/zsh/site-functions
+LIBRARY = $(TO)/share/desync/tools
 DOCUMENTS = $(TO)/share/doc/desync
 
 .PHONY: help build run test transcripts look install uninstall dist deb
@@ -24,7 +27,7 @@ help:
 	@echo "make test                proofs, tests and wrong bodies: rt ci"
 	@echo "make transcripts         run what the documents and examples show"
 	@echo "make look                what the repository looks at itself: names, house rules, edges, memory"
-	@echo "make install             program, tools, pages of the manual, completion, documents and examples, to \$$DESTDIR\$$PREFIX"
+	@echo "make install             program, tools, pages of the manual, completions, documents and examples, to \$$DESTDIR\$$PREFIX"
 	@echo "make uninstall           take these away"
 	@echo "make dist                out/$(NAME).tar.gz, with the same"
 	@echo "make deb                 out/desync_$(VERSION)_amd64.deb, with the same, by dpkg-deb"
@@ -44,26 +47,33 @@ test:
 	$(RT) ci
 
 transcripts: $(PROGRAM)
-	tools/check_transcripts $(PROGRAM)
+	tools/house/check_transcripts $(PROGRAM)
 
 look:
-	tools/check_docs
-	tools/lint --quiet
-	tools/edges
-	tools/memory_answers
+	tools/house/check_docs
+	tools/house/lint --quiet
+	tools/house/edges
+	tools/house/memory_answers
+	tools/house/check_python
 
 install: $(PROGRAM)
-	install -d "$(TO)/bin" "$(TO)/share/man/man1" "$(TO)/share/desync/tools" "$(COMPLETIONS)"
+	install -d "$(TO)/bin" "$(MANUAL)" "$(BASH)" "$(ZSH)"
+	install -d "$(LIBRARY)/desync_tools/commands" "$(LIBRARY)/desync_tools/page"
 	install -d "$(DOCUMENTS)/docs" "$(DOCUMENTS)/examples/graphs" "$(DOCUMENTS)/examples/refused"
 	install -m 755 $(PROGRAM) "$(TO)/bin/desync"
-	install -m 644 docs/desync.1 "$(TO)/share/man/man1/desync.1"
-	install -m 644 tools/desync.bash "$(COMPLETIONS)/desync"
-	install -m 755 $(TOOLS:%=tools/%) "$(TO)/share/desync/tools"
-	install -m 644 $(MODULES:%=tools/%) "$(TO)/share/desync/tools"
+	install -m 644 docs/desync.1 "$(MANUAL)/desync.1"
+	install -m 644 tools/desync.bash "$(BASH)/desync"
+	install -m 644 tools/desync.zsh "$(ZSH)/_desync"
+	install -m 755 $(TOOLS:%=tools/%) "$(LIBRARY)"
+	install -m 644 VERSION $(wildcard $(PACKAGE)/*.py) "$(LIBRARY)/desync_tools"
+	install -m 644 $(wildcard $(PACKAGE)/commands/*.py) "$(LIBRARY)/desync_tools/commands"
+	install -m 644 $(wildcard $(PACKAGE)/page/*) "$(LIBRARY)/desync_tools/page"
 	for tool in $(TOOLS); do \
 	    ln -sf "../share/desync/tools/$$tool" "$(TO)/bin/desync-$$tool" || exit 1; \
-	    tools/manual $$tool > "$(TO)/share/man/man1/desync-$$tool.1" || exit 1; \
 	done
+	tools/house/manual --into "$(MANUAL)" $(TOOLS)
+	tools/house/completion --into "$(BASH)" bash $(TOOLS)
+	tools/house/completion --into "$(ZSH)" zsh $(TOOLS)
 	install -m 644 VERSION README.md CHANGELOG.md CONTRIBUTING.md "$(DOCUMENTS)"
 	install -m 644 $(wildcard docs/*.md docs/*.svg docs/*.html) "$(DOCUMENTS)/docs"
 	install -m 644 $(wildcard examples/*.*) "$(DOCUMENTS)/examples"
@@ -71,8 +81,9 @@ install: $(PROGRAM)
 	install -m 644 $(wildcard examples/refused/*) "$(DOCUMENTS)/examples/refused"
 
 uninstall:
-	rm -f "$(TO)/bin/desync" "$(TO)/share/man/man1/desync.1" "$(COMPLETIONS)/desync"
-	rm -f $(TOOLS:%="$(TO)/bin/desync-%") $(TOOLS:%="$(TO)/share/man/man1/desync-%.1")
+	rm -f "$(TO)/bin/desync" "$(MANUAL)/desync.1" "$(BASH)/desync" "$(ZSH)/_desync"
+	rm -f $(TOOLS:%="$(TO)/bin/desync-%") $(TOOLS:%="$(MANUAL)/desync-%.1")
+	rm -f $(TOOLS:%="$(BASH)/desync-%") $(TOOLS:%="$(ZSH)/_desync-%")
 	rm -rf "$(TO)/share/desync" "$(DOCUMENTS)"
 
 dist: $(PROGRAM)

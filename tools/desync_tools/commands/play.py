@@ -1,0 +1,193 @@
+"""Makes a page, one file of HTML, that plays what the workers of a run have fired.
+
+It reads what `desync run --log` printed from a file or, where none is named, from the standard
+input. From the top of the repository:
+
+    desync graph examples/shift.blif > shift.g
+    desync run examples/shift.blif examples/shift.vec --log > shift.run
+    tools/play examples/shift.blif shift.g shift.run --vectors examples/shift.vec > shift.html
+
+The page shows the nodes and data edges of the graph, the latches as waves, and the log. It computes
+no logic: the values that it shows are those of the trace. The graph is to be the one by which the
+run fired, and without slack; a data edge is where both of its orders stand there as arcs, and an
+order that is given by a walk alone shows none. Its events are those of the nodes alone. There are
+200 nodes and 20,000 firings at most.
+"""
+
+from __future__ import annotations
+
+import json
+import os
+from typing import Any, Iterator, Optional, Sequence
+
+from desync_tools.buses import buses
+from desync_tools.clusters import Cluster, clusters, take_mode
+from desync_tools.command import Parser, parser, put
+from desync_tools.graphs import Arc, Graph, read_graph
+from desync_tools.layers import places
+from desync_tools.logs import Line, is_firing, split_run
+from desync_tools.netlist import Net, Netlist, read_netlist
+from desync_tools.text import BadText, shown, text_of
+from desync_tools.traces import Turn, fitting, vectors_beside
+
+PARTS_FOLDER = os.path.join(os.path.dirname(os.path.realpath(__file__)), "..", "page")
+PARTS = {"/*RULE*/": "play_rule.js", "/*PAGE*/": "play_page.js"}
+MOST_NODES, MOST_FIRINGS = 200, 20000
+
+
+def nodes_of(found: list[Cluster], graph: Graph, mode: str) -> list[str]:
+    """The nodes of the clusters, which are to be those of the graph."""
+    nodes = ["IN", "OUT"]
+    for number in range(len(found)):
+        nodes += ["M%d" % number, "S%d" % number]
+    if len(nodes) > MOST_NODES:
+        raise BadText("%d nodes (limit %d)" % (len(nodes), MOST_NODES))
+    for node in nodes:
+        if node not in graph.nodes:
+            raise BadText("the graph has no %s, the netlist by --clusters %s has" % (node, mode))
+    for node in [*graph.nodes, *graph.dummies]:
+        if node not in nodes:
+            raise BadText("the graph has %s, the netlist by --clusters %s has not" % (node, mode))
+    return nodes
+
+
+def events_of(log: list[Line], arcs: list[Arc], nodes: list[str], turns: int) -> Iterator[str]:
+    """The events of a log, each of which may fire where it stands."""
+    if len(log) > MOST_FIRINGS:
+        raise BadText("%d firings (limit %d)" % (len(log), MOST_FIRINGS))
+    counts = {node + sign: 0 for node in nodes for sign in "+-"}
+    into: dict[str, list[tuple[str, int]]] = {event: [] for event in counts}
+    for source, target, tokens in arcs:
+        into[target].append((source, tokens))
+    for number, firing in log:
+        why = refusal(firing, counts, into, turns)
+        if why:
+            raise BadText("line %d of the run: %s" % (number, why))
+        counts[firing[0]] += 1
+        yield firing[0]
+
+
+def refusal(
+    firing: list[str], counts: dict[str, int], into: dict[str, list[tuple[str, int]]], turns: int
+) -> Optional[str]:
+    """Why a line of a log is none, as `desync replay` says it."""
+    if not is_firing(firing):
+        return "bad word"
+    event, turn = firing
+    if event not in counts:
+        return "unknown event %s" % event
+    number = counts[event] + 1
+    if int(turn) != number:
+        return "wrong turn"
+    if number > turns:
+        return "over limit"
+    for source, tokens in into[event]:
+        if counts[source] + tokens < number:
+            return "not enabled: %s to %s" % (source, event)
+    return None
+
+
+class Shown:
+    """How the values of some nets are shown: buses with the leftmost bit first."""
+
+    def __init__(self, nets: Sequence[Net]) -> None:
+        self.buses = list(buses(nets))
+        self.is_plain = all(bus.width == 1 for bus in self.buses)
+
+    def title(self) -> str:
+        """The names of the buses."""
+        return shown(" ".join(bus.name + bus.span() for bus in self.buses))
+
+    def of(self, row: str) -> str:
+        """The values of a row, bus by bus."""
+        return row if self.is_plain else " ".join(bus.bits(row) for bus in self.buses)
+
+
+def cluster_rows(netlist: Netlist, cluster: Cluster, rows: list[Turn]) -> tuple[str, list[str]]:
+    """The title of a cluster, and its values before turn 0, 1 and so on."""
+    nets = [netlist.registers[place] for place in cluster.places]
+    kind = Shown(nets)
+    title = kind.title() if len(kind.buses) == 1 else shown(cluster.title())
+    values = [kind.of("".join(row[place] for place in cluster.places)) for _, row in rows]
+    return title, values
+
+
+class Run:
+    """A run of a netlist: the rows of its trace, its log and its vectors."""
+
+    def __init__(self, netlist: Netlist, text: str, vectors: Optional[str]) -> None:
+        trace, self.log = split_run(text)
+        self.netlist, self.rows = netlist, fitting(netlist, trace)
+        self.vectors = [] if vectors is None else vectors_beside(netlist, vectors, self.rows)
+
+
+def values_of(run: Run, found: list[Cluster]) -> tuple[dict[str, str], dict[str, list[str]]]:
+    """The titles and the values of IN, of OUT and of each cluster."""
+    columns, outputs = Shown(run.netlist.columns), Shown(run.netlist.outputs)
+    titles = {"IN": columns.title(), "OUT": outputs.title()}
+    values = {"IN": [columns.of(row) for row in run.vectors]}
+    values["OUT"] = [outputs.of(row or "") for row, _ in run.rows[:-1]]
+    for number, cluster in enumerate(found):
+        titles[str(number)], values[str(number)] = cluster_rows(run.netlist, cluster, run.rows)
+    return titles, values
+
+
+def model(run: Run, graph: Graph, mode: str) -> dict[str, Any]:
+    """What the page is told."""
+    turns, found = len(run.rows) - 1, clusters(run.netlist, mode)
+    nodes, arcs = nodes_of(found, graph, mode), sorted(graph.arcs())
+    edges = sorted(pair for pair, _ in graph.data_edges())
+    titles, values = values_of(run, found)
+    events = list(events_of(run.log, arcs, nodes, turns))
+    place, size = places(edges)
+    for node in nodes:
+        if node not in place:
+            raise BadText("the graph lacks the orders of %s" % node)
+    return {
+        "name": shown(run.netlist.name),
+        "turns": turns,
+        "nodes": nodes,
+        "titles": titles,
+        "places": place,
+        "size": size,
+        "edges": edges,
+        "values": values,
+        "arcs": [list(arc) for arc in arcs],
+        "log": events,
+    }
+
+
+def read_part(name: str) -> str:
+    """A part of the page."""
+    with open(os.path.join(PARTS_FOLDER, name), encoding="utf-8") as file:
+        return file.read().rstrip("\n")
+
+
+def page(told: dict[str, Any]) -> str:
+    """The page, with its parts and what it is told."""
+    text = read_part("play.html")
+    for mark, name in PARTS.items():
+        text = text.replace(mark, read_part(name))
+    title = told["name"].replace("&", "&amp;").replace("<", "&lt;")
+    data = json.dumps(told, separators=(",", ":")).replace("<", "\\u003c")
+    before, behind = text.split("/*MODEL*/")
+    return before.replace("<!--NAME-->", title) + data + behind
+
+
+def words(name: str) -> Parser:
+    taken = parser(name, __doc__)
+    taken.add_argument("netlist", help="the netlist in BLIF")
+    taken.add_argument("graph", help="the graph by which the run fired")
+    taken.add_argument("run", nargs="?", help="what desync run --log printed")
+    taken.add_argument("--vectors", metavar="FILE", help="the vectors of the run, to be shown too")
+    take_mode(taken)
+    return taken
+
+
+def main(argv: list[str]) -> int:
+    asked = words(argv[0]).parse_args(argv[1:])
+    netlist = read_netlist(asked.netlist)
+    graph = read_graph(text_of(asked.graph))
+    run = Run(netlist, text_of(asked.run), asked.vectors)
+    put("utf-8", [page(model(run, graph, asked.clusters))])
+    return 0

@@ -1,0 +1,49 @@
+"""Lists the columns of the vectors, the outputs and the registers of a netlist, in their order.
+
+The first line names the model that is taken for the design: the first one of the file. A line of
+vectors has one character per column. A line of the trace has the outputs, and then the registers.
+The netlist is to be one that `desync check` accepts.
+"""
+
+from __future__ import annotations
+
+from typing import Iterator, Optional
+
+from desync_tools.command import Parser, parser, put
+from desync_tools.netlist import Net, printed, read_netlist
+
+
+def listed(model: str, kinds: dict[str, list[Net]], only: Optional[str]) -> Iterator[str]:
+    """The lines: the names of one kind, or the model and all kinds with their numbers."""
+    if not only:
+        yield "model %s" % model
+    for kind, nets in kinds.items():
+        if only == kind:
+            yield from map(printed, nets)
+        elif not only:
+            yield "%s %d" % (kind, len(nets))
+            for place, net in enumerate(nets):
+                yield "  %d %s" % (place, printed(net))
+
+
+def words(name: str) -> Parser:
+    taken = parser(name, __doc__)
+    taken.add_argument("netlist", help="a netlist in BLIF")
+    taken.add_argument(
+        "--only",
+        choices=("columns", "outputs", "registers"),
+        help="print the names of one kind alone, one a line",
+    )
+    return taken
+
+
+def main(argv: list[str]) -> int:
+    asked = words(argv[0]).parse_args(argv[1:])
+    netlist = read_netlist(asked.netlist)
+    kinds = {
+        "columns": netlist.columns,
+        "outputs": netlist.outputs,
+        "registers": netlist.registers,
+    }
+    put("latin-1", listed(netlist.name, kinds, asked.only))
+    return 0

@@ -1,0 +1,97 @@
+"""Makes vectors for a netlist, at random from a number: the same number gives the same vectors.
+
+Each column is 1 in half of the turns; --p says in how many for a bus or a net of it, and --set
+gives it a value in one turn, the leftmost bit first. Both may stand several times:
+
+    tools/vectors counter.blif --turns 100 --seed 1 --p reset=0.03 --set reset=1@0
+"""
+
+from __future__ import annotations
+
+import random
+import re
+from typing import Any, Iterator
+
+from desync_tools.buses import buses
+from desync_tools.command import Parser, parser, put
+from desync_tools.netlist import Netlist, printed, read_netlist
+from desync_tools.text import BadText, as_bytes
+
+MOST = 65536
+SHARE = re.compile(r"^(.+)=(\d*\.?\d+)$")
+VALUE = re.compile(r"^(.+)=([01x]+)@(\d{1,9})$")
+
+
+def places_of(netlist: Netlist, name: str) -> list[int]:
+    """The places of a bus or a net among the columns, the leftmost bit first."""
+    for place, net in enumerate(netlist.columns):
+        if printed(net) == name:
+            return [place]
+    found = [bus for bus in buses(netlist.columns) if bus.name == name]
+    if not found:
+        raise BadText("there is no column %s" % name)
+    places = [bus.first + k for bus in found for k in range(bus.width)]
+    return places[::-1]
+
+
+def shares(netlist: Netlist, given: list[str]) -> list[float]:
+    """How often each column is 1."""
+    found = [0.5] * len(netlist.columns)
+    for word in given:
+        parts = SHARE.match(word)
+        if not parts or float(parts.group(2)) > 1:
+            raise BadText("this is no NAME=P with P from 0 to 1: %s" % word)
+        for place in places_of(netlist, parts.group(1)):
+            found[place] = float(parts.group(2))
+    return found
+
+
+def values(netlist: Netlist, given: list[str], turns: int) -> dict[tuple[int, int], str]:
+    """(turn, place) -> the bit that it is to have."""
+    found: dict[tuple[int, int], str] = {}
+    for word in given:
+        parts = VALUE.match(word)
+        if not parts:
+            raise BadText("this is no NAME=BITS@TURN: %s" % word)
+        places, bits, turn = places_of(netlist, parts.group(1)), parts.group(2), int(parts.group(3))
+        if len(bits) != len(places):
+            raise BadText("%s has %d bits: %s" % (parts.group(1), len(places), word))
+        if turn >= turns:
+            raise BadText("there is no turn %d: %s" % (turn, word))
+        found.update(((turn, place), bit) for place, bit in zip(places, bits))
+    return found
+
+
+def vectors(
+    chances: list[float], given: dict[tuple[int, int], str], turns: int, seed: int
+) -> Iterator[str]:
+    """The vectors, one after the other."""
+    drawn = random.Random(seed)
+    for turn in range(turns):
+        bits = ["1" if drawn.random() < chance else "0" for chance in chances]
+        yield "".join(given.get((turn, place), bit) for place, bit in enumerate(bits)) or "-"
+
+
+def words(name: str) -> Parser:
+    taken = parser(name, __doc__)
+    taken.add_argument("netlist", help="the netlist in BLIF")
+    taken.add_argument("--turns", type=int, required=True, help="how many vectors, 65536 at most")
+    taken.add_argument("--seed", type=int, required=True, help="the number that they come from")
+    says = "the share of ones"
+    many: dict[str, Any] = {"action": "append", "default": [], "type": as_bytes}
+    taken.add_argument("--p", metavar="NAME=P", help=says, **many)
+    says = "the value in one turn"
+    taken.add_argument("--set", metavar="NAME=BITS@TURN", help=says, **many)
+    return taken
+
+
+def main(argv: list[str]) -> int:
+    taken = words(argv[0])
+    asked = taken.parse_args(argv[1:])
+    if not 0 <= asked.turns <= MOST:
+        taken.error("--turns is from 0 to %d" % MOST)
+    netlist = read_netlist(asked.netlist)
+    given = values(netlist, asked.set, asked.turns)
+    lines = vectors(shares(netlist, asked.p), given, asked.turns, asked.seed)
+    put("latin-1", lines)
+    return 0

@@ -1,0 +1,45 @@
+"""Reads and writes delays: a line `SOURCE TARGET DELAY` for an order between two events."""
+
+from __future__ import annotations
+
+import re
+from typing import Iterator
+
+from desync_tools.text import BadText, joined
+
+MOST = 4294967295
+NUMBER = re.compile("^[0-9]{1,10}$")
+# An order: its source and its target.
+Order = tuple[str, str]
+
+
+def is_delay(word: str) -> bool:
+    """Whether a word is a delay."""
+    return bool(NUMBER.match(word)) and int(word) <= MOST
+
+
+def delays_of(text: str) -> dict[Order, int]:
+    """The delay of each order that has a line."""
+    found: dict[Order, int] = {}
+    for number, words in joined(text.split("\n")):
+        if not words:
+            continue
+        if len(words) != 3 or not is_delay(words[2]):
+            raise BadText("line %d of the delays: not SOURCE TARGET DELAY" % number)
+        order = (words[0], words[1])
+        if order in found:
+            raise BadText("line %d of the delays: %s to %s twice" % ((number,) + order))
+        found[order] = int(words[2])
+    return found
+
+
+def line_of(order: Order, delay: int, comment: str = "") -> str:
+    """A line of delays; behind it may stand a comment."""
+    line = "%s %s %d" % (order + (delay,))
+    return "%s # %s" % (line, comment) if comment else line
+
+
+def lines_of(delays: dict[Order, int]) -> Iterator[str]:
+    """The lines of some delays."""
+    for order, delay in delays.items():
+        yield line_of(order, delay)

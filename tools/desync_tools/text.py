@@ -1,0 +1,88 @@
+"""Texts as the tools read them: files, the lines of a text, names as bytes, errors in words."""
+
+from __future__ import annotations
+
+import errno
+import os
+import sys
+from typing import Iterable, Iterator, Optional
+
+WORDS = {
+    errno.ENOENT: "no such file",
+    errno.ENOTDIR: "no such file",
+    errno.EISDIR: "it is a folder",
+    errno.EACCES: "permission denied",
+    errno.EPERM: "permission denied",
+    errno.ENOSPC: "no space left",
+}
+
+
+class BadText(Exception):
+    """A text that is none of the kind that it is read as."""
+
+
+class CannotRead(BadText):
+    """A file that the system does not give."""
+
+
+def in_words(error: OSError) -> str:
+    """What the system says of a file or a stream."""
+    if error.errno in WORDS:
+        return WORDS[error.errno]
+    said = error.strerror or str(error)
+    return said[:1].lower() + said[1:]
+
+
+def as_bytes(word: str) -> str:
+    """A name of the command line as those of files are kept: its bytes as latin-1."""
+    return os.fsencode(word).decode("latin-1")
+
+
+def shown(text: str) -> str:
+    """Names, whose bytes are kept as latin-1, as a text."""
+    return text.encode("latin-1").decode("utf-8", "replace")
+
+
+def told(text: str) -> str:
+    """A refusal, with what cannot be seen written as an escape: a byte order mark is `\\ufeff`."""
+    return "".join(c if c.isprintable() else ascii(c)[1:-1] for c in shown(text))
+
+
+def given(encoding: str) -> str:
+    """The standard input, whole."""
+    if sys.stdin is None:
+        raise BadText("the standard input is closed")
+    try:
+        return sys.stdin.buffer.read().decode(encoding)
+    except OSError as error:
+        raise CannotRead("cannot read the standard input: %s" % in_words(error)) from None
+
+
+def file_text(path: str) -> str:
+    """The text of a file: its bytes as latin-1."""
+    try:
+        with open(path, encoding="latin-1", newline="") as file:
+            return file.read()
+    except OSError as error:
+        name = as_bytes(path) or "''"
+        raise CannotRead("cannot read %s: %s" % (name, in_words(error))) from None
+
+
+def text_of(path: Optional[str]) -> str:
+    """The text of a file or, where none is named, of the standard input."""
+    return given("latin-1") if path is None else file_text(path)
+
+
+def joined(lines: Iterable[str]) -> Iterator[tuple[int, list[str]]]:
+    """The first number and the words of each logical line of a text: comments are cut, lines behind
+    a `\\` at the end are joined."""
+    first: int = 1
+    words: list[str] = []
+    for number, line in enumerate(lines, 1):
+        line = line.rstrip("\n").partition("#")[0]
+        kept = line.rstrip(" \t\r\\")
+        words += kept.replace("\t", " ").replace("\r", " ").split(" ")
+        if "\\" not in line[len(kept) :]:
+            yield first, [word for word in words if word]
+            first, words = number + 1, []
+    yield first, [word for word in words if word]
