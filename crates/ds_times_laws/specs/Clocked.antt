@@ -29,5 +29,6 @@ TimedFollowClock = (s : Split) (g : Graph) → IsPlan s g → (ranks : List ℕ)
     → (delays : List ℕ) → length delays ≡ length g.arcs
     → (vectors : List Row) (run : Desynchronizes s g vectors)
     → (time : ℕ → ℕ → ℕ) → IsScheduleOf g delays (length vectors) time → (firings : List Firing)
-    → AreAllFirings (FiresBefore time (slice_index ranks)) (length g.events) (length vectors) firings
+    → AreAllFirings (FiresBefore time (slice_index ranks)) (length g.events) (length vectors)
+    firings
     → FollowsClock s g vectors run firings
