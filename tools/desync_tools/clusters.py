@@ -8,7 +8,7 @@ import re
 from typing import Optional, Sequence, Union
 
 from desync_tools.buses import buses
-from desync_tools.groups import read_groups
+from desync_tools.named_groups import read_groups
 from desync_tools.netlist import Net, Netlist, printed
 
 MODES = ("each", "one", "bus")

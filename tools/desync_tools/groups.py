@@ -1,71 +1,59 @@
-"""Reads groups: lines of names of registers, each line a cluster, as `--groups` takes them.
-
-A word is the name of a register, or a pattern in which each `*` stands for any bytes. It takes the
-registers that it names and that no word before it has taken, and there has to be one.
-"""
+"""Puts clusters that differ in one number of their names into groups, for pictures."""
 
 from __future__ import annotations
 
-from typing import Sequence
+import re
+from typing import Iterable
 
-from desync_tools.netlist import Net, printed
-from desync_tools.text import BadText, as_bytes, file_text, joined
-
-
-def matches(pattern: str, name: str) -> bool:
-    """Whether a name has the parts of a pattern between its stars, one behind the other."""
-    first, *rest = pattern.split("*")
-    if not rest:
-        return pattern == name
-    last = rest.pop()
-    if not name.startswith(first) or len(name) < len(first) + len(last):
-        return False
-    at, end = len(first), len(name) - len(last)
-    for part in rest:
-        at = name.find(part, at, end)
-        if at < 0:
-            return False
-        at += len(part)
-    return name.endswith(last)
+LEAST, FEW = 3, 4
+NUMBER = re.compile(r"([0-9]+)")
+Pair = tuple[str, str]
 
 
-class Groups:
-    """The registers of a netlist by their names, and those that no group has taken."""
+def grouped(edges: Iterable[Pair], heads: dict[str, str]) -> dict[str, list[str]]:
+    """The clusters of each box, by the number of its first one.
 
-    def __init__(self, path: str, registers: Sequence[Net]) -> None:
-        self.path, self.names = path, [printed(net) for net in registers]
-        self.free = dict.fromkeys(range(len(self.names)))
-        self.places: dict[str, list[int]] = {}
-        for place, name in enumerate(self.names):
-            self.places.setdefault(name, []).append(place)
-
-    def named_by(self, word: str) -> list[int]:
-        """The registers that a word names and that are free."""
-        if word in self.places:
-            return [place for place in self.places[word] if place in self.free]
-        if "*" in word:
-            return [place for place in self.free if matches(word, self.names[place])]
-        return []
-
-    def is_known(self, word: str) -> bool:
-        return word in self.places or "*" in word and any(matches(word, n) for n in self.places)
-
-    def take(self, word: str, line: int) -> list[int]:
-        """The registers that a word takes."""
-        found = self.named_by(word)
-        if not found:
-            fault = "repeated" if self.is_known(word) else "unknown"
-            told = (as_bytes(self.path), line, fault, word)
-            raise BadText("%s:%d: %s register %s" % told)
-        for place in found:
-            del self.free[place]
-        return found
+    `heads` has the name of each cluster by its number. Clusters are in one box where they have the
+    same producers and consumers, but for themselves, and names that differ in one number.
+    """
+    around: dict[str, set[str]] = {number: set() for number in heads}
+    for producer, consumer in edges:
+        for own, other, way in ((producer, consumer, "to "), (consumer, producer, "from ")):
+            if own[1:] in around:
+                around[own[1:]].add(way + ("itself" if other[1:] == own[1:] else other))
+    alike: dict[tuple[object, ...], list[str]] = {}
+    for number, head in heads.items():
+        for key in keys(head, around[number]):
+            alike.setdefault(key, []).append(number)
+    found: dict[str, list[str]] = {}
+    placed: set[str] = set()
+    for some in sorted(alike.values(), key=lambda one: (-len(one), int(one[0]))):
+        rest = [number for number in some if number not in placed]
+        if len(rest) >= LEAST:
+            found[rest[0]] = rest
+            placed.update(rest)
+    found.update({number: [number] for number in heads if number not in placed})
+    return dict(sorted(found.items(), key=lambda one: int(one[0])))
 
 
-def read_groups(path: str, registers: Sequence[Net]) -> list[list[int]]:
-    """The places of the registers of each group of a file."""
-    groups, found = Groups(path, registers), []
-    for line, words in joined(file_text(path).split("\n")):
-        if words:
-            found.append(sorted(place for word in words for place in groups.take(word, line)))
-    return found
+def keys(head: str, around: set[str]) -> Iterable[tuple[object, ...]]:
+    """What a cluster has to share with others, for each number of its name that may differ."""
+    parts = NUMBER.split(head)
+    for place in range(1, len(parts), 2):
+        if around:
+            yield (tuple(parts[:place]), tuple(parts[place + 1 :]), frozenset(around))
+
+
+def spans(names: list[str]) -> str:
+    """One name for some names that differ in one number, as rf[0..31]."""
+    parts = [NUMBER.split(name) for name in names]
+    differ = [place for place, some in enumerate(zip(*parts)) if len(set(some)) > 1]
+    if len(names) == 1 or not differ:
+        return names[0]
+    numbers = sorted(int(part[differ[0]]) for part in parts)
+    is_row = numbers == list(range(numbers[0], numbers[-1] + 1))
+    first, last = parts[0][: differ[0]], parts[0][differ[0] + 1 :]
+    few = [str(number) for number in numbers]
+    few = few if len(few) <= FEW else [few[0], "..", few[-1]]
+    middle = "%d..%d" % (numbers[0], numbers[-1]) if is_row else ",".join(few)
+    return "".join(first) + middle + "".join(last)
