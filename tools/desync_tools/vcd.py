@@ -67,7 +67,9 @@ class Wave:
         for name, place in self.names(" ".join(rest[3:]).lstrip("\\"), width):
             bit = Bit(code, place, len(inner))
             self.nets.append(".".join(inner + [name]))
-            for whole in {name, ".".join(inner[1:] + [name]), ".".join(inner + [name])}:
+            # With a scope a name is told from there on; else it may begin at any scope.
+            for behind in range(1 if self.scope else len(inner) + 1):
+                whole = ".".join(inner[behind:] + [name])
                 if whole not in self.bits or self.bits[whole].depth > bit.depth:
                     self.bits[whole] = bit
 

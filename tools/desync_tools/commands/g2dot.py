@@ -25,12 +25,12 @@ from __future__ import annotations
 
 from typing import Iterator, Optional
 
-from desync_tools.clusters import clusters, take_mode
+from desync_tools.clusters import Split, take_groups, take_mode
 from desync_tools.command import Parser, as_installed, parser, put
 from desync_tools.graphs import EVENT, NODE, Graph, Pair, read_graph
 from desync_tools.groups import grouped, spans
 from desync_tools.heat import CYCLE, Heat
-from desync_tools.netlist import Netlist, read_netlist
+from desync_tools.netlist import read_netlist
 from desync_tools.text import BadText, file_text, shown, text_of
 
 MANY = 200
@@ -75,11 +75,11 @@ def ends(graph: Graph) -> list[str]:
     return [str(number) for number in range(count)]
 
 
-def titles(graph: Graph, netlist: Optional[Netlist], mode: str) -> dict[str, str]:
+def titles(graph: Graph, split: Optional[Split], mode: str) -> dict[str, str]:
     """The head of each box, by the number of its cluster."""
-    if netlist is None:
+    if split is None:
         return {number: "" for number in ends(graph)}
-    found = clusters(netlist, mode)
+    found = split.clusters
     if set(ends(graph)) != {str(number) for number in range(len(found))}:
         told = (len(ends(graph)), len(found), mode)
         raise BadText("the graph has %d clusters, the netlist %d by --clusters %s" % told)
@@ -218,6 +218,7 @@ def words(name: str) -> Parser:
     taken.add_argument("graph", nargs="?", help="the text; the standard input where it is left out")
     taken.add_argument("--net", metavar="NET", help="the netlist, for the names of registers")
     take_mode(taken)
+    take_groups(taken)
     taken.add_argument("--orders", action="store_true", help="events and orders")
     says = "draw each cluster by itself"
     taken.add_argument("--apart", action="store_true", help=says)
@@ -236,7 +237,10 @@ def main(argv: list[str]) -> int:
     graph = read_graph(text_of(asked.graph))
     if not asked.orders and not any(map(NODE.match, graph.nodes)):
         raise BadText("the graph has no nodes of a netlist: --orders shows its events")
-    heads = titles(graph, None if asked.net is None else read_netlist(asked.net), asked.clusters)
+    split = None
+    if asked.net is not None:
+        split = Split(read_netlist(asked.net), asked.clusters, asked.groups)
+    heads = titles(graph, split, asked.clusters)
     heat = None if asked.critical is None else Heat(file_text(asked.critical))
     if asked.orders:
         lines = orders(graph, heads, asked.hide_own, heat)
