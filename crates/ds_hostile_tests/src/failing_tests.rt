@@ -88,6 +88,7 @@ fn unread(files: &Watched<MemoryFiles>) -> &'static [u8] {
         Which::Vectors => b"desync: cannot read v\n",
         Which::Log => b"desync: cannot read l\n",
         Which::Delays => b"desync: cannot read d\n",
+        Which::Groups => b"desync: cannot read groups\n",
     }
 }
 
