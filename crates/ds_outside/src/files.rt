@@ -16,6 +16,7 @@ pub enum Which {
     Vectors,
     Log,
     Delays,
+    Groups,
 }
 
 /// A read failed.

@@ -28,6 +28,7 @@ mod end;
 mod fault;
 mod foreseen;
 mod halt;
+mod known;
 pub mod laws;
 mod layout;
 mod left;

@@ -17,7 +17,7 @@ use ds_latch::Latches;
 use ds_lines::{At, Lines};
 use ds_marked::Marked;
 use ds_outside::{Files, Which};
-use ds_period::laws::controllers_have_periods;
+use ds_period::laws::plans_have_periods;
 use ds_period::{DelayKind, Delays, read_delays};
 use std::alloc::{AllocError, Global};
 
@@ -27,7 +27,7 @@ pub fn own_graph(alloc: Global, latches: &Latches<'_>) -> Result<Marked, OutOfMe
     ensures ok_period { IfOk result HasPeriod }
 {
     // Called for the law that it states.
-    controllers_have_periods();
+    plans_have_periods();
     let graph = controller(alloc, latches)?;
     // Read for the facts that are known of the arcs of a graph.
     let _arcs = graph.arcs();
