@@ -1,38 +1,42 @@
--- The events of `IN` are a cycle of each controller graph.
-use Rattle.std.proofs.Common.{◌≤◌, ℕ, [], ◌∷◌, arith, zero, suc}
-use Rattle.std.specs.List.{All}
-use Rattle.ds_marked.specs.Graph.{Graph, IsArc}
+-- Walks between the events of `IN` are a cycle of each graph that gives the required orders.
+use Rattle.std.proofs.Common.{◌≡◌, ◌⊎◌, ◌+◌, ℕ, List, [], ◌∷◌, ◌++◌, arith, inl, inr, refl, subst, sym}
+use Rattle.ds_marked.specs.Graph.{Graph, IsArc, Walk, stay, along}
 use Rattle.ds_latch.specs.Node.{Split}
+use Rattle.ds_latch.specs.Plan.{IsPlan}
 use Rattle.ds_latch.specs.declared.node.Node.TheVariants.{In}
 use Rattle.ds_latch.specs.Order.{opens_first, closes_before_next}
-use Rattle.ds_control.specs.Control.{AreOrders}
-use Rattle.ds_rank.specs.Order.{IsDistinct}
+use Rattle.ds_rank.specs.Order.{IsWalk}
+use Rattle.ds_rank.proofs.Turn.{walk_join}
 use Rattle.ds_period.specs.Timing.{HasCycle, Leads}
-use Rattle.ds_period.specs.Controller.{ControllersHavePeriods}
+use Rattle.ds_period.specs.Controller.{PlansHavePeriods}
 
 -- an arc leads
 leads : (g : Graph) (u v t : ℕ) → IsArc g u v t → Leads g u v
 leads g u v t (k, arc, inside, is, (source, target, tokens)) = (k, arc, inside, is, (source, target))
 
--- two events that are not the same
-two_distinct : IsDistinct (0 ∷ 1 ∷ [])
-two_distinct zero zero before inside = absurd (omega arith)
-two_distinct zero (suc zero) before inside = λ e. absurd (omega (arith, e))
-two_distinct zero (suc (suc j)) before inside = absurd (omega arith)
-two_distinct (suc i) j before inside = absurd (omega arith)
+-- a walk with the sum of its tokens goes along arcs, unless it stays where it is
+walks : (g : Graph) (u v sum : ℕ) → Walk g u v sum → (u ≡ v) ⊎ ((events : List ℕ) × IsWalk (Leads g) u events v)
+walks g _ _ _ stay = inl refl
+walks g u w _ (along {v = v} {sum = sum} {tokens = tokens} walk arc) = elim (walks g u v sum walk) [
+  | inl same ↦ inr ([], subst (λ (x : ℕ). Leads g x w) (sym same) (leads g v w tokens arc))
+  | inr (events, is) ↦ inr (events ++ v ∷ [], walk_join (Leads g) u events v [] w is (leads g v w tokens arc))
+]
 
-single : All (λ y. 0 ≤ y) (1 ∷ [])
-single k d lt = omega arith
+-- a walk to another event goes along arcs
+walks_on : (g : Graph) (u v sum : ℕ) → (u ≡ v → ⊥) → Walk g u v sum → (events : List ℕ) × IsWalk (Leads g) u events v
+walks_on g u v sum apart walk = elim (walks g u v sum walk) [
+  | inl same ↦ absurd (apart same)
+  | inr there ↦ there
+]
 
-in_cycle : (s : Split) (g : Graph) → AreOrders s g → HasCycle g
-in_cycle s g orders = (
-  0 ∷ 1 ∷ [],
-  (
-    (leads g 0 1 0 ((orders 0 1 0).0 (opens_first In tt)), leads g 1 0 1 ((orders 1 0 1).0 (closes_before_next In tt))),
-    two_distinct,
-    single,
-  ),
-)
+-- the events of `IN` wait for each other
+in_cycle : (s : Split) (g : Graph) → IsPlan s g → HasCycle g
+in_cycle s g plan =
+    let (low, there, few) = plan.orders 0 1 0 (opens_first In tt) in
+    let (high, back, some) = plan.orders 1 0 1 (closes_before_next In tt) in
+    let (events, on) = walks_on g 0 1 low (λ e. absurd (omega (arith, e))) there in
+    let (others, home) = walks_on g 1 0 high (λ e. absurd (omega (arith, e))) back in
+    (0, events ++ 1 ∷ others, walk_join (Leads g) 0 events 1 others 0 on home)
 
-pub controllers : ControllersHavePeriods
-controllers s g orders simple plan = record { simple = simple; tokens = plan.live; cycle = in_cycle s g orders }
+pub plans : PlansHavePeriods
+plans s g plan = record { tokens = plan.live; cycle = in_cycle s g plan }

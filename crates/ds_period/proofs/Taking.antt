@@ -13,13 +13,14 @@ use Rattle.ds_marked.specs.Graph.{Graph}
 use Rattle.ds_rows.specs.Texts.{event_by_text, event_texts}
 use Rattle.ds_lines.specs.Words.{word_at}
 use Rattle.ds_period.specs.Word.{delay_on, has_delay, written_delay}
-use Rattle.ds_period.specs.Read.{Given, HasOneEach, arc_by_texts, arc_named, delays_from, delays_of, is_given, after_line, none_given, with_delay}
+use Rattle.ds_period.specs.Read.{Given, HasOneEach, arc_between, arc_by_texts, arc_named, delays_from, delays_of, is_given, after_line, none_given, source_named, target_named, with_delay, with_line}
 use Rattle.ds_period.specs.Step.{IsTaken}
 use Rattle.ds_base.specs.declared.refusal.Refusal.{Refusal}
 use Rattle.ds_base.specs.declared.refusal.Refusal.TheVariants.{Memory, Fault}
 use Rattle.ds_lines.specs.First.{behind_line, refusal_on}
 use Rattle.ds_period.specs.declared.fault.DelayKind.{DelayKind}
 use Rattle.ds_period.specs.declared.fault.DelayKind.TheVariants.{BadWord, UnknownOrder, RepeatedOrder}
+use Rattle.ds_period.proofs.Filled.{length-delays_with}
 
 -- what is known where a line has a delay
 pub delay_is : (words : List (List ℕ)) (delay : ℕ) → delay_on words ≡ Some delay → (has_delay words ≡ true) × (written_delay words ≡ delay)
@@ -38,7 +39,7 @@ module _ (g : Graph) (so_far : Given) (words : List (List ℕ)) where
   repeated has inside again = let some : nat_lt (arc_named g words) (length g.arcs) ≡ true = lt-ltb (arc_named g words) (length g.arcs) inside in rw (has, some, again) refl
 
   pub taken : has_delay words ≡ true → arc_named g words < length g.arcs → is_given so_far (arc_named g words) ≡ false
-      → after_line g so_far words ≡ Ok (with_delay so_far (arc_named g words) (written_delay words))
+      → after_line g so_far words ≡ Ok (with_line g so_far words)
   taken has inside fresh = let some : nat_lt (arc_named g words) (length g.arcs) ≡ true = lt-ltb (arc_named g words) (length g.arcs) inside in rw (has, some, fresh) refl
 
 -- the arc by the words of a line
@@ -69,15 +70,16 @@ repeated_at g so_far words delay arc a b kind has source target is at inside fre
 
 pub taken_at : (g : Graph) (so_far new : Given) (words : List (List ℕ)) (delay arc : ℕ) (a b : List ℕ) → delay_on words ≡ Some delay
     → a ≡ word_at words 0 → b ≡ word_at words 1
-    → arc ≡ arc_by_texts g a b → arc < length g.arcs → true ≡ not (is_given so_far arc) → new ≡ with_delay so_far arc delay
+    → arc ≡ arc_by_texts g a b → arc < length g.arcs → true ≡ not (is_given so_far arc)
+    → ((u v : ℕ) → arc ≡ arc_between g u v → new ≡ with_delay g so_far u v delay)
     → after_line g so_far words ≡ Ok new
 taken_at g so_far new words delay arc a b has source target at inside fresh is =
     let same : arc ≡ arc_named g words = at ∙ found_is g words a b source target in
     let (some, value) = delay_is words delay has in
     taken g so_far words some (omega arith)
     (ap (λ (k : ℕ). is_given so_far k) (sym same) ∙ not_true (is_given so_far arc) fresh)
-    ∙ ap₂ (λ (k d : ℕ). Ok (with_delay so_far k d)) (sym same) value
-    ∙ ap Ok (sym is)
+    ∙ ap (λ (d : ℕ). Ok (with_delay g so_far (source_named g words) (target_named g words) d)) value
+    ∙ ap Ok (sym (is (source_named g words) (target_named g words) same))
   where
     not_true : (x : Bool) → true ≡ not x → x ≡ false
     not_true true e = absurd (false≢true (sym e))
@@ -107,10 +109,10 @@ choose false false false one two three given new e = cc
 -- a line leaves as many delays as there are arcs
 pub one_each : (g : Graph) (old new : Given) (words : List (List ℕ)) → HasOneEach g old → after_line g old words ≡ Ok new → HasOneEach g new
 one_each g old new words sizes e =
-    let same : with_delay old (arc_named g words) (written_delay words) ≡ new = choose (not (has_delay words)) (not (nat_lt (arc_named g words) (length g.arcs))) (is_given old (arc_named g words))
-    BadWord (UnknownOrder (word_at words 0) (word_at words 1)) (RepeatedOrder (word_at words 0) (word_at words 1)) (with_delay old (arc_named g words) (written_delay words)) new e in
+    let same : with_line g old words ≡ new = choose (not (has_delay words)) (not (nat_lt (arc_named g words) (length g.arcs))) (is_given old (arc_named g words))
+    BadWord (UnknownOrder (word_at words 0) (word_at words 1)) (RepeatedOrder (word_at words 0) (word_at words 1)) (with_line g old words) new e in
     subst (λ (r : Given). HasOneEach g r) same (
-      length-set old.delays (arc_named g words) (written_delay words) ∙ sizes.0,
+      length-delays_with (source_named g words) (target_named g words) (written_delay words) g.arcs old.delays sizes.0 ∙ sizes.0,
       length-set old.given (arc_named g words) true ∙ sizes.1,
     )
 

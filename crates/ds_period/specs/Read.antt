@@ -27,11 +27,27 @@ arc_between g u v = position_or_len (is_from_to u v) g.arcs
 abbrev pub arc_by_texts : Graph → List ℕ → List ℕ → ℕ
 arc_by_texts g source target = arc_between g (event_by_text g source) (event_by_text g target)
 
--- the arc that a line's first two words name
-abbrev pub arc_named : Graph → List (List ℕ) → ℕ
-arc_named g words = arc_by_texts g (word_at words 0) (word_at words 1)
+-- the event that a line names first
+abbrev pub source_named : Graph → List (List ℕ) → ℕ
+source_named g words = event_by_text g (word_at words 0)
 
--- the delays of the arcs so far, 0 where none is given, and to which arcs one is given
+-- the event that a line names next
+abbrev pub target_named : Graph → List (List ℕ) → ℕ
+target_named g words = event_by_text g (word_at words 1)
+
+-- the first arc between the events that a line names
+abbrev pub arc_named : Graph → List (List ℕ) → ℕ
+arc_named g words = arc_between g (source_named g words) (target_named g words)
+
+-- the delays with this one for each arc from u to v
+abbrev pub delays_with : ℕ → ℕ → ℕ → List Arc → List ℕ → List ℕ
+delays_with u v delay [] delays = []
+delays_with u v delay (arc ∷ arcs) [] = []
+delays_with u v delay (arc ∷ arcs) (old ∷ delays) =
+    (if is_from_to u v arc then delay else old) ∷ delays_with u v delay arcs delays
+
+-- the delays of the arcs so far, 0 where none is given; and at the first arc between two events
+-- whether a line has given one to the arcs between them
 pub record Given : Type 0 where
   pub delays : List ℕ
   pub given : List Bool
@@ -48,22 +64,27 @@ abbrev pub HasOneEach : Graph → Given → Type 0
 HasOneEach g so_far = (length so_far.delays ≡ length g.arcs)
     × (length so_far.given ≡ length g.arcs)
 
--- the arc has a delay already
+-- the arcs that begin here have a delay already
 abbrev pub is_given : Given → ℕ → Bool
 is_given so_far arc = slice_index_or so_far.given arc false
 
--- a delay more
-abbrev pub with_delay : Given → ℕ → ℕ → Given
-with_delay so_far arc delay = record {
-  delays = slice_set so_far.delays arc delay;
-  given = slice_set so_far.given arc true;
+-- a delay more, for each arc from u to v
+abbrev pub with_delay : Graph → Given → ℕ → ℕ → ℕ → Given
+with_delay g so_far u v delay = record {
+  delays = delays_with u v delay g.arcs so_far.delays;
+  given = slice_set so_far.given (arc_between g u v) true;
 }
+
+-- the delay that a line gives, for each arc between the events that it names
+abbrev pub with_line : Graph → Given → List (List ℕ) → Given
+with_line g so_far words =
+    with_delay g so_far (source_named g words) (target_named g words) (written_delay words)
 
 -- no arc has the ends that a line names
 abbrev pub unknown_order : List (List ℕ) → DelayKind
 unknown_order words = UnknownOrder (word_at words 0) (word_at words 1)
 
--- an earlier line has the arc
+-- an earlier line has these ends
 abbrev pub repeated_order : List (List ℕ) → DelayKind
 repeated_order words = RepeatedOrder (word_at words 0) (word_at words 1)
 
@@ -73,7 +94,7 @@ after_line g so_far words =
     if not (has_delay words) then Err BadWord
     else if not (nat_lt (arc_named g words) (length g.arcs)) then Err (unknown_order words)
     else if is_given so_far (arc_named g words) then Err (repeated_order words)
-    else Ok (with_delay so_far (arc_named g words) (written_delay words))
+    else Ok (with_line g so_far words)
 
 -- the delays of the arcs after these lines, or the first fault
 abbrev pub delays_from : Graph → Given → List Line → Result (List ℕ) (At DelayKind)

@@ -1,10 +1,10 @@
 -- Graphs with delays have a period.
 use Rattle.ds_period.proofs.Along.{timed_closed, timed_ends, timed_tokens}
-use Rattle.ds_period.proofs.Controlled.{controllers}
+use Rattle.ds_period.proofs.Controlled.{plans}
 use Rattle.ds_period.proofs.Written.{delays_written}
 use Rattle.std.proofs.Common.{length}
 use Rattle.ds_period.specs.Timing.{timed_arcs}
-use Rattle.ds_period_laws.specs.Periods.{ControllersAreTimed, DelaysAreOneEach, GraphsHavePeriods, PeriodsExist}
+use Rattle.ds_period_laws.specs.Periods.{DelaysAreOneEach, GraphsHavePeriods, PeriodsExist, PlansAreTimed}
 use Rattle.ds_period_laws.proofs.Exist.{some_period}
 
 -- arcs have a period
@@ -23,7 +23,7 @@ graphs_have_periods g has delays same =
 pub delays_are_one_each : DelaysAreOneEach
 delays_are_one_each g lines delays e = (delays_written g lines delays e).one_each
 
--- so controller graphs have a period
-pub controllers_are_timed : ControllersAreTimed
-controllers_are_timed s g orders simple plan lines delays e =
-    graphs_have_periods g (controllers s g orders simple plan) delays (delays_are_one_each g lines delays e)
+-- so the graphs of plans have a period
+pub plans_are_timed : PlansAreTimed
+plans_are_timed s g plan lines delays e =
+    graphs_have_periods g (plans s g plan) delays (delays_are_one_each g lines delays e)

@@ -8,3 +8,4 @@ pub mod Exist
 pub mod Graphs
 pub mod Lowest
 pub mod Agree
+pub mod Alike

@@ -4,7 +4,6 @@ use Rattle.ds_lines.specs.Line.{Line}
 use Rattle.ds_marked.specs.Graph.{Graph}
 use Rattle.ds_latch.specs.Node.{Split}
 use Rattle.ds_latch.specs.Plan.{IsPlan}
-use Rattle.ds_control.specs.Control.{AreOrders, IsSimple}
 use Rattle.ds_period.specs.declared.timed.Timed.{Timed}
 use Rattle.ds_period.specs.Search.{AreEvents}
 use Rattle.ds_period.specs.Period.{HasClosed, HasTokens, IsPeriod}
@@ -22,8 +21,8 @@ abbrev pub PeriodsExist : Type 0
 PeriodsExist = (arcs : List Timed) (count : ℕ) → AreEvents count arcs → HasTokens arcs
     → HasClosed arcs → SomePeriod arcs count
 
--- a graph with tokens on each cycle, with some cycle, and no two arcs of the same ends, has a
--- period, whatever the delays are, one for each arc
+-- a graph with tokens on each cycle and with some cycle has a period, whatever the delays are, one
+-- for each arc
 abbrev pub GraphsHavePeriods : Type 0
 GraphsHavePeriods = (g : Graph) → HasPeriod g → (delays : List ℕ) → length delays ≡ length g.arcs
     → SomePeriod (timed_arcs g.arcs delays) (length g.events)
@@ -33,8 +32,8 @@ abbrev pub DelaysAreOneEach : Type 0
 DelaysAreOneEach = (g : Graph) (lines : List Line) (delays : List ℕ)
     → delays_of g lines ≡ Ok delays → length delays ≡ length g.arcs
 
--- a controller graph has a period with the delays that lines give
-abbrev pub ControllersAreTimed : Type 0
-ControllersAreTimed = (s : Split) (g : Graph) → AreOrders s g → IsSimple g → IsPlan s g
+-- the graph of a plan has a period with the delays that lines give
+abbrev pub PlansAreTimed : Type 0
+PlansAreTimed = (s : Split) (g : Graph) → IsPlan s g
     → (lines : List Line) (delays : List ℕ) → delays_of g lines ≡ Ok delays
     → SomePeriod (timed_arcs g.arcs delays) (length g.events)

@@ -1,6 +1,6 @@
 //! Laws of periods: they are there.
-ghost use Rattle.ds_period_laws.specs.Periods.{ControllersAreTimed, DelaysAreOneEach};
-ghost use Rattle.ds_period_laws.specs.Periods.{GraphsHavePeriods, PeriodsExist};
+ghost use Rattle.ds_period_laws.specs.Periods.{DelaysAreOneEach, GraphsHavePeriods};
+ghost use Rattle.ds_period_laws.specs.Periods.{PeriodsExist, PlansAreTimed};
 
 /// Arcs between events whose closed walks have tokens have a period, if some closed walk has an
 /// arc.
@@ -8,8 +8,8 @@ pub fn periods_exist()
     ensures { PeriodsExist }
 {}
 
-/// A graph with tokens on each cycle, with some cycle, and no two arcs of the same ends, has a
-/// period, whatever the delays of its arcs are.
+/// A graph with tokens on each cycle and with some cycle has a period, whatever the delays of its
+/// arcs are.
 pub fn graphs_have_periods()
     ensures { GraphsHavePeriods }
 {}
@@ -19,7 +19,7 @@ pub fn delays_are_one_each()
     ensures { DelaysAreOneEach }
 {}
 
-/// A controller graph has a period with the delays that lines give.
-pub fn controllers_are_timed()
-    ensures { ControllersAreTimed }
+/// The graph of a plan has a period with the delays that lines give.
+pub fn plans_are_timed()
+    ensures { PlansAreTimed }
 {}

@@ -42,6 +42,7 @@ mod played;
 mod starts;
 mod stopped;
 mod stored;
+mod stored_turns;
 mod sums;
 mod trace;
 mod window;

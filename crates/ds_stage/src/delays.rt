@@ -2,7 +2,7 @@
 ghost use Rattle.std.specs.Prelude.{◌≡◌, ◌++◌, ◌≤◌, ℕ, List, IfOk, codes, length};
 ghost use Rattle.ds_period.specs.Controller.{HasPeriod};
 ghost use Rattle.ds_period.specs.Read.{delays_of};
-ghost use Rattle.ds_stage.specs.Ends.{Answers, Never, RoseIn};
+ghost use Rattle.ds_stage.specs.Ends.{Answers, Never, RoseIn, UnlessUnread};
 ghost use Rattle.ds_stage.specs.GraphStage.{IsGraphOf};
 ghost use Rattle.ds_stage.specs.Stage.{then_stage};
 ghost use Rattle.ds_stage.specs.Stages.{read_or_line, result_stage, text_stage};
@@ -17,7 +17,7 @@ use ds_latch::Latches;
 use ds_lines::{At, Lines};
 use ds_marked::Marked;
 use ds_outside::{Files, Which};
-use ds_period::laws::controllers_have_periods;
+use ds_period::laws::plans_have_periods;
 use ds_period::{DelayKind, Delays, read_delays};
 use std::alloc::{AllocError, Global};
 
@@ -27,7 +27,7 @@ pub fn own_graph(alloc: Global, latches: &Latches<'_>) -> Result<Marked, OutOfMe
     ensures ok_period { IfOk result HasPeriod }
 {
     // Called for the law that it states.
-    controllers_have_periods();
+    plans_have_periods();
     let graph = controller(alloc, latches)?;
     // Read for the facts that are known of the arcs of a graph.
     let _arcs = graph.arcs();
@@ -46,6 +46,7 @@ pub fn read_timing<F: Files>(
     ensures one_each { IfOk result (λ delays. length delays ≡ length graph.now.arcs) }
 
     ensures same_held { F.held files.new ≡ F.held files.old }
+    ensures same_reads { UnlessUnread result (F.faults files.new ≡ F.faults files.old) }
     ensures never_falls { (w : _) (n : List ℕ) → F.faults files.old w n ≤ F.faults files.new w n }
 {
     let text = read_text(alloc, files, Which::Delays, name)?;

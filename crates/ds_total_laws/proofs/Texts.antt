@@ -29,7 +29,7 @@ use Rattle.ds_firing_laws.proofs.Replayed.{replay_texts_exist}
 use Rattle.ds_firing_laws.proofs.Runs.{run_texts_exist}
 use Rattle.ds_firing_laws.proofs.SomeTrace.{traces_exist}
 use Rattle.ds_firing_laws.proofs.Stopped.{stopped_texts_exist}
-use Rattle.ds_period_laws.proofs.Graphs.{controllers_are_timed}
+use Rattle.ds_period_laws.proofs.Graphs.{plans_are_timed}
 use Rattle.ds_stage.specs.AcceptStage.{ranks_stage, ranks_text}
 use Rattle.ds_stage.specs.FaultText.{numbered_line}
 use Rattle.ds_stage.specs.GraphStage.{IsGraphOf}
@@ -140,7 +140,7 @@ module _ (held : List ℕ → Held) where
       (then_decided (lines_stage held Delays file) (given_stage file g) (lines_decided held Delays file there) (λ lines are. result_decided (read_or_line file delay_text (delays_of g lines))))
       (λ delays (lines, are, read).
       let plan : IsPlan s g = orders_are_accepted s g ready.split is.events is.orders in
-      let (p, q, cycle, potentials, period) = controllers_are_timed s g is.orders is.simple plan lines delays (read_meant file delay_text (delays_of g lines) delays read) in
+      let (p, q, cycle, potentials, period) = plans_are_timed s g plan lines delays (read_meant file delay_text (delays_of g lines) delays read) in
       inl (period_text g p q cycle potentials, record { p = p; q = q; cycle = cycle; potentials = potentials; period = period; spelt = refl }))
 
   pub measured_decided : (file : List ℕ) (s : Split) → HasBytes (held file) → IsReady s → IsDecided (measured_stage held file s)

@@ -17,6 +17,7 @@ use Rattle.ds_stage.proofs.Left.{controller_nothing}
 use Rattle.ds_app.proofs.LeftAlone.{graph_nothing}
 use Rattle.ds_app.proofs.Lent.{graph_ends}
 use Rattle.ds_stage.proofs.Expansions.{controller_says}
+use Rattle.ds_stage.proofs.Counts.{unread_or, unwritten_or, well_read}
 use Rattle.ds_app.proofs.graph.graph.Goals as goal
 
 pub returns-in_err-netlist-clause-value : goal.returns-in_err-netlist-clause-value
@@ -55,7 +56,7 @@ returns-clause-value g c =
     let latches : Split = c.in_ok-latches.latches in
     let out : Output = (output_between g.O.Sink.written g.O.Sink.faults c.args.out.now c.draw.new.out) in
     let last : Ends (controller_stage job.net job.shake latches) more out c.draw.result =
-    ends_more (controller_stage job.net job.shake latches) Never more out (controller_nothing job.net job.shake latches) (λ line unread. absurd (controller_says job.net job.shake Never latches line unread).is) c.draw.result c.draw.ensures in
+    ends_more (controller_stage job.net job.shake latches) Never more out (controller_nothing job.net job.shake latches) (λ line unread. absurd (controller_says job.net job.shake Never latches line unread).is) c.draw.result c.draw.ensures.value in
     graph_ends held more out c.draw.result c.args.job.now _ c.as_str-net.ensures
     (ends_after (netlist_stage held job.net) (graph_stage job) more out circuit c.in_ok-netlist.ensures.value c.draw.result
     (ends_after (split_stage job.net job.clusters circuit) (controller_stage job.net job.shake) more out latches c.in_ok-latches.ensures c.draw.result last))
@@ -68,3 +69,21 @@ returns-in_err-latches-clause-same_held g c = c.in_ok-netlist.ensures.same_held
 
 pub returns-clause-same_held : goal.returns-clause-same_held
 returns-clause-same_held g c = c.in_ok-netlist.ensures.same_held
+
+pub returns-in_err-netlist-clause-same_reads : goal.returns-in_err-netlist-clause-same_reads
+returns-in_err-netlist-clause-same_reads g c = let p = err_from_is_err_and c.from_residual.result c.from_residual.ensures.1 in rw (p.1, p.2) (c.in_err-netlist.ensures.same_reads)
+
+pub returns-in_err-netlist-clause-same_writes : goal.returns-in_err-netlist-clause-same_writes
+returns-in_err-netlist-clause-same_writes g c = let p = err_from_is_err_and c.from_residual.result c.from_residual.ensures.1 in rw (p.1, p.2) (unwritten_or c.in_err-netlist.field-0.0 refl)
+
+pub returns-in_err-latches-clause-same_reads : goal.returns-in_err-latches-clause-same_reads
+returns-in_err-latches-clause-same_reads g c = let p = err_from_is_err_and c.from_residual-in_err-latches.result c.from_residual-in_err-latches.ensures.1 in rw (p.1, p.2) (unread_or c.in_err-latches.field-0.0 c.in_ok-netlist.ensures.same_reads)
+
+pub returns-in_err-latches-clause-same_writes : goal.returns-in_err-latches-clause-same_writes
+returns-in_err-latches-clause-same_writes g c = let p = err_from_is_err_and c.from_residual-in_err-latches.result c.from_residual-in_err-latches.ensures.1 in rw (p.1, p.2) (unwritten_or c.in_err-latches.field-0.0 refl)
+
+pub returns-clause-same_reads : goal.returns-clause-same_reads
+returns-clause-same_reads g c = well_read c.draw.result c.in_ok-netlist.ensures.same_reads
+
+pub returns-clause-same_writes : goal.returns-clause-same_writes
+returns-clause-same_writes g c = c.draw.ensures.same_writes

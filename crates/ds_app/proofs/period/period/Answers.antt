@@ -1,4 +1,4 @@
-use Rattle.std.proofs.Common.{ℕ, List, Err, refl}
+use Rattle.std.proofs.Common.{ℕ, List, Err, refl, ◌∙◌}
 use Rattle.std.proofs.lemmas.Result.{err_from_is_err_and}
 use Rattle.ds_outside.specs.Held.{Held}
 use Rattle.ds_outside.specs.declared.files.Which.{Which}
@@ -8,6 +8,8 @@ use Rattle.ds_stage.specs.Ends.{Output, RoseIn, output_between}
 use Rattle.ds_stage.proofs.PeriodStages.{measured_since}
 use Rattle.ds_app.proofs.Lent.{period_ends}
 use Rattle.ds_app.proofs.PeriodEnds.{ends_measured, stops_netlist, stops_split}
+use Rattle.ds_stage.proofs.Counts.{unread_or, unwritten_or}
+use Rattle.ds_app.proofs.Since.{well_read_since}
 use Rattle.ds_app.proofs.period.period.Goals as goal
 
 pub returns-in_err-netlist-clause-value : goal.returns-in_err-netlist-clause-value
@@ -45,3 +47,21 @@ returns-clause-value g c =
     (measured_since before mid now held later job.delays c.in_ok-latches.latches
     c.in_ok-netlist.ensures.same_held c.in_ok-netlist.ensures.never_falls out c.measure.result
     c.measure.ensures.value))
+
+pub returns-clause-same_writes : goal.returns-clause-same_writes
+returns-clause-same_writes g c = c.measure.ensures.same_writes
+
+pub returns-clause-same_reads : goal.returns-clause-same_reads
+returns-clause-same_reads g c = well_read_since c.measure.result c.in_ok-netlist.ensures.same_reads c.measure.ensures.same_reads
+
+pub returns-in_err-latches-clause-same_writes : goal.returns-in_err-latches-clause-same_writes
+returns-in_err-latches-clause-same_writes g c = let p = err_from_is_err_and c.from_residual-in_err-latches.result c.from_residual-in_err-latches.ensures.1 in rw (p.1, p.2) (unwritten_or c.in_err-latches.field-0.0 refl)
+
+pub returns-in_err-latches-clause-same_reads : goal.returns-in_err-latches-clause-same_reads
+returns-in_err-latches-clause-same_reads g c = let p = err_from_is_err_and c.from_residual-in_err-latches.result c.from_residual-in_err-latches.ensures.1 in rw (p.1, p.2) (unread_or c.in_err-latches.field-0.0 c.in_ok-netlist.ensures.same_reads)
+
+pub returns-in_err-netlist-clause-same_writes : goal.returns-in_err-netlist-clause-same_writes
+returns-in_err-netlist-clause-same_writes g c = let p = err_from_is_err_and c.from_residual.result c.from_residual.ensures.1 in rw (p.1, p.2) (unwritten_or c.in_err-netlist.field-0.0 refl)
+
+pub returns-in_err-netlist-clause-same_reads : goal.returns-in_err-netlist-clause-same_reads
+returns-in_err-netlist-clause-same_reads g c = let p = err_from_is_err_and c.from_residual.result c.from_residual.ensures.1 in rw (p.1, p.2) (c.in_err-netlist.ensures.same_reads)

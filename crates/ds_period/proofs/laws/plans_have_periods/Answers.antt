@@ -1,0 +1,5 @@
+use Rattle.ds_period.proofs.Controlled.{plans}
+use Rattle.ds_period.proofs.laws.plans_have_periods.Goals as goal
+
+pub returns : goal.returns
+returns c = plans

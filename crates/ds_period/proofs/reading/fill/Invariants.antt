@@ -1,0 +1,8 @@
+use Rattle.std.proofs.Common.{◌≤◌, ℕ}
+use Rattle.ds_period.specs.Step.{IsFirstBetween}
+use Rattle.ds_period.proofs.Filled.{AreFilled}
+use Rattle.ds_period.proofs.reading.fill.Given as goal
+
+abbrev pub invariant-loop-k : goal.invariant-loop-k
+invariant-loop-k l = (l.first ≤ l.k) × ((u v : ℕ) → IsFirstBetween u v l.arcs l.first
+    → AreFilled u v l.delay l.arcs l.initial.delays l.delays l.k)

@@ -1,0 +1,9 @@
+pub mod Lists
+pub mod Legal
+pub mod Arcs
+pub mod Unique
+pub mod Orders
+pub mod Legality
+pub mod Bounds
+pub mod Turns
+pub mod Following
