@@ -18,7 +18,7 @@ compared.
 from __future__ import annotations
 
 import argparse
-from itertools import zip_longest
+from itertools import chain, zip_longest
 from typing import Iterator, NamedTuple, Optional
 
 from desync_tools.command import Parser, parser, put
@@ -33,12 +33,13 @@ NONE = "?"
 
 
 class Run(NamedTuple):
-    """A run: what it is called, its nets, and their values turn by turn."""
+    """A run: what it is called, its nets, their values turn by turn, and behind the last turn."""
 
     name: str
     nets: list[str]
     rows: Iterator[str]
-    is_wave: bool
+    end: list[str]
+    is_wave: bool = False
 
 
 def trace_rows(text: str) -> Iterator[tuple[str, Optional[str]]]:
@@ -73,14 +74,15 @@ def trace(name: str, text: str, netlist: Optional[Netlist]) -> Run:
     for turn, row in enumerate(whole):
         if len(row) != len(nets):
             raise BadText("turn %d of %s has not as many values as others" % (turn, name))
-    return Run(name, nets, iter(whole), False)
+    turns = sum(row != NONE for row, _ in rows)
+    return Run(name, nets, iter(whole[:turns]), whole[turns:])
 
 
 def wave(name: str, text: str, asked: argparse.Namespace, wanted: Optional[list[str]]) -> Run:
     """A waveform, with the nets that are wanted of it; all without that."""
     found = Wave(name, text, asked.scope)
     nets = [net for net in (found.nets if wanted is None else wanted) if net in found.bits]
-    return Run(name, nets, found.turns(nets, asked.clock, asked.edge), True)
+    return Run(name, nets, found.turns(nets, asked.clock, asked.edge), [], True)
 
 
 def runs(asked: argparse.Namespace) -> tuple[Run, Run]:
@@ -151,13 +153,12 @@ class Count:
 
 def compared(pairs: Pairs, first: Run, second: Run, count: Count) -> Iterator[str]:
     """The first difference, if there is one."""
-    for turn, (a, b) in enumerate(zip_longest(first.rows, second.rows)):
+    has_end = all(run.end or run.is_wave for run in (first, second))
+    rows = [chain(run.rows, run.end if has_end else []) for run in (first, second)]
+    for turn, (a, b) in enumerate(zip_longest(*rows)):
         if a is None or b is None:
-            ended, more = (
-                (first, pairs.row(second, b)) if a is None else (second, pairs.row(first, a))
-            )
-            if not (first.is_wave or second.is_wave) and more.strip(NONE):
-                yield "%s has no turn %d" % (ended.name, turn)
+            if not (first.is_wave or second.is_wave):
+                yield "%s has no turn %d" % ((first if a is None else second).name, turn)
             return
         values = pairs.row(first, a), pairs.row(second, b)
         place = count.difference(*values)
