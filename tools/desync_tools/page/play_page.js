@@ -260,8 +260,10 @@ function boxDrawn(svg, node) {
 function titleDrawn(svg, node) {
   if (node[0] === "S") return;
   const [x, y] = told.places[node], title = told.titles[isRegister(node) ? node.slice(1) : node];
-  const across = isRegister(node) ? (x + told.places["S" + node.slice(1)][0]) / 2 : x;
   const text = title.length > 26 ? title.slice(0, 25) + "\u2026" : title;
+  // IN stands at the edge of the picture.
+  if (!isRegister(node)) return put(svg, "text", {x: x - HALF, y: y - TALL - 7, class: "title left"}, text);
+  const across = (x + told.places["S" + node.slice(1)][0]) / 2;
   put(svg, "text", {x: across, y: y - TALL - 7, class: "title"}, text);
 }
 
