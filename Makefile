@@ -9,6 +9,7 @@ JOBS ?= 1
 OUT = out
 VERSION := $(shell cat VERSION)
 NAME = desync-$(VERSION)-x86_64-linux
+RIGHTS = $(firstword $(wildcard LICENSE) COPYRIGHT)
 PACKAGE = tools/desync_tools
 TOOLS = $(filter-out __init__,$(basename $(notdir $(wildcard $(PACKAGE)/commands/*.py))))
 TO = $(DESTDIR)$(PREFIX)
@@ -75,6 +76,7 @@ install: $(PROGRAM)
 	tools/house/completion --into "$(BASH)" bash $(TOOLS)
 	tools/house/completion --into "$(ZSH)" zsh $(TOOLS)
 	install -m 644 VERSION README.md CHANGELOG.md CONTRIBUTING.md "$(DOCUMENTS)"
+	install -m 644 $(RIGHTS) "$(DOCUMENTS)/copyright"
 	install -m 644 $(wildcard docs/*.md docs/*.svg docs/*.html) "$(DOCUMENTS)/docs"
 	install -m 644 $(wildcard examples/*.*) "$(DOCUMENTS)/examples"
 	install -m 644 $(wildcard examples/graphs/*) "$(DOCUMENTS)/examples/graphs"
@@ -89,6 +91,7 @@ uninstall:
 dist: $(PROGRAM)
 	@rm -rf "$(OUT)/$(NAME)"
 	@$(MAKE) -s install PROGRAM="$(PROGRAM)" DESTDIR="$(OUT)/$(NAME)" PREFIX=
+	@install -m 644 README.md $(RIGHTS) "$(OUT)/$(NAME)"
 	@cd "$(OUT)/$(NAME)" && find . -type f ! -name SHA256SUMS | sort | xargs -d '\n' sha256sum > SHA256SUMS
 	@tar -C "$(OUT)" --sort=name --owner=0 --group=0 --numeric-owner -czf "$(OUT)/$(NAME).tar.gz" "$(NAME)"
 	@rm -rf "$(OUT)/$(NAME)"

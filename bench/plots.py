@@ -1,9 +1,9 @@
 #!/usr/bin/env python3
 """Draws docs/simulators.svg and docs/workers.svg from the results, by gnuplot.
 
-The first has the microseconds of a turn by Desync's `clock` and by other simulators, for each netlist
-of results/simulators.txt; the second the least seconds of a run by number of workers, for each job
-of results/workers.txt. A cell `-` is left out.
+The first has the microseconds of a turn by Desync's `clock` and by other simulators, for each
+netlist of results/simulators.txt; the second the least seconds of a run by number of workers, for
+each job of results/workers.txt. A cell `-` is left out.
 """
 
 import argparse
@@ -58,7 +58,7 @@ def simulators():
     yield "set style fill solid"
     yield "set boxwidth 0.9"
     yield "set bmargin 3.5"
-    yield "set xtics font \",9\""
+    yield 'set xtics font ",9"'
     yield "set key outside right center"
     yield from drawn(data, "%d:xtic(1)", names)
 

@@ -8,6 +8,10 @@ is read and laid out once does not count. For each netlist there are the microse
 workers take where one takes 1; for `demo` the nanoseconds of a firing by one worker, cones and
 printing with it. Each figure is of the least times of `--times` runs turn about, since other work
 on the machine only adds; the exit status is 1 where the runs of a netlist write different bytes.
+
+With `--base PROGRAM` it prints whole runs in place of turns: for each circuit the seconds of
+`clock` of that program, which is taken as 1, and how many times as long take `clock` of `--program`
+and its `run` by each number of `--jobs`, one and four where none are named.
 """
 
 import argparse
@@ -76,6 +80,43 @@ def netlists(folder, turns):
     yield "1,000 registers, " + EACH, workers.pipeline(small, turns // 20, 25, 40, 10), []
 
 
+def wholes(folder):
+    """A name, the files, and the words that say which clusters, for whole runs."""
+    bus = ["--clusters", "bus"]
+    for name, fewer, told in workers.CIRCUITS:
+        turns = 65000 if fewer == 1 else 10000
+        told += ", %s vectors" % format(turns, ",")
+        yield name + told, workers.circuit(folder, turns, name), bus
+    small = os.path.join(folder, "each")
+    os.mkdir(small)
+    yield "mul32, %s, 10,000 vectors" % EACH, workers.circuit(small, 10000, "mul32"), []
+
+
+def whole_runs(given, folder):
+    """Prints the table of whole runs; whether all wrote the same bytes."""
+    jobs, well = given.jobs or [1, 4], True
+    head = ["Netlist", "base clock", "clock"] + ["run, %d" % count for count in jobs]
+    print("| %s |\n|%s" % (" | ".join(head), "---|" * len(head)))
+    for name, files, clusters in wholes(folder):
+        words = {"base": [os.path.abspath(given.base), "clock"] + files}
+        for kind, make in kinds_of(clusters, jobs):
+            words[kind] = [os.path.abspath(given.program)] + make(files)
+        times, texts = {kind: [] for kind in words}, set()
+        for _ in range(given.times):
+            for kind in words:
+                text, seconds = seconds_of(words[kind])
+                times[kind].append(seconds)
+                texts.add(text)
+        one = min(times["base"])
+        cells = [name, "%.3f" % one]
+        cells += ["%.2f" % (min(times[kind]) / one) for kind in words if kind != "base"]
+        print("| %s |" % " | ".join(cells), flush=True)
+        if len(texts) != 1:
+            print("| %s | DIFFERENT BYTES |" % name, flush=True)
+            well = False
+    return well
+
+
 def firing_of(program, registers, turns, times):
     """The nanoseconds of a firing of `demo` by one worker."""
     words = [program, "demo", "1", str(registers)]
@@ -90,9 +131,14 @@ def main():
     parser = argparse.ArgumentParser(description=__doc__.split("\n")[0])
     parser.add_argument("--times", type=int, default=5, help="runs of each command")
     parser.add_argument("--turns", type=int, default=10000, help="vectors of wide clusters")
-    parser.add_argument("--jobs", type=int, nargs="+", default=[1, 4, 8, 64], help="workers")
+    parser.add_argument("--jobs", type=int, nargs="+", help="workers")
     parser.add_argument("--program", default=workers.PROGRAM, help="the built desync")
+    parser.add_argument("--base", help="a desync whose clock is 1, for whole runs")
     given = parser.parse_args()
+    if given.base:
+        with tempfile.TemporaryDirectory() as folder:
+            sys.exit(0 if whole_runs(given, folder) else 1)
+    given.jobs = given.jobs or [1, 4, 8, 64]
     program, well = os.path.abspath(given.program), True
     first = given.jobs[0]
     head = ["Netlist", "clock", "run, %d" % first, "ratio"]

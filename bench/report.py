@@ -1,11 +1,11 @@
 #!/usr/bin/env python3
 """Keeps the results of the scripts here, and writes them into docs/BENCHMARKS.md.
 
-A file results/NAME.txt has the lines `date:`, `machine:`, `command:` and `about:`, and behind them a
-table as a script prints it. In the page a line that ends in `<!-- results: NAME -->`, and the table
-behind it, are made of that. Without an option all of them are made anew. `--keep NAME` first takes the
-table of results/NAME.txt from the standard input, with the date of today; one of bench/workers.py
-gets a line for each job:
+A file results/NAME.txt has the lines `date:`, `machine:`, `command:` and `about:`, and behind
+them a table as a script prints it. In the page a line that ends in `<!-- results: NAME -->`, and
+the table behind it, are made of that. Without an option all of them are made anew. `--keep NAME`
+first takes the table of results/NAME.txt from the standard input, with the date of today; one of
+bench/workers.py gets a line for each job:
 
     bench/run.py | bench/report.py --keep simulators --machine "four processors" \\
         --command bench/run.py --about "seconds by the clock, medians of five"
@@ -119,7 +119,8 @@ def main():
         keep(asked)
     page = read(PAGE)
     if asked.check:
-        sys.exit("docs/BENCHMARKS.md: not as bench/report.py writes it" if made(page) != page else 0)
+        is_made = made(page) == page
+        sys.exit(0 if is_made else "docs/BENCHMARKS.md: not as bench/report.py writes it")
     write(PAGE, made(page))
 
 

@@ -28,40 +28,66 @@ def order(vertex: str) -> int:
     return {"IN": -1, "OUT": 1 << 30}.get(vertex) or int(vertex)
 
 
-def finished(after: After) -> list[str]:
-    """The vertices as a search ends with them, last first: but for loops in order."""
-    seen: set[str] = set()
-    done: list[str] = []
-    for root in after:
-        waiting: list[tuple[str, Iterator[str]]] = []
-        if root not in seen:
-            waiting.append((root, iter(after[root])))
-        seen.add(root)
+class Components:
+    """The components of a graph: vertices that lead to one another have one number.
+
+    A component has a greater number than each one that it leads to.
+    """
+
+    def __init__(self, after: After) -> None:
+        self.after = after
+        self.count = 0
+        self.number: dict[str, int] = {}
+        self.place: dict[str, int] = {}
+        self.low: dict[str, int] = {}
+        self.line: list[str] = []
+        for root in after:
+            if root not in self.place:
+                self.search(root)
+
+    def search(self, root: str) -> None:
+        """Numbers the components of all that a vertex leads to."""
+        waiting = [self.enter(root)]
         while waiting:
             vertex, rest = waiting[-1]
-            new = next((one for one in rest if one not in seen), None)
+            new = next((one for one in rest if one not in self.number), None)
             if new is None:
-                done.append(vertex)
                 waiting.pop()
+                self.leave(vertex)
+                for above, _ in waiting[-1:]:
+                    self.low[above] = min(self.low[above], self.low[vertex])
+            elif new in self.place:
+                self.low[vertex] = min(self.low[vertex], self.place[new])
             else:
-                seen.add(new)
-                waiting.append((new, iter(after[new])))
-    return done[::-1]
+                waiting.append(self.enter(new))
+
+    def enter(self, vertex: str) -> tuple[str, Iterator[str]]:
+        """Begins with a vertex, and what follows it."""
+        self.low[vertex] = self.place[vertex] = len(self.place)
+        self.line.append(vertex)
+        return vertex, iter(self.after[vertex])
+
+    def leave(self, vertex: str) -> None:
+        """Numbers the component of a vertex, where it is the first of it that was entered."""
+        if self.low[vertex] == self.place[vertex]:
+            while vertex not in self.number:
+                self.number[self.line.pop()] = self.count
+            self.count += 1
 
 
 def depths(after: After) -> dict[str, int]:
-    """The longest way to each vertex, along edges that do not lead back."""
-    line = finished(after)
-    at = {vertex: place for place, vertex in enumerate(line)}
-    depth = {vertex: int(vertex != "IN") for vertex in line}
-    for vertex in line:
+    """The column of each vertex, behind all components that lead to its own; OUT stands last."""
+    component = Components(after).number
+    depth = {component["IN"]: 0}
+    for vertex in sorted(after, key=lambda one: -component[one]):
+        own = depth.setdefault(component[vertex], 1)
         for one in after[vertex]:
-            if at[one] > at[vertex]:
-                depth[one] = max(depth[one], depth[vertex] + 1)
-    depth["OUT"] = max(depth.values()) + (depth["OUT"] < max(depth.values()))
-    if any(depth[one] == depth["OUT"] for one in depth if one != "OUT"):
-        depth["OUT"] += 1
-    return depth
+            if component[one] != component[vertex]:
+                depth[component[one]] = max(depth.get(component[one], 1), own + 1)
+    found = {vertex: depth[component[vertex]] for vertex in after}
+    last = max(place for vertex, place in found.items() if vertex != "OUT")
+    found["OUT"] = max(found["OUT"], last + 1)
+    return found
 
 
 def columns(after: After) -> list[list[str]]:

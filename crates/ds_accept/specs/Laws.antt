@@ -2,7 +2,7 @@
 use Rattle.std.specs.Prelude.{◌≡◌, ◌≢◌, ◌⊎◌, ◌≤◌, ℕ, List, length, ◌<◌, Option, Some, All}
 use Rattle.ds_marked.specs.Graph.{Graph, IsKept}
 use Rattle.ds_latch.specs.Node.{Split}
-use Rattle.ds_latch.specs.Plan.{IsAcceptedGraph, IsPlan, IsSplit, Planned}
+use Rattle.ds_latch.specs.Plan.{IsPlan, IsSplit, Planned, Reorders}
 use Rattle.ds_accept.specs.Accept.{IsAcceptable, IsPlanOf}
 use Rattle.ds_accept.specs.Fault.{IsAcceptFault}
 use Rattle.ds_accept.specs.declared.fault.AcceptFault.{AcceptFault}
@@ -18,7 +18,7 @@ AcceptFaultsAreRefused = (s : Split) (g : Graph) (fault : AcceptFault) → fault
 -- an acceptable graph is a plan's once the events of the nodes stand first, in their order
 abbrev pub AcceptableIsAccepted : Type 0
 AcceptableIsAccepted = (s : Split) (g : Graph) → IsSplit s → length s.clusters ≤ 1048576 → IsKept g
-    → IsAcceptable s g → IsAcceptedGraph s g
+    → IsAcceptable s g → (to : Graph) × Reorders g to × IsPlan s to
 
 -- the graph of a plan is acceptable
 abbrev pub PlansAreAcceptable : Type 0

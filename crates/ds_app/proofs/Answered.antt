@@ -11,7 +11,7 @@ use Rattle.ds_cmd.specs.declared.fault.UsageFault.{UsageFault}
 use Rattle.ds_cmd.specs.declared.fault.UsageFault.TheVariants as usage
 use Rattle.ds_stage.specs.declared.stop.Stop.{Stop}
 use Rattle.ds_stage.specs.declared.stop.Stop.TheVariants.{Refused, Unread, Unwritten, Memory}
-use Rattle.ds_stage.specs.Ends.{Ends, RoseIn}
+use Rattle.ds_stage.specs.Ends.{Ends, RoseIn, UnlessUnread, UnlessUnwritten, UnreadOr, UnwrittenOr}
 use Rattle.ds_app.specs.Job.{stages_of}
 use Rattle.ds_stage.specs.Stage.{leaves_nothing}
 use Rattle.ds_app.specs.Status.{AreTold, Call, HasWindows, IsAnswered, HasLeft, IsWanting, Reports, SaysEnd, SaysStop, SaysUsage, WritesLast}
@@ -47,8 +47,8 @@ wanting_same call last (inl same) = same
 wanting_same call last (inr (job, is, left)) = left_same call job Memory (job_nothing call.held job (last job is)) (λ text none. none) left
 
 answered_done : (call : Call) (job : Job) (text : List ℕ) → job_of call.words ≡ Ok job → (stages_of call.held job).means text
-    → call.out.new ≡ appended call.out.old text → call.err.new ≡ call.err.old → IsAnswered call 0
-answered_done call job text is means written silent = record {
+    → call.out.new ≡ appended call.out.old text → call.err.new ≡ call.err.old → call.now ≡ call.before → call.out.now ≡ call.out.before → IsAnswered call 0
+answered_done call job text is means written silent reads writes = record {
   known = omega arith;
   done = λ e. record { job = job; text = text; is_job = is; is_text = means; written = written; silent = silent };
   refused = λ e. absurd (omega arith);
@@ -57,14 +57,16 @@ answered_done call job text is means written silent = record {
   no_memory = λ e. absurd (omega arith);
   unwritten = λ e. absurd (omega arith);
   out_same = λ last low high. absurd (omega arith);
+  failed_read = inr (inr reads);
+  failed_write = inr writes;
   exact_line = λ fault faulty. absurd (no_fault call.words job fault is faulty);
   exact_fault = λ other line also told refused none written. absurd (never_both call job other text line is also told means refused);
   complete = λ other t also told meant none whole. inl refl;
 }
 
 answered_refused : (call : Call) (job : Job) (line : List ℕ) → job_of call.words ≡ Ok job → (stages_of call.held job).refused line
-    → HasLeft call job (Refused line) → Reports call.err line → IsAnswered call 1
-answered_refused call job line is refused left reported = record {
+    → HasLeft call job (Refused line) → Reports call.err line → call.now ≡ call.before → call.out.now ≡ call.out.before → IsAnswered call 1
+answered_refused call job line is refused left reported reads writes = record {
   known = omega arith;
   done = λ e. absurd (omega arith);
   refused = λ e. record { job = job; line = line; is_job = is; is_line = refused; left = left; reported = reported };
@@ -73,6 +75,8 @@ answered_refused call job line is refused left reported = record {
   no_memory = λ e. absurd (omega arith);
   unwritten = λ e. absurd (omega arith);
   out_same = λ last low high. left_same call job (Refused line) (job_nothing call.held job (last job is)) (λ text none. none) left;
+  failed_read = inr (inr reads);
+  failed_write = inr writes;
   exact_line = λ fault faulty. absurd (no_fault call.words job fault is faulty);
   exact_fault = λ other l also told r none written. inl refl;
   complete = λ other text also told means none whole. absurd (never_both call other other text line also also told means
@@ -80,8 +84,8 @@ answered_refused call job line is refused left reported = record {
 }
 
 answered_unread : (call : Call) (job : Job) (line : List ℕ) → job_of call.words ≡ Ok job → (stages_of call.held job).unread (RoseIn call.before call.now) line
-    → HasLeft call job (Unread line) → Reports call.err line → IsAnswered call 3
-answered_unread call job line is unread left reported =
+    → HasLeft call job (Unread line) → Reports call.err line → call.out.now ≡ call.out.before → IsAnswered call 3
+answered_unread call job line is unread left reported writes =
     let failed = job_says call.held job (RoseIn call.before call.now) line unread in
     record {
       known = omega arith;
@@ -92,6 +96,8 @@ answered_unread call job line is unread left reported =
       no_memory = λ e. absurd (omega arith);
       unwritten = λ e. absurd (omega arith);
       out_same = λ last low high. left_same call job (Unread line) (job_nothing call.held job (last job is)) (λ text none. none) left;
+      failed_read = inl refl;
+      failed_write = inr writes;
       exact_line = λ fault faulty. absurd (no_fault call.words job fault is faulty);
       exact_fault = λ other l also told r none written. absurd (none failed.which failed.name failed.is);
       complete = λ other t also told meant none whole. absurd (none failed.which failed.name failed.is);
@@ -107,8 +113,8 @@ begun_not_refused call job other text line is also told (inr left) rose whole re
 
 answered_unwritten : (call : Call) (job : Job) (text : List ℕ) → job_of call.words ≡ Ok job
     → (stages_of call.held job).means text ⊎ (stages_of call.held job).leaves (RoseIn call.before call.now) Unwritten text
-    → AppendsPart call.out.old call.out.new text → Rose call.out.before call.out.now → Reports call.err (codes "desync: cannot write\n") → IsAnswered call 5
-answered_unwritten call job text is means part cause reported = record {
+    → AppendsPart call.out.old call.out.new text → Rose call.out.before call.out.now → Reports call.err (codes "desync: cannot write\n") → call.now ≡ call.before → IsAnswered call 5
+answered_unwritten call job text is means part cause reported reads = record {
   known = omega arith;
   done = λ e. absurd (omega arith);
   refused = λ e. absurd (omega arith);
@@ -117,13 +123,15 @@ answered_unwritten call job text is means part cause reported = record {
   no_memory = λ e. absurd (omega arith);
   unwritten = λ e. record { job = job; text = text; is_job = is; is_text = means; part = part; cause = cause; reported = reported };
   out_same = λ last low high. absurd (omega arith);
+  failed_read = inr (inr reads);
+  failed_write = inl refl;
   exact_line = λ fault faulty. absurd (no_fault call.words job fault is faulty);
   exact_fault = λ other line also told refused none written. absurd (begun_not_refused call job other text line is also told means cause written refused);
   complete = λ other t also told meant none whole. absurd (whole cause);
 }
 
-pub answered_memory : (call : Call) → IsWanting call → Reports call.err (codes "desync: out of memory\n") → IsAnswered call 4
-answered_memory call wanting reported = record {
+pub answered_memory : (call : Call) → IsWanting call → Reports call.err (codes "desync: out of memory\n") → call.out.now ≡ call.out.before → IsAnswered call 4
+answered_memory call wanting reported writes = record {
   known = omega arith;
   done = λ e. absurd (omega arith);
   refused = λ e. absurd (omega arith);
@@ -132,14 +140,16 @@ answered_memory call wanting reported = record {
   no_memory = λ e. (wanting, reported);
   unwritten = λ e. absurd (omega arith);
   out_same = λ last low high. wanting_same call last wanting;
+  failed_read = inr (inl refl);
+  failed_write = inr writes;
   exact_line = λ fault faulty. inr refl;
   exact_fault = λ other line also told refused none written. inr refl;
   complete = λ other t also told meant none whole. inr refl;
 }
 
 pub answered_usage : (call : Call) (fault : UsageFault) → job_of call.words ≡ Err fault → call.out.new ≡ call.out.old
-    → Reports call.err (codes "desync: bad command line\n") → IsAnswered call 2
-answered_usage call fault faulty same reported = record {
+    → Reports call.err (codes "desync: bad command line\n") → call.now ≡ call.before → call.out.now ≡ call.out.before → IsAnswered call 2
+answered_usage call fault faulty same reported reads writes = record {
   known = omega arith;
   done = λ e. absurd (omega arith);
   refused = λ e. absurd (omega arith);
@@ -148,6 +158,8 @@ answered_usage call fault faulty same reported = record {
   no_memory = λ e. absurd (omega arith);
   unwritten = λ e. absurd (omega arith);
   out_same = λ last low high. same;
+  failed_read = inr (inr reads);
+  failed_write = inr writes;
   exact_line = λ other also. inl refl;
   exact_fault = λ job line is told refused none written. absurd (no_fault call.words job fault is faulty);
   complete = λ job t is told meant none whole. absurd (no_fault call.words job fault is faulty);
@@ -155,30 +167,32 @@ answered_usage call fault faulty same reported = record {
 
 -- what ended a job says the status
 answered_stop : (A : Type 0) (call : Call) (job : Job) (stop : Stop) (status : ℕ) → job_of call.words ≡ Ok job
-    → Ends {A = A} (stages_of call.held job) (RoseIn call.before call.now) call.out (Err stop) → SaysStop stop call.err status → IsAnswered call status
-answered_stop A call job (Refused line) status is (refused, (text, left, written)) (e, reported) =
-    subst (λ (s : ℕ). IsAnswered call s) (sym e) (answered_refused call job line is refused (record { text = text; is_left = left; written = written }) reported)
-answered_stop A call job (Unread line) status is (unread, (text, left, written)) (e, reported) =
-    subst (λ (s : ℕ). IsAnswered call s) (sym e) (answered_unread call job line is unread (record { text = text; is_left = left; written = written }) reported)
-answered_stop A call job Unwritten status is (text, means, part, cause) (e, reported) =
-    subst (λ (s : ℕ). IsAnswered call s) (sym e) (answered_unwritten call job text is means part cause reported)
-answered_stop A call job Memory status is (text, left, written) (e, reported) =
-    subst (λ (s : ℕ). IsAnswered call s) (sym e) (answered_memory call (inr (job, is, record { text = text; is_left = left; written = written })) reported)
+    → Ends {A = A} (stages_of call.held job) (RoseIn call.before call.now) call.out (Err stop)
+    → UnreadOr stop (call.now ≡ call.before) → UnwrittenOr stop (call.out.now ≡ call.out.before) → SaysStop stop call.err status → IsAnswered call status
+answered_stop A call job (Refused line) status is (refused, (text, left, written)) reads writes (e, reported) =
+    subst (λ (s : ℕ). IsAnswered call s) (sym e) (answered_refused call job line is refused (record { text = text; is_left = left; written = written }) reported reads writes)
+answered_stop A call job (Unread line) status is (unread, (text, left, written)) reads writes (e, reported) =
+    subst (λ (s : ℕ). IsAnswered call s) (sym e) (answered_unread call job line is unread (record { text = text; is_left = left; written = written }) reported writes)
+answered_stop A call job Unwritten status is (text, means, part, cause) reads writes (e, reported) =
+    subst (λ (s : ℕ). IsAnswered call s) (sym e) (answered_unwritten call job text is means part cause reported reads)
+answered_stop A call job Memory status is (text, left, written) reads writes (e, reported) =
+    subst (λ (s : ℕ). IsAnswered call s) (sym e) (answered_memory call (inr (job, is, record { text = text; is_left = left; written = written })) reported writes)
 
 -- so does a job that is done
 pub answered_end : (call : Call) (job : Job) (ended : Result (Unit {0}) Stop) (status : ℕ) → job_of call.words ≡ Ok job
-    → Ends (stages_of call.held job) (RoseIn call.before call.now) call.out ended → SaysEnd ended call.err status → IsAnswered call status
-answered_end call job (Ok done) status is (text, means, written) (e, silent) =
-    subst (λ (s : ℕ). IsAnswered call s) (sym e) (answered_done call job text is means written silent)
-answered_end call job (Err stop) status is ends says = answered_stop (Unit {0}) call job stop status is ends says
+    → Ends (stages_of call.held job) (RoseIn call.before call.now) call.out ended
+    → UnlessUnread ended (call.now ≡ call.before) → UnlessUnwritten ended (call.out.now ≡ call.out.before) → SaysEnd ended call.err status → IsAnswered call status
+answered_end call job (Ok done) status is (text, means, written) reads writes (e, silent) =
+    subst (λ (s : ℕ). IsAnswered call s) (sym e) (answered_done call job text is means written silent reads writes)
+answered_end call job (Err stop) status is ends reads writes says = answered_stop (Unit {0}) call job stop status is ends reads writes says
 
 -- words that are no command line, or for which there was no memory, say the status
 pub answered_words : (call : Call) (fault : UsageFault) (status : ℕ) → (fault ≡ usage.Memory) ⊎ (job_of call.words ≡ Err fault)
-    → call.out.new ≡ call.out.old → SaysUsage fault call.err status → IsAnswered call status
-answered_words call usage.Line status (inl memory) same says = cc
-answered_words call usage.Line status (inr is) same (e, reported) = subst (λ (s : ℕ). IsAnswered call s) (sym e) (answered_usage call usage.Line is same reported)
-answered_words call usage.Number status (inl memory) same says = cc
-answered_words call usage.Number status (inr is) same (e, reported) = subst (λ (s : ℕ). IsAnswered call s) (sym e) (answered_usage call usage.Number is same reported)
-answered_words call usage.Mode status (inl memory) same says = cc
-answered_words call usage.Mode status (inr is) same (e, reported) = subst (λ (s : ℕ). IsAnswered call s) (sym e) (answered_usage call usage.Mode is same reported)
-answered_words call usage.Memory status either same (e, reported) = subst (λ (s : ℕ). IsAnswered call s) (sym e) (answered_memory call (inl same) reported)
+    → call.out.new ≡ call.out.old → call.now ≡ call.before → call.out.now ≡ call.out.before → SaysUsage fault call.err status → IsAnswered call status
+answered_words call usage.Line status (inl memory) same reads writes says = cc
+answered_words call usage.Line status (inr is) same reads writes (e, reported) = subst (λ (s : ℕ). IsAnswered call s) (sym e) (answered_usage call usage.Line is same reported reads writes)
+answered_words call usage.Number status (inl memory) same reads writes says = cc
+answered_words call usage.Number status (inr is) same reads writes (e, reported) = subst (λ (s : ℕ). IsAnswered call s) (sym e) (answered_usage call usage.Number is same reported reads writes)
+answered_words call usage.Mode status (inl memory) same reads writes says = cc
+answered_words call usage.Mode status (inr is) same reads writes (e, reported) = subst (λ (s : ℕ). IsAnswered call s) (sym e) (answered_usage call usage.Mode is same reported reads writes)
+answered_words call usage.Memory status either same reads writes (e, reported) = subst (λ (s : ℕ). IsAnswered call s) (sym e) (answered_memory call (inl same) reported writes)

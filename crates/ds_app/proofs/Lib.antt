@@ -15,4 +15,5 @@ pub mod Interleaved
 pub mod RunEnds
 pub mod StoppedEnds
 pub mod DemoSplit
+pub mod Since
 pub mod Summaries

@@ -138,7 +138,9 @@ WritesLast words = (job : Job) → job_of words ≡ Ok job → ¬ HasWindows job
 abbrev pub NoneFailed : Call → Type 0
 NoneFailed call = (which : Which) (name : List ℕ) → ¬ RoseIn call.before call.now which name
 
--- each status has its cause, and where nothing fails each cause has its status; 4 alone is free
+-- each status has its cause, and where nothing fails each cause has its status; 4 alone is free.
+-- A read that failed gives 3, or 4, and a write of the job's text that failed gives 5: with every
+-- other status the counts of faults are as they were
 pub record IsAnswered (call : Call) (status : ℕ) : Type 0 where
   pub known : status ≤ 5
   pub done : status ≡ 0 → IsDone call
@@ -151,6 +153,8 @@ pub record IsAnswered (call : Call) (status : ℕ) : Type 0 where
   pub unwritten : status ≡ 5 → IsUnwritten call
   pub out_same : WritesLast call.words → 1 ≤ status → status ≤ 4
       → call.out.new ≡ call.out.old
+  pub failed_read : (status ≡ 3) ⊎ (status ≡ 4) ⊎ (call.now ≡ call.before)
+  pub failed_write : (status ≡ 5) ⊎ (call.out.now ≡ call.out.before)
   pub exact_line : (fault : UsageFault) → job_of call.words ≡ Err fault
       → (status ≡ 2) ⊎ (status ≡ 4)
   pub exact_fault : (job : Job) (line : List ℕ) → job_of call.words ≡ Ok job → AreTold call.held job

@@ -3,7 +3,8 @@ ghost use Rattle.std.specs.Prelude.{◌≡◌, ◌≤◌, IfOk, length};
 ghost use Rattle.ds_outside.specs.Pen.{Puts};
 ghost use Rattle.ds_outside.specs.Writes.{Writes};
 ghost use Rattle.ds_rank.specs.Rank.{AreRanks};
-ghost use Rattle.ds_stage.specs.Ends.{Ends, Never, RoseIn, output_between};
+ghost use Rattle.ds_stage.specs.Ends.{Ends, Never, RoseIn, UnlessUnread, UnlessUnwritten};
+ghost use Rattle.ds_stage.specs.Ends.{output_between};
 ghost use Rattle.ds_stage.specs.AcceptStage.{rank_lines, ranks_stage, ranks_text};
 ghost use Rattle.ds_stage.specs.Stage.{then_stage};
 ghost use Rattle.ds_stage.specs.Stages.{netlist_stage};
@@ -33,6 +34,8 @@ pub fn accept<F: Files, O: Sink>(
         (output_between O.written O.faults out.old out.new) result }
 
     ensures same_held { F.held files.new ≡ F.held files.old }
+    ensures same_reads { UnlessUnread result (F.faults files.new ≡ F.faults files.old) }
+    ensures same_writes { UnlessUnwritten result (O.faults out.new ≡ O.faults out.old) }
 {
     let net = job.net.as_str();
     let graph = job.graph.as_str();
@@ -47,8 +50,10 @@ pub fn accept<F: Files, O: Sink>(
 
 // Writes `accepted`, and a line for each event of a plan, in order: the event and its rank.
 fn write_accepted<O: Sink>(alloc: Global, plan: &Plan<'_>, out: &mut O) -> Result<(), Stop>
-    ensures { Ends (ranks_stage plan.now) Never
+    ensures value { Ends (ranks_stage plan.now) Never
         (output_between O.written O.faults out.old out.new) result }
+
+    ensures same_writes { UnlessUnwritten result (O.faults out.new ≡ O.faults out.old) }
 {
     let ranks = ranks_of(alloc, plan)?;
     match write_ranks(plan, &ranks, out) {

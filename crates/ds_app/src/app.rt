@@ -1,7 +1,7 @@
 //! The top call, and which command does a job.
 ghost use Rattle.std.specs.Prelude.{◌≡◌, map};
 ghost use Rattle.ds_cmd.specs.Allowed.{AreAllowed};
-ghost use Rattle.ds_stage.specs.Ends.{Ends, RoseIn, output_between};
+ghost use Rattle.ds_stage.specs.Ends.{Ends, RoseIn, UnlessUnread, UnlessUnwritten, output_between};
 ghost use Rattle.ds_app.specs.Interleavings.{Interleavings};
 ghost use Rattle.ds_app.specs.Job.{stages_of};
 ghost use Rattle.ds_app.specs.Status.{Call, IsAnswered, Reports, SaysEnd, SaysStop, SaysUsage};
@@ -85,6 +85,8 @@ fn do_job<R: AllocGlobal + Threads + Sync, G: Gate, F: Files, O: Sink>(
         (RoseIn (F.faults files.old) (F.faults files.new))
         (output_between O.written O.faults out.old out.new) result }
     ensures same_held { F.held files.new ≡ F.held files.old }
+    ensures same_reads { UnlessUnread result (F.faults files.new ≡ F.faults files.old) }
+    ensures same_writes { UnlessUnwritten result (O.faults out.new ≡ O.faults out.old) }
 {
     let alloc = rt.alloc();
     match job {

@@ -1,6 +1,6 @@
 //! `check`: the report on a netlist.
 ghost use Rattle.std.specs.Prelude.{◌≡◌};
-ghost use Rattle.ds_stage.specs.Ends.{Ends, RoseIn, output_between};
+ghost use Rattle.ds_stage.specs.Ends.{Ends, RoseIn, UnlessUnread, UnlessUnwritten, output_between};
 ghost use Rattle.ds_stage.specs.Stage.{then_stage};
 ghost use Rattle.ds_stage.specs.Stages.{netlist_stage, report_stage};
 
@@ -22,6 +22,8 @@ pub fn check<F: Files, O: Sink>(
         (output_between O.written O.faults out.old out.new) result }
 
     ensures same_held { F.held files.new ≡ F.held files.old }
+    ensures same_reads { UnlessUnread result (F.faults files.new ≡ F.faults files.old) }
+    ensures same_writes { UnlessUnwritten result (O.faults out.new ≡ O.faults out.old) }
 {
     let netlist = read_netlist(alloc, files, net.as_str())?;
     write_report(&netlist, out)

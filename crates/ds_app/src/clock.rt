@@ -3,7 +3,7 @@ ghost use Rattle.std.specs.Prelude.{◌≡◌, IfOk};
 ghost use Rattle.ds_design.specs.Accepted.{IsAccepted};
 ghost use Rattle.ds_design.specs.Circuit.{initial_row};
 ghost use Rattle.ds_design.specs.InRange.{IsInRange};
-ghost use Rattle.ds_stage.specs.Ends.{Ends, RoseIn, output_between};
+ghost use Rattle.ds_stage.specs.Ends.{Ends, RoseIn, UnlessUnread, UnlessUnwritten, output_between};
 ghost use Rattle.ds_stage.specs.Stage.{then_stage};
 ghost use Rattle.ds_stage.specs.Stages.{netlist_stage};
 ghost use Rattle.ds_app.specs.JobStages.{clock_stage};
@@ -33,6 +33,8 @@ pub fn clock<F: Files, O: Sink>(
         (output_between O.written O.faults out.old out.new) result }
 
     ensures same_held { F.held files.new ≡ F.held files.old }
+    ensures same_reads { UnlessUnread result (F.faults files.new ≡ F.faults files.old) }
+    ensures same_writes { UnlessUnwritten result (O.faults out.new ≡ O.faults out.old) }
 {
     let net = job.net.as_str();
     let vec = job.vec.as_str();
@@ -54,6 +56,8 @@ fn write_clocked<F: Files, O: Sink>(
         (output_between O.written O.faults out.old out.new) result }
 
     ensures same_held { F.held files.new ≡ F.held files.old }
+    ensures same_reads { UnlessUnread result (F.faults files.new ≡ F.faults files.old) }
+    ensures same_writes { UnlessUnwritten result (O.faults out.new ≡ O.faults out.old) }
 {
     let mut state = first_row(alloc, netlist)?;
     let mut reader = VectorReader::new(netlist.columns().len(), most_vectors(false));

@@ -8,7 +8,7 @@ ghost use Rattle.ds_design.specs.Circuit.{initial_row};
 ghost use Rattle.ds_outside.specs.Writes.{Writes};
 ghost use Rattle.ds_netlist.specs.declared.fault.NetFault.TheVariants.{Memory};
 ghost use Rattle.ds_app.specs.DemoStage.{AreSums, demo_stage, summary_text};
-ghost use Rattle.ds_stage.specs.Ends.{Ends, Never, output_between};
+ghost use Rattle.ds_stage.specs.Ends.{Ends, Never, UnlessUnwritten, output_between};
 ghost use Rattle.ds_stage.specs.SplitStage.{split_stage};
 
 use ds_base::{Mode, OutOfMemory};
@@ -33,8 +33,10 @@ pub fn demo<R: AllocGlobal + Threads + Sync, G: Gate, O: Sink>(
     requires registers { (1 ≤ job.now.registers) × (job.now.registers ≤ most_of Clusters) }
     requires turns { job.now.turns ≤ most_of VectorLimit }
     requires jobs { (0 < job.now.jobs) × (job.now.jobs ≤ 64) }
-    ensures { Ends (demo_stage job.now.seed job.now.registers job.now.turns) Never
+    ensures value { Ends (demo_stage job.now.seed job.now.registers job.now.turns) Never
         (output_between O.written O.faults out.old out.new) result }
+
+    ensures same_writes { UnlessUnwritten result (O.faults out.new ≡ O.faults out.old) }
 {
     let Ok(sums) = sums_of(rt, job, gate) else {
         return Err(Stop::Memory);

@@ -1,6 +1,7 @@
 //! `graph`: the controller graph of a netlist, or its expansion.
 ghost use Rattle.std.specs.Prelude.{◌≡◌, ◌≤◌};
-ghost use Rattle.ds_stage.specs.Ends.{Ends, Never, RoseIn, output_between};
+ghost use Rattle.ds_stage.specs.Ends.{Ends, Never, RoseIn, UnlessUnread, UnlessUnwritten};
+ghost use Rattle.ds_stage.specs.Ends.{output_between};
 ghost use Rattle.ds_stage.specs.GraphStage.{controller_stage, drawn_stage};
 ghost use Rattle.ds_stage.specs.Stage.{then_stage};
 ghost use Rattle.ds_stage.specs.Stages.{netlist_stage};
@@ -29,6 +30,8 @@ pub fn graph<F: Files, O: Sink>(
         (output_between O.written O.faults out.old out.new) result }
 
     ensures same_held { F.held files.new ≡ F.held files.old }
+    ensures same_reads { UnlessUnread result (F.faults files.new ≡ F.faults files.old) }
+    ensures same_writes { UnlessUnwritten result (O.faults out.new ≡ O.faults out.old) }
 {
     let net = job.net.as_str();
     let netlist = read_netlist(alloc, files, net)?;
@@ -44,8 +47,10 @@ fn draw<O: Sink>(
     shake: bool,
     out: &mut O,
 ) -> Result<(), Stop>
-    ensures { Ends (controller_stage file.now shake latches.now) Never
+    ensures value { Ends (controller_stage file.now shake latches.now) Never
         (output_between O.written O.faults out.old out.new) result }
+
+    ensures same_writes { UnlessUnwritten result (O.faults out.new ≡ O.faults out.old) }
 {
     let graph = wanted_graph(alloc, file, latches, shake)?;
     write_graph(latches, &graph, out)
@@ -53,8 +58,10 @@ fn draw<O: Sink>(
 
 // Writes a graph of a split netlist, under the name of its main model.
 fn write_graph<O: Sink>(latches: &Latches<'_>, graph: &Marked, out: &mut O) -> Result<(), Stop>
-    ensures { Ends (drawn_stage latches.now graph.now) Never
+    ensures value { Ends (drawn_stage latches.now graph.now) Never
         (output_between O.written O.faults out.old out.new) result }
+
+    ensures same_writes { UnlessUnwritten result (O.faults out.new ≡ O.faults out.old) }
 {
     // Lent for the fact that nodes are few.
     let _edges = latches.edges();

@@ -1,7 +1,8 @@
 //! `period`: the exact period of the controller graph, or of one of the user's that is accepted.
 ghost use Rattle.std.specs.Prelude.{◌≡◌, ◌≤◌, length};
 ghost use Rattle.ds_period.specs.Controller.{HasPeriod};
-ghost use Rattle.ds_stage.specs.Ends.{Ends, Never, RoseIn, output_between};
+ghost use Rattle.ds_stage.specs.Ends.{Ends, Never, RoseIn, UnlessUnread, UnlessUnwritten};
+ghost use Rattle.ds_stage.specs.Ends.{output_between};
 ghost use Rattle.ds_stage.specs.PeriodStage.{IsPeriodText, timed_stage};
 ghost use Rattle.ds_stage.specs.Stage.{giving, then_stage};
 ghost use Rattle.ds_stage.specs.Stages.{netlist_stage};
@@ -31,6 +32,8 @@ pub fn period<F: Files, O: Sink>(
         (output_between O.written O.faults out.old out.new) result }
 
     ensures same_held { F.held files.new ≡ F.held files.old }
+    ensures same_reads { UnlessUnread result (F.faults files.new ≡ F.faults files.old) }
+    ensures same_writes { UnlessUnwritten result (O.faults out.new ≡ O.faults out.old) }
 {
     let net = job.net.as_str();
     let delays = job.delays.as_str();
@@ -59,6 +62,8 @@ fn measure<F: Files, O: Sink>(
         (output_between O.written O.faults out.old out.new) result }
 
     ensures same_held { F.held files.new ≡ F.held files.old }
+    ensures same_reads { UnlessUnread result (F.faults files.new ≡ F.faults files.old) }
+    ensures same_writes { UnlessUnwritten result (O.faults out.new ≡ O.faults out.old) }
 {
     let delays = read_timing(alloc, files, delays, graph)?;
     write_period(alloc, graph, &delays, out)
@@ -73,8 +78,10 @@ fn write_period<O: Sink>(
 ) -> Result<(), Stop>
     requires one_each { length delays.now ≡ length graph.now.arcs }
     requires period { HasPeriod graph.now }
-    ensures { Ends (giving (IsPeriodText graph.now delays.now)) Never
+    ensures value { Ends (giving (IsPeriodText graph.now delays.now)) Never
         (output_between O.written O.faults out.old out.new) result }
+
+    ensures same_writes { UnlessUnwritten result (O.faults out.new ≡ O.faults out.old) }
 {
     let period = ds_period::period(alloc, graph, delays)?;
     let text = period_text(alloc, graph, &period)?;

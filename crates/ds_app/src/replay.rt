@@ -1,6 +1,6 @@
 //! `replay`: the firings of a log fired again.
 ghost use Rattle.std.specs.Prelude.{◌≡◌, ◌≤◌, true};
-ghost use Rattle.ds_stage.specs.Ends.{Ends, RoseIn, output_between};
+ghost use Rattle.ds_stage.specs.Ends.{Ends, RoseIn, UnlessUnread, UnlessUnwritten, output_between};
 ghost use Rattle.ds_stage.specs.Stage.{then_stage};
 ghost use Rattle.ds_stage.specs.Stages.{netlist_stage};
 ghost use Rattle.ds_app.specs.JobStages.{replay_stage};
@@ -28,6 +28,8 @@ pub fn replay<F: Files, O: Sink>(
         (output_between O.written O.faults out.old out.new) result }
 
     ensures same_held { F.held files.new ≡ F.held files.old }
+    ensures same_reads { UnlessUnread result (F.faults files.new ≡ F.faults files.old) }
+    ensures same_writes { UnlessUnwritten result (O.faults out.new ≡ O.faults out.old) }
 {
     let net = job.net.as_str();
     let vec = job.vec.as_str();

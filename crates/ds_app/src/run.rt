@@ -8,7 +8,7 @@ ghost use Rattle.ds_run.specs.Ended.{IsSomeLog, WritesEnd};
 ghost use Rattle.ds_run.specs.Logged.{IsLogOf};
 ghost use Rattle.ds_run.specs.declared.fault.RunFault.TheVariants as faults;
 ghost use Rattle.ds_stage.specs.declared.stop.Stop.TheVariants.{Memory, Unwritten};
-ghost use Rattle.ds_stage.specs.Ends.{Ends, RoseIn, output_between};
+ghost use Rattle.ds_stage.specs.Ends.{Ends, RoseIn, UnlessUnread, UnlessUnwritten, output_between};
 ghost use Rattle.ds_stage.specs.StreamStage.{most_vectors as most_vectors_of};
 ghost use Rattle.ds_app.specs.Job.{stages_of};
 ghost use Rattle.ds_app.specs.RunStage.{planned_run_stage, streamed_run_stage};
@@ -42,6 +42,8 @@ pub fn run<R: AllocGlobal + Threads + Sync, G: Gate, F: Files, O: Sink>(
         (output_between O.written O.faults out.old out.new) result }
 
     ensures same_held { F.held files.new ≡ F.held files.old }
+    ensures same_reads { UnlessUnread result (F.faults files.new ≡ F.faults files.old) }
+    ensures same_writes { UnlessUnwritten result (O.faults out.new ≡ O.faults out.old) }
 {
     let alloc = rt.alloc();
     let net = job.net.as_str();
@@ -75,6 +77,8 @@ fn run_planned<R: AllocGlobal + Threads + Sync, G: Gate, F: Files, O: Sink>(
         (output_between O.written O.faults out.old out.new) result }
 
     ensures same_held { F.held files.new ≡ F.held files.old }
+    ensures same_reads { UnlessUnread result (F.faults files.new ≡ F.faults files.old) }
+    ensures same_writes { UnlessUnwritten result (O.faults out.new ≡ O.faults out.old) }
 {
     match job.stop {
         None => write_traced(workers, job, plan, files, out),
@@ -101,6 +105,8 @@ fn write_traced<R: AllocGlobal + Threads + Sync, G: Gate, F: Files, O: Sink>(
         (output_between O.written O.faults out.old out.new) result }
 
     ensures same_held { F.held files.new ≡ F.held files.old }
+    ensures same_reads { UnlessUnread result (F.faults files.new ≡ F.faults files.old) }
+    ensures same_writes { UnlessUnwritten result (O.faults out.new ≡ O.faults out.old) }
 {
     let alloc = workers.threads.alloc();
     let vec = job.vec.as_str();

@@ -2,7 +2,8 @@
 ghost use Rattle.std.specs.Prelude.{◌≡◌, ◌≤◌, ◌<◌, length};
 ghost use Rattle.ds_design.specs.Circuit.{columns};
 ghost use Rattle.ds_run.specs.Stopped.{IsStoppedText};
-ghost use Rattle.ds_stage.specs.Ends.{Ends, Never, RoseIn, output_between};
+ghost use Rattle.ds_stage.specs.Ends.{Ends, Never, RoseIn, UnlessUnread, UnlessUnwritten};
+ghost use Rattle.ds_stage.specs.Ends.{output_between};
 ghost use Rattle.ds_stage.specs.Stage.{giving};
 ghost use Rattle.ds_app.specs.RunStage.{stopped_run_stage};
 
@@ -38,6 +39,8 @@ pub fn write_at_stop<R: AllocGlobal + Threads + Sync, G: Gate, F: Files, O: Sink
         (output_between O.written O.faults out.old out.new) result }
 
     ensures same_held { F.held files.new ≡ F.held files.old }
+    ensures same_reads { UnlessUnread result (F.faults files.new ≡ F.faults files.old) }
+    ensures same_writes { UnlessUnwritten result (O.faults out.new ≡ O.faults out.old) }
 {
     let alloc = workers.threads.alloc();
     let plan = planned.plan;
@@ -65,6 +68,8 @@ fn write_halted<R: AllocGlobal + Threads + Sync, G: Gate, O: Sink>(
     ensures value { Ends (giving (IsStoppedText log halt.now.stop workers.now.jobs
         halt.now.plan.now halt.now.vectors.now.rows)) Never
         (output_between O.written O.faults out.old out.new) result }
+
+    ensures same_writes { UnlessUnwritten result (O.faults out.new ≡ O.faults out.old) }
 {
     match write_stopped(workers.threads.alloc(), halt, workers, log, out) {
         Ok(()) => Ok(()),

@@ -9,3 +9,4 @@ pub mod EntryLine
 pub mod Whole
 pub mod Lines
 pub mod ReadKept
+pub mod ArcsOfPlaces

@@ -30,7 +30,7 @@ use Rattle.ds_astg.proofs.Numbered.{count_few}
 use Rattle.ds_astg.proofs.Soundness.{one_value, then_was, all_stay, step_sound}
 
 -- a choice that is a fault or a value
-if_was : {A E : Type 0} (test : Bool) (x y : Result A E) (a : A) → (if test then x else y) ≡ Ok a → ((test ≡ true) × (x ≡ Ok a)) ⊎ ((test ≡ false) × (y ≡ Ok a))
+pub if_was : {A E : Type 0} (test : Bool) (x y : Result A E) (a : A) → (if test then x else y) ≡ Ok a → ((test ≡ true) × (x ≡ Ok a)) ⊎ ((test ≡ false) × (y ≡ Ok a))
 if_was true x y a is = inl (refl, is)
 if_was false x y a is = inr (refl, is)
 
@@ -122,7 +122,7 @@ length_in_order [] = refl
 length_in_order (a ∷ arcs) = let h = length_with a (in_order arcs) in let g = length_in_order arcs in omega (arith, h, g)
 
 -- where nothing is at fault, the graph of the parts is given
-given_of : (fault : Option (At AstgKind)) (given g : Graph) → unless_fault fault given ≡ Ok g → (fault ≡ None) × (given ≡ g)
+pub given_of : (fault : Option (At AstgKind)) (given g : Graph) → unless_fault fault given ≡ Ok g → (fault ≡ None) × (given ≡ g)
 given_of None given g is = (refl, (cc))
 given_of (Some fault) given g is = absurd (cc)
 
@@ -151,7 +151,7 @@ end_kept state g sound are is =
     subst IsKept same (parts_kept state sound are whole)
 
 -- what goes on behind a line goes on behind one without a fault
-behind_was : (line : ℕ) (r : Result State AstgKind) (rest : State → Result Graph (At AstgKind)) (g : Graph) → behind_line line r rest ≡ Ok g → (state : State) × (r ≡ Ok state) × (rest state ≡ Ok g)
+pub behind_was : (line : ℕ) (r : Result State AstgKind) (rest : State → Result Graph (At AstgKind)) (g : Graph) → behind_line line r rest ≡ Ok g → (state : State) × (r ≡ Ok state) × (rest state ≡ Ok g)
 behind_was line (Ok state) rest g is = (state, refl, is)
 behind_was line (Err kind) rest g is = absurd (cc)
 
@@ -167,7 +167,7 @@ from_kept (line ∷ lines) state g sound are is = elim (if_was (ends (graph_head
 ]
 
 -- before all lines
-start_sound : IsStateSound start
+pub start_sound : IsStateSound start
 start_sound = record {
   each = refl;
   places = record { each = refl; few = omega arith; ends = λ k d inside. absurd (omega arith) };

@@ -1,6 +1,7 @@
 //! Laws of the definitions, each the contract of a function that does nothing.
 ghost use Rattle.ds_astg_laws.specs.Laws.{EndsAreRead, EventsAreRead, PlacesAreRead};
 ghost use Rattle.ds_astg_laws.specs.Laws.{ReadGraphsAreKept, TokensAreRead};
+ghost use Rattle.ds_astg_laws.specs.Places.{ArcsAreOfPlaces};
 ghost use Rattle.ds_astg_laws.specs.Written.{WrittenIsRead, WrittenTextIsRead};
 ghost use Rattle.ds_astg_laws.specs.Worked.{GraphFaultsAreWorked, GraphsAreWorked, ToggleIsWorked};
 
@@ -47,6 +48,12 @@ pub fn written_is_read()
 /// The text that a graph is written as stands for it, where its lines are such as are printed.
 pub fn written_text_is_read()
     ensures { WrittenTextIsRead }
+{}
+
+/// The graph that lines stand for has an arc for each place that they have, with its tokens, and no
+/// other.
+pub fn arcs_are_of_places()
+    ensures { ArcsAreOfPlaces }
 {}
 
 /// The graph that lines stand for is kept: no event stands twice, and its arcs are in order.

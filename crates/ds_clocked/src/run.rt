@@ -1,7 +1,7 @@
 //! The clocked run, turn by turn: the nets are settled, the line is written, and each register
 //! takes its data net. The text goes through a buffer, and all memory is taken before the first
 //! byte.
-ghost use Rattle.std.specs.Prelude.{◌≡◌, ◌+◌, ◌^◌, ◌<◌, ◌≤◌, length, IfOk};
+ghost use Rattle.std.specs.Prelude.{◌≡◌, ◌≢◌, ◌+◌, ◌^◌, ◌<◌, ◌≤◌, length, IfOk};
 ghost use Rattle.ds_outside.specs.Fault.{Rose};
 ghost use Rattle.ds_design.specs.Circuit.{columns};
 ghost use Rattle.ds_clocked.specs.Appends.{AppendsLines, AppendsLinesPart, PutsLines, WritesLines};
@@ -45,6 +45,7 @@ pub fn simulate_from<O: Sink>(
     ensures same { result ≡ Err SimFault.Memory → O.written out.new ≡ O.written out.old }
 
     // When a write failed.
+    ensures same_faults { result ≢ Err SimFault.Write → O.faults out.new ≡ O.faults out.old }
     ensures never_falls { O.faults out.old ≤ O.faults out.new }
     ensures cause { result ≡ Err SimFault.Write → Rose (O.faults out.old) (O.faults out.new) }
 {

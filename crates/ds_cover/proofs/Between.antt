@@ -9,7 +9,7 @@ use Rattle.ds_base.specs.Values.{Row}
 use Rattle.ds_cover.specs.Bank.{Driven, after_tables, driven_at}
 use Rattle.ds_cover.proofs.Kept.{part_stays}
 use Rattle.ds_cover.specs.Selections.{AreBounded, Selected, lists_between}
-use Rattle.ds_cover.specs.Series.{AreAdded, AreEven, IsRunOfTables, Parts, in_table_order, numbers_in, numbers_of, part_of}
+use Rattle.ds_cover.specs.Series.{AreAdded, AreEven, FindsKnown, IsRunOfTables, Parts, in_table_order, numbers_in, numbers_of, part_of}
 use Rattle.ds_cover.specs.declared.run.Run.{Run}
 use Rattle.ds_cover.proofs.Left.{runs_each, runs_numbers}
 use Rattle.ds_cover.proofs.Runs.{All-drop, All-take}
@@ -82,12 +82,12 @@ pub record AreListed (parts : Parts) (bank : List Driven) (lists : List (List �
   pub listed : lists_between order runs bounds ≡ take n lists
 
 -- no list yet
-pub listed_none : (bank : List Driven) (lists : List (List ℕ)) → AreListed (record { twos = []; nines = []; threes = []; three_words = []; fours = [] }) bank lists 0 [] [] (0 ∷ [])
+pub listed_none : (bank : List Driven) (lists : List (List ℕ)) → AreListed (record { twos = []; nines = []; threes = []; three_words = []; fours = []; fives = []; sixes = [] }) bank lists 0 [] [] (0 ∷ [])
 listed_none bank lists = record {
   places = All-nil (λ k. k < length bank);
   even = record { twos = refl; threes = refl };
   bounded = record {
-    each = All-nil (IsRunOfTables (record { twos = []; nines = []; threes = []; three_words = []; fours = [] }) (in_table_order bank []));
+    each = All-nil (IsRunOfTables (record { twos = []; nines = []; threes = []; three_words = []; fours = []; fives = []; sixes = [] }) (in_table_order bank []));
     some = omega arith;
     inside = All-push (λ b. b ≤ 0) [] 0 (All-nil (λ b. b ≤ 0)) (omega arith);
     rising = λ i low. absurd (omega arith);
@@ -199,9 +199,19 @@ module _ (parts : Parts) (bank : List Driven) (order : List ℕ) (runs : List Ru
         subst (λ (rs : List Run). All (IsRunOfTables parts (in_table_order bank order)) rs) (sym part_is)
         (All-take (IsRunOfTables parts (in_table_order bank order)) (end - first) (drop first runs) (All-drop (IsRunOfTables parts (in_table_order bank order)) first runs bounded.each))
 
+    numbers_are : (part : List Run) → part ≡ part_of first end runs → numbers_of order part ≡ get_or (lists_between order runs bounds) n []
+    numbers_are part part_is =
+        ap (numbers_of order) (part_is ∙ (ap (λ (m : ℕ). part_of m end runs) at_first ∙ ap (λ (m : ℕ). part_of (get_or bounds n 0) m runs) at_end))
+        ∙ sym (between-at order runs bounds n there)
+
     pub set_list : (part : List Run) (initial nets : Row) → part ≡ part_of first end runs → nets ≡ after_tables bank initial (numbers_of order part)
         → nets ≡ after_tables selected.tables initial (get_or selected.lists n [])
     set_list part initial nets part_is set =
-        set ∙ (ap (λ (rs : List Run). after_tables bank initial (numbers_of order rs)) (part_is ∙ (ap (λ (m : ℕ). part_of m end runs) at_first ∙ ap (λ (m : ℕ). part_of (get_or bounds n 0) m runs) at_end))
-        ∙ (ap (λ (ns : List ℕ). after_tables bank initial ns) (sym (between-at order runs bounds n there))
-        ∙ ap (λ (s : Selected). after_tables s.tables initial (get_or s.lists n [])) is))
+        set ∙ (ap (λ (ns : List ℕ). after_tables bank initial ns) (numbers_are part part_is)
+        ∙ ap (λ (s : Selected). after_tables s.tables initial (get_or s.lists n [])) is)
+
+    pub finds_list : (part : List Run) (nets : Row) → part ≡ part_of first end runs → FindsKnown (in_table_order selected.tables (get_or selected.lists n [])) nets
+        → FindsKnown (in_table_order bank (numbers_of order part)) nets
+    finds_list part nets part_is known =
+        subst (λ (ns : List ℕ). FindsKnown (in_table_order bank ns) nets) (sym (numbers_are part part_is))
+        (subst (λ (s : Selected). FindsKnown (in_table_order s.tables (get_or s.lists n [])) nets) (sym is) known)

@@ -1,20 +1,11 @@
--- All runs of a series are set.
-use Rattle.std.proofs.Common.{◌≡◌, ◌≤◌, ◌-◌, ◌∙◌, ℕ, List, length, take, drop, ap, sym, subst}
-use Rattle.std.proofs.lemmas.List.{drop-map, drop_all, take-map}
+-- The tables of a run by their numbers.
+use Rattle.std.proofs.Common.{◌≡◌, ◌-◌, ◌∙◌, ℕ, List, take, drop, ap, sym}
+use Rattle.std.proofs.lemmas.List.{drop-map, take-map}
 use Rattle.ds_base.specs.Values.{Row}
 use Rattle.ds_cover.specs.Bank.{Driven, after_tables, driven_at}
-use Rattle.ds_cover.specs.Series.{Ordered, Parts, after_each, in_table_order, numbers_in, own_tables}
+use Rattle.ds_cover.specs.Series.{after_each, in_table_order, numbers_in, own_tables}
 use Rattle.ds_cover.specs.declared.run.Run.{Run}
 use Rattle.ds_cover.proofs.Known.{after_order}
-use Rattle.ds_cover.proofs.Runs.{IsSetTo, set_whole}
-
-module _ (parts : Parts) (bank : List Driven) (order : List ℕ) (initial nets : Row) (runs : List Run) (i : ℕ) (series : Ordered) (past : length runs ≤ i)
-    (is : series ≡ record { tables = bank; order = order }) where
-  ended : nets ≡ after_each (in_table_order bank order) initial → nets ≡ after_tables series.tables initial series.order
-  ended set = set ∙ (after_order bank order initial ∙ sym (ap (λ (s : Ordered). after_tables s.tables initial s.order) is))
-
-  pub set_end : IsSetTo parts (in_table_order bank order) initial nets (drop i runs) → nets ≡ after_tables series.tables initial series.order
-  set_end now = ended (set_whole parts (in_table_order bank order) initial nets (subst (λ (rs : List Run). IsSetTo parts (in_table_order bank order) initial nets rs) (drop_all i runs past) now))
 
 -- the tables of a run by their numbers
 pub own_in_order : (bank : List Driven) (order : List ℕ) (run : Run) → own_tables (in_table_order bank order) run ≡ in_table_order bank (numbers_in order run)

@@ -77,7 +77,7 @@ four_bits s t is One One Unknown x k0 k1 k2 k3 = absurd (k2 refl)
 four_bits s t is One Unknown w x k0 k1 k2 k3 = absurd (k1 refl)
 four_bits s t is Unknown v w x k0 k1 k2 k3 = absurd (k0 refl)
 
-all_six : (P : Value → Type 0) (u v w x y z : Value) → P u → P v → P w → P x → P y → P z → All P (u ∷ v ∷ w ∷ x ∷ y ∷ z ∷ [])
+pub all_six : (P : Value → Type 0) (u v w x y z : Value) → P u → P v → P w → P x → P y → P z → All P (u ∷ v ∷ w ∷ x ∷ y ∷ z ∷ [])
 all_six P u v w x y z a b c d e f =
     All-cons P u (v ∷ w ∷ x ∷ y ∷ z ∷ []) a (All-cons P v (w ∷ x ∷ y ∷ z ∷ []) b (All-cons P w (x ∷ y ∷ z ∷ []) c
     (All-cons P x (y ∷ z ∷ []) d (All-cons P y (z ∷ []) e (All-cons P z [] f (λ k g inside. absurd (omega arith)))))))

@@ -4,20 +4,23 @@ use Rattle.std.proofs.lemmas.List.{drop-append-le, drop_at, length-map, map-appe
 use Rattle.std.proofs.Common.{append-nil}
 use Rattle.ds_cover.specs.Bank.{Driven}
 use Rattle.ds_cover.specs.Kept.{IsQuick}
-use Rattle.ds_cover.specs.Small.{StandsFor, WordsFor, paired, small_four, small_three, small_two, worded_three, worded_two}
+use Rattle.ds_cover.specs.Small.{StandsFor, WordsFor, paired, small_five, small_four, small_six, small_three, small_two, worded_three, worded_two}
 use Rattle.ds_cover.specs.Series.{AreFor, AreRuns, IsAddedTo, IsOfKind, StandsForRun, IsRunOfTables, IsSmallAdded, Parts, joined_runs, own_tables, part_of}
 use Rattle.ds_cover.specs.declared.entry.Quick.{Quick}
 use Rattle.ds_cover.specs.declared.run.Kind.{Kind}
-use Rattle.ds_cover.specs.declared.run.Kind.TheVariants.{Twos, Threes, Fours, Others}
+use Rattle.ds_cover.specs.declared.run.Kind.TheVariants.{Twos, Threes, Fours, Fives, Sixes, Others}
 use Rattle.ds_cover.specs.declared.run.Run.{Run}
 use Rattle.ds_cover.specs.declared.nine.Nine.{Nine}
 use Rattle.ds_cover.specs.declared.small.Two.{Two}
 use Rattle.ds_cover.specs.declared.small.Three.{Three}
 use Rattle.ds_cover.specs.declared.small.Four.{Four}
+use Rattle.ds_cover.specs.declared.wide.Five.{Five}
+use Rattle.ds_cover.specs.declared.wide.Six.{Six}
 use Rattle.ds_cover.proofs.Kept.{part_stays}
 use Rattle.ds_cover.proofs.Folded.{four_for, three_for, two_for}
 use Rattle.ds_cover.proofs.Runs.{length-paired, paired-append}
 use Rattle.ds_cover.proofs.UpToThree.{three_words, two_words}
+use Rattle.ds_cover.proofs.Unfolded.{five_for, six_for}
 
 module _ {S : Type 0} (IsFor : S → Driven → Type 0) where
   standing-more : (smalls : List S) (tables : List Driven) (s : S) (t : Driven) → AreFor IsFor smalls tables → IsFor s t → AreFor IsFor (smalls ++ s ∷ []) (tables ++ t ∷ [])
@@ -83,12 +86,16 @@ pub record Grows (old new : Parts) : Type 0 where
   pub threes : List Three
   pub three_words : List ℕ
   pub fours : List Four
+  pub fives : List Five
+  pub sixes : List Six
   pub is : new ≡ record {
     twos = old.twos ++ twos;
     nines = old.nines ++ nines;
     threes = old.threes ++ threes;
     three_words = old.three_words ++ three_words;
     fours = old.fours ++ fours;
+    fives = old.fives ++ fives;
+    sixes = old.sixes ++ sixes;
   }
 
 module _ (old new : Parts) (even : length old.nines ≡ length old.twos) (even' : length old.three_words ≡ length old.threes) (grows : Grows old new) (tables others : List Driven) where
@@ -108,6 +115,12 @@ module _ (old new : Parts) (even : length old.nines ≡ length old.twos) (even' 
   kind_stays run low fits Fours part =
       subst (λ (p : Parts). StandsForRun StandsFor (map small_four p.fours) (tables ++ others) run) (sym grows.is)
       (subst (λ ss. StandsForRun StandsFor ss (tables ++ others) run) (sym (map-append small_four old.fours grows.fours)) (part_longer StandsFor (map small_four old.fours) (map small_four grows.fours) tables others run low fits part))
+  kind_stays run low fits Fives part =
+      subst (λ (p : Parts). StandsForRun StandsFor (map small_five p.fives) (tables ++ others) run) (sym grows.is)
+      (subst (λ ss. StandsForRun StandsFor ss (tables ++ others) run) (sym (map-append small_five old.fives grows.fives)) (part_longer StandsFor (map small_five old.fives) (map small_five grows.fives) tables others run low fits part))
+  kind_stays run low fits Sixes part =
+      subst (λ (p : Parts). StandsForRun StandsFor (map small_six p.sixes) (tables ++ others) run) (sym grows.is)
+      (subst (λ ss. StandsForRun StandsFor ss (tables ++ others) run) (sym (map-append small_six old.sixes grows.sixes)) (part_longer StandsFor (map small_six old.sixes) (map small_six grows.sixes) tables others run low fits part))
   kind_stays run low fits Others is = is
 
   pub run_stays : (run : Run) → IsRunOfTables old tables run → IsRunOfTables new (tables ++ others) run
@@ -116,16 +129,21 @@ module _ (old new : Parts) (even : length old.nines ≡ length old.twos) (even' 
       let l : length (tables ++ others) ≡ length tables + length others = length-append tables others in
       record { low = is.low; fits = omega arith; kind = kind_stays run is.low is.fits run.kind is.kind }
 
--- the lists
-abbrev lists_of : List Two → List Nine → List Three → List ℕ → List Four → Parts
-lists_of twos ws threes us fours = record { twos = twos; nines = ws; threes = threes; three_words = us; fours = fours }
-
-none_more : (twos : List Two) (ws : List Nine) (threes : List Three) (us : List ℕ) (fours : List Four) → lists_of twos ws threes us fours ≡ lists_of (twos ++ []) (ws ++ []) (threes ++ []) (us ++ []) (fours ++ [])
-none_more twos ws threes us fours = rw (append-nil twos, append-nil ws, append-nil threes, append-nil us, append-nil fours) refl
+-- the lists with none behind
+none_more : (p : Parts) → p ≡ record {
+  twos = p.twos ++ [];
+  nines = p.nines ++ [];
+  threes = p.threes ++ [];
+  three_words = p.three_words ++ [];
+  fours = p.fours ++ [];
+  fives = p.fives ++ [];
+  sixes = p.sixes ++ [];
+}
+none_more p = rw (append-nil p.twos, append-nil p.nines, append-nil p.threes, append-nil p.three_words, append-nil p.fours, append-nil p.fives, append-nil p.sixes) refl
 
 -- nothing is added
 pub grows_none : (parts : Parts) → Grows parts parts
-grows_none parts = record { twos = []; nines = []; threes = []; three_words = []; fours = []; is = none_more parts.twos parts.nines parts.threes parts.three_words parts.fours }
+grows_none parts = record { twos = []; nines = []; threes = []; three_words = []; fours = []; fives = []; sixes = []; is = none_more parts }
 
 -- what is added stands for the table
 module _ (quick : Quick) (old new : Parts) (even : length old.nines ≡ length old.twos) (even' : length old.three_words ≡ length old.threes) (tables : List Driven) (t : Driven) (run : Run)
@@ -158,6 +176,16 @@ module _ (quick : Quick) (old new : Parts) (even : length old.nines ≡ length o
       (subst (λ ss. StandsForRun StandsFor ss (tables ++ t ∷ []) run) (sym (map_push small_four old.fours four))
       (part_one StandsFor (map small_four old.fours) (small_four four) tables t run added.at_is (first ∙ sym (length-map old.fours small_four)) added.one
       (four_for quick t (small_four four) (is_quick few) drives folded t.cover.inputs refl small)))
+  kind_one Fives (five, few, small, folded, first, is) =
+      subst (λ (p : Parts). StandsForRun StandsFor (map small_five p.fives) (tables ++ t ∷ []) run) (sym is)
+      (subst (λ ss. StandsForRun StandsFor ss (tables ++ t ∷ []) run) (sym (map_push small_five old.fives five))
+      (part_one StandsFor (map small_five old.fives) (small_five five) tables t run added.at_is (first ∙ sym (length-map old.fives small_five)) added.one
+      (five_for quick t (small_five five) (is_quick few) drives folded t.cover.inputs refl small)))
+  kind_one Sixes (six, few, small, folded, first, is) =
+      subst (λ (p : Parts). StandsForRun StandsFor (map small_six p.sixes) (tables ++ t ∷ []) run) (sym is)
+      (subst (λ ss. StandsForRun StandsFor ss (tables ++ t ∷ []) run) (sym (map_push small_six old.sixes six))
+      (part_one StandsFor (map small_six old.sixes) (small_six six) tables t run added.at_is (first ∙ sym (length-map old.sixes small_six)) added.one
+      (six_for quick t (small_six six) (is_quick few) drives folded t.cover.inputs refl small)))
   kind_one Others (first, is) = first ∙ sym added.at_is
 
   longer : length (tables ++ t ∷ []) ≡ length tables + 1
@@ -195,6 +223,16 @@ module _ (quick : Quick) (old new : Parts) (even : length old.nines ≡ length o
         (subst (λ ss. StandsForRun StandsFor ss (tables ++ t ∷ []) (joined_runs last run)) (sym (map_push small_four old.fours four))
         (part_more StandsFor (map small_four old.fours) (small_four four) tables t last run is_run.low whole meets (first ∙ sym (length-map old.fours small_four)) added.one part
         (four_for quick t (small_four four) (is_quick few) drives folded t.cover.inputs refl small)))
+    kind_more Fives (five, few, small, folded, first, is) part =
+        subst (λ (p : Parts). StandsForRun StandsFor (map small_five p.fives) (tables ++ t ∷ []) (joined_runs last run)) (sym is)
+        (subst (λ ss. StandsForRun StandsFor ss (tables ++ t ∷ []) (joined_runs last run)) (sym (map_push small_five old.fives five))
+        (part_more StandsFor (map small_five old.fives) (small_five five) tables t last run is_run.low whole meets (first ∙ sym (length-map old.fives small_five)) added.one part
+        (five_for quick t (small_five five) (is_quick few) drives folded t.cover.inputs refl small)))
+    kind_more Sixes (six, few, small, folded, first, is) part =
+        subst (λ (p : Parts). StandsForRun StandsFor (map small_six p.sixes) (tables ++ t ∷ []) (joined_runs last run)) (sym is)
+        (subst (λ ss. StandsForRun StandsFor ss (tables ++ t ∷ []) (joined_runs last run)) (sym (map_push small_six old.sixes six))
+        (part_more StandsFor (map small_six old.sixes) (small_six six) tables t last run is_run.low whole meets (first ∙ sym (length-map old.sixes small_six)) added.one part
+        (six_for quick t (small_six six) (is_quick few) drives folded t.cover.inputs refl small)))
     kind_more Others (first, is) at = at
 
     run_more : last.kind ≡ run.kind → IsRunOfTables new (tables ++ t ∷ []) (joined_runs last run)
@@ -215,7 +253,9 @@ module _ (quick : Quick) (old new : Parts) (even : length old.nines ≡ length o
     threes = [];
     three_words = [];
     fours = [];
-    is = is ∙ (let a = append-nil old.threes in let b = append-nil old.three_words in let c = append-nil old.fours in rw (a, b, c) refl);
+    fives = [];
+    sixes = [];
+    is = is ∙ rw (append-nil old.threes, append-nil old.three_words, append-nil old.fours, append-nil old.fives, append-nil old.sixes) refl;
   }
   grown Threes (three, word, few, small, folded, worded, first, is) = record {
     twos = [];
@@ -223,7 +263,9 @@ module _ (quick : Quick) (old new : Parts) (even : length old.nines ≡ length o
     threes = three ∷ [];
     three_words = word ∷ [];
     fours = [];
-    is = is ∙ (let a = append-nil old.twos in let b = append-nil old.nines in let c = append-nil old.fours in rw (a, b, c) refl);
+    fives = [];
+    sixes = [];
+    is = is ∙ rw (append-nil old.twos, append-nil old.nines, append-nil old.fours, append-nil old.fives, append-nil old.sixes) refl;
   }
   grown Fours (four, few, small, folded, first, is) = record {
     twos = [];
@@ -231,9 +273,31 @@ module _ (quick : Quick) (old new : Parts) (even : length old.nines ≡ length o
     threes = [];
     three_words = [];
     fours = four ∷ [];
-    is = is ∙ (let a = append-nil old.twos in let b = append-nil old.nines in let c = append-nil old.threes in let d = append-nil old.three_words in rw (a, b, c, d) refl);
+    fives = [];
+    sixes = [];
+    is = is ∙ rw (append-nil old.twos, append-nil old.nines, append-nil old.threes, append-nil old.three_words, append-nil old.fives, append-nil old.sixes) refl;
   }
-  grown Others (first, is) = record { twos = []; nines = []; threes = []; three_words = []; fours = []; is = is ∙ none_more old.twos old.nines old.threes old.three_words old.fours }
+  grown Fives (five, few, small, folded, first, is) = record {
+    twos = [];
+    nines = [];
+    threes = [];
+    three_words = [];
+    fours = [];
+    fives = five ∷ [];
+    sixes = [];
+    is = is ∙ rw (append-nil old.twos, append-nil old.nines, append-nil old.threes, append-nil old.three_words, append-nil old.fours, append-nil old.sixes) refl;
+  }
+  grown Sixes (six, few, small, folded, first, is) = record {
+    twos = [];
+    nines = [];
+    threes = [];
+    three_words = [];
+    fours = [];
+    fives = [];
+    sixes = six ∷ [];
+    is = is ∙ rw (append-nil old.twos, append-nil old.nines, append-nil old.threes, append-nil old.three_words, append-nil old.fours, append-nil old.fives) refl;
+  }
+  grown Others (first, is) = record { twos = []; nines = []; threes = []; three_words = []; fours = []; fives = []; sixes = []; is = is ∙ none_more old }
 
   pub grows : Grows old new
   grows = grown run.kind added.kind
@@ -246,6 +310,10 @@ module _ (quick : Quick) (old new : Parts) (even : length old.nines ≡ length o
       subst (λ (p : Parts). (length p.nines ≡ length p.twos) × (length p.three_words ≡ length p.threes)) (sym is)
       (let a = length-append old.threes (three ∷ []) in let b = length-append old.three_words (word ∷ []) in (even, omega arith))
   evens Fours (four, few, small, folded, first, is) =
+      subst (λ (p : Parts). (length p.nines ≡ length p.twos) × (length p.three_words ≡ length p.threes)) (sym is) (even, even')
+  evens Fives (five, few, small, folded, first, is) =
+      subst (λ (p : Parts). (length p.nines ≡ length p.twos) × (length p.three_words ≡ length p.threes)) (sym is) (even, even')
+  evens Sixes (six, few, small, folded, first, is) =
       subst (λ (p : Parts). (length p.nines ≡ length p.twos) × (length p.three_words ≡ length p.threes)) (sym is) (even, even')
   evens Others (first, is) =
       subst (λ (p : Parts). (length p.nines ≡ length p.twos) × (length p.three_words ≡ length p.threes)) (sym is) (even, even')

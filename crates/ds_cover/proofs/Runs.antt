@@ -1,26 +1,17 @@
 -- Tables that are set run by run.
-use Rattle.std.proofs.Common.{◌≡◌, ℕ, zero, suc, ◌+◌, ◌-◌, ◌<◌, ◌≤◌, List, [], ◌∷◌, ◌++◌, length, take, drop, map, get_or, set, refl, ap, arith, sym, ◌∙◌, subst}
+use Rattle.std.proofs.Common.{◌≡◌, ℕ, zero, suc, ◌+◌, ◌-◌, ◌<◌, ◌≤◌, List, [], ◌∷◌, ◌++◌, length, take, drop, map, set, refl, ap, arith, sym, ◌∙◌, subst}
 use Rattle.std.specs.Prelude.{All}
-use Rattle.std.proofs.Math.Seq.{drop-cons}
-use Rattle.std.proofs.lemmas.List.{drop-map, get_or-map, length-map, take-append-drop, take-map}
+use Rattle.std.proofs.lemmas.List.{drop-map, get_or-map, length-map, take-map}
 use Rattle.std.proofs.lemmas.List.Elements.{All-head, All-tail, All-cons}
 use Rattle.ds_base.specs.Values.{Row}
 use Rattle.ds_cover.specs.Packed.{packed_value}
 use Rattle.ds_cover.specs.Bank.{Driven, AreNetsWithin, driven_at}
 use Rattle.ds_cover.specs.Small.{IsSmallWithin, Small, StandsFor, Worded, WordsFor, after_smalls, after_worded, paired, small_value, worded_value}
-use Rattle.ds_cover.specs.Series.{AreFor, AreRuns, FindsKnown, StandsForRun, IsRunOfTables, Parts, after_each, in_table_order, own_tables, part_of}
+use Rattle.ds_cover.specs.Series.{AreFor, FindsKnown, StandsForRun, after_each, in_table_order, own_tables, part_of}
 use Rattle.ds_cover.specs.declared.run.Run.{Run}
 use Rattle.ds_cover.proofs.Lent.{length-set}
 
-pub length-after_each : (tables : List Driven) (nets : Row) → length (after_each tables nets) ≡ length nets
-length-after_each [] nets = refl
-length-after_each (t ∷ tables) nets = length-after_each tables (set nets t.output (packed_value t.cover nets)) ∙ length-set nets t.output (packed_value t.cover nets)
-
-pub after_each-append : (these those : List Driven) (nets : Row) → after_each (these ++ those) nets ≡ after_each those (after_each these nets)
-after_each-append [] those nets = refl
-after_each-append (t ∷ these) those nets = after_each-append these those (set nets t.output (packed_value t.cover nets))
-
-finds-split : (these those : List Driven) (nets : Row) → FindsKnown (these ++ those) nets → FindsKnown these nets × FindsKnown those (after_each these nets)
+pub finds-split : (these those : List Driven) (nets : Row) → FindsKnown (these ++ those) nets → FindsKnown these nets × FindsKnown those (after_each these nets)
 finds-split [] those nets known = (tt, known)
 finds-split (t ∷ these) those nets (here, rest) =
     let (a, b) = finds-split these those (set nets t.output (packed_value t.cover nets)) rest in
@@ -76,67 +67,6 @@ pub drop-drop : {A : Type 0} (n m : ℕ) (xs : List A) → drop n (drop m xs) �
 drop-drop n zero xs = (let e : 0 + n ≡ n = omega arith in ap (λ i. drop i xs) (sym e))
 drop-drop n (suc m) [] = drop-none n ∙ sym (drop-none (suc m + n))
 drop-drop n (suc m) (x ∷ xs) = (let e : suc m + n ≡ suc (m + n) = omega arith in drop-drop n m xs ∙ ap (λ i. drop i (x ∷ xs)) (sym e))
-
--- some runs are behind, with what is left
-pub record IsSetTo (parts : Parts) (tables : List Driven) (initial nets : Row) (runs : List Run) : Type 0 where
-  pub at : ℕ
-  pub left : AreRuns parts tables at runs
-  pub same : length nets ≡ length initial
-  pub known : FindsKnown (drop at tables) nets
-  pub rest : after_each tables initial ≡ after_each (drop at tables) nets
-
-module _ (parts : Parts) (tables : List Driven) (initial nets : Row) (run : Run) (runs : List Run) (now : IsSetTo parts tables initial nets (run ∷ runs)) where
-  abbrev count : ℕ
-  count = run.end - run.first
-
-  own_is : drop now.at tables ≡ own_tables tables run ++ drop (now.at + count) tables
-  own_is =
-      let e : run.at ≡ now.at = now.left.0 in
-      sym (take-append-drop count (drop now.at tables)) ∙ (ap (λ ts. take count (drop now.at tables) ++ ts) (drop-drop count now.at tables)
-      ∙ ap (λ n. take count (drop n tables) ++ drop (now.at + count) tables) (sym e))
-
-  pub run_is : IsRunOfTables parts tables run
-  run_is = now.left.1
-
-  both_known : FindsKnown (own_tables tables run) nets × FindsKnown (drop (now.at + count) tables) (after_each (own_tables tables run) nets)
-  both_known = finds-split (own_tables tables run) (drop (now.at + count) tables) nets (subst (λ ts. FindsKnown ts nets) own_is now.known)
-
-  pub run_known : FindsKnown (own_tables tables run) nets
-  run_known = both_known.0
-
-  pub set_more : (nets' : Row) → nets' ≡ after_each (own_tables tables run) nets → IsSetTo parts tables initial nets' runs
-  set_more nets' is = record {
-    at = now.at + count;
-    left = now.left.2;
-    same = ap length is ∙ (length-after_each (own_tables tables run) nets ∙ now.same);
-    known = subst (λ r. FindsKnown (drop (now.at + count) tables) r) (sym is) both_known.1;
-    rest = now.rest ∙ (ap (λ ts. after_each ts nets) own_is ∙ (after_each-append (own_tables tables run) (drop (now.at + count) tables) nets
-        ∙ ap (after_each (drop (now.at + count) tables)) (sym is)));
-  }
-
-module _ (parts : Parts) (tables bank : List Driven) (initial nets : Row) (runs : List Run) (i : ℕ) (d : Run) (inside : i < length runs) (same : tables ≡ bank)
-    (now : IsSetTo parts tables initial nets (drop i runs)) where
-  next_run : IsSetTo parts tables initial nets (get_or runs i d ∷ drop (i + 1) runs)
-  next_run =
-      let n : suc i ≡ i + 1 = omega arith in
-      subst (λ rs. IsSetTo parts tables initial nets rs) (drop-cons runs i d inside ∙ ap (λ m. get_or runs i d ∷ drop m runs) n) now
-
-  pub step_known : FindsKnown (own_tables bank (get_or runs i d)) nets
-  step_known = subst (λ ts. FindsKnown (own_tables ts (get_or runs i d)) nets) same (run_known parts tables initial nets (get_or runs i d) (drop (i + 1) runs) next_run)
-
-  pub step_more : (nets' : Row) → nets' ≡ after_each (own_tables bank (get_or runs i d)) nets → IsSetTo parts tables initial nets' (drop (i + 1) runs)
-  step_more nets' is =
-      set_more parts tables initial nets (get_or runs i d) (drop (i + 1) runs) next_run nets'
-      (is ∙ ap (λ ts. after_each (own_tables ts (get_or runs i d)) nets) (sym same))
-
-drop-all : {A : Type 0} (xs : List A) → drop (length xs) xs ≡ []
-drop-all [] = refl
-drop-all (x ∷ xs) = drop-all xs
-
-pub set_whole : (parts : Parts) (tables : List Driven) (initial nets : Row) → IsSetTo parts tables initial nets [] → nets ≡ after_each tables initial
-set_whole parts tables initial nets now =
-    let none : drop now.at tables ≡ [] = ap (λ n. drop n tables) now.left ∙ drop-all tables in
-    sym (now.rest ∙ ap (λ ts. after_each ts nets) none)
 
 -- the tables of a bank are within, in an order too
 pub order_within : (bank : List Driven) (order : List ℕ) (nets : Row) → All (λ k. k < length bank) order → All (λ t. AreNetsWithin t nets) bank → All (λ t. AreNetsWithin t nets) (in_table_order bank order)

@@ -6,18 +6,22 @@ use Rattle.ds_cover.specs.Cover.{values_at}
 use Rattle.ds_cover.specs.Packed.{packed_value}
 use Rattle.ds_cover.specs.Bank.{Driven, driven_at}
 use Rattle.ds_cover.specs.Ternary.{IsWordOf}
-use Rattle.ds_cover.specs.Small.{IsFolded, StandsFor, WordsFor, nine_of, paired, small_four}
-use Rattle.ds_cover.specs.Small.{small_three, small_two, worded_three, worded_two}
+use Rattle.ds_cover.specs.Small.{IsFolded, StandsFor, WordsFor, nine_of, paired, small_five}
+use Rattle.ds_cover.specs.Small.{small_four, small_six, small_three, small_two, worded_three}
+use Rattle.ds_cover.specs.Small.{worded_two}
 use Rattle.ds_cover.specs.declared.entry.Quick.{Quick}
 use Rattle.ds_cover.specs.declared.lists.Lists.{Lists}
 use Rattle.ds_cover.specs.declared.mask.Mask.{Mask}
 use Rattle.ds_cover.specs.declared.run.Kind.{Kind}
-use Rattle.ds_cover.specs.declared.run.Kind.TheVariants.{Twos, Threes, Fours, Others}
+use Rattle.ds_cover.specs.declared.run.Kind.TheVariants.{Twos, Threes, Fours, Fives}
+use Rattle.ds_cover.specs.declared.run.Kind.TheVariants.{Sixes, Others}
 use Rattle.ds_cover.specs.declared.run.Run.{Run}
 use Rattle.ds_cover.specs.declared.nine.Nine.{Nine}
 use Rattle.ds_cover.specs.declared.small.Two.{Two}
 use Rattle.ds_cover.specs.declared.small.Three.{Three}
 use Rattle.ds_cover.specs.declared.small.Four.{Four}
+use Rattle.ds_cover.specs.declared.wide.Five.{Five}
+use Rattle.ds_cover.specs.declared.wide.Six.{Six}
 
 -- packed tables by their numbers, and the order in which they are set
 pub record Ordered : Type 0 where
@@ -52,6 +56,8 @@ pub record Parts : Type 0 where
   pub threes : List Three
   pub three_words : List ℕ
   pub fours : List Four
+  pub fives : List Five
+  pub sixes : List Six
 
 -- as they are kept
 abbrev pub parts_of_lists : Lists → Parts
@@ -61,6 +67,8 @@ parts_of_lists lists = record {
   threes = lists.threes.items;
   three_words = lists.three_words.items;
   fours = lists.fours.items;
+  fives = lists.fives.items;
+  sixes = lists.sixes.items;
 }
 
 -- one for each table
@@ -88,6 +96,8 @@ IsOfKind parts tables run Twos = StandsForRun StandsFor (map small_two parts.two
 IsOfKind parts tables run Threes = StandsForRun StandsFor (map small_three parts.threes) tables run
     × StandsForRun WordsFor (paired worded_three parts.threes parts.three_words) tables run
 IsOfKind parts tables run Fours = StandsForRun StandsFor (map small_four parts.fours) tables run
+IsOfKind parts tables run Fives = StandsForRun StandsFor (map small_five parts.fives) tables run
+IsOfKind parts tables run Sixes = StandsForRun StandsFor (map small_six parts.sixes) tables run
 IsOfKind parts tables run Others = run.first ≡ run.at
 
 -- a run of these tables
@@ -153,6 +163,8 @@ IsAddedTo quick masks on inputs at before after first Twos =
       threes = before.threes;
       three_words = before.three_words;
       fours = before.fours;
+      fives = before.fives;
+      sixes = before.sixes;
     })
 IsAddedTo quick masks on inputs at before after first Threes =
     (three : Three) × (word : ℕ) × (quick.few ≡ true) × (inputs ≡ 3)
@@ -164,6 +176,8 @@ IsAddedTo quick masks on inputs at before after first Threes =
       threes = before.threes ++ three ∷ [];
       three_words = before.three_words ++ word ∷ [];
       fours = before.fours;
+      fives = before.fives;
+      sixes = before.sixes;
     })
 IsAddedTo quick masks on inputs at before after first Fours =
     (four : Four) × (quick.few ≡ true) × (inputs ≡ 4) × IsFolded 4 quick (small_four four)
@@ -174,6 +188,32 @@ IsAddedTo quick masks on inputs at before after first Fours =
       threes = before.threes;
       three_words = before.three_words;
       fours = before.fours ++ four ∷ [];
+      fives = before.fives;
+      sixes = before.sixes;
+    })
+IsAddedTo quick masks on inputs at before after first Fives =
+    (five : Five) × (quick.few ≡ true) × (inputs ≡ 5) × IsFolded 5 quick (small_five five)
+    × (first ≡ length before.fives)
+    × (after ≡ record {
+      twos = before.twos;
+      nines = before.nines;
+      threes = before.threes;
+      three_words = before.three_words;
+      fours = before.fours;
+      fives = before.fives ++ five ∷ [];
+      sixes = before.sixes;
+    })
+IsAddedTo quick masks on inputs at before after first Sixes =
+    (six : Six) × (quick.few ≡ true) × (inputs ≡ 6) × IsFolded 6 quick (small_six six)
+    × (first ≡ length before.sixes)
+    × (after ≡ record {
+      twos = before.twos;
+      nines = before.nines;
+      threes = before.threes;
+      three_words = before.three_words;
+      fours = before.fours;
+      fives = before.fives;
+      sixes = before.sixes ++ six ∷ [];
     })
 IsAddedTo quick masks on inputs at before after first Others = (first ≡ at) × (after ≡ before)
 

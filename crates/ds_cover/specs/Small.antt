@@ -1,4 +1,4 @@
--- Tables of up to four inputs by one word, and nets after some of them are set.
+-- Tables of up to six inputs by one word, and nets after some of them are set.
 use Rattle.std.specs.Prelude.{◌≡◌, ℕ, ◌+◌, ◌*◌, ◌-◌, ◌<◌, ◌/◌, ◌%◌, ◌^◌, List, [], ◌∷◌, All, length}
 use Rattle.std.specs.Prelude.{map, take, slice_index_or, slice_set}
 use Rattle.std.specs.Int.{bit_at}
@@ -16,6 +16,8 @@ use Rattle.ds_cover.specs.declared.nine.Nine.{Nine}
 use Rattle.ds_cover.specs.declared.small.Two.{Two}
 use Rattle.ds_cover.specs.declared.small.Three.{Three}
 use Rattle.ds_cover.specs.declared.small.Four.{Four}
+use Rattle.ds_cover.specs.declared.wide.Five.{Five}
+use Rattle.ds_cover.specs.declared.wide.Six.{Six}
 
 -- a table by one word: its inputs, its values, and the net that it drives
 pub record Small : Type 0 where
@@ -34,6 +36,14 @@ small_three t = record { nets = t.nets; truth = t.truth; output = t.output }
 -- of four
 abbrev pub small_four : Four → Small
 small_four t = record { nets = t.nets; truth = t.truth; output = t.output }
+
+-- of five
+abbrev pub small_five : Five → Small
+small_five t = record { nets = t.nets; truth = t.truth; output = t.output }
+
+-- of six
+abbrev pub small_six : Six → Small
+small_six t = record { nets = t.nets; truth = t.truth; output = t.output }
 
 -- the bit of the word that the values of the inputs number
 abbrev pub small_value : Small → Row → Value

@@ -15,7 +15,7 @@
 //! `laws` has what follows from that meaning alone. That the characters of a row are `0`, `1` or
 //! `-` is not asked: another one matches no known value.
 //!
-//! The tables of a bank in the order in which they are set, those of up to four inputs in lists by
+//! The tables of a bank in the order in which they are set, those of up to six inputs in lists by
 //! kind. A `Series` keeps a bank and an order of its tables; `Selections` keep several lists of
 //! some tables of a bank that is lent. `Series::set_all` and `Selections::set` give what the tables
 //! of the order or of a list drive its value, one after another: they read lists of nine values, or
@@ -39,6 +39,7 @@ mod small;
 mod table;
 mod ternary;
 mod truth;
+mod wide;
 mod word;
 
 pub use bank::Bank;

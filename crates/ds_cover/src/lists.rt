@@ -1,15 +1,19 @@
-//! The tables of up to four inputs, in lists by kind.
-ghost use Rattle.std.specs.Prelude.{◌≡◌, ◌<◌, ◌-◌, ◌^◌, [], length, IfOk};
+//! The tables of up to six inputs, in lists by kind.
+ghost use Rattle.std.specs.Prelude.{◌≡◌, ◌<◌, ◌≤◌, ◌-◌, ◌^◌, ℕ, true, Bool, List, [], length};
+ghost use Rattle.std.specs.Prelude.{IfOk};
 ghost use Rattle.ds_cover.specs.Bank.{driven_at};
-ghost use Rattle.ds_cover.specs.Series.{IsSmallAdded, parts_of_lists};
+ghost use Rattle.ds_cover.specs.Series.{IsAddedTo, IsSmallAdded, parts_of_lists};
+ghost use Rattle.ds_cover.specs.Ternary.{IsWordOf};
+ghost use Rattle.ds_cover.specs.declared.mask.Mask.{Mask};
 
 use crate::nine::Nine;
 use crate::run::{Kind, Run};
 use crate::small::{Four, Three, Two};
+use crate::wide::{Five, Six};
 use crate::{Bank, Quick};
 use std::alloc::{AllocError, Global};
 
-/// Tables of up to four inputs, in lists by kind, and beside those of up to three what they are for
+/// Tables of up to six inputs, in lists by kind, and beside those of up to three what they are for
 /// all values, also unknown ones.
 pub struct Lists {
     /// Of one or two inputs.
@@ -22,6 +26,10 @@ pub struct Lists {
     pub three_words: Vec<u64>,
     /// Of four.
     pub fours: Vec<Four>,
+    /// Of five.
+    pub fives: Vec<Five>,
+    /// Of six.
+    pub sixes: Vec<Six>,
 }
 
 impl Drop for Lists {
@@ -32,6 +40,8 @@ impl Drop for Lists {
             threes: _,
             three_words: _,
             fours: _,
+            fives: _,
+            sixes: _,
         } = self;
     }
 }
@@ -45,6 +55,8 @@ impl Lists {
           threes = [];
           three_words = [];
           fours = [];
+          fives = [];
+          sixes = [];
         } }
     {
         Lists {
@@ -53,6 +65,8 @@ impl Lists {
             threes: Vec::new(alloc),
             three_words: Vec::new(alloc),
             fours: Vec::new(alloc),
+            fives: Vec::new(alloc),
+            sixes: Vec::new(alloc),
         }
     }
 
@@ -71,31 +85,91 @@ impl Lists {
             (driven_at bank.now table).cover.on (length (driven_at bank.now table).cover.inputs) at
             (parts_of_lists self.old) (parts_of_lists self.new)) }
     {
-        let inputs = bank.inputs(table).len();
-        let mut kind = Kind::Others;
-        let mut first = at;
-        if quick.few {
-            if inputs <= 2 {
-                kind = Kind::Twos;
-                first = self.twos.len();
-                self.twos.push(Two::of(quick))?;
-                self.nines.push(Nine::of(bank.word(table)))?;
-            } else if inputs == 3 {
-                kind = Kind::Threes;
-                first = self.threes.len();
-                self.threes.push(Three::of(quick))?;
-                self.three_words.push(bank.word(table))?;
-            } else if inputs == 4 {
-                kind = Kind::Fours;
-                first = self.fours.len();
-                self.fours.push(Four::of(quick))?;
-            }
-        }
+        let (kind, first) = self.add_kind(quick, bank, table, at)?;
         Ok(Run {
             kind,
             at,
             first,
             end: first + 1,
         })
+    }
+
+    // The same, and says in which list, and at which place there.
+    fn add_kind(
+        &mut self,
+        quick: &Quick,
+        bank: &Bank,
+        table: usize,
+        at: usize,
+    ) -> Result<(Kind, usize), AllocError>
+        requires { table < length bank.now }
+        ensures { IfOk result (λ r. IsAddedTo quick.now (driven_at bank.now table).cover.masks
+            (driven_at bank.now table).cover.on (length (driven_at bank.now table).cover.inputs) at
+            (parts_of_lists self.old) (parts_of_lists self.new) r.1 r.0) }
+    {
+        if !quick.few {
+            return Ok((Kind::Others, at));
+        }
+        let inputs = bank.inputs(table).len();
+        if inputs <= 3 {
+            self.add_worded(quick, inputs, bank.word(table))
+        } else {
+            self.add_wide(quick, inputs, at)
+        }
+    }
+
+    // The same of one of up to three inputs, with its word.
+    fn add_worded(
+        &mut self,
+        quick: &Quick,
+        inputs: usize,
+        word: u64,
+    ) -> Result<(Kind, usize), AllocError>
+        requires few { quick.now.few ≡ true }
+        requires inputs { inputs ≤ 3 }
+        ensures { IfOk result (λ r. (masks : List Mask) (on : Bool) (count at : ℕ)
+            → IsWordOf masks on word → count ≡ inputs → IsAddedTo quick.now masks on count at
+            (parts_of_lists self.old) (parts_of_lists self.new) r.1 r.0) }
+    {
+        if inputs == 3 {
+            let first = self.threes.len();
+            self.threes.push(Three::of(quick))?;
+            self.three_words.push(word)?;
+            return Ok((Kind::Threes, first));
+        }
+        let first = self.twos.len();
+        self.twos.push(Two::of(quick))?;
+        self.nines.push(Nine::of(word))?;
+        Ok((Kind::Twos, first))
+    }
+
+    // The same of one of more.
+    fn add_wide(
+        &mut self,
+        quick: &Quick,
+        inputs: usize,
+        at: usize,
+    ) -> Result<(Kind, usize), AllocError>
+        requires { quick.now.few ≡ true }
+        ensures { IfOk result (λ r. (masks : List Mask) (on : Bool) (count : ℕ)
+            → count ≡ inputs → IsAddedTo quick.now masks on count at (parts_of_lists self.old)
+            (parts_of_lists self.new) r.1 r.0) }
+    {
+        if inputs == 4 {
+            let first = self.fours.len();
+            self.fours.push(Four::of(quick))?;
+            return Ok((Kind::Fours, first));
+        }
+        if inputs == 5 {
+            let first = self.fives.len();
+            self.fives.push(Five::of(quick))?;
+            return Ok((Kind::Fives, first));
+        }
+        if inputs == 6 {
+            let first = self.sixes.len();
+            self.sixes.push(Six::of(quick))?;
+            return Ok((Kind::Sixes, first));
+        }
+        Ok((Kind::Others, at))
     }
 }

@@ -9,6 +9,7 @@ ghost use Rattle.ds_cover.specs.Series.{parts_of_lists};
 use crate::Bank;
 use crate::lists::Lists;
 use crate::small::{set_fours, set_threes, set_twos, set_worded_threes, set_worded_twos};
+use crate::wide::{set_fives, set_sixes};
 use ds_base::Row3;
 use std::alloc::AllocError;
 
@@ -21,7 +22,11 @@ pub enum Kind {
     Threes,
     /// Four.
     Fours,
-    /// None, or more than four.
+    /// Five.
+    Fives,
+    /// Six.
+    Sixes,
+    /// None, or more than six.
     Others,
 }
 
@@ -91,13 +96,35 @@ fn joins(last: &Run, run: &Run) -> bool
         (Kind::Twos, Kind::Twos)
         | (Kind::Threes, Kind::Threes)
         | (Kind::Fours, Kind::Fours)
+        | (Kind::Fives, Kind::Fives)
+        | (Kind::Sixes, Kind::Sixes)
         | (Kind::Others, Kind::Others) => last.end == run.first,
         _ => false,
     }
 }
 
+// Sets what the tables of these runs drive, one after another, where each finds its inputs known.
+pub(crate) fn set_known_runs(
+    runs: &[Run],
+    lists: &Lists,
+    bank: &Bank,
+    order: &[u32],
+    nets: &mut Row3,
+)
+    requires places { All (λ k. k < length bank.now) order.now }
+    requires runs { All (IsRunOfTables (parts_of_lists lists.now)
+        (in_table_order bank.now order.now)) runs.now }
+    requires within { All (λ t. AreNetsWithin t nets.old) bank.now }
+    requires known { FindsKnown (in_table_order bank.now (numbers_of order.now runs.now)) nets.old }
+    ensures { nets.new ≡ after_tables bank.now nets.old (numbers_of order.now runs.now) }
+{
+    for run in runs {
+        set_known(run, lists, bank, order, nets);
+    }
+}
+
 // Sets what the tables of a run drive, where each finds its inputs known.
-pub(crate) fn set_known(run: &Run, lists: &Lists, bank: &Bank, order: &[u32], nets: &mut Row3)
+fn set_known(run: &Run, lists: &Lists, bank: &Bank, order: &[u32], nets: &mut Row3)
     requires places { All (λ k. k < length bank.now) order.now }
     requires run { IsRunOfTables (parts_of_lists lists.now) (in_table_order bank.now order.now)
         run.now }
@@ -109,11 +136,15 @@ pub(crate) fn set_known(run: &Run, lists: &Lists, bank: &Bank, order: &[u32], ne
     let twos = lists.twos.as_slice();
     let threes = lists.threes.as_slice();
     let fours = lists.fours.as_slice();
+    let fives = lists.fives.as_slice();
+    let sixes = lists.sixes.as_slice();
     let (first, end) = (run.first, run.end);
     match run.kind {
         Kind::Twos => set_twos(&twos[first..end], nets),
         Kind::Threes => set_threes(&threes[first..end], nets),
         Kind::Fours => set_fours(&fours[first..end], nets),
+        Kind::Fives => set_fives(&fives[first..end], nets),
+        Kind::Sixes => set_sixes(&sixes[first..end], nets),
         Kind::Others => bank.set_all(own_order(run, order), nets),
     }
 }
@@ -148,7 +179,7 @@ fn set_run(run: &Run, lists: &Lists, bank: &Bank, order: &[u32], nets: &mut Row3
     match run.kind {
         Kind::Twos => set_worded_twos(&twos[first..end], &nines[first..end], nets),
         Kind::Threes => set_worded_threes(&threes[first..end], &three_words[first..end], nets),
-        Kind::Fours | Kind::Others => bank.set_all(own_order(run, order), nets),
+        _ => bank.set_all(own_order(run, order), nets),
     }
 }
 

@@ -2,11 +2,12 @@
 ghost use Rattle.std.specs.Prelude.{◌≡◌, ◌<◌, ◌≤◌, ◌^◌, [], ◌∷◌, ◌++◌, length, All, IfOk, OnOk};
 ghost use Rattle.std.specs.Prelude.{slice_index_or};
 ghost use Rattle.ds_cover.specs.Bank.{AreNetsWithin, after_tables};
-ghost use Rattle.ds_cover.specs.Series.{AreAdded, AreEven, in_table_order, part_of, parts_of_lists};
+ghost use Rattle.ds_cover.specs.Series.{AreAdded, AreEven, FindsKnown, in_table_order, part_of};
+ghost use Rattle.ds_cover.specs.Series.{parts_of_lists};
 
 use crate::Bank;
 use crate::lists::Lists;
-use crate::run::{Run, add_from, set_runs};
+use crate::run::{Run, add_from, set_known_runs, set_runs};
 use ds_base::{OutOfMemory, Row3, Seq};
 use std::alloc::{AllocError, Global};
 use std::marker::Model;
@@ -92,6 +93,20 @@ impl<'a> Selections<'a> {
         let (first, end) = (self.bounds[number], self.bounds[number + 1]);
         let runs = between(self.runs.as_slice(), first, end);
         set_runs(runs, &self.lists, self.bank, self.order.as_slice(), nets);
+    }
+
+    /// The same where each table finds its inputs known. It reads shorter words.
+    pub fn set_known(&self, number: usize, nets: &mut Row3)
+        requires number { number < length self.now.lists }
+        requires within { All (λ t. AreNetsWithin t nets.old) self.now.tables }
+        requires known { FindsKnown (in_table_order self.now.tables
+            (slice_index_or self.now.lists number [])) nets.old }
+        ensures { nets.new ≡ after_tables self.now.tables nets.old
+            (slice_index_or self.now.lists number []) }
+    {
+        let (first, end) = (self.bounds[number], self.bounds[number + 1]);
+        let runs = between(self.runs.as_slice(), first, end);
+        set_known_runs(runs, &self.lists, self.bank, self.order.as_slice(), nets);
     }
 }
 

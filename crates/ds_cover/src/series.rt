@@ -1,11 +1,11 @@
-//! The tables of a bank in the order in which they are set, those of up to four inputs by kinds.
+//! The tables of a bank in the order in which they are set, those of up to six inputs by kinds.
 ghost use Rattle.std.specs.Prelude.{◌≡◌, ◌<◌, length, All, IfErr, IfOk};
 ghost use Rattle.ds_cover.specs.Bank.{AreNetsWithin, after_tables};
 ghost use Rattle.ds_cover.specs.Series.{AreRuns, FindsKnown, in_table_order, parts_of_lists};
 
 use crate::Bank;
 use crate::lists::Lists;
-use crate::run::{Run, add_from, set_known, set_runs};
+use crate::run::{Run, add_from, set_known_runs, set_runs};
 use ds_base::Row3;
 use std::alloc::{AllocError, Global};
 use std::marker::Model;
@@ -88,12 +88,8 @@ impl Series {
         requires known { FindsKnown (in_table_order self.now.tables self.now.order) nets.old }
         ensures { nets.new ≡ after_tables self.now.tables nets.old self.now.order }
     {
-        let (bank, lists) = (&self.bank, &self.lists);
-        let order = self.order.as_slice();
         let runs = self.runs.as_slice();
-        for run in runs {
-            set_known(run, lists, bank, order, nets);
-        }
+        set_known_runs(runs, &self.lists, &self.bank, self.order.as_slice(), nets);
     }
 }
 

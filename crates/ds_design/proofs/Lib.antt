@@ -6,3 +6,4 @@ pub mod Exists
 pub mod Monotone
 pub mod Windows
 pub mod Banked
+pub mod KnownRuns

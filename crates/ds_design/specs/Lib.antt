@@ -1,5 +1,6 @@
 -- In the order in which to read.
 pub mod Circuit
+pub mod Groups
 pub mod InRange
 pub mod Accepted
 pub mod Levels

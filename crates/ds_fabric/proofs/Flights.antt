@@ -1,14 +1,18 @@
 -- The next event of a node: what is known of it, and what its flight asks.
 use Rattle.std.proofs.Common.{◌≡◌, ℕ, ◌+◌, ◌<◌, ◌≤◌, true, List, length, vec_capacity}
 use Rattle.std.proofs.Common.{sym, refl, ap, ◌∙◌, subst, arith}
-use mathlib.Core.Option.{some}
+use mathlib.Core.Option.{none, some}
 use lib.ListN.{get_elem?}
-use Rattle.ds_rule.specs.Run.{Run, count, events, next, turns, Enabled}
+use Rattle.atomic_table.specs.Table.{step, Allows}
+use Rattle.ds_rule.specs.Run.{Run, count, events, next, opens, turns, Enabled}
+use Rattle.ds_rule.specs.Words.{width}
 use Rattle.ds_rule.specs.Sound.{IsSound}
-use Rattle.ds_rule.specs.Rule.{holds, tickets, seen}
-use Rattle.ds_rule.specs.Plays.{Sat}
+use Rattle.ds_rule.specs.Rule.{Lawful, holds, tickets, seen}
+use Rattle.ds_rule.specs.Plays.{Sat, after_draw, published}
 use Rattle.ds_rule.specs.declared.view.View.{View}
-use Rattle.ds_rule.proofs.EventLaws.{node-next}
+use Rattle.ds_rule.proofs.EventLaws.{node-next, fired_most}
+use Rattle.ds_rule.proofs.Publishes.{publishes}
+use Rattle.ds_fabric.specs.Base.{IsInFlight, HasWritten}
 use Rattle.ds_fabric.specs.declared.history.History.{History}
 use Rattle.ds_fabric.specs.Flown.{HasRoomToFire}
 use Rattle.ds_fabric.specs.Looks.{LooksOn, Enough}
@@ -122,3 +126,43 @@ arms run me me' nodes i h event before run_is k at e n below looks slots enough 
     let k' = looks_keep me me' nodes k looks slots in
     armed run me' nodes h event (before + 1) (looks.run ∙ run_is) k' (k'.listed i h at) e
     (ap (λ (x : ℕ). x + 1) n) (omega (arith, below)) enough
+
+-- the firings of the node stay far below 64 bits
+pub few : (run : Run) (v : View) (l f : ℕ) → run.limit < 4611686018427387904 → f ≡ seen v l
+    → Enabled run (seen v) (next run l f) → f + 1 < 9223372036854775808
+few run v l f short is on = let n = node-next run l f in
+    let below : turns run (next run l f) f < run.limit =
+    omega (
+      arith,
+      on.0,
+      ap (λ (x : ℕ). turns run (next run l f) (seen v x)) n,
+      ap (turns run (next run l f)) is,
+    ) in
+    omega (arith, fired_most run l f run.limit below)
+
+-- what is in flight may be published once its words are written
+pub lands : (run : Run) (n id : ℕ) (m : Sat) (l f t : ℕ) → IsInFlight run m.0 l f
+    → HasWritten run m.0 l f
+    → Allows (Lawful run) n id (after_draw m.0 t, m.1) (l + 1) (λ _. f + 1)
+    (λ _. published (step n (l + 1) (f + 1) 0 none) (after_draw m.0 t, m.1) (f + 1))
+lands run n id m l f t q written = let v : View = m.0 in
+    let P : ℕ → Type 0 = λ x. opens run (next run x (seen v x)) ≡ true → width run x ≤ v.written in
+    publishes run n id (after_draw v t, m.1) (l + 1) (f + 1)
+    (ap (λ (x : ℕ). x + 1) (sym q.node_is))
+    (ap (λ (x : ℕ). x + 1) (q.count ∙ ap (seen v) (sym q.node_is))) q.live refl
+    (subst P (sym q.node_is) (λ h. written (ap (λ (x : ℕ). opens run (next run l x)) q.count ∙ h)))
+
+-- writing keeps a flight, whose node has as many firings
+pub still_flies : (run : Run) (v : View) (l l' f f' n : ℕ) → IsInFlight run v l f → l' ≡ l → f' ≡ f
+    → IsInFlight run (record v { written = n }) l' f'
+still_flies run v l l' f f' n q node fired =
+    subst (λ (x : ℕ). IsInFlight run (record v { written = n }) x f') (sym node)
+    (subst (IsInFlight run (record v { written = n }) l) (sym fired) (record {
+      live = q.live;
+      stage = q.stage;
+      node_is = q.node_is;
+      run_is = q.run_is;
+      count = q.count;
+      near = q.near;
+      enabled = q.enabled;
+    }))

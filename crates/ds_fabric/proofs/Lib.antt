@@ -3,6 +3,7 @@ pub mod Views
 pub mod Turns
 pub mod Passes
 pub mod Flights
+pub mod Steps
 pub mod Tickets
 pub mod Finds
 pub mod Standing

@@ -5,7 +5,7 @@ use Rattle.std.proofs.Common.{get_or, set, sym, refl, ap, ◌∙◌, subst, arit
 use Rattle.std.proofs.Common.{le_of_eq, length-set}
 use Rattle.std.proofs.Common.{get_or-set_other, get_or-set_same, length-append}
 use Rattle.std.proofs.Common.{⊎_elim}
-use Rattle.std.proofs.Common.{zero, ◌/◌}
+use Rattle.std.proofs.Common.{zero, ◌/◌, cond, eq-eqb, ne_eqb}
 use Rattle.ds_rule.proofs.EventLaws.{opened-low}
 use mathlib.Core.Logic.{dite}
 use mathlib.Core.Option.{some}
@@ -21,11 +21,12 @@ use Rattle.ds_rule.proofs.Lists.{same_at, set_there, apart_set, at_below, has_be
 use Rattle.ds_rule.proofs.EventLaws.{node-next, turns-next, turns-other, turns_up, event_below}
 use Rattle.ds_rule.proofs.EventLaws.{even_opens, next-opens, turns-opening, node-opening}
 use Rattle.ds_fabric.specs.declared.history.History.{History}
-use Rattle.ds_fabric.specs.Looks.{LooksOn, Enough}
+use Rattle.ds_fabric.specs.Looks.{LooksOn}
 use Rattle.ds_fabric.specs.Told.{stride_of, new_row, turns_told}
 use Rattle.ds_fabric.specs.Noted.{HasFired}
 use Rattle.ds_fabric.specs.Showing.{HasHistoryRoom, Tells, Keeps}
-use Rattle.ds_fabric.specs.Stepped.{FiresNext, done}
+use Rattle.ds_fabric.specs.Stepped.{FiresNext, done, seen_at_departure}
+use Rattle.ds_marked.specs.declared.marked.Arc.{Arc}
 use Rattle.ds_fabric.proofs.Views.{has_after}
 use Rattle.ds_fabric.proofs.Turns.{told_same, told_fires}
 
@@ -187,13 +188,35 @@ fires_keep me me' nodes i h h' t k at is f =
           (x : History). x.node) nodes i h h' at f.node k.apart j j' g g' a a' same;
     })
 
+-- what was seen at departure: of the node itself what was seen before, of others what is seen
+pub at_departure-here : (v w : View) (l x : ℕ) → x ≡ l → seen_at_departure v w l x ≡ seen v l
+at_departure-here v w l x e = ap (λ b. cond b (seen v l) (seen w x)) (eq-eqb x l e)
+
+pub at_departure-else : (v w : View) (l x : ℕ) → x ≢ l → seen_at_departure v w l x ≡ seen w x
+at_departure-else v w l x n = ap (λ b. cond b (seen v l) (seen w x)) (ne_eqb x l n)
+
+-- what is enabled depends on the firings of its own node and of its sources
+pub enabled_same : (run : Run) (f g : ℕ → ℕ) (e : ℕ) → f (node_of run e) ≡ g (node_of run e)
+    → ((k : ℕ) (a : Arc) → get_elem? run.arcs k ≡ some a → a.target ≡ e
+    → f (node_of run a.source) ≡ g (node_of run a.source))
+    → Enabled run f e → Enabled run g e
+enabled_same run f g e own sources on = let here = ap (turns run e) own in (
+  omega (arith, on.0, here),
+  λ k a at into. omega (
+    arith,
+    on.1 k a at into,
+    here,
+    ap (turns run a.source) (sources k a at into),
+  ),
+)
+
 -- what a firing after loads says
 pub fires : (run : Run) (me me' : Sat) (nodes : List History) (w : View) (l event turn t : ℕ)
     → me.0.run ≡ run → Keeps me nodes → holds me.0 l ≡ true → LooksOn me.0 me'.0 → me'.1 ≡ me.1
     → event ≡ next run l (seen me.0 l) → turn ≡ done run me.0 l + 1 → turn ≤ run.limit
-    → Enough run me'.0 event turn → me'.0.drawn ≤ t → w ≡ landed me'.0 l t
+    → Enabled run (seen me'.0) event → me'.0.drawn ≤ t → w ≡ landed me'.0 l t
     → FiresNext run me.0 w l event turn t
-fires run me me' nodes w l event turn t run_is k has q slots event_is turn_is within enough fresh is =
+fires run me me' nodes w l event turn t run_is k has q slots event_is turn_is within on fresh is =
     let v : View = me.0 in let u : View = me'.0 in let k' = looks_keep me me' nodes k q slots in
     let has' : holds u l ≡ true = has_after v u l q ∙ has in
     let P : View → Type 0 = λ x. FiresNext run v x l event turn t in
@@ -211,19 +234,19 @@ fires run me me' nodes w l event turn t run_is k has q slots event_is turn_is wi
     let rises : (x : ℕ) → seen u x ≤ seen (landed u l t) x = λ x. dite (ℕ_discrete x l)
     (λ e. omega (arith, ap (seen u) e, seen-landed u l t x near-l e))
     (λ n. le_of_eq (sym (seen-else u l t x n))) in
+    let left : (x : ℕ) → seen u x ≡ seen_at_departure v (landed u l t) l x = λ x. dite (ℕ_discrete x l)
+    (λ e. (ap (seen u) e ∙ own) ∙ sym (at_departure-here v (landed u l t) l x e))
+    (λ n. sym (seen-else u l t x n) ∙ sym (at_departure-else v (landed u l t) l x n)) in
     subst P (sym is) (record {
       event_is = event_is;
       turn_is = turn_is;
       within = within;
-      enough = λ n a at into. omega (
-        arith,
-        enough n a at into,
-        turns_up run a.source (seen u (node_of run a.source))
-            (seen (landed u l t) (node_of run a.source)) (rises (node_of run a.source)),
-      );
+      enabled = enabled_same run (seen u) (seen_at_departure v (landed u l t) l) event
+          (left (node_of run event)) (λ k a at into. left (node_of run a.source)) on;
       fresh = omega (arith, fresh, q.drawn);
       drawn = refl;
       once_more = seen-landed u l t l near-l refl ∙ ap (λ (x : ℕ). x + 1) own;
+      no_other = λ x n h. seen-else u l t x n ∙ q.own x h;
       one_more = tickets-landed u l t event near-E (sym E-is)
           ∙ (ap (λ (x : ℕ). tickets u x ++ t ∷ []) E-is ∙ ap (λ ts. ts ++ t ∷ []) (ticks event));
       others = λ e n. tickets-else u l t e (λ z. n (z ∙ E-is)) ∙ ticks e;

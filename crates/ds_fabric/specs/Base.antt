@@ -1,10 +1,11 @@
 -- What a fabric shows, and how its parts fit.
-use Rattle.std.specs.Prelude.{◌≡◌, ℕ, true}
+use Rattle.std.specs.Prelude.{◌≡◌, ◌<◌, ◌≤◌, ℕ, true}
 use Rattle.atomic_table.specs.Seated.{TableId}
 use Rattle.ds_base.specs.Scratch.{Memory}
-use Rattle.ds_rule.specs.Run.{Run}
+use Rattle.ds_rule.specs.Run.{Run, next, opens, Enabled}
 use Rattle.ds_rule.specs.Sound.{IsSound}
-use Rattle.ds_rule.specs.Words.{size}
+use Rattle.ds_rule.specs.Words.{size, width}
+use Rattle.ds_rule.specs.Rule.{seen}
 use Rattle.ds_rule.specs.Rows.{IsStarts}
 use Rattle.ds_rule.specs.declared.view.View.{View}
 use Rattle.ds_fabric.specs.Ranged.{AreFirstEdges}
@@ -36,3 +37,17 @@ pub record IsAway (run : Run) (v : View) (l : ℕ) : Type 0 where
   pub node_is : v.node ≡ l
   pub written : v.written ≡ 0
   pub run_is : v.run ≡ run
+
+-- the pass is in flight with the node's next event, behind f firings of the node
+pub record IsInFlight (run : Run) (v : View) (l f : ℕ) : Type 0 where
+  pub live : v.live ≡ true
+  pub stage : v.stage ≡ 1
+  pub node_is : v.node ≡ l
+  pub run_is : v.run ≡ run
+  pub count : f ≡ seen v l
+  pub near : l < run.nodes
+  pub enabled : Enabled run (seen v) (next run l f)
+
+-- where that event is an opening, all words of its row are written
+abbrev pub HasWritten : Run → View → ℕ → ℕ → Type 0
+HasWritten run v l f = opens run (next run l f) ≡ true → width run l ≤ v.written

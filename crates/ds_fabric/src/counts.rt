@@ -19,15 +19,13 @@ use ds_rule::{Layout, Look, Order, Rows, View};
 pub type Board<J> = Shared<u8, View, Layout<J>, Order>;
 
 /// Loads the count of a node.
-pub fn look<J: Rows>(
-    board: &Board<J>,
-    run: &Layout<J>,
+pub fn look<J: Rows, C: Compute>(
+    ground: &Ground<J, C>,
     seat: &mut Seat<u8, View>,
     node: usize,
 ) -> u64
-    requires table { (seat.old.table_id ≡ board.now.table_id)
-        × IsOver board.now.table_id board.now.key run.now }
-    requires near { node < run.now.nodes }
+    requires table { seat.old.table_id ≡ ground.now.board.now.table_id }
+    requires near { node < ground.now.run.now.nodes }
     requires rests { (seat.old.me.0.live ≡ true) × (seat.old.me.0.stage ≡ 0) }
 
     ensures table { seat.new.table_id ≡ seat.old.table_id }
@@ -35,7 +33,7 @@ pub fn look<J: Rows>(
     ensures own { holds seat.old.me.0 node ≡ true → result ≡ seen seat.old.me.0 node }
     ensures up { seen seat.old.me.0 node ≤ result }
 {
-    board.load::<Look>(seat, node + 1)
+    ground.board.load::<Look>(seat, node + 1)
 }
 
 /// The first of these arcs, which enter one event, on which plain looks at the counts, without a
@@ -72,8 +70,7 @@ pub fn survey<J: Rows, C: Compute>(
     event: usize,
     turn: u64,
 ) -> Option<(usize, u64)>
-    requires table { (seat.old.table_id ≡ ground.now.board.now.table_id)
-        × IsOver ground.now.board.now.table_id ground.now.board.now.key ground.now.run.now }
+    requires table { seat.old.table_id ≡ ground.now.board.now.table_id }
     requires incoming { AreInto ground.now.run.now ground.now.incoming.now }
     requires rests { (seat.old.me.0.live ≡ true) × (seat.old.me.0.stage ≡ 0)
         × (length seat.old.me.0.seen ≡ ground.now.run.now.nodes) }
@@ -89,7 +86,7 @@ pub fn survey<J: Rows, C: Compute>(
     let arcs = incoming.arcs.as_slice();
     for i in incoming.starts[event]..incoming.starts[event + 1] {
         let arc = arcs[i];
-        let fired = look(ground.board, ground.run, seat, arc.node as usize);
+        let fired = look(ground, seat, arc.node as usize);
         if arc.lacks(fired, turn) {
             return Some((incoming.numbers[i] as usize, arc.source.turns(fired)));
         }

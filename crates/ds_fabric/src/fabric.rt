@@ -6,7 +6,7 @@ ghost use Rattle.ds_rule.specs.Sound.{IsSound};
 ghost use Rattle.ds_rule.specs.Log.{Recorded};
 ghost use Rattle.ds_rule.specs.Rule.{holds, tickets};
 ghost use Rattle.ds_rule.specs.Plays.{taken_in};
-ghost use Rattle.ds_fabric.specs.Stepped.{Stepped};
+ghost use Rattle.ds_fabric.specs.Stepped.{Stepped, FiresIfEnabled};
 ghost use Rattle.ds_fabric.specs.Showing.{Belongs, IsFabricBegun, IsCounted, IsDealt, IsLeft, IsOf};
 ghost use Rattle.ds_fabric.specs.Showing.{Stays, IsStood, no_scratch};
 
@@ -113,6 +113,7 @@ impl<'a, J: Rows, C: Compute> Fabric<'a, J, C> {
 
         ensures same { Stays self.now.memory pass.old pass.new }
         ensures step { Stepped self.now.run pass.old.view node result pass.new.view }
+        ensures exact { FiresIfEnabled self.now.run pass.old.view node result }
     {
         self.step_node(
             &mut pass.seat,

@@ -5,12 +5,12 @@ ghost use Rattle.std.specs.Prelude.{ℕ, List, ◌≡◌, ◌<◌, ◌≤◌, �
 ghost use mathlib.Core.Option.{some};
 ghost use lib.ListN.{get_elem?};
 ghost use Rattle.ds_base.specs.Scratch.{Remembers};
-ghost use Rattle.ds_rule.specs.Run.{next, opens, Enabled};
+ghost use Rattle.ds_rule.specs.Run.{next, Enabled};
 ghost use Rattle.ds_rule.specs.Words.{width};
 ghost use Rattle.ds_rule.specs.Rows.{row, IsOpening};
 ghost use Rattle.ds_rule.specs.Rule.{holds, seen};
 ghost use Rattle.ds_rule.specs.Plays.{after_depart, after_draw, after_publish};
-ghost use Rattle.ds_fabric.specs.Base.{IsBuilt, IsAway};
+ghost use Rattle.ds_fabric.specs.Base.{IsAway, IsInFlight, HasWritten};
 ghost use Rattle.ds_fabric.specs.Told.{new_row};
 ghost use Rattle.ds_fabric.specs.Noted.{HasFired};
 ghost use Rattle.ds_fabric.specs.Into.{AreInto};
@@ -37,12 +37,9 @@ pub fn advance<J: Rows, C: Compute>(
     history: &mut History,
     scratch: &mut Scratch,
 ) -> Step
-    requires table { (seat.old.table_id ≡ ground.now.board.now.table_id)
-        × IsBuilt ground.now.board.now.table_id ground.now.board.now.key ground.now.run.now
-        ground.now.index.now }
+    requires table { seat.old.table_id ≡ ground.now.board.now.table_id }
     requires incoming { AreInto ground.now.run.now ground.now.incoming.now }
-    requires openings { (C.run ground.now.openings.now ≡ ground.now.run.now)
-        × Remembers (C.memory ground.now.openings.now) scratch.old }
+    requires remembers { Remembers (C.memory ground.now.openings.now) scratch.old }
     requires run { seat.old.me.0.run ≡ ground.now.run.now }
     requires keeps { (nodes : List History) × (i : ℕ) × Keeps seat.old.me nodes
         × (get_elem? nodes i ≡ some history.old) }
@@ -84,11 +81,8 @@ fn fire<J: Rows, C: Compute>(
     history: &mut History,
     scratch: &mut Scratch,
 ) -> u64
-    requires table { (seat.old.table_id ≡ ground.now.board.now.table_id)
-        × IsBuilt ground.now.board.now.table_id ground.now.board.now.key ground.now.run.now
-        ground.now.index.now }
-    requires openings { (C.run ground.now.openings.now ≡ ground.now.run.now)
-        × Remembers (C.memory ground.now.openings.now) scratch.old }
+    requires table { seat.old.table_id ≡ ground.now.board.now.table_id }
+    requires remembers { Remembers (C.memory ground.now.openings.now) scratch.old }
     requires rests { (seat.old.me.0.live ≡ true) × (seat.old.me.0.stage ≡ 0)
         × (seat.old.me.0.run ≡ ground.now.run.now) }
     requires held { (holds seat.old.me.0 history.old.node ≡ true)
@@ -108,12 +102,54 @@ fn fire<J: Rows, C: Compute>(
     ensures noted { HasFired ground.now.run.now history.old history.new result }
     ensures remembers { Remembers (C.memory ground.now.openings.now) scratch.new }
 {
-    let word = history.node + 1;
-    ground.board.load::<Depart>(seat, word);
+    depart(ground, seat, history);
     prepare(ground, seat, history, scratch);
-    let ticket = ground.board.fetch_add::<Draw>(seat, 0, 1);
-    ground.board.store::<Publish>(seat, word, history.fired + 1);
+    let ticket = publish(ground, seat, history);
     history.note(ticket);
+    ticket
+}
+
+// The flight of the node's next event begins.
+fn depart<J: Rows, C: Compute>(ground: &Ground<J, C>, seat: &mut Seat<u8, View>, history: &History)
+    requires table { seat.old.table_id ≡ ground.now.board.now.table_id }
+    requires rests { (seat.old.me.0.live ≡ true) × (seat.old.me.0.stage ≡ 0)
+        × (seat.old.me.0.run ≡ ground.now.run.now) }
+    requires held { (holds seat.old.me.0 history.now.node ≡ true)
+        × (history.now.node < ground.now.run.now.nodes)
+        × (history.now.fired ≡ seen seat.old.me.0 history.now.node) }
+    requires ready { Enabled ground.now.run.now (seen seat.old.me.0)
+        (next ground.now.run.now history.now.node history.now.fired) }
+
+    ensures table { (seat.new.table_id ≡ seat.old.table_id) × (seat.new.id ≡ seat.old.id) }
+    ensures me { seat.new.me ≡ (after_depart seat.old.me.0 history.now.node, seat.old.me.1) }
+    ensures flight { IsInFlight ground.now.run.now seat.new.me.0 history.now.node
+        history.now.fired }
+    ensures unwritten { seat.new.me.0.written ≡ 0 }
+{
+    ground.board.load::<Depart>(seat, history.node + 1);
+}
+
+// Draws the ticket of what is in flight, and publishes the count of its node.
+fn publish<J: Rows, C: Compute>(
+    ground: &Ground<J, C>,
+    seat: &mut Seat<u8, View>,
+    history: &History,
+) -> u64
+    requires table { seat.old.table_id ≡ ground.now.board.now.table_id }
+    requires flight { IsInFlight ground.now.run.now seat.old.me.0 history.now.node
+        history.now.fired }
+    requires written { HasWritten ground.now.run.now seat.old.me.0 history.now.node
+        history.now.fired }
+
+    ensures table { (seat.new.table_id ≡ seat.old.table_id) × (seat.new.id ≡ seat.old.id) }
+    ensures me { seat.new.me
+        ≡ (after_publish (after_draw seat.old.me.0 result), seat.old.me.1) }
+    ensures fresh { seat.old.me.0.drawn ≤ result }
+{
+    let ticket = ground.board.fetch_add::<Draw>(seat, 0, 1);
+    ground
+        .board
+        .store::<Publish>(seat, history.node + 1, history.fired + 1);
     ticket
 }
 
@@ -124,23 +160,19 @@ fn prepare<J: Rows, C: Compute>(
     history: &mut History,
     scratch: &mut Scratch,
 )
-    requires table { (seat.old.table_id ≡ ground.now.board.now.table_id)
-        × IsBuilt ground.now.board.now.table_id ground.now.board.now.key ground.now.run.now
-        ground.now.index.now }
-    requires openings { (C.run ground.now.openings.now ≡ ground.now.run.now)
-        × Remembers (C.memory ground.now.openings.now) scratch.old }
-    requires flight { IsAway ground.now.run.now seat.old.me.0 history.old.node
-        × (history.old.fired ≡ seen seat.old.me.0 history.old.node)
-        × (history.old.node < ground.now.run.now.nodes) }
-    requires ready { Enabled ground.now.run.now (seen seat.old.me.0)
-        (next ground.now.run.now history.old.node history.old.fired) }
+    requires table { seat.old.table_id ≡ ground.now.board.now.table_id }
+    requires remembers { Remembers (C.memory ground.now.openings.now) scratch.old }
+    requires flight { IsInFlight ground.now.run.now seat.old.me.0 history.old.node
+        history.old.fired }
+    requires unwritten { seat.old.me.0.written ≡ 0 }
     requires room { HasRoomToFire ground.now.run.now history.old }
 
     ensures seat { (seat.new.table_id ≡ seat.old.table_id) × (seat.new.id ≡ seat.old.id) }
-    ensures me { (n : ℕ) × (seat.new.me ≡ (record seat.old.me.0 { written = n }, seat.old.me.1))
-        × (opens ground.now.run.now
-        (next ground.now.run.now history.old.node history.old.fired) ≡ true
-        → width ground.now.run.now history.old.node ≤ n) }
+    ensures me { (n : ℕ) × (seat.new.me ≡ (record seat.old.me.0 { written = n }, seat.old.me.1)) }
+    ensures flight { IsInFlight ground.now.run.now seat.new.me.0 history.new.node
+        history.new.fired }
+    ensures written { HasWritten ground.now.run.now seat.new.me.0 history.new.node
+        history.new.fired }
     ensures turns { history.new.turns.items
         ≡ history.old.turns.items ++ new_row ground.now.run.now history.old.node history.old.fired }
     ensures same { HasOpened history.old history.new }
@@ -160,11 +192,8 @@ fn open_row<J: Rows, C: Compute>(
     scratch: &mut Scratch,
     turn: u64,
 )
-    requires table { (seat.old.table_id ≡ ground.now.board.now.table_id)
-        × IsBuilt ground.now.board.now.table_id ground.now.board.now.key ground.now.run.now
-        ground.now.index.now }
-    requires openings { (C.run ground.now.openings.now ≡ ground.now.run.now)
-        × Remembers (C.memory ground.now.openings.now) scratch.old }
+    requires table { seat.old.table_id ≡ ground.now.board.now.table_id }
+    requires remembers { Remembers (C.memory ground.now.openings.now) scratch.old }
     requires flight { IsOpening ground.now.run.now seat.old.me.0 history.old.node turn
         × IsAway ground.now.run.now seat.old.me.0 history.old.node }
     requires within { (history.old.node < ground.now.run.now.latches)

@@ -1,3 +1,6 @@
+ghost use Rattle.std.specs.Prelude.{◌≡◌};
+ghost use Rattle.ds_fabric.specs.Base.{IsBuilt};
+
 use crate::compute::Compute;
 use crate::counts::Board;
 use crate::incoming::Incoming;
@@ -13,4 +16,6 @@ pub struct Ground<'a, J: Rows, C: Compute> {
     pub openings: &'a C,
     pub incoming: &'a Incoming,
     pub index: &'a Index,
+    pub ghost built: { IsBuilt board.now.table_id board.now.key run.now index.now },
+    pub ghost computes: { C.run openings.now ≡ run.now },
 }

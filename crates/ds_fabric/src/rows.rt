@@ -8,7 +8,6 @@ ghost use Rattle.ds_base.specs.Scratch.{Remembers};
 ghost use Rattle.ds_rule.specs.Sound.{IsSound, read_words};
 ghost use Rattle.ds_rule.specs.Words.{width, place};
 ghost use Rattle.ds_rule.specs.Rows.{row, supply_but, IsStarts, IsOpening};
-ghost use Rattle.ds_fabric.specs.Base.{IsBuilt};
 
 use crate::compute::Compute;
 use crate::ground::Ground;
@@ -38,9 +37,7 @@ fn read_row<J: Rows, C: Compute>(
     turn: u64,
     into: &mut Vec<u64>,
 )
-    requires table { (seat.old.table_id ≡ ground.now.board.now.table_id)
-        × IsBuilt ground.now.board.now.table_id ground.now.board.now.key ground.now.run.now
-        ground.now.index.now }
+    requires table { seat.old.table_id ≡ ground.now.board.now.table_id }
     requires flight { IsOpening ground.now.run.now seat.old.me.0 edge.consumer turn
         × (seat.old.me.0.run ≡ ground.now.run.now) }
     requires edge { (k : ℕ) × (get_elem? ground.now.run.now.edges k ≡ some edge) }
@@ -71,11 +68,8 @@ pub fn read_rows<J: Rows, C: Compute>(
     node: usize,
     into: &mut Vec<u64>,
 )
-    requires table { (seat.old.table_id ≡ ground.now.board.now.table_id)
-        × IsBuilt ground.now.board.now.table_id ground.now.board.now.key ground.now.run.now
-        ground.now.index.now }
-    requires openings { (C.run ground.now.openings.now ≡ ground.now.run.now)
-        × Remembers (C.memory ground.now.openings.now) learnt.now.scratch.now }
+    requires table { seat.old.table_id ≡ ground.now.board.now.table_id }
+    requires remembers { Remembers (C.memory ground.now.openings.now) learnt.now.scratch.now }
     requires flight { IsOpening ground.now.run.now seat.old.me.0 node learnt.now.turn
         × (seat.old.me.0.run ≡ ground.now.run.now) }
     requires room { (into.old.items ≡ []) × (read_words ground.now.run.now node
@@ -112,9 +106,7 @@ pub fn write_row<J: Rows, C: Compute>(
     node: usize,
     turn: u64,
 )
-    requires table { (seat.old.table_id ≡ ground.now.board.now.table_id)
-        × IsBuilt ground.now.board.now.table_id ground.now.board.now.key ground.now.run.now
-        ground.now.index.now }
+    requires table { seat.old.table_id ≡ ground.now.board.now.table_id }
     requires flight { IsOpening ground.now.run.now seat.old.me.0 node turn
         × (seat.old.me.0.written ≡ 0) }
     requires words { words.now ≡ row ground.now.run.now node turn }

@@ -2,7 +2,7 @@
 ghost use Rattle.std.specs.Prelude.{ℕ, ◌≡◌, true, IfOk, length, vec_capacity};
 ghost use Rattle.ds_base.specs.Scratch.{Remembers};
 ghost use Rattle.ds_rule.specs.Rule.{holds};
-ghost use Rattle.ds_fabric.specs.Stepped.{Stepped};
+ghost use Rattle.ds_fabric.specs.Stepped.{Stepped, FiresIfEnabled};
 ghost use Rattle.ds_fabric.specs.Showing.{IsOf, IsPass, Stays};
 
 use crate::compute::Compute;
@@ -35,6 +35,7 @@ impl<'a, J: Rows, C: Compute> Fabric<'a, J, C> {
         ensures same { Stays self.now.memory pass.old pass.new }
         ensures remembers { Remembers self.now.memory scratch.new }
         ensures step { Stepped self.now.run pass.old.view node result pass.new.view }
+        ensures exact { FiresIfEnabled self.now.run pass.old.view node result }
     {
         self.step_node(&mut pass.seat, &mut pass.nodes, &pass.places, node, scratch)
     }
@@ -61,6 +62,7 @@ impl<'a, J: Rows, C: Compute> Fabric<'a, J, C> {
             × (length nodes.new.items ≡ length nodes.old.items) }
         ensures remembers { Remembers self.now.memory scratch.new }
         ensures step { Stepped self.now.run seat.old.me.0 node result seat.new.me.0 }
+        ensures exact { FiresIfEnabled self.now.run seat.old.me.0 node result }
         ensures pass { (room : ℕ) → IsPass seat.old.me room (vec_capacity nodes.old)
             nodes.old.items places.now.items
             → IsPass seat.new.me room (vec_capacity nodes.new) nodes.new.items places.now.items }

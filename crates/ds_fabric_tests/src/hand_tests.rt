@@ -176,25 +176,64 @@ fn threads_fire<R: AllocGlobal + Threads>(
     Ok(both && on)
 }
 
+// Whether the same is fired one after another: the slave tries to open before the master has fired,
+// so that it needs what the pass that is taken in has fired.
+fn slave_comes_first(
+    alloc: Global,
+    fabric: &Fabric<Toggle, Toggle>,
+    pass: &mut Pass,
+) -> Result<bool, OutOfMemory>
+    requires { HoldsBoth fabric.now pass.old }
+    ensures { OnOk result (HoldsBoth fabric.now pass.new) }
+{
+    let mut other = part(alloc, fabric, pass)?;
+    let tried = slave(fabric, pass);
+    let both = fires_twice(fabric, &mut other);
+    unite(fabric, pass, other);
+    let on = goes_on(fabric, pass, tried);
+    Ok(matches!(tried, Step::NotYet { .. }) && both && on)
+}
+
+// Whether these fire, by two threads or one after another.
+fn both_fire<R: AllocGlobal + Threads>(
+    rt: &R,
+    fabric: &Fabric<Toggle, Toggle>,
+    pass: &mut Pass,
+    by_threads: bool,
+) -> Result<bool, OutOfMemory>
+    requires { HoldsBoth fabric.now pass.old }
+    ensures { OnOk result (HoldsBoth fabric.now pass.new) }
+{
+    if by_threads {
+        threads_fire(rt, fabric, pass)
+    } else {
+        slave_comes_first(rt.alloc(), fabric, pass)
+    }
+}
+
 // The record of these firings; none where memory is lacking or another event fired.
-fn record_of<R: AllocGlobal + Threads>(rt: &R, run: &Layout<Toggle>) -> Option<Record>
+fn record_of<R: AllocGlobal + Threads>(
+    rt: &R,
+    run: &Layout<Toggle>,
+    by_threads: bool,
+) -> Option<Record>
     requires { run.now ≡ toggle }
     ensures { IfSome result (λ r. r.shown.view.run ≡ toggle) }
 {
     let Ok((fabric, mut pass)) = begin(rt.alloc(), run) else {
         return None;
     };
-    match threads_fire(rt, &fabric, &mut pass) {
+    match both_fire(rt, &fabric, &mut pass, by_threads) {
         Ok(true) => Some(end(fabric, pass)),
         _ => None,
     }
 }
 
 // Whether such a record has the tickets of both openings.
-fn is_read_back<R: AllocGlobal + Threads>(rt: &R, run: &Layout<Toggle>) -> bool
+fn is_read_back<R: AllocGlobal + Threads>(rt: &R, run: &Layout<Toggle>, by_threads: bool) -> bool
     requires { run.now ≡ toggle }
 {
-    match record_of(rt, run) {
+    match record_of(rt, run, by_threads) {
         Some(record) => has(&record, 0, &[2]) && has(&record, 2, &[0, 4]),
         None => false,
     }
@@ -205,7 +244,8 @@ fn read_back(rt: HostRuntime) {
     let Ok(run) = layout(rt.alloc()) else {
         panic!(rt; "memory");
     };
+    assert!(rt; is_read_back(&rt, &run, false));
     for _ in 0..100u32 {
-        assert!(rt; is_read_back(&rt, &run));
+        assert!(rt; is_read_back(&rt, &run, true));
     }
 }

@@ -104,6 +104,7 @@ module _ (planned : Planned) (vectors : Rows) (counts : List ℕ) (kept : Kept) 
     counts = λ v. sym (none v);
     rows = λ n is_node place low. sym (rows.each n is_node place low);
     stored = λ n is_node. sym (values_none n is_node);
+    many = λ n is_node. sym (none (closing n));
   }
 
   pub first_is : IsFirst planned vectors.rows (snapshot_seen planned vectors counts kept)

@@ -156,6 +156,7 @@ module _ (old : Snapshot) (sound : IsSnapshotSound old) where
           counts = counts_shown old.counts (opening n) inside now.count shows.counts;
           rows = rows_shown;
           stored = shows.stored;
+          many = λ m is_m. shows.many m is_m ∙ sym (get_or-set_other old.counts (opening n) (closing m) (C (opening n) + 1) 0 (λ e. absurd (omega arith)));
         },
       )
 
@@ -220,6 +221,21 @@ module _ (old : Snapshot) (sound : IsSnapshotSound old) where
             | inr (ne, same) ↦ ap (λ (rows : List Row). flat_map (λ row. row) rows) same ∙ (shows.stored m is_m ∙ sym (stored_elsewhere m ne))
           ]
 
+      many_shown : (m : Node) → IsNode S m → length (changed n (now.stored n ++ now.rows n (place_of S (now.count (closing n) + 1)) ∷ []) now.stored m) ≡ get_or (set old.counts (closing n) (C (closing n) + 1)) (closing m) 0
+      many_shown m is_m =
+          elim (cases_changed n (now.stored n ++ now.rows n (place_of S (now.count (closing n) + 1)) ∷ []) now.stored m) [
+            | inl (e, same) ↦
+                (let before : length (now.stored n) ≡ C (closing n) = shows.many n is_node in
+                let count : get_or (set old.counts (closing n) (C (closing n) + 1)) (closing n) 0 ≡ C (closing n) + 1 = get_or-set_same old.counts (closing n) (C (closing n) + 1) 0 inside in
+                ap length same
+                ∙ (length-append (now.stored n) (now.rows n (place_of S (now.count (closing n) + 1)) ∷ [])
+                ∙ (ap (λ (k : ℕ). k + 1) before
+                ∙ (sym count ∙ ap (λ (x : Node). get_or (set old.counts (closing n) (C (closing n) + 1)) (closing x) 0) (sym e)))))
+            | inr (ne, same) ↦
+                ap length same
+                ∙ (shows.many m is_m ∙ sym (get_or-set_other old.counts (closing n) (closing m) (C (closing n) + 1) 0 (λ e. ne (omega arith))))
+          ]
+
       pub closing_fires : (next : State) × Fires S old.vectors now (closing n) next × Shows (kept_next old (closing n) old.rows stored) next
       closing_fires = (
         closed_state S now n,
@@ -228,6 +244,7 @@ module _ (old : Snapshot) (sound : IsSnapshotSound old) where
           counts = counts_shown old.counts (closing n) inside now.count shows.counts;
           rows = shows.rows;
           stored = stored_shown;
+          many = many_shown;
         },
       )
 
@@ -272,6 +289,7 @@ module _ (old : Snapshot) (sound : IsSnapshotSound old) where
         counts = counts_shown old.counts (extra_event S e) inside now.count shows.counts;
         rows = shows.rows;
         stored = shows.stored;
+        many = λ m is_m. shows.many m is_m ∙ sym (get_or-set_other old.counts (extra_event S e) (closing m) (C (extra_event S e) + 1) 0 (λ same. absurd (let below : number_of m < nodes S = number_below S m is_m in omega arith)));
       },
     )
 

@@ -4,6 +4,7 @@ use Rattle.std.specs.List.{flat_map, range_with_len}
 use Rattle.ds_base.specs.Values.{Row}
 use Rattle.ds_design.specs.Run.{IsRun}
 use Rattle.ds_design.specs.Trace.{trace_line, trace_lines}
+use Rattle.ds_marked.specs.Progress.{HasFiredAll}
 use Rattle.ds_latch.specs.Node.{IsNode, opening, closing}
 use Rattle.ds_latch.specs.declared.node.Node.{Node}
 use Rattle.ds_latch.specs.declared.node.Node.TheVariants.{Out}
@@ -37,7 +38,7 @@ FiredIsInRun = (kept : Snapshot) → IsSnapshotSound kept → IsReached kept
 
 -- every event has fired as often as it may
 abbrev pub IsFiredToEnd : Snapshot → Type 0
-IsFiredToEnd kept = (v : ℕ) → v < length (graph_of kept).events → count_of kept v ≡ limit_of kept
+IsFiredToEnd kept = HasFiredAll (graph_of kept) (limit_of kept) (count_of kept)
 
 -- no event may fire exactly where each has fired as often as it may
 abbrev pub FiredToTheEnd : Type 0

@@ -70,13 +70,15 @@ abbrev pub rows_joined : List Row → Row
 rows_joined rows = flat_map (λ row. row) rows
 
 -- what is kept shows a state: its counts, its rows at the nodes that are there and at their places,
--- and what they have stored
+-- and what they have stored, as many rows as they have closed
 pub record Shows (kept : Snapshot) (now : State) : Type 0 where
   pub counts : (v : ℕ) → now.count v ≡ count_of kept v
   pub rows : (n : Node) → IsNode (split_of kept) n → (place : ℕ) → place ≤ (split_of kept).slack
       → now.rows n place ≡ rows_of (split_of kept) kept.rows n place
   pub stored : (n : Node) → IsNode (split_of kept) n
       → rows_joined (now.stored n) ≡ stored_values kept n
+  pub many : (n : Node) → IsNode (split_of kept) n
+      → length (now.stored n) ≡ count_of kept (closing n)
 
 -- a new state of a plan and vectors: nothing has fired
 pub record IsFirst (planned : Planned) (vectors : List Row) (kept : Snapshot) : Type 0 where

@@ -6,7 +6,7 @@ use Rattle.std.proofs.lemmas.List.{length-take-le, take_all}
 use Rattle.ds_marked.specs.Graph.{Graph, IsConsistent, IsLegal, IsLegalFrom, IsLive, counted, counts_after}
 use Rattle.ds_marked.proofs.Firings.{counted-same, counted-other}
 use Rattle.ds_marked.proofs.Progress.{reachability}
-use Rattle.ds_latch.specs.Headline.{HasFiredAll}
+use Rattle.ds_marked.specs.Progress.{HasFiredAll}
 use Rattle.ds_firing_laws.specs.Firings.{LegalListsExist}
 
 -- how often the first events have fired together
@@ -62,7 +62,7 @@ total_none zero = refl
 total_none (suc n) = (let before : total (λ _. 0) n ≡ 0 = total_none n in let e : total (λ _. 0) n + 0 ≡ 0 = omega (arith, before) in e)
 
 -- a list that has each event once a turn is as long as it may be
-pub whole_long : (g : Graph) (turns : ℕ) (events : List ℕ) → IsLegal g turns events → HasFiredAll g turns events
+pub whole_long : (g : Graph) (turns : ℕ) (events : List ℕ) → IsLegal g turns events → HasFiredAll g turns (counts_after (λ _. 0) events)
     → length events ≡ length g.events * turns
 whole_long g turns events legal all =
     let after : total (counts_after (λ _. 0) events) (length g.events) ≡ total (λ _. 0) (length g.events) + length events =
@@ -84,7 +84,7 @@ each_once : (g : Graph) (turns : ℕ) → IsConsistent g turns (λ _. turns)
 each_once g turns = record { agrees = λ j d inside. omega arith; within = λ v inside. omega arith }
 
 -- a live graph has a legal list with each event once a turn
-pub whole_list : (g : Graph) → IsLive g → (turns : ℕ) → (events : List ℕ) × IsLegal g turns events × HasFiredAll g turns events
+pub whole_list : (g : Graph) → IsLive g → (turns : ℕ) → (events : List ℕ) × IsLegal g turns events × HasFiredAll g turns (counts_after (λ _. 0) events)
 whole_list g live turns = reachability g live turns (λ _. turns) (each_once g turns)
 
 -- and its first parts are legal lists of each length
@@ -96,6 +96,6 @@ legal_lists_exist g live turns many few =
       record {
         legal = legal_take g turns many all (λ _. 0) legal;
         many_are = length-take-le many all (subst (λ (n : ℕ). many ≤ n) (sym long) few);
-        whole = λ is. subst (λ (events : List ℕ). HasFiredAll g turns events) (sym (take_all many all (subst (λ (n : ℕ). length all ≤ n) (long ∙ sym is) (omega arith)))) fired;
+        whole = λ is. subst (λ (events : List ℕ). HasFiredAll g turns (counts_after (λ _. 0) events)) (sym (take_all many all (subst (λ (n : ℕ). length all ≤ n) (long ∙ sym is) (omega arith)))) fired;
       },
     )

@@ -56,7 +56,7 @@ module _ (name : List ℕ) where
   ]
 
 -- what has a fault has it here, or in what comes next
-fault_of_either : {A B : Type 0} (first : Result A (At FlatKind)) (next : A → Result B (At FlatKind)) (fault : At FlatKind) → (first >>= next) ≡ Err fault
+pub fault_of_either : {A B : Type 0} (first : Result A (At FlatKind)) (next : A → Result B (At FlatKind)) (fault : At FlatKind) → (first >>= next) ≡ Err fault
     → (first ≡ Err fault) ⊎ ((a : A) × (first ≡ Ok a) × (next a ≡ Err fault))
 fault_of_either (Ok a) next fault is = inr (a, refl, is)
 fault_of_either (Err here) next fault is = let same : here ≡ fault = cc in inl (ap (λ (f : At FlatKind). Err f) same)

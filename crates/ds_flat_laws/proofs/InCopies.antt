@@ -1,5 +1,5 @@
 -- The nets, tables and registers of a flat design are those of its copies.
-use Rattle.std.proofs.Common.{◌≡◌, ◌≢◌, ◌∙◌, ◌==◌, ℕ, zero, suc, ◌+◌, ◌<◌, Bool, true, false, List, [], ◌∷◌, ◌++◌, map, length, get_or, Option, None, Some, Result, Ok, Err, refl, sym, ap, ap₂, subst, inl, inr, arith, nat_lt, eq-eqb, append_assoc, if◌then◌else◌}
+use Rattle.std.proofs.Common.{◌≡◌, ◌≢◌, ◌∙◌, ◌==◌, ℕ, zero, suc, ◌+◌, ◌<◌, ◌≤◌, Bool, true, false, List, [], ◌∷◌, ◌++◌, map, length, get_or, Option, None, Some, Result, Ok, Err, refl, sym, ap, ap₂, subst, inl, inr, arith, nat_lt, eq-eqb, append_assoc, if◌then◌else◌}
 use Rattle.std.specs.Prelude.{AllPairs}
 use Rattle.std.specs.List.{flat_map, list_any}
 use Rattle.std.specs.Option.{option_map, option_map_or}
@@ -23,7 +23,7 @@ use Rattle.ds_design.specs.declared.blif.UseText.{UseText}
 use Rattle.ds_lines.specs.declared.at.At.{At}
 use Rattle.ds_flat.specs.Net.{Scope, Numbered, has_net, net_of_name, number_of_net, numbered_nets, numbered_names, same_net, with_net}
 use Rattle.ds_flat.specs.Command.{latch_names, numbered_latch, with_part}
-use Rattle.ds_flat.specs.Copies.{Flat, Opened, ◌>>=◌, actuals_in, copy_unless, empty_design, expand, flat_of, main_copy, model_named, most_depth, next_copy, open_model, open_use, passed_limit, ports_of, take_all, take_command, take_part, unknown_formal, use_in}
+use Rattle.ds_flat.specs.Copies.{Flat, Opened, ◌>>=◌, actuals_in, copy_unless, empty_design, expand, flat_of, main_copy, model_named, most_depth, next_copy, open_model, open_use, passed_limit, ports_of, take_all, take_command, take_part, unknown_formal, use_in, bindings_in}
 use Rattle.ds_flat_laws.specs.InCopies.{ComeTo, IsOfCopies, InCopy, copied, done, gate_by, names_by, nets_by, number_by, plain, register_by}
 use Rattle.ds_flat.proofs.Grown.{passed_by}
 use Rattle.ds_flat.specs.declared.fault.FlatKind.{FlatKind}
@@ -386,6 +386,23 @@ module _ (models : List BlifModel) where
   copies_taken zero opened after is = absurd (cc)
   copies_taken (suc depth) opened after is =
       all_taken (expand depth models) (copies_taken depth) opened.frame.path opened.frame.scope opened.frame.commands opened.flat after is
+
+  come_grows : (scope : Scope) (commands : List Command) (first : ℕ) (placed : List InCopy) (last : ℕ) → ComeTo models scope commands first placed last → first ≤ last
+  come_grows _ _ _ _ _ done = omega arith
+  come_grows _ _ _ _ _ (plain {scope} {command} {commands} {copies} {last} {placed} none rest) = come_grows scope commands copies placed last rest
+  come_grows _ _ _ _ _ (copied {scope} {command} {commands} {copies} {next} {last} {inner} {placed} call model is_use named under rest) =
+      let one : copies + 1 ≤ next = come_grows (record { copy = copies + 1; bound = bindings_in scope call.pairs }) model.commands (copies + 1) inner next under in
+      let more : next ≤ last = come_grows scope commands next placed last rest in
+      omega arith
+
+  -- a command that is taken never lowers the number of the last copy
+  pub command_grows : (depth : ℕ) (path : List (List ℕ)) (scope : Scope) (command : Command) (before after : Flat)
+      → take_command (expand depth models) models path scope command (use_in command.part) before ≡ Ok after → before.copies ≤ after.copies
+  command_grows depth path scope command before after is =
+      let taken : Taken models scope (command ∷ []) before after =
+      behind_command (expand depth models) (copies_taken depth) path scope command [] (use_in command.part) before after after refl is
+      (all_taken (expand depth models) (copies_taken depth) path scope [] after after refl) in
+      come_grows scope (command ∷ []) before.copies taken.placed after.copies taken.copies
 
 pub flat_of_copies : (main : BlifModel) (models : List BlifModel) (c : Circuit) → flat_of (main ∷ models) ≡ Ok c → IsOfCopies main (main ∷ models) c
 flat_of_copies main models c is =

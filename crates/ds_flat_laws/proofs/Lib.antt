@@ -1,2 +1,3 @@
 pub mod InCopies
 pub mod Circles
+pub mod FaultLines

@@ -1,7 +1,7 @@
 //! Laws of the definitions, each the contract of a function that does nothing.
 ghost use Rattle.ds_flat_laws.specs.Circles.{RecursiveFaultsAreCircles};
 ghost use Rattle.ds_flat_laws.specs.InCopies.{FlatDesignsAreOfCopies};
-ghost use Rattle.ds_flat_laws.specs.Laws.{FlatDesignsAreInRange};
+ghost use Rattle.ds_flat_laws.specs.Laws.{FaultsAreOnLines, FlatDesignsAreInRange};
 ghost use Rattle.ds_flat_laws.specs.Worked.{FlatDesignsAreWorked};
 
 /// Each number in the flat design of well formed models names what is there.
@@ -17,6 +17,12 @@ pub fn flat_designs_are_of_copies()
 /// The models that a fault says to be recursive are a circle, each of which uses the next.
 pub fn recursive_faults_are_circles()
     ensures { RecursiveFaultsAreCircles }
+{}
+
+/// The line of a fault is that of a command, so the bound on copies in one another is never used
+/// up.
+pub fn faults_are_on_lines()
+    ensures { FaultsAreOnLines }
 {}
 
 /// Short lists of models, worked by hand, give these flat designs and faults.

@@ -1,7 +1,7 @@
 //! Command lines whose reads and writes fail in turn, and what they write where none does.
 use ds_base::OutOfMemory;
 use ds_outside::OpenGate;
-use ds_trial::{GRAPH, RANKS, RING, TOGGLE, Wanted, gives, printed};
+use ds_trial::{EXPANSION, GRAPH, RANKS, RING, TOGGLE, Wanted, gives, printed};
 use std::alloc::{AllocError, Global};
 use std::thread::Threads;
 
@@ -14,7 +14,13 @@ desync clock tog v
 desync check tog
 desync graph tog
 desync replay tog v l
-desync accept tog g";
+desync accept tog g
+desync run tog v --slack 2 --clusters one
+desync graph tog --shake
+desync replay tog v l --slack 1
+desync replay tog v l --transparent
+desync period tog d
+desync demo 0 2 3 --jobs 2";
 
 /// Command lines with a fault, each behind its status, and what is reported of it. For the last one
 /// the output is to fail.
@@ -30,6 +36,22 @@ desync: cannot write
 
 // The log of the first turn.
 const LOG: &str = "IN+ 1\nIN- 1\nOUT+ 1\nOUT- 1\nM0+ 1\nM0- 1\nS0+ 1\nS0- 1\n";
+
+const DELAYS: &str = "M0+ S0+ 3\nS0+ M0+ 4\nM0+ M0- 2\n";
+
+const PERIOD: &str = "period 7/1
+cycle M0+ S0+
+potential IN+ 0
+potential IN- 0
+potential OUT+ 0
+potential OUT- 0
+potential M0+ 0
+potential M0- 2
+potential S0+ 3
+potential S0- 3
+";
+
+const SUMS: &str = "turns 3\nfirings 36\nones 1\nfold 23695\n";
 
 const REPORT: &str = "nets 3\ntables 1\nregisters 1\nlevels 1\n";
 
@@ -65,18 +87,19 @@ impl Jobs {
     }
 
     /// The files of the command lines.
-    pub fn files(&self) -> [(&str, &str); 5] {
+    pub fn files(&self) -> [(&str, &str); 6] {
         self.with_log(LOG)
     }
 
     // The files with this log.
-    fn with_log<'x>(&'x self, log: &'x str) -> [(&'x str, &'x str); 5] {
+    fn with_log<'x>(&'x self, log: &'x str) -> [(&'x str, &'x str); 6] {
         [
             ("tog", TOGGLE),
             ("ring", RING),
             ("g", GRAPH),
             ("v", self.vectors.as_str()),
             ("l", log),
+            ("d", DELAYS),
         ]
     }
 
@@ -84,8 +107,11 @@ impl Jobs {
     fn text<'x>(&'x self, line: &str) -> &'x str {
         match line.split(' ').nth(1) {
             Some("check") => REPORT,
+            Some("graph") if line.ends_with(" --shake") => EXPANSION,
             Some("graph") => GRAPH,
             Some("accept") => RANKS,
+            Some("period") => PERIOD,
+            Some("demo") => SUMS,
             Some("replay") => self.first.as_str(),
             _ if is_stopped(line) => self.last.as_str(),
             _ => self.trace.as_str(),

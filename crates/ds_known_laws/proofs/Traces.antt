@@ -15,7 +15,7 @@ use Rattle.ds_cover.specs.Cover.{value_at, values_at}
 use Rattle.ds_design.specs.Circuit.{initial_row}
 use Rattle.ds_design.specs.Trace.{end_line, trace_line, value_text, values_text}
 use Rattle.ds_known_laws.specs.Known.{KnownTracesAreKnown, is_x}
-use Rattle.ds_known_laws.proofs.Runs.{nets_known, state_known}
+use Rattle.ds_design.proofs.KnownRuns.{nets_known, state_known}
 
 -- no byte of a text is `x`
 abbrev HasNone : List ℕ → Type 0

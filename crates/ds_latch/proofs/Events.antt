@@ -10,7 +10,7 @@ use Rattle.ds_latch.specs.declared.node.Node.TheVariants.{In, Out, Master, Slave
 use Rattle.ds_base.proofs.Lists.{Contains-head, Contains-tail, Contains-split}
 use Rattle.ds_latch.proofs.Counts.{number_below, places_differ}
 
-is_false : (r : Bool) → ¬ (r ≡ true) → r ≡ false
+pub is_false : (r : Bool) → ¬ (r ≡ true) → r ≡ false
 is_false true not_so = absurd (not_so refl)
 is_false false not_so = refl
 

@@ -1,18 +1,19 @@
 -- The headline: what every legal list leaves.
-use Rattle.std.proofs.Common.{◌≡◌, ◌∙◌, ℕ, zero, suc, ◌+◌, ◌*◌, ◌<◌, ◌≤◌, List, [], ◌∷◌, ◌++◌, length, get_or, map, take, drop, inl, inr, arith, ap, sym, length-append}
+use Rattle.std.proofs.Common.{◌≡◌, ◌∙◌, ℕ, zero, suc, ◌+◌, ◌*◌, ◌<◌, ◌≤◌, List, [], ◌∷◌, ◌++◌, length, get_or, map, take, drop, inl, inr, refl, arith, ap, ap₂, sym, add-one, length-append}
 use Rattle.std.specs.Prelude.{◌⊎◌, All}
 use Rattle.std.specs.List.{range_with_len}
 use Rattle.std.proofs.lemmas.Bool.{cases_lt}
 use Rattle.std.proofs.lemmas.List.{get_or-map, take-append-drop}
 use Rattle.ds_base.proofs.Lists.{map_agree}
-use Rattle.std.proofs.lemmas.List.FromFn.{take-map-range_with_len}
+use Rattle.std.proofs.lemmas.List.FromFn.{length-map-range_with_len, take-map-range_with_len}
 use Rattle.std.proofs.lemmas.Simd.{map-map}
 use Rattle.ds_base.specs.Values.{Row}
 use Rattle.ds_base.specs.declared.value.Value.{Value}
 use Rattle.ds_base.specs.declared.value.Value.TheVariants.{Zero}
-use Rattle.ds_cover.specs.Cover.{value_at}
+use Rattle.ds_cover.specs.Cover.{value_at, values_at}
 use Rattle.ds_marked.specs.Graph.{Graph, IsConsistent, IsLegal, IsLive, counts_after}
-use Rattle.ds_marked.proofs.Progress.{legal_is_consistent, progress}
+use Rattle.ds_marked.specs.Progress.{HasFiredAll}
+use Rattle.ds_marked.proofs.Progress.{legal_goes_on, legal_is_consistent, progress}
 use Rattle.ds_design.specs.Circuit.{columns}
 use Rattle.ds_design.specs.InRange.{IsInRange}
 use Rattle.ds_design.specs.Run.{IsRun}
@@ -20,16 +21,21 @@ use Rattle.ds_design.specs.Trace.{IsTraceFrom}
 use Rattle.ds_design.proofs.Runs.{one_run, some_run}
 use Rattle.ds_latch.specs.Node.{Split, IsNode, number_of, closing, members, nodes}
 use Rattle.ds_latch.specs.declared.node.Node.{Node}
-use Rattle.ds_latch.specs.declared.node.Node.TheVariants.{Slave}
+use Rattle.ds_latch.specs.declared.node.Node.TheVariants.{Out, Slave}
 use Rattle.ds_latch.specs.Plan.{IsController, IsPlan, split_events}
 use Rattle.ds_latch.specs.Numbered.{numbered}
 use Rattle.ds_latch.specs.Firing.{State, first_state, FiresAll}
 use Rattle.ds_latch.specs.Flow.{IsInStep}
-use Rattle.ds_latch.specs.Headline.{AreStored, BeginsWith, Desynchronizes, HasFiredAll, HasNext, Interleaves, StandsAt, stored_lines, values_clocked, values_stored}
+use Rattle.ds_latch.specs.Headline.{AreStored, BeginsWith, Desynchronizes, HasNext, Interleaves, StandsAt, outputs_clocked, stored_lines, values_clocked, values_stored}
 use Rattle.ds_latch.proofs.Counts.{accepted_controls, number_below}
 use Rattle.ds_latch.proofs.Flow.{InStep, fires_count, steps_kept, some_firing}
 use Rattle.ds_latch.proofs.Rising.{events_long}
 use Rattle.ds_latch.proofs.Spelt.{stored_rows_spell_trace}
+
+-- lists whose values differ by a place
+shifted : {X : Type 0} (f g : ℕ → X) (a n : ℕ) → ((k : ℕ) → f (k + 1) ≡ g k) → map f (range_with_len (a + 1) n) ≡ map g (range_with_len a n)
+shifted f g a zero same = refl
+shifted {X} f g a (suc n) same = ap₂ (λ (x : X) (xs : List X). x ∷ xs) (same a) (shifted f g (a + 1) n same)
 
 -- below a bound each count is the limit, or some count is below it
 all_or_below : (count : ℕ → ℕ) (limit bound : ℕ) → ((v : ℕ) → v < bound → count v ≤ limit)
@@ -50,8 +56,8 @@ all_or_below count limit (suc n) within =
     ]
 
 -- firing goes on until every event has fired as often as it may
-pub legal_goes_on : (g : Graph) → IsLive g → (limit : ℕ) (events : List ℕ) → IsLegal g limit events → HasFiredAll g limit events ⊎ HasNext g limit events
-legal_goes_on g live limit events legal =
+pub all_or_next : (g : Graph) → IsLive g → (limit : ℕ) (events : List ℕ) → IsLegal g limit events → HasFiredAll g limit (counts_after (λ _. 0) events) ⊎ HasNext g limit events
+all_or_next g live limit events legal =
     let consistent : IsConsistent g limit (counts_after (λ _. 0) events) = legal_is_consistent g limit events legal in
     elim (all_or_below (counts_after (λ _. 0) events) limit (length g.events) consistent.within) [
       | inl all ↦ inl all
@@ -79,6 +85,27 @@ stored_begins s vectors state nets now step turns within register cluster place 
       sym (take-append-drop closed whole) ∙ ap (λ (xs : List Value). xs ++ drop closed whole) front,
     )
 
+-- the rows that OUT has stored are the first of the rows of the outputs
+pub outputs_begin : (s : Split) (vectors : List Row) (state nets : ℕ → Row) (now : State) → IsInStep s vectors state nets now
+    → (turns : ℕ) → ((n : ℕ) → now.count n ≤ turns) → BeginsWith (outputs_clocked s.circuit nets turns) (now.stored Out)
+outputs_begin s vectors state nets now step turns within =
+    let closed : ℕ = now.count (closing Out) in
+    let whole : List Row = outputs_clocked s.circuit nets turns in
+    let low : now.count (closing Out) ≤ turns = within (closing Out) in
+    let front : take closed whole ≡ now.stored Out =
+    take-map-range_with_len (λ k. values_at (nets k) s.circuit.outputs) 0 turns closed low
+    ∙ (sym (shifted (numbered s vectors state nets Out) (λ k. values_at (nets k) s.circuit.outputs) 0 closed (λ k. ap (numbered s vectors state nets Out) (add-one k))) ∙ sym (step.stored Out tt)) in (
+      drop closed whole,
+      sym (take-append-drop closed whole) ∙ ap (λ (xs : List Row). xs ++ drop closed whole) front,
+    )
+
+-- each node has stored as many rows as it has closed
+pub stored_long : (s : Split) (vectors : List Row) (state nets : ℕ → Row) (now : State) → IsInStep s vectors state nets now
+    → (n : Node) → IsNode s n → length (now.stored n) ≡ now.count (closing n)
+stored_long s vectors state nets now step n is_node =
+    ap length (step.stored n is_node)
+    ∙ length-map-range_with_len (numbered s vectors state nets n) 1 (now.count (closing n))
+
 -- firings count as their list does
 fired_counts : (s : Split) (vectors : List Row) (old now : State) (events : List ℕ) → FiresAll s vectors old events now
     → now.count ≡ counts_after old.count events
@@ -102,7 +129,7 @@ module _ (s : Split) (g : Graph) (plan : IsPlan s g) (vectors : List Row) (state
   controls = accepted_controls s g plan
 
   -- a list that has every event once a vector spells the trace
-  spelt_by : (events : List ℕ) → IsLegal g (length vectors) events → HasFiredAll g (length vectors) events
+  spelt_by : (events : List ℕ) → IsLegal g (length vectors) events → HasFiredAll g (length vectors) (counts_after (λ _. 0) events)
       → (now : State) → FiresAll s vectors (first_state s) events now
       → (rows : ℕ → Row) → AreStored s now (length vectors) rows
       → IsTraceFrom s.circuit 0 s.initial vectors (stored_lines 0 now (length vectors) rows) (rows (length vectors))
@@ -114,13 +141,21 @@ module _ (s : Split) (g : Graph) (plan : IsPlan s g) (vectors : List Row) (state
       let (lines, last) = stored_rows_spell_trace s plan.split 0 vectors state nets run now kept.step closed rows are.first are.later in
       record { state = state; nets = nets; run = run; spelt = lines; ends = last }
 
-  pub interleaves : (events : List ℕ) → IsLegal g (length vectors) events → Interleaves s g vectors state events
+  pub interleaves : (events : List ℕ) → IsLegal g (length vectors) events → Interleaves s g vectors state nets events
   interleaves events legal = record {
     fires = some_firing s g controls vectors state nets run events legal;
     stores = λ now all.
         let kept : InStep s g controls vectors state nets run now = steps_kept s g controls vectors state nets run events legal now all in
         stored_begins s vectors state nets now kept.step (length vectors) kept.within;
-    goes_on = legal_goes_on g controls.live (length vectors) events legal;
+    shows = λ now all.
+        let kept : InStep s g controls vectors state nets run now = steps_kept s g controls vectors state nets run events legal now all in
+        outputs_begin s vectors state nets now kept.step (length vectors) kept.within;
+    closes = λ now all n is_node.
+        let kept : InStep s g controls vectors state nets run now = steps_kept s g controls vectors state nets run events legal now all in
+        stored_long s vectors state nets now kept.step n is_node
+        ∙ ap (λ (count : ℕ → ℕ). count (closing n)) (fired_counts s vectors (first_state s) now events all);
+    goes_on = all_or_next g controls.live (length vectors) events legal;
+    ends = legal_goes_on g controls.live (length vectors) events legal;
     spells = spelt_by events legal;
   }
 
@@ -133,6 +168,6 @@ headline s g plan in_range vectors wide =
       state = state;
       nets = nets;
       run = run;
-      one = λ state' nets' run' k low. (one_run s.circuit plan.split.accepted s.initial vectors state' nets' state nets run' run k).0 low;
+      one = λ state' nets' run' k. one_run s.circuit plan.split.accepted s.initial vectors state' nets' state nets run' run k;
       all = interleaves s g plan vectors state nets run;
     }

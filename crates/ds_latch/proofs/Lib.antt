@@ -1,3 +1,5 @@
+pub mod NothingNew
+pub mod Reordered
 pub mod Numbers
 pub mod Counts
 pub mod Turns

@@ -1,5 +1,5 @@
 -- A node has its number alone.
-use Rattle.std.proofs.Common.{◌≡◌, ◌+◌, ◌*◌, ℕ, arith, ap, refl}
+use Rattle.std.proofs.Common.{◌≡◌, ℕ, arith, ap, refl}
 use Rattle.ds_latch.specs.Node.{number_of}
 use Rattle.ds_latch.specs.declared.node.Node.{Node}
 use Rattle.ds_latch.specs.declared.node.Node.TheVariants.{In, Out, Master, Slave}

@@ -24,9 +24,7 @@ held s now n = now.rows n (place_of s (now.count (opening n)))
 -- at first slaves hold their initial values
 abbrev pub first_row : Split → Node → Row
 first_row s (Slave i) = values_at s.initial (members s i)
-first_row s (Master i) = zeros s (Master i)
-first_row s In = zeros s In
-first_row s Out = zeros s Out
+first_row s n = zeros s n
 
 -- at first nothing has fired; what no node holds is zeros
 abbrev pub first_state : Split → State
@@ -47,10 +45,8 @@ placed place x f other = if other == place then x else f other
 -- which opening of a producer a consumer reads that has opened so often: of a slave the one before,
 -- of others the same one
 abbrev pub opening_read : Node → ℕ → ℕ
-opening_read In opened = opened + 1
-opening_read Out opened = opened + 1
-opening_read (Master i) opened = opened + 1
 opening_read (Slave i) opened = opened
+opening_read n opened = opened + 1
 
 -- what a consumer that has opened so often reads of each producer
 abbrev pub read_rows : Split → State → ℕ → Node → Row

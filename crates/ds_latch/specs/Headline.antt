@@ -4,20 +4,22 @@ use Rattle.std.specs.Prelude.{◌≡◌, ◌⊎◌, ℕ, ◌+◌, ◌<◌, ◌�
 use Rattle.std.specs.List.{flat_map, range_with_len}
 use Rattle.ds_base.specs.Values.{Row}
 use Rattle.ds_base.specs.declared.value.Value.{Value}
-use Rattle.ds_cover.specs.Cover.{value_at}
-use Rattle.ds_design.specs.Circuit.{columns}
+use Rattle.ds_cover.specs.Cover.{value_at, values_at}
+use Rattle.ds_design.specs.Circuit.{Circuit, columns}
 use Rattle.ds_design.specs.InRange.{IsInRange}
 use Rattle.ds_design.specs.Run.{IsRun, row_at}
 use Rattle.ds_design.specs.Trace.{IsTraceFrom, trace_line}
 use Rattle.ds_marked.specs.Graph.{Graph, IsEnabled, IsLegal, counts_after}
-use Rattle.ds_latch.specs.Node.{Split, members}
+use Rattle.ds_marked.specs.Progress.{HasFiredAll}
+use Rattle.ds_latch.specs.Node.{Split, IsNode, closing, members}
+use Rattle.ds_latch.specs.declared.node.Node.{Node}
 use Rattle.ds_latch.specs.declared.node.Node.TheVariants.{Out, Slave}
 use Rattle.ds_latch.specs.Plan.{IsPlan}
 use Rattle.ds_latch.specs.Firing.{State, first_state, FiresAll, AreRegisters}
 
 -- a list begins with another
-abbrev pub BeginsWith : List Value → List Value → Type 0
-BeginsWith whole front = (rest : List Value) × (whole ≡ front ++ rest)
+abbrev pub BeginsWith : {X : Type 0} → List X → List X → Type 0
+BeginsWith {X} whole front = (rest : List X) × (whole ≡ front ++ rest)
 
 -- a register stands at this place of this cluster
 pub record StandsAt (s : Split) (register cluster place : ℕ) : Type 0 where
@@ -34,9 +36,9 @@ abbrev pub values_clocked : (ℕ → Row) → ℕ → ℕ → List Value
 values_clocked state turns register =
     map (λ k. value_at (state k) register) (range_with_len 1 turns)
 
--- every event has fired so often
-abbrev pub HasFiredAll : Graph → ℕ → List ℕ → Type 0
-HasFiredAll g turns events = (v : ℕ) → v < length g.events → counts_after (λ _. 0) events v ≡ turns
+-- the rows of the outputs in each of so many turns
+abbrev pub outputs_clocked : Circuit → (ℕ → Row) → ℕ → List Row
+outputs_clocked c nets turns = map (λ k. values_at (nets k) c.outputs) (range_with_len 0 turns)
 
 -- some event may fire next
 abbrev pub HasNext : Graph → ℕ → List ℕ → Type 0
@@ -55,17 +57,27 @@ stored_lines first now turns rows =
     (range_with_len 0 turns)
 
 -- what a legal list of firings leaves, beside a clocked run: it can be fired; the stored values of
--- each register are the first of its clocked values; every event has fired once a vector or some
--- event may fire; and where every event has, what is stored spells the trace
-pub record Interleaves (s : Split) (g : Graph) (vectors : List Row) (state : ℕ → Row)
+-- each register are the first of its clocked values, and the rows that OUT has stored the first of
+-- the rows of the outputs; each node has stored as many rows as it has closed; every event has
+-- fired once a vector or some event may fire; the list goes on to one in which every event has; and
+-- where every event has, what is stored spells the trace
+pub record Interleaves (s : Split) (g : Graph) (vectors : List Row) (state nets : ℕ → Row)
     (events : List ℕ) : Type 0 where
   pub fires : (now : State) × FiresAll s vectors (first_state s) events now
   pub stores : (now : State) → FiresAll s vectors (first_state s) events now
       → (register cluster place : ℕ) → StandsAt s register cluster place
       → BeginsWith (values_clocked state (length vectors) register)
       (values_stored now cluster place)
-  pub goes_on : HasFiredAll g (length vectors) events ⊎ HasNext g (length vectors) events
-  pub spells : HasFiredAll g (length vectors) events
+  pub shows : (now : State) → FiresAll s vectors (first_state s) events now
+      → BeginsWith (outputs_clocked s.circuit nets (length vectors)) (now.stored Out)
+  pub closes : (now : State) → FiresAll s vectors (first_state s) events now
+      → (n : Node) → IsNode s n
+      → length (now.stored n) ≡ counts_after (λ _. 0) events (closing n)
+  pub goes_on : HasFiredAll g (length vectors) (counts_after (λ _. 0) events)
+      ⊎ HasNext g (length vectors) events
+  pub ends : (more : List ℕ) × IsLegal g (length vectors) (events ++ more)
+      × HasFiredAll g (length vectors) (counts_after (λ _. 0) (events ++ more))
+  pub spells : HasFiredAll g (length vectors) (counts_after (λ _. 0) events)
       → (now : State) → FiresAll s vectors (first_state s) events now
       → (rows : ℕ → Row) → AreStored s now (length vectors) rows
       → IsTraceFrom s.circuit 0 s.initial vectors (stored_lines 0 now (length vectors) rows)
@@ -77,9 +89,10 @@ pub record Desynchronizes (s : Split) (g : Graph) (vectors : List Row) : Type 0 
   pub nets : ℕ → Row
   pub run : IsRun s.circuit s.initial vectors state nets
   pub one : (state' nets' : ℕ → Row) → IsRun s.circuit s.initial vectors state' nets'
-      → (k : ℕ) → k ≤ length vectors → state' k ≡ state k
+      → (k : ℕ) → (k ≤ length vectors → state' k ≡ state k)
+      × (k < length vectors → nets' k ≡ nets k)
   pub all : (events : List ℕ) → IsLegal g (length vectors) events
-      → Interleaves s g vectors state events
+      → Interleaves s g vectors state nets events
 
 -- so it is for every circuit with its clusters, every graph that is accepted for them, and all
 -- vectors as wide as its columns

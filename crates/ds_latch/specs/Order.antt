@@ -29,17 +29,13 @@ pub data IsDataEdge (s : Split) : Node → Node → Type 0 where
 -- how many tokens the orders of an edge have. A slave holds its initial value, so its consumers may
 -- open once before it
 abbrev pub open_tokens : Node → ℕ
-open_tokens In = 0
-open_tokens Out = 0
-open_tokens (Master i) = 0
 open_tokens (Slave i) = 1
+open_tokens n = 0
 
 -- a producer may open again once its consumers have closed; with slack, so many openings earlier
 abbrev pub close_tokens : Split → Node → ℕ
-close_tokens s In = s.slack + 1
-close_tokens s Out = s.slack + 1
-close_tokens s (Master i) = s.slack + 1
 close_tokens s (Slave i) = s.slack
+close_tokens s n = s.slack + 1
 
 -- a required order from one event to another, with its tokens
 pub data IsRequired (s : Split) : ℕ → ℕ → ℕ → Type 0 where

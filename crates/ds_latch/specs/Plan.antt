@@ -72,7 +72,3 @@ pub record Reorders (from to : Graph) : Type 0 where
   pub arcs : IsPermutation (map
       (λ arc. record { source = place arc.source; target = place arc.target; tokens = arc.tokens })
       from.arcs) to.arcs
-
--- a graph is accepted where it is a plan's once its events stand in the order of the nodes
-abbrev pub IsAcceptedGraph : Split → Graph → Type 0
-IsAcceptedGraph s g = (to : Graph) × Reorders g to × IsPlan s to

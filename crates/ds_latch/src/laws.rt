@@ -2,6 +2,7 @@
 ghost use Rattle.ds_latch.specs.Flow.{FlowEquivalence, SettlesFromAll, SomeFiring};
 ghost use Rattle.ds_latch.specs.Flow.{StoredRowsSpellTrace, OneRowTaken};
 ghost use Rattle.ds_latch.specs.Controls.{AcceptedControls, OrdersAreAccepted, RequiredOrdersRise};
+ghost use Rattle.ds_latch.specs.Controls.{NothingNewFires, ReorderedIsLegal};
 ghost use Rattle.ds_latch.specs.Controls.{Stability, StabilityWithoutSlack};
 ghost use Rattle.ds_latch.specs.Transparent.{TransparentLatches};
 ghost use Rattle.ds_latch.specs.Windows.{PlanBegins, StoredInWindows, ValuesInWindows};
@@ -86,6 +87,16 @@ pub fn settles_from_all()
 /// The required orders alone are an accepted graph.
 pub fn orders_are_accepted()
     ensures { OrdersAreAccepted }
+{}
+
+/// An accepted graph lets nothing fire that the required orders do not.
+pub fn nothing_new_fires()
+    ensures { NothingNewFires }
+{}
+
+/// A legal list of a graph is one of the same graph with its events at other places.
+pub fn reordered_is_legal()
+    ensures { ReorderedIsLegal }
 {}
 
 /// In whatever order the latches of an accepted graph fire, they do what the clocked circuit does.

@@ -9,7 +9,7 @@ use Rattle.ds_base.specs.Values.{Row}
 use Rattle.ds_base.specs.declared.number.Limit.TheVariants.{Bytes}
 use Rattle.ds_base.specs.declared.number.Mode.{Mode}
 use Rattle.ds_outside.specs.Held.{Held, untold, bytes}
-use Rattle.ds_marked.specs.Graph.{IsLegal}
+use Rattle.ds_marked.specs.Graph.{IsLegal, counts_after}
 use Rattle.ds_design.specs.Accepted.{IsAccepted}
 use Rattle.ds_design.specs.Circuit.{Circuit, columns}
 use Rattle.ds_design.specs.InRange.{IsInRange}
@@ -18,7 +18,8 @@ use Rattle.ds_design.specs.Run.{IsRun}
 use Rattle.ds_latch.specs.Node.{Split, members}
 use Rattle.ds_latch.specs.Plan.{IsPlan, IsSplit, Planned}
 use Rattle.ds_latch.specs.Firing.{State, first_state, FiresAll, held as held_of}
-use Rattle.ds_latch.specs.Headline.{Desynchronizes, HasFiredAll, StandsAt, values_stored}
+use Rattle.ds_latch.specs.Headline.{Desynchronizes, StandsAt, values_stored}
+use Rattle.ds_marked.specs.Progress.{HasFiredAll}
 use Rattle.ds_latch.specs.Transparent.{IsShowing}
 use Rattle.ds_latch.proofs.Headline.{headline}
 use Rattle.ds_netlist.specs.Laws.{FaultsAreRefused}
@@ -76,7 +77,7 @@ module _ (s : Split) (split : IsSplit s) (now : State) where
 
 -- a plan, its vectors, and a list that has each event once a vector
 module _ (p : Planned) (plan : IsPlan p.split p.graph) (vectors : List Row) (events : List ℕ) (legal : IsLegal p.graph (length vectors) events)
-    (all : HasFiredAll p.graph (length vectors) events) where
+    (all : HasFiredAll p.graph (length vectors) (counts_after (λ _. 0) events)) where
   -- as many firings as there may be
   as_many : length events ≡ length p.graph.events * length vectors
   as_many = whole_long p.graph (length vectors) events legal all

@@ -9,7 +9,7 @@ use Rattle.ds_base.specs.declared.value.Value.TheVariants.{Zero}
 use Rattle.ds_cover.specs.Cover.{value_at}
 use Rattle.ds_design.specs.Circuit.{data_nets}
 use Rattle.ds_design.specs.Run.{IsRun, row_at}
-use Rattle.ds_marked.specs.Graph.{Graph, IsLegal}
+use Rattle.ds_marked.specs.Graph.{Graph, IsLegal, counts_after}
 use Rattle.ds_latch.specs.Node.{Split, IsNode, closing, members}
 use Rattle.ds_latch.specs.declared.node.Node.{Node}
 use Rattle.ds_latch.specs.declared.node.Node.TheVariants.{Slave}
@@ -17,7 +17,8 @@ use Rattle.ds_latch.specs.Plan.{IsPlan, IsSplit, split_events}
 use Rattle.ds_latch.specs.Numbered.{numbered}
 use Rattle.ds_latch.specs.Firing.{State, AreRegisters, FiresAll, first_state}
 use Rattle.ds_latch.specs.Flow.{IsInStep}
-use Rattle.ds_latch.specs.Headline.{AreStored, HasFiredAll}
+use Rattle.ds_latch.specs.Headline.{AreStored}
+use Rattle.ds_marked.specs.Progress.{HasFiredAll}
 use Rattle.ds_latch.proofs.Counts.{accepted_controls, number_below}
 use Rattle.ds_latch.proofs.Flow.{flow_equivalence}
 use Rattle.ds_latch.proofs.Rising.{events_long}
@@ -43,7 +44,7 @@ node_event s g plan n is_node = omega (
 )
 
 module _ (s : Split) (g : Graph) (plan : IsPlan s g) (vectors : List Row) (state nets : ℕ → Row) (run : IsRun s.circuit s.initial vectors state nets)
-    (events : List ℕ) (legal : IsLegal g (length vectors) events) (all : HasFiredAll g (length vectors) events)
+    (events : List ℕ) (legal : IsLegal g (length vectors) events) (all : HasFiredAll g (length vectors) (counts_after (λ _. 0) events))
     (now : State) (fires : FiresAll s vectors (first_state s) events now) where
   step : IsInStep s vectors state nets now
   step = flow_equivalence s g (accepted_controls s g plan) vectors state nets run events legal now fires

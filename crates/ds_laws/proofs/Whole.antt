@@ -10,7 +10,7 @@ use Rattle.ds_latch.specs.declared.node.Node.{Node}
 use Rattle.ds_latch.specs.declared.node.Node.TheVariants.{In, Out, Master, Slave}
 use Rattle.ds_latch.specs.Plan.{IsPlan, split_events}
 use Rattle.ds_latch.specs.Firing.{State, FiresAll}
-use Rattle.ds_latch.specs.Headline.{HasFiredAll}
+use Rattle.ds_marked.specs.Progress.{HasFiredAll}
 use Rattle.ds_latch.proofs.Counts.{number_below}
 use Rattle.ds_latch.proofs.Flow.{fires_count}
 use Rattle.ds_latch.proofs.Rising.{events_long}
@@ -25,7 +25,7 @@ counts_are s vectors old now (v ∷ events) (next, fires, rest) =
     ∙ ap (λ (count : ℕ → ℕ). counts_after count events) (fires_count s vectors old v next fires)
 
 module _ (s : Split) (g : Graph) (plan : IsPlan s g) (vectors : List Row) (events : List ℕ) (first now : State) (none : first.count ≡ (λ _. 0))
-    (full : HasFiredAll g (length vectors) events) (fires : FiresAll s vectors first events now) where
+    (full : HasFiredAll g (length vectors) (counts_after (λ _. 0) events)) (fires : FiresAll s vectors first events now) where
   -- both events of a node have fired as often
   closed_as_often : (n : Node) → IsNode s n → now.count (opening n) ≡ now.count (closing n)
   closed_as_often n is_node =

@@ -2,13 +2,14 @@
 use Rattle.std.specs.Prelude.{◌≡◌, ℕ, ◌≤◌, List, ◌++◌, length}
 use Rattle.ds_base.specs.Values.{Row}
 use Rattle.ds_design.specs.Run.{IsRun}
-use Rattle.ds_marked.specs.Graph.{Graph, IsLegal}
+use Rattle.ds_marked.specs.Graph.{Graph, IsLegal, counts_after}
+use Rattle.ds_marked.specs.Progress.{HasFiredAll}
 use Rattle.ds_latch.specs.Node.{Split, closing}
 use Rattle.ds_latch.specs.declared.node.Node.{Node}
 use Rattle.ds_latch.specs.Order.{IsDataEdge}
 use Rattle.ds_latch.specs.Plan.{IsController, IsPlan}
 use Rattle.ds_latch.specs.Firing.{State, FiresAll, first_state, read_rows}
-use Rattle.ds_latch.specs.Headline.{AreStored, HasFiredAll}
+use Rattle.ds_latch.specs.Headline.{AreStored}
 use Rattle.ds_latch.specs.Transparent.{IsOpen}
 
 -- what the slaves have stored is there: where every event has fired once a vector, the clocked
@@ -16,7 +17,8 @@ use Rattle.ds_latch.specs.Transparent.{IsOpen}
 abbrev pub StoredAreThere : Type 0
 StoredAreThere = (s : Split) (g : Graph) → IsPlan s g
     → (vectors : List Row) (state nets : ℕ → Row) → IsRun s.circuit s.initial vectors state nets
-    → (events : List ℕ) → IsLegal g (length vectors) events → HasFiredAll g (length vectors) events
+    → (events : List ℕ) → IsLegal g (length vectors) events
+    → HasFiredAll g (length vectors) (counts_after (λ _. 0) events)
     → (now : State) → FiresAll s vectors (first_state s) events now
     → AreStored s now (length vectors) state
     × ((rows : ℕ → Row) → AreStored s now (length vectors) rows

@@ -9,8 +9,9 @@ use Rattle.ds_outside.specs.Held.{Held, bytes}
 use Rattle.ds_lines.specs.Line.{lines_of}
 use Rattle.ds_design.specs.Run.{IsRun}
 use Rattle.ds_marked.specs.Graph.{IsLegal, counts_after}
+use Rattle.ds_marked.specs.Progress.{HasFiredAll}
 use Rattle.ds_latch.specs.Plan.{IsPlan, Planned}
-use Rattle.ds_latch.specs.Headline.{BeginsWith, HasFiredAll, values_clocked}
+use Rattle.ds_latch.specs.Headline.{BeginsWith, values_clocked}
 use Rattle.ds_cmd.specs.declared.job.Job.{Job}
 use Rattle.ds_cmd.specs.declared.job.Job.TheVariants.{Run, Replay}
 use Rattle.ds_cmd.specs.declared.replay.ReplayJob.{ReplayJob}
@@ -28,7 +29,7 @@ use Rattle.ds_app.specs.Status.{AreTold}
 pub record IsFiredWhole (p : Planned) (turns : ℕ) (text : List ℕ) : Type 0 where
   pub events : List ℕ
   pub legal : IsLegal p.graph turns events
-  pub all : (v : ℕ) → v < length p.graph.events → counts_after (λ _. 0) events v ≡ turns
+  pub all : HasFiredAll p.graph turns (counts_after (λ _. 0) events)
   pub fires : replay_of p.graph turns (lines_of text) ≡ Ok events
 
 -- the text of a run with its log is such a one
@@ -43,7 +44,7 @@ abbrev pub WholeStatesAreClocked : Type 0
 WholeStatesAreClocked = (p : Planned) → IsPlan p.split p.graph → (vectors : List Row)
     → (state nets : ℕ → Row) → IsRun p.split.circuit p.split.initial vectors state nets
     → (events : List ℕ) → IsLegal p.graph (length vectors) events
-    → HasFiredAll p.graph (length vectors) events
+    → HasFiredAll p.graph (length vectors) (counts_after (λ _. 0) events)
     → (text : List ℕ) → IsStateText p vectors events text
     → text ≡ flat_map (λ r. stored_text (register_of p.split.circuit r)
     (values_clocked state (length vectors) r))

@@ -1,12 +1,12 @@
 -- Runs of the same netlist and vectors with their logs print one trace.
 use Rattle.std.specs.Prelude.{◌≡◌, ℕ, true, List, ◌++◌, length, codes}
 use Rattle.ds_outside.specs.Held.{Held}
-use Rattle.ds_marked.specs.Graph.{IsLegal}
+use Rattle.ds_marked.specs.Graph.{IsLegal, counts_after}
 use Rattle.ds_marked.specs.Log.{IsLog}
 use Rattle.ds_design.specs.Circuit.{Circuit}
 use Rattle.ds_design.specs.Rows.{Rows}
 use Rattle.ds_design.specs.Trace.{IsTrace}
-use Rattle.ds_latch.specs.Headline.{HasFiredAll}
+use Rattle.ds_marked.specs.Progress.{HasFiredAll}
 use Rattle.ds_latch.specs.Plan.{Planned}
 use Rattle.ds_cmd.specs.declared.job.Job.TheVariants.{Run, Clock}
 use Rattle.ds_cmd.specs.declared.run.RunJob.{RunJob}
@@ -30,7 +30,7 @@ pub record IsTraceAndLog (held : List ℕ → Held) (job : RunJob) (trace text :
   pub traced : IsTrace circuit vectors.rows trace
   pub events : List ℕ
   pub legal : IsLegal plan.graph (length vectors.rows) events
-  pub all : HasFiredAll plan.graph (length vectors.rows) events
+  pub all : HasFiredAll plan.graph (length vectors.rows) (counts_after (λ _. 0) events)
   pub log : List ℕ
   pub logged : IsLog plan.graph events log
   pub spelt : text ≡ trace ++ codes "firings\n" ++ log

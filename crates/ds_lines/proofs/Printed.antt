@@ -13,7 +13,7 @@ use Rattle.ds_lines.specs.Print.{line_text, text_of, numbered_lines, IsWord, IsP
 use Rattle.ds_lines.proofs.Joins.{split-append, words_of-joined}
 
 -- where no element passes
-none_here : (p : ℕ → Bool) (byte : ℕ) (bytes : List ℕ) → list_any p (byte ∷ bytes) ≡ false → (p byte
+pub none_here : (p : ℕ → Bool) (byte : ℕ) (bytes : List ℕ) → list_any p (byte ∷ bytes) ≡ false → (p byte
     ≡ false) × (list_any p bytes ≡ false)
 none_here p byte bytes none = elim (cases_Bool (p byte)) [
   | inl here ↦ absurd (let h : list_any p (byte ∷ bytes) ≡ true = rw here refl in false≢true
@@ -21,13 +21,13 @@ none_here p byte bytes none = elim (cases_Bool (p byte)) [
   | inr other ↦ (other, rw other at none)
 ]
 
-any-append : (p : ℕ → Bool) (xs ys : List ℕ) → list_any p xs ≡ false → list_any p ys ≡ false
+pub any-append : (p : ℕ → Bool) (xs ys : List ℕ) → list_any p xs ≡ false → list_any p ys ≡ false
     → list_any p (xs ++ ys) ≡ false
 any-append p [] ys none more = more
 any-append p (x ∷ xs) ys none more = let (here, behind) = none_here p x xs none in rw
     (here, any-append p xs ys behind more) refl
 
-split_plain : (p : ℕ → Bool) (bytes : List ℕ) → list_any p bytes ≡ false → slice_split p bytes
+pub split_plain : (p : ℕ → Bool) (bytes : List ℕ) → list_any p bytes ≡ false → slice_split p bytes
     ≡ bytes ∷ []
 split_plain p [] none = refl
 split_plain p (byte ∷ bytes) none = let (here, behind) = none_here p byte bytes none in rw
@@ -43,7 +43,7 @@ position_plain p (byte ∷ bytes) none = let (here, behind) = none_here p byte b
 words_of-word : (word : List ℕ) → IsWord word → words_of word ≡ word ∷ []
 words_of-word word is = rw (split_plain is_blank word is.no_blank, is.some) refl
 
-words_of-line_text : (words : List (List ℕ)) → AllByRecursion IsWord words → words_of
+pub words_of-line_text : (words : List (List ℕ)) → AllByRecursion IsWord words → words_of
     (line_text words) ≡ words
 words_of-line_text [] are = refl
 words_of-line_text (word ∷ []) are = words_of-word word are.0
@@ -51,14 +51,14 @@ words_of-line_text (word ∷ next ∷ words) are =
     words_of-joined word (line_text (next ∷ words)) ∙ rw
     (words_of-word word are.0, words_of-line_text (next ∷ words) are.1) refl
 
-newline_line_text : (words : List (List ℕ)) → AllByRecursion IsWord words → list_any is_newline
+pub newline_line_text : (words : List (List ℕ)) → AllByRecursion IsWord words → list_any is_newline
     (line_text words) ≡ false
 newline_line_text [] are = refl
 newline_line_text (word ∷ []) are = are.0.no_newline
 newline_line_text (word ∷ next ∷ words) are = any-append is_newline word (32 ∷ line_text (next
     ∷ words)) are.0.no_newline (newline_line_text (next ∷ words) are.1)
 
-hash_line_text : (words : List (List ℕ)) → AllByRecursion IsWord words → list_any is_hash
+pub hash_line_text : (words : List (List ℕ)) → AllByRecursion IsWord words → list_any is_hash
     (line_text words) ≡ false
 hash_line_text [] are = refl
 hash_line_text (word ∷ []) are = are.0.no_hash
@@ -91,7 +91,7 @@ joins_plain words is =
     ap is_joined whole ∙ ap (list_any is_backslash) nothing
 
 -- one line that is not joined
-line_first : (n : ℕ) (words : List (List ℕ)) (line : List ℕ) (rest : List (List ℕ)) → joins line
+pub line_first : (n : ℕ) (words : List (List ℕ)) (line : List ℕ) (rest : List (List ℕ)) → joins line
     ≡ false → words_in line ≡ words → is_some words ≡ true
     → lines_from n [] n (line ∷ rest) ≡ record { number = n; words = words } ∷ lines_from (n + 1) []
     (n + 1) rest

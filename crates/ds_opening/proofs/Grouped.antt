@@ -3,10 +3,10 @@ use Rattle.std.proofs.Common.{◌≡◌, ◌≢◌, ◌∙◌, ℕ, ◌<◌, ◌
 use Rattle.std.proofs.Common.{length, get_or, refl, sym, ap, subst, arith, inl, inr}
 use Rattle.std.specs.Prelude.{All, AllPairs, Contains, ◌↔◌}
 use Rattle.std.specs.List.{list_any}
-use Rattle.std.proofs.lemmas.Bool.{cases_eq, cases_lt, false≢true}
+use Rattle.std.proofs.lemmas.Bool.{cases_eq, cases_lt, eqb-true, false≢true}
 use Rattle.std.proofs.lemmas.Bool.Decides.{Decides-eqb, eqb_tells}
 use Rattle.std.proofs.lemmas.List.{get_or_default, get_or_past}
-use Rattle.std.proofs.lemmas.List.Elements.{All-contains, All-filter, Contains-get_or}
+use Rattle.std.proofs.lemmas.List.Elements.{All-contains, All-filter, Contains-get_or, filter_passes}
 use Rattle.std.proofs.lemmas.List.Kept.{AllPairs-filter}
 use Rattle.std.proofs.lemmas.List.Folds.{Any-from_list_any}
 use Rattle.std.proofs.lemmas.Map.Steps.{length-le_from_distinct_below}
@@ -25,6 +25,7 @@ use Rattle.ds_design.specs.Banked.{IsBankOf}
 use Rattle.ds_opening.specs.Groups.{AreGroupsOf, Grouping, IsGrouped, group_of, tables_in}
 use Rattle.ds_opening.specs.Lists.{AreFound, AreLists, IsListOf}
 use Rattle.ds_opening.specs.Members.{AreMembers, tables_numbered}
+use Rattle.ds_opening.specs.Scheduled.{AreScheduled, ReadsNothingOf, Reads}
 use Rattle.ds_opening.specs.Lacking.{AreByLacking, cones_without}
 use Rattle.ds_opening.proofs.Flat.{filter_has, flat_has, has_filter, has_flat, nothing, pairs_flat}
 use Rattle.ds_opening.proofs.Lacks.{count_same, has_true, lacks_false}
@@ -33,16 +34,9 @@ use Rattle.ds_opening.proofs.Lacks.{count_same, has_true, lacks_false}
 pub no_cone : Cone
 no_cone = record { tables = []; sources = [] }
 
--- one table reads what another drives
-abbrev pub Reads : Circuit → Gate → ℕ → ℕ → Type 0
-Reads c d a b = Contains (get_or c.tables a d).table.inputs (get_or c.tables b d).output
-
-abbrev pub IsBehind : Circuit → ℕ → ℕ → Type 0
-IsBehind c a b = (d : Gate) → ¬ Reads c d a b
-
 -- an order, by pairs
 pub order_from_pairs : (c : Circuit) (xs : List ℕ) → All (λ k. k < length c.tables) xs
-    → AllPairs (IsBehind c) xs → All (λ k. IsBehind c k k) xs → AreInOrder c xs
+    → AllPairs (ReadsNothingOf c) xs → All (λ k. ReadsNothingOf c k k) xs → AreInOrder c xs
 order_from_pairs c xs within pairs selves = record {
   within = within;
   before = λ i j d below inside. elim (cases_eq i j) [
@@ -70,21 +64,22 @@ have_tables c cones are i d inside =
     let (these, is) = are i d inside in record { within = is.order.within; once = is.once }
 
 -- the members of groups are tables
-pub members_within : (c : Circuit) (order : List ℕ) → IsTableOrder c order → (numbers : List ℕ) (count : ℕ)
+pub members_within : (c : Circuit) (order : List ℕ) → All (λ k. k < length c.tables) order → (numbers : List ℕ) (count : ℕ)
     (groups : List (List ℕ)) → AreMembers order numbers count groups
     → All (λ these. All (λ k. k < length c.tables) these) groups
-members_within c order ordered numbers count groups are a d inside =
+members_within c order places numbers count groups are a d inside =
     let size : length groups ≡ count = are.one_each in
     let these : get_or groups a d ≡ tables_numbered order numbers a =
     get_or-default groups a d [] inside ∙ are.each a (omega (inside, size, arith)) in
     subst (λ (xs : List ℕ). All (λ k. k < length c.tables) xs) (sym these)
-    (All-filter (λ k. get_or numbers k 0 == a) (λ k. k < length c.tables) order ordered.places)
+    (All-filter (λ k. get_or numbers k 0 == a) (λ k. k < length c.tables) order places)
 
 module _ (c : Circuit) (order : List ℕ) (ordered : IsTableOrder c order) (cones : List Cone)
     (are_cones : All (λ cone. (these : List ℕ) × IsCone c these cone) cones)
     (numbers : List ℕ) (count : ℕ) (classes : AreClasses cones (length c.tables) numbers)
     (below : All (λ n. n < count) numbers)
-    (groups : List (List ℕ)) (are_members : AreMembers order numbers count groups)
+    (scheduled : List ℕ) (are_scheduled : AreScheduled c numbers scheduled)
+    (groups : List (List ℕ)) (are_members : AreMembers scheduled numbers count groups)
     (lists : List (List ℕ)) (are_lists : AreLists cones numbers lists)
     (rises : AreByLacking cones numbers)
     (bank : List Driven) (is_bank : IsBankOf c.tables bank) (read : List (List ℕ)) where
@@ -104,9 +99,9 @@ module _ (c : Circuit) (order : List ℕ) (ordered : IsTableOrder c order) (cone
   member_in : (a k : ℕ) → Contains (get_or groups a []) k → (k < length c.tables) × (number k ≡ a)
   member_in a k has = elim (cases_lt a count) [
     | inl low ↦
-        (let (in_order, test) = filter_has (λ k. number k == a) order k
+        (let (in_order, test) = filter_has (λ k. number k == a) scheduled k
         (subst (λ (xs : List ℕ). Contains xs k) (are_members.each a low) has) in (
-          All-contains (λ k. k < length c.tables) order k ordered.places in_order,
+          All-contains (λ k. k < length c.tables) scheduled k are_scheduled.places in_order,
           elim (eqb_tells (number k) a) [
             | inl (is, e) ↦ e
             | inr (is, ne) ↦ absurd (false≢true (sym is ∙ test))
@@ -121,7 +116,7 @@ module _ (c : Circuit) (order : List ℕ) (ordered : IsTableOrder c order) (cone
   member_of : (k : ℕ) → k < length c.tables → Contains (get_or groups (number k) []) k
   member_of k inside =
       subst (λ (xs : List ℕ). Contains xs k) (sym (are_members.each (number k) (number_below k inside)))
-      (has_filter (λ j. number j == number k) order k (ordered.all k inside) (same (number k)))
+      (has_filter (λ j. number j == number k) scheduled k (are_scheduled.all k inside) (same (number k)))
     where
       same : (n : ℕ) → (n == n) ≡ true
       same n = elim (eqb_tells n n) [ inl (is, e) ↦ is | inr (is, ne) ↦ absurd (ne refl) ]
@@ -225,26 +220,25 @@ module _ (c : Circuit) (order : List ℕ) (ordered : IsTableOrder c order) (cone
     pub same_number : number x ≡ number y
     same_number = (classes.same x y low_x low_y).1 have_same
 
-  order_pairs : AllPairs (IsBehind c) order
-  order_pairs i j e under inside d =
-      subst (λ (n : ℕ). ¬ Reads c d n (get_or order j e)) (get_or-default order i 0 e (omega (under, inside, arith)))
-      (subst (λ (n : ℕ). ¬ Reads c d (get_or order i 0) n) (get_or-default order j 0 e inside)
-      (ordered.before i j d (omega (under, arith)) inside))
-
-  not_self : (k : ℕ) → k < length c.tables → IsBehind c k k
+  not_self : (k : ℕ) → k < length c.tables → ReadsNothingOf c k k
   not_self k low d =
       let (i, inside, is) = ordered.all k low in
       let same : get_or order i 0 ≡ k = get_or_default order i 0 k inside ∙ is in
       subst (λ (n : ℕ). ¬ Reads c d n n) same (ordered.before i i d (omega arith) inside)
 
-  group_pairs : (a : ℕ) → AllPairs (IsBehind c) (group_of g a)
+  -- the members of a group have its number
+  numbered : (a i d : ℕ) → i < length (tables_numbered scheduled numbers a) → number (get_or (tables_numbered scheduled numbers a) i d) ≡ a
+  numbered a i d inside = eqb-true (number (get_or (tables_numbered scheduled numbers a) i d)) a (filter_passes (λ k. number k == a) scheduled i d inside)
+
+  group_pairs : (a : ℕ) → AllPairs (ReadsNothingOf c) (group_of g a)
   group_pairs a = elim (cases_lt a count) [
     | inl low ↦
-        subst (λ (xs : List ℕ). AllPairs (IsBehind c) xs) (sym (are_members.each a low))
-        (AllPairs-filter (IsBehind c) (λ k. number k == a) order order_pairs)
+        subst (λ (xs : List ℕ). AllPairs (ReadsNothingOf c) xs) (sym (are_members.each a low))
+        (λ i j d under inside. AllPairs-filter (λ x y. number x ≡ number y → ReadsNothingOf c x y) (λ k. number k == a) scheduled are_scheduled.before i j d under inside
+        (numbered a i d (omega (under, inside, arith)) ∙ sym (numbered a j d inside)))
     | inr past ↦
         (let size : length groups ≡ count = are_members.one_each in
-        subst (λ (xs : List ℕ). AllPairs (IsBehind c) xs) (sym (get_or_past groups a [] (omega (past, size, arith))))
+        subst (λ (xs : List ℕ). AllPairs (ReadsNothingOf c) xs) (sym (get_or_past groups a [] (omega (past, size, arith))))
         (λ i j d under inside. absurd (let h : j < 0 = inside in omega (h, arith))))
   ]
 
@@ -264,7 +258,7 @@ module _ (c : Circuit) (order : List ℕ) (ordered : IsTableOrder c order) (cone
         once = list_i.found.once;
         order = order_from_pairs c (tables_in g list)
             (λ j e near. low (get_or (tables_in g list) j e) (Contains-get_or (tables_in g list) j e near))
-            (pairs_flat (IsBehind c) (group_of g) list (λ j e near. group_pairs (get_or list j e))
+            (pairs_flat (ReadsNothingOf c) (group_of g) list (λ j e near. group_pairs (get_or list j e))
             (λ j m e under near x y has_x has_y d reads.
             let (low_x, is_x) = member_in (get_or list j e) x has_x in
             let (low_y, is_y) = member_in (get_or list m e) y has_y in

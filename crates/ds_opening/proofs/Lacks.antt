@@ -19,9 +19,9 @@ use Rattle.std.proofs.lemmas.Simd.{map-map}
 use Rattle.ds_base.proofs.Lists.{cases_Contains}
 use Rattle.ds_settle.specs.Cone.{Parts as Cone}
 use Rattle.ds_opening.specs.Classes.{AreClasses, HaveSame}
-use Rattle.ds_opening.specs.Lacking.{AreByLacking, AreLacking, AreLackingSoFar, AreTaken, IsByLacking, cones_without, lacked_of}
+use Rattle.ds_opening.specs.Lacking.{AreByLacking, AreLacking, AreLackingSoFar, AreTaken, IsByLacking, cones_without}
 use Rattle.ds_opening.specs.Numbers.{AreRenumbered}
-use Rattle.ds_opening.specs.declared.lacking.Lacked.{Lacked}
+use Rattle.ds_opening.specs.Ranked.{IsByRank}
 
 is_same : (g : ℕ) → (g == g) ≡ true
 is_same g = elim (eqb_tells g g) [ inl (is, e) ↦ is | inr (is, ne) ↦ absurd (ne refl) ]
@@ -97,35 +97,18 @@ some_lack cones n count counts tables inside so_far within i d low =
     omega (is, inside, arith))
 
 -- tables sorted by how many cones lack them
-pub lacked_from : (cones : List Cone) (count : ℕ) (counts order : List ℕ) (all : List Lacked)
+pub lacked_from : (cones : List Cone) (count : ℕ) (counts order sorted : List ℕ)
     → AreLacking cones count counts → All (λ k. k < count) order
-    → IsPermutation (map (lacked_of counts) order) all → IsNonDecreasingBy (λ l. l.lacking) all
-    → IsByLacking cones order (map (λ (l : Lacked). l.table) all)
-lacked_from cones count counts order all are within permuted rising =
-    let have : All (λ (l : Lacked). l.lacking ≡ get_or counts l.table 0) all =
-    All-permutation (λ (l : Lacked). l.lacking ≡ get_or counts l.table 0) (map (lacked_of counts) order) all permuted
-    (All-map (λ (l : Lacked). l.lacking ≡ get_or counts l.table 0) (lacked_of counts) order (λ k d inside. refl)) in
-    let back : map (λ (l : Lacked). l.table) (map (lacked_of counts) order) ≡ order =
-    map-map (λ (l : Lacked). l.table) (lacked_of counts) order ∙ map-id order in
-    let long : length (map (λ (l : Lacked). l.table) all) ≡ length all = length-map all (λ (l : Lacked). l.table) in
-    let same : IsPermutation order (map (λ (l : Lacked). l.table) all) =
-    subst (λ (xs : List ℕ). IsPermutation xs (map (λ (l : Lacked). l.table) all)) back
-    (IsPermutation-map (λ (l : Lacked). l.table) (map (lacked_of counts) order) all permuted) in
-    let near : All (λ k. k < count) (map (λ (l : Lacked). l.table) all) =
-    All-permutation (λ k. k < count) order (map (λ (l : Lacked). l.table) all) same within in
-    let first : Lacked = lacked_of counts 0 in
-    let without : (i d : ℕ) → i < length all
-    → (get_or all i first).lacking ≡ cones_without cones (get_or (map (λ (l : Lacked). l.table) all) i d) =
-    λ i d inside. have i first inside
-    ∙ (ap (λ (n : ℕ). get_or counts n 0) (sym (get_or-map (λ (l : Lacked). l.table) all i first d inside))
-    ∙ are.each (get_or (map (λ (l : Lacked). l.table) all) i d) (near i d (omega (inside, long, arith)))) in
+    → IsByRank counts order sorted → IsByLacking cones order sorted
+lacked_from cones count counts order sorted are within is =
+    let near : All (λ k. k < count) sorted = All-permutation (λ k. k < count) order sorted is.permuted within in
     record {
-      permuted = same;
+      permuted = is.permuted;
       rising = λ i j d below inside.
-          let up : (get_or all i first).lacking ≤ (get_or all j first).lacking =
-          rising i j first below (omega (inside, long, arith)) in
-          let one = without i d (omega (below, inside, long, arith)) in
-          let two = without j d (omega (inside, long, arith)) in
+          let up : get_or counts (get_or sorted i d) 0 ≤ get_or counts (get_or sorted j d) 0 = is.rising i j d below inside in
+          let one : get_or counts (get_or sorted i d) 0 ≡ cones_without cones (get_or sorted i d) =
+          are.each (get_or sorted i d) (near i d (omega (below, inside, arith))) in
+          let two : get_or counts (get_or sorted j d) 0 ≡ cones_without cones (get_or sorted j d) = are.each (get_or sorted j d) (near j d inside) in
           omega (up, one, two, arith);
     }
 

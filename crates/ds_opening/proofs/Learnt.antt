@@ -8,14 +8,16 @@ use Rattle.std.proofs.lemmas.Grind.{flat_map-append}
 use Rattle.std.proofs.lemmas.List.Concat.{flat_map-cons}
 use Rattle.ds_opening.specs.Groups.{Grouping, group_of, tables_in}
 use Rattle.std.proofs.lemmas.List.{append-nil, drop_more, get_or-set_other, get_or-set_same, length-set, map-append, take_more}
-use Rattle.std.proofs.lemmas.List.Elements.{All-contains, Contains-append_cases, Contains-get_or}
-use Rattle.ds_base.specs.Values.{Row}
+use Rattle.std.proofs.lemmas.List.Elements.{All-contains, All-map, Contains-append_cases, Contains-get_or}
+use Rattle.ds_base.specs.Values.{AreKnown, Row}
 use Rattle.ds_base.proofs.Lists.{Contains-head, Contains-split, Contains-tail}
-use Rattle.ds_cover.specs.Bank.{Driven, after_table, after_tables, driven_at}
+use Rattle.ds_cover.specs.Bank.{Driven, IsDriven, after_table, after_tables, driven_at}
 use Rattle.ds_cover.specs.Packed.{packed_value}
-use Rattle.ds_cover.specs.Cover.{value_at, value_of}
+use Rattle.ds_cover.specs.Cover.{value_at, value_of, values_at}
+use Rattle.ds_cover.specs.Series.{FindsKnown, in_table_order}
 use Rattle.ds_cover.proofs.Keeps.{value_agrees}
-use Rattle.ds_base.specs.declared.value.Value.TheVariants.{Zero}
+use Rattle.ds_base.specs.declared.value.Value.{Value}
+use Rattle.ds_base.specs.declared.value.Value.TheVariants.{Unknown, Zero}
 use Rattle.ds_design.proofs.Banked.{after_table-is}
 use Rattle.ds_design.specs.Banked.{IsBankOf}
 use Rattle.ds_design.specs.Circuit.{Circuit}
@@ -264,6 +266,16 @@ module _ (c : Circuit) (known : Row) where
             | inr none ↦ absurd (let (j, low, is) = none in let h : j < 0 = low in omega (h, arith))
           ]
 
+    -- those behind a table that is set
+    finds_on : (k : ℕ) (ks : List ℕ) (nets next : Row) → AreSet (k ∷ []) nets next
+        → FindInputs c known (λ net. IsAsKnown known nets net ⊎ (net ≡ net_of c k)) ks → FindInputs c known (IsAsKnown known next) ks
+    finds_on k ks nets next one finds =
+        finds_weaker (λ net. IsAsKnown known nets net ⊎ (net ≡ net_of c k)) (IsAsKnown known next)
+        (λ net which. elim which [
+          | inl before ↦ one.learns net (inr before)
+          | inr e ↦ one.learns net (inl (subst (λ (n : ℕ). Contains (net_of c k ∷ []) n) (sym e) (Contains-head (net_of c k) [])))
+        ]) ks finds
+
     pub all_set : (ks : List ℕ) (nets : Row) → All (λ k. k < length c.tables) ks
         → length nets ≡ length c.nets → FindInputs c known (IsAsKnown known nets) ks
         → AreSet ks nets (after_tables bank nets ks)
@@ -279,12 +291,7 @@ module _ (c : Circuit) (known : Row) where
         let inside : k < length c.tables = within 0 0 (omega arith) in
         let next : Row = after_table bank nets k in
         let one : AreSet (k ∷ []) nets next = one_set k inside nets size finds.0 in
-        let rest : FindInputs c known (IsAsKnown known next) ks =
-        finds_weaker (λ net. IsAsKnown known nets net ⊎ (net ≡ net_of c k)) (IsAsKnown known next)
-        (λ net which. elim which [
-          | inl before ↦ one.learns net (inr before)
-          | inr e ↦ one.learns net (inl (subst (λ (n : ℕ). Contains (net_of c k ∷ []) n) (sym e) (Contains-head (net_of c k) [])))
-        ]) ks finds.1 in
+        let rest : FindInputs c known (IsAsKnown known next) ks = finds_on k ks nets next one finds.1 in
         let more : AreSet ks next (after_tables bank next ks) =
         all_set ks next (λ i d low. within (suc i) d (omega (low, arith))) (one.size ∙ size) rest in
         record {
@@ -306,6 +313,21 @@ module _ (c : Circuit) (known : Row) where
           | inl e ↦ subst (λ (n : ℕ). Contains (nets_of_tables c (k ∷ ks)) n) e (Contains-head (net_of c k) (nets_of_tables c ks))
           | inr none ↦ absurd (let (j, low, is) = none in let h : j < 0 = low in omega (h, arith))
         ]
+
+    -- where no known value is unknown, each of these tables finds its inputs known
+    pub all_found : (ks : List ℕ) (nets : Row) → ((net : ℕ) → value_at known net ≢ Unknown) → All (λ k. k < length c.tables) ks
+        → length nets ≡ length c.nets → FindInputs c known (IsAsKnown known nets) ks → FindsKnown (in_table_order bank ks) nets
+    all_found [] nets sure within size finds = tt
+    all_found (k ∷ ks) nets sure within size finds =
+        let inside : k < length c.tables = within 0 0 (omega arith) in
+        let next : Row = after_table bank nets k in
+        let stands : IsDriven (driven_at bank k) (get_or c.tables k blank).table (get_or c.tables k blank).output = banked.table k blank inside in
+        let one : AreSet (k ∷ []) nets next = one_set k inside nets size finds.0 in
+        let here : AreKnown (values_at nets (driven_at bank k).cover.inputs) =
+        subst (λ (ns : List ℕ). AreKnown (values_at nets ns)) (sym stands.packs.inputs)
+        (All-map (λ value. value ≢ Unknown) (value_at nets) (get_or c.tables k blank).table.inputs
+        (λ i e low. subst (λ (value : Value). value ≢ Unknown) (sym ((finds.0 blank).1 i e low)) (sure (get_or (get_or c.tables k blank).table.inputs i e)))) in
+        (here, all_found ks next sure (λ i d low. within (suc i) d (omega (low, arith))) (one.size ∙ size) (finds_on k ks nets next one finds.1))
 
 -- one group more
 module _ (c : Circuit) (g : Grouping) (list : List ℕ) (i : ℕ) (inside : i < length list) where

@@ -3,7 +3,9 @@ pub mod Moves
 pub mod Numbered
 pub mod Same
 pub mod Found
+pub mod Ranks
 pub mod Lacks
+pub mod Schedules
 pub mod Flat
 pub mod Grouped
 pub mod Housed

@@ -1,19 +1,20 @@
 -- The opening of a node that settles, in a row that remembers.
-use Rattle.std.proofs.Common.{◌≡◌, ◌∙◌, ℕ, ◌+◌, ◌-◌, ◌/◌, ◌<◌, Bool, List, [], length, get_or, map, sym, ap, subst, arith}
+use Rattle.std.proofs.Common.{◌≡◌, ◌∙◌, ℕ, ◌+◌, ◌-◌, ◌/◌, ◌<◌, ◌≤◌, Bool, List, [], length, get_or, map, sym, ap, subst, arith}
 use Rattle.std.specs.Prelude.{All, Contains}
 use Rattle.std.proofs.lemmas.List.{get_or-map, length-map}
 use Rattle.std.proofs.lemmas.List.Elements.{All-contains}
 use Rattle.std.proofs.lemmas.List.FromFn.{length-map-range_with_len}
-use Rattle.ds_base.specs.Values.{Row}
+use Rattle.ds_base.specs.Values.{AreKnown, Row}
 use Rattle.ds_cover.specs.Cover.{value_at, values_at}
 use Rattle.ds_cover.proofs.Keeps.{value_agrees}
 use Rattle.ds_design.specs.declared.design.Gate.{Gate}
 use Rattle.ds_opening.specs.Reads.{ReadFrom}
 use Rattle.ds_opening.specs.Foreseen.{node_at}
-use Rattle.ds_opening.specs.Noted.{AreDriven, AreGroupsBefore, HasReads, all_learnt_nets, learnt_nets, nets_of_turn, FindInputs, AreGroupSlots, AreConeGroups, AreRowsLearnt, IsAsKnown, IsLearnt, AreReadRows, IsSettlingOpening, IsSlot, slots_of}
+use Rattle.ds_opening.specs.Noted.{AreDriven, AreGroupsBefore, HasReads, all_learnt_nets, learnt_nets, nets_of_turn, FindInputs, FindKnown, AreGroupSlots, AreConeGroups, AreRowsLearnt, IsAsKnown, IsLearnt, AreReadRows, IsSettlingOpening, IsSlot, slots_of}
 use Rattle.ds_design.specs.Circuit.{Circuit}
 use Rattle.ds_design.specs.InRange.{IsInRange}
 use Rattle.ds_design.specs.Run.{row_at}
+use Rattle.ds_design.proofs.KnownRuns.{nets_known, state_known}
 use Rattle.ds_opening.specs.Groups.{Grouping, IsGrouped, group_of, tables_in}
 use Rattle.ds_latch.specs.Node.{Split, IsNode, nets_of, nodes, number_of}
 use Rattle.ds_latch.specs.declared.node.Node.{Node}
@@ -228,3 +229,21 @@ module _ {s : Split} (split : IsSplit s) (range : IsInRange s.circuit)
     settled_is settled net net_is xs xs_is sets =
         subst (λ (c : Circuit). Sets settled c list) net_is (subst (Sets settled net) xs_is sets)
         group_slots groups_before list_finds rows.remembers
+
+    -- on a run of known values they find known values
+    pub find_known : AreKnown s.initial × All AreKnown t.vectors → (net : Circuit) → net ≡ s.circuit → (xs : List ℕ) → xs ≡ list
+        → FindKnown net g o.turn xs filled
+    find_known all_known net net_is xs xs_is =
+        let known_at : (k : ℕ) → k ≤ length t.vectors → AreKnown (t.state k) =
+        state_known s.circuit split.accepted s.initial t.vectors all_known.0 all_known.1 t.state t.nets opens.fed.run in
+        subst (λ (c : Circuit). FindKnown c g o.turn xs filled) (sym net_is)
+        (subst (λ (ns : List ℕ). FindKnown s.circuit g o.turn ns filled) (sym xs_is) (record {
+          memory = m;
+          known = known;
+          sure = nets_known s.circuit split.accepted s.initial t.vectors all_known.0 all_known.1 t.state t.nets opens.fed.run t.opened opens.fed.below
+              (known_at t.opened (let low : t.opened < length t.vectors = opens.fed.below in omega (low, arith)));
+          slots = group_slots;
+          before = groups_before;
+          finds = list_finds;
+          remembers = rows.remembers;
+        }))

@@ -4,7 +4,6 @@ use Rattle.std.specs.Prelude.{slice_index, take}
 use Rattle.std.specs.List.{list_any}
 use Rattle.std.specs.List.Sorted.{IsNonDecreasingBy, IsPermutation}
 use Rattle.ds_settle.specs.Cone.{Parts as Cone}
-use Rattle.ds_opening.specs.declared.lacking.Lacked.{Lacked}
 
 -- how many cones lack a table
 abbrev pub cones_without : List Cone → ℕ → ℕ
@@ -26,10 +25,6 @@ pub record AreTaken (tables old new : List ℕ) : Type 0 where
   pub one_each : length new ≡ length old
   pub these : (k : ℕ) → Contains tables k → slice_index new k + 1 ≡ slice_index old k
   pub others : (k : ℕ) → ¬ Contains tables k → slice_index new k ≡ slice_index old k
-
--- a table with how many cones lack it
-abbrev pub lacked_of : List ℕ → ℕ → Lacked
-lacked_of counts k = record { lacking = slice_index counts k; table = k }
 
 -- the same tables, by how many cones lack them
 pub record IsByLacking (cones : List Cone) (order sorted : List ℕ) : Type 0 where

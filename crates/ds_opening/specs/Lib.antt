@@ -1,9 +1,11 @@
 -- In the order in which to read.
 pub mod Classes
 pub mod Gaps
+pub mod Ranked
 pub mod Lacking
 pub mod Numbers
 pub mod Members
+pub mod Scheduled
 pub mod Lists
 pub mod Groups
 pub mod Reads

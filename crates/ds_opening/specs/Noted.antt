@@ -1,13 +1,14 @@
 -- Openings in a row that remembers.
-use Rattle.std.specs.Prelude.{◌≡◌, ◌⊎◌, ⊤, ℕ, ◌+◌, ◌-◌, ◌<◌, ◌≤◌, List, [], ◌∷◌}
+use Rattle.std.specs.Prelude.{◌≡◌, ◌≢◌, ◌⊎◌, ⊤, ℕ, ◌+◌, ◌-◌, ◌<◌, ◌≤◌, List, [], ◌∷◌}
 use Rattle.std.specs.Prelude.{false, length, map, true, All, Contains, slice_index}
 use Rattle.std.specs.Prelude.{slice_index_or}
 use Rattle.std.specs.List.{range_with_len}
-use Rattle.ds_base.specs.Values.{Row}
+use Rattle.ds_base.specs.Values.{AreKnown, Row}
+use Rattle.ds_base.specs.declared.value.Value.TheVariants.{Unknown}
 use Rattle.ds_cover.specs.Cover.{value_at, value_of}
 use Rattle.ds_design.specs.Circuit.{Circuit}
 use Rattle.ds_design.specs.declared.design.Gate.{Gate}
-use Rattle.ds_opening.specs.Groups.{AreGroupsOf, Grouping, group_of}
+use Rattle.ds_opening.specs.Groups.{AreGroupsOf, Grouping, group_of, tables_in}
 use Rattle.ds_opening.specs.Reads.{AreReads, ReadFrom, slots_with}
 use Rattle.ds_latch.specs.Node.{Split, nets_of, nodes}
 use Rattle.ds_latch.specs.declared.node.Node.{Node}
@@ -136,6 +137,18 @@ FindInputs c known P (k ∷ ks) = ((d : Gate) → let t = slice_index_or c.table
     (value_at known t.output ≡ value_of t.table known) × All P t.table.inputs)
     × FindInputs c known (λ net. P net ⊎ (net ≡ net_of c k)) ks
 
+-- what these groups read, each when it is set, is as it is known in a row that remembers, and of
+-- the known row no value is unknown
+pub record FindKnown (c : Circuit) (g : Grouping) (turn : ℕ) (list : List ℕ) (k : Kept) : Type 0
+  where
+    pub memory : Memory
+    pub known : Row
+    pub sure : (net : ℕ) → value_at known net ≢ Unknown
+    pub slots : AreGroupSlots c g memory turn known
+    pub before : AreGroupsBefore c g memory turn
+    pub finds : FindInputs c known (IsAsKnown known k.nets) (tables_in g list)
+    pub remembers : Remembers memory k
+
 -- the memory of a split design in a turn of its clocked run and the one before, which a row fits
 pub record IsMemoryOf (s : Split) (g : Grouping) (turn : ℕ) (t : Turn) (m : Memory)
     (k : Kept) : Type 0 where
@@ -154,6 +167,7 @@ pub record IsNotedOpening (s : Split) (vectors : List Row) (g : Grouping) (o : O
   pub opening : IsOpeningOf s vectors o.number (o.turn - 1) (is_learnt (length g.groups) k o.turn)
       o.from.now n t
   pub memory : IsMemoryOf s g o.turn t m k
+  pub known : o.known ≡ true → AreKnown s.initial × All AreKnown vectors
 
 -- the same of a node that settles
 pub record IsSettlingOpening (s : Split) (g : Grouping) (o : Opening) (k : Kept)
@@ -162,3 +176,4 @@ pub record IsSettlingOpening (s : Split) (g : Grouping) (o : Opening) (k : Kept)
   pub at : IsSettlingAt s n o.number
   pub fed : IsFed s n (is_learnt (length g.groups) k o.turn) o.from.now t
   pub memory : IsMemoryOf s g o.turn t m k
+  pub known : o.known ≡ true → AreKnown s.initial × All AreKnown t.vectors

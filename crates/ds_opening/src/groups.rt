@@ -2,6 +2,7 @@
 ghost use Rattle.std.specs.Prelude.{◌≡◌, ◌<◌, ◌^◌, ℕ, All, Contains, IfOk, List, [], length};
 ghost use Rattle.std.specs.Prelude.{slice_index_or};
 ghost use Rattle.ds_cover.specs.Bank.{AreNetsWithin, after_tables};
+ghost use Rattle.ds_cover.specs.Series.{FindsKnown, in_table_order};
 ghost use Rattle.ds_settle.specs.Cone.{IsCone};
 ghost use Rattle.ds_opening.specs.Classes.{AreClasses, HasTables};
 ghost use Rattle.ds_opening.specs.Groups.{AreGroupsOf, group_of};
@@ -11,7 +12,7 @@ ghost use Rattle.ds_opening.specs.Reads.{AreReads};
 use crate::classes::classes_of;
 use crate::lacking::by_lacking;
 use crate::lists::lists_of;
-use crate::members::members_of;
+use crate::members::scheduled_members;
 use crate::numbers::{Numbers, numbered};
 use crate::reads::{are_large, reads_of};
 use ds_base::{NetId, OutOfMemory, Row3, Seq};
@@ -77,7 +78,7 @@ impl<'n> Groups<'n> {
         let numbers = numbers_of(alloc, cones.as_slice(), order, tables)?;
         let lists = lists_of(alloc, cones.as_slice(), &numbers)?;
         drop(cones);
-        let groups = members_of(alloc, order, &numbers)?;
+        let groups = scheduled_members(alloc, netlist, &numbers)?;
         drop(numbers);
         let reads = reads_of(alloc, design, groups.as_slice(), others)?;
         let selections = Selections::of(alloc, netlist.bank(), groups.as_slice())?;
@@ -104,6 +105,17 @@ impl<'n> Groups<'n> {
         ensures { nets.new ≡ after_tables self.now.bank nets.old (group_of self.now number) }
     {
         self.selections.set(number, nets);
+    }
+
+    /// The same where each table finds its inputs known.
+    pub fn set_known(&self, number: usize, nets: &mut Row3)
+        requires number { number < length self.now.groups }
+        requires within { All (λ t. AreNetsWithin t nets.old) self.now.bank }
+        requires known { FindsKnown (in_table_order self.now.bank (group_of self.now number))
+            nets.old }
+        ensures { nets.new ≡ after_tables self.now.bank nets.old (group_of self.now number) }
+    {
+        self.selections.set_known(number, nets);
     }
 
     /// The groups of a cone.

@@ -37,7 +37,9 @@ mod members;
 mod numbers;
 mod opening;
 mod packed;
+mod ranked;
 mod reads;
+mod schedule;
 
 pub use cone_groups::groups_of;
 pub use groups::Groups;

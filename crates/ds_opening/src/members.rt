@@ -1,17 +1,32 @@
 //! The tables of each group.
 ghost use Rattle.std.specs.Prelude.{◌≡◌, ◌<◌, All, IfOk, List, [], length, replicate};
 ghost use Rattle.ds_opening.specs.Members.{AreMembers};
+ghost use Rattle.ds_opening.specs.Scheduled.{AreGroupMembers};
 
 use crate::numbers::Numbers;
+use crate::schedule::scheduled;
 use ds_base::{OutOfMemory, Seq};
+use ds_design::Netlist;
 use std::alloc::Global;
 
-/// The tables with each number, in this order.
-pub(crate) fn members_of(
+/// The tables with each number, each behind those of its number that it reads, and in few runs of
+/// a kind.
+pub(crate) fn scheduled_members(
     alloc: Global,
-    order: &[u32],
+    netlist: &Netlist,
     numbers: &Numbers,
 ) -> Result<Vec<Seq<u32>>, OutOfMemory>
+    requires long { length numbers.now.of.items ≡ length netlist.now.tables }
+    requires below { All (λ n. n < numbers.now.count) numbers.now.of.items }
+    ensures ok { IfOk result
+        (λ v. AreGroupMembers netlist.now numbers.now.of.items numbers.now.count v.items) }
+{
+    let order = scheduled(alloc, netlist, numbers)?;
+    members_of(alloc, order.as_slice(), numbers)
+}
+
+// The tables with each number, in this order.
+fn members_of(alloc: Global, order: &[u32], numbers: &Numbers) -> Result<Vec<Seq<u32>>, OutOfMemory>
     requires within { All (λ k. k < length numbers.now.of.items) order.now }
     requires below { All (λ n. n < numbers.now.count) numbers.now.of.items }
     ensures ok { IfOk result

@@ -1,9 +1,11 @@
 //! What the opening of a node computes, in a row that remembers what was computed in a turn.
 ghost use Rattle.std.specs.Prelude.{◌≡◌, ◌≤◌, ◌<◌, ◌+◌, ◌%◌, ◌⊎◌, ◌↔◌, ◌++◌, ℕ};
-ghost use Rattle.std.specs.Prelude.{◌^◌, All, IsTrue, List, [], length};
+ghost use Rattle.std.specs.Prelude.{◌^◌, true, All, IsTrue, List, [], length};
 ghost use Rattle.std.specs.Prelude.{slice_index_or, vec_capacity, vec_len};
 ghost use Rattle.ds_base.specs.Values.{Row};
+ghost use Rattle.ds_cover.specs.Bank.{AreNetsWithin, after_tables};
 ghost use Rattle.ds_cover.specs.Cover.{values_at};
+ghost use Rattle.ds_cover.specs.Series.{FindsKnown, in_table_order};
 ghost use Rattle.ds_design.specs.Banked.{IsBankOf};
 ghost use Rattle.ds_design.specs.InRange.{IsInRange};
 ghost use Rattle.ds_design.specs.Circuit.{columns};
@@ -15,8 +17,9 @@ ghost use Rattle.ds_base.specs.Scratch.{HasSlot, Memory, Remembers};
 ghost use Rattle.ds_settle.specs.Cone.{nets_of_tables};
 ghost use Rattle.ds_opening.specs.Packed.{AreInside, packed};
 ghost use Rattle.ds_base.specs.Word.{count_of_words};
-ghost use Rattle.ds_opening.specs.Noted.{AreConeGroups, FindInputs, AreGroupSlots, AreRowsLearnt};
-ghost use Rattle.ds_opening.specs.Noted.{AreGroupsBefore, HasReads, HaveStayed, IsAsKnown};
+ghost use Rattle.ds_opening.specs.Noted.{AreConeGroups, FindInputs, FindKnown, AreGroupSlots};
+ghost use Rattle.ds_opening.specs.Noted.{AreGroupsBefore, AreRowsLearnt, HasReads, HaveStayed};
+ghost use Rattle.ds_opening.specs.Noted.{IsAsKnown};
 ghost use Rattle.ds_opening.specs.Noted.{IsGroupBefore, KeepsGroup};
 ghost use Rattle.ds_opening.specs.Noted.{IsAsLong, IsLearnt, IsNotedOpening, IsSettlingOpening};
 ghost use Rattle.ds_opening.specs.Noted.{AreReadRows, IsSlot};
@@ -24,17 +27,19 @@ ghost use Rattle.ds_opening.specs.Woven.{Turn, value_taken};
 
 use crate::Groups;
 use crate::packed::{push_all, push_row, push_words, put_values};
-use ds_base::{NetId, Scratch, Seq, words_of};
+use ds_base::{NetId, Row3, Scratch, Seq, words_of};
 use ds_design::{Netlist, Vectors};
 use ds_latch::Latches;
 
 /// The opening of the node with a number, in a turn, from 1 on, and what it reads: of each producer
-/// whose row is not learnt its number, and behind it the words of its row.
+/// whose row is not learnt its number, and behind it the words of its row. Where no start value and
+/// no value of a vector is unknown, `known` may say so; then tables are set by shorter words.
 #[derive(Drop)]
 pub struct Opening<'a> {
     pub number: usize,
     pub turn: u64,
     pub from: &'a [u64],
+    pub known: bool,
 }
 
 /// Puts the words of the row that a node takes behind what stands in `into`, from the words of its
@@ -115,7 +120,7 @@ fn open_groups(
     let (bits, _edges) = (latches.bits(), latches.edges());
     learn_rows(bits, groups.count(), opening, scratch);
     let list = groups.of_cone(opening.number / 2);
-    set_groups(latches.netlist(), groups, list, opening.turn, scratch);
+    set_groups(latches.netlist(), groups, list, opening, scratch);
     push_words(scratch.nets(), bits[opening.number].as_slice(), into);
 }
 
@@ -165,16 +170,25 @@ fn learn_row(row: &[u64], these: &[NetId], slot: usize, turn: u64, scratch: &mut
 }
 
 // Sets the tables of these groups, one group after another, where they are not set.
-fn set_groups(netlist: &Netlist, groups: &Groups, list: &[u32], turn: u64, scratch: &mut Scratch)
-    requires turn { 0 < turn }
+fn set_groups(
+    netlist: &Netlist,
+    groups: &Groups,
+    list: &[u32],
+    opening: &Opening,
+    scratch: &mut Scratch,
+)
+    requires turn { 0 < opening.now.turn }
     requires packed { IsBankOf netlist.now.tables groups.now.bank }
     requires groups { All (λ a. a < length groups.now.groups) list.now }
     requires tables { (a : ℕ) → All (λ k. k < length netlist.now.tables) (group_of groups.now a) }
     requires nets { length scratch.old.nets ≡ length netlist.now.nets }
     requires slots { HasReads groups.now scratch.old }
+    requires known { opening.now.known ≡ true
+        → FindKnown netlist.now groups.now opening.now.turn list.now scratch.old }
 
-    ensures value { (m : Memory) (known : Row) → AreGroupSlots netlist.now groups.now m turn known
-        → AreGroupsBefore netlist.now groups.now m turn
+    ensures value { (m : Memory) (known : Row)
+        → AreGroupSlots netlist.now groups.now m opening.now.turn known
+        → AreGroupsBefore netlist.now groups.now m opening.now.turn
         → FindInputs netlist.now known (IsAsKnown known scratch.old.nets)
         (tables_in groups.now list.now)
         → Remembers m scratch.old
@@ -182,23 +196,35 @@ fn set_groups(netlist: &Netlist, groups: &Groups, list: &[u32], turn: u64, scrat
         scratch.new }
     ensures same { IsAsLong scratch.old scratch.new }
 {
+    // Read for the fact that its numbers name what is there.
+    let _design = netlist.design();
     for group in list {
-        set_group(netlist, groups, *group as usize, turn, scratch);
+        set_group(netlist, groups, *group as usize, opening, scratch);
     }
 }
 
 // The same of one group. Where all that it reads is noted as what has stayed, it keeps its values.
-fn set_group(netlist: &Netlist, groups: &Groups, number: usize, turn: u64, scratch: &mut Scratch)
-    requires turn { 0 < turn }
+fn set_group(
+    netlist: &Netlist,
+    groups: &Groups,
+    number: usize,
+    opening: &Opening,
+    scratch: &mut Scratch,
+)
+    requires turn { 0 < opening.now.turn }
     requires packed { IsBankOf netlist.now.tables groups.now.bank }
     requires number { number < length groups.now.groups }
     requires tables { All (λ k. k < length netlist.now.tables) (group_of groups.now number) }
     requires nets { length scratch.old.nets ≡ length netlist.now.nets }
     requires slots { HasReads groups.now scratch.old }
+    requires known { opening.now.known ≡ true
+        → FindsKnown (in_table_order groups.now.bank (group_of groups.now number))
+        scratch.old.nets }
 
     ensures value { (m : Memory) (known : Row)
-        → IsSlot m turn number (nets_of_tables netlist.now (group_of groups.now number)) known
-        → IsGroupBefore netlist.now groups.now m turn number
+        → IsSlot m opening.now.turn number
+        (nets_of_tables netlist.now (group_of groups.now number)) known
+        → IsGroupBefore netlist.now groups.now m opening.now.turn number
         → FindInputs netlist.now known (IsAsKnown known scratch.old.nets)
         (group_of groups.now number)
         → Remembers m scratch.old
@@ -206,6 +232,7 @@ fn set_group(netlist: &Netlist, groups: &Groups, number: usize, turn: u64, scrat
         scratch.new }
     ensures same { IsAsLong scratch.old scratch.new }
 {
+    let turn = opening.turn;
     if scratch.is_noted(number, turn) {
         return;
     }
@@ -214,8 +241,23 @@ fn set_group(netlist: &Netlist, groups: &Groups, number: usize, turn: u64, scrat
     if keeps(groups, number, turn, scratch) {
         scratch.note(number, turn, true);
     } else {
-        groups.set(number, scratch.nets_mut());
+        put_group(groups, number, opening.known, scratch.nets_mut());
         scratch.note(number, turn, false);
+    }
+}
+
+// Sets what the tables of a group drive, by shorter words where each finds its inputs known.
+fn put_group(groups: &Groups, number: usize, known: bool, nets: &mut Row3)
+    requires number { number < length groups.now.groups }
+    requires within { All (λ t. AreNetsWithin t nets.old) groups.now.bank }
+    requires known { known ≡ true
+        → FindsKnown (in_table_order groups.now.bank (group_of groups.now number)) nets.old }
+    ensures { nets.new ≡ after_tables groups.now.bank nets.old (group_of groups.now number) }
+{
+    if known {
+        groups.set_known(number, nets);
+    } else {
+        groups.set(number, nets);
     }
 }
 

@@ -34,6 +34,7 @@ pub record HandsOn {T E : Type 0} (so_far result : Result T E)
     (before inner outer : Option (List ℕ)) (faults now : ℕ) : Type 0 where
   pub ok : OnOk result (IsOk so_far × (inner ≡ outer))
   pub part : IsBetween before inner outer
+  pub ok_same : OnOk result (now ≡ faults)
   pub never_falls : faults ≤ now
   pub cause : OnErr result (IsErr so_far ⊎ Rose faults now)
 
@@ -64,11 +65,12 @@ rose_after (Err _) never_falls cause writes = omega (arith, writes.cause)
 
 -- what was written to a buffer that handed its bytes on was written to the sink behind it
 pub handed_on : {T E : Type 0} (so_far result : Result T E) {before inner outer : Option (List ℕ)} {f0 f1 f2 : ℕ} {text : List ℕ} → HandsOn so_far result before inner outer f1 f2 → Writes so_far before outer f0 f1 text → Writes result before inner f0 f2 text
-handed_on (Ok _) (Ok _) hands writes = record { ok = hands.ok.1 ∙ writes.ok; err = tt; never_falls = omega (arith, writes.never_falls); cause = tt }
+handed_on (Ok _) (Ok _) hands writes = record { ok = hands.ok.1 ∙ writes.ok; err = tt; ok_same = hands.ok_same ∙ writes.ok_same; never_falls = omega (arith, writes.never_falls); cause = tt }
 handed_on (Err _) (Ok _) hands writes = absurd (false≢true hands.ok.0)
 handed_on so_far (Err _) {before = before} {inner = inner} {outer = outer} {text = text} hands writes = record {
   ok = tt;
   err = between_part before inner outer text hands.part (part_of so_far writes);
+  ok_same = tt;
   never_falls = omega (arith, writes.never_falls);
   cause = rose_after so_far hands.never_falls hands.cause writes;
 }

@@ -33,7 +33,7 @@ finished_from : (result : Result (Unit {0}) WriteFault) (name : ℕ) (held new :
     → Puts (begun_on name held faults) at text → Finishes at result new now → Writes result held new faults now text
 finished_from result name held new faults now at text puts ends =
     handed_on at.so_far result
-    (record { ok = ends.ok; part = (ends.grew held (puts.grew held (grew_same held)), ends.front); never_falls = ends.never_falls; cause = ends.cause })
+    (record { ok = ends.ok; part = (ends.grew held (puts.grew held (grew_same held)), ends.front); ok_same = ends.ok_same; never_falls = ends.never_falls; cause = ends.cause })
     puts.goes_on.on_ok
 
 -- a text that was begun on a sink and finished was written to it

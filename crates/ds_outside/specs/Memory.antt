@@ -5,7 +5,8 @@ use Rattle.ds_outside.specs.Held.{Held, untold, absent, bytes}
 use Rattle.ds_outside.specs.declared.entry.Entry.{Entry}
 use Rattle.ds_outside.specs.declared.faults.Faults.{Faults}
 use Rattle.ds_outside.specs.declared.files.Which.{Which}
-use Rattle.ds_outside.specs.declared.files.Which.TheVariants.{Net, Graph, Vectors, Log, Delays}
+use Rattle.ds_outside.specs.declared.files.Which.TheVariants.{Net, Graph, Vectors, Log}
+use Rattle.ds_outside.specs.declared.files.Which.TheVariants.{Delays, Groups}
 
 -- the bytes of the first entry with a name
 abbrev pub held_in : List Entry → List ℕ → Held
@@ -30,3 +31,4 @@ faults_of f Graph = f.graph
 faults_of f Vectors = f.vectors
 faults_of f Log = f.log
 faults_of f Delays = f.delays
+faults_of f Groups = f.groups

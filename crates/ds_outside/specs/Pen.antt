@@ -36,5 +36,6 @@ pub record Finishes {T E : Type 0} (old : Writing) (result : Result T E) (held :
   pub ok : OnOk result (IsOk old.so_far × (held ≡ old.written))
   pub grew : GrewOn old.handed held
   pub front : Grew held old.written
+  pub ok_same : OnOk result (now ≡ old.faults)
   pub never_falls : old.faults ≤ now
   pub cause : OnErr result (IsErr old.so_far ⊎ Rose old.faults now)

@@ -12,6 +12,7 @@ pub struct Faults {
     pub vectors: u64,
     pub log: u64,
     pub delays: u64,
+    pub groups: u64,
 }
 
 impl Faults {
@@ -28,6 +29,7 @@ impl Faults {
             vectors: 0,
             log: 0,
             delays: 0,
+            groups: 0,
         }
     }
 
@@ -43,6 +45,7 @@ impl Faults {
             Which::Vectors => self.vectors = self.vectors.saturating_add(1),
             Which::Log => self.log = self.log.saturating_add(1),
             Which::Delays => self.delays = self.delays.saturating_add(1),
+            Which::Groups => self.groups = self.groups.saturating_add(1),
         }
     }
 }

@@ -6,6 +6,7 @@ ghost use Rattle.ds_outside.specs.Fault.{Rose};
 ghost use Rattle.ds_outside.specs.Held.{Held, ReadsHeld, FrontIsHeld};
 
 use std::alloc::{AllocError, Global};
+use thiserror::Error;
 
 /// Which of a job's files is meant.
 #[derive(Clone, Copy, Debug, PartialEq, Eq)]
@@ -15,6 +16,7 @@ pub enum Which {
     Vectors,
     Log,
     Delays,
+    Groups,
 }
 
 /// A read failed.
@@ -22,9 +24,11 @@ pub enum Which {
 pub struct Failed;
 
 /// Why a file is not read whole: a read failed, or memory was wanted and not found.
-#[derive(Clone, Copy, Debug, PartialEq, Eq)]
+#[derive(Clone, Copy, Debug, PartialEq, Eq, Error)]
 pub enum ReadFault {
+    #[error("cannot read")]
     Failed,
+    #[error("out of memory")]
     Memory,
 }
 
@@ -54,6 +58,7 @@ pub trait Files {
         ensures err { OnErr result (into.new ≡ into.old) }
 
         ensures same_held { held self.new ≡ held self.old }
+        ensures ok_same { OnOk result (faults self.new ≡ faults self.old) }
         ensures never_falls { (w : Which) (n : List ℕ) → faults self.old w n ≤ faults self.new w n }
         ensures other_kinds { (w : Which) (n : List ℕ) → w ≢ which
             → faults self.new w n ≡ faults self.old w n }
@@ -75,6 +80,7 @@ pub fn read_whole<F: Files>(
     ensures ok { IfOk result (λ bytes. FrontIsHeld (F.held files.old name.now) most bytes.items) }
 
     ensures same_held { F.held files.new ≡ F.held files.old }
+    ensures ok_same { OnOk result (F.faults files.new ≡ F.faults files.old) }
     ensures never_falls { (w : _) (n : List ℕ) → F.faults files.old w n ≤ F.faults files.new w n }
     ensures other_kinds { (w : _) (n : List ℕ) → w ≢ which
         → F.faults files.new w n ≡ F.faults files.old w n }

@@ -57,6 +57,7 @@ impl Kept {
             ≡ appended (O.written sink.old) self.old }
         ensures empty { OnOk result (self.new ≡ []) }
         ensures grew { GrewOn (O.written sink.old) (O.written sink.new) }
+        ensures ok_same { OnOk result (O.faults sink.new ≡ O.faults sink.old) }
         ensures never_falls { O.faults sink.old ≤ O.faults sink.new }
         ensures cause { OnErr result (Rose (O.faults sink.old) (O.faults sink.new)) }
     {
@@ -79,6 +80,7 @@ impl Kept {
         ensures err { OnErr result (appended (O.written sink.new) self.new
             ≡ appended (O.written sink.old) self.old) }
         ensures grew { GrewOn (O.written sink.old) (O.written sink.new) }
+        ensures ok_same { OnOk result (O.faults sink.new ≡ O.faults sink.old) }
         ensures never_falls { O.faults sink.old ≤ O.faults sink.new }
         ensures cause { OnErr result (Rose (O.faults sink.old) (O.faults sink.new)) }
     {
@@ -132,6 +134,7 @@ impl Kept {
             ≡ appended (O.written sink.old) self.old }
         ensures ok { OnOk result (IsOk so_far × (self.new ≡ [])) }
         ensures grew { GrewOn (O.written sink.old) (O.written sink.new) }
+        ensures ok_same { OnOk result (O.faults sink.new ≡ O.faults sink.old) }
         ensures never_falls { O.faults sink.old ≤ O.faults sink.new }
         ensures cause { OnErr result (IsErr so_far ⊎ Rose (O.faults sink.old) (O.faults sink.new)) }
     {
@@ -158,6 +161,7 @@ fn write_from<O: Sink>(sink: &mut O, piece: &[u8], start: usize) -> usize
     ensures same { appended (O.written sink.new) (drop result piece.now)
         ≡ appended (O.written sink.old) (drop start piece.now) }
     ensures grew { GrewOn (O.written sink.old) (O.written sink.new) }
+    ensures all_same { length piece.now ≤ result → O.faults sink.new ≡ O.faults sink.old }
     ensures never_falls { O.faults sink.old ≤ O.faults sink.new }
     ensures cause { result < length piece.now → Rose (O.faults sink.old) (O.faults sink.new) }
 {

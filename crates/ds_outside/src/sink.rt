@@ -25,6 +25,7 @@ pub trait Sink {
             (λ n. written self.new ≡ appended (written self.old) (take n piece.now)) }
         ensures err { OnErr result (written self.new ≡ written self.old) }
 
+        ensures ok_same { OnOk result (faults self.new ≡ faults self.old) }
         ensures never_falls { faults self.old ≤ faults self.new }
         ensures cause { OnErr result (Rose (faults self.old) (faults self.new)) };
 }
@@ -34,6 +35,7 @@ pub fn write_all<S: Sink>(sink: &mut S, piece: &[u8]) -> Result<(), WriteFault>
     ensures ok { OnOk result (S.written sink.new ≡ appended (S.written sink.old) piece.now) }
     ensures err { OnErr result (AppendsPart (S.written sink.old) (S.written sink.new) piece.now) }
 
+    ensures ok_same { OnOk result (S.faults sink.new ≡ S.faults sink.old) }
     ensures never_falls { S.faults sink.old ≤ S.faults sink.new }
     ensures cause { OnErr result (Rose (S.faults sink.old) (S.faults sink.new)) }
 {

@@ -1,9 +1,9 @@
 -- What a scratch remembers of a run.
-use Rattle.std.proofs.Common.{◌≡◌, ◌∙◌, ℕ, ◌-◌, ◌<◌, ◌≤◌, List, [], length, get_or, map, Bool, refl, arith, ap, sym, subst}
+use Rattle.std.proofs.Common.{◌≡◌, ◌∙◌, ℕ, ◌-◌, ◌<◌, ◌≤◌, List, [], length, get_or, map, Bool, true, refl, arith, ap, sym, subst}
 use Rattle.std.specs.Prelude.{All}
 use Rattle.std.specs.List.{range_with_len}
 use Rattle.std.proofs.lemmas.List.FromFn.{get_or-map-range_with_len}
-use Rattle.ds_base.specs.Values.{Row}
+use Rattle.ds_base.specs.Values.{AreKnown, Row}
 use Rattle.ds_cover.specs.Cover.{value_at}
 use Rattle.ds_design.specs.Circuit.{columns}
 use Rattle.ds_design.specs.Rows.{Rows}
@@ -54,6 +54,7 @@ module _ {s : Split} {vectors : Rows} {run : Run} {groups : Grouping} {order : L
       (o : Opens w number (turn - 1) (is_learnt (length groups.groups) kept turn) from)
       (opening : Opening) (number_is : opening.number ≡ number) (turn_is : opening.turn ≡ turn)
       (from_is : opening.from.now ≡ from)
+      (knows : opening.known ≡ true → AreKnown s.initial × All AreKnown vectors.rows)
       (remembers : Remembers (memory_of s groups order vectors.rows) kept) where
     below : turn - 1 < length vectors.rows
     below =
@@ -95,4 +96,5 @@ module _ {s : Split} {vectors : Rows} {run : Run} {groups : Grouping} {order : L
             (sym (o.nets_are (turn - 1 - 1)) ∙ ap (λ (k : ℕ). o.turn.nets (k - 1)) (sym o.opened_is)));
         remembers = remembers;
       };
+      known = knows;
     }

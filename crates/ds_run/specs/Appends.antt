@@ -1,5 +1,5 @@
 -- What a window of a run leaves on a sink.
-use Rattle.std.specs.Prelude.{◌≡◌, ◌≢◌, ℕ, ◌≤◌, List, Option, Result, Err, IfOk}
+use Rattle.std.specs.Prelude.{◌≡◌, ◌≢◌, ℕ, ◌≤◌, List, Option, Result, Err, IfOk, OnOk}
 use Rattle.ds_base.specs.Values.{Row}
 use Rattle.ds_latch.specs.Node.{Split}
 use Rattle.ds_outside.specs.Fault.{Rose}
@@ -13,5 +13,6 @@ pub record EndsLines (s : Split) (first : ℕ) (vectors : List Row) (result : Re
   pub ok : IfOk result (AppendsLines s.circuit first s.initial vectors old new)
   pub part : result ≡ Err Write → AppendsLinesPart s.circuit first s.initial vectors old new
   pub no_memory : result ≢ Err Memory
+  pub ok_same : OnOk result (now ≡ before)
   pub never_falls : before ≤ now
   pub cause : result ≡ Err Write → Rose before now

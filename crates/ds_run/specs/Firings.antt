@@ -1,7 +1,8 @@
 -- What follows of the firings of a run.
-use Rattle.std.specs.Prelude.{◌≡◌, ℕ, ◌<◌, List, length}
+use Rattle.std.specs.Prelude.{◌≡◌, ℕ, List, length}
 use Rattle.ds_base.specs.Values.{Row}
 use Rattle.ds_marked.specs.Graph.{IsLegal, counts_after}
+use Rattle.ds_marked.specs.Progress.{HasFiredAll}
 use Rattle.ds_latch.specs.Plan.{IsPlan, Planned}
 use Rattle.ds_rule.specs.Rule.{tickets}
 use Rattle.ds_fabric.specs.Showing.{IsFiredInOrder, Recorder}
@@ -23,4 +24,4 @@ FiringsAreLegal = (p : Planned) (vectors : List Row) (r : Recorder)
     → IsPlan p.split p.graph → IsRunOf p vectors r.shown.view.run → IsWhole r.shown.view.run r
     → (items : List ℕ) → IsFiredInOrder r.shown.view.run (tickets r.shown.view) items
     → IsLegal p.graph (length vectors) items
-    × ((v : ℕ) → v < length p.graph.events → counts_after (λ _. 0) items v ≡ length vectors)
+    × HasFiredAll p.graph (length vectors) (counts_after (λ _. 0) items)

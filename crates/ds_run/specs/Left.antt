@@ -89,5 +89,6 @@ pub record EndsLeft {T : Type 0} (p : Planned) (vectors : List Row) (left : Left
   pub ok : OnOk result (AppendsLeft p vectors left old new)
   pub part : result ≡ Err Write → AppendsLeftPart p vectors left old new
   pub no_memory : result ≢ Err Memory
+  pub ok_same : OnOk result (now ≡ before)
   pub never_falls : before ≤ now
   pub cause : result ≡ Err Write → Rose before now

@@ -24,6 +24,10 @@ pub record IsPlayed (p : Planned) (vectors : List Row) (r : Recorder) : Type 0 w
   pub planned : IsRunOf p vectors r.shown.view.run
   pub whole : IsWhole r.shown.view.run r
 
+-- the record of a run on so many vectors that went to its end
+abbrev pub IsPlayedOn : Planned → ℕ → Recorder → List Row → Type 0
+IsPlayedOn p turns r vectors = IsPlayed p vectors r × (length vectors ≡ turns)
+
 -- the record has what each slave has stored in so many turns, a value a register of its cluster
 pub record HasSlaves (s : Split) (turns : ℕ) (r : Recorder) : Type 0 where
   pub near : (i : ℕ) → i < length s.clusters → number_of (Slave i) < r.shown.view.run.latches

@@ -1,9 +1,10 @@
 -- The text of a run: its trace, and where a log is wanted its firings.
-use Rattle.std.specs.Prelude.{◌≡◌, ℕ, ◌<◌, Bool, true, false, List, ◌++◌, length, codes}
+use Rattle.std.specs.Prelude.{◌≡◌, ℕ, Bool, true, false, List, ◌++◌, length, codes}
 use Rattle.ds_base.specs.Values.{Row}
 use Rattle.ds_marked.specs.Graph.{IsLegal, counts_after}
 use Rattle.ds_design.specs.Trace.{IsTrace}
 use Rattle.ds_marked.specs.Log.{IsLog}
+use Rattle.ds_marked.specs.Progress.{HasFiredAll}
 use Rattle.ds_latch.specs.Plan.{Planned}
 
 -- the trace, the line `firings`, and the lines of a legal list that has each event once a vector
@@ -12,7 +13,7 @@ pub record IsLoggedTrace (p : Planned) (vectors : List Row) (text : List ℕ) : 
   pub traced : IsTrace p.split.circuit vectors trace
   pub events : List ℕ
   pub legal : IsLegal p.graph (length vectors) events
-  pub all : (v : ℕ) → v < length p.graph.events → counts_after (λ _. 0) events v ≡ length vectors
+  pub all : HasFiredAll p.graph (length vectors) (counts_after (λ _. 0) events)
   pub log : List ℕ
   pub logged : IsLog p.graph events log
   pub spelt : text ≡ trace ++ codes "firings\n" ++ log

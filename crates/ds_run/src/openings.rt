@@ -9,6 +9,7 @@ ghost use Rattle.ds_run.specs.Layout.{IsRunOf};
 ghost use Rattle.ds_rule.specs.Sound.{IsSound};
 
 use crate::foreseen::Foreseen;
+use crate::known::are_known;
 use crate::starts::starts_of;
 use ds_base::{LatchId, OutOfMemory, Row3, Scratch};
 use ds_design::Vectors;
@@ -33,6 +34,8 @@ pub struct Openings<'a, 'n> {
     // The places of the tables, each behind those that it reads. Contracts alone read them.
     order: &'n [u32],
     starts: Vec<Row3>,
+    // Whether no start value and no value of a vector is unknown.
+    known: bool,
 }
 
 impl<'a, 'n> Drop for Openings<'a, 'n> {
@@ -45,12 +48,14 @@ impl<'a, 'n> Drop for Openings<'a, 'n> {
             sizes: _,
             order: _,
             starts: _,
+            known: _,
         } = self;
     }
 }
 
 impl<'a, 'n> Model for Openings<'a, 'n> {
-    ghost use Rattle.std.specs.Prelude.{length};
+    ghost use Rattle.std.specs.Prelude.{◌≡◌, length, true, All};
+    ghost use Rattle.ds_base.specs.Values.{AreKnown};
     ghost use Rattle.ds_run.specs.Openings.{AreOpenings, RunWithMemory, memory_of};
 
     ghost Value = { RunWithMemory };
@@ -62,7 +67,9 @@ impl<'a, 'n> Model for Openings<'a, 'n> {
     } };
 
     ghost invariant = { λ w. AreOpenings w.latches.now w.vectors.now w.run.now w.groups
-        w.order.now w.starts.items };
+        w.order.now w.starts.items
+        × (w.known ≡ true
+        → AreKnown w.latches.now.initial × All AreKnown w.vectors.now.rows) };
 }
 
 impl<'a, 'n> Openings<'a, 'n> {
@@ -93,6 +100,7 @@ impl<'a, 'n> Openings<'a, 'n> {
             sizes,
             order,
             starts,
+            known: are_known(latches.initial(), vectors),
         })
     }
 }
@@ -145,7 +153,12 @@ impl<'a, 'n> Compute for Openings<'a, 'n> {
         into: &mut Vec<u64>,
     ) {
         let number = node.index();
-        let opening = Opening { number, turn, from };
+        let opening = Opening {
+            number,
+            turn,
+            from,
+            known: self.known,
+        };
         open(
             self.latches,
             self.vectors,

@@ -1,5 +1,5 @@
 //! A plan run until it is stopped, and what its registers have stored by then.
-ghost use Rattle.std.specs.Prelude.{◌≡◌, ◌<◌, ◌≤◌, Ok, Err, OnOk, length};
+ghost use Rattle.std.specs.Prelude.{◌≡◌, ◌≢◌, ◌<◌, ◌≤◌, Ok, Err, OnOk, length};
 ghost use Rattle.std.specs.List.{flat_map, range_with_len};
 ghost use Rattle.ds_design.specs.Circuit.{columns};
 ghost use Rattle.ds_outside.specs.Fault.{Rose};
@@ -45,6 +45,7 @@ pub fn write_stopped<R: Threads + Sync, G: Gate, O: Sink>(
     ensures same { result ≡ Err RunFault.Memory → O.written out.new ≡ O.written out.old }
 
     // When a write failed.
+    ensures same_faults { result ≢ Err RunFault.Write → O.faults out.new ≡ O.faults out.old }
     ensures never_falls { O.faults out.old ≤ O.faults out.new }
     ensures cause { result ≡ Err RunFault.Write → Rose (O.faults out.old) (O.faults out.new) }
 {

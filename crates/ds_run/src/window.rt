@@ -1,5 +1,6 @@
 //! A window of a run: a plan begun with the registers before it, run on its vectors and written.
-ghost use Rattle.std.specs.Prelude.{◌≡◌, ◌+◌, ◌<◌, ◌≤◌, ◌^◌, length, Err, IfOk, OnErr, OnOk};
+ghost use Rattle.std.specs.Prelude.{◌≡◌, ◌≢◌, ◌+◌, ◌<◌, ◌≤◌, ◌^◌, length, Err, IfOk};
+ghost use Rattle.std.specs.Prelude.{OnErr, OnOk};
 ghost use Rattle.ds_design.specs.Circuit.{columns};
 ghost use Rattle.ds_outside.specs.Fault.{Rose};
 ghost use Rattle.ds_clocked.specs.Appends.{AppendsLines, AppendsLinesPart};
@@ -12,6 +13,7 @@ use crate::fault::RunFault;
 use crate::line::Line;
 use crate::log::Log;
 use crate::played::Played;
+use crate::stored_turns::StoredTurns;
 use crate::trace::write_turns;
 use crate::{Workers, run};
 use ds_base::{OutOfMemory, Row3};
@@ -66,6 +68,7 @@ pub fn write_window<R: Threads + Sync, G: Gate, O: Sink>(
         (length window.now.vectors.now.rows) log.old log.new }
 
     // When a write failed.
+    ensures same_faults { result ≢ Err RunFault.Write → O.faults out.new ≡ O.faults out.old }
     ensures never_falls { O.faults out.old ≤ O.faults out.new }
     ensures cause { result ≡ Err RunFault.Write → Rose (O.faults out.old) (O.faults out.new) }
 {
@@ -141,7 +144,12 @@ fn write_lines<O: Sink>(
         (O.written out.old) (O.written out.new) (O.faults out.old) (O.faults out.new) }
 {
     let mut line = line;
-    match write_turns(played, first, &mut line, out) {
+    let stored = StoredTurns {
+        plan: played.plan,
+        fired: played.fired,
+        turns: played.vectors.count(),
+    };
+    match write_turns(&stored, first, &mut line, out) {
         Ok(()) => Ok(line.registers),
         Err(_) => Err(RunFault::Write),
     }

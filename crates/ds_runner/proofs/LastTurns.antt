@@ -16,7 +16,7 @@ use Rattle.ds_runner.specs.declared.turning.Key.{Key}
 use Rattle.std.proofs.Common.{Some}
 use Rattle.ds_fabric.specs.Showing.{Showing}
 use Rattle.ds_runner.specs.Turns.{Slot, Alone, fabric, run, has_out, taken, nodes_of_key, Turning, TurnSeat, base, sum_below, learned_parts, keeps_parts, one_part, joined, spent_turn}
-use Rattle.ds_runner.proofs.Wheels.{St, sum_changed, sum_same, unmoved}
+use Rattle.ds_runner.proofs.Wheels.{St, sum_changed, sum_same, unmoved, part, two_parts, word_home}
 use Rattle.ds_runner.proofs.Starts.{fires_of, fires-at, sum-fires}
 
 pub splits : (k : Key) (id : ℕ) (v : TurnView) → v.live ≡ true → 1 < v.parts → Splits (Turning k) id v (keeps_parts v) (one_part v)
@@ -47,10 +47,10 @@ splits k id v live some-parts s o me =
           (at_end vs right u i at);
       long = λ i u at lives. ⊎_elim
           (λ old. ⊎_elim
-          (λ t. (ap (λ (x : TurnView). length x.out) (sym t.1) ∙ long.0, ap (λ (x : TurnView). length x.taken) (sym t.1) ∙ long.1, omega (arith, ap (λ (x : TurnView). x.parts) t.1), ap (λ (x : TurnView). x.fabric) (sym t.1) ∙ long.3, ap (λ (x : TurnView). x.run) (sym t.1) ∙ long.4))
+          (λ t. (ap (λ (x : TurnView). length x.out) (sym t.1) ∙ long.0, ap (λ (x : TurnView). length x.taken) (sym t.1) ∙ long.1, omega (arith, ap (λ (x : TurnView). x.parts) t.1), ap (λ (x : TurnView). x.fabric) (sym t.1) ∙ long.3, ap (λ (x : TurnView). x.run) (sym t.1) ∙ long.4, ap (λ (x : TurnView). x.turns) (sym t.1) ∙ long.5))
           (λ t. o.long i u t.1 lives)
           (at_set s.views id i left u old))
-          (λ t. (ap (λ (x : TurnView). length x.out) (sym t.1) ∙ (length-replicate (length v.out) false ∙ long.0), ap (λ (x : TurnView). length x.taken) (sym t.1) ∙ (length-replicate (length v.taken) 0 ∙ long.1), omega (arith, ap (λ (x : TurnView). x.parts) t.1), ap (λ (x : TurnView). x.fabric) (sym t.1) ∙ long.3, ap (λ (x : TurnView). x.run) (sym t.1) ∙ long.4))
+          (λ t. (ap (λ (x : TurnView). length x.out) (sym t.1) ∙ (length-replicate (length v.out) false ∙ long.0), ap (λ (x : TurnView). length x.taken) (sym t.1) ∙ (length-replicate (length v.taken) 0 ∙ long.1), omega (arith, ap (λ (x : TurnView). x.parts) t.1), ap (λ (x : TurnView). x.fabric) (sym t.1) ∙ long.3, ap (λ (x : TurnView). x.run) (sym t.1) ∙ long.4, ap (λ (x : TurnView). x.turns) (sym t.1) ∙ long.5))
           (at_end vs right u i at);
       few = o.few;
       spent_made = λ i u at dead. ⊎_elim
@@ -63,22 +63,6 @@ splits k id v live some-parts s o me =
       whole = omega (arith, o.whole, sum_changed (λ (x : TurnView). x.parts) s.views id v left me, sum_by-append (λ (x : TurnView). x.parts) vs (right ∷ []));
       total = omega (arith, o.total, sum_changed (λ (x : TurnView). x.made) s.views id v left me, sum_by-append (λ (x : TurnView). x.made) vs (right ∷ []));
     }
-
-part : (vs : List TurnView) (j : ℕ) (w : TurnView) → get_elem? vs j ≡ some w → w.parts ≤ sum_by (λ (x : TurnView). x.parts) vs
-part vs j w q = omega (arith, sum_changed (λ (x : TurnView). x.parts) vs j w spent_turn q)
-
--- two turns have no more parts than all
-two_parts : (vs : List TurnView) (i j : ℕ) (v w : TurnView) → i ≢ j → get_elem? vs i ≡ some v → get_elem? vs j ≡ some w → v.parts + w.parts ≤ sum_by (λ (x : TurnView). x.parts) vs
-two_parts vs i j v w n p q = omega (arith, sum_changed (λ (x : TurnView). x.parts) vs i v spent_turn p, part (set vs i spent_turn) j w (set_else vs i j spent_turn (λ e. n (sym e)) ∙ q))
-
--- a turn with all parts and no node out finds every word home
-pub all_home : (k : Key) (s : St) (o : Turning k s) (id : ℕ) (v : TurnView) → get_elem? s.views id ≡ some v → v.live ≡ true → v.parts ≡ k.turns → ((j : ℕ) → has_out v j ≡ false)
-    → (j : ℕ) → j < nodes_of_key k → get_or s.words j 0 ≡ 0
-all_home k s o id v me live all none-out j h = ⊎_elim (λ e. e)
-    (λ e. let a = o.away j h e in dite (ℕ_discrete (o.owner j) id)
-    (λ mine. let u-is : a.0 ≡ v = same_at s.views id a.0 v (subst (λ i. get_elem? s.views i ≡ some a.0) mine a.1) me in absurd (false≢true (sym (none-out j) ∙ (ap (λ (x : TurnView). has_out x j) (sym u-is) ∙ a.3))))
-    (λ far. absurd (omega (arith, two_parts s.views id (o.owner j) v a.0 (λ t. far (sym t)) me a.1, o.whole, (o.long (o.owner j) a.0 a.1 a.2).2))))
-    (o.bits j h)
 
 -- a turn with no node out is taken in
 pub joins : (k : Key) (id other : ℕ) (v w : TurnView) → v.live ≡ true → w.live ≡ true → ((j : ℕ) → has_out w j ≡ false) → Joins (Turning k) id v other w (joined v w) spent_turn
@@ -118,6 +102,7 @@ joins k id other v w live live' none-out s o me apart him =
             omega (arith, long.2, ap (λ (y : TurnView). y.parts) r.1),
             ap (λ (y : TurnView). y.fabric) (sym r.1) ∙ long.3,
             ap (λ (y : TurnView). y.run) (sym r.1) ∙ long.4,
+            ap (λ (y : TurnView). y.turns) (sym r.1) ∙ long.5,
           ))
           (λ r. o.long i x r.1 lives)
           (at_set s.views id i u x t.1))
@@ -141,7 +126,7 @@ learns k n id m s o wide me _ = (
   m.0,
   keeps,
   tt,
-  unmoved k s o 0 id m.0 m.0 me refl refl refl refl refl refl refl refl,
+  unmoved k s o 0 id m.0 m.0 me refl refl refl refl refl refl refl refl refl,
   (refl, omega (arith, part s.views id m.0 me, o.whole, o.few)),
 )
 
@@ -150,7 +135,7 @@ pub homely : (k : Key) (s : St) (o : Turning k s) (id : ℕ) (v : TurnView) → 
     → (xs : List Slot) → length s.homes ≡ length xs → ((j : ℕ) (y : Slot) → get_elem? s.homes j ≡ some (some y) → get_elem? xs j ≡ some y)
     → (l : ℕ) → l < nodes_of_key k → (p : Showing) × (get_elem? xs l ≡ some (Some p)) × Alone (fabric k) (run k) l p × (seen p.view l ≡ o.fires l)
 homely k s o id v me live all none-out xs long stay l near =
-    let r = o.home l near (all_home k s o id v me live all none-out l near) in (r.0, stay l (Some r.0) r.1, r.2, r.3)
+    let r = o.home l near (word_home k s o id v me live all l (none-out l) near) in (r.0, stay l (Some r.0) r.1, r.2, r.3)
 
 abbrev made-of : TurnView → ℕ
 made-of v = v.made

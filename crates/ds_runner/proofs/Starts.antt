@@ -54,6 +54,7 @@ turning_starts k some-turns few each = let ps : List Showing = k.passes.value.it
         omega (arith, ap (λ (x : TurnView). x.parts) t.1),
         ap (λ (x : TurnView). x.fabric) (sym t.1),
         ap (λ (x : TurnView). x.run) (sym t.1),
+        ap (λ (x : TurnView). x.turns) (sym t.1),
       );
       few = few;
       spent_made = λ id u at dead. let t = alone v u id at in absurd (false≢true (sym (ap (λ (x : TurnView). x.live) t.1 ∙ dead)));

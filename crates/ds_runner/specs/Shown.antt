@@ -25,6 +25,7 @@ pub record IsTurnOf (s : Stile) (t : Turned) : Type 0 where
   pub table : t.table_id ≡ s.table_id
   pub fabric_is : t.view.fabric ≡ fabric_of s.given
   pub run_is : t.view.run ≡ run_of s.given
+  pub turns_is : t.view.turns ≡ s.turns
 
 -- a pass of this turnstile, alone with the node
 abbrev pub IsPassOf : Stile → ℕ → Showing → Type 0

@@ -101,7 +101,7 @@ pub record Turning (k : Key) (s : State Slot TurnView) : Type 0 where
   -- each turn that is live is of this many nodes, and has a part
   pub long : (id : ℕ) (v : TurnView) → get_elem? s.views id ≡ some v → v.live ≡ true
       → (length v.out ≡ nodes_of_key k) × (length v.taken ≡ nodes_of_key k) × (0 < v.parts)
-      × (v.fabric ≡ fabric k) × (v.run ≡ run k)
+      × (v.fabric ≡ fabric k) × (v.run ≡ run k) × (v.turns ≡ k.turns)
   -- all parts together are the turns, and what was made is what the firings grew by
   pub few : k.turns < 4294967296
   pub spent_made : (id : ℕ) (v : TurnView) → get_elem? s.views id ≡ some v → v.live ≡ false
@@ -117,6 +117,7 @@ first_turn k = record {
   fabric = fabric k;
   run = run k;
   parts = k.turns;
+  turns = k.turns;
   out = replicate (nodes_of_key k) false;
   taken = replicate (nodes_of_key k) 0;
   busy = 0;
@@ -155,12 +156,12 @@ after_give v l f = record v {
   made = v.made + (f - taken v l);
 }
 
--- the word was home, and the turn has the pass; or it was out
+-- the word was home, and the turn has the pass; or it was out, and so some other turn has a part
 abbrev pub took : TurnPlay
 took st m r n =
     (r ≡ 0 → (p : Showing) × Alone m.0.fabric m.0.run st.word p × (st.word < length m.0.out)
     × (n ≡ (after_won_take m.0 st.word (seen p.view st.word), (st.word, Some p) ∷ m.1)))
-    × (r ≢ 0 → n ≡ (after_miss m.0 st.word, m.1))
+    × (r ≢ 0 → (n ≡ (after_miss m.0 st.word, m.1)) × (m.0.parts ≢ m.0.turns))
 
 -- the turn has no slot in hand
 abbrev pub rested : TurnView → TurnView
@@ -194,6 +195,7 @@ one_part v = record {
   fabric = v.fabric;
   run = v.run;
   parts = 1;
+  turns = v.turns;
   out = replicate (length v.out) false;
   taken = replicate (length v.taken) 0;
   busy = 0;
@@ -219,6 +221,7 @@ spent_turn = record {
   fabric = no_table;
   run = no_run;
   parts = 0;
+  turns = 0;
   out = [];
   taken = [];
   busy = 0;

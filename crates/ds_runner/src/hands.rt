@@ -1,5 +1,5 @@
 //! The steps of a turn, by its seat.
-ghost use Rattle.std.specs.Prelude.{◌≡◌, ◌<◌, ◌≤◌, ◌+◌, ℕ, [], true, false, MatchOption};
+ghost use Rattle.std.specs.Prelude.{◌≡◌, ◌≢◌, ◌<◌, ◌≤◌, ◌+◌, ℕ, [], true, false, MatchOption};
 ghost use Rattle.ds_rule.specs.Rule.{seen};
 ghost use Rattle.ds_runner.specs.Turns.{Alone, HasNone, has_out, taken, nodes_of_key};
 ghost use Rattle.ds_runner.specs.Turns.{after_won_take, after_miss, after_give, rested};
@@ -18,7 +18,9 @@ pub fn take(board: &Board, seat: &mut Seated, node: usize) -> Option<Pass>
 
     ensures table { seat.new.table_id ≡ seat.old.table_id }
     ensures idle { seat.new.me.1 ≡ [] }
-    ensures told { MatchOption result (seat.new.me.0 ≡ after_miss seat.old.me.0 node)
+    ensures told { MatchOption result
+        ((seat.new.me.0 ≡ after_miss seat.old.me.0 node)
+        × (seat.old.me.0.parts ≢ seat.old.me.0.turns))
         (λ p. Alone seat.old.me.0.fabric seat.old.me.0.run node p
         × (seat.new.me.0 ≡ rested (after_won_take seat.old.me.0 node (seen p.view node)))) }
 {

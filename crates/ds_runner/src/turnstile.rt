@@ -1,6 +1,6 @@
 //! The turnstile with its calls: `build` moves the passes in and `close` moves them out again.
 ghost use Rattle.std.specs.Prelude.{◌≡◌, ◌<◌, ◌≤◌, ◌+◌, [], length, true, false};
-ghost use Rattle.std.specs.Prelude.{IfOk, OnOk, OnErr, IfSome, IfNone, vec_capacity};
+ghost use Rattle.std.specs.Prelude.{IfOk, OnOk, OnErr, IfSome, IfNone, is_some, vec_capacity};
 ghost use Rattle.ds_rule.specs.Rule.{seen};
 ghost use Rattle.ds_runner.specs.Turns.{HasNone, has_out, taken, keeps_parts, one_part, joined};
 ghost use Rattle.ds_runner.specs.Shown.{AreAlone, IsTurnstileOpened, IsTurnOf, IsPassOf};
@@ -101,8 +101,8 @@ impl Turnstile {
         turn.parts += parts;
     }
 
-    /// The pass of the node, which this turn does not have out; none where another has it out. It
-    /// waits for nobody.
+    /// The pass of the node, which this turn does not have out; none where another has it out, so
+    /// never where this turn has all parts. It waits for nobody.
     pub fn take(&self, turn: &mut Turn, node: LatchId) -> Option<Pass>
         requires fits { IsTurnOf self.now turn.old }
         requires near { node < length self.now.given }
@@ -113,6 +113,7 @@ impl Turnstile {
         ensures took { IfSome result (λ p.
             TakesPass turn.old.view turn.new.view node (seen p.view node)) }
         ensures missed { IfNone result (Misses turn.old.view turn.new.view node) }
+        ensures whole { turn.old.view.parts ≡ self.now.turns → is_some result ≡ true }
     {
         hands::take(&self.table.shared, &mut turn.seat, node.index())
     }

@@ -51,8 +51,8 @@ impl<'a> Drivers<'a> {
     }
 }
 
-// The table that drives each net.
-fn drivers_of(alloc: Global, netlist: &Netlist) -> Result<Vec<Option<u32>>, OutOfMemory>
+/// The number of the table that drives each net, where one does.
+pub fn drivers_of(alloc: Global, netlist: &Netlist) -> Result<Vec<Option<u32>>, OutOfMemory>
     ensures { IfOk result (λ v. AreDrivers netlist.now (length netlist.now.tables) v.items) }
 {
     let design = netlist.design();

@@ -20,6 +20,7 @@ mod turn;
 mod walk;
 
 pub use cone::Cone;
+pub use drivers::drivers_of;
 pub use finder::{Finder, cone_of};
 pub use part::settle_part;
 pub use pick::{pick_data, pick_values, set_initial};

@@ -1,6 +1,8 @@
 pub mod Groups
 pub mod Keys
 pub mod Loops
+pub mod Keyed
+pub mod BusKeys
 pub mod Groupings
 pub mod Pigeons
 pub mod Searching

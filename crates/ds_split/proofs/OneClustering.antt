@@ -1,52 +1,17 @@
 -- Registers have one clustering.
-use Rattle.std.proofs.Common.{◌≡◌, inl, inr, ℕ, zero, suc, ◌<◌, ◌≤◌, List, [], ◌∷◌, length, get_or, map, refl, sym, ◌∙◌, ap, subst, arith}
+use Rattle.std.proofs.Common.{◌≡◌, inl, inr, ℕ, ◌<◌, ◌≤◌, List, [], length, get_or, map, refl, sym, ◌∙◌, ap, subst, arith}
 use Rattle.std.specs.Prelude.{All, AllPairs, Contains}
 use Rattle.std.proofs.lemmas.Bool.{cases_lt}
 use Rattle.std.proofs.lemmas.List.{get_or_default, get_or_past, get_or-map, length-map}
 use Rattle.std.proofs.lemmas.List.Elements.{All-get_or, All-contains, Contains-get_or}
+use Rattle.ds_base.proofs.Rising.{rising_same}
 use Rattle.ds_base.proofs.Lists.{lists_same, get_or-self, Any-from_map, Contains-map}
-use Rattle.ds_split.specs.Cluster.{IsGrouping}
+use Rattle.ds_split.specs.Cluster.{Agree, IsGrouping}
 use Rattle.ds_split.specs.Groups.{group}
-use Rattle.ds_split.specs.Cluster.{Agree}
-use Rattle.ds_split.specs.Laws.{OneClustering}
+use Rattle.ds_split.specs.Grouped.{BelongTogether}
+use Rattle.ds_split.specs.Laws.{OneClustering, OneGroupedClustering}
 use Rattle.ds_split.proofs.Loops.{in_group}
 use Rattle.ds_split.proofs.Sources.{flat_apart}
-
--- the first of rising numbers is the least
-above : (y : ℕ) (ys : List ℕ) → AllPairs (λ a b. a < b) (y ∷ ys) → (z : ℕ) → Contains ys z → y < z
-above y ys rising z (k, inside, is) =
-    let h : y < get_or ys k z = rising 0 (suc k) z (omega arith) (omega arith) in omega (arith, is)
-
-least : (y : ℕ) (ys : List ℕ) → AllPairs (λ a b. a < b) (y ∷ ys) → (z : ℕ) → Contains (y ∷ ys) z → y ≤ z
-least y ys rising z (zero, inside, is) = omega (arith, is)
-least y ys rising z (suc k, inside, is) = (let h : y < z = above y ys rising z (k, omega arith, is) in omega arith)
-
-behind : (y : ℕ) (ys : List ℕ) → AllPairs (λ a b. a < b) (y ∷ ys) → AllPairs (λ a b. a < b) ys
-behind y ys rising i j d below inside = rising (suc i) (suc j) d (omega arith) (omega arith)
-
--- what is not the first stands behind it
-later : (y z : ℕ) (ys : List ℕ) → y < z → Contains (y ∷ ys) z → Contains ys z
-later y z ys more (zero, inside, is) = absurd (omega (arith, is))
-later y z ys more (suc k, inside, is) = (k, omega arith, is)
-
--- rising numbers are told by which they are
-rising_same : (xs ys : List ℕ) → AllPairs (λ a b. a < b) xs → AllPairs (λ a b. a < b) ys
-    → ((x : ℕ) → Contains xs x → Contains ys x) → ((x : ℕ) → Contains ys x → Contains xs x) → xs ≡ ys
-rising_same [] [] one other there back = refl
-rising_same [] (y ∷ ys) one other there back =
-    let (k, inside, is) = back y (0, omega arith, refl) in absurd (let h : k < 0 = inside in omega arith)
-rising_same (x ∷ xs) [] one other there back =
-    let (k, inside, is) = there x (0, omega arith, refl) in absurd (let h : k < 0 = inside in omega arith)
-rising_same (x ∷ xs) (y ∷ ys) one other there back =
-    let low : y ≤ x = least y ys other x (there x (0, omega arith, refl)) in
-    let high : x ≤ y = least x xs one y (back y (0, omega arith, refl)) in
-    let e : x ≡ y = omega arith in
-    let rest : xs ≡ ys = rising_same xs ys (behind x xs one) (behind y ys other)
-    (λ z is. let (k, inside, at) = is in
-    let more : x < z = above x xs one z (k, inside, at) in later y z ys (omega arith) (there z (suc k, omega arith, at)))
-    (λ z is. let (k, inside, at) = is in
-    let more : y < z = above y ys other z (k, inside, at) in later x z xs (omega arith) (back z (suc k, omega arith, at))) in
-    ap (λ z. z ∷ xs) e ∙ ap (λ zs. y ∷ zs) rest
 
 module _ (belong : ℕ → ℕ → Type 0) (count : ℕ) (xs : List (List ℕ)) (is : IsGrouping belong count xs) where
   rising_group : (i : ℕ) → AllPairs (λ a b. a < b) (group xs i)
@@ -173,3 +138,7 @@ module _ (belong : ℕ → ℕ → Type 0) (count : ℕ) (xs ys : List (List ℕ
 
 pub one_clustering_lem : OneClustering
 one_clustering_lem c mode one other is also = one_grouping (Agree c mode) (length c.registers) one other is also
+
+pub one_grouped_lem : OneGroupedClustering
+one_grouped_lem c mode groups one other is also =
+    one_grouping (BelongTogether c mode groups) (length c.registers) one other is also

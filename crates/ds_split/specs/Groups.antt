@@ -1,9 +1,6 @@
 -- Clusters by their places, as they are built.
 use Rattle.std.specs.Prelude.{◌≡◌, ℕ, ◌<◌, List, [], ◌∷◌, ◌++◌, length, ltb, AllPairs, Contains}
 use Rattle.std.specs.Prelude.{slice_index, slice_index_or, slice_set, if◌then◌else◌}
-use Rattle.ds_design.specs.Circuit.{Circuit}
-use Rattle.ds_design.specs.declared.design.Net.{Net}
-use Rattle.ds_split.specs.Cluster.{bus_of, no_net}
 
 -- the registers of the cluster at a place, none behind the last
 abbrev pub group : List (List ℕ) → ℕ → List ℕ
@@ -27,8 +24,3 @@ pub record AreGroups (belong : ℕ → ℕ → Type 0) (count : ℕ) (groups : L
   pub rising : (i : ℕ) → AllPairs (λ a b. a < b) (group groups i)
   pub by_first : (i j : ℕ) → i < j → j < length groups
       → slice_index (group groups i) 0 < slice_index (group groups j) 0
-
--- the registers of the cluster at each place drive the bus at that place
-pub record DriveBuses (c : Circuit) (groups : List (List ℕ)) (buses : List Net) : Type 0 where
-  pub one_each : length buses ≡ length groups
-  pub same : (i r : ℕ) → Contains (group groups i) r → bus_of c r ≡ slice_index_or buses i no_net

@@ -1,14 +1,16 @@
 //! The clusters of a netlist's registers.
-ghost use Rattle.std.specs.Prelude.{◌≡◌, ◌<◌, ◌≤◌, ⊤, length, All, IfOk, IfErr, OnOk};
+ghost use Rattle.std.specs.Prelude.{◌≡◌, ◌<◌, ◌≤◌, ◌+◌, ◌^◌, length, slice_set};
+ghost use Rattle.std.specs.Prelude.{All, IfOk, IfErr, OnOk};
 ghost use Rattle.ds_base.specs.Limit.{most_of};
 ghost use Rattle.ds_base.specs.declared.number.Limit.TheVariants.{Clusters as MostClusters};
-ghost use Rattle.ds_base.specs.declared.number.Mode.TheVariants.{Each, One, Bus as ByBus};
-ghost use Rattle.ds_split.specs.Cluster.{Agree, IsClustering};
+ghost use Rattle.ds_design.specs.Groups.{AreDisjoint};
+ghost use Rattle.ds_split.specs.Cluster.{IsClustering};
+ghost use Rattle.ds_split.specs.Grouped.{BelongTogether, IsGroupedClustering, IsGroupedFault};
 ghost use Rattle.ds_split.specs.Groups.{AreGroups, with_member};
+ghost use Rattle.ds_split.specs.Keyed.{HaveOneKey, IsPlaceOf};
 ghost use Rattle.ds_split.specs.Split.{IsClusterFault};
 
-use crate::bus::bus_of;
-use crate::buses::Buses;
+use crate::register_keys::keys_of;
 use crate::{Clusters, SplitFault};
 use ds_base::{Limit, Mode, OutOfMemory, RegId, Seq};
 use ds_design::{Design, Netlist};
@@ -24,62 +26,77 @@ pub fn cluster(alloc: Global, netlist: &Netlist, mode: Mode) -> Result<Clusters,
 
     ensures fault { IfErr result (IsClusterFault netlist.now mode) }
 {
-    let groups = groups_of(alloc, netlist.design(), mode)?;
-    if groups.len() as u64 > Limit::Clusters.most() {
+    let none = Seq::new(alloc);
+    cluster_groups(alloc, netlist, mode, none.as_slice())
+}
+
+/// The same where some registers stand in groups: each group is a cluster, and the registers that
+/// no group has make clusters among themselves, by the mode.
+pub fn cluster_groups(
+    alloc: Global,
+    netlist: &Netlist,
+    mode: Mode,
+    groups: &[Seq<RegId>],
+) -> Result<Clusters, SplitFault>
+    requires { AreDisjoint (length netlist.now.registers) groups.now }
+
+    ensures ok { IfOk result (IsGroupedClustering netlist.now mode groups.now) }
+    ensures ok_few { IfOk result (λ clusters. length clusters ≤ most_of MostClusters) }
+
+    ensures fault { IfErr result (IsGroupedFault netlist.now mode groups.now) }
+{
+    let clusters = clusters_of(alloc, netlist.design(), mode, groups)?;
+    if clusters.len() as u64 > Limit::Clusters.most() {
         return Err(SplitFault::TooMany(Limit::Clusters));
     }
-    Ok(Clusters::of(Seq::of(groups)))
+    Ok(Clusters::of(Seq::of(clusters)))
 }
 
 // The registers of each cluster.
-fn groups_of(alloc: Global, design: &Design, mode: Mode) -> Result<Vec<Seq<RegId>>, OutOfMemory>
+fn clusters_of(
+    alloc: Global,
+    design: &Design,
+    mode: Mode,
+    groups: &[Seq<RegId>],
+) -> Result<Vec<Seq<RegId>>, OutOfMemory>
+    requires { AreDisjoint (length design.now.registers) groups.now }
+    ensures { IfOk result (λ clusters. AreGroups (BelongTogether design.now mode groups.now)
+        (length design.now.registers) clusters.items) }
+{
+    let keys = keys_of(alloc, design, mode, groups)?;
+    Ok(by_keys(alloc, &keys, groups.len() + design.registers().len())?)
+}
+
+// A cluster for each key that registers have. All keys are below `most`.
+fn by_keys(alloc: Global, keys: &[usize], most: usize) -> Result<Vec<Seq<RegId>>, OutOfMemory>
+    requires few { All (λ key. key < most) keys.now }
+    requires short { length keys.now < 2 ^ 32 }
     ensures { IfOk result (λ groups.
-        AreGroups (Agree design.now mode) (length design.now.registers) groups.items) }
+        AreGroups (HaveOneKey keys.now) (length keys.now) groups.items) }
 {
-    let count = design.registers().len() as u32;
-    match mode {
-        Mode::Each => alone(alloc, count),
-        Mode::One => together(alloc, count),
-        Mode::Bus => by_bus(alloc, design),
-    }
-}
-
-// A cluster for each register.
-fn alone(alloc: Global, count: u32) -> Result<Vec<Seq<RegId>>, OutOfMemory>
-    ensures { IfOk result (λ groups. AreGroups (λ a b. a ≡ b) count groups.items) }
-{
+    let mut places = vec![in alloc; 0; most]?;
     let mut groups = Vec::new(alloc);
-    for register in 0..count {
-        add(alloc, &mut groups, register as usize, RegId::new(register))?;
-    }
-    Ok(groups)
-}
-
-// One cluster for all registers.
-fn together(alloc: Global, count: u32) -> Result<Vec<Seq<RegId>>, OutOfMemory>
-    ensures { IfOk result (λ groups. AreGroups (λ a b. ⊤) count groups.items) }
-{
-    let mut groups = Vec::new(alloc);
-    for register in 0..count {
-        add(alloc, &mut groups, 0, RegId::new(register))?;
-    }
-    Ok(groups)
-}
-
-// A cluster for each bus that registers drive.
-fn by_bus(alloc: Global, design: &Design) -> Result<Vec<Seq<RegId>>, OutOfMemory>
-    ensures { IfOk result (λ groups.
-        AreGroups (Agree design.now ByBus) (length design.now.registers) groups.items) }
-{
-    let registers = design.registers();
-    let nets = design.nets();
-    let mut buses = Buses::new(alloc);
-    let mut groups = Vec::new(alloc);
-    for (i, register) in registers.iter().enumerate() {
-        let place = buses.place(bus_of(nets, register))?;
+    for i in 0..keys.len() {
+        let place = place_of(&mut places, keys[i], groups.len());
         add(alloc, &mut groups, place, RegId::new(i as u32))?;
     }
     Ok(groups)
+}
+
+// The place of the cluster of a key: the next one where there is none yet.
+fn place_of(places: &mut Vec<usize>, key: usize, next: usize) -> usize
+    requires inside { key < length places.old.items }
+    requires few { next + 1 < 2 ^ 64 }
+    ensures place { IsPlaceOf places.old.items key next result }
+    ensures kept { places.new.items ≡ slice_set places.old.items key (result + 1) }
+{
+    let place = if places[key] == 0 {
+        next
+    } else {
+        places[key] - 1
+    };
+    places[key] = place + 1;
+    place
 }
 
 // Puts a register into the cluster at a place, or into a new one behind the last.

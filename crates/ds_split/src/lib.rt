@@ -1,7 +1,8 @@
 //! Clusters of registers, and a netlist split into master and slave latches.
 //!
 //! `cluster` puts the registers of a netlist into clusters: each alone, all into one, or those that
-//! drive one bus. It answers `TooMany(Clusters)` exactly where there are more than 4,096.
+//! drive one bus. `cluster_groups` does so with the registers that stand in no group, and makes a
+//! cluster of each group. They answer `TooMany(Clusters)` exactly where there are more than 4,096.
 //!
 //! `split` gives the latch graph of a netlist and its clusters: a master and a slave for each
 //! cluster, beside the vectors and the output row, and an edge from each node to those that read
@@ -27,13 +28,15 @@ mod edges;
 mod fault;
 mod graph;
 mod grouping;
+mod holders;
 pub mod laws;
 mod nets;
 mod producers;
+mod register_keys;
 mod search;
 
 pub use clusters::Clusters;
 pub use cones::cones_of;
 pub use fault::SplitFault;
 pub use graph::split;
-pub use grouping::cluster;
+pub use grouping::{cluster, cluster_groups};

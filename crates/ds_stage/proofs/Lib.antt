@@ -1,5 +1,6 @@
 pub mod TextParts
 pub mod Ends
+pub mod Counts
 pub mod Exclusive
 pub mod Expansions
 pub mod Failed

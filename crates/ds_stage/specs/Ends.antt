@@ -27,6 +27,30 @@ abbrev pub Answers : {A : Type 0} → Stage A → OfFile → Result A Stop → T
 Answers stage failed (Ok a) = stage.means a
 Answers stage failed (Err stop) = Stops stage failed stop
 
+-- a stop says that a file was not read, or that memory was wanted, or P holds
+abbrev pub UnreadOr : Stop → Type 0 → Type 0
+UnreadOr (Refused line) P = P
+UnreadOr (Unread line) P = Unit {0}
+UnreadOr Unwritten P = P
+UnreadOr Memory P = Unit {0}
+
+-- P, unless an answer says that a file was not read, or that memory was wanted
+abbrev pub UnlessUnread : {A : Type 0} → Result A Stop → Type 0 → Type 0
+UnlessUnread (Ok a) P = P
+UnlessUnread (Err stop) P = UnreadOr stop P
+
+-- a stop says that a write failed, or P holds
+abbrev pub UnwrittenOr : Stop → Type 0 → Type 0
+UnwrittenOr (Refused line) P = P
+UnwrittenOr (Unread line) P = P
+UnwrittenOr Unwritten P = Unit {0}
+UnwrittenOr Memory P = P
+
+-- P, unless an answer says that a write failed
+abbrev pub UnlessUnwritten : {A : Type 0} → Result A Stop → Type 0 → Type 0
+UnlessUnwritten (Ok a) P = P
+UnlessUnwritten (Err stop) P = UnwrittenOr stop P
+
 -- no file failed
 abbrev pub Never : OfFile
 Never which name = ⊥
@@ -60,12 +84,8 @@ pub record Output : Type 0 where
 -- the output that a sink is, from one of its values to another; `Sink::written` and `Sink::faults`
 -- tell of each
 abbrev pub output_between : {S : Type 0} → (S → Option (List ℕ)) → (S → ℕ) → S → S → Output
-output_between written faults old new = record {
-  old = written old;
-  new = written new;
-  before = faults old;
-  now = faults new;
-}
+output_between written faults old new =
+    record { old = written old; new = written new; before = faults old; now = faults new }
 
 -- a text that the stage leaves where it stops so was appended
 abbrev pub Leaves : {A : Type 0} → Stage A → OfFile → Output → Stop → Type 0

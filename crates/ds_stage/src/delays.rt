@@ -1,7 +1,7 @@
 //! The delays of a job, and the graph of the required orders.
 ghost use Rattle.std.specs.Prelude.{◌≡◌, ◌++◌, ◌≤◌, ℕ, List, IfOk, codes, length};
 ghost use Rattle.ds_period.specs.Read.{delays_of};
-ghost use Rattle.ds_stage.specs.Ends.{Answers, Never, RoseIn};
+ghost use Rattle.ds_stage.specs.Ends.{Answers, Never, RoseIn, UnlessUnread};
 ghost use Rattle.ds_stage.specs.GraphStage.{IsGraphOf};
 ghost use Rattle.ds_stage.specs.Stage.{then_stage};
 ghost use Rattle.ds_stage.specs.Stages.{read_or_line, result_stage, text_stage};
@@ -41,6 +41,7 @@ pub fn read_timing<F: Files>(
     ensures one_each { IfOk result (λ delays. length delays ≡ length graph.now.arcs) }
 
     ensures same_held { F.held files.new ≡ F.held files.old }
+    ensures same_reads { UnlessUnread result (F.faults files.new ≡ F.faults files.old) }
     ensures never_falls { (w : _) (n : List ℕ) → F.faults files.old w n ≤ F.faults files.new w n }
 {
     let text = read_text(alloc, files, Which::Delays, name)?;

@@ -1,7 +1,7 @@
 //! The log of a job, read and fired.
 ghost use Rattle.std.specs.Prelude.{◌≡◌, ◌≤◌, ℕ, List, length};
 ghost use Rattle.ds_design.specs.Circuit.{columns};
-ghost use Rattle.ds_stage.specs.Ends.{Answers, Never, RoseIn};
+ghost use Rattle.ds_stage.specs.Ends.{Answers, Never, RoseIn, UnlessUnread};
 ghost use Rattle.ds_stage.specs.Stage.{then_stage};
 ghost use Rattle.ds_stage.specs.Stages.{text_stage};
 ghost use Rattle.ds_stage.specs.ReplayStage.{fired_stage, kept_after, kept_stage};
@@ -31,6 +31,7 @@ pub fn read_log<'a, F: Files>(
         (RoseIn (F.faults files.old) (F.faults files.new)) result }
 
     ensures same_held { F.held files.new ≡ F.held files.old }
+    ensures same_reads { UnlessUnread result (F.faults files.new ≡ F.faults files.old) }
     ensures never_falls { (w : _) (n : List ℕ) → F.faults files.old w n ≤ F.faults files.new w n }
 {
     let text = read_text(alloc, files, Which::Log, name)?;

@@ -2,7 +2,7 @@
 ghost use Rattle.std.specs.Prelude.{◌≡◌, ◌≤◌, ℕ, List, IfErr, IfOk, Some};
 ghost use Rattle.ds_astg.specs.Read.{graph_of_lines as graph_in_lines};
 ghost use Rattle.ds_accept.specs.Fault.{IsAcceptFault};
-ghost use Rattle.ds_stage.specs.Ends.{Answers, Never, RoseIn, Stops};
+ghost use Rattle.ds_stage.specs.Ends.{Answers, Never, RoseIn, Stops, UnlessUnread};
 ghost use Rattle.ds_stage.specs.Stage.{then_stage};
 ghost use Rattle.ds_stage.specs.Stages.{read_or_line, result_stage, text_stage};
 ghost use Rattle.ds_stage.specs.GraphText.{astg_text as astg_text_of};
@@ -42,6 +42,7 @@ pub fn plan_netlist<'a, F: Files>(
         (RoseIn (F.faults files.old) (F.faults files.new)) result }
 
     ensures same_held { F.held files.new ≡ F.held files.old }
+    ensures same_reads { UnlessUnread result (F.faults files.new ≡ F.faults files.old) }
     ensures never_falls { (w : _) (n : List ℕ) → F.faults files.old w n ≤ F.faults files.new w n }
 {
     let latches = split_netlist(alloc, net, netlist, splitting.clusters)?;
@@ -59,6 +60,7 @@ fn plan_of<'a, F: Files>(
         (RoseIn (F.faults files.old) (F.faults files.new)) result }
 
     ensures same_held { F.held files.new ≡ F.held files.old }
+    ensures same_reads { UnlessUnread result (F.faults files.new ≡ F.faults files.old) }
     ensures never_falls { (w : _) (n : List ℕ) → F.faults files.old w n ≤ F.faults files.new w n }
 {
     match graph {
@@ -100,6 +102,7 @@ pub fn plan_named<'a, F: Files>(
         (RoseIn (F.faults files.old) (F.faults files.new)) result }
 
     ensures same_held { F.held files.new ≡ F.held files.old }
+    ensures same_reads { UnlessUnread result (F.faults files.new ≡ F.faults files.old) }
     ensures never_falls { (w : _) (n : List ℕ) → F.faults files.old w n ≤ F.faults files.new w n }
 {
     let latches = split_netlist(alloc, net, netlist, splitting.clusters)?;
@@ -117,6 +120,7 @@ fn named_plan<'a, F: Files>(
         (RoseIn (F.faults files.old) (F.faults files.new)) result }
 
     ensures same_held { F.held files.new ≡ F.held files.old }
+    ensures same_reads { UnlessUnread result (F.faults files.new ≡ F.faults files.old) }
     ensures never_falls { (w : _) (n : List ℕ) → F.faults files.old w n ≤ F.faults files.new w n }
 {
     let text = read_text(alloc, files, Which::Graph, name)?;

@@ -1,9 +1,9 @@
 //! The report on a netlist.
-ghost use Rattle.std.specs.Prelude.{ℕ};
+ghost use Rattle.std.specs.Prelude.{◌≡◌, ℕ};
 ghost use Rattle.ds_design.specs.Levels.{IsDepth};
 ghost use Rattle.ds_outside.specs.Pen.{Puts};
 ghost use Rattle.ds_outside.specs.Writes.{Writes};
-ghost use Rattle.ds_stage.specs.Ends.{Ends, Never, output_between};
+ghost use Rattle.ds_stage.specs.Ends.{Ends, Never, UnlessUnwritten, output_between};
 ghost use Rattle.ds_stage.specs.Report.{count_line, report_text};
 ghost use Rattle.ds_stage.specs.Stages.{report_stage};
 
@@ -14,8 +14,10 @@ use itoa::Buffer;
 
 /// Writes the nets other than the clock, the tables, the registers and the levels of a netlist.
 pub fn write_report<O: Sink>(netlist: &Netlist, out: &mut O) -> Result<(), Stop>
-    ensures { Ends (report_stage netlist.now) Never
+    ensures value { Ends (report_stage netlist.now) Never
         (output_between O.written O.faults out.old out.new) result }
+
+    ensures same_writes { UnlessUnwritten result (O.faults out.new ≡ O.faults out.old) }
 {
     match write_counts(netlist, out) {
         Ok(()) => Ok(()),

@@ -10,6 +10,7 @@ ghost use Rattle.ds_stage.specs.FaultText.{blif_text as blif_text_of, flat_text 
 ghost use Rattle.ds_stage.specs.FaultText.{file_line as file_line_of};
 ghost use Rattle.ds_stage.specs.FaultText.{numbered_line as numbered_line_of, too_many_text};
 ghost use Rattle.ds_stage.specs.Ends.{Answers, Never, RoseIn, SaysRefused, SaysUnread, Stops};
+ghost use Rattle.ds_stage.specs.Ends.{UnlessUnread};
 ghost use Rattle.ds_stage.specs.Stage.{then_stage};
 ghost use Rattle.ds_stage.specs.Stages.{accepted_stage, design_stage, lines_stage, netlist_stage};
 ghost use Rattle.ds_stage.specs.Stages.{read_or_line, result_stage, rows_stage, text_stage};
@@ -39,6 +40,7 @@ pub fn read_netlist<F: Files>(alloc: Global, files: &mut F, name: &str) -> Resul
         (RoseIn (F.faults files.old) (F.faults files.new)) result }
 
     ensures same_held { F.held files.new ≡ F.held files.old }
+    ensures same_reads { UnlessUnread result (F.faults files.new ≡ F.faults files.old) }
     ensures never_falls { (w : _) (n : List ℕ) → F.faults files.old w n ≤ F.faults files.new w n }
 {
     let text = read_text(alloc, files, Which::Net, name)?;
@@ -58,6 +60,7 @@ pub fn read_rows<F: Files>(
     ensures width { IfOk result (λ vectors. vectors.width ≡ length (columns netlist.now)) }
 
     ensures same_held { F.held files.new ≡ F.held files.old }
+    ensures same_reads { UnlessUnread result (F.faults files.new ≡ F.faults files.old) }
     ensures never_falls { (w : _) (n : List ℕ) → F.faults files.old w n ≤ F.faults files.new w n }
 {
     let text = read_text(alloc, files, Which::Vectors, name)?;
@@ -76,6 +79,7 @@ pub fn read_text<F: Files>(
         (RoseIn (F.faults files.old) (F.faults files.new)) stop) }
 
     ensures same_held { F.held files.new ≡ F.held files.old }
+    ensures same_reads { UnlessUnread result (F.faults files.new ≡ F.faults files.old) }
     ensures never_falls { (w : _) (n : List ℕ) → F.faults files.old w n ≤ F.faults files.new w n }
 {
     match read_whole(alloc, files, which, name, ENOUGH) {

@@ -2,7 +2,7 @@
 ghost use Rattle.std.specs.Prelude.{◌≡◌, true};
 ghost use Rattle.ds_fire.specs.Snapshot.{split_of};
 ghost use Rattle.ds_replay.specs.Kept.{IsKeptText};
-ghost use Rattle.ds_stage.specs.Ends.{Ends, Never, output_between};
+ghost use Rattle.ds_stage.specs.Ends.{Ends, Never, UnlessUnwritten, output_between};
 ghost use Rattle.ds_stage.specs.Stage.{giving};
 
 use crate::stop::Stop;
@@ -25,8 +25,10 @@ pub fn write_state<O: Sink>(
     requires plan { after.now.state.now.planned ≡ plan.now }
     requires vectors { after.now.state.now.vectors ≡ vectors.now.rows }
     requires slack { after.now.transparent ≡ true → (split_of after.now.state.now).slack ≡ 0 }
-    ensures { Ends (giving (IsKeptText after.now.transparent after.now.state.now after.now.fired))
-        Never (output_between O.written O.faults out.old out.new) result }
+    ensures value { Ends (giving (IsKeptText after.now.transparent after.now.state.now
+        after.now.fired)) Never (output_between O.written O.faults out.old out.new) result }
+
+    ensures same_writes { UnlessUnwritten result (O.faults out.new ≡ O.faults out.old) }
 {
     let latches = plan.latches();
     let rooms = Rooms::of(alloc, latches, after)?;

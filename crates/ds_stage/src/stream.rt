@@ -1,7 +1,7 @@
 //! Vectors read window by window.
 ghost use Rattle.std.specs.Prelude.{◌≡◌, ◌≤◌, ℕ, List, IfOk, MatchResult};
 ghost use Rattle.ds_stream.specs.Next.{FitsHeld, GivesHeld, IsBehind};
-ghost use Rattle.ds_stage.specs.Ends.{RoseIn};
+ghost use Rattle.ds_stage.specs.Ends.{RoseIn, UnlessUnread};
 ghost use Rattle.ds_stage.specs.StreamStage.{most_vectors as most_vectors_of};
 ghost use Rattle.ds_stage.specs.StreamStage.{stream_text as stream_text_of};
 ghost use Rattle.ds_stage.specs.StreamStops.{StopsWindow};
@@ -48,6 +48,7 @@ pub fn read_window<F: Files>(
     ensures width { IfOk result (λ r. r.1.width ≡ reader.width) }
 
     ensures same_held { F.held files.new ≡ F.held files.old }
+    ensures same_reads { UnlessUnread result (F.faults files.new ≡ F.faults files.old) }
     ensures never_falls { (w : _) (n : List ℕ) → F.faults files.old w n ≤ F.faults files.new w n }
 {
     match reader.next(alloc, files, name, WINDOW) {

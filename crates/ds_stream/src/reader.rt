@@ -134,6 +134,8 @@ impl VectorReader {
         ensures width { IfOk result (λ r. r.1.width ≡ self.width) }
 
         ensures same_held { F.held files.new ≡ F.held files.old }
+        ensures same_faults { result ≢ Err NextFault.Read
+            → F.faults files.new ≡ F.faults files.old }
         ensures never_falls { (w : _) (n : List ℕ)
             → F.faults files.old w n ≤ F.faults files.new w n }
         ensures other_kinds { (w : _) (n : List ℕ) → w ≢ Which.Vectors

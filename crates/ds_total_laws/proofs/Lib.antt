@@ -1,3 +1,4 @@
+pub mod Absent
 pub mod Decided
 pub mod StreamDecided
 pub mod Netlists

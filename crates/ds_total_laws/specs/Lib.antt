@@ -1,5 +1,6 @@
 -- In the order in which to read.
 pub mod There
+pub mod Absent
 pub mod Decided
 pub mod Statuses
 pub mod Periods

@@ -2,7 +2,8 @@
 //! that does nothing. Where all files of a job are there and tell what they hold, its stages mean
 //! some text, or refuse with some line: no job is without an answer. So the status of a call is
 //! told, none of whose reads and writes failed: its text is written, or a line refuses it, or it
-//! wants memory. And what `period` prints is one text but for the line of the cycle.
+//! wants memory. Where a file is not there, the status is 3 or 4, or a line refuses what stands
+//! before it. And what `period` prints is one text but for the line of the cycle.
 //!
 //! `specs/There` says which files a job names, and when they are there: they have bytes;
 //! `specs/Decided` says what is decided. `proofs/EachJob` puts the law together, stage by stage,
@@ -10,10 +11,12 @@
 //! stage does both is the law `jobs_are_exclusive` of `ds_app`.
 #![tactic(auto)]
 
+mod absent;
 mod jobs;
 mod periods;
 mod statuses;
 
+pub use absent::absent_files_are_unread;
 pub use jobs::jobs_are_decided;
 pub use periods::{one_period_text, periods_have_one_text};
 pub use statuses::statuses_are_told;

@@ -18,5 +18,5 @@ mod trial;
 
 pub use made::{chain, tangle};
 pub use script::{play, play_behind};
-pub use texts::{GRAPH, RANKS, RING, SHIFT, TOGGLE};
+pub use texts::{EXPANSION, GRAPH, RANKS, RING, SHIFT, TOGGLE};
 pub use trial::{Wanted, files, gives, is_refused, printed};

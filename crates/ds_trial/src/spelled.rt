@@ -1,5 +1,5 @@
 //! Scripts whose parts name the texts with which they begin, spelled out.
-use crate::texts::{FURTHER, GRAPH, RANKS, RING, SHIFT, TOGGLE};
+use crate::texts::{EXPANSION, FURTHER, GRAPH, RANKS, RING, SHIFT, TOGGLE};
 use std::alloc::{AllocError, Global};
 
 /// A script in which each part that names a file behind `<` has the text of the file, behind parts
@@ -10,7 +10,7 @@ pub fn spelled_out(alloc: Global, before: &str, script: &str) -> Result<String, 
     for piece in ["%toggle\n", TOGGLE, "%graph\n", GRAPH, "%ranks\n", RANKS] {
         all.push_str(piece)?;
     }
-    for piece in ["%ring\n", RING, "%shift\n", SHIFT] {
+    for piece in ["%toggled\n", EXPANSION, "%ring\n", RING, "%shift\n", SHIFT] {
         all.push_str(piece)?;
     }
     for part in before.split('%') {

@@ -4,7 +4,9 @@ From left to right it has a box for each cluster of registers, with the cells M 
 and its slave, and an arrow for each data edge whose two orders stand there as arcs, or go through
 signals that are no nodes, and then it has their names: what a node takes when it opens. Where a
 graph gives them by walks through nodes alone the arrow is missing, and --orders shows what is
-there. With --net a box has the names of the registers too. From the top of the repository:
+there. With --net a box has the names of the registers too: three or more clusters whose names
+differ in one number, and that have the same producers and consumers, are one box, as rf[0..31],
+unless --apart is there. From the top of the repository:
 
     desync graph examples/pipeline.blif --clusters bus > pipeline.g
     tools/g2dot pipeline.g --net examples/pipeline.blif --clusters bus | dot -Tsvg > pipeline.svg
@@ -23,6 +25,7 @@ from typing import Iterator, Optional
 from desync_tools.clusters import clusters, take_mode
 from desync_tools.command import Parser, parser, put
 from desync_tools.graphs import EVENT, NODE, Graph, Pair, read_graph
+from desync_tools.groups import grouped, spans
 from desync_tools.netlist import Netlist, read_netlist
 from desync_tools.text import BadText, shown, text_of
 
@@ -103,9 +106,11 @@ def first_ways(edges: list[Pair]) -> set[Pair]:
     return ways
 
 
-def data(graph: Graph, heads: dict[str, str]) -> Iterator[str]:
+def data(graph: Graph, heads: dict[str, str], is_apart: bool) -> Iterator[str]:
     """The picture of the clusters and the data edges; of many, few say where the boxes stand."""
-    names = {pair: names for pair, names in graph.data_edges() if pair[0][0] != "M"}
+    found = {pair: names for pair, names in graph.data_edges() if pair[0][0] != "M"}
+    groups = grouped([] if is_apart else list(found), heads)
+    names = named_edges(found, groups)
     edges = sorted(names)
     ways = set(edges) if len(edges) <= MANY else first_ways(edges)
     yield "digraph %s {" % quoted(graph.name)
@@ -119,14 +124,27 @@ def data(graph: Graph, heads: dict[str, str]) -> Iterator[str]:
     for node in ("IN", "OUT"):
         yield '  %s [shape=cds style=filled fillcolor="#d9ead3" margin="0.15,0.08"];' % node
     yield "  {rank=source; IN} {rank=sink; OUT}"
-    for number, head in heads.items():
-        yield table("C" + number, head, "".join(cell % number for cell in CELLS))
+    for first, numbers in groups.items():
+        head = spans([heads[number] for number in numbers])
+        yield table("C" + first, head, "".join(cell % spans(numbers) for cell in CELLS))
     for source, target in edges:
         looks = [] if (source, target) in ways else ["constraint=false"]
         if names[source, target]:
             looks.append("fontsize=9 label=%s" % quoted(" ".join(names[source, target])))
         yield "  %s -> %s%s;" % (at(source, "e"), at(target, "w"), bracketed(looks))
     yield "}"
+
+
+def named_edges(
+    found: dict[Pair, list[str]], groups: dict[str, list[str]]
+) -> dict[Pair, list[str]]:
+    """The arrows between the boxes, with the names of the signals on each."""
+    first = {number: one for one, numbers in groups.items() for number in numbers}
+    names: dict[Pair, list[str]] = {}
+    for pair, some in found.items():
+        source, target = (node[0] + first[node[1:]] if node[0] in "MS" else node for node in pair)
+        names.setdefault((source, target), []).extend(some)
+    return names
 
 
 def bracketed(looks: list[str]) -> str:
@@ -186,6 +204,8 @@ def words(name: str) -> Parser:
     taken.add_argument("--net", metavar="NET", help="the netlist, for the names of registers")
     take_mode(taken)
     taken.add_argument("--orders", action="store_true", help="events and orders")
+    says = "draw each cluster by itself"
+    taken.add_argument("--apart", action="store_true", help=says)
     says = "with --orders: leave the two orders between the events of one node out"
     taken.add_argument("--hide-own", action="store_true", help=says)
     return taken
@@ -197,7 +217,11 @@ def main(argv: list[str]) -> int:
     if asked.hide_own and not asked.orders:
         taken.error("--hide-own goes with --orders")
     graph = read_graph(text_of(asked.graph))
+    if not asked.orders and not any(map(NODE.match, graph.nodes)):
+        raise BadText("the graph has no nodes of a netlist: --orders shows its events")
     heads = titles(graph, None if asked.net is None else read_netlist(asked.net), asked.clusters)
-    lines = orders(graph, heads, asked.hide_own) if asked.orders else data(graph, heads)
+    lines = (
+        orders(graph, heads, asked.hide_own) if asked.orders else data(graph, heads, asked.apart)
+    )
     put("utf-8", map(shown, lines))
     return 0

@@ -1,9 +1,10 @@
 """Prints a trace as a table, a column a bus, with the names of the netlist.
 
-It reads the trace from a file or, where none is named, from the standard input. A row is a turn:
-the columns of the vectors where --vectors names them, the outputs, and the registers before it. The
-last row has the registers after the last turn, and `-` for what is not known then. A digit of which
-some bits are `x` is `X`, and `x` where all are.
+It reads the trace from a file or, where none is named, from the standard input. The first row says
+which part is which, the second has the names. Each further row is a turn: the columns of the
+vectors where --vectors names them, the outputs, and the registers before it. The last row has the
+registers after the last turn, and `-` for what is not known then. A digit of which some bits are
+`x` is `X`, and `x` where all are.
 """
 
 from __future__ import annotations
@@ -20,6 +21,7 @@ from desync_tools.text import BadText, as_bytes, shown, text_of
 from desync_tools.traces import fitting, vectors_beside
 
 RADIX = {"x": 4, "b": 1}
+TITLES = ["", "outputs", "registers"]
 # A line: the cells of each part. A row: the values of each part, where they are known.
 Line = list[list[str]]
 Row = tuple[Optional[str], ...]
@@ -71,10 +73,16 @@ def lines_of(parts: list[Part], rows: list[Row]) -> Iterator[Line]:
         yield [[name]] + [part.cells(values) for part, values in zip(parts, row)]
 
 
-def set_out(lines: list[Line]) -> Iterator[str]:
-    """The lines with cells one below another, and a bar between parts."""
-    lines = [[cells for cells in line if cells] for line in lines]
+def set_out(titles: list[str], lines: list[Line]) -> Iterator[str]:
+    """The lines with cells one below another, a bar between parts, and the titles of the parts."""
+    kept = [place for place, cells in enumerate(lines[0]) if cells]
+    lines = [[line[place] for place in kept] for line in lines]
     sizes = [[max(map(len, cells)) for cells in zip(*part)] for part in zip(*lines)]
+    heads = [titles[place] for place in kept]
+    for head, widths in zip(heads, sizes):
+        widths[0] += max(0, len(head) - sum(widths) - len(widths) + 1)
+    wide = [sum(widths) + len(widths) - 1 for widths in sizes]
+    yield " | ".join(head.ljust(size) for head, size in zip(heads, wide)).rstrip()
     for line in lines:
         yield " | ".join(
             " ".join(cell.rjust(size) for cell, size in zip(cells, widths))
@@ -122,5 +130,6 @@ def main(argv: list[str]) -> int:
         sys.set_int_max_str_digits(0)
     parts, rows = asked_for(asked, read_netlist(asked.netlist))
     lines = lines_of(checked(parts, asked.only), rows)
-    put("utf-8", set_out(list(lines)))
+    titles = TITLES if len(parts) < len(TITLES) else ["", "vectors", *TITLES[1:]]
+    put("utf-8", set_out(titles, list(lines)))
     return 0

@@ -6,7 +6,8 @@ registers of the `end` line stand at the time after the last turn, where the out
 With --vectors the columns are there too. A value is `0`, `1` or `x`, there as in the trace.
 
 Bits of one bus that stand beside one another are one variable, the first of them its rightmost bit:
-`q[0] q[1]` is `q [1:0]`, and `q[1] q[0]` is `q [0:1]`.
+`q[0] q[1]` is `q [1:0]`, and `q[1] q[0]` is `q [0:1]`. A dot in a name opens a scope: `u5.f.a` is
+the variable `a` of the scope `f` in the scope `u5`.
 """
 
 from __future__ import annotations
@@ -38,6 +39,41 @@ def shown(name: str) -> str:
     return "\\" + name if name.startswith("$") else name
 
 
+def path_of(name: str) -> list[str]:
+    """The parts of a name between dots; a name with an empty part is one."""
+    parts = name.split(".")
+    return parts if all(parts) else [name]
+
+
+class Part:
+    """A scope as it is declared: its variables, and the scopes in it by their names."""
+
+    def __init__(self, name: str) -> None:
+        self.name = name
+        self.variables: list[str] = []
+        self.parts: dict[str, Part] = {}
+
+    def part_at(self, path: list[str]) -> Part:
+        """The scope at the end of a path."""
+        found = self
+        for name in path:
+            found = found.parts.setdefault(name, Part(name))
+        return found
+
+    def declared(self) -> Iterator[str]:
+        """The lines that declare it, with what is in it; they may be nested deeply."""
+        waiting: list[tuple[Part, bool]] = [(self, False)]
+        while waiting:
+            part, is_declared = waiting.pop()
+            if is_declared:
+                yield "$upscope $end"
+                continue
+            yield "$scope module %s $end" % shown(part.name)
+            yield from part.variables
+            waiting.append((part, True))
+            waiting.extend((one, False) for one in reversed(list(part.parts.values())))
+
+
 class Scope:
     """The variables of some nets, their codes, and the row that was seen last."""
 
@@ -63,11 +99,13 @@ class Scope:
 
     def declared(self) -> Iterator[str]:
         """The lines that declare it."""
-        yield "$scope module %s $end" % self.name
+        whole = Part(self.name)
         for bus, own in zip(self.buses, self.codes):
+            *path, name = path_of(bus.name)
             span = " " + bus.span() if bus.span() else ""
-            yield "$var wire %d %s %s%s $end" % (bus.width, own, shown(bus.name), span)
-        yield "$upscope $end"
+            line = "$var wire %d %s %s%s $end" % (bus.width, own, shown(name), span)
+            whole.part_at(path).variables.append(line)
+        yield from whole.declared()
 
     def changes(self, new: str) -> list[str]:
         """The variables whose values are not as they were."""

@@ -6,7 +6,7 @@
 const find = name => document.getElementById(name);
 const isRegister = node => node !== "IN" && node !== "OUT";
 const ahead = edge => Number(edge[0][0] === "S");
-const HALF = 42, TALL = 19, UNIT = 18, RAIL = 26, NAMES = 150, LINE = 18, BESIDE = 120, MANY = 2000;
+const HALF = 42, TALL = 19, UNIT = 18, RAIL = 26, NAMES = 150, LINE = 18, BESIDE = 120, MANY = 2000, LEAST = 0.55;
 
 const page = {
   log: told.log, at: 0, timer: null, out: null, known: null, address: null,
@@ -166,7 +166,8 @@ function marker(svg) {
 }
 
 function picture() {
-  const svg = drawn("svg", {width: told.size[0], height: told.size[1]});
+  const [width, height] = told.size;
+  const svg = page.svg = drawn("svg", {viewBox: `0 0 ${width} ${height}`});
   marker(svg);
   page.edges = told.edges.map((edge, number) => {
     return {edge, way: route(told.places[edge[0]], told.places[edge[1]], number % 3 * 5)};
@@ -174,16 +175,35 @@ function picture() {
   page.pieces = pieces(page.edges.map(one => one.way));
   page.lines = put(svg, "g", {});
   page.missing = put(svg, "g", {});
+  page.touched = put(svg, "g", {});
   extraOrders().forEach(arc => extraDrawn(svg, arc));
   page.dots = put(svg, "g", {});
   page.boxes = new Map(told.nodes.map(node => [node, boxDrawn(svg, node)]));
   for (const node of told.nodes) titleDrawn(svg, node);
   find("net").replaceChildren(svg);
+  sized();
+}
+
+// The picture fits the page where its texts can still be read then; else it is as large as it was
+// made, and the reader scrolls.
+function sized() {
+  const [width, height] = told.size, room = find("net").clientWidth;
+  page.scale = find("fit").checked && room < width ? Math.max(LEAST, room / width) : 1;
+  page.svg.setAttribute("width", width * page.scale);
+  page.svg.setAttribute("height", height * page.scale);
+}
+
+// The arrows of a node, while the reader points at it.
+function touched(node) {
+  const some = node ? page.edges.filter(({edge}) => edge.includes(node)) : [];
+  page.touched.replaceChildren(...some.map(({edge, way}) => drawn("path",
+    {d: whole(way), class: edge[1] === node ? "edge takes" : "edge gives"})));
 }
 
 // What of the picture stands in view, and a little beside it.
 function inView() {
-  const left = find("net").scrollLeft - BESIDE, right = left + find("net").clientWidth + 2 * BESIDE;
+  const net = find("net"), left = net.scrollLeft / page.scale - BESIDE;
+  const right = left + net.clientWidth / page.scale + 2 * BESIDE;
   return one => one.left <= right && left <= one.right;
 }
 
@@ -229,7 +249,10 @@ function boxDrawn(svg, node) {
   const head = put(group, "text", {x, y: y - 5});
   const value = put(group, "text", {x, y: y + 11, class: "value"});
   group.onclick = () => clicked(node);
-  group.onpointerenter = () => tipShown(node);
+  group.onpointerenter = () => { tipShown(node); touched(node); };
+  group.onpointerleave = () => touched(null);
+  group.onfocus = () => touched(node);
+  group.onblur = () => touched(null);
   group.onkeydown = key => { if (key.key === "Enter") clicked(node); };
   return {group, tip, box, head, value};
 }
@@ -503,7 +526,8 @@ function begin() {
   window.onhashchange = () => go(Number(location.hash.slice(1)) || 0);
   find("net").onscroll = once(() => { showLines(); showDots(counts()); });
   find("wave").onscroll = once(showWaves);
-  window.onresize = once(() => { showLines(); showDots(counts()); showWaves(); showLog(); });
+  find("fit").onchange = () => { sized(); showLines(); showDots(counts()); };
+  window.onresize = once(() => { sized(); showLines(); showDots(counts()); showWaves(); showLog(); });
   page.waves = drawn("svg", {});
   find("wave").replaceChildren(page.waves);
   picture();

@@ -17,7 +17,7 @@ returns-in-Ok g c =
       err = output_between g.E.Sink.written g.E.Sink.faults c.args.err.now c.say_end.new.err;
     } in
     let is = c.in-Ok.ensures.value in
-    let answered = answered_end call c.in-Ok.job c.do_job-ended.result c.say_end.result is c.do_job-ended.ensures.value c.say_end.ensures in
+    let answered = answered_end call c.in-Ok.job c.do_job-ended.result c.say_end.result is c.do_job-ended.ensures.value c.do_job-ended.ensures.same_reads c.do_job-ended.ensures.same_writes c.say_end.ensures in
     record {
       answered = answered;
       nothing_read = λ two. let ((fault, faulty), reported) = answered.no_line two in absurd (no_fault call.words c.in-Ok.job fault is faulty);
@@ -36,7 +36,7 @@ returns-in-Err g c =
       err = output_between g.E.Sink.written g.E.Sink.faults c.args.err.now c.say_usage.new.err;
     } in
     record {
-      answered = answered_words call c.in-Err.fault c.say_usage.result c.in-Err.ensures.value refl c.say_usage.ensures;
+      answered = answered_words call c.in-Err.fault c.say_usage.result c.in-Err.ensures.value refl refl refl c.say_usage.ensures;
       nothing_read = λ two. refl;
       same_held = refl;
       interleavings = interleavings_lem (g.F.Files.held c.args.files.now) (map (λ (w : Bor (List ℕ)). w.now) c.args.words.now);

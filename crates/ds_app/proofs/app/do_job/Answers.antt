@@ -5,6 +5,7 @@ use Rattle.ds_stage.specs.Stage.{OfFile}
 use Rattle.ds_app.specs.DemoStage.{IsSummary}
 use Rattle.ds_stage.specs.Ends.{Output, RoseIn, output_between}
 use Rattle.ds_stage.proofs.Ends.{gives_more}
+use Rattle.ds_stage.proofs.Counts.{well_read}
 use Rattle.ds_app.proofs.app.do_job.Goals as goal
 
 pub returns-in-Run-clause-value : goal.returns-in-Run-clause-value
@@ -64,7 +65,7 @@ returns-in-Demo-clause-value g c =
     let more : OfFile = RoseIn (g.F.Files.faults c.args.files.now) (g.F.Files.faults c.args.files.now) in
     let out : Output = (output_between g.O.Sink.written g.O.Sink.faults c.args.out.now c.demo.new.out) in
     let summary : List ℕ → Type 0 = IsSummary c.in-Demo.job.seed c.in-Demo.job.registers c.in-Demo.job.turns in
-    rw c.in-Demo.is (gives_more summary summary more out (λ text is. is) c.demo.result c.demo.ensures)
+    rw c.in-Demo.is (gives_more summary summary more out (λ text is. is) c.demo.result c.demo.ensures.value)
 
 pub returns-in-Run-clause-same_held : goal.returns-in-Run-clause-same_held
 returns-in-Run-clause-same_held g c = c.run.ensures.same_held
@@ -89,3 +90,51 @@ returns-in-Period-clause-same_held g c = c.period.ensures.same_held
 
 pub returns-in-Demo-clause-same_held : goal.returns-in-Demo-clause-same_held
 returns-in-Demo-clause-same_held g c = refl
+
+pub returns-in-Run-clause-same_reads : goal.returns-in-Run-clause-same_reads
+returns-in-Run-clause-same_reads g c = c.run.ensures.same_reads
+
+pub returns-in-Run-clause-same_writes : goal.returns-in-Run-clause-same_writes
+returns-in-Run-clause-same_writes g c = c.run.ensures.same_writes
+
+pub returns-in-Clock-clause-same_reads : goal.returns-in-Clock-clause-same_reads
+returns-in-Clock-clause-same_reads g c = c.clock.ensures.same_reads
+
+pub returns-in-Clock-clause-same_writes : goal.returns-in-Clock-clause-same_writes
+returns-in-Clock-clause-same_writes g c = c.clock.ensures.same_writes
+
+pub returns-in-Check-clause-same_reads : goal.returns-in-Check-clause-same_reads
+returns-in-Check-clause-same_reads g c = c.check.ensures.same_reads
+
+pub returns-in-Check-clause-same_writes : goal.returns-in-Check-clause-same_writes
+returns-in-Check-clause-same_writes g c = c.check.ensures.same_writes
+
+pub returns-in-Graph-clause-same_reads : goal.returns-in-Graph-clause-same_reads
+returns-in-Graph-clause-same_reads g c = c.graph.ensures.same_reads
+
+pub returns-in-Graph-clause-same_writes : goal.returns-in-Graph-clause-same_writes
+returns-in-Graph-clause-same_writes g c = c.graph.ensures.same_writes
+
+pub returns-in-Replay-clause-same_reads : goal.returns-in-Replay-clause-same_reads
+returns-in-Replay-clause-same_reads g c = c.replay.ensures.same_reads
+
+pub returns-in-Replay-clause-same_writes : goal.returns-in-Replay-clause-same_writes
+returns-in-Replay-clause-same_writes g c = c.replay.ensures.same_writes
+
+pub returns-in-Accept-clause-same_reads : goal.returns-in-Accept-clause-same_reads
+returns-in-Accept-clause-same_reads g c = c.accept.ensures.same_reads
+
+pub returns-in-Accept-clause-same_writes : goal.returns-in-Accept-clause-same_writes
+returns-in-Accept-clause-same_writes g c = c.accept.ensures.same_writes
+
+pub returns-in-Period-clause-same_reads : goal.returns-in-Period-clause-same_reads
+returns-in-Period-clause-same_reads g c = c.period.ensures.same_reads
+
+pub returns-in-Period-clause-same_writes : goal.returns-in-Period-clause-same_writes
+returns-in-Period-clause-same_writes g c = c.period.ensures.same_writes
+
+pub returns-in-Demo-clause-same_reads : goal.returns-in-Demo-clause-same_reads
+returns-in-Demo-clause-same_reads g c = well_read c.demo.result refl
+
+pub returns-in-Demo-clause-same_writes : goal.returns-in-Demo-clause-same_writes
+returns-in-Demo-clause-same_writes g c = c.demo.ensures.same_writes

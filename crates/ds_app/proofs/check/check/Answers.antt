@@ -8,6 +8,7 @@ use Rattle.ds_stage.specs.Ends.{Ends, Never, Output, RoseIn, output_between}
 use Rattle.ds_stage.proofs.Stages.{stopped}
 use Rattle.ds_stage.proofs.Ends.{ended, ends_after, ends_more}
 use Rattle.ds_app.proofs.LeftAlone.{check_nothing, report_nothing}
+use Rattle.ds_stage.proofs.Counts.{unwritten_or, well_read}
 use Rattle.ds_app.proofs.check.check.Goals as goal
 
 pub returns-in_err-netlist-clause-value : goal.returns-in_err-netlist-clause-value
@@ -30,10 +31,26 @@ returns-clause-value g c =
     let out : Output = (output_between g.O.Sink.written g.O.Sink.faults c.args.out.now c.write_report.new.out) in
     subst (λ (n : List ℕ). Ends {A = Unit {0}} (then_stage (netlist_stage held n) report_stage) more out c.write_report.result) c.as_str.ensures
     (ends_after (netlist_stage held net) report_stage more out circuit c.in_ok-netlist.ensures.value c.write_report.result
-    (ends_more (report_stage circuit) Never more out (report_nothing circuit) (λ line none. absurd none) c.write_report.result c.write_report.ensures))
+    (ends_more (report_stage circuit) Never more out (report_nothing circuit) (λ line none. absurd none) c.write_report.result c.write_report.ensures.value))
 
 pub returns-in_err-netlist-clause-same_held : goal.returns-in_err-netlist-clause-same_held
 returns-in_err-netlist-clause-same_held g c = c.in_err-netlist.ensures.same_held
 
 pub returns-clause-same_held : goal.returns-clause-same_held
 returns-clause-same_held g c = c.in_ok-netlist.ensures.same_held
+
+pub returns-in_err-netlist-clause-same_reads : goal.returns-in_err-netlist-clause-same_reads
+returns-in_err-netlist-clause-same_reads g c =
+    let p = err_from_is_err_and c.from_residual.result c.from_residual.ensures.1 in
+    rw (p.1, p.2) (c.in_err-netlist.ensures.same_reads)
+
+pub returns-in_err-netlist-clause-same_writes : goal.returns-in_err-netlist-clause-same_writes
+returns-in_err-netlist-clause-same_writes g c =
+    let p = err_from_is_err_and c.from_residual.result c.from_residual.ensures.1 in
+    rw (p.1, p.2) (unwritten_or c.in_err-netlist.field-0.0 refl)
+
+pub returns-clause-same_reads : goal.returns-clause-same_reads
+returns-clause-same_reads g c = well_read c.write_report.result c.in_ok-netlist.ensures.same_reads
+
+pub returns-clause-same_writes : goal.returns-clause-same_writes
+returns-clause-same_writes g c = c.write_report.ensures.same_writes

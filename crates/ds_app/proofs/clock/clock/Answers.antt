@@ -13,6 +13,8 @@ use Rattle.ds_stage.proofs.Ends.{ended_first, ends_after}
 use Rattle.ds_stage.proofs.Left.{netlist_nothing}
 use Rattle.ds_stage.proofs.Streamed.{streamed_since}
 use Rattle.ds_app.proofs.Lent.{clock_ends}
+use Rattle.ds_stage.proofs.Counts.{unwritten_or}
+use Rattle.ds_app.proofs.Since.{well_read_since}
 use Rattle.ds_app.proofs.clock.clock.Goals as goal
 
 pub returns-in_err-netlist-clause-value : goal.returns-in_err-netlist-clause-value
@@ -46,3 +48,19 @@ returns-in_err-netlist-clause-same_held g c = c.in_err-netlist.ensures.same_held
 
 pub returns-clause-same_held : goal.returns-clause-same_held
 returns-clause-same_held g c = c.write_clocked.ensures.same_held ∙ c.in_ok-netlist.ensures.same_held
+
+pub returns-in_err-netlist-clause-same_reads : goal.returns-in_err-netlist-clause-same_reads
+returns-in_err-netlist-clause-same_reads g c =
+    let p = err_from_is_err_and c.from_residual.result c.from_residual.ensures.1 in
+    rw (p.1, p.2) (c.in_err-netlist.ensures.same_reads)
+
+pub returns-in_err-netlist-clause-same_writes : goal.returns-in_err-netlist-clause-same_writes
+returns-in_err-netlist-clause-same_writes g c =
+    let p = err_from_is_err_and c.from_residual.result c.from_residual.ensures.1 in
+    rw (p.1, p.2) (unwritten_or c.in_err-netlist.field-0.0 refl)
+
+pub returns-clause-same_reads : goal.returns-clause-same_reads
+returns-clause-same_reads g c = well_read_since c.write_clocked.result c.in_ok-netlist.ensures.same_reads c.write_clocked.ensures.same_reads
+
+pub returns-clause-same_writes : goal.returns-clause-same_writes
+returns-clause-same_writes g c = c.write_clocked.ensures.same_writes

@@ -16,6 +16,8 @@ use Rattle.ds_app.proofs.RunEnds.{few_vectors}
 use Rattle.ds_app.proofs.WindowEnds.{is_there, more_here, state_long, stops_here}
 use Rattle.ds_stage.proofs.Ends.{rose_since}
 use Rattle.ds_stream.specs.Next.{FitsHeld}
+use Rattle.ds_stage.proofs.Counts.{unwritten_or}
+use Rattle.ds_app.proofs.Since.{unread_since}
 use Rattle.ds_app.proofs.clock.write_clocked.Goals as goal
 
 pub new-reader-requires : goal.new-reader-requires
@@ -29,6 +31,8 @@ windows-init g c =
     let is = c.new-reader.ensures.value in
     record {
       same_held = refl;
+      same_reads = refl;
+      same_writes = refl;
       never_falls = λ w n. omega arith;
       never_fell = omega arith;
       fits = c.new-reader.ensures.fits (held c.args.vec.now);
@@ -123,6 +127,8 @@ windows-preserved g c =
     let most_is = read.behind.most ∙ kept.of.most_is in
     record {
       same_held = same;
+      same_reads = read.same_reads ∙ kept.same_reads;
+      same_writes = c.in-Ok.ensures.same_faults (λ failed. cc) ∙ kept.same_writes;
       never_falls = λ w n. omega (arith, kept.never_falls w n, read.never_falls w n);
       never_fell = omega (arith, kept.never_fell, c.in-Ok.ensures.never_falls);
       fits = subst (λ (h : List ℕ → Held). FitsHeld (h vec) c.in_ok-behind.behind) same read.fits;
@@ -162,3 +168,47 @@ returns-clause-value g c =
     ends_part held vec circuit failed out (g.O.Sink.written c.windows.out) c.windows.first rows c.windows.state
     (subst (λ (b : Bool). GivenOf (held vec) circuit 4294967295 c.windows.first b rows) c.windows-test.false is) written c.in-Err.ensures.err
     (rose_since (g.O.Sink.faults c.args.out.now) (g.O.Sink.faults c.windows.out) (g.O.Sink.faults c.end_line.new.out) kept.never_fell c.in-Err.ensures.cause)
+
+pub returns-in_err-state-clause-same_reads : goal.returns-in_err-state-clause-same_reads
+returns-in_err-state-clause-same_reads g c =
+    let p = err_from_is_err_and c.from_residual.result c.from_residual.ensures.1 in
+    rw (p.1, p.2) (tt)
+
+pub returns-in_err-state-clause-same_writes : goal.returns-in_err-state-clause-same_writes
+returns-in_err-state-clause-same_writes g c =
+    let p = err_from_is_err_and c.from_residual.result c.from_residual.ensures.1 in
+    rw (p.1, p.2) (refl)
+
+pub returns-in_err-behind-clause-same_reads : goal.returns-in_err-behind-clause-same_reads
+returns-in_err-behind-clause-same_reads g c =
+    let p = err_from_is_err_and c.from_residual-in_err-behind.result c.from_residual-in_err-behind.ensures.1 in
+    rw (p.1, p.2) (unread_since c.in_err-behind.field-0.0 c.windows.invariant.same_reads c.in_err-behind.ensures.same_reads)
+
+pub returns-in_err-behind-clause-same_writes : goal.returns-in_err-behind-clause-same_writes
+returns-in_err-behind-clause-same_writes g c =
+    let p = err_from_is_err_and c.from_residual-in_err-behind.result c.from_residual-in_err-behind.ensures.1 in
+    rw (p.1, p.2) (unwritten_or c.in_err-behind.field-0.0 c.windows.invariant.same_writes)
+
+pub returns-in-Err-Write-clause-same_reads : goal.returns-in-Err-Write-clause-same_reads
+returns-in-Err-Write-clause-same_reads g c = c.in_ok-behind.ensures.same_reads ∙ c.windows.invariant.same_reads
+
+pub returns-in-Err-Write-clause-same_writes : goal.returns-in-Err-Write-clause-same_writes
+returns-in-Err-Write-clause-same_writes g c = tt
+
+pub returns-in-Err-Memory-clause-same_reads : goal.returns-in-Err-Memory-clause-same_reads
+returns-in-Err-Memory-clause-same_reads g c = tt
+
+pub returns-in-Err-Memory-clause-same_writes : goal.returns-in-Err-Memory-clause-same_writes
+returns-in-Err-Memory-clause-same_writes g c = c.in-Err-Memory.ensures.same_faults (λ failed. let is = c.in-Err-Memory.field-0-is in cc) ∙ c.windows.invariant.same_writes
+
+pub returns-in-Ok-end_line-clause-same_reads : goal.returns-in-Ok-end_line-clause-same_reads
+returns-in-Ok-end_line-clause-same_reads g c = c.windows.invariant.same_reads
+
+pub returns-in-Ok-end_line-clause-same_writes : goal.returns-in-Ok-end_line-clause-same_writes
+returns-in-Ok-end_line-clause-same_writes g c = c.in-Ok-end_line.ensures.ok_same ∙ c.windows.invariant.same_writes
+
+pub returns-clause-same_reads : goal.returns-clause-same_reads
+returns-clause-same_reads g c = c.windows.invariant.same_reads
+
+pub returns-clause-same_writes : goal.returns-clause-same_writes
+returns-clause-same_writes g c = tt

@@ -17,6 +17,7 @@ use Rattle.ds_stage.proofs.Left.{controller_nothing}
 use Rattle.ds_app.proofs.LeftAlone.{graph_nothing}
 use Rattle.ds_app.proofs.Lent.{graph_ends}
 use Rattle.ds_stage.proofs.Expansions.{controller_says}
+use Rattle.ds_stage.proofs.Counts.{unread_or, unwritten_or, well_read}
 use Rattle.ds_app.proofs.graph.graph.Goals as goal
 
 pub returns-in_err-netlist-clause-value : goal.returns-in_err-netlist-clause-value
@@ -56,7 +57,7 @@ returns-clause-value g c =
     let wanted : Split = slackened latches job.slack in
     let out : Output = (output_between g.O.Sink.written g.O.Sink.faults c.args.out.now c.draw.new.out) in
     let drawn : Ends (controller_stage job.net job.shake wanted) Never out c.draw.result =
-    subst (λ (s : Split). Ends (controller_stage job.net job.shake s) Never out c.draw.result) c.with_slack.ensures c.draw.ensures in
+    subst (λ (s : Split). Ends (controller_stage job.net job.shake s) Never out c.draw.result) c.with_slack.ensures c.draw.ensures.value in
     let last : Ends (controller_stage job.net job.shake wanted) more out c.draw.result =
     ends_more (controller_stage job.net job.shake wanted) Never more out (controller_nothing job.net job.shake wanted) (λ line unread. absurd (controller_says job.net job.shake Never wanted line unread).is) c.draw.result drawn in
     graph_ends held more out c.draw.result c.args.job.now _ c.as_str-net.ensures
@@ -71,3 +72,29 @@ returns-in_err-latches-clause-same_held g c = c.in_ok-netlist.ensures.same_held
 
 pub returns-clause-same_held : goal.returns-clause-same_held
 returns-clause-same_held g c = c.in_ok-netlist.ensures.same_held
+
+pub returns-in_err-netlist-clause-same_reads : goal.returns-in_err-netlist-clause-same_reads
+returns-in_err-netlist-clause-same_reads g c =
+    let p = err_from_is_err_and c.from_residual.result c.from_residual.ensures.1 in
+    rw (p.1, p.2) (c.in_err-netlist.ensures.same_reads)
+
+pub returns-in_err-netlist-clause-same_writes : goal.returns-in_err-netlist-clause-same_writes
+returns-in_err-netlist-clause-same_writes g c =
+    let p = err_from_is_err_and c.from_residual.result c.from_residual.ensures.1 in
+    rw (p.1, p.2) (unwritten_or c.in_err-netlist.field-0.0 refl)
+
+pub returns-in_err-latches-clause-same_reads : goal.returns-in_err-latches-clause-same_reads
+returns-in_err-latches-clause-same_reads g c =
+    let p = err_from_is_err_and c.from_residual-in_err-latches.result c.from_residual-in_err-latches.ensures.1 in
+    rw (p.1, p.2) (unread_or c.in_err-latches.field-0.0 c.in_ok-netlist.ensures.same_reads)
+
+pub returns-in_err-latches-clause-same_writes : goal.returns-in_err-latches-clause-same_writes
+returns-in_err-latches-clause-same_writes g c =
+    let p = err_from_is_err_and c.from_residual-in_err-latches.result c.from_residual-in_err-latches.ensures.1 in
+    rw (p.1, p.2) (unwritten_or c.in_err-latches.field-0.0 refl)
+
+pub returns-clause-same_reads : goal.returns-clause-same_reads
+returns-clause-same_reads g c = well_read c.draw.result c.in_ok-netlist.ensures.same_reads
+
+pub returns-clause-same_writes : goal.returns-clause-same_writes
+returns-clause-same_writes g c = c.draw.ensures.same_writes

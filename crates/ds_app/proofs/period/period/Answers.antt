@@ -1,4 +1,4 @@
-use Rattle.std.proofs.Common.{◌≡◌, ℕ, List, Err, refl, subst, sym}
+use Rattle.std.proofs.Common.{◌≡◌, ◌∙◌, ℕ, List, Err, refl, subst, sym}
 use Rattle.std.proofs.lemmas.Result.{err_from_is_err_and}
 use Rattle.ds_outside.specs.Held.{Held}
 use Rattle.ds_outside.specs.declared.files.Which.{Which}
@@ -12,6 +12,8 @@ use Rattle.ds_stage.proofs.PeriodStages.{timed_since}
 use Rattle.ds_app.proofs.Lent.{period_ends}
 use Rattle.ds_app.proofs.PeriodEnds.{timed_job}
 use Rattle.ds_app.proofs.PlannedEnds.{IsLater, ends_planned, later_still, stops_netlist, stops_plan}
+use Rattle.ds_stage.proofs.Counts.{unwritten_or}
+use Rattle.ds_app.proofs.Since.{unread_since, well_read_since}
 use Rattle.ds_app.proofs.period.period.Goals as goal
 
 pub returns-in_err-netlist-clause-value : goal.returns-in_err-netlist-clause-value
@@ -63,3 +65,29 @@ returns-clause-value g c =
     c.read_netlist.new.files read c.in_ok-netlist.netlist c.in_ok-netlist.ensures.value
     plan c.in_ok-plan.ensures.value c.measure.new.files out c.measure.result
     (timed_since before mid now held made job.delays plan.graph later.same_held later.never_falls out c.measure.result measured))
+
+pub returns-in_err-netlist-clause-same_reads : goal.returns-in_err-netlist-clause-same_reads
+returns-in_err-netlist-clause-same_reads g c =
+    let p = err_from_is_err_and c.from_residual.result c.from_residual.ensures.1 in
+    rw (p.1, p.2) (c.in_err-netlist.ensures.same_reads)
+
+pub returns-in_err-netlist-clause-same_writes : goal.returns-in_err-netlist-clause-same_writes
+returns-in_err-netlist-clause-same_writes g c =
+    let p = err_from_is_err_and c.from_residual.result c.from_residual.ensures.1 in
+    rw (p.1, p.2) (unwritten_or c.in_err-netlist.field-0.0 refl)
+
+pub returns-in_err-plan-clause-same_reads : goal.returns-in_err-plan-clause-same_reads
+returns-in_err-plan-clause-same_reads g c =
+    let p = err_from_is_err_and c.from_residual-in_err-plan.result c.from_residual-in_err-plan.ensures.1 in
+    rw (p.1, p.2) (unread_since c.in_err-plan.field-0.0 c.in_ok-netlist.ensures.same_reads c.in_err-plan.ensures.same_reads)
+
+pub returns-in_err-plan-clause-same_writes : goal.returns-in_err-plan-clause-same_writes
+returns-in_err-plan-clause-same_writes g c =
+    let p = err_from_is_err_and c.from_residual-in_err-plan.result c.from_residual-in_err-plan.ensures.1 in
+    rw (p.1, p.2) (unwritten_or c.in_err-plan.field-0.0 refl)
+
+pub returns-clause-same_reads : goal.returns-clause-same_reads
+returns-clause-same_reads g c = well_read_since c.measure.result (c.in_ok-plan.ensures.same_reads ∙ c.in_ok-netlist.ensures.same_reads) c.measure.ensures.same_reads
+
+pub returns-clause-same_writes : goal.returns-clause-same_writes
+returns-clause-same_writes g c = c.measure.ensures.same_writes

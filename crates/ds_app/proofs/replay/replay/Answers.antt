@@ -9,6 +9,8 @@ use Rattle.ds_stage.proofs.PlanAccepted.{planned_circuit, planned_in_clusters}
 use Rattle.ds_app.proofs.Lent.{replay_ends}
 use Rattle.ds_app.proofs.PlannedEnds.{stops_netlist, stops_plan}
 use Rattle.ds_app.proofs.ReplayEnds.{ends_log, logged_job, stops_log, stops_vectors}
+use Rattle.ds_stage.proofs.Counts.{unwritten_or, well_read}
+use Rattle.ds_app.proofs.Since.{unread_since}
 use Rattle.ds_app.proofs.replay.replay.Goals as goal
 
 pub returns-in_err-netlist-clause-value : goal.returns-in_err-netlist-clause-value
@@ -87,4 +89,50 @@ returns-clause-value g c =
     c.plan_netlist.new.files (record { same_held = c.in_ok-plan.ensures.same_held; never_falls = c.in_ok-plan.ensures.never_falls }) c.in_ok-plan.plan c.in_ok-plan.ensures.value
     c.read_rows.new.files (record { same_held = c.in_ok-vectors.ensures.same_held; never_falls = c.in_ok-vectors.ensures.never_falls }) c.in_ok-vectors.vectors c.in_ok-vectors.ensures.value
     c.in_ok-state.state c.in_ok-state.fired c.in_ok-state.ensures.value
-    c.read_log.new.files out c.write_state.result c.write_state.ensures)
+    c.read_log.new.files out c.write_state.result c.write_state.ensures.value)
+
+pub returns-in_err-netlist-clause-same_reads : goal.returns-in_err-netlist-clause-same_reads
+returns-in_err-netlist-clause-same_reads g c =
+    let p = err_from_is_err_and c.from_residual.result c.from_residual.ensures.1 in
+    rw (p.1, p.2) (c.in_err-netlist.ensures.same_reads)
+
+pub returns-in_err-netlist-clause-same_writes : goal.returns-in_err-netlist-clause-same_writes
+returns-in_err-netlist-clause-same_writes g c =
+    let p = err_from_is_err_and c.from_residual.result c.from_residual.ensures.1 in
+    rw (p.1, p.2) (unwritten_or c.in_err-netlist.field-0.0 refl)
+
+pub returns-in_err-plan-clause-same_reads : goal.returns-in_err-plan-clause-same_reads
+returns-in_err-plan-clause-same_reads g c =
+    let p = err_from_is_err_and c.from_residual-in_err-plan.result c.from_residual-in_err-plan.ensures.1 in
+    rw (p.1, p.2) (unread_since c.in_err-plan.field-0.0 c.in_ok-netlist.ensures.same_reads c.in_err-plan.ensures.same_reads)
+
+pub returns-in_err-plan-clause-same_writes : goal.returns-in_err-plan-clause-same_writes
+returns-in_err-plan-clause-same_writes g c =
+    let p = err_from_is_err_and c.from_residual-in_err-plan.result c.from_residual-in_err-plan.ensures.1 in
+    rw (p.1, p.2) (unwritten_or c.in_err-plan.field-0.0 refl)
+
+pub returns-in_err-vectors-clause-same_reads : goal.returns-in_err-vectors-clause-same_reads
+returns-in_err-vectors-clause-same_reads g c =
+    let p = err_from_is_err_and c.from_residual-in_err-vectors.result c.from_residual-in_err-vectors.ensures.1 in
+    rw (p.1, p.2) (unread_since c.in_err-vectors.field-0.0 (c.in_ok-plan.ensures.same_reads ∙ c.in_ok-netlist.ensures.same_reads) c.in_err-vectors.ensures.same_reads)
+
+pub returns-in_err-vectors-clause-same_writes : goal.returns-in_err-vectors-clause-same_writes
+returns-in_err-vectors-clause-same_writes g c =
+    let p = err_from_is_err_and c.from_residual-in_err-vectors.result c.from_residual-in_err-vectors.ensures.1 in
+    rw (p.1, p.2) (unwritten_or c.in_err-vectors.field-0.0 refl)
+
+pub returns-in_err-state-clause-same_reads : goal.returns-in_err-state-clause-same_reads
+returns-in_err-state-clause-same_reads g c =
+    let p = err_from_is_err_and c.from_residual-in_err-state.result c.from_residual-in_err-state.ensures.1 in
+    rw (p.1, p.2) (unread_since c.in_err-state.field-0.0 (c.in_ok-vectors.ensures.same_reads ∙ (c.in_ok-plan.ensures.same_reads ∙ c.in_ok-netlist.ensures.same_reads)) c.in_err-state.ensures.same_reads)
+
+pub returns-in_err-state-clause-same_writes : goal.returns-in_err-state-clause-same_writes
+returns-in_err-state-clause-same_writes g c =
+    let p = err_from_is_err_and c.from_residual-in_err-state.result c.from_residual-in_err-state.ensures.1 in
+    rw (p.1, p.2) (unwritten_or c.in_err-state.field-0.0 refl)
+
+pub returns-clause-same_reads : goal.returns-clause-same_reads
+returns-clause-same_reads g c = well_read c.write_state.result (c.in_ok-state.ensures.same_reads ∙ (c.in_ok-vectors.ensures.same_reads ∙ (c.in_ok-plan.ensures.same_reads ∙ c.in_ok-netlist.ensures.same_reads)))
+
+pub returns-clause-same_writes : goal.returns-clause-same_writes
+returns-clause-same_writes g c = c.write_state.ensures.same_writes

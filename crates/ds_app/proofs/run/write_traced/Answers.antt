@@ -23,6 +23,9 @@ use Rattle.ds_run.proofs.Ended.{logs_go_on}
 use Rattle.ds_app.specs.RunStage.{traced_stage}
 use Rattle.ds_app.proofs.RunEnds.{ends_of_file, run_end_of, run_ends_part, run_ends_whole, run_spells}
 use Rattle.ds_app.proofs.WindowEnds.{is_there, more_here, stops_here}
+use Rattle.ds_stage.specs.Ends.{UnreadOr, UnwrittenOr}
+use Rattle.ds_stage.proofs.Counts.{unread_or, unwritten_or}
+use Rattle.ds_app.proofs.Since.{unread_since}
 use Rattle.ds_app.proofs.run.write_traced.Goals as goal
 
 pub windows-init : goal.windows-init
@@ -34,6 +37,8 @@ windows-init g c =
     let w : Option (List ℕ) = g.O.Sink.written c.args.out.now in
     record {
       same_held = refl;
+      same_reads = refl;
+      same_writes = refl;
       never_falls = λ w n. omega arith;
       never_fell = omega arith;
       circuit = refl;
@@ -148,6 +153,8 @@ windows-preserved g c =
     subst (λ (k : Graph). LogGrows k (length next) c.windows.log c.write_window.new.log) kept.graph c.in-Ok.ensures.ok_log in
     record {
       same_held = same;
+      same_reads = read.same_reads ∙ kept.same_reads;
+      same_writes = c.in-Ok.ensures.same_faults (λ failed. cc) ∙ kept.same_writes;
       never_falls = λ w n. omega (arith, kept.never_falls w n, read.never_falls w n);
       never_fell = omega (arith, kept.never_fell, c.in-Ok.ensures.never_falls);
       circuit = ap (λ (q : Planned). q.split.circuit) begun_is ∙ kept.circuit;
@@ -204,3 +211,50 @@ returns-in-Err-end_traced-clause-value g c =
 pub end_traced-requires : goal.end_traced-requires
 end_traced-requires g c =
     record { log = (c.args.job.now.log, c.windows.first, subst (λ (k : Graph). IsLogOf c.args.job.now.log k c.windows.first c.windows.log) (sym c.windows.invariant.graph) c.windows.invariant.logged) }
+
+pub returns-in_err-log-clause-same_reads : goal.returns-in_err-log-clause-same_reads
+returns-in_err-log-clause-same_reads g c =
+    let p = err_from_is_err_and c.from_residual.result c.from_residual.ensures.1 in
+    rw (p.1, p.2) (tt)
+
+pub returns-in_err-log-clause-same_writes : goal.returns-in_err-log-clause-same_writes
+returns-in_err-log-clause-same_writes g c =
+    let p = err_from_is_err_and c.from_residual.result c.from_residual.ensures.1 in
+    rw (p.1, p.2) (refl)
+
+pub returns-in_err-behind-clause-same_reads : goal.returns-in_err-behind-clause-same_reads
+returns-in_err-behind-clause-same_reads g c =
+    let p = err_from_is_err_and c.from_residual-in_err-behind.result c.from_residual-in_err-behind.ensures.1 in
+    rw (p.1, p.2) (unread_since c.in_err-behind.field-0.0 c.windows.invariant.same_reads c.in_err-behind.ensures.same_reads)
+
+pub returns-in_err-behind-clause-same_writes : goal.returns-in_err-behind-clause-same_writes
+returns-in_err-behind-clause-same_writes g c =
+    let p = err_from_is_err_and c.from_residual-in_err-behind.result c.from_residual-in_err-behind.ensures.1 in
+    rw (p.1, p.2) (unwritten_or c.in_err-behind.field-0.0 c.windows.invariant.same_writes)
+
+pub returns-in-Err-clause-same_reads : goal.returns-in-Err-clause-same_reads
+returns-in-Err-clause-same_reads g c = unread_or c.stop_of.result (c.in_ok-behind.ensures.same_reads ∙ c.windows.invariant.same_reads)
+
+pub returns-in-Err-clause-same_writes : goal.returns-in-Err-clause-same_writes
+returns-in-Err-clause-same_writes g c =
+    let same : Type 0 = g.O.Sink.faults c.write_window.new.out ≡ g.O.Sink.faults c.args.out.now in
+    elim c.stop_of.ensures [
+      | inl (e, is_stop) ↦ subst (λ (s : Stop). UnwrittenOr s same) (sym is_stop) tt
+      | inr (e, is_stop) ↦
+          subst (λ (s : Stop). UnwrittenOr s same) (sym is_stop)
+          (c.in-Err.ensures.same_faults (λ failed. cc) ∙ c.windows.invariant.same_writes)
+    ]
+
+pub returns-in-Ok-end_traced-clause-same_reads : goal.returns-in-Ok-end_traced-clause-same_reads
+returns-in-Ok-end_traced-clause-same_reads g c = c.windows.invariant.same_reads
+
+pub returns-in-Ok-end_traced-clause-same_writes : goal.returns-in-Ok-end_traced-clause-same_writes
+returns-in-Ok-end_traced-clause-same_writes g c =
+    let (text, end, writes) = c.in-Ok-end_traced.ensures in
+    writes.ok_same ∙ c.windows.invariant.same_writes
+
+pub returns-in-Err-end_traced-clause-same_reads : goal.returns-in-Err-end_traced-clause-same_reads
+returns-in-Err-end_traced-clause-same_reads g c = c.windows.invariant.same_reads
+
+pub returns-in-Err-end_traced-clause-same_writes : goal.returns-in-Err-end_traced-clause-same_writes
+returns-in-Err-end_traced-clause-same_writes g c = tt

@@ -10,6 +10,8 @@ use Rattle.ds_app.proofs.run.write_traced.Given as goal
 abbrev pub invariant-windows : goal.invariant-windows
 invariant-windows g l = record {
   same_held : g.F.Files.held l.files ≡ g.F.Files.held l.initial.files;
+  same_reads : g.F.Files.faults l.files ≡ g.F.Files.faults l.initial.files;
+  same_writes : g.O.Sink.faults l.out ≡ g.O.Sink.faults l.initial.out;
   never_falls : (w : Which) (n : List ℕ) → g.F.Files.faults l.initial.files w n ≤ g.F.Files.faults l.files w n;
   never_fell : g.O.Sink.faults l.initial.out ≤ g.O.Sink.faults l.out;
   circuit : l.plan.split.circuit ≡ l.initial.plan.split.circuit;

@@ -13,6 +13,7 @@ use Rattle.ds_stage.specs.Ends.{Ends, Output, RoseIn, Stops, output_between}
 use Rattle.ds_stage.proofs.Ends.{ended_first, ends_after, gives_more}
 use Rattle.ds_stage.proofs.Left.{vectors_nothing}
 use Rattle.ds_app.specs.RunStage.{stopped_run_stage, stopped_stage}
+use Rattle.ds_stage.proofs.Counts.{unwritten_or, well_read}
 use Rattle.ds_app.proofs.stopped.write_at_stop.Goals as goal
 
 pub returns-in_err-vectors-clause-value : goal.returns-in_err-vectors-clause-value
@@ -50,3 +51,19 @@ returns-clause-value g c =
     gives_more (IsStoppedText c.args.job.now.log stop jobs planned rows.rows) (λ text. (circuit ≡ circuit) × IsStoppedText c.args.job.now.log stop jobs planned rows.rows text) more out (λ text is. (refl, is)) c.write_halted.result c.write_halted.ensures.value in
     subst (λ (file : List ℕ). Ends {A = Unit {0}} (stopped_run_stage held file c.args.job.now.log jobs stop circuit planned) more out c.write_halted.result) c.as_str-vec.ensures
     (ends_after (vectors_stage held vec circuit) (stopped_stage c.args.job.now.log jobs stop circuit planned) more out rows given c.write_halted.result last)
+
+pub returns-in_err-vectors-clause-same_reads : goal.returns-in_err-vectors-clause-same_reads
+returns-in_err-vectors-clause-same_reads g c =
+    let p = err_from_is_err_and c.from_residual.result c.from_residual.ensures.1 in
+    rw (p.1, p.2) (c.in_err-vectors.ensures.same_reads)
+
+pub returns-in_err-vectors-clause-same_writes : goal.returns-in_err-vectors-clause-same_writes
+returns-in_err-vectors-clause-same_writes g c =
+    let p = err_from_is_err_and c.from_residual.result c.from_residual.ensures.1 in
+    rw (p.1, p.2) (unwritten_or c.in_err-vectors.field-0.0 refl)
+
+pub returns-clause-same_reads : goal.returns-clause-same_reads
+returns-clause-same_reads g c = well_read c.write_halted.result c.in_ok-vectors.ensures.same_reads
+
+pub returns-clause-same_writes : goal.returns-clause-same_writes
+returns-clause-same_writes g c = c.write_halted.ensures.same_writes

@@ -38,5 +38,5 @@ returns-in-Threes c =
     c.set_worded_threes.ensures
     ∙ words_after worded_three c.as_slice-threes.result.now c.as_slice-three_words.result.now (in_table_order c.args.bank.now c.args.order.now) c.args.run.now c.args.nets.now (threes_words c.requires.run c.as_slice-threes.result.now c.as_slice-three_words.result.now c.as_slice-threes.ensures.value c.as_slice-three_words.ensures.value c.in-Threes.is)
 
-pub returns-in-Fours : goal.returns-in-Fours
-returns-in-Fours c = order_after c.args.bank.now c.args.order.now c.own_order.result.now c.args.run.now c.args.nets.now c.set_all.new.nets c.own_order.ensures c.set_all.ensures
+pub returns-in_default : goal.returns-in_default
+returns-in_default c = order_after c.args.bank.now c.args.order.now c.own_order.result.now c.args.run.now c.args.nets.now c.set_all.new.nets c.own_order.ensures c.set_all.ensures

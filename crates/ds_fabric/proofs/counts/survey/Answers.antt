@@ -27,7 +27,7 @@ index-i-requires g c = let all = c.requires.incoming in
 
 pub overflow_add-event : goal.overflow_add-event
 overflow_add-event g c =
-    omega (arith, c.requires.few.1, events-is c.args.ground.now.run.now, c.requires.table.1.sound.few)
+    omega (arith, c.requires.few.1, events-is c.args.ground.now.run.now, c.args.ground.now.built.over.sound.few)
 
 pub index-i-end-requires : goal.index-i-end-requires
 index-i-end-requires g c = let all = c.requires.incoming in
@@ -59,8 +59,7 @@ bounds-arcs-i g c =
     )
 
 pub look-fired-requires-clause-table : goal.look-fired-requires-clause-table
-look-fired-requires-clause-table g c =
-    (c.loop-i.invariant.0 ∙ c.requires.table.0, c.requires.table.1)
+look-fired-requires-clause-table g c = c.loop-i.invariant.0 ∙ c.requires.table
 
 pub look-fired-requires-clause-rests : goal.look-fired-requires-clause-rests
 look-fired-requires-clause-rests g c = let q = c.loop-i.invariant.2 in
@@ -82,7 +81,7 @@ pub look-fired-requires-clause-near : goal.look-fired-requires-clause-near
 look-fired-requires-clause-near g c =
     look_near c.args.ground.now.run.now c.args.event c.loop-i.i c.args.ground.now.incoming.now.starts.items
     c.args.ground.now.incoming.now.numbers.items c.args.ground.now.incoming.now.arcs.items c.as_slice-arcs.result.now _
-    c.requires.table.1.sound c.requires.few.1 c.requires.incoming c.as_slice-arcs.ensures.value
+    c.args.ground.now.built.over.sound c.requires.few.1 c.requires.incoming c.as_slice-arcs.ensures.value
     c.loop-i.invariant.4 (omega (arith, c.loop-i-test.true, c.loop-i.invariant.5))
 
 -- the arc that is looked at
@@ -114,7 +113,7 @@ halted g c short = let e = c.look-fired.ensures in
     c.loop-i.seat.me c.look-fired.new.seat.me
     (get_or c.as_slice-arcs.result.now c.loop-i.i
     (record { node = 0; ahead = 0; source = Opening })) c.look-fired.result
-    c.requires.table.1.sound (looked_at g c) e.me c.loop-i.invariant.2 c.requires.rests.2 e.up e.own
+    c.args.ground.now.built.over.sound (looked_at g c) e.me c.loop-i.invariant.2 c.requires.rests.2 e.up e.own
     short
 
 pub returns-then-lacks-clause-table : goal.returns-then-lacks-clause-table
@@ -159,7 +158,7 @@ loop-i-preserved g c =
     (λ t. false≢true ((c.if-lacks.ensures tokens into.says.ahead_is).1 t)) in
     let both = goes_on run c.args.event c.args.turn
     (get_or c.args.ground.now.incoming.now.starts.items c.args.event 0) i numbers c.args.seat.now.me.0
-    c.loop-i.seat.me c.look-fired.new.seat.me x r c.requires.table.1.sound into e.me inv.2 inv.3
+    c.loop-i.seat.me c.look-fired.new.seat.me x r c.args.ground.now.built.over.sound into e.me inv.2 inv.3
     c.requires.rests.2 e.up e.own here in (
       e.table ∙ inv.0,
       ap (λ (y : Sat). y.1) e.me ∙ inv.1,

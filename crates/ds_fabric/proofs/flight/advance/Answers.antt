@@ -1,7 +1,8 @@
 use Rattle.std.proofs.Common.{◌≡◌, ◌+◌, ◌<◌, ◌≤◌, ◌∙◌, ℕ, List, ap, refl, sym, arith, subst}
 use mathlib.Core.Option.{some}
 use lib.ListN.{get_elem?}
-use Rattle.ds_rule.specs.Run.{Run}
+use Rattle.ds_rule.specs.Run.{Run, Enabled}
+use Rattle.ds_rule.specs.Rule.{seen}
 use Rattle.ds_rule.specs.Plays.{Sat}
 use Rattle.ds_rule.specs.declared.view.View.{View}
 use Rattle.ds_rule.proofs.EventLaws.{events-is}
@@ -30,7 +31,7 @@ known : (g : Given.Over) (c : After-turns-before g)
 known g c = let me : Sat = c.args.seat.now.me in let h : History = c.args.history.now in
     let lent = c.requires.keeps in
     coming c.args.ground.now.run.now me lent.0 h c.next-event.result c.turns-before.result
-    c.requires.run c.requires.table.1.over.sound lent.2 (tells me h lent) c.next-event.ensures
+    c.requires.run c.args.ground.now.built.over.sound lent.2 (tells me h lent) c.next-event.ensures
     c.turns-before.ensures
 
 -- what its flight asks is there
@@ -45,13 +46,13 @@ ready g c = let lent = c.requires.keeps in let q = c.in_default.ensures in
 pub next-event-requires : goal.next-event-requires
 next-event-requires g c =
     let me : Sat = c.args.seat.now.me in let h : History = c.args.history.now in
-    let lent = c.requires.keeps in let sound = c.requires.table.1.over.sound in
+    let lent = c.requires.keeps in let sound = c.args.ground.now.built.over.sound in
     let near = near_run c.args.ground.now.run.now me lent.0 h c.requires.run lent.2
     (tells me h lent) in
     (omega (arith, sound.among, sound.few), omega (arith, near, sound.few))
 
 pub turns-before-requires : goal.turns-before-requires
-turns-before-requires g c = let sound = c.requires.table.1.over.sound in
+turns-before-requires g c = let sound = c.args.ground.now.built.over.sound in
     omega (arith, sound.among, sound.few)
 
 pub returns-then-before-limit-clause-step : goal.returns-then-before-limit-clause-step
@@ -74,7 +75,7 @@ survey-requires-clause-few g c =
         arith,
         c.if-before-limit.false,
         c.limit.ensures,
-        c.requires.table.1.over.sound.short,
+        c.args.ground.now.built.over.sound.short,
       ),
       n.below,
     )
@@ -85,11 +86,11 @@ overflow_cast-arc g c =
     omega (
       arith,
       at_below run.arcs c.in-Some.arc s.a s.is_arc,
-      c.requires.table.1.over.sound.few_arcs,
+      c.args.ground.now.built.over.sound.few_arcs,
     )
 
 pub overflow_cast-event : goal.overflow_cast-event
-overflow_cast-event g c = let sound = c.requires.table.1.over.sound in
+overflow_cast-event g c = let sound = c.args.ground.now.built.over.sound in
     let n = known g (goal.at.overflow_cast-event g c).After-turns-before in
     omega (arith, n.below, events-is c.args.ground.now.run.now, sound.among, sound.few)
 
@@ -144,7 +145,9 @@ returns-clause-step g c =
     (sym c.new-event.ensures)
     (fires run me c.survey.new.seat.me lent.0 w h.node c.next-event.result
     (c.turns-before.result + 1) t c.requires.run lent.2 (tells me h lent).has q.looks q.table.1
-    n.event_is (ap (λ (x : ℕ). x + 1) n.before_is) within q.none e.fresh
+    n.event_is (ap (λ (x : ℕ). x + 1) n.before_is) within
+    (subst (Enabled run (seen c.survey.new.seat.me.0)) (sym c.next-event.ensures)
+    (ready g (goal.at.returns-clause-step g c).In_default).ready) e.fresh
     (ap (λ (m : Sat). m.0) e.me))
 
 pub returns-clause-keeps : goal.returns-clause-keeps

@@ -3,12 +3,6 @@ use Rattle.ds_rule.specs.Run.{Run}
 use Rattle.ds_rule.specs.Rows.{supply_but}
 use Rattle.ds_fabric.proofs.flight.open_row.Goals as goal
 
-pub read_rows-requires-clause-table : goal.read_rows-requires-clause-table
-read_rows-requires-clause-table g c = c.requires.table
-
-pub read_rows-requires-clause-openings : goal.read_rows-requires-clause-openings
-read_rows-requires-clause-openings g c = c.requires.openings
-
 pub read_rows-requires-clause-flight : goal.read_rows-requires-clause-flight
 read_rows-requires-clause-flight g c = (c.requires.flight.0, c.requires.flight.1.run_is)
 
@@ -17,13 +11,13 @@ compute-requires-clause-node g c = omega (
   arith,
   c.requires.within.0,
   c.new.ensures,
-  ap (λ (r : Run). r.latches) c.requires.openings.0,
+  ap (λ (r : Run). r.latches) c.args.ground.now.computes,
 )
 
 pub compute-requires-clause-turn : goal.compute-requires-clause-turn
 compute-requires-clause-turn g c = (
   omega (arith, c.requires.flight.0.number),
-  omega (arith, c.requires.within.1, ap (λ (r : Run). r.limit) c.requires.openings.0),
+  omega (arith, c.requires.within.1, ap (λ (r : Run). r.limit) c.args.ground.now.computes),
 )
 
 pub compute-requires-clause-from : goal.compute-requires-clause-from
@@ -33,11 +27,8 @@ compute-requires-clause-from g c =
     c.args.scratch.now p k in
     c.as_slice-from.ensures.value ∙ (c.read_rows.ensures.value
     ∙ (ap (λ (r : Run). supply_but r learnt c.args.history.now.node k (length r.edges))
-    (sym c.requires.openings.0)
+    (sym c.args.ground.now.computes)
     ∙ ap (λ (l : ℕ). supply_but at learnt l k (length at.edges)) (sym c.new.ensures)))
-
-pub compute-requires-clause-remembers : goal.compute-requires-clause-remembers
-compute-requires-clause-remembers g c = c.requires.openings.1
 
 pub returns-clause-remembers : goal.returns-clause-remembers
 returns-clause-remembers g c = c.compute.ensures.remembers

@@ -1,9 +1,14 @@
-use Rattle.std.proofs.Common.{rules, ◌≡◌, ◌+◌, ◌/◌, ◌%◌, ◌++◌, ◌∙◌, ℕ, List, ap, arith, sym, subst}
+use Rattle.std.proofs.Common.{rules, ◌≡◌, ◌+◌, ◌/◌, ◌%◌, ◌++◌, ◌∙◌, ◌≤◌, ℕ, List, ap, arith, sym, subst}
 use Rattle.std.proofs.Common.{refl, true, false, []}
 use Rattle.std.proofs.lemmas.Bool.{false≢true}
 use Rattle.ds_rule.specs.Run.{Run, next, opens, opened}
 use Rattle.ds_rule.specs.Rows.{row}
 use Rattle.ds_rule.specs.Rule.{seen}
+use Rattle.ds_rule.specs.Words.{width}
+use Rattle.ds_rule.specs.Plays.{Sat}
+use Rattle.ds_fabric.specs.Base.{IsInFlight}
+use Rattle.ds_fabric.specs.declared.history.History.{History}
+use Rattle.ds_fabric.proofs.Flights.{still_flies}
 use Rattle.ds_rule.specs.declared.view.View.{View}
 use Rattle.ds_rule.proofs.Lists.{by_bool}
 use Rattle.std.proofs.lemmas.List.{append-nil}
@@ -20,24 +25,30 @@ half run l f h = let o = even_opens run l f h in omega (arith, opened-low run l 
 pub open_row-requires-clause-flight : goal.open_row-requires-clause-flight
 open_row-requires-clause-flight g c = let run : Run = c.args.ground.now.run.now in
     let v : View = c.args.seat.now.me.0 in let l : ℕ = c.args.history.now.node in
-    let away = c.requires.flight.0 in
-    let fired = c.requires.flight.1 in let h = c.if-opens_next.ensures.0 refl in (
+    let q = c.requires.flight in
+    let fired = q.count in let h = c.if-opens_next.ensures.0 refl in (
       record {
-        live = away.live;
-        stage = away.stage;
-        node_is = away.node_is;
-        near = c.requires.flight.2;
-        begins = ap (λ (x : ℕ). opens run (next run x (seen v x))) away.node_is
+        live = q.live;
+        stage = q.stage;
+        node_is = q.node_is;
+        near = q.near;
+        begins = ap (λ (x : ℕ). opens run (next run x (seen v x))) q.node_is
             ∙ (ap (λ (f : ℕ). opens run (next run l f)) (sym fired) ∙ h);
         number = half run l c.args.history.now.fired h ∙ ap (λ (f : ℕ). opened run l f + 1) fired;
       },
-      away,
+      record {
+        live = q.live;
+        stage = q.stage;
+        node_is = q.node_is;
+        written = c.requires.unwritten;
+        run_is = q.run_is;
+      },
     )
 
 pub open_row-requires-clause-within : goal.open_row-requires-clause-within
 open_row-requires-clause-within g c =
     within c.args.ground.now.run.now c.args.seat.now.me.0 c.args.history.now.node c.args.history.now.fired
-    c.requires.flight.1 (c.if-opens_next.ensures.0 refl) c.requires.ready
+    c.requires.flight.count (c.if-opens_next.ensures.0 refl) c.requires.flight.enabled
 
 pub open_row-requires-clause-room : goal.open_row-requires-clause-room
 open_row-requires-clause-room g c = let run : Run = c.args.ground.now.run.now in
@@ -57,9 +68,22 @@ returns-then-opens_next-clause-turns g c = let run : Run = c.args.ground.now.run
 
 pub returns-then-opens_next-clause-me : goal.returns-then-opens_next-clause-me
 returns-then-opens_next-clause-me g c = (
-  Rattle.ds_rule.specs.Words.width c.args.ground.now.run.now c.args.history.now.node,
+  width c.args.ground.now.run.now c.args.history.now.node,
   c.open_row.ensures.me,
-  λ _. Rattle.std.proofs.Common.le_refl _,
+)
+
+pub returns-then-opens_next-clause-flight : goal.returns-then-opens_next-clause-flight
+returns-then-opens_next-clause-flight g c = let run : Run = c.args.ground.now.run.now in
+    let h : History = c.open_row.new.history in let q = c.open_row.ensures in
+    subst (λ (x : Sat). IsInFlight run x.0 h.node h.fired) (sym q.me)
+    (still_flies run c.args.seat.now.me.0 c.args.history.now.node h.node c.args.history.now.fired
+    h.fired (width run c.args.history.now.node) c.requires.flight q.same.node q.same.fired)
+
+pub returns-then-opens_next-clause-written : goal.returns-then-opens_next-clause-written
+returns-then-opens_next-clause-written g c = λ _. let q = c.open_row.ensures in omega (
+  arith,
+  ap (λ (x : Sat). x.0.written) q.me,
+  ap (width c.args.ground.now.run.now) q.same.node,
 )
 
 pub returns-else-opens_next-clause-me : goal.returns-else-opens_next-clause-me
@@ -68,9 +92,12 @@ returns-else-opens_next-clause-me g c = (
   ap (λ (w : ℕ). (
     record c.args.seat.now.me.0 { written = w },
     c.args.seat.now.me.1,
-  )) c.requires.flight.0.written,
-  λ h. absurd (false≢true (c.if-opens_next.ensures.1 h)),
+  )) c.requires.unwritten,
 )
+
+pub returns-else-opens_next-clause-written : goal.returns-else-opens_next-clause-written
+returns-else-opens_next-clause-written g c =
+    λ h. absurd (false≢true (c.if-opens_next.ensures.1 h))
 
 pub returns-else-opens_next-clause-turns : goal.returns-else-opens_next-clause-turns
 returns-else-opens_next-clause-turns g c = let run : Run = c.args.ground.now.run.now in

@@ -32,11 +32,11 @@ at_is g c = c.place_of-at.ensures ∙ ap (λ (p : ℕ). place c.args.ground.now.
 
 pub overflow_sub-before : goal.overflow_sub-before
 overflow_sub-before g c = let h = c.requires.edge in
-    let d = c.requires.table.1.over.sound.orders h.0 c.args.edge h.1 in
+    let d = c.args.ground.now.built.over.sound.orders h.0 c.args.edge h.1 in
     omega (arith, d.tokens_few, c.requires.flight.0.number)
 
 pub place_of-at-requires-clause-near : goal.place_of-at-requires-clause-near
-place_of-at-requires-clause-near g c = let q = c.requires.table.1.over in
+place_of-at-requires-clause-near g c = let q = c.args.ground.now.built.over in
     omega (
       arith,
       producer_near c.args.ground.now.run.now q.sound c.args.edge c.requires.edge,
@@ -44,7 +44,7 @@ place_of-at-requires-clause-near g c = let q = c.requires.table.1.over in
     )
 
 pub width-i-end-requires : goal.width-i-end-requires
-width-i-end-requires g c = let q = c.requires.table.1.over in let h = c.requires.edge in
+width-i-end-requires g c = let q = c.args.ground.now.built.over in let h = c.requires.edge in
     omega (
       arith,
       producer_near c.args.ground.now.run.now q.sound c.args.edge h,
@@ -53,7 +53,7 @@ width-i-end-requires g c = let q = c.requires.table.1.over in let h = c.requires
     )
 
 pub overflow_add-at : goal.overflow_add-at
-overflow_add-at g c = let q = c.requires.table.1.over in let h = c.requires.edge in
+overflow_add-at g c = let q = c.args.ground.now.built.over in let h = c.requires.edge in
     let run : Run = c.args.ground.now.run.now in
     omega (
       arith,
@@ -68,12 +68,12 @@ overflow_add-at g c = let q = c.requires.table.1.over in let h = c.requires.edge
     )
 
 pub load-requires : goal.load-requires
-load-requires g c = let q = c.requires.table.1.over in let run : Run = c.args.ground.now.run.now in
+load-requires g c = let q = c.args.ground.now.built.over in let run : Run = c.args.ground.now.run.now in
     let n : ℕ = c.args.ground.now.board.now.table_id.slots in let j : ℕ = c.place_of-at.result + c.loop-i.i in
     let h = c.requires.edge in let o = c.requires.flight.0 in
     let P : Run → Sat → Type 0 = λ r m. Allows (Lawful r) n c.loop-i.seat.id m j (λ y. y)
     (read (step n j 0 0 none) m) in (
-      c.loop-i.invariant.0 ∙ c.requires.table.0,
+      c.loop-i.invariant.0 ∙ c.requires.table,
       omega (
         arith,
         row_ends run c.args.edge.producer (c.args.turn - c.args.edge.tokens)

@@ -16,23 +16,23 @@ edge_is : (g : Given.Over) (c : After-index-edges-i g)
     → EdgeOf c.args.ground.now.run.now c.args.node c.loop-i.i c.index-edges-i.result
 edge_is g c = edge_of c.args.ground.now.run.now c.args.ground.now.index.now.firsts.items
     c.edges-edges.result.now c.args.node c.index-first.result.now c.index-end.result.now c.loop-i.i
-    c.index-edges-i.result c.requires.table.1.ranged c.requires.flight.0.near
+    c.index-edges-i.result c.args.ground.now.built.ranged c.requires.flight.0.near
     c.index-first.ensures c.index-end.ensures c.edges-edges.ensures c.loop-i.invariant.5
     c.loop-i-test.true c.index-edges-i.is
 
 pub index-first-requires : goal.index-first-requires
-index-first-requires g c = let q = c.requires.table.1.ranged in
+index-first-requires g c = let q = c.args.ground.now.built.ranged in
     omega (arith, q.long, c.requires.flight.0.near)
 
 pub overflow_add-node : goal.overflow_add-node
-overflow_add-node g c = omega (arith, c.requires.flight.0.near, c.requires.table.1.over.sound.few)
+overflow_add-node g c = omega (arith, c.requires.flight.0.near, c.args.ground.now.built.over.sound.few)
 
 pub index-end-requires : goal.index-end-requires
-index-end-requires g c = let q = c.requires.table.1.ranged in
+index-end-requires g c = let q = c.args.ground.now.built.ranged in
     omega (arith, q.long, c.requires.flight.0.near)
 
 pub loop-i-init : goal.loop-i-init
-loop-i-init g c = let run : Run = c.args.ground.now.run.now in let q = c.requires.table.1 in
+loop-i-init g c = let run : Run = c.args.ground.now.run.now in let q = c.args.ground.now.built in
     let o = c.requires.flight.0 in let l : ℕ = c.args.node in
     let k : ℕ = c.args.learnt.now.turn in
     let learnt : ℕ → Bool = λ p. g.C.Compute.has_learnt c.args.ground.now.openings.now
@@ -49,7 +49,7 @@ loop-i-init g c = let run : Run = c.args.ground.now.run.now in let q = c.require
 pub bounds-edges-i : goal.bounds-edges-i
 bounds-edges-i g c = let run : Run = c.args.ground.now.run.now in
     let end = from_read run c.args.ground.now.index.now.firsts.items (c.args.node + 1)
-    c.index-end.result.now c.requires.table.1.ranged (omega (arith, c.requires.flight.0.near))
+    c.index-end.result.now c.args.ground.now.built.ranged (omega (arith, c.requires.flight.0.near))
     c.index-end.ensures in
     omega (
       arith,
@@ -61,15 +61,11 @@ bounds-edges-i g c = let run : Run = c.args.ground.now.run.now in
 pub has_learnt-requires-clause-producer : goal.has_learnt-requires-clause-producer
 has_learnt-requires-clause-producer g c =
     let h = edge_is g (goal.at.has_learnt-requires-clause-producer g c).After-index-edges-i in
-    let d = c.requires.table.1.over.sound.orders c.loop-i.i c.index-edges-i.result h.at in
-    omega (arith, d.from, ap (λ (x : Run). x.latches) c.requires.openings.0)
-
-pub has_learnt-requires-clause-remembers : goal.has_learnt-requires-clause-remembers
-has_learnt-requires-clause-remembers g c = c.requires.openings.1
+    let d = c.args.ground.now.built.over.sound.orders c.loop-i.i c.index-edges-i.result h.at in
+    omega (arith, d.from, ap (λ (x : Run). x.latches) c.args.ground.now.computes)
 
 pub read_row-requires-clause-table : goal.read_row-requires-clause-table
-read_row-requires-clause-table g c =
-    (c.loop-i.invariant.0 ∙ c.requires.table.0, c.requires.table.1)
+read_row-requires-clause-table g c = c.loop-i.invariant.0 ∙ c.requires.table
 
 pub read_row-requires-clause-flight : goal.read_row-requires-clause-flight
 read_row-requires-clause-flight g c = let run : Run = c.args.ground.now.run.now in
@@ -144,7 +140,7 @@ pub returns-clause-room : goal.returns-clause-room
 returns-clause-room g c = c.loop-i.invariant.4
 
 pub returns-clause-value : goal.returns-clause-value
-returns-clause-value g c = let run : Run = c.args.ground.now.run.now in let q = c.requires.table.1 in
+returns-clause-value g c = let run : Run = c.args.ground.now.run.now in let q = c.args.ground.now.built in
     let o = c.requires.flight.0 in let l : ℕ = c.args.node in
     let k : ℕ = c.args.learnt.now.turn in
     let learnt : ℕ → Bool = λ p. g.C.Compute.has_learnt c.args.ground.now.openings.now

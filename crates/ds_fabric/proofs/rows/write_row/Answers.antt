@@ -28,7 +28,7 @@ loop-i-init g c = (
 )
 
 pub overflow_add-at : goal.overflow_add-at
-overflow_add-at g c = let q = c.requires.table.1.over in let o = c.requires.flight.0 in
+overflow_add-at g c = let q = c.args.ground.now.built.over in let o = c.requires.flight.0 in
     let run : Run = c.args.ground.now.run.now in
     omega (
       arith,
@@ -40,7 +40,7 @@ overflow_add-at g c = let q = c.requires.table.1.over in let o = c.requires.flig
     )
 
 pub store-requires : goal.store-requires
-store-requires g c = let q = c.requires.table.1.over in let o = c.requires.flight.0 in
+store-requires g c = let q = c.args.ground.now.built.over in let o = c.requires.flight.0 in
     let run : Run = c.args.ground.now.run.now in let n : ℕ = c.args.ground.now.board.now.table_id.slots in
     let i : ℕ = c.loop-i.i in let j : ℕ = c.place_of-at.result + i in
     let new : ℕ = slice_index c.args.words.now i in let v : View = c.args.seat.now.me.0 in
@@ -48,7 +48,7 @@ store-requires g c = let q = c.requires.table.1.over in let o = c.requires.fligh
     let small : i < width run c.args.node = omega (arith, wide, c.loop-i-test.true) in
     let P : Run → Sat → Type 0 = λ r m. Allows (Lawful r) n c.loop-i.seat.id m j (λ _. new)
     (λ _. wrote (step n j new 0 none) m new) in (
-      c.loop-i.invariant.0 ∙ c.requires.table.0,
+      c.loop-i.invariant.0 ∙ c.requires.table,
       omega (arith, row_ends run c.args.node c.args.turn o.near, c.place_of-at.ensures, q.sized),
       subst (λ r. P r c.loop-i.seat.me) (sym q.keyed) (subst (P run) (sym c.loop-i.invariant.2)
           (writes run n c.loop-i.seat.id (

@@ -1,8 +1,8 @@
-use Rattle.std.proofs.Common.{◌≡◌, ◌≢◌, ◌⊎◌, ◌%◌, ℕ, inl, inr, sym, ◌∙◌, ◌+◌, ◌≤◌, ◌++◌, Bool, false, arith, ap, length, ◌-◌, take, drop}
-use Rattle.std.specs.Prelude.{IsTrue, vec_capacity, vec_len}
+use Rattle.std.proofs.Common.{◌≡◌, ◌≢◌, ◌⊎◌, ◌%◌, ℕ, inl, inr, sym, ◌∙◌, ◌+◌, ◌≤◌, ◌++◌, Bool, false, arith, ap, length, ◌-◌, take, drop, true, subst}
+use Rattle.std.specs.Prelude.{All, IsTrue, vec_capacity, vec_len}
 use Rattle.std.specs.Prelude.{List}
 use Rattle.ds_base.specs.Scratch.{Kept, Memory}
-use Rattle.ds_base.specs.Values.{Row}
+use Rattle.ds_base.specs.Values.{AreKnown, Row}
 use Rattle.ds_base.specs.Word.{count_of_words}
 use Rattle.ds_latch.specs.Node.{Split, nets_of, number_of}
 use Rattle.ds_latch.specs.declared.node.Node.{Node}
@@ -44,6 +44,7 @@ settling_opening s rows g o k n t m is some which = record {
   };
   fed = is.opening.fed;
   memory = is.memory;
+  known = subst (λ (vectors : List Row). o.known ≡ true → AreKnown s.initial × All AreKnown vectors) (sym is.opening.same) is.known;
 }
 
 pub open_groups-requires-clause-design : goal.open_groups-requires-clause-design

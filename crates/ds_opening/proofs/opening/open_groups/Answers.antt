@@ -13,7 +13,7 @@ use Rattle.ds_opening.specs.Groups.{group_of}
 use Rattle.ds_opening.specs.Noted.{AreRowsLearnt}
 use Rattle.ds_opening.specs.Packed.{packed}
 use Rattle.ds_opening.specs.Woven.{value_taken}
-use Rattle.ds_opening.proofs.Noting.{grouped, has_reads, node_slots, numbers, reads, settled_is, value}
+use Rattle.ds_opening.proofs.Noting.{find_known, grouped, has_reads, node_slots, numbers, reads, settled_is, value}
 use Rattle.ds_opening.proofs.Stayed.{reads_on}
 use Rattle.ds_opening.proofs.opening.open_groups.Goals as goal
 
@@ -31,6 +31,18 @@ set_groups-requires-clause-slots c =
     reads_on c.args.groups.now c.args.scratch.now c.learn_rows.new.scratch c.learn_rows.ensures.same.turns
     c.learn_rows.ensures.same.stayed
     (has_reads c.requires.design.1 c.requires.design.0 c.bits-bits.result.now c.bits-bits.ensures.one_each c.bits-bits.ensures.nets c.requires.groups o)
+
+pub set_groups-requires-clause-known : goal.set_groups-requires-clause-known
+set_groups-requires-clause-known c is =
+    let (n, t, m, o) = c.requires.settling in
+    let rows : AreRowsLearnt m (t.nets t.opened) c.bits-bits.result.now (numbers c.requires.design.1 c.requires.design.0 c.bits-bits.result.now c.bits-bits.ensures.one_each c.bits-bits.ensures.nets c.requires.groups o) c.learn_rows.new.scratch =
+    c.learn_rows.ensures.value m (t.nets t.opened)
+    (numbers c.requires.design.1 c.requires.design.0 c.bits-bits.result.now c.bits-bits.ensures.one_each c.bits-bits.ensures.nets c.requires.groups o)
+    (reads c.requires.design.1 c.requires.design.0 c.bits-bits.result.now c.bits-bits.ensures.one_each c.bits-bits.ensures.nets c.requires.groups o c.count.result c.count.ensures.value)
+    (node_slots c.requires.design.1 c.requires.design.0 c.bits-bits.result.now c.bits-bits.ensures.one_each c.bits-bits.ensures.nets c.requires.groups o c.count.result c.count.ensures.value)
+    o.memory.remembers in
+    find_known c.requires.design.1 c.requires.design.0 c.bits-bits.result.now c.bits-bits.ensures.one_each c.bits-bits.ensures.nets c.requires.groups o
+    c.learn_rows.new.scratch rows (o.known is) c.netlist.result.now c.netlist.ensures.netlist c.of_cone-list.result.now c.of_cone-list.ensures
 
 pub set_groups-requires-clause-turn : goal.set_groups-requires-clause-turn
 set_groups-requires-clause-turn c = let (n, t, m, o) = c.requires.settling in o.some

@@ -4,8 +4,8 @@ use Rattle.ds_design.specs.Circuit.{Circuit}
 use Rattle.ds_opening.specs.Groups.{Grouping, group_of, tables_in}
 use Rattle.ds_base.specs.Scratch.{Kept, Memory, Remembers}
 use Rattle.ds_settle.specs.Cone.{nets_of_tables}
-use Rattle.ds_opening.specs.Noted.{FindInputs, AreGroupSlots, AreGroupsBefore, IsAsKnown, IsLearnt}
-use Rattle.ds_opening.proofs.Learnt.{groups_more, rest_finds}
+use Rattle.ds_opening.specs.Noted.{FindInputs, FindKnown, AreGroupSlots, AreGroupsBefore, IsAsKnown, IsLearnt}
+use Rattle.ds_opening.proofs.Learnt.{all_found, groups_more, rest_finds}
 use Rattle.ds_opening.proofs.Stayed.{reads_on}
 use Rattle.ds_opening.proofs.opening.set_groups.Goals as goal
 
@@ -13,6 +13,19 @@ pub set_group-requires-clause-slots : goal.set_group-requires-clause-slots
 set_group-requires-clause-slots c =
     reads_on c.args.groups.now c.args.scratch.now c.loop-group.scratch c.loop-group.invariant.same.turns
     c.loop-group.invariant.same.stayed c.requires.slots
+
+pub set_group-requires-clause-known : goal.set_group-requires-clause-known
+set_group-requires-clause-known c is =
+    let circuit : Circuit = c.args.netlist.now in
+    let g : Grouping = c.args.groups.now in
+    let list : List ℕ = c.args.list.now in
+    let i : ℕ = c.loop-group.group-index in
+    let f : FindKnown circuit g c.args.opening.now.turn list c.args.scratch.now = c.requires.known is in
+    let here : FindInputs circuit f.known (IsAsKnown f.known c.loop-group.scratch.nets) (group_of g (get_or list i 0)) =
+    (rest_finds circuit g list i c.loop-group-test.true f.known c.loop-group.scratch.nets
+    (c.loop-group.invariant.finds f.memory f.known f.slots f.before f.finds f.remembers)).0 in
+    all_found circuit f.known c.design-design.ensures.in_range g.bank c.requires.packed (group_of g (get_or list i 0)) c.loop-group.scratch.nets
+    f.sure (c.requires.tables (get_or list i 0)) (c.loop-group.invariant.same.nets ∙ c.requires.nets) here
 
 pub loop-group-preserved : goal.loop-group-preserved
 loop-group-preserved c =
@@ -25,8 +38,8 @@ loop-group-preserved c =
     let old : Kept = c.args.scratch.now in
     let mid : Kept = c.loop-group.scratch in
     let new : Kept = c.set_group.new.scratch in
-    let one : (m : Memory) (known : Row) → AreGroupSlots circuit g m c.args.turn known
-    → AreGroupsBefore circuit g m c.args.turn
+    let one : (m : Memory) (known : Row) → AreGroupSlots circuit g m c.args.opening.now.turn known
+    → AreGroupsBefore circuit g m c.args.opening.now.turn
     → FindInputs circuit known (IsAsKnown known old.nets) (tables_in g list) → Remembers m old
     → IsLearnt m known (nets_of_tables circuit (group_of g a)) mid new =
     λ m known slots was finds remembers.

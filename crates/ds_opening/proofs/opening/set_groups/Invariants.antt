@@ -9,14 +9,14 @@ use Rattle.ds_opening.proofs.opening.set_groups.Given as goal
 abbrev pub invariant-loop-group : goal.invariant-loop-group
 invariant-loop-group l = record {
   same : IsAsLong l.fn.scratch l.scratch;
-  learnt : (m : Memory) (known : Row) → AreGroupSlots l.netlist l.groups m l.turn known
-      → AreGroupsBefore l.netlist l.groups m l.turn
+  learnt : (m : Memory) (known : Row) → AreGroupSlots l.netlist l.groups m l.opening.turn known
+      → AreGroupsBefore l.netlist l.groups m l.opening.turn
       → FindInputs l.netlist known (IsAsKnown known l.fn.scratch.nets) (tables_in l.groups l.list)
       → Remembers m l.fn.scratch
       → IsLearnt m known (nets_of_tables l.netlist (tables_in l.groups (take l.group-index l.list)))
       l.fn.scratch l.scratch;
-  finds : (m : Memory) (known : Row) → AreGroupSlots l.netlist l.groups m l.turn known
-      → AreGroupsBefore l.netlist l.groups m l.turn
+  finds : (m : Memory) (known : Row) → AreGroupSlots l.netlist l.groups m l.opening.turn known
+      → AreGroupsBefore l.netlist l.groups m l.opening.turn
       → FindInputs l.netlist known (IsAsKnown known l.fn.scratch.nets) (tables_in l.groups l.list)
       → Remembers m l.fn.scratch
       → FindInputs l.netlist known (IsAsKnown known l.scratch.nets)

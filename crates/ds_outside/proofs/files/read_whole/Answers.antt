@@ -20,6 +20,5 @@ reading-preserved g c =
           (front_more (g.F.Files.held c.args.files.now c.args.name.now) c.reading.bytes.items (take c.min-room.result c.reading.piece) c.read_at.new.into c.in-Ok.n
           c.reading.invariant.so_far (subst (λ held. P held (length c.reading.bytes.items)) held_is (subst (λ at. P (g.F.Files.held c.reading.files c.args.name.now) at) end c.in-Ok.ensures.ok)) n_within same_len);
       same_held = c.in-Ok.ensures.same_held ∙ c.reading.invariant.same_held;
-      never_falls = λ w n. omega (arith, c.reading.invariant.never_falls w n, c.in-Ok.ensures.never_falls w n);
-      other_kinds = λ w n ne. c.in-Ok.ensures.other_kinds w n ne ∙ c.reading.invariant.other_kinds w n ne;
+      same_faults = c.in-Ok.ensures.ok_same ∙ c.reading.invariant.same_faults;
     }

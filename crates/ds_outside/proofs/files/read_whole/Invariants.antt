@@ -1,5 +1,4 @@
-use Rattle.std.proofs.Common.{◌≡◌, ◌≢◌, ℕ, ◌-◌, ◌≤◌, length, vec_len, List}
-use Rattle.ds_outside.specs.declared.files.Which.{Which}
+use Rattle.std.proofs.Common.{◌≡◌, ◌-◌, ◌≤◌, length, vec_len}
 use Rattle.ds_outside.proofs.Front.{FrontSoFar}
 use Rattle.ds_outside.proofs.files.read_whole.Given as goal
 
@@ -9,8 +8,7 @@ invariant-reading g l = record {
   buffer : length l.piece ≡ 65536;
   so_far : FrontSoFar (g.F.Files.held l.initial.files l.name) l.bytes.items;
   same_held : g.F.Files.held l.files ≡ g.F.Files.held l.initial.files;
-  never_falls : (w : Which) (n : List ℕ) → g.F.Files.faults l.initial.files w n ≤ g.F.Files.faults l.files w n;
-  other_kinds : (w : Which) (n : List ℕ) → w ≢ l.which → g.F.Files.faults l.files w n ≡ g.F.Files.faults l.initial.files w n;
+  same_faults : g.F.Files.faults l.files ≡ g.F.Files.faults l.initial.files;
 }
 
 abbrev pub decreases-reading : goal.decreases-reading

@@ -12,5 +12,5 @@ loop-done-preserved g c = record {
   same = ap (λ (w : Option (List ℕ)). appended w (drop (c.loop-done.done + c.in-Ok.n) c.args.piece.now)) c.in-Ok.ensures.ok
       ∙ (handed_more (g.O.Sink.written c.loop-done.sink) c.args.piece.now c.loop-done.done c.in-Ok.n ∙ c.loop-done.invariant.same);
   grew = λ before grew. subst (λ (w : Option (List ℕ)). Grew before w) (sym c.in-Ok.ensures.ok) (grew_more before (g.O.Sink.written c.loop-done.sink) _ (c.loop-done.invariant.grew before grew));
-  never_falls = omega arith;
+  same_faults = c.in-Ok.ensures.ok_same ∙ c.loop-done.invariant.same_faults;
 }

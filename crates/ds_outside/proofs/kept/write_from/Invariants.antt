@@ -9,7 +9,7 @@ invariant-loop-done g l = record {
   within : l.done ≤ length l.piece;
   same : appended (g.O.Sink.written l.sink) (drop l.done l.piece) ≡ appended (g.O.Sink.written l.initial.sink) (drop l.start l.piece);
   grew : GrewOn (g.O.Sink.written l.initial.sink) (g.O.Sink.written l.sink);
-  never_falls : g.O.Sink.faults l.initial.sink ≤ g.O.Sink.faults l.sink;
+  same_faults : g.O.Sink.faults l.sink ≡ g.O.Sink.faults l.initial.sink;
 }
 
 abbrev pub decreases-loop-done : goal.decreases-loop-done

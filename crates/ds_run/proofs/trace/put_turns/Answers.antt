@@ -1,4 +1,4 @@
-use Rattle.std.proofs.Common.{◌∙◌, ◌<◌, ◌+◌, ℕ, List, length, sym, subst, arith}
+use Rattle.std.proofs.Common.{◌∙◌, ◌<◌, ◌+◌, ℕ, List, length, sym, subst, arith, ◌≡◌}
 use Rattle.ds_base.specs.Values.{Row}
 use Rattle.ds_latch.specs.Node.{Split}
 use Rattle.ds_latch.specs.Plan.{Planned}
@@ -14,71 +14,69 @@ use Rattle.ds_run.proofs.trace.put_turns.Goals as goal
 
 pub loop-k-init : goal.loop-k-init
 loop-k-init g c =
-    let s : Split = c.args.played.now.plan.now.split in
-    let vectors : List Row = c.args.played.now.vectors.now.rows in
+    let s : Split = c.args.stored.now.plan.now.split in
     let none = Puts (g.P.Pen.writing c.args.pen.now) (g.P.Pen.writing c.args.pen.now) in
     record {
       line = c.requires.line;
-      registers = λ values. c.requires.registers ∙ sym values.clocked.starts;
-      written = subst (λ (row : Row). IsWrittenTo s.circuit c.args.first s.initial vectors 0 row none)
+      registers = λ vectors is values. c.requires.registers ∙ sym values.clocked.starts;
+      written = λ vectors is. subst (λ (row : Row). IsWrittenTo s.circuit c.args.first s.initial vectors 0 row none)
           (sym c.requires.registers)
           (no_turn s.circuit c.args.first s.initial vectors none (puts_nothing (g.P.Pen.writing c.args.pen.now)));
     }
 
 pub row-requires-clause-stored : goal.row-requires-clause-stored
 row-requires-clause-stored g c =
-    let stored = out_stored c.args.played.now.plan.now c.args.played.now.vectors.now.rows
-    c.args.played.now.fired.now
-    c.requires.played c.loop-k.k (omega arith) in
+    let (vectors, (played, many)) = c.requires.stored in
+    let below : c.loop-k.k < length vectors = omega (arith, many) in
+    let stored = out_stored c.args.stored.now.plan.now vectors c.args.stored.now.fired.now played c.loop-k.k below in
     rw c.new.ensures stored
 
 pub row-requires-clause-length : goal.row-requires-clause-length
 row-requires-clause-length g c =
-    let wide = out_wide c.args.played.now.plan.now c.args.played.now.vectors.now.rows
-    c.args.played.now.fired.now
-    c.requires.played in
+    let (vectors, (played, many)) = c.requires.stored in
+    let wide = out_wide c.args.stored.now.plan.now vectors c.args.stored.now.fired.now played in
     rw c.new.ensures (c.loop-k.invariant.line.outputs ∙ sym wide)
 
 pub gather-requires-clause-rows : goal.gather-requires-clause-rows
 gather-requires-clause-rows g c =
-    let slaves = has_slaves c.args.played.now.plan.now c.args.played.now.vectors.now.rows
-    c.args.played.now.fired.now
-    c.requires.played (c.loop-k.k + 1) (omega arith) in
+    let (vectors, (played, many)) = c.requires.stored in
+    let slaves = has_slaves c.args.stored.now.plan.now vectors c.args.stored.now.fired.now played (c.loop-k.k + 1)
+    (omega (arith, many)) in
     rw c.latches.ensures slaves
 
 pub gather-requires-clause-line : goal.gather-requires-clause-line
 gather-requires-clause-line g c =
-    line_read c.args.played.now.plan.now c.args.played.now.vectors.now.rows
-    c.args.played.now.fired.now c.requires.played c.loop-k.k
-    (omega arith) c.latches.result.now c.loop-k.line c.new.result c.row.new.into c.latches.ensures
+    let (vectors, (played, many)) = c.requires.stored in
+    line_read c.args.stored.now.plan.now vectors c.args.stored.now.fired.now played c.loop-k.k
+    (omega (arith, many)) c.latches.result.now c.loop-k.line c.new.result c.row.new.into c.latches.ensures
     c.loop-k.invariant.line c.new.ensures c.row.ensures
 
 pub loop-k-preserved : goal.loop-k-preserved
 loop-k-preserved g c =
-    let p : Planned = c.args.played.now.plan.now in
-    let vectors : List Row = c.args.played.now.vectors.now.rows in
-    let r : Recorder = c.args.played.now.fired.now in
+    let p : Planned = c.args.stored.now.plan.now in
+    let r : Recorder = c.args.stored.now.fired.now in
     let k : ℕ = c.loop-k.k in
     let t : Split = c.latches.result.now in
-    let below : c.loop-k.k < length c.args.played.now.vectors.now.rows = omega arith in
+    let below : (vectors : List Row) → length vectors ≡ c.args.stored.now.turns → c.loop-k.k < length vectors =
+    (λ vectors many. omega (arith, many)) in
     record {
       line = subst (λ (q : Split). HasLine q c.gather.new.line) c.latches.ensures
           c.gather.ensures.line;
-      registers = gathered_is p vectors r c.requires.played k below t c.gather.new.line.registers
+      registers = λ vectors (played, many). gathered_is p vectors r played k (below vectors many) t c.gather.new.line.registers
           c.latches.ensures c.gather.ensures.gathered;
-      written = turn_written p vectors r c.requires.played k below c.args.first t c.new.result c.row.new.into
+      written = λ vectors (played, many). turn_written p vectors r played k (below vectors many) c.args.first t c.new.result c.row.new.into
           c.loop-k.line.registers c.gather.new.line.registers
           (Puts (g.P.Pen.writing c.args.pen.now) (g.P.Pen.writing c.loop-k.pen))
           (Puts (g.P.Pen.writing c.args.pen.now) (g.P.Pen.writing c.put_trace_line.new.pen))
           c.new.ensures c.row.ensures
-          c.loop-k.invariant.registers c.latches.ensures c.gather.ensures.gathered
-          c.loop-k.invariant.written (λ text before. puts_on before c.put_trace_line.ensures);
+          (c.loop-k.invariant.registers vectors (played, many)) c.latches.ensures c.gather.ensures.gathered
+          (c.loop-k.invariant.written vectors (played, many)) (λ text before. puts_on before c.put_trace_line.ensures);
     }
 
 pub returns : goal.returns
 returns g c =
-    let s : Split = c.args.played.now.plan.now.split in
-    last_turn s.circuit c.args.first s.initial c.args.played.now.vectors.now.rows
+    let s : Split = c.args.stored.now.plan.now.split in
+    λ vectors (played, many). last_turn s.circuit c.args.first s.initial vectors
     c.loop-k.k c.loop-k.line.registers
     (Puts (g.P.Pen.writing c.args.pen.now) (g.P.Pen.writing c.loop-k.pen))
-    (omega arith) c.loop-k.invariant.written
+    (omega (arith, many)) (c.loop-k.invariant.written vectors (played, many))

@@ -1,18 +1,20 @@
-use Rattle.std.proofs.Common.{◌≡◌}
+use Rattle.std.proofs.Common.{◌≡◌, List}
+use Rattle.ds_base.specs.Values.{Row}
 use Rattle.ds_outside.specs.Pen.{Puts}
 use Rattle.ds_clocked.specs.Loop.{IsWrittenTo}
 use Rattle.ds_run.specs.Layout.{AreValues}
 use Rattle.ds_run.specs.Line.{HasLine}
+use Rattle.ds_run.specs.Played.{IsPlayedOn}
 use Rattle.ds_run.proofs.trace.put_turns.Given as goal
 
 abbrev pub invariant-loop-k : goal.invariant-loop-k
 invariant-loop-k g l = record {
-  line : HasLine l.played.plan.now.split l.line;
-  registers :
-      (values : AreValues l.played.plan.now.split l.played.vectors.now.rows
-      l.played.fired.now.shown.view.run)
+  line : HasLine l.stored.plan.now.split l.line;
+  registers : (vectors : List Row) → IsPlayedOn l.stored.plan.now l.stored.turns l.stored.fired.now vectors
+      → (values : AreValues l.stored.plan.now.split vectors l.stored.fired.now.shown.view.run)
       → l.line.registers ≡ values.state l.k;
-  written : IsWrittenTo l.played.plan.now.split.circuit l.first l.played.plan.now.split.initial
-      l.played.vectors.now.rows l.k l.line.registers
+  written : (vectors : List Row) → IsPlayedOn l.stored.plan.now l.stored.turns l.stored.fired.now vectors
+      → IsWrittenTo l.stored.plan.now.split.circuit l.first l.stored.plan.now.split.initial
+      vectors l.k l.line.registers
       (Puts (g.P.Pen.writing l.initial.pen) (g.P.Pen.writing l.pen));
 }

@@ -1,4 +1,4 @@
-use Rattle.std.proofs.Common.{rules, ◌≡◌, ◌∙◌, ◌∷◌, [], ℕ, List, Some, None, ap, refl, sym, arith, subst, eqb, true, false, MatchOption, get_or-set_same}
+use Rattle.std.proofs.Common.{rules, ◌≡◌, ◌≢◌, ◌∙◌, ◌∷◌, [], ℕ, List, Some, None, ap, refl, sym, arith, subst, eqb, true, false, MatchOption, get_or-set_same}
 use mathlib.Core.Option.{none}
 use prog.Atomic.{either}
 use Rattle.atomic_table.specs.Table.{step, Allows, rest}
@@ -43,7 +43,7 @@ returns c =
     c.exchange-pass.ensures.3 ∙ (ap (λ (m : TurnSeat). (m.0, (node, None) ∷ rest m.1)) h.3 ∙ ap (λ (cs : List (ℕ × Slot)). (w, (node, None) ∷ cs)) c.requires.idle.0) in
     let is : c.load.new.seat.me ≡ (record w { busy = 0 }, []) = c.load.ensures.2 ∙ ap (λ (m : TurnSeat). (record m.0 { busy = 0 }, [])) x in
     let found : Some p ≡ c.exchange-pass.result = ap front (sym (ap (λ (m : TurnSeat). m.1) h.3) ∙ c.exchange-pass.ensures.2) in
-    let P : Slot → Type 0 = λ r. MatchOption r (c.load.new.seat.me.0 ≡ after_miss v node)
+    let P : Slot → Type 0 = λ r. MatchOption r ((c.load.new.seat.me.0 ≡ after_miss v node) × (v.parts ≢ v.turns))
     (λ q. Alone v.fabric v.run node q × (c.load.new.seat.me.0 ≡ rested (after_won_take v node (seen q.view node)))) in record {
       table = c.load.ensures.0 ∙ (c.exchange-pass.ensures.0 ∙ c.compare_exchange.ensures.0);
       idle = ap (λ (m : TurnSeat). m.1) is;

@@ -1,23 +1,12 @@
-use Rattle.std.proofs.Common.{◌<◌, ℕ, List, length, refl, sym, ◌∙◌, subst, arith}
-use Rattle.ds_design.specs.Circuit.{Circuit}
-use Rattle.ds_split.specs.Cluster.{Agree, IsClustering}
-use Rattle.ds_split.proofs.Groupings.{grouping}
+use Rattle.std.proofs.Common.{◌≡◌, List, [], ℕ, length, ◌∙◌}
+use Rattle.ds_split.proofs.Keyed.{fault_by_mode, none_disjoint, ok_by_mode}
 use Rattle.ds_split.proofs.grouping.cluster.Goals as goal
 
-pub returns-then-len-most-clause-fault : goal.returns-then-len-most-clause-fault
-returns-then-len-most-clause-fault c =
-    let h : c.most.result < c.len.result = c.if-len-most.true in (
-      refl,
-      (
-        c.in_ok-groups.groups.items,
-        subst (λ (d : Circuit). IsClustering d c.args.mode c.in_ok-groups.groups.items) c.design.ensures.design
-            (grouping (Agree c.design.result.now c.args.mode) (length c.design.result.now.registers) c.in_ok-groups.groups.items c.in_ok-groups.ensures),
-        omega (arith, c.most.ensures, c.len.ensures),
-      ),
-    )
+pub cluster_groups-requires : goal.cluster_groups-requires
+cluster_groups-requires c = none_disjoint (length c.args.netlist.now.registers) c.as_slice.result.now (c.as_slice.ensures ∙ c.new-none.ensures)
 
 pub returns-clause-ok : goal.returns-clause-ok
-returns-clause-ok c =
-    subst (λ (xs : List (List ℕ)). IsClustering c.args.netlist.now c.args.mode xs) (sym (c.of-2.ensures ∙ c.of.ensures))
-    (subst (λ (d : Circuit). IsClustering d c.args.mode c.in_ok-groups.groups.items) c.design.ensures.design
-    (grouping (Agree c.design.result.now c.args.mode) (length c.design.result.now.registers) c.in_ok-groups.groups.items c.in_ok-groups.ensures))
+returns-clause-ok c = ok_by_mode c.args.netlist.now c.args.mode c.as_slice.result.now (c.as_slice.ensures ∙ c.new-none.ensures) c.cluster_groups.result c.cluster_groups.ensures.ok
+
+pub returns-clause-fault : goal.returns-clause-fault
+returns-clause-fault c = fault_by_mode c.args.netlist.now c.args.mode c.as_slice.result.now (c.as_slice.ensures ∙ c.new-none.ensures) c.cluster_groups.result c.cluster_groups.ensures.fault

@@ -8,6 +8,7 @@ use Rattle.ds_stage.specs.PeriodStage.{delays_stage, given_stage}
 use Rattle.ds_stage.specs.Ends.{Never, RoseIn}
 use Rattle.ds_stage.proofs.Stages.{widened}
 use Rattle.ds_stage.proofs.PeriodStages.{delays_wider}
+use Rattle.ds_stage.proofs.Counts.{well_read}
 use Rattle.ds_stage.proofs.delays.read_timing.Goals as goal
 
 pub returns-clause-value : goal.returns-clause-value
@@ -24,3 +25,6 @@ returns-clause-value g c =
     widened (then_stage (text_stage file text) (given_stage file graph))
     (delays_stage held file graph) Never more (delays_wider held file text graph more front)
     c.delays_in.result c.delays_in.ensures.value
+
+pub returns-clause-same_reads : goal.returns-clause-same_reads
+returns-clause-same_reads g c = well_read c.delays_in.result c.in_ok-text.ensures.same_reads

@@ -7,6 +7,7 @@ use Rattle.ds_stage.specs.ReplayStage.{fired_stage, kept_after, kept_stage}
 use Rattle.ds_stage.specs.Ends.{Never, RoseIn}
 use Rattle.ds_stage.proofs.Stages.{widened}
 use Rattle.ds_stage.proofs.LogStages.{kept_wider}
+use Rattle.ds_stage.proofs.Counts.{well_read}
 use Rattle.ds_stage.proofs.log.read_log.Goals as goal
 
 pub returns-clause-value : goal.returns-clause-value
@@ -19,3 +20,6 @@ returns-clause-value g c =
     widened (then_stage (then_stage (text_stage log text) (fired_stage log c.args.plan.now c.args.vectors.now.rows)) (kept_after c.args.plan.now c.args.vectors.now.rows))
     (kept_stage held log c.args.plan.now c.args.vectors.now.rows) Never more
     (kept_wider held log text c.args.plan.now c.args.vectors.now.rows more front) c.fired_in.result c.fired_in.ensures
+
+pub returns-clause-same_reads : goal.returns-clause-same_reads
+returns-clause-same_reads g c = well_read c.fired_in.result c.in_ok-text.ensures.same_reads

@@ -7,6 +7,7 @@ use Rattle.ds_stage.specs.PlanStage.{marked_stage, named_stage}
 use Rattle.ds_stage.specs.Ends.{Never, RoseIn}
 use Rattle.ds_stage.proofs.Stages.{widened}
 use Rattle.ds_stage.proofs.PlanStages.{named_wider}
+use Rattle.ds_stage.proofs.Counts.{well_read}
 use Rattle.ds_stage.proofs.plan.named_plan.Goals as goal
 
 pub returns-clause-value : goal.returns-clause-value
@@ -18,3 +19,6 @@ returns-clause-value g c =
     let front : FrontIsHeld (held file) 16777217 text = subst (λ (t : List ℕ). FrontIsHeld (held file) 16777217 t) (sym c.deref.ensures.value) c.in_ok-text.ensures.ok in
     widened (then_stage (text_stage file text) (marked_stage file c.args.latches)) (named_stage held file c.args.latches) Never more
     (named_wider held file text c.args.latches more front) c.plan_in.result c.plan_in.ensures
+
+pub returns-clause-same_reads : goal.returns-clause-same_reads
+returns-clause-same_reads g c = well_read c.plan_in.result c.in_ok-text.ensures.same_reads

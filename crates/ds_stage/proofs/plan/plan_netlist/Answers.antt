@@ -1,5 +1,5 @@
 -- Behind the split, the plan.
-use Rattle.std.proofs.Common.{ℕ, List, Err, subst}
+use Rattle.std.proofs.Common.{ℕ, List, Err, refl, subst}
 use Rattle.std.proofs.lemmas.Result.{err_from_is_err_and}
 use Rattle.ds_base.specs.declared.number.Mode.{Mode}
 use Rattle.ds_design.specs.Circuit.{Circuit}
@@ -12,6 +12,7 @@ use Rattle.ds_stage.specs.Ends.{Answers, Never, RoseIn}
 use Rattle.ds_stage.specs.declared.stop.Stop.{Stop}
 use Rattle.ds_stage.proofs.Stages.{passed, stopped, widened}
 use Rattle.ds_stage.proofs.Ends.{no_more}
+use Rattle.ds_stage.proofs.Counts.{unread_or}
 use Rattle.ds_stage.proofs.plan.plan_netlist.Goals as goal
 
 pub returns-in_err-latches-clause-value : goal.returns-in_err-latches-clause-value
@@ -32,3 +33,8 @@ returns-clause-value g c =
     let more : OfFile = RoseIn (g.F.Files.faults c.args.files.now) (g.F.Files.faults c.plan_of.new.files) in
     passed (split_stage c.args.net.now c.args.splitting.clusters c.args.netlist.now) (λ (s : Split). plan_stage held c.args.graph.now (slackened s c.args.splitting.slack)) more c.in_ok-latches.latches c.in_ok-latches.ensures
     c.plan_of.result (subst (λ (s : Split). Answers {A = Planned} (plan_stage held c.args.graph.now s) more c.plan_of.result) c.with_slack.ensures c.plan_of.ensures.value)
+
+pub returns-in_err-latches-clause-same_reads : goal.returns-in_err-latches-clause-same_reads
+returns-in_err-latches-clause-same_reads g c =
+    let p = err_from_is_err_and c.from_residual.result c.from_residual.ensures.1 in
+    rw (p.1, p.2) (unread_or c.in_err-latches.field-0.0 refl)

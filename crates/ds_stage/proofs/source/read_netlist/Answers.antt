@@ -8,6 +8,7 @@ use Rattle.ds_stage.specs.Stages.{accepted_stage, design_stage, file_stage, text
 use Rattle.ds_stage.specs.Ends.{Never, RoseIn}
 use Rattle.ds_stage.specs.declared.stop.Stop.{Stop}
 use Rattle.ds_stage.proofs.Stages.{stopped, passed, widened, file_wider}
+use Rattle.ds_stage.proofs.Counts.{unread_or, well_read}
 use Rattle.ds_stage.proofs.source.read_netlist.Goals as goal
 
 pub returns-in_err-design-clause-value : goal.returns-in_err-design-clause-value
@@ -34,3 +35,11 @@ returns-clause-value g c =
     (widened (then_stage (text_stage net text) (design_stage net)) (file_stage held net) Never more (file_wider held net text more front) (Ok design) c.in_ok-design.ensures)
     c.accepted_netlist.result
     (widened (accepted_stage net design) (accepted_stage net design) Never more (record { means = λ a is. is; refused = λ line is. is; unread = λ line none. absurd none }) c.accepted_netlist.result c.accepted_netlist.ensures)
+
+pub returns-in_err-design-clause-same_reads : goal.returns-in_err-design-clause-same_reads
+returns-in_err-design-clause-same_reads g c =
+    let p = err_from_is_err_and c.from_residual-in_err-design.result c.from_residual-in_err-design.ensures.1 in
+    rw (p.1, p.2) (unread_or c.in_err-design.field-0.0 c.in_ok-text.ensures.same_reads)
+
+pub returns-clause-same_reads : goal.returns-clause-same_reads
+returns-clause-same_reads g c = well_read c.accepted_netlist.result c.in_ok-text.ensures.same_reads

@@ -24,9 +24,9 @@ loop-list-init c =
     let bank = c.args.bank.now in
     let lists : List (List ℕ) = c.args.lists.now in
     subst (λ (ps : Parts). AreListed ps bank lists 0 c.new-order.result.items c.new-runs.result.items c.in_ok-bounds.bounds.items) (sym c.new-kinds.ensures)
-    (subst (λ (ns : List ℕ). AreListed (record { twos = []; nines = []; threes = []; three_words = []; fours = [] }) bank lists 0 ns c.new-runs.result.items c.in_ok-bounds.bounds.items) (sym c.new-order.ensures.items)
-    (subst (λ (rs : List Run). AreListed (record { twos = []; nines = []; threes = []; three_words = []; fours = [] }) bank lists 0 [] rs c.in_ok-bounds.bounds.items) (sym c.new-runs.ensures.items)
-    (subst (λ (bs : List ℕ). AreListed (record { twos = []; nines = []; threes = []; three_words = []; fours = [] }) bank lists 0 [] [] bs) (sym c.in_ok-bounds.ensures) (listed_none bank lists))))
+    (subst (λ (ns : List ℕ). AreListed (record { twos = []; nines = []; threes = []; three_words = []; fours = []; fives = []; sixes = [] }) bank lists 0 ns c.new-runs.result.items c.in_ok-bounds.bounds.items) (sym c.new-order.ensures.items)
+    (subst (λ (rs : List Run). AreListed (record { twos = []; nines = []; threes = []; three_words = []; fours = []; fives = []; sixes = [] }) bank lists 0 [] rs c.in_ok-bounds.bounds.items) (sym c.new-runs.ensures.items)
+    (subst (λ (bs : List ℕ). AreListed (record { twos = []; nines = []; threes = []; three_words = []; fours = []; fives = []; sixes = [] }) bank lists 0 [] [] bs) (sym c.in_ok-bounds.ensures) (listed_none bank lists))))
 
 pub loop-list-preserved : goal.loop-list-preserved
 loop-list-preserved c =

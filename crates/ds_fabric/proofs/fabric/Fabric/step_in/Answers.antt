@@ -3,7 +3,7 @@ use Rattle.ds_base.specs.Scratch.{Remembers}
 use Rattle.ds_rule.specs.Rule.{holds}
 use Rattle.ds_rule.specs.declared.view.View.{View}
 use Rattle.ds_fabric.specs.Showing.{Showing}
-use Rattle.ds_fabric.specs.Stepped.{Stepped}
+use Rattle.ds_fabric.specs.Stepped.{Stepped, FiresIfEnabled}
 use Rattle.ds_fabric.proofs.fabric.Fabric.step_in.Goals as goal
 
 pub step_node-requires-clause-table : goal.step_node-requires-clause-table
@@ -37,3 +37,8 @@ returns-clause-same g c = let q = c.step_node.ensures.same in let e = c.pass.vie
   room = ap (λ (x : Showing). x.room) e;
   remembers = subst (Remembers c.args.self.now.memory) (sym (ap (λ (x : Showing). x.scratch) e));
 }
+
+pub returns-clause-exact : goal.returns-clause-exact
+returns-clause-exact g c =
+    subst (λ (v : View). FiresIfEnabled c.args.self.now.run v c.args.node c.step_node.result)
+    (ap (λ (x : Showing). x.view) c.pass.view_is) c.step_node.ensures.exact

@@ -6,7 +6,9 @@ use Rattle.ds_rule.specs.Run.{Run}
 use Rattle.ds_fabric.specs.Base.{Base}
 use Rattle.ds_fabric.specs.Indexed.{IsIndexed}
 use Rattle.ds_fabric.proofs.Standing.{put_back}
-use Rattle.ds_fabric.specs.Stepped.{Stepped}
+use Rattle.ds_fabric.specs.Stepped.{Stepped, FiresIfEnabled}
+use Rattle.ds_rule.specs.declared.view.View.{View}
+use Rattle.ds_fabric.proofs.Steps.{fires_if_enabled}
 use Rattle.ds_fabric.specs.declared.history.History.{History}
 use Rattle.ds_fabric.proofs.Finds.{indexed_same, stands_same, stands_below}
 use Rattle.std.proofs.Common.{get_or}
@@ -93,3 +95,18 @@ returns-clause-step g c =
     subst (P c.args.self.now.run) same
     (subst (λ (r : Run). P r h.node)
     (ap (λ (x : Base). x.run) c.self.view_is) c.advance.ensures.step)
+
+pub returns-clause-exact : goal.returns-clause-exact
+returns-clause-exact g c =
+    let nodes : List History = c.args.nodes.now.items in let i : ℕ = c.find-at.result in
+    let h : History = c.index_mut.result.now in
+    let at = there nodes c.as_slice-held.result.now i c.index-number.result h
+    c.as_slice-held.ensures.value c.find-at.ensures c.index_mut.ensures.value in
+    let same = node-found nodes c.as_slice-held.result.now i c.index-number.result c.args.node h
+    c.as_slice-held.ensures.value c.index-number.ensures at c.find-at.ensures in
+    let v : View = c.args.seat.now.me.0 in
+    let P : Run → ℕ → Type 0 = λ r l. FiresIfEnabled r v l c.advance.result in
+    subst (P c.args.self.now.run) same
+    (subst (λ (r : Run). P r h.node) (ap (λ (x : Base). x.run) c.self.view_is)
+    (fires_if_enabled c.self.inside.run.now v c.advance.new.seat.me.0 h.node c.advance.result
+    c.self.invariant.0.over.sound c.advance.ensures.step))

@@ -10,7 +10,7 @@ use Rattle.ds_opening.specs.Classes.{AreClasses, HasTables}
 use Rattle.ds_opening.specs.Groups.{AreGroupsOf}
 use Rattle.ds_opening.specs.Lacking.{AreByLacking}
 use Rattle.ds_opening.specs.Lists.{AreLists}
-use Rattle.ds_opening.specs.Members.{AreMembers}
+use Rattle.ds_opening.specs.Scheduled.{AreGroupMembers}
 use Rattle.ds_opening.specs.Reads.{AreReads}
 use Rattle.ds_opening.specs.Seen.{AreReadsOf}
 use Rattle.ds_opening.proofs.Grouped.{are_groups, few_order, have_tables, members_within}
@@ -52,15 +52,14 @@ lists_of-requires-clause-tables c =
 pub lists_of-requires-clause-below : goal.lists_of-requires-clause-below
 lists_of-requires-clause-below c = c.in_ok-numbers.ensures.below
 
-pub members_of-requires-clause-within : goal.members_of-requires-clause-within
-members_of-requires-clause-within c =
+pub scheduled_members-requires-clause-long : goal.scheduled_members-requires-clause-long
+scheduled_members-requires-clause-long c =
     let size : length c.tables-tables.result.now ≡ length c.args.netlist.now.tables =
     ap (λ (ts : List Gate). length ts) c.tables-tables.ensures.tables ∙ ap (λ (d : Circuit). length d.tables) c.design-design.ensures.design in
-    let long : length c.in_ok-numbers.numbers.of.items ≡ length c.tables-tables.result.now = c.in_ok-numbers.ensures.ok.one_each in
-    subst (λ (n : ℕ). All (λ k. k < n) c.order-order.result.now) (sym (long ∙ size)) c.order-order.ensures.places
+    c.in_ok-numbers.ensures.ok.one_each ∙ size
 
-pub members_of-requires-clause-below : goal.members_of-requires-clause-below
-members_of-requires-clause-below c = c.in_ok-numbers.ensures.below
+pub scheduled_members-requires-clause-below : goal.scheduled_members-requires-clause-below
+scheduled_members-requires-clause-below c = c.in_ok-numbers.ensures.below
 
 pub reads_of-requires-clause-in_range : goal.reads_of-requires-clause-in_range
 reads_of-requires-clause-in_range c =
@@ -72,23 +71,23 @@ reads_of-requires-clause-others c =
     (sym c.design-design.ensures.design) c.requires.others
 
 -- what members are asked to be
-members_low : (d : Circuit) (order numbers : List ℕ) (count : ℕ) (groups items : List (List ℕ)) → IsTableOrder d order
-    → items ≡ groups → AreMembers order numbers count groups → All (λ these. All (λ k. k < length d.tables) these) items
-members_low d order numbers count groups items ordered same are =
+members_low : (d : Circuit) (numbers : List ℕ) (count : ℕ) (groups items : List (List ℕ))
+    → items ≡ groups → AreGroupMembers d numbers count groups → All (λ these. All (λ k. k < length d.tables) these) items
+members_low d numbers count groups items same are =
     subst (λ (xs : List (List ℕ)). All (λ these. All (λ k. k < length d.tables) these) xs) (sym same)
-    (members_within d order ordered numbers count groups are)
+    (members_within d are.order are.scheduled.places numbers count groups are.members)
 
 pub reads_of-requires-clause-groups : goal.reads_of-requires-clause-groups
 reads_of-requires-clause-groups c =
     subst (λ (d : Circuit). All (λ these. All (λ k. k < length d.tables) these) c.as_slice-3.result.now) (sym c.design-design.ensures.design)
-    (members_low c.args.netlist.now c.order-order.result.now c.in_ok-numbers.numbers.of.items c.in_ok-numbers.numbers.count
-    c.in_ok-groups.groups.items c.as_slice-3.result.now c.order-order.ensures c.as_slice-3.ensures.value c.in_ok-groups.ensures.ok)
+    (members_low c.args.netlist.now c.in_ok-numbers.numbers.of.items c.in_ok-numbers.numbers.count
+    c.in_ok-groups.groups.items c.as_slice-3.result.now c.as_slice-3.ensures.value c.in_ok-groups.ensures.ok)
 
 pub of-requires : goal.of-requires
 of-requires c =
     subst (λ (n : ℕ). All (λ these. All (λ k. k < n) these) c.as_slice-4.result.now) (sym c.bank.ensures.one_each)
-    (members_low c.args.netlist.now c.order-order.result.now c.in_ok-numbers.numbers.of.items c.in_ok-numbers.numbers.count
-    c.in_ok-groups.groups.items c.as_slice-4.result.now c.order-order.ensures c.as_slice-4.ensures.value c.in_ok-groups.ensures.ok)
+    (members_low c.args.netlist.now c.in_ok-numbers.numbers.of.items c.in_ok-numbers.numbers.count
+    c.in_ok-groups.groups.items c.as_slice-4.result.now c.as_slice-4.ensures.value c.in_ok-groups.ensures.ok)
 
 pub returns : goal.returns
 returns c =
@@ -113,7 +112,7 @@ returns c =
       ok = subst (λ (s : Selected). AreGroupsOf c.args.netlist.now cones (record { bank = s.tables; groups = s.lists; lists = c.in_ok-lists.lists.items; reads = reads }))
           (sym selected) (are_groups c.args.netlist.now c.order-order.result.now c.order-order.ensures cones c.requires.cones
           numbers c.in_ok-numbers.numbers.count classes c.in_ok-numbers.ensures.below
-          groups c.in_ok-groups.ensures.ok c.in_ok-lists.lists.items lists rises
+          c.in_ok-groups.ensures.ok.order c.in_ok-groups.ensures.ok.scheduled groups c.in_ok-groups.ensures.ok.members c.in_ok-lists.lists.items lists rises
           c.bank.result.now c.bank.ensures reads);
       reads = subst (λ (s : Selected). AreReads c.args.netlist.now c.args.others.now (record { bank = s.tables; groups = s.lists; lists = c.in_ok-lists.lists.items; reads = reads }))
           (sym selected) (read c.bank.result.now c.in_ok-lists.lists.items);

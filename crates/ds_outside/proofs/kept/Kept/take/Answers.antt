@@ -11,5 +11,5 @@ loop-done-preserved g c = record {
       ∙ (ap (λ w. appended w (take c.in_ok-done.field-0 (take (length c.args.piece.now - c.loop-done.done) (drop c.loop-done.done c.args.piece.now)))) c.loop-done.invariant.so_far
       ∙ appended_more (appended (g.O.Sink.written c.args.sink.now) c.args.self.now) c.args.piece.now c.loop-done.done c.in_ok-done.field-0);
   grew = λ before grew. c.in_ok-done.ensures.grew before (c.loop-done.invariant.grew before grew);
-  faults = omega arith;
+  faults = c.in_ok-done.ensures.ok_same ∙ c.loop-done.invariant.faults;
 }

@@ -8,7 +8,7 @@ invariant-loop-done g l = record {
   within : l.done ≤ length l.piece;
   so_far : appended (g.O.Sink.written l.sink) l.self ≡ appended (appended (g.O.Sink.written l.initial.sink) l.initial.self) (take l.done l.piece);
   grew : GrewOn (g.O.Sink.written l.initial.sink) (g.O.Sink.written l.sink);
-  faults : g.O.Sink.faults l.initial.sink ≤ g.O.Sink.faults l.sink;
+  faults : g.O.Sink.faults l.sink ≡ g.O.Sink.faults l.initial.sink;
 }
 
 abbrev pub decreases-loop-done : goal.decreases-loop-done

@@ -36,6 +36,7 @@ opened k key ps id id' v same given table first =
         table = table;
         fabric_is = ap (λ (x : TurnView). x.fabric) first ∙ ap fabric_of (sym given-is);
         run_is = ap (λ (x : TurnView). x.run) first ∙ ap run_of (sym given-is);
+        turns_is = ap (λ (x : TurnView). x.turns) first ∙ ap (λ (x : Key). x.turns) (sym same);
       };
       parts = ap (λ (x : TurnView). x.parts) first;
       none = λ l. ap (λ (x : TurnView). has_out x l) first ∙ replicate-default {A = Bool} (nodes_of_key k) l false;

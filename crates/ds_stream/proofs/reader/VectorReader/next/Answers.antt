@@ -42,6 +42,7 @@ reading-init g c =
     record {
       buffer = refl;
       same_held = refl;
+      same_faults = refl;
       never_falls = λ w n. omega arith;
       other_kinds = λ w n ne. refl;
       width = ap (λ (f : Filled). f.width) is;
@@ -120,6 +121,7 @@ reading-preserved g c =
     record {
       buffer = grind (arith, common_steps);
       same_held = c.in-Ok.ensures.same_held ∙ c.reading.invariant.same_held;
+      same_faults = c.in-Ok.ensures.ok_same ∙ c.reading.invariant.same_faults;
       never_falls = λ w k. omega (arith, c.reading.invariant.never_falls w k, c.in-Ok.ensures.never_falls w k);
       other_kinds = λ w k ne. c.in-Ok.ensures.other_kinds w k ne ∙ c.reading.invariant.other_kinds w k ne;
       width = is_of.width ∙ c.reading.invariant.width;
@@ -157,6 +159,9 @@ returns-clause-width g c = ap (λ r. r.width) c.finish-2.ensures.rows ∙ c.read
 pub returns-clause-same_held : goal.returns-clause-same_held
 returns-clause-same_held g c = c.reading.invariant.same_held
 
+pub returns-clause-same_faults : goal.returns-clause-same_faults
+returns-clause-same_faults g c = λ read. c.reading.invariant.same_faults
+
 pub returns-clause-never_falls : goal.returns-clause-never_falls
 returns-clause-never_falls g c = c.reading.invariant.never_falls
 
@@ -176,6 +181,9 @@ returns-in-Ok-end-clause-width g c = ap (λ r. r.width) c.finish.ensures.rows �
 pub returns-in-Ok-end-clause-same_held : goal.returns-in-Ok-end-clause-same_held
 returns-in-Ok-end-clause-same_held g c = c.in-Ok-eq0.ensures.same_held ∙ c.reading.invariant.same_held
 
+pub returns-in-Ok-end-clause-same_faults : goal.returns-in-Ok-end-clause-same_faults
+returns-in-Ok-end-clause-same_faults g c = λ read. c.in-Ok-eq0.ensures.ok_same ∙ c.reading.invariant.same_faults
+
 pub returns-in-Ok-end-clause-never_falls : goal.returns-in-Ok-end-clause-never_falls
 returns-in-Ok-end-clause-never_falls g c = λ w n. omega (arith, c.reading.invariant.never_falls w n, c.in-Ok-eq0.ensures.never_falls w n)
 
@@ -184,6 +192,9 @@ returns-in-Ok-end-clause-other_kinds g c = λ w n ne. c.in-Ok-eq0.ensures.other_
 
 pub returns-in-Err-end-clause-same_held : goal.returns-in-Err-end-clause-same_held
 returns-in-Err-end-clause-same_held g c = c.in-Ok-eq0.ensures.same_held ∙ c.reading.invariant.same_held
+
+pub returns-in-Err-end-clause-same_faults : goal.returns-in-Err-end-clause-same_faults
+returns-in-Err-end-clause-same_faults g c = λ read. c.in-Ok-eq0.ensures.ok_same ∙ c.reading.invariant.same_faults
 
 pub returns-in-Err-end-clause-never_falls : goal.returns-in-Err-end-clause-never_falls
 returns-in-Err-end-clause-never_falls g c = λ w n. omega (arith, c.reading.invariant.never_falls w n, c.in-Ok-eq0.ensures.never_falls w n)
@@ -194,6 +205,9 @@ returns-in-Err-end-clause-other_kinds g c = λ w n ne. c.in-Ok-eq0.ensures.other
 pub returns-in-Err-take-clause-same_held : goal.returns-in-Err-take-clause-same_held
 returns-in-Err-take-clause-same_held g c = c.in-Ok.ensures.same_held ∙ c.reading.invariant.same_held
 
+pub returns-in-Err-take-clause-same_faults : goal.returns-in-Err-take-clause-same_faults
+returns-in-Err-take-clause-same_faults g c = λ read. c.in-Ok.ensures.ok_same ∙ c.reading.invariant.same_faults
+
 pub returns-in-Err-take-clause-never_falls : goal.returns-in-Err-take-clause-never_falls
 returns-in-Err-take-clause-never_falls g c = λ w n. omega (arith, c.reading.invariant.never_falls w n, c.in-Ok.ensures.never_falls w n)
 
@@ -202,6 +216,9 @@ returns-in-Err-take-clause-other_kinds g c = λ w n ne. c.in-Ok.ensures.other_ki
 
 pub returns-in-Err-clause-same_held : goal.returns-in-Err-clause-same_held
 returns-in-Err-clause-same_held g c = c.in-Err.ensures.same_held ∙ c.reading.invariant.same_held
+
+pub returns-in-Err-clause-same_faults : goal.returns-in-Err-clause-same_faults
+returns-in-Err-clause-same_faults g c = λ read. absurd (read refl)
 
 pub returns-in-Err-clause-never_falls : goal.returns-in-Err-clause-never_falls
 returns-in-Err-clause-never_falls g c = λ w n. omega (arith, c.reading.invariant.never_falls w n, c.in-Err.ensures.never_falls w n)

@@ -8,6 +8,7 @@ abbrev pub invariant-reading : goal.invariant-reading
 invariant-reading g l = record {
   buffer : length l.piece ≡ 65536;
   same_held : g.F.Files.held l.files ≡ g.F.Files.held l.initial.files;
+  same_faults : g.F.Files.faults l.files ≡ g.F.Files.faults l.initial.files;
   never_falls : (w : Which) (n : List ℕ) → g.F.Files.faults l.initial.files w n ≤ g.F.Files.faults l.files w n;
   other_kinds : (w : Which) (n : List ℕ) → w ≢ Vectors → g.F.Files.faults l.files w n ≡ g.F.Files.faults l.initial.files w n;
   width : l.filling.width ≡ l.fn.self.width;

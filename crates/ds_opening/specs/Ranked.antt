@@ -1,0 +1,13 @@
+-- Tables by ranks.
+use Rattle.std.specs.Prelude.{ℕ, List, slice_index}
+use Rattle.std.specs.List.Sorted.{IsNonDecreasingBy, IsPermutation}
+use Rattle.ds_opening.specs.declared.ranked.Ranked.{Ranked}
+
+-- a table with its rank
+abbrev pub ranked_of : List ℕ → ℕ → Ranked
+ranked_of ranks k = record { rank = slice_index ranks k; table = k }
+
+-- the same tables, along which the ranks do not fall
+pub record IsByRank (ranks order sorted : List ℕ) : Type 0 where
+  pub permuted : IsPermutation order sorted
+  pub rising : IsNonDecreasingBy (slice_index ranks) sorted

@@ -1,0 +1,198 @@
+"""Reads a graph of the literature: the `.g` form with all that petrify, SIS and Workcraft write."""
+
+from __future__ import annotations
+
+import re
+from typing import Iterator, Optional, Union
+
+from desync_tools.text import BadText, joined
+
+SIGNALS = (".inputs", ".outputs", ".internal")
+DUMMY = ".dummy"
+LEFT_OUT = (".capacity", ".coords", ".initial", ".slowenv", ".time")
+TRANSITION = re.compile(r"^([^/]+)([+~-])(?:/(\d+))?$")
+INSTANCE = re.compile(r"^([^/]+)/(\d+)$")
+ENTRY = re.compile(r"^(?:<([^,<>]+),([^,<>]+)>|([^<>=]+))(?:=(\d+))?$")
+SIGNS = {"+": "plus", "-": "minus", "~": "toggle"}
+BAD_LETTER = re.compile(r"[/~<>,{}=+-]")
+
+
+class Line:
+    """A logical line: the number of its first physical line, and its words."""
+
+    def __init__(self, number: int, words: list[str]) -> None:
+        self.number, self.words = number, words
+
+
+class Literature:
+    """A graph as it is read: its model, its declarations, its arcs and its marking, and what was
+    changed so that Desync can read it."""
+
+    def __init__(self, text: str) -> None:
+        self.model = ""
+        self.declared: dict[str, dict[str, None]] = {kind: {} for kind in SIGNALS + (DUMMY,)}
+        # The targets of each source, and the tokens of each place.
+        self.arcs: dict[str, dict[str, None]] = {}
+        self.marking: dict[Union[str, tuple[str, str]], int] = {}
+        self.changes: list[str] = []
+        self.own: dict[str, str] = {}
+        lines = list(logical_lines(text))
+        self.taken = {word for line in lines for word in line.words}
+        for line in lines:
+            if line.words[0] in self.declared:
+                self.declared[line.words[0]].update(dict.fromkeys(line.words[1:]))
+        for line in lines:
+            self.read(line)
+
+    def read(self, line: Line) -> None:
+        """Takes what a line says, but for its declarations."""
+        first = line.words[0]
+        if first in (".model", ".name"):
+            self.name(line)
+        elif first in LEFT_OUT or line.words[:2] == [".state", "graph"]:
+            self.changes.append("line %d: left out %s" % (line.number, first))
+        elif first == ".marking":
+            self.mark(line)
+        elif first == ".graph" or first in self.declared:
+            return
+        elif first.startswith("."):
+            raise BadText("line %d: unknown command %s" % (line.number, first))
+        else:
+            self.join(line)
+
+    def name(self, line: Line) -> None:
+        """Takes the name of the model."""
+        if not self.model and len(line.words) > 1:
+            self.model = line.words[1]
+        if line.words[0] == ".name":
+            self.changes.append("line %d: took .name for .model" % line.number)
+
+    def join(self, line: Line) -> None:
+        """Takes the arcs of a line of the graph."""
+        source = self.item(line.words[0])
+        if len(line.words) == 1:
+            raise BadText("line %d: %s leads to nothing" % (line.number, line.words[0]))
+        for word in line.words[1:]:
+            target = self.item(word)
+            if not self.is_event(source) and not self.is_event(target):
+                told = (line.number, line.words[0], word)
+                raise BadText(
+                    "line %d: %s leads to %s, and neither is an event: a dummy may lack its .dummy"
+                    % told
+                )
+            self.arcs.setdefault(source, {})[target] = None
+
+    def mark(self, line: Line) -> None:
+        """Takes the entries of a marking."""
+        for entry in entries_of(" ".join(line.words[1:])):
+            parts = ENTRY.match(entry)
+            if not parts:
+                raise BadText("line %d: bad marking %s" % (line.number, entry))
+            source, target, place, count = parts.groups()
+            key = place or (self.item(source), self.item(target))
+            if isinstance(key, tuple) and key[1] not in self.arcs.get(key[0], {}):
+                raise BadText("line %d: no arc for the marking %s" % (line.number, entry))
+            self.marking[key] = int(count or 1)
+
+    def item(self, word: str) -> str:
+        """What stands for a word of the graph: an event that Desync reads, or a place."""
+        if word in self.own:
+            return self.own[word]
+        parts = TRANSITION.match(word)
+        if parts and self.is_signal(parts.group(1)):
+            signal, sign, number = parts.groups()
+            if number is None and sign != "~":
+                return word
+            return self.stand_for(word, "%s_%s" % (signal, SIGNS[sign]), number)
+        parts = INSTANCE.match(word)
+        if parts and parts.group(1) in self.declared[DUMMY]:
+            return self.stand_for(word, parts.group(1), parts.group(2))
+        return word
+
+    def stand_for(self, word: str, stem: str, number: Optional[str]) -> str:
+        """A dummy of its own for an instance or a toggle."""
+        name = BAD_LETTER.sub("_", stem if number is None else "%s_%s" % (stem, number))
+        while name in self.taken:
+            name += "_"
+        self.taken.add(name)
+        self.declared[DUMMY][name] = None
+        self.own[word] = name
+        self.changes.append("%s is the dummy %s" % (word, name))
+        return name
+
+    def is_signal(self, name: str) -> bool:
+        return any(name in self.declared[kind] for kind in SIGNALS)
+
+    def is_event(self, item: str) -> bool:
+        parts = TRANSITION.match(item)
+        return item in self.declared[DUMMY] or bool(parts and self.is_signal(parts.group(1)))
+
+    def places(self) -> Iterator[tuple[str, list[str], list[str]]]:
+        """Each explicit place with its sources and its targets."""
+        into: dict[str, list[str]] = {}
+        behind: dict[str, list[str]] = {}
+        for source, targets in self.arcs.items():
+            for target in targets:
+                if not self.is_event(target):
+                    into.setdefault(target, []).append(source)
+                if not self.is_event(source):
+                    behind.setdefault(source, []).append(target)
+        for place in dict.fromkeys([*into, *behind]):
+            yield place, into.get(place, []), behind.get(place, [])
+
+    def faults(self) -> Iterator[str]:
+        """Why the graph is no marked graph: a text for each place with a choice or a merge."""
+        for place, sources, targets in self.places():
+            if len(targets) > 1:
+                yield "a choice at %s: %s" % (place, " ".join(targets))
+            if len(sources) > 1:
+                yield "a merge at %s: %s" % (place, " ".join(sources))
+            if not targets or not sources:
+                yield "%s has no %s" % (place, "target" if sources else "source")
+
+    def lines(self) -> Iterator[str]:
+        """The lines of the graph as Desync reads them."""
+        yield ".model %s" % (self.model or "graph")
+        for kind, names in self.declared.items():
+            if names:
+                yield "%s %s" % (kind, " ".join(names))
+        yield ".graph"
+        for source, targets in self.arcs.items():
+            yield "%s %s" % (source, " ".join(targets))
+        yield ".marking { %s}" % "".join("%s " % entry for entry in self.entries())
+        yield ".end"
+
+    def entries(self) -> Iterator[str]:
+        """The entries of the marking."""
+        for key, count in self.marking.items():
+            place = key if isinstance(key, str) else "<%s,%s>" % key
+            if count:
+                yield place if count == 1 else "%s=%d" % (place, count)
+
+
+def logical_lines(text: str) -> Iterator[Line]:
+    """The lines of a text up to `.end`; a marking goes on to its brace, on whatever line."""
+    marking: Optional[Line] = None
+    for number, words in joined(text.split("\n")):
+        if not words:
+            continue
+        if marking:
+            marking.words += words
+        elif words[0].startswith(".marking"):
+            rest = words[0][len(".marking") :]
+            marking = Line(number, [".marking", *([rest] if rest else []), *words[1:]])
+        elif words[0] == ".end":
+            return
+        else:
+            yield Line(number, words)
+        if marking and any("}" in word for word in marking.words):
+            yield marking
+            marking = None
+    if marking:
+        raise BadText("line %d: the marking has no end" % marking.number)
+
+
+def entries_of(text: str) -> list[str]:
+    """The entries between the braces of a marking, with no blanks inside of one."""
+    inside = re.sub(r"\s*([<,>=])\s*", r"\1", text.strip().strip("{}"))
+    return re.sub(r">(?=[^=\s])", "> ", re.sub(r"(?<=[^\s,<>=])<", " <", inside)).split()
