@@ -111,6 +111,10 @@ class Split:
         for number in range(len(self.clusters)):
             self.nodes += ["M%d" % number, "S%d" % number]
 
+    def count(self) -> int:
+        """The number of clusters."""
+        return len(self.clusters)
+
     def registers(self, number: int) -> list[Net]:
         """The registers of a cluster."""
         return [self.netlist.registers[place] for place in self.clusters[number].places]
