@@ -120,11 +120,11 @@ class Split:
         return [self.netlist.registers[place] for place in self.clusters[number].places]
 
     def names(self) -> dict[str, str]:
-        """What stands in each node, by name: columns, outputs or registers."""
+        """What stands in each node, by name: columns, outputs or registers; else the node."""
         found = {"IN": spans(self.netlist.columns), "OUT": spans(self.netlist.outputs)}
         for number in range(len(self.clusters)):
             found["M%d" % number] = found["S%d" % number] = spans(self.registers(number))
-        return found
+        return {node: name or node for node, name in found.items()}
 
 
 def take_mode(words: argparse.ArgumentParser, default: Optional[str] = "each") -> None:
