@@ -5,9 +5,9 @@ from __future__ import annotations
 
 import argparse
 import re
-from typing import Optional, Sequence, Union
+from typing import Iterator, Optional, Sequence, Union
 
-from desync_tools.buses import buses
+from desync_tools.buses import Bus, buses
 from desync_tools.named_groups import read_groups
 from desync_tools.netlist import Net, Netlist, printed
 
@@ -69,9 +69,32 @@ def named(key: Union[Net, int], registers: Sequence[Net], groups: Sequence[Seque
     return printed(key)
 
 
+def names_of(nets: Sequence[Net]) -> Iterator[str]:
+    """The names of some nets. Those of a bus are told together, also where others stand between."""
+    runs: dict[str, list[Bus]] = {}
+    for bus in buses(nets):
+        runs.setdefault(bus.name, []).append(bus)
+    for name, some in runs.items():
+        if len(some) == 1 or any(bus.ends is None for bus in some):
+            yield from (bus.name + bus.span() for bus in some)
+        else:
+            bits = sorted({bit for bus in some for bit in bus.numbers()}, reverse=True)
+            yield from (name + span for span in spans_of(bits))
+
+
+def spans_of(bits: list[int]) -> Iterator[str]:
+    """The ranges of some numbers that fall."""
+    first = 0
+    for at in range(1, len(bits) + 1):
+        if at == len(bits) or bits[at] != bits[at - 1] - 1:
+            ends = (bits[first], bits[at - 1])
+            yield "[%d]" % ends[0] if first == at - 1 else "[%d:%d]" % ends
+            first = at
+
+
 def spans(nets: Sequence[Net], most: int = MOST_NAMED) -> str:
     """The names of some nets, those of a bus together; of many the last one and a few."""
-    found = [bus.name + bus.span() for bus in buses(nets)]
+    found = list(names_of(nets))
     if len(found) <= most + 1:
         return " ".join(found)
     return " ".join(found[:most] + ["..", found[-1]])
@@ -88,16 +111,20 @@ class Split:
         for number in range(len(self.clusters)):
             self.nodes += ["M%d" % number, "S%d" % number]
 
+    def count(self) -> int:
+        """The number of clusters."""
+        return len(self.clusters)
+
     def registers(self, number: int) -> list[Net]:
         """The registers of a cluster."""
         return [self.netlist.registers[place] for place in self.clusters[number].places]
 
     def names(self) -> dict[str, str]:
-        """What stands in each node, by name: columns, outputs or registers."""
+        """What stands in each node, by name: columns, outputs or registers; else the node."""
         found = {"IN": spans(self.netlist.columns), "OUT": spans(self.netlist.outputs)}
         for number in range(len(self.clusters)):
             found["M%d" % number] = found["S%d" % number] = spans(self.registers(number))
-        return found
+        return {node: name or node for node, name in found.items()}
 
 
 def take_mode(words: argparse.ArgumentParser, default: Optional[str] = "each") -> None:

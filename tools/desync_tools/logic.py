@@ -18,6 +18,9 @@ MOST_CLUSTERS, MOST_ORDERS = 4096, 1048576
 class TooMany(NotAccepted):
     """The netlist has more clusters or orders than a graph may have."""
 
+    def __init__(self, split: Split, what: str, most: int) -> None:
+        super().__init__("%s: too many %s (limit %d)" % (split.netlist.path, what, most))
+
 
 def orders(nodes: int, edges: int) -> int:
     """The number of required orders."""
@@ -29,7 +32,7 @@ class Logic:
 
     def __init__(self, split: Split, delay: Callable[[Table], int]) -> None:
         if len(split.clusters) > MOST_CLUSTERS:
-            raise TooMany("too many clusters (limit %d)" % MOST_CLUSTERS)
+            raise TooMany(split, "clusters", MOST_CLUSTERS)
         self.split, self.ids = split, dict[Net, int]()
         tables = split.netlist.tables
         # By the number of its output: the inputs, the delay and the place of a table.
@@ -94,7 +97,7 @@ class Logic:
             for producer, path in self.paths_to(nets).items():
                 found[producer, consumer] = path
             if orders(len(self.split.nodes), len(found)) > MOST_ORDERS:
-                raise TooMany("too many arcs (limit %d)" % MOST_ORDERS)
+                raise TooMany(self.split, "arcs", MOST_ORDERS)
         for number in range(len(self.split.clusters)):
             found["M%d" % number, "S%d" % number] = 0
         return found

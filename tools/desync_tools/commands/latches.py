@@ -172,7 +172,7 @@ def module(run: Run, split: Split, has_dump: bool) -> Iterator[str]:
     yield from latches(netlist, split.clusters)
     held = split.names()
     for node in graph.nodes:
-        yield "  // %s" % " ".join(filter(None, (node, comment(held[node]))))
+        yield "  // %s" % " ".join(dict.fromkeys((node, comment(held[node]))))
         yield from process(run, node)
     latest = 10 * (2 * len(graph.nodes) * run.turns + 1) * (QUICKEST + SLOW)
     yield "  initial #(64'd%d) $finish(0);" % latest
