@@ -21,7 +21,7 @@ import os
 from typing import Any, Iterator, Optional, Sequence
 
 from desync_tools.buses import buses
-from desync_tools.clusters import Cluster, clusters, take_mode
+from desync_tools.clusters import Cluster, Split, take_groups, take_mode
 from desync_tools.command import Parser, parser, put
 from desync_tools.graphs import Arc, Graph, read_graph
 from desync_tools.layers import places
@@ -132,9 +132,9 @@ def values_of(run: Run, found: list[Cluster]) -> tuple[dict[str, str], dict[str,
     return titles, values
 
 
-def model(run: Run, graph: Graph, mode: str) -> dict[str, Any]:
+def model(run: Run, graph: Graph, split: Split, mode: str) -> dict[str, Any]:
     """What the page is told."""
-    turns, found = len(run.rows) - 1, clusters(run.netlist, mode)
+    turns, found = len(run.rows) - 1, split.clusters
     nodes, arcs = nodes_of(found, graph, mode), sorted(graph.arcs())
     edges = sorted(pair for pair, _ in graph.data_edges())
     titles, values = values_of(run, found)
@@ -181,6 +181,7 @@ def words(name: str) -> Parser:
     taken.add_argument("run", nargs="?", help="what desync run --log printed")
     taken.add_argument("--vectors", metavar="FILE", help="the vectors of the run, to be shown too")
     take_mode(taken)
+    take_groups(taken)
     return taken
 
 
@@ -189,5 +190,6 @@ def main(argv: list[str]) -> int:
     netlist = read_netlist(asked.netlist)
     graph = read_graph(text_of(asked.graph))
     run = Run(netlist, text_of(asked.run), asked.vectors)
-    put("utf-8", [page(model(run, graph, asked.clusters))])
+    split = Split(netlist, asked.clusters, asked.groups)
+    put("utf-8", [page(model(run, graph, split, asked.clusters))])
     return 0
