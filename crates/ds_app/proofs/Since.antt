@@ -4,12 +4,12 @@ use Rattle.ds_stage.specs.declared.stop.Stop.{Stop}
 use Rattle.ds_stage.specs.declared.stop.Stop.TheVariants.{Refused, Unread, Unwritten, Memory}
 use Rattle.ds_stage.specs.Ends.{UnlessUnread, UnreadOr}
 
-pub unread_since : {T : Type 0} {old mid new : T} (stop : Stop) → mid ≡ old → UnreadOr stop (new ≡ mid) → UnreadOr stop (new ≡ old)
-unread_since (Refused line) one is = is ∙ one
-unread_since (Unread line) one is = tt
-unread_since Unwritten one is = is ∙ one
-unread_since Memory one is = tt
+pub unread_since : {T : Type 0} {old mid : T} (new : T) (stop : Stop) → mid ≡ old → UnreadOr stop (new ≡ mid) → UnreadOr stop (new ≡ old)
+unread_since new (Refused line) one is = is ∙ one
+unread_since new (Unread line) one is = tt
+unread_since new Unwritten one is = is ∙ one
+unread_since new Memory one is = tt
 
-pub well_read_since : {A T : Type 0} {old mid new : T} (result : Result A Stop) → mid ≡ old → UnlessUnread result (new ≡ mid) → UnlessUnread result (new ≡ old)
-well_read_since (Ok a) one is = is ∙ one
-well_read_since (Err stop) one is = unread_since stop one is
+pub well_read_since : {A T : Type 0} {old mid : T} (new : T) (result : Result A Stop) → mid ≡ old → UnlessUnread result (new ≡ mid) → UnlessUnread result (new ≡ old)
+well_read_since new (Ok a) one is = is ∙ one
+well_read_since new (Err stop) one is = unread_since new stop one is

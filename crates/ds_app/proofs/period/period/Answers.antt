@@ -52,7 +52,7 @@ pub returns-clause-same_writes : goal.returns-clause-same_writes
 returns-clause-same_writes g c = c.measure.ensures.same_writes
 
 pub returns-clause-same_reads : goal.returns-clause-same_reads
-returns-clause-same_reads g c = well_read_since c.measure.result c.in_ok-netlist.ensures.same_reads c.measure.ensures.same_reads
+returns-clause-same_reads g c = well_read_since _ c.measure.result c.in_ok-netlist.ensures.same_reads c.measure.ensures.same_reads
 
 pub returns-in_err-latches-clause-same_writes : goal.returns-in_err-latches-clause-same_writes
 returns-in_err-latches-clause-same_writes g c = let p = err_from_is_err_and c.from_residual-in_err-latches.result c.from_residual-in_err-latches.ensures.1 in rw (p.1, p.2) (unwritten_or c.in_err-latches.field-0.0 refl)
