@@ -1,4 +1,4 @@
-"""Reads what `desync times` prints: a line `EVENT TURN TIME` for each firing of a timed run."""
+"""Reads the times of a run: a line `EVENT TURN TIME` for each of its firings."""
 
 from __future__ import annotations
 

@@ -13,8 +13,8 @@ run fired, and without slack; a data edge is where both of its orders stand ther
 order that is given by a walk alone shows none. Its events are those of the nodes alone. There are
 200 nodes and 20,000 firings at most.
 
-With --times the page goes by the times that `desync times` has worked out from delays, with the
-speed that the reader sets; the run needs no log then, so a trace will do.
+With --times, a file with a line `EVENT TURN TIME` for each firing, the page goes by these times,
+with the speed that the reader sets; the run needs no log then, so a trace will do.
 """
 
 from __future__ import annotations
@@ -199,7 +199,7 @@ def words(name: str) -> Parser:
     taken.add_argument("--vectors", metavar="FILE", help="the vectors of the run, to be shown too")
     take_mode(taken)
     take_groups(taken)
-    says = "what desync times printed, to go by its times"
+    says = "a line EVENT TURN TIME for each firing, to go by its times"
     taken.add_argument("--times", metavar="FILE", help=says)
     return taken
 

@@ -5,13 +5,12 @@ waveform. Turn k stands at the time k: the outputs in that turn, and the registe
 registers of the `end` line stand at the time after the last turn, where the outputs are unknown.
 With --vectors the columns are there too. A value is `0`, `1` or `x`, there as in the trace.
 
-With --times the waveform is one of the latches, in the units of the delays by which `desync times`
-has worked out the times: each node is 1 while it is open, each register changes when its slave
-opens, each output when OUT opens, and each column when IN opens. A node that opens and closes at
-one time has a pulse without width. From the top of the repository:
+With --times the waveform is one of the latches: the file has a line `EVENT TURN TIME` for each
+firing, as `M0+ 2 7`, with the turns counted from 1. Each node is 1 while it is open, each register
+changes when its slave opens, each output when OUT opens, and each column when IN opens. A node that
+opens and closes at one time has a pulse without width. From the top of the repository:
 
-    desync times examples/toggle.blif examples/toggle.delays 4 > toggle.times
-    tools/trace2vcd examples/toggle.blif examples/toggle.trace --times toggle.times > toggle.vcd
+    tools/trace2vcd examples/toggle.blif examples/toggle.trace --times tools/tests/toggle.times
 
 Bits of one bus that stand beside one another are one variable, the first of them its rightmost bit:
 `q[0] q[1]` is `q [1:0]`, and `q[1] q[0]` is `q [0:1]`. A dot in a name opens a scope: `u5.f.a` is
@@ -137,7 +136,7 @@ def words(name: str) -> Parser:
     taken.add_argument("netlist", help="the netlist in BLIF")
     taken.add_argument("trace", nargs="?", help="what desync run or clock printed")
     taken.add_argument("--vectors", metavar="FILE", help="the vectors of the run")
-    taken.add_argument("--times", metavar="FILE", help="what desync times printed")
+    taken.add_argument("--times", metavar="FILE", help="a line EVENT TURN TIME for each firing")
     take_mode(taken)
     take_groups(taken)
     return taken
