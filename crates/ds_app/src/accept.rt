@@ -36,8 +36,8 @@ pub fn accept<F: Files, O: Sink>(
     ensures same_reads { UnlessUnread result (F.faults files.new ≡ F.faults files.old) }
     ensures same_writes { UnlessUnwritten result (O.faults out.new ≡ O.faults out.old) }
 {
-    let net = job.net.as_str();
     let graph = job.graph.as_str();
+    let net = job.net.as_str();
     let netlist = read_netlist(alloc, files, net)?;
     let plan = plan_named(alloc, files, net, &netlist, graph, job.clusters)?;
     write_accepted(alloc, &plan, out)

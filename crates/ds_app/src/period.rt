@@ -35,8 +35,8 @@ pub fn period<F: Files, O: Sink>(
     ensures same_reads { UnlessUnread result (F.faults files.new ≡ F.faults files.old) }
     ensures same_writes { UnlessUnwritten result (O.faults out.new ≡ O.faults out.old) }
 {
-    let net = job.net.as_str();
     let delays = job.delays.as_str();
+    let net = job.net.as_str();
     let netlist = read_netlist(alloc, files, net)?;
     let latches = split_netlist(alloc, net, &netlist, job.clusters)?;
     measure(alloc, &latches, delays, files, out)

@@ -31,9 +31,9 @@ pub fn replay<F: Files, O: Sink>(
     ensures same_reads { UnlessUnread result (F.faults files.new ≡ F.faults files.old) }
     ensures same_writes { UnlessUnwritten result (O.faults out.new ≡ O.faults out.old) }
 {
-    let net = job.net.as_str();
-    let vec = job.vec.as_str();
     let log = job.log.as_str();
+    let vec = job.vec.as_str();
+    let net = job.net.as_str();
     let netlist = read_netlist(alloc, files, net)?;
     let splitting = Splitting {
         clusters: job.clusters,

@@ -45,13 +45,13 @@ pub fn run<R: AllocGlobal + Threads + Sync, G: Gate, F: Files, O: Sink>(
     ensures same_reads { UnlessUnread result (F.faults files.new ≡ F.faults files.old) }
     ensures same_writes { UnlessUnwritten result (O.faults out.new ≡ O.faults out.old) }
 {
-    let alloc = rt.alloc();
-    let net = job.net.as_str();
-    let netlist = read_netlist(alloc, files, net)?;
     let splitting = Splitting {
         clusters: job.clusters,
         slack: job.slack,
     };
+    let alloc = rt.alloc();
+    let net = job.net.as_str();
+    let netlist = read_netlist(alloc, files, net)?;
     let mut plan = plan_netlist(alloc, files, net, &netlist, &job.graph, splitting)?;
     let workers = Workers {
         threads: rt,

@@ -39,17 +39,9 @@ const LOG: &str = "IN+ 1\nIN- 1\nOUT+ 1\nOUT- 1\nM0+ 1\nM0- 1\nS0+ 1\nS0- 1\n";
 
 const DELAYS: &str = "M0+ S0+ 3\nS0+ M0+ 4\nM0+ M0- 2\n";
 
-const PERIOD: &str = "period 7/1
-cycle M0+ S0+
-potential IN+ 0
-potential IN- 0
-potential OUT+ 0
-potential OUT- 0
-potential M0+ 0
-potential M0- 2
-potential S0+ 3
-potential S0- 3
-";
+const PERIOD: &str = "period 7/1\ncycle M0+ S0+\npotential IN+ 0\npotential IN- 0\n\
+     potential OUT+ 0\npotential OUT- 0\npotential M0+ 0\npotential M0- 2\npotential S0+ 3\n\
+     potential S0- 3\n";
 
 const SUMS: &str = "turns 3\nfirings 36\nones 1\nfold 23695\n";
 

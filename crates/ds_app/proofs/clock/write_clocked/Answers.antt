@@ -170,24 +170,16 @@ returns-clause-value g c =
     (rose_since (g.O.Sink.faults c.args.out.now) (g.O.Sink.faults c.windows.out) (g.O.Sink.faults c.end_line.new.out) kept.never_fell c.in-Err.ensures.cause)
 
 pub returns-in_err-state-clause-same_reads : goal.returns-in_err-state-clause-same_reads
-returns-in_err-state-clause-same_reads g c =
-    let p = err_from_is_err_and c.from_residual.result c.from_residual.ensures.1 in
-    rw (p.1, p.2) (tt)
+returns-in_err-state-clause-same_reads g c = let p = err_from_is_err_and c.from_residual.result c.from_residual.ensures.1 in rw (p.1, p.2) (tt)
 
 pub returns-in_err-state-clause-same_writes : goal.returns-in_err-state-clause-same_writes
-returns-in_err-state-clause-same_writes g c =
-    let p = err_from_is_err_and c.from_residual.result c.from_residual.ensures.1 in
-    rw (p.1, p.2) (refl)
+returns-in_err-state-clause-same_writes g c = let p = err_from_is_err_and c.from_residual.result c.from_residual.ensures.1 in rw (p.1, p.2) (refl)
 
 pub returns-in_err-behind-clause-same_reads : goal.returns-in_err-behind-clause-same_reads
-returns-in_err-behind-clause-same_reads g c =
-    let p = err_from_is_err_and c.from_residual-in_err-behind.result c.from_residual-in_err-behind.ensures.1 in
-    rw (p.1, p.2) (unread_since c.in_err-behind.field-0.0 c.windows.invariant.same_reads c.in_err-behind.ensures.same_reads)
+returns-in_err-behind-clause-same_reads g c = let p = err_from_is_err_and c.from_residual-in_err-behind.result c.from_residual-in_err-behind.ensures.1 in rw (p.1, p.2) (unread_since c.in_err-behind.field-0.0 c.windows.invariant.same_reads c.in_err-behind.ensures.same_reads)
 
 pub returns-in_err-behind-clause-same_writes : goal.returns-in_err-behind-clause-same_writes
-returns-in_err-behind-clause-same_writes g c =
-    let p = err_from_is_err_and c.from_residual-in_err-behind.result c.from_residual-in_err-behind.ensures.1 in
-    rw (p.1, p.2) (unwritten_or c.in_err-behind.field-0.0 c.windows.invariant.same_writes)
+returns-in_err-behind-clause-same_writes g c = let p = err_from_is_err_and c.from_residual-in_err-behind.result c.from_residual-in_err-behind.ensures.1 in rw (p.1, p.2) (unwritten_or c.in_err-behind.field-0.0 c.windows.invariant.same_writes)
 
 pub returns-in-Err-Write-clause-same_reads : goal.returns-in-Err-Write-clause-same_reads
 returns-in-Err-Write-clause-same_reads g c = c.in_ok-behind.ensures.same_reads ∙ c.windows.invariant.same_reads

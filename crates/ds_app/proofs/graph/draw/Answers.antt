@@ -30,9 +30,7 @@ returns-clause-value g c =
     ends_after (wanted_stage file shake s) (drawn_stage s) Never out c.in_ok-graph.graph c.in_ok-graph.ensures c.write_graph.result c.write_graph.ensures.value
 
 pub returns-in_err-graph-clause-same_writes : goal.returns-in_err-graph-clause-same_writes
-returns-in_err-graph-clause-same_writes g c =
-    let p = err_from_is_err_and c.from_residual.result c.from_residual.ensures.1 in
-    rw (p.1, p.2) (unwritten_or c.in_err-graph.field-0.0 refl)
+returns-in_err-graph-clause-same_writes g c = let p = err_from_is_err_and c.from_residual.result c.from_residual.ensures.1 in rw (p.1, p.2) (unwritten_or c.in_err-graph.field-0.0 refl)
 
 pub returns-clause-same_writes : goal.returns-clause-same_writes
 returns-clause-same_writes g c = c.write_graph.ensures.same_writes

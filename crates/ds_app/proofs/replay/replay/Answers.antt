@@ -92,47 +92,31 @@ returns-clause-value g c =
     c.read_log.new.files out c.write_state.result c.write_state.ensures.value)
 
 pub returns-in_err-netlist-clause-same_reads : goal.returns-in_err-netlist-clause-same_reads
-returns-in_err-netlist-clause-same_reads g c =
-    let p = err_from_is_err_and c.from_residual.result c.from_residual.ensures.1 in
-    rw (p.1, p.2) (c.in_err-netlist.ensures.same_reads)
-
-pub returns-in_err-netlist-clause-same_writes : goal.returns-in_err-netlist-clause-same_writes
-returns-in_err-netlist-clause-same_writes g c =
-    let p = err_from_is_err_and c.from_residual.result c.from_residual.ensures.1 in
-    rw (p.1, p.2) (unwritten_or c.in_err-netlist.field-0.0 refl)
+returns-in_err-netlist-clause-same_reads g c = let p = err_from_is_err_and c.from_residual.result c.from_residual.ensures.1 in rw (p.1, p.2) (c.in_err-netlist.ensures.same_reads)
 
 pub returns-in_err-plan-clause-same_reads : goal.returns-in_err-plan-clause-same_reads
-returns-in_err-plan-clause-same_reads g c =
-    let p = err_from_is_err_and c.from_residual-in_err-plan.result c.from_residual-in_err-plan.ensures.1 in
-    rw (p.1, p.2) (unread_since c.in_err-plan.field-0.0 c.in_ok-netlist.ensures.same_reads c.in_err-plan.ensures.same_reads)
-
-pub returns-in_err-plan-clause-same_writes : goal.returns-in_err-plan-clause-same_writes
-returns-in_err-plan-clause-same_writes g c =
-    let p = err_from_is_err_and c.from_residual-in_err-plan.result c.from_residual-in_err-plan.ensures.1 in
-    rw (p.1, p.2) (unwritten_or c.in_err-plan.field-0.0 refl)
+returns-in_err-plan-clause-same_reads g c = let p = err_from_is_err_and c.from_residual-in_err-plan.result c.from_residual-in_err-plan.ensures.1 in rw (p.1, p.2) (unread_since c.in_err-plan.field-0.0 c.in_ok-netlist.ensures.same_reads c.in_err-plan.ensures.same_reads)
 
 pub returns-in_err-vectors-clause-same_reads : goal.returns-in_err-vectors-clause-same_reads
-returns-in_err-vectors-clause-same_reads g c =
-    let p = err_from_is_err_and c.from_residual-in_err-vectors.result c.from_residual-in_err-vectors.ensures.1 in
-    rw (p.1, p.2) (unread_since c.in_err-vectors.field-0.0 (c.in_ok-plan.ensures.same_reads ∙ c.in_ok-netlist.ensures.same_reads) c.in_err-vectors.ensures.same_reads)
-
-pub returns-in_err-vectors-clause-same_writes : goal.returns-in_err-vectors-clause-same_writes
-returns-in_err-vectors-clause-same_writes g c =
-    let p = err_from_is_err_and c.from_residual-in_err-vectors.result c.from_residual-in_err-vectors.ensures.1 in
-    rw (p.1, p.2) (unwritten_or c.in_err-vectors.field-0.0 refl)
+returns-in_err-vectors-clause-same_reads g c = let p = err_from_is_err_and c.from_residual-in_err-vectors.result c.from_residual-in_err-vectors.ensures.1 in rw (p.1, p.2) (unread_since c.in_err-vectors.field-0.0 (c.in_ok-plan.ensures.same_reads ∙ c.in_ok-netlist.ensures.same_reads) c.in_err-vectors.ensures.same_reads)
 
 pub returns-in_err-state-clause-same_reads : goal.returns-in_err-state-clause-same_reads
-returns-in_err-state-clause-same_reads g c =
-    let p = err_from_is_err_and c.from_residual-in_err-state.result c.from_residual-in_err-state.ensures.1 in
-    rw (p.1, p.2) (unread_since c.in_err-state.field-0.0 (c.in_ok-vectors.ensures.same_reads ∙ (c.in_ok-plan.ensures.same_reads ∙ c.in_ok-netlist.ensures.same_reads)) c.in_err-state.ensures.same_reads)
-
-pub returns-in_err-state-clause-same_writes : goal.returns-in_err-state-clause-same_writes
-returns-in_err-state-clause-same_writes g c =
-    let p = err_from_is_err_and c.from_residual-in_err-state.result c.from_residual-in_err-state.ensures.1 in
-    rw (p.1, p.2) (unwritten_or c.in_err-state.field-0.0 refl)
+returns-in_err-state-clause-same_reads g c = let p = err_from_is_err_and c.from_residual-in_err-state.result c.from_residual-in_err-state.ensures.1 in rw (p.1, p.2) (unread_since c.in_err-state.field-0.0 (c.in_ok-vectors.ensures.same_reads ∙ (c.in_ok-plan.ensures.same_reads ∙ c.in_ok-netlist.ensures.same_reads)) c.in_err-state.ensures.same_reads)
 
 pub returns-clause-same_reads : goal.returns-clause-same_reads
 returns-clause-same_reads g c = well_read c.write_state.result (c.in_ok-state.ensures.same_reads ∙ (c.in_ok-vectors.ensures.same_reads ∙ (c.in_ok-plan.ensures.same_reads ∙ c.in_ok-netlist.ensures.same_reads)))
+
+pub returns-in_err-netlist-clause-same_writes : goal.returns-in_err-netlist-clause-same_writes
+returns-in_err-netlist-clause-same_writes g c = let p = err_from_is_err_and c.from_residual.result c.from_residual.ensures.1 in rw (p.1, p.2) (unwritten_or c.in_err-netlist.field-0.0 refl)
+
+pub returns-in_err-plan-clause-same_writes : goal.returns-in_err-plan-clause-same_writes
+returns-in_err-plan-clause-same_writes g c = let p = err_from_is_err_and c.from_residual-in_err-plan.result c.from_residual-in_err-plan.ensures.1 in rw (p.1, p.2) (unwritten_or c.in_err-plan.field-0.0 refl)
+
+pub returns-in_err-vectors-clause-same_writes : goal.returns-in_err-vectors-clause-same_writes
+returns-in_err-vectors-clause-same_writes g c = let p = err_from_is_err_and c.from_residual-in_err-vectors.result c.from_residual-in_err-vectors.ensures.1 in rw (p.1, p.2) (unwritten_or c.in_err-vectors.field-0.0 refl)
+
+pub returns-in_err-state-clause-same_writes : goal.returns-in_err-state-clause-same_writes
+returns-in_err-state-clause-same_writes g c = let p = err_from_is_err_and c.from_residual-in_err-state.result c.from_residual-in_err-state.ensures.1 in rw (p.1, p.2) (unwritten_or c.in_err-state.field-0.0 refl)
 
 pub returns-clause-same_writes : goal.returns-clause-same_writes
 returns-clause-same_writes g c = c.write_state.ensures.same_writes

@@ -53,14 +53,10 @@ returns-clause-value g c =
     (ends_after (vectors_stage held vec circuit) (stopped_stage c.args.job.now.log jobs stop circuit planned) more out rows given c.write_halted.result last)
 
 pub returns-in_err-vectors-clause-same_reads : goal.returns-in_err-vectors-clause-same_reads
-returns-in_err-vectors-clause-same_reads g c =
-    let p = err_from_is_err_and c.from_residual.result c.from_residual.ensures.1 in
-    rw (p.1, p.2) (c.in_err-vectors.ensures.same_reads)
+returns-in_err-vectors-clause-same_reads g c = let p = err_from_is_err_and c.from_residual.result c.from_residual.ensures.1 in rw (p.1, p.2) (c.in_err-vectors.ensures.same_reads)
 
 pub returns-in_err-vectors-clause-same_writes : goal.returns-in_err-vectors-clause-same_writes
-returns-in_err-vectors-clause-same_writes g c =
-    let p = err_from_is_err_and c.from_residual.result c.from_residual.ensures.1 in
-    rw (p.1, p.2) (unwritten_or c.in_err-vectors.field-0.0 refl)
+returns-in_err-vectors-clause-same_writes g c = let p = err_from_is_err_and c.from_residual.result c.from_residual.ensures.1 in rw (p.1, p.2) (unwritten_or c.in_err-vectors.field-0.0 refl)
 
 pub returns-clause-same_reads : goal.returns-clause-same_reads
 returns-clause-same_reads g c = well_read c.write_halted.result c.in_ok-vectors.ensures.same_reads

@@ -14,7 +14,9 @@ use Rattle.ds_fabric.proofs.Finds.{indexed_same, stands_same, stands_below}
 use Rattle.std.proofs.Common.{get_or}
 use Rattle.atomic_table.proofs.Lists.{at_index}
 use Rattle.ds_rule.proofs.Lists.{at_below, same_at}
+use Rattle.ds_fabric.proofs.fabric.Fabric.step_node.Given
 use Rattle.ds_fabric.proofs.fabric.Fabric.step_node.Goals as goal
+use Rattle.ds_fabric.proofs.fabric.Fabric.step_node.Goals.{After-advance}
 
 pub find-at-requires-clause-indexed : goal.find-at-requires-clause-indexed
 find-at-requires-clause-indexed g c = (
@@ -82,31 +84,28 @@ returns-clause-pass g c room p =
       few = p.few;
     }
 
+-- the history that was advanced is that of the node
+node-is : (g : Given.Over) (c : After-advance g) → c.index_mut.result.now.node ≡ c.args.node
+node-is g c =
+    let nodes : List History = c.args.nodes.now.items in let h : History = c.index_mut.result.now in
+    let at = there nodes c.as_slice-held.result.now c.find-at.result c.index-number.result h
+    c.as_slice-held.ensures.value c.find-at.ensures c.index_mut.ensures.value in
+    node-found nodes c.as_slice-held.result.now c.find-at.result c.index-number.result c.args.node h
+    c.as_slice-held.ensures.value c.index-number.ensures at c.find-at.ensures
+
 pub returns-clause-step : goal.returns-clause-step
 returns-clause-step g c =
-    let nodes : List History = c.args.nodes.now.items in let i : ℕ = c.find-at.result in
-    let h : History = c.index_mut.result.now in
-    let at = there nodes c.as_slice-held.result.now i c.index-number.result h
-    c.as_slice-held.ensures.value c.find-at.ensures c.index_mut.ensures.value in
-    let same = node-found nodes c.as_slice-held.result.now i c.index-number.result c.args.node h
-    c.as_slice-held.ensures.value c.index-number.ensures at c.find-at.ensures in
     let P : Run → ℕ → Type 0 =
     λ r l. Stepped r c.args.seat.now.me.0 l c.advance.result c.advance.new.seat.me.0 in
-    subst (P c.args.self.now.run) same
-    (subst (λ (r : Run). P r h.node)
+    subst (P c.args.self.now.run) (node-is g (goal.at.returns-clause-step g c).After-advance)
+    (subst (λ (r : Run). P r c.index_mut.result.now.node)
     (ap (λ (x : Base). x.run) c.self.view_is) c.advance.ensures.step)
 
 pub returns-clause-exact : goal.returns-clause-exact
 returns-clause-exact g c =
-    let nodes : List History = c.args.nodes.now.items in let i : ℕ = c.find-at.result in
-    let h : History = c.index_mut.result.now in
-    let at = there nodes c.as_slice-held.result.now i c.index-number.result h
-    c.as_slice-held.ensures.value c.find-at.ensures c.index_mut.ensures.value in
-    let same = node-found nodes c.as_slice-held.result.now i c.index-number.result c.args.node h
-    c.as_slice-held.ensures.value c.index-number.ensures at c.find-at.ensures in
-    let v : View = c.args.seat.now.me.0 in
+    let v : View = c.args.seat.now.me.0 in let l : ℕ = c.index_mut.result.now.node in
     let P : Run → ℕ → Type 0 = λ r l. FiresIfEnabled r v l c.advance.result in
-    subst (P c.args.self.now.run) same
-    (subst (λ (r : Run). P r h.node) (ap (λ (x : Base). x.run) c.self.view_is)
-    (fires_if_enabled c.self.inside.run.now v c.advance.new.seat.me.0 h.node c.advance.result
+    subst (P c.args.self.now.run) (node-is g (goal.at.returns-clause-exact g c).After-advance)
+    (subst (λ (r : Run). P r l) (ap (λ (x : Base). x.run) c.self.view_is)
+    (fires_if_enabled c.self.inside.run.now v c.advance.new.seat.me.0 l c.advance.result
     c.self.invariant.0.over.sound c.advance.ensures.step))
