@@ -46,9 +46,10 @@ _desync() {
         run) options="--clusters --graph --jobs --log --slack --stop" most=2 ;;
         clock) most=2 ;;
         check) most=1 ;;
-        graph) options="--clusters --shake" most=1 ;;
+        graph) options="--clusters --shake --slack" most=1 ;;
         replay) options="--clusters --graph --slack --transparent" most=3 ;;
-        accept | period) options=--clusters most=2 ;;
+        accept) options="--clusters --slack" most=2 ;;
+        period) options="--clusters --graph --slack" most=2 ;;
         demo) options=--jobs ;;
     esac
     if [[ $word == -* && -z $plain ]]; then

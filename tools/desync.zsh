@@ -23,12 +23,13 @@ _desync_options() {
             _arguments $clusters $graph $jobs $slack '--log[write what fired]' \
                 '--stop[stop behind so many firings]:number: ' $files
             ;;
-        graph) _arguments $clusters '--shake[write the four-phase expansion]' $files ;;
+        graph) _arguments $clusters $slack '--shake[write the four-phase expansion]' $files ;;
         replay)
             _arguments $clusters $graph $slack '--transparent[show what open latches let through]' \
                 $files
             ;;
-        accept | period) _arguments $clusters $files ;;
+        accept) _arguments $clusters $slack $files ;;
+        period) _arguments $clusters $graph $slack $files ;;
         demo) _arguments $jobs $files ;;
         *) _arguments $files ;;
     esac

@@ -18,6 +18,7 @@ use Rattle.ds_stage.specs.Stage.{then_stage}
 use Rattle.ds_stage.specs.Stages.{netlist_stage, report_stage, trace_stage, vectors_stage}
 use Rattle.ds_stage.specs.StreamStage.{most_vectors, streamed_stage}
 use Rattle.ds_stage.specs.SplitStage.{split_stage}
+use Rattle.ds_latch.specs.Node.{Split, slackened}
 use Rattle.ds_latch.specs.Plan.{Planned}
 use Rattle.ds_stage.specs.GraphStage.{controller_stage}
 use Rattle.ds_stage.specs.PlanStage.{planned_stage}
@@ -26,10 +27,10 @@ use Rattle.ds_app.specs.RunStage.{planned_run_stage, stopped_stage, traced_stage
 use Rattle.ds_app.specs.Job.{run_stage, stages_of}
 use Rattle.ds_app.specs.JobStages.{accept_stage, clock_stage, graph_stage, period_stage, replay_stage}
 use Rattle.ds_stage.specs.ReplayStage.{replayed_stage}
-use Rattle.ds_stage.specs.PeriodStage.{measured_stage}
+use Rattle.ds_stage.specs.PeriodStage.{timed_stage}
 use Rattle.ds_app.specs.Status.{AreTold, IsToldIn}
 use Rattle.ds_stage.proofs.LogStages.{replayed_not_refused}
-use Rattle.ds_stage.proofs.PeriodStages.{measured_not_refused}
+use Rattle.ds_stage.proofs.PeriodStages.{timed_not_refused}
 use Rattle.ds_stage.proofs.Expansions.{controller_not_refused}
 use Rattle.ds_stage.proofs.Exclusive.{lines_exclusive, netlist_exclusive, then_not_refused, vectors_exclusive}
 use Rattle.ds_stage.proofs.Streamed.{streamed_exclusive}
@@ -60,8 +61,8 @@ run_not_refused law held job told named c text line means refused =
 
 graph_not_refused : OneClustering → (job : GraphJob) (c : Circuit) (text line : List ℕ) → (graph_stage job c).means text → ¬ (graph_stage job c).refused line
 graph_not_refused law job c text line means refused =
-    then_not_refused (split_stage job.net job.clusters c) (controller_stage job.net job.shake) (split_exclusive law job.net job.clusters c)
-    (controller_not_refused job.net faults_are_refused_lem job.shake) text line means refused
+    then_not_refused (split_stage job.net job.clusters c) (λ (s : Split). controller_stage job.net job.shake (slackened s job.slack)) (split_exclusive law job.net job.clusters c)
+    (λ s. controller_not_refused job.net faults_are_refused_lem job.shake (slackened s job.slack)) text line means refused
 
 replay_not_refused : OneClustering → (held : List ℕ → Held) (job : ReplayJob)
     → held job.vec ≢ untold → held job.log ≢ untold → IsToldIn held job.graph → (c : Circuit) (text line : List ℕ)
@@ -76,14 +77,15 @@ replay_not_refused law held job told logged named c text line means refused =
 accept_not_refused : OneClustering → (held : List ℕ → Held) (job : AcceptJob) → held job.graph ≢ untold → (c : Circuit) (text line : List ℕ)
     → (accept_stage held job c).means text → ¬ (accept_stage held job c).refused line
 accept_not_refused law held job named c text line means refused =
-    then_not_refused (planned_stage held job.net (Some job.graph) job.clusters 0 c) ranks_stage (planned_exclusive law held job.net (Some job.graph) job.clusters 0 (told_file held (Some job.graph) named) c)
+    then_not_refused (planned_stage held job.net (Some job.graph) job.clusters job.slack c) ranks_stage (planned_exclusive law held job.net (Some job.graph) job.clusters job.slack (told_file held (Some job.graph) named) c)
     (λ p b l is none. none) text line means refused
 
-period_not_refused : OneClustering → (held : List ℕ → Held) (job : PeriodJob) → held job.delays ≢ untold → (c : Circuit) (text line : List ℕ)
+period_not_refused : OneClustering → (held : List ℕ → Held) (job : PeriodJob) → held job.delays ≢ untold → IsToldIn held job.graph → (c : Circuit) (text line : List ℕ)
     → (period_stage held job c).means text → ¬ (period_stage held job c).refused line
-period_not_refused law held job told c text line means refused =
-    then_not_refused (split_stage job.net job.clusters c) (measured_stage held job.delays) (split_exclusive law job.net job.clusters c)
-    (measured_not_refused held job.delays told) text line means refused
+period_not_refused law held job told named c text line means refused =
+    then_not_refused (planned_stage held job.net job.graph job.clusters job.slack c) (λ (p : Planned). timed_stage held job.delays p.graph)
+    (planned_exclusive law held job.net job.graph job.clusters job.slack (told_file held job.graph named) c)
+    (λ p b l is bad. timed_not_refused held job.delays told p.graph b l is bad) text line means refused
 
 -- a job that has a text is not refused
 pub job_not_refused : FaultsAreRefused → OneClustering → (held : List ℕ → Held) (job : Job) → AreTold held job → (text line : List ℕ)
@@ -102,4 +104,4 @@ job_not_refused law one held (Accept job) told text line means refused =
     then_not_refused (netlist_stage held job.net) (accept_stage held job) (netlist_exclusive law held job.net told.0) (accept_not_refused one held job told.1) text line means refused
 job_not_refused law one held (Demo job) told text line means none = absurd none
 job_not_refused law one held (Period job) told text line means refused =
-    then_not_refused (netlist_stage held job.net) (period_stage held job) (netlist_exclusive law held job.net told.0) (period_not_refused one held job told.1) text line means refused
+    then_not_refused (netlist_stage held job.net) (period_stage held job) (netlist_exclusive law held job.net told.0) (period_not_refused one held job told.1 told.2) text line means refused

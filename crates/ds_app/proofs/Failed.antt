@@ -17,13 +17,14 @@ use Rattle.ds_stage.specs.GraphStage.{controller_stage}
 use Rattle.ds_stage.specs.PlanStage.{planned_stage}
 use Rattle.ds_stage.specs.AcceptStage.{ranks_stage}
 use Rattle.ds_stage.specs.ReplayStage.{replayed_stage}
-use Rattle.ds_stage.specs.PeriodStage.{measured_stage}
+use Rattle.ds_stage.specs.PeriodStage.{timed_stage}
+use Rattle.ds_latch.specs.Node.{Split, slackened}
 use Rattle.ds_latch.specs.Plan.{Planned}
 use Rattle.ds_design.specs.Rows.{Rows}
 use Rattle.ds_app.specs.RunStage.{planned_run_stage, stopped_stage, traced_stage}
 use Rattle.ds_app.specs.Job.{run_stage, stages_of}
 use Rattle.ds_app.specs.JobStages.{accept_stage, clock_stage, graph_stage, period_stage, replay_stage}
-use Rattle.ds_stage.proofs.PeriodStages.{measured_says}
+use Rattle.ds_stage.proofs.PeriodStages.{timed_says}
 use Rattle.ds_stage.proofs.Expansions.{controller_says}
 use Rattle.ds_stage.proofs.Streamed.{streamed_says}
 use Rattle.ds_stage.proofs.Failed.{IsFailed, Says, netlist_says, planned_says, replayed_says, then_says, vectors_say}
@@ -44,11 +45,12 @@ run_says held job failed c =
 
 accept_says : (held : List ℕ → Held) (job : AcceptJob) (failed : OfFile) (c : Circuit) → Says (accept_stage held job c) failed
 accept_says held job failed c =
-    then_says (planned_stage held job.net (Some job.graph) job.clusters 0 c) ranks_stage failed (planned_says held job.net (Some job.graph) job.clusters 0 failed c) (λ p line none. absurd none)
+    then_says (planned_stage held job.net (Some job.graph) job.clusters job.slack c) ranks_stage failed (planned_says held job.net (Some job.graph) job.clusters job.slack failed c) (λ p line none. absurd none)
 
 graph_says : (job : GraphJob) (failed : OfFile) (c : Circuit) → Says (graph_stage job c) failed
 graph_says job failed c =
-    then_says (split_stage job.net job.clusters c) (controller_stage job.net job.shake) failed (λ line none. absurd none) (controller_says job.net job.shake failed)
+    then_says (split_stage job.net job.clusters c) (λ (s : Split). controller_stage job.net job.shake (slackened s job.slack)) failed (λ line none. absurd none)
+    (λ s. controller_says job.net job.shake failed (slackened s job.slack))
 
 replay_says : (held : List ℕ → Held) (job : ReplayJob) (failed : OfFile) (c : Circuit) → Says (replay_stage held job c) failed
 replay_says held job failed c =
@@ -58,7 +60,8 @@ replay_says held job failed c =
 
 period_says : (held : List ℕ → Held) (job : PeriodJob) (failed : OfFile) (c : Circuit) → Says (period_stage held job c) failed
 period_says held job failed c =
-    then_says (split_stage job.net job.clusters c) (measured_stage held job.delays) failed (λ line none. absurd none) (measured_says held job.delays failed)
+    then_says (planned_stage held job.net job.graph job.clusters job.slack c) (λ (p : Planned). timed_stage held job.delays p.graph) failed
+    (planned_says held job.net job.graph job.clusters job.slack failed c) (λ p. timed_says held job.delays failed p.graph)
 
 -- where a job names a file that it did not read, a read failed
 pub job_says : (held : List ℕ → Held) (job : Job) (failed : OfFile) (line : List ℕ) → (stages_of held job).unread failed line → IsFailed failed

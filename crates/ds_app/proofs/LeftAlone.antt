@@ -3,6 +3,7 @@ use Rattle.std.proofs.Common.{ℕ, List, Some}
 use Rattle.ds_outside.specs.Held.{Held}
 use Rattle.ds_design.specs.Circuit.{Circuit}
 use Rattle.ds_design.specs.Rows.{Rows}
+use Rattle.ds_latch.specs.Node.{Split, slackened}
 use Rattle.ds_latch.specs.Plan.{Planned}
 use Rattle.ds_cmd.specs.declared.accept.AcceptJob.{AcceptJob}
 use Rattle.ds_cmd.specs.declared.graph.GraphJob.{GraphJob}
@@ -15,9 +16,9 @@ use Rattle.ds_stage.specs.GraphStage.{controller_stage}
 use Rattle.ds_stage.specs.PlanStage.{planned_stage}
 use Rattle.ds_stage.specs.AcceptStage.{ranks_stage}
 use Rattle.ds_stage.specs.ReplayStage.{replayed_stage}
-use Rattle.ds_stage.specs.PeriodStage.{measured_stage}
+use Rattle.ds_stage.specs.PeriodStage.{timed_stage}
 use Rattle.ds_app.specs.JobStages.{accept_stage, graph_stage, period_stage, replay_stage}
-use Rattle.ds_stage.proofs.Left.{LeavesNothing, controller_nothing, giving_nothing, measured_nothing, netlist_nothing, planned_nothing, replayed_nothing, split_nothing, then_nothing, vectors_nothing}
+use Rattle.ds_stage.proofs.Left.{LeavesNothing, controller_nothing, giving_nothing, netlist_nothing, planned_nothing, replayed_nothing, split_nothing, then_nothing, timed_nothing, vectors_nothing}
 
 pub report_nothing : (c : Circuit) → LeavesNothing (report_stage c)
 report_nothing c = giving_nothing (report_stage c).means
@@ -28,7 +29,8 @@ check_nothing held file = then_nothing (netlist_stage held file) report_stage (n
 pub graph_nothing : (held : List ℕ → Held) (job : GraphJob) → LeavesNothing (then_stage (netlist_stage held job.net) (graph_stage job))
 graph_nothing held job =
     then_nothing (netlist_stage held job.net) (graph_stage job) (netlist_nothing held job.net)
-    (λ c. then_nothing (split_stage job.net job.clusters c) (controller_stage job.net job.shake) (split_nothing job.net job.clusters c) (controller_nothing job.net job.shake))
+    (λ c. then_nothing (split_stage job.net job.clusters c) (λ (s : Split). controller_stage job.net job.shake (slackened s job.slack)) (split_nothing job.net job.clusters c)
+    (λ s. controller_nothing job.net job.shake (slackened s job.slack)))
 
 pub replay_nothing : (held : List ℕ → Held) (job : ReplayJob) → LeavesNothing (then_stage (netlist_stage held job.net) (replay_stage held job))
 replay_nothing held job =
@@ -41,9 +43,10 @@ replay_nothing held job =
 pub accept_nothing : (held : List ℕ → Held) (job : AcceptJob) → LeavesNothing (then_stage (netlist_stage held job.net) (accept_stage held job))
 accept_nothing held job =
     then_nothing (netlist_stage held job.net) (accept_stage held job) (netlist_nothing held job.net)
-    (λ c. then_nothing (planned_stage held job.net (Some job.graph) job.clusters 0 c) ranks_stage (planned_nothing held job.net (Some job.graph) job.clusters 0 c) (λ p. giving_nothing (ranks_stage p).means))
+    (λ c. then_nothing (planned_stage held job.net (Some job.graph) job.clusters job.slack c) ranks_stage (planned_nothing held job.net (Some job.graph) job.clusters job.slack c) (λ p. giving_nothing (ranks_stage p).means))
 
 pub period_nothing : (held : List ℕ → Held) (job : PeriodJob) → LeavesNothing (then_stage (netlist_stage held job.net) (period_stage held job))
 period_nothing held job =
     then_nothing (netlist_stage held job.net) (period_stage held job) (netlist_nothing held job.net)
-    (λ c. then_nothing (split_stage job.net job.clusters c) (measured_stage held job.delays) (split_nothing job.net job.clusters c) (measured_nothing held job.delays))
+    (λ c. then_nothing (planned_stage held job.net job.graph job.clusters job.slack c) (λ (p : Planned). timed_stage held job.delays p.graph)
+    (planned_nothing held job.net job.graph job.clusters job.slack c) (λ p. timed_nothing held job.delays p.graph))

@@ -2,6 +2,7 @@
 use Rattle.std.specs.Prelude.{ℕ, false, List, Some}
 use Rattle.ds_outside.specs.Held.{Held}
 use Rattle.ds_design.specs.Circuit.{Circuit}
+use Rattle.ds_latch.specs.Node.{slackened}
 use Rattle.ds_cmd.specs.declared.accept.AcceptJob.{AcceptJob}
 use Rattle.ds_cmd.specs.declared.graph.GraphJob.{GraphJob}
 use Rattle.ds_cmd.specs.declared.period.PeriodJob.{PeriodJob}
@@ -14,7 +15,7 @@ use Rattle.ds_stage.specs.GraphStage.{controller_stage}
 use Rattle.ds_stage.specs.PlanStage.{planned_stage}
 use Rattle.ds_stage.specs.AcceptStage.{ranks_stage}
 use Rattle.ds_stage.specs.ReplayStage.{replayed_stage}
-use Rattle.ds_stage.specs.PeriodStage.{measured_stage}
+use Rattle.ds_stage.specs.PeriodStage.{timed_stage}
 
 -- `clock`, once the netlist is read
 abbrev pub clock_stage : (List ℕ → Held) → List ℕ → Circuit → Stage (List ℕ)
@@ -24,7 +25,8 @@ clock_stage held vec c =
 -- `graph`, once the netlist is read
 abbrev pub graph_stage : GraphJob → Circuit → Stage (List ℕ)
 graph_stage job c =
-    then_stage (split_stage job.net job.clusters c) (controller_stage job.net job.shake)
+    then_stage (split_stage job.net job.clusters c) (λ s.
+    controller_stage job.net job.shake (slackened s job.slack))
 
 -- `replay`, once the netlist is read
 abbrev pub replay_stage : (List ℕ → Held) → ReplayJob → Circuit → Stage (List ℕ)
@@ -36,9 +38,10 @@ replay_stage held job c =
 -- `accept`, once the netlist is read
 abbrev pub accept_stage : (List ℕ → Held) → AcceptJob → Circuit → Stage (List ℕ)
 accept_stage held job c =
-    then_stage (planned_stage held job.net (Some job.graph) job.clusters 0 c) ranks_stage
+    then_stage (planned_stage held job.net (Some job.graph) job.clusters job.slack c) ranks_stage
 
 -- `period`, once the netlist is read
 abbrev pub period_stage : (List ℕ → Held) → PeriodJob → Circuit → Stage (List ℕ)
 period_stage held job c =
-    then_stage (split_stage job.net job.clusters c) (measured_stage held job.delays)
+    then_stage (planned_stage held job.net job.graph job.clusters job.slack c) (λ p.
+    timed_stage held job.delays p.graph)

@@ -121,7 +121,8 @@ AreTold held (Replay job) = (held job.net ≢ untold) × (held job.vec ≢ untol
     × (held job.log ≢ untold) × IsToldIn held job.graph
 AreTold held (Accept job) = (held job.net ≢ untold) × (held job.graph ≢ untold)
 AreTold held (Demo job) = Unit {0}
-AreTold held (Period job) = (held job.net ≢ untold) × (held job.delays ≢ untold)
+AreTold held (Period job) =
+    (held job.net ≢ untold) × (held job.delays ≢ untold) × IsToldIn held job.graph
 
 -- the job reads its vectors window by window, and writes as it reads
 abbrev pub HasWindows : Job → Type 0

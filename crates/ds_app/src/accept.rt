@@ -1,5 +1,5 @@
 //! `accept`: the ranks of a graph of the user's that is accepted.
-ghost use Rattle.std.specs.Prelude.{◌≡◌, IfOk, length};
+ghost use Rattle.std.specs.Prelude.{◌≡◌, ◌≤◌, IfOk, length};
 ghost use Rattle.ds_outside.specs.Pen.{Puts};
 ghost use Rattle.ds_outside.specs.Writes.{Writes};
 ghost use Rattle.ds_rank.specs.Rank.{AreRanks};
@@ -16,7 +16,7 @@ use ds_latch::Plan;
 use ds_outside::{Buffered, Files, Pen, Sink, WriteFault};
 use ds_rank::{RankFault, Ranks, rank};
 use ds_rows::put_firing;
-use ds_stage::{Stop, plan_named, read_netlist};
+use ds_stage::{Splitting, Stop, plan_named, read_netlist};
 use std::alloc::Global;
 
 /// Reads a netlist, accepts the graph for it, and writes the ranks of its events.
@@ -27,6 +27,7 @@ pub fn accept<F: Files, O: Sink>(
     files: &mut F,
     out: &mut O,
 ) -> Result<(), Stop>
+    requires { job.now.slack ≤ 15 }
     ensures value { Ends (then_stage (netlist_stage (F.held files.old) job.now.net)
         (accept_stage (F.held files.old) job.now))
         (RoseIn (F.faults files.old) (F.faults files.new))
@@ -39,7 +40,11 @@ pub fn accept<F: Files, O: Sink>(
     let graph = job.graph.as_str();
     let net = job.net.as_str();
     let netlist = read_netlist(alloc, files, net)?;
-    let plan = plan_named(alloc, files, net, &netlist, graph, job.clusters)?;
+    let splitting = Splitting {
+        clusters: job.clusters,
+        slack: job.slack,
+    };
+    let plan = plan_named(alloc, files, net, &netlist, graph, splitting)?;
     write_accepted(alloc, &plan, out)
 }
 

@@ -1,5 +1,5 @@
 //! `graph`: the controller graph of a netlist, or its expansion.
-ghost use Rattle.std.specs.Prelude.{◌≡◌};
+ghost use Rattle.std.specs.Prelude.{◌≡◌, ◌≤◌};
 ghost use Rattle.ds_stage.specs.Ends.{Ends, Never, RoseIn, UnlessUnread, UnlessUnwritten};
 ghost use Rattle.ds_stage.specs.Ends.{output_between};
 ghost use Rattle.ds_stage.specs.GraphStage.{controller_stage, drawn_stage};
@@ -23,6 +23,7 @@ pub fn graph<F: Files, O: Sink>(
     files: &mut F,
     out: &mut O,
 ) -> Result<(), Stop>
+    requires { job.now.slack ≤ 15 }
     ensures value { Ends (then_stage (netlist_stage (F.held files.old) job.now.net)
         (graph_stage job.now))
         (RoseIn (F.faults files.old) (F.faults files.new))
@@ -35,7 +36,7 @@ pub fn graph<F: Files, O: Sink>(
     let net = job.net.as_str();
     let netlist = read_netlist(alloc, files, net)?;
     let latches = split_netlist(alloc, net, &netlist, job.clusters)?;
-    draw(alloc, net, &latches, job.shake, out)
+    draw(alloc, net, &latches.with_slack(job.slack), job.shake, out)
 }
 
 // Writes the graph that is wanted of a split netlist. `file` is the netlist's.

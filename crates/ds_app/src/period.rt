@@ -1,24 +1,23 @@
-//! `period`: the exact period of the controller graph.
-ghost use Rattle.std.specs.Prelude.{◌≡◌, length};
+//! `period`: the exact period of the controller graph, or of one of the user's that is accepted.
+ghost use Rattle.std.specs.Prelude.{◌≡◌, ◌≤◌, length};
 ghost use Rattle.ds_period.specs.Controller.{HasPeriod};
 ghost use Rattle.ds_stage.specs.Ends.{Ends, Never, RoseIn, UnlessUnread, UnlessUnwritten};
 ghost use Rattle.ds_stage.specs.Ends.{output_between};
-ghost use Rattle.ds_stage.specs.PeriodStage.{IsPeriodText, measured_stage};
+ghost use Rattle.ds_stage.specs.PeriodStage.{IsPeriodText, timed_stage};
 ghost use Rattle.ds_stage.specs.Stage.{giving, then_stage};
 ghost use Rattle.ds_stage.specs.Stages.{netlist_stage};
 ghost use Rattle.ds_app.specs.JobStages.{period_stage};
 
 use crate::period_text::period_text;
 use ds_cmd::PeriodJob;
-use ds_latch::Latches;
 use ds_marked::Marked;
 use ds_outside::{Files, Sink, write_all};
 use ds_period::Delays;
-use ds_stage::{Stop, own_graph, read_netlist, read_timing, split_netlist};
+use ds_period::laws::plans_have_periods;
+use ds_stage::{Splitting, Stop, plan_netlist, read_netlist, read_timing};
 use std::alloc::Global;
 
-/// Reads a netlist and the delays of its required orders, and writes the period of its controller
-/// graph.
+/// Reads a netlist, makes its plan, reads the delays of the graph's arcs, and writes its period.
 #[tactic(auto)]
 pub fn period<F: Files, O: Sink>(
     alloc: Global,
@@ -26,6 +25,7 @@ pub fn period<F: Files, O: Sink>(
     files: &mut F,
     out: &mut O,
 ) -> Result<(), Stop>
+    requires { job.now.slack ≤ 15 }
     ensures value { Ends (then_stage (netlist_stage (F.held files.old) job.now.net)
         (period_stage (F.held files.old) job.now))
         (RoseIn (F.faults files.old) (F.faults files.new))
@@ -38,19 +38,26 @@ pub fn period<F: Files, O: Sink>(
     let delays = job.delays.as_str();
     let net = job.net.as_str();
     let netlist = read_netlist(alloc, files, net)?;
-    let latches = split_netlist(alloc, net, &netlist, job.clusters)?;
-    measure(alloc, &latches, delays, files, out)
+    let splitting = Splitting {
+        clusters: job.clusters,
+        slack: job.slack,
+    };
+    let plan = plan_netlist(alloc, files, net, &netlist, &job.graph, splitting)?;
+    // Called for the law that it states.
+    plans_have_periods();
+    measure(alloc, plan.graph(), delays, files, out)
 }
 
-// Reads the delays of the required orders of a split netlist, and writes the period.
+// Reads the delays of the arcs of a graph, and writes its period.
 fn measure<F: Files, O: Sink>(
     alloc: Global,
-    latches: &Latches<'_>,
+    graph: &Marked,
     delays: &str,
     files: &mut F,
     out: &mut O,
 ) -> Result<(), Stop>
-    ensures value { Ends (measured_stage (F.held files.old) delays.now latches.now)
+    requires { HasPeriod graph.now }
+    ensures value { Ends (timed_stage (F.held files.old) delays.now graph.now)
         (RoseIn (F.faults files.old) (F.faults files.new))
         (output_between O.written O.faults out.old out.new) result }
 
@@ -58,9 +65,8 @@ fn measure<F: Files, O: Sink>(
     ensures same_reads { UnlessUnread result (F.faults files.new ≡ F.faults files.old) }
     ensures same_writes { UnlessUnwritten result (O.faults out.new ≡ O.faults out.old) }
 {
-    let graph = own_graph(alloc, latches)?;
-    let delays = read_timing(alloc, files, delays, &graph)?;
-    write_period(alloc, &graph, &delays, out)
+    let delays = read_timing(alloc, files, delays, graph)?;
+    write_period(alloc, graph, &delays, out)
 }
 
 // Writes the period of a graph, once all of its text is there.

@@ -16,8 +16,8 @@ use Rattle.ds_cmd.specs.Run.{run_job}
 use Rattle.ds_cmd.specs.Clock.{clock_job}
 use Rattle.ds_cmd.specs.Check.{check_job}
 use Rattle.ds_cmd.specs.Graph.{graph_job}
-use Rattle.ds_cmd.specs.Argument.{is_set}
-use Rattle.ds_cmd.specs.Replay.{replay_job, shown_with}
+use Rattle.ds_cmd.specs.Argument.{flag_with, is_set}
+use Rattle.ds_cmd.specs.Replay.{replay_job}
 use Rattle.ds_cmd.specs.Accept.{accept_job}
 use Rattle.ds_cmd.specs.Demo.{demo_job}
 use Rattle.ds_cmd.specs.Period.{period_job}
@@ -82,9 +82,9 @@ few_openings : (o : Option Text) (n : ℕ) → number_or_zero o ≡ Some n → n
 few_openings None n is = let e : 0 ≡ n = (let f : Some 0 ≡ Some n = is in cc) in omega arith
 few_openings (Some word) n is = (between 0 15 word n is).1
 
--- open latches are shown without slack alone
-without_slack : (slack : ℕ) (wanted shown : Bool) → shown_with slack wanted ≡ Some shown → shown ≡ true → slack ≡ 0
-unfolding shown_with
+-- what has no slack is wanted without it alone
+without_slack : (slack : ℕ) (wanted shown : Bool) → flag_with slack wanted ≡ Some shown → shown ≡ true → slack ≡ 0
+unfolding flag_with
 without_slack slack false shown is e = absurd (let f : Some false ≡ Some shown = is in cc)
 without_slack zero true shown is e = refl
 without_slack (suc slack) true shown is e =
@@ -103,18 +103,22 @@ check_yields : (rows : List Row) → Yields (check_job rows)
 check_yields rows = valued (first_of (codes "net") rows) _ (λ net. ok_yields _ tt)
 
 graph_yields : (rows : List Row) → Yields (graph_job rows)
-graph_yields rows = valued (first_of (codes "net") rows) _ (λ net. moded (clusters_of rows) _ (λ mode is. ok_yields _ tt))
+graph_yields rows = valued (first_of (codes "net") rows) _ (λ net.
+    numbered (slack_of rows) _ (λ slack is. moded (clusters_of rows) _ (λ mode in_mode.
+    moded (flag_with slack (is_set (codes "shake") rows)) _ (λ shake wanted.
+    ok_yields _ (few_openings (first_of (codes "slack") rows) slack is, without_slack slack (is_set (codes "shake") rows) shake wanted)))))
 
 replay_yields : (rows : List Row) → Yields (replay_job rows)
 replay_yields rows = valued (first_of (codes "net") rows) _ (λ net. valued (first_of (codes "vec") rows) _ (λ vec.
     valued (first_of (codes "log") rows) _ (λ log.
     numbered (slack_of rows) _ (λ slack is. moded (clusters_of rows) _ (λ mode in_mode.
-    moded (shown_with slack (is_set (codes "transparent") rows)) _ (λ transparent shown.
+    moded (flag_with slack (is_set (codes "transparent") rows)) _ (λ transparent shown.
     ok_yields _ (few_openings (first_of (codes "slack") rows) slack is, without_slack slack (is_set (codes "transparent") rows) transparent shown)))))))
 
 accept_yields : (rows : List Row) → Yields (accept_job rows)
 accept_yields rows = valued (first_of (codes "net") rows) _ (λ net. valued (first_of (codes "graph") rows) _ (λ graph.
-    moded (clusters_of rows) _ (λ mode is. ok_yields _ tt)))
+    numbered (slack_of rows) _ (λ slack is. moded (clusters_of rows) _ (λ mode in_mode.
+    ok_yields _ (few_openings (first_of (codes "slack") rows) slack is)))))
 
 demo_yields : (rows : List Row) → Yields (demo_job rows)
 demo_yields rows = valued (first_of (codes "seed") rows) _ (λ seed. valued (first_of (codes "registers") rows) _ (λ registers.
@@ -131,7 +135,8 @@ demo_yields rows = valued (first_of (codes "seed") rows) _ (λ seed. valued (fir
 period_yields : (rows : List Row) → Yields (period_job rows)
 period_yields rows = valued (first_of (codes "net") rows) _ (λ net.
     valued (first_of (codes "delays") rows) _ (λ delays.
-    moded (clusters_of rows) _ (λ mode is. ok_yields _ tt)))
+    numbered (slack_of rows) _ (λ slack is. moded (clusters_of rows) _ (λ mode in_mode.
+    ok_yields _ (few_openings (first_of (codes "slack") rows) slack is)))))
 
 named_yields : (name : Text) (rows : List Row) → Yields (named_job name rows commands)
 named_yields name rows =

@@ -1,5 +1,5 @@
 -- The numbers of a job, and what may not stand beside them.
-use Rattle.std.specs.Prelude.{◌≡◌, ℕ, ◌≤◌, ⊤, true}
+use Rattle.std.specs.Prelude.{◌≡◌, ℕ, ◌≤◌, ⊤, Bool, true}
 use Rattle.ds_base.specs.Limit.{most_of}
 use Rattle.ds_base.specs.declared.number.Limit.TheVariants.{Clusters, Vectors}
 use Rattle.ds_cmd.specs.declared.job.Job.{Job}
@@ -10,14 +10,19 @@ use Rattle.ds_cmd.specs.declared.job.Job.TheVariants.{Replay, Accept, Demo, Peri
 abbrev pub AreWorkers : ℕ → Type 0
 AreWorkers jobs = (1 ≤ jobs) × (jobs ≤ 64)
 
--- the numbers of a job are within their ranges, and open latches are shown without slack alone
+-- a slack is within its range, and what has none is wanted without it alone
+abbrev pub IsSlackBeside : ℕ → Bool → Type 0
+IsSlackBeside slack wanted = (slack ≤ 15) × (wanted ≡ true → slack ≡ 0)
+
+-- the numbers of a job are within their ranges, and graphs are expanded and open latches shown
+-- without slack alone
 abbrev pub AreAllowed : Job → Type 0
 AreAllowed (Run job) = AreWorkers job.jobs × (job.slack ≤ 15)
 AreAllowed (Clock job) = ⊤
 AreAllowed (Check net) = ⊤
-AreAllowed (Graph job) = ⊤
-AreAllowed (Replay job) = (job.slack ≤ 15) × (job.transparent ≡ true → job.slack ≡ 0)
-AreAllowed (Accept job) = ⊤
+AreAllowed (Graph job) = IsSlackBeside job.slack job.shake
+AreAllowed (Replay job) = IsSlackBeside job.slack job.transparent
+AreAllowed (Accept job) = job.slack ≤ 15
 AreAllowed (Demo job) = (1 ≤ job.registers) × (job.registers ≤ most_of Clusters)
     × (job.turns ≤ most_of Vectors) × AreWorkers job.jobs
-AreAllowed (Period job) = ⊤
+AreAllowed (Period job) = job.slack ≤ 15

@@ -1,5 +1,6 @@
 -- The parts of a command, in the words of `clap`.
-use Rattle.std.specs.Prelude.{◌≡◌, ⊤, Bool, List, [], ◌∷◌, Option, Some, None, true, false, codes}
+use Rattle.std.specs.Prelude.{◌≡◌, ⊤, ℕ, Bool, List, [], ◌∷◌, Option, Some, None, true, false}
+use Rattle.std.specs.Prelude.{◌&&◌, codes, nat_lt, if◌then◌else◌}
 use Rattle.std.specs.Str.{bytes_eq}
 use Rattle.clap.specs.Words.{Row, Rule, Shape, Text, first_of, new_rule}
 use Rattle.clap.specs.Simple.{new_shape}
@@ -26,6 +27,10 @@ is_true (Some word) = bytes_eq word (codes "true")
 -- whether the option stands among the words, by the values of a command's arguments
 abbrev pub is_set : Text → List Row → Bool
 is_set id rows = is_true (first_of id rows)
+
+-- an option without a value, as it is wanted; beside a slack above 0 there is no such mode
+unfoldable pub flag_with : ℕ → Bool → Option Bool
+flag_with slack wanted = if wanted && nat_lt 0 slack then None else Some wanted
 
 -- none of the arguments is one of all commands
 abbrev pub AreLocal : List Arg → Type 0

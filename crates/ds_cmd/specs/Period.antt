@@ -3,21 +3,31 @@ use Rattle.std.specs.Prelude.{List, [], ◌∷◌, Result, Ok, codes}
 use Rattle.clap.specs.Words.{Row, Shape, first_of}
 use Rattle.ds_cmd.specs.Argument.{command_shape, word_rule, option_rule}
 use Rattle.ds_cmd.specs.Clusters.{clusters_of}
-use Rattle.ds_cmd.specs.Fault.{with_mode, with_value}
+use Rattle.ds_cmd.specs.Fault.{with_mode, with_number, with_value}
+use Rattle.ds_cmd.specs.Number.{slack_of}
 use Rattle.ds_cmd.specs.declared.job.Job.{Job}
 use Rattle.ds_cmd.specs.declared.job.Job.TheVariants.{Period}
 use Rattle.ds_cmd.specs.declared.fault.UsageFault.{UsageFault}
 
--- `period NET D [--clusters MODE]`
+-- `period NET D [--graph G] [--clusters MODE] [--slack N]`
 abbrev pub period_shape : Shape
 period_shape = command_shape (codes "period") (
     word_rule (codes "net") ∷
     word_rule (codes "delays") ∷
-    option_rule (codes "clusters") ∷ [])
+    option_rule (codes "graph") ∷
+    option_rule (codes "clusters") ∷
+    option_rule (codes "slack") ∷ [])
 
 -- its job, from the values of its arguments
 abbrev pub period_job : List Row → Result Job UsageFault
 period_job rows = with_value (first_of (codes "net") rows) (λ net.
     with_value (first_of (codes "delays") rows) (λ delays.
+    with_number (slack_of rows) (λ slack.
     with_mode (clusters_of rows) (λ clusters.
-    Ok (Period (record { net = net; delays = delays; clusters = clusters })))))
+    Ok (Period (record {
+      net = net;
+      delays = delays;
+      graph = first_of (codes "graph") rows;
+      clusters = clusters;
+      slack = slack;
+    }))))))

@@ -1,8 +1,8 @@
 -- The command `replay`.
-use Rattle.std.specs.Prelude.{ℕ, Bool, ◌&&◌, nat_lt, List, [], ◌∷◌, Option, Some, None}
-use Rattle.std.specs.Prelude.{Result, Ok, codes, if◌then◌else◌}
+use Rattle.std.specs.Prelude.{List, [], ◌∷◌, Result, Ok, codes}
 use Rattle.clap.specs.Words.{Row, Shape, first_of}
-use Rattle.ds_cmd.specs.Argument.{command_shape, flag_rule, is_set, option_rule, word_rule}
+use Rattle.ds_cmd.specs.Argument.{command_shape, flag_rule, flag_with, is_set, option_rule}
+use Rattle.ds_cmd.specs.Argument.{word_rule}
 use Rattle.ds_cmd.specs.Clusters.{clusters_of}
 use Rattle.ds_cmd.specs.Fault.{with_mode, with_number, with_value}
 use Rattle.ds_cmd.specs.Number.{slack_of}
@@ -21,10 +21,6 @@ replay_shape = command_shape (codes "replay") (
     option_rule (codes "slack") ∷
     flag_rule (codes "transparent") ∷ [])
 
--- whether open latches are to be shown, as it is wanted; with slack there is no such mode
-unfoldable pub shown_with : ℕ → Bool → Option Bool
-shown_with slack wanted = if wanted && nat_lt 0 slack then None else Some wanted
-
 -- its job, from the values of its arguments
 abbrev pub replay_job : List Row → Result Job UsageFault
 replay_job rows = with_value (first_of (codes "net") rows) (λ net.
@@ -32,7 +28,7 @@ replay_job rows = with_value (first_of (codes "net") rows) (λ net.
     with_value (first_of (codes "log") rows) (λ log.
     with_number (slack_of rows) (λ slack.
     with_mode (clusters_of rows) (λ clusters.
-    with_mode (shown_with slack (is_set (codes "transparent") rows)) (λ transparent.
+    with_mode (flag_with slack (is_set (codes "transparent") rows)) (λ transparent.
     Ok (Replay (record {
       net = net;
       vec = vec;

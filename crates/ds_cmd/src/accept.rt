@@ -6,6 +6,7 @@ ghost use Rattle.ds_cmd.specs.Accept.{accept_job, accept_shape};
 
 use crate::argument::{option, text, word};
 use crate::clusters::clusters;
+use crate::number::slack;
 use crate::subcommand::subcommand;
 use crate::{FileName, Job, UsageFault};
 use clap::{ArgMatches, Command};
@@ -21,9 +22,11 @@ pub struct AcceptJob {
     pub graph: FileName,
     /// How registers are put into clusters.
     pub clusters: Mode,
+    /// How many openings a producer may run ahead of its consumers, 0 to 15.
+    pub slack: u8,
 }
 
-/// `accept NET G [--clusters MODE]`, as a subcommand.
+/// `accept NET G [--clusters MODE] [--slack S]`, as a subcommand.
 pub fn command<'a>(alloc: Global) -> Result<Command<'a>, OutOfMemory>
     ensures { IfOk result (λ c. shape_of c ≡ accept_shape) }
 {
@@ -31,6 +34,7 @@ pub fn command<'a>(alloc: Global) -> Result<Command<'a>, OutOfMemory>
         word(alloc, "net"),
         word(alloc, "graph"),
         option(alloc, "clusters"),
+        option(alloc, "slack"),
     ]?;
     subcommand(alloc, "accept", args)
 }
@@ -45,6 +49,9 @@ pub fn job(alloc: Global, values: &ArgMatches<'_>) -> Result<Job, UsageFault>
     let Some(graph) = text(values, "graph") else {
         return Err(UsageFault::Line);
     };
+    let Some(slack) = slack(values) else {
+        return Err(UsageFault::Number);
+    };
     let Some(clusters) = clusters(values) else {
         return Err(UsageFault::Mode);
     };
@@ -52,5 +59,6 @@ pub fn job(alloc: Global, values: &ArgMatches<'_>) -> Result<Job, UsageFault>
         net: FileName::new(alloc, net)?,
         graph: FileName::new(alloc, graph)?,
         clusters,
+        slack,
     }))
 }

@@ -2,7 +2,8 @@
 //! are read back.
 ghost use Rattle.std.specs.Prelude.{◌≡◌, false, option_map, IfOk};
 ghost use Rattle.clap.specs.Words.{rule_of, found_of, rows_of, first_of};
-ghost use Rattle.ds_cmd.specs.Argument.{flag_rule, is_set as is_set_in, option_rule, word_rule};
+ghost use Rattle.ds_cmd.specs.Argument.{flag_rule, flag_with as flag_beside};
+ghost use Rattle.ds_cmd.specs.Argument.{is_set as is_set_in, option_rule, word_rule};
 
 use crate::FileName;
 use clap::{Arg, ArgAction, ArgMatches};
@@ -61,5 +62,19 @@ pub fn is_set(values: &ArgMatches<'_>, id: &str) -> bool
     match text(values, id) {
         Some(word) => word == "true",
         None => false,
+    }
+}
+
+/// Whether an option without a value stands among the words. `None` where it stands beside a slack
+/// above 0.
+#[tactic(auto, unfolding(crate::specs::Argument::flag_with))]
+pub fn flag_with(values: &ArgMatches<'_>, id: &str, slack: u8) -> Option<bool>
+    ensures { result ≡ flag_beside slack (is_set_in id.now (rows_of (found_of values.now))) }
+{
+    let wanted = is_set(values, id);
+    if wanted && slack > 0 {
+        None
+    } else {
+        Some(wanted)
     }
 }

@@ -4,8 +4,9 @@ ghost use Rattle.clap.specs.Words.{shape_of, found_of, rows_of};
 ghost use Rattle.ds_cmd.specs.Fault.{Gives};
 ghost use Rattle.ds_cmd.specs.Period.{period_job, period_shape};
 
-use crate::argument::{option, text, word};
+use crate::argument::{named, option, text, word};
 use crate::clusters::clusters;
+use crate::number::slack;
 use crate::subcommand::subcommand;
 use crate::{FileName, Job, UsageFault};
 use clap::{ArgMatches, Command};
@@ -19,18 +20,24 @@ pub struct PeriodJob {
     pub net: FileName,
     /// The file of the delays.
     pub delays: FileName,
+    /// The file of a controller graph, where one is named.
+    pub graph: Option<FileName>,
     /// How registers are put into clusters.
     pub clusters: Mode,
+    /// How many openings a producer may run ahead of its consumers, 0 to 15.
+    pub slack: u8,
 }
 
-/// `period NET D [--clusters MODE]`, as a subcommand.
+/// `period NET D [--graph G] [--clusters MODE] [--slack S]`, as a subcommand.
 pub fn command<'a>(alloc: Global) -> Result<Command<'a>, OutOfMemory>
     ensures { IfOk result (λ c. shape_of c ≡ period_shape) }
 {
     let args = vec![in alloc;
         word(alloc, "net"),
         word(alloc, "delays"),
+        option(alloc, "graph"),
         option(alloc, "clusters"),
+        option(alloc, "slack"),
     ]?;
     subcommand(alloc, "period", args)
 }
@@ -45,12 +52,17 @@ pub fn job(alloc: Global, values: &ArgMatches<'_>) -> Result<Job, UsageFault>
     let Some(delays) = text(values, "delays") else {
         return Err(UsageFault::Line);
     };
+    let Some(slack) = slack(values) else {
+        return Err(UsageFault::Number);
+    };
     let Some(clusters) = clusters(values) else {
         return Err(UsageFault::Mode);
     };
     Ok(Job::Period(PeriodJob {
         net: FileName::new(alloc, net)?,
         delays: FileName::new(alloc, delays)?,
+        graph: named(alloc, values, "graph")?,
         clusters,
+        slack,
     }))
 }

@@ -1,11 +1,10 @@
 //! The words of `replay`, and the job that they ask for.
-ghost use Rattle.std.specs.Prelude.{◌≡◌, codes, IfOk};
+ghost use Rattle.std.specs.Prelude.{◌≡◌, IfOk};
 ghost use Rattle.clap.specs.Words.{shape_of, found_of, rows_of};
-ghost use Rattle.ds_cmd.specs.Argument.{is_set as is_set_in};
 ghost use Rattle.ds_cmd.specs.Fault.{Gives};
-ghost use Rattle.ds_cmd.specs.Replay.{replay_job, replay_shape, shown_with};
+ghost use Rattle.ds_cmd.specs.Replay.{replay_job, replay_shape};
 
-use crate::argument::{flag, is_set, named, option, text, word};
+use crate::argument::{flag, flag_with, named, option, text, word};
 use crate::clusters::clusters;
 use crate::number::slack;
 use crate::subcommand::subcommand;
@@ -68,7 +67,7 @@ pub fn job(alloc: Global, values: &ArgMatches<'_>) -> Result<Job, UsageFault>
     let Some(clusters) = clusters(values) else {
         return Err(UsageFault::Mode);
     };
-    let Some(transparent) = transparent(values, slack) else {
+    let Some(transparent) = flag_with(values, "transparent", slack) else {
         return Err(UsageFault::Mode);
     };
     Ok(Job::Replay(ReplayJob {
@@ -80,19 +79,4 @@ pub fn job(alloc: Global, values: &ArgMatches<'_>) -> Result<Job, UsageFault>
         slack,
         transparent,
     }))
-}
-
-// Whether open latches are to be shown: as the option `--transparent` says. `None` where it stands
-// beside a slack above 0.
-#[tactic(auto, unfolding(crate::specs::Replay::shown_with))]
-fn transparent(values: &ArgMatches<'_>, slack: u8) -> Option<bool>
-    ensures { result ≡ shown_with slack
-        (is_set_in (codes "transparent") (rows_of (found_of values.now))) }
-{
-    let wanted = is_set(values, "transparent");
-    if wanted && slack > 0 {
-        None
-    } else {
-        Some(wanted)
-    }
 }

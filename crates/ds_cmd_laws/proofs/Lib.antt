@@ -2,5 +2,6 @@ pub mod Taken
 pub mod Refused
 pub mod TakenGraph
 pub mod TakenPeriod
+pub mod TakenSlack
 pub mod TakenNumbers
 pub mod TakenReplay

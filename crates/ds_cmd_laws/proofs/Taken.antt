@@ -5,6 +5,7 @@ use Rattle.std.specs.Str.{bytes_eq}
 use Rattle.clap.specs.Words.{Text}
 use Rattle.clap.specs.Lexer.{short_of, short_of_rest, long_of, long_of_rest, strip_byte}
 use Rattle.clap.proofs.OnLiterals.{clap_on_literals}
+use Rattle.ds_cmd.specs.Argument.{flag_with}
 use Rattle.ds_cmd.specs.Line.{job_of}
 use Rattle.ds_cmd.specs.Plain.{is_plain}
 use Rattle.ds_cmd.specs.declared.job.Job.TheVariants.{Run, Clock, Check, Graph}
@@ -79,17 +80,17 @@ unfolding clap_on_literals
 check_at program net n = rw (n.dashes, n.long, n.short) refl
 
 graph_at : (program net : Text) → IsNoOption net → job_of (program ∷ codes "graph" ∷ net ∷ []) ≡ Ok (Graph (bare_graph net))
-unfolding clap_on_literals
+unfolding clap_on_literals flag_with
 graph_at program net n = rw (n.dashes, n.long, n.short) refl
 
 graph_in : (program net : Text) (mode : Mode) → IsNoOption net → job_of (program ∷ codes "graph" ∷ net ∷ codes "--clusters" ∷ mode_word mode ∷ []) ≡ Ok (Graph (record (bare_graph net) { clusters = mode }))
-unfolding clap_on_literals
+unfolding clap_on_literals flag_with
 graph_in program net Each n = rw (n.dashes, n.long, n.short) refl
 graph_in program net One n = rw (n.dashes, n.long, n.short) refl
 graph_in program net Bus n = rw (n.dashes, n.long, n.short) refl
 
 graph_shaken : (program net : Text) → IsNoOption net → job_of (program ∷ codes "graph" ∷ net ∷ codes "--shake" ∷ []) ≡ Ok (Graph (record (bare_graph net) { shake = true }))
-unfolding clap_on_literals
+unfolding clap_on_literals flag_with
 graph_shaken program net n = rw (n.dashes, n.long, n.short) refl
 
 pub run_taken : (program net vec : Text) → is_plain net ≡ true → is_plain vec ≡ true → job_of (program ∷ codes "run" ∷ net ∷ vec ∷ []) ≡ Ok (Run (bare_run net vec))

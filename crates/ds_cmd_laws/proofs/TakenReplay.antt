@@ -3,11 +3,11 @@ use Rattle.std.proofs.Common.{◌≡◌, ◌≤◌, ◌∙◌, ℕ, true, [], �
 use Rattle.std.specs.Fmt.{decimal}
 use Rattle.clap.specs.Words.{Text}
 use Rattle.clap.proofs.OnLiterals.{clap_on_literals}
+use Rattle.ds_cmd.specs.Argument.{flag_with}
 use Rattle.ds_cmd.specs.Fault.{with_number}
 use Rattle.ds_cmd.specs.Line.{job_of}
 use Rattle.ds_cmd.specs.Number.{number_in_range}
 use Rattle.ds_cmd.specs.Plain.{is_plain}
-use Rattle.ds_cmd.specs.Replay.{shown_with}
 use Rattle.ds_cmd.specs.declared.fault.UsageFault.{UsageFault}
 use Rattle.ds_cmd.specs.declared.job.Job.{Job}
 use Rattle.ds_cmd.specs.declared.job.Job.TheVariants.{Replay}
@@ -18,7 +18,7 @@ use Rattle.ds_cmd_laws.proofs.TakenNumbers.{IsWritten, written}
 replay_at : (program net vec log : Text) → IsNoOption net → IsNoOption vec → IsNoOption log
     → job_of (program ∷ codes "replay" ∷ net ∷ vec ∷ log ∷ [])
     ≡ Ok (Replay (bare_replay net vec log))
-unfolding clap_on_literals shown_with
+unfolding clap_on_literals flag_with
 replay_at program net vec log n v l =
     rw (n.dashes, n.long, n.short, v.dashes, v.long, v.short, l.dashes, l.long, l.short)
     (refl {a = Ok (Replay (bare_replay net vec log))})
@@ -32,7 +32,7 @@ slack_at : (program net vec log word : Text) → IsNoOption net → IsNoOption v
     → IsNoOption word
     → job_of (program ∷ codes "replay" ∷ net ∷ vec ∷ log ∷ codes "--slack" ∷ word ∷ [])
     ≡ replay_job_with net vec log (number_in_range 0 15 word)
-unfolding clap_on_literals shown_with replay_job_with
+unfolding clap_on_literals flag_with replay_job_with
 slack_at program net vec log word n v l w =
     rw (n.dashes, n.long, n.short) (rw (v.dashes, v.long, v.short)
     (rw (l.dashes, l.long, l.short) (rw w.dashes (rw w.long (rw w.short
@@ -47,7 +47,7 @@ replay_job_slack net vec log word slack w = rw w.number refl
 transparent_at : (program net vec log : Text) → IsNoOption net → IsNoOption vec → IsNoOption log
     → job_of (program ∷ codes "replay" ∷ net ∷ vec ∷ log ∷ codes "--transparent" ∷ [])
     ≡ Ok (Replay (record (bare_replay net vec log) { transparent = true }))
-unfolding clap_on_literals shown_with
+unfolding clap_on_literals flag_with
 transparent_at program net vec log n v l =
     rw (n.dashes, n.long, n.short) (rw (v.dashes, v.long, v.short)
     (rw (l.dashes, l.long, l.short) (refl {a = Ok (Replay (record (bare_replay net vec log) { transparent = true }))})))

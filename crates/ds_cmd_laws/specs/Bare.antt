@@ -2,7 +2,9 @@
 use Rattle.std.specs.Prelude.{false, None}
 use Rattle.clap.specs.Words.{Text}
 use Rattle.ds_base.specs.declared.number.Mode.TheVariants.{Each}
+use Rattle.ds_cmd.specs.declared.accept.AcceptJob.{AcceptJob}
 use Rattle.ds_cmd.specs.declared.graph.GraphJob.{GraphJob}
+use Rattle.ds_cmd.specs.declared.period.PeriodJob.{PeriodJob}
 use Rattle.ds_cmd.specs.declared.replay.ReplayJob.{ReplayJob}
 use Rattle.ds_cmd.specs.declared.run.RunJob.{RunJob}
 
@@ -20,9 +22,10 @@ bare_run net vec = record {
   stop = None;
 }
 
--- `graph NET`: each register is a cluster of its own, and the graph is not expanded
+-- `graph NET`: each register is a cluster of its own, there is no slack, and the graph is not
+-- expanded
 abbrev pub bare_graph : Text → GraphJob
-bare_graph net = record { net = net; clusters = Each; shake = false }
+bare_graph net = record { net = net; clusters = Each; slack = 0; shake = false }
 
 -- `replay NET VEC LOG`: each register is a cluster of its own, there is no slack, and open latches
 -- are not shown
@@ -35,4 +38,18 @@ bare_replay net vec log = record {
   clusters = Each;
   slack = 0;
   transparent = false;
+}
+
+-- `accept NET G`: each register is a cluster of its own, and there is no slack
+abbrev pub bare_accept : Text → Text → AcceptJob
+bare_accept net graph = record { net = net; graph = graph; clusters = Each; slack = 0 }
+
+-- `period NET D`: no graph is named, each register is a cluster of its own, and there is no slack
+abbrev pub bare_period : Text → Text → PeriodJob
+bare_period net delays = record {
+  net = net;
+  delays = delays;
+  graph = None;
+  clusters = Each;
+  slack = 0;
 }

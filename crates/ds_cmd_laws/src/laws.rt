@@ -7,11 +7,11 @@ ghost use Rattle.ds_cmd.specs.Line.{job_of};
 ghost use Rattle.ds_cmd.specs.Plain.{is_command, is_plain};
 ghost use Rattle.ds_cmd.specs.declared.job.Job.TheVariants.{Run, Clock, Check, Graph};
 ghost use Rattle.ds_cmd.specs.declared.job.Job.TheVariants.{Replay, Accept, Demo, Period};
-ghost use Rattle.ds_base.specs.declared.number.Mode.TheVariants.{Each};
 ghost use Rattle.ds_base.specs.declared.number.Mode.{Mode};
 ghost use Rattle.ds_cmd.specs.Clusters.{mode_word};
 ghost use Rattle.ds_cmd.specs.declared.fault.UsageFault.TheVariants.{Line};
-ghost use Rattle.ds_cmd_laws.specs.Bare.{bare_graph, bare_replay, bare_run};
+ghost use Rattle.ds_cmd_laws.specs.Bare.{bare_accept, bare_graph, bare_period, bare_replay};
+ghost use Rattle.ds_cmd_laws.specs.Bare.{bare_run};
 
 /// `run` with two names of files is taken, whatever the program's name is; each register is then a
 /// cluster of its own, unless the word behind `--clusters` says otherwise, and no controller graph
@@ -60,8 +60,8 @@ pub fn check_is_taken()
 {}
 
 /// `graph` with the name of a file is taken; each register is then a cluster of its own, unless the
-/// word behind `--clusters` says otherwise, and the graph is not expanded, unless `--shake` stands
-/// there.
+/// word behind `--clusters` says otherwise, there is no slack, unless `--slack` says otherwise, and
+/// the graph is not expanded, unless `--shake` stands there.
 pub fn graph_is_taken()
     ensures each { (program net : List ℕ) → is_plain net ≡ true
         → job_of (program ∷ codes "graph" ∷ net ∷ []) ≡ Ok (Graph (bare_graph net)) }
@@ -71,6 +71,9 @@ pub fn graph_is_taken()
     ensures shake { (program net : List ℕ) → is_plain net ≡ true
         → job_of (program ∷ codes "graph" ∷ net ∷ codes "--shake" ∷ [])
         ≡ Ok (Graph (record (bare_graph net) { shake = true })) }
+    ensures slack { (program net : List ℕ) (slack : ℕ) → is_plain net ≡ true → slack ≤ 15
+        → job_of (program ∷ codes "graph" ∷ net ∷ codes "--slack" ∷ decimal slack ∷ [])
+        ≡ Ok (Graph (record (bare_graph net) { slack = slack })) }
 {}
 
 /// `replay` with three names of files is taken; then without slack, unless `--slack` says
@@ -90,11 +93,15 @@ pub fn replay_is_taken()
         ≡ Ok (Replay (record (bare_replay net vec log) { transparent = true })) }
 {}
 
-/// `accept` with two names of files is taken.
+/// `accept` with two names of files is taken; then without slack, unless `--slack` says otherwise.
 pub fn accept_is_taken()
-    ensures { (program net graph : List ℕ) → is_plain net ≡ true → is_plain graph ≡ true
+    ensures each { (program net graph : List ℕ) → is_plain net ≡ true → is_plain graph ≡ true
         → job_of (program ∷ codes "accept" ∷ net ∷ graph ∷ [])
-        ≡ Ok (Accept (record { net = net; graph = graph; clusters = Each })) }
+        ≡ Ok (Accept (bare_accept net graph)) }
+    ensures slack { (program net graph : List ℕ) (slack : ℕ) → is_plain net ≡ true
+        → is_plain graph ≡ true → slack ≤ 15
+        → job_of (program ∷ codes "accept" ∷ net ∷ graph ∷ codes "--slack" ∷ decimal slack ∷ [])
+        ≡ Ok (Accept (record (bare_accept net graph) { slack = slack })) }
 {}
 
 /// `demo` with three numbers in decimal is taken, where they are in range; one thread is then
@@ -112,15 +119,24 @@ pub fn demo_is_taken()
 {}
 
 /// `period` with two names of files is taken; each register is then a cluster of its own, unless
-/// the word behind `--clusters` says otherwise.
+/// the word behind `--clusters` says otherwise, no controller graph is named, unless `--graph`
+/// does, and there is no slack, unless `--slack` says otherwise.
 pub fn period_is_taken()
     ensures each { (program net delays : List ℕ) → is_plain net ≡ true → is_plain delays ≡ true
         → job_of (program ∷ codes "period" ∷ net ∷ delays ∷ [])
-        ≡ Ok (Period (record { net = net; delays = delays; clusters = Each })) }
+        ≡ Ok (Period (bare_period net delays)) }
     ensures clusters { (program net delays : List ℕ) (mode : Mode) → is_plain net ≡ true
         → is_plain delays ≡ true
         → job_of (program ∷ codes "period" ∷ net ∷ delays ∷ codes "--clusters" ∷ mode_word mode
-        ∷ []) ≡ Ok (Period (record { net = net; delays = delays; clusters = mode })) }
+        ∷ []) ≡ Ok (Period (record (bare_period net delays) { clusters = mode })) }
+    ensures graph { (program net delays graph : List ℕ) → is_plain net ≡ true
+        → is_plain delays ≡ true → is_plain graph ≡ true
+        → job_of (program ∷ codes "period" ∷ net ∷ delays ∷ codes "--graph" ∷ graph ∷ [])
+        ≡ Ok (Period (record (bare_period net delays) { graph = Some graph })) }
+    ensures slack { (program net delays : List ℕ) (slack : ℕ) → is_plain net ≡ true
+        → is_plain delays ≡ true → slack ≤ 15
+        → job_of (program ∷ codes "period" ∷ net ∷ delays ∷ codes "--slack" ∷ decimal slack ∷ [])
+        ≡ Ok (Period (record (bare_period net delays) { slack = slack })) }
 {}
 
 /// A line that begins with another name than that of a command is refused, whatever follows.

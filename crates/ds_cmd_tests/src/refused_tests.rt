@@ -23,7 +23,8 @@ d|accept|n
 d|accept|n|g|--graph|g
 d|period|n
 d|period|n|d|x
-d|period|n|d|--graph|g
+d|period|n|d|--graph
+d|period|n|d|--graph|g|--graph|g
 d|--clusters=one|graph|n
 d|check|n|--clusters|one
 d|run|-n|v
@@ -50,9 +51,9 @@ d|replay|n|v|l|--slack=2|--slack=2
 d|--slack=1|run|n|v
 d|clock|n|v|--slack|1
 d|check|n|--slack|1
-d|graph|n|--slack|1
-d|accept|n|g|--slack|1
-d|period|n|d|--slack|1
+d|graph|n|--slack
+d|accept|n|g|--slack|1|--slack|1
+d|period|n|d|--slack
 d|demo|1|2|3|--slack|1
 d|run|n|v|--stop
 d|run|n|v|--stop|1|--stop|1
@@ -137,6 +138,11 @@ d|replay|n|v|l|--slack|16
 d|replay|n|v|l|--slack=
 d|replay|n|v|l|--slack|16|--transparent
 d|replay|n|v|l|--clusters|two|--slack|x
+d|graph|n|--slack|16
+d|graph|n|--slack|16|--shake
+d|accept|n|g|--slack|x
+d|period|n|d|--slack=-1
+d|period|n|d|--clusters|two|--slack|16
 # The stop, whatever else is wrong with the mode.
 d|run|n|v|--stop|x
 d|run|n|v|--stop|+1
@@ -170,7 +176,7 @@ d|demo|0|1|x
 d|demo|0|1|0|--jobs|65
 ";
 
-// Lines with another mode than the three, or with open latches beside slack.
+// Lines with another mode than the three, or with open latches or an expansion beside slack.
 const MODES: &str = "\
 d|run|n|v|--clusters|two
 d|run|n|v|--clusters|two|--jobs|2
@@ -184,6 +190,10 @@ d|run|n|v|--clusters|two|--stop|2
 d|replay|n|v|l|--transparent|--slack|1
 d|replay|n|v|l|--slack|15|--transparent
 d|replay|n|v|l|--transparent|--clusters|two
+d|graph|n|--shake|--slack|1
+d|graph|n|--slack|15|--shake
+d|accept|n|g|--slack|1|--clusters|two
+d|period|n|d|--slack|1|--clusters|two
 ";
 
 #[test]

@@ -6,16 +6,16 @@ const TAKEN: &str = "\
 d|run|n|v -> run|n|v|none|each|1|false|0|none
 d|clock|n|v -> clock|n|v
 d|check|n -> check|n
-d|graph|n -> graph|n|each|false
+d|graph|n -> graph|n|each|0|false
 d|replay|n|v|l -> replay|n|v|l|none|each|0|false
 d|replay|n|--clusters=one|v|- -> replay|n|v|-|none|one|0|false
 d|run|n|v|--graph|g -> run|n|v|g|each|1|false|0|none
 d|run|--graph=-|n|v|--clusters=bus -> run|n|v|-|bus|1|false|0|none
 d|replay|n|v|l|--graph=g -> replay|n|v|l|g|each|0|false
-d|accept|n|g -> accept|n|g|each
-d|accept|n|--clusters|one|g -> accept|n|g|one
-d|period|n|d -> period|n|d|each
-d|period|--clusters=bus|n|- -> period|n|-|bus
+d|accept|n|g -> accept|n|g|each|0
+d|accept|n|--clusters|one|g -> accept|n|g|one|0
+d|period|n|d -> period|n|d|none|each|0
+d|period|--clusters=bus|n|- -> period|n|-|none|bus|0
 # The name of the program says nothing.
 |check|n -> check|n
 run|check|n -> check|n
@@ -32,15 +32,15 @@ d|check|--|-- -> check|--
 # Options stand anywhere behind the command's name.
 d|run|n|v|--clusters|one -> run|n|v|none|one|1|false|0|none
 d|run|--clusters=bus|n|v -> run|n|v|none|bus|1|false|0|none
-d|graph|n|--clusters|each -> graph|n|each|false
-d|graph|--clusters|bus|n -> graph|n|bus|false
+d|graph|n|--clusters|each -> graph|n|each|0|false
+d|graph|--clusters|bus|n -> graph|n|bus|0|false
 # The expansion of a graph.
-d|graph|n|--shake -> graph|n|each|true
-d|graph|--shake|n|--clusters=bus -> graph|n|bus|true
-d|graph|--clusters|one|--shake|n -> graph|n|one|true
+d|graph|n|--shake -> graph|n|each|0|true
+d|graph|--shake|n|--clusters=bus -> graph|n|bus|0|true
+d|graph|--clusters|one|--shake|n -> graph|n|one|0|true
 # Behind `--` there are no options.
-d|graph|--|--clusters -> graph|--clusters|each|false
-d|graph|--|--shake -> graph|--shake|each|false
+d|graph|--|--clusters -> graph|--clusters|each|0|false
+d|graph|--|--shake -> graph|--shake|each|0|false
 d|run|n|--|--log -> run|n|--log|none|each|1|false|0|none
 # Threads, 1 to 64, in one to twenty digits; the log.
 d|run|n|v|--jobs|3 -> run|n|v|none|each|3|false|0|none
@@ -58,6 +58,14 @@ d|run|--slack|3|n|--log|v|--jobs|4|--graph=g -> run|n|v|g|each|4|true|3|none
 d|run|n|--|--slack -> run|n|--slack|none|each|1|false|0|none
 d|replay|n|v|l|--slack|2 -> replay|n|v|l|none|each|2|false
 d|replay|n|--slack=015|v|l|--graph|g|--clusters|bus -> replay|n|v|l|g|bus|15|false
+d|graph|n|--slack|2 -> graph|n|each|2|false
+d|graph|--slack=15|--clusters|one|n -> graph|n|one|15|false
+d|graph|n|--slack|0|--shake -> graph|n|each|0|true
+d|accept|n|g|--slack|3 -> accept|n|g|each|3
+d|accept|--slack=07|n|--clusters=bus|g -> accept|n|g|bus|7
+d|period|n|d|--slack|1 -> period|n|d|none|each|1
+d|period|n|d|--graph|g -> period|n|d|g|each|0
+d|period|--graph=g|n|--slack|15|d|--clusters|one -> period|n|d|g|one|15
 # Open latches, without slack.
 d|replay|n|v|l|--transparent -> replay|n|v|l|none|each|0|true
 d|replay|--transparent|n|v|l|--slack|00 -> replay|n|v|l|none|each|0|true

@@ -1,7 +1,9 @@
 //! Lines of texts, and what is said of them. Words are parted by `|`, the program's name first; so
 //! are those of a job, which stands behind ` -> `. A line that begins with `#` says what follows.
 use ds_base::Mode;
-use ds_cmd::{DemoJob, FileName, GraphJob, Job, ReplayJob, RunJob, UsageFault, parse};
+use ds_cmd::{
+    AcceptJob, DemoJob, FileName, GraphJob, Job, PeriodJob, ReplayJob, RunJob, UsageFault, parse,
+};
 use std::alloc::{AllocError, Global};
 
 // A part of a job: a word, or a number.
@@ -67,22 +69,47 @@ fn has_words(job: &Job, words: &[&str]) -> bool {
         Job::Check(net) => stand_for(words, &[Part::Word("check"), file(net)]),
         Job::Graph(job) => is_graph(job, words),
         Job::Replay(job) => is_replay(job, words),
-        Job::Accept(job) => has_mode(words, "accept", &job.net, &job.graph, &job.clusters),
-        Job::Period(job) => has_mode(words, "period", &job.net, &job.delays, &job.clusters),
+        Job::Accept(job) => is_accept(job, words),
+        Job::Period(job) => is_period(job, words),
         Job::Demo(job) => is_demo(job, words),
     }
 }
 
-// Whether these are the words of a job with two files and a mode.
-fn has_mode(words: &[&str], job: &str, net: &FileName, other: &FileName, clusters: &Mode) -> bool {
-    let parts = [Part::Word(job), file(net), file(other), mode(clusters)];
+// Whether these are the words of an accepted graph.
+fn is_accept(job: &AcceptJob, words: &[&str]) -> bool {
+    let parts = [
+        Part::Word("accept"),
+        file(&job.net),
+        file(&job.graph),
+        mode(&job.clusters),
+        Part::Number(job.slack as u64),
+    ];
+    stand_for(words, &parts)
+}
+
+// Whether these are the words of a period.
+fn is_period(job: &PeriodJob, words: &[&str]) -> bool {
+    let parts = [
+        Part::Word("period"),
+        file(&job.net),
+        file(&job.delays),
+        option(&job.graph),
+        mode(&job.clusters),
+        Part::Number(job.slack as u64),
+    ];
     stand_for(words, &parts)
 }
 
 // Whether these are the words of a graph.
 fn is_graph(job: &GraphJob, words: &[&str]) -> bool {
-    let (mode, shake) = (mode(&job.clusters), wanted(job.shake));
-    stand_for(words, &[Part::Word("graph"), file(&job.net), mode, shake])
+    let parts = [
+        Part::Word("graph"),
+        file(&job.net),
+        mode(&job.clusters),
+        Part::Number(job.slack as u64),
+        wanted(job.shake),
+    ];
+    stand_for(words, &parts)
 }
 
 // Whether these are the words of a run.

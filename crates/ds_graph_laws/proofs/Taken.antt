@@ -20,6 +20,7 @@ use Rattle.ds_latch.proofs.Counts.{edge_tokens}
 use Rattle.ds_latch.proofs.Rising.{orders_are_accepted}
 use Rattle.ds_control.specs.Orders.{tokens_after}
 use Rattle.ds_control.proofs.Required.{named, tokens_is}
+use Rattle.ds_split_laws.proofs.Slack.{few_at_slack, split_at_slack}
 use Rattle.ds_split.specs.Laws.{OneClustering}
 use Rattle.ds_split.specs.Split.{HasTooManyOrders}
 use Rattle.ds_shake.specs.Expansion.{expanded_arcs, freeing_tokens, handshake_arcs}
@@ -29,6 +30,7 @@ use Rattle.ds_shake.proofs.Flat.{all_each}
 use Rattle.ds_netlist.specs.Laws.{FaultsAreRefused}
 use Rattle.ds_astg.specs.Read.{graph_of_lines}
 use Rattle.ds_astg.specs.Text.{graph_text}
+use Rattle.ds_cmd.specs.Allowed.{AreAllowed}
 use Rattle.ds_cmd.specs.declared.graph.GraphJob.{GraphJob}
 use Rattle.ds_cmd.specs.declared.job.Job.TheVariants.{Accept, Graph as GraphCommand}
 use Rattle.ds_stage.specs.GraphStage.{IsExpansionOf, IsGraphOf, wanted_stage}
@@ -160,20 +162,19 @@ named_means held file text s g is short read kept plan =
 
 -- what is printed is read back
 pub printed_graphs_are_read : (held : List ℕ → Held) (job : GraphJob) (graph printed : List ℕ)
-    → AreTold held (GraphCommand job) → (stages_of held (GraphCommand job)).means printed
+    → AreAllowed (GraphCommand job) → AreTold held (GraphCommand job) → (stages_of held (GraphCommand job)).means printed
     → held graph ≡ bytes printed → length printed ≤ most_of Bytes → IsReadBack held job graph printed
-printed_graphs_are_read held job graph printed told (c, netlist, (s, (is, fits), (g, wanted, drawn))) is_graph short =
+printed_graphs_are_read held job graph printed (low, shaken) told (c, netlist, (s, (is, fits), (g, wanted, drawn))) is_graph short =
     let (flat, is_flat, (same, accepted)) = netlist in
+    let t : Split = slackened s job.slack in
     let split : IsSplit s = in_clusters_split job.clusters c s (subst (λ (d : Circuit). IsAccepted d) (sym same) accepted) is in
-    let circuit : s.circuit ≡ c = ap (λ (t : Split). t.circuit) is.is in
-    let slack : s.slack ≡ 0 = ap (λ (t : Split). t.slack) is.is in
-    let clusters : length s.clusters ≡ length is.clusters = ap (λ (t : Split). length t.clusters) is.is in
+    let circuit : s.circuit ≡ c = ap (λ (u : Split). u.circuit) is.is in
+    let clusters : length s.clusters ≡ length is.clusters = ap (λ (u : Split). length u.clusters) is.is in
     let few : length is.clusters ≤ 4096 = is.few in
     let printable : IsPrintable s.circuit.name = subst (λ (d : Circuit). IsPrintable d.name) (sym circuit) (netlist_named held job.net c told netlist) in
-    let read : graph_of_lines (lines_of (graph_text s.circuit.name (nodes s) g)) ≡ Ok g =
-    wanted_read job.net job.shake s g split (omega (arith, slack)) (omega (arith, clusters, few)) fits s.circuit.name printable wanted in
-    let (kept, plan) = wanted_plan job.net job.shake s g split wanted in
-    let begun : slackened s 0 ≡ s = subst (λ (t : Split). slackened t 0 ≡ t) (sym is.is) refl in
+    let read : graph_of_lines (lines_of (graph_text t.circuit.name (nodes t) g)) ≡ Ok g =
+    wanted_read job.net job.shake t g (split_at_slack s job.slack split) low (omega (arith, clusters, few)) (few_at_slack s job.slack fits) s.circuit.name printable wanted in
+    let (kept, plan) = wanted_plan job.net job.shake t g (split_at_slack s job.slack split) wanted in
     record {
       circuit = c;
       split = s;
@@ -185,8 +186,7 @@ printed_graphs_are_read held job graph printed told (c, netlist, (s, (is, fits),
       is_plan = (
         s,
         (is, fits),
-        subst (λ (t : Split). (named_stage held graph t).means (record { split = s; graph = g })) (sym begun)
-            (named_means held graph printed s g is_graph short (ap (λ (t : List ℕ). graph_of_lines (lines_of t)) drawn ∙ read) kept plan),
+        named_means held graph printed t g is_graph short (ap (λ (u : List ℕ). graph_of_lines (lines_of u)) drawn ∙ read) kept plan,
       );
     }
 
@@ -195,8 +195,8 @@ module _ (faults : FaultsAreRefused) (one : OneClustering) (held : List ℕ → 
     (told : held job.net ≢ untold) (named_told : held graph ≢ untold) (back : IsReadBack held job graph printed) (line : List ℕ) where
   plan_taken : ¬ (accept_stage held (accept_after job graph) back.circuit).refused line
   plan_taken (inl bad) =
-      (planned_exclusive one held job.net (Some graph) job.clusters 0 (told_file held (Some graph) named_told) back.circuit).not_refused
-      (record { split = back.split; graph = back.printed_graph }) line back.is_plan bad
+      (planned_exclusive one held job.net (Some graph) job.clusters job.slack (told_file held (Some graph) named_told) back.circuit).not_refused
+      (record { split = slackened back.split job.slack; graph = back.printed_graph }) line back.is_plan bad
   plan_taken (inr (p, planned, none)) = none
 
   -- nor do the stages before the plan
@@ -212,8 +212,8 @@ told_bytes h text is not_told = cc
 
 -- what is printed is taken
 pub printed_graphs_are_taken : FaultsAreRefused → OneClustering → (held : List ℕ → Held) (job : GraphJob) (graph printed : List ℕ)
-    → AreTold held (GraphCommand job) → (stages_of held (GraphCommand job)).means printed
+    → AreAllowed (GraphCommand job) → AreTold held (GraphCommand job) → (stages_of held (GraphCommand job)).means printed
     → held graph ≡ bytes printed → length printed ≤ most_of Bytes
     → (line : List ℕ) → ¬ (stages_of held (Accept (accept_after job graph))).refused line
-printed_graphs_are_taken faults one held job graph printed told means is short line =
-    all_taken faults one held job graph printed told (told_bytes (held graph) printed is) (printed_graphs_are_read held job graph printed told means is short) line
+printed_graphs_are_taken faults one held job graph printed allowed told means is short line =
+    all_taken faults one held job graph printed told (told_bytes (held graph) printed is) (printed_graphs_are_read held job graph printed allowed told means is short) line

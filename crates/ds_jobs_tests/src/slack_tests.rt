@@ -130,6 +130,7 @@ S0+ OUT+ M0+ S0-
 S0- M0+ S0+
 .marking { <IN-,IN+> <OUT-,OUT+> <M0-,M0+> <S0+,OUT+> <S0+,M0+> <S0-,M0+> <S0-,S0+> }
 %$ desync run toggle four --graph g --slack 2
+%$ desync accept toggle g --slack 2
 %= 1
 g: missing order M0- to IN+ with 3 tokens (no walk)
 %$ desync accept toggle g
@@ -142,8 +143,20 @@ g: missing order M0- to IN+ with 1 tokens (no walk)
 %$ desync run toggle four --graph g --slack 2
 %= 0 < trace
 %$ desync run toggle four --graph g --slack 1
+%$ desync accept toggle g --slack 1
 %= 1
 g: missing order M0- to IN+ with 2 tokens (least walk 3)
+%$ desync accept toggle g --slack 2
+%= 0
+accepted
+IN+ 0
+IN- 1
+OUT+ 0
+OUT- 1
+M0+ 1
+M0- 2
+S0+ 3
+S0- 4
 %g < graph
 <M0-,IN+> <M0-,M0+> <S0+,OUT+> <S0+,M0+> <S0-,M0+> <S0-,S0+> }
 =>
@@ -155,7 +168,7 @@ g: missing order M0- to IN+ with 3 tokens (least walk 4)
 
 #[test]
 fn graphs_are_accepted_against_the_widened_orders(rt: HostRuntime) -> Result<(), Fail> {
-    play(&rt, GRAPHS, 7)
+    play(&rt, GRAPHS, 10)
 }
 
 // No slack, or none that the command takes.
@@ -174,9 +187,10 @@ const OTHERS: &str = "%v
 %$ desync replay toggle v l --slack 1 --transparent
 %$ desync clock toggle v --slack 1
 %$ desync check toggle --slack 1
-%$ desync graph toggle --slack 1
-%$ desync accept toggle l --slack 1
-%$ desync period toggle l --slack 1
+%$ desync graph toggle --slack 16
+%$ desync graph toggle --slack 1 --shake
+%$ desync accept toggle l --slack 16
+%$ desync period toggle l --slack 16
 %$ desync demo 0 2 3 --slack 1
 %= 2
 desync: bad command line
@@ -184,5 +198,5 @@ desync: bad command line
 
 #[test]
 fn other_slacks_are_no_command_line(rt: HostRuntime) -> Result<(), Fail> {
-    play(&rt, OTHERS, 16)
+    play(&rt, OTHERS, 17)
 }

@@ -46,7 +46,7 @@ use Rattle.ds_stage.specs.AcceptStage.{ranks_stage}
 use Rattle.ds_stage.specs.FaultText.{IsNetFaultText, blif_text, file_line, flat_text, net_fault_text, numbered_line, too_many_text, vector_text, with_blanks}
 use Rattle.ds_stage.specs.GraphStage.{IsGraphOf, controller_stage, drawn_stage, wanted_stage}
 use Rattle.ds_stage.specs.GraphText.{IsAcceptText, accept_text, astg_text}
-use Rattle.ds_stage.specs.PeriodStage.{IsPeriodText, delay_text, delays_stage, given_stage, measured_stage, timed_stage}
+use Rattle.ds_stage.specs.PeriodStage.{IsPeriodText, delay_text, delays_stage, given_stage, timed_stage}
 use Rattle.ds_stage.specs.PlanStage.{IsOwnPlan, acceptable_stage, marked_stage, named_stage, plan_stage, planned_stage}
 use Rattle.ds_stage.specs.ReplayStage.{fired_stage, log_stage, log_text, replayed_stage}
 use Rattle.ds_stage.specs.SplitStage.{IsInClusters, split_stage}
@@ -322,12 +322,6 @@ timed_one_line held file g told =
     (λ lines is. result_one_line (read_or_line file delay_text (delays_of g lines))))
     (λ delays line none. none)
 
-measured_one_line : (held : List ℕ → Held) (file : List ℕ) (s : Split) → held file ≢ untold → HasOneLine (measured_stage held file s)
-measured_one_line held file s told =
-    then_one_line (giving (IsGraphOf s)) (timed_stage held file)
-    (record { one = λ g h is also. one_graph s g h is also; not_refused = λ g line is none. none })
-    (never_has (giving (IsGraphOf s)) (λ line none. none)) (λ g is. timed_one_line held file g told)
-
 -- so it is for each job
 module _ (faults : FaultsAreRefused) (one_net : OneFault) (one : OneClustering) (one_accept : OneAcceptFault) (fit : ArcsFit) (held : List ℕ → Held) where
   behind_net : (file : List ℕ) → held file ≢ untold → (next : Circuit → Stage (List ℕ)) → ((c : Circuit) → HasOneLine (next c)) → HasOneLine (then_stage (netlist_stage held file) next)
@@ -355,20 +349,20 @@ module _ (faults : FaultsAreRefused) (one_net : OneFault) (one : OneClustering) 
       last_one_line (streamed_stage held job.vec (most_vectors false) c) (trace_stage c) (streamed_one_line held job.vec (most_vectors false) c told_vec) (λ rows line none. none))
   job_one_line (Check file) told = behind_net file told report_stage (λ c. never_has (report_stage c) (λ line none. none))
   job_one_line (GraphCommand job) told =
-      behind_net job.net told (graph_stage job) (λ c. then_one_line (split_stage job.net job.clusters c) (controller_stage job.net job.shake) (split_exclusive one job.net job.clusters c)
-      (split_one_line one job.net job.clusters c) (λ s is. controller_one_line fit job.net job.shake s))
+      behind_net job.net told (graph_stage job) (λ c. then_one_line (split_stage job.net job.clusters c) (λ (s : Split). controller_stage job.net job.shake (slackened s job.slack)) (split_exclusive one job.net job.clusters c)
+      (split_one_line one job.net job.clusters c) (λ s is. controller_one_line fit job.net job.shake (slackened s job.slack)))
   job_one_line (Replay job) (told_net, told_vec, told_log, told) =
       behind_net job.net told_net (replay_stage held job) (λ c. behind_plan job.net job.graph job.clusters job.slack told c
       (λ (p : Planned). then_stage (vectors_stage held job.vec c) (λ (vectors : Rows). replayed_stage held job.log job.transparent p vectors.rows))
       (λ p. then_one_line (vectors_stage held job.vec c) (λ (vectors : Rows). replayed_stage held job.log job.transparent p vectors.rows) (vectors_exclusive held job.vec c told_vec)
       (vectors_one_line held job.vec c told_vec) (λ vectors is. replayed_one_line held job.log job.transparent p vectors.rows told_log)))
   job_one_line (Accept job) (told_net, told) =
-      behind_net job.net told_net (accept_stage held job) (λ c. behind_plan job.net (Some job.graph) job.clusters 0 told c ranks_stage
+      behind_net job.net told_net (accept_stage held job) (λ c. behind_plan job.net (Some job.graph) job.clusters job.slack told c ranks_stage
       (λ p. never_has (ranks_stage p) (λ line none. none)))
   job_one_line (Demo job) told = never_has (stages_of held (Demo job)) (λ line none. none)
-  job_one_line (Period job) (told_net, told) =
-      behind_net job.net told_net (period_stage held job) (λ c. then_one_line (split_stage job.net job.clusters c) (measured_stage held job.delays) (split_exclusive one job.net job.clusters c)
-      (split_one_line one job.net job.clusters c) (λ s is. measured_one_line held job.delays s told))
+  job_one_line (Period job) (told_net, told_delays, told) =
+      behind_net job.net told_net (period_stage held job) (λ c. behind_plan job.net job.graph job.clusters job.slack told c
+      (λ (p : Planned). timed_stage held job.delays p.graph) (λ p. timed_one_line held job.delays p.graph told_delays))
 
 -- a job is refused by one line, but for which cycle it names
 pub jobs_have_one_line : FaultsAreRefused → OneFault → OneClustering → OneAcceptFault → ArcsFit → JobsHaveOneLine

@@ -18,7 +18,7 @@ use Rattle.ds_demo.proofs.Accepts.{accepted, vectors_fit}
 use Rattle.ds_netlist.specs.Laws.{FaultsAreRefused}
 use Rattle.ds_netlist.proofs.OneLevel.{one_depth}
 use Rattle.ds_split.specs.Laws.{OneClustering}
-use Rattle.ds_latch.specs.Node.{Split}
+use Rattle.ds_latch.specs.Node.{Split, slackened}
 use Rattle.ds_latch.specs.Plan.{Planned}
 use Rattle.ds_marked.specs.Graph.{Graph}
 use Rattle.ds_rank.proofs.Once.{one_list_of_ranks_lem}
@@ -152,13 +152,13 @@ module _ (faults : FaultsAreRefused) (one : OneClustering) (held : List ℕ → 
   job_one (Check net) allowed told determined = behind_netlist net told report_stage (λ c is accepts. report_one c accepts)
   job_one (GraphCommand job) allowed told determined =
       behind_netlist job.net told (graph_stage job) (λ c is accepts.
-      then_one (split_stage job.net job.clusters c) (controller_stage job.net job.shake) ((split_exclusive one job.net job.clusters c).one)
-      (λ s split. controller_one job.net job.shake s))
+      then_one (split_stage job.net job.clusters c) (λ (s : Split). controller_stage job.net job.shake (slackened s job.slack)) ((split_exclusive one job.net job.clusters c).one)
+      (λ s split. controller_one job.net job.shake (slackened s job.slack)))
   job_one (Replay job) allowed told determined = λ text other is also. replay_has_one_text faults one held job allowed told text other is also
   job_one (Accept job) allowed (told_net, told) determined =
       behind_netlist job.net told_net (accept_stage held job) (λ c is accepts.
-      then_one (planned_stage held job.net (Some job.graph) job.clusters 0 c) ranks_stage
-      ((planned_exclusive one held job.net (Some job.graph) job.clusters 0 (told_file held (Some job.graph) told) c).one) (λ p planned. ranks_one p))
+      then_one (planned_stage held job.net (Some job.graph) job.clusters job.slack c) ranks_stage
+      ((planned_exclusive one held job.net (Some job.graph) job.clusters job.slack (told_file held (Some job.graph) told) c).one) (λ p planned. ranks_one p))
   job_one (Demo job) (some, few, turns, workers) told determined = λ text other is also. summary_one job.seed job.registers job.turns some turns text other is also
   job_one (Period job) allowed told determined = absurd determined
 

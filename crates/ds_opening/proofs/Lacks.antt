@@ -21,7 +21,7 @@ use Rattle.ds_settle.specs.Cone.{Parts as Cone}
 use Rattle.ds_opening.specs.Classes.{AreClasses, HaveSame}
 use Rattle.ds_opening.specs.Lacking.{AreByLacking, AreLacking, AreLackingSoFar, AreTaken, IsByLacking, cones_without}
 use Rattle.ds_opening.specs.Numbers.{AreRenumbered}
-use Rattle.ds_opening.specs.Ranked.{IsByRank}
+use Rattle.ds_opening.specs.Ranked.{AreSortedByRank}
 
 is_same : (g : ℕ) → (g == g) ≡ true
 is_same g = elim (eqb_tells g g) [ inl (is, e) ↦ is | inr (is, ne) ↦ absurd (ne refl) ]
@@ -99,7 +99,7 @@ some_lack cones n count counts tables inside so_far within i d low =
 -- tables sorted by how many cones lack them
 pub lacked_from : (cones : List Cone) (count : ℕ) (counts order sorted : List ℕ)
     → AreLacking cones count counts → All (λ k. k < count) order
-    → IsByRank counts order sorted → IsByLacking cones order sorted
+    → AreSortedByRank counts order sorted → IsByLacking cones order sorted
 lacked_from cones count counts order sorted are within is =
     let near : All (λ k. k < count) sorted = All-permutation (λ k. k < count) order sorted is.permuted within in
     record {

@@ -6,13 +6,13 @@ use Rattle.std.proofs.lemmas.List.{get_or-map, length-map, map-id}
 use Rattle.std.proofs.lemmas.List.Elements.{All-map}
 use Rattle.std.proofs.lemmas.List.Sorted.{All-permutation, IsPermutation-map}
 use Rattle.std.proofs.lemmas.Simd.{map-map}
-use Rattle.ds_opening.specs.Ranked.{IsByRank, ranked_of}
+use Rattle.ds_opening.specs.Ranked.{AreSortedByRank, ranked_of}
 use Rattle.ds_opening.specs.declared.ranked.Ranked.{Ranked}
 
 -- tables sorted with their ranks
 pub ranked_from : (ranks order : List ℕ) (all : List Ranked)
     → IsPermutation (map (ranked_of ranks) order) all → IsNonDecreasingBy (λ r. r.rank) all
-    → IsByRank ranks order (map (λ (r : Ranked). r.table) all)
+    → AreSortedByRank ranks order (map (λ (r : Ranked). r.table) all)
 ranked_from ranks order all permuted rising =
     let have : All (λ (r : Ranked). r.rank ≡ get_or ranks r.table 0) all =
     All-permutation (λ (r : Ranked). r.rank ≡ get_or ranks r.table 0) (map (ranked_of ranks) order) all permuted

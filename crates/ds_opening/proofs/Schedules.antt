@@ -13,7 +13,7 @@ use Rattle.ds_design.specs.declared.design.Gate.{Gate}
 use Rattle.ds_settle.specs.Cone.{net_of}
 use Rattle.ds_settle.specs.Walk.{AreDrivers, IsDriver}
 use Rattle.ds_settle.proofs.Tables.{net_is, same_table}
-use Rattle.ds_opening.specs.Ranked.{IsByRank}
+use Rattle.ds_opening.specs.Ranked.{AreSortedByRank}
 use Rattle.ds_opening.specs.Scheduled.{AreDriversBelow, AreLower, AreReadWithin, AreScheduled, ReadsNothingOf, IsLower, Reads}
 
 -- the driver of a net that a table drives is this table
@@ -50,7 +50,7 @@ module _ (c : Circuit) (range : IsInRange c) (accepted : IsAccepted c) (order : 
   }
 
   module _ (drivers : List (Option ℕ)) (are : AreDrivers c (length c.tables) drivers) (ranks : List ℕ) (lower : AreLower drivers numbers ranks c.tables)
-      (sorted : List ℕ) (is : IsByRank ranks order sorted) where
+      (sorted : List ℕ) (is : AreSortedByRank ranks order sorted) where
     places : All (λ k. k < length c.tables) sorted
     places = All-permutation (λ k. k < length c.tables) order sorted is.permuted ordered.places
 

@@ -8,6 +8,6 @@ abbrev pub ranked_of : List ℕ → ℕ → Ranked
 ranked_of ranks k = record { rank = slice_index ranks k; table = k }
 
 -- the same tables, along which the ranks do not fall
-pub record IsByRank (ranks order sorted : List ℕ) : Type 0 where
+pub record AreSortedByRank (ranks order sorted : List ℕ) : Type 0 where
   pub permuted : IsPermutation order sorted
   pub rising : IsNonDecreasingBy (slice_index ranks) sorted

@@ -18,8 +18,8 @@ ReadsNothingOf c a b = (d : Gate) → ¬ Reads c d a b
 pub record AreScheduled (c : Circuit) (numbers tables : List ℕ) : Type 0 where
   pub places : All (λ k. k < length c.tables) tables
   pub all : (k : ℕ) → k < length c.tables → Contains tables k
-  pub before : AllPairs (λ a b. slice_index numbers a ≡ slice_index numbers b → ReadsNothingOf c a b)
-      tables
+  pub before : AllPairs (λ a b. slice_index numbers a ≡ slice_index numbers b
+      → ReadsNothingOf c a b) tables
 
 -- what drives a net has another number than this table, or a lower rank
 abbrev pub IsLower : List ℕ → List ℕ → ℕ → Option ℕ → Type 0

@@ -1,7 +1,7 @@
 //! Tables by ranks.
 ghost use Rattle.std.specs.Prelude.{◌≡◌, ◌<◌, All, IfOk, OnOk, length, map};
 ghost use Rattle.std.specs.List.Sorted.{IsNonDecreasingBy, IsPermutation};
-ghost use Rattle.ds_opening.specs.Ranked.{IsByRank, ranked_of};
+ghost use Rattle.ds_opening.specs.Ranked.{AreSortedByRank, ranked_of};
 
 use ds_base::OutOfMemory;
 use std::alloc::{AllocError, Global};
@@ -20,7 +20,7 @@ pub(crate) fn by_rank(
     ranks: &[usize],
 ) -> Result<Vec<u32>, OutOfMemory>
     requires { All (λ k. k < length ranks.now) order.now }
-    ensures ok { IfOk result (λ v. IsByRank ranks.now order.now v.items) }
+    ensures ok { IfOk result (λ v. AreSortedByRank ranks.now order.now v.items) }
 {
     let mut all = with_ranks(alloc, order, ranks)?;
     sort_by_rank(&mut all)?;

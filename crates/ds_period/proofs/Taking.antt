@@ -13,7 +13,7 @@ use Rattle.ds_marked.specs.Graph.{Graph}
 use Rattle.ds_rows.specs.Texts.{event_by_text, event_texts}
 use Rattle.ds_lines.specs.Words.{word_at}
 use Rattle.ds_period.specs.Word.{delay_on, has_delay, written_delay}
-use Rattle.ds_period.specs.Read.{Given, HasOneEach, arc_between, arc_by_texts, arc_named, delays_from, delays_of, is_given, after_line, none_given, source_named, target_named, with_delay, with_line}
+use Rattle.ds_period.specs.Read.{Given, HasOneEach, arc_between, arc_by_texts, arc_named, delays_from, delays_of, is_given, after_line, none_given, source_named, target_named, with_delay, given_with}
 use Rattle.ds_period.specs.Step.{IsTaken}
 use Rattle.ds_base.specs.declared.refusal.Refusal.{Refusal}
 use Rattle.ds_base.specs.declared.refusal.Refusal.TheVariants.{Memory, Fault}
@@ -39,7 +39,7 @@ module _ (g : Graph) (so_far : Given) (words : List (List ℕ)) where
   repeated has inside again = let some : nat_lt (arc_named g words) (length g.arcs) ≡ true = lt-ltb (arc_named g words) (length g.arcs) inside in rw (has, some, again) refl
 
   pub taken : has_delay words ≡ true → arc_named g words < length g.arcs → is_given so_far (arc_named g words) ≡ false
-      → after_line g so_far words ≡ Ok (with_line g so_far words)
+      → after_line g so_far words ≡ Ok (given_with g so_far words)
   taken has inside fresh = let some : nat_lt (arc_named g words) (length g.arcs) ≡ true = lt-ltb (arc_named g words) (length g.arcs) inside in rw (has, some, fresh) refl
 
 -- the arc by the words of a line
@@ -109,8 +109,8 @@ choose false false false one two three given new e = cc
 -- a line leaves as many delays as there are arcs
 pub one_each : (g : Graph) (old new : Given) (words : List (List ℕ)) → HasOneEach g old → after_line g old words ≡ Ok new → HasOneEach g new
 one_each g old new words sizes e =
-    let same : with_line g old words ≡ new = choose (not (has_delay words)) (not (nat_lt (arc_named g words) (length g.arcs))) (is_given old (arc_named g words))
-    BadWord (UnknownOrder (word_at words 0) (word_at words 1)) (RepeatedOrder (word_at words 0) (word_at words 1)) (with_line g old words) new e in
+    let same : given_with g old words ≡ new = choose (not (has_delay words)) (not (nat_lt (arc_named g words) (length g.arcs))) (is_given old (arc_named g words))
+    BadWord (UnknownOrder (word_at words 0) (word_at words 1)) (RepeatedOrder (word_at words 0) (word_at words 1)) (given_with g old words) new e in
     subst (λ (r : Given). HasOneEach g r) same (
       length-delays_with (source_named g words) (target_named g words) (written_delay words) g.arcs old.delays sizes.0 ∙ sizes.0,
       length-set old.given (arc_named g words) true ∙ sizes.1,

@@ -11,8 +11,8 @@ use Rattle.ds_lines.specs.Line.{Line}
 use Rattle.ds_marked.specs.Graph.{Graph}
 use Rattle.ds_marked.specs.declared.marked.Arc.{Arc}
 use Rattle.ds_period.specs.Word.{has_delay, written_delay}
-use Rattle.ds_period.specs.Read.{Given, HasOneEach, after_line, arc_between, arc_named, delays_from, is_from_to, is_given, none_given, repeated_order, source_named, target_named, unknown_order, with_line}
-use Rattle.ds_period.specs.Written.{DelaysAreWritten, GivesDelay, IsNamed, NameSameEnds}
+use Rattle.ds_period.specs.Read.{Given, HasOneEach, after_line, arc_between, arc_named, delays_from, is_from_to, is_given, none_given, repeated_order, source_named, target_named, unknown_order, given_with}
+use Rattle.ds_period.specs.Written.{DelaysAreWritten, GivesDelay, NamesArc, NameSameEnds}
 use Rattle.ds_lines.specs.declared.at.At.{At}
 use Rattle.ds_period.specs.declared.fault.DelayKind.{DelayKind}
 use Rattle.ds_period.specs.declared.fault.DelayKind.TheVariants.{BadWord}
@@ -38,12 +38,12 @@ pub record IsLineTaken (g : Graph) (old : Given) (words : List (List ℕ)) (new 
   pub has : has_delay words ≡ true
   pub inside : arc_named g words < length g.arcs
   pub fresh : is_given old (arc_named g words) ≡ false
-  pub is : with_line g old words ≡ new
+  pub is : given_with g old words ≡ new
 
 pub line_taken : (g : Graph) (old new : Given) (words : List (List ℕ)) → after_line g old words ≡ Ok new → IsLineTaken g old words new
 line_taken g old new words e =
     let (has, inside, fresh, is) = passes (has_delay words) (nat_lt (arc_named g words) (length g.arcs)) (is_given old (arc_named g words))
-    BadWord (unknown_order words) (repeated_order words) (with_line g old words) new e in
+    BadWord (unknown_order words) (repeated_order words) (given_with g old words) new e in
     record {
       has = has;
       inside = ltb-true (arc_named g words) (length g.arcs) inside;
@@ -66,7 +66,7 @@ same_arc g k line inside d (source, target) =
     (ap (λ (x : Arc). x.source) same ∙ source, ap (λ (x : Arc). x.target) same ∙ target)
 
 -- two lines that name the ends of one arc name the same ends
-same_named : (g : Graph) (k : ℕ) (a b : Line) → IsNamed g k a → IsNamed g k b → NameSameEnds g a b
+same_named : (g : Graph) (k : ℕ) (a b : Line) → NamesArc g k a → NamesArc g k b → NameSameEnds g a b
 same_named g k a b one other =
     (sym (one no_arc).0 ∙ (other no_arc).0, sym (one no_arc).1 ∙ (other no_arc).1)
 
@@ -88,7 +88,7 @@ module _ (g : Graph) (delays : List ℕ) where
       All-cons (λ (l : Line). arc_named g l.words ≢ k) line lines differs (not_again k lines next still rest)
 
   -- an arc whose ends no line names keeps its delay
-  keeps : (k : ℕ) (lines : List Line) (so_far : Given) → k < length g.arcs → HasOneEach g so_far → All (λ line. ¬ IsNamed g k line) lines
+  keeps : (k : ℕ) (lines : List Line) (so_far : Given) → k < length g.arcs → HasOneEach g so_far → All (λ line. ¬ NamesArc g k line) lines
       → delays_from g so_far lines ≡ Ok delays → slice_index delays k ≡ slice_index so_far.delays k
   keeps k [] so_far inside sizes others e = let same : so_far.delays ≡ delays = cc in ap (λ (xs : List ℕ). slice_index xs k) (sym same)
   keeps k (line ∷ lines) so_far inside sizes others e =
@@ -99,7 +99,7 @@ module _ (g : Graph) (delays : List ℕ) where
       ∙ at_other (source_named g line.words) (target_named g line.words) (written_delay line.words) g.arcs so_far.delays k no_arc inside sizes.0
       (apart k line inside (others 0 line (omega arith)))
     where
-      apart : (k : ℕ) (line : Line) → k < length g.arcs → ¬ IsNamed g k line
+      apart : (k : ℕ) (line : Line) → k < length g.arcs → ¬ NamesArc g k line
           → is_from_to (source_named g line.words) (target_named g line.words) (get_or g.arcs k no_arc) ≡ false
       apart k line inside other = not_true _ (λ leads. other (λ d. same_arc g k line inside d (joins_is (source_named g line.words) (target_named g line.words) (get_or g.arcs k no_arc) leads)))
 

@@ -76,8 +76,8 @@ with_delay g so_far u v delay = record {
 }
 
 -- the delay that a line gives, for each arc between the events that it names
-abbrev pub with_line : Graph → Given → List (List ℕ) → Given
-with_line g so_far words =
+abbrev pub given_with : Graph → Given → List (List ℕ) → Given
+given_with g so_far words =
     with_delay g so_far (source_named g words) (target_named g words) (written_delay words)
 
 -- no arc has the ends that a line names
@@ -94,7 +94,7 @@ after_line g so_far words =
     if not (has_delay words) then Err BadWord
     else if not (nat_lt (arc_named g words) (length g.arcs)) then Err (unknown_order words)
     else if is_given so_far (arc_named g words) then Err (repeated_order words)
-    else Ok (with_line g so_far words)
+    else Ok (given_with g so_far words)
 
 -- the delays of the arcs after these lines, or the first fault
 abbrev pub delays_from : Graph → Given → List Line → Result (List ℕ) (At DelayKind)

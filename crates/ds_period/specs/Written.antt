@@ -7,8 +7,8 @@ use Rattle.ds_period.specs.Word.{has_delay, written_delay}
 use Rattle.ds_period.specs.Read.{arc_named, delays_of, source_named, target_named}
 
 -- an arc leads between the events that a line names
-abbrev pub IsNamed : Graph → ℕ → Line → Type 0
-IsNamed g k line = HoldsAt (λ arc. (arc.source ≡ source_named g line.words)
+abbrev pub NamesArc : Graph → ℕ → Line → Type 0
+NamesArc g k line = HoldsAt (λ arc. (arc.source ≡ source_named g line.words)
     × (arc.target ≡ target_named g line.words)) g.arcs k
 
 -- an arc leads between the events that the line names, and each such arc has the delay that is
@@ -16,7 +16,7 @@ IsNamed g k line = HoldsAt (λ arc. (arc.source ≡ source_named g line.words)
 pub record GivesDelay (g : Graph) (delays : List ℕ) (line : Line) : Type 0 where
   pub form : has_delay line.words ≡ true
   pub some : arc_named g line.words < length g.arcs
-  pub each : (k : ℕ) → k < length g.arcs → IsNamed g k line
+  pub each : (k : ℕ) → k < length g.arcs → NamesArc g k line
       → slice_index delays k ≡ written_delay line.words
 
 -- two lines name the same events
@@ -29,7 +29,7 @@ pub record AreWritten (g : Graph) (lines : List Line) (delays : List ℕ) : Type
   pub one_each : length delays ≡ length g.arcs
   pub given : All (GivesDelay g delays) lines
   pub once : AllPairs (λ a b. ¬ NameSameEnds g a b) lines
-  pub others : (k : ℕ) → k < length g.arcs → All (λ line. ¬ IsNamed g k line) lines
+  pub others : (k : ℕ) → k < length g.arcs → All (λ line. ¬ NamesArc g k line) lines
       → slice_index delays k ≡ 0
 
 -- the delays that lines give are such

@@ -17,7 +17,7 @@ use Rattle.ds_period.specs.Word.{written_delay}
 use Rattle.ds_period.proofs.Filled.{at_named, at_other}
 use Rattle.ds_period.proofs.Taking.{one_each}
 use Rattle.ds_period.proofs.Written.{first_taken, line_taken}
-use Rattle.ds_period_laws.specs.Fewest.{AreAlike, CyclesGoByFewestTokens, DelaysAreAlike, HasFewestTokens, HaveSameEnds}
+use Rattle.ds_period_laws.specs.Fewest.{HaveAlikeDelays, CyclesGoByFewestTokens, DelaysAreAlike, HasFewestTokens, HaveSameEnds}
 use Rattle.ds_period_laws.proofs.Agree.{periods_are_greatest}
 
 -- stands for an arc past the end
@@ -83,7 +83,7 @@ module _ (g : Graph) where
   unfolding AreAlikeAt
   alike_none j k low high source target = get_or-replicate (length g.arcs) j 0 0 low ∙ sym (get_or-replicate (length g.arcs) k 0 0 high)
 
-  alike_timed : (delays : List ℕ) → AreAlikeAt delays → AreAlike (timed_arcs g.arcs delays)
+  alike_timed : (delays : List ℕ) → AreAlikeAt delays → HaveAlikeDelays (timed_arcs g.arcs delays)
   unfolding AreAlikeAt
   alike_timed delays alike x y has also (source, target) =
       let s = stands_at g.arcs delays x has in
@@ -104,7 +104,7 @@ module _ (arcs : List Timed) where
       let heads : x.source ≡ y.source = cc in sym source ∙ heads ∙ from
 
   -- of two walks along the same events that of fewest tokens has the same delay, and no more tokens
-  compared : AreAlike arcs → (a b z : ℕ) (xs ys : List Timed) → IsChain arcs a xs z → IsChain arcs b ys z → sources_of xs ≡ sources_of ys
+  compared : HaveAlikeDelays arcs → (a b z : ℕ) (xs ys : List Timed) → IsChain arcs a xs z → IsChain arcs b ys z → sources_of xs ≡ sources_of ys
       → HasFewestTokens arcs ys → (walk_delay ys ≡ walk_delay xs) × (walk_tokens ys ≤ walk_tokens xs)
   compared alike a b z [] [] one other e fewest = (refl, omega arith)
   compared alike a b z [] (y ∷ ys) one other e fewest = absurd cc

@@ -100,7 +100,7 @@ impl<'a, 'n> Openings<'a, 'n> {
             sizes,
             order,
             starts,
-            known: are_known(latches.initial(), vectors),
+            known: are_known(latches, vectors),
         })
     }
 }

@@ -2,6 +2,7 @@ pub mod Chosen
 pub mod Reached
 pub mod DataEdgesListed
 pub mod Clusterings
+pub mod Grouped
 pub mod Slack
 pub mod Decided
 pub mod Sorting

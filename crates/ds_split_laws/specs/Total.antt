@@ -6,11 +6,13 @@ use Rattle.ds_base.specs.declared.number.Mode.{Mode}
 use Rattle.ds_marked.specs.Graph.{Graph, IsKept}
 use Rattle.ds_design.specs.Accepted.{IsAccepted}
 use Rattle.ds_design.specs.Circuit.{Circuit}
+use Rattle.ds_design.specs.Groups.{AreDisjoint}
 use Rattle.ds_latch.specs.Node.{Split, slackened}
 use Rattle.ds_latch.specs.Plan.{split_events}
 use Rattle.ds_latch.specs.Latches.{HasEdges}
 use Rattle.ds_latch.specs.declared.latches.Edge.{Edge}
 use Rattle.ds_split.specs.Cluster.{HasTooManyClusters, IsClustering}
+use Rattle.ds_split.specs.Grouped.{IsGroupedClustering}
 use Rattle.ds_split.specs.Split.{HasTooManyOrders, split_into}
 use Rattle.ds_control.specs.Control.{AreOrders, IsSimple}
 
@@ -23,6 +25,12 @@ EdgesAreListed = (s : Split) → IsAccepted s.circuit
 abbrev pub ClusteringsExist : Type 0
 ClusteringsExist = (c : Circuit) (mode : Mode)
     → (clusters : List (List ℕ)) × IsClustering c mode clusters
+
+-- and so they have where disjoint groups take some of them
+abbrev pub GroupedClusteringsExist : Type 0
+GroupedClusteringsExist = (c : Circuit) (mode : Mode) (groups : List (List ℕ))
+    → AreDisjoint (length c.registers) groups
+    → (clusters : List (List ℕ)) × IsGroupedClustering c mode groups clusters
 
 -- the clusters of a circuit's registers, which are few enough, and whether the circuit that is
 -- split by them asks for too many orders

@@ -1,7 +1,7 @@
 //! Laws of what there is for a split design.
 ghost use Rattle.ds_split_laws.specs.Counted.{ControllersAreCounted};
 ghost use Rattle.ds_split_laws.specs.Total.{ClusteringsExist, ControllersExist, EdgesAreListed};
-ghost use Rattle.ds_split_laws.specs.Total.{SplitsAreDecided};
+ghost use Rattle.ds_split_laws.specs.Total.{GroupedClusteringsExist, SplitsAreDecided};
 
 /// The data edges of a split design can be listed, each once.
 pub fn edges_are_listed()
@@ -11,6 +11,11 @@ pub fn edges_are_listed()
 /// The registers of a circuit have clusters, by each mode.
 pub fn clusterings_exist()
     ensures { ClusteringsExist }
+{}
+
+/// So they have where disjoint groups take some of them.
+pub fn grouped_clusterings_exist()
+    ensures { GroupedClusteringsExist }
 {}
 
 /// A circuit has too many clusters, or a split design with too many orders, or one without.

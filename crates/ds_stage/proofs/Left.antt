@@ -6,6 +6,7 @@ use Rattle.ds_outside.specs.Held.{Held}
 use Rattle.ds_outside.specs.declared.files.Which.{Which}
 use Rattle.ds_outside.specs.declared.files.Which.TheVariants.{Net, Vectors, Log, Delays}
 use Rattle.ds_outside.specs.declared.files.Which.TheVariants as which
+use Rattle.ds_marked.specs.Graph.{Graph}
 use Rattle.ds_base.specs.Values.{Row}
 use Rattle.ds_base.specs.declared.number.Mode.{Mode}
 use Rattle.ds_lines.specs.Line.{Line}
@@ -28,7 +29,7 @@ use Rattle.ds_astg.specs.Text.{graph_text}
 use Rattle.ds_stage.specs.PlanStage.{IsOwnPlan, acceptable_stage, marked_stage, plan_stage, planned_stage}
 use Rattle.ds_replay.specs.ReplayText.{IsReplayText}
 use Rattle.ds_stage.specs.ReplayStage.{fired_stage, log_stage, replayed_stage}
-use Rattle.ds_stage.specs.PeriodStage.{IsPeriodText, delays_stage, given_stage, measured_stage, timed_stage}
+use Rattle.ds_stage.specs.PeriodStage.{IsPeriodText, delays_stage, given_stage, timed_stage}
 use Rattle.ds_stage.specs.Ends.{Stops}
 
 -- with nothing behind it an output is as it was
@@ -122,13 +123,12 @@ replayed_nothing held log transparent planned vectors =
     then_nothing (log_stage held log planned vectors) (λ (events : List ℕ). giving (IsReplayText transparent planned vectors events))
     (log_nothing held log planned vectors) (λ events. giving_nothing (IsReplayText transparent planned vectors events))
 
-pub measured_nothing : (held : List ℕ → Held) (file : List ℕ) (s : Split) → LeavesNothing (measured_stage held file s)
-measured_nothing held file s =
-    then_nothing (giving (IsGraphOf s)) (timed_stage held file) (giving_nothing (IsGraphOf s))
-    (λ g. then_nothing (delays_stage held file g) (λ (delays : List ℕ). giving (IsPeriodText g delays))
+pub timed_nothing : (held : List ℕ → Held) (file : List ℕ) (g : Graph) → LeavesNothing (timed_stage held file g)
+timed_nothing held file g =
+    then_nothing (delays_stage held file g) (λ (delays : List ℕ). giving (IsPeriodText g delays))
     (then_nothing (lines_stage held Delays file) (given_stage file g) (lines_nothing held Delays file)
     (λ lines. record { may = no_text (given_stage file g lines); only = λ failed stop text is. is }))
-    (λ delays. giving_nothing (IsPeriodText g delays)))
+    (λ delays. giving_nothing (IsPeriodText g delays))
 
 wanted_nothing : (file : List ℕ) (shake : Bool) (s : Split) → LeavesNothing (wanted_stage file shake s)
 wanted_nothing file false s = giving_nothing (IsGraphOf s)

@@ -5,19 +5,16 @@ use Rattle.ds_outside.specs.Held.{Held, FrontIsHeld, untold}
 use Rattle.ds_outside.specs.declared.files.Which.{Which}
 use Rattle.ds_outside.specs.declared.files.Which.TheVariants.{Delays}
 use Rattle.ds_marked.specs.Graph.{Graph}
-use Rattle.ds_latch.specs.Node.{Split}
 use Rattle.ds_period.specs.Read.{delays_of}
 use Rattle.ds_stage.specs.declared.stop.Stop.{Stop}
 use Rattle.ds_stage.specs.Ends.{Ends, Never, Output, RoseIn}
-use Rattle.ds_stage.specs.GraphStage.{IsGraphOf}
-use Rattle.ds_stage.specs.PeriodStage.{IsPeriodText, delay_text, delays_stage, given_stage, measured_stage, timed_stage}
+use Rattle.ds_stage.specs.PeriodStage.{IsPeriodText, delay_text, delays_stage, given_stage, timed_stage}
 use Rattle.ds_stage.specs.Stage.{OfFile, Stage, IsExclusive, giving, then_stage}
 use Rattle.ds_stage.specs.Stages.{lines_stage, read_or_line, text_stage}
 use Rattle.ds_stage.proofs.Ends.{ends_more, rose_since}
 use Rattle.ds_stage.proofs.Exclusive.{lines_exclusive, result_exclusive, then_exclusive, then_not_refused}
-use Rattle.ds_stage.proofs.Left.{measured_nothing}
+use Rattle.ds_stage.proofs.Left.{timed_nothing}
 use Rattle.ds_stage.proofs.Failed.{Says, lines_say, then_says}
-use Rattle.ds_stage.proofs.OneGraph.{one_graph}
 use Rattle.ds_stage.proofs.Stages.{IsWider, read_means, read_refused, wider_first}
 
 -- the text of the period of a graph with these delays
@@ -44,13 +41,12 @@ module _ (held : List ℕ → Held) (file : List ℕ) where
       })
 
   -- a file that was not read is named only where a read failed
-  pub measured_says : (failed : OfFile) (s : Split) → Says (measured_stage held file s) failed
-  measured_says failed s =
-      then_says (giving (IsGraphOf s)) (timed_stage held file) failed (λ line none. absurd none)
-      (λ g. then_says (delays_stage held file g) (last_stage g) failed
+  pub timed_says : (failed : OfFile) (g : Graph) → Says (timed_stage held file g) failed
+  timed_says failed g =
+      then_says (delays_stage held file g) (last_stage g) failed
       (then_says (lines_stage held Delays file) (given_stage file g) failed
       (lines_say held Delays file failed) (λ lines line none. absurd none))
-      (λ delays line none. absurd none))
+      (λ delays line none. absurd none)
 
   module _ (told : held file ≢ untold) where
     -- a file gives one list of delays, and is then not refused
@@ -60,45 +56,34 @@ module _ (held : List ℕ → Held) (file : List ℕ) where
         (lines_exclusive held Delays file told)
         (λ lines. result_exclusive (read_or_line file delay_text (delays_of g lines)))
 
-    timed_not_refused : (g : Graph) (text line : List ℕ)
+    -- delays that have a period are not refused
+    pub timed_not_refused : (g : Graph) (text line : List ℕ)
         → (timed_stage held file g).means text → ¬ (timed_stage held file g).refused line
     timed_not_refused g text line means refused =
         then_not_refused (delays_stage held file g) (last_stage g) (delays_exclusive g)
         (λ delays b l is none. none) text line means refused
 
-    -- delays that have a period are not refused
-    pub measured_not_refused : (s : Split) (text line : List ℕ)
-        → (measured_stage held file s).means text → ¬ (measured_stage held file s).refused line
-    measured_not_refused s text line means refused =
-        then_not_refused (giving (IsGraphOf s)) (timed_stage held file)
-        (record {
-          one = λ g h is also. one_graph s g h is also;
-          not_refused = λ g l is none. none;
-        })
-        (λ g b l is bad. timed_not_refused g b l is bad) text line means refused
-
 module _ (before mid now : Which → List ℕ → ℕ) where
   -- a file that was not read since later was not since earlier
-  unread_since : (held : List ℕ → Held) (file : List ℕ) (s : Split) (line : List ℕ)
+  unread_since : (held : List ℕ → Held) (file : List ℕ) (g : Graph) (line : List ℕ)
       → ((w : Which) (n : List ℕ) → before w n ≤ mid w n)
-      → (measured_stage held file s).unread (RoseIn mid now) line
-      → (measured_stage held file s).unread (RoseIn before now) line
-  unread_since held file s line less (inl none) = absurd none
-  unread_since held file s line less (inr (g, is, inl (inl (rose, spelt)))) =
+      → (timed_stage held file g).unread (RoseIn mid now) line
+      → (timed_stage held file g).unread (RoseIn before now) line
+  unread_since held file g line less (inl (inl (rose, spelt))) =
       let since = rose_since (before Delays file) (mid Delays file) (now Delays file)
       (less Delays file) rose in
-      inr (g, is, inl (inl (since, spelt)))
-  unread_since held file s line less (inr (g, is, inl (inr (lines, are, none)))) = absurd none
-  unread_since held file s line less (inr (g, is, inr (delays, are, none))) = absurd none
+      inl (inl (since, spelt))
+  unread_since held file g line less (inl (inr (lines, are, none))) = absurd none
+  unread_since held file g line less (inr (delays, are, none)) = absurd none
 
   -- a period that was worked out later, of files that hold the same
-  pub measured_since : {A : Type 0} (held later : List ℕ → Held) (file : List ℕ) (s : Split)
+  pub timed_since : {A : Type 0} (held later : List ℕ → Held) (file : List ℕ) (g : Graph)
       → later ≡ held → ((w : Which) (n : List ℕ) → before w n ≤ mid w n)
       → (out : Output) (result : Result A Stop)
-      → Ends (measured_stage later file s) (RoseIn mid now) out result
-      → Ends (measured_stage held file s) (RoseIn before now) out result
-  measured_since {A} held later file s same less out result is =
-      subst (λ (h : List ℕ → Held). Ends (measured_stage h file s) (RoseIn before now) out result)
-      same (ends_more (measured_stage later file s) (RoseIn mid now) (RoseIn before now) out
-      (measured_nothing later file s)
-      (λ line unread. unread_since later file s line less unread) result is)
+      → Ends (timed_stage later file g) (RoseIn mid now) out result
+      → Ends (timed_stage held file g) (RoseIn before now) out result
+  timed_since {A} held later file g same less out result is =
+      subst (λ (h : List ℕ → Held). Ends (timed_stage h file g) (RoseIn before now) out result)
+      same (ends_more (timed_stage later file g) (RoseIn mid now) (RoseIn before now) out
+      (timed_nothing later file g)
+      (λ line unread. unread_since later file g line less unread) result is)

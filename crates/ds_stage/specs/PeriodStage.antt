@@ -1,4 +1,4 @@
--- The delays of a controller graph's orders, and the text of its period.
+-- The delays of a graph's arcs, and the text of its period.
 use Rattle.std.specs.Prelude.{◌≡◌, ℕ, List, ◌++◌, codes, decimal, length, map}
 use Rattle.std.specs.Prelude.{slice_index}
 use Rattle.std.specs.List.{flat_map, range_with_len}
@@ -6,7 +6,6 @@ use Rattle.ds_outside.specs.Held.{Held}
 use Rattle.ds_outside.specs.declared.files.Which.TheVariants.{Delays}
 use Rattle.ds_lines.specs.Line.{Line}
 use Rattle.ds_marked.specs.Graph.{Graph}
-use Rattle.ds_latch.specs.Node.{Split}
 use Rattle.ds_marked.specs.Log.{text_of_event}
 use Rattle.ds_period.specs.Period.{IsPeriod}
 use Rattle.ds_period.specs.Read.{delays_of}
@@ -15,7 +14,6 @@ use Rattle.ds_period.specs.declared.fault.DelayKind.{DelayKind}
 use Rattle.ds_period.specs.declared.fault.DelayKind.TheVariants.{BadWord, UnknownOrder}
 use Rattle.ds_period.specs.declared.fault.DelayKind.TheVariants.{RepeatedOrder}
 use Rattle.ds_stage.specs.FaultText.{with_blanks}
-use Rattle.ds_stage.specs.GraphStage.{IsGraphOf}
 use Rattle.ds_stage.specs.Stage.{Stage, giving, then_stage}
 use Rattle.ds_stage.specs.Stages.{lines_stage, read_or_line, result_stage}
 
@@ -70,7 +68,3 @@ pub record IsPeriodText (g : Graph) (delays text : List ℕ) : Type 0 where
 abbrev pub timed_stage : (List ℕ → Held) → List ℕ → Graph → Stage (List ℕ)
 timed_stage held file g =
     then_stage (delays_stage held file g) (λ delays. giving (IsPeriodText g delays))
-
--- the same of the controller graph of a split design
-abbrev pub measured_stage : (List ℕ → Held) → List ℕ → Split → Stage (List ℕ)
-measured_stage held file s = then_stage (giving (IsGraphOf s)) (timed_stage held file)

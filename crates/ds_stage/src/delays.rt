@@ -1,6 +1,5 @@
-//! The delays of a job, and the graph whose orders have them.
+//! The delays of a job, and the graph of the required orders.
 ghost use Rattle.std.specs.Prelude.{◌≡◌, ◌++◌, ◌≤◌, ℕ, List, IfOk, codes, length};
-ghost use Rattle.ds_period.specs.Controller.{HasPeriod};
 ghost use Rattle.ds_period.specs.Read.{delays_of};
 ghost use Rattle.ds_stage.specs.Ends.{Answers, Never, RoseIn, UnlessUnread};
 ghost use Rattle.ds_stage.specs.GraphStage.{IsGraphOf};
@@ -17,17 +16,13 @@ use ds_latch::Latches;
 use ds_lines::{At, Lines};
 use ds_marked::Marked;
 use ds_outside::{Files, Which};
-use ds_period::laws::plans_have_periods;
 use ds_period::{DelayKind, Delays, read_delays};
 use std::alloc::{AllocError, Global};
 
-/// The controller graph of latches, which has a period.
+/// The controller graph of latches.
 pub fn own_graph(alloc: Global, latches: &Latches<'_>) -> Result<Marked, OutOfMemory>
-    ensures ok { IfOk result (IsGraphOf latches.now) }
-    ensures ok_period { IfOk result HasPeriod }
+    ensures { IfOk result (IsGraphOf latches.now) }
 {
-    // Called for the law that it states.
-    plans_have_periods();
     let graph = controller(alloc, latches)?;
     // Read for the facts that are known of the arcs of a graph.
     let _arcs = graph.arcs();

@@ -16,7 +16,7 @@ use crate::stop::Stop;
 use crate::{accept_text, astg_text};
 use ds_accept::{AcceptFault, accept};
 use ds_astg::read;
-use ds_base::{Mode, Refusal};
+use ds_base::Refusal;
 use ds_cmd::FileName;
 use ds_control::controller;
 use ds_design::Netlist;
@@ -87,24 +87,26 @@ pub fn own_plan<'a>(alloc: Global, latches: Latches<'a>) -> Result<Plan<'a>, Lat
     }
 }
 
-/// The plan of a netlist with the graph of a file, without slack.
+/// The plan of a netlist that is split so, with the graph of a file.
 pub fn plan_named<'a, F: Files>(
     alloc: Global,
     files: &mut F,
     net: &str,
     netlist: &'a Netlist,
     graph: &str,
-    mode: Mode,
+    splitting: Splitting,
 ) -> Result<Plan<'a>, Stop>
-    ensures value { Answers (planned_stage (F.held files.old) net.now (Some graph.now) mode 0
-        netlist.entry.now) (RoseIn (F.faults files.old) (F.faults files.new)) result }
+    requires { splitting.slack ≤ 15 }
+    ensures value { Answers (planned_stage (F.held files.old) net.now (Some graph.now)
+        splitting.clusters splitting.slack netlist.entry.now)
+        (RoseIn (F.faults files.old) (F.faults files.new)) result }
 
     ensures same_held { F.held files.new ≡ F.held files.old }
     ensures same_reads { UnlessUnread result (F.faults files.new ≡ F.faults files.old) }
     ensures never_falls { (w : _) (n : List ℕ) → F.faults files.old w n ≤ F.faults files.new w n }
 {
-    let latches = split_netlist(alloc, net, netlist, mode)?;
-    named_plan(alloc, files, graph, latches.with_slack(0))
+    let latches = split_netlist(alloc, net, netlist, splitting.clusters)?;
+    named_plan(alloc, files, graph, latches.with_slack(splitting.slack))
 }
 
 // The plan of the graph of a file.

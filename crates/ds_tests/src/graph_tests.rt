@@ -9,6 +9,12 @@ use std::thread::Threads;
 // clusters and in one; and of two clusters that feed each other.
 const GRAPHS: &str = "%$ desync graph toggle --clusters each
 %= 0 < graph
+%$ desync graph toggle --slack 2
+%= 0 < graph
+<OUT-,OUT+> <M0-,IN+> <M0-,M0+> <S0+,OUT+> <S0+,M0+> <S0-,M0+> <S0-,S0+> }
+=>
+<OUT-,OUT+> <OUT-,S0+>=2 <M0-,IN+>=3 <M0-,M0+> <M0-,S0+>=2 <S0+,OUT+> <S0+,M0+> <S0-,M0+>=3 \
+    <S0-,S0+> }
 %$ desync graph shift --clusters each
 %= 0
 .model shift
@@ -66,7 +72,7 @@ S1- M1+ S1+
 
 #[test]
 fn graphs_are_written(rt: HostRuntime) -> Result<(), Fail> {
-    play(&rt, GRAPHS, 4)
+    play(&rt, GRAPHS, 5)
 }
 
 /// So many registers, all of which take one table over all of them.

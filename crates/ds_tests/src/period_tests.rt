@@ -74,6 +74,114 @@ fn periods_are_exact(rt: HostRuntime) -> Result<(), Fail> {
     play(&rt, PERIODS, 4)
 }
 
+// With slack a master may open more often before its slave has closed: the cycle that waits for it
+// has more tokens, until another one is slower.
+const SLACKS: &str = "%d
+M0+ S0+ 3
+S0+ S0- 5
+S0- M0+ 10
+%p
+period 18/1
+cycle M0+ S0+ S0-
+potential IN+ 0
+potential IN- 0
+potential OUT+ 0
+potential OUT- 0
+potential M0+ 0
+potential M0- 0
+potential S0+ 3
+potential S0- 8
+%$ desync period toggle d
+%$ desync period toggle d --slack 0
+%= 0 < p
+%$ desync period toggle d --slack 2
+%= 0 < p
+period 18/1
+=>
+period 6/1
+%$ desync period toggle d --slack=3 --clusters one
+%= 0 < p
+period 18/1
+cycle M0+ S0+ S0-
+=>
+period 5/1
+cycle S0+ S0-
+";
+
+#[test]
+fn slack_is_in_the_period(rt: HostRuntime) -> Result<(), Fail> {
+    play(&rt, SLACKS, 4)
+}
+
+// A graph of the user's: its events, a dummy among them, and two arcs with the same ends, of which
+// the cycle takes that of fewer tokens; lines that name none of its arcs, and the same ends twice.
+const GRAPHS: &str = "%g
+.model toggle
+.outputs IN OUT M0 S0
+.dummy e
+.graph
+IN+ IN- M0+
+IN- IN+
+OUT+ OUT-
+OUT- OUT+ S0+
+M0+ M0- e
+e S0+
+M0- IN+ M0+ S0+
+S0+ OUT+ M0+ S0- p
+p M0+
+S0- M0+ S0+
+.marking { <IN-,IN+> <OUT-,OUT+> <M0-,IN+> <M0-,M0+> <S0+,OUT+> <S0+,M0+> p=3 <S0-,M0+> <S0-,S0+> }
+.end
+%d
+M0+ e 2
+e S0+ 1
+S0+ M0+ 4
+%$ desync period toggle d --graph g
+%$ desync period toggle d --graph=g --slack 3
+%= 0
+period 7/1
+cycle M0+ e S0+
+potential IN+ 0
+potential IN- 0
+potential OUT+ 0
+potential OUT- 0
+potential M0+ 0
+potential M0- 0
+potential S0+ 3
+potential S0- 3
+potential e 2
+%d
+S0+ M0+ 4
+M0+ S0+ 3
+%$ desync period toggle d --graph g
+%= 1
+d:2: unknown order M0+ to S0+
+%d
+S0+ M0+ 4
+S0+ M0+ 4
+%$ desync period toggle d --graph g
+%= 1
+d:2: repeated order S0+ to M0+
+%g < g
+p=3 <S0-,M0+>
+=>
+p=3 <S0-,M0+>=2
+%$ desync period toggle none --graph g
+%= 1
+g: missing order S0- to M0+ with 1 tokens (least walk 2)
+%$ desync period toggle d --graph g --slack 1
+%= 1
+d:2: repeated order S0+ to M0+
+%$ desync period toggle d --graph none
+%= 3
+desync: cannot read none
+";
+
+#[test]
+fn graphs_of_a_file_have_a_period(rt: HostRuntime) -> Result<(), Fail> {
+    play(&rt, GRAPHS, 7)
+}
+
 // Lines that give no delays, with the text of the first fault. Each is the second line of the file.
 const FAULTS: &str = "M0+ S0+|bad word
 M0+ S0+ 4 5|bad word
@@ -130,7 +238,8 @@ n: undriven net z
 desync: cannot read none
 %$ desync period toggle
 %$ desync period toggle d d
-%$ desync period toggle d --graph d
+%$ desync period toggle d --graph
+%$ desync period toggle d --slack 16
 %$ desync period toggle d --clusters two
 %= 2
 desync: bad command line
@@ -138,7 +247,7 @@ desync: bad command line
 
 #[test]
 fn what_comes_before_the_delays_is_named_first(rt: HostRuntime) -> Result<(), Fail> {
-    play(&rt, OTHERS, 7)
+    play(&rt, OTHERS, 8)
 }
 
 // So many bytes of a comment.

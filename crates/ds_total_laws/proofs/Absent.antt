@@ -19,12 +19,11 @@ use Rattle.ds_stage.specs.Stage.{OfFile, Stage, giving, then_stage}
 use Rattle.ds_stage.specs.Stages.{OfBytes, accepted_stage, design_stage, file_stage, lines_stage, netlist_stage, report_stage, rows_stage, trace_stage, vectors_stage}
 use Rattle.ds_stage.specs.StreamStage.{gives_held, leaves_held, most_vectors, streamed_stage}
 use Rattle.ds_stage.specs.SplitStage.{split_stage}
-use Rattle.ds_stage.specs.GraphStage.{IsGraphOf}
 use Rattle.ds_stage.specs.PlanStage.{marked_stage, plan_stage, planned_stage}
 use Rattle.ds_stage.specs.AcceptStage.{ranks_stage}
 use Rattle.ds_stage.specs.ReplayStage.{fired_stage, log_stage, replayed_stage}
-use Rattle.ds_stage.specs.PeriodStage.{IsPeriodText, delays_stage, given_stage, measured_stage, timed_stage}
-use Rattle.ds_stage.proofs.Left.{LeavesNothing, giving_nothing, netlist_nothing, planned_nothing, split_nothing, vectors_nothing}
+use Rattle.ds_stage.specs.PeriodStage.{IsPeriodText, delays_stage, given_stage, timed_stage}
+use Rattle.ds_stage.proofs.Left.{LeavesNothing, netlist_nothing, planned_nothing, split_nothing, vectors_nothing}
 use Rattle.ds_app.specs.Job.{run_stage, stages_of}
 use Rattle.ds_app.specs.JobStages.{accept_stage, clock_stage, graph_stage, period_stage, replay_stage}
 use Rattle.ds_app.specs.RunStage.{planned_run_stage, stopped_stage, traced_stage}
@@ -123,11 +122,10 @@ log_mute held vec log transparent c p gone =
     (mute_first (lines_stage held Log log) (fired_stage log p vectors.rows) (lines_mute held Log log gone)))
 
 -- delays that are not there
-measured_mute : (held : List ℕ → Held) (file : List ℕ) (s : Split) → held file ≡ absent → IsMute (measured_stage held file s)
-measured_mute held file s gone =
-    mute_next (giving (IsGraphOf s)) (timed_stage held file) (giving_nothing (IsGraphOf s))
-    (λ g. mute_first (delays_stage held file g) (λ (delays : List ℕ). giving (IsPeriodText g delays))
-    (mute_first (lines_stage held Delays file) (given_stage file g) (lines_mute held Delays file gone)))
+timed_mute : (held : List ℕ → Held) (file : List ℕ) (g : Graph) → held file ≡ absent → IsMute (timed_stage held file g)
+timed_mute held file g gone =
+    mute_first (delays_stage held file g) (λ (delays : List ℕ). giving (IsPeriodText g delays))
+    (mute_first (lines_stage held Delays file) (given_stage file g) (lines_mute held Delays file gone))
 
 -- a job one of whose files is not there
 job_mute : (held : List ℕ → Held) (job : Job) → LacksFile held job → IsMute (stages_of held job)
@@ -164,14 +162,18 @@ job_mute held (Replay job) (inr (inr (inr graph))) =
 job_mute held (Accept job) (inl net) = mute_first (netlist_stage held job.net) (accept_stage held job) (netlist_mute held job.net net)
 job_mute held (Accept job) (inr graph) =
     mute_next (netlist_stage held job.net) (accept_stage held job) (netlist_nothing held job.net) (λ c.
-    mute_first (planned_stage held job.net (Some job.graph) job.clusters 0 c) ranks_stage
-    (planned_mute held job.net (Some job.graph) job.clusters 0 c graph))
+    mute_first (planned_stage held job.net (Some job.graph) job.clusters job.slack c) ranks_stage
+    (planned_mute held job.net (Some job.graph) job.clusters job.slack c graph))
 job_mute held (Demo job) none = absurd none
 job_mute held (Period job) (inl net) = mute_first (netlist_stage held job.net) (period_stage held job) (netlist_mute held job.net net)
-job_mute held (Period job) (inr delays) =
+job_mute held (Period job) (inr (inl delays)) =
     mute_next (netlist_stage held job.net) (period_stage held job) (netlist_nothing held job.net) (λ c.
-    mute_next (split_stage job.net job.clusters c) (measured_stage held job.delays) (split_nothing job.net job.clusters c) (λ s.
-    measured_mute held job.delays s delays))
+    mute_next (planned_stage held job.net job.graph job.clusters job.slack c) (λ (p : Planned). timed_stage held job.delays p.graph)
+    (planned_nothing held job.net job.graph job.clusters job.slack c) (λ p. timed_mute held job.delays p.graph delays))
+job_mute held (Period job) (inr (inr graph)) =
+    mute_next (netlist_stage held job.net) (period_stage held job) (netlist_nothing held job.net) (λ c.
+    mute_first (planned_stage held job.net job.graph job.clusters job.slack c) (λ (p : Planned). timed_stage held job.delays p.graph)
+    (planned_mute held job.net job.graph job.clusters job.slack c graph))
 
 -- words are those of one job
 same_job : (words : List (List ℕ)) (one other : Job) → job_of words ≡ Ok one → job_of words ≡ Ok other → one ≡ other

@@ -2,13 +2,14 @@
 use Rattle.std.proofs.Common.{ℕ, List, Some}
 use Rattle.ds_outside.specs.Held.{Held}
 use Rattle.ds_design.specs.Rows.{Rows}
+use Rattle.ds_latch.specs.Node.{Split, slackened}
 use Rattle.ds_latch.specs.Plan.{Planned}
 use Rattle.ds_cmd.specs.Allowed.{AreAllowed}
 use Rattle.ds_cmd.specs.declared.job.Job.{Job}
 use Rattle.ds_cmd.specs.declared.job.Job.TheVariants.{Run, Clock, Check, Graph, Replay, Accept, Demo, Period}
 use Rattle.ds_stage.specs.AcceptStage.{ranks_stage}
 use Rattle.ds_stage.specs.GraphStage.{controller_stage}
-use Rattle.ds_stage.specs.PeriodStage.{measured_stage}
+use Rattle.ds_stage.specs.PeriodStage.{timed_stage}
 use Rattle.ds_stage.specs.PlanStage.{planned_stage}
 use Rattle.ds_stage.specs.ReplayStage.{replayed_stage}
 use Rattle.ds_stage.specs.SplitStage.{split_stage}
@@ -23,8 +24,8 @@ use Rattle.ds_total_laws.proofs.Decided.{then_decided}
 use Rattle.ds_total_laws.proofs.Demos.{demo_decided}
 use Rattle.ds_total_laws.proofs.Netlists.{behind_netlist}
 use Rattle.ds_total_laws.proofs.Plans.{planned_decided}
-use Rattle.ds_total_laws.proofs.Splits.{controller_decided, split_decided, split_ready}
-use Rattle.ds_total_laws.proofs.Texts.{clock_decided, measured_decided, ranks_decided, replay_decided, report_decided, run_decided}
+use Rattle.ds_total_laws.proofs.Splits.{controller_decided, ready_with, split_decided, split_ready}
+use Rattle.ds_total_laws.proofs.Texts.{clock_decided, ranks_decided, replay_decided, report_decided, run_decided, timed_decided}
 
 module _ (held : List ℕ → Held) where
   job_decided : (job : Job) → AreAllowed job → FilesAreThere held job → IsDecided (stages_of held job)
@@ -36,10 +37,10 @@ module _ (held : List ℕ → Held) where
   job_decided (Clock job) allowed (net, vec) =
       behind_netlist held job.net (clock_stage held job.vec) net (λ c range accepts. clock_decided held c range accepts job.vec vec)
   job_decided (Check file) allowed net = behind_netlist held file report_stage net (λ c range accepts. report_decided held c range accepts)
-  job_decided (Graph job) allowed net =
+  job_decided (Graph job) (low, shaken) net =
       behind_netlist held job.net (graph_stage job) net (λ c range accepts.
-      then_decided (split_stage job.net job.clusters c) (controller_stage job.net job.shake) (split_decided job.net job.clusters c accepts)
-      (λ s is. controller_decided job.net job.shake s (split_ready job.net job.clusters c accepts s is)))
+      then_decided (split_stage job.net job.clusters c) (λ (s : Split). controller_stage job.net job.shake (slackened s job.slack)) (split_decided job.net job.clusters c accepts)
+      (λ s is. controller_decided job.net job.shake (slackened s job.slack) (ready_with s job.slack (split_ready job.net job.clusters c accepts s is))))
   job_decided (Replay job) (slack, without) (net, vec, log, graph) =
       behind_netlist held job.net (replay_stage held job) net (λ c range accepts.
       then_decided (planned_stage held job.net job.graph job.clusters job.slack c)
@@ -48,14 +49,15 @@ module _ (held : List ℕ → Held) where
       (λ p planned. replay_decided held c range accepts job.net job.graph job.clusters job.slack p planned job.vec job.log job.transparent vec log without))
   job_decided (Accept job) allowed (net, graph) =
       behind_netlist held job.net (accept_stage held job) net (λ c range accepts.
-      then_decided (planned_stage held job.net (Some job.graph) job.clusters 0 c) ranks_stage
-      (planned_decided held job.net (Some job.graph) job.clusters 0 graph c accepts)
-      (λ p planned. ranks_decided held c range accepts job.net (Some job.graph) job.clusters 0 p planned))
+      then_decided (planned_stage held job.net (Some job.graph) job.clusters job.slack c) ranks_stage
+      (planned_decided held job.net (Some job.graph) job.clusters job.slack graph c accepts)
+      (λ p planned. ranks_decided held c range accepts job.net (Some job.graph) job.clusters job.slack p planned))
   job_decided (Demo job) (some, few, turns, workers) there = demo_decided job.seed job.registers job.turns some few turns
-  job_decided (Period job) allowed (net, delays) =
+  job_decided (Period job) allowed (net, delays, graph) =
       behind_netlist held job.net (period_stage held job) net (λ c range accepts.
-      then_decided (split_stage job.net job.clusters c) (measured_stage held job.delays) (split_decided job.net job.clusters c accepts)
-      (λ s is. measured_decided held job.delays s delays (split_ready job.net job.clusters c accepts s is)))
+      then_decided (planned_stage held job.net job.graph job.clusters job.slack c) (λ (p : Planned). timed_stage held job.delays p.graph)
+      (planned_decided held job.net job.graph job.clusters job.slack graph c accepts)
+      (λ p planned. timed_decided held c range accepts job.net job.graph job.clusters job.slack p planned job.delays delays))
 
 -- each job is decided
 pub jobs_are_decided : JobsAreDecided

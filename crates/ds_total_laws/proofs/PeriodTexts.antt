@@ -3,19 +3,20 @@ use Rattle.std.proofs.Common.{◌≡◌, ◌∙◌, ℕ, List, ap, length, sym, 
 use Rattle.ds_outside.specs.declared.files.Which.TheVariants.{Delays}
 use Rattle.ds_netlist.proofs.Refused.{faults_are_refused_lem}
 use Rattle.ds_split.proofs.OneClustering.{one_clustering_lem}
+use Rattle.ds_marked.specs.Graph.{Graph}
+use Rattle.ds_latch.specs.Plan.{Planned}
 use Rattle.ds_period.specs.Period.{IsPeriod}
 use Rattle.ds_period.specs.Read.{delays_of}
 use Rattle.ds_period.specs.Timing.{timed_arcs}
 use Rattle.ds_period_laws.proofs.Agree.{graphs_have_one_period}
-use Rattle.ds_stage.specs.GraphStage.{IsGraphOf}
-use Rattle.ds_stage.specs.PeriodStage.{IsPeriodText, delay_text, delays_stage, given_stage, measured_stage, period_text, timed_stage}
-use Rattle.ds_stage.specs.SplitStage.{split_stage}
+use Rattle.ds_stage.specs.PeriodStage.{IsPeriodText, delay_text, delays_stage, given_stage, period_text, timed_stage}
+use Rattle.ds_stage.specs.PlanStage.{planned_stage}
 use Rattle.ds_stage.specs.Stage.{IsExclusive, Stage, giving, then_stage}
 use Rattle.ds_stage.specs.Stages.{lines_stage, netlist_stage, read_or_line}
 use Rattle.ds_stage.proofs.Exclusive.{lines_exclusive, netlist_exclusive, result_exclusive, then_exclusive}
-use Rattle.ds_stage.proofs.OneGraph.{one_graph}
-use Rattle.ds_stage.proofs.PlanExclusive.{split_exclusive}
+use Rattle.ds_stage.proofs.PlanExclusive.{planned_exclusive}
 use Rattle.ds_app.specs.JobStages.{period_stage}
+use Rattle.ds_app.proofs.Exclusive.{told_file}
 use Rattle.ds_total_laws.specs.Periods.{HaveOnePeriod, OnePeriodText, PeriodsHaveOneText}
 
 -- two texts of the period of a graph differ in the line of the cycle alone
@@ -47,23 +48,22 @@ behind_one {A} {B} agree first next one each x y (a, is, gives) (b, also, more) 
 
 -- two texts of `period` differ in it alone
 pub periods_have_one_text : PeriodsHaveOneText
-periods_have_one_text held job (told, delays_told) =
+periods_have_one_text held job (told, delays_told, graph_told) =
     behind_one (HaveOnePeriod held job) (netlist_stage held job.net) (period_stage held job) ((netlist_exclusive faults_are_refused_lem held job.net told).one) (λ c is_netlist.
-    behind_one (HaveOnePeriod held job) (split_stage job.net job.clusters c) (measured_stage held job.delays) ((split_exclusive one_clustering_lem job.net job.clusters c).one) (λ s is_split.
-    behind_one (HaveOnePeriod held job) (giving (IsGraphOf s)) (timed_stage held job.delays) (one_graph s) (λ g is_graph.
+    behind_one (HaveOnePeriod held job) (planned_stage held job.net job.graph job.clusters job.slack c) (λ (p : Planned). timed_stage held job.delays p.graph)
+    ((planned_exclusive one_clustering_lem held job.net job.graph job.clusters job.slack (told_file held job.graph graph_told) c).one) (λ plan is_plan.
     let file : List ℕ = job.delays in
+    let g : Graph = plan.graph in
     let delays_once : IsExclusive (delays_stage held file g) =
     then_exclusive (lines_stage held Delays file) (given_stage file g) (lines_exclusive held Delays file delays_told)
     (λ lines. result_exclusive (read_or_line file delay_text (delays_of g lines))) in
     behind_one (HaveOnePeriod held job) (delays_stage held file g) (λ (delays : List ℕ). giving (IsPeriodText g delays)) delays_once.one
     (λ delays are_delays text other is also. record {
       circuit = c;
-      split = s;
-      graph = g;
+      plan = plan;
       delays = delays;
       is_netlist = is_netlist;
-      is_split = is_split;
-      is_graph = is_graph;
+      is_plan = is_plan;
       are_delays = are_delays;
       differ = one_period_text g delays text other is also;
-    }))))
+    })))

@@ -13,9 +13,7 @@ use Rattle.ds_design.specs.Accepted.{IsAccepted}
 use Rattle.ds_design.specs.Circuit.{Circuit, columns}
 use Rattle.ds_design.specs.InRange.{IsInRange}
 use Rattle.ds_design.specs.Rows.{Rows}
-use Rattle.ds_latch.specs.Node.{Split}
 use Rattle.ds_latch.specs.Plan.{IsPlan, Planned}
-use Rattle.ds_latch.proofs.Rising.{orders_are_accepted}
 use Rattle.ds_period.specs.Read.{delays_of}
 use Rattle.ds_replay.specs.Legal.{words_of_lines}
 use Rattle.ds_replay.specs.Replay.{log_of, replay_of}
@@ -32,8 +30,7 @@ use Rattle.ds_firing_laws.proofs.Stopped.{stopped_texts_exist}
 use Rattle.ds_period_laws.proofs.Graphs.{plans_are_timed}
 use Rattle.ds_stage.specs.AcceptStage.{ranks_stage, ranks_text}
 use Rattle.ds_stage.specs.FaultText.{numbered_line}
-use Rattle.ds_stage.specs.GraphStage.{IsGraphOf}
-use Rattle.ds_stage.specs.PeriodStage.{IsPeriodText, delay_text, delays_stage, given_stage, measured_stage, period_text, timed_stage}
+use Rattle.ds_stage.specs.PeriodStage.{IsPeriodText, delay_text, delays_stage, given_stage, period_text, timed_stage}
 use Rattle.ds_stage.specs.PlanStage.{planned_stage}
 use Rattle.ds_stage.specs.Report.{report_text}
 use Rattle.ds_stage.specs.ReplayStage.{fired_stage, log_stage, log_text, replayed_stage}
@@ -48,7 +45,6 @@ use Rattle.ds_app.specs.RunStage.{planned_run_stage, stopped_stage, traced_stage
 use Rattle.ds_total_laws.specs.Decided.{IsDecided}
 use Rattle.ds_total_laws.specs.There.{HasBytes}
 use Rattle.ds_total_laws.proofs.Decided.{lines_decided, result_decided, then_decided, vectors_decided}
-use Rattle.ds_total_laws.proofs.Splits.{IsReady, graph_there}
 use Rattle.ds_total_laws.proofs.StreamDecided.{streamed_decided}
 
 -- what a legal log fires is a legal list
@@ -133,16 +129,11 @@ module _ (held : List ℕ → Held) where
       pub ranks_decided : IsDecided (ranks_stage p)
       ranks_decided = (let (ranks, are) = live_graphs_have_ranks p.graph is_plan.live in inl (ranks_text p.graph ranks, (ranks, are, refl)))
 
-  -- the delays of a file that is there give a controller graph a period, or have a fault
-  timed_decided : (file : List ℕ) (s : Split) (g : Graph) → HasBytes (held file) → IsReady s → IsGraphOf s g → IsDecided (timed_stage held file g)
-  timed_decided file s g there ready is =
-      then_decided (delays_stage held file g) (λ (delays : List ℕ). giving (IsPeriodText g delays))
-      (then_decided (lines_stage held Delays file) (given_stage file g) (lines_decided held Delays file there) (λ lines are. result_decided (read_or_line file delay_text (delays_of g lines))))
-      (λ delays (lines, are, read).
-      let plan : IsPlan s g = orders_are_accepted s g ready.split is.events is.orders in
-      let (p, q, cycle, potentials, period) = plans_are_timed s g plan lines delays (read_meant file delay_text (delays_of g lines) delays read) in
-      inl (period_text g p q cycle potentials, record { p = p; q = q; cycle = cycle; potentials = potentials; period = period; spelt = refl }))
-
-  pub measured_decided : (file : List ℕ) (s : Split) → HasBytes (held file) → IsReady s → IsDecided (measured_stage held file s)
-  measured_decided file s there ready =
-      then_decided (giving (IsGraphOf s)) (timed_stage held file) (inl (graph_there s ready)) (λ g is. timed_decided file s g there ready is)
+      -- and a period with the delays of a file that is there, or a line of them has a fault
+      pub timed_decided : (file : List ℕ) → HasBytes (held file) → IsDecided (timed_stage held file p.graph)
+      timed_decided file there =
+          then_decided (delays_stage held file p.graph) (λ (delays : List ℕ). giving (IsPeriodText p.graph delays))
+          (then_decided (lines_stage held Delays file) (given_stage file p.graph) (lines_decided held Delays file there) (λ lines are. result_decided (read_or_line file delay_text (delays_of p.graph lines))))
+          (λ delays (lines, are, read).
+          let (q, r, cycle, potentials, period) = plans_are_timed p.split p.graph is_plan lines delays (read_meant file delay_text (delays_of p.graph lines) delays read) in
+          inl (period_text p.graph q r cycle potentials, record { p = q; q = r; cycle = cycle; potentials = potentials; period = period; spelt = refl }))

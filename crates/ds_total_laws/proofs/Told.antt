@@ -28,7 +28,7 @@ files_told held (Replay job) (net, vec, log, graph) =
     (file_told (held job.net) net, file_told (held job.vec) vec, file_told (held job.log) log, named_told held job.graph graph)
 files_told held (Accept job) (net, graph) = (file_told (held job.net) net, file_told (held job.graph) graph)
 files_told held (Demo job) there = tt
-files_told held (Period job) (net, delays) = (file_told (held job.net) net, file_told (held job.delays) delays)
+files_told held (Period job) (net, delays, graph) = (file_told (held job.net) net, file_told (held job.delays) delays, named_told held job.graph graph)
 
 -- a job that is decided has its status
 pub statuses_are_told : StatusesAreTold

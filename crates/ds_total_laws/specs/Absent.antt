@@ -23,7 +23,8 @@ LacksFile held (Replay job) = (held job.net ≡ absent) ⊎ (held job.vec ≡ ab
     ⊎ (held job.log ≡ absent) ⊎ IsAbsentIn held job.graph
 LacksFile held (Accept job) = (held job.net ≡ absent) ⊎ (held job.graph ≡ absent)
 LacksFile held (Demo job) = ⊥
-LacksFile held (Period job) = (held job.net ≡ absent) ⊎ (held job.delays ≡ absent)
+LacksFile held (Period job) =
+    (held job.net ≡ absent) ⊎ (held job.delays ≡ absent) ⊎ IsAbsentIn held job.graph
 
 -- a call whose words are a job, one of whose files is not there, has status 3, or 4; or status 1,
 -- where a stage refuses that comes before each file that is not there

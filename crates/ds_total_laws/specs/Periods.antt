@@ -3,14 +3,13 @@ use Rattle.std.specs.Prelude.{◌≡◌, ℕ, List, length}
 use Rattle.ds_outside.specs.Held.{Held}
 use Rattle.ds_design.specs.Circuit.{Circuit}
 use Rattle.ds_marked.specs.Graph.{Graph}
-use Rattle.ds_latch.specs.Node.{Split}
+use Rattle.ds_latch.specs.Plan.{Planned}
 use Rattle.ds_cmd.specs.declared.job.Job.TheVariants.{Period}
 use Rattle.ds_cmd.specs.declared.period.PeriodJob.{PeriodJob}
 use Rattle.ds_period.specs.Period.{IsPeriod}
 use Rattle.ds_period.specs.Timing.{timed_arcs}
-use Rattle.ds_stage.specs.GraphStage.{IsGraphOf}
 use Rattle.ds_stage.specs.PeriodStage.{IsPeriodText, delays_stage, period_text}
-use Rattle.ds_stage.specs.SplitStage.{split_stage}
+use Rattle.ds_stage.specs.PlanStage.{planned_stage}
 use Rattle.ds_stage.specs.Stages.{netlist_stage}
 use Rattle.ds_app.specs.Job.{stages_of}
 use Rattle.ds_app.specs.Status.{AreTold}
@@ -34,18 +33,16 @@ abbrev pub OnePeriodText : Type 0
 OnePeriodText = (g : Graph) (delays text other : List ℕ) → IsPeriodText g delays text
     → IsPeriodText g delays other → DifferInCycle g delays text other
 
--- two texts do, of the controller graph of a job's netlist with the delays of its file
+-- two texts do, of the graph of a job's plan with the delays of its file
 pub record HaveOnePeriod (held : List ℕ → Held) (job : PeriodJob) (text other : List ℕ)
     : Type 0 where
   pub circuit : Circuit
-  pub split : Split
-  pub graph : Graph
+  pub plan : Planned
   pub delays : List ℕ
   pub is_netlist : (netlist_stage held job.net).means circuit
-  pub is_split : (split_stage job.net job.clusters circuit).means split
-  pub is_graph : IsGraphOf split graph
-  pub are_delays : (delays_stage held job.delays graph).means delays
-  pub differ : DifferInCycle graph delays text other
+  pub is_plan : (planned_stage held job.net job.graph job.clusters job.slack circuit).means plan
+  pub are_delays : (delays_stage held job.delays plan.graph).means delays
+  pub differ : DifferInCycle plan.graph delays text other
 
 -- so do two texts of `period`, where its files tell what they hold
 abbrev pub PeriodsHaveOneText : Type 0

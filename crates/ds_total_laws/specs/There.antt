@@ -25,4 +25,5 @@ FilesAreThere held (Replay job) = HasBytes (held job.net) × HasBytes (held job.
     × HasBytes (held job.log) × HasBytesIn held job.graph
 FilesAreThere held (Accept job) = HasBytes (held job.net) × HasBytes (held job.graph)
 FilesAreThere held (Demo job) = Unit {0}
-FilesAreThere held (Period job) = HasBytes (held job.net) × HasBytes (held job.delays)
+FilesAreThere held (Period job) =
+    HasBytes (held job.net) × HasBytes (held job.delays) × HasBytesIn held job.graph

@@ -41,6 +41,15 @@ replay-requires-clause-slack g c = (subst AreAllowed c.in-Replay.is c.requires).
 pub replay-requires-clause-shown : goal.replay-requires-clause-shown
 replay-requires-clause-shown g c = (subst AreAllowed c.in-Replay.is c.requires).1
 
+pub graph-requires : goal.graph-requires
+graph-requires g c = (subst AreAllowed c.in-Graph.is c.requires).0
+
+pub accept-requires : goal.accept-requires
+accept-requires g c = subst AreAllowed c.in-Accept.is c.requires
+
+pub period-requires : goal.period-requires
+period-requires g c = subst AreAllowed c.in-Period.is c.requires
+
 pub demo-requires-clause-registers : goal.demo-requires-clause-registers
 demo-requires-clause-registers g c _ _ =
     let allowed : AreAllowed (Demo c.in-Demo.job) = subst AreAllowed c.in-Demo.is c.requires in (allowed.0, allowed.1)

@@ -1,8 +1,8 @@
-use Rattle.std.proofs.Common.{ℕ, List, Err, refl}
+use Rattle.std.proofs.Common.{ℕ, List, Err, refl, subst}
 use Rattle.std.proofs.lemmas.Result.{err_from_is_err_and}
 use Rattle.ds_outside.specs.Held.{Held}
 use Rattle.ds_design.specs.Circuit.{Circuit}
-use Rattle.ds_latch.specs.Node.{Split}
+use Rattle.ds_latch.specs.Node.{Split, slackened}
 use Rattle.ds_cmd.specs.declared.graph.GraphJob.{GraphJob}
 use Rattle.ds_stage.specs.Stage.{OfFile, then_stage}
 use Rattle.ds_stage.specs.Stages.{netlist_stage}
@@ -45,7 +45,7 @@ returns-in_err-latches-clause-value g c =
     rw (p.1, p.2) (graph_ends held more out (Err stop) c.args.job.now _ c.as_str-net.ensures
     (ended (Unit {0}) (then_stage (netlist_stage held job.net) (graph_stage job)) more out stop (graph_nothing held job) refl
     (passed {B = List ℕ} (netlist_stage held job.net) (graph_stage job) more circuit c.in_ok-netlist.ensures.value (Err stop)
-    (stopped (split_stage job.net job.clusters circuit) (controller_stage job.net job.shake) more stop few))))
+    (stopped (split_stage job.net job.clusters circuit) (λ (s : Split). controller_stage job.net job.shake (slackened s job.slack)) more stop few))))
 
 pub returns-clause-value : goal.returns-clause-value
 returns-clause-value g c =
@@ -54,12 +54,15 @@ returns-clause-value g c =
     let more : OfFile = RoseIn (g.F.Files.faults c.args.files.now) (g.F.Files.faults c.read_netlist.new.files) in
     let circuit : Circuit = c.in_ok-netlist.netlist in
     let latches : Split = c.in_ok-latches.latches in
+    let wanted : Split = slackened latches job.slack in
     let out : Output = (output_between g.O.Sink.written g.O.Sink.faults c.args.out.now c.draw.new.out) in
-    let last : Ends (controller_stage job.net job.shake latches) more out c.draw.result =
-    ends_more (controller_stage job.net job.shake latches) Never more out (controller_nothing job.net job.shake latches) (λ line unread. absurd (controller_says job.net job.shake Never latches line unread).is) c.draw.result c.draw.ensures.value in
+    let drawn : Ends (controller_stage job.net job.shake wanted) Never out c.draw.result =
+    subst (λ (s : Split). Ends (controller_stage job.net job.shake s) Never out c.draw.result) c.with_slack.ensures c.draw.ensures.value in
+    let last : Ends (controller_stage job.net job.shake wanted) more out c.draw.result =
+    ends_more (controller_stage job.net job.shake wanted) Never more out (controller_nothing job.net job.shake wanted) (λ line unread. absurd (controller_says job.net job.shake Never wanted line unread).is) c.draw.result drawn in
     graph_ends held more out c.draw.result c.args.job.now _ c.as_str-net.ensures
     (ends_after (netlist_stage held job.net) (graph_stage job) more out circuit c.in_ok-netlist.ensures.value c.draw.result
-    (ends_after (split_stage job.net job.clusters circuit) (controller_stage job.net job.shake) more out latches c.in_ok-latches.ensures c.draw.result last))
+    (ends_after (split_stage job.net job.clusters circuit) (λ (s : Split). controller_stage job.net job.shake (slackened s job.slack)) more out latches c.in_ok-latches.ensures c.draw.result last))
 
 pub returns-in_err-netlist-clause-same_held : goal.returns-in_err-netlist-clause-same_held
 returns-in_err-netlist-clause-same_held g c = c.in_err-netlist.ensures.same_held

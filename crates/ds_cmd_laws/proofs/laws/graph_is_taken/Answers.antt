@@ -1,4 +1,5 @@
 use Rattle.ds_cmd_laws.proofs.Taken.{graph_taken, graph_with_mode, graph_with_shake}
+use Rattle.ds_cmd_laws.proofs.TakenSlack.{graph_with_slack}
 use Rattle.ds_cmd_laws.proofs.laws.graph_is_taken.Goals as goal
 
 pub returns-clause-each : goal.returns-clause-each
@@ -9,3 +10,6 @@ returns-clause-clusters c = graph_with_mode
 
 pub returns-clause-shake : goal.returns-clause-shake
 returns-clause-shake c = graph_with_shake
+
+pub returns-clause-slack : goal.returns-clause-slack
+returns-clause-slack c = graph_with_slack

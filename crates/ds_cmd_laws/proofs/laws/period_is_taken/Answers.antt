@@ -1,4 +1,5 @@
-use Rattle.ds_cmd_laws.proofs.TakenPeriod.{period_taken, period_with_mode}
+use Rattle.ds_cmd_laws.proofs.TakenPeriod.{period_taken, period_with_graph, period_with_mode}
+use Rattle.ds_cmd_laws.proofs.TakenSlack.{period_with_slack}
 use Rattle.ds_cmd_laws.proofs.laws.period_is_taken.Goals as goal
 
 pub returns-clause-each : goal.returns-clause-each
@@ -6,3 +7,9 @@ returns-clause-each c = period_taken
 
 pub returns-clause-clusters : goal.returns-clause-clusters
 returns-clause-clusters c = period_with_mode
+
+pub returns-clause-graph : goal.returns-clause-graph
+returns-clause-graph c = period_with_graph
+
+pub returns-clause-slack : goal.returns-clause-slack
+returns-clause-slack c = period_with_slack

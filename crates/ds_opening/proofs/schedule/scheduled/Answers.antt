@@ -2,7 +2,7 @@ use Rattle.std.proofs.Common.{◌≡◌, ◌∙◌, ◌++◌, ℕ, List, Option,
 use Rattle.std.proofs.lemmas.Result.{IfOk-weaker}
 use Rattle.ds_design.specs.Circuit.{Circuit}
 use Rattle.ds_design.specs.declared.design.Gate.{Gate}
-use Rattle.ds_opening.specs.Ranked.{IsByRank}
+use Rattle.ds_opening.specs.Ranked.{AreSortedByRank}
 use Rattle.ds_opening.specs.Scheduled.{AreLower, AreScheduled}
 use Rattle.ds_opening.proofs.Schedules.{scheduled_by_rank, scheduled_order}
 use Rattle.ds_opening.proofs.schedule.scheduled.Goals as goal
@@ -22,7 +22,7 @@ returns-then-are_lower c =
       ok = IfOk-weaker c.by_rank.result _ _
           (λ v is. scheduled_by_rank c.args.netlist.now c.design.ensures.in_range c.design.ensures.accepted c.order-order.result.now c.order-order.ensures
           numbers drivers c.in_ok-drivers.ensures ranks lower v.items
-          (subst (λ (rs : List ℕ). IsByRank rs c.order-order.result.now v.items) c.as_slice-then-are_lower.ensures.value is)) c.by_rank.ensures.ok;
+          (subst (λ (rs : List ℕ). AreSortedByRank rs c.order-order.result.now v.items) c.as_slice-then-are_lower.ensures.value is)) c.by_rank.ensures.ok;
     }
 
 pub returns : goal.returns
