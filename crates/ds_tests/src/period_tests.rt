@@ -162,14 +162,14 @@ S0+ M0+ 4
 %$ desync period toggle d --graph g
 %= 1
 d:2: repeated order S0+ to M0+
-%g < g
+%h < g
 p=3 <S0-,M0+>
 =>
 p=3 <S0-,M0+>=2
-%$ desync period toggle none --graph g
+%$ desync period toggle none --graph h
 %= 1
-g: missing order S0- to M0+ with 1 tokens (least walk 2)
-%$ desync period toggle d --graph g --slack 1
+h: missing order S0- to M0+ with 1 tokens (least walk 2)
+%$ desync period toggle d --graph h --slack 1
 %= 1
 d:2: repeated order S0+ to M0+
 %$ desync period toggle d --graph none

@@ -27,14 +27,10 @@ returns-clause-value g c =
     c.write_period.result c.write_period.ensures.value
 
 pub returns-in_err-delays-clause-same_reads : goal.returns-in_err-delays-clause-same_reads
-returns-in_err-delays-clause-same_reads g c =
-    let p = err_from_is_err_and c.from_residual.result c.from_residual.ensures.1 in
-    rw (p.1, p.2) (c.in_err-delays.ensures.same_reads)
+returns-in_err-delays-clause-same_reads g c = let p = err_from_is_err_and c.from_residual.result c.from_residual.ensures.1 in rw (p.1, p.2) (c.in_err-delays.ensures.same_reads)
 
 pub returns-in_err-delays-clause-same_writes : goal.returns-in_err-delays-clause-same_writes
-returns-in_err-delays-clause-same_writes g c =
-    let p = err_from_is_err_and c.from_residual.result c.from_residual.ensures.1 in
-    rw (p.1, p.2) (unwritten_or c.in_err-delays.field-0.0 refl)
+returns-in_err-delays-clause-same_writes g c = let p = err_from_is_err_and c.from_residual.result c.from_residual.ensures.1 in rw (p.1, p.2) (unwritten_or c.in_err-delays.field-0.0 refl)
 
 pub returns-clause-same_reads : goal.returns-clause-same_reads
 returns-clause-same_reads g c = well_read c.write_period.result c.in_ok-delays.ensures.same_reads
