@@ -30,6 +30,12 @@ class Bus:
             return ""
         return "[%d:%d]" % self.ends if self.width > 1 else "[%d]" % self.ends[0]
 
+    def numbers(self) -> range:
+        """The numbers of its bits, of a single net none."""
+        if self.ends is None:
+            return range(0)
+        return range(min(self.ends), max(self.ends) + 1)
+
     def bits(self, row: str) -> str:
         """Its values in a row, the leftmost first."""
         return row[self.first : self.first + self.width][::-1]

@@ -54,6 +54,6 @@ def spans(names: list[str]) -> str:
     is_row = numbers == list(range(numbers[0], numbers[-1] + 1))
     first, last = parts[0][: differ[0]], parts[0][differ[0] + 1 :]
     few = [str(number) for number in numbers]
-    few = few if len(few) <= FEW else [few[0], "..", few[-1]]
+    few = few if len(few) <= FEW else [*few[:2], "..", few[-1]]
     middle = "%d..%d" % (numbers[0], numbers[-1]) if is_row else ",".join(few)
     return "".join(first) + middle + "".join(last)

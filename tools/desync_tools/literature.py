@@ -31,30 +31,37 @@ class Literature:
     def __init__(self, text: str) -> None:
         self.model = ""
         self.declared: dict[str, dict[str, None]] = {kind: {} for kind in SIGNALS + (DUMMY,)}
-        # The targets of each source, and the tokens of each place.
+        # The targets of each source, all targets, and the tokens of each place.
         self.arcs: dict[str, dict[str, None]] = {}
+        self.aimed: set[str] = set()
         self.marking: dict[Union[str, tuple[str, str]], int] = {}
         self.changes: list[str] = []
         self.own: dict[str, str] = {}
+        # The number of the line that is read.
+        self.at = 0
         lines = list(logical_lines(text))
         self.taken = {word for line in lines for word in line.words}
         for line in lines:
             if line.words[0] in self.declared:
                 self.declared[line.words[0]].update(dict.fromkeys(line.words[1:]))
-        for line in lines:
+        # A marking may stand before the arcs that it marks.
+        for line in sorted(lines, key=lambda line: line.words[0] == ".marking"):
             self.read(line)
 
     def read(self, line: Line) -> None:
         """Takes what a line says, but for its declarations."""
         first = line.words[0]
+        self.at = line.number
         if first in (".model", ".name"):
             self.name(line)
-        elif first in LEFT_OUT or line.words[:2] == [".state", "graph"]:
+        elif first in LEFT_OUT:
             self.changes.append("line %d: left out %s" % (line.number, first))
         elif first == ".marking":
             self.mark(line)
         elif first == ".graph" or first in self.declared:
             return
+        elif first == ".state":
+            raise BadText("line %d: a graph of states has no transitions to read" % line.number)
         elif first.startswith("."):
             raise BadText("line %d: unknown command %s" % (line.number, first))
         else:
@@ -81,6 +88,7 @@ class Literature:
                     % told
                 )
             self.arcs.setdefault(source, {})[target] = None
+            self.aimed.add(target)
 
     def mark(self, line: Line) -> None:
         """Takes the entries of a marking."""
@@ -90,9 +98,16 @@ class Literature:
                 raise BadText("line %d: bad marking %s" % (line.number, entry))
             source, target, place, count = parts.groups()
             key = place or (self.item(source), self.item(target))
-            if isinstance(key, tuple) and key[1] not in self.arcs.get(key[0], {}):
-                raise BadText("line %d: no arc for the marking %s" % (line.number, entry))
+            if not self.has(key):
+                kind = "place" if isinstance(key, str) else "arc"
+                raise BadText("line %d: no %s for the marking %s" % (line.number, kind, entry))
             self.marking[key] = int(count or 1)
+
+    def has(self, key: Union[str, tuple[str, str]]) -> bool:
+        """Whether there is a place, or an arc."""
+        if isinstance(key, tuple):
+            return key[1] in self.arcs.get(key[0], {})
+        return (key in self.arcs or key in self.aimed) and not self.is_event(key)
 
     def item(self, word: str) -> str:
         """What stands for a word of the graph: an event that Desync reads, or a place."""
@@ -104,6 +119,8 @@ class Literature:
             if number is None and sign != "~":
                 return word
             return self.stand_for(word, "%s_%s" % (signal, SIGNS[sign]), number)
+        if parts:
+            raise BadText("line %d: the signal of %s is not declared" % (self.at, word))
         parts = INSTANCE.match(word)
         if parts and parts.group(1) in self.declared[DUMMY]:
             return self.stand_for(word, parts.group(1), parts.group(2))
@@ -143,10 +160,11 @@ class Literature:
     def faults(self) -> Iterator[str]:
         """Why the graph is no marked graph: a text for each place with a choice or a merge."""
         for place, sources, targets in self.places():
+            hint = "" if place in self.marking else " (or %s lacks its .dummy)" % place
             if len(targets) > 1:
-                yield "a choice at %s: %s" % (place, " ".join(targets))
+                yield "a choice at %s%s: %s" % (place, hint, " ".join(targets))
             if len(sources) > 1:
-                yield "a merge at %s: %s" % (place, " ".join(sources))
+                yield "a merge at %s%s: %s" % (place, hint, " ".join(sources))
             if not targets or not sources:
                 yield "%s has no %s" % (place, "target" if sources else "source")
 

@@ -9,7 +9,7 @@ from __future__ import annotations
 from typing import Iterator, Optional
 
 from desync_tools import program
-from desync_tools.text import BadText, file_text, joined
+from desync_tools.text import BadText, as_bytes, file_text, joined
 
 MOST_COPIES, MOST_REGISTERS = 65536, 16384
 COMMANDS = (".latch", ".subckt")
@@ -85,8 +85,8 @@ class Copy:
 class Netlist:
     """A flat design. Beside the registers stand their data nets and their first values."""
 
-    def __init__(self, text: str, has_tables: bool = False) -> None:
-        self.name, self.edge = "", "re"
+    def __init__(self, path: str, text: str, has_tables: bool = False) -> None:
+        self.path, self.name, self.edge = path, "", "re"
         self.registers: list[Net] = []
         self.data: list[Net] = []
         self.starts: list[str] = []
@@ -159,4 +159,4 @@ def read_netlist(path: str, has_tables: bool = False) -> Netlist:
     refusal: Optional[str] = program.refusal(path, text)
     if refusal is not None:
         raise NotAccepted(refusal)
-    return Netlist(text, has_tables)
+    return Netlist(as_bytes(path), text, has_tables)

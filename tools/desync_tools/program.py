@@ -18,7 +18,7 @@ from desync_tools.text import BadText, as_bytes
 
 HERE = os.path.dirname(os.path.realpath(__file__))
 PLACES = ("../../../../bin/desync", "../../crates/desync/out/desync")
-REFUSED = 1
+REFUSED, BAD_WORDS = 1, 2
 
 
 def path() -> Optional[str]:
@@ -57,9 +57,24 @@ def answer(words: list[str]) -> str:
     said = ask(words)
     if said is None:
         raise BadText("there is no desync: DESYNC may name it, or it may stand on the path")
+    if said.status == BAD_WORDS:
+        raise BadText("desync takes no such words: %s" % " ".join(map(as_bytes, words)))
     if said.status:
         raise BadText(said.errors.strip().split("\n")[0] or "desync ended with %d" % said.status)
     return said.output
+
+
+def answer_to(words: list[str], name: str, text: str, behind: list[str]) -> str:
+    """What the program prints where a text stands in a file between some words. A refusal names the
+    file by a name."""
+    with tempfile.NamedTemporaryFile(prefix="desync") as file:
+        file.write(text.encode("latin-1"))
+        file.flush()
+        try:
+            return answer([*words, file.name, *behind])
+        except BadText as error:
+            told = str(error).replace(as_bytes(file.name), as_bytes(name), 1)
+            raise BadText(told) from None
 
 
 def is_regular(name: str) -> bool:

@@ -125,7 +125,46 @@ It has closure of `ds_latch::headline`: 9 lines.
 It has closure of `ds_app::desync_main` `answered`: 11 lines.
 """
 
-TREE["CONTRIBUTING.md"] = "# Contributing\n"
+TREE["docs/TUTORIAL.md"] = "# A tutorial\n"
+TREE["docs/desync.1"] = '.TH DESYNC 1 "" "Desync 0" "User Commands"\n'
+TREE["docs/BENCHMARKS.md"] = "# Benchmarks\n"
+TREE["docs/DECISIONS.md"] = "# Decisions\n"
+TREE["bench/report.py"] = "#!/usr/bin/env python3\n"
+
+TREE[
+    "docs/READING_PROOFS.md"
+] = """\
+# Reading proofs
+
+`crates/ds_latch/specs/Headline.antt` has
+
+```
+abbrev pub Doubled : ℕ → ℕ → Set
+Doubled n m = m = n + n
+```
+"""
+
+TREE[
+    "docs/crates.svg"
+] = """\
+<svg>
+<text>ds_latch</text>
+<text>ds_app</text>
+<text>ds_trial</text>
+</svg>
+"""
+
+TREE[
+    "CONTRIBUTING.md"
+] = """\
+# Contributing
+
+## Wrong bodies that always stand
+
+| Crate | Edit | What it does |
+|---|---|---|
+| `ds_latch` | `counts_once` | counts a latch once |
+"""
 
 TREE[
     "docs/MAP.md"

@@ -1,11 +1,15 @@
 -- Counts of faults since earlier, where they are as they were by then.
-use Rattle.std.proofs.Common.{◌≡◌, ◌∙◌, Result}
+use Rattle.std.proofs.Common.{◌≡◌, ◌∙◌, Result, Ok, Err}
 use Rattle.ds_stage.specs.declared.stop.Stop.{Stop}
+use Rattle.ds_stage.specs.declared.stop.Stop.TheVariants.{Refused, Unread, Unwritten, Memory}
 use Rattle.ds_stage.specs.Ends.{UnlessUnread, UnreadOr}
-use Rattle.ds_stage.proofs.Counts.{unread_or_so, well_read_so}
 
-pub unread_since : {T : Type 0} {old mid new : T} (stop : Stop) → mid ≡ old → UnreadOr stop (new ≡ mid) → UnreadOr stop (new ≡ old)
-unread_since {T} {old} {mid} {new} stop one is = unread_or_so {P = new ≡ mid} {Q = new ≡ old} stop (λ same. same ∙ one) is
+pub unread_since : {T : Type 0} {old mid : T} (new : T) (stop : Stop) → mid ≡ old → UnreadOr stop (new ≡ mid) → UnreadOr stop (new ≡ old)
+unread_since new (Refused line) one is = is ∙ one
+unread_since new (Unread line) one is = tt
+unread_since new Unwritten one is = is ∙ one
+unread_since new Memory one is = tt
 
-pub well_read_since : {A T : Type 0} {old mid new : T} (result : Result A Stop) → mid ≡ old → UnlessUnread result (new ≡ mid) → UnlessUnread result (new ≡ old)
-well_read_since {A} {T} {old} {mid} {new} result one is = well_read_so {P = new ≡ mid} {Q = new ≡ old} result (λ same. same ∙ one) is
+pub well_read_since : {A T : Type 0} {old mid : T} (new : T) (result : Result A Stop) → mid ≡ old → UnlessUnread result (new ≡ mid) → UnlessUnread result (new ≡ old)
+well_read_since new (Ok a) one is = is ∙ one
+well_read_since new (Err stop) one is = unread_since new stop one is

@@ -1,3 +1,4 @@
 pub mod InCopies
 pub mod Circles
 pub mod FaultLines
+pub mod FaultNumbers

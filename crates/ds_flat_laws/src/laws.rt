@@ -1,7 +1,7 @@
 //! Laws of the definitions, each the contract of a function that does nothing.
 ghost use Rattle.ds_flat_laws.specs.Circles.{RecursiveFaultsAreCircles};
 ghost use Rattle.ds_flat_laws.specs.InCopies.{FlatDesignsAreOfCopies};
-ghost use Rattle.ds_flat_laws.specs.Laws.{FaultsAreOnLines, FlatDesignsAreInRange};
+ghost use Rattle.ds_flat_laws.specs.Laws.{FaultsAreOnLines, FaultsHaveLines, FlatDesignsAreInRange};
 ghost use Rattle.ds_flat_laws.specs.Worked.{FlatDesignsAreWorked};
 
 /// Each number in the flat design of well formed models names what is there.
@@ -23,6 +23,11 @@ pub fn recursive_faults_are_circles()
 /// up.
 pub fn faults_are_on_lines()
     ensures { FaultsAreOnLines }
+{}
+
+/// Of the models of any text that is read no fault has line 0.
+pub fn faults_have_lines()
+    ensures { FaultsHaveLines }
 {}
 
 /// Short lists of models, worked by hand, give these flat designs and faults.

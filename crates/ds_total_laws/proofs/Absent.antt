@@ -9,12 +9,12 @@ use Rattle.ds_design.specs.Circuit.{Circuit, columns}
 use Rattle.ds_design.specs.Rows.{Rows}
 use Rattle.ds_latch.specs.Node.{Split, slackened}
 use Rattle.ds_latch.specs.Plan.{Planned}
-use Rattle.ds_marked.specs.Graph.{Graph}
 use Rattle.ds_cmd.specs.Line.{job_of}
 use Rattle.ds_cmd.specs.declared.job.Job.{Job}
 use Rattle.ds_cmd.specs.declared.job.Job.TheVariants.{Run, Clock, Check, Graph, Replay, Accept, Demo, Period}
 use Rattle.ds_replay.specs.ReplayText.{IsReplayText}
 use Rattle.ds_stage.specs.declared.stop.Stop.TheVariants.{Unwritten}
+use Rattle.ds_stage.specs.Ends.{RoseIn}
 use Rattle.ds_stage.specs.Stage.{OfFile, Stage, giving, then_stage}
 use Rattle.ds_stage.specs.Stages.{OfBytes, accepted_stage, design_stage, file_stage, lines_stage, netlist_stage, report_stage, rows_stage, trace_stage, vectors_stage}
 use Rattle.ds_stage.specs.StreamStage.{gives_held, leaves_held, most_vectors, streamed_stage}
@@ -194,8 +194,8 @@ module _ (call : Call) (job : Job) (is_job : job_of call.words ≡ Ok job) (lack
       elim stopped.is_text [
         | inl means ↦ (job_mute call.held job lacks).gives stopped.text (subst (λ (j : Job). (stages_of call.held j).means stopped.text) same means)
         | inr leaves ↦
-            (job_mute call.held job lacks).writes _ stopped.text
-            (subst (λ (j : Job). (stages_of call.held j).leaves _ Unwritten stopped.text) same leaves)
+            (job_mute call.held job lacks).writes (RoseIn call.before call.now) stopped.text
+            (subst (λ (j : Job). (stages_of call.held j).leaves (RoseIn call.before call.now) Unwritten stopped.text) same leaves)
       ]
 
 -- the statuses other than 1, 3 and 4 are excluded

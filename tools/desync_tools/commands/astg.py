@@ -10,7 +10,8 @@ rate` refuse. The same marked graph is printed in the form that they read:
 - a marking may stand on several lines, and blanks may stand in an entry, as in <a+, b+>.
 
 Each change is named on the error output. A graph with a choice or a merge is no marked graph: it
-is refused with each such place. From the top of the repository:
+is refused with each such place. So are a marking of what is not there, a transition of a signal
+that is not declared, and a graph of states. From the top of the repository:
 
     tools/astg tools/tests/handshake.g > handshake.g
 """
@@ -33,6 +34,8 @@ def words(name: str) -> Parser:
 def main(argv: list[str]) -> int:
     asked = words(argv[0]).parse_args(argv[1:])
     graph = Literature(text_of(asked.graph))
+    if not graph.arcs:
+        raise BadText("the text has no arcs")
     faults = list(graph.faults())
     if faults:
         raise BadText("no marked graph: %s" % "; ".join(faults))

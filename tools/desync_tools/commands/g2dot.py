@@ -15,6 +15,9 @@ With --orders it has each signal with its two events in place of that, `+` where
 `-` where it closes, each dummy, and an arrow for each order; one with a token is red and has a dot.
 Some twenty clusters are as many as one can read there.
 
+With --critical the orders of the slowest cycle are red, and the others the darker the less margin
+they have, by what `tools/critical` printed with `--most 0`.
+
 The text is to be one that `desync graph` writes, or one that `desync accept` takes.
 """
 
@@ -22,12 +25,13 @@ from __future__ import annotations
 
 from typing import Iterator, Optional
 
-from desync_tools.clusters import clusters, take_mode
-from desync_tools.command import Parser, parser, put
+from desync_tools.clusters import Split, take_groups, take_mode
+from desync_tools.command import Parser, as_installed, parser, put
 from desync_tools.graphs import EVENT, NODE, Graph, Pair, read_graph
 from desync_tools.groups import grouped, spans
-from desync_tools.netlist import Netlist, read_netlist
-from desync_tools.text import BadText, shown, text_of
+from desync_tools.heat import CYCLE, Heat
+from desync_tools.netlist import read_netlist
+from desync_tools.text import BadText, file_text, shown, text_of
 
 MANY = 200
 QUICK = "splines=line; nslimit=0.2; nslimit1=0.2; mclimit=0.05; ranksep=2;"
@@ -48,12 +52,12 @@ def plain(text: str) -> str:
     return text.replace("&", "&amp;").replace("<", "&lt;").replace(">", "&gt;")
 
 
-def table(node: str, head: str, cells: str) -> str:
+def table(node: str, head: str, cells: str, looks: str = "") -> str:
     """A node as a box with a head, where there is one, and a row of cells."""
     if head:
         head = '<tr><td colspan="2" border="0">%s</td></tr>' % plain(head)
-    form = '<table border="1" cellborder="1" cellspacing="2">%s<tr>%s</tr></table>'
-    return "  %s [label=<%s>];" % (quoted(node), form % (head, cells))
+    form = '<table border="1"%s cellborder="1" cellspacing="2">%s<tr>%s</tr></table>'
+    return "  %s [label=<%s>];" % (quoted(node), form % (looks, head, cells))
 
 
 def at(node: str, side: str) -> str:
@@ -71,11 +75,11 @@ def ends(graph: Graph) -> list[str]:
     return [str(number) for number in range(count)]
 
 
-def titles(graph: Graph, netlist: Optional[Netlist], mode: str) -> dict[str, str]:
+def titles(graph: Graph, split: Optional[Split], mode: str) -> dict[str, str]:
     """The head of each box, by the number of its cluster."""
-    if netlist is None:
+    if split is None:
         return {number: "" for number in ends(graph)}
-    found = clusters(netlist, mode)
+    found = split.clusters
     if set(ends(graph)) != {str(number) for number in range(len(found))}:
         told = (len(ends(graph)), len(found), mode)
         raise BadText("the graph has %d clusters, the netlist %d by --clusters %s" % told)
@@ -106,7 +110,9 @@ def first_ways(edges: list[Pair]) -> set[Pair]:
     return ways
 
 
-def data(graph: Graph, heads: dict[str, str], is_apart: bool) -> Iterator[str]:
+def data(
+    graph: Graph, heads: dict[str, str], is_apart: bool, heat: Optional[Heat]
+) -> Iterator[str]:
     """The picture of the clusters and the data edges; of many, few say where the boxes stand."""
     found = {pair: names for pair, names in graph.data_edges() if pair[0][0] != "M"}
     groups = grouped([] if is_apart else list(found), heads)
@@ -126,12 +132,17 @@ def data(graph: Graph, heads: dict[str, str], is_apart: bool) -> Iterator[str]:
     yield "  {rank=source; IN} {rank=sink; OUT}"
     for first, numbers in groups.items():
         head = spans([heads[number] for number in numbers])
-        yield table("C" + first, head, "".join(cell % spans(numbers) for cell in CELLS))
+        is_hot = heat is not None and (heat.has("M" + first) or heat.has("S" + first))
+        looks = ' color="%s"' % CYCLE if is_hot else ""
+        yield table("C" + first, head, "".join(cell % spans(numbers) for cell in CELLS), looks)
     for source, target in edges:
-        looks = [] if (source, target) in ways else ["constraint=false"]
+        arrow = [] if (source, target) in ways else ["constraint=false"]
+        if heat is not None:
+            both = ((source + "+", target + "+"), (target + "-", source + "+"))
+            arrow.append(heat.looks(both))
         if names[source, target]:
-            looks.append("fontsize=9 label=%s" % quoted(" ".join(names[source, target])))
-        yield "  %s -> %s%s;" % (at(source, "e"), at(target, "w"), bracketed(looks))
+            arrow.append("fontsize=9 label=%s" % quoted(" ".join(names[source, target])))
+        yield "  %s -> %s%s;" % (at(source, "e"), at(target, "w"), bracketed(arrow))
     yield "}"
 
 
@@ -170,16 +181,19 @@ def head_of(node: str, heads: dict[str, str]) -> str:
     return " ".join(filter(None, (node, heads.get(node[1:], "") if has_more else "")))
 
 
-def looks_of(is_own: bool, tokens: int) -> Iterator[str]:
-    """How the arrow of an order is drawn."""
+def looks_of(is_own: bool, tokens: int, hot: str) -> Iterator[str]:
+    """How the arrow of an order is drawn, or how it is told to be drawn."""
     if is_own:
         yield OWN
+    yield from [hot] * bool(hot)
     if tokens:
-        yield WITH_TOKENS
+        yield "constraint=false" if hot else WITH_TOKENS
         yield 'label="%s"' % (TOKEN * tokens if tokens < 4 else "%s %d" % (TOKEN, tokens))
 
 
-def orders(graph: Graph, heads: dict[str, str], hides_own: bool) -> Iterator[str]:
+def orders(
+    graph: Graph, heads: dict[str, str], hides_own: bool, heat: Optional[Heat]
+) -> Iterator[str]:
     """The picture of the events and the orders."""
     cells = '<td port="open">+</td><td port="close">&#8722;</td>'
     yield "digraph %s {" % quoted(graph.name)
@@ -193,7 +207,8 @@ def orders(graph: Graph, heads: dict[str, str], hides_own: bool) -> Iterator[str
     for source, target, tokens in graph.arcs():
         is_own = signal_of(source)[0] == signal_of(target)[0] is not None
         if not (is_own and hides_own):
-            looks = bracketed(list(looks_of(is_own, tokens)))
+            hot = "" if heat is None else heat.looks([(source, target)])
+            looks = bracketed(list(looks_of(is_own, tokens, hot)))
             yield "  %s -> %s%s;" % (end_of(source), end_of(target), looks)
     yield "}"
 
@@ -203,9 +218,12 @@ def words(name: str) -> Parser:
     taken.add_argument("graph", nargs="?", help="the text; the standard input where it is left out")
     taken.add_argument("--net", metavar="NET", help="the netlist, for the names of registers")
     take_mode(taken)
+    take_groups(taken)
     taken.add_argument("--orders", action="store_true", help="events and orders")
     says = "draw each cluster by itself"
     taken.add_argument("--apart", action="store_true", help=says)
+    says = "what tools/critical printed: its cycle in red, orders with little margin dark"
+    taken.add_argument("--critical", metavar="FILE", help=as_installed(name, says))
     says = "with --orders: leave the two orders between the events of one node out"
     taken.add_argument("--hide-own", action="store_true", help=says)
     return taken
@@ -219,9 +237,14 @@ def main(argv: list[str]) -> int:
     graph = read_graph(text_of(asked.graph))
     if not asked.orders and not any(map(NODE.match, graph.nodes)):
         raise BadText("the graph has no nodes of a netlist: --orders shows its events")
-    heads = titles(graph, None if asked.net is None else read_netlist(asked.net), asked.clusters)
-    lines = (
-        orders(graph, heads, asked.hide_own) if asked.orders else data(graph, heads, asked.apart)
-    )
+    split = None
+    if asked.net is not None:
+        split = Split(read_netlist(asked.net), asked.clusters, asked.groups)
+    heads = titles(graph, split, asked.clusters)
+    heat = None if asked.critical is None else Heat(file_text(asked.critical))
+    if asked.orders:
+        lines = orders(graph, heads, asked.hide_own, heat)
+    else:
+        lines = data(graph, heads, asked.apart or heat is not None, heat)
     put("utf-8", map(shown, lines))
     return 0

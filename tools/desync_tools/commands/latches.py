@@ -21,7 +21,7 @@ import argparse
 import re
 from typing import Iterator
 
-from desync_tools.clusters import Cluster, clusters, take_mode
+from desync_tools.clusters import Cluster, Split, take_groups, take_mode
 from desync_tools.command import Parser, parser, put
 from desync_tools.graphs import Graph, read_graph
 from desync_tools.netlist import Net, Netlist, Table, printed, read_netlist
@@ -39,6 +39,11 @@ def word_of(text: str) -> str:
     which no name of a netlist has."""
     kept = "".join(c if "!" <= c <= "~" and c != "`" else "#%x#" % ord(c) for c in text)
     return "\\%s " % kept
+
+
+def comment(text: str) -> str:
+    """A name in a comment: none of its bytes ends the line, or the comment."""
+    return "".join(c if " " <= c <= "~" else "#%x#" % ord(c) for c in text)
 
 
 def net(one: Net) -> str:
@@ -145,7 +150,7 @@ def process(run: Run, node: str) -> Iterator[str]:
     yield "  end"
 
 
-def module(run: Run, found: list[Cluster], has_dump: bool) -> Iterator[str]:
+def module(run: Run, split: Split, has_dump: bool) -> Iterator[str]:
     """The lines of the module. It ends in any case, long after the last event that may fire."""
     netlist, graph, vectors = run.netlist, run.graph, run.vectors
     yield "`timescale 1ns/1ns"
@@ -164,8 +169,10 @@ def module(run: Run, found: list[Cluster], has_dump: bool) -> Iterator[str]:
         yield "  reg %s= 0; integer %s= 0, %s= 0;" % names
     yield from stored(netlist)
     yield from logic(netlist)
-    yield from latches(netlist, found)
+    yield from latches(netlist, split.clusters)
+    held = split.names()
     for node in graph.nodes:
+        yield "  // %s" % " ".join(dict.fromkeys((node, comment(held[node]))))
         yield from process(run, node)
     latest = 10 * (2 * len(graph.nodes) * run.turns + 1) * (QUICKEST + SLOW)
     yield "  initial #(64'd%d) $finish(0);" % latest
@@ -193,6 +200,7 @@ def words(name: str) -> Parser:
     taken.add_argument("graph", help="its controller graph")
     taken.add_argument("vectors", help="the vectors")
     take_mode(taken)
+    take_groups(taken)
     says = "the number that the delays come from; 0 where it is left out"
     taken.add_argument("--seed", type=int, default=0, help=says)
     taken.add_argument("--dump", action="store_true", help="write a waveform, latches.vcd, too")
@@ -202,9 +210,9 @@ def words(name: str) -> Parser:
 def main(argv: list[str]) -> int:
     asked: argparse.Namespace = words(argv[0]).parse_args(argv[1:])
     netlist = read_netlist(asked.netlist, True)
-    found = clusters(netlist, asked.clusters)
-    graph = checked(read_graph(text_of(asked.graph)), found, asked.clusters)
+    split = Split(netlist, asked.clusters, asked.groups)
+    graph = checked(read_graph(text_of(asked.graph)), split.clusters, asked.clusters)
     vectors = list(vectors_of(text_of(asked.vectors), len(netlist.columns)))
     run = Run(netlist, graph, vectors, asked.seed)
-    put("latin-1", module(run, found, asked.dump))
+    put("latin-1", module(run, split, asked.dump))
     return 0

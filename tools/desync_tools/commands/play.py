@@ -12,6 +12,9 @@ no logic: the values that it shows are those of the trace. The graph is to be th
 run fired, and without slack; a data edge is where both of its orders stand there as arcs, and an
 order that is given by a walk alone shows none. Its events are those of the nodes alone. There are
 200 nodes and 20,000 firings at most.
+
+With --times the page goes by the times that `desync times` has worked out from delays, with the
+speed that the reader sets; the run needs no log then, so a trace will do.
 """
 
 from __future__ import annotations
@@ -21,13 +24,14 @@ import os
 from typing import Any, Iterator, Optional, Sequence
 
 from desync_tools.buses import buses
-from desync_tools.clusters import Cluster, clusters, take_mode
+from desync_tools.clusters import Cluster, Split, take_groups, take_mode
 from desync_tools.command import Parser, parser, put
 from desync_tools.graphs import Arc, Graph, read_graph
 from desync_tools.layers import places
 from desync_tools.logs import Line, is_firing, split_run
 from desync_tools.netlist import Net, Netlist, read_netlist
 from desync_tools.text import BadText, shown, text_of
+from desync_tools.times import firings_of
 from desync_tools.traces import Turn, fitting, vectors_beside
 
 PARTS_FOLDER = os.path.join(os.path.dirname(os.path.realpath(__file__)), "..", "page")
@@ -51,18 +55,19 @@ def nodes_of(found: list[Cluster], graph: Graph, mode: str) -> list[str]:
     return nodes
 
 
-def events_of(log: list[Line], arcs: list[Arc], nodes: list[str], turns: int) -> Iterator[str]:
-    """The events of a log, each of which may fire where it stands."""
-    if len(log) > MOST_FIRINGS:
-        raise BadText("%d firings (limit %d)" % (len(log), MOST_FIRINGS))
+def events_of(run: Run, arcs: list[Arc], nodes: list[str]) -> Iterator[str]:
+    """The events of the log of a run, each of which may fire where it stands."""
+    turns = len(run.rows) - 1
+    if len(run.log) > MOST_FIRINGS:
+        raise BadText("%d firings (limit %d)" % (len(run.log), MOST_FIRINGS))
     counts = {node + sign: 0 for node in nodes for sign in "+-"}
     into: dict[str, list[tuple[str, int]]] = {event: [] for event in counts}
     for source, target, tokens in arcs:
         into[target].append((source, tokens))
-    for number, firing in log:
+    for number, firing in run.log:
         why = refusal(firing, counts, into, turns)
         if why:
-            raise BadText("line %d of the run: %s" % (number, why))
+            raise BadText("line %d of the %s: %s" % (number, run.kind, why))
         counts[firing[0]] += 1
         yield firing[0]
 
@@ -116,9 +121,20 @@ class Run:
     """A run of a netlist: the rows of its trace, its log and its vectors."""
 
     def __init__(self, netlist: Netlist, text: str, vectors: Optional[str]) -> None:
-        trace, self.log = split_run(text)
-        self.netlist, self.rows = netlist, fitting(netlist, trace)
+        self.netlist, self.text, self.kind = netlist, text, "run"
+        self.log: list[Line] = []
+        self.times: Optional[list[int]] = None
+        self.rows = fitting(netlist, text)
         self.vectors = [] if vectors is None else vectors_beside(netlist, vectors, self.rows)
+
+    def take_log(self, times: Optional[str]) -> None:
+        """Takes the firings from behind the trace or, by their times, from a file."""
+        if times is None:
+            _, self.log = split_run(self.text)
+            return
+        firings = firings_of(text_of(times))
+        self.kind, self.times = "times", [firing.time for firing in firings]
+        self.log = [(firing.line, [firing.event, str(firing.turn)]) for firing in firings]
 
 
 def values_of(run: Run, found: list[Cluster]) -> tuple[dict[str, str], dict[str, list[str]]]:
@@ -132,20 +148,20 @@ def values_of(run: Run, found: list[Cluster]) -> tuple[dict[str, str], dict[str,
     return titles, values
 
 
-def model(run: Run, graph: Graph, mode: str) -> dict[str, Any]:
+def model(run: Run, graph: Graph, split: Split, mode: str) -> dict[str, Any]:
     """What the page is told."""
-    turns, found = len(run.rows) - 1, clusters(run.netlist, mode)
+    found = split.clusters
     nodes, arcs = nodes_of(found, graph, mode), sorted(graph.arcs())
     edges = sorted(pair for pair, _ in graph.data_edges())
     titles, values = values_of(run, found)
-    events = list(events_of(run.log, arcs, nodes, turns))
+    events = list(events_of(run, arcs, nodes))
     place, size = places(edges)
     for node in nodes:
         if node not in place:
             raise BadText("the graph lacks the orders of %s" % node)
-    return {
+    told = {
         "name": shown(run.netlist.name),
-        "turns": turns,
+        "turns": len(run.rows) - 1,
         "nodes": nodes,
         "titles": titles,
         "places": place,
@@ -155,6 +171,7 @@ def model(run: Run, graph: Graph, mode: str) -> dict[str, Any]:
         "arcs": [list(arc) for arc in arcs],
         "log": events,
     }
+    return told if run.times is None else dict(told, times=run.times)
 
 
 def read_part(name: str) -> str:
@@ -181,6 +198,9 @@ def words(name: str) -> Parser:
     taken.add_argument("run", nargs="?", help="what desync run --log printed")
     taken.add_argument("--vectors", metavar="FILE", help="the vectors of the run, to be shown too")
     take_mode(taken)
+    take_groups(taken)
+    says = "what desync times printed, to go by its times"
+    taken.add_argument("--times", metavar="FILE", help=says)
     return taken
 
 
@@ -189,5 +209,7 @@ def main(argv: list[str]) -> int:
     netlist = read_netlist(asked.netlist)
     graph = read_graph(text_of(asked.graph))
     run = Run(netlist, text_of(asked.run), asked.vectors)
-    put("utf-8", [page(model(run, graph, asked.clusters))])
+    run.take_log(asked.times)
+    split = Split(netlist, asked.clusters, asked.groups)
+    put("utf-8", [page(model(run, graph, split, asked.clusters))])
     return 0

@@ -3,12 +3,16 @@
 The first line names the model that is taken for the design: the first one of the file. A line of
 vectors has one character per column. A line of the trace has the outputs, and then the registers.
 The netlist is to be one that `desync check` accepts.
+
+With --clusters or --groups stands behind it a line for each cluster, with its number, its master
+and slave latch, and its registers: `cluster 33 M33 S33: pc[3:0]`.
 """
 
 from __future__ import annotations
 
 from typing import Iterator, Optional
 
+from desync_tools.clusters import Split, spans, take_groups, take_mode
 from desync_tools.command import Parser, parser, put
 from desync_tools.netlist import Net, printed, read_netlist
 
@@ -26,6 +30,14 @@ def listed(model: str, kinds: dict[str, list[Net]], only: Optional[str]) -> Iter
                 yield "  %d %s" % (place, printed(net))
 
 
+def cluster_lines(split: Split) -> Iterator[str]:
+    """The clusters."""
+    for number in range(len(split.clusters)):
+        registers = split.registers(number)
+        told = spans(registers, len(registers))
+        yield "cluster %d M%d S%d: %s" % (number, number, number, told)
+
+
 def words(name: str) -> Parser:
     taken = parser(name, __doc__)
     taken.add_argument("netlist", help="a netlist in BLIF")
@@ -34,16 +46,24 @@ def words(name: str) -> Parser:
         choices=("columns", "outputs", "registers"),
         help="print the names of one kind alone, one a line",
     )
+    take_mode(taken, None)
+    take_groups(taken)
     return taken
 
 
 def main(argv: list[str]) -> int:
-    asked = words(argv[0]).parse_args(argv[1:])
+    taken = words(argv[0])
+    asked = taken.parse_args(argv[1:])
+    if asked.only and (asked.clusters or asked.groups):
+        taken.error("--only does not go with --clusters and --groups")
     netlist = read_netlist(asked.netlist)
     kinds = {
         "columns": netlist.columns,
         "outputs": netlist.outputs,
         "registers": netlist.registers,
     }
-    put("latin-1", listed(netlist.name, kinds, asked.only))
+    lines = list(listed(netlist.name, kinds, asked.only))
+    if asked.clusters or asked.groups:
+        lines += cluster_lines(Split(netlist, asked.clusters or "each", asked.groups))
+    put("latin-1", lines)
     return 0

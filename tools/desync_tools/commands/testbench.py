@@ -1,11 +1,13 @@
 """Writes a test bench in Verilog, by which a simulator says whether a netlist is its source.
 
 It gives the vectors to the module --top of the source, a turn each, and prints `TURN OUTPUTS`: what
-`desync clock NET VEC` prints, without the registers and the last line. So `cmp` decides:
+`desync clock NET VEC` prints, without the registers and the last line. So `tools/compare` decides,
+and takes an `x` of the source for any value:
 
     tools/testbench counter.blif counter.vec --top counter > counter_tb.v
     iverilog -o counter_tb counter_tb.v counter.v && vvp -n counter_tb > source
-    desync clock counter.blif counter.vec | grep -v ^end | cut -d' ' -f1,2 | cmp - source
+    desync clock counter.blif counter.vec > counter.trace
+    tools/compare counter.trace source --net counter.blif --x second
 
 The names of the netlist's inputs and outputs are to be those of the ports, as Yosys writes them.
 Where --clock is left out, the clock is that of the netlist.

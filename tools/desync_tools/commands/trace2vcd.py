@@ -5,6 +5,14 @@ waveform. Turn k stands at the time k: the outputs in that turn, and the registe
 registers of the `end` line stand at the time after the last turn, where the outputs are unknown.
 With --vectors the columns are there too. A value is `0`, `1` or `x`, there as in the trace.
 
+With --times the waveform is one of the latches, in the units of the delays by which `desync times`
+has worked out the times: each node is 1 while it is open, each register changes when its slave
+opens, each output when OUT opens, and each column when IN opens. A node that opens and closes at
+one time has a pulse without width. From the top of the repository:
+
+    desync times examples/toggle.blif examples/toggle.delays 4 > toggle.times
+    tools/trace2vcd examples/toggle.blif examples/toggle.trace --times toggle.times > toggle.vcd
+
 Bits of one bus that stand beside one another are one variable, the first of them its rightmost bit:
 `q[0] q[1]` is `q [1:0]`, and `q[1] q[0]` is `q [0:1]`. A dot in a name opens a scope: `u5.f.a` is
 the variable `a` of the scope `f` in the scope `u5`.
@@ -12,131 +20,51 @@ the variable `a` of the scope `f` in the scope `u5`.
 
 from __future__ import annotations
 
-from typing import Iterator, Optional, Sequence
+from typing import Iterator, Optional
 
-from desync_tools.buses import buses
+from desync_tools.clusters import Split, take_groups, take_mode
 from desync_tools.command import Parser, parser, put
-from desync_tools.netlist import Net, Netlist, read_netlist
-from desync_tools.text import text_of
+from desync_tools.netlist import Netlist, read_netlist
+from desync_tools.text import BadText, text_of
+from desync_tools.times import Firing, alternate, firings_of
 from desync_tools.traces import Turn, fitting, vectors_beside
-
-FIRST, LAST = 33, 126
-
-
-def code(number: int) -> str:
-    """A short name of a variable, as VCD wants it."""
-    text = ""
-    while True:
-        number, digit = divmod(number, LAST - FIRST + 1)
-        text += chr(FIRST + digit)
-        if not number:
-            return text
-        number -= 1
+from desync_tools.waves import Parted, Scope, code, shown
 
 
-def shown(name: str) -> str:
-    """A name that a reader of waveforms does not take for a command."""
-    return "\\" + name if name.startswith("$") else name
+class Scopes:
+    """The variables of a netlist: its columns where vectors are there, outputs and registers."""
 
+    def __init__(self, netlist: Netlist, has_vectors: bool) -> None:
+        self.name = netlist.name or "top"
+        columns = netlist.columns if has_vectors else []
+        self.column = Scope("columns", columns, 0)
+        self.output = Scope("outputs", netlist.outputs, len(columns))
+        first = len(columns) + len(netlist.outputs)
+        self.register = Scope("registers", netlist.registers, first)
+        # The first code that is free.
+        self.free = first + len(netlist.registers)
 
-def path_of(name: str) -> list[str]:
-    """The parts of a name between dots; a name with an empty part is one."""
-    parts = name.split(".")
-    return parts if all(parts) else [name]
-
-
-class Part:
-    """A scope as it is declared: its variables, and the scopes in it by their names."""
-
-    def __init__(self, name: str) -> None:
-        self.name = name
-        self.variables: list[str] = []
-        self.parts: dict[str, Part] = {}
-
-    def part_at(self, path: list[str]) -> Part:
-        """The scope at the end of a path."""
-        found = self
-        for name in path:
-            found = found.parts.setdefault(name, Part(name))
-        return found
-
-    def declared(self) -> Iterator[str]:
-        """The lines that declare it, with what is in it; they may be nested deeply."""
-        waiting: list[tuple[Part, bool]] = [(self, False)]
-        while waiting:
-            part, is_declared = waiting.pop()
-            if is_declared:
-                yield "$upscope $end"
-                continue
-            yield "$scope module %s $end" % shown(part.name)
-            yield from part.variables
-            waiting.append((part, True))
-            waiting.extend((one, False) for one in reversed(list(part.parts.values())))
-
-
-class Scope:
-    """The variables of some nets, their codes, and the row that was seen last."""
-
-    def __init__(self, name: str, nets: Sequence[Net], first: int) -> None:
-        self.name, self.size = name, len(nets)
-        self.buses = list(buses(nets))
-        self.codes = [code(first + bus.first) for bus in self.buses]
-        self.old = "?" * self.size
-        self.wide = [pair for pair in zip(self.buses, self.codes) if pair[0].width > 1]
-        self.runs = list(self.runs_of_single())
-
-    def runs_of_single(self) -> Iterator[tuple[int, list[str]]]:
-        """(first, codes) of each run of variables of one bit."""
-        first = 0
-        codes: list[str] = []
-        for bus, own in zip(self.buses, self.codes):
-            if bus.width > 1:
-                yield first, codes
-                first, codes = bus.first + bus.width, []
-            else:
-                codes.append(own)
-        yield first, codes
-
-    def declared(self) -> Iterator[str]:
-        """The lines that declare it."""
-        whole = Part(self.name)
-        for bus, own in zip(self.buses, self.codes):
-            *path, name = path_of(bus.name)
-            span = " " + bus.span() if bus.span() else ""
-            line = "$var wire %d %s %s%s $end" % (bus.width, own, shown(name), span)
-            whole.part_at(path).variables.append(line)
-        yield from whole.declared()
-
-    def changes(self, new: str) -> list[str]:
-        """The variables whose values are not as they were."""
-        old, self.old = self.old, new
-        if old == new:
-            return []
-        found = []
-        for bus, own in self.wide:
-            if old[bus.first : bus.first + bus.width] != new[bus.first : bus.first + bus.width]:
-                found.append("b%s %s" % (bus.bits(new), own))
-        for first, codes in self.runs:
-            pairs = zip(old[first : first + len(codes)], new[first : first + len(codes)], codes)
-            found += [bit + own for before, bit, own in pairs if bit != before]
-        return found
+    def declared(self, nodes: list[str]) -> Iterator[str]:
+        """The head of a waveform."""
+        yield "$timescale 1ns $end"
+        yield "$scope module %s $end" % shown(self.name)
+        if nodes:
+            yield "$scope module nodes $end"
+            for place, node in enumerate(nodes):
+                yield "$var wire 1 %s %s $end" % (code(self.free + place), node)
+            yield "$upscope $end"
+        for scope in (self.column, self.output, self.register):
+            yield from scope.declared()
+        yield "$upscope $end"
+        yield "$enddefinitions $end"
 
 
 def waveform(netlist: Netlist, rows: list[Turn], vectors: Optional[list[str]]) -> Iterator[str]:
     """The waveform: its head, and a text for each turn."""
-    columns = netlist.columns if vectors is not None else []
-    outputs_at = len(columns)
-    registers_at = outputs_at + len(netlist.outputs)
-    column = Scope("columns", columns, 0)
-    output = Scope("outputs", netlist.outputs, outputs_at)
-    register = Scope("registers", netlist.registers, registers_at)
-    yield "$timescale 1ns $end"
-    yield "$scope module %s $end" % shown(netlist.name or "top")
-    for scope in (column, output, register):
-        yield from scope.declared()
-    yield "$upscope $end"
-    yield "$enddefinitions $end"
-    values = (vectors or [""] * (len(rows) - 1)) + ["x" * len(columns)]
+    scopes = Scopes(netlist, vectors is not None)
+    column, output, register = scopes.column, scopes.output, scopes.register
+    yield from scopes.declared([])
+    values = (vectors or [""] * (len(rows) - 1)) + ["x" * column.size]
     for turn, (outputs, registers) in enumerate(rows):
         outputs = "x" * output.size if outputs is None else outputs
         changed = column.changes(values[turn]) + output.changes(outputs)
@@ -144,11 +72,74 @@ def waveform(netlist: Netlist, rows: list[Turn], vectors: Optional[list[str]]) -
     yield "#%d" % len(rows)
 
 
+class Timed:
+    """A waveform by the times of firings."""
+
+    def __init__(self, split: Split, rows: list[Turn], vectors: Optional[list[str]]) -> None:
+        self.split, self.rows, self.vectors = split, rows, vectors
+        self.scopes = Scopes(split.netlist, vectors is not None)
+        starts = ("x" * self.scopes.column.size, "x" * self.scopes.output.size, rows[0][1])
+        scopes = (self.scopes.column, self.scopes.output, self.scopes.register)
+        self.column, self.output, self.register = map(Parted, scopes, starts)
+        self.codes = {node: code(self.scopes.free + at) for at, node in enumerate(split.nodes)}
+
+    def lines(self, firings: list[Firing]) -> Iterator[str]:
+        """The waveform: its head, and a line for each time and each change."""
+        yield from self.scopes.declared(self.split.nodes)
+        yield "#0"
+        yield from ("0" + own for own in self.codes.values())
+        for part in (self.column, self.output, self.register):
+            yield from map(part.line, range(len(part.scope.buses)))
+        now = 0
+        for firing in firings:
+            if firing.time > now:
+                now = firing.time
+                yield "#%d" % now
+            yield from self.changes(firing)
+        yield "#%d" % (now + 1)
+
+    def changes(self, firing: Firing) -> Iterator[str]:
+        """The variables that change with a firing."""
+        node, is_opening = firing.event[:-1], firing.event[-1] == "+"
+        if node not in self.codes:
+            return  # A signal or a dummy of a graph of the user's.
+        yield "%d%s" % (is_opening, self.codes[node])
+        if is_opening and node == "IN" and self.vectors is not None:
+            row = self.vectors[firing.turn - 1]
+            yield from self.column.taken(range(len(row)), row)
+        elif is_opening and node == "OUT":
+            row = self.rows[firing.turn - 1][0] or ""
+            yield from self.output.taken(range(len(row)), row)
+        elif is_opening and node[0] == "S":
+            places = self.split.clusters[int(node[1:])].places
+            yield from self.register.taken(places, self.rows[firing.turn][1])
+
+
+def fitting_firings(text: str, split: Split, turns: int) -> list[Firing]:
+    """The firings of a text, which are to be those of the nodes of a netlist and a trace."""
+    firings = firings_of(text)
+    known = {firing.event[:-1] for firing in firings}
+    for node in split.nodes:
+        if node not in known:
+            raise BadText("the times have no %s, the netlist in these clusters has" % node)
+    for node in sorted(known - set(split.nodes)):
+        if node[0] in "MS" and node[1:].isdigit():
+            raise BadText("the times have %s, the netlist in these clusters has not" % node)
+    most = max(firing.turn for firing in firings)
+    if most > turns:
+        raise BadText("the times are of %d turns, the trace of %d" % (most, turns))
+    alternate(firings, split.nodes)
+    return firings
+
+
 def words(name: str) -> Parser:
     taken = parser(name, __doc__)
     taken.add_argument("netlist", help="the netlist in BLIF")
     taken.add_argument("trace", nargs="?", help="what desync run or clock printed")
     taken.add_argument("--vectors", metavar="FILE", help="the vectors of the run")
+    taken.add_argument("--times", metavar="FILE", help="what desync times printed")
+    take_mode(taken)
+    take_groups(taken)
     return taken
 
 
@@ -159,5 +150,10 @@ def main(argv: list[str]) -> int:
     vectors = None
     if asked.vectors is not None:
         vectors = vectors_beside(netlist, asked.vectors, rows)
-    put("latin-1", waveform(netlist, rows, vectors))
+    if asked.times is None:
+        put("latin-1", waveform(netlist, rows, vectors))
+        return 0
+    split = Split(netlist, asked.clusters, asked.groups)
+    firings = fitting_firings(text_of(asked.times), split, len(rows) - 1)
+    put("latin-1", Timed(split, rows, vectors).lines(firings))
     return 0

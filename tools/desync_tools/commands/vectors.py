@@ -1,13 +1,21 @@
-"""Makes vectors for a netlist, at random from a number: the same number gives the same vectors.
+"""Makes vectors for a netlist: at random from a number, or out of a recorded test bench.
 
-Each column is 1 in half of the turns; --p says in how many for a bus or a net of it, and --set
-gives it a value in one turn, the leftmost bit first. Both may stand several times:
+The same number gives the same vectors. Each column is 1 in half of the turns; --p says in how many
+for a bus or a net of it, and --set gives it a value in one turn, the leftmost bit first. Both may
+stand several times:
 
     tools/vectors counter.blif --turns 100 --seed 1 --p reset=0.03 --set reset=1@0
+
+With --from a waveform (VCD) of a test bench gives them: the values of the columns, by their names,
+just before each edge of --clock at which the registers take theirs. `z` is `x`, and values with
+which the waveform begins are no edge:
+
+    tools/vectors counter.blif --from tb.vcd --clock clk --scope tb.dut
 """
 
 from __future__ import annotations
 
+import argparse
 import random
 import re
 from typing import Any, Iterator
@@ -15,7 +23,8 @@ from typing import Any, Iterator
 from desync_tools.buses import buses
 from desync_tools.command import Parser, parser, put
 from desync_tools.netlist import Netlist, printed, read_netlist
-from desync_tools.text import BadText, as_bytes
+from desync_tools.text import BadText, as_bytes, file_text
+from desync_tools.vcd import Wave, take_wave
 
 MOST = 65536
 SHARE = re.compile(r"^(.+)=(\d*\.?\d+)$")
@@ -72,26 +81,62 @@ def vectors(
         yield "".join(given.get((turn, place), bit) for place, bit in enumerate(bits)) or "-"
 
 
+def sampled(netlist: Netlist, asked: argparse.Namespace) -> Iterator[str]:
+    """The values of the columns in a waveform before each edge of its clock."""
+    wave = Wave(as_bytes(asked.wave), file_text(asked.wave), asked.scope)
+    names = [printed(net) for net in netlist.columns]
+    rows = wave.turns(names, asked.clock, netlist.edge)
+    most = MOST if asked.turns is None else asked.turns
+    for turn, row in enumerate(rows):
+        if turn == most:
+            if asked.turns is None:
+                raise BadText("more than %d edges of %s: --turns" % (MOST, asked.clock))
+            return
+        yield row or "-"
+
+
+def drawn(netlist: Netlist, asked: argparse.Namespace) -> Iterator[str]:
+    """Vectors at random."""
+    given = values(netlist, asked.set, asked.turns)
+    return vectors(shares(netlist, asked.p), given, asked.turns, asked.seed)
+
+
 def words(name: str) -> Parser:
     taken = parser(name, __doc__)
     taken.add_argument("netlist", help="the netlist in BLIF")
-    taken.add_argument("--turns", type=int, required=True, help="how many vectors, 65536 at most")
-    taken.add_argument("--seed", type=int, required=True, help="the number that they come from")
-    says = "the share of ones"
+    taken.add_argument("--turns", type=int, help="how many vectors, %d at most" % MOST)
+    taken.add_argument("--seed", type=int, help="the number that they come from")
     many: dict[str, Any] = {"action": "append", "default": [], "type": as_bytes}
-    taken.add_argument("--p", metavar="NAME=P", help=says, **many)
+    taken.add_argument("--p", metavar="NAME=P", help="the share of ones", **many)
     says = "the value in one turn"
     taken.add_argument("--set", metavar="NAME=BITS@TURN", help=says, **many)
+    says = "a recorded test bench, in place of --seed"
+    taken.add_argument("--from", dest="wave", metavar="FILE", help=says)
+    take_wave(taken)
     return taken
+
+
+def checked(taken: Parser, asked: argparse.Namespace) -> None:
+    """Refuses words that do not go together."""
+    if asked.wave is None:
+        missing = [name for name in ("turns", "seed") if getattr(asked, name) is None]
+        if missing:
+            told = ", ".join("--" + name for name in missing)
+            taken.error("the following arguments are required: %s" % told)
+        if asked.clock or asked.scope:
+            taken.error("--clock and --scope go with --from")
+    elif asked.clock is None:
+        taken.error("--from takes --clock, the clock of the test bench")
+    elif asked.seed is not None or asked.p or asked.set:
+        taken.error("--seed, --p and --set do not go with --from")
+    if asked.turns is not None and not 0 <= asked.turns <= MOST:
+        taken.error("--turns is from 0 to %d" % MOST)
 
 
 def main(argv: list[str]) -> int:
     taken = words(argv[0])
     asked = taken.parse_args(argv[1:])
-    if not 0 <= asked.turns <= MOST:
-        taken.error("--turns is from 0 to %d" % MOST)
+    checked(taken, asked)
     netlist = read_netlist(asked.netlist)
-    given = values(netlist, asked.set, asked.turns)
-    lines = vectors(shares(netlist, asked.p), given, asked.turns, asked.seed)
-    put("latin-1", lines)
+    put("latin-1", (drawn if asked.wave is None else sampled)(netlist, asked))
     return 0

@@ -9,7 +9,7 @@ const ahead = edge => Number(edge[0][0] === "S");
 const HALF = 42, TALL = 19, UNIT = 18, RAIL = 26, NAMES = 150, LINE = 18, BESIDE = 120, MANY = 2000, LEAST = 0.55;
 
 const page = {
-  log: told.log, at: 0, timer: null, out: null, known: null, address: null,
+  log: told.log, at: 0, clock: 0, timer: null, out: null, known: null, address: null,
   rule: new Rule(told.nodes, told.arcs, told.turns),
 };
 
@@ -260,8 +260,10 @@ function boxDrawn(svg, node) {
 function titleDrawn(svg, node) {
   if (node[0] === "S") return;
   const [x, y] = told.places[node], title = told.titles[isRegister(node) ? node.slice(1) : node];
-  const across = isRegister(node) ? (x + told.places["S" + node.slice(1)][0]) / 2 : x;
   const text = title.length > 26 ? title.slice(0, 25) + "\u2026" : title;
+  // IN stands at the edge of the picture.
+  if (!isRegister(node)) return put(svg, "text", {x: x - HALF, y: y - TALL - 7, class: "title left"}, text);
+  const across = (x + told.places["S" + node.slice(1)][0]) / 2;
   put(svg, "text", {x: across, y: y - TALL - 7, class: "title"}, text);
 }
 
@@ -310,23 +312,80 @@ function showDots(counts) {
   page.dots.replaceChildren(...dots);
 }
 
+// ---- Times: the log of a timed run is told in the order of its times
+
+function isTimed() {
+  return Boolean(told.times) && page.log === told.log;
+}
+
+// The time behind some firings of the log.
+function timeAt(place) {
+  return isTimed() && place > 0 ? told.times[place - 1] : 0;
+}
+
+function wholeTime() {
+  return Math.max(1, told.times[told.times.length - 1]);
+}
+
+// How many units pass in a second: the whole run takes from two minutes down to two seconds.
+function rate() {
+  return wholeTime() / 120 * Math.pow(60, find("rate").value / 100);
+}
+
+// A timed run goes on by some seconds.
+function passed(seconds) {
+  const clock = page.clock + seconds * rate(), at = Math.max(page.at, upTo(told.times, clock));
+  if (at >= page.log.length) {
+    stop();
+    return go(at);
+  }
+  if (at > page.at) return go(at, clock);
+  page.clock = clock;
+  showClock();
+  showWaves();
+}
+
+function showClock() {
+  const time = isTimed() ? `, time ${Math.floor(page.clock)}` : "";
+  find("count").textContent = `${page.at} of ${2 * told.nodes.length * told.turns} firings${time}`;
+}
+
+function showRate() {
+  find("speed").hidden = isTimed();
+  find("rated").hidden = !isTimed();
+  if (isTimed()) find("units").textContent = `${Number(rate().toPrecision(2))} units a second`;
+}
+
 // ---- The waves, as many firings as fit, with the present among them, of the nodes in view
+
+// The firings that stand in the waves, and where: by equal steps or, in a timed run, by their times.
+function stretch(room) {
+  if (isTimed()) return timedStretch(UNIT * room, UNIT * page.log.length / wholeTime());
+  const first = Math.max(0, Math.min(page.at - (room >> 1), page.log.length - room));
+  const across = place => NAMES + UNIT * (place - first);
+  return {first, last: Math.min(page.log.length, first + room), across, present: across(page.at)};
+}
+
+function timedStretch(wide, unit) {
+  const begin = Math.max(0, Math.min(page.clock - wide / unit / 2, wholeTime() - wide / unit));
+  const first = upTo(told.times, begin), last = upTo(told.times, begin + wide / unit);
+  const at = time => NAMES + Math.max(0, time - begin) * unit;
+  return {first, last, across: place => at(timeAt(place)), present: at(page.clock)};
+}
 
 function showWaves() {
   const room = Math.max(10, Math.floor((find("wave").clientWidth - NAMES - 20) / UNIT));
-  const first = Math.max(0, Math.min(page.at - (room >> 1), page.log.length - room));
-  const last = Math.min(page.log.length, first + room);
+  const {first, last, across, present} = stretch(room);
   const tall = RAIL * told.nodes.length + 20, svg = page.waves;
   svg.replaceChildren();
   svg.setAttribute("width", NAMES + UNIT * room + 20);
   svg.setAttribute("height", tall);
-  const across = place => NAMES + UNIT * (place - first);
   if (find("order").value === "clocked") showTurns(svg, first, last, across, tall);
   const top = Math.floor(find("wave").scrollTop / RAIL) - 2, rows = find("wave").clientHeight / RAIL + 4;
   told.nodes.forEach((node, row) => {
     if (top <= row && row <= top + rows) wave(svg, node, row, first, last, across);
   });
-  put(svg, "line", {x1: across(page.at), x2: across(page.at), y1: 0, y2: tall, class: "present"});
+  put(svg, "line", {x1: present, x2: present, y1: 0, y2: tall, class: "present"});
 }
 
 function showTurns(svg, first, last, across, tall) {
@@ -347,7 +406,8 @@ function wave(svg, node, row, first, last, across) {
   for (let k = Math.max(0, begun - 1); k < opens.length && opens[k] <= last; k++) {
     const shut = k < shuts.length ? shuts[k] : last, next = k + 1 < opens.length ? opens[k + 1] : last;
     const from = Math.max(first, opens[k]), to = Math.min(last, Math.max(shut, from));
-    if (shut > first) put(svg, "rect", {class: "up", x: across(from), y: low - 16, width: across(to) - across(from), height: 16});
+    const width = Math.max(isTimed() ? 2 : 0, across(to) - across(from));
+    if (shut > first) put(svg, "rect", {class: "up", x: across(from), y: low - 16, width, height: 16});
     written(svg, bad.has(k + 1) ? "?" : valueOf(node, k + 1), from, Math.min(next, last), low, across);
   }
 }
@@ -355,7 +415,7 @@ function wave(svg, node, row, first, last, across) {
 // A value from one place on, where there is room up to another.
 function written(svg, value, from, to, low, across) {
   const text = shortened(value);
-  if (text.length * 7 < (to - from) * UNIT + 7) put(svg, "text", {x: across(from) + 3, y: low - 4, class: "value left"}, text);
+  if (text.length * 7 < across(to) - across(from) + 7) put(svg, "text", {x: across(from) + 3, y: low - 4, class: "value left"}, text);
 }
 
 // ---- The log
@@ -367,7 +427,7 @@ function showLog() {
   const lines = page.log.slice(first, first + room).map((event, place) => {
     const line = document.createElement("div"), number = first + place + 1;
     const turn = upTo(nodes.get(event.slice(0, -1))[event.slice(-1)], number);
-    line.textContent = `${String(number).padStart(4)} ${event} ${turn}`;
+    line.textContent = `${String(isTimed() ? timeAt(number) : number).padStart(4)} ${event} ${turn}`;
     line.className = number === page.at ? "now" : number > page.at ? "later" : "";
     line.onclick = () => go(number);
     return line;
@@ -385,7 +445,8 @@ function show() {
   showLog();
   find("at").max = page.log.length;
   find("at").value = page.at;
-  find("count").textContent = `${page.at} of ${2 * told.nodes.length * told.turns} firings`;
+  showClock();
+  showRate();
   clearTimeout(page.address);
   page.address = setTimeout(() => history.replaceState(null, "", "#" + page.at), 250);
   if (first && first.place <= page.at) say(first.why, true);
@@ -409,8 +470,9 @@ function say(text, isBad) {
   find("says").className = isBad ? "bad" : "";
 }
 
-function go(at) {
+function go(at, clock) {
   page.at = Math.max(0, Math.min(page.log.length, at));
+  page.clock = clock === undefined ? timeAt(page.at) : clock;
   say(page.at > 0 ? `${page.log[page.at - 1]} has fired` : "nothing has fired");
   show();
 }
@@ -437,9 +499,19 @@ function stop() {
 
 function play() {
   if (page.timer) return stop();
-  if (page.at >= page.log.length) page.at = 0;
+  if (page.at >= page.log.length) go(0);
   find("play").textContent = "stop";
+  if (isTimed()) return playTimed();
   page.timer = setInterval(() => page.at < page.log.length ? go(page.at + 1) : stop(), 1000 / find("speed").value);
+}
+
+function playTimed() {
+  let last = performance.now();
+  page.timer = setInterval(() => {
+    const now = performance.now(), seconds = (now - last) / 1000;
+    last = now;
+    passed(seconds);
+  }, 40);
 }
 
 // A log by the choices: the order of the run, or as with a clock; one node slow from here on.
@@ -453,6 +525,7 @@ function chosen() {
   } else {
     page.log = start;
     page.at = Math.min(page.at, start.length);
+    page.clock = timeAt(page.at);
     say("");
   }
   show();
@@ -510,6 +583,8 @@ function begin() {
   find("head").textContent = `${told.name}: ${told.nodes.length} nodes, ${told.turns} vectors`;
   for (const speed of [1, 2, 5, 20, 100]) option("speed", speed, `${speed} a second`);
   find("speed").value = 2;
+  if (told.times) find("order").options[0].textContent = "by the times";
+  find("rate").oninput = showRate;
   for (const node of told.nodes) option("slow", node, node);
   if (told.arcs.length <= MANY) listOrders();
   else find("out").onfocus = find("out").onpointerdown = listOrders;

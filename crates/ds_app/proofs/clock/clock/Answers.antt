@@ -56,7 +56,7 @@ pub returns-in_err-netlist-clause-same_writes : goal.returns-in_err-netlist-clau
 returns-in_err-netlist-clause-same_writes g c = let p = err_from_is_err_and c.from_residual.result c.from_residual.ensures.1 in rw (p.1, p.2) (unwritten_or c.in_err-netlist.field-0.0 refl)
 
 pub returns-clause-same_reads : goal.returns-clause-same_reads
-returns-clause-same_reads g c = well_read_since c.write_clocked.result c.in_ok-netlist.ensures.same_reads c.write_clocked.ensures.same_reads
+returns-clause-same_reads g c = well_read_since _ c.write_clocked.result c.in_ok-netlist.ensures.same_reads c.write_clocked.ensures.same_reads
 
 pub returns-clause-same_writes : goal.returns-clause-same_writes
 returns-clause-same_writes g c = c.write_clocked.ensures.same_writes

@@ -176,7 +176,7 @@ pub returns-in_err-state-clause-same_writes : goal.returns-in_err-state-clause-s
 returns-in_err-state-clause-same_writes g c = let p = err_from_is_err_and c.from_residual.result c.from_residual.ensures.1 in rw (p.1, p.2) (refl)
 
 pub returns-in_err-behind-clause-same_reads : goal.returns-in_err-behind-clause-same_reads
-returns-in_err-behind-clause-same_reads g c = let p = err_from_is_err_and c.from_residual-in_err-behind.result c.from_residual-in_err-behind.ensures.1 in rw (p.1, p.2) (unread_since c.in_err-behind.field-0.0 c.windows.invariant.same_reads c.in_err-behind.ensures.same_reads)
+returns-in_err-behind-clause-same_reads g c = let p = err_from_is_err_and c.from_residual-in_err-behind.result c.from_residual-in_err-behind.ensures.1 in rw (p.1, p.2) (unread_since _ c.in_err-behind.field-0.0 c.windows.invariant.same_reads c.in_err-behind.ensures.same_reads)
 
 pub returns-in_err-behind-clause-same_writes : goal.returns-in_err-behind-clause-same_writes
 returns-in_err-behind-clause-same_writes g c = let p = err_from_is_err_and c.from_residual-in_err-behind.result c.from_residual-in_err-behind.ensures.1 in rw (p.1, p.2) (unwritten_or c.in_err-behind.field-0.0 c.windows.invariant.same_writes)

@@ -73,13 +73,13 @@ pub returns-in_err-netlist-clause-same_writes : goal.returns-in_err-netlist-clau
 returns-in_err-netlist-clause-same_writes g c = let p = err_from_is_err_and c.from_residual.result c.from_residual.ensures.1 in rw (p.1, p.2) (unwritten_or c.in_err-netlist.field-0.0 refl)
 
 pub returns-in_err-plan-clause-same_reads : goal.returns-in_err-plan-clause-same_reads
-returns-in_err-plan-clause-same_reads g c = let p = err_from_is_err_and c.from_residual-in_err-plan.result c.from_residual-in_err-plan.ensures.1 in rw (p.1, p.2) (unread_since c.in_err-plan.field-0.0 c.in_ok-netlist.ensures.same_reads c.in_err-plan.ensures.same_reads)
+returns-in_err-plan-clause-same_reads g c = let p = err_from_is_err_and c.from_residual-in_err-plan.result c.from_residual-in_err-plan.ensures.1 in rw (p.1, p.2) (unread_since _ c.in_err-plan.field-0.0 c.in_ok-netlist.ensures.same_reads c.in_err-plan.ensures.same_reads)
 
 pub returns-in_err-plan-clause-same_writes : goal.returns-in_err-plan-clause-same_writes
 returns-in_err-plan-clause-same_writes g c = let p = err_from_is_err_and c.from_residual-in_err-plan.result c.from_residual-in_err-plan.ensures.1 in rw (p.1, p.2) (unwritten_or c.in_err-plan.field-0.0 refl)
 
 pub returns-clause-same_reads : goal.returns-clause-same_reads
-returns-clause-same_reads g c = well_read_since c.measure.result (c.in_ok-plan.ensures.same_reads ∙ c.in_ok-netlist.ensures.same_reads) c.measure.ensures.same_reads
+returns-clause-same_reads g c = well_read_since _ c.measure.result (c.in_ok-plan.ensures.same_reads ∙ c.in_ok-netlist.ensures.same_reads) c.measure.ensures.same_reads
 
 pub returns-clause-same_writes : goal.returns-clause-same_writes
 returns-clause-same_writes g c = c.measure.ensures.same_writes

@@ -95,13 +95,13 @@ pub returns-in_err-netlist-clause-same_reads : goal.returns-in_err-netlist-claus
 returns-in_err-netlist-clause-same_reads g c = let p = err_from_is_err_and c.from_residual.result c.from_residual.ensures.1 in rw (p.1, p.2) (c.in_err-netlist.ensures.same_reads)
 
 pub returns-in_err-plan-clause-same_reads : goal.returns-in_err-plan-clause-same_reads
-returns-in_err-plan-clause-same_reads g c = let p = err_from_is_err_and c.from_residual-in_err-plan.result c.from_residual-in_err-plan.ensures.1 in rw (p.1, p.2) (unread_since c.in_err-plan.field-0.0 c.in_ok-netlist.ensures.same_reads c.in_err-plan.ensures.same_reads)
+returns-in_err-plan-clause-same_reads g c = let p = err_from_is_err_and c.from_residual-in_err-plan.result c.from_residual-in_err-plan.ensures.1 in rw (p.1, p.2) (unread_since _ c.in_err-plan.field-0.0 c.in_ok-netlist.ensures.same_reads c.in_err-plan.ensures.same_reads)
 
 pub returns-in_err-vectors-clause-same_reads : goal.returns-in_err-vectors-clause-same_reads
-returns-in_err-vectors-clause-same_reads g c = let p = err_from_is_err_and c.from_residual-in_err-vectors.result c.from_residual-in_err-vectors.ensures.1 in rw (p.1, p.2) (unread_since c.in_err-vectors.field-0.0 (c.in_ok-plan.ensures.same_reads ∙ c.in_ok-netlist.ensures.same_reads) c.in_err-vectors.ensures.same_reads)
+returns-in_err-vectors-clause-same_reads g c = let p = err_from_is_err_and c.from_residual-in_err-vectors.result c.from_residual-in_err-vectors.ensures.1 in rw (p.1, p.2) (unread_since _ c.in_err-vectors.field-0.0 (c.in_ok-plan.ensures.same_reads ∙ c.in_ok-netlist.ensures.same_reads) c.in_err-vectors.ensures.same_reads)
 
 pub returns-in_err-state-clause-same_reads : goal.returns-in_err-state-clause-same_reads
-returns-in_err-state-clause-same_reads g c = let p = err_from_is_err_and c.from_residual-in_err-state.result c.from_residual-in_err-state.ensures.1 in rw (p.1, p.2) (unread_since c.in_err-state.field-0.0 (c.in_ok-vectors.ensures.same_reads ∙ (c.in_ok-plan.ensures.same_reads ∙ c.in_ok-netlist.ensures.same_reads)) c.in_err-state.ensures.same_reads)
+returns-in_err-state-clause-same_reads g c = let p = err_from_is_err_and c.from_residual-in_err-state.result c.from_residual-in_err-state.ensures.1 in rw (p.1, p.2) (unread_since _ c.in_err-state.field-0.0 (c.in_ok-vectors.ensures.same_reads ∙ (c.in_ok-plan.ensures.same_reads ∙ c.in_ok-netlist.ensures.same_reads)) c.in_err-state.ensures.same_reads)
 
 pub returns-clause-same_reads : goal.returns-clause-same_reads
 returns-clause-same_reads g c = well_read c.write_state.result (c.in_ok-state.ensures.same_reads ∙ (c.in_ok-vectors.ensures.same_reads ∙ (c.in_ok-plan.ensures.same_reads ∙ c.in_ok-netlist.ensures.same_reads)))

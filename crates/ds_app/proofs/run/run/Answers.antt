@@ -92,10 +92,10 @@ pub returns-in_err-plan-clause-same_writes : goal.returns-in_err-plan-clause-sam
 returns-in_err-plan-clause-same_writes g c = let p = err_from_is_err_and c.from_residual-in_err-plan.result c.from_residual-in_err-plan.ensures.1 in rw (p.1, p.2) (unwritten_or c.in_err-plan.field-0.0 refl)
 
 pub returns-in_err-plan-clause-same_reads : goal.returns-in_err-plan-clause-same_reads
-returns-in_err-plan-clause-same_reads g c = let p = err_from_is_err_and c.from_residual-in_err-plan.result c.from_residual-in_err-plan.ensures.1 in rw (p.1, p.2) (unread_since c.in_err-plan.field-0.0 c.in_ok-netlist.ensures.same_reads c.in_err-plan.ensures.same_reads)
+returns-in_err-plan-clause-same_reads g c = let p = err_from_is_err_and c.from_residual-in_err-plan.result c.from_residual-in_err-plan.ensures.1 in rw (p.1, p.2) (unread_since _ c.in_err-plan.field-0.0 c.in_ok-netlist.ensures.same_reads c.in_err-plan.ensures.same_reads)
 
 pub returns-clause-same_writes : goal.returns-clause-same_writes
 returns-clause-same_writes g c = c.run_planned.ensures.same_writes
 
 pub returns-clause-same_reads : goal.returns-clause-same_reads
-returns-clause-same_reads g c = well_read_since c.run_planned.result (c.in_ok-plan.ensures.same_reads ∙ c.in_ok-netlist.ensures.same_reads) c.run_planned.ensures.same_reads
+returns-clause-same_reads g c = well_read_since _ c.run_planned.result (c.in_ok-plan.ensures.same_reads ∙ c.in_ok-netlist.ensures.same_reads) c.run_planned.ensures.same_reads

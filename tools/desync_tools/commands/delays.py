@@ -1,0 +1,39 @@
+"""Writes delays for `desync period`, from the paths of tables between the registers of a netlist.
+
+An order from a producer to a consumer takes the longest path of tables from the nets of the one to
+those of the other, and the latch; the two orders of a node take the controller each; an order back
+from a consumer takes 0. A line is `SOURCE TARGET DELAY`, in any unit of time; behind it stand the
+names of the registers as a comment:
+
+    tools/delays cpu.blif --clusters bus > cpu.delays
+    desync period cpu.blif cpu.delays --clusters bus
+
+With --gates a file of lines `INPUTS DELAY` or `NET DELAY` says how long tables take: by the number
+of their inputs, or by the net that they drive, which counts first. A word of digits is a number of
+inputs; a net of such a name is given as `0/NAME`. Tables without a line take --table.
+"""
+
+from __future__ import annotations
+
+from desync_tools.clusters import Split, take_groups, take_mode
+from desync_tools.command import Parser, parser, put
+from desync_tools.gates import Gates, edges_of, lines, take_delays
+from desync_tools.netlist import read_netlist
+
+
+def words(name: str) -> Parser:
+    taken = parser(name, __doc__)
+    taken.add_argument("netlist", help="the netlist in BLIF")
+    take_mode(taken)
+    take_groups(taken)
+    take_delays(taken)
+    return taken
+
+
+def main(argv: list[str]) -> int:
+    asked = words(argv[0]).parse_args(argv[1:])
+    netlist = read_netlist(asked.netlist, True)
+    gates = Gates(asked, netlist)
+    split = Split(netlist, asked.clusters, asked.groups)
+    put("latin-1", list(lines(split, gates, edges_of(split, gates))))
+    return 0

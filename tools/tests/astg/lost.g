@@ -1,0 +1,7 @@
+.model lost
+.inputs a
+.graph
+a+ a-
+a- a+
+.marking { <a-,a+> <a+,a+> }
+.end

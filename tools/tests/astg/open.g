@@ -1,0 +1,6 @@
+.model open
+.inputs a
+.graph
+a+ a-
+a- a+
+.marking { <a-,a+>

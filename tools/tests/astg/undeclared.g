@@ -1,0 +1,10 @@
+.model undeclared
+.inputs a b
+.graph
+eps a+ b+
+a+ a-
+b+ b-
+a- eps
+b- eps
+.marking { <a-,eps> }
+.end
