@@ -14,7 +14,7 @@ use Rattle.ds_times_laws.specs.Single.{IsScheduleOf}
 abbrev pub FollowsClock : (s : Split) (g : Graph) (vectors : List Row) → Desynchronizes s g vectors
     → List Firing → Type 0
 FollowsClock s g vectors run firings =
-    (n : ℕ) → Interleaves s g vectors run.state (take n (fired_events firings))
+    (n : ℕ) → Interleaves s g vectors run.state run.nets (take n (fired_events firings))
 
 -- so it is for the firings of a plan turn by turn, in each turn by rank and number
 abbrev pub ListedFollowClock : Type 0
