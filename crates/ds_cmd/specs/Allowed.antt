@@ -4,7 +4,7 @@ use Rattle.ds_base.specs.Limit.{most_of}
 use Rattle.ds_base.specs.declared.number.Limit.TheVariants.{Clusters, Vectors}
 use Rattle.ds_cmd.specs.declared.job.Job.{Job}
 use Rattle.ds_cmd.specs.declared.job.Job.TheVariants.{Run, Clock, Check, Graph}
-use Rattle.ds_cmd.specs.declared.job.Job.TheVariants.{Replay, Accept, Demo, Period}
+use Rattle.ds_cmd.specs.declared.job.Job.TheVariants.{Replay, Accept, Demo, Period, Rate, Times}
 
 -- so many workers may be wanted
 abbrev pub AreWorkers : ℕ → Type 0
@@ -26,3 +26,5 @@ AreAllowed (Accept job) = job.slack ≤ 15
 AreAllowed (Demo job) = (1 ≤ job.registers) × (job.registers ≤ most_of Clusters)
     × (job.turns ≤ most_of Vectors) × AreWorkers job.jobs
 AreAllowed (Period job) = job.slack ≤ 15
+AreAllowed (Rate job) = ⊤
+AreAllowed (Times job) = (job.turns ≤ most_of Vectors) × (job.slack ≤ 15)

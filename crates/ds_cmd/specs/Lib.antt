@@ -11,6 +11,8 @@ pub mod Replay
 pub mod Accept
 pub mod Demo
 pub mod Period
+pub mod Rate
+pub mod Times
 pub mod Commands
 pub mod Line
 pub mod Plain

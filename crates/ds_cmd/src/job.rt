@@ -5,8 +5,10 @@ use crate::clock::ClockJob;
 use crate::demo::DemoJob;
 use crate::graph::GraphJob;
 use crate::period::PeriodJob;
+use crate::rate::RateJob;
 use crate::replay::ReplayJob;
 use crate::run::RunJob;
+use crate::times::TimesJob;
 
 /// What a command line asks for: a command, with its files and options.
 #[derive(Drop)]
@@ -27,4 +29,8 @@ pub enum Job {
     Demo(DemoJob),
     /// The exact period of the controller graph, where its orders have the delays of a file.
     Period(PeriodJob),
+    /// The exact period of the graph of a file, where its arcs have the delays of another.
+    Rate(RateJob),
+    /// When each event of the graph fires, turn by turn, where its orders have the delays of a file.
+    Times(TimesJob),
 }
