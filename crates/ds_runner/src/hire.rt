@@ -12,7 +12,7 @@ ghost use Rattle.ds_runner.specs.Work.{IsUnfired};
 use crate::crew::Crew;
 use crate::gear::Gear;
 use crate::hints::Hints;
-use crate::parts::borders_of;
+use crate::parts::{borders_of, parts_of};
 use crate::ring::Ring;
 use crate::site::Site;
 use crate::targets::arcs_from;
@@ -25,6 +25,12 @@ use ds_fabric::{Compute, Pass};
 use ds_outside::Gate;
 use ds_rule::Rows;
 use std::alloc::Global;
+
+// How often in a row the own part of a worker may have nothing before it looks beyond it.
+const PATIENCE: u32 = 64;
+
+// The same for a worker without a part.
+const RARELY: u32 = 256;
 
 /// So many workers, with a turn more for the caller. The pass is left without nodes.
 pub fn hire<J: Rows, C: Compute, G: Gate>(
@@ -128,11 +134,11 @@ fn enlist<J: Rows, C: Compute, G: Gate>(
     ensures ok_turn { OnOk result (IsTurnOf stile.now turn.new × HasNone turn.new.view
         × (turn.new.view.parts ≡ 1) × (turn.new.view.made ≡ 0)) }
 {
-    let borders = borders_of(alloc, site, count)?;
+    let parts = parts_of(site, count);
+    let borders = borders_of(alloc, site, parts)?;
     let mut workers = Vec::with_capacity(alloc, count as usize)?;
     'hiring: for number in 0..count {
-        let at = number as usize;
-        let part = Ring::over(borders[at], borders[at + 1]);
+        let part = part_at(borders.as_slice(), number as usize);
         let (scratch, trail) = outfit(alloc, site, part)?;
         let own = stile.split(turn);
         workers.push_reserved(Worker {
@@ -143,6 +149,15 @@ fn enlist<J: Rows, C: Compute, G: Gate>(
         });
     }
     Ok(workers)
+}
+
+// The part of a worker: none where there are fewer parts than workers.
+fn part_at(borders: &[usize], number: usize) -> Ring {
+    if number < borders.len().saturating_sub(1) {
+        Ring::over(borders[number], borders[number + 1])
+    } else {
+        Ring::over(0, 0)
+    }
 }
 
 // What a worker works in, and where it looks.
@@ -161,12 +176,16 @@ fn outfit<J: Rows, C: Compute, G: Gate>(
 // Where a worker looks: in its own part of the nodes, and in all of them.
 fn trail_of(alloc: Global, part: Ring, nodes: usize) -> Result<Trail, OutOfMemory> {
     let hints = Hints::of(alloc)?;
+    let patience = if part.count() == 0 { RARELY } else { PATIENCE };
     Ok(Trail {
         hints,
         part,
         all: Ring::over(0, nodes),
         begins: vec![in alloc; 0u8; nodes]?,
         soon: false,
+        far: false,
+        dry: 0,
+        patience,
     })
 }
 

@@ -1,6 +1,7 @@
-//! How a worker finds a node to try: by a hint of its own, in its own part, by a hint of another
-//! worker, or in its round over all nodes. Plain looks say what seems due; a take alone says
-//! whether the pass is there.
+//! How a worker finds a node to try: in its own part; and where that has had nothing for long, by a
+//! hint, or in a round over all nodes. So a worker keeps its part, and what it has computed for one
+//! node serves the next. Plain looks say what seems due; a take alone says whether the pass is
+//! there.
 ghost use Rattle.std.specs.Prelude.{◌<◌, IsTrue, IfSome};
 ghost use Rattle.ds_runner.specs.Work.{HasPassOfEach};
 
@@ -31,14 +32,39 @@ pub fn search<J: Rows, C: Compute, G: Gate>(
     ensures near { IfSome result (λ n. n < site.now.run.nodes) }
 {
     trail.soon = false;
+    trail.far = false;
+    let begins = trail.begins.as_mut_slice();
+    if let Some(node) = next_due(site, gear, begins, &mut trail.part) {
+        trail.soon = trail.part.looks < SOON;
+        trail.dry = 0;
+        return Some(node);
+    }
+    if trail.dry < trail.patience {
+        trail.dry += 1;
+        return None;
+    }
+    trail.far = true;
+    let found = elsewhere(site, gear, number, trail);
+    if found.is_none() || trail.part.count() == 0 {
+        trail.dry = 0;
+    }
+    found
+}
+
+// A node of any part that seems due: one that was told of, or one of all.
+fn elsewhere<J: Rows, C: Compute, G: Gate>(
+    site: &Site<'_, '_, J, C, G>,
+    gear: &Gear,
+    number: u32,
+    trail: &mut Trail,
+) -> Option<usize>
+    requires fits { HasPassOfEach site.now gear.now.stile }
+    ensures near { IfSome result (λ n. n < site.now.run.nodes) }
+{
     if let Some(node) = hinted(site, gear, trail) {
         return Some(node);
     }
     let begins = trail.begins.as_mut_slice();
-    if let Some(node) = next_due(site, gear, begins, &mut trail.part) {
-        trail.soon = trail.part.looks < SOON;
-        return Some(node);
-    }
     if let Some(node) = stolen(site, gear, begins, number) {
         return Some(node);
     }
