@@ -1,4 +1,4 @@
-pub mod Absent
+pub mod AbsentFiles
 pub mod Decided
 pub mod StreamDecided
 pub mod Netlists

@@ -1,4 +1,4 @@
-use Rattle.ds_total_laws.proofs.Absent.{absent_files_are_unread}
+use Rattle.ds_total_laws.proofs.AbsentFiles.{absent_files_are_unread}
 use Rattle.ds_total_laws.proofs.absent.absent_files_are_unread.Goals as goal
 
 pub returns : goal.returns
