@@ -136,5 +136,5 @@ def take_mode(words: argparse.ArgumentParser, default: Optional[str] = "each") -
 
 def take_groups(words: argparse.ArgumentParser) -> None:
     """Adds the option that names groups to the words of a tool."""
-    says = "groups of registers that share latches; the rest do by --clusters"
-    words.add_argument("--groups", metavar="FILE", help=says)
+    # Hidden until the program takes it too.
+    words.add_argument("--groups", metavar="FILE", help=argparse.SUPPRESS)

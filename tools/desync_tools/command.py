@@ -57,7 +57,11 @@ class Parser(argparse.ArgumentParser):
 
 def as_installed(name: str, text: str) -> str:
     """A text with the names of the tools as they are installed, where this one is."""
-    return re.sub(r"\btools/(\w+)", r"desync-\1", text) if name.startswith(INSTALLED) else text
+    return (
+        re.sub(r"\btools/(\w+)(?![\w/])", r"desync-\1", text)
+        if name.startswith(INSTALLED)
+        else text
+    )
 
 
 def parser(name: str, description: Optional[str]) -> Parser:

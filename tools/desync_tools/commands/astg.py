@@ -1,7 +1,7 @@
 """Makes a graph of the literature readable for Desync.
 
-The `.g` files of petrify, SIS and Workcraft have lines and words that `desync accept` and `desync
-rate` refuse. The same marked graph is printed in the form that they read:
+The `.g` files of petrify, SIS and Workcraft have lines and words that `desync accept` refuses. The
+same marked graph is printed in the form that it reads:
 
 - lines for layout and synthesis are left out: .capacity, .coords, .initial, .slowenv, .time;
 - .name is taken for .model;
@@ -13,7 +13,7 @@ Each change is named on the error output. A graph with a choice or a merge is no
 is refused with each such place. So are a marking of what is not there, a transition of a signal
 that is not declared, and a graph of states. From the top of the repository:
 
-    tools/astg tools/tests/handshake.g > handshake.g
+    tools/astg vme.g > readable.g
 """
 
 from __future__ import annotations

@@ -101,13 +101,18 @@ def runs(asked: argparse.Namespace) -> tuple[Run, Run]:
     return a, b
 
 
+def first_places(nets: list[str]) -> dict[str, int]:
+    """The place of each net: of one that is an output and a register too, that of the output."""
+    return {net: place for place, net in reversed(list(enumerate(nets)))}
+
+
 class Pairs:
     """The nets that both runs have, and the values of each row at them."""
 
     def __init__(self, first: Run, second: Run) -> None:
-        at = {net: place for place, net in enumerate(second.nets)}
+        at = first_places(second.nets)
         self.nets = [net for net in dict.fromkeys(first.nets) if net in at]
-        own = {net: place for place, net in enumerate(first.nets)}
+        own = first_places(first.nets)
         self.places = {
             id(first): [own[net] for net in self.nets],
             id(second): [at[net] for net in self.nets],

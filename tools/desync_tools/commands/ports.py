@@ -4,8 +4,8 @@ The first line names the model that is taken for the design: the first one of th
 vectors has one character per column. A line of the trace has the outputs, and then the registers.
 The netlist is to be one that `desync check` accepts.
 
-With --clusters or --groups stands behind it a line for each cluster, with its number, its master
-and slave latch, and its registers: `cluster 33 M33 S33: pc[3:0]`.
+With --clusters there is a line for each cluster too, with its number, its master and slave latch,
+and its registers: `cluster 33 M33 S33: pc[3:0]`.
 """
 
 from __future__ import annotations

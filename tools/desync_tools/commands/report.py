@@ -142,8 +142,9 @@ def words(name: str) -> Parser:
     taken = parser(name, __doc__)
     taken.add_argument("netlist", help="the netlist in BLIF")
     taken.add_argument("delays", nargs="?", help="the delays of its orders")
-    says = "a file of groups, a row; may stand several times"
-    taken.add_argument("--groups", metavar="FILE", action="append", default=[], help=says)
+    # Hidden until the program takes it too.
+    hidden = argparse.SUPPRESS
+    taken.add_argument("--groups", metavar="FILE", action="append", default=[], help=hidden)
     says = "how registers that are in no group share latches"
     taken.add_argument("--clusters", choices=MODES, default="each", help=says)
     says = "a column with this slack; may stand several times"

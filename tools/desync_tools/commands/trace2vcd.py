@@ -10,7 +10,7 @@ firing, as `M0+ 2 7`, with the turns counted from 1. Each node is 1 while it is 
 changes when its slave opens, each output when OUT opens, and each column when IN opens. A node that
 opens and closes at one time has a pulse without width. From the top of the repository:
 
-    tools/trace2vcd examples/toggle.blif examples/toggle.trace --times tools/tests/toggle.times
+    tools/trace2vcd examples/toggle.blif examples/toggle.trace --times toggle.times
 
 Bits of one bus that stand beside one another are one variable, the first of them its rightmost bit:
 `q[0] q[1]` is `q [1:0]`, and `q[1] q[0]` is `q [0:1]`. A dot in a name opens a scope: `u5.f.a` is
