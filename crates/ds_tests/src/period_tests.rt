@@ -163,9 +163,9 @@ S0+ M0+ 4
 %= 1
 d:2: repeated order S0+ to M0+
 %h < g
-p=3 <S0-,M0+>
+p=3 <S0-,M0+> <S0-,S0+> }
 =>
-p=3 <S0-,M0+>=2
+p=3 <S0-,M0+>=2 <S0-,S0+> }
 %$ desync period toggle none --graph h
 %= 1
 h: missing order S0- to M0+ with 1 tokens (least walk 2)

@@ -7,6 +7,7 @@ use Rattle.ds_outside.specs.declared.files.Which.TheVariants.{Net, Vectors, Log,
 use Rattle.ds_outside.specs.declared.files.Which.TheVariants as which
 use Rattle.ds_design.specs.Circuit.{Circuit, columns}
 use Rattle.ds_design.specs.Rows.{Rows}
+use Rattle.ds_marked.specs.Graph.{Graph as Marked}
 use Rattle.ds_latch.specs.Node.{Split, slackened}
 use Rattle.ds_latch.specs.Plan.{Planned}
 use Rattle.ds_cmd.specs.Line.{job_of}
@@ -122,7 +123,7 @@ log_mute held vec log transparent c p gone =
     (mute_first (lines_stage held Log log) (fired_stage log p vectors.rows) (lines_mute held Log log gone)))
 
 -- delays that are not there
-timed_mute : (held : List ℕ → Held) (file : List ℕ) (g : Graph) → held file ≡ absent → IsMute (timed_stage held file g)
+timed_mute : (held : List ℕ → Held) (file : List ℕ) (g : Marked) → held file ≡ absent → IsMute (timed_stage held file g)
 timed_mute held file g gone =
     mute_first (delays_stage held file g) (λ (delays : List ℕ). giving (IsPeriodText g delays))
     (mute_first (lines_stage held Delays file) (given_stage file g) (lines_mute held Delays file gone))
