@@ -4,7 +4,7 @@ use Rattle.std.specs.Prelude.{codes}
 use Rattle.ds_outside.specs.Fault.{Rose}
 use Rattle.ds_outside.specs.Written.{appended, AppendsPart}
 use Rattle.ds_netlist.proofs.Refused.{faults_are_refused_lem}
-use Rattle.ds_split.proofs.OneClustering.{one_clustering_lem}
+use Rattle.ds_split.proofs.OneClustering.{one_grouped_lem}
 use Rattle.ds_cmd.specs.Line.{job_of}
 use Rattle.ds_cmd.specs.declared.job.Job.{Job}
 use Rattle.ds_cmd.specs.declared.fault.UsageFault.{UsageFault}
@@ -32,7 +32,7 @@ no_fault words job fault is faulty = cc
 never_both : (call : Call) (job other : Job) (text line : List ℕ) → job_of call.words ≡ Ok job → job_of call.words ≡ Ok other
     → AreTold call.held other → (stages_of call.held job).means text → (stages_of call.held other).refused line → ⊥
 never_both call job other text line is also told means refused =
-    job_not_refused faults_are_refused_lem one_clustering_lem call.held other told text line
+    job_not_refused faults_are_refused_lem one_grouped_lem call.held other told text line
     (subst (λ (j : Job). (stages_of call.held j).means text) (same_job call.words job other is also) means) refused
 
 -- a job that leaves nothing leaves the output as it was

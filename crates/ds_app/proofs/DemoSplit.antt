@@ -32,7 +32,8 @@ use Rattle.ds_netlist.specs.Fault.{IsNetFault}
 use Rattle.ds_netlist.specs.declared.fault.NetFault.{NetFault}
 use Rattle.ds_netlist.specs.declared.fault.NetFault.TheVariants as net
 use Rattle.ds_netlist.proofs.Refused.{faults_are_refused_lem}
-use Rattle.ds_stage.specs.SplitStage.{split_stage}
+use Rattle.ds_split.proofs.Keyed.{bare}
+use Rattle.ds_stage.specs.SplitStage.{parted_stage}
 use Rattle.ds_demo.specs.Demo.{demo_design, design_of, gate_of, inputs_of, demo_register, seed_words}
 use Rattle.ds_demo.proofs.Accepts.{accepted, two_columns}
 use Rattle.ds_demo.proofs.Ranges.{inputs-hold}
@@ -293,18 +294,18 @@ module _ (n : ℕ) (words : List ℕ) (some : 1 ≤ n) (few : n ≤ 4096) (clust
 
 -- a design of words in clusters of one register is split
 pub not_refused : (n : ℕ) (words : List ℕ) → 1 ≤ n → n ≤ 4096 → (file line : List ℕ)
-    → ¬ (split_stage file Each (design_of n words)).refused line
+    → ¬ (parted_stage file Each (design_of n words) []).refused line
 not_refused n words some few file line (inl ((clusters, are, many), spelt)) =
-    absurd (omega (arith, clusters_few n words some few clusters are))
+    absurd (omega (arith, clusters_few n words some few clusters ((bare (design_of n words) Each clusters).0 are)))
 not_refused n words some few file line (inr (t, is, many, spelt)) =
-    few_orders n words some few is.clusters is.are (subst (λ (s : Split). HasTooManyOrders s) is.is many)
+    few_orders n words some few is.clusters ((bare (design_of n words) Each is.clusters).0 is.are) (subst (λ (s : Split). HasTooManyOrders s) is.is many)
 
 -- so it is where the words are those of a seed
 pub made_not_refused : (seed registers : ℕ) → 1 ≤ registers → registers ≤ 4096 → (file : List ℕ) (d : Circuit) → d ≡ demo_design seed registers
-    → (line : List ℕ) → ¬ (split_stage file Each d).refused line
+    → (line : List ℕ) → ¬ (parted_stage file Each d []).refused line
 unfolding demo_design
 made_not_refused seed registers some few file d is line refused =
-    not_refused registers (seed_words registers seed) some few file line (subst (λ (e : Circuit). (split_stage file Each e).refused line) is refused)
+    not_refused registers (seed_words registers seed) some few file line (subst (λ (e : Circuit). (parted_stage file Each e []).refused line) is refused)
 
 -- and the design is accepted
 pub made_accepted : (seed registers : ℕ) → 1 ≤ registers → (d : Circuit) → d ≡ demo_design seed registers → IsAccepted d

@@ -25,8 +25,8 @@ pub interleavings_lem : (held : List ℕ → Held) (words : List (List ℕ)) →
 interleavings_lem held words job is_job c netlist p planned vectors means =
     let (flat, is_flat, (is, accepted)) = netlist in
     let accepted' : IsAccepted c = subst (λ (d : Circuit). IsAccepted d) (sym is) accepted in
-    let plan : IsPlan p.split p.graph = planned_is_plan held job.net job.graph job.clusters job.slack c p accepted' planned in
-    let same : c ≡ p.split.circuit = sym (planned_circuit held job.net job.graph job.clusters job.slack c p planned) in
+    let plan : IsPlan p.split p.graph = planned_is_plan held job.net job.graph job.groups job.clusters job.slack c p accepted' planned in
+    let same : c ≡ p.split.circuit = sym (planned_circuit held job.net job.graph job.groups job.clusters job.slack c p planned) in
     headline p.split p.graph plan
     (subst IsInRange same (netlist_in_range held job.net c netlist))
     vectors.rows

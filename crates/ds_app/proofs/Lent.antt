@@ -4,13 +4,14 @@ use Rattle.ds_outside.specs.Held.{Held}
 use Rattle.ds_cmd.specs.declared.accept.AcceptJob.{AcceptJob}
 use Rattle.ds_cmd.specs.declared.clock.ClockJob.{ClockJob}
 use Rattle.ds_cmd.specs.declared.graph.GraphJob.{GraphJob}
+use Rattle.ds_cmd.specs.declared.list_clusters.ClustersJob.{ClustersJob}
 use Rattle.ds_cmd.specs.declared.period.PeriodJob.{PeriodJob}
 use Rattle.ds_cmd.specs.declared.replay.ReplayJob.{ReplayJob}
 use Rattle.ds_stage.specs.declared.stop.Stop.{Stop}
 use Rattle.ds_stage.specs.Ends.{Ends, Output}
 use Rattle.ds_stage.specs.Stage.{OfFile, then_stage}
 use Rattle.ds_stage.specs.Stages.{netlist_stage}
-use Rattle.ds_app.specs.JobStages.{accept_stage, clock_stage, graph_stage, period_stage, replay_stage}
+use Rattle.ds_app.specs.JobStages.{accept_stage, clock_stage, graph_stage, listing_stage, period_stage, replay_stage}
 
 module _ (held : List ℕ → Held) (more : OfFile) (out : Output) (result : Result (Unit {0}) Stop) where
   pub clock_ends : (job : ClockJob) (net vec : List ℕ) → net ≡ job.net → vec ≡ job.vec
@@ -20,9 +21,9 @@ module _ (held : List ℕ → Held) (more : OfFile) (out : Output) (result : Res
       (ap₂ (λ (n v : List ℕ). record job { net = n; vec = v }) same_net same_vec) is
 
   pub graph_ends : (job : GraphJob) (net : List ℕ) → net ≡ job.net
-      → Ends {A = Unit {0}} (then_stage (netlist_stage held net) (graph_stage (record job { net = net }))) more out result
-      → Ends {A = Unit {0}} (then_stage (netlist_stage held job.net) (graph_stage job)) more out result
-  graph_ends job net same_net is = subst (λ (j : GraphJob). Ends {A = Unit {0}} (then_stage (netlist_stage held j.net) (graph_stage j)) more out result)
+      → Ends {A = Unit {0}} (then_stage (netlist_stage held net) (graph_stage held (record job { net = net }))) more out result
+      → Ends {A = Unit {0}} (then_stage (netlist_stage held job.net) (graph_stage held job)) more out result
+  graph_ends job net same_net is = subst (λ (j : GraphJob). Ends {A = Unit {0}} (then_stage (netlist_stage held j.net) (graph_stage held j)) more out result)
       (ap (λ (n : List ℕ). record job { net = n }) same_net) is
 
   pub replay_ends : (job : ReplayJob) (net vec log : List ℕ) → net ≡ job.net → vec ≡ job.vec → log ≡ job.log
@@ -42,3 +43,9 @@ module _ (held : List ℕ → Held) (more : OfFile) (out : Output) (result : Res
       → Ends {A = Unit {0}} (then_stage (netlist_stage held job.net) (period_stage held job)) more out result
   period_ends job net delays same_net same_delays is = subst (λ (j : PeriodJob). Ends {A = Unit {0}} (then_stage (netlist_stage held j.net) (period_stage held j)) more out result)
       (ap₂ (λ (n d : List ℕ). record job { net = n; delays = d }) same_net same_delays) is
+
+  pub listing_ends : (job : ClustersJob) (net : List ℕ) → net ≡ job.net
+      → Ends {A = Unit {0}} (then_stage (netlist_stage held net) (listing_stage held (record job { net = net }))) more out result
+      → Ends {A = Unit {0}} (then_stage (netlist_stage held job.net) (listing_stage held job)) more out result
+  listing_ends job net same_net is = subst (λ (j : ClustersJob). Ends {A = Unit {0}} (then_stage (netlist_stage held j.net) (listing_stage held j)) more out result)
+      (ap (λ (n : List ℕ). record job { net = n }) same_net) is

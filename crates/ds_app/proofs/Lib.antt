@@ -1,6 +1,7 @@
 pub mod Cycles
 pub mod LeftAlone
 pub mod Lent
+pub mod Listing
 pub mod PlannedEnds
 pub mod ReplayEnds
 pub mod WindowEnds

@@ -28,14 +28,14 @@ later_still told faults old mid new one other = record {
 }
 
 module _ {F : Type 0} (told : F → List ℕ → Held) (faults : F → Which → List ℕ → ℕ) (files : F)
-    (net : List ℕ) (graph : Option (List ℕ)) (mode : Mode) (slack : ℕ) (next : Circuit → Planned → Stage (List ℕ)) where
+    (net : List ℕ) (graph groups : Option (List ℕ)) (mode : Mode) (slack : ℕ) (next : Circuit → Planned → Stage (List ℕ)) where
   -- behind the netlist
   abbrev behind : Circuit → Stage (List ℕ)
-  behind c = then_stage (planned_stage (told files) net graph mode slack c) (next c)
+  behind c = then_stage (planned_stage (told files) net graph groups mode slack c) (next c)
 
   -- all its stages
   abbrev whole : Stage (List ℕ)
-  whole = then_stage (netlist_stage (told files) net) (λ (c : Circuit). then_stage (planned_stage (told files) net graph mode slack c) (next c))
+  whole = then_stage (netlist_stage (told files) net) (λ (c : Circuit). then_stage (planned_stage (told files) net graph groups mode slack c) (next c))
 
   pub stops_netlist : (now : F) (out : Output) (stop : Stop) → out.new ≡ out.old
       → Stops (netlist_stage (told files) net) (RoseIn (faults files) (faults now)) stop
@@ -45,26 +45,26 @@ module _ {F : Type 0} (told : F → List ℕ → Held) (faults : F → Which →
 
   module _ (read : F) (later : IsLater told faults files read) (c : Circuit) (accepted : (netlist_stage (told files) net).means c) where
     -- what is planned of the files behind the netlist is planned of them at first
-    planned_here : (now : F) → IsWider (planned_stage (told read) net graph mode slack c) (planned_stage (told files) net graph mode slack c)
+    planned_here : (now : F) → IsWider (planned_stage (told read) net graph groups mode slack c) (planned_stage (told files) net graph groups mode slack c)
         (RoseIn (faults read) (faults now)) (RoseIn (faults files) (faults now))
-    planned_here now = planned_since (told files) (told read) net graph mode slack c (faults files) (faults read) (faults now) later.same_held later.never_falls
+    planned_here now = planned_since (told files) (told read) (faults files) (faults read) (faults now) later.same_held later.never_falls net graph groups mode slack c
 
     pub stops_plan : (now : F) (out : Output) (stop : Stop) → out.new ≡ out.old
-        → Stops (planned_stage (told read) net graph mode slack c) (RoseIn (faults read) (faults now)) stop
+        → Stops (planned_stage (told read) net graph groups mode slack c) (RoseIn (faults read) (faults now)) stop
         → Ends {A = Unit {0}} whole (RoseIn (faults files) (faults now)) out (Err stop)
     stops_plan now out stop same is =
-        let few : Stops (planned_stage (told files) net graph mode slack c) (RoseIn (faults files) (faults now)) stop =
-        widened {A = Planned} (planned_stage (told read) net graph mode slack c) (planned_stage (told files) net graph mode slack c)
+        let few : Stops (planned_stage (told files) net graph groups mode slack c) (RoseIn (faults files) (faults now)) stop =
+        widened {A = Planned} (planned_stage (told read) net graph groups mode slack c) (planned_stage (told files) net graph groups mode slack c)
         (RoseIn (faults read) (faults now)) (RoseIn (faults files) (faults now)) (planned_here now) (Err stop) is in
         ends_after {A = Unit {0}} (netlist_stage (told files) net) behind (RoseIn (faults files) (faults now)) out c accepted (Err stop)
-        (ended_first (Unit {0}) (planned_stage (told files) net graph mode slack c) (next c) (RoseIn (faults files) (faults now)) out stop
-        (planned_nothing (told files) net graph mode slack c) same few)
+        (ended_first (Unit {0}) (planned_stage (told files) net graph groups mode slack c) (next c) (RoseIn (faults files) (faults now)) out stop
+        (planned_nothing (told files) net graph groups mode slack c) same few)
 
     -- behind its plan it ends as what stands there does
-    pub ends_planned : (p : Planned) → (planned_stage (told read) net graph mode slack c).means p
+    pub ends_planned : (p : Planned) → (planned_stage (told read) net graph groups mode slack c).means p
         → (now : F) (out : Output) (result : Result (Unit {0}) Stop)
         → Ends (next c p) (RoseIn (faults files) (faults now)) out result
         → Ends whole (RoseIn (faults files) (faults now)) out result
     ends_planned p is now out result ends =
         ends_after (netlist_stage (told files) net) behind (RoseIn (faults files) (faults now)) out c accepted result
-        (ends_after (planned_stage (told files) net graph mode slack c) (next c) (RoseIn (faults files) (faults now)) out p ((planned_here read).means p is) result ends)
+        (ends_after (planned_stage (told files) net graph groups mode slack c) (next c) (RoseIn (faults files) (faults now)) out p ((planned_here read).means p is) result ends)

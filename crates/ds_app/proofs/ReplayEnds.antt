@@ -60,7 +60,7 @@ module _ {F : Type 0} (told : F → List ℕ → Held) (faults : F → Which →
   whole = then_stage (netlist_stage (told files) job.net) (replay_stage (told files) job)
 
   module _ (read : F) (netlist : IsLater told faults files read) (c : Circuit) (accepted : (netlist_stage (told files) job.net).means c)
-      (made : F) (plan : IsLater told faults read made) (p : Planned) (is_plan : (planned_stage (told read) job.net job.graph job.clusters job.slack c).means p) where
+      (made : F) (plan : IsLater told faults read made) (p : Planned) (is_plan : (planned_stage (told read) job.net job.graph job.groups job.clusters job.slack c).means p) where
     -- behind the vectors
     abbrev behind : Rows → Stage (List ℕ)
     behind rows = replayed_stage (told files) job.log job.transparent p rows.rows
@@ -70,7 +70,7 @@ module _ {F : Type 0} (told : F → List ℕ → Held) (faults : F → Which →
         → Ends {A = Unit {0}} (logged_job (told files) job.vec job.log job.transparent c p) (RoseIn (faults files) (faults now)) out result
         → Ends {A = Unit {0}} whole (RoseIn (faults files) (faults now)) out result
     behind_plan now out result ends =
-        ends_planned told faults files job.net job.graph job.clusters job.slack (logged_job (told files) job.vec job.log job.transparent) read netlist c accepted p is_plan now out result ends
+        ends_planned told faults files job.net job.graph job.groups job.clusters job.slack (logged_job (told files) job.vec job.log job.transparent) read netlist c accepted p is_plan now out result ends
 
     -- the vectors of the files behind the plan are those of the files at first
     vectors_here : (now : F) → IsWider (vectors_stage (told made) job.vec c) (vectors_stage (told files) job.vec c) (RoseIn (faults made) (faults now)) (RoseIn (faults files) (faults now))

@@ -20,6 +20,7 @@ abbrev pub Interleavings : (List ℕ → Held) → List (List ℕ) → Type 0
 Interleavings held words =
     (job : RunJob) → job_of words ≡ Ok (Run job)
     → (c : Circuit) → (netlist_stage held job.net).means c
-    → (p : Planned) → (planned_stage held job.net job.graph job.clusters job.slack c).means p
+    → (p : Planned)
+    → (planned_stage held job.net job.graph job.groups job.clusters job.slack c).means p
     → (vectors : Rows) → (run_vectors_stage held job.vec job.log job.stop c).means vectors
     → Desynchronizes p.split p.graph vectors.rows

@@ -6,3 +6,4 @@ pub mod Job
 pub mod Interleavings
 pub mod Status
 pub mod Laws
+pub mod Listed

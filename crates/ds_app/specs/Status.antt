@@ -8,7 +8,7 @@ use Rattle.ds_outside.specs.declared.files.Which.{Which}
 use Rattle.ds_cmd.specs.Line.{job_of}
 use Rattle.ds_cmd.specs.declared.job.Job.{Job}
 use Rattle.ds_cmd.specs.declared.job.Job.TheVariants.{Run, Clock, Check, Graph, Replay, Accept}
-use Rattle.ds_cmd.specs.declared.job.Job.TheVariants.{Demo, Period}
+use Rattle.ds_cmd.specs.declared.job.Job.TheVariants.{Demo, Period, Clusters}
 use Rattle.ds_cmd.specs.declared.fault.UsageFault.{UsageFault}
 use Rattle.ds_cmd.specs.declared.fault.UsageFault.TheVariants as usage
 use Rattle.ds_stage.specs.declared.stop.Stop.{Stop}
@@ -112,17 +112,19 @@ IsToldIn held (Some file) = held file ≢ untold
 
 -- the files of a job tell what they hold
 abbrev pub AreTold : (List ℕ → Held) → Job → Type 0
-AreTold held (Run job) =
-    (held job.net ≢ untold) × (held job.vec ≢ untold) × IsToldIn held job.graph
+AreTold held (Run job) = (held job.net ≢ untold) × (held job.vec ≢ untold)
+    × IsToldIn held job.graph × IsToldIn held job.groups
 AreTold held (Clock job) = (held job.net ≢ untold) × (held job.vec ≢ untold)
 AreTold held (Check net) = held net ≢ untold
-AreTold held (Graph job) = held job.net ≢ untold
+AreTold held (Graph job) = (held job.net ≢ untold) × IsToldIn held job.groups
 AreTold held (Replay job) = (held job.net ≢ untold) × (held job.vec ≢ untold)
-    × (held job.log ≢ untold) × IsToldIn held job.graph
+    × (held job.log ≢ untold) × IsToldIn held job.graph × IsToldIn held job.groups
 AreTold held (Accept job) = (held job.net ≢ untold) × (held job.graph ≢ untold)
+    × IsToldIn held job.groups
 AreTold held (Demo job) = Unit {0}
-AreTold held (Period job) =
-    (held job.net ≢ untold) × (held job.delays ≢ untold) × IsToldIn held job.graph
+AreTold held (Period job) = (held job.net ≢ untold) × (held job.delays ≢ untold)
+    × IsToldIn held job.graph × IsToldIn held job.groups
+AreTold held (Clusters job) = (held job.net ≢ untold) × IsToldIn held job.groups
 
 -- the job reads its vectors window by window, and writes as it reads
 abbrev pub HasWindows : Job → Type 0

@@ -42,6 +42,7 @@ pub fn accept<F: Files, O: Sink>(
     let netlist = read_netlist(alloc, files, net)?;
     let splitting = Splitting {
         clusters: job.clusters,
+        groups: &job.groups,
         slack: job.slack,
     };
     let plan = plan_named(alloc, files, net, &netlist, graph, splitting)?;

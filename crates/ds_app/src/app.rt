@@ -11,6 +11,7 @@ use crate::check::check;
 use crate::clock::clock;
 use crate::demo::demo;
 use crate::graph::graph;
+use crate::list_clusters::list_clusters;
 use crate::period::period;
 use crate::replay::replay;
 use crate::run::run;
@@ -98,6 +99,7 @@ fn do_job<R: AllocGlobal + Threads + Sync, G: Gate, F: Files, O: Sink>(
         Job::Accept(job) => accept(alloc, job, files, out),
         Job::Demo(job) => demo(rt, job, gate, out),
         Job::Period(job) => period(alloc, job, files, out),
+        Job::Clusters(job) => list_clusters(alloc, job, files, out),
     }
 }
 

@@ -9,7 +9,7 @@ ghost use Rattle.ds_outside.specs.Writes.{Writes};
 ghost use Rattle.ds_netlist.specs.declared.fault.NetFault.TheVariants.{Memory};
 ghost use Rattle.ds_app.specs.DemoStage.{AreSums, demo_stage, summary_text};
 ghost use Rattle.ds_stage.specs.Ends.{Ends, Never, UnlessUnwritten, output_between};
-ghost use Rattle.ds_stage.specs.SplitStage.{split_stage};
+ghost use Rattle.ds_stage.specs.SplitStage.{parted_stage};
 
 use ds_base::{Mode, OutOfMemory};
 use ds_cmd::DemoJob;
@@ -19,7 +19,7 @@ use ds_latch::Plan;
 use ds_netlist::{NetFault, levelise};
 use ds_outside::{Gate, OnSink, Sink, WriteFault};
 use ds_run::{Sums, Workers, sum_run};
-use ds_stage::{Stop, own_plan, put_count, split_netlist};
+use ds_stage::{Stop, no_groups, own_plan, put_count, split_groups};
 use std::alloc::Global;
 use std::thread::Threads;
 
@@ -121,11 +121,12 @@ fn memory_in(fault: &NetFault) -> OutOfMemory
 
 // Its plan, each register in a cluster of its own, where no line refuses its split.
 fn plan_for<'a>(alloc: Global, netlist: &'a Netlist) -> Result<Plan<'a>, OutOfMemory>
-    requires { (line : List ℕ) → ¬ (split_stage [] Each netlist.now).refused line }
+    requires { (line : List ℕ) → ¬ (parted_stage [] Each netlist.now []).refused line }
     ensures netlist { IfOk result (λ plan. plan.split.circuit ≡ netlist.entry.now) }
     ensures start { IfOk result (λ plan. plan.split.initial ≡ initial_row netlist.entry.now) }
 {
-    match split_netlist(alloc, "", netlist, Mode::Each) {
+    let none = no_groups(alloc);
+    match split_groups(alloc, "", netlist, Mode::Each, &none) {
         Ok(latches) => match own_plan(alloc, latches) {
             Ok(plan) => Ok(plan),
             Err(_) => Err(OutOfMemory),

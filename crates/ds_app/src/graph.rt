@@ -12,7 +12,7 @@ use ds_cmd::GraphJob;
 use ds_latch::Latches;
 use ds_marked::Marked;
 use ds_outside::{Files, Sink};
-use ds_stage::{Stop, read_netlist, split_netlist, wanted_graph};
+use ds_stage::{Splitting, Stop, read_netlist, split_netlist, wanted_graph};
 use std::alloc::Global;
 
 /// Reads a netlist, and writes its controller graph, or the expansion of it.
@@ -25,7 +25,7 @@ pub fn graph<F: Files, O: Sink>(
 ) -> Result<(), Stop>
     requires { job.now.slack ≤ 15 }
     ensures value { Ends (then_stage (netlist_stage (F.held files.old) job.now.net)
-        (graph_stage job.now))
+        (graph_stage (F.held files.old) job.now))
         (RoseIn (F.faults files.old) (F.faults files.new))
         (output_between O.written O.faults out.old out.new) result }
 
@@ -35,7 +35,12 @@ pub fn graph<F: Files, O: Sink>(
 {
     let net = job.net.as_str();
     let netlist = read_netlist(alloc, files, net)?;
-    let latches = split_netlist(alloc, net, &netlist, job.clusters)?;
+    let splitting = Splitting {
+        clusters: job.clusters,
+        groups: &job.groups,
+        slack: job.slack,
+    };
+    let latches = split_netlist(alloc, files, net, &netlist, splitting)?;
     draw(alloc, net, &latches.with_slack(job.slack), job.shake, out)
 }
 

@@ -40,6 +40,7 @@ pub fn period<F: Files, O: Sink>(
     let netlist = read_netlist(alloc, files, net)?;
     let splitting = Splitting {
         clusters: job.clusters,
+        groups: &job.groups,
         slack: job.slack,
     };
     let plan = plan_netlist(alloc, files, net, &netlist, &job.graph, splitting)?;

@@ -47,6 +47,7 @@ pub fn run<R: AllocGlobal + Threads + Sync, G: Gate, F: Files, O: Sink>(
 {
     let splitting = Splitting {
         clusters: job.clusters,
+        groups: &job.groups,
         slack: job.slack,
     };
     let alloc = rt.alloc();

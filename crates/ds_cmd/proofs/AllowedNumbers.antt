@@ -21,6 +21,7 @@ use Rattle.ds_cmd.specs.Replay.{replay_job}
 use Rattle.ds_cmd.specs.Accept.{accept_job}
 use Rattle.ds_cmd.specs.Demo.{demo_job}
 use Rattle.ds_cmd.specs.Period.{period_job}
+use Rattle.ds_cmd.specs.ListClusters.{clusters_job}
 use Rattle.ds_cmd.specs.Commands.{commands, desync}
 use Rattle.ds_cmd.specs.Line.{is_none, job_in, job_of, named_job}
 use Rattle.ds_cmd.specs.Allowed.{AreAllowed, AreWorkers}
@@ -138,6 +139,9 @@ period_yields rows = valued (first_of (codes "net") rows) _ (λ net.
     numbered (slack_of rows) _ (λ slack is. moded (clusters_of rows) _ (λ mode in_mode.
     ok_yields _ (few_openings (first_of (codes "slack") rows) slack is)))))
 
+clusters_yields : (rows : List Row) → Yields (clusters_job rows)
+clusters_yields rows = valued (first_of (codes "net") rows) _ (λ net. moded (clusters_of rows) _ (λ mode is. ok_yields _ tt))
+
 named_yields : (name : Text) (rows : List Row) → Yields (named_job name rows commands)
 named_yields name rows =
     chosen (bytes_eq name (codes "run")) _ _ (run_yields rows)
@@ -147,7 +151,8 @@ named_yields name rows =
     (chosen (bytes_eq name (codes "replay")) _ _ (replay_yields rows)
     (chosen (bytes_eq name (codes "accept")) _ _ (accept_yields rows)
     (chosen (bytes_eq name (codes "demo")) _ _ (demo_yields rows)
-    (chosen (bytes_eq name (codes "period")) _ _ (period_yields rows) (fault_yields _))))))))
+    (chosen (bytes_eq name (codes "period")) _ _ (period_yields rows)
+    (chosen (bytes_eq name (codes "clusters")) _ _ (clusters_yields rows) (fault_yields _)))))))))
 
 in_yields : (named : Option (Text × List Row)) → Yields (job_in named)
 in_yields None = fault_yields _

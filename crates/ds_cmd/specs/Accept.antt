@@ -9,12 +9,13 @@ use Rattle.ds_cmd.specs.declared.job.Job.{Job}
 use Rattle.ds_cmd.specs.declared.job.Job.TheVariants.{Accept}
 use Rattle.ds_cmd.specs.declared.fault.UsageFault.{UsageFault}
 
--- `accept NET G [--clusters MODE] [--slack N]`
+-- `accept NET G [--clusters MODE] [--groups F] [--slack N]`
 abbrev pub accept_shape : Shape
 accept_shape = command_shape (codes "accept") (
     word_rule (codes "net") ∷
     word_rule (codes "graph") ∷
     option_rule (codes "clusters") ∷
+    option_rule (codes "groups") ∷
     option_rule (codes "slack") ∷ [])
 
 -- its job, from the values of its arguments
@@ -23,4 +24,10 @@ accept_job rows = with_value (first_of (codes "net") rows) (λ net.
     with_value (first_of (codes "graph") rows) (λ graph.
     with_number (slack_of rows) (λ slack.
     with_mode (clusters_of rows) (λ clusters.
-    Ok (Accept (record { net = net; graph = graph; clusters = clusters; slack = slack }))))))
+    Ok (Accept (record {
+      net = net;
+      graph = graph;
+      clusters = clusters;
+      groups = first_of (codes "groups") rows;
+      slack = slack;
+    }))))))

@@ -1,10 +1,10 @@
 -- The numbers of a job, and what may not stand beside them.
 use Rattle.std.specs.Prelude.{◌≡◌, ℕ, ◌≤◌, ⊤, Bool, true}
 use Rattle.ds_base.specs.Limit.{most_of}
-use Rattle.ds_base.specs.declared.number.Limit.TheVariants.{Clusters, Vectors}
+use Rattle.ds_base.specs.declared.number.Limit.TheVariants as limit
 use Rattle.ds_cmd.specs.declared.job.Job.{Job}
 use Rattle.ds_cmd.specs.declared.job.Job.TheVariants.{Run, Clock, Check, Graph}
-use Rattle.ds_cmd.specs.declared.job.Job.TheVariants.{Replay, Accept, Demo, Period}
+use Rattle.ds_cmd.specs.declared.job.Job.TheVariants.{Replay, Accept, Demo, Period, Clusters}
 
 -- so many workers may be wanted
 abbrev pub AreWorkers : ℕ → Type 0
@@ -23,6 +23,7 @@ AreAllowed (Check net) = ⊤
 AreAllowed (Graph job) = IsSlackBeside job.slack job.shake
 AreAllowed (Replay job) = IsSlackBeside job.slack job.transparent
 AreAllowed (Accept job) = job.slack ≤ 15
-AreAllowed (Demo job) = (1 ≤ job.registers) × (job.registers ≤ most_of Clusters)
-    × (job.turns ≤ most_of Vectors) × AreWorkers job.jobs
+AreAllowed (Demo job) = (1 ≤ job.registers) × (job.registers ≤ most_of limit.Clusters)
+    × (job.turns ≤ most_of limit.Vectors) × AreWorkers job.jobs
 AreAllowed (Period job) = job.slack ≤ 15
+AreAllowed (Clusters job) = ⊤

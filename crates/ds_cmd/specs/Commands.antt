@@ -10,6 +10,7 @@ use Rattle.ds_cmd.specs.Replay.{replay_job, replay_shape}
 use Rattle.ds_cmd.specs.Accept.{accept_job, accept_shape}
 use Rattle.ds_cmd.specs.Demo.{demo_job, demo_shape}
 use Rattle.ds_cmd.specs.Period.{period_job, period_shape}
+use Rattle.ds_cmd.specs.ListClusters.{clusters_job, clusters_shape}
 use Rattle.ds_cmd.specs.declared.job.Job.{Job}
 use Rattle.ds_cmd.specs.declared.fault.UsageFault.{UsageFault}
 
@@ -28,6 +29,7 @@ commands = record { shape = run_shape; job = run_job }
     ∷ record { shape = accept_shape; job = accept_job }
     ∷ record { shape = demo_shape; job = demo_job }
     ∷ record { shape = period_shape; job = period_job }
+    ∷ record { shape = clusters_shape; job = clusters_job }
     ∷ []
 
 -- the program, which wants one of the commands

@@ -10,11 +10,12 @@ use Rattle.ds_cmd.specs.declared.job.Job.{Job}
 use Rattle.ds_cmd.specs.declared.job.Job.TheVariants.{Graph}
 use Rattle.ds_cmd.specs.declared.fault.UsageFault.{UsageFault}
 
--- `graph NET [--clusters MODE] [--slack N] [--shake]`
+-- `graph NET [--clusters MODE] [--groups F] [--slack N] [--shake]`
 abbrev pub graph_shape : Shape
 graph_shape = command_shape (codes "graph") (
     word_rule (codes "net") ∷
     option_rule (codes "clusters") ∷
+    option_rule (codes "groups") ∷
     option_rule (codes "slack") ∷
     flag_rule (codes "shake") ∷ [])
 
@@ -24,4 +25,10 @@ graph_job rows = with_value (first_of (codes "net") rows) (λ net.
     with_number (slack_of rows) (λ slack.
     with_mode (clusters_of rows) (λ clusters.
     with_mode (flag_with slack (is_set (codes "shake") rows)) (λ shake.
-    Ok (Graph (record { net = net; clusters = clusters; slack = slack; shake = shake }))))))
+    Ok (Graph (record {
+      net = net;
+      clusters = clusters;
+      groups = first_of (codes "groups") rows;
+      slack = slack;
+      shake = shake;
+    }))))))

@@ -11,6 +11,7 @@ pub mod Replay
 pub mod Accept
 pub mod Demo
 pub mod Period
+pub mod ListClusters
 pub mod Commands
 pub mod Line
 pub mod Plain

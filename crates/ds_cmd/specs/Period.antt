@@ -9,13 +9,14 @@ use Rattle.ds_cmd.specs.declared.job.Job.{Job}
 use Rattle.ds_cmd.specs.declared.job.Job.TheVariants.{Period}
 use Rattle.ds_cmd.specs.declared.fault.UsageFault.{UsageFault}
 
--- `period NET D [--graph G] [--clusters MODE] [--slack N]`
+-- `period NET D [--graph G] [--clusters MODE] [--groups F] [--slack N]`
 abbrev pub period_shape : Shape
 period_shape = command_shape (codes "period") (
     word_rule (codes "net") ∷
     word_rule (codes "delays") ∷
     option_rule (codes "graph") ∷
     option_rule (codes "clusters") ∷
+    option_rule (codes "groups") ∷
     option_rule (codes "slack") ∷ [])
 
 -- its job, from the values of its arguments
@@ -29,5 +30,6 @@ period_job rows = with_value (first_of (codes "net") rows) (λ net.
       delays = delays;
       graph = first_of (codes "graph") rows;
       clusters = clusters;
+      groups = first_of (codes "groups") rows;
       slack = slack;
     }))))))

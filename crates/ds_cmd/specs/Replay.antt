@@ -10,7 +10,7 @@ use Rattle.ds_cmd.specs.declared.job.Job.{Job}
 use Rattle.ds_cmd.specs.declared.job.Job.TheVariants.{Replay}
 use Rattle.ds_cmd.specs.declared.fault.UsageFault.{UsageFault}
 
--- `replay NET VEC LOG [--graph G] [--clusters MODE] [--slack N] [--transparent]`
+-- `replay NET VEC LOG [--graph G] [--clusters MODE] [--groups F] [--slack N] [--transparent]`
 abbrev pub replay_shape : Shape
 replay_shape = command_shape (codes "replay") (
     word_rule (codes "net") ∷
@@ -18,6 +18,7 @@ replay_shape = command_shape (codes "replay") (
     word_rule (codes "log") ∷
     option_rule (codes "graph") ∷
     option_rule (codes "clusters") ∷
+    option_rule (codes "groups") ∷
     option_rule (codes "slack") ∷
     flag_rule (codes "transparent") ∷ [])
 
@@ -35,6 +36,7 @@ replay_job rows = with_value (first_of (codes "net") rows) (λ net.
       log = log;
       graph = first_of (codes "graph") rows;
       clusters = clusters;
+      groups = first_of (codes "groups") rows;
       slack = slack;
       transparent = transparent;
     }))))))))

@@ -9,13 +9,15 @@ use Rattle.ds_cmd.specs.declared.job.Job.{Job}
 use Rattle.ds_cmd.specs.declared.job.Job.TheVariants.{Run}
 use Rattle.ds_cmd.specs.declared.fault.UsageFault.{UsageFault}
 
--- `run NET VEC [--graph G] [--clusters MODE] [--jobs N] [--log] [--slack N] [--stop N]`
+-- `run NET VEC [--graph G] [--clusters MODE] [--groups F] [--jobs N] [--log] [--slack N]
+-- [--stop N]`
 abbrev pub run_shape : Shape
 run_shape = command_shape (codes "run") (
     word_rule (codes "net") ∷
     word_rule (codes "vec") ∷
     option_rule (codes "graph") ∷
     option_rule (codes "clusters") ∷
+    option_rule (codes "groups") ∷
     option_rule (codes "jobs") ∷
     flag_rule (codes "log") ∷
     option_rule (codes "slack") ∷
@@ -34,6 +36,7 @@ run_job rows = with_value (first_of (codes "net") rows) (λ net.
       vec = vec;
       graph = first_of (codes "graph") rows;
       clusters = clusters;
+      groups = first_of (codes "groups") rows;
       jobs = jobs;
       log = is_set (codes "log") rows;
       slack = slack;

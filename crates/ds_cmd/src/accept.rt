@@ -4,7 +4,7 @@ ghost use Rattle.clap.specs.Words.{shape_of, found_of, rows_of};
 ghost use Rattle.ds_cmd.specs.Fault.{Gives};
 ghost use Rattle.ds_cmd.specs.Accept.{accept_job, accept_shape};
 
-use crate::argument::{option, text, word};
+use crate::argument::{named, option, text, word};
 use crate::clusters::clusters;
 use crate::number::slack;
 use crate::subcommand::subcommand;
@@ -22,11 +22,13 @@ pub struct AcceptJob {
     pub graph: FileName,
     /// How registers are put into clusters.
     pub clusters: Mode,
+    /// The file of groups of registers, where one is named.
+    pub groups: Option<FileName>,
     /// How many openings a producer may run ahead of its consumers, 0 to 15.
     pub slack: u8,
 }
 
-/// `accept NET G [--clusters MODE] [--slack S]`, as a subcommand.
+/// `accept NET G [--clusters MODE] [--groups F] [--slack S]`, as a subcommand.
 pub fn command<'a>(alloc: Global) -> Result<Command<'a>, OutOfMemory>
     ensures { IfOk result (λ c. shape_of c ≡ accept_shape) }
 {
@@ -34,6 +36,7 @@ pub fn command<'a>(alloc: Global) -> Result<Command<'a>, OutOfMemory>
         word(alloc, "net"),
         word(alloc, "graph"),
         option(alloc, "clusters"),
+        option(alloc, "groups"),
         option(alloc, "slack"),
     ]?;
     subcommand(alloc, "accept", args)
@@ -59,6 +62,7 @@ pub fn job(alloc: Global, values: &ArgMatches<'_>) -> Result<Job, UsageFault>
         net: FileName::new(alloc, net)?,
         graph: FileName::new(alloc, graph)?,
         clusters,
+        groups: named(alloc, values, "groups")?,
         slack,
     }))
 }

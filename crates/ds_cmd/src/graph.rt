@@ -4,7 +4,7 @@ ghost use Rattle.clap.specs.Words.{shape_of, found_of, rows_of};
 ghost use Rattle.ds_cmd.specs.Fault.{Gives};
 ghost use Rattle.ds_cmd.specs.Graph.{graph_job, graph_shape};
 
-use crate::argument::{flag, flag_with, option, text, word};
+use crate::argument::{flag, flag_with, named, option, text, word};
 use crate::clusters::clusters;
 use crate::number::slack;
 use crate::subcommand::subcommand;
@@ -20,19 +20,22 @@ pub struct GraphJob {
     pub net: FileName,
     /// How registers are put into clusters.
     pub clusters: Mode,
+    /// The file of groups of registers, where one is named.
+    pub groups: Option<FileName>,
     /// How many openings a producer may run ahead of its consumers, 0 to 15.
     pub slack: u8,
     /// Whether the four-phase expansion of the graph is wanted, which is without slack.
     pub shake: bool,
 }
 
-/// `graph NET [--clusters MODE] [--slack S] [--shake]`, as a subcommand.
+/// `graph NET [--clusters MODE] [--groups F] [--slack S] [--shake]`, as a subcommand.
 pub fn command<'a>(alloc: Global) -> Result<Command<'a>, OutOfMemory>
     ensures { IfOk result (λ c. shape_of c ≡ graph_shape) }
 {
     let args = vec![in alloc;
         word(alloc, "net"),
         option(alloc, "clusters"),
+        option(alloc, "groups"),
         option(alloc, "slack"),
         flag(alloc, "shake"),
     ]?;
@@ -58,6 +61,7 @@ pub fn job(alloc: Global, values: &ArgMatches<'_>) -> Result<Job, UsageFault>
     Ok(Job::Graph(GraphJob {
         net: FileName::new(alloc, net)?,
         clusters,
+        groups: named(alloc, values, "groups")?,
         slack,
         shake,
     }))

@@ -4,6 +4,7 @@ use crate::accept::AcceptJob;
 use crate::clock::ClockJob;
 use crate::demo::DemoJob;
 use crate::graph::GraphJob;
+use crate::list_clusters::ClustersJob;
 use crate::period::PeriodJob;
 use crate::replay::ReplayJob;
 use crate::run::RunJob;
@@ -27,4 +28,6 @@ pub enum Job {
     Demo(DemoJob),
     /// The exact period of the controller graph, where its orders have the delays of a file.
     Period(PeriodJob),
+    /// The clusters of the registers, each with its latches: a file of groups.
+    Clusters(ClustersJob),
 }

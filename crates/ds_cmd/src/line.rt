@@ -7,7 +7,9 @@ ghost use Rattle.ds_cmd.specs.Commands.{commands};
 ghost use Rattle.ds_cmd.specs.Line.{job_in, job_of, named_job};
 
 use crate::command::desync_command;
-use crate::{Job, UsageFault, accept, check, clock, demo, graph, period, replay, run};
+use crate::{
+    Job, UsageFault, accept, check, clock, demo, graph, list_clusters, period, replay, run,
+};
 use clap::error::ErrorKind;
 use clap::{ArgMatches, Error};
 use std::alloc::Global;
@@ -75,6 +77,8 @@ fn further_job(alloc: Global, name: &str, values: &ArgMatches<'_>) -> Result<Job
         demo::job(values)
     } else if name == "period" {
         period::job(alloc, values)
+    } else if name == "clusters" {
+        list_clusters::job(alloc, values)
     } else {
         Err(UsageFault::Line)
     }

@@ -24,11 +24,13 @@ pub struct PeriodJob {
     pub graph: Option<FileName>,
     /// How registers are put into clusters.
     pub clusters: Mode,
+    /// The file of groups of registers, where one is named.
+    pub groups: Option<FileName>,
     /// How many openings a producer may run ahead of its consumers, 0 to 15.
     pub slack: u8,
 }
 
-/// `period NET D [--graph G] [--clusters MODE] [--slack S]`, as a subcommand.
+/// `period NET D [--graph G] [--clusters MODE] [--groups F] [--slack S]`, as a subcommand.
 pub fn command<'a>(alloc: Global) -> Result<Command<'a>, OutOfMemory>
     ensures { IfOk result (λ c. shape_of c ≡ period_shape) }
 {
@@ -37,6 +39,7 @@ pub fn command<'a>(alloc: Global) -> Result<Command<'a>, OutOfMemory>
         word(alloc, "delays"),
         option(alloc, "graph"),
         option(alloc, "clusters"),
+        option(alloc, "groups"),
         option(alloc, "slack"),
     ]?;
     subcommand(alloc, "period", args)
@@ -63,6 +66,7 @@ pub fn job(alloc: Global, values: &ArgMatches<'_>) -> Result<Job, UsageFault>
         delays: FileName::new(alloc, delays)?,
         graph: named(alloc, values, "graph")?,
         clusters,
+        groups: named(alloc, values, "groups")?,
         slack,
     }))
 }

@@ -26,13 +26,16 @@ pub struct ReplayJob {
     pub graph: Option<FileName>,
     /// How registers are put into clusters.
     pub clusters: Mode,
+    /// The file of groups of registers, where one is named.
+    pub groups: Option<FileName>,
     /// How many openings a producer may run ahead of its consumers, 0 to 15.
     pub slack: u8,
     /// Whether what the open latches let through is wanted, which is without slack.
     pub transparent: bool,
 }
 
-/// `replay NET VEC LOG [--graph G] [--clusters MODE] [--slack S] [--transparent]`, as a subcommand.
+/// `replay NET VEC LOG [--graph G] [--clusters MODE] [--groups F] [--slack S]
+/// [--transparent]`, as a subcommand.
 pub fn command<'a>(alloc: Global) -> Result<Command<'a>, OutOfMemory>
     ensures { IfOk result (λ c. shape_of c ≡ replay_shape) }
 {
@@ -42,6 +45,7 @@ pub fn command<'a>(alloc: Global) -> Result<Command<'a>, OutOfMemory>
         word(alloc, "log"),
         option(alloc, "graph"),
         option(alloc, "clusters"),
+        option(alloc, "groups"),
         option(alloc, "slack"),
         flag(alloc, "transparent"),
     ]?;
@@ -76,6 +80,7 @@ pub fn job(alloc: Global, values: &ArgMatches<'_>) -> Result<Job, UsageFault>
         log: FileName::new(alloc, log)?,
         graph: named(alloc, values, "graph")?,
         clusters,
+        groups: named(alloc, values, "groups")?,
         slack,
         transparent,
     }))

@@ -24,6 +24,8 @@ pub struct RunJob {
     pub graph: Option<FileName>,
     /// How registers are put into clusters.
     pub clusters: Mode,
+    /// The file of groups of registers, where one is named.
+    pub groups: Option<FileName>,
     /// How many threads are wanted, 1 to 64.
     pub jobs: u32,
     /// Whether the log of the firings is wanted behind the trace.
@@ -34,8 +36,8 @@ pub struct RunJob {
     pub stop: Option<u64>,
 }
 
-/// `run NET VEC [--graph G] [--clusters MODE] [--jobs N] [--log] [--slack S] [--stop K]`, as a
-/// subcommand.
+/// `run NET VEC [--graph G] [--clusters MODE] [--groups F] [--jobs N] [--log] [--slack S]
+/// [--stop K]`, as a subcommand.
 pub fn command<'a>(alloc: Global) -> Result<Command<'a>, OutOfMemory>
     ensures { IfOk result (λ c. shape_of c ≡ run_shape) }
 {
@@ -44,6 +46,7 @@ pub fn command<'a>(alloc: Global) -> Result<Command<'a>, OutOfMemory>
         word(alloc, "vec"),
         option(alloc, "graph"),
         option(alloc, "clusters"),
+        option(alloc, "groups"),
         option(alloc, "jobs"),
         flag(alloc, "log"),
         option(alloc, "slack"),
@@ -79,6 +82,7 @@ pub fn job(alloc: Global, values: &ArgMatches<'_>) -> Result<Job, UsageFault>
         vec: FileName::new(alloc, vec)?,
         graph: named(alloc, values, "graph")?,
         clusters,
+        groups: named(alloc, values, "groups")?,
         jobs,
         log: is_set(values, "log"),
         slack,

@@ -4,6 +4,7 @@ use Rattle.clap.specs.Words.{Text}
 use Rattle.ds_base.specs.declared.number.Mode.TheVariants.{Each}
 use Rattle.ds_cmd.specs.declared.accept.AcceptJob.{AcceptJob}
 use Rattle.ds_cmd.specs.declared.graph.GraphJob.{GraphJob}
+use Rattle.ds_cmd.specs.declared.list_clusters.ClustersJob.{ClustersJob}
 use Rattle.ds_cmd.specs.declared.period.PeriodJob.{PeriodJob}
 use Rattle.ds_cmd.specs.declared.replay.ReplayJob.{ReplayJob}
 use Rattle.ds_cmd.specs.declared.run.RunJob.{RunJob}
@@ -16,6 +17,7 @@ bare_run net vec = record {
   vec = vec;
   graph = None;
   clusters = Each;
+  groups = None;
   jobs = 1;
   log = false;
   slack = 0;
@@ -25,7 +27,7 @@ bare_run net vec = record {
 -- `graph NET`: each register is a cluster of its own, there is no slack, and the graph is not
 -- expanded
 abbrev pub bare_graph : Text → GraphJob
-bare_graph net = record { net = net; clusters = Each; slack = 0; shake = false }
+bare_graph net = record { net = net; clusters = Each; groups = None; slack = 0; shake = false }
 
 -- `replay NET VEC LOG`: each register is a cluster of its own, there is no slack, and open latches
 -- are not shown
@@ -36,13 +38,20 @@ bare_replay net vec log = record {
   log = log;
   graph = None;
   clusters = Each;
+  groups = None;
   slack = 0;
   transparent = false;
 }
 
 -- `accept NET G`: each register is a cluster of its own, and there is no slack
 abbrev pub bare_accept : Text → Text → AcceptJob
-bare_accept net graph = record { net = net; graph = graph; clusters = Each; slack = 0 }
+bare_accept net graph = record {
+  net = net;
+  graph = graph;
+  clusters = Each;
+  groups = None;
+  slack = 0;
+}
 
 -- `period NET D`: no graph is named, each register is a cluster of its own, and there is no slack
 abbrev pub bare_period : Text → Text → PeriodJob
@@ -51,5 +60,10 @@ bare_period net delays = record {
   delays = delays;
   graph = None;
   clusters = Each;
+  groups = None;
   slack = 0;
 }
+
+-- `clusters NET`: each register is a cluster of its own
+abbrev pub bare_clusters : Text → ClustersJob
+bare_clusters net = record { net = net; clusters = Each; groups = None }

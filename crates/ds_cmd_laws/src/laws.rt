@@ -6,12 +6,12 @@ ghost use Rattle.std.specs.Fmt.{decimal};
 ghost use Rattle.ds_cmd.specs.Line.{job_of};
 ghost use Rattle.ds_cmd.specs.Plain.{is_command, is_plain};
 ghost use Rattle.ds_cmd.specs.declared.job.Job.TheVariants.{Run, Clock, Check, Graph};
-ghost use Rattle.ds_cmd.specs.declared.job.Job.TheVariants.{Replay, Accept, Demo, Period};
+ghost use Rattle.ds_cmd.specs.declared.job.Job.TheVariants.{Replay, Accept, Demo, Period, Clusters};
 ghost use Rattle.ds_base.specs.declared.number.Mode.{Mode};
 ghost use Rattle.ds_cmd.specs.Clusters.{mode_word};
 ghost use Rattle.ds_cmd.specs.declared.fault.UsageFault.TheVariants.{Line};
-ghost use Rattle.ds_cmd_laws.specs.Bare.{bare_accept, bare_graph, bare_period, bare_replay};
-ghost use Rattle.ds_cmd_laws.specs.Bare.{bare_run};
+ghost use Rattle.ds_cmd_laws.specs.Bare.{bare_accept, bare_clusters, bare_graph, bare_period};
+ghost use Rattle.ds_cmd_laws.specs.Bare.{bare_replay, bare_run};
 
 /// `run` with two names of files is taken, whatever the program's name is; each register is then a
 /// cluster of its own, unless the word behind `--clusters` says otherwise, and no controller graph
@@ -137,6 +137,16 @@ pub fn period_is_taken()
         → is_plain delays ≡ true → slack ≤ 15
         → job_of (program ∷ codes "period" ∷ net ∷ delays ∷ codes "--slack" ∷ decimal slack ∷ [])
         ≡ Ok (Period (record (bare_period net delays) { slack = slack })) }
+{}
+
+/// `clusters` with the name of a file is taken; each register is then a cluster of its own, and no
+/// file of groups is named, unless `--groups` stands there.
+pub fn clusters_is_taken()
+    ensures each { (program net : List ℕ) → is_plain net ≡ true
+        → job_of (program ∷ codes "clusters" ∷ net ∷ []) ≡ Ok (Clusters (bare_clusters net)) }
+    ensures groups { (program net groups : List ℕ) → is_plain net ≡ true → is_plain groups ≡ true
+        → job_of (program ∷ codes "clusters" ∷ net ∷ codes "--groups" ∷ groups ∷ [])
+        ≡ Ok (Clusters (record (bare_clusters net) { groups = Some groups })) }
 {}
 
 /// A line that begins with another name than that of a command is refused, whatever follows.

@@ -17,6 +17,6 @@ printed_graphs_have_ranks held job graph printed allowed told means is short =
     let (flat, is_flat, (same, accepts)) = back.is_circuit in
     let accepted : IsAccepted back.circuit = subst (λ (c : Circuit). IsAccepted c) (sym same) accepts in
     let p : Planned = record { split = slackened back.split job.slack; graph = back.printed_graph } in
-    let plan : IsPlan p.split p.graph = planned_is_plan held job.net (Some graph) job.clusters job.slack back.circuit p accepted back.is_plan in
+    let plan : IsPlan p.split p.graph = planned_is_plan held job.net (Some graph) job.groups job.clusters job.slack back.circuit p accepted back.is_plan in
     let (ranks, are) = live_graphs_have_ranks p.graph plan.live in
     (ranks_text p.graph ranks, (back.circuit, back.is_circuit, (p, back.is_plan, (ranks, are, refl))))

@@ -21,7 +21,7 @@ use Rattle.ds_latch.proofs.Rising.{orders_are_accepted}
 use Rattle.ds_control.specs.Orders.{tokens_after}
 use Rattle.ds_control.proofs.Required.{named, tokens_is}
 use Rattle.ds_split_laws.proofs.Slack.{few_at_slack, split_at_slack}
-use Rattle.ds_split.specs.Laws.{OneClustering}
+use Rattle.ds_split.specs.Laws.{OneGroupedClustering}
 use Rattle.ds_split.specs.Split.{HasTooManyOrders}
 use Rattle.ds_shake.specs.Expansion.{expanded_arcs, freeing_tokens, handshake_arcs}
 use Rattle.ds_shake.specs.declared.handshake.Handshake.{Handshake}
@@ -41,7 +41,7 @@ use Rattle.ds_stage.proofs.PlanAccepted.{in_clusters_split}
 use Rattle.ds_stage.proofs.PlanExclusive.{planned_exclusive}
 use Rattle.ds_app.specs.Job.{stages_of}
 use Rattle.ds_app.specs.JobStages.{accept_stage}
-use Rattle.ds_app.specs.Status.{AreTold}
+use Rattle.ds_app.specs.Status.{AreTold, IsToldIn}
 use Rattle.ds_app.proofs.Exclusive.{told_file}
 use Rattle.ds_graph_laws.specs.Printed.{IsReadBack, accept_after}
 use Rattle.ds_graph_laws.proofs.FewArcs.{few_arcs}
@@ -164,10 +164,10 @@ named_means held file text s g is short read kept plan =
 pub printed_graphs_are_read : (held : List ℕ → Held) (job : GraphJob) (graph printed : List ℕ)
     → AreAllowed (GraphCommand job) → AreTold held (GraphCommand job) → (stages_of held (GraphCommand job)).means printed
     → held graph ≡ bytes printed → length printed ≤ most_of Bytes → IsReadBack held job graph printed
-printed_graphs_are_read held job graph printed (low, shaken) told (c, netlist, (s, (is, fits), (g, wanted, drawn))) is_graph short =
+printed_graphs_are_read held job graph printed (low, shaken) (told, grouped) (c, netlist, (s, (gs, are_groups, (is, fits)), (g, wanted, drawn))) is_graph short =
     let (flat, is_flat, (same, accepted)) = netlist in
     let t : Split = slackened s job.slack in
-    let split : IsSplit s = in_clusters_split job.clusters c s (subst (λ (d : Circuit). IsAccepted d) (sym same) accepted) is in
+    let split : IsSplit s = in_clusters_split job.clusters gs c s (subst (λ (d : Circuit). IsAccepted d) (sym same) accepted) is in
     let circuit : s.circuit ≡ c = ap (λ (u : Split). u.circuit) is.is in
     let clusters : length s.clusters ≡ length is.clusters = ap (λ (u : Split). length u.clusters) is.is in
     let few : length is.clusters ≤ 4096 = is.few in
@@ -180,22 +180,22 @@ printed_graphs_are_read held job graph printed (low, shaken) told (c, netlist, (
       split = s;
       printed_graph = g;
       is_circuit = netlist;
-      is_split = (is, fits);
+      is_split = (gs, are_groups, (is, fits));
       is_graph = wanted;
       is_text = drawn;
       is_plan = (
         s,
-        (is, fits),
+        (gs, are_groups, (is, fits)),
         named_means held graph printed t g is_graph short (ap (λ (u : List ℕ). graph_of_lines (lines_of u)) drawn ∙ read) kept plan,
       );
     }
 
 -- and `accept` does not refuse it
-module _ (faults : FaultsAreRefused) (one : OneClustering) (held : List ℕ → Held) (job : GraphJob) (graph printed : List ℕ)
-    (told : held job.net ≢ untold) (named_told : held graph ≢ untold) (back : IsReadBack held job graph printed) (line : List ℕ) where
+module _ (faults : FaultsAreRefused) (one : OneGroupedClustering) (held : List ℕ → Held) (job : GraphJob) (graph printed : List ℕ)
+    (told : held job.net ≢ untold) (grouped : IsToldIn held job.groups) (named_told : held graph ≢ untold) (back : IsReadBack held job graph printed) (line : List ℕ) where
   plan_taken : ¬ (accept_stage held (accept_after job graph) back.circuit).refused line
   plan_taken (inl bad) =
-      (planned_exclusive one held job.net (Some graph) job.clusters job.slack (told_file held (Some graph) named_told) back.circuit).not_refused
+      (planned_exclusive one held job.net (Some graph) job.groups job.clusters job.slack (told_file held (Some graph) named_told) (told_file held job.groups grouped) back.circuit).not_refused
       (record { split = slackened back.split job.slack; graph = back.printed_graph }) line back.is_plan bad
   plan_taken (inr (p, planned, none)) = none
 
@@ -211,9 +211,9 @@ told_bytes : (h : Held) (text : List ℕ) → h ≡ bytes text → h ≢ untold
 told_bytes h text is not_told = cc
 
 -- what is printed is taken
-pub printed_graphs_are_taken : FaultsAreRefused → OneClustering → (held : List ℕ → Held) (job : GraphJob) (graph printed : List ℕ)
+pub printed_graphs_are_taken : FaultsAreRefused → OneGroupedClustering → (held : List ℕ → Held) (job : GraphJob) (graph printed : List ℕ)
     → AreAllowed (GraphCommand job) → AreTold held (GraphCommand job) → (stages_of held (GraphCommand job)).means printed
     → held graph ≡ bytes printed → length printed ≤ most_of Bytes
     → (line : List ℕ) → ¬ (stages_of held (Accept (accept_after job graph))).refused line
 printed_graphs_are_taken faults one held job graph printed allowed told means is short line =
-    all_taken faults one held job graph printed told (told_bytes (held graph) printed is) (printed_graphs_are_read held job graph printed allowed told means is short) line
+    all_taken faults one held job graph printed told.0 told.1 (told_bytes (held graph) printed is) (printed_graphs_are_read held job graph printed allowed told means is short) line

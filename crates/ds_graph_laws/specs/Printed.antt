@@ -25,11 +25,11 @@ pub record IsReadBack (held : List ℕ → Held) (job : GraphJob) (graph printed
   pub split : Split
   pub printed_graph : Graph
   pub is_circuit : (netlist_stage held job.net).means circuit
-  pub is_split : (split_stage job.net job.clusters circuit).means split
+  pub is_split : (split_stage held job.net job.groups job.clusters circuit).means split
   pub is_graph : (wanted_stage job.net job.shake (slackened split job.slack)).means printed_graph
   pub is_text : (drawn_stage (slackened split job.slack) printed_graph).means printed
-  pub is_plan : (planned_stage held job.net (Some graph) job.clusters job.slack circuit).means
-      (record { split = slackened split job.slack; graph = printed_graph })
+  pub is_plan : (planned_stage held job.net (Some graph) job.groups job.clusters job.slack
+      circuit).means (record { split = slackened split job.slack; graph = printed_graph })
 
 -- what `graph` prints, with `--shake` or without, is read as the graph that was printed, where the
 -- file of the graph holds these bytes and is not too long
@@ -40,16 +40,18 @@ PrintedGraphsAreRead = (held : List ℕ → Held) (job : GraphJob) (graph printe
     → held graph ≡ bytes printed → length printed ≤ most_of Bytes
     → IsReadBack held job graph printed
 
--- `accept` of the netlist, the clusters and the slack of a graph, by the graph of a file
+-- `accept` of the netlist, the clusters, the groups and the slack of a graph, by the graph of a
+-- file
 abbrev pub accept_after : GraphJob → List ℕ → AcceptJob
 accept_after job graph = record {
   net = job.net;
   graph = graph;
   clusters = job.clusters;
+  groups = job.groups;
   slack = job.slack;
 }
 
--- so `accept` of the same netlist, clusters and slack does not refuse it
+-- so `accept` of the same netlist, clusters, groups and slack does not refuse it
 abbrev pub PrintedGraphsAreTaken : Type 0
 PrintedGraphsAreTaken = (held : List ℕ → Held) (job : GraphJob) (graph printed : List ℕ)
     → AreAllowed (GraphCommand job) → AreTold held (GraphCommand job)

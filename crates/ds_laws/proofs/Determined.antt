@@ -22,7 +22,7 @@ use Rattle.ds_latch.proofs.Flow.{flow_equivalence}
 use Rattle.ds_latch.proofs.Headline.{headline}
 use Rattle.ds_latch.proofs.Transparent.{transparent_latches}
 use Rattle.ds_netlist.specs.Laws.{FaultsAreRefused}
-use Rattle.ds_split.specs.Laws.{OneClustering}
+use Rattle.ds_split.specs.Laws.{OneGroupedClustering}
 use Rattle.ds_cmd.specs.Allowed.{AreAllowed}
 use Rattle.ds_cmd.specs.declared.job.Job.TheVariants.{Replay}
 use Rattle.ds_cmd.specs.declared.replay.ReplayJob.{ReplayJob}
@@ -120,20 +120,20 @@ log_legal : (held : List ℕ → Held) (log : List ℕ) (p : Planned) (vectors :
 log_legal held log p vectors events (lines, there, fires) =
     legal_events p.graph (length vectors) (words_of_lines (log_of lines)) (λ _. 0) events (legal p.graph (length vectors) (λ _. 0) (log_of lines) events fires)
 
-pub replay_has_one_text : FaultsAreRefused → OneClustering → (held : List ℕ → Held) (job : ReplayJob) → AreAllowed (Replay job) → AreTold held (Replay job)
+pub replay_has_one_text : FaultsAreRefused → OneGroupedClustering → (held : List ℕ → Held) (job : ReplayJob) → AreAllowed (Replay job) → AreTold held (Replay job)
     → (text other : List ℕ) → (stages_of held (Replay job)).means text → (stages_of held (Replay job)).means other → other ≡ text
-replay_has_one_text faults one held job (few, without) (told_net, told_vec, told_log, told)
+replay_has_one_text faults one held job (few, without) (told_net, told_vec, told_log, told, grouped)
     text other (c, netlist, (p, planned, (vectors, read, (events, fired, is)))) also =
-    let (more, found, is_also) = of_these faults one held job told_net told_vec told c netlist p planned vectors read other also in
-    let same : c ≡ p.split.circuit = sym (planned_circuit held job.net job.graph job.clusters job.slack c p planned) in
+    let (more, found, is_also) = of_these faults one held job told_net told_vec told grouped c netlist p planned vectors read other also in
+    let same : c ≡ p.split.circuit = sym (planned_circuit held job.net job.graph job.groups job.clusters job.slack c p planned) in
     let (flat, is_flat, (is_design, accepted)) = netlist in
-    let plan : IsPlan p.split p.graph = planned_is_plan held job.net job.graph job.clusters job.slack c p (subst (λ (d : Circuit). IsAccepted d) (sym is_design) accepted) planned in
+    let plan : IsPlan p.split p.graph = planned_is_plan held job.net job.graph job.groups job.clusters job.slack c p (subst (λ (d : Circuit). IsAccepted d) (sym is_design) accepted) planned in
     let runs : Desynchronizes p.split p.graph vectors.rows =
     headline p.split p.graph plan
     (subst IsInRange same (netlist_in_range held job.net c netlist))
     vectors.rows
     (subst (λ (d : Circuit). All (λ vector. length vector ≡ length (columns d)) vectors.rows) same (vectors_wide held job.vec c vectors read)) in
-    let (s, in_clusters, split_is) = planned_in_clusters held job.net job.graph job.clusters job.slack c p planned in
+    let (s, in_clusters, split_is) = planned_in_clusters held job.net job.graph job.groups job.clusters job.slack c p planned in
     let slack : p.split.slack ≡ job.slack = ap (λ (t : Split). t.slack) split_is in
     let events_are : more ≡ events = log_alone held job.log p vectors.rows (held job.log) refl told_log events more fired found in
     sym (text_one p plan vectors.rows runs.state runs.nets runs.run events (log_legal held job.log p vectors.rows events fired) job.transparent

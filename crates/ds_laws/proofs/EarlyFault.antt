@@ -5,7 +5,7 @@ use Rattle.ds_cmd.specs.Line.{job_of}
 use Rattle.ds_cmd.specs.declared.job.Job.{Job}
 use Rattle.ds_cmd.specs.declared.job.Job.TheVariants.{Run, Clock, Check, Graph, Replay, Accept, Demo, Period}
 use Rattle.ds_netlist.specs.Laws.{FaultsAreRefused}
-use Rattle.ds_split.specs.Laws.{OneClustering}
+use Rattle.ds_split.specs.Laws.{OneGroupedClustering}
 use Rattle.ds_stage.specs.Ends.{RoseIn}
 use Rattle.ds_stage.specs.declared.stop.Stop.TheVariants.{Unwritten}
 use Rattle.ds_app.specs.Job.{stages_of}
@@ -33,7 +33,7 @@ windows_or_none (Period job) = inr (λ none. none)
 same_job : (words : List (List ℕ)) (one other : Job) → job_of words ≡ Ok one → job_of words ≡ Ok other → one ≡ other
 same_job words one other is also = cc
 
-module _ (faults : FaultsAreRefused) (clustering : OneClustering) (call : Call) (job : Job) (line : List ℕ) (is_job : job_of call.words ≡ Ok job)
+module _ (faults : FaultsAreRefused) (clustering : OneGroupedClustering) (call : Call) (job : Job) (line : List ℕ) (is_job : job_of call.words ≡ Ok job)
     (told : AreTold call.held job) (refused : (stages_of call.held job).refused line) where
   no_text : (text : List ℕ) → ¬ (stages_of call.held job).means text
   no_text text means = job_not_refused faults clustering call.held job told text line means refused
@@ -64,7 +64,7 @@ module _ (faults : FaultsAreRefused) (clustering : OneClustering) (call : Call) 
       ]
 
 -- the statuses other than 1 and 4 are excluded
-pub exact_fault_early : FaultsAreRefused → OneClustering → (call : Call) (status : ℕ) → IsAnswered call status → (job : Job) (line : List ℕ)
+pub exact_fault_early : FaultsAreRefused → OneGroupedClustering → (call : Call) (status : ℕ) → IsAnswered call status → (job : Job) (line : List ℕ)
     → job_of call.words ≡ Ok job → AreTold call.held job → (stages_of call.held job).refused line
     → ((other : List ℕ) → ¬ (stages_of call.held job).unread (RoseIn call.before call.now) other)
     → (HasWindows job → ¬ Rose call.out.before call.out.now) → (status ≡ 1) ⊎ (status ≡ 4)

@@ -16,3 +16,4 @@ pub mod EarlyFault
 pub mod Ranked
 pub mod OneRequired
 pub mod SoFar
+pub mod Grouping

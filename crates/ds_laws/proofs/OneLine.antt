@@ -28,8 +28,10 @@ use Rattle.ds_stream.specs.declared.fault.NextFault.{NextFault}
 use Rattle.ds_stream.specs.declared.fault.NextFault.TheVariants as why
 use Rattle.ds_latch.specs.Node.{Split, slackened}
 use Rattle.ds_latch.specs.Plan.{Planned}
-use Rattle.ds_split.specs.Cluster.{HasTooManyClusters}
-use Rattle.ds_split.specs.Laws.{OneClustering}
+use Rattle.ds_split.specs.Grouped.{HasTooManyGrouped}
+use Rattle.ds_groups.specs.Names.{register_names}
+use Rattle.ds_groups.specs.Read.{groups_of}
+use Rattle.ds_split.specs.Laws.{OneGroupedClustering}
 use Rattle.ds_accept.specs.Laws.{OneAcceptFault, ShowsTokenFreeCycle}
 use Rattle.ds_accept.specs.declared.fault.AcceptFault.{AcceptFault}
 use Rattle.ds_accept.specs.declared.fault.AcceptFault.TheVariants as accept
@@ -41,7 +43,7 @@ use Rattle.ds_replay.specs.Replay.{replay_of}
 use Rattle.ds_replay.specs.ReplayText.{IsReplayText}
 use Rattle.ds_replay.specs.declared.fault.ReplayKind.{ReplayKind}
 use Rattle.ds_cmd.specs.declared.job.Job.{Job}
-use Rattle.ds_cmd.specs.declared.job.Job.TheVariants.{Run, Clock, Check, Graph as GraphCommand, Replay, Accept, Demo, Period}
+use Rattle.ds_cmd.specs.declared.job.Job.TheVariants.{Run, Clock, Check, Graph as GraphCommand, Replay, Accept, Demo, Period, Clusters}
 use Rattle.ds_stage.specs.AcceptStage.{ranks_stage}
 use Rattle.ds_stage.specs.FaultText.{IsNetFaultText, blif_text, file_line, flat_text, net_fault_text, numbered_line, too_many_text, vector_text, with_blanks}
 use Rattle.ds_stage.specs.GraphStage.{IsGraphOf, controller_stage, drawn_stage, wanted_stage}
@@ -49,15 +51,18 @@ use Rattle.ds_stage.specs.GraphText.{IsAcceptText, accept_text, astg_text}
 use Rattle.ds_stage.specs.PeriodStage.{IsPeriodText, delay_text, delays_stage, given_stage, timed_stage}
 use Rattle.ds_stage.specs.PlanStage.{IsOwnPlan, acceptable_stage, marked_stage, named_stage, plan_stage, planned_stage}
 use Rattle.ds_stage.specs.ReplayStage.{fired_stage, log_stage, log_text, replayed_stage}
-use Rattle.ds_stage.specs.SplitStage.{IsInClusters, split_stage}
+use Rattle.ds_stage.specs.SplitStage.{IsInClusters, parted_stage, split_stage}
+use Rattle.ds_stage.specs.ClustersStage.{clustered_stage, clusters_stage, listed_stage}
+use Rattle.ds_stage.specs.GroupsStage.{group_text, grouped_stage, groups_stage}
 use Rattle.ds_stage.specs.Stage.{IsExclusive, Stage, giving, then_stage}
 use Rattle.ds_stage.specs.Stages.{OfBytes, accepted_stage, design_stage, file_stage, lines_stage, netlist_stage, read_or_line, report_stage, result_stage, rows_stage, text_stage, trace_stage, vectors_stage}
 use Rattle.ds_stage.specs.StreamStage.{IsFaultLine, IsStreamLine, most_vectors, streamed_stage}
 use Rattle.ds_stage.proofs.Exclusive.{lines_exclusive, netlist_exclusive, result_exclusive, then_exclusive, vectors_exclusive}
 use Rattle.ds_stage.proofs.OneGraph.{one_graph}
+use Rattle.ds_stage.proofs.GroupStages.{groups_exclusive}
 use Rattle.ds_stage.proofs.PlanExclusive.{planned_exclusive, split_exclusive}
 use Rattle.ds_app.specs.Job.{run_stage, stages_of}
-use Rattle.ds_app.specs.JobStages.{accept_stage, clock_stage, graph_stage, period_stage, replay_stage}
+use Rattle.ds_app.specs.JobStages.{accept_stage, clock_stage, graph_stage, listing_stage, period_stage, replay_stage}
 use Rattle.ds_app.specs.RunStage.{planned_run_stage, stopped_stage, traced_stage}
 use Rattle.ds_app.specs.Status.{AreTold, IsToldIn}
 use Rattle.ds_app.proofs.Exclusive.{told_file}
@@ -218,24 +223,44 @@ plan_one_line : OneAcceptFault → (held : List ℕ → Held) (graph : Option (L
 plan_one_line law held None told s = never_has (giving (IsOwnPlan s)) (λ line none. none)
 plan_one_line law held (Some file) told s = named_one_line file s law held (told file refl)
 
--- a split that passes a limit
-few_clusters : OneClustering → (mode : Mode) (c : Circuit) (s : Split) → IsInClusters mode c s → ¬ HasTooManyClusters c mode
-few_clusters law mode c s is (clusters, are, many) =
-    let same : length is.clusters ≡ length clusters = ap length (law c mode is.clusters clusters is.are are) in
+-- clusters that are few are not too many
+few_clusters : OneGroupedClustering → (mode : Mode) (groups : List (List ℕ)) (c : Circuit) (s : Split) → IsInClusters mode groups c s → ¬ HasTooManyGrouped c mode groups
+few_clusters law mode groups c s is (clusters, are, many) =
+    let same : length is.clusters ≡ length clusters = ap length (law c mode groups is.clusters clusters is.are are) in
     let few : length is.clusters ≤ most_of limit.Clusters = is.few in
     omega arith
 
-split_one_line : OneClustering → (file : List ℕ) (mode : Mode) (c : Circuit) → HasOneLine (split_stage file mode c)
-split_one_line law file mode c line other (inl (many, spelt)) (inl (more, also)) = inl (spelt ∙ sym also)
-split_one_line law file mode c line other (inl (many, spelt)) (inr (s, is, more, also)) = absurd (few_clusters law mode c s is many)
-split_one_line law file mode c line other (inr (s, is, many, spelt)) (inl (more, also)) = absurd (few_clusters law mode c s is more)
-split_one_line law file mode c line other (inr (s, is, many, spelt)) (inr (t, at, more, also)) = inl (spelt ∙ sym also)
+-- a split that passes a limit
+parted_one_line : OneGroupedClustering → (file : List ℕ) (mode : Mode) (c : Circuit) (groups : List (List ℕ)) → HasOneLine (parted_stage file mode c groups)
+parted_one_line law file mode c groups line other (inl (many, spelt)) (inl (more, also)) = inl (spelt ∙ sym also)
+parted_one_line law file mode c groups line other (inl (many, spelt)) (inr (s, is, more, also)) = absurd (few_clusters law mode groups c s is many)
+parted_one_line law file mode c groups line other (inr (s, is, many, spelt)) (inl (more, also)) = absurd (few_clusters law mode groups c s is more)
+parted_one_line law file mode c groups line other (inr (s, is, many, spelt)) (inr (t, at, more, also)) = inl (spelt ∙ sym also)
 
-planned_one_line : OneAcceptFault → OneClustering → (held : List ℕ → Held) (net : List ℕ) (graph : Option (List ℕ)) (mode : Mode) (slack : ℕ)
-    → ((file : List ℕ) → graph ≡ Some file → held file ≢ untold) → (c : Circuit) → HasOneLine (planned_stage held net graph mode slack c)
-planned_one_line law one held net graph mode slack told c =
-    then_one_line (split_stage net mode c) (λ (s : Split). plan_stage held graph (slackened s slack)) (split_exclusive one net mode c) (split_one_line one net mode c)
-    (λ s is. plan_one_line law held graph told (slackened s slack))
+-- groups that are not read
+groups_one_line : (held : List ℕ → Held) (groups : Option (List ℕ)) → ((file : List ℕ) → groups ≡ Some file → held file ≢ untold) → (c : Circuit) → HasOneLine (groups_stage held groups c)
+groups_one_line held None told c = never_has (groups_stage held None c) (λ line none. none)
+groups_one_line held (Some file) told c =
+    then_one_line (lines_stage held which.Groups file) (grouped_stage file c) (lines_exclusive held which.Groups file (told file refl)) (lines_one_line held which.Groups file (told file refl))
+    (λ lines is. result_one_line (read_or_line file group_text (groups_of (register_names c) lines)))
+
+split_one_line : OneGroupedClustering → (held : List ℕ → Held) (net : List ℕ) (groups : Option (List ℕ)) (mode : Mode) → ((file : List ℕ) → groups ≡ Some file → held file ≢ untold)
+    → (c : Circuit) → HasOneLine (split_stage held net groups mode c)
+split_one_line one held net groups mode told c =
+    then_one_line (groups_stage held groups c) (parted_stage net mode c) (groups_exclusive held groups told c) (groups_one_line held groups told c)
+    (λ gs is. parted_one_line one net mode c gs)
+
+clustered_one_line : (held : List ℕ → Held) (net : List ℕ) (groups : Option (List ℕ)) (mode : Mode) → ((file : List ℕ) → groups ≡ Some file → held file ≢ untold)
+    → (c : Circuit) → HasOneLine (clustered_stage held net groups mode c)
+clustered_one_line held net groups mode told c =
+    then_one_line (groups_stage held groups c) (clusters_stage net mode c) (groups_exclusive held groups told c) (groups_one_line held groups told c)
+    (λ gs are line other is also. inl (is.1 ∙ sym also.1))
+
+planned_one_line : OneAcceptFault → OneGroupedClustering → (held : List ℕ → Held) (net : List ℕ) (graph groups : Option (List ℕ)) (mode : Mode) (slack : ℕ)
+    → ((file : List ℕ) → graph ≡ Some file → held file ≢ untold) → ((file : List ℕ) → groups ≡ Some file → held file ≢ untold) → (c : Circuit) → HasOneLine (planned_stage held net graph groups mode slack c)
+planned_one_line law one held net graph groups mode slack told grouped c =
+    then_one_line (split_stage held net groups mode c) (λ (s : Split). plan_stage held graph (slackened s slack)) (split_exclusive one held net groups mode grouped c)
+    (split_one_line one held net groups mode grouped c) (λ s is. plan_one_line law held graph told (slackened s slack))
 
 -- the vectors of a file
 vectors_one_line : (held : List ℕ → Held) (vec : List ℕ) (c : Circuit) → held vec ≢ untold → HasOneLine (vectors_stage held vec c)
@@ -323,16 +348,16 @@ timed_one_line held file g told =
     (λ delays line none. none)
 
 -- so it is for each job
-module _ (faults : FaultsAreRefused) (one_net : OneFault) (one : OneClustering) (one_accept : OneAcceptFault) (fit : ArcsFit) (held : List ℕ → Held) where
+module _ (faults : FaultsAreRefused) (one_net : OneFault) (one : OneGroupedClustering) (one_accept : OneAcceptFault) (fit : ArcsFit) (held : List ℕ → Held) where
   behind_net : (file : List ℕ) → held file ≢ untold → (next : Circuit → Stage (List ℕ)) → ((c : Circuit) → HasOneLine (next c)) → HasOneLine (then_stage (netlist_stage held file) next)
   behind_net file told next each =
       then_one_line (netlist_stage held file) next (netlist_exclusive faults held file told) (netlist_one_line one_net held file told) (λ c is. each c)
 
-  behind_plan : (file : List ℕ) (graph : Option (List ℕ)) (mode : Mode) (slack : ℕ) → IsToldIn held graph → (c : Circuit) (next : Planned → Stage (List ℕ)) → ((p : Planned) → HasOneLine (next p))
-      → HasOneLine (then_stage (planned_stage held file graph mode slack c) next)
-  behind_plan file graph mode slack told c next each =
-      then_one_line (planned_stage held file graph mode slack c) next (planned_exclusive one held file graph mode slack (told_file held graph told) c)
-      (planned_one_line one_accept one held file graph mode slack (told_file held graph told) c) (λ p is. each p)
+  behind_plan : (file : List ℕ) (graph groups : Option (List ℕ)) (mode : Mode) (slack : ℕ) → IsToldIn held graph → IsToldIn held groups → (c : Circuit) (next : Planned → Stage (List ℕ)) → ((p : Planned) → HasOneLine (next p))
+      → HasOneLine (then_stage (planned_stage held file graph groups mode slack c) next)
+  behind_plan file graph groups mode slack told grouped c next each =
+      then_one_line (planned_stage held file graph groups mode slack c) next (planned_exclusive one held file graph groups mode slack (told_file held graph told) (told_file held groups grouped) c)
+      (planned_one_line one_accept one held file graph groups mode slack (told_file held graph told) (told_file held groups grouped) c) (λ p is. each p)
 
   run_one_line : (vec : List ℕ) (log : Bool) (jobs : ℕ) (stop : Option ℕ) → held vec ≢ untold → (c : Circuit) (p : Planned) → HasOneLine (planned_run_stage held vec log jobs stop c p)
   run_one_line vec log jobs None told c p =
@@ -341,29 +366,32 @@ module _ (faults : FaultsAreRefused) (one_net : OneFault) (one : OneClustering) 
       last_one_line (vectors_stage held vec c) (stopped_stage log jobs stop c p) (vectors_one_line held vec c told) (λ rows line none. none)
 
   job_one_line : (job : Job) → AreTold held job → HasOneLine (stages_of held job)
-  job_one_line (Run job) (told_net, told_vec, told) =
-      behind_net job.net told_net (run_stage held job) (λ c. behind_plan job.net job.graph job.clusters job.slack told c
+  job_one_line (Run job) (told_net, told_vec, told, grouped) =
+      behind_net job.net told_net (run_stage held job) (λ c. behind_plan job.net job.graph job.groups job.clusters job.slack told grouped c
       (planned_run_stage held job.vec job.log job.jobs job.stop c) (λ p. run_one_line job.vec job.log job.jobs job.stop told_vec c p))
   job_one_line (Clock job) (told_net, told_vec) =
       behind_net job.net told_net (clock_stage held job.vec) (λ c.
       last_one_line (streamed_stage held job.vec (most_vectors false) c) (trace_stage c) (streamed_one_line held job.vec (most_vectors false) c told_vec) (λ rows line none. none))
   job_one_line (Check file) told = behind_net file told report_stage (λ c. never_has (report_stage c) (λ line none. none))
-  job_one_line (GraphCommand job) told =
-      behind_net job.net told (graph_stage job) (λ c. then_one_line (split_stage job.net job.clusters c) (λ (s : Split). controller_stage job.net job.shake (slackened s job.slack)) (split_exclusive one job.net job.clusters c)
-      (split_one_line one job.net job.clusters c) (λ s is. controller_one_line fit job.net job.shake (slackened s job.slack)))
-  job_one_line (Replay job) (told_net, told_vec, told_log, told) =
-      behind_net job.net told_net (replay_stage held job) (λ c. behind_plan job.net job.graph job.clusters job.slack told c
+  job_one_line (GraphCommand job) (told, grouped) =
+      behind_net job.net told (graph_stage held job) (λ c. then_one_line (split_stage held job.net job.groups job.clusters c) (λ (s : Split). controller_stage job.net job.shake (slackened s job.slack)) (split_exclusive one held job.net job.groups job.clusters (told_file held job.groups grouped) c)
+      (split_one_line one held job.net job.groups job.clusters (told_file held job.groups grouped) c) (λ s is. controller_one_line fit job.net job.shake (slackened s job.slack)))
+  job_one_line (Replay job) (told_net, told_vec, told_log, told, grouped) =
+      behind_net job.net told_net (replay_stage held job) (λ c. behind_plan job.net job.graph job.groups job.clusters job.slack told grouped c
       (λ (p : Planned). then_stage (vectors_stage held job.vec c) (λ (vectors : Rows). replayed_stage held job.log job.transparent p vectors.rows))
       (λ p. then_one_line (vectors_stage held job.vec c) (λ (vectors : Rows). replayed_stage held job.log job.transparent p vectors.rows) (vectors_exclusive held job.vec c told_vec)
       (vectors_one_line held job.vec c told_vec) (λ vectors is. replayed_one_line held job.log job.transparent p vectors.rows told_log)))
-  job_one_line (Accept job) (told_net, told) =
-      behind_net job.net told_net (accept_stage held job) (λ c. behind_plan job.net (Some job.graph) job.clusters job.slack told c ranks_stage
+  job_one_line (Accept job) (told_net, told, grouped) =
+      behind_net job.net told_net (accept_stage held job) (λ c. behind_plan job.net (Some job.graph) job.groups job.clusters job.slack told grouped c ranks_stage
       (λ p. never_has (ranks_stage p) (λ line none. none)))
   job_one_line (Demo job) told = never_has (stages_of held (Demo job)) (λ line none. none)
-  job_one_line (Period job) (told_net, told_delays, told) =
-      behind_net job.net told_net (period_stage held job) (λ c. behind_plan job.net job.graph job.clusters job.slack told c
+  job_one_line (Period job) (told_net, told_delays, told, grouped) =
+      behind_net job.net told_net (period_stage held job) (λ c. behind_plan job.net job.graph job.groups job.clusters job.slack told grouped c
       (λ (p : Planned). timed_stage held job.delays p.graph) (λ p. timed_one_line held job.delays p.graph told_delays))
+  job_one_line (Clusters job) (told_net, grouped) =
+      behind_net job.net told_net (listing_stage held job) (λ c.
+      last_one_line (clustered_stage held job.net job.groups job.clusters c) (listed_stage c) (clustered_one_line held job.net job.groups job.clusters (told_file held job.groups grouped) c) (λ clusters line none. none))
 
 -- a job is refused by one line, but for which cycle it names
-pub jobs_have_one_line : FaultsAreRefused → OneFault → OneClustering → OneAcceptFault → ArcsFit → JobsHaveOneLine
+pub jobs_have_one_line : FaultsAreRefused → OneFault → OneGroupedClustering → OneAcceptFault → ArcsFit → JobsHaveOneLine
 jobs_have_one_line faults one_net one one_accept fit held job told line other is also = job_one_line faults one_net one one_accept fit held job told line other is also

@@ -17,7 +17,7 @@ use Rattle.ds_demo.specs.Fold.{fold_of}
 use Rattle.ds_demo.proofs.Accepts.{accepted, vectors_fit}
 use Rattle.ds_netlist.specs.Laws.{FaultsAreRefused}
 use Rattle.ds_netlist.proofs.OneLevel.{one_depth}
-use Rattle.ds_split.specs.Laws.{OneClustering}
+use Rattle.ds_split.specs.Laws.{OneGroupedClustering}
 use Rattle.ds_latch.specs.Node.{Split, slackened}
 use Rattle.ds_latch.specs.Plan.{Planned}
 use Rattle.ds_marked.specs.Graph.{Graph}
@@ -25,24 +25,25 @@ use Rattle.ds_rank.proofs.Once.{one_list_of_ranks_lem}
 use Rattle.ds_shake.proofs.One.{one_expansion_lem}
 use Rattle.ds_cmd.specs.Allowed.{AreAllowed}
 use Rattle.ds_cmd.specs.declared.job.Job.{Job}
-use Rattle.ds_cmd.specs.declared.job.Job.TheVariants.{Run, Clock, Check, Graph as GraphCommand, Replay, Accept, Demo, Period}
+use Rattle.ds_cmd.specs.declared.job.Job.TheVariants.{Run, Clock, Check, Graph as GraphCommand, Replay, Accept, Demo, Period, Clusters}
 use Rattle.ds_stage.specs.AcceptStage.{ranks_stage, ranks_text}
 use Rattle.ds_stage.specs.GraphStage.{controller_stage, drawn_stage, wanted_stage}
 use Rattle.ds_stage.specs.PlanStage.{planned_stage}
 use Rattle.ds_stage.specs.Report.{report_text}
 use Rattle.ds_stage.specs.Stage.{Stage, then_stage}
 use Rattle.ds_stage.specs.Stages.{netlist_stage, report_stage, trace_stage}
+use Rattle.ds_stage.specs.ClustersStage.{clustered_stage, listed_stage}
 use Rattle.ds_stage.specs.SplitStage.{split_stage}
 use Rattle.ds_stage.specs.StreamStage.{most_vectors, streamed_stage}
 use Rattle.ds_stage.proofs.Exclusive.{netlist_exclusive}
 use Rattle.ds_stage.proofs.OneGraph.{one_graph}
 use Rattle.ds_stage.proofs.PlanAccepted.{planned_circuit}
-use Rattle.ds_stage.proofs.PlanExclusive.{planned_exclusive, split_exclusive}
+use Rattle.ds_stage.proofs.PlanExclusive.{clustered_exclusive, planned_exclusive, split_exclusive}
 use Rattle.ds_stage.proofs.Streamed.{streamed_exclusive}
 use Rattle.ds_run.specs.Summed.{ones_in, ones_of}
 use Rattle.ds_app.specs.DemoStage.{IsSummary, summary_text}
 use Rattle.ds_app.specs.Job.{run_stage, stages_of}
-use Rattle.ds_app.specs.JobStages.{accept_stage, clock_stage, graph_stage}
+use Rattle.ds_app.specs.JobStages.{accept_stage, clock_stage, graph_stage, listing_stage}
 use Rattle.ds_app.specs.RunStage.{planned_run_stage, traced_stage}
 use Rattle.ds_app.specs.Status.{AreTold}
 use Rattle.ds_app.proofs.Exclusive.{told_file}
@@ -134,7 +135,7 @@ summary_one seed registers turns some few text other is also =
     also.spelt ∙ (ap₂ (summary_text registers turns) ones fold ∙ sym is.spelt)
 
 -- so it is for each job
-module _ (faults : FaultsAreRefused) (one : OneClustering) (held : List ℕ → Held) where
+module _ (faults : FaultsAreRefused) (one : OneGroupedClustering) (held : List ℕ → Held) where
   behind_netlist : (net : List ℕ) → held net ≢ untold → (next : Circuit → Stage (List ℕ)) → ((c : Circuit) → (netlist_stage held net).means c → IsAccepted c → GivesOne (next c))
       → GivesOne (then_stage (netlist_stage held net) next)
   behind_netlist net told next each =
@@ -142,27 +143,31 @@ module _ (faults : FaultsAreRefused) (one : OneClustering) (held : List ℕ → 
       let (flat, is_flat, (same, accepts)) = is in each c is (subst (λ (d : Circuit). IsAccepted d) (sym same) accepts))
 
   job_one : (job : Job) → AreAllowed job → AreTold held job → IsDetermined job → GivesOne (stages_of held job)
-  job_one (Run job) allowed (told_net, told_vec, told) (log, stop) =
+  job_one (Run job) allowed (told_net, told_vec, told, grouped) (log, stop) =
       behind_netlist job.net told_net (run_stage held job) (λ c is accepts.
-      then_one (planned_stage held job.net job.graph job.clusters job.slack c) (planned_run_stage held job.vec job.log job.jobs job.stop c)
-      ((planned_exclusive one held job.net job.graph job.clusters job.slack (told_file held job.graph told) c).one)
-      (λ p planned. run_one held job.vec told_vec c accepts job.log job.jobs job.stop log stop p (planned_circuit held job.net job.graph job.clusters job.slack c p planned)))
+      then_one (planned_stage held job.net job.graph job.groups job.clusters job.slack c) (planned_run_stage held job.vec job.log job.jobs job.stop c)
+      ((planned_exclusive one held job.net job.graph job.groups job.clusters job.slack (told_file held job.graph told) (told_file held job.groups grouped) c).one)
+      (λ p planned. run_one held job.vec told_vec c accepts job.log job.jobs job.stop log stop p (planned_circuit held job.net job.graph job.groups job.clusters job.slack c p planned)))
   job_one (Clock job) allowed (told_net, told_vec) determined =
       behind_netlist job.net told_net (clock_stage held job.vec) (λ c is accepts. clock_one held job.vec told_vec c accepts)
   job_one (Check net) allowed told determined = behind_netlist net told report_stage (λ c is accepts. report_one c accepts)
-  job_one (GraphCommand job) allowed told determined =
-      behind_netlist job.net told (graph_stage job) (λ c is accepts.
-      then_one (split_stage job.net job.clusters c) (λ (s : Split). controller_stage job.net job.shake (slackened s job.slack)) ((split_exclusive one job.net job.clusters c).one)
+  job_one (GraphCommand job) allowed (told, grouped) determined =
+      behind_netlist job.net told (graph_stage held job) (λ c is accepts.
+      then_one (split_stage held job.net job.groups job.clusters c) (λ (s : Split). controller_stage job.net job.shake (slackened s job.slack)) ((split_exclusive one held job.net job.groups job.clusters (told_file held job.groups grouped) c).one)
       (λ s split. controller_one job.net job.shake (slackened s job.slack)))
   job_one (Replay job) allowed told determined = λ text other is also. replay_has_one_text faults one held job allowed told text other is also
-  job_one (Accept job) allowed (told_net, told) determined =
+  job_one (Accept job) allowed (told_net, told, grouped) determined =
       behind_netlist job.net told_net (accept_stage held job) (λ c is accepts.
-      then_one (planned_stage held job.net (Some job.graph) job.clusters job.slack c) ranks_stage
-      ((planned_exclusive one held job.net (Some job.graph) job.clusters job.slack (told_file held (Some job.graph) told) c).one) (λ p planned. ranks_one p))
+      then_one (planned_stage held job.net (Some job.graph) job.groups job.clusters job.slack c) ranks_stage
+      ((planned_exclusive one held job.net (Some job.graph) job.groups job.clusters job.slack (told_file held (Some job.graph) told) (told_file held job.groups grouped) c).one) (λ p planned. ranks_one p))
   job_one (Demo job) (some, few, turns, workers) told determined = λ text other is also. summary_one job.seed job.registers job.turns some turns text other is also
   job_one (Period job) allowed told determined = absurd determined
+  job_one (Clusters job) allowed (told_net, grouped) determined =
+      behind_netlist job.net told_net (listing_stage held job) (λ c is accepts.
+      then_one (clustered_stage held job.net job.groups job.clusters c) (listed_stage c)
+      ((clustered_exclusive one held job.net job.groups job.clusters (told_file held job.groups grouped) c).one) (λ clusters are text other is also. also ∙ sym is))
 
-pub jobs_have_one_text : FaultsAreRefused → OneClustering → JobsHaveOneText
+pub jobs_have_one_text : FaultsAreRefused → OneGroupedClustering → JobsHaveOneText
 jobs_have_one_text faults one held job allowed told determined text other is also = job_one faults one held job allowed told determined text other is also
 
 -- what a run prints is the trace of the clocked run

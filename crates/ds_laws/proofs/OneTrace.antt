@@ -70,7 +70,7 @@ gives_more (bytes text) width most more fits vectors is =
 
 -- a text of a run is its trace and its log
 log_of : (held : List ℕ → Held) (job : RunJob) (c : Circuit) → (netlist_stage held job.net).means c
-    → (p : Planned) → (planned_stage held job.net job.graph job.clusters job.slack c).means p
+    → (p : Planned) → (planned_stage held job.net job.graph job.groups job.clusters job.slack c).means p
     → (vectors : Rows) → (streamed_stage held job.vec (most_vectors true) c).means vectors
     → (trace text : List ℕ) → IsTrace c vectors.rows trace → (is : IsLoggedTrace p vectors.rows text) → is.trace ≡ trace → IsTraceAndLog held job trace text
 log_of held job c netlist p planned vectors streamed trace text traced is same = record {

@@ -23,7 +23,7 @@ use Rattle.ds_marked.specs.Progress.{HasFiredAll}
 use Rattle.ds_latch.specs.Transparent.{IsShowing}
 use Rattle.ds_latch.proofs.Headline.{headline}
 use Rattle.ds_netlist.specs.Laws.{FaultsAreRefused}
-use Rattle.ds_split.specs.Laws.{OneClustering}
+use Rattle.ds_split.specs.Laws.{OneGroupedClustering}
 use Rattle.ds_rows.specs.Log.{fired_line, stored_text}
 use Rattle.ds_rows.specs.Nets.{register_of}
 use Rattle.ds_rows.specs.StateText.{IsStateText}
@@ -140,23 +140,23 @@ module _ (p : Planned) (plan : IsPlan p.split p.graph) (vectors : List Row) (eve
       record { stored = state_is; is_stored = is_state; shown = held_of p.split now; showing = shows; spelt = refl },
     )
 
-module _ (held : List ℕ → Held) (net vec log : List ℕ) (graph : Option (List ℕ)) (mode : Mode) (slack : ℕ) (transparent : Bool)
+module _ (held : List ℕ → Held) (net vec log : List ℕ) (graph groups : Option (List ℕ)) (mode : Mode) (slack : ℕ) (transparent : Bool)
     (printed : List ℕ) (is_log : held log ≡ bytes printed) (short : length printed ≤ most_of Bytes)
-    (c : Circuit) (netlist : (netlist_stage held net).means c) (p : Planned) (planned : (planned_stage held net graph mode slack c).means p)
+    (c : Circuit) (netlist : (netlist_stage held net).means c) (p : Planned) (planned : (planned_stage held net graph groups mode slack c).means p)
     (vectors : Rows) (read : (vectors_stage held vec c).means vectors) (told : IsToldIn held graph) (logged : IsRunText true p vectors.rows printed) where
   plan_is : IsPlan p.split p.graph
   plan_is =
       let (flat, is_flat, (is, accepted)) = netlist in
-      planned_is_plan held net graph mode slack c p (subst (λ (d : Circuit). IsAccepted d) (sym is) accepted) planned
+      planned_is_plan held net graph groups mode slack c p (subst (λ (d : Circuit). IsAccepted d) (sym is) accepted) planned
 
   whole : IsFiredWhole p (length vectors.rows) printed
   whole =
       let few : length vectors.rows ≤ 65536 = vectors_few held vec c vectors read in
-      logged_is_fired p (planned_words held net graph mode slack (told_file held graph told) c p planned) vectors.rows (omega (arith, few)) printed logged
+      logged_is_fired p (planned_words held net graph groups mode slack (told_file held graph told) c p planned) vectors.rows (omega (arith, few)) printed logged
 
   runs : Desynchronizes p.split p.graph vectors.rows
   runs =
-      let same : c ≡ p.split.circuit = sym (planned_circuit held net graph mode slack c p planned) in
+      let same : c ≡ p.split.circuit = sym (planned_circuit held net graph groups mode slack c p planned) in
       headline p.split p.graph plan_is
       (subst IsInRange same (netlist_in_range held net c netlist))
       vectors.rows
@@ -189,36 +189,36 @@ module _ (held : List ℕ → Held) (net vec log : List ℕ) (graph : Option (Li
       says p plan_is vectors.rows whole.events whole.legal whole.all transparent found
       (subst (λ (es : List ℕ). IsReplayText transparent p vectors.rows es found) same is_found)
 
-module _ (faults : FaultsAreRefused) (one : OneClustering) (held : List ℕ → Held) (job : ReplayJob)
-    (told_net : held job.net ≢ untold) (told_vec : held job.vec ≢ untold) (told : IsToldIn held job.graph) where
+module _ (faults : FaultsAreRefused) (one : OneGroupedClustering) (held : List ℕ → Held) (job : ReplayJob)
+    (told_net : held job.net ≢ untold) (told_vec : held job.vec ≢ untold) (told : IsToldIn held job.graph) (grouped : IsToldIn held job.groups) where
   -- a text of the job is one of the netlist, the plan and the vectors that there are
-  pub of_these : (c : Circuit) → (netlist_stage held job.net).means c → (p : Planned) → (planned_stage held job.net job.graph job.clusters job.slack c).means p
+  pub of_these : (c : Circuit) → (netlist_stage held job.net).means c → (p : Planned) → (planned_stage held job.net job.graph job.groups job.clusters job.slack c).means p
       → (vectors : Rows) → (vectors_stage held job.vec c).means vectors
       → (text : List ℕ) → (then_stage (netlist_stage held job.net) (replay_stage held job)).means text
       → (replayed_stage held job.log job.transparent p vectors.rows).means text
   of_these c netlist p planned vectors read text (c', netlist', rest) =
       let same_c : c' ≡ c = (netlist_exclusive faults held job.net told_net).one c' c netlist' netlist in
       let (p', planned', rest') = subst (λ (d : Circuit). (replay_stage held job d).means text) same_c rest in
-      let same_p : p' ≡ p = (planned_exclusive one held job.net job.graph job.clusters job.slack (told_file held job.graph told) c).one p' p planned' planned in
+      let same_p : p' ≡ p = (planned_exclusive one held job.net job.graph job.groups job.clusters job.slack (told_file held job.graph told) (told_file held job.groups grouped) c).one p' p planned' planned in
       let (vectors', read', rest'') = rest' in
       let same_v : vectors' ≡ vectors = (vectors_exclusive held job.vec c told_vec).one vectors' vectors read' read in
       subst (λ (rows : Rows). (replayed_stage held job.log job.transparent p rows.rows).means text) same_v
       (subst (λ (q : Planned). (replayed_stage held job.log job.transparent q vectors'.rows).means text) same_p rest'')
 
-pub printed_is_replayed : FaultsAreRefused → OneClustering → (held : List ℕ → Held) (job : RunJob) (log : List ℕ) (transparent : Bool) (printed : List ℕ)
+pub printed_is_replayed : FaultsAreRefused → OneGroupedClustering → (held : List ℕ → Held) (job : RunJob) (log : List ℕ) (transparent : Bool) (printed : List ℕ)
     → AreTold held (Run (logged_run job)) → (stages_of held (Run (logged_run job))).means printed
     → held log ≡ bytes printed → IsShort (held log) → IsShort (held job.vec)
     → ReplaysAll held (Replay (replay_after job log transparent))
-printed_is_replayed faults one held job log transparent printed (told_net, told_vec, told)
+printed_is_replayed faults one held job log transparent printed (told_net, told_vec, told, grouped)
     (c, netlist, (p, planned, (vectors, streamed, (same, logged)))) is_log short_log short_vec =
     let short : length printed ≤ most_of Bytes = short_log printed is_log in
     let read : (vectors_stage held job.vec c).means vectors = short_is_whole held job.vec c vectors told_vec short_vec streamed in
-    let there = text_there held job.net job.vec log job.graph job.clusters job.slack transparent printed is_log short c netlist p planned vectors read told logged in
+    let there = text_there held job.net job.vec log job.graph job.groups job.clusters job.slack transparent printed is_log short c netlist p planned vectors read told logged in
     record {
       text = there.0;
       is_text = (c, netlist, (p, planned, (vectors, read, there.1)));
       one = λ other means.
-          text_alone held job.net job.vec log job.graph job.clusters job.slack transparent printed is_log short c netlist p planned vectors read told logged other
-          (of_these faults one held (replay_after job log transparent) told_net told_vec told c netlist p planned vectors read other means);
-      says = text_says held job.net job.vec log job.graph job.clusters job.slack transparent printed is_log short c netlist p planned vectors read told logged;
+          text_alone held job.net job.vec log job.graph job.groups job.clusters job.slack transparent printed is_log short c netlist p planned vectors read told logged other
+          (of_these faults one held (replay_after job log transparent) told_net told_vec told grouped c netlist p planned vectors read other means);
+      says = text_says held job.net job.vec log job.graph job.groups job.clusters job.slack transparent printed is_log short c netlist p planned vectors read told logged;
     }

@@ -17,7 +17,7 @@ use Rattle.ds_latch.specs.Plan.{IsPlan, Planned}
 use Rattle.ds_latch.specs.Headline.{Desynchronizes}
 use Rattle.ds_latch.proofs.Headline.{headline}
 use Rattle.ds_netlist.specs.Laws.{FaultsAreRefused}
-use Rattle.ds_split.specs.Laws.{OneClustering}
+use Rattle.ds_split.specs.Laws.{OneGroupedClustering}
 use Rattle.ds_rows.specs.Nets.{register_of}
 use Rattle.ds_rows.specs.StateText.{IsStateText}
 use Rattle.ds_cmd.specs.declared.job.Job.TheVariants.{Run, Replay}
@@ -43,26 +43,26 @@ use Rattle.ds_laws.proofs.OneState.{state_one}
 use Rattle.ds_laws.proofs.Replayed.{of_these}
 
 -- the graph of a plan has few events
-planned_kept : (held : List ℕ → Held) (net : List ℕ) (graph : Option (List ℕ)) (mode : Mode) (slack : ℕ) (c : Circuit) (p : Planned)
-    → (planned_stage held net graph mode slack c).means p → IsKept p.graph
-planned_kept held net None mode slack c p (s, (is, few), own) = own.graph.kept
-planned_kept held net (Some file) mode slack c p (s, (is, few), (lines, are, (g, read, named))) = named.plan_kept
+planned_kept : (held : List ℕ → Held) (net : List ℕ) (graph groups : Option (List ℕ)) (mode : Mode) (slack : ℕ) (c : Circuit) (p : Planned)
+    → (planned_stage held net graph groups mode slack c).means p → IsKept p.graph
+planned_kept held net None groups mode slack c p (s, is, own) = own.graph.kept
+planned_kept held net (Some file) groups mode slack c p (s, is, (lines, are, (g, read, named))) = named.plan_kept
 
 least : (a b c : ℕ) → a ≤ min b c → a ≤ c
 least a b c h = omega (arith, h)
 
-module _ (plain : NamesArePlain) (held : List ℕ → Held) (net vec log : List ℕ) (graph : Option (List ℕ)) (mode : Mode) (slack jobs stop : ℕ)
+module _ (plain : NamesArePlain) (held : List ℕ → Held) (net vec log : List ℕ) (graph groups : Option (List ℕ)) (mode : Mode) (slack jobs stop : ℕ)
     (printed : List ℕ) (is_log : held log ≡ bytes printed) (short : length printed ≤ most_of Bytes)
-    (c : Circuit) (netlist : (netlist_stage held net).means c) (p : Planned) (planned : (planned_stage held net graph mode slack c).means p)
+    (c : Circuit) (netlist : (netlist_stage held net).means c) (p : Planned) (planned : (planned_stage held net graph groups mode slack c).means p)
     (vectors : Rows) (read : (vectors_stage held vec c).means vectors) (told_net : held net ≢ untold) (told : IsToldIn held graph)
     (stopped : IsStoppedText true stop jobs p vectors.rows printed) where
   same : c ≡ p.split.circuit
-  same = sym (planned_circuit held net graph mode slack c p planned)
+  same = sym (planned_circuit held net graph groups mode slack c p planned)
 
   plan_is : IsPlan p.split p.graph
   plan_is =
       let (flat, is_flat, (is, accepted)) = netlist in
-      planned_is_plan held net graph mode slack c p (subst (λ (d : Circuit). IsAccepted d) (sym is) accepted) planned
+      planned_is_plan held net graph groups mode slack c p (subst (λ (d : Circuit). IsAccepted d) (sym is) accepted) planned
 
   runs : Desynchronizes p.split p.graph vectors.rows
   runs =
@@ -80,7 +80,7 @@ module _ (plain : NamesArePlain) (held : List ℕ → Held) (net vec log : List 
 
   product : length p.graph.events * length vectors.rows < 2 ^ 64
   product =
-      let events : length p.graph.events ≤ 2 ^ 32 = (let kept = (planned_kept held net graph mode slack c p planned).few_events in omega (arith, kept)) in
+      let events : length p.graph.events ≤ 2 ^ 32 = (let kept = (planned_kept held net graph groups mode slack c p planned).few_events in omega (arith, kept)) in
       let all : length p.graph.events * length vectors.rows ≤ 2 ^ 32 * 65536 = mul-le (length p.graph.events) (length vectors.rows) (2 ^ 32) 65536 events few in
       omega (arith, all)
 
@@ -106,7 +106,7 @@ module _ (plain : NamesArePlain) (held : List ℕ → Held) (net vec log : List 
   fires =
       let turns : length vectors.rows ≤ 65536 = few in
       ap (λ (t : List ℕ). replay_of p.graph (length vectors.rows) (lines_of t)) spelt
-      ∙ printed_behind p.graph (planned_words held net graph mode slack (told_file held graph told) c p planned) (length vectors.rows) (omega (arith, turns))
+      ∙ printed_behind p.graph (planned_words held net graph groups mode slack (told_file held graph told) c p planned) (length vectors.rows) (omega (arith, turns))
       stopped.events log_lines stopped.legal logged stopped.state is_front
 
   pub state_there : (replayed_stage held log false p vectors.rows).means stopped.state
@@ -122,14 +122,14 @@ module _ (plain : NamesArePlain) (held : List ℕ → Held) (net vec log : List 
   pub front_is : (lines : List ℕ) × (printed ≡ stopped.state ++ codes "firings\n" ++ lines)
   front_is = (log_lines, spelt)
 
-pub stopped_is_replayed : NamesArePlain → FaultsAreRefused → OneClustering → (held : List ℕ → Held) (job : RunJob) (stop : ℕ) (log printed : List ℕ)
+pub stopped_is_replayed : NamesArePlain → FaultsAreRefused → OneGroupedClustering → (held : List ℕ → Held) (job : RunJob) (stop : ℕ) (log printed : List ℕ)
     → AreTold held (Run (stopped_run job stop)) → (stages_of held (Run (stopped_run job stop))).means printed
     → held log ≡ bytes printed → IsShort (held log)
     → ReplaysFront held (Replay (replay_after job log false)) printed
-stopped_is_replayed plain faults one held job stop log printed (told_net, told_vec, told)
+stopped_is_replayed plain faults one held job stop log printed (told_net, told_vec, told, grouped)
     (c, netlist, (p, planned, (vectors, read, (_, stopped)))) is_log short_log =
     let short : length printed ≤ most_of Bytes = short_log printed is_log in
-    let (lines, front) = front_is plain held job.net job.vec log job.graph job.clusters job.slack job.jobs stop printed is_log short c netlist p planned vectors read told_net told stopped in
+    let (lines, front) = front_is plain held job.net job.vec log job.graph job.groups job.clusters job.slack job.jobs stop printed is_log short c netlist p planned vectors read told_net told stopped in
     record {
       text = stopped.state;
       is_text = (
@@ -141,13 +141,13 @@ stopped_is_replayed plain faults one held job stop log printed (told_net, told_v
           (
             vectors,
             read,
-            state_there plain held job.net job.vec log job.graph job.clusters job.slack job.jobs stop printed is_log short c netlist p planned vectors read told_net told stopped,
+            state_there plain held job.net job.vec log job.graph job.groups job.clusters job.slack job.jobs stop printed is_log short c netlist p planned vectors read told_net told stopped,
           ),
         ),
       );
       one = λ other means.
-          state_alone plain held job.net job.vec log job.graph job.clusters job.slack job.jobs stop printed is_log short c netlist p planned vectors read told_net told stopped other
-          (of_these faults one held (replay_after job log false) told_net told_vec told c netlist p planned vectors read other means);
+          state_alone plain held job.net job.vec log job.graph job.groups job.clusters job.slack job.jobs stop printed is_log short c netlist p planned vectors read told_net told stopped other
+          (of_these faults one held (replay_after job log false) told_net told_vec told grouped c netlist p planned vectors read other means);
       log = lines;
       front = front;
     }

@@ -6,4 +6,5 @@ pub mod Logs
 pub mod OneText
 pub mod OneTrace
 pub mod OneLine
+pub mod Grouping
 pub mod Answered

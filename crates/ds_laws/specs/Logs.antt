@@ -70,7 +70,7 @@ IsShort held = (text : List ℕ) → held ≡ bytes text → length text ≤ mos
 abbrev pub logged_run : RunJob → RunJob
 logged_run job = record job { log = true; stop = None }
 
--- `replay` of the netlist, vectors, graph, mode and slack of a run, by the log of a file
+-- `replay` of the netlist, vectors, graph, groups, mode and slack of a run, by the log of a file
 abbrev pub replay_after : RunJob → List ℕ → Bool → ReplayJob
 replay_after job log transparent = record {
   net = job.net;
@@ -78,13 +78,14 @@ replay_after job log transparent = record {
   log = log;
   graph = job.graph;
   clusters = job.clusters;
+  groups = job.groups;
   slack = job.slack;
   transparent = transparent;
 }
 
 -- what `run --log` prints is read and fired to its end by `replay` of the same netlist, vectors,
--- graph, mode and slack, where the log holds these bytes, and neither it nor the file of the
--- vectors is too long
+-- graph, groups, mode and slack, where the log holds these bytes, and neither it nor the file of
+-- the vectors is too long
 abbrev pub PrintedIsReplayed : Type 0
 PrintedIsReplayed = (held : List ℕ → Held) (job : RunJob) (log : List ℕ) (transparent : Bool)
     (printed : List ℕ) → AreTold held (Run (logged_run job))
@@ -105,8 +106,8 @@ pub record ReplaysFront (held : List ℕ → Held) (job : Job) (printed : List �
   pub front : printed ≡ text ++ codes "firings\n" ++ log
 
 -- what `run --stop --log` prints is read and fired to its end by `replay` of the same netlist,
--- vectors, graph, mode and slack, where the log holds these bytes and is not too long; and what
--- that prints are the lines before the log, with what each register has stored
+-- vectors, graph, groups, mode and slack, where the log holds these bytes and is not too long; and
+-- what that prints are the lines before the log, with what each register has stored
 abbrev pub StoppedIsReplayed : Type 0
 StoppedIsReplayed = (held : List ℕ → Held) (job : RunJob) (stop : ℕ) (log printed : List ℕ)
     → AreTold held (Run (stopped_run job stop))

@@ -29,7 +29,7 @@ plain_run job = record job { log = false; stop = None }
 abbrev pub clock_after : RunJob → ClockJob
 clock_after job = record { net = job.net; vec = job.vec }
 
--- what `run` prints, by whatever workers, clusters, graph and slack, `clock` prints
+-- what `run` prints, by whatever workers, clusters, groups, graph and slack, `clock` prints
 abbrev pub RunsPrintTheClockedTrace : Type 0
 RunsPrintTheClockedTrace = (held : List ℕ → Held) (job : RunJob) (text : List ℕ)
     → (stages_of held (Run (plain_run job))).means text

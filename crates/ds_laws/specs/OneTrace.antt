@@ -24,7 +24,8 @@ pub record IsTraceAndLog (held : List ℕ → Held) (job : RunJob) (trace text :
   pub circuit : Circuit
   pub netlist : (netlist_stage held job.net).means circuit
   pub plan : Planned
-  pub planned : (planned_stage held job.net job.graph job.clusters job.slack circuit).means plan
+  pub planned : (planned_stage held job.net job.graph job.groups job.clusters job.slack
+      circuit).means plan
   pub vectors : Rows
   pub streamed : (streamed_stage held job.vec (most_vectors true) circuit).means vectors
   pub traced : IsTrace circuit vectors.rows trace
@@ -44,7 +45,7 @@ pub record HaveOneTrace (held : List ℕ → Held) (job other : RunJob) (text pr
   pub of_printed : IsTraceAndLog held other trace printed
 
 -- two runs with their logs, of the same netlist and vectors, have one trace before these, by
--- whatever workers, clusters, graphs and slacks
+-- whatever workers, clusters, groups, graphs and slacks
 abbrev pub LoggedRunsHaveOneTrace : Type 0
 LoggedRunsHaveOneTrace = (held : List ℕ → Held) (job other : RunJob)
     → AreTold held (Run (logged_run job)) → other.net ≡ job.net → other.vec ≡ job.vec

@@ -11,10 +11,12 @@
 //! from an event to another, ranks exclude circles, and in what `graph --shake` writes those of a
 //! data edge go by way of its request and its acknowledge. Of refused jobs: two lines that refuse
 //! one are the same, or name cycles; and a fault has its own status where no read failed that a
-//! stage before it needs.
+//! stage before it needs. Of groups: what `clusters` prints gives the same clusters again, and
+//! without a file of groups there are those of the mode.
 #![tactic(auto)]
 
 mod answers;
+mod groups;
 mod latches;
 mod logs;
 mod names;
@@ -22,6 +24,7 @@ mod orders;
 mod texts;
 
 pub use answers::{exact_fault_early, jobs_have_one_line};
+pub use groups::{printed_clusters_are_groups, without_file_of_groups};
 pub use latches::{read_rows_stay, stored_are_there};
 pub use logs::{
     logged_is_fired, printed_is_replayed, states_are_clocked_so_far, stopped_is_replayed,

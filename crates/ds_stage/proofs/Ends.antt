@@ -11,11 +11,15 @@ use Rattle.ds_design.specs.Circuit.{Circuit}
 use Rattle.ds_stage.specs.declared.stop.Stop.{Stop}
 use Rattle.ds_stage.specs.declared.stop.Stop.TheVariants.{Refused, Unread, Unwritten, Memory}
 use Rattle.ds_stage.specs.Stage.{OfFile, Stage, giving, leaves_nothing, then_stage}
-use Rattle.ds_stage.specs.Stages.{vectors_stage}
-use Rattle.ds_stage.specs.PlanStage.{planned_stage}
+use Rattle.ds_latch.specs.Node.{Split, slackened}
+use Rattle.ds_stage.specs.Stages.{lines_stage, vectors_stage}
+use Rattle.ds_stage.specs.GroupsStage.{grouped_stage, groups_stage}
+use Rattle.ds_stage.specs.ClustersStage.{clustered_stage, clusters_stage}
+use Rattle.ds_stage.specs.SplitStage.{parted_stage, split_stage}
+use Rattle.ds_stage.specs.PlanStage.{IsOwnPlan, marked_stage, plan_stage, planned_stage}
 use Rattle.ds_stage.specs.Ends.{Ends, Leaves, Never, Output, RoseIn, Stops}
 use Rattle.ds_stage.proofs.Left.{LeavesNothing, nothing_appended}
-use Rattle.ds_stage.proofs.Stages.{IsWider}
+use Rattle.ds_stage.proofs.Stages.{IsWider, wider_both}
 
 -- nothing is left on an output that is as it was
 left_as_is : {A : Type 0} (stage : Stage A) (failed : OfFile) (out : Output) (stop : Stop) → out.new ≡ out.old → stage.leaves failed stop [] → Leaves stage failed out stop
@@ -102,29 +106,58 @@ vectors_since held later vec c before mid now same less =
       ];
     })
 
--- a plan that was made later, of files that hold the same
-pub planned_since : (held later : List ℕ → Held) (net : List ℕ) (graph : Option (List ℕ)) (mode : Mode) (slack : ℕ) (c : Circuit) (before mid now : Which → List ℕ → ℕ) → later ≡ held
-    → ((w : Which) (n : List ℕ) → before w n ≤ mid w n)
-    → IsWider (planned_stage later net graph mode slack c) (planned_stage held net graph mode slack c) (RoseIn mid now) (RoseIn before now)
-planned_since held later net None mode slack c before mid now same less =
-    subst (λ (h : List ℕ → Held). IsWider (planned_stage later net None mode slack c) (planned_stage h net None mode slack c) (RoseIn mid now) (RoseIn before now)) same
-    (record {
-      means = λ a is. is;
-      refused = λ line is. is;
-      unread = λ line either. elim either [ inl none ↦ absurd none | inr (s, is, none) ↦ absurd none ];
-    })
-planned_since held later net (Some file) mode slack c before mid now same less =
-    subst (λ (h : List ℕ → Held). IsWider (planned_stage later net (Some file) mode slack c) (planned_stage h net (Some file) mode slack c) (RoseIn mid now) (RoseIn before now)) same
-    (record {
-      means = λ a is. is;
-      refused = λ line is. is;
-      unread = λ line either. elim either [
-        | inl none ↦ absurd none
-        | inr (s, is, inl (rose, spelt)) ↦ inr (s, is, inl (rose_since (before which.Graph file) (mid which.Graph file) (now which.Graph file) (less which.Graph file) rose, spelt))
-        | inr (s, is, inr (lines, are, inl none)) ↦ absurd none
-        | inr (s, is, inr (lines, are, inr (g, read, none))) ↦ absurd none
-      ];
-    })
+-- a stage that reads no file says the same, whatever failed
+reads_nothing : {A : Type 0} (stage : Stage A) (failed more : OfFile) → ((line : List ℕ) → ¬ stage.unread failed line) → IsWider stage stage failed more
+reads_nothing stage failed more none = record { means = λ a is. is; refused = λ line is. is; unread = λ line is. absurd (none line is) }
+
+module _ (held later : List ℕ → Held) (before mid now : Which → List ℕ → ℕ) (same : later ≡ held)
+    (less : (w : Which) (n : List ℕ) → before w n ≤ mid w n) where
+  -- lines that were read later, of files that hold the same
+  lines_since : (which : Which) (file : List ℕ) → IsWider (lines_stage later which file) (lines_stage held which file) (RoseIn mid now) (RoseIn before now)
+  lines_since which file =
+      subst (λ (h : List ℕ → Held). IsWider (lines_stage later which file) (lines_stage h which file) (RoseIn mid now) (RoseIn before now)) same
+      (record {
+        means = λ a is. is;
+        refused = λ line is. is;
+        unread = λ line (rose, spelt). (rose_since (before which file) (mid which file) (now which file) (less which file) rose, spelt);
+      })
+
+  -- so too groups
+  pub groups_since : (groups : Option (List ℕ)) (c : Circuit) → IsWider (groups_stage later groups c) (groups_stage held groups c) (RoseIn mid now) (RoseIn before now)
+  groups_since None c = reads_nothing (giving (λ gs. gs ≡ [])) (RoseIn mid now) (RoseIn before now) (λ line none. none)
+  groups_since (Some file) c =
+      wider_both (lines_stage later which.Groups file) (lines_stage held which.Groups file) (grouped_stage file c) (grouped_stage file c) (RoseIn mid now) (RoseIn before now)
+      (lines_since which.Groups file) (λ lines. reads_nothing (grouped_stage file c lines) (RoseIn mid now) (RoseIn before now) (λ line none. none))
+
+  -- the latches
+  pub split_since : (net : List ℕ) (groups : Option (List ℕ)) (mode : Mode) (c : Circuit)
+      → IsWider (split_stage later net groups mode c) (split_stage held net groups mode c) (RoseIn mid now) (RoseIn before now)
+  split_since net groups mode c =
+      wider_both (groups_stage later groups c) (groups_stage held groups c) (parted_stage net mode c) (parted_stage net mode c) (RoseIn mid now) (RoseIn before now)
+      (groups_since groups c) (λ gs. reads_nothing (parted_stage net mode c gs) (RoseIn mid now) (RoseIn before now) (λ line none. none))
+
+  -- the clusters
+  pub clustered_since : (net : List ℕ) (groups : Option (List ℕ)) (mode : Mode) (c : Circuit)
+      → IsWider (clustered_stage later net groups mode c) (clustered_stage held net groups mode c) (RoseIn mid now) (RoseIn before now)
+  clustered_since net groups mode c =
+      wider_both (groups_stage later groups c) (groups_stage held groups c) (clusters_stage net mode c) (clusters_stage net mode c) (RoseIn mid now) (RoseIn before now)
+      (groups_since groups c) (λ gs. reads_nothing (clusters_stage net mode c gs) (RoseIn mid now) (RoseIn before now) (λ line none. none))
+
+  -- the plan of latches
+  pub plan_since : (graph : Option (List ℕ)) (s : Split) → IsWider (plan_stage later graph s) (plan_stage held graph s) (RoseIn mid now) (RoseIn before now)
+  plan_since None s = reads_nothing (giving (IsOwnPlan s)) (RoseIn mid now) (RoseIn before now) (λ line none. none)
+  plan_since (Some file) s =
+      wider_both (lines_stage later which.Graph file) (lines_stage held which.Graph file) (marked_stage file s) (marked_stage file s) (RoseIn mid now) (RoseIn before now)
+      (lines_since which.Graph file) (λ lines. reads_nothing (marked_stage file s lines) (RoseIn mid now) (RoseIn before now)
+      (λ line either. elim either [ inl none ↦ none | inr (g, read, none) ↦ none ]))
+
+  -- and the plan of a netlist
+  pub planned_since : (net : List ℕ) (graph groups : Option (List ℕ)) (mode : Mode) (slack : ℕ) (c : Circuit)
+      → IsWider (planned_stage later net graph groups mode slack c) (planned_stage held net graph groups mode slack c) (RoseIn mid now) (RoseIn before now)
+  planned_since net graph groups mode slack c =
+      wider_both (split_stage later net groups mode c) (split_stage held net groups mode c) (λ (s : Split). plan_stage later graph (slackened s slack))
+      (λ (s : Split). plan_stage held graph (slackened s slack)) (RoseIn mid now) (RoseIn before now)
+      (split_since net groups mode c) (λ s. plan_since graph (slackened s slack))
 
 -- counts that never fell, one time after another
 pub never_fell : (before mid now : Which → List ℕ → ℕ) → ((w : Which) (n : List ℕ) → before w n ≤ mid w n) → ((w : Which) (n : List ℕ) → mid w n ≤ now w n)

@@ -13,7 +13,9 @@ use Rattle.ds_stage.specs.GraphText.{astg_text}
 use Rattle.ds_stage.specs.FaultText.{blif_text, flat_text}
 use Rattle.ds_stage.specs.Stage.{OfFile, Stage, giving, then_stage}
 use Rattle.ds_stage.specs.Stages.{accepted_stage, design_stage, file_stage, lines_stage, netlist_stage, read_or_line, result_stage, rows_stage, vectors_stage}
-use Rattle.ds_stage.specs.SplitStage.{split_stage}
+use Rattle.ds_stage.specs.GroupsStage.{grouped_stage, groups_stage}
+use Rattle.ds_stage.specs.ClustersStage.{clustered_stage, clusters_stage}
+use Rattle.ds_stage.specs.SplitStage.{parted_stage, split_stage}
 use Rattle.ds_stage.specs.PlanStage.{acceptable_stage, marked_stage, plan_stage, planned_stage}
 use Rattle.ds_replay.specs.ReplayText.{IsReplayText}
 use Rattle.ds_stage.specs.ReplayStage.{fired_stage, log_stage, replayed_stage}
@@ -55,15 +57,29 @@ pub vectors_say : (held : List ℕ → Held) (vec : List ℕ) (c : Circuit) (fai
 vectors_say held vec c failed =
     then_says (lines_stage held Vectors vec) (rows_stage vec (length (columns c))) failed (lines_say held Vectors vec failed) (λ lines line none. absurd none)
 
+-- a file of groups is named only where a read failed
+pub groups_say : (held : List ℕ → Held) (groups : Option (List ℕ)) (c : Circuit) (failed : OfFile) → Says (groups_stage held groups c) failed
+groups_say held None c failed = λ line none. absurd none
+groups_say held (Some file) c failed =
+    then_says (lines_stage held which.Groups file) (grouped_stage file c) failed (lines_say held which.Groups file failed) (λ lines line none. absurd none)
+
+pub split_says : (held : List ℕ → Held) (net : List ℕ) (groups : Option (List ℕ)) (mode : Mode) (failed : OfFile) (c : Circuit) → Says (split_stage held net groups mode c) failed
+split_says held net groups mode failed c =
+    then_says (groups_stage held groups c) (parted_stage net mode c) failed (groups_say held groups c failed) (λ gs line none. absurd none)
+
+pub clustered_says : (held : List ℕ → Held) (net : List ℕ) (groups : Option (List ℕ)) (mode : Mode) (failed : OfFile) (c : Circuit) → Says (clustered_stage held net groups mode c) failed
+clustered_says held net groups mode failed c =
+    then_says (groups_stage held groups c) (clusters_stage net mode c) failed (groups_say held groups c failed) (λ gs line none. absurd none)
+
 plan_says : (held : List ℕ → Held) (graph : Option (List ℕ)) (failed : OfFile) (s : Split) → Says (plan_stage held graph s) failed
 plan_says held None failed s = λ line none. absurd none
 plan_says held (Some file) failed s =
     then_says (lines_stage held which.Graph file) (marked_stage file s) failed (lines_say held which.Graph file failed)
     (λ lines. then_says (result_stage (read_or_line file astg_text (graph_of_lines lines))) (acceptable_stage file s) failed (λ line none. absurd none) (λ g line none. absurd none))
 
-pub planned_says : (held : List ℕ → Held) (net : List ℕ) (graph : Option (List ℕ)) (mode : Mode) (slack : ℕ) (failed : OfFile) (c : Circuit) → Says (planned_stage held net graph mode slack c) failed
-planned_says held net graph mode slack failed c =
-    then_says (split_stage net mode c) (λ (s : Split). plan_stage held graph (slackened s slack)) failed (λ line none. absurd none)
+pub planned_says : (held : List ℕ → Held) (net : List ℕ) (graph groups : Option (List ℕ)) (mode : Mode) (slack : ℕ) (failed : OfFile) (c : Circuit) → Says (planned_stage held net graph groups mode slack c) failed
+planned_says held net graph groups mode slack failed c =
+    then_says (split_stage held net groups mode c) (λ (s : Split). plan_stage held graph (slackened s slack)) failed (split_says held net groups mode failed c)
     (λ s. plan_says held graph failed (slackened s slack))
 
 pub replayed_says : (held : List ℕ → Held) (log : List ℕ) (transparent : Bool) (failed : OfFile) (planned : Planned) (vectors : List Row) → Says (replayed_stage held log transparent planned vectors) failed

@@ -23,7 +23,11 @@ use Rattle.ds_stage.specs.declared.stop.Stop.{Stop}
 use Rattle.ds_stage.specs.declared.stop.Stop.TheVariants.{Refused, Unread, Unwritten, Memory}
 use Rattle.ds_stage.specs.Stage.{OfFile, Stage, giving, leaves_nothing, then_stage}
 use Rattle.ds_stage.specs.Stages.{accepted_stage, design_stage, file_stage, lines_stage, netlist_stage, read_or_line, result_stage, rows_stage, vectors_stage}
-use Rattle.ds_stage.specs.SplitStage.{split_stage}
+use Rattle.ds_groups.specs.Names.{register_names}
+use Rattle.ds_groups.specs.Read.{groups_of}
+use Rattle.ds_stage.specs.GroupsStage.{group_text, grouped_stage, groups_stage}
+use Rattle.ds_stage.specs.ClustersStage.{clustered_stage, clusters_stage}
+use Rattle.ds_stage.specs.SplitStage.{parted_stage, split_stage}
 use Rattle.ds_stage.specs.GraphStage.{IsGraphOf, controller_stage, drawn_stage, wanted_stage}
 use Rattle.ds_astg.specs.Text.{graph_text}
 use Rattle.ds_stage.specs.PlanStage.{IsOwnPlan, acceptable_stage, marked_stage, plan_stage, planned_stage}
@@ -94,8 +98,21 @@ vectors_nothing held vec c =
     then_nothing (lines_stage held Vectors vec) (rows_stage vec (length (columns c))) (lines_nothing held Vectors vec)
     (λ lines. record { may = no_text (rows_stage vec (length (columns c)) lines); only = λ failed stop text is. is })
 
-pub split_nothing : (file : List ℕ) (mode : Mode) (c : Circuit) → LeavesNothing (split_stage file mode c)
-split_nothing file mode c = record { may = no_text (split_stage file mode c); only = λ failed stop text is. is }
+pub groups_nothing : (held : List ℕ → Held) (groups : Option (List ℕ)) (c : Circuit) → LeavesNothing (groups_stage held groups c)
+groups_nothing held None c = giving_nothing (λ gs. gs ≡ [])
+groups_nothing held (Some file) c =
+    then_nothing (lines_stage held which.Groups file) (grouped_stage file c) (lines_nothing held which.Groups file)
+    (λ lines. result_nothing (read_or_line file group_text (groups_of (register_names c) lines)))
+
+pub clustered_nothing : (held : List ℕ → Held) (file : List ℕ) (groups : Option (List ℕ)) (mode : Mode) (c : Circuit) → LeavesNothing (clustered_stage held file groups mode c)
+clustered_nothing held file groups mode c =
+    then_nothing (groups_stage held groups c) (clusters_stage file mode c) (groups_nothing held groups c)
+    (λ gs. record { may = no_text (clusters_stage file mode c gs); only = λ failed stop text is. is })
+
+pub split_nothing : (held : List ℕ → Held) (file : List ℕ) (groups : Option (List ℕ)) (mode : Mode) (c : Circuit) → LeavesNothing (split_stage held file groups mode c)
+split_nothing held file groups mode c =
+    then_nothing (groups_stage held groups c) (parted_stage file mode c) (groups_nothing held groups c)
+    (λ gs. record { may = no_text (parted_stage file mode c gs); only = λ failed stop text is. is })
 
 marked_nothing : (file : List ℕ) (s : Split) (lines : List Line) → LeavesNothing (marked_stage file s lines)
 marked_nothing file s lines =
@@ -108,10 +125,10 @@ plan_nothing held None s = giving_nothing (IsOwnPlan s)
 plan_nothing held (Some file) s =
     then_nothing (lines_stage held which.Graph file) (marked_stage file s) (lines_nothing held which.Graph file) (marked_nothing file s)
 
-pub planned_nothing : (held : List ℕ → Held) (net : List ℕ) (graph : Option (List ℕ)) (mode : Mode) (slack : ℕ) (c : Circuit) → LeavesNothing (planned_stage held net graph mode slack c)
-planned_nothing held net graph mode slack c =
-    then_nothing (split_stage net mode c) (λ (s : Split). plan_stage held graph (slackened s slack))
-    (split_nothing net mode c) (λ s. plan_nothing held graph (slackened s slack))
+pub planned_nothing : (held : List ℕ → Held) (net : List ℕ) (graph groups : Option (List ℕ)) (mode : Mode) (slack : ℕ) (c : Circuit) → LeavesNothing (planned_stage held net graph groups mode slack c)
+planned_nothing held net graph groups mode slack c =
+    then_nothing (split_stage held net groups mode c) (λ (s : Split). plan_stage held graph (slackened s slack))
+    (split_nothing held net groups mode c) (λ s. plan_nothing held graph (slackened s slack))
 
 pub log_nothing : (held : List ℕ → Held) (log : List ℕ) (planned : Planned) (vectors : List Row) → LeavesNothing (log_stage held log planned vectors)
 log_nothing held log planned vectors =

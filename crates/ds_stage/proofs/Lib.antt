@@ -4,6 +4,7 @@ pub mod Counts
 pub mod Exclusive
 pub mod Expansions
 pub mod Failed
+pub mod GroupStages
 pub mod Left
 pub mod LineWords
 pub mod LogRead

@@ -24,8 +24,8 @@ use Rattle.ds_stage.proofs.LineWords.{HaveWords, lines_have_words}
 use Rattle.ds_stage.proofs.ReadNames.{graph_spelt}
 
 -- a split design has few clusters
-few_clusters : (mode : Mode) (c : Circuit) (s : Split) (slack : ℕ) → IsInClusters mode c s → length (slackened s slack).clusters ≤ 2 ^ 64
-few_clusters mode c s slack is =
+few_clusters : (mode : Mode) (groups : List (List ℕ)) (c : Circuit) (s : Split) (slack : ℕ) → IsInClusters mode groups c s → length (slackened s slack).clusters ≤ 2 ^ 64
+few_clusters mode groups c s slack is =
     let few : length is.clusters ≤ 4096 = is.few in
     let same : length s.clusters ≡ length is.clusters = ap (λ (t : Split). length t.clusters) is.is in
     omega arith
@@ -47,11 +47,11 @@ named_words s g p few spelt named =
     spelt_have_own_words p.graph named.plan_kept
     (subst (All IsSpelt) (sym named.plan.events) (All-append IsSpelt (split_events s) (extra_events s g) (all_spelt s few) extra))
 
-pub planned_words : (held : List ℕ → Held) (net : List ℕ) (graph : Option (List ℕ)) (mode : Mode) (slack : ℕ)
+pub planned_words : (held : List ℕ → Held) (net : List ℕ) (graph groups : Option (List ℕ)) (mode : Mode) (slack : ℕ)
     → ((file : List ℕ) → graph ≡ Some file → held file ≢ untold)
-    → (c : Circuit) (p : Planned) → (planned_stage held net graph mode slack c).means p → HasOwnWords p.graph
-planned_words held net None mode slack told c p (s, (is, few), own) =
-    own_words (slackened s slack) p (few_clusters mode c s slack is) own
-planned_words held net (Some file) mode slack told c p (s, (is, few), (lines, are, (g, read, named))) =
+    → (c : Circuit) (p : Planned) → (planned_stage held net graph groups mode slack c).means p → HasOwnWords p.graph
+planned_words held net None groups mode slack told c p (s, (gs, are_groups, (is, few)), own) =
+    own_words (slackened s slack) p (few_clusters mode gs c s slack is) own
+planned_words held net (Some file) groups mode slack told c p (s, (gs, are_groups, (is, few)), (lines, are, (g, read, named))) =
     let have : HaveWords lines = file_words (held file) file (told file refl) lines are in
-    named_words (slackened s slack) g p (few_clusters mode c s slack is) (graph_spelt lines g have (read_meant file astg_text (graph_of_lines lines) g read)) named
+    named_words (slackened s slack) g p (few_clusters mode gs c s slack is) (graph_spelt lines g have (read_meant file astg_text (graph_of_lines lines) g read)) named

@@ -18,8 +18,8 @@ use Rattle.ds_stage.specs.SplitStage.{IsInClusters}
 use Rattle.ds_stage.specs.PlanStage.{IsNamedPlan, planned_stage}
 
 -- a circuit in clusters is split
-pub in_clusters_split : (mode : Mode) (c : Circuit) (s : Split) → IsAccepted c → IsInClusters mode c s → IsSplit s
-in_clusters_split mode c s accepted is =
+pub in_clusters_split : (mode : Mode) (groups : List (List ℕ)) (c : Circuit) (s : Split) → IsAccepted c → IsInClusters mode groups c s → IsSplit s
+in_clusters_split mode groups c s accepted is =
     subst (λ (t : Split). IsSplit t) (sym is.is) (record {
       accepted = accepted;
       covered = is.are.each_once.covered;
@@ -54,32 +54,32 @@ slackened_split s slack is = record {
 }
 
 -- the split design of a plan is the netlist's, with slack
-pub planned_in_clusters : (held : List ℕ → Held) (net : List ℕ) (graph : Option (List ℕ)) (mode : Mode) (slack : ℕ) (c : Circuit) (p : Planned)
-    → (planned_stage held net graph mode slack c).means p → (s : Split) × IsInClusters mode c s × (p.split ≡ slackened s slack)
-planned_in_clusters held net None mode slack c p (s, (is, few), own) = (s, is, own.split)
-planned_in_clusters held net (Some file) mode slack c p (s, (is, few), (lines, are, (g, read, named))) = (s, is, named.plan.split)
+pub planned_in_clusters : (held : List ℕ → Held) (net : List ℕ) (graph groups : Option (List ℕ)) (mode : Mode) (slack : ℕ) (c : Circuit) (p : Planned)
+    → (planned_stage held net graph groups mode slack c).means p → (s : Split) × ((gs : List (List ℕ)) × IsInClusters mode gs c s) × (p.split ≡ slackened s slack)
+planned_in_clusters held net None groups mode slack c p (s, (gs, are_groups, (is, few)), own) = (s, (gs, is), own.split)
+planned_in_clusters held net (Some file) groups mode slack c p (s, (gs, are_groups, (is, few)), (lines, are, (g, read, named))) = (s, (gs, is), named.plan.split)
 
 -- the circuit of a plan is the netlist
-pub planned_circuit : (held : List ℕ → Held) (net : List ℕ) (graph : Option (List ℕ)) (mode : Mode) (slack : ℕ) (c : Circuit) (p : Planned)
-    → (planned_stage held net graph mode slack c).means p → p.split.circuit ≡ c
-planned_circuit held net graph mode slack c p means =
-    let (s, is, same) = planned_in_clusters held net graph mode slack c p means in
+pub planned_circuit : (held : List ℕ → Held) (net : List ℕ) (graph groups : Option (List ℕ)) (mode : Mode) (slack : ℕ) (c : Circuit) (p : Planned)
+    → (planned_stage held net graph groups mode slack c).means p → p.split.circuit ≡ c
+planned_circuit held net graph groups mode slack c p means =
+    let (s, (gs, is), same) = planned_in_clusters held net graph groups mode slack c p means in
     ap (λ (t : Split). t.circuit) same ∙ ap (λ (t : Split). t.circuit) is.is
 
 -- and its registers start as the netlist says
-pub planned_start : (held : List ℕ → Held) (net : List ℕ) (graph : Option (List ℕ)) (mode : Mode) (slack : ℕ) (c : Circuit) (p : Planned)
-    → (planned_stage held net graph mode slack c).means p → p.split.initial ≡ initial_row p.split.circuit
-planned_start held net graph mode slack c p means =
-    let (s, is, same) = planned_in_clusters held net graph mode slack c p means in
+pub planned_start : (held : List ℕ → Held) (net : List ℕ) (graph groups : Option (List ℕ)) (mode : Mode) (slack : ℕ) (c : Circuit) (p : Planned)
+    → (planned_stage held net graph groups mode slack c).means p → p.split.initial ≡ initial_row p.split.circuit
+planned_start held net graph groups mode slack c p means =
+    let (s, (gs, is), same) = planned_in_clusters held net graph groups mode slack c p means in
     ap (λ (t : Split). t.initial) same ∙ (ap (λ (t : Split). t.initial) is.is
-    ∙ ap initial_row (sym (planned_circuit held net graph mode slack c p means)))
+    ∙ ap initial_row (sym (planned_circuit held net graph groups mode slack c p means)))
 
 -- the graph of a plan is accepted
-pub planned_is_plan : (held : List ℕ → Held) (net : List ℕ) (graph : Option (List ℕ)) (mode : Mode) (slack : ℕ) (c : Circuit) (p : Planned) → IsAccepted c
-    → (planned_stage held net graph mode slack c).means p → IsPlan p.split p.graph
-planned_is_plan held net None mode slack c p accepted (s, (is, few), own) =
+pub planned_is_plan : (held : List ℕ → Held) (net : List ℕ) (graph groups : Option (List ℕ)) (mode : Mode) (slack : ℕ) (c : Circuit) (p : Planned) → IsAccepted c
+    → (planned_stage held net graph groups mode slack c).means p → IsPlan p.split p.graph
+planned_is_plan held net None groups mode slack c p accepted (s, (gs, are_groups, (is, few)), own) =
     subst (λ (t : Split). IsPlan t p.graph) (sym own.split)
-    (orders_are_accepted (slackened s slack) p.graph (slackened_split s slack (in_clusters_split mode c s accepted is)) own.graph.events own.graph.orders)
-planned_is_plan held net (Some file) mode slack c p accepted (s, (is, few), (lines, are, (g, read, named))) =
+    (orders_are_accepted (slackened s slack) p.graph (slackened_split s slack (in_clusters_split mode gs c s accepted is)) own.graph.events own.graph.orders)
+planned_is_plan held net (Some file) groups mode slack c p accepted (s, (gs, are_groups, (is, few)), (lines, are, (g, read, named))) =
     subst (λ (t : Split). IsPlan t p.graph) (sym named.plan.split)
-    (named_is_plan (slackened s slack) g p (slackened_split s slack (in_clusters_split mode c s accepted is)) named)
+    (named_is_plan (slackened s slack) g p (slackened_split s slack (in_clusters_split mode gs c s accepted is)) named)

@@ -9,8 +9,8 @@ use Rattle.ds_design.specs.Circuit.{Circuit}
 use Rattle.ds_latch.specs.Node.{Split, nodes, number_of}
 use Rattle.ds_latch.specs.Latches.{HasEdges}
 use Rattle.ds_latch.specs.declared.latches.Edge.{Edge}
-use Rattle.ds_split.specs.Cluster.{IsClustering}
-use Rattle.ds_split.specs.Split.{HasTooManyOrders, IsClusterFault, IsSplitFault, split_into}
+use Rattle.ds_split.specs.Grouped.{IsGroupedClustering, IsGroupedFault}
+use Rattle.ds_split.specs.Split.{HasTooManyOrders, IsSplitFault, split_into}
 use Rattle.ds_split.specs.declared.fault.SplitFault.{SplitFault}
 use Rattle.ds_split.specs.declared.fault.SplitFault.TheVariants.{TooMany}
 use Rattle.ds_split.specs.declared.fault.SplitFault.TheVariants as split
@@ -18,35 +18,36 @@ use Rattle.ds_split.proofs.DataEdges.{same_edge}
 use Rattle.ds_split.proofs.Pigeons.{few_different}
 use Rattle.ds_stage.specs.FaultText.{file_line, too_many_text}
 use Rattle.ds_stage.specs.Ends.{Never, SaysRefused, SaysSplit, Stops}
-use Rattle.ds_stage.specs.SplitStage.{IsSplitLine, split_stage}
+use Rattle.ds_stage.specs.SplitStage.{IsSplitLine, parted_stage}
+use Rattle.ds_stage.specs.ClustersStage.{clusters_stage}
 use Rattle.ds_stage.specs.declared.stop.Stop.{Stop}
 use Rattle.ds_stage.specs.declared.stop.Stop.TheVariants.{Refused, Unread, Unwritten, Memory}
 
 -- a line that refuses, by what it is
-refused_by : (file : List ℕ) (mode : Mode) (c : Circuit) (limit : Limit) (stop : Stop)
-    → IsSplitLine file mode c (file_line file (too_many_text limit)) → SaysRefused (file_line file (too_many_text limit)) stop
-    → Stops (split_stage file mode c) Never stop
-refused_by file mode c limit (Refused line) is says = subst (IsSplitLine file mode c) (sym says) is
-refused_by file mode c limit (Unread line) is says = absurd says
-refused_by file mode c limit Unwritten is says = absurd says
-refused_by file mode c limit Memory is says = tt
+refused_by : (file : List ℕ) (mode : Mode) (c : Circuit) (groups : List (List ℕ)) (limit : Limit) (stop : Stop)
+    → IsSplitLine file mode c groups (file_line file (too_many_text limit)) → SaysRefused (file_line file (too_many_text limit)) stop
+    → Stops (parted_stage file mode c groups) Never stop
+refused_by file mode c groups limit (Refused line) is says = subst (IsSplitLine file mode c groups) (sym says) is
+refused_by file mode c groups limit (Unread line) is says = absurd says
+refused_by file mode c groups limit Unwritten is says = absurd says
+refused_by file mode c groups limit Memory is says = tt
 
 -- want of memory stops every stage
-memory_stops : (file : List ℕ) (mode : Mode) (c : Circuit) (stop : Stop) → stop ≡ Memory → Stops (split_stage file mode c) Never stop
-memory_stops file mode c stop is = rw is tt
+memory_stops : (file : List ℕ) (mode : Mode) (c : Circuit) (groups : List (List ℕ)) (stop : Stop) → stop ≡ Memory → Stops (parted_stage file mode c groups) Never stop
+memory_stops file mode c groups stop is = rw is tt
 
-pub cluster_stops : (file : List ℕ) (mode : Mode) (c : Circuit) (fault : SplitFault) (stop : Stop) → IsClusterFault c mode fault → SaysSplit file fault stop
-    → Stops (split_stage file mode c) Never stop
-cluster_stops file mode c (TooMany limit) stop (is, many) says =
-    refused_by file mode c limit stop (inl (many, ap (λ (l : Limit). file_line file (too_many_text l)) is)) says
-cluster_stops file mode c split.Memory stop is says = memory_stops file mode c stop says
+pub cluster_stops : (file : List ℕ) (mode : Mode) (c : Circuit) (groups : List (List ℕ)) (fault : SplitFault) (stop : Stop) → IsGroupedFault c mode groups fault → SaysSplit file fault stop
+    → Stops (parted_stage file mode c groups) Never stop
+cluster_stops file mode c groups (TooMany limit) stop (is, many) says =
+    refused_by file mode c groups limit stop (inl (many, ap (λ (l : Limit). file_line file (too_many_text l)) is)) says
+cluster_stops file mode c groups split.Memory stop is says = memory_stops file mode c groups stop says
 
-pub split_stops : (file : List ℕ) (mode : Mode) (c : Circuit) (clusters : List (List ℕ)) → IsClustering c mode clusters → length clusters ≤ most_of Clusters
-    → (fault : SplitFault) (stop : Stop) → IsSplitFault (split_into c clusters) fault → SaysSplit file fault stop → Stops (split_stage file mode c) Never stop
-split_stops file mode c clusters are few (TooMany limit) stop (is, many) says =
-    refused_by file mode c limit stop
+pub split_stops : (file : List ℕ) (mode : Mode) (c : Circuit) (groups : List (List ℕ)) (clusters : List (List ℕ)) → IsGroupedClustering c mode groups clusters → length clusters ≤ most_of Clusters
+    → (fault : SplitFault) (stop : Stop) → IsSplitFault (split_into c clusters) fault → SaysSplit file fault stop → Stops (parted_stage file mode c groups) Never stop
+split_stops file mode c groups clusters are few (TooMany limit) stop (is, many) says =
+    refused_by file mode c groups limit stop
     (inr (split_into c clusters, record { clusters = clusters; are = are; few = few; is = refl }, many, ap (λ (l : Limit). file_line file (too_many_text l)) is)) says
-split_stops file mode c clusters are few split.Memory stop is says = memory_stops file mode c stop says
+split_stops file mode c groups clusters are few split.Memory stop is says = memory_stops file mode c groups stop says
 
 -- edges that are few enough are not too many
 pub few_orders : (s : Split) (edges : List Edge) → HasEdges s edges → AllPairs (λ a b. a ≢ b) edges → 2 * nodes s + 2 * length edges ≤ 1048576 → ¬ HasTooManyOrders s
@@ -57,3 +58,13 @@ few_orders s edges has_edges once few many =
     subst (λ (y : Edge). Contains edges y) (same_edge x (number_of p) (number_of c) producer consumer ∙ sym at) (j, inside, same)) in
     let over : most_of Arcs < 2 * nodes s + 2 * length many.edges = many.many in
     omega arith
+
+-- where there are too many clusters, the stage of clusters stops too
+pub listing_stops : (file : List ℕ) (mode : Mode) (c : Circuit) (groups : List (List ℕ)) (fault : SplitFault) (stop : Stop)
+    → IsGroupedFault c mode groups fault → SaysSplit file fault stop → Stops (clusters_stage file mode c groups) Never stop
+listing_stops file mode c groups (TooMany limit) (Refused line) (is, many) says =
+    (many, says ∙ ap (λ (l : Limit). file_line file (too_many_text l)) is)
+listing_stops file mode c groups (TooMany limit) (Unread line) is says = absurd says
+listing_stops file mode c groups (TooMany limit) Unwritten is says = absurd says
+listing_stops file mode c groups (TooMany limit) Memory is says = tt
+listing_stops file mode c groups split.Memory stop is says = rw says tt

@@ -53,6 +53,16 @@ wider_first narrow wide next failed more first rest = record {
   unread = λ line either. elim either [ inl here ↦ inl (first.unread line here) | inr (a, is, then) ↦ inr (a, first.means a is, (rest a).unread line then) ];
 }
 
+-- with a second one that says more too
+pub wider_both : {A B : Type 0} (narrow wide : Stage A) (next other : A → Stage B) (failed more : OfFile)
+    → IsWider narrow wide failed more → ((a : A) → IsWider (next a) (other a) failed more)
+    → IsWider (then_stage narrow next) (then_stage wide other) failed more
+wider_both narrow wide next other failed more first rest = record {
+  means = λ b (a, is, then). (a, first.means a is, (rest a).means b then);
+  refused = λ line either. elim either [ inl here ↦ inl (first.refused line here) | inr (a, is, then) ↦ inr (a, first.means a is, (rest a).refused line then) ];
+  unread = λ line either. elim either [ inl here ↦ inl (first.unread line here) | inr (a, is, then) ↦ inr (a, first.means a is, (rest a).unread line then) ];
+}
+
 -- a first part of what is held, which is short enough, is all of it
 front_is_all : (limit : ℕ) (front held : List ℕ) → front ≡ take (limit + 1) held → length front ≤ limit → front ≡ held
 front_is_all limit front held is short =

@@ -21,10 +21,10 @@ VectorsHaveColumns = (held : List ℕ → Held) (vec : List ℕ) (c : Circuit) (
     → (vectors_stage held vec c).means vectors
     → All (λ vector. length vector ≡ length (columns c)) vectors.rows
 
--- each event of a plan is written as a word of its own, whatever the clusters and the slack, with
--- the controller graph or with that of a file that tells what it holds
+-- each event of a plan is written as a word of its own, whatever clusters, groups and slack are,
+-- with the controller graph or with that of a file that tells what it holds
 abbrev pub PlansHaveOwnWords : Type 0
-PlansHaveOwnWords = (held : List ℕ → Held) (net : List ℕ) (graph : Option (List ℕ)) (mode : Mode)
-    (slack : ℕ) → ((file : List ℕ) → graph ≡ Some file → held file ≢ untold)
-    → (c : Circuit) (p : Planned) → (planned_stage held net graph mode slack c).means p
+PlansHaveOwnWords = (held : List ℕ → Held) (net : List ℕ) (graph groups : Option (List ℕ))
+    (mode : Mode) (slack : ℕ) → ((file : List ℕ) → graph ≡ Some file → held file ≢ untold)
+    → (c : Circuit) (p : Planned) → (planned_stage held net graph groups mode slack c).means p
     → HasOwnWords p.graph

@@ -6,7 +6,9 @@ pub mod Report
 pub mod Stages
 pub mod StreamStage
 pub mod StreamStops
+pub mod GroupsStage
 pub mod SplitStage
+pub mod ClustersStage
 pub mod GraphStage
 pub mod PlanStage
 pub mod AcceptStage

@@ -53,8 +53,9 @@ abbrev pub plan_stage : (List ℕ → Held) → Option (List ℕ) → Split → 
 plan_stage held None s = giving (IsOwnPlan s)
 plan_stage held (Some file) s = named_stage held file s
 
--- the plan of a netlist, once it is read: of its split design with slack
-abbrev pub planned_stage : (List ℕ → Held) → List ℕ → Option (List ℕ) → Mode → ℕ → Circuit
-    → Stage Planned
-planned_stage held net graph mode slack c =
-    then_stage (split_stage net mode c) (λ s. plan_stage held graph (slackened s slack))
+-- the plan of a netlist, once it is read: of its split design with slack; first the graph's file is
+-- named, then that of groups, each where there is one
+abbrev pub planned_stage : (List ℕ → Held) → List ℕ → Option (List ℕ) → Option (List ℕ) → Mode → ℕ
+    → Circuit → Stage Planned
+planned_stage held net graph groups mode slack c =
+    then_stage (split_stage held net groups mode c) (λ s. plan_stage held graph (slackened s slack))

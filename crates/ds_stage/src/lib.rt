@@ -7,7 +7,8 @@
 //! memory was wanted or that a write failed (`specs/Ends`). The last stage of a job writes a text:
 //! it was appended whole, or a first part of it and a write failed.
 //!
-//! `read_netlist` and `read_rows` read netlist and vectors (`specs/Stages`), `read_window` the next
+//! `read_netlist` and `read_rows` read netlist and vectors (`specs/Stages`), `wanted_groups` the
+//! groups of registers (`specs/GroupsStage`), `read_window` the next
 //! 4,096 vectors of a stream (`specs/StreamStops`), `split_netlist` makes latches
 //! (`specs/SplitStage`), `plan_netlist`, `plan_named` and `own_plan` plans (`specs/PlanStage`),
 //! `read_log` the state after a log (`specs/ReplayStage`), and `write_state` its text, which is
@@ -32,6 +33,7 @@ mod expansion;
 mod fault_line;
 mod fault_text;
 mod graph_text;
+mod groups;
 pub mod laws;
 mod log;
 mod log_text;
@@ -50,12 +52,13 @@ pub use expansion::wanted_graph;
 pub use fault_line::{file_line, numbered_line, too_many, unread_line};
 pub use fault_text::{blif_text, flat_text, vector_text};
 pub use graph_text::{accept_text, astg_text, put_event, put_events};
+pub use groups::{no_groups, wanted_groups};
 pub use log::read_log;
 pub use net_text::net_fault_text;
 pub use plan::{own_plan, plan_named, plan_netlist};
 pub use report::{put_count, write_report};
 pub use source::{read_netlist, read_rows};
-pub use split::split_netlist;
+pub use split::{cluster_netlist, split_groups, split_netlist};
 pub use splitting::Splitting;
 pub use state_text::write_state;
 pub use stop::Stop;

@@ -34,18 +34,18 @@ pub fn plan_netlist<'a, F: Files>(
     net: &str,
     netlist: &'a Netlist,
     graph: &Option<FileName>,
-    splitting: Splitting,
+    splitting: Splitting<'_>,
 ) -> Result<Plan<'a>, Stop>
     requires { splitting.slack ≤ 15 }
     ensures value { Answers (planned_stage (F.held files.old) net.now graph.now
-        splitting.clusters splitting.slack netlist.entry.now)
+        splitting.groups.now splitting.clusters splitting.slack netlist.entry.now)
         (RoseIn (F.faults files.old) (F.faults files.new)) result }
 
     ensures same_held { F.held files.new ≡ F.held files.old }
     ensures same_reads { UnlessUnread result (F.faults files.new ≡ F.faults files.old) }
     ensures never_falls { (w : _) (n : List ℕ) → F.faults files.old w n ≤ F.faults files.new w n }
 {
-    let latches = split_netlist(alloc, net, netlist, splitting.clusters)?;
+    let latches = split_netlist(alloc, files, net, netlist, splitting)?;
     plan_of(alloc, files, graph, latches.with_slack(splitting.slack))
 }
 
@@ -94,18 +94,18 @@ pub fn plan_named<'a, F: Files>(
     net: &str,
     netlist: &'a Netlist,
     graph: &str,
-    splitting: Splitting,
+    splitting: Splitting<'_>,
 ) -> Result<Plan<'a>, Stop>
     requires { splitting.slack ≤ 15 }
     ensures value { Answers (planned_stage (F.held files.old) net.now (Some graph.now)
-        splitting.clusters splitting.slack netlist.entry.now)
+        splitting.groups.now splitting.clusters splitting.slack netlist.entry.now)
         (RoseIn (F.faults files.old) (F.faults files.new)) result }
 
     ensures same_held { F.held files.new ≡ F.held files.old }
     ensures same_reads { UnlessUnread result (F.faults files.new ≡ F.faults files.old) }
     ensures never_falls { (w : _) (n : List ℕ) → F.faults files.old w n ≤ F.faults files.new w n }
 {
-    let latches = split_netlist(alloc, net, netlist, splitting.clusters)?;
+    let latches = split_netlist(alloc, files, net, netlist, splitting)?;
     named_plan(alloc, files, graph, latches.with_slack(splitting.slack))
 }
 

@@ -2,7 +2,7 @@
 use ds_base::{EventId, Mode};
 use ds_outside::MemorySink;
 use ds_rows::firing_line;
-use ds_stage::{Stop, own_plan, read_netlist, split_netlist};
+use ds_stage::{Stop, no_groups, own_plan, read_netlist, split_groups};
 use ds_trial::{TOGGLE, files};
 use std::alloc::Global;
 
@@ -10,7 +10,7 @@ use std::alloc::Global;
 fn is_line(alloc: Global, event: usize, turn: u64, text: &str) -> Result<bool, Stop> {
     let mut files = files(alloc, &[("n", TOGGLE)])?;
     let netlist = read_netlist(alloc, &mut files, "n")?;
-    let latches = split_netlist(alloc, "n", &netlist, Mode::Each)?;
+    let latches = split_groups(alloc, "n", &netlist, Mode::Each, &no_groups(alloc))?;
     let Ok(plan) = own_plan(alloc, latches) else {
         return Err(Stop::Memory);
     };

@@ -11,7 +11,7 @@ use ds_latch::{Latches, Plan};
 use ds_lines::lines;
 use ds_outside::OpenGate;
 use ds_replay::replay;
-use ds_stage::{Stop, own_plan, read_netlist, read_rows, split_netlist};
+use ds_stage::{Stop, no_groups, own_plan, read_netlist, read_rows, split_groups};
 use ds_trial::{files, printed, tangle};
 use std::alloc::Global;
 use std::test::Fail;
@@ -93,7 +93,7 @@ fn each_firing_of_a_run_shows(
     vectors: &Vectors,
     run: &str,
 ) -> Result<bool, Stop> {
-    let latches = split_netlist(alloc, "n", netlist, Mode::Each)?;
+    let latches = split_groups(alloc, "n", netlist, Mode::Each, &no_groups(alloc))?;
     let Ok(plan) = own_plan(alloc, latches) else {
         return Err(Stop::Memory);
     };

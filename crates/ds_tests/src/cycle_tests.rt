@@ -2,7 +2,7 @@
 use ds_base::{EventId, Mode};
 use ds_marked::{Arc, Marked};
 use ds_outside::OpenGate;
-use ds_stage::{Stop, own_graph, put_event, read_netlist, split_netlist};
+use ds_stage::{Stop, no_groups, own_graph, put_event, read_netlist, split_groups};
 use ds_trial::{files, printed};
 use rand_core::SeedableRng;
 use rand_core::utils::NextWord;
@@ -55,7 +55,7 @@ pub fn netlist(
 fn graph_of(alloc: Global, net: &str) -> Result<Marked, Stop> {
     let mut files = files(alloc, &[("n", net)])?;
     let netlist = read_netlist(alloc, &mut files, "n")?;
-    let latches = split_netlist(alloc, "n", &netlist, Mode::Each)?;
+    let latches = split_groups(alloc, "n", &netlist, Mode::Each, &no_groups(alloc))?;
     Ok(own_graph(alloc, &latches)?)
 }
 

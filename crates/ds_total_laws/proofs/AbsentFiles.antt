@@ -12,21 +12,24 @@ use Rattle.ds_latch.specs.Node.{Split, slackened}
 use Rattle.ds_latch.specs.Plan.{Planned}
 use Rattle.ds_cmd.specs.Line.{job_of}
 use Rattle.ds_cmd.specs.declared.job.Job.{Job}
-use Rattle.ds_cmd.specs.declared.job.Job.TheVariants.{Run, Clock, Check, Graph, Replay, Accept, Demo, Period}
+use Rattle.ds_cmd.specs.declared.job.Job.TheVariants.{Run, Clock, Check, Graph, Replay, Accept, Demo, Period, Clusters}
 use Rattle.ds_replay.specs.ReplayText.{IsReplayText}
 use Rattle.ds_stage.specs.declared.stop.Stop.TheVariants.{Unwritten}
 use Rattle.ds_stage.specs.Ends.{RoseIn}
 use Rattle.ds_stage.specs.Stage.{OfFile, Stage, giving, then_stage}
 use Rattle.ds_stage.specs.Stages.{OfBytes, accepted_stage, design_stage, file_stage, lines_stage, netlist_stage, report_stage, rows_stage, trace_stage, vectors_stage}
 use Rattle.ds_stage.specs.StreamStage.{gives_held, leaves_held, most_vectors, streamed_stage}
-use Rattle.ds_stage.specs.SplitStage.{split_stage}
+use Rattle.ds_stage.specs.SplitStage.{parted_stage, split_stage}
+use Rattle.ds_stage.specs.ClustersStage.{clustered_stage, clusters_stage, listed_stage}
+use Rattle.ds_stage.specs.GraphStage.{controller_stage}
+use Rattle.ds_stage.specs.GroupsStage.{grouped_stage, groups_stage}
 use Rattle.ds_stage.specs.PlanStage.{marked_stage, plan_stage, planned_stage}
 use Rattle.ds_stage.specs.AcceptStage.{ranks_stage}
 use Rattle.ds_stage.specs.ReplayStage.{fired_stage, log_stage, replayed_stage}
 use Rattle.ds_stage.specs.PeriodStage.{IsPeriodText, delays_stage, given_stage, timed_stage}
 use Rattle.ds_stage.proofs.Left.{LeavesNothing, netlist_nothing, planned_nothing, split_nothing, vectors_nothing}
 use Rattle.ds_app.specs.Job.{run_stage, stages_of}
-use Rattle.ds_app.specs.JobStages.{accept_stage, clock_stage, graph_stage, period_stage, replay_stage}
+use Rattle.ds_app.specs.JobStages.{accept_stage, clock_stage, graph_stage, listing_stage, period_stage, replay_stage}
 use Rattle.ds_app.specs.RunStage.{planned_run_stage, stopped_stage, traced_stage}
 use Rattle.ds_app.specs.Status.{Call, IsAnswered, IsDone, IsNoLine, IsRefused, IsUnwritten}
 use Rattle.ds_total_laws.specs.Absent.{AbsentFilesAreUnread, IsAbsentIn, LacksFile}
@@ -93,12 +96,25 @@ streamed_mute held vec most c gone = record {
   writes = λ failed text left. none_written (held vec) c most text gone left;
 }
 
--- the plan of a graph that is not there
-planned_mute : (held : List ℕ → Held) (net : List ℕ) (graph : Option (List ℕ)) (mode : Mode) (slack : ℕ) (c : Circuit) → IsAbsentIn held graph
-    → IsMute (planned_stage held net graph mode slack c)
-planned_mute held net None mode slack c gone = absurd gone
-planned_mute held net (Some file) mode slack c gone =
-    mute_next (split_stage net mode c) (λ (s : Split). plan_stage held (Some file) (slackened s slack)) (split_nothing net mode c)
+-- groups that are not there
+groups_mute : (held : List ℕ → Held) (groups : Option (List ℕ)) (c : Circuit) → IsAbsentIn held groups → IsMute (groups_stage held groups c)
+groups_mute held None c gone = absurd gone
+groups_mute held (Some file) c gone = mute_first (lines_stage held which.Groups file) (grouped_stage file c) (lines_mute held which.Groups file gone)
+
+split_mute : (held : List ℕ → Held) (net : List ℕ) (groups : Option (List ℕ)) (mode : Mode) (c : Circuit) → IsAbsentIn held groups → IsMute (split_stage held net groups mode c)
+split_mute held net groups mode c gone = mute_first (groups_stage held groups c) (parted_stage net mode c) (groups_mute held groups c gone)
+
+-- the plan of groups or of a graph that are not there
+grouped_mute : (held : List ℕ → Held) (net : List ℕ) (graph groups : Option (List ℕ)) (mode : Mode) (slack : ℕ) (c : Circuit) → IsAbsentIn held groups
+    → IsMute (planned_stage held net graph groups mode slack c)
+grouped_mute held net graph groups mode slack c gone =
+    mute_first (split_stage held net groups mode c) (λ (s : Split). plan_stage held graph (slackened s slack)) (split_mute held net groups mode c gone)
+
+planned_mute : (held : List ℕ → Held) (net : List ℕ) (graph groups : Option (List ℕ)) (mode : Mode) (slack : ℕ) (c : Circuit) → IsAbsentIn held graph
+    → IsMute (planned_stage held net graph groups mode slack c)
+planned_mute held net None groups mode slack c gone = absurd gone
+planned_mute held net (Some file) groups mode slack c gone =
+    mute_next (split_stage held net groups mode c) (λ (s : Split). plan_stage held (Some file) (slackened s slack)) (split_nothing held net groups mode c)
     (λ s. mute_first (lines_stage held which.Graph file) (marked_stage file (slackened s slack)) (lines_mute held which.Graph file gone))
 
 -- the run of vectors that are not there
@@ -133,48 +149,73 @@ job_mute : (held : List ℕ → Held) (job : Job) → LacksFile held job → IsM
 job_mute held (Run job) (inl net) = mute_first (netlist_stage held job.net) (run_stage held job) (netlist_mute held job.net net)
 job_mute held (Run job) (inr (inl vec)) =
     mute_next (netlist_stage held job.net) (run_stage held job) (netlist_nothing held job.net) (λ c.
-    mute_next (planned_stage held job.net job.graph job.clusters job.slack c) (planned_run_stage held job.vec job.log job.jobs job.stop c)
-    (planned_nothing held job.net job.graph job.clusters job.slack c) (λ p. run_mute held job.vec job.log job.jobs job.stop c p vec))
-job_mute held (Run job) (inr (inr graph)) =
+    mute_next (planned_stage held job.net job.graph job.groups job.clusters job.slack c) (planned_run_stage held job.vec job.log job.jobs job.stop c)
+    (planned_nothing held job.net job.graph job.groups job.clusters job.slack c) (λ p. run_mute held job.vec job.log job.jobs job.stop c p vec))
+job_mute held (Run job) (inr (inr (inl graph))) =
     mute_next (netlist_stage held job.net) (run_stage held job) (netlist_nothing held job.net) (λ c.
-    mute_first (planned_stage held job.net job.graph job.clusters job.slack c) (planned_run_stage held job.vec job.log job.jobs job.stop c)
-    (planned_mute held job.net job.graph job.clusters job.slack c graph))
+    mute_first (planned_stage held job.net job.graph job.groups job.clusters job.slack c) (planned_run_stage held job.vec job.log job.jobs job.stop c)
+    (planned_mute held job.net job.graph job.groups job.clusters job.slack c graph))
+job_mute held (Run job) (inr (inr (inr groups))) =
+    mute_next (netlist_stage held job.net) (run_stage held job) (netlist_nothing held job.net) (λ c.
+    mute_first (planned_stage held job.net job.graph job.groups job.clusters job.slack c) (planned_run_stage held job.vec job.log job.jobs job.stop c)
+    (grouped_mute held job.net job.graph job.groups job.clusters job.slack c groups))
 job_mute held (Clock job) (inl net) = mute_first (netlist_stage held job.net) (clock_stage held job.vec) (netlist_mute held job.net net)
 job_mute held (Clock job) (inr vec) =
     mute_next (netlist_stage held job.net) (clock_stage held job.vec) (netlist_nothing held job.net) (λ c.
     mute_first (streamed_stage held job.vec 4294967295 c) (trace_stage c) (streamed_mute held job.vec 4294967295 c vec))
 job_mute held (Check net) gone = mute_first (netlist_stage held net) report_stage (netlist_mute held net gone)
-job_mute held (Graph job) gone = mute_first (netlist_stage held job.net) (graph_stage job) (netlist_mute held job.net gone)
+job_mute held (Graph job) (inl net) = mute_first (netlist_stage held job.net) (graph_stage held job) (netlist_mute held job.net net)
+job_mute held (Graph job) (inr groups) =
+    mute_next (netlist_stage held job.net) (graph_stage held job) (netlist_nothing held job.net) (λ c.
+    mute_first (split_stage held job.net job.groups job.clusters c) (λ (s : Split). controller_stage job.net job.shake (slackened s job.slack))
+    (split_mute held job.net job.groups job.clusters c groups))
 job_mute held (Replay job) (inl net) = mute_first (netlist_stage held job.net) (replay_stage held job) (netlist_mute held job.net net)
 job_mute held (Replay job) (inr (inl vec)) =
     mute_next (netlist_stage held job.net) (replay_stage held job) (netlist_nothing held job.net) (λ c.
-    mute_next (planned_stage held job.net job.graph job.clusters job.slack c) (logged held job.vec job.log job.transparent c)
-    (planned_nothing held job.net job.graph job.clusters job.slack c) (λ p.
+    mute_next (planned_stage held job.net job.graph job.groups job.clusters job.slack c) (logged held job.vec job.log job.transparent c)
+    (planned_nothing held job.net job.graph job.groups job.clusters job.slack c) (λ p.
     mute_first (vectors_stage held job.vec c) (λ (vectors : Rows). replayed_stage held job.log job.transparent p vectors.rows)
     (vectors_mute held job.vec c vec)))
 job_mute held (Replay job) (inr (inr (inl log))) =
     mute_next (netlist_stage held job.net) (replay_stage held job) (netlist_nothing held job.net) (λ c.
-    mute_next (planned_stage held job.net job.graph job.clusters job.slack c) (logged held job.vec job.log job.transparent c)
-    (planned_nothing held job.net job.graph job.clusters job.slack c) (λ p. log_mute held job.vec job.log job.transparent c p log))
-job_mute held (Replay job) (inr (inr (inr graph))) =
+    mute_next (planned_stage held job.net job.graph job.groups job.clusters job.slack c) (logged held job.vec job.log job.transparent c)
+    (planned_nothing held job.net job.graph job.groups job.clusters job.slack c) (λ p. log_mute held job.vec job.log job.transparent c p log))
+job_mute held (Replay job) (inr (inr (inr (inl graph)))) =
     mute_next (netlist_stage held job.net) (replay_stage held job) (netlist_nothing held job.net) (λ c.
-    mute_first (planned_stage held job.net job.graph job.clusters job.slack c) (logged held job.vec job.log job.transparent c)
-    (planned_mute held job.net job.graph job.clusters job.slack c graph))
+    mute_first (planned_stage held job.net job.graph job.groups job.clusters job.slack c) (logged held job.vec job.log job.transparent c)
+    (planned_mute held job.net job.graph job.groups job.clusters job.slack c graph))
+job_mute held (Replay job) (inr (inr (inr (inr groups)))) =
+    mute_next (netlist_stage held job.net) (replay_stage held job) (netlist_nothing held job.net) (λ c.
+    mute_first (planned_stage held job.net job.graph job.groups job.clusters job.slack c) (logged held job.vec job.log job.transparent c)
+    (grouped_mute held job.net job.graph job.groups job.clusters job.slack c groups))
 job_mute held (Accept job) (inl net) = mute_first (netlist_stage held job.net) (accept_stage held job) (netlist_mute held job.net net)
-job_mute held (Accept job) (inr graph) =
+job_mute held (Accept job) (inr (inl graph)) =
     mute_next (netlist_stage held job.net) (accept_stage held job) (netlist_nothing held job.net) (λ c.
-    mute_first (planned_stage held job.net (Some job.graph) job.clusters job.slack c) ranks_stage
-    (planned_mute held job.net (Some job.graph) job.clusters job.slack c graph))
+    mute_first (planned_stage held job.net (Some job.graph) job.groups job.clusters job.slack c) ranks_stage
+    (planned_mute held job.net (Some job.graph) job.groups job.clusters job.slack c graph))
+job_mute held (Accept job) (inr (inr groups)) =
+    mute_next (netlist_stage held job.net) (accept_stage held job) (netlist_nothing held job.net) (λ c.
+    mute_first (planned_stage held job.net (Some job.graph) job.groups job.clusters job.slack c) ranks_stage
+    (grouped_mute held job.net (Some job.graph) job.groups job.clusters job.slack c groups))
 job_mute held (Demo job) none = absurd none
 job_mute held (Period job) (inl net) = mute_first (netlist_stage held job.net) (period_stage held job) (netlist_mute held job.net net)
 job_mute held (Period job) (inr (inl delays)) =
     mute_next (netlist_stage held job.net) (period_stage held job) (netlist_nothing held job.net) (λ c.
-    mute_next (planned_stage held job.net job.graph job.clusters job.slack c) (λ (p : Planned). timed_stage held job.delays p.graph)
-    (planned_nothing held job.net job.graph job.clusters job.slack c) (λ p. timed_mute held job.delays p.graph delays))
-job_mute held (Period job) (inr (inr graph)) =
+    mute_next (planned_stage held job.net job.graph job.groups job.clusters job.slack c) (λ (p : Planned). timed_stage held job.delays p.graph)
+    (planned_nothing held job.net job.graph job.groups job.clusters job.slack c) (λ p. timed_mute held job.delays p.graph delays))
+job_mute held (Period job) (inr (inr (inl graph))) =
     mute_next (netlist_stage held job.net) (period_stage held job) (netlist_nothing held job.net) (λ c.
-    mute_first (planned_stage held job.net job.graph job.clusters job.slack c) (λ (p : Planned). timed_stage held job.delays p.graph)
-    (planned_mute held job.net job.graph job.clusters job.slack c graph))
+    mute_first (planned_stage held job.net job.graph job.groups job.clusters job.slack c) (λ (p : Planned). timed_stage held job.delays p.graph)
+    (planned_mute held job.net job.graph job.groups job.clusters job.slack c graph))
+job_mute held (Period job) (inr (inr (inr groups))) =
+    mute_next (netlist_stage held job.net) (period_stage held job) (netlist_nothing held job.net) (λ c.
+    mute_first (planned_stage held job.net job.graph job.groups job.clusters job.slack c) (λ (p : Planned). timed_stage held job.delays p.graph)
+    (grouped_mute held job.net job.graph job.groups job.clusters job.slack c groups))
+job_mute held (Clusters job) (inl net) = mute_first (netlist_stage held job.net) (listing_stage held job) (netlist_mute held job.net net)
+job_mute held (Clusters job) (inr groups) =
+    mute_next (netlist_stage held job.net) (listing_stage held job) (netlist_nothing held job.net) (λ c.
+    mute_first (clustered_stage held job.net job.groups job.clusters c) (listed_stage c)
+    (mute_first (groups_stage held job.groups c) (clusters_stage job.net job.clusters c) (groups_mute held job.groups c groups)))
 
 -- words are those of one job
 same_job : (words : List (List ℕ)) (one other : Job) → job_of words ≡ Ok one → job_of words ≡ Ok other → one ≡ other

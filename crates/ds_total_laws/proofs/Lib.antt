@@ -2,6 +2,7 @@ pub mod AbsentFiles
 pub mod Decided
 pub mod StreamDecided
 pub mod Netlists
+pub mod LineSome
 pub mod Splits
 pub mod Plans
 pub mod Texts

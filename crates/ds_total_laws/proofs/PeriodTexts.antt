@@ -2,7 +2,7 @@
 use Rattle.std.proofs.Common.{◌≡◌, ◌∙◌, ℕ, List, ap, length, sym, subst}
 use Rattle.ds_outside.specs.declared.files.Which.TheVariants.{Delays}
 use Rattle.ds_netlist.proofs.Refused.{faults_are_refused_lem}
-use Rattle.ds_split.proofs.OneClustering.{one_clustering_lem}
+use Rattle.ds_split.proofs.OneClustering.{one_grouped_lem}
 use Rattle.ds_marked.specs.Graph.{Graph}
 use Rattle.ds_latch.specs.Plan.{Planned}
 use Rattle.ds_period.specs.Period.{IsPeriod}
@@ -48,10 +48,10 @@ behind_one {A} {B} agree first next one each x y (a, is, gives) (b, also, more) 
 
 -- two texts of `period` differ in it alone
 pub periods_have_one_text : PeriodsHaveOneText
-periods_have_one_text held job (told, delays_told, graph_told) =
+periods_have_one_text held job (told, delays_told, graph_told, groups_told) =
     behind_one (HaveOnePeriod held job) (netlist_stage held job.net) (period_stage held job) ((netlist_exclusive faults_are_refused_lem held job.net told).one) (λ c is_netlist.
-    behind_one (HaveOnePeriod held job) (planned_stage held job.net job.graph job.clusters job.slack c) (λ (p : Planned). timed_stage held job.delays p.graph)
-    ((planned_exclusive one_clustering_lem held job.net job.graph job.clusters job.slack (told_file held job.graph graph_told) c).one) (λ plan is_plan.
+    behind_one (HaveOnePeriod held job) (planned_stage held job.net job.graph job.groups job.clusters job.slack c) (λ (p : Planned). timed_stage held job.delays p.graph)
+    ((planned_exclusive one_grouped_lem held job.net job.graph job.groups job.clusters job.slack (told_file held job.graph graph_told) (told_file held job.groups groups_told) c).one) (λ plan is_plan.
     let file : List ℕ = job.delays in
     let g : Graph = plan.graph in
     let delays_once : IsExclusive (delays_stage held file g) =

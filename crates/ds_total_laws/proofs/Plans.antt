@@ -64,8 +64,8 @@ module _ (held : List ℕ → Held) where
   plan_decided (Some file) s there ready = named_decided file s there ready
 
   -- an accepted netlist has a plan, or a line refuses it
-  pub planned_decided : (file : List ℕ) (graph : Option (List ℕ)) (mode : Mode) (slack : ℕ) → HasBytesIn held graph
-      → (c : Circuit) → IsAccepted c → IsDecided (planned_stage held file graph mode slack c)
-  planned_decided file graph mode slack there c accepts =
-      then_decided (split_stage file mode c) (λ (s : Split). plan_stage held graph (slackened s slack)) (split_decided file mode c accepts)
-      (λ s is. plan_decided graph (slackened s slack) there (ready_with s slack (split_ready file mode c accepts s is)))
+  pub planned_decided : (file : List ℕ) (graph groups : Option (List ℕ)) (mode : Mode) (slack : ℕ) → HasBytesIn held graph → HasBytesIn held groups
+      → (c : Circuit) → IsAccepted c → IsDecided (planned_stage held file graph groups mode slack c)
+  planned_decided file graph groups mode slack there grouped c accepts =
+      then_decided (split_stage held file groups mode c) (λ (s : Split). plan_stage held graph (slackened s slack)) (split_decided held file groups mode grouped c accepts)
+      (λ s is. plan_decided graph (slackened s slack) there (ready_with s slack (split_ready held file groups mode grouped c accepts s is)))

@@ -81,12 +81,12 @@ module _ (held : List ℕ → Held) where
         then_decided (streamed_stage held vec (most_vectors false) c) (trace_stage c) (streamed_decided held vec (most_vectors false) c there)
         (λ vectors read. inl (traces_exist c range accepts vectors.rows (streamed_wide held vec (most_vectors false) c vectors read)))
 
-    module _ (net : List ℕ) (graph : Option (List ℕ)) (mode : Mode) (slack : ℕ) (p : Planned) (planned : (planned_stage held net graph mode slack c).means p) where
+    module _ (net : List ℕ) (graph groups : Option (List ℕ)) (mode : Mode) (slack : ℕ) (p : Planned) (planned : (planned_stage held net graph groups mode slack c).means p) where
       same : p.split.circuit ≡ c
-      same = planned_circuit held net graph mode slack c p planned
+      same = planned_circuit held net graph groups mode slack c p planned
 
       is_plan : IsPlan p.split p.graph
-      is_plan = planned_is_plan held net graph mode slack c p accepts planned
+      is_plan = planned_is_plan held net graph groups mode slack c p accepts planned
 
       runnable : (vectors : List Row) → All (λ vector. length vector ≡ length (columns c)) vectors → IsPlannedRun p vectors
       runnable vectors wide = record {
@@ -108,7 +108,7 @@ module _ (held : List ℕ → Held) where
 
       -- the slack of a plan is that of its job
       slack_is : p.split.slack ≡ slack
-      slack_is = (let (s, in_clusters, split_is) = planned_in_clusters held net graph mode slack c p planned in ap (λ (t : Split). t.slack) split_is)
+      slack_is = (let (s, in_clusters, split_is) = planned_in_clusters held net graph groups mode slack c p planned in ap (λ (t : Split). t.slack) split_is)
 
       -- a log has a text, or a fault
       replayed_decided : (log : List ℕ) (transparent : Bool) (vectors : List Row) → HasBytes (held log) → (transparent ≡ true → slack ≡ 0)

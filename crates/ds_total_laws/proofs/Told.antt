@@ -2,7 +2,7 @@
 use Rattle.std.proofs.Common.{◌≢◌, ℕ, List, Option, None, Some, inl, inr}
 use Rattle.ds_outside.specs.Held.{Held, untold}
 use Rattle.ds_cmd.specs.declared.job.Job.{Job}
-use Rattle.ds_cmd.specs.declared.job.Job.TheVariants.{Run, Clock, Check, Graph, Replay, Accept, Demo, Period}
+use Rattle.ds_cmd.specs.declared.job.Job.TheVariants.{Run, Clock, Check, Graph, Replay, Accept, Demo, Period, Clusters}
 use Rattle.ds_cmd.proofs.AllowedNumbers.{words_yield}
 use Rattle.ds_app.specs.Status.{AreTold, IsToldIn}
 use Rattle.ds_total_laws.specs.Statuses.{StatusesAreTold}
@@ -20,15 +20,16 @@ named_told held (Some file) there = file_told (held file) there
 
 -- so the files of a job tell what they hold, where they are there
 files_told : (held : List ℕ → Held) (job : Job) → FilesAreThere held job → AreTold held job
-files_told held (Run job) (net, vec, graph) = (file_told (held job.net) net, file_told (held job.vec) vec, named_told held job.graph graph)
+files_told held (Run job) (net, vec, graph, groups) = (file_told (held job.net) net, file_told (held job.vec) vec, named_told held job.graph graph, named_told held job.groups groups)
 files_told held (Clock job) (net, vec) = (file_told (held job.net) net, file_told (held job.vec) vec)
 files_told held (Check net) there = file_told (held net) there
-files_told held (Graph job) there = file_told (held job.net) there
-files_told held (Replay job) (net, vec, log, graph) =
-    (file_told (held job.net) net, file_told (held job.vec) vec, file_told (held job.log) log, named_told held job.graph graph)
-files_told held (Accept job) (net, graph) = (file_told (held job.net) net, file_told (held job.graph) graph)
+files_told held (Graph job) (net, groups) = (file_told (held job.net) net, named_told held job.groups groups)
+files_told held (Replay job) (net, vec, log, graph, groups) =
+    (file_told (held job.net) net, file_told (held job.vec) vec, file_told (held job.log) log, named_told held job.graph graph, named_told held job.groups groups)
+files_told held (Accept job) (net, graph, groups) = (file_told (held job.net) net, file_told (held job.graph) graph, named_told held job.groups groups)
 files_told held (Demo job) there = tt
-files_told held (Period job) (net, delays, graph) = (file_told (held job.net) net, file_told (held job.delays) delays, named_told held job.graph graph)
+files_told held (Period job) (net, delays, graph, groups) = (file_told (held job.net) net, file_told (held job.delays) delays, named_told held job.graph graph, named_told held job.groups groups)
+files_told held (Clusters job) (net, groups) = (file_told (held job.net) net, named_told held job.groups groups)
 
 -- a job that is decided has its status
 pub statuses_are_told : StatusesAreTold

@@ -40,7 +40,8 @@ pub record HaveOnePeriod (held : List ℕ → Held) (job : PeriodJob) (text othe
   pub plan : Planned
   pub delays : List ℕ
   pub is_netlist : (netlist_stage held job.net).means circuit
-  pub is_plan : (planned_stage held job.net job.graph job.clusters job.slack circuit).means plan
+  pub is_plan : (planned_stage held job.net job.graph job.groups job.clusters job.slack
+      circuit).means plan
   pub are_delays : (delays_stage held job.delays plan.graph).means delays
   pub differ : DifferInCycle plan.graph delays text other
 

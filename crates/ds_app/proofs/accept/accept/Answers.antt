@@ -20,7 +20,7 @@ returns-in_err-netlist-clause-value g c =
     let p = err_from_is_err_and c.from_residual.result c.from_residual.ensures.1 in
     let out : Output = output_between g.O.Sink.written g.O.Sink.faults c.args.out.now c.args.out.now in
     rw (p.1, p.2) (accept_ends (g.F.Files.held c.args.files.now) (RoseIn (g.F.Files.faults c.args.files.now) (g.F.Files.faults c.read_netlist.new.files)) out (Err c.in_err-netlist.field-0.0) c.args.job.now _ _ c.as_str-net.ensures c.as_str-graph.ensures
-    (stops_netlist g.F.Files.held g.F.Files.faults c.args.files.now job.net (Some job.graph) job.clusters job.slack (λ (k : Circuit). ranks_stage)
+    (stops_netlist g.F.Files.held g.F.Files.faults c.args.files.now job.net (Some job.graph) job.groups job.clusters job.slack (λ (k : Circuit). ranks_stage)
     c.read_netlist.new.files out c.in_err-netlist.field-0.0 refl c.in_err-netlist.ensures.value))
 
 pub returns-in_err-plan-clause-value : goal.returns-in_err-plan-clause-value
@@ -29,7 +29,7 @@ returns-in_err-plan-clause-value g c =
     let p = err_from_is_err_and c.from_residual-in_err-plan.result c.from_residual-in_err-plan.ensures.1 in
     let out : Output = output_between g.O.Sink.written g.O.Sink.faults c.args.out.now c.args.out.now in
     rw (p.1, p.2) (accept_ends (g.F.Files.held c.args.files.now) (RoseIn (g.F.Files.faults c.args.files.now) (g.F.Files.faults c.plan_named.new.files)) out (Err c.in_err-plan.field-0.0) c.args.job.now _ _ c.as_str-net.ensures c.as_str-graph.ensures
-    (stops_plan g.F.Files.held g.F.Files.faults c.args.files.now job.net (Some job.graph) job.clusters job.slack (λ (k : Circuit). ranks_stage)
+    (stops_plan g.F.Files.held g.F.Files.faults c.args.files.now job.net (Some job.graph) job.groups job.clusters job.slack (λ (k : Circuit). ranks_stage)
     c.read_netlist.new.files (record { same_held = c.in_ok-netlist.ensures.same_held; never_falls = c.in_ok-netlist.ensures.never_falls }) c.in_ok-netlist.netlist c.in_ok-netlist.ensures.value
     c.plan_named.new.files out c.in_err-plan.field-0.0 refl c.in_err-plan.ensures.value))
 
@@ -40,7 +40,7 @@ returns-clause-value g c =
     let more : OfFile = RoseIn (g.F.Files.faults c.args.files.now) (g.F.Files.faults c.plan_named.new.files) in
     let out : Output = output_between g.O.Sink.written g.O.Sink.faults c.args.out.now c.write_accepted.new.out in
     accept_ends (g.F.Files.held c.args.files.now) more out c.write_accepted.result c.args.job.now _ _ c.as_str-net.ensures c.as_str-graph.ensures
-    (ends_planned g.F.Files.held g.F.Files.faults c.args.files.now job.net (Some job.graph) job.clusters job.slack (λ (k : Circuit). ranks_stage)
+    (ends_planned g.F.Files.held g.F.Files.faults c.args.files.now job.net (Some job.graph) job.groups job.clusters job.slack (λ (k : Circuit). ranks_stage)
     c.read_netlist.new.files (record { same_held = c.in_ok-netlist.ensures.same_held; never_falls = c.in_ok-netlist.ensures.never_falls }) c.in_ok-netlist.netlist c.in_ok-netlist.ensures.value
     plan c.in_ok-plan.ensures.value c.plan_named.new.files out c.write_accepted.result
     (ends_more {A = Unit {0}} (ranks_stage plan) Never more out (giving_nothing (ranks_stage plan).means) (λ line none. absurd none) c.write_accepted.result c.write_accepted.ensures.value))

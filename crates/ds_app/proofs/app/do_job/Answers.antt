@@ -138,3 +138,15 @@ returns-in-Demo-clause-same_reads g c = well_read c.demo.result refl
 
 pub returns-in-Demo-clause-same_writes : goal.returns-in-Demo-clause-same_writes
 returns-in-Demo-clause-same_writes g c = c.demo.ensures.same_writes
+
+pub returns-in-Clusters-clause-value : goal.returns-in-Clusters-clause-value
+returns-in-Clusters-clause-value g c = rw c.in-Clusters.is c.list_clusters.ensures.value
+
+pub returns-in-Clusters-clause-same_held : goal.returns-in-Clusters-clause-same_held
+returns-in-Clusters-clause-same_held g c = c.list_clusters.ensures.same_held
+
+pub returns-in-Clusters-clause-same_reads : goal.returns-in-Clusters-clause-same_reads
+returns-in-Clusters-clause-same_reads g c = c.list_clusters.ensures.same_reads
+
+pub returns-in-Clusters-clause-same_writes : goal.returns-in-Clusters-clause-same_writes
+returns-in-Clusters-clause-same_writes g c = c.list_clusters.ensures.same_writes

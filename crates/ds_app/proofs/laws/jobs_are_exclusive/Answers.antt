@@ -1,7 +1,7 @@
 use Rattle.ds_netlist.proofs.Refused.{faults_are_refused_lem}
-use Rattle.ds_split.proofs.OneClustering.{one_clustering_lem}
+use Rattle.ds_split.proofs.OneClustering.{one_grouped_lem}
 use Rattle.ds_app.proofs.Exclusive.{job_not_refused}
 use Rattle.ds_app.proofs.laws.jobs_are_exclusive.Goals as goal
 
 pub returns : goal.returns
-returns c = job_not_refused faults_are_refused_lem one_clustering_lem
+returns c = job_not_refused faults_are_refused_lem one_grouped_lem

@@ -22,7 +22,7 @@ returns-in_err-netlist-clause-value g c =
     let p = err_from_is_err_and c.from_residual.result c.from_residual.ensures.1 in
     let out : Output = output_between g.O.Sink.written g.O.Sink.faults c.args.out.now c.args.out.now in
     rw (p.1, p.2) (period_ends (g.F.Files.held c.args.files.now) (RoseIn (g.F.Files.faults c.args.files.now) (g.F.Files.faults c.read_netlist.new.files)) out (Err c.in_err-netlist.field-0.0) c.args.job.now _ _ c.as_str-net.ensures c.as_str-delays.ensures
-    (stops_netlist g.F.Files.held g.F.Files.faults c.args.files.now job.net job.graph job.clusters job.slack
+    (stops_netlist g.F.Files.held g.F.Files.faults c.args.files.now job.net job.graph job.groups job.clusters job.slack
     (timed_job (g.F.Files.held c.args.files.now) job.delays)
     c.read_netlist.new.files out c.in_err-netlist.field-0.0 refl c.in_err-netlist.ensures.value))
 
@@ -32,7 +32,7 @@ returns-in_err-plan-clause-value g c =
     let p = err_from_is_err_and c.from_residual-in_err-plan.result c.from_residual-in_err-plan.ensures.1 in
     let out : Output = output_between g.O.Sink.written g.O.Sink.faults c.args.out.now c.args.out.now in
     rw (p.1, p.2) (period_ends (g.F.Files.held c.args.files.now) (RoseIn (g.F.Files.faults c.args.files.now) (g.F.Files.faults c.plan_netlist.new.files)) out (Err c.in_err-plan.field-0.0) c.args.job.now _ _ c.as_str-net.ensures c.as_str-delays.ensures
-    (stops_plan g.F.Files.held g.F.Files.faults c.args.files.now job.net job.graph job.clusters job.slack
+    (stops_plan g.F.Files.held g.F.Files.faults c.args.files.now job.net job.graph job.groups job.clusters job.slack
     (timed_job (g.F.Files.held c.args.files.now) job.delays)
     c.read_netlist.new.files (record { same_held = c.in_ok-netlist.ensures.same_held; never_falls = c.in_ok-netlist.ensures.never_falls }) c.in_ok-netlist.netlist c.in_ok-netlist.ensures.value
     c.plan_netlist.new.files out c.in_err-plan.field-0.0 refl c.in_err-plan.ensures.value))
@@ -60,7 +60,7 @@ returns-clause-value g c =
     let measured : Ends (timed_stage made job.delays plan.graph) (RoseIn mid now) out c.measure.result =
     subst (λ (k : Graph). Ends (timed_stage made job.delays k) (RoseIn mid now) out c.measure.result) c.graph.ensures.graph c.measure.ensures.value in
     period_ends held (RoseIn before now) out c.measure.result c.args.job.now _ _ c.as_str-net.ensures c.as_str-delays.ensures
-    (ends_planned g.F.Files.held g.F.Files.faults c.args.files.now job.net job.graph job.clusters job.slack
+    (ends_planned g.F.Files.held g.F.Files.faults c.args.files.now job.net job.graph job.groups job.clusters job.slack
     (timed_job held job.delays)
     c.read_netlist.new.files read c.in_ok-netlist.netlist c.in_ok-netlist.ensures.value
     plan c.in_ok-plan.ensures.value c.measure.new.files out c.measure.result

@@ -19,7 +19,7 @@ returns-in_err-netlist-clause-value g c =
     let p = err_from_is_err_and c.from_residual.result c.from_residual.ensures.1 in
     let out : Output = output_between g.O.Sink.written g.O.Sink.faults c.args.out.now c.args.out.now in
     rw (p.1, p.2) (replay_ends (g.F.Files.held c.args.files.now) (RoseIn (g.F.Files.faults c.args.files.now) (g.F.Files.faults c.read_netlist.new.files)) out (Err c.in_err-netlist.field-0.0) c.args.job.now _ _ _ c.as_str-net.ensures c.as_str-vec.ensures c.as_str-log.ensures
-    (stops_netlist g.F.Files.held g.F.Files.faults c.args.files.now job.net job.graph job.clusters job.slack
+    (stops_netlist g.F.Files.held g.F.Files.faults c.args.files.now job.net job.graph job.groups job.clusters job.slack
     (logged_job (g.F.Files.held c.args.files.now) job.vec job.log job.transparent)
     c.read_netlist.new.files out c.in_err-netlist.field-0.0 refl c.in_err-netlist.ensures.value))
 
@@ -29,7 +29,7 @@ returns-in_err-plan-clause-value g c =
     let p = err_from_is_err_and c.from_residual-in_err-plan.result c.from_residual-in_err-plan.ensures.1 in
     let out : Output = output_between g.O.Sink.written g.O.Sink.faults c.args.out.now c.args.out.now in
     rw (p.1, p.2) (replay_ends (g.F.Files.held c.args.files.now) (RoseIn (g.F.Files.faults c.args.files.now) (g.F.Files.faults c.plan_netlist.new.files)) out (Err c.in_err-plan.field-0.0) c.args.job.now _ _ _ c.as_str-net.ensures c.as_str-vec.ensures c.as_str-log.ensures
-    (stops_plan g.F.Files.held g.F.Files.faults c.args.files.now job.net job.graph job.clusters job.slack
+    (stops_plan g.F.Files.held g.F.Files.faults c.args.files.now job.net job.graph job.groups job.clusters job.slack
     (logged_job (g.F.Files.held c.args.files.now) job.vec job.log job.transparent)
     c.read_netlist.new.files (record { same_held = c.in_ok-netlist.ensures.same_held; never_falls = c.in_ok-netlist.ensures.never_falls }) c.in_ok-netlist.netlist c.in_ok-netlist.ensures.value
     c.plan_netlist.new.files out c.in_err-plan.field-0.0 refl c.in_err-plan.ensures.value))
@@ -48,7 +48,7 @@ returns-in_err-vectors-clause-value g c =
 pub read_log-requires : goal.read_log-requires
 read_log-requires g c =
     let same : c.in_ok-plan.plan.split.circuit ≡ c.in_ok-netlist.netlist =
-    planned_circuit (g.F.Files.held c.read_netlist.new.files) c.as_str-net.result.now c.args.job.now.graph c.args.job.now.clusters c.args.job.now.slack c.in_ok-netlist.netlist c.in_ok-plan.plan c.in_ok-plan.ensures.value in
+    planned_circuit (g.F.Files.held c.read_netlist.new.files) c.as_str-net.result.now c.args.job.now.graph c.args.job.now.groups c.args.job.now.clusters c.args.job.now.slack c.in_ok-netlist.netlist c.in_ok-plan.plan c.in_ok-plan.ensures.value in
     subst (λ (k : Circuit). c.in_ok-vectors.vectors.width ≡ length (columns k)) (sym same) c.in_ok-vectors.ensures.width
 
 pub returns-in_err-state-clause-value : goal.returns-in_err-state-clause-value
@@ -75,7 +75,7 @@ write_state-requires-clause-vectors g c =
 
 pub write_state-requires-clause-slack : goal.write_state-requires-clause-slack
 write_state-requires-clause-slack g c wanted =
-    let (s, is, same) = planned_in_clusters (g.F.Files.held c.read_netlist.new.files) c.as_str-net.result.now c.args.job.now.graph c.args.job.now.clusters c.args.job.now.slack c.in_ok-netlist.netlist c.in_ok-plan.plan c.in_ok-plan.ensures.value in
+    let (s, is, same) = planned_in_clusters (g.F.Files.held c.read_netlist.new.files) c.as_str-net.result.now c.args.job.now.graph c.args.job.now.groups c.args.job.now.clusters c.args.job.now.slack c.in_ok-netlist.netlist c.in_ok-plan.plan c.in_ok-plan.ensures.value in
     let (events, fired, after) = c.in_ok-state.ensures.value in
     ap (λ (p : Planned). p.split.slack) after.state.planned_is ∙ (ap (λ (t : Split). t.slack) same ∙ c.requires.shown wanted)
 

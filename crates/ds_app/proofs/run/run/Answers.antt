@@ -25,7 +25,7 @@ returns-in_err-netlist-clause-value g c =
     let out : Output = output_between g.O.Sink.written g.O.Sink.faults c.args.out.now c.args.out.now in
     let p = err_from_is_err_and c.from_residual.result c.from_residual.ensures.1 in
     rw (p.1, p.2) (subst (λ (j : RunJob). Ends {A = Unit {0}} (then_stage (netlist_stage held j.net) (run_stage held j)) (RoseIn (g.F.Files.faults c.args.files.now) (g.F.Files.faults c.read_netlist.new.files)) out (Err c.in_err-netlist.field-0.0)) (ap (λ (n : List ℕ). record c.args.job.now { net = n }) c.as_str-net.ensures)
-    (stops_netlist g.F.Files.held g.F.Files.faults c.args.files.now job.net job.graph job.clusters job.slack
+    (stops_netlist g.F.Files.held g.F.Files.faults c.args.files.now job.net job.graph job.groups job.clusters job.slack
     (planned_run_stage held job.vec job.log job.jobs job.stop)
     c.read_netlist.new.files out c.in_err-netlist.field-0.0 refl c.in_err-netlist.ensures.value))
 
@@ -36,14 +36,14 @@ returns-in_err-plan-clause-value g c =
     let out : Output = output_between g.O.Sink.written g.O.Sink.faults c.args.out.now c.args.out.now in
     let p = err_from_is_err_and c.from_residual-in_err-plan.result c.from_residual-in_err-plan.ensures.1 in
     rw (p.1, p.2) (subst (λ (j : RunJob). Ends {A = Unit {0}} (then_stage (netlist_stage held j.net) (run_stage held j)) (RoseIn (g.F.Files.faults c.args.files.now) (g.F.Files.faults c.plan_netlist.new.files)) out (Err c.in_err-plan.field-0.0)) (ap (λ (n : List ℕ). record c.args.job.now { net = n }) c.as_str-net.ensures)
-    (stops_plan g.F.Files.held g.F.Files.faults c.args.files.now job.net job.graph job.clusters job.slack
+    (stops_plan g.F.Files.held g.F.Files.faults c.args.files.now job.net job.graph job.groups job.clusters job.slack
     (planned_run_stage held job.vec job.log job.jobs job.stop)
     c.read_netlist.new.files (record { same_held = c.in_ok-netlist.ensures.same_held; never_falls = c.in_ok-netlist.ensures.never_falls }) c.in_ok-netlist.netlist c.in_ok-netlist.ensures.value
     c.plan_netlist.new.files out c.in_err-plan.field-0.0 refl c.in_err-plan.ensures.value))
 
 pub run_planned-requires-clause-start : goal.run_planned-requires-clause-start
 run_planned-requires-clause-start g c _ _ =
-    planned_start (g.F.Files.held c.read_netlist.new.files) c.as_str-net.result.now c.args.job.now.graph c.args.job.now.clusters c.args.job.now.slack c.in_ok-netlist.netlist c.in_ok-plan.plan c.in_ok-plan.ensures.value
+    planned_start (g.F.Files.held c.read_netlist.new.files) c.as_str-net.result.now c.args.job.now.graph c.args.job.now.groups c.args.job.now.clusters c.args.job.now.slack c.in_ok-netlist.netlist c.in_ok-plan.plan c.in_ok-plan.ensures.value
 
 pub run_planned-requires-clause-jobs : goal.run_planned-requires-clause-jobs
 run_planned-requires-clause-jobs g c _ _ = c.requires.jobs
@@ -59,12 +59,12 @@ returns-clause-value g c =
     let circuit : Circuit = c.in_ok-netlist.netlist in
     let plan : Planned = c.in_ok-plan.plan in
     let same : plan.split.circuit ≡ circuit =
-    planned_circuit (g.F.Files.held c.read_netlist.new.files) job.net job.graph job.clusters job.slack circuit plan c.in_ok-plan.ensures.value in
+    planned_circuit (g.F.Files.held c.read_netlist.new.files) job.net job.graph job.groups job.clusters job.slack circuit plan c.in_ok-plan.ensures.value in
     let out : Output = output_between g.O.Sink.written g.O.Sink.faults c.args.out.now c.run_planned.new.out in
     let run : Ends {A = Unit {0}} (planned_run_stage later job.vec job.log job.jobs job.stop circuit plan) (RoseIn mid now) out c.run_planned.result =
     subst (λ (k : Circuit). Ends {A = Unit {0}} (planned_run_stage later job.vec job.log job.jobs job.stop k plan) (RoseIn mid now) out c.run_planned.result) same c.run_planned.ensures.value in
     subst (λ (j : RunJob). Ends {A = Unit {0}} (then_stage (netlist_stage held j.net) (run_stage held j)) (RoseIn before now) out c.run_planned.result) (ap (λ (n : List ℕ). record c.args.job.now { net = n }) c.as_str-net.ensures)
-    (ends_planned g.F.Files.held g.F.Files.faults c.args.files.now job.net job.graph job.clusters job.slack
+    (ends_planned g.F.Files.held g.F.Files.faults c.args.files.now job.net job.graph job.groups job.clusters job.slack
     (planned_run_stage held job.vec job.log job.jobs job.stop)
     c.read_netlist.new.files (record { same_held = c.in_ok-netlist.ensures.same_held; never_falls = c.in_ok-netlist.ensures.never_falls }) circuit c.in_ok-netlist.ensures.value
     plan c.in_ok-plan.ensures.value c.run_planned.new.files out c.run_planned.result

@@ -12,4 +12,5 @@ returns c =
     let five = c.with-commands-5.ensures _ _ four c.command-5.ensures in
     let six = c.with-commands-6.ensures _ _ five c.command-6.ensures in
     let seven = c.with-commands-7.ensures _ _ six c.command-7.ensures in
-    c.with.ensures _ _ seven c.command-8.ensures
+    let eight = c.with-commands-8.ensures _ _ seven c.command-8.ensures in
+    c.with.ensures _ _ eight c.command-9.ensures

@@ -1,7 +1,7 @@
 use Rattle.ds_netlist.proofs.Refused.{faults_are_refused_lem}
-use Rattle.ds_split.proofs.OneClustering.{one_clustering_lem}
+use Rattle.ds_split.proofs.OneClustering.{one_grouped_lem}
 use Rattle.ds_laws.proofs.Replayed.{printed_is_replayed}
 use Rattle.ds_laws.proofs.logs.printed_is_replayed.Goals as goal
 
 pub returns : goal.returns
-returns c = printed_is_replayed faults_are_refused_lem one_clustering_lem
+returns c = printed_is_replayed faults_are_refused_lem one_grouped_lem

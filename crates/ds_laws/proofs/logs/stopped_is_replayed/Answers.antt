@@ -1,8 +1,8 @@
 use Rattle.ds_netlist.proofs.Refused.{faults_are_refused_lem}
-use Rattle.ds_split.proofs.OneClustering.{one_clustering_lem}
+use Rattle.ds_split.proofs.OneClustering.{one_grouped_lem}
 use Rattle.ds_laws.proofs.Plain.{names_are_plain}
 use Rattle.ds_laws.proofs.Stopped.{stopped_is_replayed}
 use Rattle.ds_laws.proofs.logs.stopped_is_replayed.Goals as goal
 
 pub returns : goal.returns
-returns c = stopped_is_replayed names_are_plain faults_are_refused_lem one_clustering_lem
+returns c = stopped_is_replayed names_are_plain faults_are_refused_lem one_grouped_lem

@@ -1,19 +1,43 @@
-use Rattle.ds_stage.proofs.SplitStops.{cluster_stops, few_orders, split_stops}
+-- Behind the groups, the split.
+use Rattle.std.proofs.Common.{ℕ, List, Option, Err}
+use Rattle.std.proofs.lemmas.Result.{err_from_is_err_and}
+use Rattle.ds_base.specs.declared.number.Mode.{Mode}
+use Rattle.ds_design.specs.Circuit.{Circuit}
+use Rattle.ds_latch.specs.Node.{Split}
+use Rattle.ds_stage.specs.Stage.{OfFile}
+use Rattle.ds_stage.specs.GroupsStage.{groups_stage}
+use Rattle.ds_stage.specs.SplitStage.{parted_stage}
+use Rattle.ds_stage.specs.Ends.{Answers, Never, RoseIn}
+use Rattle.ds_stage.specs.declared.stop.Stop.{Stop}
+use Rattle.ds_stage.proofs.Stages.{passed, stopped, widened}
+use Rattle.ds_stage.proofs.Ends.{no_more}
+use Rattle.ds_stage.proofs.Counts.{well_read}
 use Rattle.ds_stage.proofs.split.split_netlist.Goals as goal
 
-pub returns-in-Err : goal.returns-in-Err
-returns-in-Err c = cluster_stops c.args.file.now c.args.mode c.args.netlist.now c.in-Err.fault c.split_stop.result c.in-Err.ensures.fault c.split_stop.ensures
+pub returns-in_err-groups-clause-value : goal.returns-in_err-groups-clause-value
+returns-in_err-groups-clause-value g c =
+    let held = g.F.Files.held c.args.files.now in
+    let more : OfFile = RoseIn (g.F.Files.faults c.args.files.now) (g.F.Files.faults c.wanted_groups.new.files) in
+    let p = err_from_is_err_and c.from_residual.result c.from_residual.ensures.1 in
+    rw (p.1, p.2) (stopped (groups_stage held c.args.splitting.groups.now c.args.netlist.now)
+    (parted_stage c.args.file.now c.args.splitting.clusters c.args.netlist.now) more c.in_err-groups.field-0.0 c.in_err-groups.ensures.value)
 
-pub split-requires : goal.split-requires
-split-requires c = c.in-Ok.ensures.ok.each_once
+pub returns-clause-value : goal.returns-clause-value
+returns-clause-value g c =
+    let held = g.F.Files.held c.args.files.now in
+    let file : List ℕ = c.args.file.now in
+    let mode : Mode = c.args.splitting.clusters in
+    let circuit : Circuit = c.args.netlist.now in
+    let groups : List (List ℕ) = c.in_ok-groups.groups in
+    let more : OfFile = RoseIn (g.F.Files.faults c.args.files.now) (g.F.Files.faults c.wanted_groups.new.files) in
+    passed (groups_stage held c.args.splitting.groups.now circuit) (parted_stage file mode circuit) more groups c.in_ok-groups.ensures.value c.split_groups.result
+    (widened {A = Split} (parted_stage file mode circuit groups) (parted_stage file mode circuit groups) Never more
+    (no_more (parted_stage file mode circuit groups) more (λ line none. absurd none)) c.split_groups.result c.split_groups.ensures)
 
-pub returns-in-Ok-split : goal.returns-in-Ok-split
-returns-in-Ok-split c = (
-  record { clusters = c.in-Ok.clusters; are = c.in-Ok.ensures.ok; few = c.in-Ok.ensures.ok_few; is = c.in-Ok-split.ensures.ok },
-  few_orders c.in-Ok-split.latches c.edges-edges.result.now c.edges-edges.ensures.edges c.edges-edges.ensures.once c.edges-edges.ensures.few,
-)
+pub returns-in_err-groups-clause-same_reads : goal.returns-in_err-groups-clause-same_reads
+returns-in_err-groups-clause-same_reads g c =
+    let p = err_from_is_err_and c.from_residual.result c.from_residual.ensures.1 in
+    rw (p.1, p.2) c.in_err-groups.ensures.same_reads
 
-pub returns : goal.returns
-returns c =
-    split_stops c.args.file.now c.args.mode c.args.netlist.now c.in-Ok.clusters c.in-Ok.ensures.ok c.in-Ok.ensures.ok_few c.in-Err-split.fault c.split_stop-in-Err-split.result
-    c.in-Err-split.ensures.fault c.split_stop-in-Err-split.ensures
+pub returns-clause-same_reads : goal.returns-clause-same_reads
+returns-clause-same_reads g c = well_read c.split_groups.result c.in_ok-groups.ensures.same_reads
