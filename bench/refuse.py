@@ -56,6 +56,7 @@ RING = """.model ring
 """
 VECTORS = "1\n1\n0\n1\n"
 DELAYS = "IN+ IN- 3\n"
+GROUPS = "q* # all\n"
 # The words of each command line, a name of a file where it begins with a colon.
 COMMANDS = [
     "run :ring :v",
@@ -76,6 +77,8 @@ COMMANDS = [
     "replay :tog :v :log --slack 1",
     "accept :tog :g",
     "period :tog :delays",
+    "run :tog :v --groups :groups --jobs 2",
+    "clusters :tog --groups :groups",
     "demo 1 4 3 --jobs 2",
 ]
 
@@ -131,6 +134,7 @@ def fill(program, folder):
     written(folder, "v", VECTORS)
     written(folder, "many", "1\n" * (WINDOW + 4))
     written(folder, "delays", DELAYS)
+    written(folder, "groups", GROUPS)
     written(folder, "g", Run(program, folder, ["graph", "tog"]).out.decode())
     text = Run(program, folder, ["run", "tog", "v", "--log"]).out.decode()
     written(folder, "log", text)

@@ -12,7 +12,8 @@ _desync() {
     local word=${COMP_WORDS[COMP_CWORD]} command=${COMP_WORDS[1]} option= names=0 given= plain= i
     COMPREPLY=()
     if [ "$COMP_CWORD" -eq 1 ]; then
-        COMPREPLY=($(compgen -W "run clock check graph replay accept demo period" -- "$word"))
+        local commands="run clock check graph replay accept demo period clusters"
+        COMPREPLY=($(compgen -W "$commands" -- "$word"))
         return
     fi
     # the option that waits for its value, and how many names stand in front
@@ -23,7 +24,7 @@ _desync() {
         fi
         case ${COMP_WORDS[i]} in
             --) plain=1 ;;
-            --clusters | --graph | --jobs | --slack | --stop)
+            --clusters | --graph | --groups | --jobs | --slack | --stop)
                 option=${COMP_WORDS[i]} given+=" $option"
                 ;;
             --*) given+=" ${COMP_WORDS[i]}" ;;
@@ -36,20 +37,21 @@ _desync() {
     fi
     case $option in
         --clusters) COMPREPLY=($(compgen -W "each one bus" -- "$word")) ;;
-        --graph) _desync_files "$word" ;;
+        --graph | --groups) _desync_files "$word" ;;
     esac
     if [ "$option" ]; then
         return
     fi
     local options= most=0
     case $command in
-        run) options="--clusters --graph --jobs --log --slack --stop" most=2 ;;
+        run) options="--clusters --graph --groups --jobs --log --slack --stop" most=2 ;;
         clock) most=2 ;;
         check) most=1 ;;
-        graph) options="--clusters --shake --slack" most=1 ;;
-        replay) options="--clusters --graph --slack --transparent" most=3 ;;
-        accept) options="--clusters --slack" most=2 ;;
-        period) options="--clusters --graph --slack" most=2 ;;
+        graph) options="--clusters --groups --shake --slack" most=1 ;;
+        replay) options="--clusters --graph --groups --slack --transparent" most=3 ;;
+        accept) options="--clusters --groups --slack" most=2 ;;
+        period) options="--clusters --graph --groups --slack" most=2 ;;
+        clusters) options="--clusters --groups" most=1 ;;
         demo) options=--jobs ;;
     esac
     if [[ $word == -* && -z $plain ]]; then

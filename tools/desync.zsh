@@ -8,6 +8,7 @@ _desync_command() {
         'check:look whether it is accepted' 'graph:write its controller graph'
         'replay:fire a log' 'accept:look whether a graph is accepted'
         'demo:run a design made from a number' 'period:write the exact period'
+        'clusters:list its clusters'
     )
     _describe command commands
 }
@@ -15,21 +16,25 @@ _desync_command() {
 _desync_options() {
     local clusters='--clusters[how registers share latches]:mode:(each bus one)'
     local graph='--graph[the controller graph]:graph:_files'
+    local groups='--groups[registers that share latches]:groups:_files'
     local jobs='--jobs[how many workers]:number: '
     local slack='--slack[how far producers run ahead]:number: '
     local files='*:file:_files'
     case $1 in
         run)
-            _arguments $clusters $graph $jobs $slack '--log[write what fired]' \
+            _arguments $clusters $graph $groups $jobs $slack '--log[write what fired]' \
                 '--stop[stop behind so many firings]:number: ' $files
             ;;
-        graph) _arguments $clusters $slack '--shake[write the four-phase expansion]' $files ;;
-        replay)
-            _arguments $clusters $graph $slack '--transparent[show what open latches let through]' \
-                $files
+        graph)
+            _arguments $clusters $groups $slack '--shake[write the four-phase expansion]' $files
             ;;
-        accept) _arguments $clusters $slack $files ;;
-        period) _arguments $clusters $graph $slack $files ;;
+        replay)
+            _arguments $clusters $graph $groups $slack \
+                '--transparent[show what open latches let through]' $files
+            ;;
+        accept) _arguments $clusters $groups $slack $files ;;
+        period) _arguments $clusters $graph $groups $slack $files ;;
+        clusters) _arguments $clusters $groups $files ;;
         demo) _arguments $jobs $files ;;
         *) _arguments $files ;;
     esac

@@ -90,6 +90,19 @@ d|replay|n|v|l|--shake
 d|accept|n|g|--shake
 d|demo|1|2|3|--shake
 d|period|n|d|--shake
+d|clusters
+d|clusters|n|v
+d|clusters|n|--groups
+d|clusters|n|--groups|f|--groups|f
+d|clusters|n|--graph|g
+d|clusters|n|--slack|1
+d|clusters|n|--shake
+d|--groups=f|clusters|n
+d|run|n|v|--groups
+d|graph|n|--groups|f|--groups=f
+d|clock|n|v|--groups|f
+d|check|n|--groups|f
+d|demo|1|2|3|--groups|f
 # The words come before the numbers and the mode.
 d|run|n|--jobs|0|--clusters|two
 d|run|n|v|x|--jobs|65
@@ -194,6 +207,8 @@ d|graph|n|--shake|--slack|1
 d|graph|n|--slack|15|--shake
 d|accept|n|g|--slack|1|--clusters|two
 d|period|n|d|--slack|1|--clusters|two
+d|clusters|n|--clusters|two
+d|clusters|n|--groups|f|--clusters=
 ";
 
 #[test]

@@ -2,7 +2,8 @@
 //! are those of a job, which stands behind ` -> `. A line that begins with `#` says what follows.
 use ds_base::Mode;
 use ds_cmd::{
-    AcceptJob, DemoJob, FileName, GraphJob, Job, PeriodJob, ReplayJob, RunJob, UsageFault, parse,
+    AcceptJob, ClustersJob, DemoJob, FileName, GraphJob, Job, PeriodJob, ReplayJob, RunJob,
+    UsageFault, parse,
 };
 use std::alloc::{AllocError, Global};
 
@@ -72,6 +73,7 @@ fn has_words(job: &Job, words: &[&str]) -> bool {
         Job::Accept(job) => is_accept(job, words),
         Job::Period(job) => is_period(job, words),
         Job::Demo(job) => is_demo(job, words),
+        Job::Clusters(job) => is_clusters(job, words),
     }
 }
 
@@ -83,6 +85,7 @@ fn is_accept(job: &AcceptJob, words: &[&str]) -> bool {
         file(&job.graph),
         mode(&job.clusters),
         Part::Number(job.slack as u64),
+        option(&job.groups),
     ];
     stand_for(words, &parts)
 }
@@ -96,6 +99,7 @@ fn is_period(job: &PeriodJob, words: &[&str]) -> bool {
         option(&job.graph),
         mode(&job.clusters),
         Part::Number(job.slack as u64),
+        option(&job.groups),
     ];
     stand_for(words, &parts)
 }
@@ -108,6 +112,7 @@ fn is_graph(job: &GraphJob, words: &[&str]) -> bool {
         mode(&job.clusters),
         Part::Number(job.slack as u64),
         wanted(job.shake),
+        option(&job.groups),
     ];
     stand_for(words, &parts)
 }
@@ -128,6 +133,7 @@ fn is_run(job: &RunJob, words: &[&str]) -> bool {
         wanted(job.log),
         Part::Number(job.slack as u64),
         stop,
+        option(&job.groups),
     ];
     stand_for(words, &parts)
 }
@@ -143,6 +149,7 @@ fn is_replay(job: &ReplayJob, words: &[&str]) -> bool {
         mode(&job.clusters),
         Part::Number(job.slack as u64),
         wanted(job.transparent),
+        option(&job.groups),
     ];
     stand_for(words, &parts)
 }
@@ -155,6 +162,17 @@ fn is_demo(job: &DemoJob, words: &[&str]) -> bool {
         Part::Number(job.registers as u64),
         Part::Number(job.turns as u64),
         Part::Number(job.jobs as u64),
+    ];
+    stand_for(words, &parts)
+}
+
+// Whether these are the words of clusters.
+fn is_clusters(job: &ClustersJob, words: &[&str]) -> bool {
+    let parts = [
+        Part::Word("clusters"),
+        file(&job.net),
+        mode(&job.clusters),
+        option(&job.groups),
     ];
     stand_for(words, &parts)
 }

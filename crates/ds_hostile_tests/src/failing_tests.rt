@@ -88,7 +88,7 @@ fn unread(files: &Watched<MemoryFiles>) -> &'static [u8] {
         Which::Vectors => b"desync: cannot read v\n",
         Which::Log => b"desync: cannot read l\n",
         Which::Delays => b"desync: cannot read d\n",
-        Which::Groups => b"desync: cannot read groups\n",
+        Which::Groups => b"desync: cannot read gr\n",
     }
 }
 
@@ -121,7 +121,9 @@ fn failed_reads<R: AllocGlobal + Threads + Sync>(
 #[test]
 fn each_read_fails_in_turn(rt: HostRuntime) -> Result<(), Fail> {
     let many = Many::new(rt.alloc())?;
-    let least = [10u64, 11, 10, 10, 10, 1, 1, 11, 2, 10, 1, 11, 11, 2, 0];
+    let least = [
+        10u64, 11, 10, 10, 10, 1, 1, 11, 2, 10, 1, 11, 11, 2, 11, 2, 0,
+    ];
     for (line, least) in LINES.split('\n').zip(least.iter()) {
         let reads = failed_reads(&rt, &many, line)?;
         assert!(rt; reads.is_some_and(|reads| reads >= *least), "{line}");

@@ -20,12 +20,16 @@ desync graph tog --shake
 desync replay tog v l --slack 1
 desync replay tog v l --transparent
 desync period tog d
+desync run tog v --groups gr
+desync clusters tog --groups gr
 desync demo 0 2 3 --jobs 2";
 
 /// Command lines with a fault, each behind its status, and what is reported of it. For the last one
 /// the output is to fail.
 pub const FAULTS: &str = "1 desync run ring v
 ring: combinational cycle: y z
+%1 desync clusters tog --groups v
+v:1: unknown register 1
 %2 desync
 desync: bad command line
 %3 desync run tog nofile
@@ -42,6 +46,10 @@ const DELAYS: &str = "M0+ S0+ 3\nS0+ M0+ 4\nM0+ M0- 2\n";
 const PERIOD: &str = "period 7/1\ncycle M0+ S0+\npotential IN+ 0\npotential IN- 0\n\
      potential OUT+ 0\npotential OUT- 0\npotential M0+ 0\npotential M0- 2\npotential S0+ 3\n\
      potential S0- 3\n";
+
+const GROUPS: &str = "q* # all\n";
+
+const CLUSTERS: &str = "q # M0 S0\n";
 
 const SUMS: &str = "turns 3\nfirings 36\nones 1\nfold 23695\n";
 
@@ -79,12 +87,12 @@ impl Jobs {
     }
 
     /// The files of the command lines.
-    pub fn files(&self) -> [(&str, &str); 6] {
+    pub fn files(&self) -> [(&str, &str); 7] {
         self.with_log(LOG)
     }
 
     // The files with this log.
-    fn with_log<'x>(&'x self, log: &'x str) -> [(&'x str, &'x str); 6] {
+    fn with_log<'x>(&'x self, log: &'x str) -> [(&'x str, &'x str); 7] {
         [
             ("tog", TOGGLE),
             ("ring", RING),
@@ -92,6 +100,7 @@ impl Jobs {
             ("v", self.vectors.as_str()),
             ("l", log),
             ("d", DELAYS),
+            ("gr", GROUPS),
         ]
     }
 
@@ -103,6 +112,7 @@ impl Jobs {
             Some("graph") => GRAPH,
             Some("accept") => RANKS,
             Some("period") => PERIOD,
+            Some("clusters") => CLUSTERS,
             Some("demo") => SUMS,
             Some("replay") => self.first.as_str(),
             _ if is_stopped(line) => self.last.as_str(),

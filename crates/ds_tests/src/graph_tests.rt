@@ -1,9 +1,39 @@
 //! Controller graphs of netlists in texts, and runs over clusters.
 use ds_base::OutOfMemory;
-use ds_trial::{Wanted, gives, play};
+use ds_trial::{Wanted, gives, play_behind};
 use std::alloc::{AllocError, Global};
 use std::test::Fail;
 use std::thread::Threads;
+
+/// Two registers of a bus, and one between them; their graph, with a cluster for the bus.
+pub const BUS: &str = "%b
+.model b
+.inputs a
+.outputs r
+.latch a q[0] re clk 0
+.latch q[0] r re clk 0
+.latch r q[1] re clk 0
+.end
+%g
+.model b
+.outputs IN OUT M0 S0 M1 S1
+.graph
+IN+ IN- M0+
+IN- IN+
+OUT+ OUT-
+OUT- OUT+ S1+
+M0+ M0- S0+
+M0- IN+ M0+ S1+
+S0+ S0- M1+
+S0- M0+ S0+
+M1+ M1- S1+
+M1- S0+ M1+
+S1+ OUT+ M0+ S1-
+S1- M1+ S1+
+.marking { <IN-,IN+> <OUT-,OUT+> <M0-,IN+> <M0-,M0+> <S0+,M1+> <S0-,M0+> <S0-,S0+> <M1-,M1+> \
+    <S1+,OUT+> <S1+,M0+> <S1-,M1+> <S1-,S1+> }
+.end
+";
 
 // Graphs of one cluster that reads vectors, outputs and itself; of two registers in a row, in two
 // clusters and in one; and of two clusters that feed each other.
@@ -40,39 +70,13 @@ S1- M1+ S1+
 .model toggle
 =>
 .model shift
-%n
-.model b
-.inputs a
-.outputs r
-.latch a q[0] re clk 0
-.latch q[0] r re clk 0
-.latch r q[1] re clk 0
-.end
-%$ desync graph n --clusters bus
-%= 0
-.model b
-.outputs IN OUT M0 S0 M1 S1
-.graph
-IN+ IN- M0+
-IN- IN+
-OUT+ OUT-
-OUT- OUT+ S1+
-M0+ M0- S0+
-M0- IN+ M0+ S1+
-S0+ S0- M1+
-S0- M0+ S0+
-M1+ M1- S1+
-M1- S0+ M1+
-S1+ OUT+ M0+ S1-
-S1- M1+ S1+
-.marking { <IN-,IN+> <OUT-,OUT+> <M0-,IN+> <M0-,M0+> <S0+,M1+> <S0-,M0+> <S0-,S0+> <M1-,M1+> \
-    <S1+,OUT+> <S1+,M0+> <S1-,M1+> <S1-,S1+> }
-.end
+%$ desync graph b --clusters bus
+%= 0 < g
 ";
 
 #[test]
 fn graphs_are_written(rt: HostRuntime) -> Result<(), Fail> {
-    play(&rt, GRAPHS, 5)
+    play_behind(&rt, BUS, GRAPHS, 5)
 }
 
 /// So many registers, all of which take one table over all of them.

@@ -1,4 +1,5 @@
-//! Tests of the whole program, of graphs that it makes, accepts and times, over files in memory.
+//! Tests of the whole program, of clusters that it makes and graphs that it makes, accepts and
+//! times, over files in memory.
 //!
 //! Nothing stands on this crate. Most tests are texts that tell runs, which `ds_trial` plays. The
 //! other tests make long texts and random designs, or compare the period with a plain slow way.
@@ -14,6 +15,8 @@ mod cycle_tests;
 mod dummy_tests;
 #[cfg(test)]
 mod graph_tests;
+#[cfg(test)]
+mod groups_tests;
 #[cfg(test)]
 mod period_tests;
 #[cfg(test)]
