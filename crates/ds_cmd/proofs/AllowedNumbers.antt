@@ -22,6 +22,8 @@ use Rattle.ds_cmd.specs.Accept.{accept_job}
 use Rattle.ds_cmd.specs.Demo.{demo_job}
 use Rattle.ds_cmd.specs.Period.{period_job}
 use Rattle.ds_cmd.specs.ListClusters.{clusters_job}
+use Rattle.ds_cmd.specs.Rate.{rate_job}
+use Rattle.ds_cmd.specs.Times.{times_job}
 use Rattle.ds_cmd.specs.Commands.{commands, desync}
 use Rattle.ds_cmd.specs.Line.{is_none, job_in, job_of, named_job}
 use Rattle.ds_cmd.specs.Allowed.{AreAllowed, AreWorkers}
@@ -142,6 +144,15 @@ period_yields rows = valued (first_of (codes "net") rows) _ (λ net.
 clusters_yields : (rows : List Row) → Yields (clusters_job rows)
 clusters_yields rows = valued (first_of (codes "net") rows) _ (λ net. moded (clusters_of rows) _ (λ mode is. ok_yields _ tt))
 
+rate_yields : (rows : List Row) → Yields (rate_job rows)
+rate_yields rows = valued (first_of (codes "graph") rows) _ (λ graph. valued (first_of (codes "delays") rows) _ (λ delays. ok_yields _ tt))
+
+times_yields : (rows : List Row) → Yields (times_job rows)
+times_yields rows = valued (first_of (codes "net") rows) _ (λ net. valued (first_of (codes "delays") rows) _ (λ delays.
+    valued (first_of (codes "turns") rows) _ (λ turns.
+    numbered (number_in_range 0 (most_of Vectors) turns) _ (λ t is_t. numbered (slack_of rows) _ (λ slack is. moded (clusters_of rows) _ (λ mode in_mode.
+    ok_yields _ ((between 0 (most_of Vectors) turns t is_t).1, few_openings (first_of (codes "slack") rows) slack is)))))))
+
 named_yields : (name : Text) (rows : List Row) → Yields (named_job name rows commands)
 named_yields name rows =
     chosen (bytes_eq name (codes "run")) _ _ (run_yields rows)
@@ -152,7 +163,9 @@ named_yields name rows =
     (chosen (bytes_eq name (codes "accept")) _ _ (accept_yields rows)
     (chosen (bytes_eq name (codes "demo")) _ _ (demo_yields rows)
     (chosen (bytes_eq name (codes "period")) _ _ (period_yields rows)
-    (chosen (bytes_eq name (codes "clusters")) _ _ (clusters_yields rows) (fault_yields _)))))))))
+    (chosen (bytes_eq name (codes "clusters")) _ _ (clusters_yields rows)
+    (chosen (bytes_eq name (codes "rate")) _ _ (rate_yields rows)
+    (chosen (bytes_eq name (codes "times")) _ _ (times_yields rows) (fault_yields _)))))))))))
 
 in_yields : (named : Option (Text × List Row)) → Yields (job_in named)
 in_yields None = fault_yields _

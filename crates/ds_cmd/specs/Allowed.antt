@@ -4,7 +4,7 @@ use Rattle.ds_base.specs.Limit.{most_of}
 use Rattle.ds_base.specs.declared.number.Limit.TheVariants as limit
 use Rattle.ds_cmd.specs.declared.job.Job.{Job}
 use Rattle.ds_cmd.specs.declared.job.Job.TheVariants.{Run, Clock, Check, Graph}
-use Rattle.ds_cmd.specs.declared.job.Job.TheVariants.{Replay, Accept, Demo, Period, Clusters}
+use Rattle.ds_cmd.specs.declared.job.Job.TheVariants.{Replay, Accept, Demo, Period, Clusters, Rate, Times}
 
 -- so many workers may be wanted
 abbrev pub AreWorkers : ℕ → Type 0
@@ -27,3 +27,5 @@ AreAllowed (Demo job) = (1 ≤ job.registers) × (job.registers ≤ most_of limi
     × (job.turns ≤ most_of limit.Vectors) × AreWorkers job.jobs
 AreAllowed (Period job) = job.slack ≤ 15
 AreAllowed (Clusters job) = ⊤
+AreAllowed (Rate job) = ⊤
+AreAllowed (Times job) = (job.turns ≤ most_of limit.Vectors) × (job.slack ≤ 15)

@@ -11,6 +11,8 @@ use Rattle.ds_cmd.specs.Accept.{accept_job, accept_shape}
 use Rattle.ds_cmd.specs.Demo.{demo_job, demo_shape}
 use Rattle.ds_cmd.specs.Period.{period_job, period_shape}
 use Rattle.ds_cmd.specs.ListClusters.{clusters_job, clusters_shape}
+use Rattle.ds_cmd.specs.Rate.{rate_job, rate_shape}
+use Rattle.ds_cmd.specs.Times.{times_job, times_shape}
 use Rattle.ds_cmd.specs.declared.job.Job.{Job}
 use Rattle.ds_cmd.specs.declared.fault.UsageFault.{UsageFault}
 
@@ -30,6 +32,8 @@ commands = record { shape = run_shape; job = run_job }
     ∷ record { shape = demo_shape; job = demo_job }
     ∷ record { shape = period_shape; job = period_job }
     ∷ record { shape = clusters_shape; job = clusters_job }
+    ∷ record { shape = rate_shape; job = rate_job }
+    ∷ record { shape = times_shape; job = times_job }
     ∷ []
 
 -- the program, which wants one of the commands

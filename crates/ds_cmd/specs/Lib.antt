@@ -12,6 +12,8 @@ pub mod Accept
 pub mod Demo
 pub mod Period
 pub mod ListClusters
+pub mod Rate
+pub mod Times
 pub mod Commands
 pub mod Line
 pub mod Plain

@@ -3,7 +3,9 @@ ghost use Rattle.std.specs.Prelude.{◌≡◌, ◌++◌, ◌∷◌, List, [], ma
 ghost use Rattle.clap.specs.Words.{Shape, app_of, shape_of};
 ghost use Rattle.ds_cmd.specs.Commands.{commands as commands_of, desync};
 
-use crate::{accept, check, clock, demo, graph, list_clusters, period, replay, run};
+use crate::{
+    accept, check, clock, demo, graph, list_clusters, period, rate, replay, run, times,
+};
 use clap::Command;
 use ds_base::OutOfMemory;
 use std::alloc::Global;
@@ -32,7 +34,9 @@ fn commands<'a>(alloc: Global) -> Result<Vec<Command<'a>>, OutOfMemory>
     let commands = with(commands, accept::command(alloc));
     let commands = with(commands, demo::command(alloc));
     let commands = with(commands, period::command(alloc));
-    with(commands, list_clusters::command(alloc))
+    let commands = with(commands, list_clusters::command(alloc));
+    let commands = with(commands, rate::command(alloc));
+    with(commands, times::command(alloc))
 }
 
 // One command more. Results go in, so that the caller has no way out between two commands.

@@ -6,8 +6,10 @@ use crate::demo::DemoJob;
 use crate::graph::GraphJob;
 use crate::list_clusters::ClustersJob;
 use crate::period::PeriodJob;
+use crate::rate::RateJob;
 use crate::replay::ReplayJob;
 use crate::run::RunJob;
+use crate::times::TimesJob;
 
 /// What a command line asks for: a command, with its files and options.
 #[derive(Drop)]
@@ -30,4 +32,8 @@ pub enum Job {
     Period(PeriodJob),
     /// The clusters of the registers, each with its latches: a file of groups.
     Clusters(ClustersJob),
+    /// The exact period of the graph of a file, where its arcs have the delays of another.
+    Rate(RateJob),
+    /// When each event of the graph fires, turn by turn, where its orders have the delays of a file.
+    Times(TimesJob),
 }

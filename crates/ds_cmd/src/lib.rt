@@ -7,7 +7,8 @@
 //! `specs/Commands.antt`, where a command joins by an entry. `ds_cmd_laws` says without `clap`
 //! which lines are taken: the name of a command, its files or its numbers in decimal, and the
 //! option behind them; and that no other name is. Of several faults a bad line comes first, then a
-//! bad number, then a bad mode; open latches beside slack are a bad mode. A request for help or for
+//! bad number, then a bad mode; open latches or an expansion beside slack
+//! are a bad mode. A request for help or for
 //! the version is no command line. No clause says what a `UsageFault` displays.
 #![tactic(auto)]
 
@@ -26,9 +27,11 @@ mod line;
 mod list_clusters;
 mod number;
 mod period;
+mod rate;
 mod replay;
 mod run;
 mod subcommand;
+mod times;
 
 pub use accept::AcceptJob;
 pub use clock::ClockJob;
@@ -40,5 +43,7 @@ pub use job::Job;
 pub use line::parse;
 pub use list_clusters::ClustersJob;
 pub use period::PeriodJob;
+pub use rate::RateJob;
 pub use replay::ReplayJob;
 pub use run::RunJob;
+pub use times::TimesJob;

@@ -8,7 +8,8 @@ ghost use Rattle.ds_cmd.specs.Line.{job_in, job_of, named_job};
 
 use crate::command::desync_command;
 use crate::{
-    Job, UsageFault, accept, check, clock, demo, graph, list_clusters, period, replay, run,
+    Job, UsageFault, accept, check, clock, demo, graph, list_clusters, period, rate, replay, run,
+    times,
 };
 use clap::error::ErrorKind;
 use clap::{ArgMatches, Error};
@@ -75,10 +76,23 @@ fn further_job(alloc: Global, name: &str, values: &ArgMatches<'_>) -> Result<Job
         accept::job(alloc, values)
     } else if name == "demo" {
         demo::job(values)
-    } else if name == "period" {
+    } else {
+        timed_job(alloc, name, values)
+    }
+}
+
+// The job of the command of this name, of those that read delays.
+fn timed_job(alloc: Global, name: &str, values: &ArgMatches<'_>) -> Result<Job, UsageFault>
+    ensures { Gives (named_job name.now (rows_of (found_of values.now)) (drop 7 commands)) result }
+{
+    if name == "period" {
         period::job(alloc, values)
     } else if name == "clusters" {
         list_clusters::job(alloc, values)
+    } else if name == "rate" {
+        rate::job(alloc, values)
+    } else if name == "times" {
+        times::job(alloc, values)
     } else {
         Err(UsageFault::Line)
     }

@@ -13,4 +13,6 @@ returns c =
     let six = c.with-commands-6.ensures _ _ five c.command-6.ensures in
     let seven = c.with-commands-7.ensures _ _ six c.command-7.ensures in
     let eight = c.with-commands-8.ensures _ _ seven c.command-8.ensures in
-    c.with.ensures _ _ eight c.command-9.ensures
+    let nine = c.with-commands-9.ensures _ _ eight c.command-9.ensures in
+    let ten = c.with-commands-10.ensures _ _ nine c.command-10.ensures in
+    c.with.ensures _ _ ten c.command-11.ensures

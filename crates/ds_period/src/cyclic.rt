@@ -1,0 +1,38 @@
+//! Whether a graph has a cycle.
+ghost use Rattle.std.specs.Prelude.{◌≡◌, IfOk, map, true, false};
+ghost use Rattle.ds_period.specs.Edges.{edge_of};
+ghost use Rattle.ds_period.specs.Timing.{HasCycle};
+
+use crate::zeros::zeros;
+use ds_base::OutOfMemory;
+use ds_marked::{Arc, Marked};
+use ds_rank::{Edge, OrderFault, least_ranks};
+use std::alloc::{AllocError, Global};
+
+/// Whether some walk along the arcs of a graph ends where it begins.
+pub fn has_cycle(alloc: Global, graph: &Marked) -> Result<bool, OutOfMemory>
+    ensures some { IfOk result (λ is. is ≡ true → HasCycle graph.now) }
+    ensures none { IfOk result (λ is. is ≡ false → ¬ HasCycle graph.now) }
+{
+    let edges = edges(alloc, graph.arcs())?;
+    let floors = zeros(alloc, graph.events().len())?;
+    match least_ranks(alloc, floors.as_slice(), edges.as_slice()) {
+        Ok(_) => Ok(false),
+        Err(OrderFault::Cycle(_)) => Ok(true),
+        Err(OrderFault::Memory) => Err(OutOfMemory),
+    }
+}
+
+// The arcs as edges.
+fn edges(alloc: Global, arcs: &[Arc]) -> Result<Vec<Edge>, AllocError>
+    ensures { IfOk result (λ v. v.items ≡ map edge_of arcs.now) }
+{
+    let mut edges: Vec<Edge> = Vec::new(alloc);
+    for arc in arcs {
+        edges.push(Edge {
+            source: arc.source.number(),
+            target: arc.target.number(),
+        })?;
+    }
+    Ok(edges)
+}
