@@ -162,5 +162,5 @@ def options(mode: str, groups: Optional[str]) -> list[str]:
 def slack_word(word: str) -> str:
     """A slack of the command line."""
     if not SLACK.match(word) or int(word) > MOST_SLACK:
-        raise argparse.ArgumentTypeError("%s is no number from 0 to %d" % (word, MOST_SLACK))
+        raise argparse.ArgumentTypeError("%s is not from 0 to %d" % (word, MOST_SLACK))
     return word

@@ -43,7 +43,7 @@ class Wave:
             raise text.fault("this is no waveform: it has no $enddefinitions")
         self.read_head(head.split())
         if scope is not None and scope not in self.scopes:
-            raise text.fault("there is no scope %s, but %s" % (scope, told(self.scopes)))
+            raise text.fault("there is no scope %s (%s)" % (scope, self.has_scopes()))
 
     def read_head(self, words: list[str]) -> None:
         """Takes the scopes and variables."""
@@ -125,23 +125,24 @@ class Wave:
         """The bit of a net."""
         if name not in self.bits:
             where = " in the scope %s" % ".".join(self.scope) if self.scope else ""
-            raise BadText("%s: there is no %s%s; %s" % (self.name, name, where, self.has_scopes()))
+            raise BadText("%s: there is no %s%s (%s)" % (self.name, name, where, self.has_scopes()))
         return self.bits[name]
 
     def clock_bit(self, name: str) -> Bit:
         """The bit of a clock."""
         if name not in self.bits:
-            raise BadText("%s: there is no clock %s, but %s" % (self.name, name, self.has_clocks()))
+            raise BadText("%s: there is no clock %s (%s)" % (self.name, name, self.has_clocks()))
         return self.bits[name]
 
     def has_scopes(self) -> str:
         """The scopes, as they are told."""
-        return "its scopes are %s" % told(self.scopes)
+        return "scopes: %s" % told(self.scopes)
 
     def has_clocks(self) -> str:
         """The variables of one bit, as they are told: those that rise most often first."""
         rises = self.rises()
-        return told(sorted(rises, key=lambda name: -len(rises[name])))
+        names = sorted(rises, key=lambda name: -len(rises[name]))
+        return "variables of one bit: %s" % told(names)
 
     def rises(self) -> dict[str, list[int]]:
         """The times at which each variable of one bit becomes 1, by the first name of each."""

@@ -109,12 +109,12 @@ def first_places(nets: list[str]) -> dict[str, int]:
 
 def hints(first: Run, second: Run) -> Iterator[str]:
     """What may be missing where two runs have no net in common."""
-    has_wave = first.wave is not None or second.wave is not None
-    for run in (first, second):
-        if has_wave and not run.has_names:
-            yield "--net takes the netlist of %s, which names its nets" % run.name
-        if run.wave is not None:
-            yield "--scope takes a scope of %s: %s" % (run.name, told(run.wave.scopes))
+    waves = [run.wave for run in (first, second) if run.wave is not None]
+    unnamed = [run.name for run in (first, second) if not run.has_names]
+    if waves and unnamed:
+        yield "--net takes the netlist of %s, which names its nets" % unnamed[0]
+    elif waves:
+        yield from ("--scope takes one of %s (%s)" % (w.name, w.has_scopes()) for w in waves)
 
 
 def clock_hint(run: Run, asked: argparse.Namespace) -> Iterator[str]:

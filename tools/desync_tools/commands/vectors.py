@@ -128,7 +128,7 @@ def checked(taken: Parser, asked: argparse.Namespace) -> None:
             taken.error("--clock and --scope go with --from")
     elif asked.clock is None:
         has = Wave(file_text(asked.wave), asked.scope).has_clocks()
-        taken.error("--from takes --clock, the clock of the test bench: %s" % shown(has))
+        taken.error("--from takes --clock, the clock of the test bench (%s)" % shown(has))
     elif asked.seed is not None or asked.p or asked.set:
         taken.error("--seed, --p and --set do not go with --from")
     if asked.turns is not None and not 0 <= asked.turns <= MOST:
