@@ -84,7 +84,7 @@ class Runner:
             self.compare(name, wanted, self.command(command))
 
     def knows(self, lines: list[str]) -> bool:
-        """Whether the first command of a transcript is none of the program, or one that it knows."""
+        """Whether the program knows the first command of a transcript, where it is one of its."""
         words, _ = words_of(lines[0][2:])
         if words[0] != "desync":
             return True

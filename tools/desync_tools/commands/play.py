@@ -36,7 +36,7 @@ from desync_tools.times import firings_of, take_times, times_of
 from desync_tools.traces import Turn, fitting, vectors_beside
 
 PARTS_FOLDER = os.path.join(os.path.dirname(os.path.realpath(__file__)), "..", "page")
-PARTS = {"/*RULE*/": "play_rule.js", "/*PAGE*/": "play_page.js"}
+PARTS = {"/*RULE*/": "play_rule.js", "/*LAYOUT*/": "play_layout.js", "/*PAGE*/": "play_page.js"}
 MOST_NODES, MOST_FIRINGS = 200, 20000
 
 
@@ -160,7 +160,7 @@ def model(run: Run, graph: Graph, split: Split) -> dict[str, Any]:
     edges = sorted(pair for pair, _ in graph.data_edges())
     titles, values = values_of(run, found)
     events = list(events_of(run, arcs, nodes))
-    place, size = places(edges)
+    place = places(edges)
     for node in nodes:
         if node not in place:
             raise BadText("%s lacks the orders of %s" % (graph.path, node))
@@ -170,7 +170,6 @@ def model(run: Run, graph: Graph, split: Split) -> dict[str, Any]:
         "nodes": nodes,
         "titles": titles,
         "places": place,
-        "size": size,
         "edges": edges,
         "values": values,
         "arcs": [list(arc) for arc in arcs],
