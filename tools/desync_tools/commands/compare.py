@@ -207,8 +207,11 @@ def words(name: str) -> Parser:
 
 
 def main(argv: list[str]) -> int:
-    asked = words(argv[0]).parse_args(argv[1:])
+    taken = words(argv[0])
+    asked = taken.parse_args(argv[1:])
     first, second = runs(asked)
+    if (asked.clock or asked.scope) and not (first.wave or second.wave):
+        taken.error("--clock and --scope go with a waveform")
     pairs, count = Pairs(first, second), Count(asked.x or "")
     found = list(compared(pairs, first, second, count))
     for run, only in zip((first, second), pairs.only):

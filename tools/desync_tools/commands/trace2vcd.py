@@ -9,8 +9,8 @@ With --times the waveform is one of the latches: the file has a line `EVENT TURN
 firing, as `M0+ 2 7`, with the turns counted from 1. `desync times` prints such lines, and --delays
 asks it for them. Each node is 1 while it is open, each register changes when its slave opens, each
 output when OUT opens, and each column when IN opens. A node that opens and closes at one time has a
-pulse without width. `M3:pc,u5/flag` is the master of the cluster of the bus `pc` and of `u5.flag`.
-From the top of the repository:
+pulse without width. `M3:pc,u5/flag` is the master of the bus `pc` and of `u5.flag`; a `*` stands for
+all but three where a cluster has more than four such names. From the top of the repository:
 
     tools/trace2vcd examples/toggle.blif examples/toggle.trace --delays examples/toggle.delays
 
@@ -24,7 +24,7 @@ from __future__ import annotations
 import re
 from typing import Iterator, Optional
 
-from desync_tools.clusters import Split, spans, take_groups, take_mode
+from desync_tools.clusters import MOST_NAMED, Split, names_of, take_groups, take_mode
 from desync_tools.command import Parser, parser, put
 from desync_tools.netlist import Netlist, read_netlist
 from desync_tools.text import Text, text_of
@@ -107,8 +107,11 @@ class Timed:
         reader would take it for that of the node, and with no dots, which would open scopes."""
         if node[0] not in "MS":
             return node
-        told = RANGE.sub("", spans(self.split.registers(int(node[1:]))))
-        return "%s:%s" % (node, told.replace(".", "/").replace(" ", ","))
+        found = names_of(self.split.registers(int(node[1:])))
+        names = [RANGE.sub("", name).replace(".", "/") for name in found]
+        if len(names) > MOST_NAMED + 1:
+            names = names[:MOST_NAMED] + ["*"]
+        return "%s:%s" % (node, ",".join(names))
 
     def changes(self, firing: Firing) -> Iterator[str]:
         """The variables that change with a firing."""
