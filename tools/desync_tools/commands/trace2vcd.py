@@ -9,8 +9,8 @@ With --times the waveform is one of the latches: the file has a line `EVENT TURN
 firing, as `M0+ 2 7`, with the turns counted from 1. `desync times` prints such lines, and --delays
 asks it for them. Each node is 1 while it is open, each register changes when its slave opens, each
 output when OUT opens, and each column when IN opens. A node that opens and closes at one time has a
-pulse without width. `M3:pc,u5/flag` is the master of the bus `pc` and of `u5.flag`; a `*` stands for
-all but three where a cluster has more than four such names. From the top of the repository:
+pulse without width. `M3:pc,u5/flag` is the master of the bus `pc` and of `u5.flag`; a `*` stands
+for all but three where a cluster has more than four such names. From the top of the repository:
 
     tools/trace2vcd examples/toggle.blif examples/toggle.trace --delays examples/toggle.delays
 
