@@ -55,6 +55,7 @@ look:
 	tools/house/lint --quiet
 	tools/house/edges
 	tools/house/memory_answers
+	tools/house/check_tools
 	tools/house/check_python
 
 install: $(PROGRAM)

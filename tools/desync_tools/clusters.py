@@ -9,12 +9,15 @@ from typing import Iterator, Optional, Sequence, Union
 
 from desync_tools.buses import Bus, buses
 from desync_tools.named_groups import read_groups
+from desync_tools.delays import Order
 from desync_tools.netlist import Net, Netlist, printed
+from desync_tools.text import as_bytes
 
 MODES = ("each", "one", "bus")
 BIT = re.compile(r"\[[0-9]+\]$")
-# As many buses of a cluster are named.
-MOST_NAMED = 3
+SLACK = re.compile("^[0-9]+$")
+# As many buses of a cluster are named; a producer may run ahead as often.
+MOST_NAMED, MOST_SLACK = 3, 15
 
 
 class Cluster:
@@ -105,6 +108,10 @@ class Split:
 
     def __init__(self, netlist: Netlist, mode: str, groups: Optional[str] = None) -> None:
         self.netlist = netlist
+        # How it is asked for.
+        self.how = "--clusters " + mode
+        if groups is not None:
+            self.how += " --groups " + as_bytes(groups)
         places = [] if groups is None else read_groups(groups, netlist.registers)
         self.clusters = clusters(netlist, mode, places)
         self.nodes = ["IN", "OUT"]
@@ -127,6 +134,13 @@ class Split:
         return {node: name or node for node, name in found.items()}
 
 
+def names_of_order(names: dict[str, str], order: Order) -> str:
+    """What stands in the nodes of the two events of an order, by the names of the nodes."""
+    nodes = [event[:-1] if event[-1] in "+-" else event for event in order]
+    source, target = (names.get(node, node) for node in nodes)
+    return source if source == target else "%s to %s" % (source, target)
+
+
 def take_mode(words: argparse.ArgumentParser, default: Optional[str] = "each") -> None:
     """Adds the option that says how registers share latches to the words of a tool."""
     says = "how registers share latches: each%s, one or bus"
@@ -136,5 +150,17 @@ def take_mode(words: argparse.ArgumentParser, default: Optional[str] = "each") -
 
 def take_groups(words: argparse.ArgumentParser) -> None:
     """Adds the option that names groups to the words of a tool."""
-    # Hidden until the program takes it too.
-    words.add_argument("--groups", metavar="FILE", help=argparse.SUPPRESS)
+    says = "registers that share latches, a line a cluster; others share by --clusters"
+    words.add_argument("--groups", metavar="FILE", help=says)
+
+
+def options(mode: str, groups: Optional[str]) -> list[str]:
+    """The words by which the program makes the same clusters."""
+    return ["--clusters", mode] + ([] if groups is None else ["--groups", groups])
+
+
+def slack_word(word: str) -> str:
+    """A slack of the command line."""
+    if not SLACK.match(word) or int(word) > MOST_SLACK:
+        raise argparse.ArgumentTypeError("%s is not from 0 to %d" % (word, MOST_SLACK))
+    return word

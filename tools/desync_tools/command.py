@@ -9,11 +9,18 @@ import signal
 import sys
 from typing import IO, Any, Callable, Iterable, NoReturn, Optional, Sequence
 
-from desync_tools.text import BadText, in_words, told
+from desync_tools.text import BadText, as_bytes, in_words, told
 
 HERE = os.path.dirname(os.path.realpath(__file__))
 INSTALLED = "desync-"
 MAIN = Callable[[list[str]], int]
+# What a tool has done, by its status; a command may say in FAILS what else gives 1.
+STATUSES = {
+    0: "Done.",
+    1: "A file has a fault or was not read, or the output was not written whole.\n"
+    "The error output says which.",
+    2: "The words are no command line. The error output says which one is wrong.",
+}
 
 
 class CannotWrite(Exception):
@@ -87,18 +94,22 @@ def put(encoding: str, lines: Iterable[str]) -> None:
         raise CannotWrite("cannot write the standard output: %s" % in_words(error)) from None
 
 
+def say(name: str, what: str) -> None:
+    """Says something of a text on the error output, under the name of a tool."""
+    if sys.stderr is not None:
+        sys.stderr.write("%s: %s\n" % (name, told(what)))
+        sys.stderr.flush()
+
+
 def status_of(name: str, main: MAIN, words: Sequence[str]) -> int:
     """Runs a command under a name. What it cannot do it says in one line, and gives 1."""
     try:
         return main([name, *words])
     except (BadText, CannotWrite) as error:
-        said = told(str(error)) if isinstance(error, BadText) else str(error)
+        say(name, str(error))
     except OSError as error:
-        about = "%s: " % error.filename if error.filename else ""
-        said = about + in_words(error)
-    if sys.stderr is not None:
-        sys.stderr.write("%s: %s\n" % (name, said))
-        sys.stderr.flush()
+        about = "%s: " % as_bytes(str(error.filename)) if error.filename else ""
+        say(name, about + in_words(error))
     return 1
 
 

@@ -5,7 +5,7 @@ from __future__ import annotations
 import re
 from typing import Iterator
 
-from desync_tools.text import BadText, joined
+from desync_tools.text import Text
 
 MOST = 4294967295
 NUMBER = re.compile("^[0-9]{1,10}$")
@@ -18,17 +18,15 @@ def is_delay(word: str) -> bool:
     return bool(NUMBER.match(word)) and int(word) <= MOST
 
 
-def delays_of(text: str) -> dict[Order, int]:
+def delays_of(text: Text) -> dict[Order, int]:
     """The delay of each order that has a line."""
     found: dict[Order, int] = {}
-    for number, words in joined(text.split("\n")):
-        if not words:
-            continue
+    for number, words in text.rows():
         if len(words) != 3 or not is_delay(words[2]):
-            raise BadText("line %d of the delays: not SOURCE TARGET DELAY" % number)
+            raise text.fault("not SOURCE TARGET DELAY", number)
         order = (words[0], words[1])
         if order in found:
-            raise BadText("line %d of the delays: %s to %s twice" % ((number,) + order))
+            raise text.fault("%s to %s twice" % order, number)
         found[order] = int(words[2])
     return found
 

@@ -10,7 +10,7 @@ from desync_tools.clusters import Split
 from desync_tools.delays import MOST, is_delay, line_of
 from desync_tools.logic import Edge, Logic
 from desync_tools.netlist import Netlist, Table, printed
-from desync_tools.text import BadText, as_bytes, file_text, joined
+from desync_tools.text import BadText, file_text
 
 DIGITS = re.compile("^[0-9]+$")
 OPTIONS = (
@@ -28,23 +28,22 @@ class Gates:
         self.by_inputs: dict[int, int] = {}
         self.by_net: dict[str, int] = {}
         if asked.gates is not None:
-            self.read(asked.gates)
-        unknown = set(self.by_net) - {printed(table.output) for table in netlist.tables}
-        for name in sorted(unknown):
-            raise BadText("no table drives %s" % name)
+            self.read(asked.gates, {printed(table.output) for table in netlist.tables})
 
-    def read(self, path: str) -> None:
-        """Takes the lines of a file."""
-        for number, words in joined(file_text(path).split("\n")):
-            if not words:
-                continue
+    def read(self, path: str, known: set[str]) -> None:
+        """Takes the lines of a file; the nets that tables drive are known."""
+        text = file_text(path)
+        for number, words in text.rows():
             if len(words) != 2 or not is_delay(words[1]):
-                raise BadText("%s:%d: not INPUTS DELAY or NET DELAY" % (as_bytes(path), number))
+                raise text.fault("not INPUTS DELAY or NET DELAY", number)
             name, delay = words[0], int(words[1])
             if DIGITS.match(name):
                 self.by_inputs[int(name)] = delay
-            else:
-                self.by_net[name[2:] if name.startswith("0/") else name] = delay
+                continue
+            name = name[2:] if name.startswith("0/") else name
+            if name not in known:
+                raise text.fault("no table drives %s" % name, number)
+            self.by_net[name] = delay
 
     def delay(self, table: Table) -> int:
         """How long a table takes."""
@@ -68,7 +67,8 @@ def lines(split: Split, gates: Gates, edges: dict[Edge, int]) -> Iterator[str]:
         producer, consumer = edge
         delay = edges[edge] + gates.latch
         if delay > MOST:
-            raise BadText("%s+ to %s+ takes more than %d" % (producer, consumer, MOST))
+            long = (split.netlist.path, producer, consumer, MOST)
+            raise BadText("%s: %s+ to %s+ takes more than %d" % long)
         told = "%s to %s" % (names[producer], names[consumer])
         yield line_of((producer + "+", consumer + "+"), delay, told)
         yield line_of((consumer + "-", producer + "+"), 0, "hold, " + told)

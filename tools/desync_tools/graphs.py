@@ -5,7 +5,7 @@ from __future__ import annotations
 import re
 from typing import Iterable, Iterator, Optional, Union
 
-from desync_tools.text import BadText, joined
+from desync_tools.text import BadText, Text
 
 EVENT = re.compile(r"^(.+)([+-])$")
 NODE = re.compile(r"^(IN|OUT|[MS]\d+)$")
@@ -20,29 +20,29 @@ class Graph:
     """The signals of a graph, of which most are nodes, and its dummies, each with its number; its
     places by their names, and the tokens of each; the arcs into each event."""
 
-    def __init__(self, lines: Iterable[str]) -> None:
-        self.name = "graph"
+    def __init__(self, text: Text) -> None:
+        self.path, self.name = text.name, "graph"
         self.nodes: dict[str, int] = {}
         self.dummies: dict[str, int] = {}
         self.sources: dict[Place, str] = {}
         self.targets: dict[Place, str] = {}
         self.tokens: dict[Place, int] = {}
-        for number, words in joined(lines):
-            if words and words[0] == ".end":
+        for number, words in text.rows():
+            if words[0] == ".end":
                 break
             try:
                 self.read(words)
             except BadText as error:
-                raise BadText("line %d: %s" % (number, error)) from None
+                raise text.fault(str(error), number) from None
         if not self.nodes:
-            raise BadText("the text has no nodes")
+            raise text.fault("the text has no nodes")
         self.into: dict[str, list[tuple[str, int]]] = {}
         for source, target, tokens in self.arcs():
             self.into.setdefault(target, []).append((source, tokens))
 
     def read(self, words: list[str]) -> None:
         """Takes the words of a line."""
-        if not words or words[0] == ".graph":
+        if words[0] == ".graph":
             return
         if words[0] == ".model":
             self.name = " ".join(words[1:])
@@ -142,8 +142,3 @@ def carries(first: str, second: str) -> bool:
     if first[0] == "M" or second[0] == "S":
         return first[0] == "M" and second == "S" + first[1:]
     return second != "IN" and first != "OUT"
-
-
-def read_graph(text: str) -> Graph:
-    """The graph of a text."""
-    return Graph(text.split("\n"))

@@ -112,8 +112,8 @@ def columns(after: After) -> list[list[str]]:
     return found
 
 
-def places(edges: Iterable[tuple[str, str]]) -> tuple[dict[str, Point], Point]:
-    """The middle of each node's box, and the width and height of the whole picture."""
+def places(edges: Iterable[tuple[str, str]]) -> dict[str, Point]:
+    """The middle of each node's box, where all columns stand beside one another."""
     after = follows(edges)
     found = columns(after)
     tall = max(map(len, found))
@@ -129,4 +129,4 @@ def places(edges: Iterable[tuple[str, str]]) -> tuple[dict[str, Point], Point]:
             else:
                 place[vertex] = [x, y]
         x += COLUMN if pairs else COLUMN - BOX - GAP
-    return place, [x - COLUMN + BOX + MARGIN + 2 * BOX, MARGIN + tall * ROW + 10]
+    return place

@@ -5,7 +5,7 @@ from __future__ import annotations
 import re
 from typing import Iterator, Optional, Union
 
-from desync_tools.text import BadText, joined
+from desync_tools.text import BadText, Text
 
 SIGNALS = (".inputs", ".outputs", ".internal")
 DUMMY = ".dummy"
@@ -15,6 +15,8 @@ INSTANCE = re.compile(r"^([^/]+)/(\d+)$")
 ENTRY = re.compile(r"^(?:<([^,<>]+),([^,<>]+)>|([^<>=]+))(?:=(\d+))?$")
 SIGNS = {"+": "plus", "-": "minus", "~": "toggle"}
 BAD_LETTER = re.compile(r"[/~<>,{}=+-]")
+# The number of a line, and what is said of it.
+Note = tuple[int, str]
 
 
 class Line:
@@ -28,15 +30,19 @@ class Literature:
     """A graph as it is read: its model, its declarations, its arcs and its marking, and what was
     changed so that Desync can read it."""
 
-    def __init__(self, text: str) -> None:
-        self.model = ""
+    def __init__(self, text: Text) -> None:
+        self.text, self.model = text, ""
         self.declared: dict[str, dict[str, None]] = {kind: {} for kind in SIGNALS + (DUMMY,)}
         # The targets of each source, all targets, and the tokens of each place.
         self.arcs: dict[str, dict[str, None]] = {}
         self.aimed: set[str] = set()
         self.marking: dict[Union[str, tuple[str, str]], int] = {}
-        self.changes: list[str] = []
+        # The first line of each arc.
+        self.line_of: dict[tuple[str, str], int] = {}
+        self.changes: list[Note] = []
+        # The dummies that stand for words, and these words.
         self.own: dict[str, str] = {}
+        self.words: dict[str, str] = {}
         # The number of the line that is read.
         self.at = 0
         lines = list(logical_lines(text))
@@ -55,15 +61,15 @@ class Literature:
         if first in (".model", ".name"):
             self.name(line)
         elif first in LEFT_OUT:
-            self.changes.append("line %d: left out %s" % (line.number, first))
+            self.changes.append((line.number, "left out %s" % first))
         elif first == ".marking":
             self.mark(line)
         elif first == ".graph" or first in self.declared:
             return
         elif first == ".state":
-            raise BadText("line %d: a graph of states has no transitions to read" % line.number)
+            raise self.fault("a graph of states has no transitions to read")
         elif first.startswith("."):
-            raise BadText("line %d: unknown command %s" % (line.number, first))
+            raise self.fault("unknown command %s" % first)
         else:
             self.join(line)
 
@@ -72,22 +78,20 @@ class Literature:
         if not self.model and len(line.words) > 1:
             self.model = line.words[1]
         if line.words[0] == ".name":
-            self.changes.append("line %d: took .name for .model" % line.number)
+            self.changes.append((line.number, "took .name for .model"))
 
     def join(self, line: Line) -> None:
         """Takes the arcs of a line of the graph."""
         source = self.item(line.words[0])
         if len(line.words) == 1:
-            raise BadText("line %d: %s leads to nothing" % (line.number, line.words[0]))
+            raise self.fault("%s leads to nothing" % line.words[0])
         for word in line.words[1:]:
             target = self.item(word)
             if not self.is_event(source) and not self.is_event(target):
-                told = (line.number, line.words[0], word)
-                raise BadText(
-                    "line %d: %s leads to %s, and neither is an event: a dummy may lack its .dummy"
-                    % told
-                )
+                told = "%s leads to %s, and neither is an event" % (line.words[0], word)
+                raise self.fault(told + ": a dummy may lack its .dummy")
             self.arcs.setdefault(source, {})[target] = None
+            self.line_of.setdefault((source, target), line.number)
             self.aimed.add(target)
 
     def mark(self, line: Line) -> None:
@@ -95,12 +99,12 @@ class Literature:
         for entry in entries_of(" ".join(line.words[1:])):
             parts = ENTRY.match(entry)
             if not parts:
-                raise BadText("line %d: bad marking %s" % (line.number, entry))
+                raise self.fault("bad marking %s" % entry)
             source, target, place, count = parts.groups()
             key = place or (self.item(source), self.item(target))
             if not self.has(key):
                 kind = "place" if isinstance(key, str) else "arc"
-                raise BadText("line %d: no %s for the marking %s" % (line.number, kind, entry))
+                raise self.fault("no %s for the marking %s" % (kind, entry))
             self.marking[key] = int(count or 1)
 
     def has(self, key: Union[str, tuple[str, str]]) -> bool:
@@ -120,7 +124,7 @@ class Literature:
                 return word
             return self.stand_for(word, "%s_%s" % (signal, SIGNS[sign]), number)
         if parts:
-            raise BadText("line %d: the signal of %s is not declared" % (self.at, word))
+            raise self.fault("the signal of %s is not declared" % word)
         parts = INSTANCE.match(word)
         if parts and parts.group(1) in self.declared[DUMMY]:
             return self.stand_for(word, parts.group(1), parts.group(2))
@@ -133,9 +137,13 @@ class Literature:
             name += "_"
         self.taken.add(name)
         self.declared[DUMMY][name] = None
-        self.own[word] = name
-        self.changes.append("%s is the dummy %s" % (word, name))
+        self.own[word], self.words[name] = name, word
+        self.changes.append((self.at, "%s is the dummy %s" % (word, name)))
         return name
+
+    def fault(self, why: str) -> BadText:
+        """The refusal of the line that is read."""
+        return self.text.fault(why, self.at)
 
     def is_signal(self, name: str) -> bool:
         return any(name in self.declared[kind] for kind in SIGNALS)
@@ -157,16 +165,25 @@ class Literature:
         for place in dict.fromkeys([*into, *behind]):
             yield place, into.get(place, []), behind.get(place, [])
 
-    def faults(self) -> Iterator[str]:
-        """Why the graph is no marked graph: a text for each place with a choice or a merge."""
+    def faults(self) -> Iterator[Note]:
+        """Why the graph is no marked graph: for each place with a choice or a merge a text, with
+        the line on which the second of its events is."""
         for place, sources, targets in self.places():
             hint = "" if place in self.marking else " (or %s lacks its .dummy)" % place
             if len(targets) > 1:
-                yield "a choice at %s%s: %s" % (place, hint, " ".join(targets))
+                told = "a choice at %s%s: %s" % (place, hint, self.told(targets))
+                yield self.line_of[place, targets[1]], told
             if len(sources) > 1:
-                yield "a merge at %s%s: %s" % (place, hint, " ".join(sources))
-            if not targets or not sources:
-                yield "%s has no %s" % (place, "target" if sources else "source")
+                told = "a merge at %s%s: %s" % (place, hint, self.told(sources))
+                yield self.line_of[sources[1], place], told
+            if not targets:
+                yield self.line_of[sources[0], place], "%s has no target" % place
+            if not sources:
+                yield self.line_of[place, targets[0]], "%s has no source" % place
+
+    def told(self, events: list[str]) -> str:
+        """Some events as the text names them."""
+        return " ".join(self.words.get(event, event) for event in events)
 
     def lines(self) -> Iterator[str]:
         """The lines of the graph as Desync reads them."""
@@ -188,12 +205,10 @@ class Literature:
                 yield place if count == 1 else "%s=%d" % (place, count)
 
 
-def logical_lines(text: str) -> Iterator[Line]:
+def logical_lines(text: Text) -> Iterator[Line]:
     """The lines of a text up to `.end`; a marking goes on to its brace, on whatever line."""
     marking: Optional[Line] = None
-    for number, words in joined(text.split("\n")):
-        if not words:
-            continue
+    for number, words in text.rows():
         if marking:
             marking.words += words
         elif words[0].startswith(".marking"):
@@ -207,7 +222,7 @@ def logical_lines(text: str) -> Iterator[Line]:
             yield marking
             marking = None
     if marking:
-        raise BadText("line %d: the marking has no end" % marking.number)
+        raise text.fault("the marking has no end", marking.number)
 
 
 def entries_of(text: str) -> list[str]:

@@ -42,7 +42,10 @@ class Logic:
             output = self.id(table.output)
             self.inputs[output] = [self.id(net) for net in table.inputs]
             self.delays[output] = delay(table)
-        self.ranks = {output: rank for rank, output in enumerate(ordered(self.inputs))}
+        rows = ordered(self.inputs)
+        if len(rows) < len(self.inputs):
+            raise NotAccepted("%s: it has a cycle of tables" % split.netlist.path)
+        self.ranks = {output: rank for rank, output in enumerate(rows)}
         self.producers = dict(self.sources())
 
     def id(self, net: Net) -> int:
@@ -104,7 +107,7 @@ class Logic:
 
 
 def ordered(inputs: dict[int, list[int]]) -> list[int]:
-    """The outputs of tables, each behind those that its table reads."""
+    """The outputs of tables, each behind those that its table reads, but for those of cycles."""
     waits = {output: sum(net in inputs for net in nets) for output, nets in inputs.items()}
     readers: dict[int, list[int]] = {}
     for output, nets in inputs.items():
@@ -116,6 +119,4 @@ def ordered(inputs: dict[int, list[int]]) -> list[int]:
             waits[reader] -= 1
             if not waits[reader]:
                 found.append(reader)
-    if len(found) < len(inputs):
-        raise NotAccepted("desync check refuses this netlist: it has a cycle of tables")
     return found

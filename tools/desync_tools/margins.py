@@ -31,7 +31,7 @@ class Way:
         self.cost = period.potential(self.target) - period.potential(self.source) - rise
         if self.cost < 0:
             told = (self.source, self.target)
-            raise BadText("the potentials do not fit the order %s to %s" % told)
+            raise BadText("desync period: the potentials do not fit %s to %s" % told)
 
     def order(self) -> Order:
         return self.source, self.target

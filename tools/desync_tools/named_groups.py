@@ -9,7 +9,7 @@ from __future__ import annotations
 from typing import Sequence
 
 from desync_tools.netlist import Net, printed
-from desync_tools.text import BadText, as_bytes, file_text, joined
+from desync_tools.text import Text, file_text
 
 
 def matches(pattern: str, name: str) -> bool:
@@ -32,8 +32,8 @@ def matches(pattern: str, name: str) -> bool:
 class Groups:
     """The registers of a netlist by their names, and those that no group has taken."""
 
-    def __init__(self, path: str, registers: Sequence[Net]) -> None:
-        self.path, self.names = path, [printed(net) for net in registers]
+    def __init__(self, text: Text, registers: Sequence[Net]) -> None:
+        self.text, self.names = text, [printed(net) for net in registers]
         self.free = dict.fromkeys(range(len(self.names)))
         self.places: dict[str, list[int]] = {}
         for place, name in enumerate(self.names):
@@ -55,8 +55,7 @@ class Groups:
         found = self.named_by(word)
         if not found:
             fault = "repeated" if self.is_known(word) else "unknown"
-            told = (as_bytes(self.path), line, fault, word)
-            raise BadText("%s:%d: %s register %s" % told)
+            raise self.text.fault("%s register %s" % (fault, word), line)
         for place in found:
             del self.free[place]
         return found
@@ -64,8 +63,9 @@ class Groups:
 
 def read_groups(path: str, registers: Sequence[Net]) -> list[list[int]]:
     """The places of the registers of each group of a file."""
-    groups, found = Groups(path, registers), []
-    for line, words in joined(file_text(path).split("\n")):
-        if words:
-            found.append(sorted(place for word in words for place in groups.take(word, line)))
-    return found
+    text = file_text(path)
+    groups = Groups(text, registers)
+    return [
+        sorted(place for word in words for place in groups.take(word, line))
+        for line, words in text.rows()
+    ]

@@ -9,7 +9,7 @@ from __future__ import annotations
 from typing import Iterator, Optional
 
 from desync_tools import program
-from desync_tools.text import BadText, as_bytes, file_text, joined
+from desync_tools.text import BadText, file_text, joined
 
 MOST_COPIES, MOST_REGISTERS = 65536, 16384
 COMMANDS = (".latch", ".subckt")
@@ -24,7 +24,7 @@ Row = list[str]
 class NotAccepted(BadText):
     """The netlist is one that `desync check` refuses."""
 
-    def __init__(self, why: str = "desync check refuses this netlist") -> None:
+    def __init__(self, why: str = "desync check refuses it") -> None:
         super().__init__(why)
 
 
@@ -155,8 +155,11 @@ def printed(net: Net) -> str:
 
 def read_netlist(path: str, has_tables: bool = False) -> Netlist:
     """The netlist of a file, if `desync check` accepts it."""
-    text = file_text(path)
-    refusal: Optional[str] = program.refusal(path, text)
+    file = file_text(path)
+    refusal: Optional[str] = program.refusal(path, file.text)
     if refusal is not None:
         raise NotAccepted(refusal)
-    return Netlist(as_bytes(path), text, has_tables)
+    try:
+        return Netlist(file.name, file.text, has_tables)
+    except NotAccepted as error:
+        raise NotAccepted("%s: %s" % (file.name, error)) from None

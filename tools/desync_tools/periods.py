@@ -21,14 +21,14 @@ class Period:
         found = RATIO.match(lines[0])
         cycle = lines[1].split(" ") if len(lines) > 1 else []
         if not found or cycle[:1] != ["cycle"] or len(cycle) < 2:
-            raise BadText("this is no period: %s" % lines[0])
+            raise BadText("desync period: this is no period: %s" % lines[0])
         self.p, self.q = int(found.group(1)), int(found.group(2))
         self.cycle = cycle[1:]
         self.potentials: dict[str, int] = {}
         for line in filter(None, lines[2:]):
             found = POTENTIAL.match(line)
             if not found:
-                raise BadText("this is no line of a period: %s" % line)
+                raise BadText("desync period: this is no line of a period: %s" % line)
             self.potentials[found.group(1)] = int(found.group(2))
 
     def ratio(self) -> Fraction:
@@ -37,7 +37,7 @@ class Period:
     def potential(self, event: str) -> int:
         """The potential of an event."""
         if event not in self.potentials:
-            raise BadText("the period has no potential of %s" % event)
+            raise BadText("desync period: there is no potential of %s" % event)
         return self.potentials[event]
 
 

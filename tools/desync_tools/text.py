@@ -5,7 +5,7 @@ from __future__ import annotations
 import errno
 import os
 import sys
-from typing import Iterable, Iterator, Optional
+from typing import Iterable, Iterator, NamedTuple, Optional
 
 WORDS = {
     errno.ENOENT: "no such file",
@@ -15,6 +15,7 @@ WORDS = {
     errno.EPERM: "permission denied",
     errno.ENOSPC: "no space left",
 }
+INPUT = "the standard input"
 
 
 class BadText(Exception):
@@ -33,6 +34,26 @@ def in_words(error: OSError) -> str:
     return said[:1].lower() + said[1:]
 
 
+class Text(NamedTuple):
+    """A text, and what errors call it: the name of its file."""
+
+    name: str
+    text: str
+
+    def lines(self) -> list[str]:
+        """The lines."""
+        return self.text.split("\n")
+
+    def rows(self) -> Iterator[tuple[int, list[str]]]:
+        """The first number and the words of each logical line that has some."""
+        return ((number, words) for number, words in joined(self.lines()) if words)
+
+    def fault(self, why: str, line: int = 0) -> BadText:
+        """The refusal of the text or, by its number, of a line of it."""
+        where = "%s:%d" % (self.name, line) if line else self.name
+        return BadText("%s: %s" % (where, why))
+
+
 def as_bytes(word: str) -> str:
     """A name of the command line as those of files are kept: its bytes as latin-1."""
     return os.fsencode(word).decode("latin-1")
@@ -48,29 +69,29 @@ def told(text: str) -> str:
     return "".join(c if c.isprintable() else ascii(c)[1:-1] for c in shown(text))
 
 
-def given(encoding: str) -> str:
-    """The standard input, whole."""
+def given() -> Text:
+    """The standard input, whole: its bytes as latin-1."""
     if sys.stdin is None:
         raise BadText("the standard input is closed")
     try:
-        return sys.stdin.buffer.read().decode(encoding)
+        return Text(INPUT, sys.stdin.buffer.read().decode("latin-1"))
     except OSError as error:
-        raise CannotRead("cannot read the standard input: %s" % in_words(error)) from None
+        raise CannotRead("cannot read %s: %s" % (INPUT, in_words(error))) from None
 
 
-def file_text(path: str) -> str:
+def file_text(path: str) -> Text:
     """The text of a file: its bytes as latin-1."""
+    name = as_bytes(path) or "''"
     try:
         with open(path, encoding="latin-1", newline="") as file:
-            return file.read()
+            return Text(name, file.read())
     except OSError as error:
-        name = as_bytes(path) or "''"
         raise CannotRead("cannot read %s: %s" % (name, in_words(error))) from None
 
 
-def text_of(path: Optional[str]) -> str:
+def text_of(path: Optional[str]) -> Text:
     """The text of a file or, where none is named, of the standard input."""
-    return given("latin-1") if path is None else file_text(path)
+    return given() if path is None else file_text(path)
 
 
 def joined(lines: Iterable[str]) -> Iterator[tuple[int, list[str]]]:

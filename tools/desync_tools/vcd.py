@@ -8,14 +8,16 @@ from __future__ import annotations
 
 import argparse
 import re
-from typing import Any, Iterator, NamedTuple, Optional, Sequence
+from typing import Any, Iterable, Iterator, NamedTuple, Optional, Sequence
 
-from desync_tools.text import BadText, as_bytes
+from desync_tools.text import BadText, Text, as_bytes
 
 RANGE = re.compile(r"^(.*?) ?\[(\d{1,9}):(\d{1,9})\]$")
 INDEX = re.compile(r"^(.*?) ?\[(\d{1,9})\]$")
 EDGES = {"re": "1", "fe": "0"}
 MOST_WIDE = 1 << 20
+# As many names are told; a clock rises as often or more, and as many units of time apart.
+MOST_TOLD, LEAST_RISES, LEAST_APART = 6, 3, 4
 
 
 class Bit(NamedTuple):
@@ -29,16 +31,19 @@ class Bit(NamedTuple):
 class Wave:
     """The variables of a waveform, and its changes as words."""
 
-    def __init__(self, name: str, text: str, scope: Optional[str] = None) -> None:
-        self.name, self.scope = name, [] if scope is None else scope.split(".")
+    def __init__(self, text: Text, scope: Optional[str] = None) -> None:
+        self.name, self.scope = text.name, [] if scope is None else scope.split(".")
         self.bits: dict[str, Bit] = {}
-        # The nets by their whole names.
+        # The nets and the scopes by their whole names.
         self.nets: list[str] = []
+        self.scopes: dict[str, None] = {}
         self.widths: dict[str, int] = {}
-        head, mark, self.changes = text.partition("$enddefinitions")
+        head, mark, self.changes = text.text.partition("$enddefinitions")
         if not mark:
-            raise BadText("%s is no waveform: it has no $enddefinitions" % name)
+            raise text.fault("this is no waveform: it has no $enddefinitions")
         self.read_head(head.split())
+        if scope is not None and scope not in self.scopes:
+            raise text.fault("there is no scope %s (%s)" % (scope, self.has_scopes()))
 
     def read_head(self, words: list[str]) -> None:
         """Takes the scopes and variables."""
@@ -49,6 +54,7 @@ class Wave:
             command, rest = words[at], words[at + 1 : end]
             if command == "$scope":
                 around.append(rest[-1])
+                self.scopes[".".join(around)] = None
             elif command == "$upscope" and around:
                 around.pop()
             elif command == "$var" and len(rest) > 3:
@@ -118,13 +124,55 @@ class Wave:
     def bit(self, name: str) -> Bit:
         """The bit of a net."""
         if name not in self.bits:
-            raise BadText("%s has no %s" % (self.name, name))
+            where = " in the scope %s" % ".".join(self.scope) if self.scope else ""
+            raise BadText("%s: there is no %s%s (%s)" % (self.name, name, where, self.has_scopes()))
         return self.bits[name]
+
+    def clock_bit(self, name: str) -> Bit:
+        """The bit of a clock."""
+        if name not in self.bits:
+            raise BadText("%s: there is no clock %s (%s)" % (self.name, name, self.has_clocks()))
+        return self.bits[name]
+
+    def has_scopes(self) -> str:
+        """The scopes, as they are told."""
+        return "scopes: %s" % told(self.scopes)
+
+    def has_clocks(self) -> str:
+        """The variables of one bit, as they are told: those that rise most often first."""
+        rises = self.rises()
+        names = sorted(rises, key=lambda name: -len(rises[name]))
+        return "variables of one bit: %s" % told(names)
+
+    def rises(self) -> dict[str, list[int]]:
+        """The times at which each variable of one bit becomes 1, by the first name of each."""
+        names: dict[str, str] = {}
+        for net in self.nets:
+            bit = self.bits[net]
+            if self.widths[bit.code] == 1:
+                names.setdefault(bit.code, net)
+        found: dict[str, list[int]] = {name: [] for name in names.values()}
+        for time, changes in self.times():
+            for code, value in changes:
+                if code in names and value == "1":
+                    found[names[code]].append(time)
+        return found
+
+    def ticks(self) -> list[str]:
+        """The variables that look like a clock: they rise again and again, equally far apart."""
+        found = []
+        for name, times in self.rises().items():
+            apart = {behind - before for before, behind in zip(times, times[1:])}
+            if len(times) >= LEAST_RISES and len(apart) == 1 and apart.pop() >= LEAST_APART:
+                found.append(name)
+        return found
 
     def turns(self, names: Sequence[str], clock: Optional[str], edge: str = "re") -> Iterator[str]:
         """The values of some nets, turn by turn."""
         bits = [self.bit(name) for name in names]
-        return self.by_time(bits) if clock is None else self.by_clock(bits, self.bit(clock), edge)
+        if clock is None:
+            return self.by_time(bits)
+        return self.by_clock(bits, self.clock_bit(clock), edge)
 
     def by_clock(self, bits: Sequence[Bit], clock: Bit, edge: str) -> Iterator[str]:
         """The values before each edge of the clock; the values that it begins with are no edge."""
@@ -154,9 +202,15 @@ def row(bits: Sequence[Bit], values: dict[str, str]) -> str:
     return "".join(values[bit.code][bit.place] for bit in bits).replace("z", "x")
 
 
-def is_wave(text: str) -> bool:
+def told(names: Iterable[str]) -> str:
+    """Some names, of many the first ones."""
+    some = list(names)
+    return ", ".join(some[:MOST_TOLD]) + (", .." if len(some) > MOST_TOLD else "") or "none"
+
+
+def is_wave(text: Text) -> bool:
     """Whether a text is a waveform."""
-    return text.lstrip().startswith("$")
+    return text.text.lstrip().startswith("$")
 
 
 def take_wave(words: argparse.ArgumentParser) -> None:

@@ -5,7 +5,7 @@ from __future__ import annotations
 import re
 from typing import Iterator
 
-from desync_tools.text import BadText, joined
+from desync_tools.text import Text
 
 ROW = re.compile("^(?:-|[01x]+)$")
 
@@ -15,11 +15,11 @@ def bits(word: str) -> str:
     return "" if word == "-" else word
 
 
-def vectors_of(text: str, width: int) -> Iterator[str]:
+def vectors_of(text: Text, width: int) -> Iterator[str]:
     """The vectors of a file, each with a value for each column."""
-    for turn, words in enumerate(words for _, words in joined(text.split("\n")) if words):
+    for number, words in text.rows():
         if len(words) != 1 or not ROW.match(words[0]):
-            raise BadText("this is no vector: %s" % " ".join(words))
+            raise text.fault("this is no vector: %s" % " ".join(words), number)
         if len(bits(words[0])) != width:
-            raise BadText("vector %d is not of %d columns: %s" % (turn, width, words[0]))
+            raise text.fault("this is no vector of %d columns: %s" % (width, words[0]), number)
         yield bits(words[0])

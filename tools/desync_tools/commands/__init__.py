@@ -4,8 +4,9 @@ from __future__ import annotations
 
 import importlib
 import os
+from typing import Any
 
-from desync_tools.command import Parser
+from desync_tools.command import STATUSES, Parser
 
 HERE = os.path.dirname(os.path.realpath(__file__))
 
@@ -16,8 +17,19 @@ def names() -> list[str]:
     return sorted(name for name in found if name != "__init__")
 
 
+def module_of(command: str) -> Any:
+    """The module of a command."""
+    return importlib.import_module("desync_tools.commands." + command)
+
+
 def words_of(command: str, name: str) -> Parser:
     """The command line of a command that is called by a name."""
-    module = importlib.import_module("desync_tools.commands." + command)
-    words: Parser = module.words(name)
+    words: Parser = module_of(command).words(name)
     return words
+
+
+def statuses_of(command: str) -> dict[int, str]:
+    """What each status of a command says."""
+    fails: str = getattr(module_of(command), "FAILS", "")
+    says = STATUSES[1]
+    return {**STATUSES, 1: "%s;\nor %s" % (fails, says[:1].lower() + says[1:]) if fails else says}

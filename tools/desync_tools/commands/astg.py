@@ -10,19 +10,24 @@ same marked graph is printed in the form that it reads:
 - a marking may stand on several lines, and blanks may stand in an entry, as in <a+, b+>.
 
 Each change is named on the error output. A graph with a choice or a merge is no marked graph: it
-is refused with each such place. So are a marking of what is not there, a transition of a signal
-that is not declared, and a graph of states. From the top of the repository:
+is refused with a line for each such place. So are a marking of what is not there, a transition of a
+signal that is not declared, and a graph of states.
+
+`desync rate` says the period of what is printed, under delays that have a line `SOURCE TARGET
+DELAY` for each arc that takes time. Dummies stand there by the names that they have got:
 
     tools/astg vme.g > readable.g
+    desync rate readable.g vme.delays
 """
 
 from __future__ import annotations
 
-import sys
-
-from desync_tools.command import Parser, parser, put
+from desync_tools.command import Parser, parser, put, say
 from desync_tools.literature import Literature
-from desync_tools.text import BadText, text_of, told
+from desync_tools.text import text_of
+
+
+FAILS = "The graph is no marked graph"
 
 
 def words(name: str) -> Parser:
@@ -33,13 +38,13 @@ def words(name: str) -> Parser:
 
 def main(argv: list[str]) -> int:
     asked = words(argv[0]).parse_args(argv[1:])
-    graph = Literature(text_of(asked.graph))
+    text = text_of(asked.graph)
+    graph = Literature(text)
     if not graph.arcs:
-        raise BadText("the text has no arcs")
-    faults = list(graph.faults())
-    if faults:
-        raise BadText("no marked graph: %s" % "; ".join(faults))
-    put("latin-1", graph.lines())
-    for change in graph.changes:
-        sys.stderr.write("%s: %s\n" % (argv[0], told(change)))
-    return 0
+        raise text.fault("the text has no arcs")
+    faults = sorted(graph.faults())
+    if not faults:
+        put("latin-1", graph.lines())
+    for line, why in faults or graph.changes:
+        say(argv[0], str(text.fault(why, line)))
+    return 1 if faults else 0

@@ -23,10 +23,11 @@ from typing import Iterator, NamedTuple, Optional
 
 from desync_tools.command import Parser, parser, put
 from desync_tools.netlist import Netlist, printed, read_netlist
-from desync_tools.text import BadText, as_bytes, file_text, given
-from desync_tools.vcd import Wave, is_wave, take_wave
+from desync_tools.text import BadText, Text, file_text, given
+from desync_tools.vcd import Wave, is_wave, take_wave, told
 from desync_tools.vectors import bits
 
+FAILS = "The two differ, or fewer bits were compared than --least asks for"
 SIDES = ("first", "second", "both")
 # What a row has in place of a value that is not there.
 NONE = "?"
@@ -39,23 +40,24 @@ class Run(NamedTuple):
     nets: list[str]
     rows: Iterator[str]
     end: list[str]
-    is_wave: bool = False
+    wave: Optional[Wave] = None
+    has_names: bool = True
 
 
-def trace_rows(text: str) -> Iterator[tuple[str, Optional[str]]]:
+def trace_rows(text: Text) -> Iterator[tuple[str, Optional[str]]]:
     """The outputs of each line of a trace or of rows, and the registers where they are there."""
-    for turn, line in enumerate(text.splitlines()):
+    for turn, line in enumerate(text.text.splitlines()):
         words = line.split()
         if words[:1] == ["end"] and len(words) == 2:
             yield NONE, bits(words[1])
             return
         if words[:1] != [str(turn)] or len(words) not in (2, 3):
-            raise BadText("this is not turn %d of a trace: %s" % (turn, line))
+            raise text.fault("this is not turn %d of a trace: %s" % (turn, line), turn + 1)
         row = words[1].lower().replace("z", "x")
         yield bits(row), bits(words[2]) if len(words) == 3 else None
 
 
-def trace(name: str, text: str, netlist: Optional[Netlist]) -> Run:
+def trace(text: Text, netlist: Optional[Netlist]) -> Run:
     """A trace, or rows."""
     rows = list(trace_rows(text))
     outputs = max((len(row) for row, _ in rows if row != NONE), default=0)
@@ -65,7 +67,7 @@ def trace(name: str, text: str, netlist: Optional[Netlist]) -> Run:
     if netlist is not None:
         found = [list(map(printed, kind)) for kind in (netlist.outputs, netlist.registers)]
         if len(found[0]) != outputs or registers not in (0, len(found[1])):
-            raise BadText("%s does not fit the netlist" % name)
+            raise text.fault("this does not fit %s" % netlist.path)
         nets = found[0] + (found[1] if registers else [])
     whole = []
     for row, states in rows:
@@ -73,37 +75,53 @@ def trace(name: str, text: str, netlist: Optional[Netlist]) -> Run:
         whole.append(row + (NONE * registers if states is None else states))
     for turn, row in enumerate(whole):
         if len(row) != len(nets):
-            raise BadText("turn %d of %s has not as many values as others" % (turn, name))
+            raise text.fault("turn %d has not as many values as others" % turn, turn + 1)
     turns = sum(row != NONE for row, _ in rows)
-    return Run(name, nets, iter(whole[:turns]), whole[turns:])
+    has_names = netlist is not None
+    return Run(text.name, nets, iter(whole[:turns]), whole[turns:], None, has_names)
 
 
-def wave(name: str, text: str, asked: argparse.Namespace, wanted: Optional[list[str]]) -> Run:
+def wave(text: Text, asked: argparse.Namespace, wanted: Optional[list[str]]) -> Run:
     """A waveform, with the nets that are wanted of it; all without that."""
-    found = Wave(name, text, asked.scope)
+    found = Wave(text, asked.scope)
     nets = [net for net in (found.nets if wanted is None else wanted) if net in found.bits]
-    return Run(name, nets, found.turns(nets, asked.clock, asked.edge), [], True)
+    return Run(text.name, nets, found.turns(nets, asked.clock, asked.edge), [], found)
 
 
 def runs(asked: argparse.Namespace) -> tuple[Run, Run]:
     """The two runs."""
-    names = [as_bytes(path) for path in (asked.first, asked.second)]
-    texts = [given("latin-1") if p == "-" else file_text(p) for p in (asked.first, asked.second)]
+    texts = [given() if p == "-" else file_text(p) for p in (asked.first, asked.second)]
     first = None if asked.net is None else read_netlist(asked.net)
     second = first if asked.other is None else read_netlist(asked.other)
-    netlists = (first, second)
     traces = [
-        None if is_wave(text) else trace(name, text, netlist)
-        for name, text, netlist in zip(names, texts, netlists)
+        None if is_wave(text) else trace(text, netlist)
+        for text, netlist in zip(texts, (first, second))
     ]
     known = next((run.nets for run in traces if run is not None), None)
-    a, b = (run or wave(name, text, asked, known) for run, name, text in zip(traces, names, texts))
+    a, b = (run or wave(text, asked, known) for run, text in zip(traces, texts))
     return a, b
 
 
 def first_places(nets: list[str]) -> dict[str, int]:
     """The place of each net: of one that is an output and a register too, that of the output."""
     return {net: place for place, net in reversed(list(enumerate(nets)))}
+
+
+def hints(first: Run, second: Run) -> Iterator[str]:
+    """What may be missing where two runs have no net in common."""
+    waves = [run.wave for run in (first, second) if run.wave is not None]
+    unnamed = [run.name for run in (first, second) if not run.has_names]
+    if waves and unnamed:
+        yield "--net takes the netlist of %s, which names its nets" % unnamed[0]
+    elif waves:
+        yield from ("--scope takes one of %s (%s)" % (w.name, w.has_scopes()) for w in waves)
+
+
+def clock_hint(run: Run, asked: argparse.Namespace) -> Iterator[str]:
+    """Says that a waveform is read by units of time, where it seems to have a clock."""
+    clocks = [] if run.wave is None or asked.clock else run.wave.ticks()
+    if clocks:
+        yield "each unit of time of %s is a turn: --clock takes %s" % (run.name, told(clocks))
 
 
 class Pairs:
@@ -118,7 +136,8 @@ class Pairs:
             id(second): [at[net] for net in self.nets],
         }
         if not self.nets:
-            raise BadText("%s and %s have no net in common" % (first.name, second.name))
+            why = "%s and %s have no net in common" % (first.name, second.name)
+            raise BadText("; ".join([why, *hints(first, second)]))
         self.only = (set(first.nets) - set(self.nets), set(second.nets) - set(self.nets))
 
     def row(self, run: Run, row: Optional[str]) -> str:
@@ -158,11 +177,11 @@ class Count:
 
 def compared(pairs: Pairs, first: Run, second: Run, count: Count) -> Iterator[str]:
     """The first difference, if there is one."""
-    has_end = all(run.end or run.is_wave for run in (first, second))
+    has_end = all(run.end or run.wave for run in (first, second))
     rows = [chain(run.rows, run.end if has_end else []) for run in (first, second)]
     for turn, (a, b) in enumerate(zip_longest(*rows)):
         if a is None or b is None:
-            if not (first.is_wave or second.is_wave):
+            if not (first.wave or second.wave):
                 yield "%s has no turn %d" % ((first if a is None else second).name, turn)
             return
         values = pairs.row(first, a), pairs.row(second, b)
@@ -188,16 +207,21 @@ def words(name: str) -> Parser:
 
 
 def main(argv: list[str]) -> int:
-    asked = words(argv[0]).parse_args(argv[1:])
+    taken = words(argv[0])
+    asked = taken.parse_args(argv[1:])
     first, second = runs(asked)
+    if (asked.clock or asked.scope) and not (first.wave or second.wave):
+        taken.error("--clock and --scope go with a waveform")
     pairs, count = Pairs(first, second), Count(asked.x or "")
     found = list(compared(pairs, first, second, count))
     for run, only in zip((first, second), pairs.only):
         if only:
             names = " ".join(sorted(only)[:3]) + (" .." if len(only) > 3 else "")
             found.insert(0, "only in %s: nets %d, %s" % (run.name, len(only), names))
+    is_wrong = any(line.startswith("turn ") or " has no turn " in line for line in found)
+    if is_wrong:
+        found += [hint for run in (first, second) for hint in clock_hint(run, asked)]
     is_short = count.bits < asked.least
     found += ["fewer than %d bits" % asked.least] * is_short + [count.told()]
     put("latin-1", found)
-    is_wrong = any(line.startswith("turn ") or " has no turn " in line for line in found)
     return 1 if is_wrong or is_short else 0

@@ -21,13 +21,20 @@ from fractions import Fraction
 from typing import Any, Iterator, Optional
 
 from desync_tools import margins, program
-from desync_tools.clusters import Split, take_groups, take_mode
+from desync_tools.clusters import (
+    Split,
+    names_of_order,
+    options,
+    slack_word,
+    take_groups,
+    take_mode,
+)
 from desync_tools.command import Parser, parser, put
 from desync_tools.delays import MOST, Order, delays_of, lines_of
-from desync_tools.graphs import EVENT, read_graph
+from desync_tools.graphs import Graph
 from desync_tools.netlist import read_netlist
 from desync_tools.periods import Period, number_of
-from desync_tools.text import BadText, as_bytes, file_text
+from desync_tools.text import BadText, Text, as_bytes, file_text
 
 CHANGE = re.compile(r"^(\S+) (\S+) ([+-]?[0-9]{1,10})$")
 SHOWN = 20
@@ -42,24 +49,24 @@ class Design:
         self.asked = asked
         netlist = read_netlist(asked.netlist)
         self.names = Split(netlist, asked.clusters, asked.groups).names()
-        self.arcs = list(read_graph(self.graph_text()).arcs())
+        self.arcs = list(Graph(self.graph_text()).arcs())
         text = file_text(asked.delays)
-        self.period = self.period_of(text)
+        self.period = self.period_of(text.text)
         self.delays = delays_of(text)
 
     def options(self, has_graph: bool) -> list[str]:
         """The options that the program takes too."""
         asked = self.asked
-        given = {"--groups": asked.groups, "--slack": asked.slack}
-        given["--graph"] = asked.graph if has_graph else None
-        words = ["--clusters", asked.clusters]
-        return words + [word for pair in given.items() if pair[1] for word in pair]
+        given = {"--slack": asked.slack, "--graph": asked.graph if has_graph else None}
+        words = options(asked.clusters, asked.groups)
+        return words + [word for pair in given.items() if pair[1] is not None for word in pair]
 
-    def graph_text(self) -> str:
+    def graph_text(self) -> Text:
         """The text of the graph: that of a file, or that of the required orders."""
         if self.asked.graph is not None:
             return file_text(self.asked.graph)
-        return program.answer(["graph", self.asked.netlist, *self.options(False)])
+        words = ["graph", self.asked.netlist, *self.options(False)]
+        return Text("desync graph", program.answer(words))
 
     def period_of(self, text: str) -> Period:
         """The period under the delays of a text."""
@@ -68,13 +75,7 @@ class Design:
 
     def told(self, order: Order) -> str:
         """The names of the nodes of an order."""
-        source, target = (self.name(event) for event in order)
-        return source if source == target else "%s to %s" % (source, target)
-
-    def name(self, event: str) -> str:
-        parts = EVENT.match(event)
-        node = parts.group(1) if parts else event
-        return self.names.get(node, node)
+        return names_of_order(self.names, order)
 
 
 def cycle_of(period: Period, ways: list[margins.Way]) -> list[margins.Way]:
@@ -123,13 +124,13 @@ def changed(design: Design, word: str) -> str:
     """The line that says what the period becomes if an order takes more or less."""
     found = CHANGE.match(word)
     if not found:
-        raise BadText("this is no SOURCE TARGET CHANGE: %s" % word)
+        raise BadText("--what-if: this is no SOURCE TARGET CHANGE: %s" % word)
     order = (found.group(1), found.group(2))
     if order not in {arc[:2] for arc in design.arcs}:
-        raise BadText("there is no order %s to %s" % order)
+        raise BadText("--what-if: the graph has no order %s to %s" % order)
     delay = design.delays.get(order, 0) + int(found.group(3))
     if not 0 <= delay <= MOST:
-        raise BadText("%s to %s cannot take %d" % (order + (delay,)))
+        raise BadText("--what-if: %s to %s cannot take %d" % (order + (delay,)))
     lines = lines_of({**design.delays, order: delay})
     period = design.period_of("".join(line + "\n" for line in lines))
     return "what if %s %s takes %d: period %s" % (order + (delay, number_of(period.ratio())))
@@ -154,7 +155,8 @@ def words(name: str) -> Parser:
     take_mode(taken)
     take_groups(taken)
     taken.add_argument("--graph", metavar="FILE", help="the graph; the required orders without it")
-    taken.add_argument("--slack", metavar="S", help="how often a producer may run ahead")
+    says = "how often a producer may run ahead, 0 to 15"
+    taken.add_argument("--slack", metavar="S", type=slack_word, help=says)
     says = "how many margins are shown, %d where it is left out, all with 0" % SHOWN
     taken.add_argument("--most", type=int, metavar="N", default=SHOWN, help=says)
     says = "an order, and by how much its delay changes"

@@ -16,7 +16,8 @@ With --orders it has each signal with its two events in place of that, `+` where
 Some twenty clusters are as many as one can read there.
 
 With --critical the orders of the slowest cycle are red, and the others the darker the less margin
-they have, by what `tools/critical` printed with `--most 0`.
+they have, by what `tools/critical` printed with `--most 0`. What it printed for another graph is
+refused and, with --net, for other clusters.
 
 The text is to be one that `desync graph` writes, or one that `desync accept` takes.
 """
@@ -27,7 +28,7 @@ from typing import Iterator, Optional
 
 from desync_tools.clusters import Split, take_groups, take_mode
 from desync_tools.command import Parser, as_installed, parser, put
-from desync_tools.graphs import EVENT, NODE, Graph, Pair, read_graph
+from desync_tools.graphs import EVENT, NODE, Graph, Pair
 from desync_tools.groups import grouped, spans
 from desync_tools.heat import CYCLE, Heat
 from desync_tools.netlist import read_netlist
@@ -75,14 +76,14 @@ def ends(graph: Graph) -> list[str]:
     return [str(number) for number in range(count)]
 
 
-def titles(graph: Graph, split: Optional[Split], mode: str) -> dict[str, str]:
+def titles(graph: Graph, split: Optional[Split]) -> dict[str, str]:
     """The head of each box, by the number of its cluster."""
     if split is None:
         return {number: "" for number in ends(graph)}
     found = split.clusters
     if set(ends(graph)) != {str(number) for number in range(len(found))}:
-        told = (len(ends(graph)), len(found), mode)
-        raise BadText("the graph has %d clusters, the netlist %d by --clusters %s" % told)
+        told = (graph.path, len(ends(graph)), split.netlist.path, split.how, len(found))
+        raise BadText("%s has %d clusters, and %s by %s has %d" % told)
     return {str(number): cluster.title() for number, cluster in enumerate(found)}
 
 
@@ -234,14 +235,17 @@ def main(argv: list[str]) -> int:
     asked = taken.parse_args(argv[1:])
     if asked.hide_own and not asked.orders:
         taken.error("--hide-own goes with --orders")
-    graph = read_graph(text_of(asked.graph))
+    graph = Graph(text_of(asked.graph))
     if not asked.orders and not any(map(NODE.match, graph.nodes)):
-        raise BadText("the graph has no nodes of a netlist: --orders shows its events")
+        raise BadText("%s: no nodes of a netlist: --orders shows its events" % graph.path)
     split = None
     if asked.net is not None:
         split = Split(read_netlist(asked.net), asked.clusters, asked.groups)
-    heads = titles(graph, split, asked.clusters)
-    heat = None if asked.critical is None else Heat(file_text(asked.critical))
+    heads = titles(graph, split)
+    heat = None
+    if asked.critical is not None:
+        heat = Heat(file_text(asked.critical))
+        heat.check(graph, split)
     if asked.orders:
         lines = orders(graph, heads, asked.hide_own, heat)
     else:

@@ -23,7 +23,7 @@ from typing import Iterator
 
 from desync_tools.clusters import Cluster, Split, take_groups, take_mode
 from desync_tools.command import Parser, parser, put
-from desync_tools.graphs import Graph, read_graph
+from desync_tools.graphs import Graph
 from desync_tools.netlist import Net, Netlist, Table, printed, read_netlist
 from desync_tools.text import BadText, text_of
 from desync_tools.vectors import vectors_of
@@ -179,18 +179,15 @@ def module(run: Run, split: Split, has_dump: bool) -> Iterator[str]:
     yield "endmodule"
 
 
-def nodes_of(found: list[Cluster]) -> set[str]:
-    """The nodes of a design with some clusters."""
-    return {"IN", "OUT"} | {kind + str(i) for i in range(len(found)) for kind in "MS"}
-
-
-def checked(graph: Graph, found: list[Cluster], mode: str) -> Graph:
-    """A graph, which is to have the nodes of some clusters and nothing else."""
-    nodes = nodes_of(found)
-    if not nodes <= set(graph.nodes):
-        raise BadText("the graph has not the nodes of --clusters %s" % mode)
-    for name in [*graph.dummies, *(name for name in graph.nodes if name not in nodes)]:
-        raise BadText("the graph has %s, which is no node of --clusters %s" % (name, mode))
+def checked(graph: Graph, split: Split) -> Graph:
+    """A graph, which is to have the nodes of a netlist in clusters and nothing else."""
+    whole = "%s by %s" % (split.netlist.path, split.how)
+    for node in split.nodes:
+        if node not in graph.nodes:
+            raise BadText("%s has no %s, which %s has" % (graph.path, node, whole))
+    known = set(split.nodes)
+    for name in [*graph.dummies, *(name for name in graph.nodes if name not in known)]:
+        raise BadText("%s has %s, which is no node of %s" % (graph.path, name, whole))
     return graph
 
 
@@ -211,7 +208,7 @@ def main(argv: list[str]) -> int:
     asked: argparse.Namespace = words(argv[0]).parse_args(argv[1:])
     netlist = read_netlist(asked.netlist, True)
     split = Split(netlist, asked.clusters, asked.groups)
-    graph = checked(read_graph(text_of(asked.graph)), split.clusters, asked.clusters)
+    graph = checked(Graph(text_of(asked.graph)), split)
     vectors = list(vectors_of(text_of(asked.vectors), len(netlist.columns)))
     run = Run(netlist, graph, vectors, asked.seed)
     put("latin-1", module(run, split, asked.dump))

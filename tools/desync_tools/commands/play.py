@@ -14,7 +14,8 @@ order that is given by a walk alone shows none. Its events are those of the node
 200 nodes and 20,000 firings at most.
 
 With --times, a file with a line `EVENT TURN TIME` for each firing, the page goes by these times,
-with the speed that the reader sets; the run needs no log then, so a trace will do.
+with the speed that the reader sets; the run needs no log then, so a trace will do. `desync times`
+prints such lines, and --delays asks it for them.
 """
 
 from __future__ import annotations
@@ -26,40 +27,40 @@ from typing import Any, Iterator, Optional, Sequence
 from desync_tools.buses import buses
 from desync_tools.clusters import Cluster, Split, take_groups, take_mode
 from desync_tools.command import Parser, parser, put
-from desync_tools.graphs import Arc, Graph, read_graph
+from desync_tools.graphs import Arc, Graph
 from desync_tools.layers import places
-from desync_tools.logs import Line, is_firing, split_run
+from desync_tools.logs import Line, is_firing, log_of
 from desync_tools.netlist import Net, Netlist, read_netlist
-from desync_tools.text import BadText, shown, text_of
-from desync_tools.times import firings_of
+from desync_tools.text import BadText, Text, shown, text_of
+from desync_tools.times import firings_of, take_times, times_of
 from desync_tools.traces import Turn, fitting, vectors_beside
 
 PARTS_FOLDER = os.path.join(os.path.dirname(os.path.realpath(__file__)), "..", "page")
-PARTS = {"/*RULE*/": "play_rule.js", "/*PAGE*/": "play_page.js"}
+PARTS = {"/*RULE*/": "play_rule.js", "/*LAYOUT*/": "play_layout.js", "/*PAGE*/": "play_page.js"}
 MOST_NODES, MOST_FIRINGS = 200, 20000
 
 
-def nodes_of(found: list[Cluster], graph: Graph, mode: str) -> list[str]:
+def nodes_of(split: Split, graph: Graph) -> list[str]:
     """The nodes of the clusters, which are to be those of the graph."""
-    nodes = ["IN", "OUT"]
-    for number in range(len(found)):
-        nodes += ["M%d" % number, "S%d" % number]
+    nodes, path = split.nodes, split.netlist.path
     if len(nodes) > MOST_NODES:
-        raise BadText("%d nodes (limit %d)" % (len(nodes), MOST_NODES))
+        raise BadText("%s: %d nodes (limit %d)" % (path, len(nodes), MOST_NODES))
     for node in nodes:
         if node not in graph.nodes:
-            raise BadText("the graph has no %s, the netlist by --clusters %s has" % (node, mode))
+            told = (graph.path, node, path, split.how)
+            raise BadText("%s has no %s, which %s by %s has" % told)
     for node in [*graph.nodes, *graph.dummies]:
         if node not in nodes:
-            raise BadText("the graph has %s, the netlist by --clusters %s has not" % (node, mode))
+            told = (graph.path, node, path, split.how)
+            raise BadText("%s has %s, which %s by %s has not" % told)
     return nodes
 
 
 def events_of(run: Run, arcs: list[Arc], nodes: list[str]) -> Iterator[str]:
     """The events of the log of a run, each of which may fire where it stands."""
-    turns = len(run.rows) - 1
+    turns = run.turns()
     if len(run.log) > MOST_FIRINGS:
-        raise BadText("%d firings (limit %d)" % (len(run.log), MOST_FIRINGS))
+        raise run.text.fault("%d firings (limit %d)" % (len(run.log), MOST_FIRINGS))
     counts = {node + sign: 0 for node in nodes for sign in "+-"}
     into: dict[str, list[tuple[str, int]]] = {event: [] for event in counts}
     for source, target, tokens in arcs:
@@ -67,7 +68,7 @@ def events_of(run: Run, arcs: list[Arc], nodes: list[str]) -> Iterator[str]:
     for number, firing in run.log:
         why = refusal(firing, counts, into, turns)
         if why:
-            raise BadText("line %d of the %s: %s" % (number, run.kind, why))
+            raise run.text.fault(why, number)
         counts[firing[0]] += 1
         yield firing[0]
 
@@ -118,22 +119,26 @@ def cluster_rows(netlist: Netlist, cluster: Cluster, rows: list[Turn]) -> tuple[
 
 
 class Run:
-    """A run of a netlist: the rows of its trace, its log and its vectors."""
+    """A run of a netlist: the rows of its trace, its log, where that stands, and its vectors."""
 
-    def __init__(self, netlist: Netlist, text: str, vectors: Optional[str]) -> None:
-        self.netlist, self.text, self.kind = netlist, text, "run"
+    def __init__(self, netlist: Netlist, text: Text, vectors: Optional[str]) -> None:
+        self.netlist, self.text = netlist, text
         self.log: list[Line] = []
         self.times: Optional[list[int]] = None
         self.rows = fitting(netlist, text)
         self.vectors = [] if vectors is None else vectors_beside(netlist, vectors, self.rows)
 
-    def take_log(self, times: Optional[str]) -> None:
-        """Takes the firings from behind the trace or, by their times, from a file."""
+    def turns(self) -> int:
+        """The number of turns."""
+        return len(self.rows) - 1
+
+    def take_log(self, times: Optional[Text]) -> None:
+        """Takes the firings from behind the trace or, by their times, from another text."""
         if times is None:
-            _, self.log = split_run(self.text)
+            self.log = log_of(self.text)
             return
-        firings = firings_of(text_of(times))
-        self.kind, self.times = "times", [firing.time for firing in firings]
+        firings = firings_of(times)
+        self.text, self.times = times, [firing.time for firing in firings]
         self.log = [(firing.line, [firing.event, str(firing.turn)]) for firing in firings]
 
 
@@ -148,24 +153,23 @@ def values_of(run: Run, found: list[Cluster]) -> tuple[dict[str, str], dict[str,
     return titles, values
 
 
-def model(run: Run, graph: Graph, split: Split, mode: str) -> dict[str, Any]:
+def model(run: Run, graph: Graph, split: Split) -> dict[str, Any]:
     """What the page is told."""
     found = split.clusters
-    nodes, arcs = nodes_of(found, graph, mode), sorted(graph.arcs())
+    nodes, arcs = nodes_of(split, graph), sorted(graph.arcs())
     edges = sorted(pair for pair, _ in graph.data_edges())
     titles, values = values_of(run, found)
     events = list(events_of(run, arcs, nodes))
-    place, size = places(edges)
+    place = places(edges)
     for node in nodes:
         if node not in place:
-            raise BadText("the graph lacks the orders of %s" % node)
+            raise BadText("%s lacks the orders of %s" % (graph.path, node))
     told = {
         "name": shown(run.netlist.name),
-        "turns": len(run.rows) - 1,
+        "turns": run.turns(),
         "nodes": nodes,
         "titles": titles,
         "places": place,
-        "size": size,
         "edges": edges,
         "values": values,
         "arcs": [list(arc) for arc in arcs],
@@ -199,17 +203,16 @@ def words(name: str) -> Parser:
     taken.add_argument("--vectors", metavar="FILE", help="the vectors of the run, to be shown too")
     take_mode(taken)
     take_groups(taken)
-    says = "a line EVENT TURN TIME for each firing, to go by its times"
-    taken.add_argument("--times", metavar="FILE", help=says)
+    take_times(taken)
     return taken
 
 
 def main(argv: list[str]) -> int:
     asked = words(argv[0]).parse_args(argv[1:])
     netlist = read_netlist(asked.netlist)
-    graph = read_graph(text_of(asked.graph))
+    graph = Graph(text_of(asked.graph))
     run = Run(netlist, text_of(asked.run), asked.vectors)
-    run.take_log(asked.times)
+    run.take_log(times_of(asked, run.turns(), asked.graph))
     split = Split(netlist, asked.clusters, asked.groups)
-    put("utf-8", [page(model(run, graph, split, asked.clusters))])
+    put("utf-8", [page(model(run, graph, split))])
     return 0

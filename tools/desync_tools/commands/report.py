@@ -4,7 +4,7 @@ There is a row for each mode of `--clusters` and for each file of --groups: how 
 latches and orders there are, how wide the widest cluster is, the period, and what refuses it. The
 delays are those that `tools/delays` gives for that row, with the same options. With a file of
 delays they are those of the file, for the rows whose orders it names. --slack asks for the period
-with a slack, a column each:
+with a slack, a column each. The status is 1 where no row has a period:
 
     tools/report cpu.blif --slack 0 --slack 1 --groups cpu.groups
 """
@@ -18,7 +18,7 @@ import io
 from typing import Iterator, Optional
 
 from desync_tools import program
-from desync_tools.clusters import MODES, Split
+from desync_tools.clusters import MODES, Split, options, slack_word
 from desync_tools.command import Parser, parser, put
 from desync_tools.gates import Gates, lines, take_delays
 from desync_tools.logic import Logic, TooMany, orders
@@ -26,6 +26,7 @@ from desync_tools.netlist import Netlist, read_netlist
 from desync_tools.periods import Period, number_of
 from desync_tools.text import BadText, as_bytes, file_text, shown
 
+FAILS = "No row has a period"
 HEADS = ["clusters by", "clusters", "latches", "orders", "widest"]
 FORMS = ("text", "csv", "html")
 PAGE = """<!doctype html>
@@ -58,7 +59,7 @@ class Kind:
 
     def options(self) -> list[str]:
         """The words of it for the program."""
-        return ["--clusters", self.mode] + (["--groups", self.groups] if self.groups else [])
+        return options(self.mode, self.groups)
 
 
 class Report:
@@ -68,7 +69,7 @@ class Report:
         self.asked = asked
         self.netlist: Netlist = read_netlist(asked.netlist, True)
         self.gates = Gates(asked, self.netlist)
-        self.delays = None if asked.delays is None else file_text(asked.delays)
+        self.delays = None if asked.delays is None else file_text(asked.delays).text
         self.slacks: list[Optional[str]] = asked.slack or [None]
 
     def heads(self) -> list[str]:
@@ -93,7 +94,9 @@ class Report:
         try:
             edges = Logic(split, self.gates.delay).edges()
             cells += [str(orders(len(split.nodes), len(edges))), widest]
-            text = self.delays or "\n".join(lines(split, self.gates, edges))
+            text = self.delays
+            if text is None:
+                text = "\n".join(lines(split, self.gates, edges))
             return cells + [self.period(kind, text, slack) for slack in self.slacks] + [""]
         except TooMany as error:
             return self.refused(cells + ["", widest], str(error))
@@ -142,13 +145,12 @@ def words(name: str) -> Parser:
     taken = parser(name, __doc__)
     taken.add_argument("netlist", help="the netlist in BLIF")
     taken.add_argument("delays", nargs="?", help="the delays of its orders")
-    # Hidden until the program takes it too.
-    hidden = argparse.SUPPRESS
-    taken.add_argument("--groups", metavar="FILE", action="append", default=[], help=hidden)
-    says = "how registers that are in no group share latches"
+    says = "a row for registers that share latches by the lines of a file; may stand several times"
+    taken.add_argument("--groups", metavar="FILE", action="append", default=[], help=says)
+    says = "how registers that are in no group share latches: each (as left out), one or bus"
     taken.add_argument("--clusters", choices=MODES, default="each", help=says)
-    says = "a column with this slack; may stand several times"
-    taken.add_argument("--slack", metavar="S", action="append", help=says)
+    says = "a column with this slack, 0 to 15; may stand several times"
+    taken.add_argument("--slack", metavar="S", type=slack_word, action="append", help=says)
     taken.add_argument("--as", dest="form", choices=FORMS, default="text", help="the form")
     take_delays(taken)
     return taken
@@ -157,10 +159,10 @@ def words(name: str) -> Parser:
 def main(argv: list[str]) -> int:
     asked = words(argv[0]).parse_args(argv[1:])
     report = Report(asked)
-    rows = [report.heads()] + [report.row(kind) for kind in report.kinds()]
-    rows = [[shown(cell) for cell in row] for row in rows]
+    found = [report.row(kind) for kind in report.kinds()]
+    rows = [[shown(cell) for cell in row] for row in [report.heads(), *found]]
     if asked.form == "html":
         put("utf-8", [as_html(shown(report.netlist.name or "netlist"), rows)])
     else:
         put("utf-8", (as_csv if asked.form == "csv" else as_text)(rows))
-    return 0
+    return 1 if all(row[-1] for row in found) else 0

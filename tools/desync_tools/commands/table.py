@@ -102,13 +102,13 @@ def asked_for(asked: argparse.Namespace, netlist: Netlist) -> tuple[list[Part], 
     return [Part(nets, asked.only, asked.radix) for nets in kinds], rows
 
 
-def checked(parts: list[Part], only: Optional[list[str]]) -> list[Part]:
+def checked(parts: list[Part], netlist: Netlist, only: Optional[list[str]]) -> list[Part]:
     """Refuses a name that no part has."""
     known = {bus.name for part in parts for bus in part.buses}
     known |= {head for part in parts for head in part.heads}
     for name in only or ():
         if name not in known:
-            raise BadText("there is no %s" % name)
+            raise BadText("%s: there is no %s" % (netlist.path, name))
     return parts
 
 
@@ -128,8 +128,9 @@ def main(argv: list[str]) -> int:
     asked = words(argv[0]).parse_args(argv[1:])
     if hasattr(sys, "set_int_max_str_digits"):
         sys.set_int_max_str_digits(0)
-    parts, rows = asked_for(asked, read_netlist(asked.netlist))
-    lines = lines_of(checked(parts, asked.only), rows)
+    netlist = read_netlist(asked.netlist)
+    parts, rows = asked_for(asked, netlist)
+    lines = lines_of(checked(parts, netlist, asked.only), rows)
     titles = TITLES if len(parts) < len(TITLES) else ["", "vectors", *TITLES[1:]]
     put("utf-8", set_out(titles, list(lines)))
     return 0

@@ -119,21 +119,26 @@ def bench(netlist: Netlist, vectors: list[str], top: str, clock: str) -> Iterato
     yield "endmodule"
 
 
-def refuse_both(first: Iterable[str], second: Iterable[str], told: str) -> None:
-    """Refuses a name that stands in two lists."""
-    for name in sorted(set(first) & set(second)):
-        raise BadText(told % name)
+def both(first: Iterable[str], second: Iterable[str], told: str) -> Iterator[str]:
+    """A text for each name that stands in two lists."""
+    yield from (told % name for name in sorted(set(first) & set(second)))
+
+
+def doubled(netlist: Netlist) -> Iterator[str]:
+    """What has no ports of its own: a text for each name that stands for two things."""
+    columns, outputs = netlist.columns, netlist.outputs
+    told = "%s is an input and an output"
+    yield from both(map(printed, columns), map(printed, outputs), told)
+    yield from both(ports_of(columns)[0], ports_of(outputs)[0], told)
+    for bits in [list(map(bit_of, nets)) for nets in (columns, outputs)]:
+        wide = [name for name, bit in bits if bit is not None]
+        yield from both([name for name, bit in bits if bit is None], wide, "%s is a net and a bus")
 
 
 def checked(netlist: Netlist) -> Netlist:
     """Refuses what has no ports of its own."""
-    kinds, told = (netlist.columns, netlist.outputs), "%s is an input and an output"
-    columns, outputs = kinds
-    refuse_both(map(printed, columns), map(printed, outputs), told)
-    refuse_both(ports_of(columns)[0], ports_of(outputs)[0], told)
-    for bits in [list(map(bit_of, nets)) for nets in kinds]:
-        nets = [name for name, bit in bits if bit is None]
-        refuse_both(nets, [name for name, bit in bits if bit is not None], "%s is a net and a bus")
+    for why in doubled(netlist):
+        raise BadText("%s: %s" % (netlist.path, why))
     return netlist
 
 
@@ -142,7 +147,7 @@ def clock_of(netlist: Netlist, asked: Optional[str]) -> str:
     if asked is None:
         return "".join(printed(net) for net in netlist.controls[:1])
     if asked in map(printed, netlist.columns):
-        raise BadText("%s is a column of the vectors" % asked)
+        raise BadText("%s: %s is a column of the vectors" % (netlist.path, asked))
     return asked
 
 

@@ -6,11 +6,13 @@ registers of the `end` line stand at the time after the last turn, where the out
 With --vectors the columns are there too. A value is `0`, `1` or `x`, there as in the trace.
 
 With --times the waveform is one of the latches: the file has a line `EVENT TURN TIME` for each
-firing, as `M0+ 2 7`, with the turns counted from 1. Each node is 1 while it is open, each register
-changes when its slave opens, each output when OUT opens, and each column when IN opens. A node that
-opens and closes at one time has a pulse without width. From the top of the repository:
+firing, as `M0+ 2 7`, with the turns counted from 1. `desync times` prints such lines, and --delays
+asks it for them. Each node is 1 while it is open, each register changes when its slave opens, each
+output when OUT opens, and each column when IN opens. A node that opens and closes at one time has a
+pulse without width. `M3:pc,u5/flag` is the master of the bus `pc` and of `u5.flag`; a `*` stands
+for all but three where a cluster has more than four such names. From the top of the repository:
 
-    tools/trace2vcd examples/toggle.blif examples/toggle.trace --times toggle.times
+    tools/trace2vcd examples/toggle.blif examples/toggle.trace --delays examples/toggle.delays
 
 Bits of one bus that stand beside one another are one variable, the first of them its rightmost bit:
 `q[0] q[1]` is `q [1:0]`, and `q[1] q[0]` is `q [0:1]`. A dot in a name opens a scope: `u5.f.a` is
@@ -19,15 +21,18 @@ the variable `a` of the scope `f` in the scope `u5`.
 
 from __future__ import annotations
 
+import re
 from typing import Iterator, Optional
 
-from desync_tools.clusters import Split, take_groups, take_mode
+from desync_tools.clusters import MOST_NAMED, Split, names_of, take_groups, take_mode
 from desync_tools.command import Parser, parser, put
 from desync_tools.netlist import Netlist, read_netlist
-from desync_tools.text import BadText, text_of
-from desync_tools.times import Firing, alternate, firings_of
+from desync_tools.text import Text, text_of
+from desync_tools.times import Firing, alternate, firings_of, take_times, times_of
 from desync_tools.traces import Turn, fitting, vectors_beside
 from desync_tools.waves import Parted, Scope, code, shown
+
+RANGE = re.compile(r"\[[0-9]+:[0-9]+\]")
 
 
 class Scopes:
@@ -84,7 +89,7 @@ class Timed:
 
     def lines(self, firings: list[Firing]) -> Iterator[str]:
         """The waveform: its head, and a line for each time and each change."""
-        yield from self.scopes.declared(self.split.nodes)
+        yield from self.scopes.declared(list(map(self.title, self.split.nodes)))
         yield "#0"
         yield from ("0" + own for own in self.codes.values())
         for part in (self.column, self.output, self.register):
@@ -96,6 +101,17 @@ class Timed:
                 yield "#%d" % now
             yield from self.changes(firing)
         yield "#%d" % (now + 1)
+
+    def title(self, node: str) -> str:
+        """The name of a node: that of a latch has the names of its registers, with no range, as a
+        reader would take it for that of the node, and with no dots, which would open scopes."""
+        if node[0] not in "MS":
+            return node
+        found = names_of(self.split.registers(int(node[1:])))
+        names = [RANGE.sub("", name).replace(".", "/") for name in found]
+        if len(names) > MOST_NAMED + 1:
+            names = names[:MOST_NAMED] + ["*"]
+        return "%s:%s" % (node, ",".join(names))
 
     def changes(self, firing: Firing) -> Iterator[str]:
         """The variables that change with a firing."""
@@ -114,20 +130,21 @@ class Timed:
             yield from self.register.taken(places, self.rows[firing.turn][1])
 
 
-def fitting_firings(text: str, split: Split, turns: int) -> list[Firing]:
+def fitting_firings(text: Text, split: Split, turns: int) -> list[Firing]:
     """The firings of a text, which are to be those of the nodes of a netlist and a trace."""
     firings = firings_of(text)
     known = {firing.event[:-1] for firing in firings}
+    whole = "%s by %s" % (split.netlist.path, split.how)
     for node in split.nodes:
         if node not in known:
-            raise BadText("the times have no %s, the netlist in these clusters has" % node)
+            raise text.fault("there is no %s, which %s has" % (node, whole))
     for node in sorted(known - set(split.nodes)):
         if node[0] in "MS" and node[1:].isdigit():
-            raise BadText("the times have %s, the netlist in these clusters has not" % node)
+            raise text.fault("there is %s, which %s has not" % (node, whole))
     most = max(firing.turn for firing in firings)
     if most > turns:
-        raise BadText("the times are of %d turns, the trace of %d" % (most, turns))
-    alternate(firings, split.nodes)
+        raise text.fault("the times are of %d turns, the trace of %d" % (most, turns))
+    alternate(text, firings, split.nodes)
     return firings
 
 
@@ -136,7 +153,7 @@ def words(name: str) -> Parser:
     taken.add_argument("netlist", help="the netlist in BLIF")
     taken.add_argument("trace", nargs="?", help="what desync run or clock printed")
     taken.add_argument("--vectors", metavar="FILE", help="the vectors of the run")
-    taken.add_argument("--times", metavar="FILE", help="a line EVENT TURN TIME for each firing")
+    take_times(taken)
     take_mode(taken)
     take_groups(taken)
     return taken
@@ -149,10 +166,12 @@ def main(argv: list[str]) -> int:
     vectors = None
     if asked.vectors is not None:
         vectors = vectors_beside(netlist, asked.vectors, rows)
-    if asked.times is None:
+    turns = len(rows) - 1
+    times = times_of(asked, turns, None)
+    if times is None:
         put("latin-1", waveform(netlist, rows, vectors))
         return 0
     split = Split(netlist, asked.clusters, asked.groups)
-    firings = fitting_firings(text_of(asked.times), split, len(rows) - 1)
+    firings = fitting_firings(times, split, turns)
     put("latin-1", Timed(split, rows, vectors).lines(firings))
     return 0

@@ -23,7 +23,7 @@ from typing import Any, Iterator
 from desync_tools.buses import buses
 from desync_tools.command import Parser, parser, put
 from desync_tools.netlist import Netlist, printed, read_netlist
-from desync_tools.text import BadText, as_bytes, file_text
+from desync_tools.text import BadText, as_bytes, file_text, shown
 from desync_tools.vcd import Wave, take_wave
 
 MOST = 65536
@@ -38,7 +38,7 @@ def places_of(netlist: Netlist, name: str) -> list[int]:
             return [place]
     found = [bus for bus in buses(netlist.columns) if bus.name == name]
     if not found:
-        raise BadText("there is no column %s" % name)
+        raise BadText("%s: there is no column %s" % (netlist.path, name))
     places = [bus.first + k for bus in found for k in range(bus.width)]
     return places[::-1]
 
@@ -49,7 +49,7 @@ def shares(netlist: Netlist, given: list[str]) -> list[float]:
     for word in given:
         parts = SHARE.match(word)
         if not parts or float(parts.group(2)) > 1:
-            raise BadText("this is no NAME=P with P from 0 to 1: %s" % word)
+            raise BadText("--p: this is no NAME=P with P from 0 to 1: %s" % word)
         for place in places_of(netlist, parts.group(1)):
             found[place] = float(parts.group(2))
     return found
@@ -61,12 +61,12 @@ def values(netlist: Netlist, given: list[str], turns: int) -> dict[tuple[int, in
     for word in given:
         parts = VALUE.match(word)
         if not parts:
-            raise BadText("this is no NAME=BITS@TURN: %s" % word)
+            raise BadText("--set: this is no NAME=BITS@TURN: %s" % word)
         places, bits, turn = places_of(netlist, parts.group(1)), parts.group(2), int(parts.group(3))
         if len(bits) != len(places):
-            raise BadText("%s has %d bits: %s" % (parts.group(1), len(places), word))
+            raise BadText("--set: %s has %d bits: %s" % (parts.group(1), len(places), word))
         if turn >= turns:
-            raise BadText("there is no turn %d: %s" % (turn, word))
+            raise BadText("--set: there is no turn %d: %s" % (turn, word))
         found.update(((turn, place), bit) for place, bit in zip(places, bits))
     return found
 
@@ -83,14 +83,15 @@ def vectors(
 
 def sampled(netlist: Netlist, asked: argparse.Namespace) -> Iterator[str]:
     """The values of the columns in a waveform before each edge of its clock."""
-    wave = Wave(as_bytes(asked.wave), file_text(asked.wave), asked.scope)
+    wave = Wave(file_text(asked.wave), asked.scope)
     names = [printed(net) for net in netlist.columns]
     rows = wave.turns(names, asked.clock, netlist.edge)
     most = MOST if asked.turns is None else asked.turns
     for turn, row in enumerate(rows):
         if turn == most:
             if asked.turns is None:
-                raise BadText("more than %d edges of %s: --turns" % (MOST, asked.clock))
+                told = (wave.name, MOST, asked.clock)
+                raise BadText("%s: more than %d edges of %s: --turns takes as many" % told)
             return
         yield row or "-"
 
@@ -126,7 +127,8 @@ def checked(taken: Parser, asked: argparse.Namespace) -> None:
         if asked.clock or asked.scope:
             taken.error("--clock and --scope go with --from")
     elif asked.clock is None:
-        taken.error("--from takes --clock, the clock of the test bench")
+        has = Wave(file_text(asked.wave), asked.scope).has_clocks()
+        taken.error("--from takes --clock, the clock of the test bench (%s)" % shown(has))
     elif asked.seed is not None or asked.p or asked.set:
         taken.error("--seed, --p and --set do not go with --from")
     if asked.turns is not None and not 0 <= asked.turns <= MOST:

@@ -6,7 +6,7 @@
 const find = name => document.getElementById(name);
 const isRegister = node => node !== "IN" && node !== "OUT";
 const ahead = edge => Number(edge[0][0] === "S");
-const HALF = 42, TALL = 19, UNIT = 18, RAIL = 26, NAMES = 150, LINE = 18, BESIDE = 120, MANY = 2000, LEAST = 0.55;
+const TALL = 19, UNIT = 18, RAIL = 26, NAMES = 150, LINE = 18, BESIDE = 120, MANY = 2000;
 
 const page = {
   log: told.log, at: 0, clock: 0, timer: null, out: null, known: null, address: null,
@@ -107,25 +107,6 @@ function put(into, name, attributes, text) {
   return into.appendChild(drawn(name, attributes, text));
 }
 
-// A line from the right of one box to the left of another, below the boxes where it leads back: the
-// level stretch of it, the bent pieces, and the middle, where its dots are.
-function route(from, to, lift) {
-  const [x1, y1] = [from[0] + HALF, from[1]], [x2, y2] = [to[0] - HALF - 2, to[1]];
-  if (x1 < x2) {
-    const bend = Math.min(60, (x2 - x1) / 2), middle = [(x1 + x2) / 2, (y1 + y2) / 2];
-    if (y1 === y2) return {level: [y1, x1, x2 - 8], bent: [[`M${x2 - 9},${y2}H${x2}`, x2]], middle};
-    const path = `M${x1},${y1}C${x1 + bend},${y1} ${x2 - bend},${y2} ${x2},${y2}`;
-    return {bent: [[path, x2, x1]], middle};
-  }
-  const low = Math.max(y1, y2) + 34 + lift;
-  return {
-    level: [low, x2 + 20, x1 - 20],
-    bent: [[`M${x1 - 20},${low}C${x1},${low} ${x1 + 34},${low} ${x1},${y1 + 8}`, null, x1],
-      [`M${x2 + 20},${low}C${x2},${low} ${x2 - 34},${low} ${x2},${y2 + 8}`, x2]],
-    middle: [(x1 + x2) / 2, low],
-  };
-}
-
 // One path along a whole route.
 function whole(way) {
   const [y, left, right] = way.level || [];
@@ -165,12 +146,28 @@ function marker(svg) {
   put(arrow, "path", {d: "M0,0L7,3L0,6", fill: "#777"});
 }
 
+// The picture by the room that there is, if it is another one by that; with a scrollbar there is
+// less room than before.
+function arranged() {
+  const net = find("net"), isFit = find("fit").checked;
+  for (let tries = 0; tries < 2; tries++) {
+    const room = isFit ? net.clientWidth : Infinity, laid = laidOut(told.places, room);
+    if (!page.laid || JSON.stringify(laid.band) !== JSON.stringify(page.laid.band)) {
+      page.laid = laid;
+      picture();
+    }
+    if (!isFit || net.clientWidth >= room) break;
+  }
+  showMissing();
+  showLines();
+}
+
 function picture() {
-  const [width, height] = told.size;
-  const svg = page.svg = drawn("svg", {viewBox: `0 0 ${width} ${height}`});
+  const [width, height] = page.laid.size;
+  const svg = page.svg = drawn("svg", {viewBox: `0 0 ${width} ${height}`, width, height});
   marker(svg);
   page.edges = told.edges.map((edge, number) => {
-    return {edge, way: route(told.places[edge[0]], told.places[edge[1]], number % 3 * 5)};
+    return {edge, way: route(page.laid, edge[0], edge[1], number % 3 * 5)};
   });
   page.pieces = pieces(page.edges.map(one => one.way));
   page.lines = put(svg, "g", {});
@@ -181,16 +178,6 @@ function picture() {
   page.boxes = new Map(told.nodes.map(node => [node, boxDrawn(svg, node)]));
   for (const node of told.nodes) titleDrawn(svg, node);
   find("net").replaceChildren(svg);
-  sized();
-}
-
-// The picture fits the page where its texts can still be read then; else it is as large as it was
-// made, and the reader scrolls.
-function sized() {
-  const [width, height] = told.size, room = find("net").clientWidth;
-  page.scale = find("fit").checked && room < width ? Math.max(LEAST, room / width) : 1;
-  page.svg.setAttribute("width", width * page.scale);
-  page.svg.setAttribute("height", height * page.scale);
 }
 
 // The arrows of a node, while the reader points at it.
@@ -202,8 +189,8 @@ function touched(node) {
 
 // What of the picture stands in view, and a little beside it.
 function inView() {
-  const net = find("net"), left = net.scrollLeft / page.scale - BESIDE;
-  const right = left + net.clientWidth / page.scale + 2 * BESIDE;
+  const net = find("net"), left = net.scrollLeft - BESIDE;
+  const right = left + net.clientWidth + 2 * BESIDE;
   return one => one.left <= right && left <= one.right;
 }
 
@@ -236,13 +223,13 @@ function extraOrders() {
 }
 
 function extraDrawn(svg, arc) {
-  const ends = arc.slice(0, 2).map(event => told.places[event.slice(0, -1)]);
-  const line = put(svg, "path", {d: whole(route(ends[0], ends[1], -8)), class: "order"});
+  const [from, to] = arc.slice(0, 2).map(event => event.slice(0, -1));
+  const line = put(svg, "path", {d: whole(route(page.laid, from, to, -8)), class: "order"});
   put(line, "title", {}, `${arc[0]} to ${arc[1]}, ${arc[2]} tokens`);
 }
 
 function boxDrawn(svg, node) {
-  const [x, y] = told.places[node];
+  const [x, y] = page.laid.places[node];
   const group = put(svg, "g", {class: "node", tabindex: 0, role: "button"});
   const tip = put(group, "title", {});
   const box = put(group, "rect", {class: "box", x: x - HALF, y: y - TALL, width: 2 * HALF, height: 2 * TALL});
@@ -259,11 +246,11 @@ function boxDrawn(svg, node) {
 
 function titleDrawn(svg, node) {
   if (node[0] === "S") return;
-  const [x, y] = told.places[node], title = told.titles[isRegister(node) ? node.slice(1) : node];
+  const [x, y] = page.laid.places[node], title = told.titles[isRegister(node) ? node.slice(1) : node];
   const text = title.length > 26 ? title.slice(0, 25) + "\u2026" : title;
   // IN stands at the edge of the picture.
   if (!isRegister(node)) return put(svg, "text", {x: x - HALF, y: y - TALL - 7, class: "title left"}, text);
-  const across = (x + told.places["S" + node.slice(1)][0]) / 2;
+  const across = (x + page.laid.places["S" + node.slice(1)][0]) / 2;
   put(svg, "text", {x: across, y: y - TALL - 7, class: "title"}, text);
 }
 
@@ -601,12 +588,17 @@ function begin() {
   window.onhashchange = () => go(Number(location.hash.slice(1)) || 0);
   find("net").onscroll = once(() => { showLines(); showDots(counts()); });
   find("wave").onscroll = once(showWaves);
-  find("fit").onchange = () => { sized(); showLines(); showDots(counts()); };
-  window.onresize = once(() => { sized(); showLines(); showDots(counts()); showWaves(); showLog(); });
+  find("fit").onchange = () => { arranged(); showBoxes(counts()); showDots(counts()); };
+  window.onresize = once(() => {
+    arranged();
+    showBoxes(counts());
+    showDots(counts());
+    showWaves();
+    showLog();
+  });
   page.waves = drawn("svg", {});
   find("wave").replaceChildren(page.waves);
-  picture();
-  showLines();
+  arranged();
   go(Number(location.hash.slice(1)) || 0);
 }
 
