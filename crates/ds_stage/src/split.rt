@@ -47,7 +47,7 @@ pub fn split_groups<'a>(
     mode: Mode,
     groups: &Groups,
 ) -> Result<Latches<'a>, Stop>
-    requires { AreDisjoint (length netlist.entry.now.registers) groups.now }
+    requires { AreDisjoint (length netlist.now.registers) groups.now }
     ensures { Answers (parted_stage file.now mode netlist.entry.now groups.now) Never result }
 {
     let clusters = clusters_by(alloc, file, netlist, mode, groups)?;

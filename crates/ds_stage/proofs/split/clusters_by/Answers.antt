@@ -13,7 +13,7 @@ returns-in-Ok c = (
   c.in-Ok.ensures.ok_few,
 )
 
-pub returns : goal.returns
-returns c =
+pub returns-in-Err : goal.returns-in-Err
+returns-in-Err c =
     cluster_stops c.args.file.now c.args.mode c.args.netlist.now c.args.groups.now c.in-Err.fault c.split_stop.result
     (subst (λ (groups : List (List ℕ)). IsGroupedFault c.args.netlist.now c.args.mode groups c.in-Err.fault) c.members.ensures c.in-Err.ensures.fault) c.split_stop.ensures
