@@ -62,7 +62,7 @@ line_more names clusters i low =
     ap (cluster_lines names 0) (take_more clusters i [] low)
     ∙ (line_behind names 0 (take i clusters) (get_or clusters i [])
     ∙ ap (λ (k : ℕ). cluster_lines names 0 (take i clusters) ++ cluster_line names k (get_or clusters i []))
-    (length-take-le i clusters (omega (low, arith))))
+    (let at : 0 + length (take i clusters) ≡ i = omega (arith, length-take-le i clusters (omega (low, arith))) in at))
 
 -- the name of a register is that of the net which it drives
 pub name_is : (c : Circuit) (r : ℕ) → r < length c.registers → register_of c r ≡ register_name (register_names c) r
