@@ -96,14 +96,14 @@ module _ (c : Circuit) (mode : Mode) (gs clusters : List (List ℕ)) (are : IsGr
     rises i (inl inside) = are.rising i [] inside
     rises i (inr past) =
         subst (λ (g : List ℕ). AllPairs (λ a b. a < b) g) (sym (get_or_past clusters i [] past))
-        (λ a b d below inside same. absurd (let none : b < 0 = inside in omega arith))
+        (λ a b d below inside. absurd (let none : b < 0 = inside in omega arith))
 
   -- the clusters are their own groups, by each mode
   own_groups : (other : Mode) → IsGroupedClustering c other clusters clusters
   own_groups other = record {
     each_once = are.each_once;
     together = λ a b within also. (
-      λ belong. elim belong [ inl both ↦ both | inr (apart, rest) ↦ absurd (apart (are.each_once.covered a within)) ],
+      λ belong. elim belong [ inl both ↦ both | inr (apart, also_apart, agree) ↦ absurd (apart (are.each_once.covered a within)) ],
       λ both. inl both,
     );
     some = are.some;
