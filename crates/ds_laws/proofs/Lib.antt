@@ -16,4 +16,5 @@ pub mod EarlyFault
 pub mod Ranked
 pub mod OneRequired
 pub mod SoFar
+pub mod Uncut
 pub mod Grouping
