@@ -166,3 +166,33 @@ still_flies run v l l' f f' n q node fired =
       near = q.near;
       enabled = q.enabled;
     }))
+
+-- what is enabled at what was seen arms the flight
+pub arms_enabled : (run : Run) (me : Sat) (nodes : List History) (i : ℕ) (h : History)
+    → me.0.run ≡ run → Keeps me nodes → get_elem? nodes i ≡ some h
+    → Enabled run (seen me.0) (next run h.node (seen me.0 h.node)) → Armed run me nodes h
+arms_enabled run me nodes i h run_is k at on =
+    let u : View = me.0 in let l : ℕ = h.node in let t = k.listed i h at in
+    let P : Run → Type 0 = λ r. Enabled r (seen u) (next r l (seen u l)) → Armed r me nodes h in
+    subst P run_is (λ on. let R : Run = u.run in let E : ℕ = next R l (seen u l) in
+    let below : turns R E (seen u l) < R.limit = omega (
+      arith,
+      on.0,
+      ap (λ (x : ℕ). turns R E (seen u x)) (node-next R l (seen u l)),
+    ) in record {
+      keeps = k;
+      run_is = refl;
+      held = t.has;
+      near = near-node me nodes l k t.has;
+      fired = t.fired;
+      ready = subst (λ (f : ℕ). Enabled R (seen u) (next R l f)) (sym t.fired) on;
+      room = record { turns = omega (arith, room_next u h t below); from = t.room.from };
+    }) on
+
+-- what is enabled of a node is enabled of the node of its history, in the run of the table
+pub enabled_by : (run at : Run) (v : View) (l : ℕ) (h : History) → at ≡ run → h.node ≡ l
+    → Enabled run (seen v) (next run l (seen v l))
+    → Enabled at (seen v) (next at h.node (seen v h.node))
+enabled_by run at v l h run_is node on =
+    subst (λ (r : Run). Enabled r (seen v) (next r h.node (seen v h.node))) (sym run_is)
+    (subst (λ (x : ℕ). Enabled run (seen v) (next run x (seen v x))) (sym node) on)

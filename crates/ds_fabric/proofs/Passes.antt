@@ -18,7 +18,7 @@ use Rattle.ds_rule.specs.Rule.{holds, tickets, seen}
 use Rattle.ds_rule.specs.Plays.{Sat, after_depart, after_draw, after_publish}
 use Rattle.ds_rule.specs.declared.view.View.{View}
 use Rattle.ds_rule.proofs.Lists.{same_at, set_there, apart_set, at_below, has_below}
-use Rattle.ds_rule.proofs.EventLaws.{node-next, turns-next, turns-other, turns_up, event_below}
+use Rattle.ds_rule.proofs.EventLaws.{node-next, turns-next, turns-other, event_below}
 use Rattle.ds_rule.proofs.EventLaws.{even_opens, next-opens, turns-opening, node-opening}
 use Rattle.ds_fabric.specs.declared.history.History.{History}
 use Rattle.ds_fabric.specs.Looks.{LooksOn}

@@ -1,11 +1,11 @@
 -- Where a pass holds all nodes, a step fires exactly what is enabled.
-use Rattle.std.proofs.Common.{◌≡◌, ◌↔◌, ℕ, ◌<◌, true, refl, sym, ap, ◌∙◌, subst, arith}
+use Rattle.std.proofs.Common.{◌≡◌, ℕ, ◌<◌, refl, sym, ap, ◌∙◌, subst, arith}
 use Rattle.std.proofs.lemmas.Bool.{false≢true}
 use mathlib.Core.Logic.{dite}
 use native.Mathlib.Decide.{ℕ_discrete}
 use Rattle.ds_rule.specs.Run.{Run, node_of, next, turns, Enabled}
 use Rattle.ds_rule.specs.Sound.{IsSound}
-use Rattle.ds_rule.specs.Rule.{holds, seen}
+use Rattle.ds_rule.specs.Rule.{seen}
 use Rattle.ds_rule.specs.declared.view.View.{View}
 use Rattle.ds_rule.proofs.EventLaws.{node-next}
 use Rattle.ds_fabric.specs.declared.step.Step.{Step}

@@ -35,6 +35,11 @@ pub record FiresNext (run : Run) (v w : View) (l event turn ticket : ℕ) : Type
   pub seen_up : (x : ℕ) → seen v x ≤ seen w x
   pub looks_up : v.looks ≤ w.looks
 
+-- the next event of the node fired, with this ticket
+abbrev pub FiresWith : Run → View → View → ℕ → ℕ → Type 0
+FiresWith run v w l ticket =
+    FiresNext run v w l (next run l (seen v l)) (done run v l + 1) ticket
+
 -- what a call of `step` says of the pass before and after it: it has not fired yet where a source
 -- has not fired often enough and the event is below its limit, and all is done where it is not
 abbrev pub Stepped : Run → View → ℕ → Step → View → Type 0

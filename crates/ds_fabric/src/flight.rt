@@ -15,7 +15,7 @@ ghost use Rattle.ds_fabric.specs.Told.{new_row};
 ghost use Rattle.ds_fabric.specs.Noted.{HasFired};
 ghost use Rattle.ds_fabric.specs.Into.{AreInto};
 ghost use Rattle.ds_fabric.specs.Showing.{Keeps};
-ghost use Rattle.ds_fabric.specs.Stepped.{Stepped};
+ghost use Rattle.ds_fabric.specs.Stepped.{FiresWith, Stepped};
 ghost use Rattle.ds_fabric.specs.declared.history.History.{History};
 ghost use Rattle.ds_fabric.specs.Flown.{HasOpened, HasRoomFor, HasRoomToFire};
 
@@ -72,6 +72,35 @@ pub fn advance<J: Rows, C: Compute>(
         turn,
         ticket,
     }
+}
+
+/// Fires the next event of the history's node, which is enabled at what was seen: its sources are
+/// not looked at.
+pub fn fire_enabled<J: Rows, C: Compute>(
+    ground: &Ground<J, C>,
+    seat: &mut Seat<u8, View>,
+    history: &mut History,
+    scratch: &mut Scratch,
+) -> u64
+    requires table { seat.old.table_id ≡ ground.now.board.now.table_id }
+    requires remembers { Remembers (C.memory ground.now.openings.now) scratch.old }
+    requires run { seat.old.me.0.run ≡ ground.now.run.now }
+    requires keeps { (nodes : List History) × (i : ℕ) × Keeps seat.old.me nodes
+        × (get_elem? nodes i ≡ some history.old) }
+    requires enabled { Enabled ground.now.run.now (seen seat.old.me.0)
+        (next ground.now.run.now history.old.node (seen seat.old.me.0 history.old.node)) }
+
+    ensures table { seat.new.table_id ≡ seat.old.table_id }
+    ensures fires { FiresWith ground.now.run.now seat.old.me.0 seat.new.me.0 history.old.node
+        result }
+    ensures keeps { (nodes : List History) (i : ℕ) → Keeps seat.old.me nodes
+        → get_elem? nodes i ≡ some history.old → Keeps seat.new.me (slice_set nodes i history.new) }
+    ensures node { history.new.node ≡ history.old.node }
+    ensures same { (seat.new.me.0.run ≡ seat.old.me.0.run)
+        × (seat.new.me.0.holds ≡ seat.old.me.0.holds) }
+    ensures remembers { Remembers (C.memory ground.now.openings.now) scratch.new }
+{
+    fire(ground, seat, history, scratch)
 }
 
 // Fires the next event of the node: what was seen is enough for it.

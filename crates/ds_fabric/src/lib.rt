@@ -4,7 +4,8 @@
 //! a table in which nothing has fired, and the pass of all nodes; `deal` and `gather` cut and join
 //! passes; `step` fires the next event of a node where the counts that it loads are enough, and
 //! says else which arc lacks tokens, in the pass's own scratch, and `step_in` in one that is lent,
-//! for the small passes of `deal_bare`; `finish` ends the run. A `Record` has the tickets of each
+//! for the small passes of `deal_bare`; `fire_due` fires what is known to be enabled, and looks at
+//! no arc; `finish` ends the run. A `Record` has the tickets of each
 //! event, which are the places of one legal list, and the rows of each node. How the row of a node
 //! comes from those of its producers is a `Compute`, which says what a scratch remembers, and which
 //! rows it has learnt: these are not read. Nothing is promised of time, or which pass fires what.
@@ -17,6 +18,7 @@ mod compute;
 mod counts;
 mod events;
 mod fabric;
+mod fire_due;
 mod flight;
 mod ground;
 mod hands;

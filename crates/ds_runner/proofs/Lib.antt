@@ -7,6 +7,7 @@ pub mod Sums
 pub mod Tickets
 pub mod Firings
 pub mod Work
+pub mod FiringOrders
 pub mod Visits
 pub mod Hired
 pub mod Borders

@@ -4,4 +4,5 @@ pub mod Shown
 pub mod Whole
 pub mod Stopped
 pub mod Work
+pub mod FiringOrder
 pub mod Parts

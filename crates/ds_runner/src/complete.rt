@@ -1,14 +1,17 @@
 //! What the caller does when all passes are back: it fires what is left, alone.
-ghost use Rattle.std.specs.Prelude.{◌≡◌, ◌<◌, ◌≤◌, ◌+◌, ℕ, cond, false};
+ghost use Rattle.std.specs.Prelude.{◌≡◌, ◌<◌, ◌≤◌, ◌+◌, ℕ, cond, false, length};
 ghost use Rattle.ds_rule.specs.Run.{node_of, count};
 ghost use Rattle.ds_rule.specs.Rule.{seen};
 ghost use Rattle.ds_rule.specs.Sound.{IsSound};
 ghost use Rattle.ds_rule.specs.Progress.{IsRunAccepted};
 ghost use Rattle.ds_fabric.specs.Showing.{Belongs};
+ghost use Rattle.ds_runner.specs.FiringOrder.{IsFiringOrder};
 ghost use Rattle.ds_runner.specs.Work.{HasFrom, Moved, Advances, AdvancesBelow, all_tickets};
 
+use crate::in_order::fire_turns;
 use crate::site::Site;
 use crate::unit::unit;
+use ds_base::EventId;
 use ds_fabric::{Compute, Pass, Step};
 use ds_outside::Gate;
 use ds_rule::Rows;
@@ -21,8 +24,30 @@ pub struct Caller {
 }
 
 /// Fires each event as often as it may, with a pass that holds all nodes, until the caller has
-/// nothing left.
+/// nothing left: in this order, where there is one, and what that leaves by rounds.
 pub fn complete<J: Rows, C: Compute, G: Gate>(
+    site: &Site<'_, '_, J, C, G>,
+    pass: &mut Pass,
+    order: &[EventId],
+    caller: Caller,
+)
+    requires accepted { IsSound site.now.run × IsRunAccepted site.now.run }
+    requires fits { Belongs site.now pass.old }
+    requires all { HasFrom pass.old.view 0 }
+    requires order { 0 < length order.now → IsFiringOrder site.now.run order.now }
+    ensures moved { Moved site.now.memory pass.old pass.new }
+    ensures most { all_tickets pass.new.view ≤ all_tickets pass.old.view + caller.rest }
+    ensures done { all_tickets pass.new.view < all_tickets pass.old.view + caller.rest
+        → (e : ℕ) → node_of site.now.run e < site.now.run.nodes
+        → site.now.run.limit ≤ count site.now.run (seen pass.new.view) e }
+{
+    let mut own = caller;
+    fire_turns(site, pass, order, &mut own);
+    fire_rounds(site, pass, own);
+}
+
+// The same by rounds over all nodes.
+fn fire_rounds<J: Rows, C: Compute, G: Gate>(
     site: &Site<'_, '_, J, C, G>,
     pass: &mut Pass,
     caller: Caller,

@@ -5,6 +5,7 @@ ghost use Rattle.std.specs.Prelude.{slice_index_or};
 ghost use Rattle.ds_rule.specs.Sound.{IsSound};
 ghost use Rattle.ds_rule.specs.Progress.{IsRunAccepted};
 ghost use Rattle.ds_fabric.specs.Showing.{Belongs, IsFabricBegun};
+ghost use Rattle.ds_runner.specs.FiringOrder.{IsFiringOrder};
 ghost use Rattle.ds_runner.specs.Work.{HasFrom, HasPassOfEach, IsWithin, IsUnfired, all_tickets};
 ghost use Rattle.ds_runner.specs.Work.{quota_of};
 ghost use Rattle.ds_runner.specs.Stopped.{IsRunRecord};
@@ -13,6 +14,7 @@ ghost use Rattle.ds_runner.specs.declared.worker.Worker.{Worker};
 use crate::budget::Budget;
 use crate::complete::{Caller, complete};
 use crate::drive::drive;
+use crate::firing_order::firing_order;
 use crate::gather::gather;
 use crate::gear::Gear;
 use crate::hire::hire;
@@ -20,7 +22,7 @@ use crate::parts::work_of;
 use crate::rest::rest;
 use crate::site::Site;
 use crate::worker::Worker;
-use ds_base::OutOfMemory;
+use ds_base::{EventId, OutOfMemory};
 use ds_fabric::{Compute, Fabric, Pass, Record};
 use ds_outside::Gate;
 use ds_rule::{Layout, Rows};
@@ -60,6 +62,7 @@ pub fn run<R: Threads + Sync, J: Rows + Sync, C: Compute + Sync, G: Gate>(
     requires jobs { (0 < workers.now.jobs) × (workers.now.jobs ≤ 64) }
     ensures { IfOk result (IsRunRecord quota workers.now.jobs run.now) }
 {
+    let order = order_for(alloc, run, workers.jobs, quota)?;
     let (fabric, mut pass) = Fabric::build(alloc, run, openings)?;
     let site = Site {
         fabric: &fabric,
@@ -68,8 +71,25 @@ pub fn run<R: Threads + Sync, J: Rows + Sync, C: Compute + Sync, G: Gate>(
     };
     let number = share_out(alloc, &site, &mut pass, workers, quota)?;
     let rest = rest(run, &pass, quota);
-    complete(&site, &mut pass, Caller { number, rest });
+    complete(&site, &mut pass, order.as_slice(), Caller { number, rest });
     Ok(fabric.finish(pass))
+}
+
+// In which order the caller fires a whole run that it fires alone. There is none for others.
+fn order_for<J: Rows>(
+    alloc: Global,
+    run: &Layout<J>,
+    jobs: u32,
+    quota: Option<u64>,
+) -> Result<Vec<EventId>, OutOfMemory>
+    requires { IsSound run.now }
+    ensures { IfOk result (λ v. 0 < length v.items → IsFiringOrder run.now v.items) }
+{
+    if jobs == 1 && quota.is_none() {
+        firing_order(alloc, run)
+    } else {
+        Ok(Vec::new(alloc))
+    }
 }
 
 // Shares the run among workers, where there are several, and two nodes or more. The number of the

@@ -1,4 +1,4 @@
-use Rattle.std.proofs.Common.{◌+◌, ℕ, arith, ap}
+use Rattle.std.proofs.Common.{ℕ, arith, ap}
 use Rattle.std.proofs.Common.{length, length-append}
 use Rattle.ds_rule.specs.Run.{Run}
 use Rattle.ds_fabric.specs.Told.{new_row}

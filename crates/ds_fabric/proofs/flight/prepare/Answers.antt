@@ -1,5 +1,5 @@
-use Rattle.std.proofs.Common.{rules, ◌≡◌, ◌+◌, ◌/◌, ◌%◌, ◌++◌, ◌∙◌, ◌≤◌, ℕ, List, ap, arith, sym, subst}
-use Rattle.std.proofs.Common.{refl, true, false, []}
+use Rattle.std.proofs.Common.{◌≡◌, ◌+◌, ◌/◌, ◌++◌, ◌∙◌, ℕ, List, ap, arith, sym, subst}
+use Rattle.std.proofs.Common.{refl, true, []}
 use Rattle.std.proofs.lemmas.Bool.{false≢true}
 use Rattle.ds_rule.specs.Run.{Run, next, opens, opened}
 use Rattle.ds_rule.specs.Rows.{row}

@@ -1,9 +1,9 @@
-use Rattle.std.proofs.Common.{◌≡◌, ◌+◌, ◌%◌, ◌^◌, ◌∙◌, ℕ, ap, arith, sym, subst}
+use Rattle.std.proofs.Common.{◌+◌, ◌%◌, ◌^◌, ◌∙◌, ℕ, arith, sym, subst}
 use mathlib.Core.Option.{none}
 use Rattle.atomic_table.specs.Table.{step, Allows}
 use Rattle.ds_rule.specs.Run.{Run}
 use Rattle.ds_rule.specs.Rule.{Lawful}
-use Rattle.ds_rule.specs.Plays.{Sat, after_draw, drew, published}
+use Rattle.ds_rule.specs.Plays.{Sat, drew, published}
 use Rattle.ds_rule.proofs.PlaceLaws.{counts_inside}
 use Rattle.ds_rule.proofs.Draws.{draws}
 use Rattle.ds_fabric.proofs.Flights.{few, lands}

@@ -1,11 +1,22 @@
-use Rattle.ds_runner.proofs.Work.{rounds_end, shrinks}
+use Rattle.std.proofs.Common.{arith}
+use Rattle.ds_runner.proofs.FiringOrders.{still_has}
+use Rattle.ds_runner.proofs.Work.{moved_on, still_belongs}
 use Rattle.ds_runner.proofs.complete.complete.Goals as goal
 
-pub rounds-smaller : goal.rounds-smaller
-rounds-smaller g c = shrinks c.args.site.now.run c.rounds.pass.view c.go_round-busy.new.pass.view c.go_round-busy.result
-    c.go_round-busy.ensures.told c.if-not-busy.false
+pub fire_rounds-requires-clause-fits : goal.fire_rounds-requires-clause-fits
+fire_rounds-requires-clause-fits g c κs within =
+    still_belongs c.args.site.now c.args.pass.now c.fire_turns.new.pass c.requires.fits c.fire_turns.ensures.moved
 
-pub returns-then-not-busy-clause-done : goal.returns-then-not-busy-clause-done
-returns-then-not-busy-clause-done g c short e near = rounds_end c.args.site.now.run c.requires.accepted.0 c.requires.accepted.1
-    c.rounds.pass.view c.go_round-busy.new.pass.view c.go_round-busy.result c.go_round-busy.ensures.told
-    c.if-not-busy.true e near
+pub fire_rounds-requires-clause-all : goal.fire_rounds-requires-clause-all
+fire_rounds-requires-clause-all g c κs within =
+    still_has c.args.site.now.memory c.args.pass.now c.fire_turns.new.pass c.requires.all c.fire_turns.ensures.moved
+
+pub returns-clause-moved : goal.returns-clause-moved
+returns-clause-moved g c = moved_on c.args.site.now.memory c.args.pass.now c.fire_turns.new.pass c.fire_rounds.new.pass
+    c.fire_turns.ensures.moved c.fire_rounds.ensures.moved
+
+pub returns-clause-most : goal.returns-clause-most
+returns-clause-most g c = omega (arith, c.fire_rounds.ensures.most, c.fire_turns.ensures.fired)
+
+pub returns-clause-done : goal.returns-clause-done
+returns-clause-done g c short = c.fire_rounds.ensures.done (omega (arith, short, c.fire_turns.ensures.fired))

@@ -1,7 +1,8 @@
-use Rattle.std.proofs.Common.{subst, sym}
+use Rattle.std.proofs.Common.{◌≡◌, ℕ, List, ap, arith, length, subst, sym}
 use Rattle.ds_rule.specs.Run.{Run}
 use Rattle.ds_rule.specs.Sound.{IsSound}
 use Rattle.ds_fabric.specs.Showing.{IsFabricBegun}
+use Rattle.ds_runner.specs.FiringOrder.{IsFiringOrder}
 use Rattle.ds_runner.specs.Stopped.{IsRunRecord}
 use Rattle.ds_runner.proofs.Ends.{finished, still_holds}
 use Rattle.ds_runner.proofs.Work.{still_belongs}
@@ -27,3 +28,10 @@ returns g c = let begun = c.in_ok-fabric.ensures in let pass = c.in_ok-number.en
     (finished c.args.quota c.args.workers.now.jobs c.in_ok-fabric.fabric c.share_out.new.pass c.complete.new.pass c.finish.result
     c.rest-rest.result (subst IsSound (sym begun.run_is) c.requires.sound) c.requires.jobs.0 pass.ok.0 pass.ok.1 pass.ok_few
     c.rest-rest.ensures done.moved done.most done.done c.finish.ensures.same c.finish.ensures.legal c.finish.ensures.counted)
+
+pub complete-requires-clause-order : goal.complete-requires-clause-order
+complete-requires-clause-order g c κs within filled =
+    let same : c.as_slice.result.now ≡ c.in_ok-order.order.items = c.as_slice.ensures.value in
+    subst (IsFiringOrder c.in_ok-fabric.fabric.run) (sym same)
+    (subst (λ (r : Run). IsFiringOrder r c.in_ok-order.order.items) (sym c.in_ok-fabric.ensures.run_is)
+    (c.in_ok-order.ensures (omega (arith, filled, ap (λ (xs : List ℕ). length xs) same))))

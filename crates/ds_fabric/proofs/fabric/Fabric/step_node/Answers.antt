@@ -1,7 +1,5 @@
 use Rattle.std.proofs.Common.{◌≡◌, ◌∙◌, ℕ, List, ap, sym, subst, arith, length}
 use Rattle.std.proofs.Common.{set}
-use mathlib.Core.Option.{some}
-use lib.ListN.{get_elem?}
 use Rattle.ds_rule.specs.Run.{Run}
 use Rattle.ds_fabric.specs.Base.{Base}
 use Rattle.ds_fabric.specs.Indexed.{IsIndexed}
@@ -10,10 +8,7 @@ use Rattle.ds_fabric.specs.Stepped.{Stepped, FiresIfEnabled}
 use Rattle.ds_rule.specs.declared.view.View.{View}
 use Rattle.ds_fabric.proofs.Steps.{fires_if_enabled}
 use Rattle.ds_fabric.specs.declared.history.History.{History}
-use Rattle.ds_fabric.proofs.Finds.{indexed_same, stands_same, stands_below}
-use Rattle.std.proofs.Common.{get_or}
-use Rattle.atomic_table.proofs.Lists.{at_index}
-use Rattle.ds_rule.proofs.Lists.{at_below, same_at}
+use Rattle.ds_fabric.proofs.Finds.{indexed_same, node-found, stands_same, stands_below, there}
 use Rattle.ds_fabric.proofs.fabric.Fabric.step_node.Given
 use Rattle.ds_fabric.proofs.fabric.Fabric.step_node.Goals as goal
 use Rattle.ds_fabric.proofs.fabric.Fabric.step_node.Goals.{After-advance}
@@ -38,14 +33,6 @@ index_mut-requires g c =
     let b = stands_below c.args.nodes.now.items c.as_slice-held.result.now c.find-at.result
     c.index-number.result c.as_slice-held.ensures.value c.find-at.ensures in omega (arith, b)
 
--- the history that was found is one of the pass
-there : (ns zs : List History) (i l : ℕ) (h : History) → zs ≡ ns → (x : History)
-    × (get_elem? zs i ≡ some x) × (x.node ≡ l)
-    → h ≡ get_or ns i h → get_elem? ns i ≡ some h
-there ns zs i l h e f is =
-    at_index ns i h (at_below ns i f.0 (subst
-    (λ (xs : List History). get_elem? xs i ≡ some f.0) e f.1)) is
-
 pub advance-requires-clause-run : goal.advance-requires-clause-run
 advance-requires-clause-run g c =
     c.requires.table.1 ∙ sym (ap (λ (x : Base). x.run) c.self.view_is)
@@ -58,14 +45,6 @@ advance-requires-clause-keeps g c = (
   there c.args.nodes.now.items c.as_slice-held.result.now c.find-at.result c.index-number.result
       c.index_mut.result.now c.as_slice-held.ensures.value c.find-at.ensures c.index_mut.ensures.value,
 )
-
--- the node of the history that was found
-node-found : (ns zs : List History) (i l node : ℕ) (h : History) → zs ≡ ns → l ≡ node
-    → get_elem? ns i ≡ some h
-    → (x : History) × (get_elem? zs i ≡ some x) × (x.node ≡ l) → h.node ≡ node
-node-found ns zs i l node h e n at f =
-    ap (λ (x : History). x.node) (same_at ns i h f.0 at
-    (subst (λ (xs : List History). get_elem? xs i ≡ some f.0) e f.1)) ∙ (f.2 ∙ n)
 
 pub returns-clause-pass : goal.returns-clause-pass
 returns-clause-pass g c room p =

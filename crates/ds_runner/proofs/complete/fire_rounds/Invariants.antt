@@ -1,6 +1,6 @@
 use Rattle.std.proofs.Common.{◌≡◌, ◌+◌}
 use Rattle.ds_runner.specs.Work.{Moved, left, all_tickets}
-use Rattle.ds_runner.proofs.complete.complete.Given as goal
+use Rattle.ds_runner.proofs.complete.fire_rounds.Given as goal
 
 abbrev pub invariant-rounds : goal.invariant-rounds
 invariant-rounds g l = Moved l.site.memory l.fn.pass l.pass

@@ -1,0 +1,81 @@
+//! The firing of an event that is known to be enabled: no arc is looked at.
+ghost use Rattle.std.specs.Prelude.{ℕ, ◌≡◌, true, length, vec_capacity};
+ghost use Rattle.ds_base.specs.Scratch.{Remembers};
+ghost use Rattle.ds_rule.specs.Run.{next, Enabled};
+ghost use Rattle.ds_rule.specs.Rule.{holds, seen};
+ghost use Rattle.ds_fabric.specs.Stepped.{FiresWith};
+ghost use Rattle.ds_fabric.specs.Showing.{Belongs, IsPass, Stays};
+
+use crate::compute::Compute;
+use crate::fabric::Fabric;
+use crate::flight::fire_enabled;
+use crate::ground::Ground;
+use crate::history::History;
+use crate::pass::Pass;
+use crate::places::find;
+use atomic_table::Seat;
+use ds_base::{LatchId, Scratch};
+use ds_rule::{Rows, View};
+
+impl<'a, J: Rows, C: Compute> Fabric<'a, J, C> {
+    /// Fires the next event of the node, which is enabled at what the pass has seen: no source of
+    /// it is looked at. The ticket. It takes no memory and waits for nobody.
+    pub fn fire_due(&self, pass: &mut Pass, node: LatchId) -> u64
+        requires fits { Belongs self.now pass.old }
+        requires held { holds pass.old.view node ≡ true }
+        requires due { Enabled self.now.run (seen pass.old.view)
+            (next self.now.run node (seen pass.old.view node)) }
+
+        ensures same { Stays self.now.memory pass.old pass.new }
+        ensures fires { FiresWith self.now.run pass.old.view pass.new.view node result }
+    {
+        self.fire_node(
+            &mut pass.seat,
+            &mut pass.nodes,
+            &pass.places,
+            node,
+            &mut pass.scratch,
+        )
+    }
+
+    // Fires the next event of the node of a pass, whose parts these are, in this scratch.
+    fn fire_node(
+        &self,
+        seat: &mut Seat<u8, View>,
+        nodes: &mut Vec<History>,
+        places: &Vec<usize>,
+        node: LatchId,
+        scratch: &mut Scratch,
+    ) -> u64
+        requires table { (seat.old.table_id ≡ self.now.table_id)
+            × (seat.old.me.0.run ≡ self.now.run) }
+        requires pass { (room : ℕ) × IsPass seat.old.me room (vec_capacity nodes.old)
+            nodes.old.items places.now.items }
+        requires held { holds seat.old.me.0 node ≡ true }
+        requires remembers { Remembers self.now.memory scratch.old }
+        requires due { Enabled self.now.run (seen seat.old.me.0)
+            (next self.now.run node (seen seat.old.me.0 node)) }
+
+        ensures same { (seat.new.table_id ≡ seat.old.table_id)
+            × (seat.new.me.0.run ≡ seat.old.me.0.run)
+            × (seat.new.me.0.holds ≡ seat.old.me.0.holds)
+            × (length nodes.new.items ≡ length nodes.old.items) }
+        ensures remembers { Remembers self.now.memory scratch.new }
+        ensures fires { FiresWith self.now.run seat.old.me.0 seat.new.me.0 node result }
+        ensures pass { (room : ℕ) → IsPass seat.old.me room (vec_capacity nodes.old)
+            nodes.old.items places.now.items
+            → IsPass seat.new.me room (vec_capacity nodes.new) nodes.new.items places.now.items }
+    {
+        let number = node.index();
+        let held = nodes.as_slice();
+        let at = find(held, places.as_slice(), number);
+        let ground = Ground {
+            board: &self.table.shared,
+            run: self.run,
+            openings: self.openings,
+            incoming: &self.incoming,
+            index: &self.index,
+        };
+        fire_enabled(&ground, seat, &mut nodes[at], scratch)
+    }
+}
