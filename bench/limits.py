@@ -115,9 +115,10 @@ def short_name(number):
 
 
 def random_arcs(signals, each, seed):
-    """So many arcs from each event: source, target, and tokens. Those without tokens, four in five of
-    those
-    that go on, lead in no circle."""
+    """So many arcs from each event: source, target, and tokens.
+
+    Four in five of those that lead on have no tokens, so that these lead in no circle.
+    """
     draw = random.Random(seed)
     events = 2 * signals
     for source in range(events):
