@@ -12,7 +12,7 @@ _desync() {
     local word=${COMP_WORDS[COMP_CWORD]} command=${COMP_WORDS[1]} option= names=0 given= plain= i
     COMPREPLY=()
     if [ "$COMP_CWORD" -eq 1 ]; then
-        local commands="run clock check graph replay accept demo period clusters"
+        local commands="run clock check graph replay accept demo period clusters rate times"
         COMPREPLY=($(compgen -W "$commands" -- "$word"))
         return
     fi
@@ -52,6 +52,8 @@ _desync() {
         accept) options="--clusters --groups --slack" most=2 ;;
         period) options="--clusters --graph --groups --slack" most=2 ;;
         clusters) options="--clusters --groups" most=1 ;;
+        rate) most=2 ;;
+        times) options="--clusters --graph --groups --slack" most=2 ;;
         demo) options=--jobs ;;
     esac
     if [[ $word == -* && -z $plain ]]; then

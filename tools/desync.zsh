@@ -8,7 +8,8 @@ _desync_command() {
         'check:look whether it is accepted' 'graph:write its controller graph'
         'replay:fire a log' 'accept:look whether a graph is accepted'
         'demo:run a design made from a number' 'period:write the exact period'
-        'clusters:list its clusters'
+        'clusters:list its clusters' 'rate:write the exact period of a graph'
+        'times:write when each event fires'
     )
     _describe command commands
 }
@@ -33,7 +34,7 @@ _desync_options() {
                 '--transparent[show what open latches let through]' $files
             ;;
         accept) _arguments $clusters $groups $slack $files ;;
-        period) _arguments $clusters $graph $groups $slack $files ;;
+        period | times) _arguments $clusters $graph $groups $slack $files ;;
         clusters) _arguments $clusters $groups $files ;;
         demo) _arguments $jobs $files ;;
         *) _arguments $files ;;

@@ -54,7 +54,7 @@ fn put_turns<P: Pen>(
 {
     for k in 0..turns {
         schedule.next();
-        put_turn(plan, order, k + 1, schedule, pen);
+        put_turn(plan, order, k + 1, &*schedule, pen);
     }
 }
 

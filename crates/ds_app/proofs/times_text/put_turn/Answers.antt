@@ -1,4 +1,5 @@
-use Rattle.std.proofs.Common.{◌≡◌, ◌∙◌, ◌<◌, ◌+◌, ◌++◌, ◌∷◌, ℕ, List, [], length, take, arith, ap, sym, subst}
+use Rattle.std.proofs.Common.{◌≡◌, ◌∙◌, ◌<◌, ◌+◌, ◌++◌, ◌∷◌, ℕ, List, [], length, get_or, take, arith, ap, sym, subst}
+use Rattle.std.specs.Prelude.{All}
 use Rattle.std.proofs.lemmas.List.{take_all, take_more}
 use Rattle.std.specs.List.{flat_map}
 use Rattle.ds_outside.proofs.Pens.{puts_nothing, puts_on, with_put}
@@ -8,13 +9,19 @@ use Rattle.ds_app.proofs.TimesTexts.{event_more}
 use Rattle.ds_app.proofs.times_text.put_turn.Goals as goal
 
 -- an event of the order is one of the graph
-event_inside : goal.put_time-requires
-event_inside g c =
+inside : (order : List ℕ) (count i v : ℕ) → All (λ v. v < count) order → i < length order → v ≡ get_or order i v → v < count
+inside order count i v all below at = subst (λ (u : ℕ). u < count) (sym at) (all i v below)
+
+pub time-time-requires-clause-inside : goal.time-time-requires-clause-inside
+time-time-requires-clause-inside g c =
     let below : c.loop-i.i < length c.args.order.now = omega arith in
-    subst (λ (v : ℕ). v < length c.args.plan.now.graph.events) (sym c.index-order-i.is) (c.requires.order c.loop-i.i c.index-order-i.result below)
+    let low = inside c.args.order.now (length c.args.plan.now.graph.events) c.loop-i.i c.index-order-i.result c.requires.order below c.index-order-i.is in
+    omega (arith, low, c.requires.events)
 
 pub put_time-requires : goal.put_time-requires
-put_time-requires = event_inside
+put_time-requires g c =
+    let below : c.loop-i.i < length c.args.order.now = omega arith in
+    inside c.args.order.now (length c.args.plan.now.graph.events) c.loop-i.i c.index-order-i.result c.requires.order below c.index-order-i.is
 
 pub loop-i-init : goal.loop-i-init
 loop-i-init g c = record { written = λ turns time low schedule. puts_nothing (g.P.Pen.writing c.args.pen.now) }
@@ -29,9 +36,9 @@ loop-i-preserved g c =
     take_more order i v below ∙ ap (λ (u : ℕ). take i order ++ u ∷ []) (sym c.index-order-i.is) in
     record {
       written = λ turns time low schedule.
-          let at = c.time.ensures turns time (omega (arith, low, c.requires.begun.1)) schedule
+          let at = c.time-time.ensures turns time (omega (arith, low, c.requires.begun.1)) schedule
               ∙ ap (time v) c.requires.begun.1 in
-          with_put (event_more c.args.plan.now.graph time order c.args.turn i v c.time.result below more at)
+          with_put (event_more c.args.plan.now.graph time order c.args.turn i v c.time-time.result below more at)
           (puts_on (c.loop-i.invariant.written turns time low schedule) c.put_time.ensures);
     }
 
