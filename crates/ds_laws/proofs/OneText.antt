@@ -38,7 +38,7 @@ use Rattle.ds_stage.specs.StreamStage.{most_vectors, streamed_stage}
 use Rattle.ds_stage.specs.PeriodStage.{delays_stage}
 use Rattle.ds_stage.specs.TimesStage.{scheduled_stage}
 use Rattle.ds_stage.proofs.PeriodStages.{delays_exclusive}
-use Rattle.ds_stage.proofs.TimesStages.{times_stage as timed_run_stage}
+use Rattle.ds_stage.proofs.TimesStages.{last_times_stage}
 use Rattle.ds_stage.proofs.Exclusive.{netlist_exclusive}
 use Rattle.ds_stage.proofs.OneGraph.{one_graph}
 use Rattle.ds_stage.proofs.PlanAccepted.{planned_circuit, planned_is_plan}
@@ -177,7 +177,7 @@ module _ (faults : FaultsAreRefused) (one : OneGroupedClustering) (held : List �
       behind_netlist job.net told_net (times_stage held job) (λ c is accepts.
       then_one (planned_stage held job.net job.graph job.groups job.clusters job.slack c) (λ (p : Planned). scheduled_stage held job.delays job.turns p.graph)
       ((planned_exclusive one held job.net job.graph job.groups job.clusters job.slack (told_file held job.graph told) (told_file held job.groups grouped) c).one)
-      (λ p planned. then_one (delays_stage held job.delays p.graph) (timed_run_stage p.graph job.turns) ((delays_exclusive held job.delays told_delays p.graph).one)
+      (λ p planned. then_one (delays_stage held job.delays p.graph) (last_times_stage p.graph job.turns) ((delays_exclusive held job.delays told_delays p.graph).one)
       (λ delays are text other means also.
       one_times_text p.graph ((planned_is_plan held job.net job.graph job.groups job.clusters job.slack c p accepts planned).live) delays job.turns text other means also)))
 
