@@ -1,5 +1,5 @@
 -- Arcs as edges, and what a walk that closes shows of ranks.
-use Rattle.std.proofs.Common.{◌≡◌, ◌∙◌, ◌<◌, ◌≤◌, ◌+◌, ◌↔◌, ℕ, List, [], ◌∷◌, false, true, length, map, get_or, arith, refl, ap, zero, suc}
+use Rattle.std.proofs.Common.{◌≡◌, ◌∙◌, ◌≤◌, ◌+◌, ◌↔◌, ℕ, List, [], ◌∷◌, false, true, map, arith, refl, ap, zero, suc}
 use Rattle.std.specs.Prelude.{Any, IsTrue}
 use Rattle.ds_marked.specs.Graph.{AreEnds, Graph}
 use Rattle.ds_marked.specs.declared.marked.Arc.{Arc}
