@@ -15,8 +15,8 @@ import limits
 
 # As many registers as a netlist may have, and words of a line, so that there are 4,096 lines.
 MANY, A_LINE = 16384, 4
-# As many copies of a register with a name of so many bytes: their names just fill a file.
-COPIES, LONG = 830, 20000
+# As many copies of a register with a name of so many bytes; so many of their names fill a file.
+COPIES, LONG, NAMED = 900, 20000, 830
 
 
 def four_a_line(words):
@@ -101,9 +101,9 @@ def of_copies(folder):
     """Copies of a register with a long name."""
     name = "q" * LONG
     net = limits.write(folder, "copies.blif", copies(name, COPIES))
-    words = ["%d/%s" % (k, name) for k in range(1, COPIES + 1)]
-    yield "graph: 830 copies, names of 20,000 bytes", with_groups("graph", net, [])
-    yield "the same, each by its name", with_groups("graph", net, words)
+    words = ["%d/%s" % (k, name) for k in range(1, NAMED + 1)]
+    yield "graph: 900 copies, names of 20,000 bytes", with_groups("graph", net, [])
+    yield "the same, 830 of them by their names", with_groups("graph", net, words)
     words = ["%d/*" % k for k in range(1, COPIES + 1)]
     yield "the same, each by a pattern", with_groups("graph", net, words)
     yield "the same, all by one pattern", with_groups("graph", net, ["*/q*"])

@@ -1,7 +1,7 @@
 -- The text that shows clusters, line by line and name by name.
 use Rattle.std.proofs.Common.{◌≡◌, ◌∙◌, ℕ, zero, suc, ◌+◌, ◌<◌, List, [], ◌∷◌, ◌++◌, length, map, take, get_or, refl, ap, sym, arith, subst}
-use Rattle.std.proofs.lemmas.List.{append_assoc, append-nil, get_or-map, length-map, map-append, take_more, length-take-le}
-use Rattle.std.specs.Prelude.{slice_index_or}
+use Rattle.std.proofs.lemmas.List.{append_assoc, append-nil, get_or-map, get_or_default, length-map, map-append, take_more, length-take-le}
+use Rattle.std.specs.Prelude.{◌≤◌, codes, slice_index_or}
 use Rattle.ds_design.specs.Circuit.{Circuit, register_nets}
 use Rattle.ds_design.specs.declared.design.Register.{Register}
 use Rattle.ds_lines.specs.Print.{line_text}
@@ -10,6 +10,21 @@ use Rattle.ds_groups.specs.Names.{driven_nets, net_at, register_names}
 use Rattle.ds_groups.specs.Read.{register_name}
 use Rattle.ds_groups.specs.Written.{cluster_line, cluster_lines}
 use Rattle.ds_app.specs.Listed.{blank_before}
+
+-- what stands before the first name, and before each other one
+pub blank_first : (k : ℕ) → k ≤ 0 → [] ≡ blank_before k
+blank_first zero low = refl
+blank_first (suc k) low = absurd (omega (low, arith))
+
+pub blank_further : (k : ℕ) → 0 < k → codes " " ≡ blank_before k
+blank_further zero some = absurd (omega (some, arith))
+blank_further (suc k) some = refl
+
+-- the registers of a cluster, as they are lent
+pub lent_cluster : (members clusters : List (List ℕ)) (i : ℕ) (item list : List ℕ) → list ≡ item → item ≡ get_or members i item → members ≡ clusters
+    → i < length clusters → list ≡ get_or clusters i []
+lent_cluster members clusters i item list list_is item_is same low =
+    list_is ∙ (item_is ∙ (ap (λ (cs : List (List ℕ)). get_or cs i item) same ∙ get_or_default clusters i item [] low))
 
 -- one more word
 word_more : (words : List (List ℕ)) (word : List ℕ) → line_text (words ++ word ∷ []) ≡ (line_text words ++ blank_before (length words)) ++ word
@@ -47,7 +62,7 @@ line_more names clusters i low =
     ap (cluster_lines names 0) (take_more clusters i [] low)
     ∙ (line_behind names 0 (take i clusters) (get_or clusters i [])
     ∙ ap (λ (k : ℕ). cluster_lines names 0 (take i clusters) ++ cluster_line names k (get_or clusters i []))
-    (length-take-le i clusters (omega (low, arith))))
+    (let at : 0 + length (take i clusters) ≡ i = omega (arith, length-take-le i clusters (omega (low, arith))) in at))
 
 -- the name of a register is that of the net which it drives
 pub name_is : (c : Circuit) (r : ℕ) → r < length c.registers → register_of c r ≡ register_name (register_names c) r

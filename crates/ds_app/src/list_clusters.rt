@@ -1,5 +1,5 @@
 //! `clusters`: the clusters of a netlist's registers, as a file of groups.
-ghost use Rattle.std.specs.Prelude.{◌≡◌, ◌++◌, ◌<◌, ◌≤◌, ℕ, All, length, map, take};
+ghost use Rattle.std.specs.Prelude.{◌≡◌, ◌<◌, All, length, map};
 ghost use Rattle.ds_outside.specs.Pen.{Puts};
 ghost use Rattle.ds_outside.specs.Writes.{Writes};
 ghost use Rattle.ds_lines.specs.Print.{line_text};
@@ -61,7 +61,7 @@ fn list<O: Sink>(netlist: &Netlist, clusters: &Clusters, out: &mut O) -> Result<
 
     ensures same_writes { UnlessUnwritten result (O.faults out.new ≡ O.faults out.old) }
 {
-    match write_clusters(netlist.design(), clusters, out) {
+    match write_clusters(netlist, clusters, out) {
         Ok(()) => Ok(()),
         Err(_) => Err(Stop::Unwritten),
     }
@@ -69,17 +69,17 @@ fn list<O: Sink>(netlist: &Netlist, clusters: &Clusters, out: &mut O) -> Result<
 
 // Writes the text by way of a buffer.
 fn write_clusters<O: Sink>(
-    design: &Design,
+    netlist: &Netlist,
     clusters: &Clusters,
     out: &mut O,
 ) -> Result<(), WriteFault>
-    requires { All (λ registers. All (λ r. r < length design.now.registers) registers)
+    requires { All (λ registers. All (λ r. r < length netlist.now.registers) registers)
         clusters.now }
     ensures { Writes result (O.written out.old) (O.written out.new) (O.faults out.old)
-        (O.faults out.new) (clusters_text (register_names design.now) clusters.now) }
+        (O.faults out.new) (clusters_text (register_names netlist.now) clusters.now) }
 {
     let mut pen = Buffered::new(out);
-    put_clusters(design, clusters, &mut pen);
+    put_clusters(netlist.design(), clusters, &mut pen);
     pen.finish()
 }
 

@@ -17,35 +17,7 @@ use Rattle.ds_astg_laws.specs.Written.{arc_words, body_lines, entry_words, event
 use Rattle.ds_astg_laws.proofs.Written.{NoDigit, none_decimal}
 use Rattle.ds_stage.proofs.LineWords.{both_all}
 use Rattle.ds_laws.proofs.Plain.{each_drop, each_take, lacks_both}
-
--- a text whose last byte is not cut at the end of a line
-abbrev pub IsUncut : List ℕ → Type 0
-IsUncut [] = ⊥
-IsUncut (byte ∷ []) = is_end byte ≡ false
-IsUncut (byte ∷ next ∷ bytes) = IsUncut (next ∷ bytes)
-
--- so it is with a byte before it, or a text
-pub uncut_behind : (byte : ℕ) (text : List ℕ) → IsUncut text → IsUncut (byte ∷ text)
-uncut_behind byte [] uncut = absurd uncut
-uncut_behind byte (next ∷ text) uncut = uncut
-
--- or with a text before it
-pub uncut_both : (front text : List ℕ) → IsUncut text → IsUncut (front ++ text)
-uncut_both [] text uncut = uncut
-uncut_both (byte ∷ front) text uncut = uncut_behind byte (front ++ text) (uncut_both front text uncut)
-
--- its last byte
-last_uncut : (byte : ℕ) (text : List ℕ) → IsUncut (byte ∷ text) → is_end (get_or (byte ∷ text) (length text) 0) ≡ false
-last_uncut byte [] uncut = uncut
-last_uncut byte (next ∷ text) uncut = last_uncut next text uncut
-
--- nothing is cut
-nothing_cut : (text : List ℕ) → IsUncut text → suffix_len is_end text ≡ 0
-nothing_cut [] uncut = absurd uncut
-nothing_cut (byte ∷ text) uncut =
-    let at : length (byte ∷ text) - 1 ≡ length text = omega arith in
-    suffix_len_is is_end (byte ∷ text) (length (byte ∷ text)) 0 (omega arith) (λ k from below. absurd (omega (arith, from, below)))
-    (λ some. ap (λ (k : ℕ). is_end (get_or (byte ∷ text) k 0)) at ∙ last_uncut byte text uncut) ∙ omega arith
+use Rattle.ds_laws.proofs.Uncut.{IsUncut, nothing_cut, uncut_behind, uncut_both}
 
 -- a byte that is cut at the end of a line, ends it, or starts a comment
 abbrev pub is_cut : ℕ → Bool

@@ -39,8 +39,9 @@ use Rattle.ds_stage.proofs.LineWords.{HaveWords, both_all, lines_have_words}
 use Rattle.ds_stage.proofs.Meant.{read_meant}
 use Rattle.std.proofs.lemmas.List.Sums.{prefix_len_stops}
 use Rattle.std.proofs.lemmas.List.{get_or-reverse, get_or-take, length-reverse, length-take-le}
-use Rattle.ds_graph_laws.proofs.GraphLines.{IsUncut, neither, uncut_behind}
+use Rattle.ds_graph_laws.proofs.GraphLines.{neither}
 use Rattle.ds_laws.proofs.Plain.{if_next, unless_holds}
+use Rattle.ds_laws.proofs.Uncut.{IsUncut, uncut_behind}
 
 -- the last of some words is not cut
 abbrev EndsUncut : List (List ℕ) → Type 0

@@ -17,5 +17,6 @@ pub mod EarlyFault
 pub mod Ranked
 pub mod OneRequired
 pub mod SoFar
+pub mod Uncut
 pub mod Grouping
 pub mod TimedLogs

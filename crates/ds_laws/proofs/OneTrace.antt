@@ -97,7 +97,7 @@ trace_same c d accepts vectors others same_circuit same_vectors trace other is a
     (subst (λ (e : Circuit). IsTrace e vectors.rows other) same_circuit (subst (λ (rows : Rows). IsTrace d rows.rows other) same_vectors also))
 
 pub logged_runs_have_one_trace : FaultsAreRefused → LoggedRunsHaveOneTrace
-logged_runs_have_one_trace faults held job other (told_net, told_vec, told) same_net same_vec text printed (c, netlist, (p, planned, (vectors, streamed, (same, logged)))) (d, netlist', (q, planned', (others, streamed', (same', logged')))) =
+logged_runs_have_one_trace faults held job other (told_net, told_vec, told, grouped) same_net same_vec text printed (c, netlist, (p, planned, (vectors, streamed, (same, logged)))) (d, netlist', (q, planned', (others, streamed', (same', logged')))) =
     let (flat, is_flat, (is_circuit, accepted)) = netlist in
     let accepts : IsAccepted c = subst (λ (e : Circuit). IsAccepted e) (sym is_circuit) accepted in
     let circuits : d ≡ c =

@@ -1,7 +1,7 @@
 //! Laws of clusters with groups.
 ghost use Rattle.ds_laws.specs.Grouping.{PrintedClustersAreGroups, WithoutFileOfGroups};
 
-/// What `clusters` prints is a file of groups, with which it prints the same, by any mode.
+/// What `clusters` prints is a file of groups, with which the clusters are the same, by any mode.
 pub fn printed_clusters_are_groups()
     ensures { PrintedClustersAreGroups }
 {}

@@ -36,12 +36,6 @@ refused_by file mode c groups limit Memory is says = tt
 memory_stops : (file : List ℕ) (mode : Mode) (c : Circuit) (groups : List (List ℕ)) (stop : Stop) → stop ≡ Memory → Stops (parted_stage file mode c groups) Never stop
 memory_stops file mode c groups stop is = rw is tt
 
-pub cluster_stops : (file : List ℕ) (mode : Mode) (c : Circuit) (groups : List (List ℕ)) (fault : SplitFault) (stop : Stop) → IsGroupedFault c mode groups fault → SaysSplit file fault stop
-    → Stops (parted_stage file mode c groups) Never stop
-cluster_stops file mode c groups (TooMany limit) stop (is, many) says =
-    refused_by file mode c groups limit stop (inl (many, ap (λ (l : Limit). file_line file (too_many_text l)) is)) says
-cluster_stops file mode c groups split.Memory stop is says = memory_stops file mode c groups stop says
-
 pub split_stops : (file : List ℕ) (mode : Mode) (c : Circuit) (groups : List (List ℕ)) (clusters : List (List ℕ)) → IsGroupedClustering c mode groups clusters → length clusters ≤ most_of Clusters
     → (fault : SplitFault) (stop : Stop) → IsSplitFault (split_into c clusters) fault → SaysSplit file fault stop → Stops (parted_stage file mode c groups) Never stop
 split_stops file mode c groups clusters are few (TooMany limit) stop (is, many) says =
@@ -59,12 +53,20 @@ few_orders s edges has_edges once few many =
     let over : most_of Arcs < 2 * nodes s + 2 * length many.edges = many.many in
     omega arith
 
--- where there are too many clusters, the stage of clusters stops too
-pub listing_stops : (file : List ℕ) (mode : Mode) (c : Circuit) (groups : List (List ℕ)) (fault : SplitFault) (stop : Stop)
+-- where there are too many clusters, the stage of clusters stops
+pub cluster_stops : (file : List ℕ) (mode : Mode) (c : Circuit) (groups : List (List ℕ)) (fault : SplitFault) (stop : Stop)
     → IsGroupedFault c mode groups fault → SaysSplit file fault stop → Stops (clusters_stage file mode c groups) Never stop
-listing_stops file mode c groups (TooMany limit) (Refused line) (is, many) says =
+cluster_stops file mode c groups (TooMany limit) (Refused line) (is, many) says =
     (many, says ∙ ap (λ (l : Limit). file_line file (too_many_text l)) is)
-listing_stops file mode c groups (TooMany limit) (Unread line) is says = absurd says
-listing_stops file mode c groups (TooMany limit) Unwritten is says = absurd says
-listing_stops file mode c groups (TooMany limit) Memory is says = tt
-listing_stops file mode c groups split.Memory stop is says = rw says tt
+cluster_stops file mode c groups (TooMany limit) (Unread line) is says = absurd says
+cluster_stops file mode c groups (TooMany limit) Unwritten is says = absurd says
+cluster_stops file mode c groups (TooMany limit) Memory is says = tt
+cluster_stops file mode c groups split.Memory stop is says = rw says tt
+
+-- where it stops, so do the latches
+pub clusters_stop : (file : List ℕ) (mode : Mode) (c : Circuit) (groups : List (List ℕ)) (stop : Stop)
+    → Stops (clusters_stage file mode c groups) Never stop → Stops (parted_stage file mode c groups) Never stop
+clusters_stop file mode c groups (Refused line) is = inl is
+clusters_stop file mode c groups (Unread line) is = is
+clusters_stop file mode c groups Unwritten is = is
+clusters_stop file mode c groups Memory is = tt

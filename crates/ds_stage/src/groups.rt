@@ -13,7 +13,7 @@ use crate::source::{lines_in, read_text, refused_at};
 use crate::stop::Stop;
 use ds_base::{Name, Refusal, Seq};
 use ds_cmd::FileName;
-use ds_design::Netlist;
+use ds_design::{Design, Netlist};
 use ds_groups::{GroupKind, Groups, read_groups};
 use ds_lines::{At, Lines};
 use ds_outside::{Files, Which};
@@ -74,17 +74,17 @@ fn groups_in(alloc: Global, name: &str, text: &[u8], netlist: &Netlist) -> Resul
     ensures disjoint { IfOk result (AreDisjoint (length netlist.now.registers)) }
 {
     let lines = lines_in(alloc, name, text)?;
-    grouped(alloc, name, &lines, netlist)
+    grouped(alloc, name, &lines, netlist.design())
 }
 
 // The groups of lines.
-fn grouped(alloc: Global, name: &str, lines: &Lines<'_>, netlist: &Netlist) -> Result<Groups, Stop>
+fn grouped(alloc: Global, name: &str, lines: &Lines<'_>, design: &Design) -> Result<Groups, Stop>
     ensures value { Answers (result_stage (read_or_line name.now group_text_of
-        (groups_of (register_names netlist.now) lines.now)))
+        (groups_of (register_names design.now) lines.now)))
         Never result }
-    ensures disjoint { IfOk result (AreDisjoint (length netlist.now.registers)) }
+    ensures disjoint { IfOk result (AreDisjoint (length design.now.registers)) }
 {
-    match read_groups(alloc, netlist.design(), lines) {
+    match read_groups(alloc, design, lines) {
         Ok(groups) => Ok(groups),
         Err(Refusal::Fault(At { line, kind })) => {
             Err(refused_at(alloc, name, line, group_text(alloc, &kind)))

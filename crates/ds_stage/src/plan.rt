@@ -38,7 +38,7 @@ pub fn plan_netlist<'a, F: Files>(
 ) -> Result<Plan<'a>, Stop>
     requires { splitting.slack ≤ 15 }
     ensures value { Answers (planned_stage (F.held files.old) net.now graph.now
-        splitting.groups.now splitting.clusters splitting.slack netlist.entry.now)
+        splitting.entry.groups.now splitting.entry.clusters splitting.entry.slack netlist.entry.now)
         (RoseIn (F.faults files.old) (F.faults files.new)) result }
 
     ensures same_held { F.held files.new ≡ F.held files.old }
@@ -98,7 +98,7 @@ pub fn plan_named<'a, F: Files>(
 ) -> Result<Plan<'a>, Stop>
     requires { splitting.slack ≤ 15 }
     ensures value { Answers (planned_stage (F.held files.old) net.now (Some graph.now)
-        splitting.groups.now splitting.clusters splitting.slack netlist.entry.now)
+        splitting.entry.groups.now splitting.entry.clusters splitting.entry.slack netlist.entry.now)
         (RoseIn (F.faults files.old) (F.faults files.new)) result }
 
     ensures same_held { F.held files.new ≡ F.held files.old }

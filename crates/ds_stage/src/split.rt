@@ -26,8 +26,8 @@ pub fn split_netlist<'a, F: Files>(
     netlist: &'a Netlist,
     splitting: Splitting<'_>,
 ) -> Result<Latches<'a>, Stop>
-    ensures value { Answers (split_stage (F.held files.old) file.now splitting.groups.now
-        splitting.clusters netlist.entry.now)
+    ensures value { Answers (split_stage (F.held files.old) file.now splitting.entry.groups.now
+        splitting.entry.clusters netlist.entry.now)
         (RoseIn (F.faults files.old) (F.faults files.new)) result }
 
     ensures same_held { F.held files.new ≡ F.held files.old }
@@ -47,13 +47,10 @@ pub fn split_groups<'a>(
     mode: Mode,
     groups: &Groups,
 ) -> Result<Latches<'a>, Stop>
-    requires { AreDisjoint (length netlist.entry.now.registers) groups.now }
+    requires { AreDisjoint (length netlist.now.registers) groups.now }
     ensures { Answers (parted_stage file.now mode netlist.entry.now groups.now) Never result }
 {
-    let clusters = match cluster_groups(alloc, netlist, mode, groups.members()) {
-        Ok(clusters) => clusters,
-        Err(fault) => return Err(split_stop(alloc, file, fault)),
-    };
+    let clusters = clusters_by(alloc, file, netlist, mode, groups)?;
     match split(alloc, netlist, &clusters) {
         Ok(latches) => {
             // Read for the facts that are known of the edges.
@@ -73,8 +70,8 @@ pub fn cluster_netlist<F: Files>(
     netlist: &Netlist,
     splitting: Splitting<'_>,
 ) -> Result<Clusters, Stop>
-    ensures value { Answers (clustered_stage (F.held files.old) file.now splitting.groups.now
-        splitting.clusters netlist.now)
+    ensures value { Answers (clustered_stage (F.held files.old) file.now splitting.entry.groups.now
+        splitting.entry.clusters netlist.now)
         (RoseIn (F.faults files.old) (F.faults files.new)) result }
 
     ensures same_held { F.held files.new ≡ F.held files.old }

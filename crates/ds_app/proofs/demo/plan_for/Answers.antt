@@ -11,5 +11,5 @@ split_groups-requires c = c.no_groups-none.ensures.disjoint (length c.args.netli
 pub unreachable-requires : goal.unreachable-requires
 unreachable-requires c =
     c.requires c.in-Err-Refused.field-0-0
-    (subst (λ (groups : List (List ℕ)). Stops (parted_stage [] Each c.args.netlist.now groups) Never c.in-Err-Refused.field-0) c.no_groups-none.ensures.value
-    (subst (λ (s : Stop). Stops (parted_stage [] Each c.args.netlist.now c.no_groups-none.result) Never s) c.in-Err-Refused.field-0-is c.in-Err-Refused.ensures))
+    (subst (λ (s : Stop). Stops (parted_stage [] Each c.args.netlist.now []) Never s) c.in-Err-Refused.field-0-is
+    (subst (λ (groups : List (List ℕ)). Stops (parted_stage [] Each c.args.netlist.now groups) Never c.in-Err-Refused.field-0) c.no_groups-none.ensures.value c.in-Err-Refused.ensures))

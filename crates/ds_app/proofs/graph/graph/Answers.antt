@@ -84,7 +84,7 @@ pub returns-in_err-netlist-clause-same_writes : goal.returns-in_err-netlist-clau
 returns-in_err-netlist-clause-same_writes g c = let p = err_from_is_err_and c.from_residual.result c.from_residual.ensures.1 in rw (p.1, p.2) (unwritten_or c.in_err-netlist.field-0.0 refl)
 
 pub returns-in_err-latches-clause-same_reads : goal.returns-in_err-latches-clause-same_reads
-returns-in_err-latches-clause-same_reads g c = let p = err_from_is_err_and c.from_residual-in_err-latches.result c.from_residual-in_err-latches.ensures.1 in rw (p.1, p.2) (unread_since c.in_err-latches.field-0.0 c.in_ok-netlist.ensures.same_reads c.in_err-latches.ensures.same_reads)
+returns-in_err-latches-clause-same_reads g c = let p = err_from_is_err_and c.from_residual-in_err-latches.result c.from_residual-in_err-latches.ensures.1 in rw (p.1, p.2) (unread_since _ c.in_err-latches.field-0.0 c.in_ok-netlist.ensures.same_reads c.in_err-latches.ensures.same_reads)
 
 pub returns-in_err-latches-clause-same_writes : goal.returns-in_err-latches-clause-same_writes
 returns-in_err-latches-clause-same_writes g c = let p = err_from_is_err_and c.from_residual-in_err-latches.result c.from_residual-in_err-latches.ensures.1 in rw (p.1, p.2) (unwritten_or c.in_err-latches.field-0.0 refl)

@@ -52,7 +52,7 @@ returns-in_err-clusters-clause-value g c =
     (stopped (clustered_stage held job.net job.groups job.clusters circuit) (listed_stage circuit) more stop few))))
 
 pub list-requires : goal.list-requires
-list-requires g c = c.in_ok-clusters.ensures.value.2.0.each_once.within
+list-requires g c = let (groups, are, (is, few)) = c.in_ok-clusters.ensures.value in is.each_once.within
 
 pub returns-clause-value : goal.returns-clause-value
 returns-clause-value g c =
@@ -81,7 +81,7 @@ pub returns-in_err-netlist-clause-same_writes : goal.returns-in_err-netlist-clau
 returns-in_err-netlist-clause-same_writes g c = let p = err_from_is_err_and c.from_residual.result c.from_residual.ensures.1 in rw (p.1, p.2) (unwritten_or c.in_err-netlist.field-0.0 refl)
 
 pub returns-in_err-clusters-clause-same_reads : goal.returns-in_err-clusters-clause-same_reads
-returns-in_err-clusters-clause-same_reads g c = let p = err_from_is_err_and c.from_residual-in_err-clusters.result c.from_residual-in_err-clusters.ensures.1 in rw (p.1, p.2) (unread_since c.in_err-clusters.field-0.0 c.in_ok-netlist.ensures.same_reads c.in_err-clusters.ensures.same_reads)
+returns-in_err-clusters-clause-same_reads g c = let p = err_from_is_err_and c.from_residual-in_err-clusters.result c.from_residual-in_err-clusters.ensures.1 in rw (p.1, p.2) (unread_since _ c.in_err-clusters.field-0.0 c.in_ok-netlist.ensures.same_reads c.in_err-clusters.ensures.same_reads)
 
 pub returns-in_err-clusters-clause-same_writes : goal.returns-in_err-clusters-clause-same_writes
 returns-in_err-clusters-clause-same_writes g c = let p = err_from_is_err_and c.from_residual-in_err-clusters.result c.from_residual-in_err-clusters.ensures.1 in rw (p.1, p.2) (unwritten_or c.in_err-clusters.field-0.0 refl)
