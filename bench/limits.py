@@ -7,6 +7,7 @@ exit status is 1 where a job answers another status than the one it is to give.
 
 import argparse
 import os
+import random
 import statistics
 import subprocess
 import sys
@@ -87,6 +88,82 @@ def full_graph(count):
     yield ".end"
 
 
+def row_delays(count):
+    """Delays for the orders along registers in a row."""
+    for i in range(count):
+        yield "M%d+ S%d+ %d" % (i, i, 2 + i % 5)
+    for i in range(1, count):
+        yield "S%d+ M%d+ %d" % (i - 1, i, 3 + i % 7)
+
+
+def dense_delays(count):
+    """Delays for some of the orders of registers that all read each other."""
+    for i in range(count):
+        yield "M%d+ S%d+ %d" % (i, i, 2 + i % 5)
+        yield "S%d+ M%d+ %d" % (i, (7 * i + 1) % count, 3 + i % 7)
+
+
+def short_name(number):
+    """A signal's name of three letters and digits at most."""
+    digits = "abcdefghijklmnopqrstuvwxyzABCDEFGHIJKLMNOPQRSTUVWXYZ"
+    name = ""
+    while True:
+        name += digits[number % len(digits)]
+        number //= len(digits)
+        if number == 0:
+            return name
+
+
+def random_arcs(signals, each, seed):
+    """So many arcs from each event: source, target, and tokens.
+
+    Four in five of those that lead on have no tokens, so that these lead in no circle.
+    """
+    draw = random.Random(seed)
+    events = 2 * signals
+    for source in range(events):
+        for target in draw.sample(range(events), each):
+            forward = source < target and draw.random() < 0.8
+            yield source, target, 0 if forward else draw.randrange(1, 256)
+
+
+def random_graph(signals, arcs):
+    """The text of a graph of these arcs, an event a number: twice the signal's, or one more."""
+    events = [short_name(i) + sign for i in range(signals) for sign in "+-"]
+    yield ".outputs " + " ".join(short_name(i) for i in range(signals))
+    yield ".graph"
+    targets = {}
+    for source, target, _ in arcs:
+        targets.setdefault(source, []).append(events[target])
+    for source, names in targets.items():
+        yield events[source] + " " + " ".join(names)
+    entries = ("<%s,%s>=%d" % (events[u], events[v], t) for u, v, t in arcs if t)
+    yield ".marking { " + " ".join(entries) + " }"
+
+
+def random_delays(signals, arcs, seed):
+    """Delays of 32 bits for three in five of the arcs, as many as a file has room for."""
+    draw = random.Random(seed)
+    events = [short_name(i) + sign for i in range(signals) for sign in "+-"]
+    for source, target, _ in arcs:
+        if draw.random() < 0.6:
+            yield "%s %s %d" % (events[source], events[target], draw.getrandbits(32))
+
+
+def timed_jobs(folder):
+    """The jobs that read delays."""
+    net = os.path.join(folder, "dense.blif")
+    text = write(folder, "dense.delays", dense_delays(722))
+    yield "times: 722 registers, 1,046,904 orders, 100 turns", ["times", net, text, "100"], 0
+    net = os.path.join(folder, "row.blif")
+    text = write(folder, "row.delays", row_delays(4096))
+    yield "times: 4,096 registers in a row, 1,000 turns", ["times", net, text, "1000"], 0
+    arcs = list(random_arcs(65536, 8, 1))
+    graph = write(folder, "random.g", random_graph(65536, arcs))
+    text = write(folder, "random.delays", random_delays(65536, arcs, 2))
+    yield "rate: 1,048,576 arcs of 65,536 signals", ["rate", graph, text], 0
+
+
 def jobs(folder):
     """The name of each job, its words, and its status."""
     net = write(folder, "copies.blif", copies(65536))
@@ -122,6 +199,7 @@ def jobs(folder):
     yield "replay: 524,288 firings", ["replay", net, vec, lines], 0
     yield "run: the same firings", ["run", net, vec], 0
     yield "run --stop: the same firings", ["run", net, vec, "--stop", "524288"], 0
+    yield from timed_jobs(folder)
 
 
 # Starts a program and tells how it ended, its processor time and its greatest memory. A process

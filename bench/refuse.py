@@ -77,6 +77,8 @@ COMMANDS = [
     "replay :tog :v :log --slack 1",
     "accept :tog :g",
     "period :tog :delays",
+    "rate :g :delays",
+    "times :tog :delays 2",
     "run :tog :v --groups :groups --jobs 2",
     "clusters :tog --groups :groups",
     "demo 1 4 3 --jobs 2",

@@ -8,13 +8,15 @@ use Rattle.ds_netlist.specs.Laws.{FaultsAreRefused}
 use Rattle.ds_split.specs.Laws.{OneGroupedClustering}
 use Rattle.ds_shake.proofs.Refused.{faults_are_refused_lem}
 use Rattle.ds_cmd.specs.declared.job.Job.{Job}
-use Rattle.ds_cmd.specs.declared.job.Job.TheVariants.{Run, Clock, Check, Graph, Replay, Accept, Demo, Period, Clusters}
+use Rattle.ds_cmd.specs.declared.job.Job.TheVariants.{Run, Clock, Check, Graph, Replay, Accept, Demo, Period, Clusters, Rate, Times}
 use Rattle.ds_cmd.specs.declared.accept.AcceptJob.{AcceptJob}
 use Rattle.ds_cmd.specs.declared.graph.GraphJob.{GraphJob}
 use Rattle.ds_cmd.specs.declared.list_clusters.ClustersJob.{ClustersJob}
 use Rattle.ds_cmd.specs.declared.period.PeriodJob.{PeriodJob}
+use Rattle.ds_cmd.specs.declared.rate.RateJob.{RateJob}
 use Rattle.ds_cmd.specs.declared.replay.ReplayJob.{ReplayJob}
 use Rattle.ds_cmd.specs.declared.run.RunJob.{RunJob}
+use Rattle.ds_cmd.specs.declared.times.TimesJob.{TimesJob}
 use Rattle.ds_stage.specs.Stage.{then_stage}
 use Rattle.ds_stage.specs.Stages.{netlist_stage, report_stage, trace_stage, vectors_stage}
 use Rattle.ds_stage.specs.StreamStage.{most_vectors, streamed_stage}
@@ -27,12 +29,16 @@ use Rattle.ds_stage.specs.PlanStage.{planned_stage}
 use Rattle.ds_stage.specs.AcceptStage.{ranks_stage}
 use Rattle.ds_app.specs.RunStage.{planned_run_stage, stopped_stage, traced_stage}
 use Rattle.ds_app.specs.Job.{run_stage, stages_of}
-use Rattle.ds_app.specs.JobStages.{accept_stage, clock_stage, graph_stage, listing_stage, period_stage, replay_stage}
+use Rattle.ds_app.specs.JobStages.{accept_stage, clock_stage, graph_stage, listing_stage, period_stage, rate_stage, replay_stage, times_stage}
 use Rattle.ds_stage.specs.ReplayStage.{replayed_stage}
 use Rattle.ds_stage.specs.PeriodStage.{timed_stage}
+use Rattle.ds_stage.specs.RateStage.{bare_graph_stage}
+use Rattle.ds_stage.specs.TimesStage.{scheduled_stage}
 use Rattle.ds_app.specs.Status.{AreTold, IsToldIn}
 use Rattle.ds_stage.proofs.LogStages.{replayed_not_refused}
 use Rattle.ds_stage.proofs.PeriodStages.{timed_not_refused}
+use Rattle.ds_stage.proofs.RateStages.{bare_exclusive}
+use Rattle.ds_stage.proofs.TimesStages.{scheduled_not_refused}
 use Rattle.ds_stage.proofs.Expansions.{controller_not_refused}
 use Rattle.ds_stage.proofs.Exclusive.{lines_exclusive, netlist_exclusive, then_not_refused, vectors_exclusive}
 use Rattle.ds_stage.proofs.Streamed.{streamed_exclusive}
@@ -95,6 +101,19 @@ listing_not_refused law held job grouped c text line means refused =
     then_not_refused (clustered_stage held job.net job.groups job.clusters c) (listed_stage c)
     (clustered_exclusive law held job.net job.groups job.clusters (told_file held job.groups grouped) c) (λ clusters b l is none. none) text line means refused
 
+rate_not_refused : (held : List ℕ → Held) (job : RateJob) → held job.graph ≢ untold → held job.delays ≢ untold → (text line : List ℕ)
+    → (rate_stage held job).means text → ¬ (rate_stage held job).refused line
+rate_not_refused held job named told text line means refused =
+    then_not_refused (bare_graph_stage held job.graph) (timed_stage held job.delays) (bare_exclusive held job.graph named)
+    (λ g b l is bad. timed_not_refused held job.delays told g b l is bad) text line means refused
+
+times_not_refused : OneGroupedClustering → (held : List ℕ → Held) (job : TimesJob) → held job.delays ≢ untold → IsToldIn held job.graph → IsToldIn held job.groups → (c : Circuit) (text line : List ℕ)
+    → (times_stage held job c).means text → ¬ (times_stage held job c).refused line
+times_not_refused law held job told named grouped c text line means refused =
+    then_not_refused (planned_stage held job.net job.graph job.groups job.clusters job.slack c) (λ (p : Planned). scheduled_stage held job.delays job.turns p.graph)
+    (planned_exclusive law held job.net job.graph job.groups job.clusters job.slack (told_file held job.graph named) (told_file held job.groups grouped) c)
+    (λ p b l is bad. scheduled_not_refused held job.delays job.turns p.graph told b l is bad) text line means refused
+
 -- a job that has a text is not refused
 pub job_not_refused : FaultsAreRefused → OneGroupedClustering → (held : List ℕ → Held) (job : Job) → AreTold held job → (text line : List ℕ)
     → (stages_of held job).means text → ¬ (stages_of held job).refused line
@@ -115,3 +134,6 @@ job_not_refused law one held (Period job) told text line means refused =
     then_not_refused (netlist_stage held job.net) (period_stage held job) (netlist_exclusive law held job.net told.0) (period_not_refused one held job told.1 told.2 told.3) text line means refused
 job_not_refused law one held (Clusters job) told text line means refused =
     then_not_refused (netlist_stage held job.net) (listing_stage held job) (netlist_exclusive law held job.net told.0) (listing_not_refused one held job told.1) text line means refused
+job_not_refused law one held (Rate job) told text line means refused = rate_not_refused held job told.0 told.1 text line means refused
+job_not_refused law one held (Times job) told text line means refused =
+    then_not_refused (netlist_stage held job.net) (times_stage held job) (netlist_exclusive law held job.net told.0) (times_not_refused one held job told.1 told.2 told.3) text line means refused

@@ -3,13 +3,15 @@ use Rattle.std.proofs.Common.{ℕ, Bool, false, List, Option, None, Some}
 use Rattle.ds_outside.specs.Held.{Held}
 use Rattle.ds_design.specs.Circuit.{Circuit}
 use Rattle.ds_cmd.specs.declared.job.Job.{Job}
-use Rattle.ds_cmd.specs.declared.job.Job.TheVariants.{Run, Clock, Check, Graph, Replay, Accept, Demo, Period, Clusters}
+use Rattle.ds_cmd.specs.declared.job.Job.TheVariants.{Run, Clock, Check, Graph, Replay, Accept, Demo, Period, Clusters, Rate, Times}
 use Rattle.ds_cmd.specs.declared.accept.AcceptJob.{AcceptJob}
 use Rattle.ds_cmd.specs.declared.graph.GraphJob.{GraphJob}
 use Rattle.ds_cmd.specs.declared.list_clusters.ClustersJob.{ClustersJob}
 use Rattle.ds_cmd.specs.declared.period.PeriodJob.{PeriodJob}
+use Rattle.ds_cmd.specs.declared.rate.RateJob.{RateJob}
 use Rattle.ds_cmd.specs.declared.replay.ReplayJob.{ReplayJob}
 use Rattle.ds_cmd.specs.declared.run.RunJob.{RunJob}
+use Rattle.ds_cmd.specs.declared.times.TimesJob.{TimesJob}
 use Rattle.ds_stage.specs.Stage.{OfFile, then_stage}
 use Rattle.ds_stage.specs.Stages.{netlist_stage, report_stage, trace_stage, vectors_stage}
 use Rattle.ds_stage.specs.StreamStage.{most_vectors, streamed_stage}
@@ -20,13 +22,17 @@ use Rattle.ds_stage.specs.PlanStage.{planned_stage}
 use Rattle.ds_stage.specs.AcceptStage.{ranks_stage}
 use Rattle.ds_stage.specs.ReplayStage.{replayed_stage}
 use Rattle.ds_stage.specs.PeriodStage.{timed_stage}
+use Rattle.ds_stage.specs.RateStage.{bare_graph_stage}
+use Rattle.ds_stage.specs.TimesStage.{scheduled_stage}
 use Rattle.ds_latch.specs.Node.{Split, slackened}
 use Rattle.ds_latch.specs.Plan.{Planned}
 use Rattle.ds_design.specs.Rows.{Rows}
 use Rattle.ds_app.specs.RunStage.{planned_run_stage, stopped_stage, traced_stage}
 use Rattle.ds_app.specs.Job.{run_stage, stages_of}
-use Rattle.ds_app.specs.JobStages.{accept_stage, clock_stage, graph_stage, listing_stage, period_stage, replay_stage}
+use Rattle.ds_app.specs.JobStages.{accept_stage, clock_stage, graph_stage, listing_stage, period_stage, rate_stage, replay_stage, times_stage}
 use Rattle.ds_stage.proofs.PeriodStages.{timed_says}
+use Rattle.ds_stage.proofs.RateStages.{bare_says}
+use Rattle.ds_stage.proofs.TimesStages.{scheduled_says}
 use Rattle.ds_stage.proofs.Expansions.{controller_says}
 use Rattle.ds_stage.proofs.Streamed.{streamed_says}
 use Rattle.ds_stage.proofs.Failed.{IsFailed, Says, clustered_says, netlist_says, planned_says, replayed_says, split_says, then_says, vectors_say}
@@ -70,6 +76,15 @@ listing_says held job failed c =
     then_says (clustered_stage held job.net job.groups job.clusters c) (listed_stage c) failed
     (clustered_says held job.net job.groups job.clusters failed c) (λ clusters line none. absurd none)
 
+rate_says : (held : List ℕ → Held) (job : RateJob) (failed : OfFile) → Says (rate_stage held job) failed
+rate_says held job failed =
+    then_says (bare_graph_stage held job.graph) (timed_stage held job.delays) failed (bare_says held job.graph failed) (λ g. timed_says held job.delays failed g)
+
+times_says : (held : List ℕ → Held) (job : TimesJob) (failed : OfFile) (c : Circuit) → Says (times_stage held job c) failed
+times_says held job failed c =
+    then_says (planned_stage held job.net job.graph job.groups job.clusters job.slack c) (λ (p : Planned). scheduled_stage held job.delays job.turns p.graph) failed
+    (planned_says held job.net job.graph job.groups job.clusters job.slack failed c) (λ p. scheduled_says held job.delays job.turns p.graph failed)
+
 -- where a job names a file that it did not read, a read failed
 pub job_says : (held : List ℕ → Held) (job : Job) (failed : OfFile) (line : List ℕ) → (stages_of held job).unread failed line → IsFailed failed
 job_says held (Run job) failed line is = then_says (netlist_stage held job.net) (run_stage held job) failed (netlist_says held job.net failed) (run_says held job failed) line is
@@ -81,3 +96,5 @@ job_says held (Accept job) failed line is = then_says (netlist_stage held job.ne
 job_says held (Demo job) failed line none = absurd none
 job_says held (Period job) failed line is = then_says (netlist_stage held job.net) (period_stage held job) failed (netlist_says held job.net failed) (period_says held job failed) line is
 job_says held (Clusters job) failed line is = then_says (netlist_stage held job.net) (listing_stage held job) failed (netlist_says held job.net failed) (listing_says held job failed) line is
+job_says held (Rate job) failed line is = rate_says held job failed line is
+job_says held (Times job) failed line is = then_says (netlist_stage held job.net) (times_stage held job) failed (netlist_says held job.net failed) (times_says held job failed) line is

@@ -4,7 +4,7 @@ use Rattle.ds_outside.specs.Held.{Held}
 use Rattle.ds_design.specs.Circuit.{Circuit}
 use Rattle.ds_latch.specs.Plan.{Planned}
 use Rattle.ds_cmd.specs.declared.job.Job.{Job}
-use Rattle.ds_cmd.specs.declared.job.Job.TheVariants.{Run, Clock, Check, Graph, Replay, Accept, Demo, Period, Clusters}
+use Rattle.ds_cmd.specs.declared.job.Job.TheVariants.{Run, Clock, Check, Graph, Replay, Accept, Demo, Period, Clusters, Rate, Times}
 use Rattle.ds_cmd.specs.declared.run.RunJob.{RunJob}
 use Rattle.ds_stage.specs.Stage.{then_stage}
 use Rattle.ds_stage.specs.Stages.{netlist_stage, vectors_stage}
@@ -14,7 +14,7 @@ use Rattle.ds_app.specs.Job.{run_stage, stages_of}
 use Rattle.ds_app.specs.RunStage.{planned_run_stage, stopped_run_stage, stopped_stage}
 use Rattle.ds_app.specs.Status.{HasWindows}
 use Rattle.ds_stage.proofs.Left.{LeavesNothing, giving_nothing, netlist_nothing, planned_nothing, then_nothing, vectors_nothing}
-use Rattle.ds_app.proofs.LeftAlone.{accept_nothing, check_nothing, graph_nothing, listing_nothing, period_nothing, replay_nothing}
+use Rattle.ds_app.proofs.LeftAlone.{accept_nothing, check_nothing, graph_nothing, listing_nothing, period_nothing, rate_nothing, replay_nothing, times_nothing}
 
 pub stopped_nothing : (held : List ℕ → Held) (vec : List ℕ) (log : Bool) (jobs stop : ℕ) (c : Circuit) (p : Planned)
     → LeavesNothing (stopped_run_stage held vec log jobs stop c p)
@@ -43,3 +43,5 @@ job_nothing held (Accept job) none = accept_nothing held job
 job_nothing held (Demo job) none = giving_nothing (IsSummary job.seed job.registers job.turns)
 job_nothing held (Period job) none = period_nothing held job
 job_nothing held (Clusters job) none = listing_nothing held job
+job_nothing held (Rate job) none = rate_nothing held job
+job_nothing held (Times job) none = times_nothing held job

@@ -9,7 +9,9 @@ use Rattle.ds_cmd.specs.declared.accept.AcceptJob.{AcceptJob}
 use Rattle.ds_cmd.specs.declared.graph.GraphJob.{GraphJob}
 use Rattle.ds_cmd.specs.declared.list_clusters.ClustersJob.{ClustersJob}
 use Rattle.ds_cmd.specs.declared.period.PeriodJob.{PeriodJob}
+use Rattle.ds_cmd.specs.declared.rate.RateJob.{RateJob}
 use Rattle.ds_cmd.specs.declared.replay.ReplayJob.{ReplayJob}
+use Rattle.ds_cmd.specs.declared.times.TimesJob.{TimesJob}
 use Rattle.ds_stage.specs.Stage.{then_stage}
 use Rattle.ds_stage.specs.Stages.{netlist_stage, report_stage, vectors_stage}
 use Rattle.ds_stage.specs.ClustersStage.{clustered_stage, listed_stage}
@@ -19,8 +21,12 @@ use Rattle.ds_stage.specs.PlanStage.{planned_stage}
 use Rattle.ds_stage.specs.AcceptStage.{ranks_stage}
 use Rattle.ds_stage.specs.ReplayStage.{replayed_stage}
 use Rattle.ds_stage.specs.PeriodStage.{timed_stage}
-use Rattle.ds_app.specs.JobStages.{accept_stage, graph_stage, listing_stage, period_stage, replay_stage}
+use Rattle.ds_stage.specs.RateStage.{bare_graph_stage}
+use Rattle.ds_stage.specs.TimesStage.{scheduled_stage}
+use Rattle.ds_app.specs.JobStages.{accept_stage, graph_stage, listing_stage, period_stage, rate_stage, replay_stage, times_stage}
 use Rattle.ds_stage.proofs.Left.{LeavesNothing, clustered_nothing, controller_nothing, giving_nothing, netlist_nothing, planned_nothing, replayed_nothing, split_nothing, then_nothing, timed_nothing, vectors_nothing}
+use Rattle.ds_stage.proofs.RateStages.{bare_nothing}
+use Rattle.ds_stage.proofs.TimesStages.{scheduled_nothing}
 
 pub report_nothing : (c : Circuit) → LeavesNothing (report_stage c)
 report_nothing c = giving_nothing (report_stage c).means
@@ -58,3 +64,13 @@ listing_nothing held job =
     then_nothing (netlist_stage held job.net) (listing_stage held job) (netlist_nothing held job.net)
     (λ c. then_nothing (clustered_stage held job.net job.groups job.clusters c) (listed_stage c)
     (clustered_nothing held job.net job.groups job.clusters c) (λ clusters. giving_nothing (listed_stage c clusters).means))
+
+pub rate_nothing : (held : List ℕ → Held) (job : RateJob) → LeavesNothing (rate_stage held job)
+rate_nothing held job =
+    then_nothing (bare_graph_stage held job.graph) (timed_stage held job.delays) (bare_nothing held job.graph) (timed_nothing held job.delays)
+
+pub times_nothing : (held : List ℕ → Held) (job : TimesJob) → LeavesNothing (then_stage (netlist_stage held job.net) (times_stage held job))
+times_nothing held job =
+    then_nothing (netlist_stage held job.net) (times_stage held job) (netlist_nothing held job.net)
+    (λ c. then_nothing (planned_stage held job.net job.graph job.groups job.clusters job.slack c) (λ (p : Planned). scheduled_stage held job.delays job.turns p.graph)
+    (planned_nothing held job.net job.graph job.groups job.clusters job.slack c) (λ p. scheduled_nothing held job.delays job.turns p.graph))

@@ -7,11 +7,12 @@ use Rattle.ds_cmd.specs.declared.graph.GraphJob.{GraphJob}
 use Rattle.ds_cmd.specs.declared.list_clusters.ClustersJob.{ClustersJob}
 use Rattle.ds_cmd.specs.declared.period.PeriodJob.{PeriodJob}
 use Rattle.ds_cmd.specs.declared.replay.ReplayJob.{ReplayJob}
+use Rattle.ds_cmd.specs.declared.times.TimesJob.{TimesJob}
 use Rattle.ds_stage.specs.declared.stop.Stop.{Stop}
 use Rattle.ds_stage.specs.Ends.{Ends, Output}
 use Rattle.ds_stage.specs.Stage.{OfFile, then_stage}
 use Rattle.ds_stage.specs.Stages.{netlist_stage}
-use Rattle.ds_app.specs.JobStages.{accept_stage, clock_stage, graph_stage, listing_stage, period_stage, replay_stage}
+use Rattle.ds_app.specs.JobStages.{accept_stage, clock_stage, graph_stage, listing_stage, period_stage, replay_stage, times_stage}
 
 module _ (held : List ℕ → Held) (more : OfFile) (out : Output) (result : Result (Unit {0}) Stop) where
   pub clock_ends : (job : ClockJob) (net vec : List ℕ) → net ≡ job.net → vec ≡ job.vec
@@ -48,4 +49,10 @@ module _ (held : List ℕ → Held) (more : OfFile) (out : Output) (result : Res
       → Ends {A = Unit {0}} (then_stage (netlist_stage held net) (listing_stage held (record job { net = net }))) more out result
       → Ends {A = Unit {0}} (then_stage (netlist_stage held job.net) (listing_stage held job)) more out result
   listing_ends job net same_net is = subst (λ (j : ClustersJob). Ends {A = Unit {0}} (then_stage (netlist_stage held j.net) (listing_stage held j)) more out result)
+      (ap (λ (n : List ℕ). record job { net = n }) same_net) is
+
+  pub times_ends : (job : TimesJob) (net : List ℕ) → net ≡ job.net
+      → Ends {A = Unit {0}} (then_stage (netlist_stage held net) (times_stage held (record job { net = net }))) more out result
+      → Ends {A = Unit {0}} (then_stage (netlist_stage held job.net) (times_stage held job)) more out result
+  times_ends job net same_net is = subst (λ (j : TimesJob). Ends {A = Unit {0}} (then_stage (netlist_stage held j.net) (times_stage held j)) more out result)
       (ap (λ (n : List ℕ). record job { net = n }) same_net) is

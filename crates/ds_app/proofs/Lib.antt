@@ -8,6 +8,8 @@ pub mod WindowEnds
 pub mod ClockEnds
 pub mod PeriodEnds
 pub mod PeriodTexts
+pub mod TimesEnds
+pub mod TimesTexts
 pub mod Left
 pub mod Exclusive
 pub mod Failed

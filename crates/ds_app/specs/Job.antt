@@ -4,13 +4,13 @@ use Rattle.ds_outside.specs.Held.{Held}
 use Rattle.ds_design.specs.Circuit.{Circuit}
 use Rattle.ds_cmd.specs.declared.job.Job.{Job}
 use Rattle.ds_cmd.specs.declared.job.Job.TheVariants.{Run, Clock, Check, Graph, Replay, Accept}
-use Rattle.ds_cmd.specs.declared.job.Job.TheVariants.{Demo, Period, Clusters}
+use Rattle.ds_cmd.specs.declared.job.Job.TheVariants.{Demo, Period, Clusters, Rate, Times}
 use Rattle.ds_cmd.specs.declared.run.RunJob.{RunJob}
 use Rattle.ds_stage.specs.Stage.{Stage, then_stage}
 use Rattle.ds_stage.specs.Stages.{netlist_stage, report_stage}
 use Rattle.ds_stage.specs.PlanStage.{planned_stage}
 use Rattle.ds_app.specs.JobStages.{accept_stage, clock_stage, graph_stage, period_stage}
-use Rattle.ds_app.specs.JobStages.{listing_stage, replay_stage}
+use Rattle.ds_app.specs.JobStages.{listing_stage, rate_stage, replay_stage, times_stage}
 use Rattle.ds_app.specs.RunStage.{planned_run_stage}
 use Rattle.ds_app.specs.DemoStage.{demo_stage}
 
@@ -31,3 +31,5 @@ stages_of held (Accept job) = then_stage (netlist_stage held job.net) (accept_st
 stages_of held (Demo job) = demo_stage job.seed job.registers job.turns
 stages_of held (Period job) = then_stage (netlist_stage held job.net) (period_stage held job)
 stages_of held (Clusters job) = then_stage (netlist_stage held job.net) (listing_stage held job)
+stages_of held (Rate job) = rate_stage held job
+stages_of held (Times job) = then_stage (netlist_stage held job.net) (times_stage held job)

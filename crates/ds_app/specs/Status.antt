@@ -8,7 +8,7 @@ use Rattle.ds_outside.specs.declared.files.Which.{Which}
 use Rattle.ds_cmd.specs.Line.{job_of}
 use Rattle.ds_cmd.specs.declared.job.Job.{Job}
 use Rattle.ds_cmd.specs.declared.job.Job.TheVariants.{Run, Clock, Check, Graph, Replay, Accept}
-use Rattle.ds_cmd.specs.declared.job.Job.TheVariants.{Demo, Period, Clusters}
+use Rattle.ds_cmd.specs.declared.job.Job.TheVariants.{Demo, Period, Clusters, Rate, Times}
 use Rattle.ds_cmd.specs.declared.fault.UsageFault.{UsageFault}
 use Rattle.ds_cmd.specs.declared.fault.UsageFault.TheVariants as usage
 use Rattle.ds_stage.specs.declared.stop.Stop.{Stop}
@@ -125,6 +125,9 @@ AreTold held (Demo job) = Unit {0}
 AreTold held (Period job) = (held job.net ≢ untold) × (held job.delays ≢ untold)
     × IsToldIn held job.graph × IsToldIn held job.groups
 AreTold held (Clusters job) = (held job.net ≢ untold) × IsToldIn held job.groups
+AreTold held (Rate job) = (held job.graph ≢ untold) × (held job.delays ≢ untold)
+AreTold held (Times job) = (held job.net ≢ untold) × (held job.delays ≢ untold)
+    × IsToldIn held job.graph × IsToldIn held job.groups
 
 -- the job reads its vectors window by window, and writes as it reads
 abbrev pub HasWindows : Job → Type 0

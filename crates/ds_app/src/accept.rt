@@ -63,8 +63,8 @@ fn write_accepted<O: Sink>(alloc: Global, plan: &Plan<'_>, out: &mut O) -> Resul
     }
 }
 
-// The ranks of a plan's events. In a graph that is accepted nothing waits for itself.
-fn ranks_of(alloc: Global, plan: &Plan<'_>) -> Result<Ranks, OutOfMemory>
+/// The ranks of a plan's events. In a graph that is accepted nothing waits for itself.
+pub(crate) fn ranks_of(alloc: Global, plan: &Plan<'_>) -> Result<Ranks, OutOfMemory>
     ensures { IfOk result (λ ranks. AreRanks plan.now.graph ranks) }
 {
     match rank(alloc, plan.graph()) {

@@ -13,8 +13,10 @@ use crate::demo::demo;
 use crate::graph::graph;
 use crate::list_clusters::list_clusters;
 use crate::period::period;
+use crate::rate::rate;
 use crate::replay::replay;
 use crate::run::run;
+use crate::times::times;
 use ds_cmd::{Job, UsageFault, parse};
 use ds_outside::{Files, Gate, Sink, write_all};
 use ds_stage::Stop;
@@ -100,6 +102,8 @@ fn do_job<R: AllocGlobal + Threads + Sync, G: Gate, F: Files, O: Sink>(
         Job::Demo(job) => demo(rt, job, gate, out),
         Job::Period(job) => period(alloc, job, files, out),
         Job::Clusters(job) => list_clusters(alloc, job, files, out),
+        Job::Rate(job) => rate(alloc, job, files, out),
+        Job::Times(job) => times(alloc, job, files, out),
     }
 }
 

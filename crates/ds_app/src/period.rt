@@ -49,8 +49,8 @@ pub fn period<F: Files, O: Sink>(
     measure(alloc, plan.graph(), delays, files, out)
 }
 
-// Reads the delays of the arcs of a graph, and writes its period.
-fn measure<F: Files, O: Sink>(
+/// Reads the delays of the arcs of a graph, and writes its period.
+pub(crate) fn measure<F: Files, O: Sink>(
     alloc: Global,
     graph: &Marked,
     delays: &str,

@@ -50,7 +50,7 @@ subcommands_in_turn old new (sub ∷ subs) (mid, step, rest) (here, plain) =
     ∙ ap (λ (a : App). with_all a (map shape_of subs)) (step.shape (third _ _ _ _ here))
 
 pub all_plain : ArePlain (map (λ entry. entry.shape) commands)
-all_plain = (refl, (refl, (refl, (refl, (refl, (refl, (refl, (refl, (refl, tt)))))))))
+all_plain = (refl, (refl, (refl, (refl, (refl, (refl, (refl, (refl, (refl, (refl, (refl, tt)))))))))))
 
 pub shaped : (made : Result Command OutOfMemory) (name : Text) (rules wanted : List Rule)
     → IfOk made (λ c. shape_of c ≡ command_shape name rules) → rules ≡ wanted

@@ -3,8 +3,8 @@ use Rattle.std.specs.Prelude.{◌≡◌, ℕ, ◌≤◌, ⊤, Bool, true}
 use Rattle.ds_base.specs.Limit.{most_of}
 use Rattle.ds_base.specs.declared.number.Limit.TheVariants as limit
 use Rattle.ds_cmd.specs.declared.job.Job.{Job}
-use Rattle.ds_cmd.specs.declared.job.Job.TheVariants.{Run, Clock, Check, Graph}
-use Rattle.ds_cmd.specs.declared.job.Job.TheVariants.{Replay, Accept, Demo, Period, Clusters, Rate, Times}
+use Rattle.ds_cmd.specs.declared.job.Job.TheVariants.{Run, Clock, Check, Graph, Replay, Accept}
+use Rattle.ds_cmd.specs.declared.job.Job.TheVariants.{Demo, Period, Clusters, Rate, Times}
 
 -- so many workers may be wanted
 abbrev pub AreWorkers : ℕ → Type 0

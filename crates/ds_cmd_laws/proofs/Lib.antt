@@ -6,3 +6,4 @@ pub mod TakenSlack
 pub mod TakenClusters
 pub mod TakenNumbers
 pub mod TakenReplay
+pub mod TakenTimes

@@ -19,40 +19,45 @@ record IsNoCommand (word : Text) : Type 0 where
   demo : bytes_eq (codes "demo") word ≡ false
   period : bytes_eq (codes "period") word ≡ false
   clusters : bytes_eq (codes "clusters") word ≡ false
+  rate : bytes_eq (codes "rate") word ≡ false
+  times : bytes_eq (codes "times") word ≡ false
 
--- none of the tests of a chain holds, in nine steps
-abbrev any_of : (a b c d f h k m n : Bool) → Bool
-any_of a b c d f h k m n = a || (b || (c || (d || (f || (h || (k || (m || (n || false))))))))
+-- none of the tests of a chain holds, in eleven steps
+abbrev any_of : (a b c d f h k m n o p : Bool) → Bool
+any_of a b c d f h k m n o p = a || (b || (c || (d || (f || (h || (k || (m || (n || (o || (p || false))))))))))
 
-none_of : (a b c d f h k m n : Bool) → any_of a b c d f h k m n ≡ false
+none_of : (a b c d f h k m n o p : Bool) → any_of a b c d f h k m n o p ≡ false
     → (a ≡ false) × (b ≡ false) × (c ≡ false) × (d ≡ false)
-    × (f ≡ false) × (h ≡ false) × (k ≡ false) × (m ≡ false) × (n ≡ false)
-none_of false false false false false false false false false e =
-    (refl, refl, refl, refl, refl, refl, refl, refl, refl)
-none_of false false false false false false false false true e = cc
-none_of false false false false false false false true n e = cc
-none_of false false false false false false true m n e = cc
-none_of false false false false false true k m n e = cc
-none_of false false false false true h k m n e = cc
-none_of false false false true f h k m n e = cc
-none_of false false true d f h k m n e = cc
-none_of false true c d f h k m n e = cc
-none_of true b c d f h k m n e = cc
+    × (f ≡ false) × (h ≡ false) × (k ≡ false) × (m ≡ false) × (n ≡ false) × (o ≡ false) × (p ≡ false)
+none_of false false false false false false false false false false false e =
+    (refl, refl, refl, refl, refl, refl, refl, refl, refl, refl, refl)
+none_of false false false false false false false false false false true e = cc
+none_of false false false false false false false false false true p e = cc
+none_of false false false false false false false false true o p e = cc
+none_of false false false false false false false true n o p e = cc
+none_of false false false false false false true m n o p e = cc
+none_of false false false false false true k m n o p e = cc
+none_of false false false false true h k m n o p e = cc
+none_of false false false true f h k m n o p e = cc
+none_of false false true d f h k m n o p e = cc
+none_of false true c d f h k m n o p e = cc
+none_of true b c d f h k m n o p e = cc
 
 no_command : (word : Text) → is_command word ≡ false → IsNoCommand word
 no_command word e =
-    let all = none_of (bytes_eq (codes "run") word) (bytes_eq (codes "clock") word) (bytes_eq (codes "check") word) (bytes_eq (codes "graph") word) (bytes_eq (codes "replay") word) (bytes_eq (codes "accept") word) (bytes_eq (codes "demo") word) (bytes_eq (codes "period") word) (bytes_eq (codes "clusters") word) e in
-    record { run = all.0; clock = all.1; check = all.2; graph = all.3; replay = all.4; accept = all.5; demo = all.6; period = all.7; clusters = all.8 }
+    let (no_run, no_clock, no_check, no_graph, no_replay, no_accept, no_demo, no_period, no_clusters, no_rate, no_times) =
+    none_of (bytes_eq (codes "run") word) (bytes_eq (codes "clock") word) (bytes_eq (codes "check") word) (bytes_eq (codes "graph") word) (bytes_eq (codes "replay") word) (bytes_eq (codes "accept") word) (bytes_eq (codes "demo") word) (bytes_eq (codes "period") word) (bytes_eq (codes "clusters") word) (bytes_eq (codes "rate") word) (bytes_eq (codes "times") word) e in
+    record { run = no_run; clock = no_clock; check = no_check; graph = no_graph; replay = no_replay; accept = no_accept; demo = no_demo; period = no_period; clusters = no_clusters; rate = no_rate; times = no_times }
 
 -- the word `help` asks for help
 help_at : (program name : Text) (words : List Text) → IsNoCommand name → bytes_eq (codes "help") name ≡ true → job_of (program ∷ name ∷ words) ≡ Err Line
 unfolding clap_on_literals
-help_at program name words n h = rw (n.run, n.clock, n.check, n.graph, n.replay, n.accept, n.demo, n.period, n.clusters, h) refl
+help_at program name words n h = rw (n.run, n.clock, n.check, n.graph, n.replay, n.accept, n.demo, n.period, n.clusters, n.rate, n.times, h) refl
 
 -- another word is taken by nothing
 stray_at : (program name : Text) (words : List Text) → IsNoCommand name → bytes_eq (codes "help") name ≡ false → IsNoOption name → job_of (program ∷ name ∷ words) ≡ Err Line
 unfolding clap_on_literals
-stray_at program name words n h o = rw (n.run, n.clock, n.check, n.graph, n.replay, n.accept, n.demo, n.period, n.clusters, h) (rw (o.dashes, o.long, o.short) refl)
+stray_at program name words n h o = rw (n.run, n.clock, n.check, n.graph, n.replay, n.accept, n.demo, n.period, n.clusters, n.rate, n.times, h) (rw (o.dashes, o.long, o.short) refl)
 
 pub refused_name : (program name : Text) (words : List Text) → is_plain name ≡ true → is_command name ≡ false → job_of (program ∷ name ∷ words) ≡ Err Line
 refused_name program name words plain other = go (bytes_eq (codes "help") name) refl

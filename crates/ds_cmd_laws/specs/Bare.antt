@@ -1,5 +1,5 @@
 -- The jobs of commands without options.
-use Rattle.std.specs.Prelude.{false, None}
+use Rattle.std.specs.Prelude.{ℕ, false, None}
 use Rattle.clap.specs.Words.{Text}
 use Rattle.ds_base.specs.declared.number.Mode.TheVariants.{Each}
 use Rattle.ds_cmd.specs.declared.accept.AcceptJob.{AcceptJob}
@@ -8,6 +8,7 @@ use Rattle.ds_cmd.specs.declared.list_clusters.ClustersJob.{ClustersJob}
 use Rattle.ds_cmd.specs.declared.period.PeriodJob.{PeriodJob}
 use Rattle.ds_cmd.specs.declared.replay.ReplayJob.{ReplayJob}
 use Rattle.ds_cmd.specs.declared.run.RunJob.{RunJob}
+use Rattle.ds_cmd.specs.declared.times.TimesJob.{TimesJob}
 
 -- `run NET VEC`: each register is a cluster of its own, one thread is wanted, no log and no slack,
 -- and the run goes to its end
@@ -67,3 +68,16 @@ bare_period net delays = record {
 -- `clusters NET`: each register is a cluster of its own
 abbrev pub bare_clusters : Text → ClustersJob
 bare_clusters net = record { net = net; clusters = Each; groups = None }
+
+-- `times NET D TURNS`: no graph is named, each register is a cluster of its own, and there is no
+-- slack
+abbrev pub bare_times : Text → Text → ℕ → TimesJob
+bare_times net delays turns = record {
+  net = net;
+  delays = delays;
+  turns = turns;
+  graph = None;
+  clusters = Each;
+  groups = None;
+  slack = 0;
+}

@@ -7,11 +7,12 @@ ghost use Rattle.ds_cmd.specs.Line.{job_of};
 ghost use Rattle.ds_cmd.specs.Plain.{is_command, is_plain};
 ghost use Rattle.ds_cmd.specs.declared.job.Job.TheVariants.{Run, Clock, Check, Graph};
 ghost use Rattle.ds_cmd.specs.declared.job.Job.TheVariants.{Replay, Accept, Demo, Period, Clusters};
+ghost use Rattle.ds_cmd.specs.declared.job.Job.TheVariants.{Rate, Times};
 ghost use Rattle.ds_base.specs.declared.number.Mode.{Mode};
 ghost use Rattle.ds_cmd.specs.Clusters.{mode_word};
 ghost use Rattle.ds_cmd.specs.declared.fault.UsageFault.TheVariants.{Line};
 ghost use Rattle.ds_cmd_laws.specs.Bare.{bare_accept, bare_clusters, bare_graph, bare_period};
-ghost use Rattle.ds_cmd_laws.specs.Bare.{bare_replay, bare_run};
+ghost use Rattle.ds_cmd_laws.specs.Bare.{bare_replay, bare_run, bare_times};
 
 /// `run` with two names of files is taken, whatever the program's name is; each register is then a
 /// cluster of its own, unless the word behind `--clusters` says otherwise, and no controller graph
@@ -147,6 +148,22 @@ pub fn clusters_is_taken()
     ensures groups { (program net groups : List ℕ) → is_plain net ≡ true → is_plain groups ≡ true
         → job_of (program ∷ codes "clusters" ∷ net ∷ codes "--groups" ∷ groups ∷ [])
         ≡ Ok (Clusters (record (bare_clusters net) { groups = Some groups })) }
+{}
+
+/// `rate` with two names of files is taken.
+pub fn rate_is_taken()
+    ensures { (program graph delays : List ℕ) → is_plain graph ≡ true → is_plain delays ≡ true
+        → job_of (program ∷ codes "rate" ∷ graph ∷ delays ∷ [])
+        ≡ Ok (Rate (record { graph = graph; delays = delays })) }
+{}
+
+/// `times` with two names of files and a number in decimal is taken, where it is in range; each
+/// register is then a cluster of its own, no controller graph is named, and there is no slack.
+pub fn times_is_taken()
+    ensures { (program net delays : List ℕ) (turns : ℕ) → is_plain net ≡ true
+        → is_plain delays ≡ true → turns ≤ 65536
+        → job_of (program ∷ codes "times" ∷ net ∷ delays ∷ decimal turns ∷ [])
+        ≡ Ok (Times (bare_times net delays turns)) }
 {}
 
 /// A line that begins with another name than that of a command is refused, whatever follows.

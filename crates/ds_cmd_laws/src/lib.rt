@@ -8,6 +8,7 @@
 mod laws;
 
 pub use laws::{
-    accept_is_taken, check_is_taken, clock_is_taken, demo_is_taken, graph_is_taken,
-    other_names_are_refused, period_is_taken, replay_is_taken, run_is_taken,
+    accept_is_taken, check_is_taken, clock_is_taken, clusters_is_taken, demo_is_taken,
+    graph_is_taken, other_names_are_refused, period_is_taken, rate_is_taken, replay_is_taken,
+    run_is_taken, times_is_taken,
 };

@@ -103,7 +103,26 @@ d|graph|n|--groups|f|--groups=f
 d|clock|n|v|--groups|f
 d|check|n|--groups|f
 d|demo|1|2|3|--groups|f
+d|rate
+d|rate|g
+d|rate|g|d|x
+d|rate|g|d|--slack|1
+d|rate|g|d|--graph|g
+d|rate|g|d|--clusters|one
+d|rate|-g|d
+d|times
+d|times|n|d
+d|times|n|d|1|x
+d|times|n|d|-1
+d|times|n|d|1|--slack
+d|times|n|d|1|--slack|1|--slack|1
+d|times|n|d|1|--graph
+d|times|n|d|1|--groups
+d|times|n|d|1|--shake
+d|times|n|d|1|--jobs|2
+d|--slack=1|times|n|d|1
 # The words come before the numbers and the mode.
+d|times|n|d|x|y|--clusters|two
 d|run|n|--jobs|0|--clusters|two
 d|run|n|v|x|--jobs|65
 d|demo|x|0
@@ -156,6 +175,8 @@ d|graph|n|--slack|16|--shake
 d|accept|n|g|--slack|x
 d|period|n|d|--slack=-1
 d|period|n|d|--clusters|two|--slack|16
+d|times|n|d|1|--slack|16
+d|times|n|d|1|--slack|x|--clusters|two
 # The stop, whatever else is wrong with the mode.
 d|run|n|v|--stop|x
 d|run|n|v|--stop|+1
@@ -186,6 +207,14 @@ d|demo|0|4294967297|0
 # The turns, and the threads behind them.
 d|demo|0|1|65537
 d|demo|0|1|x
+d|times|n|d|65537
+d|times|n|d|x
+d|times|n|d|+1
+d|times|n|d|
+d|times|n|d|1.0
+d|times|n|d|000000000000000000000
+d|times|n|d|18446744073709551617
+d|times|n|d|x|--clusters|two
 d|demo|0|1|0|--jobs|65
 ";
 
@@ -208,6 +237,8 @@ d|graph|n|--slack|15|--shake
 d|accept|n|g|--slack|1|--clusters|two
 d|period|n|d|--slack|1|--clusters|two
 d|clusters|n|--clusters|two
+d|times|n|d|1|--clusters|two
+d|times|n|d|0|--slack|1|--clusters=
 d|clusters|n|--groups|f|--clusters=
 ";
 

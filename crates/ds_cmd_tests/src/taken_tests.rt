@@ -93,6 +93,18 @@ d|clusters|--clusters|bus|n -> clusters|n|bus|none
 d|clusters|n|--groups|f -> clusters|n|each|f
 d|clusters|--groups=|n|--clusters=one -> clusters|n|one|
 d|clusters|--|--groups -> clusters|--groups|each|none
+# The period of a graph that stands alone.
+d|rate|g|d -> rate|g|d
+d|rate|-|d -> rate|-|d
+d|rate|--|-g|--slack -> rate|-g|--slack
+# A timed run, of 0 to 65,536 turns in one to twenty digits.
+d|times|n|d|2 -> times|n|d|2|none|each|0|none
+d|times|n|d|0 -> times|n|d|0|none|each|0|none
+d|times|n|d|65536 -> times|n|d|65536|none|each|0|none
+d|times|n|d|00000000000000065536 -> times|n|d|65536|none|each|0|none
+d|times|n|d|7|--graph|g|--clusters|bus|--groups|f|--slack|15 -> times|n|d|7|g|bus|15|f
+d|times|--slack=1|n|--graph=g|d|--clusters=one|7 -> times|n|d|7|g|one|1|none
+d|times|n|--|--slack|7 -> times|n|--slack|7|none|each|0|none
 # The demonstration, up to its limits.
 d|demo|0|1|0 -> demo|0|1|0|1
 d|demo|7|4096|65536 -> demo|7|4096|65536|1

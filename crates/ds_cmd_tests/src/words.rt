@@ -2,8 +2,8 @@
 //! are those of a job, which stands behind ` -> `. A line that begins with `#` says what follows.
 use ds_base::Mode;
 use ds_cmd::{
-    AcceptJob, ClustersJob, DemoJob, FileName, GraphJob, Job, PeriodJob, ReplayJob, RunJob,
-    UsageFault, parse,
+    AcceptJob, ClustersJob, DemoJob, FileName, GraphJob, Job, PeriodJob, RateJob, ReplayJob,
+    RunJob, TimesJob, UsageFault, parse,
 };
 use std::alloc::{AllocError, Global};
 
@@ -74,6 +74,8 @@ fn has_words(job: &Job, words: &[&str]) -> bool {
         Job::Period(job) => is_period(job, words),
         Job::Demo(job) => is_demo(job, words),
         Job::Clusters(job) => is_clusters(job, words),
+        Job::Rate(job) => is_rate(job, words),
+        Job::Times(job) => is_times(job, words),
     }
 }
 
@@ -172,6 +174,27 @@ fn is_clusters(job: &ClustersJob, words: &[&str]) -> bool {
         Part::Word("clusters"),
         file(&job.net),
         mode(&job.clusters),
+        option(&job.groups),
+    ];
+    stand_for(words, &parts)
+}
+
+// Whether these are the words of the period of a graph that stands alone.
+fn is_rate(job: &RateJob, words: &[&str]) -> bool {
+    let parts = [Part::Word("rate"), file(&job.graph), file(&job.delays)];
+    stand_for(words, &parts)
+}
+
+// Whether these are the words of a timed run.
+fn is_times(job: &TimesJob, words: &[&str]) -> bool {
+    let parts = [
+        Part::Word("times"),
+        file(&job.net),
+        file(&job.delays),
+        Part::Number(job.turns as u64),
+        option(&job.graph),
+        mode(&job.clusters),
+        Part::Number(job.slack as u64),
         option(&job.groups),
     ];
     stand_for(words, &parts)

@@ -122,7 +122,7 @@ fn failed_reads<R: AllocGlobal + Threads + Sync>(
 fn each_read_fails_in_turn(rt: HostRuntime) -> Result<(), Fail> {
     let many = Many::new(rt.alloc())?;
     let least = [
-        10u64, 11, 10, 10, 10, 1, 1, 11, 2, 10, 1, 11, 11, 2, 11, 2, 0,
+        10u64, 11, 10, 10, 10, 1, 1, 11, 2, 10, 1, 11, 11, 2, 2, 2, 4, 11, 2, 0,
     ];
     for (line, least) in LINES.split('\n').zip(least.iter()) {
         let reads = failed_reads(&rt, &many, line)?;

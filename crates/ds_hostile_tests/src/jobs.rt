@@ -20,6 +20,9 @@ desync graph tog --shake
 desync replay tog v l --slack 1
 desync replay tog v l --transparent
 desync period tog d
+desync rate g d
+desync times tog d 1
+desync times tog d 1 --graph g --groups gr
 desync run tog v --groups gr
 desync clusters tog --groups gr
 desync demo 0 2 3 --jobs 2";
@@ -30,6 +33,8 @@ pub const FAULTS: &str = "1 desync run ring v
 ring: combinational cycle: y z
 %1 desync clusters tog --groups v
 v:1: unknown register 1
+%1 desync rate v d
+v:1: bad word 1
 %2 desync
 desync: bad command line
 %3 desync run tog nofile
@@ -46,6 +51,8 @@ const DELAYS: &str = "M0+ S0+ 3\nS0+ M0+ 4\nM0+ M0- 2\n";
 const PERIOD: &str = "period 7/1\ncycle M0+ S0+\npotential IN+ 0\npotential IN- 0\n\
      potential OUT+ 0\npotential OUT- 0\npotential M0+ 0\npotential M0- 2\npotential S0+ 3\n\
      potential S0- 3\n";
+
+const TIMES: &str = "IN+ 1 0\nOUT+ 1 0\nIN- 1 0\nOUT- 1 0\nM0+ 1 0\nM0- 1 2\nS0+ 1 3\nS0- 1 3\n";
 
 const GROUPS: &str = "q* # all\n";
 
@@ -111,7 +118,8 @@ impl Jobs {
             Some("graph") if line.ends_with(" --shake") => EXPANSION,
             Some("graph") => GRAPH,
             Some("accept") => RANKS,
-            Some("period") => PERIOD,
+            Some("period" | "rate") => PERIOD,
+            Some("times") => TIMES,
             Some("clusters") => CLUSTERS,
             Some("demo") => SUMS,
             Some("replay") => self.first.as_str(),

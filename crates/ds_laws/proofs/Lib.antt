@@ -4,6 +4,7 @@ pub mod Replayed
 pub mod Plain
 pub mod Front
 pub mod OneState
+pub mod OneTimes
 pub mod Stopped
 pub mod Handshakes
 pub mod Determined
@@ -18,3 +19,4 @@ pub mod OneRequired
 pub mod SoFar
 pub mod Uncut
 pub mod Grouping
+pub mod TimedLogs

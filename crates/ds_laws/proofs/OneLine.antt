@@ -38,18 +38,25 @@ use Rattle.ds_accept.specs.declared.fault.AcceptFault.TheVariants as accept
 use Rattle.ds_shake.specs.Expansion.{HasTooMany}
 use Rattle.ds_shake.specs.Laws.{ArcsFit}
 use Rattle.ds_astg.specs.Read.{graph_of_lines}
+use Rattle.ds_rank.specs.Order.{IsCycle}
+use Rattle.ds_rank.specs.Rank.{HasFreeArc}
+use Rattle.ds_rank.proofs.By.{cycle_by}
 use Rattle.ds_period.specs.Read.{delays_of}
+use Rattle.ds_period.specs.Timing.{HasCycle, Leads}
+use Rattle.ds_period.proofs.Circles.{cycle_closes}
 use Rattle.ds_replay.specs.Replay.{replay_of}
 use Rattle.ds_replay.specs.ReplayText.{IsReplayText}
 use Rattle.ds_replay.specs.declared.fault.ReplayKind.{ReplayKind}
 use Rattle.ds_cmd.specs.declared.job.Job.{Job}
-use Rattle.ds_cmd.specs.declared.job.Job.TheVariants.{Run, Clock, Check, Graph as GraphCommand, Replay, Accept, Demo, Period, Clusters}
+use Rattle.ds_cmd.specs.declared.job.Job.TheVariants.{Run, Clock, Check, Graph as GraphCommand, Replay, Accept, Demo, Period, Clusters, Rate, Times}
 use Rattle.ds_stage.specs.AcceptStage.{ranks_stage}
 use Rattle.ds_stage.specs.FaultText.{IsNetFaultText, blif_text, file_line, flat_text, net_fault_text, numbered_line, too_many_text, vector_text, with_blanks}
 use Rattle.ds_stage.specs.GraphStage.{IsGraphOf, controller_stage, drawn_stage, wanted_stage}
 use Rattle.ds_stage.specs.GraphText.{IsAcceptText, accept_text, astg_text}
 use Rattle.ds_stage.specs.PeriodStage.{IsPeriodText, delay_text, delays_stage, given_stage, timed_stage}
 use Rattle.ds_stage.specs.PlanStage.{IsOwnPlan, acceptable_stage, marked_stage, named_stage, plan_stage, planned_stage}
+use Rattle.ds_stage.specs.RateStage.{IsAcyclicLine, IsFreeLine, bare_graph_stage, bare_stage, cyclic_stage}
+use Rattle.ds_stage.specs.TimesStage.{IsTimesText, scheduled_stage}
 use Rattle.ds_stage.specs.ReplayStage.{fired_stage, log_stage, log_text, replayed_stage}
 use Rattle.ds_stage.specs.SplitStage.{IsInClusters, parted_stage, split_stage}
 use Rattle.ds_stage.specs.ClustersStage.{clustered_stage, clusters_stage, listed_stage}
@@ -59,10 +66,11 @@ use Rattle.ds_stage.specs.Stages.{OfBytes, accepted_stage, design_stage, file_st
 use Rattle.ds_stage.specs.StreamStage.{IsFaultLine, IsStreamLine, most_vectors, streamed_stage}
 use Rattle.ds_stage.proofs.Exclusive.{lines_exclusive, netlist_exclusive, result_exclusive, then_exclusive, vectors_exclusive}
 use Rattle.ds_stage.proofs.OneGraph.{one_graph}
+use Rattle.ds_stage.proofs.RateStages.{bare_exclusive}
 use Rattle.ds_stage.proofs.GroupStages.{groups_exclusive}
 use Rattle.ds_stage.proofs.PlanExclusive.{planned_exclusive, split_exclusive}
 use Rattle.ds_app.specs.Job.{run_stage, stages_of}
-use Rattle.ds_app.specs.JobStages.{accept_stage, clock_stage, graph_stage, listing_stage, period_stage, replay_stage}
+use Rattle.ds_app.specs.JobStages.{accept_stage, clock_stage, graph_stage, listing_stage, period_stage, rate_stage, replay_stage, times_stage}
 use Rattle.ds_app.specs.RunStage.{planned_run_stage, stopped_stage, traced_stage}
 use Rattle.ds_app.specs.Status.{AreTold, IsToldIn}
 use Rattle.ds_app.proofs.Exclusive.{told_file}
@@ -347,6 +355,43 @@ timed_one_line held file g told =
     (λ lines is. result_one_line (read_or_line file delay_text (delays_of g lines))))
     (λ delays line none. none)
 
+-- the times of the delays of a file
+scheduled_one_line : (held : List ℕ → Held) (file : List ℕ) (turns : ℕ) (g : Graph) → held file ≢ untold → HasOneLine (scheduled_stage held file turns g)
+scheduled_one_line held file turns g told =
+    last_one_line (delays_stage held file g) (λ (delays : List ℕ). giving (IsTimesText g delays turns))
+    (then_one_line (lines_stage held which.Delays file) (given_stage file g) (lines_exclusive held which.Delays file told) (lines_one_line held which.Delays file told)
+    (λ lines is. result_one_line (read_or_line file delay_text (delays_of g lines))))
+    (λ delays line none. none)
+
+-- a graph without a netlist
+module _ (file : List ℕ) (g : Graph) where
+  -- a cycle of arcs without tokens is a cycle
+  free_closes : (events : List ℕ) → IsCycle (HasFreeArc g) events → HasCycle g
+  free_closes events cycle =
+      cycle_closes g events (cycle_by (HasFreeArc g) (Leads g) (λ u v (k, arc, inside, is, (source, target, free)). (k, arc, inside, is, (source, target))) events cycle)
+
+  free_names : (line : List ℕ) → IsFreeLine file g line → (words : List (List ℕ)) × (line ≡ file_line file (codes "token-free cycle:" ++ with_blanks words))
+  free_names line (events, text, cycle, shown, spelt) =
+      (map (text_of_event g) events, spelt ∙ ap (file_line file) (one_some (accept_text g (accept.TokenFreeCycle events)) text (codes "token-free cycle:" ++ with_blanks (map (text_of_event g) events)) shown refl))
+
+  cyclic_one_line : HasOneLine (cyclic_stage file g)
+  cyclic_one_line line other (inl is) (inl also) = inr (record {
+    file = file;
+    text = codes "token-free cycle:";
+    of_cycle = inr refl;
+    first = free_names line is;
+    second = free_names other also;
+  })
+  cyclic_one_line line other (inl (events, text, cycle, shown, spelt)) (inr (none, also)) = absurd (none (free_closes events cycle))
+  cyclic_one_line line other (inr (none, is)) (inl (events, text, cycle, shown, spelt)) = absurd (none (free_closes events cycle))
+  cyclic_one_line line other (inr (none, is)) (inr (also_none, also)) = inl (is ∙ sym also)
+
+bare_one_line : (held : List ℕ → Held) (file : List ℕ) → held file ≢ untold → HasOneLine (bare_graph_stage held file)
+bare_one_line held file told =
+    then_one_line (lines_stage held which.Graph file) (bare_stage file) (lines_exclusive held which.Graph file told) (lines_one_line held which.Graph file told)
+    (λ lines are. then_one_line (result_stage (read_or_line file astg_text (graph_of_lines lines))) (cyclic_stage file) (result_exclusive (read_or_line file astg_text (graph_of_lines lines)))
+    (result_one_line (read_or_line file astg_text (graph_of_lines lines))) (λ g is. cyclic_one_line file g))
+
 -- so it is for each job
 module _ (faults : FaultsAreRefused) (one_net : OneFault) (one : OneGroupedClustering) (one_accept : OneAcceptFault) (fit : ArcsFit) (held : List ℕ → Held) where
   behind_net : (file : List ℕ) → held file ≢ untold → (next : Circuit → Stage (List ℕ)) → ((c : Circuit) → HasOneLine (next c)) → HasOneLine (then_stage (netlist_stage held file) next)
@@ -391,6 +436,13 @@ module _ (faults : FaultsAreRefused) (one_net : OneFault) (one : OneGroupedClust
   job_one_line (Clusters job) (told_net, grouped) =
       behind_net job.net told_net (listing_stage held job) (λ c.
       last_one_line (clustered_stage held job.net job.groups job.clusters c) (listed_stage c) (clustered_one_line held job.net job.groups job.clusters (told_file held job.groups grouped) c) (λ clusters line none. none))
+
+  job_one_line (Rate job) (told_graph, told_delays) =
+      then_one_line (bare_graph_stage held job.graph) (timed_stage held job.delays) (bare_exclusive held job.graph told_graph) (bare_one_line held job.graph told_graph)
+      (λ g is. timed_one_line held job.delays g told_delays)
+  job_one_line (Times job) (told_net, told_delays, told, grouped) =
+      behind_net job.net told_net (times_stage held job) (λ c. behind_plan job.net job.graph job.groups job.clusters job.slack told grouped c
+      (λ (p : Planned). scheduled_stage held job.delays job.turns p.graph) (λ p. scheduled_one_line held job.delays job.turns p.graph told_delays))
 
 -- a job is refused by one line, but for which cycle it names
 pub jobs_have_one_line : FaultsAreRefused → OneFault → OneGroupedClustering → OneAcceptFault → ArcsFit → JobsHaveOneLine

@@ -25,7 +25,7 @@ use Rattle.ds_rank.proofs.Once.{one_list_of_ranks_lem}
 use Rattle.ds_shake.proofs.One.{one_expansion_lem}
 use Rattle.ds_cmd.specs.Allowed.{AreAllowed}
 use Rattle.ds_cmd.specs.declared.job.Job.{Job}
-use Rattle.ds_cmd.specs.declared.job.Job.TheVariants.{Run, Clock, Check, Graph as GraphCommand, Replay, Accept, Demo, Period, Clusters}
+use Rattle.ds_cmd.specs.declared.job.Job.TheVariants.{Run, Clock, Check, Graph as GraphCommand, Replay, Accept, Demo, Period, Clusters, Rate, Times}
 use Rattle.ds_stage.specs.AcceptStage.{ranks_stage, ranks_text}
 use Rattle.ds_stage.specs.GraphStage.{controller_stage, drawn_stage, wanted_stage}
 use Rattle.ds_stage.specs.PlanStage.{planned_stage}
@@ -35,21 +35,26 @@ use Rattle.ds_stage.specs.Stages.{netlist_stage, report_stage, trace_stage}
 use Rattle.ds_stage.specs.ClustersStage.{clustered_stage, listed_stage}
 use Rattle.ds_stage.specs.SplitStage.{split_stage}
 use Rattle.ds_stage.specs.StreamStage.{most_vectors, streamed_stage}
+use Rattle.ds_stage.specs.PeriodStage.{delays_stage}
+use Rattle.ds_stage.specs.TimesStage.{scheduled_stage}
+use Rattle.ds_stage.proofs.PeriodStages.{delays_exclusive}
+use Rattle.ds_stage.proofs.TimesStages.{last_times_stage}
 use Rattle.ds_stage.proofs.Exclusive.{netlist_exclusive}
 use Rattle.ds_stage.proofs.OneGraph.{one_graph}
-use Rattle.ds_stage.proofs.PlanAccepted.{planned_circuit}
+use Rattle.ds_stage.proofs.PlanAccepted.{planned_circuit, planned_is_plan}
 use Rattle.ds_stage.proofs.PlanExclusive.{clustered_exclusive, planned_exclusive, split_exclusive}
 use Rattle.ds_stage.proofs.Streamed.{streamed_exclusive}
 use Rattle.ds_run.specs.Summed.{ones_in, ones_of}
 use Rattle.ds_app.specs.DemoStage.{IsSummary, summary_text}
 use Rattle.ds_app.specs.Job.{run_stage, stages_of}
-use Rattle.ds_app.specs.JobStages.{accept_stage, clock_stage, graph_stage, listing_stage}
+use Rattle.ds_app.specs.JobStages.{accept_stage, clock_stage, graph_stage, listing_stage, times_stage}
 use Rattle.ds_app.specs.RunStage.{planned_run_stage, traced_stage}
 use Rattle.ds_app.specs.Status.{AreTold}
 use Rattle.ds_app.proofs.Exclusive.{told_file}
 use Rattle.ds_laws.specs.OneText.{IsDetermined, JobsHaveOneText, RunsPrintTheClockedTrace}
 use Rattle.ds_laws.proofs.Determined.{replay_has_one_text}
 use Rattle.ds_laws.proofs.OneState.{texts_agree}
+use Rattle.ds_laws.proofs.OneTimes.{one_times_text}
 
 -- a stage gives one thing at most
 abbrev GivesOne : {A : Type 0} → Stage A → Type 0
@@ -166,6 +171,15 @@ module _ (faults : FaultsAreRefused) (one : OneGroupedClustering) (held : List �
       behind_netlist job.net told_net (listing_stage held job) (λ c is accepts.
       then_one (clustered_stage held job.net job.groups job.clusters c) (listed_stage c)
       ((clustered_exclusive one held job.net job.groups job.clusters (told_file held job.groups grouped) c).one) (λ clusters are text other is also. also ∙ sym is))
+
+  job_one (Rate job) allowed told determined = absurd determined
+  job_one (Times job) allowed (told_net, told_delays, told, grouped) determined =
+      behind_netlist job.net told_net (times_stage held job) (λ c is accepts.
+      then_one (planned_stage held job.net job.graph job.groups job.clusters job.slack c) (λ (p : Planned). scheduled_stage held job.delays job.turns p.graph)
+      ((planned_exclusive one held job.net job.graph job.groups job.clusters job.slack (told_file held job.graph told) (told_file held job.groups grouped) c).one)
+      (λ p planned. then_one (delays_stage held job.delays p.graph) (last_times_stage p.graph job.turns) ((delays_exclusive held job.delays told_delays p.graph).one)
+      (λ delays are text other means also.
+      one_times_text p.graph ((planned_is_plan held job.net job.graph job.groups job.clusters job.slack c p accepts planned).live) delays job.turns text other means also)))
 
 pub jobs_have_one_text : FaultsAreRefused → OneGroupedClustering → JobsHaveOneText
 jobs_have_one_text faults one held job allowed told determined text other is also = job_one faults one held job allowed told determined text other is also

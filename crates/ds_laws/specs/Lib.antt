@@ -7,4 +7,5 @@ pub mod OneText
 pub mod OneTrace
 pub mod OneLine
 pub mod Grouping
+pub mod TimedLogs
 pub mod Answered

@@ -3,16 +3,17 @@ use Rattle.std.specs.Prelude.{◌≡◌, ℕ, List, false, None}
 use Rattle.ds_outside.specs.Held.{Held}
 use Rattle.ds_cmd.specs.Allowed.{AreAllowed}
 use Rattle.ds_cmd.specs.declared.job.Job.{Job}
-use Rattle.ds_cmd.specs.declared.job.Job.TheVariants.{Run, Clock, Period}
+use Rattle.ds_cmd.specs.declared.job.Job.TheVariants.{Run, Clock, Period, Rate}
 use Rattle.ds_cmd.specs.declared.clock.ClockJob.{ClockJob}
 use Rattle.ds_cmd.specs.declared.run.RunJob.{RunJob}
 use Rattle.ds_app.specs.Job.{stages_of}
 use Rattle.ds_app.specs.Status.{AreTold}
 
--- the job is not `period`, and no `run` that prints its log or stops
+-- the job is not `period` or `rate`, and no `run` that prints its log or stops
 abbrev pub IsDetermined : Job → Type 0
 IsDetermined (Run job) = (job.log ≡ false) × (job.stop ≡ None)
 IsDetermined (Period job) = ⊥
+IsDetermined (Rate job) = ⊥
 IsDetermined job = Unit {0}
 
 -- such a job has one text at most, where its files tell what they hold

@@ -1,12 +1,13 @@
 //! Laws of the program as a whole, on which nothing of the program stands; each is the contract of
 //! a function that does nothing.
 //!
-//! Of texts: a job has one text, but of `period`, and of `run` with `--log` or `--stop`, nothing is
-//! said; `run` prints what `clock` prints, and with `--log` prints it before its log. Of logs: what
+//! Of texts: a job has one text, but of `period` and `rate`, and of `run` with `--log` or `--stop`,
+//! nothing is said; `run` prints what `clock` prints, and with `--log` prints it before its log. Of logs: what
 //! `run --log` writes is read and fired to its end, and `replay` then shows the clocked values of
 //! each register, and of a part of a log the first of them; what `run --stop --log` writes is fired
 //! to where that run has stopped, and `replay` prints what it printed, for the names of registers,
-//! as they are printed, are words that a reader takes. Of latches: what an open node has read stays
+//! as they are printed, are words that a reader takes; what `times` writes is a log with a time
+//! behind each firing. Of latches: what an open node has read stays
 //! until it closes, and a finished run has stored the clocked registers. Of orders: there is one
 //! from an event to another, ranks exclude circles, and in what `graph --shake` writes those of a
 //! data edge go by way of its request and its acknowledge. Of refused jobs: two lines that refuse
@@ -28,7 +29,7 @@ pub use groups::{printed_clusters_are_groups, without_file_of_groups};
 pub use latches::{read_rows_stay, stored_are_there};
 pub use logs::{
     logged_is_fired, printed_is_replayed, states_are_clocked_so_far, stopped_is_replayed,
-    whole_states_are_clocked,
+    times_are_logs, whole_states_are_clocked,
 };
 pub use names::names_are_plain;
 pub use orders::{one_order, orders_go_by_handshakes, ranked_has_no_cycle};

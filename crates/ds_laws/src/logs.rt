@@ -1,6 +1,7 @@
 //! Laws of logs: what is written is read, and fired to its end.
 ghost use Rattle.ds_laws.specs.Logs.{LoggedIsFired, PrintedIsReplayed, StoppedIsReplayed};
 ghost use Rattle.ds_laws.specs.Logs.{StatesAreClockedSoFar, WholeStatesAreClocked};
+ghost use Rattle.ds_laws.specs.TimedLogs.{TimesAreLogs};
 
 /// What a run with its log writes is read as a log and fired to its end.
 pub fn logged_is_fired()
@@ -27,4 +28,10 @@ pub fn printed_is_replayed()
 /// prints the lines before the log again.
 pub fn stopped_is_replayed()
     ensures { StoppedIsReplayed }
+{}
+
+/// What `times` prints are the lines of a legal log that has each event once a turn, each with a
+/// time behind it.
+pub fn times_are_logs()
+    ensures { TimesAreLogs }
 {}

@@ -1,6 +1,6 @@
 //! Whether a graph has a cycle.
-ghost use Rattle.std.specs.Prelude.{◌≡◌, IfOk, map, true, false};
-ghost use Rattle.ds_period.specs.Edges.{edge_of};
+ghost use Rattle.std.specs.Prelude.{◌≡◌, ◌↔◌, IfOk, IsTrue, map};
+ghost use Rattle.ds_rank.specs.Free.{edge_of_arc};
 ghost use Rattle.ds_period.specs.Timing.{HasCycle};
 
 use crate::zeros::zeros;
@@ -9,10 +9,10 @@ use ds_marked::{Arc, Marked};
 use ds_rank::{Edge, OrderFault, least_ranks};
 use std::alloc::{AllocError, Global};
 
-/// Whether some walk along the arcs of a graph ends where it begins.
+/// Whether some walk along the arcs of a graph ends where it begins. Takes time linear in events
+/// and arcs.
 pub fn has_cycle(alloc: Global, graph: &Marked) -> Result<bool, OutOfMemory>
-    ensures some { IfOk result (λ is. is ≡ true → HasCycle graph.now) }
-    ensures none { IfOk result (λ is. is ≡ false → ¬ HasCycle graph.now) }
+    ensures { IfOk result (λ is. IsTrue is ↔ HasCycle graph.now) }
 {
     let edges = edges(alloc, graph.arcs())?;
     let floors = zeros(alloc, graph.events().len())?;
@@ -25,7 +25,7 @@ pub fn has_cycle(alloc: Global, graph: &Marked) -> Result<bool, OutOfMemory>
 
 // The arcs as edges.
 fn edges(alloc: Global, arcs: &[Arc]) -> Result<Vec<Edge>, AllocError>
-    ensures { IfOk result (λ v. v.items ≡ map edge_of arcs.now) }
+    ensures { IfOk result (λ v. v.items ≡ map edge_of_arc arcs.now) }
 {
     let mut edges: Vec<Edge> = Vec::new(alloc);
     for arc in arcs {

@@ -47,7 +47,7 @@ pub record LeavesNothing {A : Type 0} (stage : Stage A) : Type 1 where
   pub only : (failed : OfFile) (stop : Stop) (text : List ℕ) → stage.leaves failed stop text → leaves_nothing stop text
 
 -- where a stage stops, no text is what is left
-no_text : {A : Type 0} (stage : Stage A) (failed : OfFile) (stop : Stop) → Stops stage failed stop → leaves_nothing stop []
+pub no_text : {A : Type 0} (stage : Stage A) (failed : OfFile) (stop : Stop) → Stops stage failed stop → leaves_nothing stop []
 no_text stage failed (Refused line) is = refl
 no_text stage failed (Unread line) is = refl
 no_text stage failed Unwritten is = is

@@ -17,9 +17,11 @@ pub mod PeriodStages
 pub mod PlanAccepted
 pub mod PlanExclusive
 pub mod PlanStages
+pub mod RateStages
 pub mod ReadNames
 pub mod ShortStream
 pub mod SplitStops
 pub mod Stages
 pub mod Streamed
 pub mod Streams
+pub mod TimesStages

@@ -50,7 +50,7 @@ module _ (held : List ℕ → Held) (file : List ℕ) where
 
   module _ (told : held file ≢ untold) where
     -- a file gives one list of delays, and is then not refused
-    delays_exclusive : (g : Graph) → IsExclusive (delays_stage held file g)
+    pub delays_exclusive : (g : Graph) → IsExclusive (delays_stage held file g)
     delays_exclusive g =
         then_exclusive (lines_stage held Delays file) (given_stage file g)
         (lines_exclusive held Delays file told)

@@ -14,5 +14,7 @@ pub mod PlanStage
 pub mod AcceptStage
 pub mod ReplayStage
 pub mod PeriodStage
+pub mod RateStage
+pub mod TimesStage
 pub mod Ends
 pub mod Laws

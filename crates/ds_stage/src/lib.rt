@@ -13,8 +13,10 @@
 //! (`specs/SplitStage`), `plan_netlist`, `plan_named` and `own_plan` plans (`specs/PlanStage`),
 //! `read_log` the state after a log (`specs/ReplayStage`), and `write_state` its text, which is
 //! that of `ds_replay`; all memory is taken before its first byte is written. `read_timing` reads
-//! the delays of `own_graph` (`specs/PeriodStage`), and `wanted_graph` makes the graph that is
-//! written (`specs/GraphStage`). `write_report` writes the report on a netlist (`specs/Report`).
+//! the delays of a graph's arcs (`specs/PeriodStage`), `read_bare_graph` a graph that stands alone
+//! (`specs/RateStage`), and `own_graph` makes the graph of the required orders, `wanted_graph` that
+//! which is written (`specs/GraphStage`). `specs/TimesStage` has the text of a timed run.
+//! `write_report` writes the report on a netlist (`specs/Report`).
 //!
 //! The lines that name faults of files, and the texts that stand in them. A line has the file, the
 //! number of the line where there is one, and the text of the fault; `file_line`, `numbered_line`
@@ -28,6 +30,7 @@
 //! them. Want of memory has no text, and when it comes is not promised.
 #![tactic(auto)]
 
+mod bare_graph;
 mod delays;
 mod expansion;
 mod fault_line;
@@ -47,6 +50,7 @@ mod state_text;
 mod stop;
 mod stream;
 
+pub use bare_graph::read_bare_graph;
 pub use delays::{own_graph, read_timing};
 pub use expansion::wanted_graph;
 pub use fault_line::{file_line, numbered_line, too_many, unread_line};

@@ -142,8 +142,8 @@ fn plan_in<'a>(
     accepted_plan(alloc, name, latches, graph)
 }
 
-// The graph of lines.
-fn graph_in(alloc: Global, name: &str, lines: &Lines<'_>) -> Result<Marked, Stop>
+/// The graph of lines, or their first fault.
+pub(crate) fn graph_in(alloc: Global, name: &str, lines: &Lines<'_>) -> Result<Marked, Stop>
     ensures { Answers (result_stage (read_or_line name.now astg_text_of (graph_in_lines lines.now)))
         Never result }
 {

@@ -20,4 +20,8 @@ mod groups_tests;
 #[cfg(test)]
 mod period_tests;
 #[cfg(test)]
+mod rate_tests;
+#[cfg(test)]
 mod shake_tests;
+#[cfg(test)]
+mod times_tests;

@@ -3,6 +3,7 @@ pub mod Legal
 pub mod Arcs
 pub mod Unique
 pub mod Orders
+pub mod OneOrder
 pub mod Legality
 pub mod Bounds
 pub mod Turns

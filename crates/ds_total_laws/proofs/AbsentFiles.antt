@@ -12,7 +12,7 @@ use Rattle.ds_latch.specs.Node.{Split, slackened}
 use Rattle.ds_latch.specs.Plan.{Planned}
 use Rattle.ds_cmd.specs.Line.{job_of}
 use Rattle.ds_cmd.specs.declared.job.Job.{Job}
-use Rattle.ds_cmd.specs.declared.job.Job.TheVariants.{Run, Clock, Check, Graph, Replay, Accept, Demo, Period, Clusters}
+use Rattle.ds_cmd.specs.declared.job.Job.TheVariants.{Run, Clock, Check, Graph, Replay, Accept, Demo, Period, Clusters, Rate, Times}
 use Rattle.ds_replay.specs.ReplayText.{IsReplayText}
 use Rattle.ds_stage.specs.declared.stop.Stop.TheVariants.{Unwritten}
 use Rattle.ds_stage.specs.Ends.{RoseIn}
@@ -27,9 +27,12 @@ use Rattle.ds_stage.specs.PlanStage.{marked_stage, plan_stage, planned_stage}
 use Rattle.ds_stage.specs.AcceptStage.{ranks_stage}
 use Rattle.ds_stage.specs.ReplayStage.{fired_stage, log_stage, replayed_stage}
 use Rattle.ds_stage.specs.PeriodStage.{IsPeriodText, delays_stage, given_stage, timed_stage}
+use Rattle.ds_stage.specs.RateStage.{bare_graph_stage, bare_stage}
+use Rattle.ds_stage.specs.TimesStage.{IsTimesText, scheduled_stage}
+use Rattle.ds_stage.proofs.RateStages.{bare_nothing}
 use Rattle.ds_stage.proofs.Left.{LeavesNothing, netlist_nothing, planned_nothing, split_nothing, vectors_nothing}
 use Rattle.ds_app.specs.Job.{run_stage, stages_of}
-use Rattle.ds_app.specs.JobStages.{accept_stage, clock_stage, graph_stage, listing_stage, period_stage, replay_stage}
+use Rattle.ds_app.specs.JobStages.{accept_stage, clock_stage, graph_stage, listing_stage, period_stage, rate_stage, replay_stage, times_stage}
 use Rattle.ds_app.specs.RunStage.{planned_run_stage, stopped_stage, traced_stage}
 use Rattle.ds_app.specs.Status.{Call, IsAnswered, IsDone, IsNoLine, IsRefused, IsUnwritten}
 use Rattle.ds_total_laws.specs.Absent.{AbsentFilesAreUnread, IsAbsentIn, LacksFile}
@@ -144,6 +147,11 @@ timed_mute held file g gone =
     mute_first (delays_stage held file g) (λ (delays : List ℕ). giving (IsPeriodText g delays))
     (mute_first (lines_stage held Delays file) (given_stage file g) (lines_mute held Delays file gone))
 
+scheduled_mute : (held : List ℕ → Held) (file : List ℕ) (turns : ℕ) (g : Marked) → held file ≡ absent → IsMute (scheduled_stage held file turns g)
+scheduled_mute held file turns g gone =
+    mute_first (delays_stage held file g) (λ (delays : List ℕ). giving (IsTimesText g delays turns))
+    (mute_first (lines_stage held Delays file) (given_stage file g) (lines_mute held Delays file gone))
+
 -- a job one of whose files is not there
 job_mute : (held : List ℕ → Held) (job : Job) → LacksFile held job → IsMute (stages_of held job)
 job_mute held (Run job) (inl net) = mute_first (netlist_stage held job.net) (run_stage held job) (netlist_mute held job.net net)
@@ -216,6 +224,24 @@ job_mute held (Clusters job) (inr groups) =
     mute_next (netlist_stage held job.net) (listing_stage held job) (netlist_nothing held job.net) (λ c.
     mute_first (clustered_stage held job.net job.groups job.clusters c) (listed_stage c)
     (mute_first (groups_stage held job.groups c) (clusters_stage job.net job.clusters c) (groups_mute held job.groups c groups)))
+job_mute held (Rate job) (inl graph) =
+    mute_first (bare_graph_stage held job.graph) (timed_stage held job.delays)
+    (mute_first (lines_stage held which.Graph job.graph) (bare_stage job.graph) (lines_mute held which.Graph job.graph graph))
+job_mute held (Rate job) (inr delays) =
+    mute_next (bare_graph_stage held job.graph) (timed_stage held job.delays) (bare_nothing held job.graph) (λ g. timed_mute held job.delays g delays)
+job_mute held (Times job) (inl net) = mute_first (netlist_stage held job.net) (times_stage held job) (netlist_mute held job.net net)
+job_mute held (Times job) (inr (inl delays)) =
+    mute_next (netlist_stage held job.net) (times_stage held job) (netlist_nothing held job.net) (λ c.
+    mute_next (planned_stage held job.net job.graph job.groups job.clusters job.slack c) (λ (p : Planned). scheduled_stage held job.delays job.turns p.graph)
+    (planned_nothing held job.net job.graph job.groups job.clusters job.slack c) (λ p. scheduled_mute held job.delays job.turns p.graph delays))
+job_mute held (Times job) (inr (inr (inl graph))) =
+    mute_next (netlist_stage held job.net) (times_stage held job) (netlist_nothing held job.net) (λ c.
+    mute_first (planned_stage held job.net job.graph job.groups job.clusters job.slack c) (λ (p : Planned). scheduled_stage held job.delays job.turns p.graph)
+    (planned_mute held job.net job.graph job.groups job.clusters job.slack c graph))
+job_mute held (Times job) (inr (inr (inr groups))) =
+    mute_next (netlist_stage held job.net) (times_stage held job) (netlist_nothing held job.net) (λ c.
+    mute_first (planned_stage held job.net job.graph job.groups job.clusters job.slack c) (λ (p : Planned). scheduled_stage held job.delays job.turns p.graph)
+    (grouped_mute held job.net job.graph job.groups job.clusters job.slack c groups))
 
 -- words are those of one job
 same_job : (words : List (List ℕ)) (one other : Job) → job_of words ≡ Ok one → job_of words ≡ Ok other → one ≡ other

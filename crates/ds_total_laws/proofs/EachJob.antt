@@ -6,11 +6,13 @@ use Rattle.ds_latch.specs.Node.{Split, slackened}
 use Rattle.ds_latch.specs.Plan.{Planned}
 use Rattle.ds_cmd.specs.Allowed.{AreAllowed}
 use Rattle.ds_cmd.specs.declared.job.Job.{Job}
-use Rattle.ds_cmd.specs.declared.job.Job.TheVariants.{Run, Clock, Check, Graph, Replay, Accept, Demo, Period, Clusters}
+use Rattle.ds_cmd.specs.declared.job.Job.TheVariants.{Run, Clock, Check, Graph, Replay, Accept, Demo, Period, Clusters, Rate, Times}
 use Rattle.ds_stage.specs.AcceptStage.{ranks_stage}
 use Rattle.ds_stage.specs.GraphStage.{controller_stage}
 use Rattle.ds_stage.specs.PeriodStage.{timed_stage}
 use Rattle.ds_stage.specs.PlanStage.{planned_stage}
+use Rattle.ds_stage.specs.TimesStage.{scheduled_stage}
+use Rattle.ds_stage.proofs.PlanAccepted.{planned_is_plan}
 use Rattle.ds_stage.specs.ReplayStage.{replayed_stage}
 use Rattle.ds_groups.specs.Names.{register_names}
 use Rattle.ds_groups.specs.Written.{clusters_text}
@@ -19,7 +21,7 @@ use Rattle.ds_stage.specs.SplitStage.{split_stage}
 use Rattle.ds_stage.specs.Stage.{then_stage}
 use Rattle.ds_stage.specs.Stages.{report_stage, vectors_stage}
 use Rattle.ds_app.specs.Job.{run_stage, stages_of}
-use Rattle.ds_app.specs.JobStages.{accept_stage, clock_stage, graph_stage, listing_stage, period_stage, replay_stage}
+use Rattle.ds_app.specs.JobStages.{accept_stage, clock_stage, graph_stage, listing_stage, period_stage, replay_stage, times_stage}
 use Rattle.ds_app.specs.RunStage.{planned_run_stage}
 use Rattle.ds_total_laws.specs.Decided.{IsDecided, JobsAreDecided}
 use Rattle.ds_total_laws.specs.There.{FilesAreThere}
@@ -27,6 +29,7 @@ use Rattle.ds_total_laws.proofs.Decided.{then_decided}
 use Rattle.ds_total_laws.proofs.Demos.{demo_decided}
 use Rattle.ds_total_laws.proofs.Netlists.{behind_netlist}
 use Rattle.ds_total_laws.proofs.Plans.{planned_decided}
+use Rattle.ds_total_laws.proofs.RateTexts.{rate_decided, scheduled_decided}
 use Rattle.ds_total_laws.proofs.Splits.{clustered_decided, controller_decided, ready_with, split_decided, split_ready}
 use Rattle.ds_total_laws.proofs.Texts.{clock_decided, ranks_decided, replay_decided, report_decided, run_decided, timed_decided}
 
@@ -65,6 +68,12 @@ module _ (held : List ℕ → Held) where
       behind_netlist held job.net (listing_stage held job) net (λ c range accepts.
       then_decided (clustered_stage held job.net job.groups job.clusters c) (listed_stage c) (clustered_decided held job.net job.groups job.clusters groups c accepts)
       (λ clusters are. inl (clusters_text (register_names c) clusters, refl)))
+  job_decided (Rate job) allowed (graph, delays) = rate_decided held job graph delays
+  job_decided (Times job) allowed (net, delays, graph, groups) =
+      behind_netlist held job.net (times_stage held job) net (λ c range accepts.
+      then_decided (planned_stage held job.net job.graph job.groups job.clusters job.slack c) (λ (p : Planned). scheduled_stage held job.delays job.turns p.graph)
+      (planned_decided held job.net job.graph job.groups job.clusters job.slack graph groups c accepts)
+      (λ p planned. scheduled_decided held job.delays job.turns p.graph (planned_is_plan held job.net job.graph job.groups job.clusters job.slack c p accepts planned).live delays))
 
 -- each job is decided
 pub jobs_are_decided : JobsAreDecided

@@ -6,6 +6,7 @@ pub mod LineSome
 pub mod Splits
 pub mod Plans
 pub mod Texts
+pub mod RateTexts
 pub mod Demos
 pub mod EachJob
 pub mod Told

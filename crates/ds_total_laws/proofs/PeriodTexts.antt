@@ -11,13 +11,16 @@ use Rattle.ds_period.specs.Timing.{timed_arcs}
 use Rattle.ds_period_laws.proofs.Agree.{graphs_have_one_period}
 use Rattle.ds_stage.specs.PeriodStage.{IsPeriodText, delay_text, delays_stage, given_stage, period_text, timed_stage}
 use Rattle.ds_stage.specs.PlanStage.{planned_stage}
+use Rattle.ds_stage.specs.RateStage.{bare_graph_stage}
 use Rattle.ds_stage.specs.Stage.{IsExclusive, Stage, giving, then_stage}
 use Rattle.ds_stage.specs.Stages.{lines_stage, netlist_stage, read_or_line}
 use Rattle.ds_stage.proofs.Exclusive.{lines_exclusive, netlist_exclusive, result_exclusive, then_exclusive}
+use Rattle.ds_stage.proofs.PeriodStages.{delays_exclusive}
 use Rattle.ds_stage.proofs.PlanExclusive.{planned_exclusive}
+use Rattle.ds_stage.proofs.RateStages.{bare_exclusive}
 use Rattle.ds_app.specs.JobStages.{period_stage}
 use Rattle.ds_app.proofs.Exclusive.{told_file}
-use Rattle.ds_total_laws.specs.Periods.{HaveOnePeriod, OnePeriodText, PeriodsHaveOneText}
+use Rattle.ds_total_laws.specs.Periods.{HaveOnePeriod, HaveOneRate, OnePeriodText, PeriodsHaveOneText, RatesHaveOneText}
 
 -- two texts of the period of a graph differ in the line of the cycle alone
 pub one_period_text : OnePeriodText
@@ -67,3 +70,16 @@ periods_have_one_text held job (told, delays_told, graph_told, groups_told) =
       are_delays = are_delays;
       differ = one_period_text g delays text other is also;
     })))
+
+-- so do two texts of `rate`
+pub rates_have_one_text : RatesHaveOneText
+rates_have_one_text held job (told, delays_told) =
+    behind_one (HaveOneRate held job) (bare_graph_stage held job.graph) (timed_stage held job.delays) ((bare_exclusive held job.graph told).one) (λ g is_graph.
+    behind_one (HaveOneRate held job) (delays_stage held job.delays g) (λ (delays : List ℕ). giving (IsPeriodText g delays)) ((delays_exclusive held job.delays delays_told g).one)
+    (λ delays are_delays text other is also. record {
+      graph = g;
+      delays = delays;
+      is_graph = is_graph;
+      are_delays = are_delays;
+      differ = one_period_text g delays text other is also;
+    }))

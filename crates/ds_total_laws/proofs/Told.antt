@@ -2,7 +2,7 @@
 use Rattle.std.proofs.Common.{◌≢◌, ℕ, List, Option, None, Some, inl, inr}
 use Rattle.ds_outside.specs.Held.{Held, untold}
 use Rattle.ds_cmd.specs.declared.job.Job.{Job}
-use Rattle.ds_cmd.specs.declared.job.Job.TheVariants.{Run, Clock, Check, Graph, Replay, Accept, Demo, Period, Clusters}
+use Rattle.ds_cmd.specs.declared.job.Job.TheVariants.{Run, Clock, Check, Graph, Replay, Accept, Demo, Period, Clusters, Rate, Times}
 use Rattle.ds_cmd.proofs.AllowedNumbers.{words_yield}
 use Rattle.ds_app.specs.Status.{AreTold, IsToldIn}
 use Rattle.ds_total_laws.specs.Statuses.{StatusesAreTold}
@@ -30,6 +30,8 @@ files_told held (Accept job) (net, graph, groups) = (file_told (held job.net) ne
 files_told held (Demo job) there = tt
 files_told held (Period job) (net, delays, graph, groups) = (file_told (held job.net) net, file_told (held job.delays) delays, named_told held job.graph graph, named_told held job.groups groups)
 files_told held (Clusters job) (net, groups) = (file_told (held job.net) net, named_told held job.groups groups)
+files_told held (Rate job) (graph, delays) = (file_told (held job.graph) graph, file_told (held job.delays) delays)
+files_told held (Times job) (net, delays, graph, groups) = (file_told (held job.net) net, file_told (held job.delays) delays, named_told held job.graph graph, named_told held job.groups groups)
 
 -- a job that is decided has its status
 pub statuses_are_told : StatusesAreTold

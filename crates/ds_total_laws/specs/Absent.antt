@@ -4,7 +4,7 @@ use Rattle.ds_outside.specs.Held.{Held, absent}
 use Rattle.ds_cmd.specs.Line.{job_of}
 use Rattle.ds_cmd.specs.declared.job.Job.{Job}
 use Rattle.ds_cmd.specs.declared.job.Job.TheVariants.{Run, Clock, Check, Graph, Replay, Accept}
-use Rattle.ds_cmd.specs.declared.job.Job.TheVariants.{Demo, Period, Clusters}
+use Rattle.ds_cmd.specs.declared.job.Job.TheVariants.{Demo, Period, Clusters, Rate, Times}
 use Rattle.ds_app.specs.Status.{Call, IsAnswered, IsRefused}
 
 -- a file is named, and is not there
@@ -27,6 +27,9 @@ LacksFile held (Demo job) = ⊥
 LacksFile held (Period job) = (held job.net ≡ absent) ⊎ (held job.delays ≡ absent)
     ⊎ IsAbsentIn held job.graph ⊎ IsAbsentIn held job.groups
 LacksFile held (Clusters job) = (held job.net ≡ absent) ⊎ IsAbsentIn held job.groups
+LacksFile held (Rate job) = (held job.graph ≡ absent) ⊎ (held job.delays ≡ absent)
+LacksFile held (Times job) = (held job.net ≡ absent) ⊎ (held job.delays ≡ absent)
+    ⊎ IsAbsentIn held job.graph ⊎ IsAbsentIn held job.groups
 
 -- a call whose words are a job, one of whose files is not there, has status 3, or 4; or status 1,
 -- where a stage refuses that comes before each file that is not there

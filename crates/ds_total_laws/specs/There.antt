@@ -3,7 +3,7 @@ use Rattle.std.specs.Prelude.{◌≡◌, ℕ, List, Option, None, Some}
 use Rattle.ds_outside.specs.Held.{Held, bytes}
 use Rattle.ds_cmd.specs.declared.job.Job.{Job}
 use Rattle.ds_cmd.specs.declared.job.Job.TheVariants.{Run, Clock, Check, Graph, Replay, Accept}
-use Rattle.ds_cmd.specs.declared.job.Job.TheVariants.{Demo, Period, Clusters}
+use Rattle.ds_cmd.specs.declared.job.Job.TheVariants.{Demo, Period, Clusters, Rate, Times}
 
 -- a file is there, with bytes
 abbrev pub HasBytes : Held → Type 0
@@ -29,3 +29,6 @@ FilesAreThere held (Demo job) = Unit {0}
 FilesAreThere held (Period job) = HasBytes (held job.net) × HasBytes (held job.delays)
     × HasBytesIn held job.graph × HasBytesIn held job.groups
 FilesAreThere held (Clusters job) = HasBytes (held job.net) × HasBytesIn held job.groups
+FilesAreThere held (Rate job) = HasBytes (held job.graph) × HasBytes (held job.delays)
+FilesAreThere held (Times job) = HasBytes (held job.net) × HasBytes (held job.delays)
+    × HasBytesIn held job.graph × HasBytesIn held job.groups

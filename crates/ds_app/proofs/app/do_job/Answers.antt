@@ -150,3 +150,33 @@ returns-in-Clusters-clause-same_reads g c = c.list_clusters.ensures.same_reads
 
 pub returns-in-Clusters-clause-same_writes : goal.returns-in-Clusters-clause-same_writes
 returns-in-Clusters-clause-same_writes g c = c.list_clusters.ensures.same_writes
+
+pub returns-in-Rate-clause-value : goal.returns-in-Rate-clause-value
+returns-in-Rate-clause-value g c = rw c.in-Rate.is c.rate.ensures.value
+
+pub returns-in-Rate-clause-same_held : goal.returns-in-Rate-clause-same_held
+returns-in-Rate-clause-same_held g c = c.rate.ensures.same_held
+
+pub returns-in-Rate-clause-same_reads : goal.returns-in-Rate-clause-same_reads
+returns-in-Rate-clause-same_reads g c = c.rate.ensures.same_reads
+
+pub returns-in-Rate-clause-same_writes : goal.returns-in-Rate-clause-same_writes
+returns-in-Rate-clause-same_writes g c = c.rate.ensures.same_writes
+
+pub times-requires-clause-turns : goal.times-requires-clause-turns
+times-requires-clause-turns g c = (subst AreAllowed c.in-Times.is c.requires).0
+
+pub times-requires-clause-slack : goal.times-requires-clause-slack
+times-requires-clause-slack g c = (subst AreAllowed c.in-Times.is c.requires).1
+
+pub returns-in-Times-clause-value : goal.returns-in-Times-clause-value
+returns-in-Times-clause-value g c = rw c.in-Times.is c.times.ensures.value
+
+pub returns-in-Times-clause-same_held : goal.returns-in-Times-clause-same_held
+returns-in-Times-clause-same_held g c = c.times.ensures.same_held
+
+pub returns-in-Times-clause-same_reads : goal.returns-in-Times-clause-same_reads
+returns-in-Times-clause-same_reads g c = c.times.ensures.same_reads
+
+pub returns-in-Times-clause-same_writes : goal.returns-in-Times-clause-same_writes
+returns-in-Times-clause-same_writes g c = c.times.ensures.same_writes

@@ -6,7 +6,10 @@ use Rattle.ds_cmd.proofs.times.command.Goals as goal
 
 pub subcommand-requires : goal.subcommand-requires
 subcommand-requires c = subst AreLocal (sym c.in_ok-args.ensures.items)
-    (c.word.ensures.local, (c.word-2.ensures.local, (c.word-3.ensures.local, (c.option.ensures.local, (c.option-2.ensures.local, (c.option-3.ensures.local, tt))))))
+    (c.word.ensures.local, (c.word-2.ensures.local, (c.word-3.ensures.local, (c.option.ensures.local, (c.option-2.ensures.local, (c.option-3.ensures.local, (c.option-4.ensures.local, tt)))))))
 
 pub returns : goal.returns
-returns c = shaped _ _ _ _ c.subcommand.ensures (ap (map rule_of) c.in_ok-args.ensures.items ∙ (ap₂ ◌∷◌ c.word.ensures.rule (ap₂ ◌∷◌ c.word-2.ensures.rule (ap₂ ◌∷◌ c.word-3.ensures.rule (ap₂ ◌∷◌ c.option.ensures.rule (ap₂ ◌∷◌ c.option-2.ensures.rule (ap₂ ◌∷◌ c.option-3.ensures.rule refl)))))))
+returns c = shaped _ _ _ _ c.subcommand.ensures (ap (map rule_of) c.in_ok-args.ensures.items
+    ∙ (ap₂ ◌∷◌ c.word.ensures.rule (ap₂ ◌∷◌ c.word-2.ensures.rule (ap₂ ◌∷◌ c.word-3.ensures.rule
+    (ap₂ ◌∷◌ c.option.ensures.rule (ap₂ ◌∷◌ c.option-2.ensures.rule (ap₂ ◌∷◌ c.option-3.ensures.rule
+    (ap₂ ◌∷◌ c.option-4.ensures.rule refl))))))))

@@ -9,3 +9,6 @@ returns-in_err-new-2 c = wants_memory _ _ c.from_residual-in_err-new-2.ensures.1
 
 pub returns-in_err-named : goal.returns-in_err-named
 returns-in_err-named c = wants_memory _ _ c.from_residual-in_err-named.ensures.1
+
+pub returns-in_err-named-2 : goal.returns-in_err-named-2
+returns-in_err-named-2 c = wants_memory _ _ c.from_residual-in_err-named-2.ensures.1
