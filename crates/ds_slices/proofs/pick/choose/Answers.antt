@@ -1,0 +1,11 @@
+use Rattle.std.proofs.Common.{◌≡◌, ◌+◌, ◌*◌, ◌<◌, ℕ, get_or, arith}
+use Rattle.std.specs.Int.{bit_at}
+use Rattle.std.proofs.lemmas.Nat.Bits.{bit_at-lt}
+use Rattle.ds_slices.proofs.PickedBits.{by_more, by_one, chosen_one, chosen_zero}
+use Rattle.ds_slices.proofs.pick.choose.Goals as goal
+
+pub returns : goal.returns
+returns c = record {
+  zeros = λ k is. chosen_zero c.args.choice c.args.zero c.args.one k is;
+  ones = λ k is. chosen_one c.args.choice c.args.zero c.args.one k is;
+}
