@@ -12,9 +12,11 @@ use std::alloc::Global;
 pub(crate) fn links_of(alloc: Global, design: &Design) -> Result<Vec<Gate>, OutOfMemory>
     ensures ok { IfOk result (λ v. v.items ≡ links design.now) }
 {
-    let mut links: Vec<Gate> = Vec::new(alloc);
-    push_tables(alloc, &mut links, design.tables())?;
-    push_registers(alloc, &mut links, design.registers())?;
+    let tables = design.tables();
+    let registers = design.registers();
+    let mut links: Vec<Gate> = Vec::with_capacity(alloc, tables.len() + registers.len())?;
+    push_tables(alloc, &mut links, tables)?;
+    push_registers(alloc, &mut links, registers)?;
     Ok(links)
 }
 

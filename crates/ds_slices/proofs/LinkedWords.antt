@@ -19,7 +19,10 @@ use Rattle.ds_design.specs.declared.design.Register.{Register}
 use Rattle.ds_feedback.specs.Links.{link_of_register, link_of_table, links}
 use Rattle.ds_feedback.specs.Sequence.{IsSequence}
 use Rattle.ds_slices.specs.Linked.{AreLinked, IsLinkWord, LeavesSources, SetsLink, linked_net}
-use Rattle.ds_slices.specs.Turns.{turn_row}
+use Rattle.ds_cover.specs.Bank.{Driven, driven_at}
+use Rattle.ds_design.specs.Banked.{IsBankOf}
+use Rattle.ds_slices.specs.Picked.{IsPackedWord}
+use Rattle.ds_slices.specs.Turns.{IsShifted, turn_row}
 use Rattle.ds_slices.proofs.TurnBits.{value_in}
 
 module _ (c : Circuit) where
@@ -147,3 +150,43 @@ module _ (c : Circuit) (accepted : IsAccepted c) (start : Row) (order : List ℕ
       let (j, below, at) = sequence.all k (omega arith) in
       let place : get_or order j 0 ≡ k = get_or_default order j 0 k below ∙ at in
       subst (λ (p : ℕ). IsLinkWord c start words p (get_or words (linked_net c p) 0)) place (done.told j below)
+
+-- the word of a packed table is that of its link
+pub table_set : (c : Circuit) (start : Row) (bank : List Driven) → IsBankOf c.tables bank → (old new : List ℕ) (k word : ℕ) → k < length c.tables
+    → new ≡ set old (driven_at bank k).output word → IsPackedWord (driven_at bank k).cover old word → SetsLink c start k old new
+table_set c start bank banked old new k word inside is packed =
+    let none : Gate = record { table = record { inputs = []; rows = []; on = true }; output = 0; line = 0 } in
+    let driven = banked.table k none inside in
+    let long = length-map c.tables (λ (t : Gate). t.output) in
+    let net : (driven_at bank k).output ≡ linked_net c k =
+    driven.drives ∙ sym (get_or-left (table_nets c) (register_nets c) k 0 (omega arith) ∙ get_or-map (λ (t : Gate). t.output) c.tables k none 0 inside) in
+    record {
+      word = word;
+      sets = is ∙ ap (λ (n : ℕ). set old n word) net;
+      is = record {
+        table = λ d within j below. packed j below ∙ (banked.table k d inside).packs.value (turn_row old j);
+        register = λ i d within at. absurd (omega arith);
+      };
+    }
+
+-- and that of a register
+pub register_set : (c : Circuit) (start : Row) (old new : List ℕ) (i word : ℕ) (r : Register) → i < length c.registers → r ≡ get_or c.registers i r
+    → new ≡ set old r.output word → IsShifted (value_at start i) (get_or old r.data_net 0) word → SetsLink c start (length c.tables + i) old new
+register_set c start old new i word r inside own is shifted =
+    let long = length-map c.tables (λ (t : Gate). t.output) in
+    let net : r.output ≡ linked_net c (length c.tables + i) =
+    ap (λ (s : Register). s.output) own ∙ sym (get_or-right (table_nets c) (register_nets c) i (length c.tables + i) 0 (omega arith)
+    ∙ get_or-map (λ (s : Register). s.output) c.registers i r 0 inside) in
+    record {
+      word = word;
+      sets = is ∙ ap (λ (n : ℕ). set old n word) net;
+      is = record {
+        table = λ d within. absurd (omega arith);
+        register = λ j d within at.
+            let same : i ≡ j = omega arith in
+            let data : r.data_net ≡ (get_or c.registers j d).data_net =
+            ap (λ (s : Register). s.data_net) (own ∙ (get_or_default c.registers i r d inside ∙ ap (λ (n : ℕ). get_or c.registers n d) same)) in
+            subst (λ (n : ℕ). IsShifted (value_at start n) (get_or old (get_or c.registers j d).data_net 0) word) same
+            (subst (λ (n : ℕ). IsShifted (value_at start i) (get_or old n 0) word) data shifted);
+      };
+    }
