@@ -11,6 +11,6 @@
 mod edges;
 mod links;
 mod order;
-mod sequence;
+mod unclocked;
 
-pub use sequence::sequence;
+pub use unclocked::sequence;

@@ -1,10 +1,10 @@
-use Rattle.std.proofs.Common.{◌≡◌, ◌∙◌, ◌<◌, ◌≤◌, ◌+◌, ◌^◌, ℕ, List, length, get_or, ap, sym, subst, arith}
+use Rattle.std.proofs.Common.{◌≡◌, ◌∙◌, ◌<◌, ◌^◌, ℕ, List, length, sym, subst, arith}
 use Rattle.std.proofs.Math.ListN.{replicate}
 use Rattle.std.specs.List.{slice_index}
 use Rattle.std.proofs.lemmas.List.{get_or-replicate, length-replicate}
 use Rattle.std.proofs.lemmas.Result.{IfOk-weaker}
 use Rattle.ds_rank.specs.declared.edge.Edge.{Edge}
-use Rattle.ds_rank.specs.Order.{HasEdge, IsCycle, IsRanks}
+use Rattle.ds_rank.specs.Order.{HasEdge, IsRanks}
 use Rattle.ds_rank.proofs.By.{cycle_by}
 use Rattle.ds_netlist.specs.Edges.{FeedsIn, edges_of}
 use Rattle.ds_netlist.proofs.Fed.{fed_ends, fed_from, fed_into}
