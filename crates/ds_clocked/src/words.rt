@@ -1,6 +1,6 @@
 //! The lines of a window in which no register feeds back and all values are known: 64 turns at
 //! once.
-ghost use Rattle.std.specs.Prelude.{◌≡◌, ◌×◌, ◌↔◌, ◌+◌, ◌-◌, ◌^◌, ◌<◌, ◌≤◌, All, length, IfOk, IfSome};
+ghost use Rattle.std.specs.Prelude.{◌≡◌, ◌↔◌, ◌+◌, ◌-◌, ◌^◌, ◌<◌, ◌≤◌, All, length, IfOk, IfSome};
 ghost use Rattle.std.specs.Prelude.{IsTrue};
 ghost use Rattle.ds_base.specs.Values.{AreKnown};
 ghost use Rattle.ds_cover.specs.Cover.{values_at};

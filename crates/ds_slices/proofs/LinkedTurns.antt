@@ -1,13 +1,12 @@
 -- Words of columns, tables and registers are turns of a run.
-use Rattle.std.proofs.Common.{◌≡◌, ◌≢◌, ◌∙◌, ℕ, zero, suc, ◌+◌, ◌<◌, ◌≤◌, List, [], ◌∷◌, ◌++◌, None, length, get_or, map, refl, sym, ap, arith, subst}
+use Rattle.std.proofs.Common.{◌≡◌, ◌≢◌, ◌∙◌, ℕ, zero, suc, ◌+◌, ◌<◌, List, [], ◌++◌, None, length, get_or, refl, sym, ap, arith, subst}
 use Rattle.std.specs.Prelude.{All, Contains}
 use Rattle.std.specs.Int.{bit_at}
 use Rattle.std.proofs.lemmas.List.{append_assoc, get_or-map, get_or_default, length-append, length-map}
-use Rattle.std.proofs.lemmas.List.Elements.{Contains-append_left, Contains-append_right, Contains-get_or}
+use Rattle.std.proofs.lemmas.List.Elements.{Contains-append_right, Contains-get_or}
 use Rattle.std.proofs.lemmas.Nat.Bits.{bit_at-zero}
 use Rattle.ds_base.proofs.Pairs.{get_or-left, get_or-right}
-use Rattle.ds_base.specs.Values.{AreKnown, Row}
-use Rattle.ds_base.specs.declared.value.Value.{Value}
+use Rattle.ds_base.specs.Values.{Row}
 use Rattle.ds_base.specs.declared.value.Value.TheVariants.{Zero, Unknown}
 use Rattle.ds_cover.specs.Cover.{value_at, values_at, value_of}
 use Rattle.ds_cover.specs.Kept.{bit_value}
@@ -15,7 +14,6 @@ use Rattle.ds_cover.specs.Packed.{one_bit}
 use Rattle.ds_design.specs.Circuit.{Circuit, columns, data_nets, drivers, register_nets}
 use Rattle.ds_design.specs.Levels.{table_nets}
 use Rattle.ds_design.specs.Run.{row_at}
-use Rattle.ds_design.specs.Valuation.{IsValuation}
 use Rattle.ds_design.specs.declared.design.Gate.{Gate}
 use Rattle.ds_design.specs.declared.design.Register.{Register}
 use Rattle.ds_settle.proofs.ByIndex.{map_by_index}
@@ -90,9 +88,9 @@ module _ (c : Circuit) where
           let inside : i < length c.registers = omega arith in
           let r : Register = record { data_net = 0; output = 0; edge = None; control = None; initial = 0; line = 0 } in
           let word = (linked (length c.tables + i) (omega arith)).register i r inside refl in
-          let data : get_or (data_nets c) i 0 ≡ (get_or c.registers i r).data_net = get_or-map (λ (r : Register). r.data_net) c.registers i r 0 inside in
+          let fed : get_or (data_nets c) i 0 ≡ (get_or c.registers i r).data_net = get_or-map (λ (r : Register). r.data_net) c.registers i r 0 inside in
           get_or-map (value_at (turn_row words k)) (data_nets c) i 0 Zero (omega arith)
-          ∙ (ap (value_at (turn_row words k)) data ∙ (value_in words k (get_or c.registers i r).data_net
+          ∙ (ap (value_at (turn_row words k)) fed ∙ (value_in words k (get_or c.registers i r).data_net
           ∙ (ap bit_value (sym (word.later k low)) ∙ sym (register_value (suc k) i d inside))))))
 
     table : (k : ℕ) → k < 64 → All (λ t. value_at (turn_row words k) t.output ≡ value_of t.table (turn_row words k)) c.tables

@@ -1,19 +1,21 @@
 -- The words of tables and registers, one after another.
 use Rattle.std.proofs.Common.{◌≡◌, ◌≢◌, ◌∙◌, ℕ, ◌+◌, ◌<◌, ◌≤◌, List, [], ◌∷◌, ◌++◌, length, get_or, map, set, true, refl, sym, ap, arith, inl, inr, subst}
-use Rattle.std.specs.Prelude.{All, AllPairs, Contains}
+use Rattle.std.specs.Prelude.{AllPairs, Contains}
 use Rattle.std.specs.Int.{bit_at}
 use Rattle.std.proofs.lemmas.Bool.{cases_eq, cases_lt}
 use Rattle.std.proofs.lemmas.List.{append_assoc, get_or-map, get_or-set_other, get_or-set_same, get_or_default, length-append, length-map, length-set, map-append}
 use Rattle.std.proofs.lemmas.List.Elements.{Contains-get_or}
 use Rattle.std.proofs.lemmas.Simd.{map-map}
-use Rattle.ds_base.proofs.Pairs.{get_or-left, get_or-right, pairs-right}
+use Rattle.ds_base.proofs.Pairs.{get_or-left, get_or-right, pairs-between, pairs-right}
 use Rattle.ds_base.specs.Values.{Row}
 use Rattle.ds_cover.proofs.Keeps.{value_agrees}
 use Rattle.ds_cover.specs.Cover.{Cover, value_at, value_of}
 use Rattle.ds_cover.specs.Kept.{bit_value}
 use Rattle.ds_design.specs.Accepted.{IsAccepted}
-use Rattle.ds_design.specs.Circuit.{Circuit, columns, drivers, register_nets}
+use Rattle.ds_design.specs.Circuit.{Circuit, columns, register_nets}
+use Rattle.ds_design.specs.InRange.{IsInRange}
 use Rattle.ds_design.specs.Levels.{table_nets}
+use Rattle.ds_feedback.proofs.LinkLemmas.{links_within}
 use Rattle.ds_design.specs.declared.design.Gate.{Gate}
 use Rattle.ds_design.specs.declared.design.Register.{Register}
 use Rattle.ds_feedback.specs.Links.{link_of_register, link_of_table, links}
@@ -24,6 +26,10 @@ use Rattle.ds_design.specs.Banked.{IsBankOf}
 use Rattle.ds_slices.specs.Picked.{IsPackedWord}
 use Rattle.ds_slices.specs.Turns.{IsShifted, turn_row}
 use Rattle.ds_slices.proofs.TurnBits.{value_in}
+
+-- some table, past the end of lists
+abbrev pub a_gate : Gate
+a_gate = record { table = record { inputs = []; rows = []; on = true }; output = 0; line = 0 }
 
 module _ (c : Circuit) where
   pub count_links : length (links c) ≡ length c.tables + length c.registers
@@ -78,10 +84,10 @@ module _ (c : Circuit) where
           let own : get_or (links c) k g ≡ link_of_register (get_or c.registers i d) = ap (λ (n : ℕ). get_or (links c) n g) at ∙ link_of_own_register i g d inside in
           let apart : ¬ Contains ((get_or c.registers i d).data_net ∷ []) net = subst (λ (t : Gate). ¬ Contains t.table.inputs net) own free in
           let other : (get_or c.registers i d).data_net ≢ net = (λ e. apart (0, omega arith, e)) in
-          let data : get_or words (get_or c.registers i d).data_net 0 ≡ get_or (set words net v) (get_or c.registers i d).data_net 0 =
+          let fed : get_or words (get_or c.registers i d).data_net 0 ≡ get_or (set words net v) (get_or c.registers i d).data_net 0 =
           sym (get_or-set_other words net (get_or c.registers i d).data_net v 0 other) in
           let before = is.register i d inside at in
-          record { begins = before.begins; later = λ j below. before.later j below ∙ ap (λ (w : ℕ). bit_at w j) data };
+          record { begins = before.begins; later = λ j below. before.later j below ∙ ap (λ (w : ℕ). bit_at w j) fed };
     }
 
 -- links at different places drive different nets
@@ -109,7 +115,7 @@ pub linked_none : (c : Circuit) (start : Row) (order old : List ℕ) → AreLink
 linked_none c start order old = record { size = refl; told = λ i below. absurd (omega arith); others = λ net apart. refl }
 
 module _ (c : Circuit) (accepted : IsAccepted c) (start : Row) (order : List ℕ) (sequence : IsSequence c order) where
-  place_in : (k : ℕ) → k < length order → get_or order k 0 < length c.tables + length c.registers
+  pub place_in : (k : ℕ) → k < length order → get_or order k 0 < length c.tables + length c.registers
   place_in k below = (let at : get_or order k 0 < length (links c) = sequence.places k 0 below in let many = count_links c in omega arith)
 
   pub linked_more : (old words new : List ℕ) (n : ℕ) → n < length order → linked_net c (get_or order n 0) < length words
@@ -184,9 +190,29 @@ register_set c start old new i word r inside own is shifted =
         table = λ d within. absurd (omega arith);
         register = λ j d within at.
             let same : i ≡ j = omega arith in
-            let data : r.data_net ≡ (get_or c.registers j d).data_net =
+            let fed : r.data_net ≡ (get_or c.registers j d).data_net =
             ap (λ (s : Register). s.data_net) (own ∙ (get_or_default c.registers i r d inside ∙ ap (λ (n : ℕ). get_or c.registers n d) same)) in
             subst (λ (n : ℕ). IsShifted (value_at start n) (get_or old (get_or c.registers j d).data_net 0) word) same
-            (subst (λ (n : ℕ). IsShifted (value_at start i) (get_or old n 0) word) data shifted);
+            (subst (λ (n : ℕ). IsShifted (value_at start i) (get_or old n 0) word) fed shifted);
       };
     }
+
+-- what a link drives is a net
+pub net_within : (c : Circuit) → IsInRange c → (k : ℕ) → k < length c.tables + length c.registers → linked_net c k < length c.nets
+net_within c range k inside =
+    let none : Gate = record { table = record { inputs = []; rows = []; on = true }; output = 0; line = 0 } in
+    let many = count_links c in
+    let low : k < length (links c) = omega arith in
+    subst (λ (n : ℕ). n < length c.nets) (net_of_link c k none low) (links_within c range k none low).1
+
+-- a column is driven by no link
+pub column_apart : (c : Circuit) → IsAccepted c → (i : ℕ) → i < length (columns c) → (k : ℕ) → k < length c.tables + length c.registers
+    → linked_net c k ≢ get_or (columns c) i 0
+column_apart c accepted i low k inside e =
+    let pairs : AllPairs (λ a b. a ≢ b) (columns c ++ (table_nets c ++ register_nets c)) =
+    subst (λ (ns : List ℕ). AllPairs (λ a b. a ≢ b) ns) (append_assoc (columns c) (table_nets c) (register_nets c)) accepted.one_driver in
+    let long : length (table_nets c ++ register_nets c) ≡ length c.tables + length c.registers =
+    length-append (table_nets c) (register_nets c)
+    ∙ (let one = length-map c.tables (λ (t : Gate). t.output) in let two = length-map c.registers (λ (r : Register). r.output) in omega arith) in
+    pairs-between (columns c) (table_nets c ++ register_nets c) pairs (get_or (columns c) i 0) (Contains-get_or (columns c) i 0 low)
+    (subst (λ (x : ℕ). Contains (table_nets c ++ register_nets c) x) e (Contains-get_or (table_nets c ++ register_nets c) k 0 (omega arith)))

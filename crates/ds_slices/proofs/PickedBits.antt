@@ -1,17 +1,19 @@
 -- Bits that are picked by the bits of inputs.
-use Rattle.std.proofs.Common.{◌≡◌, ◌≢◌, ◌∙◌, ℕ, zero, suc, ◌+◌, ◌-◌, ◌*◌, ◌/◌, ◌%◌, ◌^◌, ◌<◌, ◌≤◌, List, [], ◌∷◌, length, get_or, map, min, refl, sym, ap, arith, subst}
+use Rattle.std.proofs.Common.{◌≡◌, ◌∙◌, ℕ, zero, suc, ◌+◌, ◌*◌, ◌/◌, ◌%◌, ◌^◌, ◌<◌, List, [], ◌∷◌, length, get_or, set, take, refl, sym, ap, arith, inl, inr, subst}
 use Rattle.std.specs.Prelude.{All}
 use Rattle.std.specs.Int.{bit_at}
 use Rattle.std.specs.Int.RustNames.{bit_and, bit_xor}
-use Rattle.std.proofs.lemmas.List.{length-map}
+use Rattle.std.proofs.lemmas.Bool.{cases_eq}
+use Rattle.std.proofs.lemmas.List.{get_or-set_other, get_or-set_same}
+use Rattle.std.proofs.lemmas.List.Elements.{All-more}
 use Rattle.std.proofs.lemmas.Nat.{shr-shr}
 use Rattle.std.proofs.lemmas.Nat.Bits.{bit_at-lt, bit_at_and, bit_at_xor}
 use Rattle.ds_base.proofs.Lists.{map_agree}
-use Rattle.ds_base.specs.Values.{AreKnown, Row}
+use Rattle.ds_base.specs.Values.{Row}
 use Rattle.ds_base.specs.declared.value.Value.{Value}
-use Rattle.ds_base.specs.declared.value.Value.TheVariants.{Zero, One, Unknown}
+use Rattle.ds_base.specs.declared.value.Value.TheVariants.{Zero, One}
 use Rattle.ds_cover.specs.Cover.{signed, value_at, values_at}
-use Rattle.ds_cover.specs.Kept.{AreThree, IsQuick, bit_value}
+use Rattle.ds_cover.specs.Kept.{IsQuick, bit_value}
 use Rattle.ds_cover.specs.Packed.{PackedCover, bits_by, masks_value, one_bit, packed_value}
 use Rattle.ds_cover.specs.declared.entry.Quick.{Quick}
 use Rattle.ds_slices.specs.Picked.{IsPackedWord, IsPicked}
@@ -80,3 +82,21 @@ pub packed_agrees : (cover : PackedCover) (one other : Row) → All (λ net. val
     → packed_value cover one ≡ packed_value cover other
 packed_agrees cover one other same =
     ap (λ (values : Row). signed cover.on (masks_value values One cover.masks)) (map_agree (value_at one) (value_at other) cover.inputs same)
+
+-- one net more that has its value of a turn
+pub nets_more : (words : List ℕ) (turn : ℕ) (these : List ℕ) (i n : ℕ) (nets new : Row) → i < length these → n ≡ get_or these i 0 → n < length nets
+    → new ≡ set nets n (bit_value (bit_at (get_or words n 0) turn))
+    → All (λ net. value_at nets net ≡ value_at (turn_row words turn) net) (take i these)
+    → All (λ net. value_at new net ≡ value_at (turn_row words turn) net) (take (i + 1) these)
+nets_more words turn these i n nets new inside at within is before =
+    let v : Value = bit_value (bit_at (get_or words n 0) turn) in
+    let here : value_at (set nets n v) n ≡ value_at (turn_row words turn) n = get_or-set_same nets n v Zero within ∙ sym (value_in words turn n) in
+    let told : (x : ℕ) → value_at nets x ≡ value_at (turn_row words turn) x → value_at (set nets n v) x ≡ value_at (turn_row words turn) x =
+    (λ x old. elim (cases_eq x n) [
+      | inl e ↦ ap (value_at (set nets n v)) e ∙ (here ∙ ap (value_at (turn_row words turn)) (sym e))
+      | inr ne ↦ get_or-set_other nets n x v Zero ne ∙ old
+    ]) in
+    subst (λ (row : Row). All (λ net. value_at row net ≡ value_at (turn_row words turn) net) (take (i + 1) these)) (sym is)
+    (All-more (λ net. value_at (set nets n v) net ≡ value_at (turn_row words turn) net) these i 0 inside
+    (λ k d low. told (get_or (take i these) k d) (before k d low))
+    (subst (λ (x : ℕ). value_at (set nets n v) x ≡ value_at (turn_row words turn) x) at here))

@@ -1,19 +1,18 @@
 -- Bits of words as values of turns.
-use Rattle.std.proofs.Common.{◌≡◌, ◌≢◌, ◌∙◌, ℕ, zero, suc, ◌+◌, ◌-◌, ◌*◌, ◌/◌, ◌%◌, ◌^◌, ◌<◌, ◌≤◌, List, [], ◌∷◌, length, get_or, map, min, refl, sym, ap, arith, inl, inr, subst}
-use Rattle.std.specs.Prelude.{All}
+use Rattle.std.proofs.Common.{◌≡◌, ◌≢◌, ◌∙◌, ℕ, zero, suc, ◌+◌, ◌-◌, ◌*◌, ◌/◌, ◌%◌, ◌^◌, ◌<◌, ◌≤◌, List, length, get_or, refl, sym, ap, arith, inl, inr}
 use Rattle.std.specs.Int.{bit_at}
-use Rattle.std.specs.Int.RustNames.{bit_and}
 use Rattle.std.proofs.lemmas.Bool.{cases_eq, cases_lt}
 use Rattle.std.proofs.lemmas.List.{get_or-map, get_or_past, length-map}
 use Rattle.std.proofs.lemmas.List.Elements.{All-map}
 use Rattle.std.proofs.lemmas.Nat.{and_mask}
 use Rattle.std.proofs.lemmas.Nat.Bits.{bit_at-lt, bit_at-suc, bit_at-zero, bit_at_and, bit_at_lowest, bit_at_ones}
-use Rattle.ds_base.specs.Values.{AreKnown, Row}
+use Rattle.ds_base.specs.Values.{AreKnown}
 use Rattle.ds_base.specs.declared.value.Value.{Value}
 use Rattle.ds_base.specs.declared.value.Value.TheVariants.{Zero, One, Unknown}
 use Rattle.ds_cover.specs.Cover.{value_at, values_at}
 use Rattle.ds_cover.specs.Kept.{bit_value}
 use Rattle.ds_cover.specs.Packed.{one_bit}
+use Rattle.ds_cover.proofs.Keeps.{one_known, zero_known}
 use Rattle.ds_design.specs.Trace.{value_text}
 use Rattle.ds_slices.specs.Turns.{IsShifted, turn_row}
 
@@ -38,15 +37,16 @@ value-one_bit Zero known = refl
 value-one_bit One known = refl
 value-one_bit Unknown known = absurd (known refl)
 
-pub bit_known : (b : ℕ) → bit_value b ≢ Unknown
-bit_known zero e = cc
-bit_known (suc b) e = cc
+pub bit_known : (b : ℕ) → b < 2 → bit_value b ≢ Unknown
+bit_known zero few e = zero_known e
+bit_known (suc zero) few e = one_known e
+bit_known (suc (suc b)) few e = absurd (omega arith)
 
 -- the values of turns are known
 pub turns_known : (words : List ℕ) (k : ℕ) (these : List ℕ) → AreKnown (values_at (turn_row words k) these)
 turns_known words k these =
     All-map (λ value. value ≢ Unknown) (value_at (turn_row words k)) these
-    (λ j d inside e. bit_known (bit_at (get_or words (get_or these j d) 0) k) (sym (value_in words k (get_or these j d)) ∙ e))
+    (λ j d inside e. bit_known (bit_at (get_or words (get_or these j d) 0) k) (bit_at-lt (get_or words (get_or these j d) 0) k) (sym (value_in words k (get_or these j d)) ∙ e))
 
 -- as it is printed
 pub printed_bit : (b : ℕ) → b < 2 → 48 + b ≡ value_text (bit_value b)
@@ -70,12 +70,12 @@ moved_suc n k below =
     bit_at-low 64 (n * 2 ^ 1) (suc k) below ∙ (bit_at-suc (n * 2 ^ 1) k ∙ ap (λ (x : ℕ). bit_at x k) half)
 
 -- with a value in front
-pub shifted : (data word : ℕ) (first : Value) → first ≢ Unknown
-    → ((k : ℕ) → k ≢ 0 → bit_at word k ≡ bit_at (data * 2 ^ 1 % 2 ^ 64) k)
-    → (bit_at (data * 2 ^ 1 % 2 ^ 64) 0 ≡ 0 → bit_at word 0 ≡ one_bit first) → IsShifted first data word
-shifted data word first known same set = record {
-  begins = ap bit_value (set (moved_zero data)) ∙ value-one_bit first known;
-  later = λ k below. same (suc k) (λ e. absurd (omega arith)) ∙ moved_suc data k below;
+pub shifted : (fed word : ℕ) (first : Value) → first ≢ Unknown
+    → ((k : ℕ) → k ≢ 0 → bit_at word k ≡ bit_at (fed * 2 ^ 1 % 2 ^ 64) k)
+    → (bit_at (fed * 2 ^ 1 % 2 ^ 64) 0 ≡ 0 → bit_at word 0 ≡ one_bit first) → IsShifted first fed word
+shifted fed word first known same set = record {
+  begins = ap bit_value (set (moved_zero fed)) ∙ value-one_bit first known;
+  later = λ k below. same (suc k) (λ e. absurd (omega arith)) ∙ moved_suc fed k below;
 }
 
 -- bits that are set one after another

@@ -39,6 +39,6 @@ IsColumnWord vectors from column word = (k : ℕ) → k < 64 → from + k < leng
     → bit_at word k ≡ one_bit (value_at (row_at vectors (from + k)) column)
 
 -- the word of a register: its data net's, one turn later, behind the value before the first turn
-pub record IsShifted (first : Value) (data word : ℕ) : Type 0 where
+pub record IsShifted (first : Value) (fed word : ℕ) : Type 0 where
   pub begins : bit_value (bit_at word 0) ≡ first
-  pub later : (k : ℕ) → suc k < 64 → bit_at word (suc k) ≡ bit_at data k
+  pub later : (k : ℕ) → suc k < 64 → bit_at word (suc k) ≡ bit_at fed k

@@ -1,5 +1,5 @@
 //! The words of tables and registers, one after another.
-ghost use Rattle.std.specs.Prelude.{◌≡◌, ◌≢◌, ◌×◌, ◌+◌, ◌<◌, ℕ, All, length, slice_index, slice_set};
+ghost use Rattle.std.specs.Prelude.{◌≡◌, ◌≢◌, ◌+◌, ◌<◌, ℕ, All, length, slice_index, slice_set};
 ghost use Rattle.ds_base.specs.Values.{AreKnown};
 ghost use Rattle.ds_base.specs.declared.value.Value.TheVariants.{Unknown};
 ghost use Rattle.ds_cover.specs.Bank.{driven_at};

@@ -1,5 +1,5 @@
 //! What the words of 64 turns are worked out in.
-ghost use Rattle.std.specs.Prelude.{◌≡◌, ◌×◌, ◌⊎◌, ◌<◌, ◌≤◌, ◌^◌, ℕ, length, map, slice_index};
+ghost use Rattle.std.specs.Prelude.{◌≡◌, ◌⊎◌, ◌<◌, ◌≤◌, ◌^◌, ℕ, length, map, slice_index};
 ghost use Rattle.std.specs.Prelude.{IfOk, MatchOption};
 ghost use Rattle.ds_base.specs.Values.{AreKnown};
 ghost use Rattle.ds_design.specs.Circuit.{columns};

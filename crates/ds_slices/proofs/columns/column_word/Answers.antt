@@ -1,5 +1,6 @@
-use Rattle.std.proofs.Common.{◌≡◌, ◌∙◌, ◌<◌, ◌-◌, ℕ, length, ap, arith}
-use Rattle.ds_base.specs.declared.value.Value.TheVariants.{Zero}
+use Rattle.std.proofs.Common.{◌≡◌, ◌∙◌, ◌+◌, ℕ, ap, arith}
+use Rattle.ds_base.specs.Values.{Row}
+use Rattle.ds_base.specs.declared.value.Value.{Value}
 use Rattle.ds_cover.specs.Cover.{value_at}
 use Rattle.ds_cover.specs.Packed.{one_bit}
 use Rattle.ds_design.specs.Run.{row_at}
@@ -11,8 +12,8 @@ loop-turn-init c = no_bits (λ k. value_at (row_at c.args.vectors.now.rows (c.ar
 
 pub loop-turn-preserved : goal.loop-turn-preserved
 loop-turn-preserved c =
-    let f = λ k. value_at (row_at c.args.vectors.now.rows (c.args.from + k)) c.args.column in
-    let value : c.value.result ≡ f c.loop-turn.turn = c.value.ensures ∙ ap (λ row. value_at row c.args.column) c.row.ensures.row in
+    let f : ℕ → Value = λ k. value_at (row_at c.args.vectors.now.rows (c.args.from + k)) c.args.column in
+    let value : c.value.result ≡ f c.loop-turn.turn = c.value.ensures ∙ ap (λ (row : Row). value_at row c.args.column) c.row.ensures.row in
     more_bits f c.loop-turn.turn c.loop-turn.word c.with_bit-word.result c.loop-turn.invariant c.with_bit-word.ensures.same
     (λ none. c.with_bit-word.ensures.set none ∙ ap one_bit value)
 

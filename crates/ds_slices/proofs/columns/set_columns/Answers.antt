@@ -1,4 +1,4 @@
-use Rattle.std.proofs.Common.{◌≡◌, ◌∙◌, ◌<◌, ℕ, List, length, get_or, set, refl, ap, sym, arith, subst, ◌+◌}
+use Rattle.std.proofs.Common.{◌≡◌, ◌∙◌, ◌<◌, ℕ, List, length, get_or, set, refl, sym, arith, subst, ◌+◌}
 use Rattle.std.proofs.lemmas.List.{get_or_default}
 use Rattle.ds_slices.proofs.ColumnWords.{AreColumnWords, column_more}
 use Rattle.ds_slices.proofs.columns.set_columns.Goals as goal

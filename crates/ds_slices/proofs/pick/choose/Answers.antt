@@ -1,7 +1,4 @@
-use Rattle.std.proofs.Common.{◌≡◌, ◌+◌, ◌*◌, ◌<◌, ℕ, get_or, arith}
-use Rattle.std.specs.Int.{bit_at}
-use Rattle.std.proofs.lemmas.Nat.Bits.{bit_at-lt}
-use Rattle.ds_slices.proofs.PickedBits.{by_more, by_one, chosen_one, chosen_zero}
+use Rattle.ds_slices.proofs.PickedBits.{chosen_one, chosen_zero}
 use Rattle.ds_slices.proofs.pick.choose.Goals as goal
 
 pub returns : goal.returns

@@ -1,7 +1,7 @@
-use Rattle.std.proofs.Common.{◌≡◌, ◌+◌, ◌*◌, ◌<◌, ℕ, get_or, arith}
+use Rattle.std.proofs.Common.{◌+◌, ◌*◌, ℕ, get_or}
 use Rattle.std.specs.Int.{bit_at}
 use Rattle.std.proofs.lemmas.Nat.Bits.{bit_at-lt}
-use Rattle.ds_slices.proofs.PickedBits.{by_more, by_one, chosen_one, chosen_zero}
+use Rattle.ds_slices.proofs.PickedBits.{by_more}
 use Rattle.ds_slices.proofs.pick.six.Goals as goal
 
 pub returns : goal.returns

@@ -1,10 +1,9 @@
-use Rattle.std.proofs.Common.{◌≡◌, ◌∙◌, List, [], ◌∷◌, map, refl, ap, sym, arith, length}
+use Rattle.std.proofs.Common.{◌≡◌, ◌∙◌, List, [], ◌∷◌, map, refl, ap, arith}
 use Rattle.ds_base.specs.Values.{Row}
 use Rattle.ds_cover.specs.Cover.{value_at, values_at}
 use Rattle.ds_design.specs.declared.design.Register.{Register}
-use Rattle.ds_settle.proofs.ByIndex.{front_more, map_by_index}
+use Rattle.ds_settle.proofs.ByIndex.{map_by_index}
 use Rattle.ds_slices.specs.Turns.{turn_row}
-use Rattle.ds_slices.proofs.TurnBits.{value_in}
 use Rattle.ds_slices.proofs.state.set_state.Goals as goal
 
 maps : (nets : Row) (rs : List Register) → map (λ (r : Register). value_at nets r.data_net) rs ≡ values_at nets (map (λ (r : Register). r.data_net) rs)
