@@ -1,24 +1,23 @@
 -- Lines that are written out of words are lines of the run.
-use Rattle.std.proofs.Common.{◌≡◌, ◌∙◌, ℕ, zero, suc, ◌+◌, ◌-◌, ◌<◌, ◌≤◌, List, [], ◌∷◌, ◌++◌, length, take, drop, get_or, map, min, refl, sym, ap, arith, subst, append-nil, flat_map}
-use Rattle.std.specs.Prelude.{All}
+use Rattle.std.proofs.Common.{◌≡◌, ◌∙◌, ℕ, zero, suc, ◌+◌, ◌-◌, ◌<◌, ◌≤◌, List, [], ◌∷◌, ◌++◌, length, take, drop, refl, sym, ap, arith, subst, append-nil, flat_map}
 use Rattle.std.specs.List.{range_with_len}
 use Rattle.std.proofs.Math.Seq.{take-add}
-use Rattle.std.proofs.lemmas.List.{get_or-drop, get_or-take, get_or_default, length-drop, length-take-le, map-id, take_all}
+use Rattle.std.proofs.lemmas.List.{get_or-drop, get_or-take, length-drop, length-take-le, map-id}
 use Rattle.std.proofs.lemmas.List.Concat.{flat_map-append}
 use Rattle.std.proofs.lemmas.List.FromFn.{map-range_with_len_more}
-use Rattle.ds_base.specs.Values.{AreKnown, Row}
+use Rattle.ds_base.specs.Values.{Row}
 use Rattle.ds_cover.specs.Cover.{values_at}
-use Rattle.ds_design.specs.Circuit.{Circuit, data_nets, register_nets}
+use Rattle.ds_design.specs.Circuit.{Circuit, data_nets}
 use Rattle.ds_design.specs.Run.{IsRun, row_at}
 use Rattle.ds_design.specs.Trace.{AreLines, trace_line, trace_lines}
 use Rattle.ds_design.specs.Valuation.{IsValuation}
 use Rattle.ds_design.proofs.Runs.{turns_by_trace}
 use Rattle.ds_design.proofs.Windows.{lines_in_windows}
-use Rattle.ds_outside.specs.Pen.{Puts, Writing}
-use Rattle.ds_outside.proofs.Pens.{puts_nothing, puts_on, with_put}
+use Rattle.ds_outside.specs.Pen.{Writing}
+use Rattle.ds_outside.proofs.Pens.{puts_nothing, puts_on}
 use Rattle.ds_clocked.specs.Appends.{PutsLines}
 use Rattle.ds_clocked.specs.Words.{PutsTurns, registers_in}
-use Rattle.ds_slices.specs.Turns.{AreKnownTurns, AreTurns, registers_before, turn_row}
+use Rattle.ds_slices.specs.Turns.{AreTurns, registers_before, turn_row}
 
 -- the line of a turn of words
 abbrev line_in : Circuit → ℕ → List ℕ → ℕ → List ℕ
@@ -30,7 +29,7 @@ pub line_more : (c : Circuit) (first k : ℕ) (words : List ℕ) → trace_lines
 line_more c first k words =
     let f : ℕ → List ℕ = line_in c first words in
     let more : range_with_len 0 (k + 1) ≡ range_with_len 0 k ++ k ∷ [] =
-    sym (map-id (range_with_len 0 (k + 1))) ∙ (map-range_with_len_more (λ (j : ℕ). j) 0 k k refl ∙ ap (λ (xs : List ℕ). xs ++ k ∷ []) (map-id (range_with_len 0 k))) in
+    sym (map-id (range_with_len 0 (k + 1))) ∙ (map-range_with_len_more (λ (j : ℕ). j) 0 k k (omega arith) ∙ ap (λ (xs : List ℕ). xs ++ k ∷ []) (map-id (range_with_len 0 k))) in
     ap (flat_map f) more ∙ (flat_map-append f (range_with_len 0 k) (k ∷ []) ∙ ap (λ (t : List ℕ). flat_map f (range_with_len 0 k) ++ t) (append-nil (f k)))
 
 -- lines that agree
@@ -52,7 +51,8 @@ few_long vectors from count within = length-take-le count (drop from vectors) (l
 pub registers_behind : (c : Circuit) (start : Row) (words : List ℕ) (count : ℕ) → 0 < count
     → registers_before c start words count ≡ values_at (turn_row words (count - 1)) (data_nets c)
 registers_behind c start words zero some = absurd (omega arith)
-registers_behind c start words (suc count) some = refl
+registers_behind c start words (suc count) some =
+    ap (λ (n : ℕ). values_at (turn_row words n) (data_nets c)) (let e : count ≡ suc count - 1 = omega arith in e)
 
 module _ (c : Circuit) (start : Row) (vectors : List Row) (from count : ℕ) (words : List ℕ) (turns : AreTurns c start vectors from words)
     (low : count ≤ 64) (within : from + count ≤ length vectors) where

@@ -1,4 +1,4 @@
-use Rattle.std.proofs.Common.{◌≡◌, ◌∙◌, ◌<◌, ◌-◌, ◌+◌, ◌≤◌, List, ℕ, ap, sym, arith, length, refl, subst}
+use Rattle.std.proofs.Common.{◌≡◌, ◌∙◌, ◌-◌, ◌+◌, List, ℕ, ap, sym, arith, length, refl, subst}
 use Rattle.std.proofs.lemmas.List.{length-map, take_all}
 use Rattle.ds_base.specs.Values.{AreKnown, Row}
 use Rattle.ds_cover.specs.Cover.{value_at, values_at}

@@ -1,4 +1,4 @@
-use Rattle.std.proofs.Common.{◌≡◌, ◌-◌, ◌≤◌, length, take}
+use Rattle.std.proofs.Common.{◌-◌, ◌≤◌, length, take}
 use Rattle.ds_clocked.specs.Appends.{PutsLines}
 use Rattle.ds_clocked.specs.Words.{IsBegun}
 use Rattle.ds_clocked.proofs.words.put_words.Given as goal
