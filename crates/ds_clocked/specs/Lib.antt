@@ -2,3 +2,4 @@
 pub mod Appends
 pub mod Laws
 pub mod Loop
+pub mod Words

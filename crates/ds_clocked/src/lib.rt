@@ -3,6 +3,9 @@
 //! In each turn the nets take the one valuation of the registers and the vector, a line with the
 //! outputs and the registers is written, and each register takes the value of its data net.
 //!
+//! Where no register feeds back and no value of a window is unknown, 64 turns are worked out at
+//! once, in words.
+//!
 //! `simulate_from` writes the lines of a window, from any row and turn number on, and gives the row
 //! after it. It answers `Write` only where the sink's faults rose, and then a first part of the
 //! lines was appended; on `Memory` nothing was. `laws` has what a reader of traces may rely on
@@ -12,5 +15,6 @@
 
 pub mod laws;
 mod run;
+mod words;
 
 pub use run::{SimFault, simulate_from};

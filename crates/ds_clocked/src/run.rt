@@ -1,11 +1,12 @@
-//! The clocked run, turn by turn: the nets are settled, the line is written, and each register
-//! takes its data net. The text goes through a buffer, and all memory is taken before the first
-//! byte.
+//! The clocked run: 64 turns at once where no register feeds back and all values are known, and
+//! else turn by turn: the nets are settled, the line is written, and each register takes its data
+//! net. The text goes through a buffer, and all memory is taken before the first byte.
 ghost use Rattle.std.specs.Prelude.{◌≡◌, ◌≢◌, ◌+◌, ◌^◌, ◌<◌, ◌≤◌, length, IfOk};
 ghost use Rattle.ds_outside.specs.Fault.{Rose};
 ghost use Rattle.ds_design.specs.Circuit.{columns};
 ghost use Rattle.ds_clocked.specs.Appends.{AppendsLines, AppendsLinesPart, PutsLines, WritesLines};
 
+use crate::words::{words_for, write_words};
 use ds_base::{NetId, OutOfMemory, Row3};
 use ds_design::{Netlist, Register, Vectors};
 use ds_outside::{Buffered, Pen, Sink, WriteFault};
@@ -49,6 +50,15 @@ pub fn simulate_from<O: Sink>(
     ensures never_falls { O.faults out.old ≤ O.faults out.new }
     ensures cause { result ≡ Err SimFault.Write → Rose (O.faults out.old) (O.faults out.new) }
 {
+    let Ok(words) = words_for(alloc, netlist, start, vectors) else {
+        return Err(SimFault::Memory);
+    };
+    if let Some(mut words) = words {
+        return match write_words(netlist, first, vectors, &mut words, out) {
+            Ok(()) => Ok(words.state),
+            Err(_) => Err(SimFault::Write),
+        };
+    }
     let Ok(mut rows) = rows_for(alloc, netlist) else {
         return Err(SimFault::Memory);
     };

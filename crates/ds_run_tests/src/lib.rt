@@ -18,3 +18,5 @@ mod run_tests;
 mod trace_tests;
 #[cfg(test)]
 mod unknown_tests;
+#[cfg(test)]
+mod window_tests;

@@ -1,0 +1,145 @@
+//! The lines of a window in which no register feeds back and all values are known: 64 turns at
+//! once.
+ghost use Rattle.std.specs.Prelude.{◌≡◌, ◌↔◌, ◌+◌, ◌-◌, ◌^◌, ◌<◌, ◌≤◌, All, length, IfOk, IfSome};
+ghost use Rattle.std.specs.Prelude.{IsTrue};
+ghost use Rattle.ds_base.specs.Values.{AreKnown};
+ghost use Rattle.ds_cover.specs.Cover.{values_at};
+ghost use Rattle.ds_design.specs.Circuit.{columns, data_nets};
+ghost use Rattle.ds_clocked.specs.Appends.{PutsLines, WritesLines};
+ghost use Rattle.ds_clocked.specs.Words.{IsBegun, PutsTurns};
+ghost use Rattle.ds_slices.specs.Ready.{IsReady};
+ghost use Rattle.ds_slices.specs.Turns.{turn_row};
+
+use ds_base::{OutOfMemory, Row3};
+use ds_design::{Netlist, Vectors};
+use ds_outside::{Buffered, Pen, Sink, WriteFault};
+use ds_slices::{Slices, put_turn_line, set_state, set_words};
+use std::alloc::Global;
+
+/// The registers before a turn, and what the words of 64 turns are worked out in.
+#[derive(Drop)]
+pub struct Words {
+    pub state: Row3,
+    pub slices: Slices,
+}
+
+// Room for a window that begins with these registers, where no register feeds back and no value is
+// unknown.
+pub(crate) fn words_for(
+    alloc: Global,
+    netlist: &Netlist,
+    start: &Row3,
+    vectors: &Vectors,
+) -> Result<Option<Words>, OutOfMemory>
+    requires start { length start.now ≡ length netlist.now.registers }
+    ensures begun { IfOk result (λ found. IfSome found
+        (IsBegun netlist.now start.now vectors.now.rows)) }
+{
+    if !start.all_known() || !are_known(vectors) {
+        return Ok(None);
+    }
+    match Slices::of(alloc, netlist)? {
+        Some(slices) => Ok(Some(begun(alloc, start, slices)?)),
+        None => Ok(None),
+    }
+}
+
+// Begun with these registers.
+fn begun(alloc: Global, start: &Row3, slices: Slices) -> Result<Words, OutOfMemory>
+    ensures state { IfOk result (λ words. words.state ≡ start.now) }
+    ensures slices { IfOk result (λ words. words.slices ≡ slices) }
+{
+    let mut state = Row3::with_len(alloc, start.len())?;
+    state.copy_from(start);
+    Ok(Words { state, slices })
+}
+
+// Whether no vector has an unknown value.
+fn are_known(vectors: &Vectors) -> bool
+    ensures { IsTrue result → All AreKnown vectors.now.rows }
+{
+    for k in 0..vectors.count() {
+        if !vectors.row(k).all_known() {
+            return false;
+        }
+    }
+    true
+}
+
+// Writes the lines of these turns by way of a buffer, and leaves the row after them in `words`.
+pub(crate) fn write_words<O: Sink>(
+    netlist: &Netlist,
+    first: u64,
+    vectors: &Vectors,
+    words: &mut Words,
+    out: &mut O,
+) -> Result<(), WriteFault>
+    requires width { vectors.now.width ≡ length (columns netlist.now) }
+    requires begun { IsBegun netlist.now words.old.state vectors.now.rows words.old }
+    requires few { first + length vectors.now.rows < 2 ^ 64 }
+    ensures { WritesLines result netlist.now first words.old.state vectors.now.rows words.new.state
+        (O.written out.old) (O.written out.new) (O.faults out.old) (O.faults out.new) }
+{
+    let mut pen = Buffered::new(out);
+    put_words(netlist, first, vectors, words, &mut pen);
+    pen.finish()
+}
+
+// Writes the lines of these turns, and leaves the row after them in `words`.
+fn put_words<P: Pen>(
+    netlist: &Netlist,
+    first: u64,
+    vectors: &Vectors,
+    words: &mut Words,
+    pen: &mut P,
+)
+    requires width { vectors.now.width ≡ length (columns netlist.now) }
+    requires begun { IsBegun netlist.now words.old.state vectors.now.rows words.old }
+    requires few { first + length vectors.now.rows < 2 ^ 64 }
+    ensures { PutsLines (P.writing pen.old) (P.writing pen.new) netlist.now first
+        words.old.state vectors.now.rows words.new.state }
+{
+    let mut from = 0;
+    'writing: while from < vectors.count() {
+        set_words(netlist, &words.state, vectors, from, &mut words.slices);
+        let count = (vectors.count() - from).min(64);
+        put_slice(netlist, first + from as u64, count, words, pen);
+        from += count;
+    }
+}
+
+// Writes the lines of so many turns of the words, numbered from a first one on, and leaves the row
+// after them.
+fn put_slice<P: Pen>(netlist: &Netlist, first: u64, count: usize, words: &mut Words, pen: &mut P)
+    requires ready { IsReady netlist.now words.old.slices }
+    requires state { length words.old.state ≡ length netlist.now.registers }
+    requires count { (0 < count) × (count ≤ 64) }
+    requires few { first + count < 2 ^ 64 }
+    ensures slices { words.new.slices ≡ words.old.slices }
+    ensures state { words.new.state
+        ≡ values_at (turn_row words.old.slices.words.items (count - 1)) (data_nets netlist.now) }
+    ensures lines { PutsTurns (P.writing pen.old) (P.writing pen.new) netlist.now first count
+        words.old.slices.words.items }
+{
+    let design = netlist.design();
+    put_lines(&words.slices, netlist, first, count, pen);
+    let bits = words.slices.words.as_slice();
+    set_state(design.registers(), bits, count - 1, &mut words.state);
+}
+
+// Writes the lines of so many turns of the words, numbered from a first one on.
+fn put_lines<P: Pen>(slices: &Slices, netlist: &Netlist, first: u64, count: usize, pen: &mut P)
+    requires ready { IsReady netlist.now slices.now }
+    requires count { count ≤ 64 }
+    requires few { first + count < 2 ^ 64 }
+    ensures lines { PutsTurns (P.writing pen.old) (P.writing pen.new) netlist.now first count
+        slices.now.words.items }
+{
+    let design = netlist.design();
+    let outputs = design.outputs();
+    // Read for the fact that the registers are in range.
+    let _registers = design.registers();
+    for turn in 0..count {
+        put_turn_line(slices, outputs, turn, first + turn as u64, pen);
+    }
+}

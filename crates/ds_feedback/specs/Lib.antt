@@ -1,0 +1,3 @@
+-- In the order in which to read.
+pub mod Links
+pub mod Sequence

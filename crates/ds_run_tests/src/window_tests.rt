@@ -1,0 +1,135 @@
+//! Clocked runs of a pipeline in windows of many lengths, against the same worked out turn by turn.
+use ds_base::Value;
+use ds_outside::OpenGate;
+use ds_trial::printed;
+use itoa::Buffer;
+use std::alloc::{AllocError, AllocGlobal, Global};
+use std::test::Fail;
+use std::thread::Threads;
+
+// Two registers behind tables of two inputs, and outputs of a table of four, of one of seven and
+// of one without inputs.
+const PIPELINE: &str = ".model pipeline\n.inputs a b\n.outputs u v w\n.names a b d\n10 1\n01 1\n\
+    .latch d p 0\n.names p a e\n10 1\n01 1\n.latch e q 1\n.names a b p q u\n1111 0\n\
+    .names a b a b a q q v\n11-1111 1\n.names w\n1\n.end\n";
+
+// The turn whose vector has an unknown value, where one does.
+type Unknown = Option<u64>;
+
+// The values of the registers.
+#[derive(Clone, Copy)]
+struct State {
+    p: Value,
+    q: Value,
+}
+
+// An input in a turn.
+fn input(turn: u64, place: u64, unknown: Unknown) -> Value {
+    if unknown == Some(turn) {
+        Value::Unknown
+    } else if (turn ^ (turn >> place)) % 3 == 1 {
+        Value::One
+    } else {
+        Value::Zero
+    }
+}
+
+// One where one of them is one, and not both.
+fn differ(one: Value, other: Value) -> Value {
+    one.and(other.not()).or(one.not().and(other))
+}
+
+// A value as it is printed.
+fn letter(value: Value) -> &'static str {
+    match value {
+        Value::Zero => "0",
+        Value::One => "1",
+        Value::Unknown => "x",
+    }
+}
+
+// Appends values.
+fn push(text: &mut String, values: &[Value]) -> Result<(), AllocError> {
+    for value in values {
+        text.push_str(letter(*value))?;
+    }
+    Ok(())
+}
+
+// So many vectors.
+fn vectors(alloc: Global, turns: u64, unknown: Unknown) -> Result<String, AllocError> {
+    let mut text = String::new(alloc);
+    for turn in 0..turns {
+        push(&mut text, &[input(turn, 1, unknown), input(turn, 3, None)])?;
+        text.push_str("\n")?;
+    }
+    Ok(text)
+}
+
+// Appends the line of a turn, and gives the registers behind it.
+fn push_turn(
+    text: &mut String,
+    turn: u64,
+    state: State,
+    unknown: Unknown,
+) -> Result<State, AllocError> {
+    let (a, b) = (input(turn, 1, unknown), input(turn, 3, None));
+    let State { p, q } = state;
+    let mut number = Buffer::new();
+    text.push_str(number.format(turn))?;
+    text.push_str(" ")?;
+    let u = a.and(b).and(p.and(q)).not();
+    push(text, &[u, a.and(b).and(q), Value::One])?;
+    text.push_str(" ")?;
+    push(text, &[p, q])?;
+    text.push_str("\n")?;
+    Ok(State {
+        p: differ(a, b),
+        q: differ(p, a),
+    })
+}
+
+// The trace of so many turns.
+fn trace(alloc: Global, turns: u64, unknown: Unknown) -> Result<String, AllocError> {
+    let mut text = String::new(alloc);
+    let mut state = State {
+        p: Value::Zero,
+        q: Value::One,
+    };
+    for turn in 0..turns {
+        state = push_turn(&mut text, turn, state, unknown)?;
+    }
+    text.push_str("end ")?;
+    push(&mut text, &[state.p, state.q])?;
+    text.push_str("\n")?;
+    Ok(text)
+}
+
+// Whether the clocked run prints the trace.
+fn prints<R: AllocGlobal + Threads + Sync>(
+    rt: &R,
+    turns: u64,
+    unknown: Unknown,
+) -> Result<bool, AllocError> {
+    let vectors = vectors(rt.alloc(), turns, unknown)?;
+    let wanted = trace(rt.alloc(), turns, unknown)?;
+    let files = [("n", PIPELINE), ("v", vectors.as_str())];
+    match printed(rt, &files, "desync clock n v", &OpenGate) {
+        Some(text) => Ok(text.as_str() == wanted.as_str()),
+        None => Ok(false),
+    }
+}
+
+// The same with an unknown value in no turn, in the first one, and in the last one.
+fn prints_all<R: AllocGlobal + Threads + Sync>(rt: &R, turns: u64) -> Result<bool, AllocError> {
+    let last = turns.saturating_sub(1);
+    Ok(prints(rt, turns, None)? && prints(rt, turns, Some(0))? && prints(rt, turns, Some(last))?)
+}
+
+#[test]
+fn windows_of_all_lengths_are_written(rt: HostRuntime) -> Result<(), Fail> {
+    for turns in [1, 63, 64, 65, 4_095, 4_096, 4_097] {
+        assert!(rt; prints_all(&rt, turns)?);
+    }
+    Ok(())
+}

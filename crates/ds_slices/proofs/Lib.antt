@@ -1,0 +1,5 @@
+pub mod TurnBits
+pub mod PickedBits
+pub mod ColumnWords
+pub mod LinkedWords
+pub mod LinkedTurns
