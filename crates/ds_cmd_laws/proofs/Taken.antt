@@ -83,11 +83,22 @@ graph_at : (program net : Text) → IsNoOption net → job_of (program ∷ codes
 unfolding clap_on_literals flag_with
 graph_at program net n = rw (n.dashes, n.long, n.short) refl
 
-graph_in : (program net : Text) (mode : Mode) → IsNoOption net → job_of (program ∷ codes "graph" ∷ net ∷ codes "--clusters" ∷ mode_word mode ∷ []) ≡ Ok (Graph (record (bare_graph net) { clusters = mode }))
+graph_each : (program net : Text) → IsNoOption net → job_of (program ∷ codes "graph" ∷ net ∷ codes "--clusters" ∷ mode_word Each ∷ []) ≡ Ok (Graph (record (bare_graph net) { clusters = Each }))
 unfolding clap_on_literals flag_with
-graph_in program net Each n = rw (n.dashes, n.long, n.short) refl
-graph_in program net One n = rw (n.dashes, n.long, n.short) refl
-graph_in program net Bus n = rw (n.dashes, n.long, n.short) refl
+graph_each program net n = rw (n.dashes, n.long, n.short) (refl {a = Ok (Graph (record (bare_graph net) { clusters = Each }))})
+
+graph_one : (program net : Text) → IsNoOption net → job_of (program ∷ codes "graph" ∷ net ∷ codes "--clusters" ∷ mode_word One ∷ []) ≡ Ok (Graph (record (bare_graph net) { clusters = One }))
+unfolding clap_on_literals flag_with
+graph_one program net n = rw (n.dashes, n.long, n.short) (refl {a = Ok (Graph (record (bare_graph net) { clusters = One }))})
+
+graph_bus : (program net : Text) → IsNoOption net → job_of (program ∷ codes "graph" ∷ net ∷ codes "--clusters" ∷ mode_word Bus ∷ []) ≡ Ok (Graph (record (bare_graph net) { clusters = Bus }))
+unfolding clap_on_literals flag_with
+graph_bus program net n = rw (n.dashes, n.long, n.short) (refl {a = Ok (Graph (record (bare_graph net) { clusters = Bus }))})
+
+graph_in : (program net : Text) (mode : Mode) → IsNoOption net → job_of (program ∷ codes "graph" ∷ net ∷ codes "--clusters" ∷ mode_word mode ∷ []) ≡ Ok (Graph (record (bare_graph net) { clusters = mode }))
+graph_in program net Each n = graph_each program net n
+graph_in program net One n = graph_one program net n
+graph_in program net Bus n = graph_bus program net n
 
 graph_shaken : (program net : Text) → IsNoOption net → job_of (program ∷ codes "graph" ∷ net ∷ codes "--shake" ∷ []) ≡ Ok (Graph (record (bare_graph net) { shake = true }))
 unfolding clap_on_literals flag_with

@@ -15,7 +15,7 @@ period_at : (program net delays : Text) → IsNoOption net → IsNoOption delays
     → job_of (program ∷ codes "period" ∷ net ∷ delays ∷ []) ≡ Ok (Period (bare_period net delays))
 unfolding clap_on_literals
 period_at program net delays n d = rw (n.dashes, n.long, n.short)
-    (rw (d.dashes, d.long, d.short) refl)
+    (rw (d.dashes, d.long, d.short) (refl {a = Ok (Period (bare_period net delays))}))
 
 period_each : (program net delays : Text) → IsNoOption net → IsNoOption delays
     → job_of (program ∷ codes "period" ∷ net ∷ delays ∷ codes "--clusters" ∷ mode_word Each ∷ [])

@@ -1,5 +1,5 @@
 -- A job whose files are there has a text, or a line that refuses it.
-use Rattle.std.proofs.Common.{ℕ, List, Some}
+use Rattle.std.proofs.Common.{inl, ℕ, List, Some, refl}
 use Rattle.ds_outside.specs.Held.{Held}
 use Rattle.ds_design.specs.Rows.{Rows}
 use Rattle.ds_latch.specs.Node.{Split, slackened}
