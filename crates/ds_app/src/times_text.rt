@@ -48,7 +48,8 @@ fn put_turns<P: Pen>(
     requires order { All (λ v. v < length plan.now.graph.events) order.now }
     requires begun { schedule.old.turn ≡ 0 }
     requires few { turns < 2 ^ 32 - 1 }
-    ensures { (time : ℕ → ℕ → ℕ) → IsSchedule schedule.old.arcs turns time
+    ensures same { (P.writing pen.new).name ≡ (P.writing pen.old).name }
+    ensures lines { (time : ℕ → ℕ → ℕ) → IsSchedule schedule.old.arcs turns time
         → Puts (P.writing pen.old) (P.writing pen.new)
         (time_lines plan.now.graph time order.now turns) }
 {
@@ -69,7 +70,8 @@ fn put_turn<P: Pen>(
     requires events { schedule.now.events ≡ length plan.now.graph.events }
     requires order { All (λ v. v < length plan.now.graph.events) order.now }
     requires begun { (0 < turn) × (schedule.now.turn ≡ turn) }
-    ensures { (turns : ℕ) (time : ℕ → ℕ → ℕ) → turn ≤ turns
+    ensures same { (P.writing pen.new).name ≡ (P.writing pen.old).name }
+    ensures lines { (turns : ℕ) (time : ℕ → ℕ → ℕ) → turn ≤ turns
         → IsSchedule schedule.now.arcs turns time → Puts (P.writing pen.old) (P.writing pen.new)
         (flat_map (time_line plan.now.graph time) (firings_in order.now turn)) }
 {

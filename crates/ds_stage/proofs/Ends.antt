@@ -113,7 +113,7 @@ reads_nothing stage failed more none = record { means = λ a is. is; refused = �
 module _ (held later : List ℕ → Held) (before mid now : Which → List ℕ → ℕ) (same : later ≡ held)
     (less : (w : Which) (n : List ℕ) → before w n ≤ mid w n) where
   -- lines that were read later, of files that hold the same
-  lines_since : (which : Which) (file : List ℕ) → IsWider (lines_stage later which file) (lines_stage held which file) (RoseIn mid now) (RoseIn before now)
+  pub lines_since : (which : Which) (file : List ℕ) → IsWider (lines_stage later which file) (lines_stage held which file) (RoseIn mid now) (RoseIn before now)
   lines_since which file =
       subst (λ (h : List ℕ → Held). IsWider (lines_stage later which file) (lines_stage h which file) (RoseIn mid now) (RoseIn before now)) same
       (record {

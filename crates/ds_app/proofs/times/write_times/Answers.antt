@@ -22,11 +22,11 @@ pub events_by_rank-requires-clause-ranks : goal.events_by_rank-requires-clause-r
 events_by_rank-requires-clause-ranks g c =
     c.in_ok-ranks.ensures.size ∙ ap (λ (h : Graph). length h.events) (sym c.graph-graph.ensures.graph) ∙ ap length (sym c.events.ensures.events)
 
-pub of-schedule-requires-clause-one_each : goal.of-schedule-requires-clause-one_each
-of-schedule-requires-clause-one_each g c = c.requires.one_each ∙ ap (λ (h : Graph). length h.arcs) (sym c.graph-graph.ensures.graph)
+pub of-requires-clause-one_each : goal.of-requires-clause-one_each
+of-requires-clause-one_each g c = c.requires.one_each ∙ ap (λ (h : Graph). length h.arcs) (sym c.graph-graph.ensures.graph)
 
-pub of-schedule-requires-clause-ranks : goal.of-schedule-requires-clause-ranks
-of-schedule-requires-clause-ranks g c = subst (λ (h : Graph). AreRanks h c.in_ok-ranks.ranks) (sym c.graph-graph.ensures.graph) c.in_ok-ranks.ensures
+pub of-requires-clause-ranks : goal.of-requires-clause-ranks
+of-requires-clause-ranks g c = subst (λ (h : Graph). AreRanks h c.in_ok-ranks.ranks) (sym c.graph-graph.ensures.graph) c.in_ok-ranks.ensures
 
 pub write_turns-requires-clause-events : goal.write_turns-requires-clause-events
 write_turns-requires-clause-events g c = c.in_ok-schedule.ensures.ok_events ∙ ap (λ (h : Graph). length h.events) c.graph-graph.ensures.graph
@@ -67,8 +67,8 @@ returns-in-Ok-clause-value g c =
     c.as_slice.ensures.value (all turns)) tt out
     (c.in-Ok.ensures time (kept h c.graph-graph.result.now delays c.in_ok-schedule.schedule turns time c.graph-graph.ensures.graph c.in_ok-schedule.ensures.ok_schedules (all turns)))
 
-pub returns-in-Err-clause-value : goal.returns-in-Err-clause-value
-returns-in-Err-clause-value g c =
+pub returns-clause-value : goal.returns-clause-value
+returns-clause-value g c =
     let h : Graph = c.args.plan.now.graph in
     let delays : List ℕ = c.args.delays.now in
     let ranks : List ℕ = c.in_ok-ranks.ranks in

@@ -1,4 +1,4 @@
-use Rattle.std.proofs.Common.{◌≡◌, ◌∙◌, ◌<◌, ◌+◌, ◌++◌, ◌∷◌, ℕ, List, [], length, get_or, take, arith, ap, sym, subst}
+use Rattle.std.proofs.Common.{◌≡◌, ◌∙◌, ◌<◌, ◌+◌, ◌++◌, ◌∷◌, ℕ, List, [], length, get_or, take, arith, ap, refl, sym, subst}
 use Rattle.std.specs.Prelude.{All}
 use Rattle.std.proofs.lemmas.List.{take_all, take_more}
 use Rattle.std.specs.List.{flat_map}
@@ -24,7 +24,7 @@ put_time-requires g c =
     inside c.args.order.now (length c.args.plan.now.graph.events) c.loop-i.i c.index-order-i.result c.requires.order below c.index-order-i.is
 
 pub loop-i-init : goal.loop-i-init
-loop-i-init g c = record { written = λ turns time low schedule. puts_nothing (g.P.Pen.writing c.args.pen.now) }
+loop-i-init g c = record { same = refl; written = λ turns time low schedule. puts_nothing (g.P.Pen.writing c.args.pen.now) }
 
 pub loop-i-preserved : goal.loop-i-preserved
 loop-i-preserved g c =
@@ -35,6 +35,7 @@ loop-i-preserved g c =
     let more : take (c.loop-i.i + 1) c.args.order.now ≡ take c.loop-i.i c.args.order.now ++ c.index-order-i.result ∷ [] =
     take_more order i v below ∙ ap (λ (u : ℕ). take i order ++ u ∷ []) (sym c.index-order-i.is) in
     record {
+      same = c.put_time.ensures.same ∙ c.loop-i.invariant.same;
       written = λ turns time low schedule.
           let at = c.time-time.ensures turns time (omega (arith, low, c.requires.begun.1)) schedule
               ∙ ap (time v) c.requires.begun.1 in
@@ -42,8 +43,11 @@ loop-i-preserved g c =
           (puts_on (c.loop-i.invariant.written turns time low schedule) c.put_time.ensures);
     }
 
-pub returns : goal.returns
-returns g c turns time low schedule =
+pub returns-clause-same : goal.returns-clause-same
+returns-clause-same g c = c.loop-i.invariant.same
+
+pub returns-clause-lines : goal.returns-clause-lines
+returns-clause-lines g c turns time low schedule =
     with_put (ap (λ (vs : List ℕ). flat_map (time_line c.args.plan.now.graph time) (firings_in vs c.args.turn))
     (take_all c.loop-i.i c.args.order.now (omega arith)))
     (c.loop-i.invariant.written turns time low schedule)

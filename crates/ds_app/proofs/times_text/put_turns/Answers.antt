@@ -20,6 +20,7 @@ put_turn-requires-clause-begun g c =
 
 pub loop-k-init : goal.loop-k-init
 loop-k-init g c = record {
+  same = refl;
   arcs = refl;
   events = refl;
   turn = c.requires.begun;
@@ -32,17 +33,21 @@ loop-k-preserved g c =
     let below : c.loop-k.k < c.args.turns = omega arith in
     let arcs = ap (λ (s : Course). s.arcs) c.next.ensures ∙ c.loop-k.invariant.arcs in
     record {
+      same = c.put_turn.ensures.same ∙ c.loop-k.invariant.same;
       arcs = arcs;
       events = ap (λ (s : Course). s.events) c.next.ensures ∙ c.loop-k.invariant.events;
       turn = ap (λ (s : Course). s.turn) c.next.ensures ∙ ap (λ (n : ℕ). n + 1) c.loop-k.invariant.turn;
       written = λ time schedule.
           with_put (sym (turn_more c.args.plan.now.graph time c.args.order.now k))
           (puts_on (c.loop-k.invariant.written time schedule)
-          (c.put_turn.ensures c.args.turns time (omega (arith, below))
+          (c.put_turn.ensures.lines c.args.turns time (omega (arith, below))
           (subst (λ (xs : List Timed). IsSchedule xs c.args.turns time) (sym arcs) schedule)));
     }
 
-pub returns : goal.returns
-returns g c time schedule =
+pub returns-clause-same : goal.returns-clause-same
+returns-clause-same g c = c.loop-k.invariant.same
+
+pub returns-clause-lines : goal.returns-clause-lines
+returns-clause-lines g c time schedule =
     let all : c.loop-k.k ≡ c.args.turns = omega arith in
     with_put (ap (time_lines c.args.plan.now.graph time c.args.order.now) all) (c.loop-k.invariant.written time schedule)
