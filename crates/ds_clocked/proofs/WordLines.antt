@@ -104,10 +104,9 @@ puts_more {a} {b} {d} c first start middle last vectors from count words (lines,
     are_lines c middle vectors from count words turns low within (first + from) in
     let at : AreLines c (first + length (take from vectors)) middle (take count (drop from vectors)) text last =
     subst (λ (n : ℕ). AreLines c (first + n) middle (take count (drop from vectors)) text last) (sym front)
-    (subst (λ (row : Row). AreLines c (first + from) middle (take count (drop from vectors)) text row) (registers_behind c middle words count some ∙ sym is) here) in
-    (
+    (subst (λ (row : Row). AreLines c (first + from) middle (take count (drop from vectors)) text row) (registers_behind c middle words count some ∙ sym is) here) in (
       lines ++ text,
       subst (λ (vs : List Row). AreLines c first start vs (lines ++ text) last) (sym (take-add from count vectors))
-      (lines_in_windows c first start middle last (take from vectors) (take count (drop from vectors)) lines text are at),
+          (lines_in_windows c first start middle last (take from vectors) (take count (drop from vectors)) lines text are at),
       puts_on puts more,
     )

@@ -7,11 +7,7 @@ use ds_design::{Gate, by_level};
 use std::alloc::{AllocError, Global};
 
 // The places of the links, by the rank of what they drive.
-pub(crate) fn order_of(
-    alloc: Global,
-    links: &[Gate],
-    ranks: &[u64],
-) -> Result<Vec<u32>, AllocError>
+pub(crate) fn order_of(alloc: Global, links: &[Gate], ranks: &[u64]) -> Result<Vec<u32>, AllocError>
     requires few { length links.now < 2 ^ 32 }
     requires inside { All (λ t. t.output < length ranks.now) links.now }
     ensures ok { IfOk result (λ v. IsSortedByLevel links.now ranks.now

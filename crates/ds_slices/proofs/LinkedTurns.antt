@@ -57,11 +57,11 @@ module _ (c : Circuit) where
         let long : length (row_at vectors (from + k)) ≡ length (columns c) = row_length (from + k) inside in
         sym (map_by_index (value_at (turn_row words k)) (columns c) (row_at vectors (from + k)) long
         (λ i d within.
-          let at : get_or (columns c) i 0 ≡ get_or (columns c) i d = get_or_default (columns c) i 0 d within in
-          let bit : bit_at (get_or words (get_or (columns c) i 0) 0) k ≡ one_bit (value_at (row_at vectors (from + k)) i) = columned i within k low inside in
-          let sure : value_at (row_at vectors (from + k)) i ≢ Unknown = known k low inside i Zero (omega arith) in
-          sym (ap (value_at (turn_row words k)) (sym at) ∙ (value_in words k (get_or (columns c) i 0)
-          ∙ (ap bit_value bit ∙ value-one_bit (value_at (row_at vectors (from + k)) i) sure)))))
+        let at : get_or (columns c) i 0 ≡ get_or (columns c) i d = get_or_default (columns c) i 0 d within in
+        let bit : bit_at (get_or words (get_or (columns c) i 0) 0) k ≡ one_bit (value_at (row_at vectors (from + k)) i) = columned i within k low inside in
+        let sure : value_at (row_at vectors (from + k)) i ≢ Unknown = known k low inside i Zero (omega arith) in
+        sym (ap (value_at (turn_row words k)) (sym at) ∙ (value_in words k (get_or (columns c) i 0)
+        ∙ (ap bit_value bit ∙ value-one_bit (value_at (row_at vectors (from + k)) i) sure)))))
 
     register_value : (k i d : ℕ) → i < length c.registers → value_at (turn_row words k) (get_or (register_nets c) i d) ≡ bit_value (bit_at (get_or words (linked_net c (length c.tables + i)) 0) k)
     register_value k i d inside =
@@ -75,23 +75,23 @@ module _ (c : Circuit) where
         let long = length-map c.registers (λ (r : Register). r.output) in
         sym (map_by_index (value_at (turn_row words 0)) (register_nets c) start (starts ∙ sym long)
         (λ i d within.
-          let inside : i < length c.registers = omega arith in
-          let r : Register = get_or c.registers i (record { data_net = 0; output = 0; edge = None; control = None; initial = 0; line = 0 }) in
-          let word = (linked (length c.tables + i) (omega arith)).register i r inside refl in
-          sym (register_value 0 i d inside ∙ word.begins)))
+        let inside : i < length c.registers = omega arith in
+        let r : Register = get_or c.registers i (record { data_net = 0; output = 0; edge = None; control = None; initial = 0; line = 0 }) in
+        let word = (linked (length c.tables + i) (omega arith)).register i r inside refl in
+        sym (register_value 0 i d inside ∙ word.begins)))
     register (suc k) low =
         let long = length-map c.registers (λ (r : Register). r.output) in
         let data_long = length-map c.registers (λ (r : Register). r.data_net) in
         let row_long = length-map (data_nets c) (value_at (turn_row words k)) in
         sym (map_by_index (value_at (turn_row words (suc k))) (register_nets c) (values_at (turn_row words k) (data_nets c)) (row_long ∙ (data_long ∙ sym long))
         (λ i d within.
-          let inside : i < length c.registers = omega arith in
-          let r : Register = record { data_net = 0; output = 0; edge = None; control = None; initial = 0; line = 0 } in
-          let word = (linked (length c.tables + i) (omega arith)).register i r inside refl in
-          let fed : get_or (data_nets c) i 0 ≡ (get_or c.registers i r).data_net = get_or-map (λ (r : Register). r.data_net) c.registers i r 0 inside in
-          get_or-map (value_at (turn_row words k)) (data_nets c) i 0 Zero (omega arith)
-          ∙ (ap (value_at (turn_row words k)) fed ∙ (value_in words k (get_or c.registers i r).data_net
-          ∙ (ap bit_value (sym (word.later k low)) ∙ sym (register_value (suc k) i d inside))))))
+        let inside : i < length c.registers = omega arith in
+        let r : Register = record { data_net = 0; output = 0; edge = None; control = None; initial = 0; line = 0 } in
+        let word = (linked (length c.tables + i) (omega arith)).register i r inside refl in
+        let fed : get_or (data_nets c) i 0 ≡ (get_or c.registers i r).data_net = get_or-map (λ (r : Register). r.data_net) c.registers i r 0 inside in
+        get_or-map (value_at (turn_row words k)) (data_nets c) i 0 Zero (omega arith)
+        ∙ (ap (value_at (turn_row words k)) fed ∙ (value_in words k (get_or c.registers i r).data_net
+        ∙ (ap bit_value (sym (word.later k low)) ∙ sym (register_value (suc k) i d inside))))))
 
     table : (k : ℕ) → k < 64 → All (λ t. value_at (turn_row words k) t.output ≡ value_of t.table (turn_row words k)) c.tables
     table k low j d inside =

@@ -67,10 +67,10 @@ module _ (c : Circuit) where
     same_value cover apart j =
         value_agrees cover (turn_row words j) (turn_row (set words net v) j)
         (λ i d inside.
-          let other : get_or cover.inputs i d ≢ net = (λ e. apart (subst (λ (x : ℕ). Contains cover.inputs x) e (Contains-get_or cover.inputs i d inside))) in
-          value_in words j (get_or cover.inputs i d)
-          ∙ sym (value_in (set words net v) j (get_or cover.inputs i d)
-          ∙ ap (λ (w : ℕ). bit_value (bit_at w j)) (get_or-set_other words net (get_or cover.inputs i d) v 0 other)))
+        let other : get_or cover.inputs i d ≢ net = (λ e. apart (subst (λ (x : ℕ). Contains cover.inputs x) e (Contains-get_or cover.inputs i d inside))) in
+        value_in words j (get_or cover.inputs i d)
+        ∙ sym (value_in (set words net v) j (get_or cover.inputs i d)
+        ∙ ap (λ (w : ℕ). bit_value (bit_at w j)) (get_or-set_other words net (get_or cover.inputs i d) v 0 other)))
 
     pub word_stays : IsLinkWord c start words k word → IsLinkWord c start (set words net v) k word
     word_stays is = record {

@@ -15,7 +15,11 @@ fn spread(truth: u64, place: u64) -> u64
     requires { place < 64 }
     ensures { (k : ℕ) → k < 64 → bit_at result k ≡ bit_at truth place }
 {
-    if (truth >> place) & 1 == 0 { 0 } else { u64::MAX }
+    if (truth >> place) & 1 == 0 {
+        0
+    } else {
+        u64::MAX
+    }
 }
 
 // The bits by one input.

@@ -50,11 +50,7 @@ impl Slices {
     }
 
     // With this order.
-    fn with_order(
-        alloc: Global,
-        netlist: &Netlist,
-        order: Vec<u32>,
-    ) -> Result<Self, OutOfMemory>
+    fn with_order(alloc: Global, netlist: &Netlist, order: Vec<u32>) -> Result<Self, OutOfMemory>
         requires { IsSequence netlist.now order.items }
         ensures { IfOk result (IsReady netlist.now) }
     {
@@ -72,7 +68,10 @@ impl Slices {
 fn register_nets(alloc: Global, registers: &[Register]) -> Result<Vec<NetId>, AllocError>
     ensures { IfOk result (λ v. v.items ≡ map (λ r. r.output) registers.now) }
 {
-    registers.iter().map(|register| register.output).collect(alloc)
+    registers
+        .iter()
+        .map(|register| register.output)
+        .collect(alloc)
 }
 
 /// Works out the words of up to 64 turns from one on, begun with these registers.

@@ -31,9 +31,9 @@ order_of-requires-clause-inside c =
     let ranks : length c.as_slice.result.now ≡ length circuit.nets =
     ap (λ (ns : List ℕ). length ns) c.as_slice.ensures.value ∙ (c.in-Ok.ensures.ok.size ∙ nets) in
     λ k d inside.
-        let low : (get_or c.as_slice-links.result.now k d).output < length circuit.nets =
-        (subst (λ (gs : List Gate). All (IsLinkWithin (length circuit.nets)) gs) (sym are) (links_within circuit c.design-design.ensures.in_range) k d inside).1 in
-        omega arith
+    let low : (get_or c.as_slice-links.result.now k d).output < length circuit.nets =
+    (subst (λ (gs : List Gate). All (IsLinkWithin (length circuit.nets)) gs) (sym are) (links_within circuit c.design-design.ensures.in_range) k d inside).1 in
+    omega arith
 
 pub returns-in-Ok : goal.returns-in-Ok
 returns-in-Ok c =

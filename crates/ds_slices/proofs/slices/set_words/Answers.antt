@@ -43,10 +43,10 @@ returns-clause-turns c =
     (sym (c.set_links.ensures.others (get_or (columns circuit) i 0) (column_apart circuit c.design-design.ensures.accepted i low))) (told i low)) in
     let undriven : (net : ℕ) → ¬ Contains (drivers circuit) net → get_or words net 0 ≡ 0 =
     (λ net free.
-      c.set_links.ensures.others net (undriven_apart circuit net free)
-      ∙ (others net (λ i low e. free (Contains-append_left (columns circuit ++ table_nets circuit) (register_nets circuit) net
-      (Contains-append_left (columns circuit) (table_nets circuit) net (subst (λ (x : ℕ). Contains (columns circuit) x) e (Contains-get_or (columns circuit) i 0 low)))))
-      ∙ c.clear.ensures.zero net)) in
+    c.set_links.ensures.others net (undriven_apart circuit net free)
+    ∙ (others net (λ i low e. free (Contains-append_left (columns circuit ++ table_nets circuit) (register_nets circuit) net
+    (Contains-append_left (columns circuit) (table_nets circuit) net (subst (λ (x : ℕ). Contains (columns circuit) x) e (Contains-get_or (columns circuit) i 0 low)))))
+    ∙ c.clear.ensures.zero net)) in
     subst (λ (ws : List ℕ). AreTurns circuit c.args.start.now rows c.args.from ws) (sym (take_at words (drop (length words) c.args.slices.now.words.items) c.args.slices.now.words.len own))
     (are_turns circuit c.args.start.now rows c.args.from words c.set_links.ensures.linked columned undriven c.requires.start
     (λ k d inside. c.count-count.ensures.kept.one_width k d inside ∙ c.requires.width) c.requires.known.1 size)
