@@ -3,8 +3,8 @@
 //! In each turn the nets take the one valuation of the registers and the vector, a line with the
 //! outputs and the registers is written, and each register takes the value of its data net.
 //!
-//! Where no register feeds back and no value of a window is unknown, 64 turns are worked out at
-//! once, in words.
+//! Where no register feeds back, a window has 1,024 turns or more and no value of it is unknown, 64
+//! turns are worked out at once, in words.
 //!
 //! `simulate_from` writes the lines of a window, from any row and turn number on, and gives the row
 //! after it. It answers `Write` only where the sink's faults rose, and then a first part of the

@@ -16,6 +16,9 @@ use ds_outside::{Buffered, Pen, Sink, WriteFault};
 use ds_slices::{Slices, put_turn_line, set_state, set_words};
 use std::alloc::Global;
 
+// Shorter windows go turn by turn: to look for feedback takes as long as some hundred turns.
+const LEAST: usize = 1_024;
+
 /// The registers before a turn, and what the words of 64 turns are worked out in.
 #[derive(Drop)]
 pub struct Words {
@@ -23,8 +26,8 @@ pub struct Words {
     pub slices: Slices,
 }
 
-// Room for a window that begins with these registers, where no register feeds back and no value is
-// unknown.
+// Room for a window that begins with these registers, where it is long, no register feeds back and
+// no value is unknown.
 pub(crate) fn words_for(
     alloc: Global,
     netlist: &Netlist,
@@ -35,7 +38,7 @@ pub(crate) fn words_for(
     ensures begun { IfOk result (λ found. IfSome found
         (IsBegun netlist.now start.now vectors.now.rows)) }
 {
-    if !start.all_known() || !are_known(vectors) {
+    if vectors.count() < LEAST || !start.all_known() || !are_known(vectors) {
         return Ok(None);
     }
     match Slices::of(alloc, netlist)? {
