@@ -60,13 +60,7 @@ fn put_turns<P: Pen>(
 }
 
 // Writes the lines of the turn that is begun.
-fn put_turn<P: Pen>(
-    plan: &Plan<'_>,
-    order: &[EventId],
-    turn: u32,
-    schedule: &Schedule,
-    pen: &mut P,
-)
+fn put_turn<P: Pen>(plan: &Plan<'_>, order: &[EventId], turn: u32, schedule: &Schedule, pen: &mut P)
     requires events { schedule.now.events ≡ length plan.now.graph.events }
     requires order { All (λ v. v < length plan.now.graph.events) order.now }
     requires begun { (0 < turn) × (schedule.now.turn ≡ turn) }

@@ -3,9 +3,7 @@ ghost use Rattle.std.specs.Prelude.{◌≡◌, ◌++◌, ◌∷◌, List, [], ma
 ghost use Rattle.clap.specs.Words.{Shape, app_of, shape_of};
 ghost use Rattle.ds_cmd.specs.Commands.{commands as commands_of, desync};
 
-use crate::{
-    accept, check, clock, demo, graph, list_clusters, period, rate, replay, run, times,
-};
+use crate::{accept, check, clock, demo, graph, list_clusters, period, rate, replay, run, times};
 use clap::Command;
 use ds_base::OutOfMemory;
 use std::alloc::Global;

@@ -34,6 +34,6 @@ pub enum Job {
     Clusters(ClustersJob),
     /// The exact period of the graph of a file, where its arcs have the delays of another.
     Rate(RateJob),
-    /// When each event of the graph fires, turn by turn, where its orders have the delays of a file.
+    /// When each event of the graph fires, where its orders have the delays of a file.
     Times(TimesJob),
 }

@@ -436,7 +436,6 @@ module _ (faults : FaultsAreRefused) (one_net : OneFault) (one : OneGroupedClust
   job_one_line (Clusters job) (told_net, grouped) =
       behind_net job.net told_net (listing_stage held job) (λ c.
       last_one_line (clustered_stage held job.net job.groups job.clusters c) (listed_stage c) (clustered_one_line held job.net job.groups job.clusters (told_file held job.groups grouped) c) (λ clusters line none. none))
-
   job_one_line (Rate job) (told_graph, told_delays) =
       then_one_line (bare_graph_stage held job.graph) (timed_stage held job.delays) (bare_exclusive held job.graph told_graph) (bare_one_line held job.graph told_graph)
       (λ g is. timed_one_line held job.delays g told_delays)

@@ -171,7 +171,6 @@ module _ (faults : FaultsAreRefused) (one : OneGroupedClustering) (held : List �
       behind_netlist job.net told_net (listing_stage held job) (λ c is accepts.
       then_one (clustered_stage held job.net job.groups job.clusters c) (listed_stage c)
       ((clustered_exclusive one held job.net job.groups job.clusters (told_file held job.groups grouped) c).one) (λ clusters are text other is also. also ∙ sym is))
-
   job_one (Rate job) allowed told determined = absurd determined
   job_one (Times job) allowed (told_net, told_delays, told, grouped) determined =
       behind_netlist job.net told_net (times_stage held job) (λ c is accepts.

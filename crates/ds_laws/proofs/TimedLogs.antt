@@ -54,8 +54,7 @@ module _ (g : Graph) (time : ℕ → ℕ → ℕ) where
         let below : count f.event < turns = enabled.below in
         let small : f.turn < 2 ^ 64 = omega (arith, turn) in
         let (numeral, same) = decimal_is_IsNumeral f.turn small in
-        let short : length (decimal f.turn) ≤ 10 = length-decimal-le 10 f.turn (omega arith) (omega (arith, turn)) small in
-        (
+        let short : length (decimal f.turn) ≤ 10 = length-decimal-le 10 f.turn (omega arith) (omega (arith, turn)) small in (
           record {
             name = text_of_event g f.event;
             turn = decimal f.turn;

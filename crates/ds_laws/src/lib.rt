@@ -2,18 +2,18 @@
 //! a function that does nothing.
 //!
 //! Of texts: a job has one text, but of `period` and `rate`, and of `run` with `--log` or `--stop`,
-//! nothing is said; `run` prints what `clock` prints, and with `--log` prints it before its log. Of logs: what
-//! `run --log` writes is read and fired to its end, and `replay` then shows the clocked values of
-//! each register, and of a part of a log the first of them; what `run --stop --log` writes is fired
-//! to where that run has stopped, and `replay` prints what it printed, for the names of registers,
-//! as they are printed, are words that a reader takes; what `times` writes is a log with a time
-//! behind each firing. Of latches: what an open node has read stays
-//! until it closes, and a finished run has stored the clocked registers. Of orders: there is one
-//! from an event to another, ranks exclude circles, and in what `graph --shake` writes those of a
-//! data edge go by way of its request and its acknowledge. Of refused jobs: two lines that refuse
-//! one are the same, or name cycles; and a fault has its own status where no read failed that a
-//! stage before it needs. Of groups: what `clusters` prints gives the same clusters again, and
-//! without a file of groups there are those of the mode.
+//! nothing is said; `run` prints what `clock` prints, and with `--log` prints it before its log. Of
+//! logs: what `run --log` writes is read and fired to its end, and `replay` then shows the clocked
+//! values of each register, and of a part of a log the first of them; what `run --stop --log`
+//! writes is fired to where that run has stopped, and `replay` prints what it printed, for the
+//! names of registers, as they are printed, are words that a reader takes; what `times` writes is a
+//! log with a time behind each firing. Of latches: what an open node has read stays until it
+//! closes, and a finished run has stored the clocked registers. Of orders: there is one from an
+//! event to another, ranks exclude circles, and in what `graph --shake` writes those of a data edge
+//! go by way of its request and its acknowledge. Of refused jobs: two lines that refuse one are the
+//! same, or name cycles; and a fault has its own status where no read failed that a stage before it
+//! needs. Of groups: what `clusters` prints gives the same clusters again, and without a file of
+//! groups there are those of the mode.
 #![tactic(auto)]
 
 mod answers;

@@ -128,7 +128,9 @@ fn prints_all<R: AllocGlobal + Threads + Sync>(rt: &R, turns: u64) -> Result<boo
 
 #[test]
 fn windows_of_all_lengths_are_written(rt: HostRuntime) -> Result<(), Fail> {
-    for turns in [1, 63, 64, 65, 1_023, 1_024, 1_025, 1_087, 4_095, 4_096, 4_097] {
+    for turns in [
+        1, 63, 64, 65, 1_023, 1_024, 1_025, 1_087, 4_095, 4_096, 4_097,
+    ] {
         assert!(rt; prints_all(&rt, turns)?);
     }
     Ok(())

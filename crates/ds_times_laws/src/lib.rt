@@ -15,8 +15,7 @@ mod single;
 
 pub use clocked::{listed_follow_clock, timed_follow_clock};
 pub use listed::{
-    events_have_one_order, listed_are_legal, listed_are_numbered, timed_are_legal,
-    turns_are_listed,
+    events_have_one_order, listed_are_legal, listed_are_numbered, timed_are_legal, turns_are_listed,
 };
 pub use paced::{cycles_pace_times, periods_bound_times};
 pub use single::{

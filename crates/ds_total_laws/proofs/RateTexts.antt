@@ -65,16 +65,18 @@ times_there : (g : Graph) → IsLive g → (delays : List ℕ) (turns : ℕ) →
 times_there g live delays turns =
     let (ranks, are) = live_graphs_have_ranks g live in
     let (order, by_rank, one) = events_have_one_order (λ v. slice_index ranks v) (length g.events) in
-    let (time, schedules) = some_schedule (timed_arcs g.arcs delays) live.rank (timed_rises g live delays) in
-    (time_lines g time order turns, record {
-      ranks = ranks;
-      are_ranks = are;
-      order = order;
-      by_rank = by_rank;
-      time = time;
-      schedule = schedules turns;
-      spelt = refl;
-    })
+    let (time, schedules) = some_schedule (timed_arcs g.arcs delays) live.rank (timed_rises g live delays) in (
+      time_lines g time order turns,
+      record {
+        ranks = ranks;
+        are_ranks = are;
+        order = order;
+        by_rank = by_rank;
+        time = time;
+        schedule = schedules turns;
+        spelt = refl;
+      },
+    )
 
 module _ (held : List ℕ → Held) where
   delays_decided : (file : List ℕ) (g : Graph) → HasBytes (held file) → IsDecided (delays_stage held file g)

@@ -38,7 +38,7 @@ loop-i-preserved g c =
       same = c.put_time.ensures.same ∙ c.loop-i.invariant.same;
       written = λ turns time low schedule.
           let at = c.time-time.ensures turns time (omega (arith, low, c.requires.begun.1)) schedule
-              ∙ ap (time v) c.requires.begun.1 in
+          ∙ ap (time v) c.requires.begun.1 in
           with_put (event_more c.args.plan.now.graph time order c.args.turn i v c.time-time.result below more at)
           (puts_on (c.loop-i.invariant.written turns time low schedule) c.put_time.ensures);
     }
