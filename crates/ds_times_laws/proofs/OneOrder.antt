@@ -63,34 +63,35 @@ module _ (rank : ℕ → ℕ) where
   has_put : (v : ℕ) (xs : List ℕ) → Contains (put_in v xs) v
   unfolding put_in placed
   has_put v [] = contains_head v []
-  has_put v (x ∷ xs) = go (cases_lt (rank v) (rank x))
+  has_put v (x ∷ xs) = go (has_put v xs) (cases_lt (rank v) (rank x))
     where
-      go : (d : (rank v < rank x) ⊎ (rank x ≤ rank v)) → Contains (placed v x d xs (put_in v xs)) v
-      go (inl lower) = contains_head v (x ∷ xs)
-      go (inr higher) = contains_tail x (put_in v xs) v (has_put v xs)
+      go : Contains (put_in v xs) v → (d : (rank v < rank x) ⊎ (rank x ≤ rank v)) → Contains (placed v x d xs (put_in v xs)) v
+      go rest (inl lower) = contains_head v (x ∷ xs)
+      go rest (inr higher) = contains_tail x (put_in v xs) v rest
 
   has_old : (v : ℕ) (xs : List ℕ) (z : ℕ) → Contains xs z → Contains (put_in v xs) z
   unfolding put_in placed
   has_old v [] z at = absurd (none_in z at)
-  has_old v (x ∷ xs) z at = go (cases_lt (rank v) (rank x))
+  has_old v (x ∷ xs) z at = go (λ behind. has_old v xs z behind) (cases_lt (rank v) (rank x))
     where
-      go : (d : (rank v < rank x) ⊎ (rank x ≤ rank v)) → Contains (placed v x d xs (put_in v xs)) z
-      go (inl lower) = contains_tail v (x ∷ xs) z at
-      go (inr higher) = elim (contains_split x xs z at) [
+      go : (Contains xs z → Contains (put_in v xs) z) → (d : (rank v < rank x) ⊎ (rank x ≤ rank v)) → Contains (placed v x d xs (put_in v xs)) z
+      go rest (inl lower) = contains_tail v (x ∷ xs) z at
+      go rest (inr higher) = elim (contains_split x xs z at) [
         | inl e ↦ subst (λ (a : ℕ). Contains (x ∷ put_in v xs) a) e (contains_head x (put_in v xs))
-        | inr behind ↦ contains_tail x (put_in v xs) z (has_old v xs z behind)
+        | inr behind ↦ contains_tail x (put_in v xs) z (rest behind)
       ]
 
   has_no_more : (v : ℕ) (xs : List ℕ) (z : ℕ) → Contains (put_in v xs) z → (v ≡ z) ⊎ Contains xs z
   unfolding put_in placed
   has_no_more v [] z at = contains_split v [] z at
-  has_no_more v (x ∷ xs) z at = go (cases_lt (rank v) (rank x)) at
+  has_no_more v (x ∷ xs) z at = go (λ behind. has_no_more v xs z behind) (cases_lt (rank v) (rank x)) at
     where
-      go : (d : (rank v < rank x) ⊎ (rank x ≤ rank v)) → Contains (placed v x d xs (put_in v xs)) z → (v ≡ z) ⊎ Contains (x ∷ xs) z
-      go (inl lower) at = contains_split v (x ∷ xs) z at
-      go (inr higher) at = elim (contains_split x (put_in v xs) z at) [
+      go : (Contains (put_in v xs) z → (v ≡ z) ⊎ Contains xs z) → (d : (rank v < rank x) ⊎ (rank x ≤ rank v))
+          → Contains (placed v x d xs (put_in v xs)) z → (v ≡ z) ⊎ Contains (x ∷ xs) z
+      go rest (inl lower) at = contains_split v (x ∷ xs) z at
+      go rest (inr higher) at = elim (contains_split x (put_in v xs) z at) [
         | inl e ↦ inr (subst (λ (a : ℕ). Contains (x ∷ xs) a) e (contains_head x xs))
-        | inr behind ↦ elim (has_no_more v xs z behind) [
+        | inr behind ↦ elim (rest behind) [
           | inl e ↦ inl e
           | inr old ↦ inr (contains_tail x xs z old)
         ]
@@ -100,7 +101,8 @@ module _ (rank : ℕ → ℕ) where
   put_sorted : (v : ℕ) (xs : List ℕ) → ((z : ℕ) → Contains xs z → z < v) → AllPairs (ComesFirst rank) xs → AllPairs (ComesFirst rank) (put_in v xs)
   unfolding put_in placed
   put_sorted v [] below sorted = pairs_cons (ComesFirst rank) v [] (λ z at. absurd (none_in z at)) sorted
-  put_sorted v (x ∷ xs) below sorted = go (cases_lt (rank v) (rank x))
+  put_sorted v (x ∷ xs) below sorted =
+      go (put_sorted v xs (λ z at. below z (contains_tail x xs z at)) (pairs_rest (ComesFirst rank) x xs sorted)) (cases_lt (rank v) (rank x))
     where
       behind : (lower : rank v < rank x) (z : ℕ) → Contains (x ∷ xs) z → ComesFirst rank v z
       behind lower z at = elim (contains_split x xs z at) [
@@ -123,10 +125,9 @@ module _ (rank : ℕ → ℕ) where
         | inr old ↦ pairs_first (ComesFirst rank) x xs sorted z old
       ]
 
-      go : (d : (rank v < rank x) ⊎ (rank x ≤ rank v)) → AllPairs (ComesFirst rank) (placed v x d xs (put_in v xs))
-      go (inl lower) = pairs_cons (ComesFirst rank) v (x ∷ xs) (behind lower) sorted
-      go (inr higher) = pairs_cons (ComesFirst rank) x (put_in v xs) (before higher)
-          (put_sorted v xs (λ z at. below z (contains_tail x xs z at)) (pairs_rest (ComesFirst rank) x xs sorted))
+      go : AllPairs (ComesFirst rank) (put_in v xs) → (d : (rank v < rank x) ⊎ (rank x ≤ rank v)) → AllPairs (ComesFirst rank) (placed v x d xs (put_in v xs))
+      go rest (inl lower) = pairs_cons (ComesFirst rank) v (x ∷ xs) (behind lower) sorted
+      go rest (inr higher) = pairs_cons (ComesFirst rank) x (put_in v xs) (before higher) rest
 
   listed_below : (n z : ℕ) → Contains (listed n) z → z < n
   unfolding listed
