@@ -3,7 +3,7 @@ use Rattle.std.proofs.Common.{◌≡◌, ℕ, zero, suc, ◌≤◌, List, Option
 use Rattle.ds_outside.specs.Fault.{Rose}
 use Rattle.ds_cmd.specs.Line.{job_of}
 use Rattle.ds_cmd.specs.declared.job.Job.{Job}
-use Rattle.ds_cmd.specs.declared.job.Job.TheVariants.{Run, Clock, Check, Graph, Replay, Accept, Demo, Period, Clusters}
+use Rattle.ds_cmd.specs.declared.job.Job.TheVariants.{Run, Clock, Check, Graph, Replay, Accept, Demo, Period, Clusters, Rate, Times}
 use Rattle.ds_netlist.specs.Laws.{FaultsAreRefused}
 use Rattle.ds_split.specs.Laws.{OneGroupedClustering}
 use Rattle.ds_stage.specs.Ends.{RoseIn}
@@ -29,6 +29,8 @@ windows_or_none (Accept job) = inr (λ none. none)
 windows_or_none (Demo job) = inr (λ none. none)
 windows_or_none (Period job) = inr (λ none. none)
 windows_or_none (Clusters job) = inr (λ none. none)
+windows_or_none (Rate job) = inr (λ none. none)
+windows_or_none (Times job) = inr (λ none. none)
 
 -- words are those of one job
 same_job : (words : List (List ℕ)) (one other : Job) → job_of words ≡ Ok one → job_of words ≡ Ok other → one ≡ other

@@ -30,11 +30,15 @@ module _ (g : Graph) (time : ℕ → ℕ → ℕ) where
   -- its line
   line_is : (name turn at rest : List ℕ) → (name ++ codes " " ++ turn ++ codes " " ++ at ++ codes "\n") ++ rest ≡ line_text (name ∷ turn ∷ at ∷ []) ++ 10 ∷ rest
   line_is name turn at rest =
-      append_assoc name (codes " " ++ turn ++ codes " " ++ at ++ codes "\n") rest
-      ∙ (ap (λ (t : List ℕ). name ++ codes " " ++ t) (append_assoc turn (codes " " ++ at ++ codes "\n") rest
-      ∙ (ap (λ (t : List ℕ). turn ++ codes " " ++ t) (append_assoc at (codes "\n") rest)
-      ∙ sym (append_assoc turn (32 ∷ at) (10 ∷ rest))))
-      ∙ sym (append_assoc name (32 ∷ (turn ++ 32 ∷ at)) (10 ∷ rest)))
+      let one : (name ++ 32 ∷ (turn ++ 32 ∷ (at ++ 10 ∷ []))) ++ rest ≡ name ++ 32 ∷ ((turn ++ 32 ∷ (at ++ 10 ∷ [])) ++ rest) =
+      append_assoc name (32 ∷ (turn ++ 32 ∷ (at ++ 10 ∷ []))) rest in
+      let two : (turn ++ 32 ∷ (at ++ 10 ∷ [])) ++ rest ≡ turn ++ 32 ∷ ((at ++ 10 ∷ []) ++ rest) = append_assoc turn (32 ∷ (at ++ 10 ∷ [])) rest in
+      let three : (at ++ 10 ∷ []) ++ rest ≡ at ++ 10 ∷ rest = append_assoc at (10 ∷ []) rest in
+      let back : (turn ++ 32 ∷ at) ++ 10 ∷ rest ≡ turn ++ 32 ∷ (at ++ 10 ∷ rest) = append_assoc turn (32 ∷ at) (10 ∷ rest) in
+      let whole : (name ++ 32 ∷ (turn ++ 32 ∷ at)) ++ 10 ∷ rest ≡ name ++ 32 ∷ ((turn ++ 32 ∷ at) ++ 10 ∷ rest) =
+      append_assoc name (32 ∷ (turn ++ 32 ∷ at)) (10 ∷ rest) in
+      let middle : (turn ++ 32 ∷ (at ++ 10 ∷ [])) ++ rest ≡ (turn ++ 32 ∷ at) ++ 10 ∷ rest = two ∙ (ap (λ (t : List ℕ). turn ++ 32 ∷ t) three ∙ sym back) in
+      one ∙ (ap (λ (t : List ℕ). name ++ 32 ∷ t) middle ∙ sym whole)
 
   lines_are : (firings : List Firing) → flat_map (time_line g time) firings ≡ text_of (map words firings)
   lines_are [] = refl
