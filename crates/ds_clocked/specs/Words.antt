@@ -5,14 +5,14 @@ use Rattle.ds_cover.specs.Cover.{values_at}
 use Rattle.ds_design.specs.Circuit.{Circuit, register_nets}
 use Rattle.ds_design.specs.Trace.{trace_lines}
 use Rattle.ds_outside.specs.Pen.{Puts, Writing}
-use Rattle.ds_slices.specs.Ready.{IsReady}
+use Rattle.ds_slices.specs.Ready.{AreReady}
 use Rattle.ds_slices.specs.Turns.{turn_row}
-use Rattle.ds_clocked.specs.declared.words.Words.{Words}
+use Rattle.ds_clocked.specs.declared.words.Sliced.{Sliced}
 
 -- room for a window that begins with these registers, and all values are known
-pub record IsBegun (c : Circuit) (start : Row) (vectors : List Row) (words : Words) : Type 0 where
+pub record IsKnownWindow (c : Circuit) (start : Row) (vectors : List Row) (words : Sliced) : Type 0 where
   pub state : words.state ≡ start
-  pub ready : IsReady c words.slices
+  pub ready : AreReady c words.slices
   pub one_each : length start ≡ length c.registers
   pub start_known : AreKnown start
   pub vectors_known : All AreKnown vectors

@@ -6,8 +6,8 @@ ghost use Rattle.ds_base.specs.Values.{AreKnown};
 ghost use Rattle.ds_cover.specs.Cover.{values_at};
 ghost use Rattle.ds_design.specs.Circuit.{columns, data_nets};
 ghost use Rattle.ds_clocked.specs.Appends.{PutsLines, WritesLines};
-ghost use Rattle.ds_clocked.specs.Words.{IsBegun, PutsTurns};
-ghost use Rattle.ds_slices.specs.Ready.{IsReady};
+ghost use Rattle.ds_clocked.specs.Words.{IsKnownWindow, PutsTurns};
+ghost use Rattle.ds_slices.specs.Ready.{AreReady};
 ghost use Rattle.ds_slices.specs.Turns.{turn_row};
 
 use ds_base::{OutOfMemory, Row3};
@@ -21,7 +21,7 @@ const LEAST: usize = 1_024;
 
 /// The registers before a turn, and what the words of 64 turns are worked out in.
 #[derive(Drop)]
-pub struct Words {
+pub struct Sliced {
     pub state: Row3,
     pub slices: Slices,
 }
@@ -33,10 +33,10 @@ pub(crate) fn words_for(
     netlist: &Netlist,
     start: &Row3,
     vectors: &Vectors,
-) -> Result<Option<Words>, OutOfMemory>
+) -> Result<Option<Sliced>, OutOfMemory>
     requires start { length start.now ≡ length netlist.now.registers }
     ensures begun { IfOk result (λ found. IfSome found
-        (IsBegun netlist.now start.now vectors.now.rows)) }
+        (IsKnownWindow netlist.now start.now vectors.now.rows)) }
 {
     if vectors.count() < LEAST || !start.all_known() || !are_known(vectors) {
         return Ok(None);
@@ -48,13 +48,13 @@ pub(crate) fn words_for(
 }
 
 // Begun with these registers.
-fn begun(alloc: Global, start: &Row3, slices: Slices) -> Result<Words, OutOfMemory>
+fn begun(alloc: Global, start: &Row3, slices: Slices) -> Result<Sliced, OutOfMemory>
     ensures state { IfOk result (λ words. words.state ≡ start.now) }
     ensures slices { IfOk result (λ words. words.slices ≡ slices) }
 {
     let mut state = Row3::with_len(alloc, start.len())?;
     state.copy_from(start);
-    Ok(Words { state, slices })
+    Ok(Sliced { state, slices })
 }
 
 // Whether no vector has an unknown value.
@@ -74,11 +74,11 @@ pub(crate) fn write_words<O: Sink>(
     netlist: &Netlist,
     first: u64,
     vectors: &Vectors,
-    words: &mut Words,
+    words: &mut Sliced,
     out: &mut O,
 ) -> Result<(), WriteFault>
     requires width { vectors.now.width ≡ length (columns netlist.now) }
-    requires begun { IsBegun netlist.now words.old.state vectors.now.rows words.old }
+    requires begun { IsKnownWindow netlist.now words.old.state vectors.now.rows words.old }
     requires few { first + length vectors.now.rows < 2 ^ 64 }
     ensures { WritesLines result netlist.now first words.old.state vectors.now.rows words.new.state
         (O.written out.old) (O.written out.new) (O.faults out.old) (O.faults out.new) }
@@ -93,11 +93,11 @@ fn put_words<P: Pen>(
     netlist: &Netlist,
     first: u64,
     vectors: &Vectors,
-    words: &mut Words,
+    words: &mut Sliced,
     pen: &mut P,
 )
     requires width { vectors.now.width ≡ length (columns netlist.now) }
-    requires begun { IsBegun netlist.now words.old.state vectors.now.rows words.old }
+    requires begun { IsKnownWindow netlist.now words.old.state vectors.now.rows words.old }
     requires few { first + length vectors.now.rows < 2 ^ 64 }
     ensures { PutsLines (P.writing pen.old) (P.writing pen.new) netlist.now first
         words.old.state vectors.now.rows words.new.state }
@@ -113,8 +113,8 @@ fn put_words<P: Pen>(
 
 // Writes the lines of so many turns of the words, numbered from a first one on, and leaves the row
 // after them.
-fn put_slice<P: Pen>(netlist: &Netlist, first: u64, count: usize, words: &mut Words, pen: &mut P)
-    requires ready { IsReady netlist.now words.old.slices }
+fn put_slice<P: Pen>(netlist: &Netlist, first: u64, count: usize, words: &mut Sliced, pen: &mut P)
+    requires ready { AreReady netlist.now words.old.slices }
     requires state { length words.old.state ≡ length netlist.now.registers }
     requires count { (0 < count) × (count ≤ 64) }
     requires few { first + count < 2 ^ 64 }
@@ -132,7 +132,7 @@ fn put_slice<P: Pen>(netlist: &Netlist, first: u64, count: usize, words: &mut Wo
 
 // Writes the lines of so many turns of the words, numbered from a first one on.
 fn put_lines<P: Pen>(slices: &Slices, netlist: &Netlist, first: u64, count: usize, pen: &mut P)
-    requires ready { IsReady netlist.now slices.now }
+    requires ready { AreReady netlist.now slices.now }
     requires count { count ≤ 64 }
     requires few { first + count < 2 ^ 64 }
     ensures lines { PutsTurns (P.writing pen.old) (P.writing pen.new) netlist.now first count

@@ -23,11 +23,23 @@ struct State {
     q: Value,
 }
 
-// An input in a turn.
-fn input(turn: u64, place: u64, unknown: Unknown) -> Value {
+// The first input in a turn.
+fn first(turn: u64, unknown: Unknown) -> Value {
     if unknown == Some(turn) {
         Value::Unknown
-    } else if (turn ^ (turn >> place)) % 3 == 1 {
+    } else {
+        mixed(turn ^ (turn >> 1))
+    }
+}
+
+// The second one.
+fn second(turn: u64) -> Value {
+    mixed(turn ^ (turn >> 3))
+}
+
+// One for a third of the numbers.
+fn mixed(number: u64) -> Value {
+    if number % 3 == 1 {
         Value::One
     } else {
         Value::Zero
@@ -60,7 +72,7 @@ fn push(text: &mut String, values: &[Value]) -> Result<(), AllocError> {
 fn vectors(alloc: Global, turns: u64, unknown: Unknown) -> Result<String, AllocError> {
     let mut text = String::new(alloc);
     for turn in 0..turns {
-        push(&mut text, &[input(turn, 1, unknown), input(turn, 3, None)])?;
+        push(&mut text, &[first(turn, unknown), second(turn)])?;
         text.push_str("\n")?;
     }
     Ok(text)
@@ -73,7 +85,7 @@ fn push_turn(
     state: State,
     unknown: Unknown,
 ) -> Result<State, AllocError> {
-    let (a, b) = (input(turn, 1, unknown), input(turn, 3, None));
+    let (a, b) = (first(turn, unknown), second(turn));
     let State { p, q } = state;
     let mut number = Buffer::new();
     text.push_str(number.format(turn))?;

@@ -5,7 +5,7 @@ use Rattle.ds_feedback.specs.Sequence.{IsSequence}
 use Rattle.ds_slices.specs.declared.slices.Slices.{Slices}
 
 -- an order of the tables and registers of a circuit, and room for its nets
-pub record IsReady (c : Circuit) (slices : Slices) : Type 0 where
+pub record AreReady (c : Circuit) (slices : Slices) : Type 0 where
   pub order : IsSequence c slices.order.items
   pub words : length slices.words.items ≡ length c.nets
   pub nets : length slices.nets ≡ length c.nets

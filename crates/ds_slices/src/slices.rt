@@ -5,7 +5,7 @@ ghost use Rattle.ds_base.specs.Values.{AreKnown};
 ghost use Rattle.ds_design.specs.Circuit.{columns};
 ghost use Rattle.ds_feedback.specs.Links.{links};
 ghost use Rattle.ds_feedback.specs.Sequence.{HasFeedback, IsSequence};
-ghost use Rattle.ds_slices.specs.Ready.{IsReady};
+ghost use Rattle.ds_slices.specs.Ready.{AreReady};
 ghost use Rattle.ds_slices.specs.Turns.{AreKnownTurns, AreTurns};
 
 use crate::columns::set_columns;
@@ -41,7 +41,7 @@ impl Slices {
     pub fn of(alloc: Global, netlist: &Netlist) -> Result<Option<Self>, OutOfMemory>
         ensures ok { IfOk result (λ found. MatchOption found
             (HasFeedback netlist.now ⊎ (2 ^ 32 ≤ length (links netlist.now)))
-            (IsReady netlist.now)) }
+            (AreReady netlist.now)) }
     {
         match sequence(alloc, netlist)? {
             Some(order) => Ok(Some(Slices::with_order(alloc, netlist, order)?)),
@@ -52,7 +52,7 @@ impl Slices {
     // With this order.
     fn with_order(alloc: Global, netlist: &Netlist, order: Vec<u32>) -> Result<Self, OutOfMemory>
         requires { IsSequence netlist.now order.items }
-        ensures { IfOk result (IsReady netlist.now) }
+        ensures { IfOk result (AreReady netlist.now) }
     {
         let design = netlist.design();
         Ok(Slices {
@@ -82,12 +82,12 @@ pub fn set_words(
     from: usize,
     slices: &mut Slices,
 )
-    requires ready { IsReady netlist.now slices.old }
+    requires ready { AreReady netlist.now slices.old }
     requires start { length start.now ≡ length netlist.now.registers }
     requires width { vectors.now.width ≡ length (columns netlist.now) }
     requires from { from ≤ length vectors.now.rows }
     requires known { AreKnown start.now × AreKnownTurns vectors.now.rows from }
-    ensures ready { IsReady netlist.now slices.new }
+    ensures ready { AreReady netlist.now slices.new }
     ensures turns { AreTurns netlist.now start.now vectors.now.rows from slices.new.words.items }
 {
     // Read for the facts that it is accepted, and that its numbers and vectors are in range.
