@@ -1,8 +1,7 @@
 -- `clusters` and its files, in words that can only be files, are taken.
-use Rattle.std.proofs.Common.{◌≡◌, true, [], ◌∷◌, Ok, None, Some, refl, codes}
+use Rattle.std.proofs.Common.{◌≡◌, true, [], ◌∷◌, Ok, Some, refl, codes}
 use Rattle.clap.specs.Words.{Text}
 use Rattle.clap.proofs.OnLiterals.{clap_on_literals}
-use Rattle.ds_base.specs.declared.number.Mode.TheVariants.{Each}
 use Rattle.ds_cmd.specs.Line.{job_of}
 use Rattle.ds_cmd.specs.Plain.{is_plain}
 use Rattle.ds_cmd.specs.declared.job.Job.TheVariants.{Clusters}

@@ -1,10 +1,9 @@
 -- The lines of a graph whose words have bytes that are never cut.
-use Rattle.std.proofs.Common.{◌≡◌, ◌∙◌, ◌==◌, ◌||◌, ℕ, zero, suc, ◌-◌, ◌<◌, ◌≤◌, ◌^◌, Bool, true, false, List, [], ◌∷◌, ◌++◌, length, get_or, take, drop, Option, inl, inr, refl, arith, ap, sym, subst, ltb}
+use Rattle.std.proofs.Common.{◌≡◌, ◌∙◌, ◌==◌, ◌||◌, ℕ, zero, suc, ◌<◌, ◌≤◌, ◌^◌, Bool, true, false, List, [], ◌∷◌, ◌++◌, length, take, drop, Option, inl, inr, refl, arith, sym, subst, ltb}
 use Rattle.std.specs.Prelude.{All, codes, decimal}
-use Rattle.std.specs.List.{AllByRecursion, list_any, suffix_len}
+use Rattle.std.specs.List.{AllByRecursion, list_any}
 use Rattle.std.specs.Option.{option_map_or}
 use Rattle.std.proofs.lemmas.Bool.{cases_Bool, false≢true}
-use Rattle.std.proofs.lemmas.List.Sums.{suffix_len_is}
 use Rattle.std.proofs.lemmas.Option.{slice_get-get_or}
 use Rattle.ds_lines.specs.Line.{is_blank, is_end, is_hash, is_newline, is_some}
 use Rattle.ds_lines.specs.Print.{IsPlain, IsWord, line_text}

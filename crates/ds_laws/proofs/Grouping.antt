@@ -1,5 +1,5 @@
 -- What `clusters` prints gives the same clusters again, and without a file of groups there are those of the mode.
-use Rattle.std.proofs.Common.{◌≡◌, ◌≢◌, ◌∙◌, ◌⊎◌, ℕ, ◌<◌, ◌≤◌, List, [], get_or, length, map, None, Some, Ok, inl, inr, refl, sym, ap, subst, arith}
+use Rattle.std.proofs.Common.{◌≡◌, ◌∙◌, ◌⊎◌, ℕ, ◌<◌, ◌≤◌, List, [], get_or, length, map, None, Some, Ok, inl, inr, refl, sym, ap, subst, arith}
 use Rattle.std.proofs.lemmas.Bool.{cases_lt}
 use Rattle.std.proofs.lemmas.List.{get_or_past}
 use Rattle.std.specs.Prelude.{Contains, AllPairs}
@@ -15,7 +15,6 @@ use Rattle.ds_latch.specs.Node.{Split}
 use Rattle.ds_groups.specs.Laws.{AreAll}
 use Rattle.ds_groups.specs.Names.{register_names}
 use Rattle.ds_groups.specs.Read.{groups_of, register_name}
-use Rattle.ds_groups.specs.Written.{clusters_text}
 use Rattle.ds_groups.proofs.Disjoint.{names_size}
 use Rattle.ds_groups.proofs.ReadAgain.{clusters_are_read}
 use Rattle.ds_split.specs.Grouped.{IsGroupedClustering}
@@ -32,7 +31,7 @@ use Rattle.ds_stage.specs.ClustersStage.{clustered_stage}
 use Rattle.ds_app.proofs.Listing.{name_is}
 use Rattle.ds_laws.proofs.Plain.{names_are_words}
 use Rattle.ds_laws.proofs.Uncut.{line_is_plain}
-use Rattle.ds_laws.specs.Grouping.{HasListed, IsModeLine, IsSplitByMode, PrintedClustersAreGroups, SplitsByMode, WithoutFileOfGroups}
+use Rattle.ds_laws.specs.Grouping.{HasListed, IsModeLine, PrintedClustersAreGroups, WithoutFileOfGroups}
 
 -- without groups the clusters of a split are those of the mode
 no_groups_split : (mode : Mode) (c : Circuit) (s : Split) (gs : List (List ℕ)) → gs ≡ [] → (is : IsInClusters mode gs c s) → IsGroupedClustering c mode [] is.clusters

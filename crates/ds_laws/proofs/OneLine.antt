@@ -51,11 +51,11 @@ use Rattle.ds_cmd.specs.declared.job.Job.{Job}
 use Rattle.ds_cmd.specs.declared.job.Job.TheVariants.{Run, Clock, Check, Graph as GraphCommand, Replay, Accept, Demo, Period, Clusters, Rate, Times}
 use Rattle.ds_stage.specs.AcceptStage.{ranks_stage}
 use Rattle.ds_stage.specs.FaultText.{IsNetFaultText, blif_text, file_line, flat_text, net_fault_text, numbered_line, too_many_text, vector_text, with_blanks}
-use Rattle.ds_stage.specs.GraphStage.{IsGraphOf, controller_stage, drawn_stage, wanted_stage}
+use Rattle.ds_stage.specs.GraphStage.{controller_stage, drawn_stage, wanted_stage}
 use Rattle.ds_stage.specs.GraphText.{IsAcceptText, accept_text, astg_text}
 use Rattle.ds_stage.specs.PeriodStage.{IsPeriodText, delay_text, delays_stage, given_stage, timed_stage}
 use Rattle.ds_stage.specs.PlanStage.{IsOwnPlan, acceptable_stage, marked_stage, named_stage, plan_stage, planned_stage}
-use Rattle.ds_stage.specs.RateStage.{IsAcyclicLine, IsFreeLine, bare_graph_stage, bare_stage, cyclic_stage}
+use Rattle.ds_stage.specs.RateStage.{IsFreeLine, bare_graph_stage, bare_stage, cyclic_stage}
 use Rattle.ds_stage.specs.TimesStage.{IsTimesText, scheduled_stage}
 use Rattle.ds_stage.specs.ReplayStage.{fired_stage, log_stage, log_text, replayed_stage}
 use Rattle.ds_stage.specs.SplitStage.{IsInClusters, parted_stage, split_stage}
@@ -65,12 +65,11 @@ use Rattle.ds_stage.specs.Stage.{IsExclusive, Stage, giving, then_stage}
 use Rattle.ds_stage.specs.Stages.{OfBytes, accepted_stage, design_stage, file_stage, lines_stage, netlist_stage, read_or_line, report_stage, result_stage, rows_stage, text_stage, trace_stage, vectors_stage}
 use Rattle.ds_stage.specs.StreamStage.{IsFaultLine, IsStreamLine, most_vectors, streamed_stage}
 use Rattle.ds_stage.proofs.Exclusive.{lines_exclusive, netlist_exclusive, result_exclusive, then_exclusive, vectors_exclusive}
-use Rattle.ds_stage.proofs.OneGraph.{one_graph}
 use Rattle.ds_stage.proofs.RateStages.{bare_exclusive}
 use Rattle.ds_stage.proofs.GroupStages.{groups_exclusive}
 use Rattle.ds_stage.proofs.PlanExclusive.{planned_exclusive, split_exclusive}
 use Rattle.ds_app.specs.Job.{run_stage, stages_of}
-use Rattle.ds_app.specs.JobStages.{accept_stage, clock_stage, graph_stage, listing_stage, period_stage, rate_stage, replay_stage, times_stage}
+use Rattle.ds_app.specs.JobStages.{accept_stage, clock_stage, graph_stage, listing_stage, period_stage, replay_stage, times_stage}
 use Rattle.ds_app.specs.RunStage.{planned_run_stage, stopped_stage, traced_stage}
 use Rattle.ds_app.specs.Status.{AreTold, IsToldIn}
 use Rattle.ds_app.proofs.Exclusive.{told_file}

@@ -1,12 +1,12 @@
 -- A graph in which nothing waits for itself has one text of its times.
-use Rattle.std.proofs.Common.{◌≡◌, ◌∙◌, ◌+◌, ◌<◌, ◌≤◌, ◌++◌, ℕ, List, [], ◌∷◌, length, arith, refl, ap, ap₂, sym, subst}
+use Rattle.std.proofs.Common.{◌≡◌, ◌∙◌, ◌<◌, ◌≤◌, ◌++◌, ℕ, List, [], ◌∷◌, length, arith, refl, ap, ap₂, sym, subst}
 use Rattle.std.specs.Prelude.{codes, decimal, slice_index, Contains}
 use Rattle.std.specs.List.{flat_map}
 use Rattle.ds_marked.specs.Graph.{Graph, IsLive}
 use Rattle.ds_marked.specs.Log.{text_of_event}
 use Rattle.ds_rank.proofs.Once.{one_list_of_ranks_lem}
 use Rattle.ds_period.specs.Timing.{timed_arcs}
-use Rattle.ds_times.specs.Order.{Firing, IsByRank, firings_from}
+use Rattle.ds_times.specs.Order.{IsByRank, firings_from}
 use Rattle.ds_times.proofs.Sorted.{timed_rises}
 use Rattle.ds_times.proofs.Times.{same_times}
 use Rattle.ds_times_laws.proofs.Lists.{contains_head, contains_tail}

@@ -1,12 +1,12 @@
 -- The lines of `times` are those of a log, with a time behind.
-use Rattle.std.proofs.Common.{◌≡◌, ◌∙◌, ◌+◌, ◌<◌, ◌≤◌, ◌^◌, ◌++◌, ℕ, List, [], ◌∷◌, Option, length, map, take, append_assoc, arith, refl, ap, sym, subst}
-use Rattle.std.specs.Prelude.{codes, decimal, slice_get, slice_index, IsSomeAnd}
+use Rattle.std.proofs.Common.{◌≡◌, ◌∙◌, ◌<◌, ◌≤◌, ◌^◌, ◌++◌, ℕ, List, [], ◌∷◌, Option, length, map, take, append_assoc, arith, refl, ap, sym, subst}
+use Rattle.std.specs.Prelude.{codes, decimal, slice_index, IsSomeAnd}
 use Rattle.std.specs.List.{AllByRecursion, flat_map}
 use Rattle.std.specs.Option.{option_map_or}
 use Rattle.std.proofs.lemmas.Fmt.{decimal_is_IsNumeral, length-decimal-le}
 use Rattle.std.proofs.lemmas.Option.{slice_get-get_or}
 use Rattle.ds_lines.specs.Print.{line_text, text_of}
-use Rattle.ds_marked.specs.Graph.{Graph, IsEnabled, IsLegalFrom, counted}
+use Rattle.ds_marked.specs.Graph.{Graph, IsLegalFrom, counted}
 use Rattle.ds_marked.specs.Log.{IsEventText, IsLegalLogFrom, event_text, text_of_event}
 use Rattle.ds_marked.specs.declared.marked.Event.{Event}
 use Rattle.ds_replay.proofs.Lines.{any_event}
@@ -30,15 +30,11 @@ module _ (g : Graph) (time : ℕ → ℕ → ℕ) where
   -- its line
   line_is : (name turn at rest : List ℕ) → (name ++ codes " " ++ turn ++ codes " " ++ at ++ codes "\n") ++ rest ≡ line_text (name ∷ turn ∷ at ∷ []) ++ 10 ∷ rest
   line_is name turn at rest =
-      let one : (name ++ 32 ∷ (turn ++ 32 ∷ (at ++ 10 ∷ []))) ++ rest ≡ name ++ 32 ∷ ((turn ++ 32 ∷ (at ++ 10 ∷ [])) ++ rest) =
-      append_assoc name (32 ∷ (turn ++ 32 ∷ (at ++ 10 ∷ []))) rest in
-      let two : (turn ++ 32 ∷ (at ++ 10 ∷ [])) ++ rest ≡ turn ++ 32 ∷ ((at ++ 10 ∷ []) ++ rest) = append_assoc turn (32 ∷ (at ++ 10 ∷ [])) rest in
-      let three : (at ++ 10 ∷ []) ++ rest ≡ at ++ 10 ∷ rest = append_assoc at (10 ∷ []) rest in
-      let back : (turn ++ 32 ∷ at) ++ 10 ∷ rest ≡ turn ++ 32 ∷ (at ++ 10 ∷ rest) = append_assoc turn (32 ∷ at) (10 ∷ rest) in
-      let whole : (name ++ 32 ∷ (turn ++ 32 ∷ at)) ++ 10 ∷ rest ≡ name ++ 32 ∷ ((turn ++ 32 ∷ at) ++ 10 ∷ rest) =
-      append_assoc name (32 ∷ (turn ++ 32 ∷ at)) (10 ∷ rest) in
-      let middle : (turn ++ 32 ∷ (at ++ 10 ∷ [])) ++ rest ≡ (turn ++ 32 ∷ at) ++ 10 ∷ rest = two ∙ (ap (λ (t : List ℕ). turn ++ 32 ∷ t) three ∙ sym back) in
-      one ∙ (ap (λ (t : List ℕ). name ++ 32 ∷ t) middle ∙ sym whole)
+      let before : List ℕ = (name ++ (32 ∷ [])) ++ turn in
+      let named : before ≡ name ++ 32 ∷ turn = append_assoc name (32 ∷ []) turn in
+      let timed : (before ++ (32 ∷ [])) ++ at ≡ name ++ 32 ∷ (turn ++ 32 ∷ at) =
+      append_assoc before (32 ∷ []) at ∙ (ap (λ (t : List ℕ). t ++ 32 ∷ at) named ∙ append_assoc name (32 ∷ turn) (32 ∷ at)) in
+      append_assoc ((before ++ (32 ∷ [])) ++ at) (10 ∷ []) rest ∙ ap (λ (t : List ℕ). t ++ 10 ∷ rest) timed
 
   lines_are : (firings : List Firing) → flat_map (time_line g time) firings ≡ text_of (map words firings)
   lines_are [] = refl

@@ -1,5 +1,5 @@
 -- Arcs with the same ends: they have one delay, and a slowest cycle goes by the fewest tokens.
-use Rattle.std.proofs.Common.{◌≡◌, ◌∙◌, ◌<◌, ◌≤◌, ◌+◌, ◌*◌, ◌&&◌, ℕ, Bool, true, false, List, [], ◌∷◌, length, get_or, Ok, inl, inr, zero, suc, arith, ap, ap₂, refl, sym, subst}
+use Rattle.std.proofs.Common.{◌≡◌, ◌∙◌, ◌<◌, ◌≤◌, ◌*◌, ◌&&◌, ℕ, false, List, [], ◌∷◌, length, get_or, Ok, inl, inr, zero, suc, arith, ap, ap₂, refl, sym, subst}
 use Rattle.std.specs.List.{Contains}
 use Rattle.std.specs.Prelude.{◌==◌}
 use Rattle.std.proofs.Math.Nat.{mul-le-mul_left}
@@ -10,14 +10,14 @@ use Rattle.ds_marked.specs.Graph.{Graph}
 use Rattle.ds_marked.specs.declared.marked.Arc.{Arc}
 use Rattle.ds_period.specs.declared.timed.Timed.{Timed}
 use Rattle.ds_period.specs.Found.{sources_of}
-use Rattle.ds_period.specs.Read.{Given, HasOneEach, after_line, delays_from, delays_of, delays_with, is_from_to, none_given, source_named, target_named}
+use Rattle.ds_period.specs.Read.{Given, HasOneEach, after_line, delays_from, delays_with, is_from_to, none_given, source_named, target_named}
 use Rattle.ds_period.specs.Timing.{timed_arcs}
 use Rattle.ds_period.specs.Walk.{IsChain, walk_delay, walk_tokens}
 use Rattle.ds_period.specs.Word.{written_delay}
 use Rattle.ds_period.proofs.Filled.{at_named, at_other}
 use Rattle.ds_period.proofs.Taking.{one_each}
 use Rattle.ds_period.proofs.Written.{first_taken, line_taken}
-use Rattle.ds_period_laws.specs.Fewest.{HaveAlikeDelays, CyclesGoByFewestTokens, DelaysAreAlike, HasFewestTokens, HaveSameEnds}
+use Rattle.ds_period_laws.specs.Fewest.{HaveAlikeDelays, CyclesGoByFewestTokens, DelaysAreAlike, HasFewestTokens}
 use Rattle.ds_period_laws.proofs.Agree.{periods_are_greatest}
 
 -- stands for an arc past the end

@@ -1,5 +1,5 @@
 -- A job one of whose files is not there gives no text, and writes none.
-use Rattle.std.proofs.Common.{◌≡◌, ◌⊎◌, ℕ, zero, suc, ◌≤◌, Bool, List, Option, None, Some, Ok, length, inl, inr, refl, arith, subst}
+use Rattle.std.proofs.Common.{◌≡◌, ℕ, zero, suc, ◌≤◌, Bool, List, Option, None, Some, Ok, length, inl, inr, refl, arith, subst}
 use Rattle.ds_base.specs.declared.number.Mode.{Mode}
 use Rattle.ds_outside.specs.Held.{Held, untold, absent, bytes}
 use Rattle.ds_outside.specs.declared.files.Which.{Which}
@@ -32,9 +32,9 @@ use Rattle.ds_stage.specs.TimesStage.{IsTimesText, scheduled_stage}
 use Rattle.ds_stage.proofs.RateStages.{bare_nothing}
 use Rattle.ds_stage.proofs.Left.{LeavesNothing, netlist_nothing, planned_nothing, split_nothing, vectors_nothing}
 use Rattle.ds_app.specs.Job.{run_stage, stages_of}
-use Rattle.ds_app.specs.JobStages.{accept_stage, clock_stage, graph_stage, listing_stage, period_stage, rate_stage, replay_stage, times_stage}
+use Rattle.ds_app.specs.JobStages.{accept_stage, clock_stage, graph_stage, listing_stage, period_stage, replay_stage, times_stage}
 use Rattle.ds_app.specs.RunStage.{planned_run_stage, stopped_stage, traced_stage}
-use Rattle.ds_app.specs.Status.{Call, IsAnswered, IsDone, IsNoLine, IsRefused, IsUnwritten}
+use Rattle.ds_app.specs.Status.{Call, IsDone, IsNoLine, IsUnwritten}
 use Rattle.ds_total_laws.specs.Absent.{AbsentFilesAreUnread, IsAbsentIn, LacksFile}
 
 -- a stage gives nothing, and no write fails in it

@@ -1,5 +1,5 @@
 -- A graph that stands alone has a period, or a line refuses it; and a plan has times.
-use Rattle.std.proofs.Common.{◌≡◌, ◌⊎◌, ◌++◌, ℕ, List, length, map, Result, Ok, inl, inr, refl, sym, subst}
+use Rattle.std.proofs.Common.{◌≡◌, ◌⊎◌, ◌++◌, ℕ, List, length, map, Ok, inl, inr, refl, sym, subst}
 use Rattle.std.specs.Prelude.{codes, slice_index}
 use Rattle.ds_outside.specs.Held.{Held}
 use Rattle.ds_outside.specs.declared.files.Which.TheVariants.{Delays}

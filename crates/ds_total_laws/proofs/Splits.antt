@@ -26,7 +26,7 @@ use Rattle.ds_split_laws.proofs.Slack.{few_at_slack, split_at_slack}
 use Rattle.ds_shake_laws.proofs.Controllers.{controllers_are_decided}
 use Rattle.ds_stage.specs.FaultText.{file_line, too_many_text}
 use Rattle.ds_stage.specs.GraphStage.{IsGraphOf, controller_stage}
-use Rattle.ds_stage.specs.Stages.{OfBytes, lines_stage, read_or_line, result_stage, text_stage}
+use Rattle.ds_stage.specs.Stages.{OfBytes, lines_stage, read_or_line, text_stage}
 use Rattle.ds_stage.specs.GroupsStage.{group_text, grouped_stage, groups_stage}
 use Rattle.ds_stage.specs.ClustersStage.{clustered_stage, clusters_stage}
 use Rattle.ds_stage.specs.SplitStage.{IsInClusters, parted_stage, split_stage}
