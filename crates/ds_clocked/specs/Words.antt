@@ -10,7 +10,8 @@ use Rattle.ds_slices.specs.Turns.{turn_row}
 use Rattle.ds_clocked.specs.declared.words.Sliced.{Sliced}
 
 -- room for a window that begins with these registers, and all values are known
-pub record IsKnownWindow (c : Circuit) (start : Row) (vectors : List Row) (words : Sliced) : Type 0 where
+pub record IsKnownWindow (c : Circuit) (start : Row) (vectors : List Row) (words : Sliced)
+    : Type 0 where
   pub state : words.state ≡ start
   pub ready : AreReady c words.slices
   pub one_each : length start ≡ length c.registers
