@@ -14,11 +14,12 @@ import subprocess
 import tempfile
 from typing import Optional
 
-from desync_tools.text import BadText, as_bytes
+from desync_tools.text import BadText, as_bytes, file_text
 
 HERE = os.path.dirname(os.path.realpath(__file__))
 PLACES = ("../../../../bin/desync", "../../crates/desync/out/desync")
-REFUSED, BAD_WORDS = 1, 2
+REFUSED, BAD_WORDS, UNREAD = 1, 2, 3
+UNREAD_LINE = "desync: cannot read "
 
 
 def path() -> Optional[str]:
@@ -59,8 +60,12 @@ def answer(words: list[str]) -> str:
         raise BadText("there is no desync: DESYNC may name it, or it may stand on the path")
     if said.status == BAD_WORDS:
         raise BadText("desync takes no such words: %s" % " ".join(map(as_bytes, words)))
+    line = said.errors.strip().split("\n")[0]
+    if said.status == UNREAD and line.startswith(UNREAD_LINE):
+        # read for what the system says of the file
+        file_text(os.fsdecode(line[len(UNREAD_LINE) :].encode("latin-1")))
     if said.status:
-        raise BadText(said.errors.strip().split("\n")[0] or "desync ended with %d" % said.status)
+        raise BadText(line or "desync ended with %d" % said.status)
     return said.output
 
 
