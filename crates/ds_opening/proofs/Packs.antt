@@ -14,6 +14,8 @@ use Rattle.ds_base.specs.Word.{code_of, number_of_values, word_of, count_of_word
 use Rattle.ds_base.specs.declared.value.Value.{Value}
 use Rattle.ds_base.specs.declared.value.Value.TheVariants.{Zero}
 use Rattle.ds_base.proofs.Words.{code_of-few, number_of_values-drop_room, number_of_values-one_more}
+use Rattle.ds_base.specs.Lent.{with_values}
+use Rattle.ds_cover.proofs.Lent.{with-all}
 use Rattle.ds_cover.specs.Cover.{value_at, values_at}
 use Rattle.ds_opening.specs.Packed.{AreAsBefore, Learns, packed}
 
@@ -189,3 +191,9 @@ set_again row at value inside has net = elim (cases_eq net at) [
       ∙ (get_or-set_same row at value Zero inside ∙ (sym has ∙ sym (ap (value_at row) e)))
   | inr ne ↦ value_at-set_other row at net value ne
 ]
+
+-- what holds of the values that a row lends, and of what they are at the end, holds of the row
+pub of_lent : (P : Row → Row → Type 0) (row now new : Row) → now ≡ row → length new ≡ length now → P now new
+    → P row (with_values row new)
+of_lent P row now new is same holds =
+    subst (P row) (sym (with-all row new (same ∙ ap (λ (r : Row). length r) is))) (subst (λ (r : Row). P r new) is holds)

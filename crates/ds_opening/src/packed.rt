@@ -75,6 +75,19 @@ pub(crate) fn put_values(words: &[u64], these: &[NetId], nets: &mut Row3) -> boo
     ensures same { length nets.new ≡ length nets.old }
     ensures stayed { IsTrue result → AreAsBefore nets.old nets.new }
 {
+    put_words(words, these, nets.values_mut())
+}
+
+// The same on the values that a row lends, which no store moves.
+fn put_words(words: &[u64], these: &[NetId], nets: &mut [Value]) -> bool
+    requires within { All (λ net. net < length nets.old) these.now }
+    requires words { length words.now ≡ count_of_words (length these.now) }
+    ensures value { (known : Row) → words.now ≡ packed (values_at known these.now)
+        → Learns known these.now nets.old nets.new }
+    ensures others { LeavesOthers these.now nets.old nets.new }
+    ensures same { length nets.new ≡ length nets.old }
+    ensures stayed { IsTrue result → AreAsBefore nets.old nets.new }
+{
     // Most rows are one word.
     if words.len() == 1 {
         return put_word(words[0], these, nets);
@@ -90,7 +103,7 @@ pub(crate) fn put_values(words: &[u64], these: &[NetId], nets: &mut Row3) -> boo
 
 // Gives these nets the values that stand in a word, the first of them the lowest. Where it tells
 // true, no net has changed.
-fn put_word(word: u64, these: &[NetId], nets: &mut Row3) -> bool
+fn put_word(word: u64, these: &[NetId], nets: &mut [Value]) -> bool
     requires within { All (λ net. net < length nets.old) these.now }
     ensures value { (known : Row) → word ≡ number_of_values (values_at known these.now)
         → Learns known these.now nets.old nets.new }
@@ -102,10 +115,11 @@ fn put_word(word: u64, these: &[NetId], nets: &mut Row3) -> bool
     let mut stayed = true;
     for net in these {
         let code = rest % 4;
-        if nets.value(net.index()).code() != code {
+        let at = net.index();
+        if nets[at].code() != code {
             stayed = false;
         }
-        nets.set(net.index(), Value::of_code(code));
+        nets[at] = Value::of_code(code);
         rest /= 4;
     }
     stayed

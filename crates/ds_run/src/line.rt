@@ -54,8 +54,26 @@ pub fn gather(latches: &Latches<'_>, fired: &Record, k: usize, line: &mut Line)
     }
 }
 
-// Each value of the row that a slave has stored goes to its register, a word at a time.
+// Each value of the row that a slave has stored goes to its register.
 fn spread_row(fired: &Record, slave: LatchId, k: usize, members: &[RegId], registers: &mut Row3)
+    requires near { slave < fired.now.shown.view.run.latches }
+    requires stored { k < length (tickets fired.now.shown.view (closing slave)) }
+    requires wide { slice_index fired.now.shown.view.run.lengths slave ≡ length members.now }
+    requires within { All (λ r. r < length registers.old) members.now }
+    ensures { AreSpread members.now (node_values fired.now.shown.view.run slave (k + 1))
+        registers.old registers.new }
+{
+    spread_words(fired, slave, k, members, registers.values_mut());
+}
+
+// The same on the values that a row lends, which no store moves, a word at a time.
+fn spread_words(
+    fired: &Record,
+    slave: LatchId,
+    k: usize,
+    members: &[RegId],
+    registers: &mut [Value],
+)
     requires near { slave < fired.now.shown.view.run.latches }
     requires stored { k < length (tickets fired.now.shown.view (closing slave)) }
     requires wide { slice_index fired.now.shown.view.run.lengths slave ≡ length members.now }
@@ -74,14 +92,14 @@ fn spread_row(fired: &Record, slave: LatchId, k: usize, members: &[RegId], regis
 }
 
 // Each value of a word goes to its register.
-fn spread_word(word: u64, members: &[RegId], registers: &mut Row3)
+fn spread_word(word: u64, members: &[RegId], registers: &mut [Value])
     requires { All (λ r. r < length registers.old) members.now }
     ensures { (values : Row) → word ≡ number_of_values values
         → AreSpread members.now values registers.old registers.new }
 {
     let mut rest = word;
     for register in members {
-        registers.set(register.index(), Value::of_code(rest % 4));
+        registers[register.index()] = Value::of_code(rest % 4);
         rest /= 4;
     }
 }

@@ -1,5 +1,5 @@
 use Rattle.std.proofs.Common.{◌≡◌, ◌∙◌, ◌<◌, ℕ, List, ap, arith, get_or, length, set, sym}
-use Rattle.std.proofs.lemmas.List.{length-map, length-set}
+use Rattle.std.proofs.lemmas.List.{get_or_default, length-map, length-set}
 use Rattle.ds_base.specs.Values.{Row}
 use Rattle.ds_base.specs.Word.{code_of}
 use Rattle.ds_base.specs.declared.value.Value.{Value}
@@ -18,8 +18,13 @@ loop-net-preserved c =
     (let low : get_or these i c.net-item.result < length c.args.nets.now =
     c.requires.within i c.net-item.result inside in
     omega (low, c.net-item.is, c.loop-net.invariant.same, arith)) in
-    let is : c.set.new.self ≡ set c.loop-net.nets c.net-item.result value = c.set.ensures
-    ∙ ap (λ (n : ℕ). set c.loop-net.nets n value) c.index-in-loop-net.ensures in record {
+    let at : c.index-at.result ≡ c.net-item.result = c.index-at.ensures in
+    let new : Row = set c.loop-net.nets c.index-at.result value in
+    let is : set c.loop-net.nets c.index-at.result value ≡ set c.loop-net.nets c.net-item.result value =
+    ap (λ (n : ℕ). set c.loop-net.nets n value) at in
+    let read : c.index-nets-at.result ≡ value_at c.loop-net.nets c.net-item.result =
+    c.index-nets-at.is ∙ (get_or_default c.loop-net.nets c.index-at.result c.index-nets-at.result Zero (omega (arith, at, within))
+    ∙ ap (value_at c.loop-net.nets) at) in record {
       same = ap (λ (row : Row). length row) is
           ∙ (length-set c.loop-net.nets c.net-item.result value ∙ c.loop-net.invariant.same);
       learns = λ known word. let before = c.loop-net.invariant.learns known word in
@@ -27,18 +32,17 @@ loop-net-preserved c =
           (rw (length-map these (value_at known)) inside) before.0 in (
             low.1,
             learns_more known these i c.net-item.result c.args.nets.now c.loop-net.nets
-                c.set.new.self value inside c.net-item.is within
+                new value inside c.net-item.is within
                 (c.of_code.ensures (get_or (values_at known these) i Zero) low.0) is before.1,
           );
       others = others_more these i c.net-item.result c.args.nets.now c.loop-net.nets
-          c.set.new.self value inside c.net-item.is is c.loop-net.invariant.others;
+          new value inside c.net-item.is is c.loop-net.invariant.others;
       stayed = λ so. elim c.if-code.branch [
         | then-code w ↦ absurd (cc)
         | else-code w ↦ λ net. ap (λ (row : Row). value_at row net) is
             ∙ (set_again c.loop-net.nets c.net-item.result value within
             (sym (c.of_code.ensures (value_at c.loop-net.nets c.net-item.result)
-            (sym w.if-code.false ∙ (c.code.ensures.code
-            ∙ ap code_of (c.value.ensures ∙ ap (value_at c.loop-net.nets) c.index.ensures))))) net
+            (sym w.if-code.false ∙ (c.code.ensures.code ∙ ap code_of read)))) net
             ∙ c.loop-net.invariant.stayed (sym w.stayed-is ∙ so) net)
       ];
     }

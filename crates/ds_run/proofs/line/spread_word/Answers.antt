@@ -31,8 +31,9 @@ loop-register-preserved c =
     drop-cons these j x inside
     ∙ (ap (λ (y : ℕ). y ∷ drop (suc j) these) (sym c.register-item.is)
     ∙ ap (λ (n : ℕ). x ∷ drop n these) next) in
-    let new : c.set.new.self ≡ set c.loop-register.registers c.register-item.result
-    c.of_code.result = c.set.ensures ∙ ap (λ (n : ℕ). set old n value) c.index.ensures in
+    let new : set c.loop-register.registers c.index.result c.of_code.result
+    ≡ set c.loop-register.registers c.register-item.result c.of_code.result =
+    ap (λ (n : ℕ). set old n value) c.index.ensures in
     record {
       same = ap length new ∙ (length-set old x value ∙ c.loop-register.invariant.same);
       right = λ row number.

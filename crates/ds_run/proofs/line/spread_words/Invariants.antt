@@ -3,7 +3,7 @@ use Rattle.std.specs.Prelude.{Contains}
 use Rattle.ds_base.specs.Values.{Row}
 use Rattle.ds_cover.specs.Cover.{value_at, values_at}
 use Rattle.ds_rule.specs.Words.{node_values as stored_at}
-use Rattle.ds_run.proofs.line.spread_row.Given as goal
+use Rattle.ds_run.proofs.line.spread_words.Given as goal
 
 abbrev pub invariant-words : goal.invariant-words
 invariant-words l = record {
