@@ -1,5 +1,5 @@
 use Rattle.std.proofs.Common.{◌≡◌, ◌∙◌, ◌<◌, ℕ, List, ap, arith, get_or, length, set, sym}
-use Rattle.std.proofs.lemmas.List.{get_or_default, length-map, length-set}
+use Rattle.std.proofs.lemmas.List.{length-map, length-set}
 use Rattle.ds_base.specs.Values.{Row}
 use Rattle.ds_base.specs.Word.{code_of}
 use Rattle.ds_base.specs.declared.value.Value.{Value}
@@ -22,9 +22,8 @@ loop-net-preserved c =
     let new : Row = set c.loop-net.nets c.index-at.result value in
     let is : set c.loop-net.nets c.index-at.result value ≡ set c.loop-net.nets c.net-item.result value =
     ap (λ (n : ℕ). set c.loop-net.nets n value) at in
-    let read : c.index-nets-at.result ≡ value_at c.loop-net.nets c.net-item.result =
-    c.index-nets-at.is ∙ (get_or_default c.loop-net.nets c.index-at.result c.index-nets-at.result Zero (omega (arith, at, within))
-    ∙ ap (value_at c.loop-net.nets) at) in record {
+    let read : value_at c.loop-net.nets c.index-at.result ≡ value_at c.loop-net.nets c.net-item.result =
+    ap (value_at c.loop-net.nets) at in record {
       same = ap (λ (row : Row). length row) is
           ∙ (length-set c.loop-net.nets c.net-item.result value ∙ c.loop-net.invariant.same);
       learns = λ known word. let before = c.loop-net.invariant.learns known word in
