@@ -150,7 +150,7 @@ def take_mode(words: argparse.ArgumentParser, default: Optional[str] = "each") -
 
 def take_groups(words: argparse.ArgumentParser) -> None:
     """Adds the option that names groups to the words of a tool."""
-    says = "registers that share latches, a line a cluster; others share by --clusters"
+    says = "registers that share latches, a line a cluster, no pipe; others share by --clusters"
     words.add_argument("--groups", metavar="FILE", help=says)
 
 

@@ -4,7 +4,8 @@ There is a row for each mode of `--clusters` and for each file of --groups: how 
 latches and orders there are, how wide the widest cluster is, the period, and what refuses it. The
 delays are those that `tools/delays` gives for that row, with the same options. With a file of
 delays they are those of the file, for the rows whose orders it names. --slack asks for the period
-with a slack, a column each. The status is 1 where no row has a period:
+with a slack, a column each. The status is 1 where no row has a period, or the row of a file of
+groups is refused:
 
     tools/report cpu.blif --slack 0 --slack 1 --groups cpu.groups
 """
@@ -26,7 +27,7 @@ from desync_tools.netlist import Netlist, read_netlist
 from desync_tools.periods import Period, number_of
 from desync_tools.text import BadText, as_bytes, file_text, shown
 
-FAILS = "No row has a period"
+FAILS = "No row has a period, or the row of a file of groups is refused"
 HEADS = ["clusters by", "clusters", "latches", "orders", "widest"]
 FORMS = ("text", "csv", "html")
 PAGE = """<!doctype html>
@@ -159,10 +160,13 @@ def words(name: str) -> Parser:
 def main(argv: list[str]) -> int:
     asked = words(argv[0]).parse_args(argv[1:])
     report = Report(asked)
-    found = [report.row(kind) for kind in report.kinds()]
+    kinds = list(report.kinds())
+    found = [report.row(kind) for kind in kinds]
     rows = [[shown(cell) for cell in row] for row in [report.heads(), *found]]
     if asked.form == "html":
         put("utf-8", [as_html(shown(report.netlist.name or "netlist"), rows)])
     else:
         put("utf-8", (as_csv if asked.form == "csv" else as_text)(rows))
-    return 1 if all(row[-1] for row in found) else 0
+    refused = [row[-1] != "" for row in found]
+    groups = [kind.groups is not None for kind in kinds]
+    return 1 if all(refused) or any(map(all, zip(refused, groups))) else 0

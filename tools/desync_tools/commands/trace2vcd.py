@@ -160,7 +160,10 @@ def words(name: str) -> Parser:
 
 
 def main(argv: list[str]) -> int:
-    asked = words(argv[0]).parse_args(argv[1:])
+    taken = words(argv[0])
+    asked = taken.parse_args(argv[1:])
+    if asked.groups is not None and asked.times is None and asked.delays is None:
+        taken.error("--groups goes with --times or --delays")
     netlist = read_netlist(asked.netlist)
     rows = fitting(netlist, text_of(asked.trace))
     vectors = None
