@@ -7,6 +7,7 @@ import argparse
 import re
 from typing import Iterator, Optional, Sequence, Union
 
+from desync_tools import program
 from desync_tools.buses import Bus, buses
 from desync_tools.named_groups import read_groups
 from desync_tools.delays import Order
@@ -156,7 +157,9 @@ def take_groups(words: argparse.ArgumentParser) -> None:
 
 def options(mode: str, groups: Optional[str]) -> list[str]:
     """The words by which the program makes the same clusters."""
-    return ["--clusters", mode] + ([] if groups is None else ["--groups", groups])
+    return ["--clusters", mode] + (
+        [] if groups is None else ["--groups", program.file_word(groups)]
+    )
 
 
 def slack_word(word: str) -> str:

@@ -53,6 +53,11 @@ def ask(words: list[str]) -> Optional[Answer]:
     return Answer(ended.returncode, output, errors)
 
 
+def file_word(name: str) -> str:
+    """The name of a file as a word of the program that is no option."""
+    return os.path.join(".", name) if name.startswith("-") else name
+
+
 def answer(words: list[str]) -> str:
     """What the program prints; what it refuses is refused with its line."""
     said = ask(words)

@@ -87,8 +87,9 @@ def times_of(asked: argparse.Namespace, turns: int, graph: Optional[str]) -> Opt
     The orders are those of the file of a graph, or the required ones."""
     if asked.delays is None:
         return None if asked.times is None else text_of(asked.times)
-    words = ["times", asked.netlist, asked.delays, str(turns)]
+    files = [program.file_word(name) for name in (asked.netlist, asked.delays)]
+    words = ["times", *files, str(turns)]
     words += options(asked.clusters, asked.groups)
     if graph is not None:
-        words += ["--graph", graph]
+        words += ["--graph", program.file_word(graph)]
     return Text("times by %s" % as_bytes(asked.delays), program.answer(words))

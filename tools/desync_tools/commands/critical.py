@@ -57,7 +57,8 @@ class Design:
     def options(self, has_graph: bool) -> list[str]:
         """The options that the program takes too."""
         asked = self.asked
-        given = {"--slack": asked.slack, "--graph": asked.graph if has_graph else None}
+        graph = program.file_word(asked.graph) if has_graph and asked.graph is not None else None
+        given = {"--slack": asked.slack, "--graph": graph}
         words = options(asked.clusters, asked.groups)
         return words + [word for pair in given.items() if pair[1] is not None for word in pair]
 
@@ -65,12 +66,12 @@ class Design:
         """The text of the graph: that of a file, or that of the required orders."""
         if self.asked.graph is not None:
             return file_text(self.asked.graph)
-        words = ["graph", self.asked.netlist, *self.options(False)]
+        words = ["graph", program.file_word(self.asked.netlist), *self.options(False)]
         return Text("desync graph", program.answer(words))
 
     def period_of(self, text: str) -> Period:
         """The period under the delays of a text."""
-        words = ["period", self.asked.netlist]
+        words = ["period", program.file_word(self.asked.netlist)]
         return Period(program.answer_to(words, self.asked.delays, text, self.options(True)))
 
     def told(self, order: Order) -> str:

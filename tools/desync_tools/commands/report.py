@@ -111,7 +111,7 @@ class Report:
     def period(self, kind: Kind, text: str, slack: Optional[str]) -> str:
         """The period under some delays."""
         options = kind.options() + ([] if slack is None else ["--slack", slack])
-        words = ["period", self.asked.netlist]
+        words = ["period", program.file_word(self.asked.netlist)]
         said = program.answer_to(words, self.asked.delays or "delays", text, options)
         return number_of(Period(said).ratio())
 
