@@ -7,13 +7,13 @@ use Rattle.ds_marked.specs.Graph.{Graph}
 use Rattle.ds_marked.specs.declared.marked.Event.{Event}
 use Rattle.ds_latch.specs.Node.{Split}
 use Rattle.ds_latch.specs.Plan.{split_events}
-use Rattle.ds_control.proofs.Named.{events_once}
+use Rattle.ds_control.proofs.DistinctEvents.{events_once}
 use Rattle.ds_accept.specs.Accept.{AreThere, EventStandsAt, extra_events}
 use Rattle.ds_accept.specs.Laws.{AcceptableIsAccepted}
 use Rattle.ds_accept.specs.Steps.{moved}
 use Rattle.ds_accept.proofs.Moved.{plan, reorders}
 use Rattle.ds_accept.proofs.Others.{each_has}
-use Rattle.ds_accept.proofs.Counted.{some_event}
+use Rattle.ds_accept.proofs.SubsetLength.{some_event}
 
 module _ (events others : List Event) (there : All (Contains others) events) where
   -- for each event its place among others that have it

@@ -4,22 +4,22 @@ use Rattle.std.proofs.lemmas.Bool.{cases_eq}
 use Rattle.std.proofs.lemmas.List.{get_or-map, get_or_append_left, get_or_push, length-map}
 use Rattle.std.proofs.lemmas.List.Elements.{Contains-append_left, Contains-push}
 use Rattle.std.proofs.lemmas.List.Sorted.{Contains-permutation}
-use Rattle.ds_base.proofs.Lists.{get_or-self}
+use Rattle.ds_base.proofs.ListLemmas.{get_or-self}
 use Rattle.ds_accept.specs.Ranked.{AreRanked}
-use Rattle.ds_accept.specs.declared.ranked.Ranked.{Ranked}
+use Rattle.ds_accept.specs.declared.ranked.EventRank.{EventRank}
 
 -- each event stands among those that are put in another order
-pub all_ranked : (events : ℕ) (all sorted : List Ranked) (order : List ℕ) → AreRanked events all → IsPermutation all sorted
-    → order ≡ map (λ (r : Ranked). r.event) sorted → (v : ℕ) → v < events → Contains order v
+pub all_ranked : (events : ℕ) (all sorted : List EventRank) (order : List ℕ) → AreRanked events all → IsPermutation all sorted
+    → order ≡ map (λ (r : EventRank). r.event) sorted → (v : ℕ) → v < events → Contains order v
 all_ranked events all sorted order are permuted is v low =
-    let some : Ranked = record { rank = 0; event = 0 } in
+    let some : EventRank = record { rank = 0; event = 0 } in
     let inside : v < length all = rw are.one_each low in
-    let x : Ranked = get_or all v some in
+    let x : EventRank = get_or all v some in
     let (i, within, same) = Contains-permutation all sorted x permuted (v, inside, get_or-self all v some inside) in (
       i,
-      rw (is, length-map sorted (λ (r : Ranked). r.event)) within,
+      rw (is, length-map sorted (λ (r : EventRank). r.event)) within,
       ap (λ (xs : List ℕ). get_or xs i v) is
-          ∙ (get_or-map (λ (r : Ranked). r.event) sorted i x v within ∙ (ap (λ (r : Ranked). r.event) same ∙ are.at v low some)),
+          ∙ (get_or-map (λ (r : EventRank). r.event) sorted i x v within ∙ (ap (λ (r : EventRank). r.event) same ∙ are.at v low some)),
     )
 
 -- an event more, in turn
@@ -30,14 +30,14 @@ in_turn_more k order all v low = elim (cases_eq v k) [
 ]
 
 -- an event more with its rank, in turn
-pub ranked_more : (k : ℕ) (all more : List Ranked) (r : Ranked) → AreRanked k all → r.event ≡ k → more ≡ all ++ r ∷ [] → AreRanked (k + 1) more
+pub ranked_more : (k : ℕ) (all more : List EventRank) (r : EventRank) → AreRanked k all → r.event ≡ k → more ≡ all ++ r ∷ [] → AreRanked (k + 1) more
 ranked_more k all more r are is longer = record {
-  one_each = ap (λ (xs : List Ranked). length xs) longer ∙ (length-append all (r ∷ []) ∙ ap (λ (n : ℕ). n + 1) are.one_each);
-  at = λ v low d. subst (λ (xs : List Ranked). (get_or xs v d).event ≡ v) (sym longer) (elim (cases_eq v k) [
-    | inl last ↦ ap (λ (x : Ranked). x.event) (get_or_push all r d v (are.one_each ∙ sym last)) ∙ (is ∙ sym last)
+  one_each = ap (λ (xs : List EventRank). length xs) longer ∙ (length-append all (r ∷ []) ∙ ap (λ (n : ℕ). n + 1) are.one_each);
+  at = λ v low d. subst (λ (xs : List EventRank). (get_or xs v d).event ≡ v) (sym longer) (elim (cases_eq v k) [
+    | inl last ↦ ap (λ (x : EventRank). x.event) (get_or_push all r d v (are.one_each ∙ sym last)) ∙ (is ∙ sym last)
     | inr early ↦
         (let before : v < k = omega (low, early, arith) in
         let inside : v < length all = rw are.one_each before in
-        ap (λ (x : Ranked). x.event) (get_or_append_left all (r ∷ []) d v inside) ∙ are.at v before d)
+        ap (λ (x : EventRank). x.event) (get_or_append_left all (r ∷ []) d v inside) ∙ are.at v before d)
   ]);
 }

@@ -4,7 +4,7 @@ use Rattle.std.specs.Prelude.{Contains, IsErrAnd, MatchResult}
 use Rattle.std.specs.List.{HoldsAt}
 use Rattle.std.proofs.lemmas.List.{get_or-map, get_or_default, length-map}
 use Rattle.std.proofs.lemmas.List.Elements.{All-contains, All-map}
-use Rattle.ds_base.proofs.Lists.{get_or-self}
+use Rattle.ds_base.proofs.ListLemmas.{get_or-self}
 use Rattle.ds_accept.specs.Given.{IsFirstUnmet, IsGiven}
 use Rattle.ds_marked.specs.Graph.{Graph, AreEnds, IsKept}
 use Rattle.ds_marked.specs.declared.marked.Arc.{Arc}

@@ -11,8 +11,8 @@ use Rattle.ds_marked.specs.declared.marked.Arc.{Arc}
 use Rattle.ds_accept.specs.Masks.{AreAllIn, along_arcs}
 use Rattle.ds_accept.specs.Sums.{AreLeastSums, IsLeast}
 use Rattle.ds_accept.specs.Lowered.{AreSumsBounded, AreWalkSums, IsAtMost, IsBelow, IsLowAt, IsLowering, height, heights, one_if_some, reached, sum_at}
-use Rattle.ds_accept.proofs.Found.{walk_in}
-use Rattle.ds_accept.proofs.Steps.{one_of}
+use Rattle.ds_accept.proofs.MaskWalks.{walk_in}
+use Rattle.ds_accept.proofs.SweepSteps.{one_of}
 
 Sums : Type 0
 Sums = List (Option ℕ)

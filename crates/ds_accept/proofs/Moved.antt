@@ -5,7 +5,7 @@ use Rattle.std.proofs.lemmas.Bool.{cases_eq, cases_lt}
 use Rattle.std.proofs.lemmas.List.{get_or-map, get_or_append_left, get_or_default, length-map}
 use Rattle.std.proofs.lemmas.List.Elements.{All-contains, All-map}
 use Rattle.std.proofs.lemmas.List.Sorted.{All-permutation, Contains-permutation, IsPermutation-sym}
-use Rattle.ds_base.proofs.Lists.{get_or-self}
+use Rattle.ds_base.proofs.ListLemmas.{get_or-self}
 use Rattle.ds_marked.specs.Graph.{Graph, AreEnds, IsArc, IsKept, StandsBefore, Walk, stay, along}
 use Rattle.ds_marked.specs.declared.marked.Arc.{Arc}
 use Rattle.ds_marked.specs.declared.marked.Event.{Event}
@@ -17,7 +17,7 @@ use Rattle.ds_accept.specs.Given.{IsFirstUnmet, IsGiven}
 use Rattle.ds_accept.specs.Accept.{AreGiven, AreThere, GivesOrder, IsAcceptable, EventStandsAt, extra_events}
 use Rattle.ds_accept.specs.Fault.{IsFirstMissing, StandsFirst}
 use Rattle.ds_accept.specs.Steps.{AreLeft, IsArcWithin, IsGivenBy, moved}
-use Rattle.ds_accept.proofs.Counted.{no_more, one_place, some_event}
+use Rattle.ds_accept.proofs.SubsetLength.{no_more, one_place, some_event}
 use Rattle.ds_accept.proofs.Inverse.{inverse, inverse_is}
 use Rattle.ds_accept.proofs.Others.{all_once, all_within}
 

@@ -8,14 +8,14 @@ use Rattle.ds_marked.specs.declared.marked.Event.{Event}
 use Rattle.ds_latch.specs.Node.{Split}
 use Rattle.ds_latch.specs.Order.{IsRequired, opens_first, closes_before_next, after_producer, before_reuse, open_tokens, close_tokens}
 use Rattle.ds_latch.specs.Plan.{split_events}
-use Rattle.ds_latch.proofs.Counts.{edge_differs, same_node}
+use Rattle.ds_latch.proofs.OrderTokens.{edge_differs, same_node}
 use Rattle.ds_accept.specs.Accept.{EventStandsAt}
-use Rattle.ds_accept.proofs.Least.{one_list_of_sums_lem}
+use Rattle.ds_accept.proofs.LeastSums.{one_list_of_sums_lem}
 use Rattle.ds_accept.specs.Sums.{AreLeastSums}
 use Rattle.ds_accept.specs.Fault.{IsFirstMissing, IsFirstWithout, ShowsLeast, StandsFirst}
 use Rattle.ds_accept.specs.Laws.{OneAcceptFault}
 use Rattle.ds_accept.specs.declared.fault.AcceptFault.TheVariants.{MissingEvent, MissingOrder, TokenFreeCycle, Memory}
-use Rattle.ds_accept.proofs.Counted.{one_place, some_event}
+use Rattle.ds_accept.proofs.SubsetLength.{one_place, some_event}
 
 -- a list has one first place without the property
 first_once : {X : Type 0} (P : X → Type 0) (xs : List X) (d : X) (k m : ℕ) → IsFirstWithout P xs k → IsFirstWithout P xs m → k ≡ m

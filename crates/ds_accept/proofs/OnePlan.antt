@@ -9,8 +9,8 @@ use Rattle.ds_latch.specs.Node.{Split}
 use Rattle.ds_latch.specs.Plan.{Planned, Reorders}
 use Rattle.ds_accept.specs.Laws.{OnePlan}
 use Rattle.ds_accept.specs.Steps.{moved}
-use Rattle.ds_accept.proofs.Counted.{one_place, some_event}
-use Rattle.ds_accept.proofs.Sorted.{same_sorted}
+use Rattle.ds_accept.proofs.SubsetLength.{one_place, some_event}
+use Rattle.ds_accept.proofs.OneSortedList.{same_sorted}
 
 -- an arc by its parts
 abbrev arc : ℕ → ℕ → ℕ → Arc
@@ -19,8 +19,8 @@ arc u v tokens = record { source = u; target = v; tokens = tokens }
 same_arc : (a b : Arc) → a.source ≡ b.source → a.target ≡ b.target → a.tokens ≡ b.tokens → a ≡ b
 same_arc a b e f g = ap (λ (u : ℕ). arc u a.target a.tokens) e ∙ (ap (λ (v : ℕ). arc b.source v a.tokens) f ∙ ap (arc b.source b.target) g)
 
-pub told : (a b : Arc) → (a ≡ b) ⊎ (a ≢ b)
-told a b = elim (cases_eq a.source b.source) [
+pub same_arc_decided : (a b : Arc) → (a ≡ b) ⊎ (a ≢ b)
+same_arc_decided a b = elim (cases_eq a.source b.source) [
   | inl e ↦ elim (cases_eq a.target b.target) [
     | inl f ↦ elim (cases_eq a.tokens b.tokens) [
       | inl g ↦ inl (same_arc a b e f g)
@@ -31,14 +31,14 @@ told a b = elim (cases_eq a.source b.source) [
   | inr ne ↦ inr (λ is. ne (ap (λ (x : Arc). x.source) is))
 ]
 
-pub turns : (a b : Arc) → StandsBefore a b → StandsBefore b a → a ≡ b
-turns a b (inl p) (inl q) = absurd (omega (p, q, arith))
-turns a b (inl p) (inr (q, rest)) = absurd (omega (p, q, arith))
-turns a b (inr (p, rest)) (inl q) = absurd (omega (p, q, arith))
-turns a b (inr (p, inl x)) (inr (q, inl y)) = absurd (omega (x, y, arith))
-turns a b (inr (p, inl x)) (inr (q, inr (y, u))) = absurd (omega (x, y, arith))
-turns a b (inr (p, inr (x, t))) (inr (q, inl y)) = absurd (omega (x, y, arith))
-turns a b (inr (p, inr (x, t))) (inr (q, inr (y, u))) = same_arc a b p x (omega (t, u, arith))
+pub stands_before-antisym : (a b : Arc) → StandsBefore a b → StandsBefore b a → a ≡ b
+stands_before-antisym a b (inl p) (inl q) = absurd (omega (p, q, arith))
+stands_before-antisym a b (inl p) (inr (q, rest)) = absurd (omega (p, q, arith))
+stands_before-antisym a b (inr (p, rest)) (inl q) = absurd (omega (p, q, arith))
+stands_before-antisym a b (inr (p, inl x)) (inr (q, inl y)) = absurd (omega (x, y, arith))
+stands_before-antisym a b (inr (p, inl x)) (inr (q, inr (y, u))) = absurd (omega (x, y, arith))
+stands_before-antisym a b (inr (p, inr (x, t))) (inr (q, inl y)) = absurd (omega (x, y, arith))
+stands_before-antisym a b (inr (p, inr (x, t))) (inr (q, inr (y, u))) = same_arc a b p x (omega (t, u, arith))
 
 module _ (g one other : Graph) (kept : IsKept g) (first : IsKept one) (second : IsKept other)
     (events : one.events ≡ other.events) (r : Reorders g one) (q : Reorders g other) where
@@ -59,7 +59,7 @@ module _ (g one other : Graph) (kept : IsKept g) (first : IsKept one) (second : 
       (places_same (get_or g.arcs k d).source both.0) (places_same (get_or g.arcs k d).target both.1) refl ∙ sym (get_or-map (moved q.place) g.arcs k d d inside)))
 
   arcs_same : one.arcs ≡ other.arcs
-  arcs_same = same_sorted told StandsBefore turns (map (moved r.place) g.arcs) one.arcs other.arcs first.sorted second.sorted r.arcs
+  arcs_same = same_sorted same_arc_decided StandsBefore stands_before-antisym (map (moved r.place) g.arcs) one.arcs other.arcs first.sorted second.sorted r.arcs
       (subst (λ (arcs : List Arc). IsPermutation arcs other.arcs) (sym moved_same) q.arcs)
 
 same_plan : (one other : Planned) → one.split ≡ other.split → one.graph.events ≡ other.graph.events → one.graph.arcs ≡ other.graph.arcs → one ≡ other

@@ -10,13 +10,13 @@ use Rattle.std.proofs.lemmas.List.Elements.{All-append, All-filter, Contains-app
 use Rattle.std.proofs.lemmas.List.Folds.{Any-from_list_any, list_any_at}
 use Rattle.std.proofs.lemmas.List.Kept.{AllPairs-filter}
 use Rattle.std.proofs.lemmas.Slice.Eq.{bytes_eq-Decides}
-use Rattle.ds_base.proofs.Lists.{get_or-self}
-use Rattle.ds_control.proofs.Two.{pairs_append}
+use Rattle.ds_base.proofs.ListLemmas.{get_or-self}
+use Rattle.ds_control.proofs.TwoForEach.{pairs_append}
 use Rattle.ds_marked.specs.declared.marked.Event.{Event}
 use Rattle.ds_accept.specs.Accept.{is_same_event, others_of}
 use Rattle.ds_accept.specs.Codes.{Code, sign_of}
-use Rattle.ds_accept.proofs.Counted.{in_head, in_tail, in_which, no_more}
-use Rattle.ds_accept.proofs.Keys.{one_event}
+use Rattle.ds_accept.proofs.SubsetLength.{in_head, in_tail, in_which, no_more}
+use Rattle.ds_accept.proofs.EventKeys.{one_event}
 
 -- the test tells whether two events are the same
 tells : (a b : Event) → Decides (is_same_event a b) ((a.signal ≡ b.signal) × (sign_of a.kind ≡ sign_of b.kind))

@@ -5,7 +5,7 @@ ghost use Rattle.std.specs.Int.{bit_at};
 ghost use Rattle.ds_marked.specs.Graph.{AreEnds};
 ghost use Rattle.ds_accept.specs.Masks.{IsBlock, IsFoundBy, IsFirstNotFound};
 
-use crate::search::Search;
+use crate::walk_search::WalkSearch;
 use ds_base::EventId;
 use ds_marked::Arc;
 use std::alloc::{AllocError, Global};
@@ -57,7 +57,7 @@ impl Block {
     // The first order whose target is not reached from its source.
     pub(crate) fn first_not_found(
         &self,
-        search: &Search<'_>,
+        search: &WalkSearch<'_>,
         from: usize,
         masks: &[u64],
     ) -> Option<usize>

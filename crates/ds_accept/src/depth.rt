@@ -5,7 +5,7 @@ use std::alloc::{AllocError, Global};
 
 // An event on the path of the search, and the place of the arc that is looked at next.
 #[derive(Clone, Copy)]
-struct Step {
+struct PathStep {
     event: EventId,
     next: usize,
 }
@@ -13,7 +13,7 @@ struct Step {
 // Which events were met, those on the path, and those that were left.
 struct Depth {
     met: Vec<bool>,
-    path: Vec<Step>,
+    path: Vec<PathStep>,
     left: Vec<EventId>,
 }
 
@@ -85,12 +85,12 @@ impl Depth {
     }
 
     // Goes along an arc of the event, or leaves it where the arc is another one's.
-    fn pass(&mut self, graph: &Marked, step: Step, arc: &Arc) -> Result<(), OutOfMemory> {
+    fn pass(&mut self, graph: &Marked, step: PathStep, arc: &Arc) -> Result<(), OutOfMemory> {
         if arc.source != step.event {
             self.left.push(step.event)?;
             return Ok(());
         }
-        self.path.push(Step {
+        self.path.push(PathStep {
             event: step.event,
             next: step.next.saturating_add(1),
         })?;
@@ -107,7 +107,7 @@ impl Depth {
         }
         self.met[event.index()] = true;
         let next = graph.arcs_from(event).start;
-        self.path.push(Step { event, next })?;
+        self.path.push(PathStep { event, next })?;
         Ok(())
     }
 }

@@ -37,10 +37,10 @@ mod places;
 mod plan;
 mod ranked;
 mod renumber;
-mod search;
 mod sums;
 mod sweep;
 mod unmet;
+mod walk_search;
 mod walks;
 
 pub use fault::AcceptFault;

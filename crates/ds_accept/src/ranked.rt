@@ -9,7 +9,7 @@ use std::alloc::{AllocError, Global};
 
 // An event with its rank.
 #[derive(Clone, Copy)]
-struct Ranked {
+struct EventRank {
     rank: u64,
     event: EventId,
 }
@@ -42,22 +42,22 @@ pub(crate) fn by_rank(
 }
 
 // Each event with its rank.
-fn with_ranks(alloc: Global, events: usize, ranks: &Ranks) -> Result<Vec<Ranked>, AllocError>
+fn with_ranks(alloc: Global, events: usize, ranks: &Ranks) -> Result<Vec<EventRank>, AllocError>
     requires few { events < 2 ^ 32 }
     requires ranks { length ranks.now ≡ events }
     ensures { IfOk result (λ all. AreRanked events all.items) }
 {
-    let mut all: Vec<Ranked> = Vec::new(alloc);
+    let mut all: Vec<EventRank> = Vec::new(alloc);
     for place in 0..events {
         let event = EventId::new(place as u32);
         let rank = ranks.at(event);
-        all.push(Ranked { rank, event })?;
+        all.push(EventRank { rank, event })?;
     }
     Ok(all)
 }
 
 // Sorts by rank, and leaves those of one rank in their order.
-fn sort_by_rank(all: &mut Vec<Ranked>) -> Result<(), AllocError>
+fn sort_by_rank(all: &mut Vec<EventRank>) -> Result<(), AllocError>
     ensures { IsPermutation all.old.items all.new.items }
 {
     all.sort_by_key(|ranked| ranked.rank)?;
@@ -65,7 +65,7 @@ fn sort_by_rank(all: &mut Vec<Ranked>) -> Result<(), AllocError>
 }
 
 // The events alone.
-fn events_of(alloc: Global, all: &[Ranked]) -> Result<Vec<EventId>, AllocError>
+fn events_of(alloc: Global, all: &[EventRank]) -> Result<Vec<EventId>, AllocError>
     ensures { IfOk result (λ events. events.items ≡ map (λ ranked. ranked.event) all.now) }
 {
     all.iter().map(|ranked| ranked.event).collect(alloc)

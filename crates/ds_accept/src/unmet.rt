@@ -9,8 +9,8 @@ use crate::ahead::arcs_ahead;
 use crate::arcs::arcs_by;
 use crate::block::Block;
 use crate::capped::capped_orders;
-use crate::search::Search;
 use crate::sweep::{begun, sweep};
+use crate::walk_search::WalkSearch;
 use ds_base::{EventId, OutOfMemory};
 use ds_marked::{Arc, Marked};
 use std::alloc::Global;
@@ -32,7 +32,7 @@ pub fn first_unmet(
         return Ok(None);
     }
     let arcs = arcs_by(arcs_ahead(alloc, graph, order)?, graph, order)?;
-    let search = Search {
+    let search = WalkSearch {
         arcs: arcs.as_slice(),
         asked,
         events: graph.events().len(),
@@ -55,7 +55,7 @@ fn most_tokens(asked: &[Arc]) -> u8
 }
 
 // The first order that no walk gives, block by block.
-fn first_along(alloc: Global, search: &Search<'_>) -> Result<Option<usize>, OutOfMemory>
+fn first_along(alloc: Global, search: &WalkSearch<'_>) -> Result<Option<usize>, OutOfMemory>
     requires ends { AreEnds search.now.events search.now.arcs.now }
     requires asked { AreEnds search.now.events search.now.asked.now }
     requires levels { All (λ arc. arc.tokens < search.now.levels) search.now.asked.now }
@@ -80,7 +80,7 @@ fn first_along(alloc: Global, search: &Search<'_>) -> Result<Option<usize>, OutO
 // whether walks of one token give them all: mostly they do.
 fn unmet_of(
     alloc: Global,
-    search: &Search<'_>,
+    search: &WalkSearch<'_>,
     few: &[Arc],
     from: usize,
     block: &Block,
@@ -99,7 +99,7 @@ fn unmet_of(
     if search.levels <= 2 {
         return unmet_in(alloc, search, from, block);
     }
-    let quick = Search {
+    let quick = WalkSearch {
         arcs: search.arcs,
         asked: few,
         events: search.events,
@@ -115,7 +115,7 @@ fn unmet_of(
 // The same, by all levels at once.
 fn unmet_in(
     alloc: Global,
-    search: &Search<'_>,
+    search: &WalkSearch<'_>,
     from: usize,
     block: &Block,
 ) -> Result<Option<usize>, OutOfMemory>
@@ -135,7 +135,7 @@ fn unmet_in(
 }
 
 // The same, by masks in which each source is reached from itself.
-fn unmet_by(search: &Search<'_>, from: usize, block: &Block, masks: &mut [u64]) -> Option<usize>
+fn unmet_by(search: &WalkSearch<'_>, from: usize, block: &Block, masks: &mut [u64]) -> Option<usize>
     requires ends { AreEnds search.now.events search.now.arcs.now }
     requires asked { AreEnds search.now.events search.now.asked.now }
     requires levels { All (λ arc. arc.tokens < search.now.levels) search.now.asked.now }

@@ -1,9 +1,9 @@
 -- In the order in which to read.
 pub mod LeastWalks
-pub mod Sums
-pub mod First
-pub mod Events
-pub mod Orders
+pub mod LeastSumsExist
+pub mod FirstLacking
+pub mod EventsDecided
+pub mod OrdersDecided
 pub mod NodesOnce
 pub mod PlansExist
-pub mod Decided
+pub mod GraphsDecided

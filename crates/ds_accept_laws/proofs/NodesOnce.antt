@@ -11,8 +11,8 @@ use Rattle.ds_latch.specs.declared.node.Node.{Node}
 use Rattle.ds_latch.specs.declared.node.Node.TheVariants.{In, Out, Master, Slave}
 use Rattle.ds_latch.specs.Plan.{node_events, node_name, split_events}
 use Rattle.ds_control.specs.Orders.{cluster_events}
-use Rattle.ds_control.proofs.Two.{flat_map_next, pairs_append}
-use Rattle.ds_accept.proofs.Counted.{no_more}
+use Rattle.ds_control.proofs.TwoForEach.{flat_map_next, pairs_append}
+use Rattle.ds_accept.proofs.SubsetLength.{no_more}
 
 -- the events of the nodes of so many clusters
 abbrev events_of_clusters : ℕ → List Event

@@ -13,7 +13,7 @@ use Rattle.ds_latch.specs.Plan.{Reorders, split_events}
 use Rattle.ds_accept.specs.Accept.{AreGiven, AreThere, IsAcceptable, extra_events}
 use Rattle.ds_accept.specs.Steps.{moved}
 use Rattle.ds_accept.proofs.Accepted.{place_by, place_in, placed_by, placed_in}
-use Rattle.ds_accept.proofs.Counted.{some_event}
+use Rattle.ds_accept.proofs.SubsetLength.{some_event}
 use Rattle.ds_accept.proofs.Moved.{acceptable, reorders}
 use Rattle.ds_accept.proofs.Others.{all_once, each_has}
 use Rattle.ds_split_laws.proofs.SortedArcs.{OrderedArcs, in_order}

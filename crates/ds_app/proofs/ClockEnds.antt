@@ -8,7 +8,7 @@ use Rattle.ds_outside.proofs.Appended.{appended-append}
 use Rattle.ds_design.specs.Circuit.{Circuit, columns, initial_row}
 use Rattle.ds_design.specs.Rows.{Rows}
 use Rattle.ds_design.specs.Trace.{end_line}
-use Rattle.ds_clocked.proofs.Turns.{whole_trace}
+use Rattle.ds_clocked.proofs.OneMoreTurn.{whole_trace}
 use Rattle.ds_stage.specs.declared.stop.Stop.TheVariants.{Unwritten}
 use Rattle.ds_stage.specs.Ends.{Ends, Output}
 use Rattle.ds_stage.specs.Stage.{OfFile}

@@ -6,7 +6,7 @@ use Rattle.std.proofs.lemmas.Bool.{cases_lt}
 use Rattle.std.proofs.lemmas.List.{get_or-map, get_or_default, length-map}
 use Rattle.std.proofs.lemmas.List.FromFn.{get_or-map-range_with_len, get_or-range_with_len, length-map-range_with_len, length-range_with_len}
 use Rattle.std.proofs.lemmas.List.Elements.{All-contains, Contains-append_left, Contains-append_right, Contains-get_or}
-use Rattle.ds_base.proofs.Lists.{Any-from_map, Contains-map}
+use Rattle.ds_base.proofs.ListLemmas.{Any-from_map, Contains-map}
 use Rattle.ds_base.specs.Limit.{most_of}
 use Rattle.ds_base.specs.declared.number.Limit.TheVariants.{Arcs}
 use Rattle.ds_base.specs.declared.number.Mode.TheVariants.{Each}
@@ -21,7 +21,7 @@ use Rattle.ds_latch.specs.declared.node.Node.{Node}
 use Rattle.ds_latch.specs.declared.node.Node.TheVariants.{In, Master, Slave}
 use Rattle.ds_latch.specs.Order.{IsDataEdge, IsSource, Supplies, to_master, to_out, to_slave}
 use Rattle.ds_latch.specs.declared.latches.Edge.{Edge}
-use Rattle.ds_latch.proofs.Counts.{number_below}
+use Rattle.ds_latch.proofs.OrderTokens.{number_below}
 use Rattle.ds_split.specs.Cluster.{IsClustering}
 use Rattle.ds_split.specs.Nets.{IsProducer}
 use Rattle.ds_split.specs.Search.{edge_of}
@@ -31,12 +31,12 @@ use Rattle.ds_split.proofs.Sources.{no_table, one_producer}
 use Rattle.ds_netlist.specs.Fault.{IsNetFault}
 use Rattle.ds_netlist.specs.declared.fault.NetFault.{NetFault}
 use Rattle.ds_netlist.specs.declared.fault.NetFault.TheVariants as net
-use Rattle.ds_netlist.proofs.Refused.{faults_are_refused_lem}
+use Rattle.ds_netlist.proofs.FaultyCircuits.{faults_are_refused_lem}
 use Rattle.ds_split.proofs.Keyed.{bare}
 use Rattle.ds_stage.specs.SplitStage.{parted_stage}
 use Rattle.ds_demo.specs.Demo.{demo_design, design_of, gate_of, inputs_of, demo_register, seed_words}
 use Rattle.ds_demo.proofs.Accepts.{accepted, two_columns}
-use Rattle.ds_demo.proofs.Ranges.{inputs-hold}
+use Rattle.ds_demo.proofs.DemoInRange.{inputs-hold}
 
 -- what is made of the numbers from 0 has what is made of each
 made_at : {X : Type 0} (f : ℕ → X) (n k : ℕ) → k < n → Contains (map f (range_with_len 0 n)) (f k)

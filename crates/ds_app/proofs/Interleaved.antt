@@ -9,7 +9,7 @@ use Rattle.ds_latch.specs.Plan.{IsPlan}
 use Rattle.ds_latch.proofs.Headline.{headline}
 use Rattle.ds_design.specs.Rows.{Rows}
 use Rattle.ds_stage.specs.StreamStage.{most_vectors}
-use Rattle.ds_stage.proofs.Meant.{netlist_in_range, vectors_wide}
+use Rattle.ds_stage.proofs.FileMeaning.{netlist_in_range, vectors_wide}
 use Rattle.ds_stage.proofs.Streamed.{streamed_wide}
 use Rattle.ds_stage.proofs.PlanAccepted.{planned_circuit, planned_is_plan}
 use Rattle.ds_app.specs.Interleavings.{Interleavings}

@@ -24,7 +24,7 @@ use Rattle.ds_stage.specs.PeriodStage.{timed_stage}
 use Rattle.ds_stage.specs.RateStage.{bare_graph_stage}
 use Rattle.ds_stage.specs.TimesStage.{scheduled_stage}
 use Rattle.ds_app.specs.JobStages.{accept_stage, graph_stage, listing_stage, period_stage, rate_stage, replay_stage, times_stage}
-use Rattle.ds_stage.proofs.Left.{LeavesNothing, clustered_nothing, controller_nothing, giving_nothing, netlist_nothing, planned_nothing, replayed_nothing, split_nothing, then_nothing, timed_nothing, vectors_nothing}
+use Rattle.ds_stage.proofs.StagesLeaveNothing.{LeavesNothing, clustered_nothing, controller_nothing, giving_nothing, netlist_nothing, planned_nothing, replayed_nothing, split_nothing, then_nothing, timed_nothing, vectors_nothing}
 use Rattle.ds_stage.proofs.RateStages.{bare_nothing}
 use Rattle.ds_stage.proofs.TimesStages.{scheduled_nothing}
 

@@ -9,8 +9,8 @@ use Rattle.ds_stage.specs.Stage.{OfFile, Stage}
 use Rattle.ds_stage.specs.PeriodStage.{delays_stage, timed_stage}
 use Rattle.ds_stage.specs.Ends.{Ends, Never, Output, Stops}
 use Rattle.ds_stage.proofs.Stages.{stopped}
-use Rattle.ds_stage.proofs.Ends.{ended, ends_after, ends_more}
-use Rattle.ds_stage.proofs.Left.{giving_nothing, timed_nothing}
+use Rattle.ds_stage.proofs.StageEnds.{ended, ends_after, ends_more}
+use Rattle.ds_stage.proofs.StagesLeaveNothing.{giving_nothing, timed_nothing}
 use Rattle.ds_stage.proofs.PeriodStages.{last_stage}
 
 module _ (held : List ℕ → Held) (delays : List ℕ) (more : OfFile) (g : Graph) where

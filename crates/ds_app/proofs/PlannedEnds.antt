@@ -11,8 +11,8 @@ use Rattle.ds_stage.specs.Stages.{netlist_stage}
 use Rattle.ds_stage.specs.PlanStage.{planned_stage}
 use Rattle.ds_stage.specs.Ends.{Ends, Output, RoseIn, Stops}
 use Rattle.ds_stage.proofs.Stages.{IsWider, widened}
-use Rattle.ds_stage.proofs.Ends.{ended_first, ends_after, never_fell, planned_since}
-use Rattle.ds_stage.proofs.Left.{netlist_nothing, planned_nothing}
+use Rattle.ds_stage.proofs.StageEnds.{ended_first, ends_after, never_fell, planned_since}
+use Rattle.ds_stage.proofs.StagesLeaveNothing.{netlist_nothing, planned_nothing}
 
 -- files later: they hold what they held, and no count of faults fell
 pub record IsLater {F : Type 0} (told : F → List ℕ → Held) (faults : F → Which → List ℕ → ℕ) (old new : F) : Type 0 where

@@ -20,8 +20,8 @@ use Rattle.ds_stage.specs.ReplayStage.{kept_stage, log_stage, replayed_stage}
 use Rattle.ds_app.specs.JobStages.{replay_stage}
 use Rattle.ds_stage.specs.Ends.{Ends, Never, Output, RoseIn, Stops}
 use Rattle.ds_stage.proofs.Stages.{IsWider, widened}
-use Rattle.ds_stage.proofs.Ends.{ended_first, ends_after, gives_more, rose_since, vectors_since}
-use Rattle.ds_stage.proofs.Left.{log_nothing, vectors_nothing}
+use Rattle.ds_stage.proofs.StageEnds.{ended_first, ends_after, gives_more, rose_since, vectors_since}
+use Rattle.ds_stage.proofs.StagesLeaveNothing.{log_nothing, vectors_nothing}
 use Rattle.ds_app.proofs.PlannedEnds.{IsLater, ends_planned, later_still}
 
 -- what is kept of a log that was read later, of files that hold the same

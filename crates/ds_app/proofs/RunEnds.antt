@@ -14,10 +14,10 @@ use Rattle.ds_design.specs.Circuit.{columns, initial_row}
 use Rattle.ds_design.specs.Rows.{Rows}
 use Rattle.ds_design.specs.Trace.{end_line}
 use Rattle.ds_latch.specs.Plan.{Planned}
-use Rattle.ds_clocked.proofs.Turns.{whole_trace}
+use Rattle.ds_clocked.proofs.OneMoreTurn.{whole_trace}
 use Rattle.ds_run.specs.Ended.{IsRunEnd}
 use Rattle.ds_run.specs.Logged.{IsLogOf, Listed}
-use Rattle.ds_run.proofs.Ended.{end_spells_run}
+use Rattle.ds_run.proofs.WindowTexts.{end_spells_run}
 use Rattle.ds_run.proofs.Logged.{legal_events, log_more}
 use Rattle.ds_stage.specs.declared.stop.Stop.{Stop}
 use Rattle.ds_stage.specs.declared.stop.Stop.TheVariants.{Unwritten}

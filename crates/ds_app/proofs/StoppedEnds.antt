@@ -9,10 +9,10 @@ use Rattle.ds_run.specs.RunText.{IsRunText}
 use Rattle.ds_stage.specs.declared.stop.Stop.{Stop}
 use Rattle.ds_stage.specs.Ends.{Ends, Output, RoseIn}
 use Rattle.ds_stage.specs.StreamStage.{most_vectors}
-use Rattle.ds_stage.proofs.Ends.{ends_more, vectors_since}
+use Rattle.ds_stage.proofs.StageEnds.{ends_more, vectors_since}
 use Rattle.ds_stage.proofs.Streamed.{streamed_since}
 use Rattle.ds_app.specs.RunStage.{planned_run_stage, stopped_run_stage}
-use Rattle.ds_app.proofs.Left.{stopped_nothing}
+use Rattle.ds_app.proofs.JobsLeaveNothing.{stopped_nothing}
 
 -- a stopped run of files that hold the same, whatever failed since earlier
 pub stopped_since : {A : Type 0} (held later : List ℕ → Held) (vec : List ℕ) (log : Bool) (jobs stop : ℕ) (c : Circuit) (p : Planned)

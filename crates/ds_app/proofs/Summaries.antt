@@ -15,10 +15,10 @@ use Rattle.ds_run.specs.declared.sums.Sums.{Sums}
 use Rattle.ds_app.specs.DemoStage.{AreSums}
 
 -- the vectors fit the netlist of the design
-pub fits : VectorsFit → (seed registers turns : ℕ) → turns ≤ most_of Vectors → (design : Circuit) (vectors : Rows) (circuit : Circuit)
+pub vectors_fit_netlist : VectorsFit → (seed registers turns : ℕ) → turns ≤ most_of Vectors → (design : Circuit) (vectors : Rows) (circuit : Circuit)
     → design ≡ demo_design seed registers → vectors ≡ demo_vectors seed registers turns → circuit ≡ design
     → vectors.width ≡ length (columns circuit)
-fits law seed registers turns few design vectors circuit is are same =
+vectors_fit_netlist law seed registers turns few design vectors circuit is are same =
     ap (λ (r : Rows). r.width) are ∙ ((law seed registers turns few).width ∙ ap (λ (c : Circuit). length (columns c)) (sym (same ∙ is)))
 
 -- the sums of the run are those of the design

@@ -12,7 +12,7 @@ use Rattle.ds_stage.specs.PeriodStage.{timed_stage}
 use Rattle.ds_stage.specs.RateStage.{bare_graph_stage}
 use Rattle.ds_stage.specs.TimesStage.{scheduled_stage}
 use Rattle.ds_stage.specs.Ends.{Ends, Output, RoseIn, Stops}
-use Rattle.ds_stage.proofs.Ends.{ended_first, ends_after}
+use Rattle.ds_stage.proofs.StageEnds.{ended_first, ends_after}
 use Rattle.ds_stage.proofs.PeriodStages.{timed_since}
 use Rattle.ds_stage.proofs.RateStages.{bare_nothing}
 use Rattle.ds_app.specs.JobStages.{rate_stage}

@@ -20,7 +20,7 @@ use Rattle.ds_stage.specs.Ends.{Ends, Output, RoseIn}
 use Rattle.ds_stage.specs.Stage.{Stage, then_stage}
 use Rattle.ds_stage.specs.StreamStage.{streamed_stage}
 use Rattle.ds_stage.specs.StreamStops.{StopsWindow}
-use Rattle.ds_stage.proofs.Ends.{rose_since}
+use Rattle.ds_stage.proofs.StageEnds.{rose_since}
 use Rattle.ds_stage.proofs.Streamed.{AreWritten, GivenOf, IsReaderOf, last_long, of_more, reads_stop}
 
 -- lines whole, and a first part of what stands behind them

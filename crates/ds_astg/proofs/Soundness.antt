@@ -22,7 +22,7 @@ use Rattle.ds_astg.specs.declared.role.Role.TheVariants.{Signal, Dummy}
 use Rattle.ds_astg.specs.Sound.{HasEnds, ArePlaces, IsStateSound}
 use Rattle.ds_astg.specs.declared.place.Place.{Place}
 use Rattle.ds_astg.specs.declared.fault.AstgKind.{AstgKind}
-use Rattle.ds_astg.proofs.Numbered.{count_push, room_at}
+use Rattle.ds_astg.proofs.DeclaredNames.{count_push, room_at}
 
 -- a step that is done was done behind another that is done
 pub then_was : {A B : Type 0} (r : Result A AstgKind) (next : A → Result B AstgKind) (b : B) → then_do r next ≡ Ok b → (a : A) × (r ≡ Ok a) × (next a ≡ Ok b)

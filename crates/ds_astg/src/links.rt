@@ -22,14 +22,14 @@ use std::alloc::Global;
 
 // A source, and the number of its line.
 #[derive(Clone, Copy)]
-struct Source<'a> {
+struct SourceNode<'a> {
     line: u64,
     node: Node<'a>,
 }
 
 // A place by its number, and its name.
 #[derive(Clone, Copy)]
-struct Numbered<'a> {
+struct NumberedPlace<'a> {
     number: usize,
     name: &'a [u8],
 }
@@ -54,7 +54,7 @@ pub fn graph_line<'a>(
         return Err(Refusal::Fault(AstgKind::BadWord(name(alloc, first)?)));
     }
     with_node(places, line, node)?;
-    link_words(alloc, signals, places, Source { line, node }, words)
+    link_words(alloc, signals, places, SourceNode { line, node }, words)
 }
 
 // From here on a source stands there.
@@ -79,7 +79,7 @@ fn link_words<'a>(
     alloc: Global,
     signals: &Signals<'a>,
     places: &mut Places<'a>,
-    source: Source<'a>,
+    source: SourceNode<'a>,
     words: &[&'a [u8]],
 ) -> Result<(), Refusal<AstgKind>>
     requires { 0 < length words.now }
@@ -102,7 +102,7 @@ fn link_word<'a>(
     alloc: Global,
     signals: &Signals<'a>,
     places: &mut Places<'a>,
-    source: Source<'a>,
+    source: SourceNode<'a>,
     word: &'a [u8],
 ) -> Result<(), Refusal<AstgKind>>
     ensures ok { OnOk result
@@ -122,7 +122,7 @@ fn link_word<'a>(
 fn link<'a>(
     alloc: Global,
     places: &mut Places<'a>,
-    source: Source<'a>,
+    source: SourceNode<'a>,
     target: Node<'a>,
 ) -> Result<(), Refusal<AstgKind>>
     ensures ok { OnOk result
@@ -144,7 +144,7 @@ fn link<'a>(
         Node::Place(name) => match target {
             Node::Event(to) => {
                 let number = places.number(Key::Named(name));
-                with_target(alloc, places, Numbered { number, name }, to)
+                with_target(alloc, places, NumberedPlace { number, name }, to)
             }
             Node::Place(_) => not_marked(alloc, name),
         },
@@ -165,14 +165,14 @@ fn into_place<'a>(
 {
     places.add(Key::Named(name), Place::named(line))?;
     let number = places.number(Key::Named(name));
-    with_source(alloc, places, Numbered { number, name }, event)
+    with_source(alloc, places, NumberedPlace { number, name }, event)
 }
 
 // The place with a number and a name has this source, and no other.
 fn with_source(
     alloc: Global,
     places: &mut Places<'_>,
-    named: Numbered<'_>,
+    named: NumberedPlace<'_>,
     event: u32,
 ) -> Result<(), Refusal<AstgKind>>
     ensures ok { OnOk result (with_source_in named.entry.number named.entry.name.now event
@@ -193,7 +193,7 @@ fn with_source(
 fn with_target(
     alloc: Global,
     places: &mut Places<'_>,
-    named: Numbered<'_>,
+    named: NumberedPlace<'_>,
     event: u32,
 ) -> Result<(), Refusal<AstgKind>>
     ensures ok { OnOk result (with_target_in named.entry.number named.entry.name.now event

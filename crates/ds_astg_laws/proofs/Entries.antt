@@ -14,7 +14,7 @@ use Rattle.ds_astg.specs.Place.Key.{Between}
 use Rattle.ds_astg.specs.Marking.{number_in, value_from, key_in, key_between, both_events}
 use Rattle.ds_astg.specs.Text.{tokens_text}
 use Rattle.ds_astg_laws.specs.Laws.{TokensAreRead, EndsAreRead}
-use Rattle.ds_astg_laws.proofs.Written.{last_is, front_is}
+use Rattle.ds_astg_laws.proofs.WrittenWords.{last_is, front_is}
 
 -- the place of the first such byte
 position_seam : (byte : ℕ) (word more : List ℕ) → list_any (is_byte byte) word ≡ false → position_or_len (is_byte byte) (word ++ byte ∷ more) ≡ length word

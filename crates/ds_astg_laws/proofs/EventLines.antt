@@ -18,7 +18,7 @@ use Rattle.ds_astg_laws.specs.Written.{IsReadable, target_word, arc_words, lists
 use Rattle.ds_astg.specs.declared.place.Place.{Place}
 use Rattle.ds_astg.specs.declared.fault.AstgKind.{AstgKind}
 use Rattle.ds_astg_laws.proofs.Names.{key_at, keys_differ, key_itself, plain, no_dummy, texts_read, le_source}
-use Rattle.ds_astg_laws.proofs.Written.{places_are_read}
+use Rattle.ds_astg_laws.proofs.WrittenWords.{places_are_read}
 use Rattle.ds_astg_laws.proofs.Built.{Built, added_next, built_next}
 
 -- the target of an arc as far as the line of its source tells it, and no tokens

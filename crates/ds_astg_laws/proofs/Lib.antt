@@ -1,12 +1,12 @@
 pub mod Entries
-pub mod Written
+pub mod WrittenWords
 pub mod Names
 pub mod Built
 pub mod EventLines
-pub mod Runs
+pub mod GraphPartLines
 pub mod PlaceLines
 pub mod EntryLine
-pub mod Whole
-pub mod Lines
+pub mod WrittenGraphs
+pub mod GraphTextLines
 pub mod ReadKept
 pub mod ArcsOfPlaces

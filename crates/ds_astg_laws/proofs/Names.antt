@@ -27,7 +27,7 @@ use Rattle.ds_astg.specs.Marking.{value_from}
 use Rattle.ds_astg.specs.Text.{arc_at, is_further, place_name}
 use Rattle.ds_astg_laws.specs.Written.{IsReadable}
 use Rattle.ds_astg_laws.proofs.Entries.{value_digits}
-use Rattle.ds_astg_laws.proofs.Written.{event_at, events_are_read, signal_is}
+use Rattle.ds_astg_laws.proofs.WrittenWords.{event_at, events_are_read, signal_is}
 use Rattle.std.specs.Str.{bytes_eq}
 use Rattle.std.proofs.lemmas.Slice.Eq.{bytes_eq-Decides}
 

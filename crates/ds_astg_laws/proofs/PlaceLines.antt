@@ -14,10 +14,10 @@ use Rattle.ds_astg.specs.Text.{arc_at, is_further, place_name}
 use Rattle.ds_astg_laws.specs.Written.{IsReadable, lists_below, place_lines}
 use Rattle.ds_astg.specs.declared.fault.AstgKind.{AstgKind}
 use Rattle.ds_astg_laws.proofs.Names.{key_at, plain, no_dummy, texts_read, body_is}
-use Rattle.ds_astg_laws.proofs.Written.{places_are_read}
+use Rattle.ds_astg_laws.proofs.WrittenWords.{places_are_read}
 use Rattle.ds_astg_laws.proofs.Built.{Built, number_is, stands_there, built_set}
 use Rattle.ds_astg_laws.proofs.EventLines.{first_target, no_tokens}
-use Rattle.ds_astg_laws.proofs.Runs.{Runs, runs_append}
+use Rattle.ds_astg_laws.proofs.GraphPartLines.{Runs, runs_append}
 
 -- the target of an arc, where the lines of the places below a number are read
 abbrev pub placed_target : Graph → ℕ → ℕ → Option ℕ

@@ -24,9 +24,9 @@ use Rattle.ds_astg.specs.declared.head.Head.TheVariants.{Body, Model, Signals, D
 use Rattle.ds_astg.specs.declared.role.Role.{Role}
 use Rattle.ds_astg.specs.declared.role.Role.TheVariants.{Signal, Dummy}
 use Rattle.ds_astg.proofs.Declared.{distinct, length-new}
-use Rattle.ds_astg.proofs.Graphs.{ends_are, events_count, events_distinct}
-use Rattle.ds_astg.proofs.InOrder.{pairs_in_order}
-use Rattle.ds_astg.proofs.Numbered.{count_few}
+use Rattle.ds_astg.proofs.GraphOfText.{ends_are, events_count, events_distinct}
+use Rattle.ds_astg.proofs.ArcOrder.{pairs_in_order}
+use Rattle.ds_astg.proofs.DeclaredNames.{count_few}
 use Rattle.ds_astg.proofs.Soundness.{one_value, then_was, all_stay, step_sound}
 
 -- a choice that is a fault or a value

@@ -115,7 +115,7 @@ impl Row3 {
 }
 
 // The number of these values, the first of them the lowest.
-#[tactic(auto, using(crate::proofs::Words::word_steps))]
+#[tactic(auto, using(crate::proofs::PackedWords::word_steps))]
 fn word_from(values: &[Value]) -> u64
     requires { length values.now ≤ 32 }
     ensures { result ≡ number_of_values values.now }

@@ -1,7 +1,7 @@
 pub mod Distinct
-pub mod First
+pub mod FirstFault
 pub mod Forms
 pub mod NoFault
-pub mod Pairs
+pub mod UsePairs
 pub mod PartsFit
 pub mod WellFormed

@@ -21,7 +21,7 @@ use Rattle.ds_blif.specs.declared.head.Head.{Head}
 use Rattle.ds_blif.specs.declared.head.Head.TheVariants.{Row, Names, Model, Inputs, Outputs, Clock}
 use Rattle.ds_blif.specs.declared.head.Head.TheVariants.{Latch, Subckt, End, Skipped, Unknown}
 use Rattle.ds_lines.specs.declared.at.At.{At}
-use Rattle.ds_blif.proofs.First.{fault_from, fault_from_is}
+use Rattle.ds_blif.proofs.FirstFault.{fault_from, fault_from_is}
 use Rattle.ds_blif.proofs.Distinct.{AreNew, distinct_from_new}
 use Rattle.ds_blif.proofs.NoFault.{own_none}
 use Rattle.ds_blif.proofs.NoFault.{line_none, lines_none}

@@ -6,7 +6,7 @@ use Rattle.ds_lines.specs.First.{first_of, unless_fault, fault_or}
 use Rattle.ds_lines.specs.Words.{word_at}
 use Rattle.ds_lines.specs.Line.{Line, lines_of}
 use Rattle.ds_lines.specs.Print.{numbered_lines, text_of, IsPlain}
-use Rattle.ds_lines.proofs.Printed.{lines_of-text_of}
+use Rattle.ds_lines.proofs.PrintedLines.{lines_of-text_of}
 use Rattle.ds_blif.specs.Head.{head_of}
 use Rattle.ds_blif.specs.Form.{is_row_form, is_latch_form, is_level_latch, has_bad_init, output_of, is_init}
 use Rattle.ds_blif.specs.Fault.{names_fault, latch_fault, subckt_fault, differs}
@@ -29,8 +29,8 @@ use Rattle.ds_design.specs.declared.blif.Part.TheVariants.{Inputs, Outputs, Cloc
 use Rattle.ds_design.specs.declared.blif.Command.{Command}
 use Rattle.ds_design.specs.declared.blif.BlifModel.{BlifModel}
 use Rattle.ds_blif_laws.proofs.Heads.{head_inputs, head_outputs, head_clock, head_names, head_latch, head_subckt, head_model, head_end, head_row}
-use Rattle.ds_blif_laws.proofs.Printed.{numbered-append, models_parts}
-use Rattle.ds_blif.proofs.First.{fault_from, fault_from_is}
+use Rattle.ds_blif_laws.proofs.PrintedModels.{numbered-append, models_parts}
+use Rattle.ds_blif.proofs.FirstFault.{fault_from, fault_from_is}
 
 -- a model is open
 abbrev pub open_state : Option ℕ → Option (List ℕ) → List (List ℕ) → State

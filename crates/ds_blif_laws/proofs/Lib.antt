@@ -1,5 +1,5 @@
 pub mod Clean
 pub mod Heads
-pub mod InOrder
+pub mod FaultOrder
 pub mod InParts
-pub mod Printed
+pub mod PrintedModels

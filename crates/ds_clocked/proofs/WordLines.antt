@@ -11,8 +11,8 @@ use Rattle.ds_design.specs.Circuit.{Circuit, data_nets}
 use Rattle.ds_design.specs.Run.{IsRun, row_at}
 use Rattle.ds_design.specs.Trace.{AreLines, trace_line, trace_lines}
 use Rattle.ds_design.specs.Valuation.{IsValuation}
-use Rattle.ds_design.proofs.Runs.{turns_by_trace}
-use Rattle.ds_design.proofs.Windows.{lines_in_windows}
+use Rattle.ds_design.proofs.ClockedRuns.{turns_by_trace}
+use Rattle.ds_design.proofs.RunWindows.{lines_in_windows}
 use Rattle.ds_outside.specs.Pen.{Writing}
 use Rattle.ds_outside.proofs.Pens.{puts_nothing, puts_on}
 use Rattle.ds_clocked.specs.Appends.{PutsLines}

@@ -71,19 +71,19 @@ pub fn simulate_from<O: Sink>(
 
 // The rows that a run works on.
 #[derive(Drop)]
-struct Rows {
+struct RunRows {
     state: Row3,
     nets: Row3,
     outputs: Row3,
 }
 
-fn rows_for(alloc: Global, netlist: &Netlist) -> Result<Rows, OutOfMemory>
+fn rows_for(alloc: Global, netlist: &Netlist) -> Result<RunRows, OutOfMemory>
     ensures state { IfOk result (λ rows. length rows.state ≡ length netlist.now.registers) }
     ensures nets { IfOk result (λ rows. length rows.nets ≡ length netlist.now.nets) }
     ensures outputs { IfOk result (λ rows. length rows.outputs ≡ length netlist.now.outputs) }
 {
     let design = netlist.design();
-    Ok(Rows {
+    Ok(RunRows {
         state: Row3::with_len(alloc, design.registers().len())?,
         nets: Row3::with_len(alloc, design.nets().len())?,
         outputs: Row3::with_len(alloc, design.outputs().len())?,
@@ -95,7 +95,7 @@ fn write_turns<O: Sink>(
     netlist: &Netlist,
     first: u64,
     vectors: &Vectors,
-    rows: &mut Rows,
+    rows: &mut RunRows,
     out: &mut O,
 ) -> Result<(), WriteFault>
     requires width { vectors.now.width ≡ length (columns netlist.now) }
@@ -112,7 +112,13 @@ fn write_turns<O: Sink>(
 }
 
 // Writes the lines of these turns, and leaves the row after them in `rows`.
-fn put_turns<P: Pen>(netlist: &Netlist, first: u64, vectors: &Vectors, rows: &mut Rows, pen: &mut P)
+fn put_turns<P: Pen>(
+    netlist: &Netlist,
+    first: u64,
+    vectors: &Vectors,
+    rows: &mut RunRows,
+    pen: &mut P,
+)
     requires width { vectors.now.width ≡ length (columns netlist.now) }
     requires state { length rows.old.state ≡ length netlist.now.registers }
     requires nets { length rows.old.nets ≡ length netlist.now.nets }

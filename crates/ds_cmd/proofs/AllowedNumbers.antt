@@ -29,7 +29,7 @@ use Rattle.ds_cmd.specs.Line.{is_none, job_in, job_of, named_job}
 use Rattle.ds_cmd.specs.Allowed.{AreAllowed, AreWorkers}
 use Rattle.ds_cmd.specs.declared.job.Job.{Job}
 use Rattle.ds_cmd.specs.declared.fault.UsageFault.{UsageFault}
-use Rattle.ds_cmd.proofs.NumberLemmas.{both}
+use Rattle.ds_cmd.proofs.NumberWords.{both_hold}
 
 -- the job of an answer, where there is one, has its numbers within their ranges
 abbrev Yields : Result Job UsageFault → Type 0
@@ -65,7 +65,7 @@ picked_between : (b : Bool) (least most value n : ℕ) → (b ≡ true → is_be
 picked_between false least most value n tests is = absurd (let e : None ≡ Some n = is in cc)
 picked_between true least most value n tests is =
     let e : value ≡ n = (let f : Some value ≡ Some n = is in cc) in
-    let (low, high) = both (nat_le least value) (nat_le value most) (tests refl) in
+    let (low, high) = both_hold (nat_le least value) (nat_le value most) (tests refl) in
     let low' : least ≤ value = leb-true least value low in
     let high' : value ≤ most = leb-true value most high in
     subst (λ (m : ℕ). (least ≤ m) × (m ≤ most)) e (low', high')
@@ -75,7 +75,7 @@ between : (least most : ℕ) (word : Text) (n : ℕ) → number_in_range least m
 unfolding number_in_range
 between least most word n is =
     picked_between (is_numeral word && is_between least most (digits_value 10 word)) least most (digits_value 10 word) n
-    (λ tests. (both (is_numeral word) (is_between least most (digits_value 10 word)) tests).1) is
+    (λ tests. (both_hold (is_numeral word) (is_between least most (digits_value 10 word)) tests).1) is
 
 one_or_more : (o : Option Text) (n : ℕ) → number_or_one o ≡ Some n → AreWorkers n
 one_or_more None n is = let e : 1 ≡ n = (let f : Some 1 ≡ Some n = is in cc) in (omega arith, omega arith)

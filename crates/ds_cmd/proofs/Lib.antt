@@ -1,5 +1,5 @@
 pub mod Chained
-pub mod Meant
-pub mod NumberLemmas
+pub mod ParsedJob
+pub mod NumberWords
 pub mod AllowedNumbers
-pub mod Wanted
+pub mod MemoryAnswers

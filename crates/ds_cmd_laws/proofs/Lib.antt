@@ -1,5 +1,5 @@
-pub mod Taken
-pub mod Refused
+pub mod TakenCommands
+pub mod UnknownCommand
 pub mod TakenGraph
 pub mod TakenPeriod
 pub mod TakenSlack

@@ -6,7 +6,7 @@ use Rattle.ds_cmd.specs.Line.{job_of}
 use Rattle.ds_cmd.specs.Plain.{is_plain}
 use Rattle.ds_cmd.specs.declared.job.Job.TheVariants.{Clusters}
 use Rattle.ds_cmd_laws.specs.Bare.{bare_clusters}
-use Rattle.ds_cmd_laws.proofs.Taken.{IsNoOption, no_option}
+use Rattle.ds_cmd_laws.proofs.TakenCommands.{IsNoOption, no_option}
 
 clusters_at : (program net : Text) → IsNoOption net → job_of (program ∷ codes "clusters" ∷ net ∷ []) ≡ Ok (Clusters (bare_clusters net))
 unfolding clap_on_literals

@@ -6,7 +6,7 @@ use Rattle.ds_cmd.specs.Line.{job_of}
 use Rattle.ds_cmd.specs.Plain.{is_plain}
 use Rattle.ds_cmd.specs.declared.job.Job.TheVariants.{Run, Accept}
 use Rattle.ds_cmd_laws.specs.Bare.{bare_accept, bare_run}
-use Rattle.ds_cmd_laws.proofs.Taken.{IsNoOption, no_option}
+use Rattle.ds_cmd_laws.proofs.TakenCommands.{IsNoOption, no_option}
 
 run_at : (program net vec graph : Text) → IsNoOption net → IsNoOption vec → IsNoOption graph → job_of (program ∷ codes "run" ∷ net ∷ vec ∷ codes "--graph" ∷ graph ∷ []) ≡ Ok (Run (record (bare_run net vec) { graph = Some graph }))
 unfolding clap_on_literals

@@ -12,9 +12,9 @@ use Rattle.ds_cmd.specs.Plain.{is_plain}
 use Rattle.ds_cmd.specs.declared.fault.UsageFault.{UsageFault}
 use Rattle.ds_cmd.specs.declared.job.Job.{Job}
 use Rattle.ds_cmd.specs.declared.job.Job.TheVariants.{Run, Demo}
-use Rattle.ds_cmd.proofs.NumberLemmas.{number_of-decimal, plain_number}
+use Rattle.ds_cmd.proofs.NumberWords.{number_of-decimal, plain_number}
 use Rattle.ds_cmd_laws.specs.Bare.{bare_run}
-use Rattle.ds_cmd_laws.proofs.Taken.{IsNoOption, no_option}
+use Rattle.ds_cmd_laws.proofs.TakenCommands.{IsNoOption, no_option}
 
 -- a word that is read as a number
 pub record IsWritten (least most : ℕ) (word : Text) (value : ℕ) : Type 0 where

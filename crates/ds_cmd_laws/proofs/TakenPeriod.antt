@@ -9,7 +9,7 @@ use Rattle.ds_cmd.specs.Line.{job_of}
 use Rattle.ds_cmd.specs.Plain.{is_plain}
 use Rattle.ds_cmd.specs.declared.job.Job.TheVariants.{Period}
 use Rattle.ds_cmd_laws.specs.Bare.{bare_period}
-use Rattle.ds_cmd_laws.proofs.Taken.{IsNoOption, no_option}
+use Rattle.ds_cmd_laws.proofs.TakenCommands.{IsNoOption, no_option}
 
 period_at : (program net delays : Text) → IsNoOption net → IsNoOption delays
     → job_of (program ∷ codes "period" ∷ net ∷ delays ∷ []) ≡ Ok (Period (bare_period net delays))

@@ -12,7 +12,7 @@ use Rattle.ds_cmd.specs.declared.fault.UsageFault.{UsageFault}
 use Rattle.ds_cmd.specs.declared.job.Job.{Job}
 use Rattle.ds_cmd.specs.declared.job.Job.TheVariants.{Replay}
 use Rattle.ds_cmd_laws.specs.Bare.{bare_replay}
-use Rattle.ds_cmd_laws.proofs.Taken.{IsNoOption, no_option}
+use Rattle.ds_cmd_laws.proofs.TakenCommands.{IsNoOption, no_option}
 use Rattle.ds_cmd_laws.proofs.TakenNumbers.{IsWritten, written}
 
 replay_at : (program net vec log : Text) → IsNoOption net → IsNoOption vec → IsNoOption log

@@ -12,7 +12,7 @@ use Rattle.ds_cmd.specs.declared.fault.UsageFault.{UsageFault}
 use Rattle.ds_cmd.specs.declared.job.Job.{Job}
 use Rattle.ds_cmd.specs.declared.job.Job.TheVariants.{Accept, Graph, Period}
 use Rattle.ds_cmd_laws.specs.Bare.{bare_accept, bare_graph, bare_period}
-use Rattle.ds_cmd_laws.proofs.Taken.{IsNoOption, no_option}
+use Rattle.ds_cmd_laws.proofs.TakenCommands.{IsNoOption, no_option}
 use Rattle.ds_cmd_laws.proofs.TakenNumbers.{IsWritten, written}
 
 -- the job of `graph` with so much slack

@@ -11,7 +11,7 @@ use Rattle.ds_cmd.specs.declared.fault.UsageFault.{UsageFault}
 use Rattle.ds_cmd.specs.declared.job.Job.{Job}
 use Rattle.ds_cmd.specs.declared.job.Job.TheVariants.{Rate, Times}
 use Rattle.ds_cmd_laws.specs.Bare.{bare_times}
-use Rattle.ds_cmd_laws.proofs.Taken.{IsNoOption, no_option}
+use Rattle.ds_cmd_laws.proofs.TakenCommands.{IsNoOption, no_option}
 use Rattle.ds_cmd_laws.proofs.TakenNumbers.{IsWritten, written}
 
 rate_at : (program graph delays : Text) → IsNoOption graph → IsNoOption delays

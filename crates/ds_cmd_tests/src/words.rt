@@ -9,20 +9,20 @@ use std::alloc::{AllocError, Global};
 
 // A part of a job: a word, or a number.
 #[derive(Clone, Copy)]
-enum Part<'p> {
+enum JobPart<'p> {
     Word(&'p str),
     Number(u64),
 }
 
 // Whether words stand for these parts, one for each in order.
-fn stand_for(words: &[&str], parts: &[Part<'_>]) -> bool {
+fn stand_for(words: &[&str], parts: &[JobPart<'_>]) -> bool {
     if words.len() != parts.len() {
         return false;
     }
     for (word, part) in words.iter().zip(parts) {
         let same = match *part {
-            Part::Word(text) => *word == text,
-            Part::Number(number) => word.parse::<u64>() == Ok(number),
+            JobPart::Word(text) => *word == text,
+            JobPart::Number(number) => word.parse::<u64>() == Ok(number),
         };
         if !same {
             return false;
@@ -32,21 +32,21 @@ fn stand_for(words: &[&str], parts: &[Part<'_>]) -> bool {
 }
 
 // The name of a file.
-fn file(name: &FileName) -> Part<'_> {
-    Part::Word(name.as_str())
+fn file(name: &FileName) -> JobPart<'_> {
+    JobPart::Word(name.as_str())
 }
 
 // The name behind an option; `none` where there is none.
-fn option(name: &Option<FileName>) -> Part<'_> {
+fn option(name: &Option<FileName>) -> JobPart<'_> {
     match name {
         Some(name) => file(name),
-        None => Part::Word("none"),
+        None => JobPart::Word("none"),
     }
 }
 
 // The word of a mode.
-fn mode(mode: &Mode) -> Part<'static> {
-    Part::Word(match mode {
+fn mode(mode: &Mode) -> JobPart<'static> {
+    JobPart::Word(match mode {
         Mode::Each => "each",
         Mode::One => "one",
         Mode::Bus => "bus",
@@ -54,8 +54,8 @@ fn mode(mode: &Mode) -> Part<'static> {
 }
 
 // The word of what is wanted, or is not.
-fn wanted(is: bool) -> Part<'static> {
-    Part::Word(if is { "true" } else { "false" })
+fn wanted(is: bool) -> JobPart<'static> {
+    JobPart::Word(if is { "true" } else { "false" })
 }
 
 // Whether a job has these words: its own, its files, its mode, its numbers, and what is wanted
@@ -65,9 +65,9 @@ fn has_words(job: &Job, words: &[&str]) -> bool {
         Job::Run(job) => is_run(job, words),
         Job::Clock(job) => stand_for(
             words,
-            &[Part::Word("clock"), file(&job.net), file(&job.vec)],
+            &[JobPart::Word("clock"), file(&job.net), file(&job.vec)],
         ),
-        Job::Check(net) => stand_for(words, &[Part::Word("check"), file(net)]),
+        Job::Check(net) => stand_for(words, &[JobPart::Word("check"), file(net)]),
         Job::Graph(job) => is_graph(job, words),
         Job::Replay(job) => is_replay(job, words),
         Job::Accept(job) => is_accept(job, words),
@@ -82,11 +82,11 @@ fn has_words(job: &Job, words: &[&str]) -> bool {
 // Whether these are the words of an accepted graph.
 fn is_accept(job: &AcceptJob, words: &[&str]) -> bool {
     let parts = [
-        Part::Word("accept"),
+        JobPart::Word("accept"),
         file(&job.net),
         file(&job.graph),
         mode(&job.clusters),
-        Part::Number(job.slack as u64),
+        JobPart::Number(job.slack as u64),
         option(&job.groups),
     ];
     stand_for(words, &parts)
@@ -95,12 +95,12 @@ fn is_accept(job: &AcceptJob, words: &[&str]) -> bool {
 // Whether these are the words of a period.
 fn is_period(job: &PeriodJob, words: &[&str]) -> bool {
     let parts = [
-        Part::Word("period"),
+        JobPart::Word("period"),
         file(&job.net),
         file(&job.delays),
         option(&job.graph),
         mode(&job.clusters),
-        Part::Number(job.slack as u64),
+        JobPart::Number(job.slack as u64),
         option(&job.groups),
     ];
     stand_for(words, &parts)
@@ -109,10 +109,10 @@ fn is_period(job: &PeriodJob, words: &[&str]) -> bool {
 // Whether these are the words of a graph.
 fn is_graph(job: &GraphJob, words: &[&str]) -> bool {
     let parts = [
-        Part::Word("graph"),
+        JobPart::Word("graph"),
         file(&job.net),
         mode(&job.clusters),
-        Part::Number(job.slack as u64),
+        JobPart::Number(job.slack as u64),
         wanted(job.shake),
         option(&job.groups),
     ];
@@ -122,18 +122,18 @@ fn is_graph(job: &GraphJob, words: &[&str]) -> bool {
 // Whether these are the words of a run.
 fn is_run(job: &RunJob, words: &[&str]) -> bool {
     let stop = match job.stop {
-        Some(stop) => Part::Number(stop),
-        None => Part::Word("none"),
+        Some(stop) => JobPart::Number(stop),
+        None => JobPart::Word("none"),
     };
     let parts = [
-        Part::Word("run"),
+        JobPart::Word("run"),
         file(&job.net),
         file(&job.vec),
         option(&job.graph),
         mode(&job.clusters),
-        Part::Number(job.jobs as u64),
+        JobPart::Number(job.jobs as u64),
         wanted(job.log),
-        Part::Number(job.slack as u64),
+        JobPart::Number(job.slack as u64),
         stop,
         option(&job.groups),
     ];
@@ -143,13 +143,13 @@ fn is_run(job: &RunJob, words: &[&str]) -> bool {
 // Whether these are the words of a replay.
 fn is_replay(job: &ReplayJob, words: &[&str]) -> bool {
     let parts = [
-        Part::Word("replay"),
+        JobPart::Word("replay"),
         file(&job.net),
         file(&job.vec),
         file(&job.log),
         option(&job.graph),
         mode(&job.clusters),
-        Part::Number(job.slack as u64),
+        JobPart::Number(job.slack as u64),
         wanted(job.transparent),
         option(&job.groups),
     ];
@@ -159,11 +159,11 @@ fn is_replay(job: &ReplayJob, words: &[&str]) -> bool {
 // Whether these are the words of a demonstration.
 fn is_demo(job: &DemoJob, words: &[&str]) -> bool {
     let parts = [
-        Part::Word("demo"),
-        Part::Number(job.seed),
-        Part::Number(job.registers as u64),
-        Part::Number(job.turns as u64),
-        Part::Number(job.jobs as u64),
+        JobPart::Word("demo"),
+        JobPart::Number(job.seed),
+        JobPart::Number(job.registers as u64),
+        JobPart::Number(job.turns as u64),
+        JobPart::Number(job.jobs as u64),
     ];
     stand_for(words, &parts)
 }
@@ -171,7 +171,7 @@ fn is_demo(job: &DemoJob, words: &[&str]) -> bool {
 // Whether these are the words of clusters.
 fn is_clusters(job: &ClustersJob, words: &[&str]) -> bool {
     let parts = [
-        Part::Word("clusters"),
+        JobPart::Word("clusters"),
         file(&job.net),
         mode(&job.clusters),
         option(&job.groups),
@@ -181,20 +181,20 @@ fn is_clusters(job: &ClustersJob, words: &[&str]) -> bool {
 
 // Whether these are the words of the period of a graph that stands alone.
 fn is_rate(job: &RateJob, words: &[&str]) -> bool {
-    let parts = [Part::Word("rate"), file(&job.graph), file(&job.delays)];
+    let parts = [JobPart::Word("rate"), file(&job.graph), file(&job.delays)];
     stand_for(words, &parts)
 }
 
 // Whether these are the words of a timed run.
 fn is_times(job: &TimesJob, words: &[&str]) -> bool {
     let parts = [
-        Part::Word("times"),
+        JobPart::Word("times"),
         file(&job.net),
         file(&job.delays),
-        Part::Number(job.turns as u64),
+        JobPart::Number(job.turns as u64),
         option(&job.graph),
         mode(&job.clusters),
-        Part::Number(job.slack as u64),
+        JobPart::Number(job.slack as u64),
         option(&job.groups),
     ];
     stand_for(words, &parts)
@@ -214,7 +214,7 @@ fn fault_word(fault: &UsageFault) -> &'static str {
 fn is_said(answer: Result<Job, UsageFault>, words: &[&str]) -> bool {
     match &answer {
         Ok(job) => has_words(job, words),
-        Err(fault) => stand_for(words, &[Part::Word(fault_word(fault))]),
+        Err(fault) => stand_for(words, &[JobPart::Word(fault_word(fault))]),
     }
 }
 

@@ -1,7 +1,7 @@
-pub mod Two
+pub mod TwoForEach
 pub mod Permuted
-pub mod Pushed
-pub mod Parts
-pub mod Named
+pub mod NodeOrders
+pub mod OrderPrefixes
+pub mod DistinctEvents
 pub mod Required
-pub mod Listed
+pub mod ListedArcs

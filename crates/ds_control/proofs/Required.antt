@@ -10,10 +10,10 @@ use Rattle.ds_latch.specs.declared.node.Node.TheVariants.{In, Out, Master, Slave
 use Rattle.ds_latch.specs.Order.{IsDataEdge, IsRequired, opens_first, closes_before_next, after_producer, before_reuse, open_tokens, close_tokens}
 use Rattle.ds_latch.specs.Latches.{HasEdges}
 use Rattle.ds_latch.specs.declared.latches.Edge.{Edge}
-use Rattle.ds_latch.proofs.Counts.{edge_differs, edge_tokens, number_below}
-use Rattle.ds_latch.proofs.Rising.{edge_nodes}
+use Rattle.ds_latch.proofs.OrderTokens.{edge_differs, edge_tokens, number_below}
+use Rattle.ds_latch.proofs.OrdersRise.{edge_nodes}
 use Rattle.ds_control.specs.Orders.{closing_arc, opening_arc, reading_arc, freeing_arc, tokens_after, node_arcs, edge_arcs, required_arcs}
-use Rattle.ds_control.proofs.Two.{in_first, in_second, from_two, in_range, range_below}
+use Rattle.ds_control.proofs.TwoForEach.{in_first, in_second, from_two, in_range, range_below}
 
 halves : (v : ℕ) → (n : ℕ) × ((v ≡ 2 * n) ⊎ (v ≡ 2 * n + 1))
 halves zero = (0, inl (omega arith))
@@ -86,8 +86,8 @@ module _ (s : Split) where
         let to : number_of j.consumer ≡ e.consumer = j.to in
         (omega arith, omega arith)
 
-    pub apart : (e : Edge) → Contains edges e → e.producer ≢ e.consumer
-    apart e at same =
+    pub edge_ends_differ : (e : Edge) → Contains edges e → e.producer ≢ e.consumer
+    edge_ends_differ e at same =
         let j : Joins e = joins e at in
         let from : number_of j.producer ≡ e.producer = j.from in
         let to : number_of j.consumer ≡ e.consumer = j.to in

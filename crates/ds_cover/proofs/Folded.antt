@@ -13,7 +13,7 @@ use Rattle.ds_cover.specs.Kept.{IsQuick, bit_value, six_nets}
 use Rattle.ds_base.specs.Values.{AreKnown}
 use Rattle.ds_cover.specs.Small.{IsFolded, Small, StandsFor}
 use Rattle.ds_cover.specs.declared.entry.Quick.{Quick}
-use Rattle.ds_cover.proofs.Runs.{All-unmap}
+use Rattle.ds_cover.proofs.TablesByRun.{All-unmap}
 
 two_bits : (s t : ℕ) → s ≡ t % 2 ^ 2 + 2 ^ 2 * (t / 2 ^ 62) → (u v : Value) → u ≢ Unknown → v ≢ Unknown
     → bit_at s (bits_by code_of (u ∷ v ∷ [])) ≡ bit_at t (bits_by one_bit (u ∷ v ∷ v ∷ v ∷ v ∷ v ∷ []))

@@ -10,9 +10,9 @@ use Rattle.ds_cover.specs.Packed.{PackedCover, mask_value, masks_value, packed_v
 use Rattle.ds_cover.specs.Bank.{Driven, AreNetsWithin, after_tables, driven_at}
 use Rattle.ds_cover.specs.Series.{FindsKnown, after_each, in_table_order}
 use Rattle.ds_cover.specs.declared.mask.Mask.{Mask}
-use Rattle.ds_cover.proofs.Few.{either_known, mask_known, no_unknowns, signed_known}
-use Rattle.ds_cover.proofs.Lent.{length-set}
-use Rattle.ds_cover.proofs.Runs.{All-drop, All-take}
+use Rattle.ds_cover.proofs.SmallTableWords.{either_known, mask_known, no_unknowns, signed_known}
+use Rattle.ds_cover.proofs.LentRows.{length-set}
+use Rattle.ds_cover.proofs.TablesByRun.{All-drop, All-take}
 
 both_known : (a b : Value) → a ≢ Unknown → b ≢ Unknown → both a b ≢ Unknown
 both_known Zero b p q = p

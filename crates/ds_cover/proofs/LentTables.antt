@@ -4,7 +4,7 @@ use Rattle.ds_cover.specs.Bank.{Driven}
 use Rattle.ds_cover.specs.Small.{StandsFor, WordsFor, paired, small_five, small_four, small_six, small_three, small_two, worded_three, worded_two}
 use Rattle.ds_cover.specs.Series.{IsOfKind, StandsForRun, IsRunOfTables, Parts}
 use Rattle.ds_cover.specs.declared.nine.Nine.{Nine}
-use Rattle.ds_cover.specs.declared.run.Kind.TheVariants.{Fives, Fours, Sixes, Threes, Twos}
+use Rattle.ds_cover.specs.declared.run.TableKind.TheVariants.{Fives, Fours, Sixes, Threes, Twos}
 use Rattle.ds_cover.specs.declared.run.Run.{Run}
 use Rattle.ds_cover.specs.declared.small.Two.{Two}
 use Rattle.ds_cover.specs.declared.small.Three.{Three}

@@ -8,7 +8,7 @@ use Rattle.ds_cover.specs.declared.entry.Quick.{Quick}
 use Rattle.ds_cover.specs.Series.{AreAdded, AreEven, AreRuns, IsRunOfTables, IsRunAdded, IsSmallAdded, Parts, in_table_order, joined_runs}
 use Rattle.ds_cover.specs.Series.IsRunAdded.{alone, joins}
 use Rattle.ds_cover.specs.declared.run.Run.{Run}
-use Rattle.ds_cover.proofs.Grown.{evens, grows, run_stays, runs_alone, runs_joined}
+use Rattle.ds_cover.proofs.SeriesGrowth.{evens, grows, run_stays, runs_alone, runs_joined}
 
 -- the last of some runs behind others is one of theirs
 module _ (before own front : List Run) (last : Run) (is : before ++ own ≡ front ++ last ∷ []) (low : length before ≤ length front) where

@@ -14,7 +14,7 @@ use Rattle.ds_base.specs.Values.{AreKnown, Row}
 use Rattle.ds_cover.specs.Small.{IsFolded, Small, StandsFor}
 use Rattle.ds_cover.specs.declared.entry.Quick.{Quick}
 use Rattle.ds_cover.proofs.Folded.{all_six}
-use Rattle.ds_cover.proofs.Runs.{All-unmap}
+use Rattle.ds_cover.proofs.TablesByRun.{All-unmap}
 
 five_bits : (s t : ℕ) → s ≡ t % 2 ^ 16 + 2 ^ 16 * (t / 2 ^ 48) → (u v w x y : Value) → u ≢ Unknown → v ≢ Unknown → w ≢ Unknown → x ≢ Unknown → y ≢ Unknown
     → bit_at s (bits_by code_of (u ∷ v ∷ w ∷ x ∷ y ∷ [])) ≡ bit_at t (bits_by one_bit (u ∷ v ∷ w ∷ x ∷ y ∷ y ∷ []))

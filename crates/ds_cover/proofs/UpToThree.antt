@@ -9,7 +9,7 @@ use Rattle.ds_cover.specs.declared.nine.Nine.{Nine}
 use Rattle.ds_cover.specs.declared.small.Two.{Two}
 use Rattle.ds_cover.specs.declared.small.Three.{Three}
 use Rattle.ds_cover.specs.declared.entry.Quick.{Quick}
-use Rattle.ds_cover.proofs.Trits.{nine_is, three_is, three_low, word_for}
+use Rattle.ds_cover.proofs.TernaryPlaces.{nine_is, three_is, three_low, word_for}
 
 pub two_words : (quick : Quick) (t : Driven) (two : Two) (word : ℕ) (nine : Nine) → IsQuick quick t.cover → quick.output ≡ t.output → IsFolded 2 quick (small_two two) → IsWordOf t.cover.masks t.cover.on word → nine.values ≡ nine_of word
     → (inputs : List ℕ) → t.cover.inputs ≡ inputs → length inputs ≤ 2 → WordsFor (worded_two two nine) t

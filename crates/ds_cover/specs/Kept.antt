@@ -12,16 +12,16 @@ use Rattle.ds_cover.specs.Packed.{PackedCover, bits_by, mask_value, masks_value,
 use Rattle.ds_cover.specs.Packed.{packed_value, words_of_values}
 use Rattle.ds_cover.specs.Bank.{Driven, IsDriven}
 use Rattle.ds_cover.specs.declared.mask.Mask.{Mask}
-use Rattle.ds_cover.specs.declared.word.Word.{Word}
+use Rattle.ds_cover.specs.declared.value_word.ValueWord.{ValueWord}
 use Rattle.ds_cover.specs.declared.entry.Quick.{Quick}
-use Rattle.ds_cover.specs.declared.entry.Span.{Span}
+use Rattle.ds_cover.specs.declared.entry.TableSpan.{TableSpan}
 
 -- the value of a bit
 abbrev pub bit_value : ℕ → Value
 bit_value bit = if bit == 0 then Zero else One
 
 -- the table that stands there
-abbrev pub driven_in : List ℕ → List Mask → Span → Driven
+abbrev pub driven_in : List ℕ → List Mask → TableSpan → Driven
 driven_in inputs masks span = record {
   cover = record {
     inputs = take span.inputs (drop span.first_input inputs);
@@ -63,13 +63,13 @@ pub record IsQuick (quick : Quick) (cover : PackedCover) : Type 0 where
       ≡ masks_value (take (length cover.inputs) values) One cover.masks
 
 -- a table that is kept
-pub record IsTableKept (inputs : List ℕ) (masks : List Mask) (span : Span) (quick : Quick) : Type 0
-  where
-    pub inputs_in : span.first_input + span.inputs ≤ length inputs
-    pub masks_in : span.first_mask + span.masks ≤ length masks
-    pub fit : All (λ mask. mask.first ≤ span.inputs) (driven_in inputs masks span).cover.masks
-    pub drives : quick.output ≡ span.output
-    pub is_quick : quick.few ≡ true → IsQuick quick (driven_in inputs masks span).cover
+pub record IsTableKept (inputs : List ℕ) (masks : List Mask) (span : TableSpan) (quick : Quick)
+    : Type 0 where
+  pub inputs_in : span.first_input + span.inputs ≤ length inputs
+  pub masks_in : span.first_mask + span.masks ≤ length masks
+  pub fit : All (λ mask. mask.first ≤ span.inputs) (driven_in inputs masks span).cover.masks
+  pub drives : quick.output ≡ span.output
+  pub is_quick : quick.few ≡ true → IsQuick quick (driven_in inputs masks span).cover
 
 -- what stood in a list stands there still, and more may stand behind it
 pub record IsPrefix {A : Type 0} (before after : List A) : Type 0 where
@@ -77,10 +77,10 @@ pub record IsPrefix {A : Type 0} (before after : List A) : Type 0 where
   pub is : after ≡ before ++ more
 
 -- all tables are kept
-pub record AreKept (inputs : List ℕ) (masks : List Mask) (spans : List Span)
+pub record AreKept (inputs : List ℕ) (masks : List Mask) (spans : List TableSpan)
     (quicks : List Quick) : Type 0 where
   pub one_each : length quicks ≡ length spans
-  pub kept : (k : ℕ) (d : Span) (e : Quick) → k < length spans
+  pub kept : (k : ℕ) (d : TableSpan) (e : Quick) → k < length spans
       → IsTableKept inputs masks (slice_index_or spans k d) (slice_index_or quicks k e)
 
 -- masks of rows of this many characters
@@ -110,7 +110,7 @@ pub record AddsRows (before : List Mask) (width : ℕ) (rows : List (List ℕ))
       ≡ either (some_match rows values) (masks_value values One more)
 
 -- whether some row matches, of rows that are one mask each
-abbrev pub singles_value : List Mask → Word → Value
+abbrev pub singles_value : List Mask → ValueWord → Value
 singles_value [] word = Zero
 singles_value (mask ∷ masks) word = either (mask_value mask word) (singles_value masks word)
 
@@ -122,7 +122,7 @@ IsTruth masks on truth = (values : Row) → length values ≡ 6 → AreKnown val
 
 -- a table is added
 pub record IsAdded (inputs : List ℕ) (masks : List Mask) (cover : Cover) (output : ℕ)
-    (inputs' : List ℕ) (masks' : List Mask) (span : Span) (quick : Quick) : Type 0 where
+    (inputs' : List ℕ) (masks' : List Mask) (span : TableSpan) (quick : Quick) : Type 0 where
   pub more_inputs : List ℕ
   pub more_masks : List Mask
   pub inputs_are : inputs' ≡ inputs ++ more_inputs

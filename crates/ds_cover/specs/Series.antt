@@ -12,9 +12,9 @@ use Rattle.ds_cover.specs.Small.{worded_two}
 use Rattle.ds_cover.specs.declared.entry.Quick.{Quick}
 use Rattle.ds_cover.specs.declared.lists.Lists.{Lists}
 use Rattle.ds_cover.specs.declared.mask.Mask.{Mask}
-use Rattle.ds_cover.specs.declared.run.Kind.{Kind}
-use Rattle.ds_cover.specs.declared.run.Kind.TheVariants.{Twos, Threes, Fours, Fives}
-use Rattle.ds_cover.specs.declared.run.Kind.TheVariants.{Sixes, Others}
+use Rattle.ds_cover.specs.declared.run.TableKind.{TableKind}
+use Rattle.ds_cover.specs.declared.run.TableKind.TheVariants.{Twos, Threes, Fours, Fives}
+use Rattle.ds_cover.specs.declared.run.TableKind.TheVariants.{Sixes, Others}
 use Rattle.ds_cover.specs.declared.run.Run.{Run}
 use Rattle.ds_cover.specs.declared.nine.Nine.{Nine}
 use Rattle.ds_cover.specs.declared.small.Two.{Two}
@@ -90,7 +90,7 @@ pub record StandsForRun {S : Type 0} (IsFor : S → Driven → Type 0) (items : 
   pub stands : AreFor IsFor (part_of run.first run.end items) (own_tables tables run)
 
 -- others stand where their numbers say
-abbrev pub IsOfKind : Parts → List Driven → Run → Kind → Type 0
+abbrev pub IsOfKind : Parts → List Driven → Run → TableKind → Type 0
 IsOfKind parts tables run Twos = StandsForRun StandsFor (map small_two parts.twos) tables run
     × StandsForRun WordsFor (paired worded_two parts.twos parts.nines) tables run
 IsOfKind parts tables run Threes = StandsForRun StandsFor (map small_three parts.threes) tables run
@@ -152,7 +152,7 @@ pub record AreAdded (old new : Parts) (tables : List Driven) (start : ℕ) (befo
   pub runs : AreRuns new tables start own
 
 -- a table is added to the list of its kind
-abbrev pub IsAddedTo : Quick → List Mask → Bool → ℕ → ℕ → Parts → Parts → ℕ → Kind → Type 0
+abbrev pub IsAddedTo : Quick → List Mask → Bool → ℕ → ℕ → Parts → Parts → ℕ → TableKind → Type 0
 IsAddedTo quick masks on inputs at before after first Twos =
     (two : Two) × (word : ℕ) × (nine : Nine) × (quick.few ≡ true) × (inputs ≤ 2)
     × IsFolded 2 quick (small_two two) × IsWordOf masks on word × (nine.values ≡ nine_of word)

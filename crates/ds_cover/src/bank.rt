@@ -7,7 +7,7 @@ ghost use Rattle.ds_cover.specs.Ternary.{IsWordOf};
 ghost use Rattle.ds_cover.specs.Bank.{IsMore, AreNetsWithin, after_table, after_tables, driven_at};
 
 use crate::Table;
-use crate::entry::{Quick, Span};
+use crate::entry::{Quick, TableSpan};
 use crate::entry_value::entry_value;
 use crate::mask::{Mask, push_rows};
 use crate::ternary::word_of;
@@ -20,7 +20,7 @@ use std::marker::Model;
 /// of them.
 pub struct Bank {
     quicks: Vec<Quick>,
-    spans: Vec<Span>,
+    spans: Vec<TableSpan>,
     inputs: Vec<NetId>,
     masks: Vec<Mask>,
 }
@@ -194,7 +194,7 @@ impl Bank {
 }
 
 // The inputs of a table that stands there.
-fn inputs_of<'a>(inputs: &'a [NetId], span: &Span) -> &'a [NetId]
+fn inputs_of<'a>(inputs: &'a [NetId], span: &TableSpan) -> &'a [NetId]
     requires { span.now.first_input + span.now.inputs ≤ length inputs.now }
     ensures { result.now ≡ take span.now.inputs (drop span.now.first_input inputs.now) }
 {
@@ -202,7 +202,7 @@ fn inputs_of<'a>(inputs: &'a [NetId], span: &Span) -> &'a [NetId]
 }
 
 // The masks of a table that stands there.
-fn masks_of<'a>(masks: &'a [Mask], span: &Span) -> &'a [Mask]
+fn masks_of<'a>(masks: &'a [Mask], span: &TableSpan) -> &'a [Mask]
     requires { span.now.first_mask + span.now.masks ≤ length masks.now }
     ensures { result.now ≡ take span.now.masks (drop span.now.first_mask masks.now) }
 {
@@ -216,7 +216,7 @@ fn add_parts(
     masks: &mut Vec<Mask>,
     table: &Table,
     output: NetId,
-) -> Result<(Span, Quick), AllocError>
+) -> Result<(TableSpan, Quick), AllocError>
     ensures ok { IfOk result (λ entry. IsAdded inputs.old.items masks.old.items table.now output
         inputs.new.items masks.new.items entry.0 entry.1) }
     ensures inputs { OnErr result (IsPrefix inputs.old.items inputs.new.items) }
@@ -229,7 +229,7 @@ fn add_parts(
     push_rows(masks, own.len(), table.rows())?;
     let own_masks = &masks[first_mask..];
     let quick = quick_of(own, own_masks, table.is_on(), output);
-    let span = Span {
+    let span = TableSpan {
         first_input,
         inputs: own.len(),
         first_mask,

@@ -6,16 +6,16 @@ ghost use Rattle.ds_base.specs.Values.{AreKnown};
 ghost use Rattle.ds_cover.specs.Packed.{mask_value, masks_value, packed_value, words_of_values};
 ghost use Rattle.ds_base.specs.declared.value.Value.TheVariants.{One};
 
-use crate::entry::{Quick, Span};
+use crate::entry::{Quick, TableSpan};
 use crate::mask::Mask;
-use crate::word::{Word, value_in, word_at};
+use crate::value_word::{ValueWord, value_in, word_at};
 use ds_base::{NetId, Value};
 
 // The value of a table: that of its word where it has one and all its inputs are known, else that
 // of its rows.
 pub(crate) fn entry_value(
     quick: &Quick,
-    span: &Span,
+    span: &TableSpan,
     inputs: &[NetId],
     masks: &[Mask],
     nets: &[Value],
@@ -126,7 +126,7 @@ fn some_row(inputs: &[NetId], masks: &[Mask], nets: &[Value]) -> Value
 }
 
 // Whether the inputs are as a mask asks. The front is the word of the first inputs.
-fn part_value(inputs: &[NetId], mask: &Mask, front: &Word, nets: &[Value]) -> Value
+fn part_value(inputs: &[NetId], mask: &Mask, front: &ValueWord, nets: &[Value]) -> Value
     requires fit { mask.now.first ≤ length inputs.now }
     requires within { All (λ net. net < length nets.now) inputs.now }
     requires front { front.now ≡ words_of_values

@@ -39,8 +39,8 @@ mod small;
 mod table;
 mod ternary;
 mod truth;
+mod value_word;
 mod wide;
-mod word;
 
 pub use bank::Bank;
 pub use entry::Quick;

@@ -7,7 +7,7 @@ ghost use Rattle.ds_cover.specs.Ternary.{IsWordOf};
 ghost use Rattle.ds_cover.specs.declared.mask.Mask.{Mask};
 
 use crate::nine::Nine;
-use crate::run::{Kind, Run};
+use crate::run::{Run, TableKind};
 use crate::small::{Four, Three, Two};
 use crate::wide::{Five, Six};
 use crate::{Bank, Quick};
@@ -101,14 +101,14 @@ impl Lists {
         bank: &Bank,
         table: usize,
         at: usize,
-    ) -> Result<(Kind, usize), AllocError>
+    ) -> Result<(TableKind, usize), AllocError>
         requires { table < length bank.now }
         ensures { IfOk result (λ r. IsAddedTo quick.now (driven_at bank.now table).cover.masks
             (driven_at bank.now table).cover.on (length (driven_at bank.now table).cover.inputs) at
             (parts_of_lists self.old) (parts_of_lists self.new) r.1 r.0) }
     {
         if !quick.few {
-            return Ok((Kind::Others, at));
+            return Ok((TableKind::Others, at));
         }
         let inputs = bank.inputs(table).len();
         if inputs <= 3 {
@@ -124,7 +124,7 @@ impl Lists {
         quick: &Quick,
         inputs: usize,
         word: u64,
-    ) -> Result<(Kind, usize), AllocError>
+    ) -> Result<(TableKind, usize), AllocError>
         requires few { quick.now.few ≡ true }
         requires inputs { inputs ≤ 3 }
         ensures { IfOk result (λ r. (masks : List Mask) (on : Bool) (count at : ℕ)
@@ -135,12 +135,12 @@ impl Lists {
             let first = self.threes.len();
             self.threes.push(Three::of(quick))?;
             self.three_words.push(word)?;
-            return Ok((Kind::Threes, first));
+            return Ok((TableKind::Threes, first));
         }
         let first = self.twos.len();
         self.twos.push(Two::of(quick))?;
         self.nines.push(Nine::of(word))?;
-        Ok((Kind::Twos, first))
+        Ok((TableKind::Twos, first))
     }
 
     // The same of one of more.
@@ -149,7 +149,7 @@ impl Lists {
         quick: &Quick,
         inputs: usize,
         at: usize,
-    ) -> Result<(Kind, usize), AllocError>
+    ) -> Result<(TableKind, usize), AllocError>
         requires { quick.now.few ≡ true }
         ensures { IfOk result (λ r. (masks : List Mask) (on : Bool) (count : ℕ)
             → count ≡ inputs → IsAddedTo quick.now masks on count at (parts_of_lists self.old)
@@ -158,18 +158,18 @@ impl Lists {
         if inputs == 4 {
             let first = self.fours.len();
             self.fours.push(Four::of(quick))?;
-            return Ok((Kind::Fours, first));
+            return Ok((TableKind::Fours, first));
         }
         if inputs == 5 {
             let first = self.fives.len();
             self.fives.push(Five::of(quick))?;
-            return Ok((Kind::Fives, first));
+            return Ok((TableKind::Fives, first));
         }
         if inputs == 6 {
             let first = self.sixes.len();
             self.sixes.push(Six::of(quick))?;
-            return Ok((Kind::Sixes, first));
+            return Ok((TableKind::Sixes, first));
         }
-        Ok((Kind::Others, at))
+        Ok((TableKind::Others, at))
     }
 }

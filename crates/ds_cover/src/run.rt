@@ -15,7 +15,7 @@ use std::alloc::AllocError;
 
 /// How tables are kept: by how many inputs they have.
 #[derive(Clone, Copy)]
-pub enum Kind {
+pub enum TableKind {
     /// One or two.
     Twos,
     /// Three.
@@ -34,7 +34,7 @@ pub enum Kind {
 #[derive(Clone, Copy)]
 pub struct Run {
     /// The kind.
-    pub kind: Kind,
+    pub kind: TableKind,
     /// The number of the first table.
     pub at: usize,
     /// The place of the first one in the list of its kind; for others the number.
@@ -93,12 +93,12 @@ fn joins(last: &Run, run: &Run) -> bool
     ensures { result ≡ true → (last.now.kind ≡ run.now.kind) × (last.now.end ≡ run.now.first) }
 {
     match (last.kind, run.kind) {
-        (Kind::Twos, Kind::Twos)
-        | (Kind::Threes, Kind::Threes)
-        | (Kind::Fours, Kind::Fours)
-        | (Kind::Fives, Kind::Fives)
-        | (Kind::Sixes, Kind::Sixes)
-        | (Kind::Others, Kind::Others) => last.end == run.first,
+        (TableKind::Twos, TableKind::Twos)
+        | (TableKind::Threes, TableKind::Threes)
+        | (TableKind::Fours, TableKind::Fours)
+        | (TableKind::Fives, TableKind::Fives)
+        | (TableKind::Sixes, TableKind::Sixes)
+        | (TableKind::Others, TableKind::Others) => last.end == run.first,
         _ => false,
     }
 }
@@ -140,12 +140,12 @@ fn set_known(run: &Run, lists: &Lists, bank: &Bank, order: &[u32], nets: &mut Ro
     let sixes = lists.sixes.as_slice();
     let (first, end) = (run.first, run.end);
     match run.kind {
-        Kind::Twos => set_twos(&twos[first..end], nets),
-        Kind::Threes => set_threes(&threes[first..end], nets),
-        Kind::Fours => set_fours(&fours[first..end], nets),
-        Kind::Fives => set_fives(&fives[first..end], nets),
-        Kind::Sixes => set_sixes(&sixes[first..end], nets),
-        Kind::Others => bank.set_all(own_order(run, order), nets),
+        TableKind::Twos => set_twos(&twos[first..end], nets),
+        TableKind::Threes => set_threes(&threes[first..end], nets),
+        TableKind::Fours => set_fours(&fours[first..end], nets),
+        TableKind::Fives => set_fives(&fives[first..end], nets),
+        TableKind::Sixes => set_sixes(&sixes[first..end], nets),
+        TableKind::Others => bank.set_all(own_order(run, order), nets),
     }
 }
 
@@ -177,8 +177,8 @@ fn set_run(run: &Run, lists: &Lists, bank: &Bank, order: &[u32], nets: &mut Row3
     let three_words = lists.three_words.as_slice();
     let (first, end) = (run.first, run.end);
     match run.kind {
-        Kind::Twos => set_worded_twos(&twos[first..end], &nines[first..end], nets),
-        Kind::Threes => set_worded_threes(&threes[first..end], &three_words[first..end], nets),
+        TableKind::Twos => set_worded_twos(&twos[first..end], &nines[first..end], nets),
+        TableKind::Threes => set_worded_threes(&threes[first..end], &three_words[first..end], nets),
         _ => bank.set_all(own_order(run, order), nets),
     }
 }

@@ -20,10 +20,10 @@ use Rattle.ds_demo.specs.Demo.{register_net, data_net_of, gate_of, demo_register
 use Rattle.ds_demo.specs.Demo.{registers_of, design_of, vector_of, seed_words, demo_design}
 use Rattle.ds_demo.specs.Demo.{demo_vectors}
 use Rattle.ds_demo.specs.Laws.{FitsColumns}
-use Rattle.ds_demo.proofs.Words.{length-first_words}
-use Rattle.ds_demo.proofs.Pairs.{All-two, All-made, All-flat_map, Contains-none, Contains-made}
-use Rattle.ds_demo.proofs.Pairs.{two_differ, made_differ, pairs-append}
-use Rattle.ds_demo.proofs.Ranges.{inputs-hold, are_vectors}
+use Rattle.ds_demo.proofs.GeneratorWords.{length-first_words}
+use Rattle.ds_demo.proofs.DistinctNumbers.{All-two, All-made, All-flat_map, Contains-none, Contains-made}
+use Rattle.ds_demo.proofs.DistinctNumbers.{two_differ, made_differ, pairs-append}
+use Rattle.ds_demo.proofs.DemoInRange.{inputs-hold, are_vectors}
 
 -- the table and the register of a number
 abbrev gate_at : ℕ → List ℕ → ℕ → Gate

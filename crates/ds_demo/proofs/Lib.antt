@@ -1,7 +1,7 @@
-pub mod Words
-pub mod Made
-pub mod Sums
+pub mod GeneratorWords
+pub mod BuiltLists
+pub mod TextSums
 pub mod Computed
-pub mod Pairs
-pub mod Ranges
+pub mod DistinctNumbers
+pub mod DemoInRange
 pub mod Accepts

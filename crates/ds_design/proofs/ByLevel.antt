@@ -12,7 +12,7 @@ use Rattle.std.proofs.lemmas.Map.Made.{AllPairs-from_IsDistinct, IsDistinct-from
 use Rattle.std.proofs.Math.Dec.{eqb}
 use Rattle.std.proofs.lemmas.Simd.{map-map}
 use Rattle.ds_base.specs.Greatest.{greatest}
-use Rattle.ds_base.proofs.Lists.{Contains-split}
+use Rattle.ds_base.proofs.ListLemmas.{Contains-split}
 use Rattle.ds_design.specs.Circuit.{Circuit}
 use Rattle.ds_design.specs.Levels.{AreLevels, IsSortedByLevel, level_of_table}
 use Rattle.ds_design.specs.Placed.{placed_table}

@@ -7,13 +7,13 @@ use Rattle.ds_base.specs.Values.{AreKnown, Row, both}
 use Rattle.ds_base.specs.declared.value.Value.{Value}
 use Rattle.ds_base.specs.declared.value.Value.TheVariants.{Zero, One, Unknown}
 use Rattle.ds_cover.specs.Cover.{Cover, agrees, matches, some_match, value_at, value_of, values_at}
-use Rattle.ds_cover.proofs.Few.{either_known, signed_known}
-use Rattle.ds_cover.proofs.Keeps.{one_known, zero_known}
+use Rattle.ds_cover.proofs.SmallTableWords.{either_known, signed_known}
+use Rattle.ds_cover.proofs.TableValues.{one_known, zero_known}
 use Rattle.ds_design.specs.Accepted.{IsAccepted}
 use Rattle.ds_design.specs.Circuit.{Circuit, columns, data_nets, register_nets}
 use Rattle.ds_design.specs.Run.{IsRun, row_at}
 use Rattle.ds_design.specs.Valuation.{IsValuation}
-use Rattle.ds_design.proofs.Settled.{kept_from_sources}
+use Rattle.ds_design.proofs.OneValuation.{kept_from_sources}
 
 -- a value that is zero or one
 abbrev IsKnown : Value → Type 0

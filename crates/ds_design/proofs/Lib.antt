@@ -1,9 +1,9 @@
 pub mod ByLevel
-pub mod Controlled
-pub mod Settled
-pub mod Runs
+pub mod ControlNames
+pub mod OneValuation
+pub mod ClockedRuns
 pub mod Exists
 pub mod Monotone
-pub mod Windows
-pub mod Banked
+pub mod RunWindows
+pub mod PackedTables
 pub mod KnownRuns

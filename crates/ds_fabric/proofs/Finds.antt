@@ -3,7 +3,7 @@ use Rattle.std.proofs.Common.{◌≡◌, ◌∙◌, ◌<◌, ℕ, List, ap, get_
 use mathlib.Core.Option.{some}
 use lib.ListN.{get_elem?}
 use Rattle.atomic_table.proofs.Lists.{at_index}
-use Rattle.ds_rule.proofs.Lists.{at_below, same_at}
+use Rattle.ds_rule.proofs.GetElemLemmas.{at_below, same_at}
 use Rattle.ds_fabric.specs.declared.history.History.{History}
 use Rattle.ds_fabric.specs.Indexed.{IsIndexed, IsHistoryAt}
 

@@ -19,8 +19,8 @@ use Rattle.ds_fabric.specs.Looks.{LooksOn, Enough}
 use Rattle.ds_fabric.specs.Told.{new_row}
 use Rattle.ds_fabric.specs.Showing.{Tells, Keeps}
 use Rattle.ds_fabric.specs.Stepped.{done}
-use Rattle.ds_fabric.proofs.Turns.{told_fits}
-use Rattle.ds_fabric.proofs.Passes.{looks_keep, near-node, next_below}
+use Rattle.ds_fabric.proofs.HistoryLayout.{told_fits}
+use Rattle.ds_fabric.proofs.PassMemory.{looks_keep, near-node, next_below}
 
 -- a node that is held is one of the run
 pub near_run : (run : Run) (me : Sat) (nodes : List History) (h : History) → me.0.run ≡ run
@@ -159,7 +159,7 @@ still_flies run v l l' f f' n q node fired =
     subst (λ (x : ℕ). IsInFlight run (record v { written = n }) x f') (sym node)
     (subst (IsInFlight run (record v { written = n }) l) (sym fired) (record {
       live = q.live;
-      stage = q.stage;
+      phase = q.phase;
       node_is = q.node_is;
       run_is = q.run_is;
       count = q.count;

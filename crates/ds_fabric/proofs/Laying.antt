@@ -10,7 +10,7 @@ use Rattle.ds_rule.specs.Run.{Run}
 use Rattle.ds_rule.specs.Words.{width, place, value}
 use Rattle.ds_rule.specs.Sound.{IsSound, edge_at, read_words}
 use Rattle.ds_rule.specs.Rows.{row}
-use Rattle.ds_rule.proofs.Lists.{get-first, get-second, replicate-default}
+use Rattle.ds_rule.proofs.GetElemLemmas.{get-first, get-second, replicate-default}
 use Rattle.ds_rule.proofs.RowLaws.{length-row, get-row, reads-into, reads-past}
 use Rattle.ds_rule.proofs.PlaceLaws.{start-first, start-words, first_below, place-word}
 use Rattle.ds_rule.proofs.PlaceLaws.{place_behind}

@@ -1,17 +1,17 @@
 -- What a pass knows and keeps, then the parts of a fabric, then the record.
-pub mod Views
-pub mod Turns
-pub mod Passes
+pub mod LoadedViews
+pub mod HistoryLayout
+pub mod PassMemory
 pub mod Flights
-pub mod Steps
-pub mod Tickets
+pub mod FiresIfEnabled
+pub mod HistoryTickets
 pub mod Finds
 pub mod Standing
-pub mod Joins
+pub mod DealAndGather
 pub mod Laying
-pub mod Chains
-pub mod Parts
-pub mod Ranges
+pub mod ArcChains
+pub mod IncomingArcs
+pub mod EdgeRanges
 pub mod Spreads
 pub mod Unpacks
 pub mod RowReads

@@ -8,7 +8,7 @@ use Rattle.ds_base.specs.Word.{word_of, count_of_words}
 use Rattle.ds_rule.specs.Run.{Run, node_of}
 use Rattle.ds_rule.specs.Words.{width, value, node_values}
 use Rattle.ds_rule.specs.Log.{times, IsLegalList, Recorded}
-use Rattle.ds_rule.proofs.Logs.{times-here, times-else, length-places}
+use Rattle.ds_rule.proofs.LogCounts.{times-here, times-else, length-places}
 use Rattle.ds_rule.proofs.PlaceLaws.{width-is}
 
 -- no event stands more often in a legal list than the limit says

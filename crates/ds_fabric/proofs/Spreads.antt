@@ -7,14 +7,14 @@ use mathlib.Core.Option.{some}
 use lib.ListN.{get_elem?}
 use Rattle.ds_rule.specs.Run.{Run, node_of, turns}
 use Rattle.ds_rule.specs.Log.{places, firings}
-use Rattle.ds_rule.proofs.Lists.{at_below, at_get, at_or, same_at, has_below}
-use Rattle.ds_rule.proofs.Logs.{ticket_below, drawn, once, stands_at, node_inside, length-places}
-use Rattle.ds_rule.proofs.Logs.{length-firings}
+use Rattle.ds_rule.proofs.GetElemLemmas.{at_below, at_get, at_or, same_at, has_below}
+use Rattle.ds_rule.proofs.LogCounts.{ticket_below, ticket_of_some, ticket_of_one, stands_at, node_inside, length-places}
+use Rattle.ds_rule.proofs.LogCounts.{length-firings}
 use Rattle.ds_fabric.specs.declared.history.History.{History}
 use Rattle.ds_fabric.specs.Told.{ticket_in}
 use Rattle.ds_fabric.specs.Showing.{Showing, IsRecord}
 use Rattle.ds_fabric.specs.Spread.{CanSpread, IsLeftOver, HasSpread}
-use Rattle.ds_fabric.proofs.Tickets.{ticket_read, stands_in, counted}
+use Rattle.ds_fabric.proofs.HistoryTickets.{ticket_read, stands_in, counted}
 
 module _ (p : Showing) (nodes : List History) (places' : List ℕ) (latches many : ℕ)
     (q : IsRecord p nodes places' latches many) where
@@ -69,7 +69,7 @@ module _ (p : Showing) (nodes : List History) (places' : List ℕ) (latches many
         q.recorded.long,
       );
     };
-    apart = λ d e on here n j k below-j below-k same. n (once log d e j k (ticket_in R h e k)
+    distinct = λ d e on here n j k below-j below-k same. n (ticket_of_one log d e j k (ticket_in R h e k)
         (subst (λ (x : ℕ). get_elem? (places d log) j ≡ some x) same
         (ticket-is i h at d j on below-j)) (ticket-is i h at e k here below-k)).0;
   }
@@ -80,10 +80,10 @@ module _ (p : Showing) (nodes : List History) (places' : List ℕ) (latches many
       → HasSpread R g new
   stays i j g h old new ne at at' s kept e here k below =
       kept (ticket_in R g e k) e (s e here k below) (λ d m on below-m same.
-      let is = (once log d e m k (ticket_in R g e k)
+      let is = (ticket_of_one log d e m k (ticket_in R g e k)
       (subst (λ (x : ℕ). get_elem? (places d log) m ≡ some x) same
       (ticket-is j h at' d m on below-m)) (ticket-is i g at e k here below)).0 in
-      ne (q.keeps.apart i j g h at at' (sym here ∙ (ap (node_of R) (sym is) ∙ on))))
+      ne (q.keeps.distinct i j g h at at' (sym here ∙ (ap (node_of R) (sym is) ∙ on))))
 
   -- once the events of all nodes are put, the list is that of the firings
   pub spread_is : (out : List ℕ) → length out ≡ many
@@ -91,7 +91,7 @@ module _ (p : Showing) (nodes : List History) (places' : List ℕ) (latches many
       → out ≡ firings log
   spread_is out long all = ext_get_or 0 out (firings log) (long
       ∙ (q.recorded.long ∙ sym (length-firings log))) (λ t below.
-      let d = drawn log t (omega (arith, long, q.recorded.long)) in let e : ℕ = d.0 in
+      let d = ticket_of_some log t (omega (arith, long, q.recorded.long)) in let e : ℕ = d.0 in
       let k : ℕ = d.1 in
       let l : ℕ = node_of R e in
       let l-near : l < R.nodes = node_inside R log e q.recorded.in_turn
@@ -106,11 +106,11 @@ module _ (p : Showing) (nodes : List History) (places' : List ℕ) (latches many
       at_get out t e 0 put ∙ sym (at_get (firings log) t e 0 (stands_at log e k t d.2)))
 
 -- a whole list written over another of its length
-pub written : {A : Type 0} (n : ℕ) (xs ys : List A) → length ys ≡ n
+pub overwritten : {A : Type 0} (n : ℕ) (xs ys : List A) → length ys ≡ n
     → take n (ys ++ drop (length ys) xs) ≡ ys
-written zero xs [] e = refl
-written zero xs (y ∷ ys) e = absurd (omega arith)
-written (suc n) xs [] e = absurd (omega arith)
-written (suc n) [] (y ∷ ys) e = ap (λ zs. y ∷ zs)
-    (ap (take n) (ap (λ zs. ys ++ zs) (sym (drop-nil (length ys)))) ∙ written n [] ys (omega arith))
-written (suc n) (x ∷ xs) (y ∷ ys) e = ap (λ zs. y ∷ zs) (written n xs ys (omega arith))
+overwritten zero xs [] e = refl
+overwritten zero xs (y ∷ ys) e = absurd (omega arith)
+overwritten (suc n) xs [] e = absurd (omega arith)
+overwritten (suc n) [] (y ∷ ys) e = ap (λ zs. y ∷ zs)
+    (ap (take n) (ap (λ zs. ys ++ zs) (sym (drop-nil (length ys)))) ∙ overwritten n [] ys (omega arith))
+overwritten (suc n) (x ∷ xs) (y ∷ ys) e = ap (λ zs. y ∷ zs) (overwritten n xs ys (omega arith))

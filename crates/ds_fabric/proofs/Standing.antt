@@ -10,8 +10,8 @@ use native.Mathlib.Decide.{ℕ_discrete, dec_lt}
 use lib.ListN.{get_elem?}
 use Rattle.atomic_table.proofs.Lists.{at_longer, at_set, set_else}
 use Rattle.std.proofs.Common.{◌++◌, ⊎_elim}
-use Rattle.ds_rule.proofs.Lists.{at_either, set_there, at_below, at_get, at_or, same_at, alone}
-use Rattle.ds_rule.proofs.Lists.{there_is, replicate-default, get-beyond}
+use Rattle.ds_rule.proofs.GetElemLemmas.{at_either, set_there, at_below, at_get, at_or, same_at, only_item}
+use Rattle.ds_rule.proofs.GetElemLemmas.{there_is, replicate-default, get-beyond}
 use Rattle.ds_fabric.specs.declared.history.History.{History}
 use Rattle.ds_rule.specs.Run.{Run}
 use Rattle.ds_fabric.specs.Indexed.{IsOneEach, IsIndexed, IsHistoryAt, IsWithout, IsTakenOut, came}
@@ -67,7 +67,7 @@ one_alone m r node h ps small near room is ps-is =
       few = omega arith;
       one = λ z. absurd (omega arith);
       long = λ _. long;
-      placed = λ i x below at _. let a = alone h x i at in
+      placed = λ i x below at _. let a = only_item h x i at in
           ap (λ (y : History). get_or ps y.node 0) (sym a.1)
           ∙ (ap (λ (y : ℕ). get_or ps y 0) is ∙ omega (arith, here, a.0));
       back = λ l pos. dite (ℕ_discrete l node)
@@ -96,7 +96,7 @@ pub noted_more : (m r i n : ℕ) (ns : List History) (ps : List ℕ) (h : Histor
     → IsIndexed m r i ns ps
     → get_elem? ns i ≡ some h → n ≡ i + 1 → n ≤ r → h.node < m → (length ps ≡ 0 → ⊥)
     → IsIndexed m r n ns (set ps h.node n)
-noted_more m r i n ns ps h apart o at n-is room near there =
+noted_more m r i n ns ps h distinct o at n-is room near there =
     let long : length ps ≡ m = o.long (omega arith) in let k : ℕ = h.node in
     let here : get_or (set ps k n) k 0 ≡ n = get_or-set_same ps k n 0 (omega arith) in record {
       small = o.small;
@@ -107,7 +107,7 @@ noted_more m r i n ns ps h apart o at n-is room near there =
           (λ e. let same : h ≡ g = same_at ns i h g at
           (subst (λ (x : ℕ). get_elem? ns x ≡ some g) e at') in
           ap (λ (x : History). get_or (set ps k n) x.node 0) (sym same) ∙ (here ∙ omega arith))
-          (λ ne. get_or-set_other ps k g.node n 0 (λ z. ne (apart j i g h at' at z))
+          (λ ne. get_or-set_other ps k g.node n 0 (λ z. ne (distinct j i g h at' at z))
           ∙ o.placed j g (omega arith) at' (omega arith));
       back = λ l pos. dite (ℕ_discrete l k)
           (λ e. let v : get_or (set ps k n) l 0 ≡ n = ap (λ (x : ℕ). get_or (set ps k n) x 0) e
@@ -145,13 +145,13 @@ cleared : (m r at : ℕ) (xs ys : List History) (ps qs : List ℕ) (h : History)
     → ((at < length ys → (y : History) → get_elem? ys at ≡ some y → h.node ≢ y.node)
     → get_or qs h.node 0 ≡ 0)
     → IsIndexed m r (length ys) ys qs
-cleared m r at xs ys ps qs h apart w o there-h there long same moved gone =
+cleared m r at xs ys ps qs h distinct w o there-h there long same moved gone =
     let n : ℕ = length ys in
     let other : at < n → (y : History) → get_elem? ys at ≡ some y → (get_elem? xs n ≡ some y)
     × (h.node ≢ y.node) = λ less y at-y.
     let old : get_elem? xs n ≡ some y = subst (λ (j : ℕ). get_elem? xs j ≡ some y)
     (ap (λ b. cond b n at) (eq-eqb at at refl)) (w.from at y at-y) in
-    (old, λ e. (let z = apart at n h y there-h old e in omega arith)) in
+    (old, λ e. (let z = distinct at n h y there-h old e in omega arith)) in
     let zero-h : get_or qs h.node 0 ≡ 0 = gone (λ less y at-y. (other less y at-y).1) in record {
       small = o.small;
       few = omega (arith, o.few, w.shorter);
@@ -163,8 +163,8 @@ cleared m r at xs ys ps qs h apart w o there-h there long same moved gone =
           (λ ne. let old : get_elem? xs j ≡ some g =
           subst (λ (x : ℕ). get_elem? xs x ≡ some g) (ap (λ b. cond b n j) (ne_eqb j at ne))
           (w.from j g at-j) in
-          same g.node (λ e. ne (apart j at g h old there-h e))
-          (λ less y at-y e. (let z = apart j n g y old (other less y at-y).0 e in omega arith))
+          same g.node (λ e. ne (distinct j at g h old there-h e))
+          (λ less y at-y e. (let z = distinct j n g y old (other less y at-y).0 e in omega arith))
           ∙ o.placed j g (omega (arith, w.shorter)) old (omega arith));
       back = λ l pos. dite (ℕ_discrete l h.node)
           (λ e. absurd (omega (arith, ap (λ (x : ℕ). get_or qs x 0) e, zero-h)))
@@ -216,11 +216,11 @@ pub taken_inside : (m r at : ℕ) (xs ys : List History) (ps : List ℕ) (h y : 
     → get_elem? ys at ≡ some y
     → h.node < length ps → y.node < length ps
     → IsIndexed m r (length ys) ys (set (set ps h.node 0) y.node (at + 1))
-taken_inside m r at xs ys ps h y apart w o there-h there at-y near-h near-y =
+taken_inside m r at xs ys ps h y distinct w o there-h there at-y near-h near-y =
     let one : List ℕ = set ps h.node 0 in
     let only : (z : History) → get_elem? ys at ≡ some z
     → z.node ≡ y.node = λ z e. ap (λ (x : History). x.node) (same_at ys at z y e at-y) in
-    cleared m r at xs ys ps (set one y.node (at + 1)) h apart w o there-h there
+    cleared m r at xs ys ps (set one y.node (at + 1)) h distinct w o there-h there
     (length-set one y.node (at + 1) ∙ length-set ps h.node 0)
     (λ l nh ny. get_or-set_other one y.node l (at + 1) 0 (ny (at_below ys at y at-y) y at-y)
     ∙ get_or-set_other ps h.node l 0 0 nh)
@@ -235,8 +235,8 @@ pub taken_last : (m r at : ℕ) (xs ys : List History) (ps : List ℕ) (h : Hist
     → IsIndexed m r (length xs) xs ps → get_elem? xs at ≡ some h → (length ps ≡ 0 → ⊥)
     → (at < length ys → ⊥)
     → h.node < length ps → IsIndexed m r (length ys) ys (set ps h.node 0)
-taken_last m r at xs ys ps h apart w o there-h there last near-h =
-    cleared m r at xs ys ps (set ps h.node 0) h apart w o there-h there (length-set ps h.node 0)
+taken_last m r at xs ys ps h distinct w o there-h there last near-h =
+    cleared m r at xs ys ps (set ps h.node 0) h distinct w o there-h there (length-set ps h.node 0)
     (λ l nh ny. get_or-set_other ps h.node l 0 0 nh) (λ less. absurd (last less))
     (λ _. get_or-set_same ps h.node 0 0 near-h)
 

@@ -33,7 +33,7 @@ pub record IsBuilt (id : TableId) (key run : Run) (index : Index) : Type 0 where
 -- the pass is live and in flight with the node's next event, and no word of it is written
 pub record IsAway (run : Run) (v : View) (l : ℕ) : Type 0 where
   pub live : v.live ≡ true
-  pub stage : v.stage ≡ 1
+  pub phase : v.phase ≡ 1
   pub node_is : v.node ≡ l
   pub written : v.written ≡ 0
   pub run_is : v.run ≡ run
@@ -41,7 +41,7 @@ pub record IsAway (run : Run) (v : View) (l : ℕ) : Type 0 where
 -- the pass is in flight with the node's next event, behind f firings of the node
 pub record IsInFlight (run : Run) (v : View) (l f : ℕ) : Type 0 where
   pub live : v.live ≡ true
-  pub stage : v.stage ≡ 1
+  pub phase : v.phase ≡ 1
   pub node_is : v.node ≡ l
   pub run_is : v.run ≡ run
   pub count : f ≡ seen v l

@@ -47,7 +47,7 @@ AreBelow nodes many = (i : ℕ) (h : History) → get_elem? nodes i ≡ some h �
 
 -- the history of the node was taken out
 pub record IsTakenOut (old new : List History) (at node : ℕ) : Type 0 where
-  pub apart : IsOneEach old
+  pub distinct : IsOneEach old
   pub without : IsWithout old new at
   pub history : History
   pub there : get_elem? old at ≡ some history

@@ -14,7 +14,7 @@ pub record LooksOn (v w : View) : Type 0 where
   pub holds_same : w.holds ≡ v.holds
   pub tickets_same : w.tickets ≡ v.tickets
   pub drawn : w.drawn ≡ v.drawn
-  pub stage : w.stage ≡ v.stage
+  pub phase : w.phase ≡ v.phase
   pub seen_long : length w.seen ≡ length v.seen
   pub seen_up : (l : ℕ) → seen v l ≤ seen w l
   pub looks_up : v.looks ≤ w.looks

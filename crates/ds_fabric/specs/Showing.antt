@@ -9,7 +9,7 @@ use Rattle.ds_rule.specs.Run.{Run, events, node_of, turns}
 use Rattle.ds_rule.specs.Sound.{IsSound, read_words}
 use Rattle.ds_rule.specs.Log.{firings, Recorded}
 use Rattle.ds_rule.specs.Rule.{holds, tickets, seen, first_view}
-use Rattle.ds_rule.specs.Plays.{after_point, without_cut, only_cut}
+use Rattle.ds_rule.specs.Plays.{with_cut, without_cut, only_cut}
 use Rattle.ds_rule.specs.declared.view.View.{View}
 use Rattle.ds_fabric.specs.Base.{Base}
 use Rattle.ds_fabric.specs.Told.{stride_of, turns_told}
@@ -70,14 +70,14 @@ pub record IsStood (run : Run) (m : Memory) (f : Base) (id : TableId) (me : Me �
 -- a new pass that holds the node alone
 pub record IsDealt (old : Showing) (node room : ℕ) (p : Showing) : Type 0 where
   pub table : p.table_id ≡ old.table_id
-  pub view : p.view ≡ only_cut (after_point old.view node)
+  pub view : p.view ≡ only_cut (with_cut old.view node)
   pub many : p.many ≡ 1
   pub room_is : p.room ≡ room
 
 -- what is left of the old one
 pub record IsLeft (old : Showing) (node : ℕ) (p : Showing) : Type 0 where
   pub table : p.table_id ≡ old.table_id
-  pub view : p.view ≡ without_cut (after_point old.view node)
+  pub view : p.view ≡ without_cut (with_cut old.view node)
   pub many : p.many + 1 ≡ old.many
   pub room : p.room ≡ old.room
   pub scratch : p.scratch ≡ old.scratch
@@ -118,7 +118,7 @@ IsCounted v = (e : ℕ) → holds v (node_of v.run e) ≡ true
 pub record Keeps (me : Me ℕ View) (nodes : List History) : Type 0 where
   pub no_slot : me.1 ≡ []
   pub live : me.0.live ≡ true
-  pub rests : me.0.stage ≡ 0
+  pub rests : me.0.phase ≡ 0
   pub held_long : length me.0.holds ≡ me.0.run.nodes
   pub tickets_long : length me.0.tickets ≡ events me.0.run
   pub seen_long : length me.0.seen ≡ me.0.run.nodes
@@ -127,7 +127,7 @@ pub record Keeps (me : Me ℕ View) (nodes : List History) : Type 0 where
   pub listed : (i : ℕ) (h : History) → get_elem? nodes i ≡ some h → Tells me.0 h
   pub found : (l : ℕ) → holds me.0 l ≡ true → (i : ℕ) × (h : History)
       × (get_elem? nodes i ≡ some h) × (h.node ≡ l)
-  pub apart : IsOneEach nodes
+  pub distinct : IsOneEach nodes
 
 -- a pass: its memory, the places of its histories, and its room
 pub record IsPass (me : Me ℕ View) (room capacity : ℕ) (nodes : List History)

@@ -10,7 +10,7 @@ ghost use Rattle.ds_fabric.specs.Into.{AreInto};
 ghost use Rattle.ds_fabric.specs.Looks.{LooksOn, Enough, IsSeenLacking};
 
 use crate::compute::Compute;
-use crate::ground::Ground;
+use crate::context::Context;
 use crate::incoming::Incoming;
 use atomic_table::{Seat, Shared};
 use ds_rule::{Layout, Look, Order, Rows, View};
@@ -20,20 +20,20 @@ pub type Board<J> = Shared<u8, View, Layout<J>, Order>;
 
 /// Loads the count of a node.
 pub fn look<J: Rows, C: Compute>(
-    ground: &Ground<J, C>,
+    context: &Context<J, C>,
     seat: &mut Seat<u8, View>,
     node: usize,
 ) -> u64
-    requires table { seat.old.table_id ≡ ground.now.board.now.table_id }
-    requires near { node < ground.now.run.now.nodes }
-    requires rests { (seat.old.me.0.live ≡ true) × (seat.old.me.0.stage ≡ 0) }
+    requires table { seat.old.table_id ≡ context.now.board.now.table_id }
+    requires near { node < context.now.run.now.nodes }
+    requires rests { (seat.old.me.0.live ≡ true) × (seat.old.me.0.phase ≡ 0) }
 
     ensures table { seat.new.table_id ≡ seat.old.table_id }
     ensures me { seat.new.me ≡ (after_look seat.old.me.0 node result, seat.old.me.1) }
     ensures own { holds seat.old.me.0 node ≡ true → result ≡ seen seat.old.me.0 node }
     ensures up { seen seat.old.me.0 node ≤ result }
 {
-    ground.board.load::<Look>(seat, node + 1)
+    context.board.load::<Look>(seat, node + 1)
 }
 
 /// The first of these arcs, which enter one event, on which plain looks at the counts, without a
@@ -65,28 +65,28 @@ pub fn lacking_between<J: Rows>(
 /// Loads the counts of the event's sources, from the last arc on, up to the first that is too
 /// small.
 pub fn survey<J: Rows, C: Compute>(
-    ground: &Ground<J, C>,
+    context: &Context<J, C>,
     seat: &mut Seat<u8, View>,
     event: usize,
     turn: u64,
 ) -> Option<(usize, u64)>
-    requires table { seat.old.table_id ≡ ground.now.board.now.table_id }
-    requires incoming { AreInto ground.now.run.now ground.now.incoming.now }
-    requires rests { (seat.old.me.0.live ≡ true) × (seat.old.me.0.stage ≡ 0)
-        × (length seat.old.me.0.seen ≡ ground.now.run.now.nodes) }
-    requires few { (turn < 9223372036854775808) × (event < events ground.now.run.now) }
+    requires table { seat.old.table_id ≡ context.now.board.now.table_id }
+    requires incoming { AreInto context.now.run.now context.now.incoming.now }
+    requires rests { (seat.old.me.0.live ≡ true) × (seat.old.me.0.phase ≡ 0)
+        × (length seat.old.me.0.seen ≡ context.now.run.now.nodes) }
+    requires few { (turn < 9223372036854775808) × (event < events context.now.run.now) }
 
     ensures table { (seat.new.table_id ≡ seat.old.table_id) × (seat.new.me.1 ≡ seat.old.me.1) }
     ensures looks { LooksOn seat.old.me.0 seat.new.me.0 }
-    ensures none { IfNone result (Enough ground.now.run.now seat.new.me.0 event turn) }
+    ensures none { IfNone result (Enough context.now.run.now seat.new.me.0 event turn) }
     ensures some { IfSome result (λ r.
-        IsSeenLacking ground.now.run.now seat.old.me.0 seat.new.me.0 event turn r.0 r.1) }
+        IsSeenLacking context.now.run.now seat.old.me.0 seat.new.me.0 event turn r.0 r.1) }
 {
-    let incoming = ground.incoming;
+    let incoming = context.incoming;
     let arcs = incoming.arcs.as_slice();
     for i in incoming.starts[event]..incoming.starts[event + 1] {
         let arc = arcs[i];
-        let fired = look(ground, seat, arc.node as usize);
+        let fired = look(context, seat, arc.node as usize);
         if arc.lacks(fired, turn) {
             return Some((incoming.numbers[i] as usize, arc.source.turns(fired)));
         }

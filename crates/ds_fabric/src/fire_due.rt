@@ -7,9 +7,9 @@ ghost use Rattle.ds_fabric.specs.Stepped.{FiresWith};
 ghost use Rattle.ds_fabric.specs.Showing.{Belongs, IsPass, Stays};
 
 use crate::compute::Compute;
+use crate::context::Context;
 use crate::fabric::Fabric;
 use crate::flight::fire_enabled;
-use crate::ground::Ground;
 use crate::history::History;
 use crate::pass::Pass;
 use crate::places::find;
@@ -69,13 +69,13 @@ impl<'a, J: Rows, C: Compute> Fabric<'a, J, C> {
         let number = node.index();
         let held = nodes.as_slice();
         let at = find(held, places.as_slice(), number);
-        let ground = Ground {
+        let context = Context {
             board: &self.table.shared,
             run: self.run,
             openings: self.openings,
             incoming: &self.incoming,
             index: &self.index,
         };
-        fire_enabled(&ground, seat, &mut nodes[at], scratch)
+        fire_enabled(&context, seat, &mut nodes[at], scratch)
     }
 }

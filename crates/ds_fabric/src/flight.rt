@@ -20,8 +20,8 @@ ghost use Rattle.ds_fabric.specs.declared.history.History.{History};
 ghost use Rattle.ds_fabric.specs.Flown.{HasOpened, HasRoomFor, HasRoomToFire};
 
 use crate::compute::Compute;
+use crate::context::Context;
 use crate::counts::survey;
-use crate::ground::Ground;
 use crate::history::History;
 use crate::learnt::Learnt;
 use crate::rows::{read_rows, write_row};
@@ -32,28 +32,28 @@ use ds_rule::{Depart, Draw, Publish, Rows, View};
 
 /// Fires the next event of the history's node, if what its sources show is enough.
 pub fn advance<J: Rows, C: Compute>(
-    ground: &Ground<J, C>,
+    context: &Context<J, C>,
     seat: &mut Seat<u8, View>,
     history: &mut History,
     scratch: &mut Scratch,
 ) -> Step
-    requires table { seat.old.table_id ≡ ground.now.board.now.table_id }
-    requires incoming { AreInto ground.now.run.now ground.now.incoming.now }
-    requires remembers { Remembers (C.memory ground.now.openings.now) scratch.old }
-    requires run { seat.old.me.0.run ≡ ground.now.run.now }
+    requires table { seat.old.table_id ≡ context.now.board.now.table_id }
+    requires incoming { AreInto context.now.run.now context.now.incoming.now }
+    requires remembers { Remembers (C.memory context.now.openings.now) scratch.old }
+    requires run { seat.old.me.0.run ≡ context.now.run.now }
     requires keeps { (nodes : List History) × (i : ℕ) × Keeps seat.old.me nodes
         × (get_elem? nodes i ≡ some history.old) }
 
     ensures table { seat.new.table_id ≡ seat.old.table_id }
-    ensures step { Stepped ground.now.run.now seat.old.me.0 history.old.node result seat.new.me.0 }
+    ensures step { Stepped context.now.run.now seat.old.me.0 history.old.node result seat.new.me.0 }
     ensures keeps { (nodes : List History) (i : ℕ) → Keeps seat.old.me nodes
         → get_elem? nodes i ≡ some history.old → Keeps seat.new.me (slice_set nodes i history.new) }
     ensures node { history.new.node ≡ history.old.node }
     ensures same { (seat.new.me.0.run ≡ seat.old.me.0.run)
         × (seat.new.me.0.holds ≡ seat.old.me.0.holds) }
-    ensures remembers { Remembers (C.memory ground.now.openings.now) scratch.new }
+    ensures remembers { Remembers (C.memory context.now.openings.now) scratch.new }
 {
-    let run = ground.run;
+    let run = context.run;
     let fired = history.fired;
     let event = run.next(history.node, fired);
     let before = run.turns(event, fired);
@@ -61,11 +61,11 @@ pub fn advance<J: Rows, C: Compute>(
         return Step::Done;
     }
     let turn = before + 1;
-    if let Some((arc, seen)) = survey(ground, seat, event, turn) {
+    if let Some((arc, seen)) = survey(context, seat, event, turn) {
         let arc = ArcId::new(arc as u32);
         return Step::NotYet { arc, seen };
     }
-    let ticket = fire(ground, seat, history, scratch);
+    let ticket = fire(context, seat, history, scratch);
     let event = EventId::new(event as u32);
     Step::Fired {
         event,
@@ -77,49 +77,49 @@ pub fn advance<J: Rows, C: Compute>(
 /// Fires the next event of the history's node, which is enabled at what was seen: its sources are
 /// not looked at.
 pub fn fire_enabled<J: Rows, C: Compute>(
-    ground: &Ground<J, C>,
+    context: &Context<J, C>,
     seat: &mut Seat<u8, View>,
     history: &mut History,
     scratch: &mut Scratch,
 ) -> u64
-    requires table { seat.old.table_id ≡ ground.now.board.now.table_id }
-    requires remembers { Remembers (C.memory ground.now.openings.now) scratch.old }
-    requires run { seat.old.me.0.run ≡ ground.now.run.now }
+    requires table { seat.old.table_id ≡ context.now.board.now.table_id }
+    requires remembers { Remembers (C.memory context.now.openings.now) scratch.old }
+    requires run { seat.old.me.0.run ≡ context.now.run.now }
     requires keeps { (nodes : List History) × (i : ℕ) × Keeps seat.old.me nodes
         × (get_elem? nodes i ≡ some history.old) }
-    requires enabled { Enabled ground.now.run.now (seen seat.old.me.0)
-        (next ground.now.run.now history.old.node (seen seat.old.me.0 history.old.node)) }
+    requires enabled { Enabled context.now.run.now (seen seat.old.me.0)
+        (next context.now.run.now history.old.node (seen seat.old.me.0 history.old.node)) }
 
     ensures table { seat.new.table_id ≡ seat.old.table_id }
-    ensures fires { FiresWith ground.now.run.now seat.old.me.0 seat.new.me.0 history.old.node
+    ensures fires { FiresWith context.now.run.now seat.old.me.0 seat.new.me.0 history.old.node
         result }
     ensures keeps { (nodes : List History) (i : ℕ) → Keeps seat.old.me nodes
         → get_elem? nodes i ≡ some history.old → Keeps seat.new.me (slice_set nodes i history.new) }
     ensures node { history.new.node ≡ history.old.node }
     ensures same { (seat.new.me.0.run ≡ seat.old.me.0.run)
         × (seat.new.me.0.holds ≡ seat.old.me.0.holds) }
-    ensures remembers { Remembers (C.memory ground.now.openings.now) scratch.new }
+    ensures remembers { Remembers (C.memory context.now.openings.now) scratch.new }
 {
-    fire(ground, seat, history, scratch)
+    fire(context, seat, history, scratch)
 }
 
 // Fires the next event of the node: what was seen is enough for it.
 fn fire<J: Rows, C: Compute>(
-    ground: &Ground<J, C>,
+    context: &Context<J, C>,
     seat: &mut Seat<u8, View>,
     history: &mut History,
     scratch: &mut Scratch,
 ) -> u64
-    requires table { seat.old.table_id ≡ ground.now.board.now.table_id }
-    requires remembers { Remembers (C.memory ground.now.openings.now) scratch.old }
-    requires rests { (seat.old.me.0.live ≡ true) × (seat.old.me.0.stage ≡ 0)
-        × (seat.old.me.0.run ≡ ground.now.run.now) }
+    requires table { seat.old.table_id ≡ context.now.board.now.table_id }
+    requires remembers { Remembers (C.memory context.now.openings.now) scratch.old }
+    requires rests { (seat.old.me.0.live ≡ true) × (seat.old.me.0.phase ≡ 0)
+        × (seat.old.me.0.run ≡ context.now.run.now) }
     requires held { (holds seat.old.me.0 history.old.node ≡ true)
-        × (history.old.node < ground.now.run.now.nodes)
+        × (history.old.node < context.now.run.now.nodes)
         × (history.old.fired ≡ seen seat.old.me.0 history.old.node) }
-    requires ready { Enabled ground.now.run.now (seen seat.old.me.0)
-        (next ground.now.run.now history.old.node history.old.fired) }
-    requires room { HasRoomToFire ground.now.run.now history.old }
+    requires ready { Enabled context.now.run.now (seen seat.old.me.0)
+        (next context.now.run.now history.old.node history.old.fired) }
+    requires room { HasRoomToFire context.now.run.now history.old }
 
     ensures table { (seat.new.table_id ≡ seat.old.table_id) × (seat.new.id ≡ seat.old.id) }
     ensures me { seat.new.me
@@ -128,46 +128,50 @@ fn fire<J: Rows, C: Compute>(
           seat.old.me.1,
         ) }
     ensures fresh { seat.old.me.0.drawn ≤ result }
-    ensures noted { HasFired ground.now.run.now history.old history.new result }
-    ensures remembers { Remembers (C.memory ground.now.openings.now) scratch.new }
+    ensures noted { HasFired context.now.run.now history.old history.new result }
+    ensures remembers { Remembers (C.memory context.now.openings.now) scratch.new }
 {
-    depart(ground, seat, history);
-    prepare(ground, seat, history, scratch);
-    let ticket = publish(ground, seat, history);
+    depart(context, seat, history);
+    prepare(context, seat, history, scratch);
+    let ticket = publish(context, seat, history);
     history.note(ticket);
     ticket
 }
 
 // The flight of the node's next event begins.
-fn depart<J: Rows, C: Compute>(ground: &Ground<J, C>, seat: &mut Seat<u8, View>, history: &History)
-    requires table { seat.old.table_id ≡ ground.now.board.now.table_id }
-    requires rests { (seat.old.me.0.live ≡ true) × (seat.old.me.0.stage ≡ 0)
-        × (seat.old.me.0.run ≡ ground.now.run.now) }
+fn depart<J: Rows, C: Compute>(
+    context: &Context<J, C>,
+    seat: &mut Seat<u8, View>,
+    history: &History,
+)
+    requires table { seat.old.table_id ≡ context.now.board.now.table_id }
+    requires rests { (seat.old.me.0.live ≡ true) × (seat.old.me.0.phase ≡ 0)
+        × (seat.old.me.0.run ≡ context.now.run.now) }
     requires held { (holds seat.old.me.0 history.now.node ≡ true)
-        × (history.now.node < ground.now.run.now.nodes)
+        × (history.now.node < context.now.run.now.nodes)
         × (history.now.fired ≡ seen seat.old.me.0 history.now.node) }
-    requires ready { Enabled ground.now.run.now (seen seat.old.me.0)
-        (next ground.now.run.now history.now.node history.now.fired) }
+    requires ready { Enabled context.now.run.now (seen seat.old.me.0)
+        (next context.now.run.now history.now.node history.now.fired) }
 
     ensures table { (seat.new.table_id ≡ seat.old.table_id) × (seat.new.id ≡ seat.old.id) }
     ensures me { seat.new.me ≡ (after_depart seat.old.me.0 history.now.node, seat.old.me.1) }
-    ensures flight { IsInFlight ground.now.run.now seat.new.me.0 history.now.node
+    ensures flight { IsInFlight context.now.run.now seat.new.me.0 history.now.node
         history.now.fired }
     ensures unwritten { seat.new.me.0.written ≡ 0 }
 {
-    ground.board.load::<Depart>(seat, history.node + 1);
+    context.board.load::<Depart>(seat, history.node + 1);
 }
 
 // Draws the ticket of what is in flight, and publishes the count of its node.
 fn publish<J: Rows, C: Compute>(
-    ground: &Ground<J, C>,
+    context: &Context<J, C>,
     seat: &mut Seat<u8, View>,
     history: &History,
 ) -> u64
-    requires table { seat.old.table_id ≡ ground.now.board.now.table_id }
-    requires flight { IsInFlight ground.now.run.now seat.old.me.0 history.now.node
+    requires table { seat.old.table_id ≡ context.now.board.now.table_id }
+    requires flight { IsInFlight context.now.run.now seat.old.me.0 history.now.node
         history.now.fired }
-    requires written { HasWritten ground.now.run.now seat.old.me.0 history.now.node
+    requires written { HasWritten context.now.run.now seat.old.me.0 history.now.node
         history.now.fired }
 
     ensures table { (seat.new.table_id ≡ seat.old.table_id) × (seat.new.id ≡ seat.old.id) }
@@ -175,8 +179,8 @@ fn publish<J: Rows, C: Compute>(
         ≡ (after_publish (after_draw seat.old.me.0 result), seat.old.me.1) }
     ensures fresh { seat.old.me.0.drawn ≤ result }
 {
-    let ticket = ground.board.fetch_add::<Draw>(seat, 0, 1);
-    ground
+    let ticket = context.board.fetch_add::<Draw>(seat, 0, 1);
+    context
         .board
         .store::<Publish>(seat, history.node + 1, history.fired + 1);
     ticket
@@ -184,61 +188,62 @@ fn publish<J: Rows, C: Compute>(
 
 // Gives the node's next value, where its next event is an opening.
 fn prepare<J: Rows, C: Compute>(
-    ground: &Ground<J, C>,
+    context: &Context<J, C>,
     seat: &mut Seat<u8, View>,
     history: &mut History,
     scratch: &mut Scratch,
 )
-    requires table { seat.old.table_id ≡ ground.now.board.now.table_id }
-    requires remembers { Remembers (C.memory ground.now.openings.now) scratch.old }
-    requires flight { IsInFlight ground.now.run.now seat.old.me.0 history.old.node
+    requires table { seat.old.table_id ≡ context.now.board.now.table_id }
+    requires remembers { Remembers (C.memory context.now.openings.now) scratch.old }
+    requires flight { IsInFlight context.now.run.now seat.old.me.0 history.old.node
         history.old.fired }
     requires unwritten { seat.old.me.0.written ≡ 0 }
-    requires room { HasRoomToFire ground.now.run.now history.old }
+    requires room { HasRoomToFire context.now.run.now history.old }
 
     ensures seat { (seat.new.table_id ≡ seat.old.table_id) × (seat.new.id ≡ seat.old.id) }
     ensures me { (n : ℕ) × (seat.new.me ≡ (record seat.old.me.0 { written = n }, seat.old.me.1)) }
-    ensures flight { IsInFlight ground.now.run.now seat.new.me.0 history.new.node
+    ensures flight { IsInFlight context.now.run.now seat.new.me.0 history.new.node
         history.new.fired }
-    ensures written { HasWritten ground.now.run.now seat.new.me.0 history.new.node
+    ensures written { HasWritten context.now.run.now seat.new.me.0 history.new.node
         history.new.fired }
     ensures turns { history.new.turns.items
-        ≡ history.old.turns.items ++ new_row ground.now.run.now history.old.node history.old.fired }
+        ≡ history.old.turns.items
+        ++ new_row context.now.run.now history.old.node history.old.fired }
     ensures same { HasOpened history.old history.new }
-    ensures remembers { Remembers (C.memory ground.now.openings.now) scratch.new }
+    ensures remembers { Remembers (C.memory context.now.openings.now) scratch.new }
 {
-    if ground.run.opens_next(history.node, history.fired) {
+    if context.run.opens_next(history.node, history.fired) {
         let turn = history.fired / 2 + 1;
-        open_row(ground, seat, history, scratch, turn);
+        open_row(context, seat, history, scratch, turn);
     }
 }
 
 // Reads, computes and writes the row of the opening.
 fn open_row<J: Rows, C: Compute>(
-    ground: &Ground<J, C>,
+    context: &Context<J, C>,
     seat: &mut Seat<u8, View>,
     history: &mut History,
     scratch: &mut Scratch,
     turn: u64,
 )
-    requires table { seat.old.table_id ≡ ground.now.board.now.table_id }
-    requires remembers { Remembers (C.memory ground.now.openings.now) scratch.old }
-    requires flight { IsOpening ground.now.run.now seat.old.me.0 history.old.node turn
-        × IsAway ground.now.run.now seat.old.me.0 history.old.node }
-    requires within { (history.old.node < ground.now.run.now.latches)
-        × (turn ≤ ground.now.run.now.limit) }
-    requires room { HasRoomFor ground.now.run.now history.old }
+    requires table { seat.old.table_id ≡ context.now.board.now.table_id }
+    requires remembers { Remembers (C.memory context.now.openings.now) scratch.old }
+    requires flight { IsOpening context.now.run.now seat.old.me.0 history.old.node turn
+        × IsAway context.now.run.now seat.old.me.0 history.old.node }
+    requires within { (history.old.node < context.now.run.now.latches)
+        × (turn ≤ context.now.run.now.limit) }
+    requires room { HasRoomFor context.now.run.now history.old }
 
     ensures seat { (seat.new.table_id ≡ seat.old.table_id) × (seat.new.id ≡ seat.old.id) }
     ensures me { seat.new.me
         ≡ (
-          record seat.old.me.0 { written = width ground.now.run.now history.old.node },
+          record seat.old.me.0 { written = width context.now.run.now history.old.node },
           seat.old.me.1,
         ) }
     ensures value { history.new.turns.items
-        ≡ history.old.turns.items ++ row ground.now.run.now history.old.node turn }
+        ≡ history.old.turns.items ++ row context.now.run.now history.old.node turn }
     ensures same { HasOpened history.old history.new }
-    ensures remembers { Remembers (C.memory ground.now.openings.now) scratch.new }
+    ensures remembers { Remembers (C.memory context.now.openings.now) scratch.new }
 {
     let node = history.node;
     history.from.clear();
@@ -246,10 +251,10 @@ fn open_row<J: Rows, C: Compute>(
         scratch: &*scratch,
         turn,
     };
-    read_rows(ground, &learnt, seat, node, &mut history.from);
+    read_rows(context, &learnt, seat, node, &mut history.from);
     let before = history.turns.len();
     let from = history.from.as_slice();
-    ground.openings.compute(
+    context.openings.compute(
         LatchId::new(node as u32),
         turn,
         from,
@@ -257,5 +262,5 @@ fn open_row<J: Rows, C: Compute>(
         &mut history.turns,
     );
     let words = &history.turns.as_slice()[before..];
-    write_row(ground, seat, words, node, turn);
+    write_row(context, seat, words, node, turn);
 }

@@ -3,13 +3,13 @@ ghost use Rattle.std.specs.Prelude.{◌≡◌, ◌<◌, ℕ, [], true, length};
 ghost use Rattle.ds_rule.specs.Run.{node_of, turns};
 ghost use Rattle.ds_rule.specs.Log.{Recorded};
 ghost use Rattle.ds_rule.specs.Rule.{holds, tickets, seen};
-ghost use Rattle.ds_rule.specs.Plays.{after_point, without_cut, only_cut, taken_in};
+ghost use Rattle.ds_rule.specs.Plays.{with_cut, without_cut, only_cut, taken_in};
 ghost use Rattle.ds_fabric.specs.Base.{IsOver};
 ghost use Rattle.ds_fabric.specs.Showing.{IsCounted};
 
 use crate::counts::Board;
 use atomic_table::{Seat, Table};
-use ds_rule::{Deal, Gather, Layout, Learn, Order, Point, Rows, View};
+use ds_rule::{ChooseCut, Deal, Gather, Layout, Observe, Order, Rows, View};
 use std::alloc::Global;
 
 /// Cuts the node off the seat.
@@ -21,15 +21,15 @@ pub fn cut<J: Rows>(
 ) -> Seat<u8, View>
     requires table { (seat.old.table_id ≡ board.now.table_id)
         × IsOver board.now.table_id board.now.key run.now }
-    requires rests { (seat.old.me.0.live ≡ true) × (seat.old.me.0.stage ≡ 0) }
+    requires rests { (seat.old.me.0.live ≡ true) × (seat.old.me.0.phase ≡ 0) }
     requires held { holds seat.old.me.0 node ≡ true }
 
     ensures lent { (seat.new.table_id ≡ seat.old.table_id)
-        × (seat.new.me ≡ (without_cut (after_point seat.old.me.0 node), seat.old.me.1)) }
+        × (seat.new.me ≡ (without_cut (with_cut seat.old.me.0 node), seat.old.me.1)) }
     ensures new { (result.table_id ≡ seat.old.table_id)
-        × (result.me ≡ (only_cut (after_point seat.old.me.0 node), [])) }
+        × (result.me ≡ (only_cut (with_cut seat.old.me.0 node), [])) }
 {
-    board.compare_exchange::<Point>(seat, 0, node as u64, node as u64);
+    board.compare_exchange::<ChooseCut>(seat, 0, node as u64, node as u64);
     board.split_seat::<Deal>(seat)
 }
 
@@ -44,16 +44,16 @@ pub fn mend<J: Rows>(
         × (other.table_id ≡ board.now.table_id)
         × IsOver board.now.table_id board.now.key run.now }
     requires live { (seat.old.me.0.live ≡ true) × (other.me.0.live ≡ true) × (other.me.1 ≡ []) }
-    requires rests { (seat.old.me.0.stage ≡ 0) × (other.me.0.stage ≡ 0) }
+    requires rests { (seat.old.me.0.phase ≡ 0) × (other.me.0.phase ≡ 0) }
 
     ensures seat { (seat.new.table_id ≡ seat.old.table_id)
         × (seat.new.me ≡ (taken_in seat.old.me.0 other.me.0, seat.old.me.1)) }
     ensures counts { IsCounted seat.new.me.0 }
-    ensures apart { (l : ℕ) → l < seat.old.me.0.run.nodes → holds seat.old.me.0 l ≡ true
+    ensures distinct { (l : ℕ) → l < seat.old.me.0.run.nodes → holds seat.old.me.0 l ≡ true
         → holds other.me.0 l ≡ true → ⊥ }
 {
     board.join_seat::<Gather>(seat, other);
-    board.load::<Learn>(seat, 0);
+    board.load::<Observe>(seat, 0);
 }
 
 /// Ends the table, and answers how many tickets were drawn.
@@ -64,7 +64,7 @@ pub fn shut<J: Rows>(
 ) -> u64
     requires table { (seat.table_id ≡ table.shared.table_id) × (table.shared.table_id.slots ≡ 0)
         × IsOver table.shared.table_id table.shared.key run.now }
-    requires rests { (seat.me.0.live ≡ true) × (seat.me.0.stage ≡ 0) }
+    requires rests { (seat.me.0.live ≡ true) × (seat.me.0.phase ≡ 0) }
     requires all { (l : ℕ) → l < run.now.nodes → holds seat.me.0 l ≡ true }
     ensures { Recorded run.now (tickets seat.me.0) result }
 {

@@ -77,7 +77,7 @@ pub fn alone(alloc: Global, count: usize, node: usize, room: u32) -> Result<Vec<
 pub fn take_out(nodes: &mut Vec<History>, places: &mut Vec<usize>, at: usize) -> History
     requires indexed { (many : ℕ) × (room : ℕ)
         × IsIndexed many room (length nodes.old.items) nodes.old.items places.old.items }
-    requires apart { IsOneEach nodes.old.items }
+    requires distinct { IsOneEach nodes.old.items }
     requires near { at < vec_len nodes.old }
 
     ensures value { get_elem? nodes.old.items at ≡ some result }
@@ -114,7 +114,7 @@ pub fn note_from(nodes: &[History], places: &mut Vec<usize>, first: usize)
     requires indexed { (many : ℕ) × (room : ℕ)
         × IsIndexed many room first nodes.now places.old.items × (length nodes.now ≤ room)
         × AreBelow nodes.now many }
-    requires apart { IsOneEach nodes.now }
+    requires distinct { IsOneEach nodes.now }
     requires near { (first ≤ length nodes.now) × (length nodes.now < 4294967296) }
     ensures { (many room : ℕ) → IsIndexed many room first nodes.now places.old.items
         → length nodes.now ≤ room → AreBelow nodes.now many

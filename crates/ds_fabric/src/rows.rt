@@ -10,7 +10,7 @@ ghost use Rattle.ds_rule.specs.Words.{width, place};
 ghost use Rattle.ds_rule.specs.Rows.{row, supply_but, IsStarts, IsOpening};
 
 use crate::compute::Compute;
-use crate::ground::Ground;
+use crate::context::Context;
 use crate::learnt::Learnt;
 use atomic_table::Seat;
 use ds_rule::{DataEdge, Layout, Read, Rows, View, Write};
@@ -31,92 +31,97 @@ pub fn place_of<J: Rows>(run: &Layout<J>, starts: &[usize], node: usize, turn: u
 
 // Puts down the number of a producer, and loads its row.
 fn read_row<J: Rows, C: Compute>(
-    ground: &Ground<J, C>,
+    context: &Context<J, C>,
     seat: &mut Seat<u8, View>,
     edge: DataEdge,
     turn: u64,
     into: &mut Vec<u64>,
 )
-    requires table { seat.old.table_id ≡ ground.now.board.now.table_id }
-    requires flight { IsOpening ground.now.run.now seat.old.me.0 edge.consumer turn
-        × (seat.old.me.0.run ≡ ground.now.run.now) }
-    requires edge { (k : ℕ) × (get_elem? ground.now.run.now.edges k ≡ some edge) }
-    requires room { vec_len into.old + width ground.now.run.now edge.producer
+    requires table { seat.old.table_id ≡ context.now.board.now.table_id }
+    requires flight { IsOpening context.now.run.now seat.old.me.0 edge.consumer turn
+        × (seat.old.me.0.run ≡ context.now.run.now) }
+    requires edge { (k : ℕ) × (get_elem? context.now.run.now.edges k ≡ some edge) }
+    requires room { vec_len into.old + width context.now.run.now edge.producer
         < vec_capacity into.old }
 
     ensures seat { (seat.new.table_id ≡ seat.old.table_id) × (seat.new.id ≡ seat.old.id)
         × (seat.new.me ≡ seat.old.me) }
     ensures value { into.new.items ≡ into.old.items
-        ++ edge.producer ∷ row ground.now.run.now edge.producer (turn - edge.tokens) }
+        ++ edge.producer ∷ row context.now.run.now edge.producer (turn - edge.tokens) }
     ensures room { vec_capacity into.new ≡ vec_capacity into.old }
 {
     let producer = edge.producer.index();
     let before = turn - edge.tokens as u64;
-    let at = place_of(ground.run, ground.index.starts.as_slice(), producer, before);
+    let at = place_of(
+        context.run,
+        context.index.starts.as_slice(),
+        producer,
+        before,
+    );
     into.push_reserved(producer as u64);
-    for i in 0..ground.run.width(producer) {
-        into.push_reserved(ground.board.load::<Read>(seat, at + i));
+    for i in 0..context.run.width(producer) {
+        into.push_reserved(context.board.load::<Read>(seat, at + i));
     }
 }
 
 /// Loads the rows of the node's producers that are not learnt, edge by edge, each behind the number
 /// of its producer.
 pub fn read_rows<J: Rows, C: Compute>(
-    ground: &Ground<J, C>,
+    context: &Context<J, C>,
     learnt: &Learnt,
     seat: &mut Seat<u8, View>,
     node: usize,
     into: &mut Vec<u64>,
 )
-    requires table { seat.old.table_id ≡ ground.now.board.now.table_id }
-    requires remembers { Remembers (C.memory ground.now.openings.now) learnt.now.scratch.now }
-    requires flight { IsOpening ground.now.run.now seat.old.me.0 node learnt.now.turn
-        × (seat.old.me.0.run ≡ ground.now.run.now) }
-    requires room { (into.old.items ≡ []) × (read_words ground.now.run.now node
-        (length ground.now.run.now.edges) ≤ vec_capacity into.old) }
+    requires table { seat.old.table_id ≡ context.now.board.now.table_id }
+    requires remembers { Remembers (C.memory context.now.openings.now) learnt.now.scratch.now }
+    requires flight { IsOpening context.now.run.now seat.old.me.0 node learnt.now.turn
+        × (seat.old.me.0.run ≡ context.now.run.now) }
+    requires room { (into.old.items ≡ []) × (read_words context.now.run.now node
+        (length context.now.run.now.edges) ≤ vec_capacity into.old) }
 
     ensures seat { (seat.new.table_id ≡ seat.old.table_id) × (seat.new.id ≡ seat.old.id)
         × (seat.new.me ≡ seat.old.me) }
-    ensures value { into.new.items ≡ supply_but ground.now.run.now
-        (λ p. C.has_learnt ground.now.openings.now learnt.now.scratch.now p learnt.now.turn)
-        node learnt.now.turn (length ground.now.run.now.edges) }
+    ensures value { into.new.items ≡ supply_but context.now.run.now
+        (λ p. C.has_learnt context.now.openings.now learnt.now.scratch.now p learnt.now.turn)
+        node learnt.now.turn (length context.now.run.now.edges) }
     ensures room { vec_capacity into.new ≡ vec_capacity into.old }
 {
     let turn = learnt.turn;
-    let edges = ground.run.edges();
-    let first = ground.index.firsts[node];
-    let end = ground.index.firsts[node + 1];
+    let edges = context.run.edges();
+    let first = context.index.firsts[node];
+    let end = context.index.firsts[node + 1];
     for i in first..end {
         let edge = edges[i];
-        if ground
+        if context
             .openings
             .has_learnt(edge.producer, turn, learnt.scratch)
         {
             continue;
         }
-        read_row(ground, seat, edge, turn, into);
+        read_row(context, seat, edge, turn, into);
     }
 }
 
 /// Stores the words of the node's next value.
 pub fn write_row<J: Rows, C: Compute>(
-    ground: &Ground<J, C>,
+    context: &Context<J, C>,
     seat: &mut Seat<u8, View>,
     words: &[u64],
     node: usize,
     turn: u64,
 )
-    requires table { seat.old.table_id ≡ ground.now.board.now.table_id }
-    requires flight { IsOpening ground.now.run.now seat.old.me.0 node turn
+    requires table { seat.old.table_id ≡ context.now.board.now.table_id }
+    requires flight { IsOpening context.now.run.now seat.old.me.0 node turn
         × (seat.old.me.0.written ≡ 0) }
-    requires words { words.now ≡ row ground.now.run.now node turn }
+    requires words { words.now ≡ row context.now.run.now node turn }
 
     ensures seat { (seat.new.table_id ≡ seat.old.table_id) × (seat.new.id ≡ seat.old.id) }
     ensures me { seat.new.me
-        ≡ (record seat.old.me.0 { written = width ground.now.run.now node }, seat.old.me.1) }
+        ≡ (record seat.old.me.0 { written = width context.now.run.now node }, seat.old.me.1) }
 {
-    let at = place_of(ground.run, ground.index.starts.as_slice(), node, turn);
+    let at = place_of(context.run, context.index.starts.as_slice(), node, turn);
     for i in 0..words.len() {
-        ground.board.store::<Write>(seat, at + i, words[i]);
+        context.board.store::<Write>(seat, at + i, words[i]);
     }
 }

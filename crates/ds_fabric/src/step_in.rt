@@ -6,9 +6,9 @@ ghost use Rattle.ds_fabric.specs.Stepped.{Stepped, FiresIfEnabled};
 ghost use Rattle.ds_fabric.specs.Showing.{IsOf, IsPass, Stays};
 
 use crate::compute::Compute;
+use crate::context::Context;
 use crate::fabric::Fabric;
 use crate::flight::advance;
-use crate::ground::Ground;
 use crate::history::History;
 use crate::pass::Pass;
 use crate::places::find;
@@ -70,13 +70,13 @@ impl<'a, J: Rows, C: Compute> Fabric<'a, J, C> {
         let number = node.index();
         let held = nodes.as_slice();
         let at = find(held, places.as_slice(), number);
-        let ground = Ground {
+        let context = Context {
             board: &self.table.shared,
             run: self.run,
             openings: self.openings,
             incoming: &self.incoming,
             index: &self.index,
         };
-        advance(&ground, seat, &mut nodes[at], scratch)
+        advance(&context, seat, &mut nodes[at], scratch)
     }
 }

@@ -1,3 +1,3 @@
 -- The run of the tests, then the passes of its fabric.
-pub mod Toggles
+pub mod ToggleRun
 pub mod Holdings

@@ -7,7 +7,7 @@ use Rattle.ds_design.specs.Circuit.{Circuit}
 use Rattle.ds_design.specs.Levels.{IsSortedByLevel, level_of_table}
 use Rattle.ds_design.specs.declared.design.Gate.{Gate}
 use Rattle.ds_netlist.specs.Edges.{FeedsIn}
-use Rattle.ds_netlist.proofs.Ordered.{all_lem, once_lem, places_lem}
+use Rattle.ds_netlist.proofs.TablesByLevel.{all_lem, once_lem, places_lem}
 use Rattle.ds_feedback.specs.Links.{links}
 use Rattle.ds_feedback.specs.Sequence.{IsSequence}
 

@@ -12,7 +12,7 @@ use Rattle.ds_marked.specs.Graph.{IsLegal, IsConsistent, counts_after}
 use Rattle.ds_marked.proofs.Progress.{legal_is_consistent, progress}
 use Rattle.ds_design.specs.Circuit.{register_nets}
 use Rattle.ds_design.specs.Run.{row_at}
-use Rattle.ds_design.proofs.Runs.{some_run}
+use Rattle.ds_design.proofs.ClockedRuns.{some_run}
 use Rattle.ds_design.specs.Trace.{trace_line, trace_lines}
 use Rattle.ds_latch.specs.Node.{Split, IsNode, number_of, nodes, opening, closing, place_of, members, nets_of}
 use Rattle.ds_latch.specs.declared.node.Node.{Node}
@@ -20,14 +20,14 @@ use Rattle.ds_latch.specs.declared.node.Node.TheVariants.{Out, Slave}
 use Rattle.ds_latch.specs.Plan.{IsController, split_events}
 use Rattle.ds_latch.specs.Firing.{State, first_state, FiresAll, AreRegisters}
 use Rattle.ds_latch.specs.Flow.{IsInStep}
-use Rattle.ds_latch.proofs.Counts.{accepted_controls, number_below}
+use Rattle.ds_latch.proofs.OrderTokens.{accepted_controls, number_below}
 use Rattle.ds_latch.proofs.Flow.{flow_equivalence}
-use Rattle.ds_latch.proofs.Rising.{events_long}
+use Rattle.ds_latch.proofs.OrdersRise.{events_long}
 use Rattle.ds_latch.proofs.Spelt.{range_agree, stored_rows_spell_trace}
 use Rattle.ds_fire.specs.Snapshot.{Snapshot, Shows, split_of, graph_of, limit_of, count_of, held_row, stored_values, stored_row, width_of}
 use Rattle.ds_fire.specs.Fired.{IsReady, IsReached, IsSnapshotSound}
 use Rattle.ds_fire.specs.Laws.{IsFiredToEnd, IsInRun, IsClockedRunOf, run_value}
-use Rattle.ds_fire.proofs.Reached.{kept_counts}
+use Rattle.ds_fire.proofs.OneFiringMore.{kept_counts}
 use Rattle.ds_fire.proofs.Settles.{place_low}
 
 flat_of_map : (f : ℕ → Row) (xs : List ℕ) → flat_map (λ (row : Row). row) (map f xs) ≡ flat_map f xs

@@ -20,15 +20,15 @@ use Rattle.ds_latch.specs.Firing.{AreRegisters, IsSettled, Takes, opening_read, 
 use Rattle.ds_design.proofs.Exists.{some_valuation}
 use Rattle.ds_latch.proofs.Flow.{settles_from_all}
 use Rattle.ds_settle.specs.Cone.{IsCone, IsPartSettled, Parts}
-use Rattle.ds_settle.proofs.Agree.{cone_settles}
+use Rattle.ds_settle.proofs.ConeReach.{cone_settles}
 use Rattle.ds_fire.specs.Snapshot.{row_index}
 use Rattle.ds_split.specs.Settled.{IsSettling}
-use Rattle.ds_latch.proofs.Turns.{picked}
+use Rattle.ds_latch.proofs.TurnValues.{picked}
 use Rattle.ds_fire.specs.Feeds.{IsSourceHome, home_of}
 use Rattle.ds_fire.specs.Turn.{AreTurnPlaces, AreRows, IsLoaded, home_index, home_value, state_with}
-use Rattle.ds_fire.specs.declared.homes.Home.{Home}
-use Rattle.ds_fire.specs.declared.places.Places.{Places}
-use Rattle.ds_fire.proofs.Registers.{some_registers}
+use Rattle.ds_fire.specs.declared.homes.NetHome.{NetHome}
+use Rattle.ds_fire.specs.declared.row_places.RowPlaces.{RowPlaces}
+use Rattle.ds_fire.proofs.RegistersOfSlaves.{some_registers}
 
 -- the rows of IN stand first
 pub zeroth : (s : Split) (place : ℕ) → row_index s 0 place ≡ place
@@ -38,7 +38,7 @@ pub place_low : (s : Split) (opened : ℕ) → place_of s opened ≤ s.slack
 place_low s opened = (let low : place_of s opened < s.slack + 1 = mod_below opened (s.slack + 1) (omega arith) in omega arith)
 
 -- a home is kept where it is read
-pub home_place : (s : Split) (opened : ℕ) (places : Places) → AreTurnPlaces s opened places → (home : Home) (p : Node) → IsSource p → home.node ≡ number_of p → home_index places home ≡ row_index s (number_of p) (place_of s (opening_read p opened))
+pub home_place : (s : Split) (opened : ℕ) (places : RowPlaces) → AreTurnPlaces s opened places → (home : NetHome) (p : Node) → IsSource p → home.node ≡ number_of p → home_index places home ≡ row_index s (number_of p) (place_of s (opening_read p opened))
 home_place s opened places are home In source is =
     test_same home.node 0 places.next (home.node * places.each + places.same) is ∙ (are.next ∙ sym (zeroth s (place_of s (opened + 1))))
 home_place s opened places are home Out source is = absurd source
@@ -79,12 +79,12 @@ module _ (s : Split) (split : IsSplit s) (in_range : IsInRange s.circuit) (rows 
         ap (λ (row : Row). value_at row bit) (sym (source_row p source is_p))
         ∙ (get_or-map (value_at nets) (nets_of s p) bit 0 Zero inside ∙ ap (value_at nets) at)
 
-    home_is : (places : Places) → AreTurnPlaces s opened places → (net : ℕ) (home : Home) → IsSourceHome s net home → home_value places rows home ≡ value_at nets net
+    home_is : (places : RowPlaces) → AreTurnPlaces s opened places → (net : ℕ) (home : NetHome) → IsSourceHome s net home → home_value places rows home ≡ value_at nets net
     home_is places at net home (p, source, is_p, (node, inside, is)) =
         ap (λ (k : ℕ). value_at (get_or rows k []) home.bit) (home_place s opened places at home p source node)
         ∙ source_value p source is_p home.bit net inside is
 
-    module _ (n : Node) (cone : Parts) (is_cone : IsCone s.circuit (nets_of s n) cone) (homes : List Home) (housed : All (λ net. IsSourceHome s net (home_of homes net)) cone.sources) (places : Places) (at : AreTurnPlaces s opened places) (loaded part : Row) (are_loaded : All (IsLoaded places rows homes loaded) cone.sources) (is_part : IsPartSettled s.circuit cone loaded part) where
+    module _ (n : Node) (cone : Parts) (is_cone : IsCone s.circuit (nets_of s n) cone) (homes : List NetHome) (housed : All (λ net. IsSourceHome s net (home_of homes net)) cone.sources) (places : RowPlaces) (at : AreTurnPlaces s opened places) (loaded part : Row) (are_loaded : All (IsLoaded places rows homes loaded) cone.sources) (is_part : IsPartSettled s.circuit cone loaded part) where
       sources_agree : All (λ net. value_at loaded net ≡ value_at nets net) cone.sources
       sources_agree k d inside =
           let net : ℕ = get_or cone.sources k d in
@@ -96,7 +96,7 @@ module _ (s : Split) (split : IsSplit s) (in_range : IsInRange s.circuit) (rows 
           (sym (cone_settles s.circuit split.accepted (nets_of s n) cone is_cone state (read s rows opened In) nets valuation loaded part sources_agree is_part).1)
           (settles_from_all s (read s rows opened) n state nets registers valuation)
 
-  pub part_settles : (n : Node) (cone : Parts) → IsCone s.circuit (nets_of s n) cone → (homes : List Home) → All (λ net. IsSourceHome s net (home_of homes net)) cone.sources → (places : Places) → AreTurnPlaces s opened places → (loaded part : Row) → All (IsLoaded places rows homes loaded) cone.sources → IsPartSettled s.circuit cone loaded part → IsSettled s (read s rows opened) n (values_at part (nets_of s n))
+  pub part_settles : (n : Node) (cone : Parts) → IsCone s.circuit (nets_of s n) cone → (homes : List NetHome) → All (λ net. IsSourceHome s net (home_of homes net)) cone.sources → (places : RowPlaces) → AreTurnPlaces s opened places → (loaded part : Row) → All (IsLoaded places rows homes loaded) cone.sources → IsPartSettled s.circuit cone loaded part → IsSettled s (read s rows opened) n (values_at part (nets_of s n))
   part_settles n cone is_cone homes housed places at loaded part are_loaded is_part =
       let (state, registers) = some_registers s split (read s rows opened) widths in
       let (nets, valuation) = some_valuation s.circuit in_range split.accepted state (read s rows opened In) registers.0 (read_width s rows are opened In tt) in

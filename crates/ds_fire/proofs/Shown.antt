@@ -10,14 +10,14 @@ use Rattle.std.proofs.lemmas.Nat.{same_from_place}
 use Rattle.ds_base.specs.Values.{Row}
 use Rattle.ds_base.proofs.Tests.{test_same, test_other}
 use Rattle.ds_marked.specs.Graph.{counted}
-use Rattle.ds_marked.proofs.Firings.{counted-same, counted-other}
+use Rattle.ds_marked.proofs.CountLemmas.{counted-same, counted-other}
 use Rattle.ds_latch.specs.Node.{Split, IsNode, number_of, nodes, opening, closing, extra_event, place_of, nets_of}
 use Rattle.ds_latch.specs.declared.node.Node.{Node}
 use Rattle.ds_latch.specs.declared.node.Node.TheVariants.{In, Out, Master, Slave}
 use Rattle.ds_latch.specs.Order.{IsDataEdge, to_master, to_out}
 use Rattle.ds_latch.specs.Firing.{State, opened_state, closed_state, counted_state, changed, placed, Fires, opens, closes, passes, Takes, IsSettled, opening_read, read_rows}
-use Rattle.ds_latch.proofs.Counts.{number_below, same_node, cases_changed}
-use Rattle.ds_latch.proofs.Events.{IsEvent, is_opening, is_closing, is_extra}
+use Rattle.ds_latch.proofs.OrderTokens.{number_below, same_node, cases_changed}
+use Rattle.ds_latch.proofs.EventNodes.{IsEvent, is_opening, is_closing, is_extra}
 use Rattle.ds_fire.specs.Snapshot.{Snapshot, Shows, split_of, count_of, row_index, rows_of, stored_values, width_of}
 use Rattle.ds_fire.specs.Fired.{IsReady, IsFired, IsSnapshotSound}
 use Rattle.ds_fire.specs.Turn.{IsOpened, state_with}

@@ -10,10 +10,10 @@ use Rattle.ds_marked.proofs.Progress.{legal_is_consistent}
 use Rattle.ds_latch.specs.Node.{Split, IsNode, number_of, nodes, nets_of, closing}
 use Rattle.ds_latch.specs.declared.node.Node.{Node}
 use Rattle.ds_latch.specs.Plan.{IsSplit, split_events}
-use Rattle.ds_latch.proofs.Counts.{number_below}
-use Rattle.ds_latch.proofs.Events.{IsEvent, is_opening, is_closing, is_extra, event_of}
-use Rattle.ds_latch.proofs.Rising.{events_long}
-use Rattle.ds_fire.specs.History.{Stored}
+use Rattle.ds_latch.proofs.OrderTokens.{number_below}
+use Rattle.ds_latch.proofs.EventNodes.{IsEvent, is_opening, is_closing, is_extra, event_of}
+use Rattle.ds_latch.proofs.OrdersRise.{events_long}
+use Rattle.ds_fire.specs.StoredRows.{Stored}
 use Rattle.ds_fire.specs.Snapshot.{Snapshot, split_of, graph_of, limit_of, count_of, stored_values, width_of}
 use Rattle.ds_fire.specs.Fired.{IsFired, IsReached, IsReady, IsSnapshotSound}
 use Rattle.ds_fire.specs.Turn.{AreRows, HasRowRoom, IsTurned, rooms_of, values_of}
@@ -23,7 +23,7 @@ use Rattle.ds_design.specs.Rows.{Rows}
 use Rattle.ds_fire.specs.Inside.{IsRunning, snapshot_seen}
 use Rattle.ds_fire.specs.declared.feeds.Feeds.{Feeds}
 use Rattle.ds_fire.specs.Feeds.{AreFeeds}
-use Rattle.ds_fire.proofs.Reached.{kept_counts, reached_after}
+use Rattle.ds_fire.proofs.OneFiringMore.{kept_counts, reached_after}
 use Rattle.ds_fire.proofs.Shown.{Turned, fired, kept_next}
 
 -- what a turn leaves, as lists

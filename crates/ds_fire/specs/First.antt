@@ -6,7 +6,7 @@ use Rattle.ds_latch.specs.Node.{Split, IsNode, number_of, nodes, nets_of, zeros}
 use Rattle.ds_latch.specs.declared.node.Node.{Node}
 use Rattle.ds_latch.specs.Firing.{first_row}
 use Rattle.ds_fire.specs.Snapshot.{rows_of}
-use Rattle.ds_fire.specs.History.{Stored}
+use Rattle.ds_fire.specs.StoredRows.{Stored}
 
 -- the first row of the node with this number at a place
 abbrev pub HasFirstRow : Split → ℕ → ℕ → Row → Type 0

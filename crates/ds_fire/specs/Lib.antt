@@ -3,7 +3,7 @@ pub mod Snapshot
 pub mod Fired
 pub mod Ready
 pub mod Laws
-pub mod History
+pub mod StoredRows
 pub mod Feeds
 pub mod Turn
 pub mod First

@@ -9,11 +9,11 @@ use Rattle.ds_latch.specs.declared.node.Node.{Node}
 use Rattle.ds_latch.specs.Node.{extra_event, place_of}
 use Rattle.ds_latch.specs.Firing.{State, IsSettled, Takes, read_rows}
 use Rattle.ds_fire.specs.Snapshot.{row_index, rows_of}
-use Rattle.ds_fire.specs.History.{Stored}
+use Rattle.ds_fire.specs.StoredRows.{Stored}
 use Rattle.ds_fire.specs.Feeds.{home_of}
-use Rattle.ds_fire.specs.declared.homes.Home.{Home}
+use Rattle.ds_fire.specs.declared.homes.NetHome.{NetHome}
 use Rattle.ds_fire.specs.declared.kept.Kept.{Kept}
-use Rattle.ds_fire.specs.declared.places.Places.{Places}
+use Rattle.ds_fire.specs.declared.row_places.RowPlaces.{RowPlaces}
 
 -- a state that has these rows
 abbrev pub state_with : Split → List Row → State
@@ -26,34 +26,34 @@ pub record AreRows (s : Split) (rows : List Row) : Type 0 where
       → length (rows_of s rows n place) ≡ length (nets_of s n)
 
 -- places are below how many there are
-pub record AreLow (places : Places) : Type 0 where
+pub record AreLow (places : RowPlaces) : Type 0 where
   pub each : places.each ≤ 16
   pub same : places.same < places.each
   pub next : places.next < places.each
 
 -- how many places a node has, the place of an opening and that of the one after it
-pub record AreTurnPlaces (s : Split) (opened : ℕ) (places : Places) : Type 0 where
+pub record AreTurnPlaces (s : Split) (opened : ℕ) (places : RowPlaces) : Type 0 where
   pub low : AreLow places
   pub each : places.each ≡ s.slack + 1
   pub same : places.same ≡ place_of s opened
   pub next : places.next ≡ place_of s (opened + 1)
 
 -- where the row of a home is kept: of IN at the next place, of the others at the same one
-abbrev pub home_index : Places → Home → ℕ
+abbrev pub home_index : RowPlaces → NetHome → ℕ
 home_index places home = if home.node == 0 then places.next else home.node * places.each +
     places.same
 
 -- the value at a home
-abbrev pub home_value : Places → List Row → Home → Value
+abbrev pub home_value : RowPlaces → List Row → NetHome → Value
 home_value places rows home = value_at (slice_index_or rows (home_index places home) []) home.bit
 
 -- a home has a row, and a value in it
-pub record IsThere (places : Places) (rows : List Row) (home : Home) : Type 0 where
+pub record IsThere (places : RowPlaces) (rows : List Row) (home : NetHome) : Type 0 where
   pub row : home_index places home < length rows
   pub bit : home.bit < length (slice_index_or rows (home_index places home) [])
 
 -- a net has the value at its home
-abbrev pub IsLoaded : Places → List Row → List Home → Row → ℕ → Type 0
+abbrev pub IsLoaded : RowPlaces → List Row → List NetHome → Row → ℕ → Type 0
 IsLoaded places rows homes nets net = value_at nets net ≡ home_value places rows (home_of homes net)
 
 -- on these nets, a node that has opened so often has what settles for what its producers keep

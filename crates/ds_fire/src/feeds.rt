@@ -5,7 +5,7 @@ ghost use Rattle.ds_latch.specs.Node.{nodes};
 ghost use Rattle.ds_latch.specs.Plan.{IsSplit};
 ghost use Rattle.ds_fire.specs.Feeds.{AreFeeds};
 
-use crate::homes::{Home, homes_of};
+use crate::homes::{NetHome, homes_of};
 use ds_base::OutOfMemory;
 use ds_latch::Latches;
 use ds_settle::Cone;
@@ -15,7 +15,7 @@ use std::alloc::Global;
 // The cones of OUT, M0, M1, .., and for each net of IN or of a slave, where its value is kept.
 pub(crate) struct Feeds {
     pub(crate) cones: Vec<Cone>,
-    pub(crate) homes: Vec<Home>,
+    pub(crate) homes: Vec<NetHome>,
 }
 
 impl Drop for Feeds {

@@ -12,13 +12,13 @@ use std::alloc::Global;
 
 // A node, and a place in its rows.
 #[derive(Clone, Copy)]
-pub(crate) struct Home {
+pub(crate) struct NetHome {
     pub(crate) node: u32,
     pub(crate) bit: usize,
 }
 
 // For each net of IN or of a slave, where its value is kept.
-pub(crate) fn homes_of(alloc: Global, latches: &Latches) -> Result<Vec<Home>, OutOfMemory>
+pub(crate) fn homes_of(alloc: Global, latches: &Latches) -> Result<Vec<NetHome>, OutOfMemory>
     requires few { nodes latches.now < 2 ^ 32 }
     requires design { IsInRange latches.now.circuit × IsSplit latches.now }
     ensures { IfOk result (λ v. AreSourceHomes latches.now v.items) }
@@ -35,14 +35,14 @@ pub(crate) fn homes_of(alloc: Global, latches: &Latches) -> Result<Vec<Home>, Ou
 }
 
 // For so many nets, before any is placed.
-fn no_homes(alloc: Global, nets: usize) -> Result<Vec<Home>, OutOfMemory>
+fn no_homes(alloc: Global, nets: usize) -> Result<Vec<NetHome>, OutOfMemory>
     ensures { IfOk result (λ v. length v.items ≡ nets) }
 {
-    Ok(vec![in alloc; Home { node: 0, bit: 0 }; nets]?)
+    Ok(vec![in alloc; NetHome { node: 0, bit: 0 }; nets]?)
 }
 
 // These nets are those of a node.
-fn place(bits: &[NetId], node: u32, homes: &mut Vec<Home>)
+fn place(bits: &[NetId], node: u32, homes: &mut Vec<NetHome>)
     requires { All (λ net. net < length homes.old.items) bits.now }
     ensures same { length homes.new.items ≡ length homes.old.items }
     ensures placed { AreSourceNetsPlaced bits.now node homes.new.items }
@@ -50,6 +50,6 @@ fn place(bits: &[NetId], node: u32, homes: &mut Vec<Home>)
         (home_of homes.old.items net) (home_of homes.new.items net) }
 {
     for (bit, net) in bits.iter().enumerate() {
-        homes[net.index()] = Home { node, bit };
+        homes[net.index()] = NetHome { node, bit };
     }
 }

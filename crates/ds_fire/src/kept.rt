@@ -4,7 +4,7 @@ ghost use Rattle.ds_cover.specs.Cover.{values_at};
 ghost use Rattle.ds_latch.specs.Node.{nodes};
 ghost use Rattle.ds_fire.specs.First.{AreEmpty, AreFirstRows, AreZeros, HasFirstRow, IsFirstRow};
 
-use crate::history::History;
+use crate::stored_rows::StoredRows;
 use ds_base::{LatchId, OutOfMemory, RegId, Row3};
 use ds_latch::{Latches, Node};
 use std::alloc::Global;
@@ -14,7 +14,7 @@ use std::alloc::Global;
 pub(crate) struct Kept {
     pub(crate) nets: Row3,
     pub(crate) rows: Vec<Row3>,
-    pub(crate) stored: Vec<History>,
+    pub(crate) stored: Vec<StoredRows>,
 }
 
 impl Kept {
@@ -101,7 +101,7 @@ fn set_initial(values: &Row3, registers: &[RegId], row: &mut Row3)
 }
 
 // Nothing stored, with room for so many rows of each node.
-fn histories(alloc: Global, latches: &Latches, limit: usize) -> Result<Vec<History>, OutOfMemory>
+fn histories(alloc: Global, latches: &Latches, limit: usize) -> Result<Vec<StoredRows>, OutOfMemory>
     requires short { limit < 2 ^ 32 }
     ensures { IfOk result (λ stored. AreEmpty latches.now limit stored.items) }
 {
@@ -109,7 +109,7 @@ fn histories(alloc: Global, latches: &Latches, limit: usize) -> Result<Vec<Histo
     let mut stored = Vec::with_capacity(alloc, bits.len())?;
     for these in bits {
         let room = limit * these.as_slice().len();
-        stored.push(History::with_room(alloc, room)?)?;
+        stored.push(StoredRows::with_room(alloc, room)?)?;
     }
     Ok(stored)
 }

@@ -13,13 +13,13 @@
 #![tactic(auto)]
 
 mod feeds;
-mod history;
 mod homes;
 mod kept;
 pub mod laws;
 mod opening;
-mod places;
+mod row_places;
 mod state;
+mod stored_rows;
 mod turn;
 
 pub use state::State;

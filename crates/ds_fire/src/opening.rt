@@ -14,9 +14,9 @@ ghost use Rattle.ds_fire.specs.Turn.{AreLow, AreRows, IsLoaded, IsOpened, IsTher
 ghost use Rattle.ds_fire.specs.Turn.{IsSettledOn, Opens, home_index};
 
 use crate::feeds::Feeds;
-use crate::homes::Home;
+use crate::homes::NetHome;
 use crate::kept::Kept;
-use crate::places::Places;
+use crate::row_places::RowPlaces;
 use ds_base::{LatchId, NetId, Row3};
 use ds_design::Vectors;
 use ds_latch::{Latches, Node};
@@ -24,7 +24,7 @@ use ds_settle::{pick_values, settle_part};
 
 // Which node opens, by its number, and how often it has opened before.
 #[derive(Clone, Copy)]
-pub(crate) struct Opening {
+pub(crate) struct NodeOpening {
     pub(crate) number: usize,
     pub(crate) opened: usize,
 }
@@ -35,7 +35,7 @@ pub(crate) fn open(
     latches: &Latches,
     vectors: &Vectors,
     feeds: &Feeds,
-    opening: Opening,
+    opening: NodeOpening,
     kept: &mut Kept,
 )
     requires node { opening.number < nodes latches.now }
@@ -72,12 +72,12 @@ fn open_in(latches: &Latches, vectors: &Vectors, opened: usize, kept: &mut Kept)
     ensures nets { length kept.new.nets ≡ length kept.old.nets }
     ensures stored { kept.new.stored.items ≡ kept.old.stored.items }
 {
-    let places = Places::of(latches, opened);
+    let places = RowPlaces::of(latches, opened);
     kept.rows[places.next].copy_from(vectors.row(opened));
 }
 
 // A slave takes the row of its master, which stands before it.
-fn open_slave(latches: &Latches, opening: Opening, kept: &mut Kept)
+fn open_slave(latches: &Latches, opening: NodeOpening, kept: &mut Kept)
     requires few { opening.opened < 2 ^ 32 }
     requires slave { (i : ℕ) × IsNode latches.now (Slave i)
         × (number_of (Slave i) ≡ opening.number) }
@@ -87,13 +87,13 @@ fn open_slave(latches: &Latches, opening: Opening, kept: &mut Kept)
     ensures nets { length kept.new.nets ≡ length kept.old.nets }
     ensures stored { kept.new.stored.items ≡ kept.old.stored.items }
 {
-    let places = Places::of(latches, opening.opened);
+    let places = RowPlaces::of(latches, opening.opened);
     let at = opening.number * places.each + places.next;
     copy_row(&mut kept.rows, at - places.each, at);
 }
 
 // A node that settles takes what its cone settles to, for what its producers keep.
-fn open_settled(latches: &Latches, feeds: &Feeds, opening: Opening, kept: &mut Kept)
+fn open_settled(latches: &Latches, feeds: &Feeds, opening: NodeOpening, kept: &mut Kept)
     requires few { opening.opened < 2 ^ 32 }
     requires node { (n : Node) × IsSettlingAt latches.now n opening.number }
     requires design { IsInRange latches.now.circuit × IsSplit latches.now }
@@ -105,7 +105,7 @@ fn open_settled(latches: &Latches, feeds: &Feeds, opening: Opening, kept: &mut K
     ensures nets { length kept.new.nets ≡ length kept.old.nets }
     ensures stored { kept.new.stored.items ≡ kept.old.stored.items }
 {
-    let places = Places::of(latches, opening.opened);
+    let places = RowPlaces::of(latches, opening.opened);
     settle(
         latches,
         feeds,
@@ -125,7 +125,7 @@ fn open_settled(latches: &Latches, feeds: &Feeds, opening: Opening, kept: &mut K
 pub(crate) fn settle(
     latches: &Latches,
     feeds: &Feeds,
-    opening: Opening,
+    opening: NodeOpening,
     rows: &[Row3],
     nets: &mut Row3,
 )
@@ -139,14 +139,14 @@ pub(crate) fn settle(
         → IsSettledOn latches.now rows.now opening.opened n nets.new }
     ensures same { length nets.new ≡ length nets.old }
 {
-    let places = Places::of(latches, opening.opened);
+    let places = RowPlaces::of(latches, opening.opened);
     let cone = &feeds.cones[opening.number / 2];
     load(cone.sources(), feeds.homes.as_slice(), rows, places, nets);
     settle_part(latches.netlist(), cone, nets);
 }
 
 // Gives each of these nets the value that its home has at these places.
-fn load(sources: &[NetId], homes: &[Home], rows: &[Row3], places: Places, nets: &mut Row3)
+fn load(sources: &[NetId], homes: &[NetHome], rows: &[Row3], places: RowPlaces, nets: &mut Row3)
     requires low { AreLow places }
     requires homes { All (λ net. net < length homes.now) sources.now }
     requires there { All (λ net. IsThere places rows.now (home_of homes.now net)) sources.now }
@@ -162,7 +162,7 @@ fn load(sources: &[NetId], homes: &[Home], rows: &[Row3], places: Places, nets: 
 }
 
 // Where the row of a home is kept.
-fn row_of(home: Home, places: Places) -> usize
+fn row_of(home: NetHome, places: RowPlaces) -> usize
     requires { AreLow places }
     ensures { result ≡ home_index places home }
 {

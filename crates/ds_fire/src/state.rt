@@ -13,7 +13,7 @@ ghost use Rattle.ds_fire.specs.Ready.{IsLeastReady};
 
 use crate::feeds::Feeds;
 use crate::kept::Kept;
-use crate::places::Places;
+use crate::row_places::RowPlaces;
 use crate::turn::{Firing, turn};
 use ds_base::{EventId, LatchId, OutOfMemory, Row3, Value};
 use ds_design::Vectors;
@@ -107,7 +107,7 @@ impl<'a> State<'a> {
             → result.now ≡ held (split_of self.now) now n }
     {
         let opened = self.counts.at(EventId::new(2 * latch.number())) as usize;
-        let places = Places::of(self.plan.latches(), opened);
+        let places = RowPlaces::of(self.plan.latches(), opened);
         &self.kept.rows[latch.index() * places.each + places.same]
     }
 

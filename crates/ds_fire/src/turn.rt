@@ -10,8 +10,8 @@ ghost use Rattle.ds_fire.specs.Turn.{AreRows, Closes, HasRowRoom, IsTurned};
 
 use crate::feeds::Feeds;
 use crate::kept::Kept;
-use crate::opening::{Opening, open};
-use crate::places::Places;
+use crate::opening::{NodeOpening, open};
+use crate::row_places::RowPlaces;
 use ds_base::EventId;
 use ds_design::Vectors;
 use ds_latch::Latches;
@@ -47,7 +47,7 @@ pub(crate) fn turn(
     let number = firing.event.index() / 2;
     if number < latches.bits().len() {
         if firing.event.index() % 2 == 0 {
-            let opening = Opening {
+            let opening = NodeOpening {
                 number,
                 opened: firing.count,
             };
@@ -71,7 +71,7 @@ fn close(latches: &Latches, number: usize, closed: usize, kept: &mut Kept)
     ensures rows { kept.new.rows.items ≡ kept.old.rows.items }
     ensures nets { length kept.new.nets ≡ length kept.old.nets }
 {
-    let places = Places::of(latches, closed);
+    let places = RowPlaces::of(latches, closed);
     let row = &kept.rows[number * places.each + places.next];
     kept.stored[number].append(row);
 }

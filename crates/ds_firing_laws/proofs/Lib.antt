@@ -1,7 +1,7 @@
 pub mod SomeTrace
-pub mod Lists
-pub mod Logs
-pub mod States
-pub mod Runs
-pub mod Stopped
-pub mod Replayed
+pub mod LegalListsExist
+pub mod LogsExist
+pub mod StateTextsExist
+pub mod RunTextsExist
+pub mod StoppedTextsExist
+pub mod ReplayTextsExist

@@ -4,7 +4,7 @@ use Rattle.std.proofs.lemmas.List.{length-map}
 use Rattle.ds_design.specs.Circuit.{initial_row, initial_value}
 use Rattle.ds_design.specs.Trace.{end_line, trace_lines}
 use Rattle.ds_design.specs.declared.design.Register.{Register}
-use Rattle.ds_design.proofs.Runs.{some_run}
+use Rattle.ds_design.proofs.ClockedRuns.{some_run}
 use Rattle.ds_firing_laws.specs.Traces.{TracesExist}
 
 -- a clocked run from the initial row spells a trace

@@ -12,7 +12,7 @@ use Rattle.ds_flat.specs.declared.fault.NoNumber.{NoNumber}
 use Rattle.ds_flat.specs.Net.{Binding, Scope, net_of_name, with_net, numbered_names}
 use Rattle.ds_flat.specs.Copies.{actuals_in, bindings_in}
 use Rattle.ds_flat.specs.Keys.{IsNoNumber, has_formal}
-use Rattle.ds_flat.proofs.NumberLemmas.{length-numbered, stop_grows}
+use Rattle.ds_flat.proofs.NetNumberLemmas.{length-numbered, stop_grows}
 
 -- the nets with those of the actuals of pairs
 abbrev pub nets_after : Scope → List Net → List Pair → List Net

@@ -19,8 +19,8 @@ use Rattle.ds_flat.specs.Net.{Scope}
 use Rattle.ds_flat.specs.Command.{with_part}
 use Rattle.ds_flat.specs.Copies.{Flat, Opened, ◌>>=◌, actuals_in, copy_unless, expand, flat_of, main_copy, model_named, most_depth, next_copy, open_model, open_use, opened_within, ports_of, take_all, take_command, take_part, unknown_formal, use_in}
 use Rattle.ds_flat.specs.Run.{HaveParts}
-use Rattle.ds_flat.proofs.Grown.{WithinLimits, within_given}
-use Rattle.ds_flat.proofs.Ranges.{empty_in_range, part_in_range, use_in_range}
+use Rattle.ds_flat.proofs.PassedLimits.{WithinLimits, within_given}
+use Rattle.ds_flat.proofs.NetsInRange.{empty_in_range, part_in_range, use_in_range}
 use Rattle.ds_flat.proofs.Uses.{named_all}
 use Rattle.ds_flat.specs.declared.fault.FlatKind.{FlatKind}
 

@@ -6,7 +6,7 @@ use Rattle.ds_design.specs.declared.blif.Command.{Command}
 use Rattle.ds_flat.specs.Bare.{adds_nothing, needed}
 use Rattle.ds_flat.specs.Copies.{ports_in}
 use Rattle.ds_flat.specs.Interface.{with_names, with_ports_of}
-use Rattle.ds_flat.proofs.NumberLemmas.{names_from}
+use Rattle.ds_flat.proofs.NetNumberLemmas.{names_from}
 
 -- the front with one more item
 pub front_more : {X : Type 0} (xs : List X) (i : ℕ) (x y : X) (all more : List X) → i < length xs

@@ -24,7 +24,7 @@ use Rattle.ds_flat.specs.Copies.{ports_in, ports_of, unknown_formal, next_copy}
 use Rattle.ds_flat.specs.Copies.{copy_unless, open_model, open_use, use_in, flat_within, take_command}
 use Rattle.ds_flat.specs.Copies.{take_all, expand, main_copy, most_depth, flat_of}
 use Rattle.ds_flat.specs.Bare.{adds_nothing, needed, bare}
-use Rattle.ds_flat.proofs.Grown.{passed_by}
+use Rattle.ds_flat.proofs.PassedLimits.{passed_by}
 use Rattle.ds_flat.specs.declared.fault.FlatKind.{FlatKind}
 
 -- a part that adds nothing leaves the design

@@ -18,7 +18,7 @@ use Rattle.ds_flat.specs.Copies.{Flat, Frame, Opened, ◌>>=◌, take_command, u
 use Rattle.ds_flat.specs.Copies.{model_named}
 use Rattle.ds_flat.specs.Run.{Rest, run_frames, after_take}
 use Rattle.ds_flat.specs.Use.{after_use}
-use Rattle.ds_flat.proofs.Steps.{after_take-use}
+use Rattle.ds_flat.proofs.FrameSteps.{after_take-use}
 use Rattle.ds_flat.specs.declared.fault.FlatKind.{FlatKind}
 
 -- nothing is opened

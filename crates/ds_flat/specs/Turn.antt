@@ -3,8 +3,8 @@ use Rattle.std.specs.Prelude.{◌≡◌, ◌<◌, ◌+◌, ◌-◌, ◌*◌, ℕ
 use Rattle.ds_design.specs.declared.blif.BlifModel.{BlifModel}
 use Rattle.ds_design.specs.Circuit.{Circuit}
 use Rattle.ds_design.specs.InRange.{IsInRange}
-use Rattle.ds_flat.specs.declared.step.Turn.{Turn}
-use Rattle.ds_flat.specs.declared.step.Turn.TheVariants.{Next, Done}
+use Rattle.ds_flat.specs.declared.step.StepOutcome.{StepOutcome}
+use Rattle.ds_flat.specs.declared.step.StepOutcome.TheVariants.{Next, Done}
 use Rattle.ds_flat.specs.Copies.{Flat, Frame, ◌>>=◌}
 use Rattle.ds_flat.specs.Run.{Rest, run_rest, IsRestKept}
 use Rattle.ds_flat.specs.Stack.{Stacked}
@@ -36,12 +36,12 @@ pub record HasTakenAll (models : List BlifModel) (design : Circuit) (rest : Rest
   pub in_range : IsInRange design
 
 -- what a turn gives
-abbrev pub GivesTurn : List BlifModel → Turn → Rest → Type 0
+abbrev pub GivesTurn : List BlifModel → StepOutcome → Rest → Type 0
 GivesTurn models (Next next) rest = CopyGoesOn models next rest
 GivesTurn models (Done design) rest = HasTakenAll models design rest
 
 -- what a turn gives where the innermost copy has no commands left: the copies that wait go on
-abbrev pub LeavesCopies : Turn → Stacked → ℕ → Circuit → Type 0
+abbrev pub LeavesCopies : StepOutcome → Stacked → ℕ → Circuit → Type 0
 LeavesCopies (Next next) below copies design = next ≡ record {
   frames = below.frames;
   places = below.places;

@@ -4,11 +4,11 @@ ghost use Rattle.ds_base.specs.Refusal.{RefusesAs};
 ghost use Rattle.ds_flat.specs.Run.{run_rest, HaveParts, IsRestKept};
 ghost use Rattle.ds_flat.specs.Turn.{GivesTurn, LeavesCopies};
 
-use crate::draft::Draft;
+use crate::design_draft::DesignDraft;
 use crate::fault::FlatRefusal;
 use crate::library::Library;
 use crate::stack::Stack;
-use crate::step::{State, Turn, take};
+use crate::step::{State, StepOutcome, take};
 use std::alloc::Global;
 
 /// The next command is taken, or a copy without commands is left.
@@ -16,7 +16,7 @@ pub fn advance<'b, 'm>(
     alloc: Global,
     library: &Library<'b, 'm>,
     state: State<'b, 'm>,
-) -> Result<Turn<'b, 'm>, FlatRefusal>
+) -> Result<StepOutcome<'b, 'm>, FlatRefusal>
     requires kept { IsRestKept library.now state }
     requires parts { HaveParts library.now }
     ensures { MatchResult result (λ turn. GivesTurn library.now turn state.entry)
@@ -37,7 +37,7 @@ pub fn advance<'b, 'm>(
                 draft,
             };
             match take(alloc, library, behind, command.get()) {
-                Ok(next) => Ok(Turn::Next(next)),
+                Ok(next) => Ok(StepOutcome::Next(next)),
                 Err(refusal) => Err(refusal),
             }
         }
@@ -46,16 +46,16 @@ pub fn advance<'b, 'm>(
 }
 
 // A copy without commands is left.
-fn left<'b, 'm>(below: Stack<'b, 'm>, copies: u32, draft: Draft<'m>) -> Turn<'b, 'm>
+fn left<'b, 'm>(below: Stack<'b, 'm>, copies: u32, draft: DesignDraft<'m>) -> StepOutcome<'b, 'm>
     ensures { LeavesCopies result below.entry copies draft.entry }
 {
     match below.popped() {
-        Some((top, below)) => Turn::Next(State {
+        Some((top, below)) => StepOutcome::Next(State {
             top,
             below,
             copies,
             draft,
         }),
-        None => Turn::Done(draft),
+        None => StepOutcome::Done(draft),
     }
 }

@@ -9,14 +9,14 @@ ghost use Rattle.ds_flat.specs.Turn.{ComesTo};
 
 use crate::advance::advance;
 use crate::bare::{Bare, bare_models};
-use crate::draft::Draft;
+use crate::design_draft::DesignDraft;
 use crate::fault::FlatRefusal;
 use crate::frame::Open;
 use crate::head::Head;
 use crate::library::Library;
 use crate::scope::Scope;
 use crate::stack::Stack;
-use crate::step::{State, Turn};
+use crate::step::{State, StepOutcome};
 use ds_base::{OutOfMemory, Refusal, Seq};
 use ds_design::{Blif, Design};
 use std::alloc::Global;
@@ -47,7 +47,7 @@ fn flattened(alloc: Global, models: &[Bare<'_>]) -> Result<Design, FlatRefusal>
 }
 
 // All copies of the main model are taken.
-fn all_copies<'m>(alloc: Global, models: &[Bare<'m>]) -> Result<Draft<'m>, FlatRefusal>
+fn all_copies<'m>(alloc: Global, models: &[Bare<'m>]) -> Result<DesignDraft<'m>, FlatRefusal>
     requires { IsBlif models.now }
     ensures { MatchResult result
         (λ d. (flat_of models.entry.now ≡ Ok d) × IsInRange d)
@@ -68,7 +68,7 @@ fn from_first<'b, 'm>(
     library: &Library<'b, 'm>,
     main: &'b Bare<'m>,
     below: Stack<'b, 'm>,
-) -> Result<Draft<'m>, FlatRefusal>
+) -> Result<DesignDraft<'m>, FlatRefusal>
     requires blif { IsBlif library.now }
     requires main { main.now ≡ slice_index_or library.now 0 main.now }
     requires below { below ≡ record { frames = []; places = []; models = length library.now } }
@@ -85,7 +85,7 @@ fn from_first<'b, 'm>(
         top: first,
         below,
         copies: 0,
-        draft: Draft::new(alloc, main.name()),
+        draft: DesignDraft::new(alloc, main.name()),
     };
     match all_taken(alloc, library, state) {
         Ok(draft) => Ok(draft),
@@ -98,7 +98,7 @@ fn all_taken<'b, 'm>(
     alloc: Global,
     library: &Library<'b, 'm>,
     state: State<'b, 'm>,
-) -> Result<Draft<'m>, FlatRefusal>
+) -> Result<DesignDraft<'m>, FlatRefusal>
     requires kept { IsRestKept library.now state }
     requires parts { HaveParts library.now }
     ensures { MatchResult result (λ d. ComesTo library.now d state.entry)
@@ -107,15 +107,15 @@ fn all_taken<'b, 'm>(
     let mut state = state;
     'turns: loop {
         match advance(alloc, library, state) {
-            Ok(Turn::Next(next)) => state = next,
-            Ok(Turn::Done(draft)) => return Ok(draft),
+            Ok(StepOutcome::Next(next)) => state = next,
+            Ok(StepOutcome::Done(draft)) => return Ok(draft),
             Err(refusal) => return Err(refusal),
         }
     }
 }
 
 // The design of what was taken.
-fn finish(alloc: Global, draft: Draft<'_>) -> Result<Design, OutOfMemory>
+fn finish(alloc: Global, draft: DesignDraft<'_>) -> Result<Design, OutOfMemory>
     requires { IsInRange draft }
     ensures { IfOk result (λ d. d ≡ draft.entry) }
 {

@@ -14,7 +14,7 @@
 mod advance;
 mod bare;
 mod connect;
-mod draft;
+mod design_draft;
 mod fault;
 mod flat;
 mod frame;

@@ -46,7 +46,7 @@ impl<'b, 'm> Model for Library<'b, 'm> {
 
 /// A model, its place, and the names of its interface, each once.
 #[derive(Clone, Copy)]
-pub struct Found<'l, 'b, 'm> {
+pub struct FoundModel<'l, 'b, 'm> {
     pub place: usize,
     pub model: &'b Bare<'m>,
     pub ports: &'l Names<'m>,
@@ -78,14 +78,14 @@ impl<'b, 'm> Library<'b, 'm> {
     }
 
     /// The model of a name.
-    pub fn find(&self, name: &[u8]) -> Option<Found<'_, 'b, 'm>>
+    pub fn find(&self, name: &[u8]) -> Option<FoundModel<'_, 'b, 'm>>
         ensures { MatchOption result (model_named self.now name.now ≡ None)
             (λ f. Finds self.now name.now f.place f.model.now f.ports.now) }
     {
         let models = self.models;
         let place = self.names.place(name);
         if place < models.len() {
-            Some(Found {
+            Some(FoundModel {
                 place,
                 model: &models[place],
                 ports: &self.ports[place],

@@ -15,10 +15,10 @@ ghost use Rattle.ds_flat.specs.Run.{IsFlatRefusal, CopiesModel, RefusesUse, open
 ghost use Rattle.ds_flat.specs.Run.{refusal_of, IsCopyOf};
 
 use crate::connect::connect;
-use crate::draft::Draft;
+use crate::design_draft::DesignDraft;
 use crate::fault::{FlatKind, FlatRefusal, NoNumber};
 use crate::frame::Open;
-use crate::library::{Found, Library, unknown_formal};
+use crate::library::{FoundModel, Library, unknown_formal};
 use crate::stack::{Stack, extended};
 use ds_base::{Limit, Name, OutOfMemory, Refusal, Seq};
 use ds_design::{UseText, Word};
@@ -132,7 +132,7 @@ pub fn checked<'l, 'b, 'm>(
     copies: u32,
     line: u64,
     call: &'m UseText<'m>,
-) -> Result<Found<'l, 'b, 'm>, FlatRefusal>
+) -> Result<FoundModel<'l, 'b, 'm>, FlatRefusal>
     requires known { top.now.model ∷ below.now.places ≡ map
         (place_of_name (names_of_models library.now))
         (top.now.name.now ∷ path_of below.now.frames) }
@@ -168,9 +168,9 @@ pub fn checked<'l, 'b, 'm>(
 pub fn open<'b, 'm>(
     alloc: Global,
     top: &Open<'b, 'm>,
-    found: Found<'_, 'b, 'm>,
+    found: FoundModel<'_, 'b, 'm>,
     copies: u32,
-    draft: &mut Draft<'m>,
+    draft: &mut DesignDraft<'m>,
     line: u64,
     call: &'m UseText<'m>,
 ) -> Result<Open<'b, 'm>, FlatRefusal>

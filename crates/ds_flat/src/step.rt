@@ -8,7 +8,7 @@ ghost use Rattle.ds_flat.specs.Run.{run_rest, after_take, HaveParts, IsRestKept}
 ghost use Rattle.ds_flat.specs.Turn.{most_turns};
 ghost use Rattle.ds_flat.specs.Use.{after_use};
 
-use crate::draft::Draft;
+use crate::design_draft::DesignDraft;
 use crate::fault::FlatRefusal;
 use crate::frame::Open;
 use crate::library::Library;
@@ -26,7 +26,7 @@ pub struct State<'b, 'm> {
     pub top: Open<'b, 'm>,
     pub below: Stack<'b, 'm>,
     pub copies: u32,
-    pub draft: Draft<'m>,
+    pub draft: DesignDraft<'m>,
 }
 
 impl<'b, 'm> Model for State<'b, 'm> {
@@ -46,9 +46,9 @@ impl<'b, 'm> Model for State<'b, 'm> {
 
 /// What a turn gives: what is left to take, or the design.
 #[derive(Drop)]
-pub enum Turn<'b, 'm> {
+pub enum StepOutcome<'b, 'm> {
     Next(State<'b, 'm>),
-    Done(Draft<'m>),
+    Done(DesignDraft<'m>),
 }
 
 fn use_in<'p, 'm>(part: &'p Part<'m>) -> Option<&'p UseText<'m>>
@@ -65,7 +65,7 @@ fn use_in<'p, 'm>(part: &'p Part<'m>) -> Option<&'p UseText<'m>>
 fn take_part<'m>(
     alloc: Global,
     scope: &Scope<'m>,
-    draft: &mut Draft<'m>,
+    draft: &mut DesignDraft<'m>,
     command: &'m Command<'m>,
 ) -> Result<(), FlatRefusal>
     requires { IsPart command.now.part }

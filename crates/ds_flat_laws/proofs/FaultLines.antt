@@ -6,7 +6,7 @@ use Rattle.std.specs.Str.{bytes_eq}
 use Rattle.std.proofs.lemmas.Bool.{cases_Bool}
 use Rattle.std.proofs.lemmas.Bool.Decides.{Decides-ltb}
 use Rattle.std.proofs.lemmas.List.Elements.{All-head, All-tail}
-use Rattle.ds_base.proofs.Lists.{get_or-self}
+use Rattle.ds_base.proofs.ListLemmas.{get_or-self}
 use Rattle.ds_base.specs.Limit.{most_of}
 use Rattle.ds_base.specs.declared.number.Limit.{Limit}
 use Rattle.ds_base.specs.declared.number.Limit.TheVariants.{Copies}
@@ -20,7 +20,7 @@ use Rattle.ds_flat.specs.Copies.{Flat, Opened, copy_unless, expand, main_copy, m
 use Rattle.ds_flat.specs.declared.fault.FlatKind.{FlatKind}
 use Rattle.ds_flat.specs.declared.fault.FlatKind.TheVariants.{Recursive, TooMany, UnknownFormal, UnknownModel}
 use Rattle.ds_flat.proofs.Uses.{named_all}
-use Rattle.ds_flat_laws.proofs.Circles.{fault_of_either}
+use Rattle.ds_flat_laws.proofs.RecursiveModels.{fault_of_either}
 use Rattle.ds_flat_laws.proofs.InCopies.{command_grows, model_opened}
 use Rattle.ds_flat_laws.specs.Laws.{FaultsAreOnLines, HasCommandOn}
 

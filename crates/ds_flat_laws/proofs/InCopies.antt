@@ -25,7 +25,7 @@ use Rattle.ds_flat.specs.Net.{Scope, Numbered, has_net, net_of_name, number_of_n
 use Rattle.ds_flat.specs.Command.{latch_names, numbered_latch, with_part}
 use Rattle.ds_flat.specs.Copies.{Flat, Opened, ◌>>=◌, actuals_in, copy_unless, empty_design, expand, flat_of, main_copy, model_named, most_depth, next_copy, open_model, open_use, passed_limit, ports_of, take_all, take_command, take_part, unknown_formal, use_in, bindings_in}
 use Rattle.ds_flat_laws.specs.InCopies.{ComeTo, IsOfCopies, InCopy, copied, done, gate_by, names_by, nets_by, number_by, plain, register_by}
-use Rattle.ds_flat.proofs.Grown.{passed_by}
+use Rattle.ds_flat.proofs.PassedLimits.{passed_by}
 use Rattle.ds_flat.specs.declared.fault.FlatKind.{FlatKind}
 
 -- a net is itself

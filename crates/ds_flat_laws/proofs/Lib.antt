@@ -1,4 +1,4 @@
 pub mod InCopies
-pub mod Circles
+pub mod RecursiveModels
 pub mod FaultLines
 pub mod FaultNumbers

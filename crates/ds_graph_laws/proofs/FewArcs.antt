@@ -6,7 +6,7 @@ use Rattle.std.specs.Option.{option_map}
 use Rattle.std.proofs.lemmas.Bool.{cases_lt}
 use Rattle.std.proofs.lemmas.List.Elements.{All-nil, All-cons}
 use Rattle.std.proofs.lemmas.List.FromFn.{length-range_with_len}
-use Rattle.ds_base.proofs.Lists.{get_or-self}
+use Rattle.ds_base.proofs.ListLemmas.{get_or-self}
 use Rattle.ds_marked.specs.Graph.{Graph}
 use Rattle.ds_marked.specs.declared.marked.Arc.{Arc}
 use Rattle.ds_latch.specs.Node.{Split, nodes, number_of}
@@ -14,12 +14,12 @@ use Rattle.ds_latch.specs.Latches.{HasEdges}
 use Rattle.ds_latch.specs.Order.{IsDataEdge, IsRequired, opens_first, closes_before_next, after_producer, before_reuse, open_tokens}
 use Rattle.ds_latch.specs.declared.latches.Edge.{Edge}
 use Rattle.ds_latch.specs.declared.node.Node.{Node}
-use Rattle.ds_latch.proofs.Counts.{same_node}
+use Rattle.ds_latch.proofs.OrderTokens.{same_node}
 use Rattle.ds_control.specs.Control.{AreOrders, IsSimple}
 use Rattle.ds_control.specs.Orders.{closing_arc, edge_arcs, freeing_arc, node_arcs, opening_arc, reading_arc, required_arcs}
 use Rattle.ds_control.proofs.Required.{required_listed}
-use Rattle.ds_control.proofs.Two.{length-two}
-use Rattle.ds_shake.proofs.Flat.{all_flat, in_flat, pairs_flat}
+use Rattle.ds_control.proofs.TwoForEach.{length-two}
+use Rattle.ds_shake.proofs.FlatMapLemmas.{all_flat, in_flat, pairs_flat}
 use Rattle.ds_split.specs.Split.{HasTooManyOrders, IsEdgeOf}
 use Rattle.ds_split.proofs.Pigeons.{few_different}
 

@@ -13,9 +13,9 @@ use Rattle.ds_marked.specs.declared.marked.Event.{Event}
 use Rattle.ds_marked.specs.declared.marked.Kind.TheVariants.{Rise}
 use Rattle.ds_astg.specs.Text.{arc_at, entry_name, is_further, place_name, tokens_text}
 use Rattle.ds_astg_laws.specs.Written.{arc_words, body_lines, entry_words, event_lines, graph_words, line_behind, lists_below, marking_words, place_lines, rest_lines, target_word}
-use Rattle.ds_astg_laws.proofs.Written.{NoDigit, none_decimal}
+use Rattle.ds_astg_laws.proofs.WrittenWords.{NoDigit, none_decimal}
 use Rattle.ds_stage.proofs.LineWords.{both_all}
-use Rattle.ds_laws.proofs.Plain.{each_drop, each_take, lacks_both}
+use Rattle.ds_laws.proofs.PlainNames.{each_drop, each_take, lacks_both}
 use Rattle.ds_laws.proofs.Uncut.{IsUncut, nothing_cut, uncut_behind, uncut_both}
 
 -- a byte that is cut at the end of a line, ends it, or starts a comment

@@ -15,13 +15,13 @@ use Rattle.ds_latch.specs.declared.node.Node.TheVariants.{Master, Slave}
 use Rattle.ds_latch.specs.Plan.{node_name, split_events}
 use Rattle.ds_shake.specs.Expansion.{acknowledge_name, expanded_events, request_name}
 use Rattle.ds_shake.specs.declared.handshake.Handshake.{Handshake}
-use Rattle.ds_shake.proofs.Flat.{length_flat}
+use Rattle.ds_shake.proofs.FlatMapLemmas.{length_flat}
 use Rattle.ds_astg.specs.Read.{events_of_signal, graph_of_lines}
 use Rattle.ds_astg.specs.Text.{graph_text}
 use Rattle.ds_astg.specs.Word.{first_byte, has_reserved, has_slash, is_reserved, is_signal, is_signed, is_slash, last_byte}
 use Rattle.ds_astg_laws.specs.Written.{IsReadable}
-use Rattle.ds_astg_laws.proofs.Lines.{written_text_is_read}
-use Rattle.ds_astg_laws.proofs.Written.{NoDigit, none_decimal}
+use Rattle.ds_astg_laws.proofs.GraphTextLines.{written_text_is_read}
+use Rattle.ds_astg_laws.proofs.WrittenWords.{NoDigit, none_decimal}
 use Rattle.ds_stage.proofs.LineWords.{both_all}
 use Rattle.ds_graph_laws.proofs.ModelName.{IsPrintable}
 use Rattle.ds_graph_laws.proofs.GraphLines.{AreClean, IsClean, clean_behind, graph_plain, is_cut, lacks_less, lacks_parts, neither, ten_digits}

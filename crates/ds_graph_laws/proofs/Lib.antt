@@ -3,5 +3,5 @@ pub mod GraphLines
 pub mod ModelName
 pub mod GraphSignals
 pub mod PrintedPlans
-pub mod Taken
-pub mod Ranks
+pub mod PrintedIsTaken
+pub mod PrintedRanks

@@ -26,7 +26,7 @@ use Rattle.ds_blif.specs.Text.{models_of_text}
 use Rattle.ds_blif.specs.declared.fault.BlifKind.TheVariants.{BadWords, RepeatedModel}
 use Rattle.ds_blif.specs.declared.head.Head.{Head}
 use Rattle.ds_blif.specs.declared.head.Head.TheVariants.{Row, Names, Model, Inputs, Outputs, Clock, Latch, Subckt, End, Skipped, Unknown}
-use Rattle.ds_blif.proofs.First.{fault_from, fault_from_is}
+use Rattle.ds_blif.proofs.FirstFault.{fault_from, fault_from_is}
 use Rattle.ds_blif.proofs.NoFault.{first_none, line_none, lines_none, not_false, own_none, test_false}
 use Rattle.ds_blif.proofs.WellFormed.{read_well_formed}
 use Rattle.ds_flat.specs.Command.{with_part}
@@ -36,11 +36,11 @@ use Rattle.ds_flat.specs.declared.fault.FlatKind.{FlatKind}
 use Rattle.ds_stage.specs.FaultText.{blif_text, flat_text}
 use Rattle.ds_stage.specs.Stages.{OfBytes, netlist_stage, text_stage}
 use Rattle.ds_stage.proofs.LineWords.{HaveWords, both_all, lines_have_words}
-use Rattle.ds_stage.proofs.Meant.{read_meant}
+use Rattle.ds_stage.proofs.FileMeaning.{read_meant}
 use Rattle.std.proofs.lemmas.List.Sums.{prefix_len_stops}
 use Rattle.std.proofs.lemmas.List.{get_or-reverse, get_or-take, length-reverse, length-take-le}
 use Rattle.ds_graph_laws.proofs.GraphLines.{neither}
-use Rattle.ds_laws.proofs.Plain.{if_next, unless_holds}
+use Rattle.ds_laws.proofs.PlainNames.{if_next, unless_holds}
 use Rattle.ds_laws.proofs.Uncut.{IsUncut, uncut_behind}
 
 -- the last of some words is not cut

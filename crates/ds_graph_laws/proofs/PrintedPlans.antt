@@ -12,9 +12,9 @@ use Rattle.ds_marked.specs.declared.marked.Event.{Event}
 use Rattle.ds_latch.specs.Node.{Split}
 use Rattle.ds_latch.specs.Plan.{IsPlan, Reorders, split_events}
 use Rattle.ds_accept.specs.Accept.{extra_events, is_same_event, others_of}
-use Rattle.ds_accept.proofs.Counted.{in_head, in_tail}
+use Rattle.ds_accept.proofs.SubsetLength.{in_head, in_tail}
 use Rattle.ds_accept.proofs.Others.{has, stands, stands_in}
-use Rattle.ds_accept.proofs.Planned.{plans_are_acceptable_lem}
+use Rattle.ds_accept.proofs.PlansAcceptable.{plans_are_acceptable_lem}
 use Rattle.ds_stage.specs.PlanStage.{IsNamedPlan}
 
 -- of events that all stand in a list, none is left

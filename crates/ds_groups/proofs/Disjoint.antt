@@ -7,7 +7,7 @@ use Rattle.std.proofs.lemmas.List.{get_or_past, length-map}
 use Rattle.std.proofs.lemmas.List.Elements.{All-contains, All-filter, All-from_get_or, All-head, All-tail, filter_passes}
 use Rattle.std.proofs.lemmas.List.FromFn.{get_or-map-range_with_len, get_or-range_with_len, length-map-range_with_len, length-range_with_len}
 use Rattle.std.proofs.lemmas.List.Kept.{AllPairs-filter}
-use Rattle.ds_base.proofs.Lists.{Contains-head, Contains-split, Contains-tail}
+use Rattle.ds_base.proofs.ListLemmas.{Contains-head, Contains-split, Contains-tail}
 use Rattle.ds_design.specs.Circuit.{Circuit, register_nets}
 use Rattle.ds_design.specs.declared.design.Register.{Register}
 use Rattle.ds_design.specs.Groups.{AreDisjoint, group_at}
@@ -20,7 +20,7 @@ use Rattle.ds_groups.specs.Names.{driven_nets, register_names, net_at}
 use Rattle.ds_groups.specs.Read.{after_lines, after_word, after_words, behind_word, line_group, groups_by, groups_of, holder, holders_after, is_free, means, none_taken, all_registers, takes}
 use Rattle.ds_groups.specs.declared.fault.GroupKind.{GroupKind}
 use Rattle.ds_groups.specs.declared.fault.GroupKind.TheVariants.{RepeatedRegister, UnknownRegister}
-use Rattle.ds_groups.proofs.Reading.{word_gives}
+use Rattle.ds_groups.proofs.GroupsSoFar.{word_gives}
 use Rattle.ds_groups.proofs.Takings.{some_find}
 
 -- what two steps gave, one behind the other

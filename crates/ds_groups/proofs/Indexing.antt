@@ -2,9 +2,9 @@
 use Rattle.std.proofs.Common.{◌≡◌, ◌≢◌, ◌∙◌, inl, inr, ℕ, ◌+◌, ◌<◌, ◌≤◌, List, [], ◌∷◌, ◌++◌, length, get_or, set, refl, sym, ap, subst, arith, length-append, Some, None, Option, get_or-set_same, get_or-set_other}
 use Rattle.std.proofs.lemmas.Bool.{cases_eq, cases_lt}
 use Rattle.std.proofs.lemmas.List.{length-set}
-use Rattle.ds_base.proofs.Pairs.{get_or-left, get_or-right}
+use Rattle.ds_base.proofs.AppendedPairs.{get_or-left, get_or-right}
 use Rattle.ds_design.specs.declared.design.Net.{Net}
-use Rattle.ds_groups.specs.Indexed.{Index, IsIndex}
+use Rattle.ds_groups.specs.Indexed.{NetIndex, IsIndex}
 use Rattle.ds_groups.specs.Keys.{IsNetAt, IsNoNet, IsKeyPlaced}
 use Rattle.ds_groups.specs.Latest.{IsLatest, missing_net, driven_net}
 
@@ -27,7 +27,7 @@ latest_more nets r net (Some l) other (inside, at, last) = (
 pub latest_itself : (nets : List Net) (r : ℕ) (net : Net) → driven_net nets r ≡ net → IsLatest nets (r + 1) net (Some r)
 latest_itself nets r net is = (omega arith, is, λ k above low. absurd (omega arith))
 
-module _ (nets : List Net) (r : ℕ) (net : Net) (old : Index) (is : IsIndex nets r old) (own : driven_net nets r ≡ net) where
+module _ (nets : List Net) (r : ℕ) (net : Net) (old : NetIndex) (is : IsIndex nets r old) (own : driven_net nets r ≡ net) where
   before_more : (earlier : Option ℕ) → IsLatest nets r net earlier → (k : ℕ) → k < r + 1
       → IsLatest nets k (driven_net nets k) (get_or (old.earlier ++ earlier ∷ []) k None)
   before_more earlier so k low =
@@ -104,7 +104,7 @@ module _ (nets : List Net) (r : ℕ) (net : Net) (old : Index) (is : IsIndex net
       }
 
 -- by the place that the net has
-module _ (nets : List Net) (r : ℕ) (net : Net) (old : Index) (is : IsIndex nets r old) (own : driven_net nets r ≡ net)
+module _ (nets : List Net) (r : ℕ) (net : Net) (old : NetIndex) (is : IsIndex nets r old) (own : driven_net nets r ≡ net)
     (keys : List Net) (place : ℕ) (placed : IsKeyPlaced old.nets net keys place) (latest : List ℕ) (earlier : List (Option ℕ)) where
   pub put_some : place < length old.latest → latest ≡ set old.latest place r → earlier ≡ old.earlier ++ Some (get_or old.latest place 0) ∷ []
       → IsIndex nets (r + 1) (record { nets = keys; latest = latest; earlier = earlier })

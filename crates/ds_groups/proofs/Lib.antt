@@ -1,16 +1,16 @@
 -- Lemmas.
 pub mod Matching
 pub mod Falling
-pub mod Tables
+pub mod PatternTable
 pub mod KeyNets
 pub mod Stands
 pub mod Indexing
 pub mod Takings
-pub mod Driven
-pub mod Words
+pub mod DrivenNets
+pub mod PatternWords
 pub mod Copies
-pub mod Reading
+pub mod GroupsSoFar
 pub mod Membered
-pub mod InARow
+pub mod PiecesInARow
 pub mod Disjoint
 pub mod ReadAgain

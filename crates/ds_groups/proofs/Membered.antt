@@ -5,7 +5,7 @@ use Rattle.std.proofs.lemmas.Bool.{cases_eq, cases_lt, eq-eqb, ne_eqb, cond-true
 use Rattle.std.proofs.lemmas.List.{get_or_past, length-set}
 use Rattle.std.proofs.lemmas.List.Elements.{filter-append}
 use Rattle.std.proofs.lemmas.List.FromFn.{get_or-map-range_with_len, length-map-range_with_len}
-use Rattle.ds_base.proofs.Lists.{lists_same}
+use Rattle.ds_base.proofs.ListLemmas.{lists_same}
 use Rattle.ds_lines.specs.Line.{Line}
 use Rattle.ds_lines.specs.declared.at.At.{At}
 use Rattle.ds_groups.specs.Members.{members_by, members_of}

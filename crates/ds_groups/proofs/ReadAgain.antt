@@ -13,17 +13,17 @@ use Rattle.std.proofs.lemmas.List.FromFn.{get_or-map-range_with_len}
 use Rattle.std.proofs.lemmas.List.Sums.{suffix_len_is, suffix_len-take_yes}
 use Rattle.std.proofs.lemmas.Slice.Eq.{bytes_eq-Decides}
 use Rattle.std.proofs.lemmas.Str.Parse.{digit_at, numerals_by_value, tells_digits}
-use Rattle.ds_base.proofs.Lists.{Contains-head, Contains-split, Contains-tail, cases_Contains, lists_same}
-use Rattle.ds_base.proofs.Pairs.{get_or-left}
-use Rattle.ds_base.proofs.Rising.{rising_same}
+use Rattle.ds_base.proofs.ListLemmas.{Contains-head, Contains-split, Contains-tail, cases_Contains, lists_same}
+use Rattle.ds_base.proofs.AppendedPairs.{get_or-left}
+use Rattle.ds_base.proofs.RisingNumbers.{rising_same}
 use Rattle.ds_design.specs.Groups.{group_at}
 use Rattle.ds_lines.specs.First.{behind_line}
 use Rattle.ds_lines.specs.Line.{Line, is_backslash, is_end, is_hash, is_joined, is_newline, joins, kept_len, lines_from, trimmed, uncommented, words_in, words_of}
 use Rattle.ds_lines.specs.Names.{has_name}
 use Rattle.ds_lines.specs.Print.{IsPlain, line_text, numbered_lines}
 use Rattle.ds_lines.specs.declared.at.At.{At}
-use Rattle.ds_lines.proofs.Joins.{split-append}
-use Rattle.ds_lines.proofs.Printed.{any-append, hash_line_text, line_first, newline_line_text, none_here, split_plain, words_of-line_text}
+use Rattle.ds_lines.proofs.JoinedLines.{split-append}
+use Rattle.ds_lines.proofs.PrintedLines.{any-append, hash_line_text, line_first, newline_line_text, none_here, split_plain, words_of-line_text}
 use Rattle.ds_groups.specs.Laws.{AreAll, ClustersAreRead}
 use Rattle.ds_groups.specs.Match.{has_form}
 use Rattle.ds_groups.specs.Read.{after_lines, after_word, after_words, behind_word, line_group, groups_by, groups_of, holder, holders_after, is_free, means, register_name, none_taken, takes}
@@ -31,7 +31,7 @@ use Rattle.ds_groups.specs.Written.{cluster_lines, latches_text}
 use Rattle.ds_groups.specs.declared.fault.GroupKind.{GroupKind}
 use Rattle.ds_groups.proofs.Disjoint.{group_here, group_rises, groups_size, in_group, to_group}
 use Rattle.ds_groups.proofs.Takings.{some_true}
-use Rattle.ds_groups.proofs.Words.{word_ok}
+use Rattle.ds_groups.proofs.PatternWords.{word_ok}
 
 -- digits pass no test that is for other bytes
 digits_other : (p : ℕ → Bool) → ((d : ℕ) → 48 ≤ d → p d ≡ false) → (ds : List ℕ) → AllDigits 10 ds → list_any p ds ≡ false

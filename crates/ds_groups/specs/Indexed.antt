@@ -7,13 +7,13 @@ use Rattle.ds_groups.specs.Latest.{IsLatest, driven_net}
 
 -- nets, each once, beside each the last register that drives it, and for each register the one
 -- before it that drives a net like its own
-pub record Index : Type 0 where
+pub record NetIndex : Type 0 where
   pub nets : List Net
   pub latest : List ℕ
   pub earlier : List (Option ℕ)
 
 -- an index of the first so many registers
-pub record IsIndex (nets : List Net) (count : ℕ) (index : Index) : Type 0 where
+pub record IsIndex (nets : List Net) (count : ℕ) (index : NetIndex) : Type 0 where
   pub one_each : length index.latest ≡ length index.nets
   pub once : (j k : ℕ) → j < length index.nets → k < length index.nets
       → driven_net index.nets j ≡ driven_net index.nets k → j ≡ k

@@ -6,8 +6,8 @@ ghost use Rattle.ds_groups.specs.Keys.{net_of_key};
 ghost use Rattle.ds_groups.specs.Latest.{driven_net as the_net_of, IsLatest, HaveShortCopies};
 ghost use Rattle.ds_groups.specs.Names.{driven_nets};
 
-use crate::index::Index;
 use crate::key::Key;
+use crate::net_index::NetIndex;
 use ds_base::{OutOfMemory, RegId};
 use ds_design::{Design, Net};
 use std::alloc::Global;
@@ -16,7 +16,7 @@ use std::marker::Model;
 /// The registers of a design by the nets that they drive. Contracts see these nets.
 pub(crate) struct Named<'a> {
     design: &'a Design,
-    index: Index<'a>,
+    index: NetIndex<'a>,
 }
 
 impl Drop for Named<'_> {
@@ -49,7 +49,7 @@ impl<'a> Named<'a> {
     pub(crate) fn of(alloc: Global, design: &'a Design) -> Result<Self, OutOfMemory>
         ensures { IfOk result (λ n. n ≡ driven_nets design.now) }
     {
-        let mut index = Index::new(alloc);
+        let mut index = NetIndex::new(alloc);
         for i in 0..design.registers().len() {
             let register = RegId::new(i as u32);
             let net = net_of(design, i);

@@ -20,14 +20,14 @@ const M1_CLOSES: u32 = 9;
 
 // The first worker who paused at an event, its number and one, and the latest; 0 where nobody did.
 #[derive(Drop)]
-struct Place {
+struct PausePoint {
     first: AtomicU32,
     latest: AtomicU32,
 }
 
-impl Place {
+impl PausePoint {
     fn new() -> Self {
-        Place {
+        PausePoint {
             first: AtomicU32::new(0),
             latest: AtomicU32::new(0),
         }
@@ -69,22 +69,22 @@ impl Place {
 // vain.
 #[derive(Drop)]
 struct Meeting {
-    opens: Place,
-    closes: Place,
+    opens: PausePoint,
+    closes: PausePoint,
     in_vain: AtomicBool,
 }
 
 impl Meeting {
     fn new() -> Self {
         Meeting {
-            opens: Place::new(),
-            closes: Place::new(),
+            opens: PausePoint::new(),
+            closes: PausePoint::new(),
             in_vain: AtomicBool::new(false),
         }
     }
 
     // Holds a worker until another one has paused at a place.
-    fn hold(&self, place: &Place, worker: u32) {
+    fn hold(&self, place: &PausePoint, worker: u32) {
         if !place.looks_for_another(worker) {
             self.in_vain.store(true, SeqCst);
         }

@@ -23,12 +23,12 @@ use Rattle.ds_latch.specs.Plan.{IsSplit, IsController}
 use Rattle.ds_latch.specs.Numbered.{numbered}
 use Rattle.ds_latch.specs.Firing.{State, first_state, first_row, placed, changed, opening_read, read_rows, Fires, opens, closes, passes, opened_state, closed_state, counted_state, FiresAll, Takes, IsSettled, AreRegisters}
 use Rattle.ds_latch.specs.Flow.{IsInStep}
-use Rattle.ds_base.proofs.Lists.{map_agree, agree_from_map, Contains-map, get_or-default}
-use Rattle.ds_design.proofs.Settled.{depends_on_sources}
-use Rattle.ds_latch.proofs.Events.{IsEvent, is_opening, is_closing, is_extra, event_of}
-use Rattle.ds_marked.proofs.Firings.{counted-same, counted-other, agrees_kept, within_kept}
-use Rattle.ds_latch.proofs.Turns.{run_settles, master_value}
-use Rattle.ds_latch.proofs.Counts.{order_ready, edge_tokens, read_tokens, number_below, places_differ, cases_changed}
+use Rattle.ds_base.proofs.ListLemmas.{map_agree, agree_from_map, Contains-map, get_or-default}
+use Rattle.ds_design.proofs.OneValuation.{depends_on_sources}
+use Rattle.ds_latch.proofs.EventNodes.{IsEvent, is_opening, is_closing, is_extra, event_of}
+use Rattle.ds_marked.proofs.CountLemmas.{counted-same, counted-other, agrees_kept, within_kept}
+use Rattle.ds_latch.proofs.TurnValues.{run_settles, master_value}
+use Rattle.ds_latch.proofs.OrderTokens.{order_ready, edge_tokens, read_tokens, number_below, places_differ, cases_changed}
 use Rattle.ds_base.proofs.Tests.{test_same, test_other}
 
 -- the value of a register, by its net and by its place

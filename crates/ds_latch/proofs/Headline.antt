@@ -4,7 +4,7 @@ use Rattle.std.specs.Prelude.{◌⊎◌, All}
 use Rattle.std.specs.List.{range_with_len}
 use Rattle.std.proofs.lemmas.Bool.{cases_lt}
 use Rattle.std.proofs.lemmas.List.{get_or-map, take-append-drop}
-use Rattle.ds_base.proofs.Lists.{map_agree}
+use Rattle.ds_base.proofs.ListLemmas.{map_agree}
 use Rattle.std.proofs.lemmas.List.FromFn.{length-map-range_with_len, take-map-range_with_len}
 use Rattle.std.proofs.lemmas.Simd.{map-map}
 use Rattle.ds_base.specs.Values.{Row}
@@ -18,7 +18,7 @@ use Rattle.ds_design.specs.Circuit.{columns}
 use Rattle.ds_design.specs.InRange.{IsInRange}
 use Rattle.ds_design.specs.Run.{IsRun}
 use Rattle.ds_design.specs.Trace.{IsTraceFrom}
-use Rattle.ds_design.proofs.Runs.{one_run, some_run}
+use Rattle.ds_design.proofs.ClockedRuns.{one_run, some_run}
 use Rattle.ds_latch.specs.Node.{Split, IsNode, number_of, closing, members, nodes}
 use Rattle.ds_latch.specs.declared.node.Node.{Node}
 use Rattle.ds_latch.specs.declared.node.Node.TheVariants.{Out, Slave}
@@ -27,9 +27,9 @@ use Rattle.ds_latch.specs.Numbered.{numbered}
 use Rattle.ds_latch.specs.Firing.{State, first_state, FiresAll}
 use Rattle.ds_latch.specs.Flow.{IsInStep}
 use Rattle.ds_latch.specs.Headline.{AreStored, BeginsWith, Desynchronizes, HasNext, Interleaves, StandsAt, outputs_clocked, stored_lines, values_clocked, values_stored}
-use Rattle.ds_latch.proofs.Counts.{accepted_controls, number_below}
+use Rattle.ds_latch.proofs.OrderTokens.{accepted_controls, number_below}
 use Rattle.ds_latch.proofs.Flow.{InStep, fires_count, steps_kept, some_firing}
-use Rattle.ds_latch.proofs.Rising.{events_long}
+use Rattle.ds_latch.proofs.OrdersRise.{events_long}
 use Rattle.ds_latch.proofs.Spelt.{stored_rows_spell_trace}
 
 -- lists whose values differ by a place

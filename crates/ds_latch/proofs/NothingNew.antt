@@ -4,17 +4,17 @@ use Rattle.std.specs.Prelude.{All}
 use Rattle.std.specs.List.{filter}
 use Rattle.std.proofs.lemmas.Bool.{cases_eq, cases_lt}
 use Rattle.std.proofs.lemmas.Bool.Decides.{Decides-ltb}
-use Rattle.ds_base.proofs.Lists.{get_or-self}
+use Rattle.ds_base.proofs.ListLemmas.{get_or-self}
 use Rattle.ds_marked.specs.Graph.{Graph, Agrees, IsArc, IsEnabled, IsLegal, IsLegalFrom, counted}
 use Rattle.ds_marked.specs.declared.marked.Arc.{Arc}
-use Rattle.ds_marked.proofs.Firings.{agrees_kept, counted-same, counted-other}
+use Rattle.ds_marked.proofs.CountLemmas.{agrees_kept, counted-same, counted-other}
 use Rattle.ds_latch.specs.Node.{Split, nodes}
 use Rattle.ds_latch.specs.Order.{IsRequired}
 use Rattle.ds_latch.specs.Plan.{IsPlan, split_events}
 use Rattle.ds_latch.specs.Controls.{node_firings}
-use Rattle.ds_latch.proofs.Counts.{accepted_controls, order_ready}
-use Rattle.ds_latch.proofs.Events.{is_false}
-use Rattle.ds_latch.proofs.Rising.{events_long, required_inside}
+use Rattle.ds_latch.proofs.OrderTokens.{accepted_controls, order_ready}
+use Rattle.ds_latch.proofs.EventNodes.{is_false}
+use Rattle.ds_latch.proofs.OrdersRise.{events_long, required_inside}
 
 -- an item that passes stays, another one goes
 stays : (p : ℕ → Bool) (x : ℕ) (xs : List ℕ) → p x ≡ true → filter p (x ∷ xs) ≡ x ∷ filter p xs

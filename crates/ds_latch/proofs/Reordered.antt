@@ -8,7 +8,7 @@ use Rattle.ds_marked.specs.Graph.{Graph, IsEnabled, IsKept, IsLegal, IsLegalFrom
 use Rattle.ds_marked.specs.declared.marked.Arc.{Arc}
 use Rattle.ds_marked.specs.declared.marked.Event.{Event}
 use Rattle.ds_marked.specs.declared.marked.Kind.TheVariants.{Rise}
-use Rattle.ds_marked.proofs.Firings.{counted-same, counted-other}
+use Rattle.ds_marked.proofs.CountLemmas.{counted-same, counted-other}
 use Rattle.ds_latch.specs.Plan.{Reorders}
 
 module _ (from to : Graph) (kept : IsKept from) (r : Reorders from to) (limit : ℕ) where

@@ -17,7 +17,7 @@ use Rattle.ds_latch.specs.Numbered.{numbered}
 use Rattle.ds_latch.specs.Firing.{State, AreRegisters}
 use Rattle.ds_latch.specs.Flow.{IsInStep}
 use Rattle.ds_design.specs.declared.design.Register.{Register}
-use Rattle.ds_base.proofs.Lists.{agree_from_map, lists_same}
+use Rattle.ds_base.proofs.ListLemmas.{agree_from_map, lists_same}
 use Rattle.ds_base.specs.Values.{Row}
 use Rattle.ds_base.specs.declared.value.Value.TheVariants.{Zero}
 

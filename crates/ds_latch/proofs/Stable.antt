@@ -6,7 +6,7 @@ use Rattle.ds_latch.specs.declared.node.Node.{Node}
 use Rattle.ds_latch.specs.Order.{IsDataEdge, after_producer, before_reuse, open_tokens, close_tokens}
 use Rattle.ds_latch.specs.Firing.{opening_read}
 use Rattle.ds_latch.specs.Plan.{IsController}
-use Rattle.ds_latch.proofs.Counts.{order_ready, edge_tokens, read_tokens, places_differ}
+use Rattle.ds_latch.proofs.OrderTokens.{order_ready, edge_tokens, read_tokens, places_differ}
 
 module _ (s : Split) (g : Graph) (controller : IsController s g) (limit : ℕ) (count : ℕ → ℕ) (consistent : IsConsistent g limit count) (p c : Node) (edge : IsDataEdge s p c) (is_open : count (opening c) ≡ count (closing c) + 1) (enabled : IsEnabled g limit count (opening p)) where
   after : count (opening c) ≤ count (opening p) + open_tokens p

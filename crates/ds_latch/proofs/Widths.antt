@@ -11,7 +11,7 @@ use Rattle.std.proofs.lemmas.List.Sums.{count_by-le-length, length-filter}
 use Rattle.std.proofs.lemmas.Map.Made.{IsDistinct-from_AllPairs}
 use Rattle.std.proofs.lemmas.Map.Steps.{length-le_from_distinct_below}
 use Rattle.std.proofs.lemmas.Map.Views.{Contains-from_any}
-use Rattle.ds_base.proofs.Pairs.{pairs-left, pairs-right}
+use Rattle.ds_base.proofs.AppendedPairs.{pairs-left, pairs-right}
 use Rattle.ds_design.specs.Circuit.{control_nets, data_nets, register_nets}
 use Rattle.ds_design.specs.InRange.{IsInRange}
 use Rattle.ds_latch.specs.Node.{Split, IsNode, members, nets_of}
@@ -19,7 +19,7 @@ use Rattle.ds_latch.specs.declared.node.Node.{Node}
 use Rattle.ds_latch.specs.declared.node.Node.TheVariants.{In, Out, Master, Slave}
 use Rattle.ds_latch.specs.Node.{nodes, number_of}
 use Rattle.ds_latch.specs.Plan.{IsSplit}
-use Rattle.ds_latch.proofs.Events.{node_at}
+use Rattle.ds_latch.proofs.EventNodes.{node_at}
 
 -- different numbers below one are no more than it
 few_below : (xs : List ℕ) (n : ℕ) → AllPairs (λ a b. a ≢ b) xs → All (λ x. x < n) xs

@@ -67,7 +67,7 @@ impl<'a> Plan<'a> {
     }
 
     /// The registers start as this row says.
-    #[tactic(auto, using(crate::proofs::Windows::plan_begun))]
+    #[tactic(auto, using(crate::proofs::PlanWindows::plan_begun))]
     pub fn begin(&mut self, row: &Row3)
         requires { length row.now ≡ length self.old.split.circuit.registers }
         ensures { self.new ≡ record {

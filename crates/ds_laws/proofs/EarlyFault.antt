@@ -10,8 +10,8 @@ use Rattle.ds_stage.specs.Ends.{RoseIn}
 use Rattle.ds_stage.specs.declared.stop.Stop.TheVariants.{Unwritten}
 use Rattle.ds_app.specs.Job.{stages_of}
 use Rattle.ds_app.specs.Status.{AreTold, Call, HasWindows, IsAnswered, IsDone, IsNoLine, IsUnread, IsUnwritten}
-use Rattle.ds_app.proofs.Exclusive.{job_not_refused}
-use Rattle.ds_app.proofs.Left.{job_nothing}
+use Rattle.ds_app.proofs.ExclusiveJobs.{job_not_refused}
+use Rattle.ds_app.proofs.JobsLeaveNothing.{job_nothing}
 
 -- a number is not there, or is
 none_or_some : (stop : Option ℕ) → (stop ≡ None) ⊎ ¬ (stop ≡ None)

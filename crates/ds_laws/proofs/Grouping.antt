@@ -29,7 +29,7 @@ use Rattle.ds_stage.specs.SplitStage.{IsInClusters, split_stage}
 use Rattle.ds_cmd.specs.declared.list_clusters.ClustersJob.{ClustersJob}
 use Rattle.ds_stage.specs.ClustersStage.{clustered_stage}
 use Rattle.ds_app.proofs.Listing.{name_is}
-use Rattle.ds_laws.proofs.Plain.{names_are_words}
+use Rattle.ds_laws.proofs.PlainNames.{names_are_words}
 use Rattle.ds_laws.proofs.Uncut.{line_is_plain}
 use Rattle.ds_laws.specs.Grouping.{HasListed, IsModeLine, PrintedClustersAreGroups, WithoutFileOfGroups}
 

@@ -12,13 +12,13 @@ use Rattle.ds_latch.specs.Node.{Split, number_of, nodes}
 use Rattle.ds_latch.specs.declared.node.Node.{Node}
 use Rattle.ds_latch.specs.Order.{open_tokens, close_tokens}
 use Rattle.ds_latch.specs.Plan.{split_events}
-use Rattle.ds_latch.proofs.Counts.{edge_tokens}
-use Rattle.ds_latch.proofs.Rising.{events_long}
+use Rattle.ds_latch.proofs.OrderTokens.{edge_tokens}
+use Rattle.ds_latch.proofs.OrdersRise.{events_long}
 use Rattle.ds_control.specs.Orders.{node_arcs, tokens_after}
 use Rattle.ds_control.proofs.Required.{tokens_is}
 use Rattle.ds_shake.specs.Expansion.{IsExpansion, acknowledge_name, acknowledge_rises, arc_by_parts, expanded_arcs, freeing_tokens, handshake_arcs, handshake_events, request_name, request_rises}
 use Rattle.ds_shake.specs.declared.handshake.Handshake.{Handshake}
-use Rattle.ds_shake.proofs.Flat.{in_flat, length_flat}
+use Rattle.ds_shake.proofs.FlatMapLemmas.{in_flat, length_flat}
 use Rattle.ds_laws.specs.Shaken.{GoesByHandshake, IsRiseOf, OrdersGoByHandshakes}
 
 -- the four events of each handshake, at their places

@@ -40,10 +40,10 @@ use Rattle.ds_shake.specs.Laws.{ArcsFit}
 use Rattle.ds_astg.specs.Read.{graph_of_lines}
 use Rattle.ds_rank.specs.Order.{IsCycle}
 use Rattle.ds_rank.specs.Rank.{HasFreeArc}
-use Rattle.ds_rank.proofs.By.{cycle_by}
+use Rattle.ds_rank.proofs.RelatedOrders.{cycle_by}
 use Rattle.ds_period.specs.Read.{delays_of}
 use Rattle.ds_period.specs.Timing.{HasCycle, Leads}
-use Rattle.ds_period.proofs.Circles.{cycle_closes}
+use Rattle.ds_period.proofs.ClosedWalks.{cycle_closes}
 use Rattle.ds_replay.specs.Replay.{replay_of}
 use Rattle.ds_replay.specs.ReplayText.{IsReplayText}
 use Rattle.ds_replay.specs.declared.fault.ReplayKind.{ReplayKind}
@@ -64,7 +64,7 @@ use Rattle.ds_stage.specs.GroupsStage.{group_text, grouped_stage, groups_stage}
 use Rattle.ds_stage.specs.Stage.{IsExclusive, Stage, giving, then_stage}
 use Rattle.ds_stage.specs.Stages.{OfBytes, accepted_stage, design_stage, file_stage, lines_stage, netlist_stage, read_or_line, report_stage, result_stage, rows_stage, text_stage, trace_stage, vectors_stage}
 use Rattle.ds_stage.specs.StreamStage.{IsFaultLine, IsStreamLine, most_vectors, streamed_stage}
-use Rattle.ds_stage.proofs.Exclusive.{lines_exclusive, netlist_exclusive, result_exclusive, then_exclusive, vectors_exclusive}
+use Rattle.ds_stage.proofs.ExclusiveStages.{lines_exclusive, netlist_exclusive, result_exclusive, then_exclusive, vectors_exclusive}
 use Rattle.ds_stage.proofs.RateStages.{bare_exclusive}
 use Rattle.ds_stage.proofs.GroupStages.{groups_exclusive}
 use Rattle.ds_stage.proofs.PlanExclusive.{planned_exclusive, split_exclusive}
@@ -72,7 +72,7 @@ use Rattle.ds_app.specs.Job.{run_stage, stages_of}
 use Rattle.ds_app.specs.JobStages.{accept_stage, clock_stage, graph_stage, listing_stage, period_stage, replay_stage, times_stage}
 use Rattle.ds_app.specs.RunStage.{planned_run_stage, stopped_stage, traced_stage}
 use Rattle.ds_app.specs.Status.{AreTold, IsToldIn}
-use Rattle.ds_app.proofs.Exclusive.{told_file}
+use Rattle.ds_app.proofs.ExclusiveJobs.{told_file}
 use Rattle.ds_laws.specs.OneLine.{JobsHaveOneLine, NameCycles}
 use Rattle.ds_astg_laws.proofs.ReadKept.{read_kept}
 

@@ -2,7 +2,7 @@
 use Rattle.std.proofs.Common.{◌≡◌, ℕ, refl, arith, ap}
 use Rattle.ds_latch.specs.Node.{Split}
 use Rattle.ds_latch.specs.Order.{IsRequired, opens_first, closes_before_next, after_producer, before_reuse, open_tokens, close_tokens}
-use Rattle.ds_latch.proofs.Counts.{edge_differs, same_node}
+use Rattle.ds_latch.proofs.OrderTokens.{edge_differs, same_node}
 
 -- two required orders whose ends are equal have the same tokens
 orders_agree : (s : Split) (u v t x y t' : ℕ) → IsRequired s u v t → IsRequired s x y t' → u ≡ x → v ≡ y → t ≡ t'

@@ -4,7 +4,7 @@ use Rattle.std.proofs.lemmas.List.{get_or-map, get_or_default}
 use Rattle.std.proofs.lemmas.Simd.{map-map}
 use Rattle.std.specs.Prelude.{Contains}
 use Rattle.std.specs.List.{flat_map, range_with_len}
-use Rattle.ds_base.proofs.Lists.{map_agree}
+use Rattle.ds_base.proofs.ListLemmas.{map_agree}
 use Rattle.ds_base.specs.Values.{Row}
 use Rattle.ds_base.specs.declared.value.Value.TheVariants.{Zero}
 use Rattle.ds_cover.specs.Cover.{value_at}
@@ -17,16 +17,16 @@ use Rattle.ds_latch.specs.Numbered.{numbered}
 use Rattle.ds_latch.specs.Firing.{State, first_state, FiresAll}
 use Rattle.ds_latch.specs.Flow.{IsInStep}
 use Rattle.ds_latch.specs.Headline.{StandsAt, values_clocked, values_stored}
-use Rattle.ds_latch.proofs.Counts.{accepted_controls, number_below}
+use Rattle.ds_latch.proofs.OrderTokens.{accepted_controls, number_below}
 use Rattle.ds_latch.proofs.Flow.{flow_equivalence}
-use Rattle.ds_latch.proofs.Rising.{events_long}
+use Rattle.ds_latch.proofs.OrdersRise.{events_long}
 use Rattle.ds_split.proofs.Sources.{flat_apart}
 use Rattle.ds_rows.specs.Log.{fired_line, stored_text}
 use Rattle.ds_rows.specs.Nets.{register_of}
 use Rattle.ds_rows.specs.StateText.{HasStored, IsStateText}
-use Rattle.ds_firing_laws.proofs.Lists.{whole_long}
+use Rattle.ds_firing_laws.proofs.LegalListsExist.{whole_long}
 use Rattle.ds_laws.specs.Logs.{WholeStatesAreClocked}
-use Rattle.ds_laws.proofs.Whole.{counts_are}
+use Rattle.ds_laws.proofs.NothingOpen.{counts_are}
 
 -- a register stands in one cluster
 one_cluster : (s : Split) → IsSplit s → (r c d p q : ℕ) → StandsAt s r c p → StandsAt s r d q → c ≡ d

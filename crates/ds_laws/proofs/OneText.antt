@@ -3,7 +3,7 @@ use Rattle.std.proofs.Common.{◌≡◌, ◌≢◌, ◌∙◌, ℕ, ◌+◌, ◌
 use Rattle.std.proofs.lemmas.List.FromFn.{get_or-range_with_len, length-range_with_len}
 use Rattle.std.specs.List.{range_with_len}
 use Rattle.std.specs.Prelude.{sum_by}
-use Rattle.ds_base.proofs.Lists.{map_agree}
+use Rattle.ds_base.proofs.ListLemmas.{map_agree}
 use Rattle.ds_base.specs.Values.{Row}
 use Rattle.ds_cover.specs.Cover.{values_at}
 use Rattle.ds_outside.specs.Held.{Held, untold}
@@ -11,7 +11,7 @@ use Rattle.ds_design.specs.Accepted.{IsAccepted}
 use Rattle.ds_design.specs.Circuit.{Circuit, initial_row}
 use Rattle.ds_design.specs.Run.{IsRun}
 use Rattle.ds_design.specs.Trace.{IsTrace, end_line, trace_line}
-use Rattle.ds_design.proofs.Runs.{one_run}
+use Rattle.ds_design.proofs.ClockedRuns.{one_run}
 use Rattle.ds_demo.specs.Demo.{demo_design, demo_vectors, seed_words}
 use Rattle.ds_demo.specs.Fold.{fold_of}
 use Rattle.ds_demo.proofs.Accepts.{accepted, vectors_fit}
@@ -21,8 +21,8 @@ use Rattle.ds_split.specs.Laws.{OneGroupedClustering}
 use Rattle.ds_latch.specs.Node.{Split, slackened}
 use Rattle.ds_latch.specs.Plan.{Planned}
 use Rattle.ds_marked.specs.Graph.{Graph}
-use Rattle.ds_rank.proofs.Once.{one_list_of_ranks_lem}
-use Rattle.ds_shake.proofs.One.{one_expansion_lem}
+use Rattle.ds_rank.proofs.OneRanking.{one_list_of_ranks_lem}
+use Rattle.ds_shake.proofs.OneExpansion.{one_expansion_lem}
 use Rattle.ds_cmd.specs.Allowed.{AreAllowed}
 use Rattle.ds_cmd.specs.declared.job.Job.{Job}
 use Rattle.ds_cmd.specs.declared.job.Job.TheVariants.{Run, Clock, Check, Graph as GraphCommand, Replay, Accept, Demo, Period, Clusters, Rate, Times}
@@ -39,7 +39,7 @@ use Rattle.ds_stage.specs.PeriodStage.{delays_stage}
 use Rattle.ds_stage.specs.TimesStage.{scheduled_stage}
 use Rattle.ds_stage.proofs.PeriodStages.{delays_exclusive}
 use Rattle.ds_stage.proofs.TimesStages.{last_times_stage}
-use Rattle.ds_stage.proofs.Exclusive.{netlist_exclusive}
+use Rattle.ds_stage.proofs.ExclusiveStages.{netlist_exclusive}
 use Rattle.ds_stage.proofs.OneGraph.{one_graph}
 use Rattle.ds_stage.proofs.PlanAccepted.{planned_circuit, planned_is_plan}
 use Rattle.ds_stage.proofs.PlanExclusive.{clustered_exclusive, planned_exclusive, split_exclusive}
@@ -50,9 +50,9 @@ use Rattle.ds_app.specs.Job.{run_stage, stages_of}
 use Rattle.ds_app.specs.JobStages.{accept_stage, clock_stage, graph_stage, listing_stage, times_stage}
 use Rattle.ds_app.specs.RunStage.{planned_run_stage, traced_stage}
 use Rattle.ds_app.specs.Status.{AreTold}
-use Rattle.ds_app.proofs.Exclusive.{told_file}
+use Rattle.ds_app.proofs.ExclusiveJobs.{told_file}
 use Rattle.ds_laws.specs.OneText.{IsDetermined, JobsHaveOneText, RunsPrintTheClockedTrace}
-use Rattle.ds_laws.proofs.Determined.{replay_has_one_text}
+use Rattle.ds_laws.proofs.OneReplayText.{replay_has_one_text}
 use Rattle.ds_laws.proofs.OneState.{texts_agree}
 use Rattle.ds_laws.proofs.OneTimes.{one_times_text}
 

@@ -4,14 +4,14 @@ use Rattle.std.specs.Prelude.{codes, decimal, slice_index, Contains}
 use Rattle.std.specs.List.{flat_map}
 use Rattle.ds_marked.specs.Graph.{Graph, IsLive}
 use Rattle.ds_marked.specs.Log.{text_of_event}
-use Rattle.ds_rank.proofs.Once.{one_list_of_ranks_lem}
+use Rattle.ds_rank.proofs.OneRanking.{one_list_of_ranks_lem}
 use Rattle.ds_period.specs.Timing.{timed_arcs}
 use Rattle.ds_times.specs.Order.{IsByRank, firings_from}
-use Rattle.ds_times.proofs.Sorted.{timed_rises}
+use Rattle.ds_times.proofs.ArcsByRank.{timed_rises}
 use Rattle.ds_times.proofs.Times.{same_times}
-use Rattle.ds_times_laws.proofs.Lists.{contains_head, contains_tail}
+use Rattle.ds_times_laws.proofs.ListPositions.{contains_head, contains_tail}
 use Rattle.ds_times_laws.proofs.OneOrder.{events_have_one_order}
-use Rattle.ds_times_laws.proofs.Turns.{in_turns}
+use Rattle.ds_times_laws.proofs.TurnListing.{in_turns}
 use Rattle.ds_stage.specs.TimesStage.{IsTimesText, time_line, time_lines}
 
 -- texts that agree item by item

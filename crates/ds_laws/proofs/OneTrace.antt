@@ -17,7 +17,7 @@ use Rattle.ds_cmd.specs.declared.run.RunJob.{RunJob}
 use Rattle.ds_stage.specs.PlanStage.{planned_stage}
 use Rattle.ds_stage.specs.Stages.{netlist_stage}
 use Rattle.ds_stage.specs.StreamStage.{gives_held, most_vectors, streamed_stage}
-use Rattle.ds_stage.proofs.Exclusive.{netlist_exclusive}
+use Rattle.ds_stage.proofs.ExclusiveStages.{netlist_exclusive}
 use Rattle.ds_stage.proofs.Streamed.{streamed_exclusive}
 use Rattle.ds_run.specs.RunText.{IsLoggedTrace}
 use Rattle.ds_laws.specs.OneTrace.{IsTraceAndLog, LoggedRunsHaveOneTrace}

@@ -3,7 +3,7 @@ use Rattle.std.proofs.Common.{◌≡◌, ◌∙◌, ℕ, ◌+◌, ◌<◌, ◌�
 use Rattle.ds_base.specs.Values.{Row}
 use Rattle.ds_design.specs.Run.{IsRun}
 use Rattle.ds_marked.specs.Graph.{Graph, IsLegal, IsLegalFrom, counted}
-use Rattle.ds_marked.proofs.Firings.{counted-ge}
+use Rattle.ds_marked.proofs.CountLemmas.{counted-ge}
 use Rattle.ds_latch.specs.Node.{Split, opening, closing}
 use Rattle.ds_latch.specs.declared.node.Node.{Node}
 use Rattle.ds_latch.specs.Order.{IsDataEdge, after_producer, before_reuse, open_tokens, close_tokens}
@@ -11,9 +11,9 @@ use Rattle.ds_latch.specs.Plan.{IsController}
 use Rattle.ds_latch.specs.Numbered.{numbered}
 use Rattle.ds_latch.specs.Firing.{State, FiresAll, first_state, opening_read}
 use Rattle.ds_latch.specs.Transparent.{IsOpen}
-use Rattle.ds_latch.proofs.Counts.{edge_tokens, read_tokens}
+use Rattle.ds_latch.proofs.OrderTokens.{edge_tokens, read_tokens}
 use Rattle.ds_latch.proofs.Flow.{InStep, fires_count, steps_kept}
-use Rattle.ds_latch.proofs.Rising.{edge_nodes}
+use Rattle.ds_latch.proofs.OrdersRise.{edge_nodes}
 use Rattle.ds_laws.specs.Latches.{row_read}
 
 -- the front of a legal list is legal

@@ -3,7 +3,7 @@ use Rattle.std.proofs.Common.{◌≡◌, ◌∙◌, ℕ, zero, suc, ◌+◌, ◌
 use Rattle.std.specs.Prelude.{Contains}
 use Rattle.std.proofs.lemmas.List.{ext_get_or, get_or_default, length-map}
 use Rattle.std.proofs.lemmas.List.FromFn.{get_or-map-range_with_len}
-use Rattle.ds_base.proofs.Lists.{agree_from_map}
+use Rattle.ds_base.proofs.ListLemmas.{agree_from_map}
 use Rattle.ds_base.specs.Values.{Row}
 use Rattle.ds_base.specs.declared.value.Value.TheVariants.{Zero}
 use Rattle.ds_cover.specs.Cover.{value_at}
@@ -19,10 +19,10 @@ use Rattle.ds_latch.specs.Firing.{State, AreRegisters, FiresAll, first_state}
 use Rattle.ds_latch.specs.Flow.{IsInStep}
 use Rattle.ds_latch.specs.Headline.{AreStored}
 use Rattle.ds_marked.specs.Progress.{HasFiredAll}
-use Rattle.ds_latch.proofs.Counts.{accepted_controls, number_below}
+use Rattle.ds_latch.proofs.OrderTokens.{accepted_controls, number_below}
 use Rattle.ds_latch.proofs.Flow.{flow_equivalence}
-use Rattle.ds_latch.proofs.Rising.{events_long}
-use Rattle.ds_laws.proofs.Whole.{counts_are}
+use Rattle.ds_latch.proofs.OrdersRise.{events_long}
+use Rattle.ds_laws.proofs.NothingOpen.{counts_are}
 
 -- the slaves show one row of registers
 registers_one : (s : Split) → IsSplit s → (shown : Node → Row) (one two : Row) → AreRegisters s shown one → AreRegisters s shown two → one ≡ two

@@ -8,7 +8,7 @@ use Rattle.std.proofs.lemmas.List.Elements.{recursion_from_All}
 use Rattle.std.proofs.lemmas.List.Sums.{suffix_len_is}
 use Rattle.ds_lines.specs.Line.{is_backslash, is_blank, is_end, is_some}
 use Rattle.ds_lines.specs.Print.{IsPlain, IsWord, line_text}
-use Rattle.ds_lines.proofs.Printed.{none_here}
+use Rattle.ds_lines.proofs.PrintedLines.{none_here}
 use Rattle.ds_laws.specs.Grouping.{EndsInBackslash}
 
 -- a text whose last byte is not cut at the end of a line

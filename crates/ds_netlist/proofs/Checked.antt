@@ -11,7 +11,7 @@ use Rattle.std.proofs.lemmas.Simd.{map-map}
 use Rattle.std.proofs.lemmas.List.Concat.{flat_map-cons}
 use Rattle.std.proofs.lemmas.List.Elements.{All-contains, All-filter, Contains-append_cases, Contains-append_left, Contains-append_right}
 use Rattle.std.proofs.lemmas.List.Quantifiers.{position-Some}
-use Rattle.ds_base.proofs.Lists.{Any-from_map, cases_Contains, Contains-head, Contains-tail, Contains-split}
+use Rattle.ds_base.proofs.ListLemmas.{Any-from_map, cases_Contains, Contains-head, Contains-tail, Contains-split}
 use Rattle.ds_design.specs.Circuit.{Circuit, columns, control_nets, data_nets, register_nets, drivers, used}
 use Rattle.ds_design.specs.InRange.{IsInRange}
 use Rattle.ds_design.specs.Levels.{table_nets}
@@ -19,7 +19,7 @@ use Rattle.ds_design.specs.declared.design.Edge.{Edge}
 use Rattle.ds_design.specs.declared.design.Edge.TheVariants.{Rising, Falling}
 use Rattle.ds_design.specs.declared.design.Gate.{Gate}
 use Rattle.ds_design.specs.declared.design.Register.{Register}
-use Rattle.ds_design.proofs.Controlled.{among_yes, among_no, control_in}
+use Rattle.ds_design.proofs.ControlNames.{among_yes, among_no, control_in}
 use Rattle.ds_netlist.specs.Drivers.{all_drivers, drivers_of}
 use Rattle.ds_netlist.specs.Fault.{is_in, several_clocks, is_rising, is_falling, both_edges, mixed_edges, driven_clock, clock_as_data, twice_driven, multiply_driven, undriven}
 use Rattle.ds_netlist.specs.Steps.{times_driven}
@@ -28,8 +28,8 @@ use Rattle.ds_netlist.specs.declared.fault.Driver.{Driver}
 use Rattle.ds_netlist.specs.declared.fault.Driver.TheVariants.{Input, Table, Latch}
 use Rattle.ds_netlist.specs.declared.fault.NetFault.{NetFault}
 use Rattle.ds_netlist.specs.declared.fault.NetFault.TheVariants.{SeveralClocks, MixedEdges, DrivenClock, ClockAsData, MultiplyDriven, Undriven, CombinationalCycle, Memory}
-use Rattle.ds_netlist.proofs.Firsts.{cases_Bool, map_none, map_some, find_none, none_found, find_some, fails_in, none_in, some_in, first_none, none_first, some_first, position_none}
-use Rattle.ds_netlist.proofs.Counted.{absent, once_differ, differ_once, length_drivers}
+use Rattle.ds_netlist.proofs.FirstMatch.{cases_Bool, map_none, map_some, find_none, none_found, find_some, fails_in, none_in, some_in, first_none, none_first, some_first, position_none}
+use Rattle.ds_netlist.proofs.Multiplicity.{absent, once_differ, differ_once, length_drivers}
 
 -- a fault that a check finds: not a cycle, and not want of memory
 abbrev pub IsPlain : NetFault → Type 0

@@ -6,23 +6,23 @@ use Rattle.std.specs.List.{list_any, range_with_len}
 use Rattle.std.proofs.lemmas.Bool.{cases_lt}
 use Rattle.std.proofs.lemmas.List.{get_or_default, get_or-map, get_or_past, length-map}
 use Rattle.ds_base.specs.Greatest.{greatest}
-use Rattle.ds_base.proofs.Pairs.{pairs-left, pairs-right}
+use Rattle.ds_base.proofs.AppendedPairs.{pairs-left, pairs-right}
 use Rattle.ds_design.specs.Circuit.{Circuit, columns, control_nets, register_nets, drivers, used}
 use Rattle.ds_design.specs.InRange.{IsInRange}
 use Rattle.ds_design.specs.Accepted.{IsAccepted}
 use Rattle.ds_design.specs.Levels.{AreLevels, IsSortedByLevel, IsTableOrder, table_nets}
 use Rattle.ds_design.specs.declared.design.Gate.{Gate}
 use Rattle.ds_design.proofs.ByLevel.{le_greatest, not_read}
-use Rattle.ds_design.proofs.Controlled.{among_yes, among_no}
+use Rattle.ds_design.proofs.ControlNames.{among_yes, among_no}
 use Rattle.ds_netlist.specs.Edges.{AreNetRanks, floor_in}
 use Rattle.ds_netlist.specs.Fault.{fault_of, is_in, several_clocks, mixed_edges, driven_clock, clock_as_data, multiply_driven, undriven}
 use Rattle.ds_cover.specs.Series.{Ordered}
 use Rattle.ds_design.specs.Banked.{IsBankOf}
 use Rattle.ds_netlist.specs.Verdict.{AreNetlistParts}
 use Rattle.ds_netlist.specs.declared.fault.NetFault.TheVariants.{DrivenClock, ClockAsData}
-use Rattle.ds_netlist.proofs.Firsts.{or_none}
+use Rattle.ds_netlist.proofs.FirstMatch.{or_none}
 use Rattle.ds_netlist.proofs.Checked.{all_driven, clock_apart, one_driver, one_edge, one_name}
-use Rattle.ds_netlist.proofs.Ordered.{all_lem, once_lem, places_lem}
+use Rattle.ds_netlist.proofs.TablesByLevel.{all_lem, once_lem, places_lem}
 
 -- the greatest is no more than what all are at most
 greatest_le : (f : ℕ → ℕ) (xs : List ℕ) (m : ℕ) → ((x : ℕ) → Contains xs x → f x ≤ m) → greatest (map f xs) ≤ m

@@ -1,10 +1,10 @@
-pub mod Fed
-pub mod Firsts
-pub mod Counted
-pub mod Ordered
+pub mod TableEdges
+pub mod FirstMatch
+pub mod Multiplicity
+pub mod TablesByLevel
 pub mod Checked
-pub mod Found
-pub mod Refused
+pub mod FaultEvidence
+pub mod FaultyCircuits
 pub mod Leveled
 pub mod OneLevel
-pub mod Listed
+pub mod ListedNets

@@ -4,7 +4,7 @@ use Rattle.std.specs.Prelude.{All}
 use Rattle.std.proofs.lemmas.Bool.{cases_eq}
 use Rattle.std.proofs.lemmas.List.Elements.{All-contains}
 use Rattle.ds_base.specs.Greatest.{greatest}
-use Rattle.ds_base.proofs.Lists.{cases_Any, Any-from_map, lists_same, map_agree}
+use Rattle.ds_base.proofs.ListLemmas.{cases_Any, Any-from_map, lists_same, map_agree}
 use Rattle.ds_design.specs.Circuit.{Circuit}
 use Rattle.ds_design.specs.Accepted.{IsAccepted}
 use Rattle.ds_design.specs.Levels.{AreLevels, IsDepth}

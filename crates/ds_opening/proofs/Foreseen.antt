@@ -17,7 +17,7 @@ use Rattle.ds_design.specs.Valuation.{IsValuation}
 use Rattle.ds_design.specs.declared.design.Gate.{Gate}
 use Rattle.ds_design.specs.declared.design.Register.{Register}
 use Rattle.ds_settle.specs.Settle.{IsSettledTo}
-use Rattle.ds_settle.proofs.Step.{column_once, columns_in_range, register_once, settled_all, settled_more, sources_settled}
+use Rattle.ds_settle.proofs.OneTableMore.{column_once, columns_in_range, register_once, settled_all, settled_more, sources_settled}
 use Rattle.ds_opening.specs.Foreseen.{ForeseesRun, all_driven, driven, given, nets_in, settled_by, state_before}
 use Rattle.ds_opening.proofs.Given.{all_zero, given_long, given_others, given_values}
 

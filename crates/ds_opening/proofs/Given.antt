@@ -7,7 +7,7 @@ use Rattle.std.proofs.lemmas.List.Elements.{All-head, All-tail}
 use Rattle.ds_base.specs.Values.{Row}
 use Rattle.ds_base.specs.declared.value.Value.{Value}
 use Rattle.ds_base.specs.declared.value.Value.TheVariants.{Zero}
-use Rattle.ds_base.proofs.Lists.{Contains-head, Contains-tail}
+use Rattle.ds_base.proofs.ListLemmas.{Contains-head, Contains-tail}
 use Rattle.ds_cover.specs.Cover.{value_at, values_at}
 use Rattle.ds_settle.proofs.SetBits.{value_at-set_other}
 use Rattle.ds_opening.specs.Foreseen.{given}

@@ -16,7 +16,7 @@ use Rattle.std.proofs.lemmas.List.Folds.{list_any-from_Any, list_any_none}
 use Rattle.std.proofs.lemmas.List.Sorted.{All-permutation, IsPermutation-map}
 use Rattle.std.proofs.lemmas.List.Sums.{count_by_more_no, count_by_more_yes, sum_by-cons}
 use Rattle.std.proofs.lemmas.Simd.{map-map}
-use Rattle.ds_base.proofs.Lists.{cases_Contains}
+use Rattle.ds_base.proofs.ListLemmas.{cases_Contains}
 use Rattle.ds_settle.specs.Cone.{Parts as Cone}
 use Rattle.ds_opening.specs.Classes.{AreClasses, HaveSame}
 use Rattle.ds_opening.specs.Lacking.{AreByLacking, AreLacking, AreLackingSoFar, AreTaken, IsByLacking, cones_without}

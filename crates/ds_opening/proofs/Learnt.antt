@@ -10,15 +10,15 @@ use Rattle.ds_opening.specs.Groups.{Grouping, group_of, tables_in}
 use Rattle.std.proofs.lemmas.List.{append-nil, drop_more, get_or-set_other, get_or-set_same, length-set, map-append, take_more}
 use Rattle.std.proofs.lemmas.List.Elements.{All-contains, All-map, Contains-append_cases, Contains-get_or}
 use Rattle.ds_base.specs.Values.{AreKnown, Row}
-use Rattle.ds_base.proofs.Lists.{Contains-head, Contains-split, Contains-tail}
+use Rattle.ds_base.proofs.ListLemmas.{Contains-head, Contains-split, Contains-tail}
 use Rattle.ds_cover.specs.Bank.{Driven, IsDriven, after_table, after_tables, driven_at}
 use Rattle.ds_cover.specs.Packed.{packed_value}
 use Rattle.ds_cover.specs.Cover.{value_at, value_of, values_at}
 use Rattle.ds_cover.specs.Series.{FindsKnown, in_table_order}
-use Rattle.ds_cover.proofs.Keeps.{value_agrees}
+use Rattle.ds_cover.proofs.TableValues.{value_agrees}
 use Rattle.ds_base.specs.declared.value.Value.{Value}
 use Rattle.ds_base.specs.declared.value.Value.TheVariants.{Unknown, Zero}
-use Rattle.ds_design.proofs.Banked.{after_table-is}
+use Rattle.ds_design.proofs.PackedTables.{after_table-is}
 use Rattle.ds_design.specs.Banked.{IsBankOf}
 use Rattle.ds_design.specs.Circuit.{Circuit}
 use Rattle.ds_design.specs.InRange.{IsInRange}
@@ -28,7 +28,7 @@ use Rattle.ds_base.specs.Scratch.{HoldsTurn, IsNoted, Kept, Memory, Remembers, v
 use Rattle.ds_settle.specs.Cone.{net_of, nets_of_tables}
 use Rattle.ds_settle.specs.Settle.{LeavesOthers}
 use Rattle.ds_settle.proofs.SetBits.{value_at-set_other}
-use Rattle.ds_settle.proofs.Tables.{net_is}
+use Rattle.ds_settle.proofs.CircuitTables.{net_is}
 use Rattle.ds_opening.specs.Noted.{FindInputs, IsAsKnown, IsLearnt, IsSlot}
 use Rattle.ds_opening.specs.Packed.{AreAsBefore, Learns}
 
@@ -88,7 +88,7 @@ module _ (m : Memory) (turn slot : ℕ) (these : List ℕ) (known : Row)
     holds_on s turned ne before k d low =
         let net : ℕ = get_or (get_or m.slots s []) k d in
         let has : Contains (get_or m.slots s []) net = Contains-get_or (get_or m.slots s []) k d low in
-        others net (λ this. ne (at.apart s slot net has (subst (λ (xs : List ℕ). Contains xs net) (sym at.is) this)))
+        others net (λ this. ne (at.distinct s slot net has (subst (λ (xs : List ℕ). Contains xs net) (sym at.is) this)))
         ∙ before k d low
 
     holds : (s : ℕ) → s < length m.slots → 0 < get_or new.turns s 0

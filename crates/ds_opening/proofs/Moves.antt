@@ -8,7 +8,7 @@ use Rattle.std.proofs.lemmas.List.{get_or-set_other, get_or-set_same, get_or_pas
 use Rattle.std.proofs.lemmas.List.{length-set}
 use Rattle.std.proofs.lemmas.List.Elements.{Contains-append_left}
 use Rattle.std.proofs.lemmas.List.Elements.{Contains-push, Contains-push_cases}
-use Rattle.ds_base.proofs.Lists.{cases_Contains, get_or-default}
+use Rattle.ds_base.proofs.ListLemmas.{cases_Contains, get_or-default}
 use Rattle.ds_opening.specs.Classes.{AreMoved, AreSplit, IsMovedTo, IsSplitBy}
 
 -- what stands in a list, or 0 past its end, has what all of it have
@@ -88,7 +88,7 @@ module _ (first : ℕ) (old : List ℕ) (all_low : All (λ n. n < first) old) wh
         | inl has_a ↦ elim (cases_Contains these b) [
           | inl has_b ↦ (
             λ e. (
-              s.moves.apart (get_or old a 0) (get_or old b 0) (old_low a) (old_low b) (s.left a has_a).0
+              s.moves.distinct (get_or old a 0) (get_or old b 0) (old_low a) (old_low b) (s.left a has_a).0
                   (sym (s.left a has_a).1 ∙ (e ∙ (s.left b has_b).1)),
               (λ x. has_b, λ x. has_a),
             ),

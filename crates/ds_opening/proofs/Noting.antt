@@ -6,7 +6,7 @@ use Rattle.std.proofs.lemmas.List.Elements.{All-contains}
 use Rattle.std.proofs.lemmas.List.FromFn.{length-map-range_with_len}
 use Rattle.ds_base.specs.Values.{AreKnown, Row}
 use Rattle.ds_cover.specs.Cover.{value_at, values_at}
-use Rattle.ds_cover.proofs.Keeps.{value_agrees}
+use Rattle.ds_cover.proofs.TableValues.{value_agrees}
 use Rattle.ds_design.specs.declared.design.Gate.{Gate}
 use Rattle.ds_opening.specs.Reads.{ReadFrom}
 use Rattle.ds_opening.specs.Foreseen.{node_at}
@@ -21,7 +21,7 @@ use Rattle.ds_latch.specs.declared.node.Node.{Node}
 use Rattle.ds_latch.specs.declared.node.Node.TheVariants.{In, Out, Master, Slave}
 use Rattle.ds_latch.specs.Order.{IsDataEdge, IsSource}
 use Rattle.ds_latch.specs.Plan.{IsSplit}
-use Rattle.ds_latch.proofs.Counts.{number_below}
+use Rattle.ds_latch.proofs.OrderTokens.{number_below}
 use Rattle.ds_base.specs.Scratch.{Kept, Memory, Remembers}
 use Rattle.ds_settle.specs.Cone.{IsCone, Parts as Cone, nets_of_tables}
 use Rattle.ds_opening.specs.Learnt.{is_learnt}
@@ -29,11 +29,11 @@ use Rattle.ds_opening.specs.declared.opening.Opening.{Opening}
 use Rattle.ds_split.specs.Cones.{cone_place}
 use Rattle.ds_split.specs.Settled.{IsSettling}
 use Rattle.ds_opening.specs.Woven.{Turn, value_taken}
-use Rattle.ds_opening.proofs.Fed.{cone_finds, these_learnt}
+use Rattle.ds_opening.proofs.ReorderedCones.{cone_finds, these_learnt}
 use Rattle.ds_split.proofs.NodeCones.{place_is}
-use Rattle.ds_split.proofs.Settled.{sources_agree, turn_value}
+use Rattle.ds_split.proofs.SettlesNextValue.{sources_agree, turn_value}
 use Rattle.ds_opening.proofs.Slots.{slot_of_group, slot_of_source, slots_apart, slots_long}
-use Rattle.ds_opening.proofs.Woven.{from_is, no_master, no_out, numbers_inside, numbers_within, supplied}
+use Rattle.ds_opening.proofs.ComputesNextValue.{from_is, no_master, no_out, numbers_inside, numbers_within, supplied}
 
 -- what a node that settles reads is IN or a slave
 reads_source : (s : Split) (p n : Node) → IsDataEdge s p n → IsSettling n → IsSource p
@@ -122,7 +122,7 @@ module _ {s : Split} (split : IsSplit s) (range : IsInRange s.circuit)
   slot_is slot these low this = record {
     inside = omega (low, slots_are_long, arith);
     is = ap (λ (xs : List (List ℕ)). get_or xs slot []) opens.memory.slots ∙ this;
-    apart = λ a b net one two.
+    distinct = λ a b net one two.
         slots_apart s split g are.cones are.are a b net
         (subst (λ (xs : List (List ℕ)). Contains (get_or xs a []) net) opens.memory.slots one)
         (subst (λ (xs : List (List ℕ)). Contains (get_or xs b []) net) opens.memory.slots two);

@@ -13,7 +13,7 @@ use Rattle.ds_base.specs.Values.{Row}
 use Rattle.ds_base.specs.Word.{code_of, number_of_values, word_of, count_of_words}
 use Rattle.ds_base.specs.declared.value.Value.{Value}
 use Rattle.ds_base.specs.declared.value.Value.TheVariants.{Zero}
-use Rattle.ds_base.proofs.Words.{code_of-few, number_of_values-drop_room, number_of_values-one_more}
+use Rattle.ds_base.proofs.PackedWords.{code_of-few, number_of_values-drop_room, number_of_values-one_more}
 use Rattle.ds_cover.specs.Cover.{value_at, values_at}
 use Rattle.ds_opening.specs.Packed.{AreAsBefore, Learns, packed}
 

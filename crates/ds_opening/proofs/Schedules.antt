@@ -4,7 +4,7 @@ use Rattle.std.specs.Prelude.{All, Contains, MatchOption}
 use Rattle.std.proofs.lemmas.List.Elements.{All-contains, Contains-get_or}
 use Rattle.std.proofs.lemmas.List.Sorted.{All-permutation, IsPermutation-sym}
 use Rattle.std.proofs.lemmas.Option.{MatchOption-at_some}
-use Rattle.ds_base.proofs.Lists.{get_or-default}
+use Rattle.ds_base.proofs.ListLemmas.{get_or-default}
 use Rattle.ds_design.specs.Accepted.{IsAccepted}
 use Rattle.ds_design.specs.Circuit.{Circuit}
 use Rattle.ds_design.specs.InRange.{IsInRange}
@@ -12,7 +12,7 @@ use Rattle.ds_design.specs.Levels.{IsTableOrder}
 use Rattle.ds_design.specs.declared.design.Gate.{Gate}
 use Rattle.ds_settle.specs.Cone.{net_of}
 use Rattle.ds_settle.specs.Walk.{AreDrivers, IsDriver}
-use Rattle.ds_settle.proofs.Tables.{net_is, same_table}
+use Rattle.ds_settle.proofs.CircuitTables.{net_is, same_table}
 use Rattle.ds_opening.specs.Ranked.{AreSortedByRank}
 use Rattle.ds_opening.specs.Scheduled.{AreDriversBelow, AreLower, AreReadWithin, AreScheduled, ReadsNothingOf, IsLower, Reads}
 

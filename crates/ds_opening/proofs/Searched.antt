@@ -4,7 +4,7 @@ use Rattle.std.proofs.Common.{map, replicate, sym, ap, subst, arith, inl, inr, l
 use Rattle.std.proofs.Common.{Err, Ok, Result}
 use Rattle.std.specs.List.{range_with_len}
 use Rattle.std.proofs.lemmas.List.FromFn.{get_or-map-range_with_len, length-map-range_with_len}
-use Rattle.ds_base.proofs.Lists.{Contains-head}
+use Rattle.ds_base.proofs.ListLemmas.{Contains-head}
 use Rattle.std.specs.Prelude.{All, Contains, IfOk, OnOk}
 use Rattle.std.proofs.Math.ListN.{set}
 use Rattle.std.proofs.lemmas.Bool.{cases_eq, cases_lt}

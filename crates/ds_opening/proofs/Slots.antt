@@ -6,19 +6,19 @@ use Rattle.std.proofs.lemmas.Bool.{cases_eq, cases_lt}
 use Rattle.std.proofs.lemmas.List.{get_or-append-add, get_or-map, get_or_append_left, get_or_past, length-map}
 use Rattle.std.proofs.lemmas.List.Elements.{Contains-append_left, Contains-append_right, Contains-get_or}
 use Rattle.std.proofs.lemmas.List.FromFn.{get_or-map-range_with_len, length-map-range_with_len}
-use Rattle.ds_base.proofs.Lists.{Any-from_map}
-use Rattle.ds_base.proofs.Pairs.{pairs-between, pairs-left, pairs-right}
+use Rattle.ds_base.proofs.ListLemmas.{Any-from_map}
+use Rattle.ds_base.proofs.AppendedPairs.{pairs-between, pairs-left, pairs-right}
 use Rattle.ds_design.specs.Circuit.{Circuit, columns, register_nets}
 use Rattle.ds_design.specs.Levels.{table_nets}
 use Rattle.ds_opening.specs.Groups.{AreGroupsOf, Grouping, group_of}
 use Rattle.ds_latch.specs.Node.{Split, IsNode, members, nets_of, nodes, number_of}
 use Rattle.ds_latch.specs.declared.node.Node.{Node}
 use Rattle.ds_latch.specs.declared.node.Node.TheVariants.{In, Out, Master, Slave}
-use Rattle.ds_latch.proofs.Counts.{number_below}
+use Rattle.ds_latch.proofs.OrderTokens.{number_below}
 use Rattle.ds_latch.specs.Order.{IsSource}
 use Rattle.ds_latch.specs.Plan.{IsSplit}
 use Rattle.ds_settle.specs.Cone.{Parts as Cone, net_of, nets_of_tables}
-use Rattle.ds_settle.proofs.Tables.{net_driven, same_table}
+use Rattle.ds_settle.proofs.CircuitTables.{net_driven, same_table}
 use Rattle.ds_opening.specs.Foreseen.{node_at}
 use Rattle.ds_opening.specs.Noted.{AreSlotsApart, learnt_nets, slots_of}
 use Rattle.ds_opening.proofs.ForeseenRows.{node_by_number, one_number}
@@ -222,7 +222,7 @@ module _ (s : Split) (split : IsSplit s) where
       apart_in : (a b net : ℕ) → InGroup a net ⊎ InSource a net → InGroup b net ⊎ InSource b net → a ≡ b
       apart_in a b net (inl p) (inl q) =
           let same : p.table ≡ q.table = same_table c split.accepted p.table q.table p.low q.low (p.is ∙ sym q.is) in
-          are.apart a b q.table (subst (Contains (group_of g a)) same p.has) q.has
+          are.distinct a b q.table (subst (Contains (group_of g a)) same p.has) q.has
       apart_in a b net (inl p) (inr q) =
           absurd (source_free (node_at q.place) net q.has (subst (Contains (table_nets c)) p.is (net_driven c p.table p.low)))
       apart_in a b net (inr p) (inl q) =

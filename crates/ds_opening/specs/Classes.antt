@@ -34,7 +34,7 @@ pub record AreMoved (first : ℕ) (moved : List ℕ) : Type 0 where
   pub some : 0 < first
   pub longer : first ≤ length moved
   pub low : All (λ n. n < length moved) moved
-  pub apart : (p q : ℕ) → p < first → q < first → first ≤ slice_index moved p
+  pub distinct : (p q : ℕ) → p < first → q < first → first ≤ slice_index moved p
       → slice_index moved p ≡ slice_index moved q → p ≡ q
 
 -- a class has moved, and what had moved stays

@@ -16,7 +16,7 @@ pub record AreAnewSoFar (old : List ℕ) (count n : ℕ) (places : List ℕ) (ne
   pub long : length places ≡ count
   pub low : (p : ℕ) → slice_index places p ≤ next
   pub few : next ≤ n
-  pub apart : (p q : ℕ) → 0 < slice_index places p → slice_index places p ≡ slice_index places q
+  pub distinct : (p q : ℕ) → 0 < slice_index places p → slice_index places p ≡ slice_index places q
       → p ≡ q
   pub is : (k : ℕ) → k < n
       → slice_index new k + 1 ≡ slice_index places (slice_index old k)

@@ -38,4 +38,4 @@ pub record AreGroupsOf (c : Circuit) (cones : List Cone) (g : Grouping) : Type 0
   pub each : (i : ℕ) (d : Cone) → i < length cones
       → IsGrouped c g (slice_index_or cones i d) (slice_index_or g.lists i [])
   pub within : (a : ℕ) → All (λ k. k < length c.tables) (group_of g a)
-  pub apart : (a b k : ℕ) → Contains (group_of g a) k → Contains (group_of g b) k → a ≡ b
+  pub distinct : (a b k : ℕ) → Contains (group_of g a) k → Contains (group_of g b) k → a ≡ b

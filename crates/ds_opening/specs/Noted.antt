@@ -53,7 +53,7 @@ AreSlotsApart slots = (a b net : ℕ) → Contains (slice_index_or slots a []) n
 pub record IsSlot (m : Memory) (turn slot : ℕ) (these : List ℕ) (known : Row) : Type 0 where
   pub inside : slot < length m.slots
   pub is : slice_index_or m.slots slot [] ≡ these
-  pub apart : AreSlotsApart m.slots
+  pub distinct : AreSlotsApart m.slots
   pub values : (net : ℕ) → value_in m turn net ≡ value_at known net
 
 -- each group has its slot

@@ -27,10 +27,10 @@ pub record AreClassPlaces (order classes : List ℕ) (count : ℕ) (places : Lis
     pub long : length places ≡ count
     pub low : (p : ℕ) → slice_index places p ≤ most
     pub few : most ≤ length order
-    pub apart : (p q : ℕ) → 0 < slice_index places p
+    pub distinct : (p q : ℕ) → 0 < slice_index places p
         → slice_index places p ≡ slice_index places q → p ≡ q
-    pub come : (k : ℕ) → Contains order k → 0 < slice_index places (slice_index classes k)
-    pub stem : (p : ℕ) → 0 < slice_index places p → Any (λ k. slice_index classes k ≡ p) order
+    pub placed : (k : ℕ) → Contains order k → 0 < slice_index places (slice_index classes k)
+    pub inhabited : (p : ℕ) → 0 < slice_index places p → Any (λ k. slice_index classes k ≡ p) order
     pub rising : RiseWith order classes (λ k. slice_index places (slice_index classes k))
 
 -- for each class one less than what stands in its place

@@ -7,7 +7,7 @@ ghost use Rattle.ds_split.specs.Cones.{AreCones};
 ghost use Rattle.ds_opening.specs.Foreseen.{node_at};
 ghost use Rattle.ds_opening.specs.Noted.{AreConeGroups, all_learnt_nets, learnt_nets};
 
-use crate::Groups;
+use crate::TableGroups;
 use ds_base::{NetId, OutOfMemory, Seq};
 use ds_latch::Latches;
 use ds_settle::Cone;
@@ -18,13 +18,13 @@ pub fn groups_of<'n>(
     alloc: Global,
     latches: &Latches<'n>,
     cones: Vec<Cone>,
-) -> Result<Groups<'n>, OutOfMemory>
+) -> Result<TableGroups<'n>, OutOfMemory>
     requires design { IsInRange latches.now.circuit × IsSplit latches.now }
     requires cones { AreCones latches.now cones.items }
     ensures ok { IfOk result (AreConeGroups latches.now) }
 {
     let learnt = learnt_of(alloc, latches)?;
-    Groups::of(alloc, latches.netlist(), cones, learnt.as_slice())
+    TableGroups::of(alloc, latches.netlist(), cones, learnt.as_slice())
 }
 
 // What others learn of each node.

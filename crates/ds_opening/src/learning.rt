@@ -3,12 +3,12 @@
 ghost use Rattle.std.specs.Prelude.{◌≡◌, ◌+◌, ◌<◌, length};
 ghost use Rattle.ds_opening.specs.Learnt.{is_learnt as learnt_row, is_no_master as no_master};
 
-use crate::Groups;
+use crate::TableGroups;
 use ds_base::Scratch;
 
 /// Whether the row of the node with this number is learnt for this turn: an opening of the turn
 /// takes no words of it.
-pub fn is_learnt(groups: &Groups, scratch: &Scratch, node: usize, turn: u64) -> bool
+pub fn is_learnt(groups: &TableGroups, scratch: &Scratch, node: usize, turn: u64) -> bool
     requires { length groups.now.groups + node < length scratch.now.turns }
     ensures { result ≡ learnt_row (length groups.now.groups) scratch.now turn node }
 {

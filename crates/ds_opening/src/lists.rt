@@ -3,7 +3,7 @@ ghost use Rattle.std.specs.Prelude.{◌≡◌, ◌≤◌, ◌<◌, All, IfOk, le
 ghost use Rattle.ds_opening.specs.Classes.{HasTables};
 ghost use Rattle.ds_opening.specs.Lists.{AreFound, AreLists, IsListOf};
 
-use crate::numbers::Numbers;
+use crate::table_numbers::TableNumbers;
 use ds_base::{OutOfMemory, Seq};
 use ds_settle::Cone;
 use std::alloc::Global;
@@ -12,7 +12,7 @@ use std::alloc::Global;
 pub(crate) fn lists_of(
     alloc: Global,
     cones: &[Cone],
-    numbers: &Numbers,
+    numbers: &TableNumbers,
 ) -> Result<Vec<Seq<u32>>, OutOfMemory>
     requires tables { All (HasTables (length numbers.now.of.items)) cones.now }
     requires below { All (λ n. n < numbers.now.count) numbers.now.of.items }

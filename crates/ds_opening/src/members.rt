@@ -3,8 +3,8 @@ ghost use Rattle.std.specs.Prelude.{◌≡◌, ◌<◌, All, IfOk, List, [], len
 ghost use Rattle.ds_opening.specs.Members.{AreMembers};
 ghost use Rattle.ds_opening.specs.Scheduled.{AreGroupMembers};
 
-use crate::numbers::Numbers;
 use crate::schedule::scheduled;
+use crate::table_numbers::TableNumbers;
 use ds_base::{OutOfMemory, Seq};
 use ds_design::Netlist;
 use std::alloc::Global;
@@ -14,7 +14,7 @@ use std::alloc::Global;
 pub(crate) fn scheduled_members(
     alloc: Global,
     netlist: &Netlist,
-    numbers: &Numbers,
+    numbers: &TableNumbers,
 ) -> Result<Vec<Seq<u32>>, OutOfMemory>
     requires long { length numbers.now.of.items ≡ length netlist.now.tables }
     requires below { All (λ n. n < numbers.now.count) numbers.now.of.items }
@@ -26,7 +26,11 @@ pub(crate) fn scheduled_members(
 }
 
 // The tables with each number, in this order.
-fn members_of(alloc: Global, order: &[u32], numbers: &Numbers) -> Result<Vec<Seq<u32>>, OutOfMemory>
+fn members_of(
+    alloc: Global,
+    order: &[u32],
+    numbers: &TableNumbers,
+) -> Result<Vec<Seq<u32>>, OutOfMemory>
     requires within { All (λ k. k < length numbers.now.of.items) order.now }
     requires below { All (λ n. n < numbers.now.count) numbers.now.of.items }
     ensures ok { IfOk result

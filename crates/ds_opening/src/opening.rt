@@ -25,7 +25,7 @@ ghost use Rattle.ds_opening.specs.Noted.{IsAsLong, IsLearnt, IsNotedOpening, IsS
 ghost use Rattle.ds_opening.specs.Noted.{AreReadRows, IsSlot};
 ghost use Rattle.ds_opening.specs.Woven.{Turn, value_taken};
 
-use crate::Groups;
+use crate::TableGroups;
 use crate::packed::{push_all, push_row, push_words, put_values};
 use ds_base::{NetId, Row3, Scratch, Seq, words_of};
 use ds_design::{Netlist, Vectors};
@@ -52,7 +52,7 @@ pub struct Opening<'a> {
 pub fn open(
     latches: &Latches,
     vectors: &Vectors,
-    groups: &Groups,
+    groups: &TableGroups,
     opening: &Opening,
     scratch: &mut Scratch,
     into: &mut Vec<u64>,
@@ -95,7 +95,7 @@ fn has_cone(number: usize) -> bool
 // The same of a node that settles.
 fn open_groups(
     latches: &Latches,
-    groups: &Groups,
+    groups: &TableGroups,
     opening: &Opening,
     scratch: &mut Scratch,
     into: &mut Vec<u64>,
@@ -172,7 +172,7 @@ fn learn_row(row: &[u64], these: &[NetId], slot: usize, turn: u64, scratch: &mut
 // Sets the tables of these groups, one group after another, where they are not set.
 fn set_groups(
     netlist: &Netlist,
-    groups: &Groups,
+    groups: &TableGroups,
     list: &[u32],
     opening: &Opening,
     scratch: &mut Scratch,
@@ -206,7 +206,7 @@ fn set_groups(
 // The same of one group. Where all that it reads is noted as what has stayed, it keeps its values.
 fn set_group(
     netlist: &Netlist,
-    groups: &Groups,
+    groups: &TableGroups,
     number: usize,
     opening: &Opening,
     scratch: &mut Scratch,
@@ -247,7 +247,7 @@ fn set_group(
 }
 
 // Sets what the tables of a group drive, by shorter words where each finds its inputs known.
-fn put_group(groups: &Groups, number: usize, known: bool, nets: &mut Row3)
+fn put_group(groups: &TableGroups, number: usize, known: bool, nets: &mut Row3)
     requires number { number < length groups.now.groups }
     requires within { All (λ t. AreNetsWithin t nets.old) groups.now.bank }
     requires known { known ≡ true
@@ -263,7 +263,7 @@ fn put_group(groups: &Groups, number: usize, known: bool, nets: &mut Row3)
 
 // Whether a group is noted for the turn before, and each slot of its list as one that has stayed
 // since.
-fn keeps(groups: &Groups, number: usize, turn: u64, scratch: &Scratch) -> bool
+fn keeps(groups: &TableGroups, number: usize, turn: u64, scratch: &Scratch) -> bool
     requires number { number < length groups.now.groups }
     requires slots { HasReads groups.now scratch.now }
     ensures { IsTrue result → KeepsGroup groups.now turn number scratch.now }

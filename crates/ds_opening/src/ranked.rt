@@ -8,7 +8,7 @@ use std::alloc::{AllocError, Global};
 
 // A table and its rank.
 #[derive(Clone, Copy)]
-struct Ranked {
+struct TableRank {
     rank: usize,
     table: u32,
 }
@@ -28,13 +28,13 @@ pub(crate) fn by_rank(
 }
 
 // Each table with its rank.
-fn with_ranks(alloc: Global, order: &[u32], ranks: &[usize]) -> Result<Vec<Ranked>, AllocError>
+fn with_ranks(alloc: Global, order: &[u32], ranks: &[usize]) -> Result<Vec<TableRank>, AllocError>
     requires { All (λ k. k < length ranks.now) order.now }
     ensures { IfOk result (λ v. v.items ≡ map (ranked_of ranks.now) order.now) }
 {
-    let mut all: Vec<Ranked> = Vec::with_capacity(alloc, order.len())?;
+    let mut all: Vec<TableRank> = Vec::with_capacity(alloc, order.len())?;
     for table in order {
-        all.push(Ranked {
+        all.push(TableRank {
             rank: ranks[*table as usize],
             table: *table,
         })?;
@@ -43,7 +43,7 @@ fn with_ranks(alloc: Global, order: &[u32], ranks: &[usize]) -> Result<Vec<Ranke
 }
 
 // Sorts by rank.
-fn sort_by_rank(all: &mut Vec<Ranked>) -> Result<(), AllocError>
+fn sort_by_rank(all: &mut Vec<TableRank>) -> Result<(), AllocError>
     ensures permuted { IsPermutation all.old.items all.new.items }
     ensures rising { OnOk result (IsNonDecreasingBy (λ r. r.rank) all.new.items) }
 {
@@ -52,7 +52,7 @@ fn sort_by_rank(all: &mut Vec<Ranked>) -> Result<(), AllocError>
 }
 
 // The tables alone.
-fn tables_of(alloc: Global, all: &[Ranked]) -> Result<Vec<u32>, AllocError>
+fn tables_of(alloc: Global, all: &[TableRank]) -> Result<Vec<u32>, AllocError>
     ensures { IfOk result (λ v. v.items ≡ map (λ r. r.table) all.now) }
 {
     all.iter().map(|ranked| ranked.table).collect(alloc)

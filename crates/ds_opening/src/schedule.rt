@@ -4,8 +4,8 @@ ghost use Rattle.std.specs.Prelude.{slice_index_or};
 ghost use Rattle.ds_opening.specs.Scheduled.{AreDriversBelow, AreLower, AreReadWithin};
 ghost use Rattle.ds_opening.specs.Scheduled.{AreScheduled, IsLower};
 
-use crate::numbers::Numbers;
 use crate::ranked::by_rank;
+use crate::table_numbers::TableNumbers;
 use ds_base::{NetId, OutOfMemory};
 use ds_design::{Gate, Netlist};
 use ds_settle::drivers_of;
@@ -21,7 +21,7 @@ const ROUND: usize = 0x1_0000_0000;
 pub(crate) fn scheduled(
     alloc: Global,
     netlist: &Netlist,
-    numbers: &Numbers,
+    numbers: &TableNumbers,
 ) -> Result<Vec<u32>, OutOfMemory>
     requires { length numbers.now.of.items ≡ length netlist.now.tables }
     ensures ok { IfOk result (λ v. AreScheduled netlist.now numbers.now.of.items v.items) }

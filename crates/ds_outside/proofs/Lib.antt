@@ -1,5 +1,5 @@
 pub mod Appended
-pub mod Then
-pub mod Front
+pub mod PieceSequence
+pub mod PiecewiseRead
 pub mod Handing
 pub mod Pens

@@ -6,7 +6,7 @@ use Rattle.ds_outside.specs.Pen.{Finishes, Puts, Writing, begun_on}
 use Rattle.ds_outside.specs.Writes.{Writes}
 use Rattle.ds_outside.specs.declared.sink.WriteFault.{WriteFault}
 use Rattle.ds_outside.proofs.Handing.{handed_on}
-use Rattle.ds_outside.proofs.Then.{goes_on, nothing}
+use Rattle.ds_outside.proofs.PieceSequence.{goes_on, nothing_written}
 
 -- one piece, and then another
 pub puts_on : {a b c : Writing} {p q : List ℕ} → Puts a b p → Puts b c q → Puts a c (p ++ q)
@@ -18,7 +18,7 @@ puts_on one two = record {
 
 -- nothing was written
 pub puts_nothing : (w : Writing) → Puts w w []
-puts_nothing w = record { same = refl; grew = λ before grew. grew; goes_on = nothing w.so_far w.written w.faults }
+puts_nothing w = record { same = refl; grew = λ before grew. grew; goes_on = nothing_written w.so_far w.written w.faults }
 
 -- the same text, written in another way
 pub with_put : {a b : Writing} {p q : List ℕ} → p ≡ q → Puts a b p → Puts a b q

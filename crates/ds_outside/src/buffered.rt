@@ -4,7 +4,7 @@ ghost use Rattle.ds_outside.specs.Pen.{Finishes, begun_on};
 ghost use Rattle.ds_outside.specs.Written.{appended};
 ghost use Rattle.ds_outside.specs.Writes.{Writes};
 
-use crate::kept::Kept;
+use crate::pending_bytes::PendingBytes;
 use crate::{Pen, Sink, WriteFault};
 
 /// A pen that keeps up to 8,192 bytes back before it hands them on to a sink, so that many small
@@ -12,7 +12,7 @@ use crate::{Pen, Sink, WriteFault};
 #[derive(Drop)]
 pub struct Buffered<'a, O: Sink> {
     pub sink: &'a mut O,
-    kept: Kept,
+    kept: PendingBytes,
     so_far: Result<(), WriteFault>,
 }
 
@@ -25,7 +25,7 @@ impl<'a, O: Sink> Buffered<'a, O> {
     {
         Buffered {
             sink,
-            kept: Kept::new(),
+            kept: PendingBytes::new(),
             so_far: Ok(()),
         }
     }

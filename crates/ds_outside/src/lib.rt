@@ -21,13 +21,13 @@ mod files;
 mod gate;
 mod host_files;
 mod host_out;
-mod kept;
 mod last_name;
 mod memory_files;
 mod memory_sink;
 mod on_sink;
 mod opened;
 mod pen;
+mod pending_bytes;
 mod sink;
 mod sure_files;
 

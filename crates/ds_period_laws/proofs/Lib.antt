@@ -1,11 +1,11 @@
 pub mod Most
 pub mod Repeated
-pub mod Cycles
+pub mod CycleOfWalk
 pub mod Divided
 pub mod Ratios
 pub mod Raised
-pub mod Exist
-pub mod Graphs
+pub mod PeriodsExist
+pub mod TimedGraphs
 pub mod Lowest
-pub mod Agree
-pub mod Alike
+pub mod OnePeriod
+pub mod ParallelArcDelays

@@ -5,7 +5,7 @@ use Rattle.std.proofs.lemmas.Bool.{cases_lt}
 use Rattle.ds_period.specs.declared.timed.Timed.{Timed}
 use Rattle.ds_period.specs.Walk.{IsChain, IsGreatest, IsPotential, Rises, walk_delay, walk_tokens}
 use Rattle.ds_period.specs.Search.{AreEvents}
-use Rattle.ds_period.proofs.Sound.{mul_sum}
+use Rattle.ds_period.proofs.PotentialBounds.{mul_sum}
 use Rattle.ds_period.proofs.Raise.{chain_join, delay_join, tokens_join}
 use Rattle.ds_period_laws.proofs.Most.{HasMost, IsShortWalk, StartsAmong, most_short, most_starts}
 use Rattle.ds_period_laws.proofs.Repeated.{delay_parts, tokens_parts, length_parts, outside_chain}

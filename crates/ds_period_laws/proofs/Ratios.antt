@@ -8,7 +8,7 @@ use Rattle.ds_period.specs.Walk.{IsChain, IsGreatest, walk_delay, walk_tokens}
 use Rattle.ds_period.specs.Search.{AreEvents}
 use Rattle.ds_period.specs.Found.{IsLowest}
 use Rattle.ds_period.specs.Period.{HasTokens}
-use Rattle.ds_period.proofs.Sound.{mul_sum}
+use Rattle.ds_period.proofs.PotentialBounds.{mul_sum}
 use Rattle.ds_period.proofs.Ratio.{ratios_rise}
 use Rattle.ds_period_laws.proofs.Most.{HasMost, IsShortWalk, StartsAmong, most_short, most_starts}
 use Rattle.ds_period_laws.proofs.Repeated.{IsRepeated, delay_parts, tokens_parts, length_parts, outside_chain, repeated_or_distinct, short_distinct}

@@ -1,5 +1,5 @@
 -- In the order in which to read.
 pub mod Rounds
-pub mod Closed
-pub mod Ranked
-pub mod Decided
+pub mod ClosedWalkIsCycle
+pub mod RanksOrCycle
+pub mod DesignsDecided

@@ -15,14 +15,14 @@ use Rattle.ds_marked.specs.declared.blocked.Blocked.TheVariants as blocked
 use Rattle.std.specs.Str.Parse.{digits_value}
 use Rattle.ds_lines.specs.First.{first_of}
 use Rattle.ds_lines.specs.Words.{first_word}
-use Rattle.ds_rows.proofs.Numbers.{both}
+use Rattle.ds_rows.proofs.DecimalDigits.{both_hold}
 use Rattle.ds_rows.specs.Texts.{event_by_text, event_texts}
 use Rattle.ds_replay.specs.Word.{second_word, turn_of}
 use Rattle.ds_replay.specs.Replay.{event_fault, fault_of_firing, lacks_token, least_lacking}
 use Rattle.ds_replay.specs.Step.{kind_of}
 use Rattle.ds_replay.specs.declared.fault.ReplayKind.{ReplayKind}
 use Rattle.ds_replay.specs.declared.fault.ReplayKind.TheVariants.{BadWord, UnknownEvent, WrongTurn}
-use Rattle.ds_replay.proofs.Words.{no_number, number_is}
+use Rattle.ds_replay.proofs.LogLineWords.{no_number, number_is}
 
 -- some arc
 abbrev any : Arc
@@ -33,7 +33,7 @@ module _ (g : Graph) (limit : ℕ) (count : ℕ → ℕ) (v : ℕ) where
   lacks_true arc (target, low) = rw (eq-eqb arc.target v target, lt-ltb (count arc.source + arc.tokens) (count v + 1) low) refl
 
   pub lacks_is : (arc : Arc) → lacks_token count v arc ≡ true → Lacks count v arc
-  lacks_is arc is = let (target, low) = both _ _ is in (eqb-true arc.target v target, ltb-true (count arc.source + arc.tokens) (count v + 1) low)
+  lacks_is arc is = let (target, low) = both_hold _ _ is in (eqb-true arc.target v target, ltb-true (count arc.source + arc.tokens) (count v + 1) low)
 
   lacks_false : (arc : Arc) → ¬ Lacks count v arc → lacks_token count v arc ≡ false
   lacks_false arc not_so = elim (cases_Bool (lacks_token count v arc)) [ inl is ↦ absurd (not_so (lacks_is arc is)) | inr fails ↦ fails ]

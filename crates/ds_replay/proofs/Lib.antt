@@ -1,10 +1,10 @@
-pub mod Words
-pub mod Places
+pub mod LogLineWords
+pub mod LogStart
 pub mod Blocking
 pub mod Replaying
-pub mod Lines
-pub mod Logs
-pub mod Printed
-pub mod Named
+pub mod LineFaults
+pub mod LogLines
+pub mod PrintedLogs
+pub mod EventWords
 pub mod OpenTexts
-pub mod Registers
+pub mod StoredRegisters

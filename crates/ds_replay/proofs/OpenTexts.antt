@@ -12,8 +12,8 @@ use Rattle.ds_latch.specs.Plan.{Planned}
 use Rattle.ds_fire.specs.Snapshot.{Snapshot, count_of, graph_of, held_row, is_open, limit_of, split_of}
 use Rattle.ds_fire.specs.Fired.{IsAfter, IsReached, IsSnapshotSound}
 use Rattle.ds_latch.proofs.Spelt.{range_agree}
-use Rattle.ds_fire.proofs.Opened.{bits_are}
-use Rattle.ds_fire.proofs.Transparent.{held_is_shown}
+use Rattle.ds_fire.proofs.RowsAfterOpening.{bits_are}
+use Rattle.ds_fire.proofs.OpenNodesHold.{held_is_shown}
 use Rattle.ds_rows.specs.Homes.{AreHomes}
 use Rattle.ds_rows.specs.Log.{open_text}
 use Rattle.ds_rows.specs.StateText.{IsStateText}
@@ -21,7 +21,7 @@ use Rattle.ds_rows.specs.declared.homes.Home.{Home}
 use Rattle.ds_replay.specs.OpenLines.{AreShown, IsShownAt, open_line_of, open_lines, open_pair}
 use Rattle.ds_replay.specs.ReplayText.{IsOpenText, IsReplayText}
 use Rattle.ds_replay.specs.Kept.{IsKeptText, open_part, state_text}
-use Rattle.ds_replay.proofs.Registers.{text_of_kept}
+use Rattle.ds_replay.proofs.StoredRegisters.{text_of_kept}
 
 -- no row
 pub none_shown : (kept : Snapshot) (rows : List Row) → rows ≡ []

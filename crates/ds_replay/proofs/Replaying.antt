@@ -11,7 +11,7 @@ use Rattle.ds_latch.specs.Plan.{Planned}
 use Rattle.ds_latch.specs.Firing.{State, first_state}
 use Rattle.ds_fire.specs.Snapshot.{Snapshot, IsFirst, Shows, split_of, graph_of, limit_of, count_of}
 use Rattle.ds_fire.specs.Fired.{IsAfter, IsFired, IsReached, IsSnapshotSound}
-use Rattle.ds_fire.proofs.Reached.{fired_after, kept_counts}
+use Rattle.ds_fire.proofs.OneFiringMore.{fired_after, kept_counts}
 use Rattle.ds_rows.specs.Texts.{event_by_text}
 use Rattle.ds_replay.specs.Replayed.{IsReplayed, Replays}
 use Rattle.ds_replay.specs.Step.{StepsTo}

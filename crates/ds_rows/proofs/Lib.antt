@@ -1,8 +1,8 @@
-pub mod Values
-pub mod Reading
-pub mod Printed
+pub mod RowText
+pub mod RowsSoFar
+pub mod PrintedRows
 pub mod Columns
 pub mod ValueWords
-pub mod Housed
-pub mod Numbers
-pub mod Places
+pub mod RegisterHomes
+pub mod DecimalDigits
+pub mod FirstPlaces

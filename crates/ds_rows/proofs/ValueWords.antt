@@ -10,11 +10,11 @@ use Rattle.std.proofs.lemmas.Nat.{div-mul-add, mod-mul-add}
 use Rattle.ds_base.specs.Values.{Row}
 use Rattle.ds_base.specs.Word.{code_of, number_of_values, word_of}
 use Rattle.ds_base.specs.declared.value.Value.TheVariants.{Zero}
-use Rattle.ds_base.proofs.Words.{code_of-few}
+use Rattle.ds_base.proofs.PackedWords.{code_of-few}
 use Rattle.ds_cover.specs.Cover.{value_at}
 use Rattle.ds_design.specs.Trace.{values_text}
 use Rattle.ds_rows.specs.Log.{at_place, value_words}
-use Rattle.ds_rows.proofs.Values.{value_chars, values_text-some}
+use Rattle.ds_rows.proofs.RowText.{value_chars, values_text-some}
 
 -- the words of a row
 abbrev words_in : ℕ → Row → List ℕ

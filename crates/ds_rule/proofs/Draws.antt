@@ -22,21 +22,21 @@ use Rattle.ds_rule.specs.Plays.{drew}
 use Rattle.ds_rule.specs.declared.view.View.{View}
 use Rattle.ds_rule.proofs.EventLaws.{node-next, turns_up}
 use Rattle.ds_rule.proofs.PlaceLaws.{place_behind, counts_inside}
-use Rattle.ds_rule.proofs.Logs.{visits-here, visits-else, places-here, places-else, times-turns}
-use Rattle.ds_rule.proofs.Logs.{log_most}
-use Rattle.ds_rule.proofs.Views.{pending-calm, ahead-calm}
-use Rattle.ds_rule.proofs.Keeps.{later, renewed, apart}
+use Rattle.ds_rule.proofs.LogCounts.{visits-here, visits-else, places-here, places-else, times-turns}
+use Rattle.ds_rule.proofs.LogCounts.{log_most}
+use Rattle.ds_rule.proofs.PassAtRest.{pending-calm, ahead-calm}
+use Rattle.ds_rule.proofs.StepKeepsRule.{later, renewed, disjoint_holdings}
 
-pub draws : (run : Run) (n id : ℕ) (m : Sat) → m.0.live ≡ true → m.0.stage ≡ 1
+pub draws : (run : Run) (n id : ℕ) (m : Sat) → m.0.live ≡ true → m.0.phase ≡ 1
     → Allows (Lawful run) n id m 0 (λ y. (y + 1) % 2 ^ 64) (drew (step n 0 1 0 none) m)
-draws run n id m live stage s o wide me _ =
+draws run n id m live phase s o wide me _ =
     let v : View = m.0 in let f = o.views id v me live in let r : ℕ = get_or s.words 0 0 in
     let w : View = after_draw v r in
     let up = f.flies (omega arith) in let l : ℕ = v.node in let E : ℕ = event run v in
     let of-l : node_of run E ≡ l = node-next run l (seen v l) in
     let new : ℕ = (r + 1) % 2 ^ 64 in let ws : List ℕ = set s.words 0 new in
     let log : List ℕ = E ∷ o.log in
-    let calm : eqb v.stage 2 ≡ false = ap (λ (y : ℕ). eqb y 2) stage in
+    let calm : eqb v.phase 2 ≡ false = ap (λ (y : ℕ). eqb y 2) phase in
     let same : (x : ℕ) → shown ws x ≡ shown s.words x =
     λ x. get_or-set_other s.words 0 (x + 1) new 0 (λ e. omega arith) in
     let untouched : (x j y : ℕ) → get_or ws (place run x j y) 0 ≡ get_or s.words
@@ -136,8 +136,8 @@ draws run n id m live stage s o wide me _ =
           (λ x h. omega (arith, same x, o.behind x h, rises x))
           mine
           (λ j u other g. later ws log g (λ x h. same x)
-          (λ x h. visits-else run x E o.log (λ t. apart f g other x l up.0 h (sym of-l ∙ t)))
-          (λ e h. places-else e E o.log (λ t. apart f g other (node_of run e) l up.0 h (sym of-l
+          (λ x h. visits-else run x E o.log (λ t. disjoint_holdings f g other x l up.0 h (sym of-l ∙ t)))
+          (λ e h. places-else e E o.log (λ t. disjoint_holdings f g other (node_of run e) l up.0 h (sym of-l
           ∙ ap (node_of run) t)))
           (λ x h. le_of_eq (sym (same x))) (omega arith) (λ x k y h near. untouched x k y)),
       (refl, omega (arith, f.known_drawn, o.next_ticket)),

@@ -16,28 +16,28 @@ use Rattle.atomic_table.proofs.Lists.{at_set, set_else, at_longer, at_last, exch
 use Rattle.ds_rule.specs.Run.{Run, events, node_of, turns}
 use Rattle.ds_rule.specs.Log.{visits, Recorded}
 use Rattle.ds_rule.specs.Rule.{holds, tickets, seen, Fits, Lawful}
-use Rattle.ds_rule.specs.Plays.{Sat, after_point, pointed, learned, without_cut, only_cut, taken_in}
+use Rattle.ds_rule.specs.Plays.{Sat, with_cut, chose_cut, observed, without_cut, only_cut, taken_in}
 use Rattle.ds_rule.specs.Plays.{spent}
 use Rattle.ds_rule.specs.declared.view.View.{View}
-use Rattle.ds_rule.proofs.Lists.{by_bool, set_there, same_at, at_end, replicate-default}
-use Rattle.ds_rule.proofs.Lists.{length-listed, get-listed, get-beyond, has_below}
+use Rattle.ds_rule.proofs.GetElemLemmas.{by_bool, set_there, same_at, at_end, replicate-default}
+use Rattle.ds_rule.proofs.GetElemLemmas.{length-listed, get-listed, get-beyond, has_below}
 use Rattle.ds_rule.proofs.EventLaws.{event_below}
-use Rattle.ds_rule.proofs.Logs.{length-places, times-turns}
-use Rattle.ds_rule.proofs.Views.{St, inside, Rests, rests, moves, to_rest, unwritten}
-use Rattle.ds_rule.proofs.Keeps.{unmoved, apart}
+use Rattle.ds_rule.proofs.LogCounts.{length-places, times-turns}
+use Rattle.ds_rule.proofs.PassAtRest.{St, inside, Rests, rests, moves, to_rest, unwritten}
+use Rattle.ds_rule.proofs.StepKeepsRule.{unmoved, disjoint_holdings}
 
 -- an exchange of a word for itself, whatever it is
-pub points : (run : Run) (n id : ℕ) (m : Sat) (l : ℕ) → m.0.live ≡ true → m.0.stage ≡ 0
-    → Allows (Lawful run) n id m 0 (λ r. either (eqb r l) l r) (pointed (step n 0 l l none) m)
-points run n id m l live rest s o wide me _ = let v : View = m.0 in let f = o.views id v me live in
-    let w : View = after_point v l in let r : ℕ = get_or s.words 0 0 in
+pub chooses_cut : (run : Run) (n id : ℕ) (m : Sat) (l : ℕ) → m.0.live ≡ true → m.0.phase ≡ 0
+    → Allows (Lawful run) n id m 0 (λ r. either (eqb r l) l r) (chose_cut (step n 0 l l none) m)
+chooses_cut run n id m l live rest s o wide me _ = let v : View = m.0 in let f = o.views id v me live in
+    let w : View = with_cut v l in let r : ℕ = get_or s.words 0 0 in
     let mine : Fits run s.words o.log o.owner id w =
     to_rest run s.words o.log o.owner id w (record {
       same_run = f.same_run;
       held_long = f.held_long;
       tickets_long = f.tickets_long;
       seen_long = f.seen_long;
-      stage = rest;
+      phase = rest;
       written = unwritten f rest;
     }) f.owns (λ x h. moves w (rests f rest x h) refl
     (λ e at. refl)) f.known f.known_drawn f.no_clash in
@@ -53,13 +53,13 @@ points run n id m l live rest s o wide me _ = let v : View = m.0 in let f = o.vi
 
 -- with no ticket drawn, each event that is held has the tickets of the log
 pub quiet : {run : Run} {ws log : List ℕ} {owner : ℕ → ℕ} {id : ℕ} {v : View}
-    → Fits run ws log owner id v → v.stage ≡ 0 → (e : ℕ) → holds v (node_of run e) ≡ true
+    → Fits run ws log owner id v → v.phase ≡ 0 → (e : ℕ) → holds v (node_of run e) ≡ true
     → Rattle.ds_rule.specs.Log.places e log ≡ tickets v e
 quiet {run = run} f rest e h = (rests f rest (node_of run e) h).kept e refl
 
-pub learns : (run : Run) (n id : ℕ) (m : Sat) (i : ℕ) → m.0.live ≡ true → m.0.stage ≡ 0
-    → Allows (Lawful run) n id m i (λ y. y) (learned (step n i 0 0 none) m)
-learns run n id m i live rest s o wide me _ = let v : View = m.0 in let f = o.views id v me live in
+pub observes : (run : Run) (n id : ℕ) (m : Sat) (i : ℕ) → m.0.live ≡ true → m.0.phase ≡ 0
+    → Allows (Lawful run) n id m i (λ y. y) (observed (step n i 0 0 none) m)
+observes run n id m i live rest s o wide me _ = let v : View = m.0 in let f = o.views id v me live in
     let Told : Run → Type 0 = λ r. (e : ℕ) → holds v (node_of r e) ≡ true
     → turns r e (seen v (node_of r e)) ≡ length (tickets v e) in
     let told : Told run = λ e h. ap (turns run e) (sym (rests f rest (node_of run e) h).logged)
@@ -103,7 +103,7 @@ moved-here owner c k l e = ap (λ b. cond b k (owner l)) (eq-eqb l c e)
 moved-else : (owner : ℕ → ℕ) (c k l : ℕ) → l ≢ c → moved owner c k l ≡ owner l
 moved-else owner c k l n = ap (λ b. cond b k (owner l)) (ne_eqb l c n)
 
-pub deals : (run : Run) (id : ℕ) (v : View) → v.live ≡ true → v.stage ≡ 0 → holds v v.cut ≡ true
+pub deals : (run : Run) (id : ℕ) (v : View) → v.live ≡ true → v.phase ≡ 0 → holds v v.cut ≡ true
     → Splits (Lawful run) id v (without_cut v) (only_cut v)
 deals run id v live rest has s o me =
     let c : ℕ = v.cut in let k : ℕ = length s.views in let f = o.views id v me live in
@@ -133,7 +133,7 @@ deals run id v live rest has s o me =
       held_long = length-set v.holds c false ∙ f.held_long;
       tickets_long = f.tickets_long;
       seen_long = f.seen_long;
-      stage = rest;
+      phase = rest;
       written = unwritten f rest;
     }) (λ l h. moved-else o.owner c k l (left-not l h)
     ∙ f.owns l (left-has l h)) (λ l h. moves left (rests f rest l (left-has l h)) refl
@@ -144,7 +144,7 @@ deals run id v live rest has s o me =
       held_long = length-set blank c true ∙ (length-replicate (length v.holds) false ∙ f.held_long);
       tickets_long = f.tickets_long;
       seen_long = f.seen_long;
-      stage = rest;
+      phase = rest;
       written = unwritten f rest;
     }) (λ l h. moved-here o.owner c k l (right-is l h))
     (λ l h. moves right (rests f rest l (right-has l h)) refl
@@ -189,7 +189,7 @@ deals run id v live rest has s o me =
           (λ t. subst (λ i. Fits run s.words o.log owner i u) (sym t.0)
           (subst (λ x. Fits run s.words o.log owner id x) t.1 fits-left))
           (λ t. let g = o.views j u t.1 lives in owned owner g
-          (λ l h. moved-else o.owner c k l (λ e. apart f g t.0 l c has h (sym e))))
+          (λ l h. moved-else o.owner c k l (λ e. disjoint_holdings f g t.0 l c has h (sym e))))
           (at_set s.views id j left u old))
           (λ t. subst (λ i. Fits run s.words o.log owner i u) (sym (t.0 ∙ long))
           (subst (λ x. Fits run s.words o.log owner k x) t.1 fits-right))
@@ -228,8 +228,8 @@ both-seen v w l h = get-listed (λ x. max (seen v x) (seen w x)) v.run.nodes l 0
 abbrev taken : (ℕ → ℕ) → View → ℕ → ℕ → ℕ
 taken owner w k l = cond (holds w l) k (owner l)
 
-pub gathers : (run : Run) (id other : ℕ) (v w : View) → v.live ≡ true → w.live ≡ true → v.stage ≡ 0
-    → w.stage ≡ 0 → Joins (Lawful run) id v other w (taken_in v w) spent
+pub gathers : (run : Run) (id other : ℕ) (v w : View) → v.live ≡ true → w.live ≡ true → v.phase ≡ 0
+    → w.phase ≡ 0 → Joins (Lawful run) id v other w (taken_in v w) spent
 gathers run id other v w live live' rest rest' s o me apart-from him =
     let him' : get_elem? s.views other ≡ some w =
     sym (set_else s.views id other (taken_in v w) apart-from) ∙ him in
@@ -268,7 +268,7 @@ gathers run id other v w live live' rest rest' s o me apart-from him =
       tickets_long = length-listed (λ e. cond (holds w (node_of v.run e)) (tickets w e)
           (tickets v e)) (events v.run) ∙ ap events f.same_run;
       seen_long = length-listed (λ l. max (seen v l) (seen w l)) v.run.nodes ∙ nodes-is;
-      stage = rest;
+      phase = rest;
       written = unwritten f rest;
     })
     (λ l h. case (owner l ≡ id) l (λ y. yes-owner l y) (λ n. no-owner l n
@@ -338,7 +338,7 @@ gathers run id other v w live live' rest rest' s o me apart-from him =
 
 -- at the end, where one pass at rest holds all nodes
 pub ends : (run : Run) (s : St) (o : Lawful run s) (id : ℕ) (v : View)
-    → get_elem? s.views id ≡ some v → v.live ≡ true → v.stage ≡ 0
+    → get_elem? s.views id ≡ some v → v.live ≡ true → v.phase ≡ 0
     → ((l : ℕ) → l < run.nodes → holds v l ≡ true) → Recorded run (tickets v) (get_or s.words 0 0)
 ends run s o id v me live rest all = let f = o.views id v me live in record {
   log = o.log;

@@ -16,12 +16,12 @@ use Rattle.ds_rule.specs.Rule.{Lawful}
 use Rattle.ds_rule.specs.Plays.{Sat, after_look, after_depart, looked}
 use Rattle.ds_rule.specs.Plays.{departed}
 use Rattle.ds_rule.specs.declared.view.View.{View}
-use Rattle.ds_rule.proofs.Views.{version-same, pending-calm, ahead-calm, unwritten, rests, moves}
-use Rattle.ds_rule.proofs.Views.{to_rest}
-use Rattle.ds_rule.proofs.Keeps.{unmoved}
+use Rattle.ds_rule.proofs.PassAtRest.{version-same, pending-calm, ahead-calm, unwritten, rests, moves}
+use Rattle.ds_rule.proofs.PassAtRest.{to_rest}
+use Rattle.ds_rule.proofs.StepKeepsRule.{unmoved}
 
 pub looks : (run : Run) (n id : ℕ) (m : Sat) (l i : ℕ) → i ≡ l + 1 → l < run.nodes → m.0.live ≡ true
-    → m.0.stage ≡ 0
+    → m.0.phase ≡ 0
     → Allows (Lawful run) n id m i (λ y. y) (looked (step n i 0 0 none) m)
 looks run n id m l i is near live rest s o wide me _ =
     let v : View = m.0 in let f = o.views id v me live in let r : ℕ = get_or s.words i 0 in
@@ -39,7 +39,7 @@ looks run n id m l i is near live rest s o wide me _ =
       held_long = f.held_long;
       tickets_long = f.tickets_long;
       seen_long = length-set v.seen k r ∙ f.seen_long;
-      stage = rest;
+      phase = rest;
       written = unwritten f rest;
     }) f.owns (λ x h. moves w (rests f rest x h) (still x h) (λ e at. refl))
     (λ x h. dite (ℕ_discrete x k)
@@ -54,13 +54,13 @@ looks run n id m l i is near live rest s o wide me _ =
     )
 
 pub departs : (run : Run) (n id : ℕ) (m : Sat) (l i : ℕ) → i ≡ l + 1 → l < run.nodes
-    → m.0.live ≡ true → m.0.stage ≡ 0 → holds m.0 l ≡ true
+    → m.0.live ≡ true → m.0.phase ≡ 0 → holds m.0 l ≡ true
     → Enabled run (seen m.0) (next run l (seen m.0 l))
     → Allows (Lawful run) n id m i (λ y. y) (departed (step n i 0 0 none) m)
 departs run n id m l i is near live rest has ready s o wide me _ =
     let v : View = m.0 in let f = o.views id v me live in let k : ℕ = i - 1 in
     let w : View = after_depart v k in
-    let here : l ≡ k = omega arith in let calm : eqb v.stage 2 ≡ false =
+    let here : l ≡ k = omega arith in let calm : eqb v.phase 2 ≡ false =
     ap (λ (y : ℕ). eqb y 2) rest in
     let same : (x y : ℕ) → version run w x y ≡ version run v x y =
     λ x y. version-same run v w x y (unwritten f rest) refl refl in

@@ -183,14 +183,14 @@ start_up run l m h = omega (
   nothing run m,
 )
 
-slacks : (run : Run) (w : ℕ) → (run.slack + 1) * w ≡ run.slack * w + w
-slacks run w = let e : run.slack + 1 ≡ suc run.slack = omega arith in
+next_slack-times : (run : Run) (w : ℕ) → (run.slack + 1) * w ≡ run.slack * w + w
+next_slack-times run w = let e : run.slack + 1 ≡ suc run.slack = omega arith in
     ap (λ (x : ℕ). x * w) e ∙ (omega (arith, suc-mul run.slack w))
 
 pub start-words : (run : Run) (l : ℕ) → l < length run.lengths
     → place run (l + 1) 0 0 ≡ place run l 0 0 + width run l + run.slack * width run l
 start-words run l h = let e : l + 1 ≡ suc l = omega arith in
-    ap (λ (x : ℕ). place run x 0 0) e ∙ omega (arith, start-next run l h, slacks run (width run l))
+    ap (λ (x : ℕ). place run x 0 0) e ∙ omega (arith, start-next run l h, next_slack-times run (width run l))
 
 pub start_inside : (run : Run) (l : ℕ) → l ≤ run.nodes → place run l 0 0 ≤ size run
 start_inside run l h = omega (arith, start_up run l run.nodes h, size-start run)

@@ -22,19 +22,19 @@ use Rattle.ds_rule.specs.Plays.{Sat, after_publish}
 use Rattle.ds_rule.specs.Plays.{published}
 use Rattle.ds_marked.specs.declared.marked.Arc.{Arc}
 use Rattle.ds_rule.specs.declared.view.View.{View}
-use Rattle.ds_rule.proofs.Lists.{by_bool}
+use Rattle.ds_rule.proofs.GetElemLemmas.{by_bool}
 use Rattle.ds_rule.proofs.EventLaws.{node-next, turns-next, turns-other, turns_up}
 use Rattle.ds_rule.proofs.EventLaws.{event_below}
 use Rattle.ds_rule.proofs.EventLaws.{opened-opens, opened-else}
 use Rattle.ds_rule.proofs.PlaceLaws.{place_behind, counts_inside}
-use Rattle.ds_rule.proofs.Views.{version-old, version-new}
-use Rattle.ds_rule.proofs.Keeps.{later, renewed, apart}
+use Rattle.ds_rule.proofs.PassAtRest.{version-old, version-new}
+use Rattle.ds_rule.proofs.StepKeepsRule.{later, renewed, disjoint_holdings}
 
 pub publishes : (run : Run) (n id : ℕ) (m : Sat) (i new : ℕ) → i ≡ m.0.node + 1
-    → new ≡ seen m.0 m.0.node + 1 → m.0.live ≡ true → m.0.stage ≡ 2
+    → new ≡ seen m.0 m.0.node + 1 → m.0.live ≡ true → m.0.phase ≡ 2
     → (opens run (event run m.0) ≡ true → width run m.0.node ≤ m.0.written)
     → Allows (Lawful run) n id m i (λ _. new) (λ _. published (step n i new 0 none) m new)
-publishes run n id m i new at-node more live stage whole s o wide me _ =
+publishes run n id m i new at-node more live phase whole s o wide me _ =
     let v : View = m.0 in let f = o.views id v me live in let l : ℕ = v.node in
     let w : View = after_publish v in let log : List ℕ = o.log in
     let P : ℕ → Type 0 = λ j. (x : View) × (a : Act ℕ) × Valid s.homes m.1 a
@@ -81,9 +81,9 @@ publishes run n id m i new at-node more live stage whole s o wide me _ =
     let S-else : (x : ℕ) → x ≢ l → seen w x ≡ seen v x =
     λ x e. get_or-set_other v.seen l x (F + 1) 0 e in
     let pends : (e : ℕ) → pending run v e ≡ cond (eqb E e) (v.ticket ∷ []) [] =
-    λ e. ap (λ (y : ℕ). cond (eqb y 2) (cond (eqb E e) (v.ticket ∷ []) []) []) stage in
+    λ e. ap (λ (y : ℕ). cond (eqb y 2) (cond (eqb E e) (v.ticket ∷ []) []) []) phase in
     let aheads : (x : ℕ) → ahead v x ≡ cond (eqb l x) 1 0 =
-    λ x. ap (λ (y : ℕ). cond (eqb y 2) (cond (eqb l x) 1 0) 0) stage in
+    λ x. ap (λ (y : ℕ). cond (eqb y 2) (cond (eqb l x) 1 0) 0) phase in
     let drew-it : visits run l log ≡ F + 1 = omega (
       arith,
       f.logged l up.0,
@@ -206,7 +206,7 @@ publishes run n id m i new at-node more live stage whole s o wide me _ =
             drew-it,
           )) (λ e. omega (arith, same x e, o.behind x h)))
           mine
-          (λ j u other g. later ws log g (λ x h. same x (λ e. apart f g other x l up.0 h (sym e)))
+          (λ j u other g. later ws log g (λ x h. same x (λ e. disjoint_holdings f g other x l up.0 h (sym e)))
           (λ x h. refl) (λ e h. refl) (λ x h. rises x) (le_refl (length log))
           (λ x k y h near'. untouched x k y)),
       refl,

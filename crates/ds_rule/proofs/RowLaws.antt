@@ -13,7 +13,7 @@ use Rattle.ds_rule.specs.Rule.{seen}
 use Rattle.ds_rule.specs.Plays.{listed}
 use Rattle.ds_rule.specs.declared.layout.DataEdge.{DataEdge}
 use Rattle.ds_rule.specs.declared.view.View.{View}
-use Rattle.ds_rule.proofs.Lists.{at_or, length-listed, get-listed}
+use Rattle.ds_rule.proofs.GetElemLemmas.{at_or, length-listed, get-listed}
 use Rattle.ds_rule.proofs.PlaceLaws.{place-word}
 
 pub listed-next : {A : Type 0} (f : ℕ → A) (n : ℕ) → listed f (n + 1) ≡ listed f n ++ f n ∷ []

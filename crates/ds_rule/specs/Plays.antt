@@ -32,7 +32,7 @@ looked st m r n = (n ≡ (after_look m.0 (st.word - 1) r, m.1))
 -- the flight of the node l begins, by a load of its own count
 abbrev pub after_depart : View → ℕ → View
 after_depart v l = record v {
-  stage = 1;
+  phase = 1;
   node = l;
   written = 0;
   looks = v.looks + 1;
@@ -63,7 +63,7 @@ wrote st m r n = n ≡ (after_write m.0, m.1)
 
 -- the ticket t is drawn
 abbrev pub after_draw : View → ℕ → View
-after_draw v t = record v { stage = 2; ticket = t; drawn = t + 1 }
+after_draw v t = record v { phase = 2; ticket = t; drawn = t + 1 }
 
 -- a ticket was drawn, which is not below what was known to be drawn
 abbrev pub drew : Play
@@ -72,7 +72,7 @@ drew st m r n = (n ≡ (after_draw m.0 r, m.1)) × (m.0.drawn ≤ r)
 -- the firing is kept, and the flight ends
 abbrev pub after_publish : View → View
 after_publish v = record v {
-  stage = 0;
+  phase = 0;
   written = 0;
   tickets = slice_set v.tickets (event v.run v) (tickets v (event v.run v) ++ v.ticket ∷ []);
   seen = slice_set v.seen v.node (seen v v.node + 1);
@@ -83,19 +83,19 @@ abbrev pub published : Play
 published st m r n = n ≡ (after_publish m.0, m.1)
 
 -- nothing changes; each event that is held has a ticket for each firing, and no node was held twice
-abbrev pub learned : Play
-learned st m r n = (n ≡ m)
+abbrev pub observed : Play
+observed st m r n = (n ≡ m)
     × ((e : ℕ) → holds m.0 (node_of m.0.run e) ≡ true
     → turns m.0.run e (seen m.0 (node_of m.0.run e)) ≡ length (tickets m.0 e))
     × ((l : ℕ) → slice_index_or m.0.clash l false ≡ false)
 
 -- the node l is to be dealt
-abbrev pub after_point : View → ℕ → View
-after_point v l = record v { cut = l }
+abbrev pub with_cut : View → ℕ → View
+with_cut v l = record v { cut = l }
 
 -- word 0 was exchanged for itself
-abbrev pub pointed : Play
-pointed st m r n = n ≡ (after_point m.0 st.first, m.1)
+abbrev pub chose_cut : Play
+chose_cut st m r n = n ≡ (with_cut m.0 st.first, m.1)
 
 -- what is left of a pass after the deal
 abbrev pub without_cut : View → View
@@ -138,7 +138,7 @@ spent = record {
   looks = 0;
   last_node = 0;
   last_seen = 0;
-  stage = 0;
+  phase = 0;
   node = 0;
   ticket = 0;
   written = 0;

@@ -29,7 +29,7 @@ IsStarts run starts = (length starts ≡ run.nodes) × ((l : ℕ) → l < run.no
 -- the pass is in flight with opening number k of the node
 pub record IsOpening (run : Run) (v : View) (l k : ℕ) : Type 0 where
   pub live : v.live ≡ true
-  pub stage : v.stage ≡ 1
+  pub phase : v.phase ≡ 1
   pub node_is : v.node ≡ l
   pub near : l < run.nodes
   pub begins : opens run (event run v) ≡ true

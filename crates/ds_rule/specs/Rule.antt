@@ -33,11 +33,11 @@ event run v = next run v.node (seen v v.node)
 
 -- the ticket that is drawn and not yet published
 abbrev pub pending : Run → View → ℕ → List ℕ
-pending run v e = cond (v.stage == 2) (cond (event run v == e) (v.ticket ∷ []) []) []
+pending run v e = cond (v.phase == 2) (cond (event run v == e) (v.ticket ∷ []) []) []
 
 -- 1 at the node whose ticket is drawn and not yet published
 abbrev pub ahead : View → ℕ → ℕ
-ahead v l = cond (v.stage == 2) (cond (v.node == l) 1 0) 0
+ahead v l = cond (v.phase == 2) (cond (v.node == l) 1 0) 0
 
 -- the number of the latest value that word i of a node has been given
 abbrev pub version : Run → View → ℕ → ℕ → ℕ
@@ -61,9 +61,9 @@ pub record Fits (run : Run) (words log : List ℕ) (owner : ℕ → ℕ) (id : �
   -- the value words: the last openings of a node stand in its places
   pub values : (l k i : ℕ) → holds v l ≡ true → i < width run l → k ≤ version run v l i
       → version run v l i ≤ k + run.slack → slice_index words (place run l k i) ≡ value run l k i
-  pub writes : 0 < v.written → (0 < v.stage) × (opens run (event run v) ≡ true)
+  pub writes : 0 < v.written → (0 < v.phase) × (opens run (event run v) ≡ true)
   -- what is in flight is enabled at what was seen
-  pub flies : 0 < v.stage → (holds v v.node ≡ true) × (v.node < run.nodes)
+  pub flies : 0 < v.phase → (holds v v.node ≡ true) × (v.node < run.nodes)
       × Enabled run (seen v) (event run v)
   pub no_clash : (l : ℕ) → slice_index_or v.clash l false ≡ false
 
@@ -97,7 +97,7 @@ first_view run = record {
   looks = 0;
   last_node = 0;
   last_seen = 0;
-  stage = 0;
+  phase = 0;
   node = 0;
   ticket = 0;
   written = 0;

@@ -16,6 +16,8 @@ mod sizes;
 mod view;
 
 pub use layout::{DataEdge, Layout, Rows, turns_of};
-pub use plays::{Deal, Depart, Draw, Gather, Learn, Look, Order, Point, Publish, Read, Write};
+pub use plays::{
+    ChooseCut, Deal, Depart, Draw, Gather, Look, Observe, Order, Publish, Read, Write,
+};
 pub use sizes::Sizes;
 pub use view::View;

@@ -2,7 +2,7 @@
 //! and gives.
 ghost use Rattle.ds_rule.specs.Rule.{Lawful, first_view};
 ghost use Rattle.ds_rule.specs.Plays.{looked, departed, read, wrote, drew, published};
-ghost use Rattle.ds_rule.specs.Plays.{learned, pointed, without_cut, only_cut, taken_in, spent};
+ghost use Rattle.ds_rule.specs.Plays.{observed, chose_cut, without_cut, only_cut, taken_in, spent};
 
 use crate::layout::{Layout, Rows};
 use crate::view::View;
@@ -60,10 +60,10 @@ impl Play<u8, View> for Publish {
 }
 
 /// An exchange that leaves word 0 as it is, and names the node that is to be dealt.
-pub struct Point;
+pub struct ChooseCut;
 
-impl Play<u8, View> for Point {
-    ghost then = { pointed };
+impl Play<u8, View> for ChooseCut {
+    ghost then = { chose_cut };
 }
 
 /// The node that was named goes to a new pass.
@@ -85,8 +85,8 @@ impl Join<View> for Gather {
 }
 
 /// A load after a `Gather`, which shows that no node stood twice among those it holds.
-pub struct Learn;
+pub struct Observe;
 
-impl Play<u8, View> for Learn {
-    ghost then = { learned };
+impl Play<u8, View> for Observe {
+    ghost then = { observed };
 }

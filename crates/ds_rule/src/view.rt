@@ -23,7 +23,7 @@ pub struct View {
     pub ghost last_seen: { ℕ },
     // What follows keeps book for the proof, and no caller sees it.
     // 0 at rest, 1 in flight, 2 once the ticket is drawn.
-    pub ghost stage: { ℕ },
+    pub ghost phase: { ℕ },
     pub ghost node: { ℕ },
     pub ghost ticket: { ℕ },
     // In the flight of an opening, how many value words are written.

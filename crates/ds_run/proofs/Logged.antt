@@ -7,13 +7,13 @@ use Rattle.std.proofs.lemmas.Bool.{cases_eq}
 use Rattle.std.proofs.lemmas.List.{get_or-set_other, get_or-set_same, append-nil}
 use Rattle.std.proofs.lemmas.List.Elements.{All-cons, All-nil}
 use Rattle.std.proofs.lemmas.Option.{slice_get_read}
-use Rattle.ds_base.proofs.Lists.{get_or-self}
+use Rattle.ds_base.proofs.ListLemmas.{get_or-self}
 use Rattle.ds_marked.specs.Graph.{Graph, IsLegalFrom, counted, counts_after}
 use Rattle.ds_marked.specs.declared.marked.Event.{Event}
 use Rattle.ds_marked.specs.declared.marked.Kind.TheVariants.{Dummy}
-use Rattle.ds_marked.proofs.Firings.{counted-same, counted-other}
+use Rattle.ds_marked.proofs.CountLemmas.{counted-same, counted-other}
 use Rattle.ds_marked.specs.Log.{IsEventText, IsLog, IsLogFrom, event_text, text_of_event}
-use Rattle.ds_marked.proofs.Logs.{logs_in_windows}
+use Rattle.ds_marked.proofs.LogWindows.{logs_in_windows}
 use Rattle.ds_rows.specs.Log.{firing_text}
 
 -- each event of a legal list is one of the graph

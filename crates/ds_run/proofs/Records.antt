@@ -7,13 +7,13 @@ use Rattle.ds_base.specs.Values.{Row}
 use Rattle.ds_latch.specs.Node.{IsNode, number_of, nodes}
 use Rattle.ds_latch.specs.declared.node.Node.{Node}
 use Rattle.ds_latch.specs.Plan.{Planned, split_events}
-use Rattle.ds_latch.proofs.Counts.{number_below}
-use Rattle.ds_latch.proofs.Rising.{events_long}
+use Rattle.ds_latch.proofs.OrderTokens.{number_below}
+use Rattle.ds_latch.proofs.OrdersRise.{events_long}
 use Rattle.ds_rule.specs.Run.{Run, node_of}
 use Rattle.ds_rule.specs.Log.{InTurn, firings, places, times}
 use Rattle.ds_rule.specs.Rule.{tickets}
-use Rattle.ds_rule.proofs.Lists.{at_below}
-use Rattle.ds_rule.proofs.Logs.{drawn, length-firings, length-places, node_inside, ticket_below}
+use Rattle.ds_rule.proofs.GetElemLemmas.{at_below}
+use Rattle.ds_rule.proofs.LogCounts.{ticket_of_some, length-firings, length-places, node_inside, ticket_below}
 use Rattle.ds_fabric.specs.Showing.{IsFiredInOrder, Recorder}
 use Rattle.ds_run.specs.Played.{IsPlayed, IsRecordOf}
 
@@ -64,7 +64,7 @@ no_longer : (run : Run) (xs ys : List ℕ) → InTurn run xs
 no_longer run xs ys turn same =
     elim (cases_lt (length ys) (length xs)) [
       | inl more ↦
-          (let (e, k, at) = drawn xs (length ys) more in
+          (let (e, k, at) = ticket_of_some xs (length ys) more in
           let inside : k < length (places e xs) = at_below (places e xs) k (length ys) at in
           let there : 0 < times e xs = omega (arith, inside, length-places e xs) in
           let near : node_of run e < run.nodes = node_inside run xs e turn there in

@@ -8,7 +8,7 @@ use Rattle.ds_cover.specs.Cover.{value_at}
 use Rattle.ds_design.specs.Circuit.{columns}
 use Rattle.ds_design.specs.Rows.{Rows}
 use Rattle.ds_design.specs.Run.{IsRun}
-use Rattle.ds_design.proofs.Runs.{one_run}
+use Rattle.ds_design.proofs.ClockedRuns.{one_run}
 use Rattle.ds_opening.specs.Groups.{Grouping}
 use Rattle.ds_latch.specs.Node.{Split}
 use Rattle.ds_rule.specs.Run.{Run}
@@ -20,7 +20,7 @@ use Rattle.ds_opening.specs.Noted.{IsNotedOpening}
 use Rattle.ds_opening.specs.Woven.{IsOpeningOf}
 use Rattle.ds_opening.specs.declared.opening.Opening.{Opening}
 use Rattle.ds_run.specs.Openings.{AreOpenings, memory_of}
-use Rattle.ds_run.proofs.Opened.{Opens}
+use Rattle.ds_run.proofs.ComputedOpenings.{Opens}
 
 module _ {s : Split} {vectors : Rows} {run : Run} {groups : Grouping} {order : List ℕ}
     {starts : List Row} (w : AreOpenings s vectors run groups order starts) where

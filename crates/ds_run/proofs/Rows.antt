@@ -8,7 +8,7 @@ use Rattle.ds_latch.specs.Node.{IsNode, number_of, nodes}
 use Rattle.ds_latch.specs.declared.node.Node.{Node}
 use Rattle.ds_latch.specs.Numbered.{numbered}
 use Rattle.ds_latch.specs.Plan.{Planned}
-use Rattle.ds_latch.proofs.Counts.{number_below}
+use Rattle.ds_latch.proofs.OrderTokens.{number_below}
 use Rattle.ds_opening.specs.Packed.{packed}
 use Rattle.ds_rule.specs.Run.{Run}
 use Rattle.ds_rule.specs.Rows.{row}

@@ -6,7 +6,7 @@ use Rattle.ds_base.specs.Word.{count_of_words}
 use Rattle.ds_rule.specs.Run.{Run}
 use Rattle.ds_rule.specs.Words.{widths, width, before, size}
 use Rattle.ds_rule.specs.Sound.{edge_at, read_words}
-use Rattle.ds_rule.proofs.Lists.{get-beyond}
+use Rattle.ds_rule.proofs.GetElemLemmas.{get-beyond}
 use Rattle.ds_rule.proofs.PlaceLaws.{width-is}
 
 -- rows that take at most so many words each, of nodes behind which rows take none

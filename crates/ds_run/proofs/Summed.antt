@@ -10,9 +10,9 @@ use Rattle.ds_latch.specs.Plan.{Planned}
 use Rattle.ds_design.specs.Run.{IsRun}
 use Rattle.ds_design.specs.Trace.{end_line, trace_line}
 use Rattle.ds_clocked.specs.Loop.{IsWrittenTo}
-use Rattle.ds_clocked.proofs.Turns.{last_turn, no_turn, whole_trace}
+use Rattle.ds_clocked.proofs.OneMoreTurn.{last_turn, no_turn, whole_trace}
 use Rattle.ds_demo.specs.Fold.{Folded, nothing, fold_after}
-use Rattle.ds_demo.proofs.Sums.{fold_after-append, sum_of_text}
+use Rattle.ds_demo.proofs.TextSums.{fold_after-append, sum_of_text}
 use Rattle.ds_rule.specs.Words.{node_values as stored_at}
 use Rattle.ds_fabric.specs.Showing.{Recorder}
 use Rattle.ds_run.specs.Layout.{AreValues}
@@ -21,7 +21,7 @@ use Rattle.ds_run.specs.Line.{IsGathered}
 use Rattle.ds_run.specs.Played.{IsPlayed}
 use Rattle.ds_run.specs.Summed.{IsSummed, IsSummedTo, ones_in, ones_of}
 use Rattle.ds_run.proofs.NodeRecords.{latches_among, out_near, out_wide}
-use Rattle.ds_run.proofs.Turns.{turn_written}
+use Rattle.ds_run.proofs.FinishedTurns.{turn_written}
 
 -- the ones of one turn more
 pub ones_more : (c : Circuit) (nets : ℕ → Row) (k : ℕ)

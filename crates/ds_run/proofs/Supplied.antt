@@ -9,8 +9,8 @@ use Rattle.std.proofs.lemmas.List.Kept.{AllPairs-filter}
 use Rattle.ds_latch.specs.Node.{Split, IsNode, number_of}
 use Rattle.ds_latch.specs.declared.node.Node.{Node}
 use Rattle.ds_latch.specs.Order.{IsDataEdge, open_tokens}
-use Rattle.ds_latch.proofs.Counts.{same_node}
-use Rattle.ds_latch.proofs.Rising.{edge_nodes}
+use Rattle.ds_latch.proofs.OrderTokens.{same_node}
+use Rattle.ds_latch.proofs.OrdersRise.{edge_nodes}
 use Rattle.ds_opening.specs.Packed.{packed}
 use Rattle.ds_opening.specs.Woven.{AreProducers, Turn, read_of, woven}
 use Rattle.ds_rule.specs.Run.{Run}

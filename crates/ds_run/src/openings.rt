@@ -15,7 +15,7 @@ use ds_base::{LatchId, OutOfMemory, Row3, Scratch};
 use ds_design::Vectors;
 use ds_fabric::Compute;
 use ds_latch::{Latches, Node, Plan};
-use ds_opening::{Groups, Opening, groups_of, is_learnt, open};
+use ds_opening::{Opening, TableGroups, groups_of, is_learnt, open};
 use ds_rule::Layout;
 use ds_settle::Cone;
 use ds_split::cones_of;
@@ -28,7 +28,7 @@ pub struct Openings<'a, 'n> {
     run: &'a Layout<Foreseen<'a, 'n>>,
     latches: &'a Latches<'n>,
     vectors: &'a Vectors,
-    groups: Groups<'n>,
+    groups: TableGroups<'n>,
     // How many tables and sources the cones of OUT, M0, M1, .. have.
     sizes: Vec<u64>,
     // The places of the tables, each behind those that it reads. Contracts alone read them.
@@ -171,7 +171,10 @@ impl<'a, 'n> Compute for Openings<'a, 'n> {
 }
 
 // The groups of the tables that the nodes settle, and how many tables and sources each cone has.
-fn grouped<'n>(alloc: Global, latches: &Latches<'n>) -> Result<(Groups<'n>, Vec<u64>), OutOfMemory>
+fn grouped<'n>(
+    alloc: Global,
+    latches: &Latches<'n>,
+) -> Result<(TableGroups<'n>, Vec<u64>), OutOfMemory>
     requires { IsInRange latches.now.circuit × IsSplit latches.now }
     ensures { IfOk result (λ r. AreConeGroups latches.now r.0) }
 {

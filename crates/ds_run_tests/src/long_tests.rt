@@ -8,14 +8,14 @@ use std::thread::Threads;
 
 // What stands before and behind two numbers, the second of which is one more.
 #[derive(Clone, Copy)]
-struct Step<'t> {
+struct StepText<'t> {
     before: &'t str,
     between: &'t str,
     behind: &'t str,
 }
 
 // Appends so many steps, each with its number, from 0.
-fn push_steps(text: &mut String, step: Step<'_>, count: u64) -> Result<(), AllocError> {
+fn push_steps(text: &mut String, step: StepText<'_>, count: u64) -> Result<(), AllocError> {
     let mut here = Buffer::new();
     let mut next = Buffer::new();
     for i in 0..count {
@@ -39,7 +39,7 @@ fn push_times(text: &mut String, piece: &str, count: usize) -> Result<(), AllocE
 // 20,000 models, each of which uses the next one.
 fn models(alloc: Global) -> Result<String, AllocError> {
     let mut text = String::new(alloc);
-    let step = Step {
+    let step = StepText {
         before: ".model m",
         between: "\n.inputs a\n.subckt m",
         behind: " a=a\n.end\n",
@@ -52,7 +52,7 @@ fn models(alloc: Global) -> Result<String, AllocError> {
 // 60,000 tables, each of which reads the one before.
 fn tables(alloc: Global) -> Result<String, AllocError> {
     let mut text = String::from_str(alloc, ".model chain\n.inputs t0\n.outputs t60000\n")?;
-    let step = Step {
+    let step = StepText {
         before: ".names t",
         between: " t",
         behind: "\n0 1\n",

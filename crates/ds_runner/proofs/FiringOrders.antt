@@ -18,7 +18,7 @@ use Rattle.ds_fabric.specs.Stepped.{FiresWith, done}
 use Rattle.ds_fabric.specs.declared.step.Step.TheVariants.{Fired}
 use Rattle.ds_runner.specs.Work.{HasFrom, Moved, all_tickets}
 use Rattle.ds_runner.specs.FiringOrder.{IsDue, IsFiringOrder, StandsAt}
-use Rattle.ds_runner.proofs.Tickets.{tickets-step}
+use Rattle.ds_runner.proofs.TicketCounts.{tickets-step}
 
 -- a pass that moved on has the nodes that it had
 pub still_has : (m : Memory) (p q : Showing) → HasFrom p.view 0 → Moved m p q → HasFrom q.view 0

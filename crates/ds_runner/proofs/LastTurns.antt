@@ -10,14 +10,14 @@ use lib.ListN.{get_elem?}
 use Rattle.atomic_table.specs.Table.{Splits, Joins, Allows, step, keeps}
 use Rattle.atomic_table.proofs.Lists.{at_set, set_else, at_longer}
 use Rattle.ds_rule.specs.Rule.{seen}
-use Rattle.ds_rule.proofs.Lists.{set_there, same_at, at_end, replicate-default, there_is}
+use Rattle.ds_rule.proofs.GetElemLemmas.{set_there, same_at, at_end, replicate-default, there_is}
 use Rattle.ds_runner.specs.declared.turn_view.TurnView.{TurnView}
 use Rattle.ds_runner.specs.declared.turning.Key.{Key}
 use Rattle.std.proofs.Common.{Some}
 use Rattle.ds_fabric.specs.Showing.{Showing}
-use Rattle.ds_runner.specs.Turns.{Slot, Alone, fabric, run, has_out, taken, nodes_of_key, Turning, TurnSeat, base, sum_below, learned_parts, keeps_parts, one_part, joined, spent_turn}
-use Rattle.ds_runner.proofs.Wheels.{St, sum_changed, sum_same, unmoved, part, two_parts, word_home}
-use Rattle.ds_runner.proofs.Starts.{fires_of, fires-at, sum-fires}
+use Rattle.ds_runner.specs.Turns.{Slot, Alone, fabric, run, has_out, taken, nodes_of_key, Turning, TurnSeat, base, sum_below, observed_parts, keeps_parts, one_part, joined, spent_turn}
+use Rattle.ds_runner.proofs.TurnstileRuleLemmas.{St, sum_changed, sum_same, unmoved, part, two_parts, word_home}
+use Rattle.ds_runner.proofs.TurnstileAtStart.{fires_of, fires-at, sum-fires}
 
 pub splits : (k : Key) (id : ℕ) (v : TurnView) → v.live ≡ true → 1 < v.parts → Splits (Turning k) id v (keeps_parts v) (one_part v)
 splits k id v live some-parts s o me =
@@ -120,9 +120,9 @@ joins k id other v w live live' none-out s o me apart him =
     }
 
 -- a load tells how many parts there may be
-pub learns : (k : Key) (n id : ℕ) (m : TurnSeat)
-    → Allows (Turning k) n id m 0 (λ y. y) (learned_parts (step n 0 0 0 none) m)
-learns k n id m s o wide me _ = (
+pub observes_parts : (k : Key) (n id : ℕ) (m : TurnSeat)
+    → Allows (Turning k) n id m 0 (λ y. y) (observed_parts (step n 0 0 0 none) m)
+observes_parts k n id m s o wide me _ = (
   m.0,
   keeps,
   tt,
@@ -131,10 +131,10 @@ learns k n id m s o wide me _ = (
 )
 
 -- the turn that has all parts and no node out finds the pass of every node in its slot
-pub homely : (k : Key) (s : St) (o : Turning k s) (id : ℕ) (v : TurnView) → get_elem? s.views id ≡ some v → v.live ≡ true → v.parts ≡ k.turns → ((j : ℕ) → has_out v j ≡ false)
+pub every_pass_home : (k : Key) (s : St) (o : Turning k s) (id : ℕ) (v : TurnView) → get_elem? s.views id ≡ some v → v.live ≡ true → v.parts ≡ k.turns → ((j : ℕ) → has_out v j ≡ false)
     → (xs : List Slot) → length s.homes ≡ length xs → ((j : ℕ) (y : Slot) → get_elem? s.homes j ≡ some (some y) → get_elem? xs j ≡ some y)
     → (l : ℕ) → l < nodes_of_key k → (p : Showing) × (get_elem? xs l ≡ some (Some p)) × Alone (fabric k) (run k) l p × (seen p.view l ≡ o.fires l)
-homely k s o id v me live all none-out xs long stay l near =
+every_pass_home k s o id v me live all none-out xs long stay l near =
     let r = o.home l near (word_home k s o id v me live all l (none-out l) near) in (r.0, stay l (Some r.0) r.1, r.2, r.3)
 
 abbrev made-of : TurnView → ℕ

@@ -1,14 +1,14 @@
 -- Sums, tickets and firings; then lemmas of passes, turns and rounds, and of the end.
-pub mod Starts
-pub mod Wheels
+pub mod TurnstileAtStart
+pub mod TurnstileRuleLemmas
 pub mod LastTurns
-pub mod Shelves
-pub mod Sums
-pub mod Tickets
-pub mod Firings
-pub mod Work
+pub mod SlotLemmas
+pub mod FiniteSums
+pub mod TicketCounts
+pub mod NodeFirings
+pub mod WorkLemmas
 pub mod FiringOrders
-pub mod Visits
-pub mod Hired
-pub mod Borders
-pub mod Ends
+pub mod VisitLemmas
+pub mod HiringLemmas
+pub mod BorderLemmas
+pub mod FinalRecord

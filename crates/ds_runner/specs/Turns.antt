@@ -172,8 +172,8 @@ abbrev pub rests_now : TurnPlay
 rests_now st m r n = n ≡ (rested m.0, [])
 
 -- all parts together are few
-abbrev pub learned_parts : TurnPlay
-learned_parts st m r n = (n ≡ m) × (m.0.parts < 4294967296)
+abbrev pub observed_parts : TurnPlay
+observed_parts st m r n = (n ≡ m) × (m.0.parts < 4294967296)
 
 -- the empty slot of a node that is out comes to hand
 abbrev pub fetched : TurnPlay

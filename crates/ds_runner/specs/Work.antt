@@ -13,7 +13,7 @@ use Rattle.ds_fabric.specs.Showing.{Showing, Belongs}
 use Rattle.ds_runner.specs.Turns.{Alone, HasNone, fabric_of, run_of, base, sum_below}
 use Rattle.ds_runner.specs.Shown.{Stile, IsTurnOf}
 use Rattle.ds_runner.specs.declared.budget.Budget.{Budget}
-use Rattle.ds_runner.specs.declared.crew.Crew.{Crew}
+use Rattle.ds_runner.specs.declared.worker_pool.WorkerPool.{WorkerPool}
 use Rattle.ds_runner.specs.declared.fired.Fired.{Fired}
 use Rattle.ds_runner.specs.declared.worker.Worker.{Worker}
 
@@ -76,17 +76,17 @@ made_of w = w.turn.view.made
 
 -- workers who together with the turn that is left have all parts, and no node is out; the passes
 -- were given before anything fired
-pub record IsCrew (b : Base) (c : Crew) : Type 0 where
-  pub fits : HasPassOfEach b c.gear.stile
-  pub belongs : IsTurnOf c.gear.stile c.turn
+pub record IsWorkerPool (b : Base) (c : WorkerPool) : Type 0 where
+  pub fits : HasPassOfEach b c.scheduler.stile
+  pub belongs : IsTurnOf c.scheduler.stile c.turn
   pub none : HasNone c.turn.view
   pub made : c.turn.view.made ≡ 0
-  pub unfired : base 0 c.gear.stile.given ≡ 0
-  pub parts : c.turn.view.parts + length c.workers.items ≡ c.gear.stile.turns
-  pub are : All (IsWorker b c.gear.stile) c.workers.items
+  pub unfired : base 0 c.scheduler.stile.given ≡ 0
+  pub parts : c.turn.view.parts + length c.workers.items ≡ c.scheduler.stile.turns
+  pub are : All (IsWorker b c.scheduler.stile) c.workers.items
   pub some_workers : 0 < length c.workers.items
   pub empty : c.passes.items ≡ []
-  pub room : length c.gear.stile.given ≤ vec_capacity c.passes
+  pub room : length c.scheduler.stile.given ≤ vec_capacity c.passes
 
 -- one for an event that is there
 abbrev pub one_of : Option ℕ → ℕ

@@ -9,8 +9,8 @@ ghost use Rattle.ds_runner.specs.FiringOrder.{IsFiringOrder};
 ghost use Rattle.ds_runner.specs.Work.{HasFrom, Moved, Advances, AdvancesBelow, all_tickets};
 
 use crate::in_order::fire_turns;
-use crate::site::Site;
 use crate::unit::unit;
+use crate::workload::Workload;
 use ds_base::EventId;
 use ds_fabric::{Compute, Pass, Step};
 use ds_outside::Gate;
@@ -26,44 +26,44 @@ pub struct Caller {
 /// Fires each event as often as it may, with a pass that holds all nodes, until the caller has
 /// nothing left: in this order, where there is one, and what that leaves by rounds.
 pub fn complete<J: Rows, C: Compute, G: Gate>(
-    site: &Site<'_, '_, J, C, G>,
+    workload: &Workload<'_, '_, J, C, G>,
     pass: &mut Pass,
     order: &[EventId],
     caller: Caller,
 )
-    requires accepted { IsSound site.now.run × IsRunAccepted site.now.run }
-    requires fits { Belongs site.now pass.old }
+    requires accepted { IsSound workload.now.run × IsRunAccepted workload.now.run }
+    requires fits { Belongs workload.now pass.old }
     requires all { HasFrom pass.old.view 0 }
-    requires order { 0 < length order.now → IsFiringOrder site.now.run order.now }
-    ensures moved { Moved site.now.memory pass.old pass.new }
+    requires order { 0 < length order.now → IsFiringOrder workload.now.run order.now }
+    ensures moved { Moved workload.now.memory pass.old pass.new }
     ensures most { all_tickets pass.new.view ≤ all_tickets pass.old.view + caller.rest }
     ensures done { all_tickets pass.new.view < all_tickets pass.old.view + caller.rest
-        → (e : ℕ) → node_of site.now.run e < site.now.run.nodes
-        → site.now.run.limit ≤ count site.now.run (seen pass.new.view) e }
+        → (e : ℕ) → node_of workload.now.run e < workload.now.run.nodes
+        → workload.now.run.limit ≤ count workload.now.run (seen pass.new.view) e }
 {
     let mut own = caller;
-    fire_turns(site, pass, order, &mut own);
-    fire_rounds(site, pass, own);
+    fire_turns(workload, pass, order, &mut own);
+    fire_rounds(workload, pass, own);
 }
 
 // The same by rounds over all nodes.
 fn fire_rounds<J: Rows, C: Compute, G: Gate>(
-    site: &Site<'_, '_, J, C, G>,
+    workload: &Workload<'_, '_, J, C, G>,
     pass: &mut Pass,
     caller: Caller,
 )
-    requires accepted { IsSound site.now.run × IsRunAccepted site.now.run }
-    requires fits { Belongs site.now pass.old }
+    requires accepted { IsSound workload.now.run × IsRunAccepted workload.now.run }
+    requires fits { Belongs workload.now pass.old }
     requires all { HasFrom pass.old.view 0 }
-    ensures moved { Moved site.now.memory pass.old pass.new }
+    ensures moved { Moved workload.now.memory pass.old pass.new }
     ensures most { all_tickets pass.new.view ≤ all_tickets pass.old.view + caller.rest }
     ensures done { all_tickets pass.new.view < all_tickets pass.old.view + caller.rest
-        → (e : ℕ) → node_of site.now.run e < site.now.run.nodes
-        → site.now.run.limit ≤ count site.now.run (seen pass.new.view) e }
+        → (e : ℕ) → node_of workload.now.run e < workload.now.run.nodes
+        → workload.now.run.limit ≤ count workload.now.run (seen pass.new.view) e }
 {
     let mut own = caller;
     'rounds: while own.rest > 0 {
-        let busy = go_round(site, pass, &mut own);
+        let busy = go_round(workload, pass, &mut own);
         if !busy {
             return;
         }
@@ -73,23 +73,23 @@ fn fire_rounds<J: Rows, C: Compute, G: Gate>(
 // Steps each node, until the caller has nothing left. False: nothing fired, and every node is
 // stuck.
 fn go_round<J: Rows, C: Compute, G: Gate>(
-    site: &Site<'_, '_, J, C, G>,
+    workload: &Workload<'_, '_, J, C, G>,
     pass: &mut Pass,
     caller: &mut Caller,
 ) -> bool
-    requires sound { IsSound site.now.run }
-    requires fits { Belongs site.now pass.old }
+    requires sound { IsSound workload.now.run }
+    requires fits { Belongs workload.now pass.old }
     requires all { HasFrom pass.old.view 0 }
     requires rest { 0 < caller.old.rest }
-    ensures moved { Moved site.now.memory pass.old pass.new }
-    ensures told { AdvancesBelow site.now.run pass.old.view site.now.run.nodes
+    ensures moved { Moved workload.now.memory pass.old pass.new }
+    ensures told { AdvancesBelow workload.now.run pass.old.view workload.now.run.nodes
         pass.new.view result }
     ensures fired { all_tickets pass.new.view + caller.new.rest
         ≡ all_tickets pass.old.view + caller.old.rest }
 {
     let mut busy = false;
-    'nodes: for node in 0..site.run.nodes() {
-        if advance_twice(site, pass, caller, node) {
+    'nodes: for node in 0..workload.run.nodes() {
+        if advance_twice(workload, pass, caller, node) {
             if caller.rest == 0 {
                 return true;
             }
@@ -102,26 +102,26 @@ fn go_round<J: Rows, C: Compute, G: Gate>(
 // Steps a node, and once more where it fired and the caller has something left: behind an opening
 // the closing of the same node is mostly due. False: it is stuck.
 fn advance_twice<J: Rows, C: Compute, G: Gate>(
-    site: &Site<'_, '_, J, C, G>,
+    workload: &Workload<'_, '_, J, C, G>,
     pass: &mut Pass,
     caller: &mut Caller,
     node: usize,
 ) -> bool
-    requires sound { IsSound site.now.run }
-    requires fits { Belongs site.now pass.old }
-    requires all { HasFrom pass.old.view 0 × (node < site.now.run.nodes) }
+    requires sound { IsSound workload.now.run }
+    requires fits { Belongs workload.now pass.old }
+    requires all { HasFrom pass.old.view 0 × (node < workload.now.run.nodes) }
     requires rest { 0 < caller.old.rest }
-    ensures moved { Moved site.now.memory pass.old pass.new }
-    ensures told { Advances site.now.run pass.old.view node pass.new.view result }
+    ensures moved { Moved workload.now.memory pass.old pass.new }
+    ensures told { Advances workload.now.run pass.old.view node pass.new.view result }
     ensures fired { all_tickets pass.new.view + caller.new.rest
         ≡ all_tickets pass.old.view + caller.old.rest }
     ensures stuck { result ≡ false → 0 < caller.new.rest }
 {
-    if !advance(site, pass, caller.number, node) {
+    if !advance(workload, pass, caller.number, node) {
         return false;
     }
     caller.rest -= 1;
-    if caller.rest > 0 && advance(site, pass, caller.number, node) {
+    if caller.rest > 0 && advance(workload, pass, caller.number, node) {
         caller.rest -= 1;
     }
     true
@@ -129,19 +129,19 @@ fn advance_twice<J: Rows, C: Compute, G: Gate>(
 
 // Steps a node. False: it is stuck.
 fn advance<J: Rows, C: Compute, G: Gate>(
-    site: &Site<'_, '_, J, C, G>,
+    workload: &Workload<'_, '_, J, C, G>,
     pass: &mut Pass,
     number: u32,
     node: usize,
 ) -> bool
-    requires sound { IsSound site.now.run }
-    requires fits { Belongs site.now pass.old }
-    requires all { HasFrom pass.old.view 0 × (node < site.now.run.nodes) }
-    ensures moved { Moved site.now.memory pass.old pass.new }
-    ensures told { Advances site.now.run pass.old.view node pass.new.view result }
+    requires sound { IsSound workload.now.run }
+    requires fits { Belongs workload.now pass.old }
+    requires all { HasFrom pass.old.view 0 × (node < workload.now.run.nodes) }
+    ensures moved { Moved workload.now.memory pass.old pass.new }
+    ensures told { Advances workload.now.run pass.old.view node pass.new.view result }
     ensures fired { all_tickets pass.new.view ≡ all_tickets pass.old.view + cond result 1 0 }
 {
-    match unit(site, pass, number, node) {
+    match unit(workload, pass, number, node) {
         Step::Fired { .. } => true,
         Step::NotYet { .. } => false,
         Step::Done => false,

@@ -4,13 +4,13 @@ ghost use Rattle.ds_runner.specs.Work.{HasPassOfEach, IsWorker, IsWithin, Waits}
 
 use crate::budget::Budget;
 use crate::fired::Fired;
-use crate::gear::Gear;
+use crate::scheduler::Scheduler;
 use crate::search::search;
-use crate::site::Site;
+use crate::search_path::SearchPath;
 use crate::targets::tell_targets;
-use crate::trail::Trail;
 use crate::visit::visit;
 use crate::worker::Worker;
+use crate::workload::Workload;
 use ds_fabric::Compute;
 use ds_outside::Gate;
 use ds_rule::Rows;
@@ -18,20 +18,20 @@ use std::thread;
 
 /// Visits one node after another, within the budget.
 pub fn drive<J: Rows, C: Compute, G: Gate>(
-    site: &Site<'_, '_, J, C, G>,
-    gear: &Gear,
+    workload: &Workload<'_, '_, J, C, G>,
+    scheduler: &Scheduler,
     worker: &mut Worker,
     budget: Budget,
 )
-    requires fits { HasPassOfEach site.now gear.now.stile }
-    requires worker { IsWithin site.now gear.now.stile 0 worker.old }
-    ensures { IsWithin site.now gear.now.stile budget.firings worker.new }
+    requires fits { HasPassOfEach workload.now scheduler.now.stile }
+    requires worker { IsWithin workload.now scheduler.now.stile 0 worker.old }
+    ensures { IsWithin workload.now scheduler.now.stile budget.firings worker.new }
 {
     let mut left = budget;
     'visits: while left.takes > 0 && left.firings > 0 {
-        if let Some(fired) = visit_next(site, gear, worker, left.firings) {
+        if let Some(fired) = visit_next(workload, scheduler, worker, left.firings) {
             left.take(fired);
-        } else if !wait(site, worker, &mut left) {
+        } else if !wait(workload, worker, &mut left) {
             return;
         }
     }
@@ -39,59 +39,59 @@ pub fn drive<J: Rows, C: Compute, G: Gate>(
 
 // Visits the next node that seems due, and says how often it fired. None: no node seems due.
 fn visit_next<J: Rows, C: Compute, G: Gate>(
-    site: &Site<'_, '_, J, C, G>,
-    gear: &Gear,
+    workload: &Workload<'_, '_, J, C, G>,
+    scheduler: &Scheduler,
     worker: &mut Worker,
     most: u64,
 ) -> Option<u64>
-    requires fits { HasPassOfEach site.now gear.now.stile }
-    requires worker { IsWorker site.now gear.now.stile worker.old }
+    requires fits { HasPassOfEach workload.now scheduler.now.stile }
+    requires worker { IsWorker workload.now scheduler.now.stile worker.old }
     requires most { 0 < most }
-    ensures worker { IsWorker site.now gear.now.stile worker.new }
+    ensures worker { IsWorker workload.now scheduler.now.stile worker.new }
     ensures made { MatchOption result (worker.new.turn.view.made ≡ worker.old.turn.view.made)
         (λ fired. (worker.new.turn.view.made ≡ worker.old.turn.view.made + fired)
         × (fired ≤ most)) }
 {
-    let node = search(site, gear, worker.number, &mut worker.trail)?;
-    let fired = visit(site, gear, worker, node, most);
-    if !worker.trail.soon {
-        tell_all(site, gear, &mut worker.trail, fired);
+    let node = search(workload, scheduler, worker.number, &mut worker.search_path)?;
+    let fired = visit(workload, scheduler, worker, node, most);
+    if !worker.search_path.soon {
+        tell_all(workload, scheduler, &mut worker.search_path, fired);
     }
     Some(fired.count())
 }
 
 // Tells of the nodes that seem due behind each event that fired.
 fn tell_all<J: Rows, C: Compute, G: Gate>(
-    site: &Site<'_, '_, J, C, G>,
-    gear: &Gear,
-    trail: &mut Trail,
+    workload: &Workload<'_, '_, J, C, G>,
+    scheduler: &Scheduler,
+    search_path: &mut SearchPath,
     fired: Fired,
 )
-    requires fits { HasPassOfEach site.now gear.now.stile }
+    requires fits { HasPassOfEach workload.now scheduler.now.stile }
 {
     if let Some(event) = fired.first {
-        tell_targets(site, gear, trail, event);
+        tell_targets(workload, scheduler, search_path, event);
     }
     if let Some(event) = fired.second {
-        tell_targets(site, gear, trail, event);
+        tell_targets(workload, scheduler, search_path, event);
     }
 }
 
 // Lets others go first after a look at all nodes without a take: who has what it waits for may want
 // its processor. False: the worker ends.
 fn wait<J: Rows, C: Compute, G: Gate>(
-    site: &Site<'_, '_, J, C, G>,
+    workload: &Workload<'_, '_, J, C, G>,
     worker: &Worker,
     left: &mut Budget,
 ) -> bool
     ensures { IsTrue result → Waits left.old left.new }
 {
     let looks = worker
-        .trail
+        .search_path
         .part
         .count()
-        .saturating_add(worker.trail.all.count()) as u64;
-    if left.looks <= looks || site.fabric.seems_over() {
+        .saturating_add(worker.search_path.all.count()) as u64;
+    if left.looks <= looks || workload.fabric.seems_over() {
         return false;
     }
     left.looks -= looks + 1;

@@ -4,12 +4,12 @@ ghost use Rattle.std.specs.Prelude.{◌≡◌, ◌<◌, ◌≤◌, ◌+◌, All,
 ghost use Rattle.ds_fabric.specs.Showing.{Belongs};
 ghost use Rattle.ds_runner.specs.Turns.{HasNone, base};
 ghost use Rattle.ds_runner.specs.Shown.{IsTurnOf};
-ghost use Rattle.ds_runner.specs.Work.{HasBetween, AreSingle, IsCrew, made_of, all_tickets};
+ghost use Rattle.ds_runner.specs.Work.{HasBetween, AreSingle, IsWorkerPool, made_of, all_tickets};
 
-use crate::crew::Crew;
-use crate::gear::Gear;
-use crate::site::Site;
+use crate::scheduler::Scheduler;
 use crate::worker::Worker;
+use crate::worker_pool::WorkerPool;
+use crate::workload::Workload;
 use crate::{Turn, Turnstile};
 use ds_base::LatchId;
 use ds_fabric::{Compute, Pass};
@@ -18,32 +18,32 @@ use ds_rule::Rows;
 
 /// Takes the passes of all nodes in, of workers who are back.
 pub fn gather<J: Rows, C: Compute, G: Gate>(
-    site: &Site<'_, '_, J, C, G>,
+    workload: &Workload<'_, '_, J, C, G>,
     pass: &mut Pass,
-    crew: Crew,
+    pool: WorkerPool,
 )
-    requires fits { Belongs site.now pass.old }
-    requires crew { IsCrew site.now crew }
-    requires room { pass.old.many + site.now.run.nodes ≤ pass.old.room }
+    requires fits { Belongs workload.now pass.old }
+    requires pool { IsWorkerPool workload.now pool }
+    requires room { pass.old.many + workload.now.run.nodes ≤ pass.old.room }
 
-    ensures fits { Belongs site.now pass.new }
-    ensures all { HasBetween pass.new.view 0 site.now.run.nodes }
-    ensures fired { all_tickets pass.new.view ≡ sum_by made_of crew.workers.items }
+    ensures fits { Belongs workload.now pass.new }
+    ensures all { HasBetween pass.new.view 0 workload.now.run.nodes }
+    ensures fired { all_tickets pass.new.view ≡ sum_by made_of pool.workers.items }
 {
-    let Crew {
-        gear,
+    let WorkerPool {
+        scheduler,
         mut turn,
         workers,
         mut passes,
-    } = crew;
-    let Gear {
+    } = pool;
+    let Scheduler {
         stile,
         stealers: _,
         arcs_from: _,
-    } = gear;
+    } = scheduler;
     join_all(&stile, &mut turn, workers);
     stile.close(turn, &mut passes);
-    gather_all(site, pass, passes);
+    gather_all(workload, pass, passes);
 }
 
 // The turn takes in those of the workers.
@@ -63,7 +63,7 @@ fn join_all(stile: &Turnstile, turn: &mut Turn, mut workers: Vec<Worker>)
             number: _,
             turn: own,
             scratch: _,
-            trail: _,
+            search_path: _,
         } = worker;
         stile.join(turn, own);
     }
@@ -71,24 +71,24 @@ fn join_all(stile: &Turnstile, turn: &mut Turn, mut workers: Vec<Worker>)
 
 // The pass takes in those of all nodes.
 fn gather_all<J: Rows, C: Compute, G: Gate>(
-    site: &Site<'_, '_, J, C, G>,
+    workload: &Workload<'_, '_, J, C, G>,
     pass: &mut Pass,
     mut passes: Vec<Pass>,
 )
-    requires fits { Belongs site.now pass.old }
-    requires passes { AreSingle site.now passes.items
-        × (length passes.items ≡ site.now.run.nodes) }
+    requires fits { Belongs workload.now pass.old }
+    requires passes { AreSingle workload.now passes.items
+        × (length passes.items ≡ workload.now.run.nodes) }
     requires room { pass.old.many + length passes.items ≤ pass.old.room }
 
-    ensures fits { Belongs site.now pass.new }
-    ensures all { HasBetween pass.new.view 0 site.now.run.nodes }
+    ensures fits { Belongs workload.now pass.new }
+    ensures all { HasBetween pass.new.view 0 workload.now.run.nodes }
     ensures fired { all_tickets pass.new.view ≡ base 0 passes.items }
 {
     // A layout has fewer nodes than a `u32` counts.
-    let _nodes = site.run.nodes();
+    let _nodes = workload.run.nodes();
     'taking: while let Some(one) = passes.pop() {
         // A pass has as many tickets of its node as the node has fired.
         let _fired = one.fired(LatchId::new(passes.len() as u32));
-        site.fabric.gather(pass, one);
+        workload.fabric.gather(pass, one);
     }
 }

@@ -5,7 +5,9 @@ ghost use Rattle.ds_runner.specs.Turns.{Alone, HasNone, has_out, taken, nodes_of
 ghost use Rattle.ds_runner.specs.Turns.{after_won_take, after_miss, after_give, rested};
 ghost use Rattle.ds_runner.specs.Turns.{keeps_parts, one_part, joined};
 
-use crate::turning::{Board, Fetch, Give, Learn, Merge, Part, Rest, Seated, Take};
+use crate::turning::{
+    Board, Fetch, Give, Merge, ObserveParts, OnePart, ReturnEmptySlot, Seated, Take,
+};
 use ds_fabric::Pass;
 
 /// The pass of the node, where it is at home.
@@ -28,7 +30,7 @@ pub fn take(board: &Board, seat: &mut Seated, node: usize) -> Option<Pass>
         return None;
     }
     let pass = board.exchange(seat, node, None);
-    board.load::<Rest>(seat, node);
+    board.load::<ReturnEmptySlot>(seat, node);
     pass
 }
 
@@ -65,7 +67,7 @@ pub fn split(board: &Board, seat: &mut Seated) -> Seated
     ensures new { (result.table_id ≡ seat.old.table_id)
         × (result.me ≡ (one_part seat.old.me.0, [])) }
 {
-    board.split_seat::<Part>(seat)
+    board.split_seat::<OnePart>(seat)
 }
 
 /// Takes in a turn that has no node out. All parts together are no more than a `u32` has.
@@ -80,5 +82,5 @@ pub fn join(board: &Board, seat: &mut Seated, other: Seated)
     ensures few { seat.old.me.0.parts + other.me.0.parts < 4294967296 }
 {
     board.join_seat::<Merge>(seat, other);
-    board.load::<Learn>(seat, 0);
+    board.load::<ObserveParts>(seat, 0);
 }

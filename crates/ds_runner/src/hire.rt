@@ -6,18 +6,19 @@ ghost use Rattle.ds_base.specs.Scratch.{Remembers};
 ghost use Rattle.ds_fabric.specs.Showing.{Belongs};
 ghost use Rattle.ds_runner.specs.Turns.{HasNone, base};
 ghost use Rattle.ds_runner.specs.Shown.{IsTurnOf};
-ghost use Rattle.ds_runner.specs.Work.{HasFrom, IsLent, AreSingle, HasPassOfEach, IsWithin, IsCrew};
+ghost use Rattle.ds_runner.specs.Work.{HasFrom, IsLent, AreSingle, HasPassOfEach, IsWithin};
+ghost use Rattle.ds_runner.specs.Work.{IsWorkerPool};
 ghost use Rattle.ds_runner.specs.Work.{IsUnfired};
 
-use crate::crew::Crew;
-use crate::gear::Gear;
 use crate::hints::Hints;
 use crate::parts::borders_of;
-use crate::ring::Ring;
-use crate::site::Site;
+use crate::round_robin::RoundRobin;
+use crate::scheduler::Scheduler;
+use crate::search_path::SearchPath;
 use crate::targets::arcs_from;
-use crate::trail::Trail;
 use crate::worker::Worker;
+use crate::worker_pool::WorkerPool;
+use crate::workload::Workload;
 use crate::{Turn, Turnstile};
 use crossbeam_deque::Stealer;
 use ds_base::{LatchId, OutOfMemory, Scratch};
@@ -29,30 +30,30 @@ use std::alloc::Global;
 /// So many workers, with a turn more for the caller. The pass is left without nodes.
 pub fn hire<J: Rows, C: Compute, G: Gate>(
     alloc: Global,
-    site: &Site<'_, '_, J, C, G>,
+    workload: &Workload<'_, '_, J, C, G>,
     pass: &mut Pass,
     count: u32,
-) -> Result<Crew, OutOfMemory>
-    requires fits { Belongs site.now pass.old }
+) -> Result<WorkerPool, OutOfMemory>
+    requires fits { Belongs workload.now pass.old }
     requires has { HasFrom pass.old.view 0 }
     requires unfired { IsUnfired pass.old.view }
-    requires count { (0 < count) × (count ≤ 64) × (0 < site.now.run.nodes) }
+    requires count { (0 < count) × (count ≤ 64) × (0 < workload.now.run.nodes) }
 
-    ensures ok { IfOk result (IsCrew site.now) }
+    ensures ok { IfOk result (IsWorkerPool workload.now) }
     ensures ok_workers { IfOk result (λ c. (length c.workers.items ≡ count)
-        × All (IsWithin site.now c.gear.stile 0) c.workers.items) }
-    ensures ok_lent { OnOk result (IsLent site.now pass.old 0 site.now.run.nodes pass.new) }
+        × All (IsWithin workload.now c.scheduler.stile 0) c.workers.items) }
+    ensures ok_lent { OnOk result (IsLent workload.now pass.old 0 workload.now.run.nodes pass.new) }
 {
-    let mut passes = deal_all(alloc, site, pass)?;
+    let mut passes = deal_all(alloc, workload, pass)?;
     let (stile, mut turn) = Turnstile::build(alloc, &mut passes, count + 1)?;
-    let (workers, stealers, arcs_from) = staff(alloc, site, &stile, &mut turn, count)?;
-    let gear = Gear {
+    let (workers, stealers, arcs_from) = staff(alloc, workload, &stile, &mut turn, count)?;
+    let scheduler = Scheduler {
         stile,
         stealers,
         arcs_from,
     };
-    Ok(Crew {
-        gear,
+    Ok(WorkerPool {
+        scheduler,
         turn,
         workers,
         passes,
@@ -62,22 +63,22 @@ pub fn hire<J: Rows, C: Compute, G: Gate>(
 // A bare pass for each node, in order.
 fn deal_all<J: Rows, C: Compute, G: Gate>(
     alloc: Global,
-    site: &Site<'_, '_, J, C, G>,
+    workload: &Workload<'_, '_, J, C, G>,
     pass: &mut Pass,
 ) -> Result<Vec<Pass>, OutOfMemory>
-    requires fits { Belongs site.now pass.old }
+    requires fits { Belongs workload.now pass.old }
     requires has { HasFrom pass.old.view 0 }
     requires unfired { IsUnfired pass.old.view }
 
     ensures ok_unfired { IfOk result (λ v. base 0 v.items ≡ 0) }
-    ensures ok { IfOk result (λ v. AreSingle site.now v.items
-        × (length v.items ≡ site.now.run.nodes) × (site.now.run.nodes ≤ vec_capacity v)) }
-    ensures ok_lent { OnOk result (IsLent site.now pass.old 0 site.now.run.nodes pass.new) }
+    ensures ok { IfOk result (λ v. AreSingle workload.now v.items
+        × (length v.items ≡ workload.now.run.nodes) × (workload.now.run.nodes ≤ vec_capacity v)) }
+    ensures ok_lent { OnOk result (IsLent workload.now pass.old 0 workload.now.run.nodes pass.new) }
 {
-    let nodes = site.run.nodes();
+    let nodes = workload.run.nodes();
     let mut passes = Vec::with_capacity(alloc, nodes)?;
     'dealing: for node in 0..nodes {
-        let one = site
+        let one = workload
             .fabric
             .deal_bare(alloc, pass, LatchId::new(node as u32))?;
         passes.push_reserved(one);
@@ -89,23 +90,23 @@ fn deal_all<J: Rows, C: Compute, G: Gate>(
 // hints; and for each event the first arc from it.
 fn staff<J: Rows, C: Compute, G: Gate>(
     alloc: Global,
-    site: &Site<'_, '_, J, C, G>,
+    workload: &Workload<'_, '_, J, C, G>,
     stile: &Turnstile,
     turn: &mut Turn,
     count: u32,
 ) -> Result<(Vec<Worker>, Vec<Stealer<u32>>, Vec<usize>), OutOfMemory>
     requires count { (0 < count) × (count ≤ 64) }
-    requires fits { HasPassOfEach site.now stile.now × IsTurnOf stile.now turn.old }
+    requires fits { HasPassOfEach workload.now stile.now × IsTurnOf stile.now turn.old }
     requires turn { HasNone turn.old.view × (turn.old.view.parts ≡ count + 1) }
     requires made { turn.old.view.made ≡ 0 }
 
-    ensures ok { IfOk result (λ r. All (IsWithin site.now stile.now 0) r.0.items
+    ensures ok { IfOk result (λ r. All (IsWithin workload.now stile.now 0) r.0.items
         × (length r.0.items ≡ count)) }
     ensures ok_turn { OnOk result (IsTurnOf stile.now turn.new × HasNone turn.new.view
         × (turn.new.view.parts ≡ 1) × (turn.new.view.made ≡ 0)) }
 {
-    let arcs_from = arcs_from(alloc, site.run)?;
-    let workers = enlist(alloc, site, stile, turn, count)?;
+    let arcs_from = arcs_from(alloc, workload.run)?;
+    let workers = enlist(alloc, workload, stile, turn, count)?;
     let stealers = stealers_of(alloc, &workers)?;
     Ok((workers, stealers, arcs_from))
 }
@@ -113,33 +114,33 @@ fn staff<J: Rows, C: Compute, G: Gate>(
 // So many workers, each with a turn; one part is left.
 fn enlist<J: Rows, C: Compute, G: Gate>(
     alloc: Global,
-    site: &Site<'_, '_, J, C, G>,
+    workload: &Workload<'_, '_, J, C, G>,
     stile: &Turnstile,
     turn: &mut Turn,
     count: u32,
 ) -> Result<Vec<Worker>, OutOfMemory>
     requires count { (0 < count) × (count ≤ 64) }
-    requires fits { HasPassOfEach site.now stile.now × IsTurnOf stile.now turn.old }
+    requires fits { HasPassOfEach workload.now stile.now × IsTurnOf stile.now turn.old }
     requires turn { HasNone turn.old.view × (turn.old.view.parts ≡ count + 1) }
     requires made { turn.old.view.made ≡ 0 }
 
-    ensures ok { IfOk result (λ v. All (IsWithin site.now stile.now 0) v.items
+    ensures ok { IfOk result (λ v. All (IsWithin workload.now stile.now 0) v.items
         × (length v.items ≡ count)) }
     ensures ok_turn { OnOk result (IsTurnOf stile.now turn.new × HasNone turn.new.view
         × (turn.new.view.parts ≡ 1) × (turn.new.view.made ≡ 0)) }
 {
-    let borders = borders_of(alloc, site, count)?;
+    let borders = borders_of(alloc, workload, count)?;
     let mut workers = Vec::with_capacity(alloc, count as usize)?;
     'hiring: for number in 0..count {
         let at = number as usize;
-        let part = Ring::over(borders[at], borders[at + 1]);
-        let (scratch, trail) = outfit(alloc, site, part)?;
+        let part = RoundRobin::over(borders[at], borders[at + 1]);
+        let (scratch, search_path) = outfit(alloc, workload, part)?;
         let own = stile.split(turn);
         workers.push_reserved(Worker {
             number,
             turn: own,
             scratch,
-            trail,
+            search_path,
         });
     }
     Ok(workers)
@@ -148,23 +149,27 @@ fn enlist<J: Rows, C: Compute, G: Gate>(
 // What a worker works in, and where it looks.
 fn outfit<J: Rows, C: Compute, G: Gate>(
     alloc: Global,
-    site: &Site<'_, '_, J, C, G>,
-    part: Ring,
-) -> Result<(Scratch, Trail), OutOfMemory>
-    ensures { IfOk result (λ r. Remembers site.now.memory r.0) }
+    workload: &Workload<'_, '_, J, C, G>,
+    part: RoundRobin,
+) -> Result<(Scratch, SearchPath), OutOfMemory>
+    ensures { IfOk result (λ r. Remembers workload.now.memory r.0) }
 {
-    let scratch = site.fabric.scratch(alloc)?;
-    let trail = trail_of(alloc, part, site.run.nodes())?;
-    Ok((scratch, trail))
+    let scratch = workload.fabric.scratch(alloc)?;
+    let search_path = search_path_of(alloc, part, workload.run.nodes())?;
+    Ok((scratch, search_path))
 }
 
 // Where a worker looks: in its own part of the nodes, and in all of them.
-fn trail_of(alloc: Global, part: Ring, nodes: usize) -> Result<Trail, OutOfMemory> {
+fn search_path_of(
+    alloc: Global,
+    part: RoundRobin,
+    nodes: usize,
+) -> Result<SearchPath, OutOfMemory> {
     let hints = Hints::of(alloc)?;
-    Ok(Trail {
+    Ok(SearchPath {
         hints,
         part,
-        all: Ring::over(0, nodes),
+        all: RoundRobin::over(0, nodes),
         begins: vec![in alloc; 0u8; nodes]?,
         soon: false,
     })
@@ -174,7 +179,7 @@ fn trail_of(alloc: Global, part: Ring, nodes: usize) -> Result<Trail, OutOfMemor
 fn stealers_of(alloc: Global, workers: &[Worker]) -> Result<Vec<Stealer<u32>>, OutOfMemory> {
     let mut stealers = Vec::with_capacity(alloc, workers.len())?;
     for i in 0..workers.len() {
-        stealers.push_reserved(workers[i].trail.hints.stealer()?);
+        stealers.push_reserved(workers[i].search_path.hints.stealer()?);
     }
     Ok(stealers)
 }

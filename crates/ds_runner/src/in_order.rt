@@ -10,7 +10,7 @@ ghost use Rattle.ds_runner.specs.FiringOrder.{IsDue, IsFiringOrder, StandsAt};
 ghost use Rattle.ds_runner.specs.Work.{HasFrom, Moved, all_tickets};
 
 use crate::complete::Caller;
-use crate::site::Site;
+use crate::workload::Workload;
 use ds_base::{EventId, LatchId};
 use ds_fabric::{Compute, Pass};
 use ds_outside::Gate;
@@ -19,27 +19,27 @@ use ds_rule::{Layout, Rows};
 /// Fires turn after turn in this order, until all is done or the caller has nothing left. Where
 /// there is no order, or something has fired before, it fires nothing.
 pub fn fire_turns<J: Rows, C: Compute, G: Gate>(
-    site: &Site<'_, '_, J, C, G>,
+    workload: &Workload<'_, '_, J, C, G>,
     pass: &mut Pass,
     order: &[EventId],
     caller: &mut Caller,
 )
-    requires sound { IsSound site.now.run }
-    requires fits { Belongs site.now pass.old }
+    requires sound { IsSound workload.now.run }
+    requires fits { Belongs workload.now pass.old }
     requires all { HasFrom pass.old.view 0 }
-    requires order { 0 < length order.now → IsFiringOrder site.now.run order.now }
-    ensures moved { Moved site.now.memory pass.old pass.new }
+    requires order { 0 < length order.now → IsFiringOrder workload.now.run order.now }
+    ensures moved { Moved workload.now.memory pass.old pass.new }
     ensures fired { all_tickets pass.new.view + caller.new.rest
         ≡ all_tickets pass.old.view + caller.old.rest }
 {
     if order.len() == 0 {
         return;
     }
-    if !is_unfired(site.run, pass) {
+    if !is_unfired(workload.run, pass) {
         return;
     }
-    'turns: for turn in 0..site.run.limit() {
-        if !fire_turn(site, pass, order, turn, caller) {
+    'turns: for turn in 0..workload.run.limit() {
+        if !fire_turn(workload, pass, order, turn, caller) {
             return;
         }
     }
@@ -62,56 +62,57 @@ fn is_unfired<J: Rows>(run: &Layout<J>, pass: &Pass) -> bool
 
 // Fires each event once, after so many turns. False: the caller has nothing left.
 fn fire_turn<J: Rows, C: Compute, G: Gate>(
-    site: &Site<'_, '_, J, C, G>,
+    workload: &Workload<'_, '_, J, C, G>,
     pass: &mut Pass,
     order: &[EventId],
     turn: u64,
     caller: &mut Caller,
 ) -> bool
-    requires sound { IsSound site.now.run }
-    requires fits { Belongs site.now pass.old }
+    requires sound { IsSound workload.now.run }
+    requires fits { Belongs workload.now pass.old }
     requires all { HasFrom pass.old.view 0 }
-    requires order { IsFiringOrder site.now.run order.now }
-    requires turn { (turn < site.now.run.limit)
-        × StandsAt site.now.run pass.old.view order.now 0 turn }
-    ensures moved { Moved site.now.memory pass.old pass.new }
+    requires order { IsFiringOrder workload.now.run order.now }
+    requires turn { (turn < workload.now.run.limit)
+        × StandsAt workload.now.run pass.old.view order.now 0 turn }
+    ensures moved { Moved workload.now.memory pass.old pass.new }
     ensures fired { all_tickets pass.new.view + caller.new.rest
         ≡ all_tickets pass.old.view + caller.old.rest }
-    ensures turn { IsTrue result → StandsAt site.now.run pass.new.view order.now 0 (turn + 1) }
+    ensures turn { IsTrue result → StandsAt workload.now.run pass.new.view order.now 0 (turn + 1) }
 {
     'events: for i in 0..order.len() {
         if caller.rest == 0 {
             return false;
         }
-        fire_event(site, pass, order[i], turn, caller);
+        fire_event(workload, pass, order[i], turn, caller);
     }
     true
 }
 
 // Fires an event that is due, in the turn after so many.
 fn fire_event<J: Rows, C: Compute, G: Gate>(
-    site: &Site<'_, '_, J, C, G>,
+    workload: &Workload<'_, '_, J, C, G>,
     pass: &mut Pass,
     event: EventId,
     turn: u64,
     caller: &mut Caller,
 )
-    requires sound { IsSound site.now.run }
-    requires fits { Belongs site.now pass.old }
+    requires sound { IsSound workload.now.run }
+    requires fits { Belongs workload.now pass.old }
     requires all { HasFrom pass.old.view 0 }
-    requires due { IsDue site.now.run pass.old.view event × (turn < site.now.run.limit) }
+    requires due { IsDue workload.now.run pass.old.view event × (turn < workload.now.run.limit) }
     requires rest { 0 < caller.old.rest }
-    ensures moved { Moved site.now.memory pass.old pass.new }
+    ensures moved { Moved workload.now.memory pass.old pass.new }
     ensures fired { all_tickets pass.new.view + caller.new.rest
         ≡ all_tickets pass.old.view + caller.old.rest }
-    ensures once { count site.now.run (seen pass.new.view) event
-        ≡ count site.now.run (seen pass.old.view) event + 1 }
-    ensures others { (x : ℕ) → node_of site.now.run x < site.now.run.nodes → x ≢ event
-        → count site.now.run (seen pass.new.view) x ≡ count site.now.run (seen pass.old.view) x }
+    ensures once { count workload.now.run (seen pass.new.view) event
+        ≡ count workload.now.run (seen pass.old.view) event + 1 }
+    ensures others { (x : ℕ) → node_of workload.now.run x < workload.now.run.nodes → x ≢ event
+        → count workload.now.run (seen pass.new.view) x
+        ≡ count workload.now.run (seen pass.old.view) x }
 {
     let number = event.index();
-    let node = site.run.node_of(number);
-    site.gate.pause(caller.number, number as u32, turn + 1);
-    site.fabric.fire_due(pass, LatchId::new(node as u32));
+    let node = workload.run.node_of(number);
+    workload.gate.pause(caller.number, number as u32, turn + 1);
+    workload.fabric.fire_due(pass, LatchId::new(node as u32));
     caller.rest -= 1;
 }

@@ -24,24 +24,22 @@
 
 mod budget;
 mod complete;
-mod crew;
 mod drive;
 mod fired;
 mod firing_order;
 mod gather;
-mod gear;
 mod hands;
 mod hints;
 mod hire;
 mod in_order;
 mod parts;
 mod rest;
-mod ring;
+mod round_robin;
+mod scheduler;
 mod search;
-mod shelf;
-mod site;
+mod search_path;
+mod slots;
 mod targets;
-mod trail;
 mod turn;
 mod turn_view;
 mod turning;
@@ -49,7 +47,9 @@ mod turnstile;
 mod unit;
 mod visit;
 mod worker;
+mod worker_pool;
 mod workers;
+mod workload;
 
 pub use turn::Turn;
 pub use turn_view::TurnView;

@@ -4,10 +4,10 @@
 ghost use Rattle.std.specs.Prelude.{◌<◌, IsTrue, IfSome};
 ghost use Rattle.ds_runner.specs.Work.{HasPassOfEach};
 
-use crate::gear::Gear;
-use crate::ring::Ring;
-use crate::site::Site;
-use crate::trail::Trail;
+use crate::round_robin::RoundRobin;
+use crate::scheduler::Scheduler;
+use crate::search_path::SearchPath;
+use crate::workload::Workload;
 use crossbeam_deque::Steal;
 use ds_base::LatchId;
 use ds_fabric::Compute;
@@ -22,48 +22,48 @@ const SOON: usize = 16;
 
 /// The node that the worker tries next. None: no node seems due.
 pub fn search<J: Rows, C: Compute, G: Gate>(
-    site: &Site<'_, '_, J, C, G>,
-    gear: &Gear,
+    workload: &Workload<'_, '_, J, C, G>,
+    scheduler: &Scheduler,
     number: u32,
-    trail: &mut Trail,
+    search_path: &mut SearchPath,
 ) -> Option<usize>
-    requires fits { HasPassOfEach site.now gear.now.stile }
-    ensures near { IfSome result (λ n. n < site.now.run.nodes) }
+    requires fits { HasPassOfEach workload.now scheduler.now.stile }
+    ensures near { IfSome result (λ n. n < workload.now.run.nodes) }
 {
-    trail.soon = false;
-    if let Some(node) = hinted(site, gear, trail) {
+    search_path.soon = false;
+    if let Some(node) = hinted(workload, scheduler, search_path) {
         return Some(node);
     }
-    let begins = trail.begins.as_mut_slice();
-    if let Some(node) = next_due(site, gear, begins, &mut trail.part) {
-        trail.soon = trail.part.looks < SOON;
+    let begins = search_path.begins.as_mut_slice();
+    if let Some(node) = next_due(workload, scheduler, begins, &mut search_path.part) {
+        search_path.soon = search_path.part.looks < SOON;
         return Some(node);
     }
-    if let Some(node) = stolen(site, gear, begins, number) {
+    if let Some(node) = stolen(workload, scheduler, begins, number) {
         return Some(node);
     }
-    next_due(site, gear, begins, &mut trail.all)
+    next_due(workload, scheduler, begins, &mut search_path.all)
 }
 
 /// By plain looks the pass of the node is at home, and its next event may fire. What it lacks is
 /// kept for the next look. A number that is no node's is not due.
 pub fn is_due<J: Rows, C: Compute, G: Gate>(
-    site: &Site<'_, '_, J, C, G>,
-    gear: &Gear,
+    workload: &Workload<'_, '_, J, C, G>,
+    scheduler: &Scheduler,
     begins: &mut [u8],
     node: usize,
 ) -> bool
-    requires fits { HasPassOfEach site.now gear.now.stile }
-    ensures near { IsTrue result → node < site.now.run.nodes }
+    requires fits { HasPassOfEach workload.now scheduler.now.stile }
+    ensures near { IsTrue result → node < workload.now.run.nodes }
 {
-    if node >= site.run.nodes() || node >= begins.len() {
+    if node >= workload.run.nodes() || node >= begins.len() {
         return false;
     }
     let latch = LatchId::new(node as u32);
-    if !gear.stile.seems_home(latch) {
+    if !scheduler.stile.seems_home(latch) {
         return false;
     }
-    let Some(at) = site.fabric.seems_lacking(latch, begins[node] as usize) else {
+    let Some(at) = workload.fabric.seems_lacking(latch, begins[node] as usize) else {
         return true;
     };
     begins[node] = at.min(255) as u8;
@@ -72,17 +72,17 @@ pub fn is_due<J: Rows, C: Compute, G: Gate>(
 
 // The latest hint that still seems due.
 fn hinted<J: Rows, C: Compute, G: Gate>(
-    site: &Site<'_, '_, J, C, G>,
-    gear: &Gear,
-    trail: &mut Trail,
+    workload: &Workload<'_, '_, J, C, G>,
+    scheduler: &Scheduler,
+    search_path: &mut SearchPath,
 ) -> Option<usize>
-    requires fits { HasPassOfEach site.now gear.now.stile }
-    ensures near { IfSome result (λ n. n < site.now.run.nodes) }
+    requires fits { HasPassOfEach workload.now scheduler.now.stile }
+    ensures near { IfSome result (λ n. n < workload.now.run.nodes) }
 {
     for _ in 0..HINTS {
-        let hint = trail.hints.pop()?;
-        let begins = trail.begins.as_mut_slice();
-        if is_due(site, gear, begins, hint as usize) {
+        let hint = search_path.hints.pop()?;
+        let begins = search_path.begins.as_mut_slice();
+        if is_due(workload, scheduler, begins, hint as usize) {
             return Some(hint as usize);
         }
     }
@@ -91,17 +91,17 @@ fn hinted<J: Rows, C: Compute, G: Gate>(
 
 // The next node of a round that seems due.
 fn next_due<J: Rows, C: Compute, G: Gate>(
-    site: &Site<'_, '_, J, C, G>,
-    gear: &Gear,
+    workload: &Workload<'_, '_, J, C, G>,
+    scheduler: &Scheduler,
     begins: &mut [u8],
-    ring: &mut Ring,
+    ring: &mut RoundRobin,
 ) -> Option<usize>
-    requires fits { HasPassOfEach site.now gear.now.stile }
-    ensures near { IfSome result (λ n. n < site.now.run.nodes) }
+    requires fits { HasPassOfEach workload.now scheduler.now.stile }
+    ensures near { IfSome result (λ n. n < workload.now.run.nodes) }
 {
     for looks in 0..ring.count() {
         let node = ring.step();
-        if is_due(site, gear, begins, node) {
+        if is_due(workload, scheduler, begins, node) {
             ring.looks = looks;
             return Some(node);
         }
@@ -111,15 +111,15 @@ fn next_due<J: Rows, C: Compute, G: Gate>(
 
 // A hint of another worker that still seems due.
 fn stolen<J: Rows, C: Compute, G: Gate>(
-    site: &Site<'_, '_, J, C, G>,
-    gear: &Gear,
+    workload: &Workload<'_, '_, J, C, G>,
+    scheduler: &Scheduler,
     begins: &mut [u8],
     number: u32,
 ) -> Option<usize>
-    requires fits { HasPassOfEach site.now gear.now.stile }
-    ensures near { IfSome result (λ n. n < site.now.run.nodes) }
+    requires fits { HasPassOfEach workload.now scheduler.now.stile }
+    ensures near { IfSome result (λ n. n < workload.now.run.nodes) }
 {
-    let workers = gear.stealers.len();
+    let workers = scheduler.stealers.len();
     let own = number as usize;
     for i in 0..workers {
         let other = if i < workers.saturating_sub(own) {
@@ -127,8 +127,8 @@ fn stolen<J: Rows, C: Compute, G: Gate>(
         } else {
             i - workers.saturating_sub(own)
         };
-        if let Some(hint) = steal_from(gear, other, own) {
-            if is_due(site, gear, begins, hint as usize) {
+        if let Some(hint) = steal_from(scheduler, other, own) {
+            if is_due(workload, scheduler, begins, hint as usize) {
                 return Some(hint as usize);
             }
         }
@@ -137,11 +137,11 @@ fn stolen<J: Rows, C: Compute, G: Gate>(
 }
 
 // A hint of one other worker, if its deque has one.
-fn steal_from(gear: &Gear, other: usize, own: usize) -> Option<u32> {
-    if other == own || other >= gear.stealers.len() {
+fn steal_from(scheduler: &Scheduler, other: usize, own: usize) -> Option<u32> {
+    if other == own || other >= scheduler.stealers.len() {
         return None;
     }
-    let stealer = &gear.stealers[other];
+    let stealer = &scheduler.stealers[other];
     if stealer.is_empty() {
         return None;
     }

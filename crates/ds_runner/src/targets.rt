@@ -3,10 +3,10 @@ ghost use Rattle.std.specs.Prelude.{◌<◌};
 ghost use Rattle.ds_runner.specs.Work.{HasPassOfEach};
 ghost use Rattle.ds_rule.specs.Sound.{IsSound};
 
-use crate::gear::Gear;
+use crate::scheduler::Scheduler;
 use crate::search::is_due;
-use crate::site::Site;
-use crate::trail::Trail;
+use crate::search_path::SearchPath;
+use crate::workload::Workload;
 use ds_base::OutOfMemory;
 use ds_fabric::Compute;
 use ds_outside::Gate;
@@ -18,25 +18,25 @@ const TARGETS: usize = 64;
 
 /// Tells of the nodes that seem due along the first arcs from an event.
 pub fn tell_targets<J: Rows, C: Compute, G: Gate>(
-    site: &Site<'_, '_, J, C, G>,
-    gear: &Gear,
-    trail: &mut Trail,
+    workload: &Workload<'_, '_, J, C, G>,
+    scheduler: &Scheduler,
+    search_path: &mut SearchPath,
     event: usize,
 )
-    requires fits { HasPassOfEach site.now gear.now.stile }
+    requires fits { HasPassOfEach workload.now scheduler.now.stile }
 {
-    if event >= gear.arcs_from.len() {
+    if event >= scheduler.arcs_from.len() {
         return;
     }
-    let arcs = site.run.arcs();
-    let first = gear.arcs_from[event];
+    let arcs = workload.run.arcs();
+    let first = scheduler.arcs_from[event];
     for k in first..arcs.len().min(first.saturating_add(TARGETS)) {
         if arcs[k].source.index() != event {
             return;
         }
-        let node = site.run.node_of(arcs[k].target.index());
-        if is_due(site, gear, trail.begins.as_mut_slice(), node) {
-            trail.hints.push(node as u32);
+        let node = workload.run.node_of(arcs[k].target.index());
+        if is_due(workload, scheduler, search_path.begins.as_mut_slice(), node) {
+            search_path.hints.push(node as u32);
         }
     }
 }

@@ -1,6 +1,6 @@
 //! The rule of a turnstile, and its steps.
 ghost use Rattle.ds_runner.specs.Turns.{Turning, first_turn, took, rests_now, fetched, gave};
-ghost use Rattle.ds_runner.specs.Turns.{learned_parts, keeps_parts, one_part, joined};
+ghost use Rattle.ds_runner.specs.Turns.{observed_parts, keeps_parts, one_part, joined};
 ghost use Rattle.ds_runner.specs.Turns.{spent_turn};
 
 use crate::turn_view::TurnView;
@@ -16,9 +16,9 @@ pub struct Key {
 }
 
 /// The rule of the table.
-pub struct Wheel;
+pub struct TurnstileRule;
 
-impl TableRule<Option<Pass>, TurnView, Key> for Wheel {
+impl TableRule<Option<Pass>, TurnView, Key> for TurnstileRule {
     ghost holds = { Turning };
 
     ghost first = { first_turn };
@@ -32,9 +32,9 @@ impl Play<Option<Pass>, TurnView> for Take {
 }
 
 /// The slot, now empty, goes home.
-pub struct Rest;
+pub struct ReturnEmptySlot;
 
-impl Play<Option<Pass>, TurnView> for Rest {
+impl Play<Option<Pass>, TurnView> for ReturnEmptySlot {
     ghost then = { rests_now };
 }
 
@@ -53,16 +53,16 @@ impl Play<Option<Pass>, TurnView> for Give {
 }
 
 /// A load that tells how many parts there may be.
-pub struct Learn;
+pub struct ObserveParts;
 
-impl Play<Option<Pass>, TurnView> for Learn {
-    ghost then = { learned_parts };
+impl Play<Option<Pass>, TurnView> for ObserveParts {
+    ghost then = { observed_parts };
 }
 
 /// One part of a turn goes to a new turn.
-pub struct Part;
+pub struct OnePart;
 
-impl Split<TurnView> for Part {
+impl Split<TurnView> for OnePart {
     ghost left = { keeps_parts };
 
     ghost right = { one_part };
@@ -78,7 +78,7 @@ impl Join<TurnView> for Merge {
 }
 
 /// The table, as its steps see it.
-pub type Board = Shared<Option<Pass>, TurnView, Key, Wheel>;
+pub type Board = Shared<Option<Pass>, TurnView, Key, TurnstileRule>;
 
 /// The seat of a turn.
 pub type Seated = Seat<Option<Pass>, TurnView>;

@@ -8,10 +8,10 @@ ghost use Rattle.ds_runner.specs.Shown.{TakesPass, Misses};
 ghost use Rattle.ds_runner.specs.Shown.{GivesBack, IsTurnstileClosed};
 
 use crate::hands;
-use crate::shelf::{rooms, shelve, unshelve};
+use crate::slots::{empty_slots, fill_slots, rooms};
 use crate::turn::Turn;
 use crate::turn_view::TurnView;
-use crate::turning::{Key, Wheel};
+use crate::turning::{Key, TurnstileRule};
 use atomic_table::{Refused, Table};
 use ds_base::{LatchId, OutOfMemory};
 use ds_fabric::Pass;
@@ -22,7 +22,7 @@ use std::snapshot::Snapshot;
 /// The passes of all nodes, each at home or with one turn.
 #[derive(Drop)]
 pub struct Turnstile {
-    table: Table<Option<Pass>, TurnView, Key, Wheel, Global>,
+    table: Table<Option<Pass>, TurnView, Key, TurnstileRule, Global>,
 }
 
 impl Model for Turnstile {
@@ -62,11 +62,11 @@ impl Turnstile {
             turns,
         };
         let (words, mut slots) = rooms(alloc, passes.len())?;
-        shelve(passes, &mut slots);
+        fill_slots(passes, &mut slots);
         match Table::new(alloc, words.as_slice(), slots, &key) {
             Ok((table, seat)) => Ok((Turnstile { table }, Turn { seat, parts: turns })),
             Err(Refused { slots }) => {
-                unshelve(&key, slots, passes);
+                empty_slots(&key, slots, passes);
                 Err(OutOfMemory)
             }
         }

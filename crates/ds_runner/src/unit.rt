@@ -6,7 +6,7 @@ ghost use Rattle.ds_rule.specs.Sound.{IsSound};
 ghost use Rattle.ds_fabric.specs.Showing.{Belongs, Stays};
 ghost use Rattle.ds_fabric.specs.Stepped.{Stepped, done};
 
-use crate::site::Site;
+use crate::workload::Workload;
 use ds_base::LatchId;
 use ds_fabric::{Compute, Pass, Step};
 use ds_outside::Gate;
@@ -14,19 +14,19 @@ use ds_rule::{Layout, Rows};
 
 /// Steps a node once, unless it is done, and pauses at the gate before it.
 pub fn unit<J: Rows, C: Compute, G: Gate>(
-    site: &Site<'_, '_, J, C, G>,
+    workload: &Workload<'_, '_, J, C, G>,
     pass: &mut Pass,
     number: u32,
     node: usize,
 ) -> Step
-    requires fits { Belongs site.now pass.old }
-    requires held { (holds pass.old.view node ≡ true) × (node < site.now.run.nodes) }
+    requires fits { Belongs workload.now pass.old }
+    requires held { (holds pass.old.view node ≡ true) × (node < workload.now.run.nodes) }
 
-    ensures same { Stays site.now.memory pass.old pass.new }
-    ensures step { Stepped site.now.run pass.old.view node result pass.new.view }
+    ensures same { Stays workload.now.memory pass.old pass.new }
+    ensures step { Stepped workload.now.run pass.old.view node result pass.new.view }
 {
-    if arrive(site.run, pass, number, node, site.gate) {
-        site.fabric.step(pass, LatchId::new(node as u32))
+    if arrive(workload.run, pass, number, node, workload.gate) {
+        workload.fabric.step(pass, LatchId::new(node as u32))
     } else {
         Step::Done
     }

@@ -1,5 +1,5 @@
 use crate::Turn;
-use crate::trail::Trail;
+use crate::search_path::SearchPath;
 use ds_base::Scratch;
 
 /// A worker: its number, its turn, its scratch, and where it looks for nodes.
@@ -8,5 +8,5 @@ pub struct Worker {
     pub number: u32,
     pub turn: Turn,
     pub scratch: Scratch,
-    pub trail: Trail,
+    pub search_path: SearchPath,
 }

@@ -16,12 +16,12 @@ use crate::complete::{Caller, complete};
 use crate::drive::drive;
 use crate::firing_order::firing_order;
 use crate::gather::gather;
-use crate::gear::Gear;
 use crate::hire::hire;
 use crate::parts::work_of;
 use crate::rest::rest;
-use crate::site::Site;
+use crate::scheduler::Scheduler;
 use crate::worker::Worker;
+use crate::workload::Workload;
 use ds_base::{EventId, OutOfMemory};
 use ds_fabric::{Compute, Fabric, Pass, Record};
 use ds_outside::Gate;
@@ -64,14 +64,19 @@ pub fn run<R: Threads + Sync, J: Rows + Sync, C: Compute + Sync, G: Gate>(
 {
     let order = order_for(alloc, run, workers.jobs, quota)?;
     let (fabric, mut pass) = Fabric::build(alloc, run, openings)?;
-    let site = Site {
+    let workload = Workload {
         fabric: &fabric,
         run,
         gate: workers.gate,
     };
-    let number = share_out(alloc, &site, &mut pass, workers, quota)?;
+    let number = share_out(alloc, &workload, &mut pass, workers, quota)?;
     let rest = rest(run, &pass, quota);
-    complete(&site, &mut pass, order.as_slice(), Caller { number, rest });
+    complete(
+        &workload,
+        &mut pass,
+        order.as_slice(),
+        Caller { number, rest },
+    );
     Ok(fabric.finish(pass))
 }
 
@@ -96,22 +101,22 @@ fn order_for<J: Rows>(
 // caller.
 fn share_out<R: Threads + Sync, J: Rows + Sync, C: Compute + Sync, G: Gate>(
     alloc: Global,
-    site: &Site<'_, '_, J, C, G>,
+    workload: &Workload<'_, '_, J, C, G>,
     pass: &mut Pass,
     workers: &Workers<'_, R, G>,
     quota: Option<u64>,
 ) -> Result<u32, OutOfMemory>
-    requires begun { IsFabricBegun site.now.run site.now pass.old }
+    requires begun { IsFabricBegun workload.now.run workload.now pass.old }
     requires jobs { (0 < workers.now.jobs) × (workers.now.jobs ≤ 64) }
-    ensures ok { OnOk result (Belongs site.now pass.new × HasFrom pass.new.view 0) }
+    ensures ok { OnOk result (Belongs workload.now pass.new × HasFrom pass.new.view 0) }
     ensures ok_few { OnOk result (all_tickets pass.new.view
         ≤ workers.now.jobs * quota_of quota) }
 {
-    if workers.jobs == 1 || site.run.nodes() < 2 {
+    if workers.jobs == 1 || workload.run.nodes() < 2 {
         return Ok(0);
     }
-    let budget = budget(site, workers.jobs, quota);
-    share(workers.threads, alloc, site, pass, budget)?;
+    let budget = budget(workload, workers.jobs, quota);
+    share(workers.threads, alloc, workload, pass, budget)?;
     Ok(workers.jobs)
 }
 
@@ -119,50 +124,58 @@ fn share_out<R: Threads + Sync, J: Rows + Sync, C: Compute + Sync, G: Gate>(
 fn share<R: Threads + Sync, J: Rows + Sync, C: Compute + Sync, G: Gate>(
     rt: &R,
     alloc: Global,
-    site: &Site<'_, '_, J, C, G>,
+    workload: &Workload<'_, '_, J, C, G>,
     pass: &mut Pass,
     budget: Budget,
 ) -> Result<(), OutOfMemory>
-    requires fits { Belongs site.now pass.old }
+    requires fits { Belongs workload.now pass.old }
     requires has { HasFrom pass.old.view 0 }
     requires unfired { IsUnfired pass.old.view }
     requires workers { (0 < budget.workers) × (budget.workers ≤ 64)
-        × (0 < site.now.run.nodes) }
-    requires room { (pass.old.many ≡ site.now.run.nodes)
-        × (site.now.run.nodes ≤ pass.old.room) }
-    ensures ok { OnOk result (Belongs site.now pass.new × HasFrom pass.new.view 0) }
+        × (0 < workload.now.run.nodes) }
+    requires room { (pass.old.many ≡ workload.now.run.nodes)
+        × (workload.now.run.nodes ≤ pass.old.room) }
+    ensures ok { OnOk result (Belongs workload.now pass.new × HasFrom pass.new.view 0) }
     ensures ok_few { OnOk result (all_tickets pass.new.view
         ≤ budget.workers * budget.firings) }
 {
-    let mut crew = hire(alloc, site, pass, budget.workers)?;
-    drive_all(rt, site, &crew.gear, crew.workers.as_mut_slice(), budget);
-    gather(site, pass, crew);
+    let mut pool = hire(alloc, workload, pass, budget.workers)?;
+    drive_all(
+        rt,
+        workload,
+        &pool.scheduler,
+        pool.workers.as_mut_slice(),
+        budget,
+    );
+    gather(workload, pass, pool);
     Ok(())
 }
 
 // Each worker drives, in a thread of its own.
 fn drive_all<R: Threads + Sync, J: Rows + Sync, C: Compute + Sync, G: Gate>(
     rt: &R,
-    site: &Site<'_, '_, J, C, G>,
-    gear: &Gear,
+    workload: &Workload<'_, '_, J, C, G>,
+    scheduler: &Scheduler,
     workers: &mut [Worker],
     budget: Budget,
 )
-    requires fits { HasPassOfEach site.now gear.now.stile }
+    requires fits { HasPassOfEach workload.now scheduler.now.stile }
     requires some { 0 < length workers.old }
-    requires workers { All (IsWithin site.now gear.now.stile 0) workers.old }
+    requires workers { All (IsWithin workload.now scheduler.now.stile 0) workers.old }
     ensures { (i : ℕ) (d : Worker) → i < length workers.old
-        → IsWithin site.now gear.now.stile budget.firings (slice_index_or workers.new i d) }
+        → IsWithin workload.now scheduler.now.stile budget.firings
+        (slice_index_or workers.new i d) }
 {
     thread::for_each_mut(
         rt,
         workers,
         workers.len(),
         &|_, worker|
-            requires fits { HasPassOfEach site.now gear.now.stile }
-            requires worker { IsWithin site.now gear.now.stile 0 worker.old }
-            ensures { IsWithin site.entry.now gear.entry.now.stile budget.firings worker.new }
-        { drive(site, gear, worker, budget) },
+            requires fits { HasPassOfEach workload.now scheduler.now.stile }
+            requires worker { IsWithin workload.now scheduler.now.stile 0 worker.old }
+            ensures { IsWithin workload.entry.now scheduler.entry.now.stile budget.firings
+                worker.new }
+        { drive(workload, scheduler, worker, budget) },
     );
 }
 
@@ -174,19 +187,19 @@ fn drive_all<R: Threads + Sync, J: Rows + Sync, C: Compute + Sync, G: Gate>(
 // processors, what they lose does not grow with their number; and who waits for one that has ended
 // at its quota ends soon.
 fn budget<J: Rows, C: Compute, G: Gate>(
-    site: &Site<'_, '_, J, C, G>,
+    workload: &Workload<'_, '_, J, C, G>,
     jobs: u32,
     quota: Option<u64>,
 ) -> Budget
-    requires some { (0 < jobs) × (0 < site.now.run.nodes) }
+    requires some { (0 < jobs) × (0 < workload.now.run.nodes) }
     ensures workers { (0 < result.workers) × (result.workers ≤ jobs) }
     ensures firings { result.firings ≡ quota_of quota }
 {
-    let nodes = site.run.nodes();
+    let nodes = workload.run.nodes();
     let workers = jobs.min(nodes as u32);
     let firings = quota.unwrap_or(u64::MAX);
-    let takes = 2 * nodes as u64 * site.run.limit();
-    let work = work_of(site) / nodes as u64;
+    let takes = 2 * nodes as u64 * workload.run.limit();
+    let work = work_of(workload) / nodes as u64;
     let each = work - work / 3;
     let due = takes.min(firings.saturating_mul(workers as u64));
     Budget {

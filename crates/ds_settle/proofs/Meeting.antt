@@ -11,7 +11,7 @@ use Rattle.ds_design.specs.Circuit.{Circuit}
 use Rattle.ds_design.specs.Levels.{table_nets}
 use Rattle.ds_settle.specs.Cone.{Parts, ReachesSome, net_of}
 use Rattle.ds_settle.specs.Walk.{AreMet, Grows, IsDriver, IsFound, IsMarked, unmarked, with_found}
-use Rattle.ds_settle.proofs.Tables.{driver_of}
+use Rattle.ds_settle.proofs.CircuitTables.{driver_of}
 
 any_left : {X : Type 0} (P : X → Type 0) (xs ys : List X) → Any P xs → Any P (xs ++ ys)
 any_left P xs ys (k, x, inside, is, p) = (k, x, omega (arith, length-append xs ys), get_or_append_left xs ys x k inside ∙ is, p)

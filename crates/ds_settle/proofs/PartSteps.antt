@@ -6,21 +6,21 @@ use Rattle.std.proofs.Math.ListN.{set}
 use Rattle.std.proofs.lemmas.Bool.{cases_eq}
 use Rattle.std.proofs.lemmas.List.{get_or-set_same, length-set, get_or_default}
 use Rattle.std.proofs.lemmas.List.Elements.{Contains-get_or}
-use Rattle.ds_base.proofs.Lists.{Contains-map}
+use Rattle.ds_base.proofs.ListLemmas.{Contains-map}
 use Rattle.ds_base.specs.Values.{Row}
 use Rattle.ds_base.specs.declared.value.Value.TheVariants.{Zero}
 use Rattle.ds_cover.specs.Bank.{Driven, AreNetsWithin, after_table, after_tables}
 use Rattle.ds_cover.specs.Cover.{value_at, value_of}
 use Rattle.ds_design.specs.Accepted.{IsAccepted}
-use Rattle.ds_design.proofs.Banked.{after_table-is, within_at}
+use Rattle.ds_design.proofs.PackedTables.{after_table-is, within_at}
 use Rattle.ds_design.specs.Banked.{IsBankOf}
 use Rattle.ds_design.specs.Circuit.{Circuit}
 use Rattle.ds_design.specs.InRange.{IsInRange}
 use Rattle.ds_design.specs.declared.design.Gate.{Gate}
 use Rattle.ds_settle.specs.Cone.{AreInOrder, IsPartSettled, net_of}
 use Rattle.ds_settle.proofs.SetBits.{value_at-set_other}
-use Rattle.ds_settle.proofs.Step.{value_kept}
-use Rattle.ds_settle.proofs.Tables.{net_is, same_table}
+use Rattle.ds_settle.proofs.OneTableMore.{value_kept}
+use Rattle.ds_settle.proofs.CircuitTables.{net_is, same_table}
 
 -- the first n tables are settled
 record IsSettledSoFar (c : Circuit) (tables : List ℕ) (n : ℕ) (old new : Row) : Type 0 where

@@ -2,20 +2,20 @@
 use Rattle.std.proofs.Common.{◌≡◌, ◌≢◌, ◌⊎◌, inl, inr, ℕ, ◌+◌, ◌*◌, ◌<◌, ◌≤◌, List, length, get_or, arith, All, AllPairs}
 use Rattle.std.specs.List.{flat_map, range_with_len}
 use Rattle.std.proofs.lemmas.List.FromFn.{length-range_with_len, get_or-range_with_len}
-use Rattle.ds_base.proofs.Lists.{get_or-self}
+use Rattle.ds_base.proofs.ListLemmas.{get_or-self}
 use Rattle.ds_marked.specs.Graph.{Graph}
 use Rattle.ds_marked.specs.declared.marked.Arc.{Arc}
 use Rattle.ds_latch.specs.Node.{Split, nodes}
 use Rattle.ds_control.specs.Control.{EndsDiffer, IsSimple}
 use Rattle.ds_control.specs.Orders.{closing_arc, node_arcs, opening_arc}
-use Rattle.ds_control.proofs.Listed.{node_pairs, turn}
+use Rattle.ds_control.proofs.ListedArcs.{node_pairs, ends_differ-sym}
 use Rattle.ds_control.proofs.Permuted.{pairs_permuted}
-use Rattle.ds_control.proofs.Two.{all_two, pairs_append}
+use Rattle.ds_control.proofs.TwoForEach.{all_two, pairs_append}
 use Rattle.ds_shake.specs.Expansion.{IsExpansion, expanded_arcs, handshake_arcs}
 use Rattle.ds_shake.specs.Handshakes.{AreHandshakes}
 use Rattle.ds_shake.specs.declared.handshake.Handshake.{Handshake}
-use Rattle.ds_shake.proofs.Flat.{all_each, all_flat, pairs_each, pairs_flat}
-use Rattle.ds_shake.proofs.Joined.{below, joins}
+use Rattle.ds_shake.proofs.FlatMapLemmas.{all_each, all_flat, pairs_each, pairs_flat}
+use Rattle.ds_shake.proofs.HandshakeNodes.{below, joins}
 
 -- one of the four events with a number, behind those of so many nodes
 abbrev Within : ℕ → ℕ → ℕ → Type 0
@@ -116,4 +116,4 @@ module _ (s : Split) (all : List Handshake) (are : AreHandshakes s all) where
       node_further (get_or (range_with_len 0 (nodes s)) k d) (omega (at, low, arith))))
 
 pub expansion_is_simple : (s : Split) (g : Graph) → IsExpansion s g → IsSimple g
-expansion_is_simple s g e = pairs_permuted EndsDiffer turn (expanded_arcs s e.handshakes) g.arcs e.arcs (expanded_differ s e.handshakes e.are)
+expansion_is_simple s g e = pairs_permuted EndsDiffer ends_differ-sym (expanded_arcs s e.handshakes) g.arcs e.arcs (expanded_differ s e.handshakes e.are)

@@ -4,7 +4,7 @@ ghost use Rattle.ds_latch.specs.Node.{nodes};
 ghost use Rattle.ds_shake.specs.Handshakes.{AreHandshakes};
 ghost use Rattle.ds_shake.specs.Steps.{AreNumberedEnds};
 
-use crate::pair::{Pair, pairs_of, sort_pairs};
+use crate::edge_ends::{EdgeEnds, pairs_of, sort_pairs};
 use ds_base::LatchId;
 use ds_latch::Latches;
 use std::alloc::{AllocError, Global};
@@ -29,7 +29,7 @@ pub(crate) fn handshakes(alloc: Global, latches: &Latches<'_>) -> Result<Vec<Han
 }
 
 // Each with the number of its place.
-fn numbered(alloc: Global, pairs: &[Pair]) -> Result<Vec<Handshake>, AllocError>
+fn numbered(alloc: Global, pairs: &[EdgeEnds]) -> Result<Vec<Handshake>, AllocError>
     requires { length pairs.now < 2 ^ 32 }
     ensures { IfOk result (λ all. AreNumberedEnds pairs.now all.items) }
 {

@@ -10,12 +10,12 @@
 #![tactic(auto)]
 
 mod arcs;
+mod edge_ends;
 mod events;
 mod expansion;
 mod fault;
 mod handshake;
 pub mod laws;
-mod pair;
 
 pub use expansion::expand;
 pub use fault::ShakeFault;

@@ -1,4 +1,4 @@
 pub mod SortedEnds
-pub mod Numbering
-pub mod Expanded
-pub mod Controllers
+pub mod HandshakeNumbering
+pub mod ExpansionsDecided
+pub mod WantedGraphs

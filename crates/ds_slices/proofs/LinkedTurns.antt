@@ -5,7 +5,7 @@ use Rattle.std.specs.Int.{bit_at}
 use Rattle.std.proofs.lemmas.List.{append_assoc, get_or-map, get_or_default, length-append, length-map}
 use Rattle.std.proofs.lemmas.List.Elements.{Contains-append_right, Contains-get_or}
 use Rattle.std.proofs.lemmas.Nat.Bits.{bit_at-zero}
-use Rattle.ds_base.proofs.Pairs.{get_or-left, get_or-right}
+use Rattle.ds_base.proofs.AppendedPairs.{get_or-left, get_or-right}
 use Rattle.ds_base.specs.Values.{Row}
 use Rattle.ds_base.specs.declared.value.Value.TheVariants.{Zero, Unknown}
 use Rattle.ds_cover.specs.Cover.{value_at, values_at, value_of}

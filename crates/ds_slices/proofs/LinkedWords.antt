@@ -6,9 +6,9 @@ use Rattle.std.proofs.lemmas.Bool.{cases_eq, cases_lt}
 use Rattle.std.proofs.lemmas.List.{append_assoc, get_or-map, get_or-set_other, get_or-set_same, get_or_default, length-append, length-map, length-set, map-append}
 use Rattle.std.proofs.lemmas.List.Elements.{Contains-get_or}
 use Rattle.std.proofs.lemmas.Simd.{map-map}
-use Rattle.ds_base.proofs.Pairs.{get_or-left, get_or-right, pairs-between, pairs-right}
+use Rattle.ds_base.proofs.AppendedPairs.{get_or-left, get_or-right, pairs-between, pairs-right}
 use Rattle.ds_base.specs.Values.{Row}
-use Rattle.ds_cover.proofs.Keeps.{value_agrees}
+use Rattle.ds_cover.proofs.TableValues.{value_agrees}
 use Rattle.ds_cover.specs.Cover.{Cover, value_at, value_of}
 use Rattle.ds_cover.specs.Kept.{bit_value}
 use Rattle.ds_design.specs.Accepted.{IsAccepted}

@@ -12,7 +12,7 @@ use Rattle.ds_base.specs.declared.value.Value.TheVariants.{Zero, One, Unknown}
 use Rattle.ds_cover.specs.Cover.{value_at, values_at}
 use Rattle.ds_cover.specs.Kept.{bit_value}
 use Rattle.ds_cover.specs.Packed.{one_bit}
-use Rattle.ds_cover.proofs.Keeps.{one_known, zero_known}
+use Rattle.ds_cover.proofs.TableValues.{one_known, zero_known}
 use Rattle.ds_design.specs.Trace.{value_text}
 use Rattle.ds_slices.specs.Turns.{IsShifted, turn_row}
 

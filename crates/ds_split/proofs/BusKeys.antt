@@ -4,7 +4,7 @@ use Rattle.std.specs.Prelude.{All, ⊤}
 use Rattle.std.proofs.lemmas.Bool.{cases_lt}
 use Rattle.std.proofs.lemmas.List.{length-replicate}
 use Rattle.std.proofs.lemmas.List.Elements.{All-from_get_or}
-use Rattle.ds_base.proofs.Pairs.{get_or-left, get_or-right}
+use Rattle.ds_base.proofs.AppendedPairs.{get_or-left, get_or-right}
 use Rattle.ds_base.specs.declared.number.Mode.TheVariants.{Bus as ByBus}
 use Rattle.ds_design.specs.Circuit.{Circuit}
 use Rattle.ds_design.specs.declared.design.Net.{Net}

@@ -12,7 +12,7 @@ use Rattle.ds_latch.specs.Order.{IsDataEdge, to_master, to_out, to_slave, IsSour
 use Rattle.ds_latch.specs.Latches.{AreParts}
 use Rattle.ds_design.specs.declared.design.Register.{Register}
 use Rattle.ds_latch.specs.declared.latches.Edge.{Edge}
-use Rattle.ds_latch.proofs.Counts.{number_below, same_node}
+use Rattle.ds_latch.proofs.OrderTokens.{number_below, same_node}
 use Rattle.ds_split.specs.Nets.{AreNodes, AreNetProducers}
 use Rattle.ds_split.specs.Search.{Found, edge_of, with_edge, HasMet, IsCause}
 use Rattle.ds_split.specs.Edges.{IsFoundBelow, AreEdges}

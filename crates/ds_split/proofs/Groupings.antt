@@ -5,8 +5,8 @@ use Rattle.std.specs.List.{flat_map}
 use Rattle.std.proofs.lemmas.Bool.{cases_lt}
 use Rattle.std.proofs.lemmas.List.{get_or_default}
 use Rattle.std.proofs.lemmas.List.Elements.{All-from_get_or, Contains-get_or, Contains-append_cases}
-use Rattle.ds_base.proofs.Lists.{get_or-self}
-use Rattle.ds_base.proofs.Pairs.{get_or-left, get_or-right}
+use Rattle.ds_base.proofs.ListLemmas.{get_or-self}
+use Rattle.ds_base.proofs.AppendedPairs.{get_or-left, get_or-right}
 use Rattle.ds_split.specs.Cluster.{HasEachOnce, HaveBoth, IsGrouping}
 use Rattle.ds_split.specs.Groups.{group, AreGroups}
 

@@ -5,7 +5,7 @@ use Rattle.std.proofs.lemmas.Bool.{cases_eq, cases_lt}
 use Rattle.std.proofs.lemmas.List.{get_or_past, length-set}
 use Rattle.std.proofs.lemmas.List.Elements.{Contains-push_cases, Contains-push, Contains-append_left, Contains-get_or}
 use Rattle.std.proofs.lemmas.List.Quantifiers.{all_pairs_push}
-use Rattle.ds_base.proofs.Pairs.{get_or-left, get_or-right}
+use Rattle.ds_base.proofs.AppendedPairs.{get_or-left, get_or-right}
 use Rattle.ds_split.specs.Groups.{group, with_member, AreGroups}
 
 -- a register in a cluster that is there, and one in a new cluster

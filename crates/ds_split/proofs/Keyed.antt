@@ -4,7 +4,7 @@ use Rattle.std.specs.Prelude.{All, AllPairs, Any, Contains, IfErr, IfOk}
 use Rattle.std.proofs.lemmas.Bool.{cases_eq, cases_lt, cond-true, cond-false, eq-eqb, ne_eqb}
 use Rattle.std.proofs.lemmas.List.{get_or_default, get_or_past, length-set}
 use Rattle.std.proofs.lemmas.List.Elements.{All-from_get_or, All-get_or, Contains-get_or}
-use Rattle.ds_base.proofs.Lists.{get_or-self}
+use Rattle.ds_base.proofs.ListLemmas.{get_or-self}
 use Rattle.ds_base.specs.declared.number.Mode.{Mode}
 use Rattle.ds_design.specs.Circuit.{Circuit}
 use Rattle.ds_design.specs.Groups.{AreDisjoint}

@@ -1,5 +1,5 @@
 pub mod Groups
-pub mod Keys
+pub mod KeyedBuses
 pub mod Loops
 pub mod Keyed
 pub mod BusKeys
@@ -11,6 +11,6 @@ pub mod Sources
 pub mod Marks
 pub mod DataEdges
 pub mod OneClustering
-pub mod Taken
-pub mod Settled
+pub mod TakesNextValue
+pub mod SettlesNextValue
 pub mod NodeCones

@@ -4,7 +4,7 @@ use Rattle.std.specs.Prelude.{Contains, ⊤}
 use Rattle.std.proofs.lemmas.Bool.{cases_lt}
 use Rattle.std.proofs.lemmas.List.{get_or_past, get_or-map, length-set}
 use Rattle.std.proofs.lemmas.List.Elements.{Contains-get_or}
-use Rattle.ds_base.proofs.Pairs.{get_or-left, get_or-right}
+use Rattle.ds_base.proofs.AppendedPairs.{get_or-left, get_or-right}
 use Rattle.ds_design.specs.Circuit.{Circuit}
 use Rattle.ds_design.specs.declared.design.Net.{Net}
 use Rattle.ds_design.specs.declared.design.Register.{Register}

@@ -3,13 +3,13 @@ use Rattle.std.proofs.Common.{◌≡◌, ◌≢◌, ◌⊎◌, inl, inr, ℕ, ze
 use Rattle.std.specs.Prelude.{Contains}
 use Rattle.std.proofs.lemmas.Bool.{cases_eq}
 use Rattle.std.proofs.lemmas.List.{get_or_default, length-set, length-replicate}
-use Rattle.ds_base.proofs.Lists.{cases_Contains}
+use Rattle.ds_base.proofs.ListLemmas.{cases_Contains}
 use Rattle.ds_design.specs.Accepted.{IsAccepted}
 use Rattle.ds_latch.specs.Node.{Split, IsNode, number_of, nodes, nets_of}
 use Rattle.ds_latch.specs.declared.node.Node.{Node}
 use Rattle.ds_latch.specs.declared.node.Node.TheVariants.{In, Out, Master, Slave}
 use Rattle.ds_latch.specs.Order.{IsSource}
-use Rattle.ds_latch.proofs.Counts.{number_below}
+use Rattle.ds_latch.proofs.OrderTokens.{number_below}
 use Rattle.ds_split.specs.Cluster.{HasEachOnce}
 use Rattle.ds_split.specs.Nets.{AreProducersBelow, AreNetProducers, AreMarked}
 use Rattle.ds_split.proofs.Searching.{IsFirst, seen_set}

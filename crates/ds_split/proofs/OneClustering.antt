@@ -4,8 +4,8 @@ use Rattle.std.specs.Prelude.{All, AllPairs, Contains}
 use Rattle.std.proofs.lemmas.Bool.{cases_lt}
 use Rattle.std.proofs.lemmas.List.{get_or_default, get_or_past, get_or-map, length-map}
 use Rattle.std.proofs.lemmas.List.Elements.{All-get_or, All-contains, Contains-get_or}
-use Rattle.ds_base.proofs.Rising.{rising_same}
-use Rattle.ds_base.proofs.Lists.{lists_same, get_or-self, Any-from_map, Contains-map}
+use Rattle.ds_base.proofs.RisingNumbers.{rising_same}
+use Rattle.ds_base.proofs.ListLemmas.{lists_same, get_or-self, Any-from_map, Contains-map}
 use Rattle.ds_split.specs.Cluster.{Agree, IsGrouping}
 use Rattle.ds_split.specs.Groups.{group}
 use Rattle.ds_split.specs.Grouped.{BelongTogether}

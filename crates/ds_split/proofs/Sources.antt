@@ -5,8 +5,8 @@ use Rattle.std.specs.List.{flat_map, list_any}
 use Rattle.std.proofs.lemmas.Bool.{cases_lt}
 use Rattle.std.proofs.lemmas.List.{length-map}
 use Rattle.std.proofs.lemmas.List.Elements.{All-get_or, All-contains, All-from_get_or, All-filter, All-map, Contains-get_or, Contains-append_left, Contains-append_right}
-use Rattle.ds_base.proofs.Lists.{Any-from_map}
-use Rattle.ds_base.proofs.Pairs.{pairs-left, pairs-right, pairs-between}
+use Rattle.ds_base.proofs.ListLemmas.{Any-from_map}
+use Rattle.ds_base.proofs.AppendedPairs.{pairs-left, pairs-right, pairs-between}
 use Rattle.ds_design.specs.Accepted.{IsAccepted}
 use Rattle.ds_design.specs.Circuit.{columns, control_nets, data_nets, register_nets}
 use Rattle.ds_design.specs.InRange.{IsInRange}

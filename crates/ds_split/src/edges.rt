@@ -4,8 +4,8 @@ ghost use Rattle.ds_split.specs.Edges.{AreEdges, IsFoundBelow};
 ghost use Rattle.ds_split.specs.Nets.{AreNodes};
 ghost use Rattle.ds_split.specs.Split.{split_into, IsSplitFault};
 
+use crate::edge_search::EdgeSearch;
 use crate::producers::producers_of;
-use crate::search::Search;
 use crate::{Clusters, SplitFault};
 use ds_base::{Limit, NetId, OutOfMemory, Seq};
 use ds_design::Netlist;
@@ -63,14 +63,14 @@ fn begin(
     clusters: &Clusters,
     nets: &[Seq<NetId>],
     finder: &mut Finder<'_>,
-) -> Result<Search, OutOfMemory>
+) -> Result<EdgeSearch, OutOfMemory>
     requires nodes { AreNodes netlist.now clusters.now nets.now }
     requires finder { finder.old ≡ netlist.now }
     ensures ok { IfOk result (IsFoundBelow (split_into netlist.now clusters.now) 2) }
     ensures same { finder.new ≡ finder.old }
 {
     let producers = producers_of(alloc, netlist, clusters, nets)?;
-    let mut search = Search::new(alloc, producers, nets.len())?;
+    let mut search = EdgeSearch::new(alloc, producers, nets.len())?;
     search.consume(alloc, finder, nets[1].as_slice(), 1)?;
     Ok(search)
 }
@@ -82,7 +82,7 @@ fn add(
     clusters: &Clusters,
     nets: &[Seq<NetId>],
     finder: &mut Finder<'_>,
-    search: &mut Search,
+    search: &mut EdgeSearch,
     i: usize,
 ) -> Result<(), OutOfMemory>
     requires nodes { AreNodes netlist.now clusters.now nets.now }

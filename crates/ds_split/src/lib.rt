@@ -24,6 +24,7 @@ mod bus;
 mod buses;
 mod clusters;
 mod cones;
+mod edge_search;
 mod edges;
 mod fault;
 mod graph;
@@ -33,7 +34,6 @@ pub mod laws;
 mod nets;
 mod producers;
 mod register_keys;
-mod search;
 
 pub use clusters::Clusters;
 pub use cones::cones_of;

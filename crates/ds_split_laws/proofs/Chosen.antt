@@ -3,8 +3,8 @@ use Rattle.std.proofs.Common.{◌≡◌, ◌≢◌, ◌⊎◌, inl, inr, ℕ, ze
 use Rattle.std.specs.Prelude.{All, AllPairs, Any, Contains}
 use Rattle.std.proofs.lemmas.Bool.{cases_lt}
 use Rattle.std.proofs.lemmas.List.Elements.{All-head, All-tail, Contains-append_cases, Contains-append_left, Contains-append_right}
-use Rattle.ds_base.proofs.Lists.{get_or-self}
-use Rattle.ds_control.proofs.Two.{pairs_append}
+use Rattle.ds_base.proofs.ListLemmas.{get_or-self}
+use Rattle.ds_control.proofs.TwoForEach.{pairs_append}
 
 -- an element is the first or one of the others
 any_split : {X : Type 0} (P : X → Type 0) (y : X) (xs : List X) → Any P (y ∷ xs) → P y ⊎ Any P xs

@@ -2,7 +2,7 @@
 use Rattle.std.proofs.Common.{◌≡◌, ◌≢◌, ◌⊎◌, inl, inr, ℕ, zero, suc, ◌+◌, ◌<◌, List, [], ◌∷◌, length, refl, sym, ◌∙◌, ap, subst, arith}
 use Rattle.std.specs.Prelude.{Any, Contains}
 use Rattle.std.proofs.lemmas.Bool.{cases_eq}
-use Rattle.ds_base.proofs.Lists.{cases_Any}
+use Rattle.ds_base.proofs.ListLemmas.{cases_Any}
 use Rattle.ds_base.specs.declared.number.Mode.{Mode}
 use Rattle.ds_base.specs.declared.number.Mode.TheVariants.{Each, One, Bus}
 use Rattle.ds_design.specs.Circuit.{Circuit}

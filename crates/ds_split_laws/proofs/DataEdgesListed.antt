@@ -2,7 +2,7 @@
 use Rattle.std.proofs.Common.{◌≡◌, ◌≢◌, ◌⊎◌, inl, inr, ℕ, zero, suc, ◌+◌, ◌*◌, ◌<◌, List, [], ◌∷◌, ◌++◌, length, refl, sym, ◌∙◌, ap, subst, arith}
 use Rattle.std.specs.Prelude.{AllPairs, Any}
 use Rattle.std.proofs.lemmas.Bool.{cases_eq, cases_lt}
-use Rattle.ds_base.proofs.Lists.{cases_Any}
+use Rattle.ds_base.proofs.ListLemmas.{cases_Any}
 use Rattle.ds_design.specs.Accepted.{IsAccepted}
 use Rattle.ds_design.specs.Reach.{Reaches}
 use Rattle.ds_latch.specs.Node.{Split, IsNode, number_of, nodes, nets_of}
@@ -11,14 +11,14 @@ use Rattle.ds_latch.specs.declared.node.Node.TheVariants.{In, Out, Master, Slave
 use Rattle.ds_latch.specs.Order.{IsDataEdge, to_master, to_out, to_slave, IsSource, Supplies}
 use Rattle.ds_latch.specs.Latches.{HasEdges}
 use Rattle.ds_latch.specs.declared.latches.Edge.{Edge}
-use Rattle.ds_latch.proofs.Counts.{number_below, same_node}
-use Rattle.ds_latch.proofs.Rising.{edge_nodes}
+use Rattle.ds_latch.proofs.OrderTokens.{number_below, same_node}
+use Rattle.ds_latch.proofs.OrdersRise.{edge_nodes}
 use Rattle.ds_split.specs.Search.{edge_of}
 use Rattle.ds_split.specs.Split.{IsEdgeOf}
 use Rattle.ds_split.proofs.DataEdges.{same_edge}
 use Rattle.ds_control.proofs.Required.{named}
 use Rattle.ds_split_laws.proofs.Chosen.{HasExactly, list_none, list_one, list_both, list_means}
-use Rattle.ds_split_laws.proofs.Reached.{reach_cases}
+use Rattle.ds_split_laws.proofs.ReachDecided.{reach_cases}
 
 -- what an edge into a node is
 into_out : (s : Split) (p : Node) → IsDataEdge s p Out → IsSource p × IsNode s p × Supplies s p Out

@@ -1,11 +1,11 @@
 pub mod Chosen
-pub mod Reached
+pub mod ReachDecided
 pub mod DataEdgesListed
 pub mod Clusterings
-pub mod Grouped
+pub mod GroupedClusterings
 pub mod Slack
-pub mod Decided
+pub mod SplitsDecided
 pub mod Sorting
 pub mod SortedArcs
-pub mod Controllers
-pub mod Counted
+pub mod ControllersExist
+pub mod ArcCount

@@ -7,7 +7,7 @@ use Rattle.ds_shake.specs.declared.fault.ShakeFault.{ShakeFault}
 use Rattle.ds_shake.specs.declared.fault.ShakeFault.TheVariants.{TooMany, Memory}
 use Rattle.ds_stage.specs.GraphStage.{controller_stage, drawn_stage, wanted_stage}
 use Rattle.ds_stage.specs.Stage.{OfFile}
-use Rattle.ds_stage.proofs.Failed.{Says, then_says}
+use Rattle.ds_stage.proofs.StageReadFailures.{Says, then_says}
 
 -- a limit is not memory
 no_memory : (limit : Limit) → ◌≢◌ {A = ShakeFault} (TooMany limit) Memory

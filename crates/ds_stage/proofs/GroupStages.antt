@@ -10,7 +10,7 @@ use Rattle.ds_stage.specs.Ends.{Never}
 use Rattle.ds_stage.specs.GroupsStage.{group_text, grouped_stage, groups_stage, named_groups_stage}
 use Rattle.ds_stage.specs.Stage.{OfFile, IsExclusive, then_stage}
 use Rattle.ds_stage.specs.Stages.{lines_stage, read_or_line, text_stage}
-use Rattle.ds_stage.proofs.Exclusive.{lines_exclusive, result_exclusive, then_exclusive}
+use Rattle.ds_stage.proofs.ExclusiveStages.{lines_exclusive, result_exclusive, then_exclusive}
 use Rattle.ds_stage.proofs.Stages.{IsWider, read_means, read_refused, wider_first}
 
 module _ (held : List ℕ → Held) (file : List ℕ) (c : Circuit) where

@@ -11,7 +11,7 @@ use Rattle.ds_stage.specs.Stages.{lines_stage, text_stage}
 use Rattle.ds_replay.specs.ReplayText.{IsReplayText}
 use Rattle.ds_stage.specs.ReplayStage.{fired_stage, kept_after, kept_stage, log_stage, replayed_stage}
 use Rattle.ds_stage.specs.Ends.{Never}
-use Rattle.ds_stage.proofs.Exclusive.{then_not_refused}
+use Rattle.ds_stage.proofs.ExclusiveStages.{then_not_refused}
 use Rattle.ds_stage.proofs.Stages.{IsWider, read_means, read_refused, wider_first}
 use Rattle.ds_replay.specs.declared.fault.ReplayKind.{ReplayKind}
 

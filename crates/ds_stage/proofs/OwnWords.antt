@@ -14,8 +14,8 @@ use Rattle.ds_latch.specs.Plan.{Planned, split_events}
 use Rattle.ds_astg.specs.Read.{graph_of_lines}
 use Rattle.ds_accept.specs.Accept.{extra_events, is_same_event}
 use Rattle.ds_replay.specs.Printed.{HasOwnWords}
-use Rattle.ds_replay.proofs.Named.{IsSpelt, all_spelt, nodes_have_own_words, spelt_have_own_words}
-use Rattle.ds_stage.proofs.Meant.{read_meant}
+use Rattle.ds_replay.proofs.EventWords.{IsSpelt, all_spelt, nodes_have_own_words, spelt_have_own_words}
+use Rattle.ds_stage.proofs.FileMeaning.{read_meant}
 use Rattle.ds_stage.specs.GraphText.{astg_text}
 use Rattle.ds_stage.specs.Stages.{OfBytes, text_stage}
 use Rattle.ds_stage.specs.SplitStage.{IsInClusters}

@@ -11,10 +11,10 @@ use Rattle.ds_stage.specs.Ends.{Ends, Never, Output, RoseIn}
 use Rattle.ds_stage.specs.PeriodStage.{IsPeriodText, delay_text, delays_stage, given_stage, timed_stage}
 use Rattle.ds_stage.specs.Stage.{OfFile, Stage, IsExclusive, giving, then_stage}
 use Rattle.ds_stage.specs.Stages.{lines_stage, read_or_line, text_stage}
-use Rattle.ds_stage.proofs.Ends.{ends_more, rose_since}
-use Rattle.ds_stage.proofs.Exclusive.{lines_exclusive, result_exclusive, then_exclusive, then_not_refused}
-use Rattle.ds_stage.proofs.Left.{timed_nothing}
-use Rattle.ds_stage.proofs.Failed.{Says, lines_say, then_says}
+use Rattle.ds_stage.proofs.StageEnds.{ends_more, rose_since}
+use Rattle.ds_stage.proofs.ExclusiveStages.{lines_exclusive, result_exclusive, then_exclusive, then_not_refused}
+use Rattle.ds_stage.proofs.StagesLeaveNothing.{timed_nothing}
+use Rattle.ds_stage.proofs.StageReadFailures.{Says, lines_say, then_says}
 use Rattle.ds_stage.proofs.Stages.{IsWider, read_means, read_refused, wider_first}
 
 -- the text of the period of a graph with these delays

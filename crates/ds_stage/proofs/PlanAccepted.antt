@@ -10,7 +10,7 @@ use Rattle.ds_design.specs.Circuit.{Circuit, initial_row, initial_value}
 use Rattle.ds_design.specs.declared.design.Register.{Register}
 use Rattle.ds_latch.specs.Node.{Split, slackened}
 use Rattle.ds_latch.specs.Plan.{IsPlan, IsSplit, Planned, split_events}
-use Rattle.ds_latch.proofs.Rising.{orders_are_accepted}
+use Rattle.ds_latch.proofs.OrdersRise.{orders_are_accepted}
 use Rattle.ds_accept.specs.Accept.{extra_events}
 use Rattle.ds_accept.proofs.Accepted.{place_in, placed_in}
 use Rattle.ds_accept.proofs.Moved.{plan}

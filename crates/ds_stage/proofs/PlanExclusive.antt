@@ -20,7 +20,7 @@ use Rattle.ds_astg.specs.Read.{graph_of_lines}
 use Rattle.ds_stage.specs.PlanStage.{acceptable_stage, marked_stage, named_stage, plan_stage, planned_stage}
 use Rattle.ds_stage.proofs.GroupStages.{groups_exclusive}
 use Rattle.ds_stage.proofs.PlanStages.{acceptable_exclusive, own_exclusive}
-use Rattle.ds_stage.proofs.Exclusive.{lines_exclusive, result_exclusive, then_exclusive}
+use Rattle.ds_stage.proofs.ExclusiveStages.{lines_exclusive, result_exclusive, then_exclusive}
 
 -- a circuit has one split by a mode and groups
 one_split : OneGroupedClustering → (mode : Mode) (groups : List (List ℕ)) (c : Circuit) (a b : Split) → IsInClusters mode groups c a → IsInClusters mode groups c b → a ≡ b

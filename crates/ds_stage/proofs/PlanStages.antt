@@ -6,7 +6,7 @@ use Rattle.ds_marked.specs.Graph.{Graph}
 use Rattle.ds_latch.specs.Node.{Split}
 use Rattle.ds_latch.specs.Plan.{Planned}
 use Rattle.ds_accept.proofs.OnePlan.{one_plan_lem}
-use Rattle.ds_accept.proofs.Refused.{faults_are_refused_lem}
+use Rattle.ds_accept.proofs.FaultyGraphs.{faults_are_refused_lem}
 use Rattle.ds_accept.specs.declared.fault.AcceptFault.{AcceptFault}
 use Rattle.ds_accept.specs.declared.fault.AcceptFault.TheVariants as accept
 use Rattle.ds_stage.specs.Stage.{OfFile, IsExclusive, giving, then_stage}

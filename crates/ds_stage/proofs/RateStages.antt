@@ -9,7 +9,7 @@ use Rattle.ds_marked.specs.Graph.{Graph, IsLive}
 use Rattle.ds_marked.specs.declared.marked.Arc.{Arc}
 use Rattle.ds_rank.specs.Order.{IsCycle}
 use Rattle.ds_rank.specs.Rank.{HasFreeArc}
-use Rattle.ds_rank.proofs.Rising.{no_cycle}
+use Rattle.ds_rank.proofs.RankedEdges.{no_cycle}
 use Rattle.ds_period.specs.Controller.{HasPeriod}
 use Rattle.ds_period.specs.Timing.{HasCycle}
 use Rattle.ds_astg.specs.Read.{graph_of_lines}
@@ -22,9 +22,9 @@ use Rattle.ds_stage.specs.Stage.{OfFile, IsExclusive, then_stage}
 use Rattle.ds_stage.specs.Stages.{lines_stage, read_or_line, result_stage, text_stage}
 use Rattle.ds_stage.specs.RateStage.{bare_graph_stage, bare_stage, cyclic_stage}
 use Rattle.ds_stage.specs.Ends.{Never, RoseIn, SaysRefused, Stops}
-use Rattle.ds_stage.proofs.Exclusive.{lines_exclusive, result_exclusive, then_exclusive}
-use Rattle.ds_stage.proofs.Failed.{Says, lines_say, then_says}
-use Rattle.ds_stage.proofs.Left.{LeavesNothing, lines_nothing, no_text, result_nothing, then_nothing}
+use Rattle.ds_stage.proofs.ExclusiveStages.{lines_exclusive, result_exclusive, then_exclusive}
+use Rattle.ds_stage.proofs.StageReadFailures.{Says, lines_say, then_says}
+use Rattle.ds_stage.proofs.StagesLeaveNothing.{LeavesNothing, lines_nothing, no_text, result_nothing, then_nothing}
 use Rattle.ds_stage.proofs.Stages.{IsWider, read_means, read_refused, wider_first}
 
 -- in a live graph no arcs without tokens lead in a circle

@@ -30,7 +30,7 @@ use Rattle.ds_astg.specs.declared.role.Role.{Role}
 use Rattle.ds_astg.specs.declared.role.Role.TheVariants.{Signal, Dummy}
 use Rattle.ds_astg.proofs.Soundness.{one_value, then_was}
 use Rattle.ds_replay.specs.Legal.{EndsInSign}
-use Rattle.ds_replay.proofs.Named.{IsSpelt, rise_signed, fall_signed}
+use Rattle.ds_replay.proofs.EventWords.{IsSpelt, rise_signed, fall_signed}
 use Rattle.ds_stage.proofs.LineWords.{HaveWords, both_all}
 
 -- a choice that is a fault or a value

@@ -18,8 +18,8 @@ use Rattle.ds_design.specs.InRange.{IsInRange}
 use Rattle.ds_design.specs.Rows.{Rows}
 use Rattle.ds_design.specs.Trace.{AreLines, trace_lines}
 use Rattle.ds_design.specs.declared.design.Register.{Register}
-use Rattle.ds_design.proofs.Runs.{some_run, turns_by_trace}
-use Rattle.ds_design.proofs.Windows.{lines_in_windows}
+use Rattle.ds_design.proofs.ClockedRuns.{some_run, turns_by_trace}
+use Rattle.ds_design.proofs.RunWindows.{lines_in_windows}
 use Rattle.ds_stream.specs.Next.{FitsHeld, GivesHeld, RefusesHeld, Refuses}
 use Rattle.ds_stream.specs.Stream.{FitsText, Shown, Stream, next_window, stream_of}
 use Rattle.ds_stream.specs.declared.fault.NextFault.{NextFault}
@@ -33,10 +33,10 @@ use Rattle.ds_stage.specs.Stage.{OfFile, Stage, IsExclusive, giving, then_stage}
 use Rattle.ds_stage.specs.Stages.{OfBytes}
 use Rattle.ds_stage.specs.StreamStage.{AreAllWindowLines, AreSomeWindowLines, AreWindowLines, HasStreamFault, IsFaultLine, IsStreamLine, gives_held, leaves_held, streamed_stage}
 use Rattle.ds_stage.specs.StreamStops.{StopsWindow}
-use Rattle.ds_stage.proofs.Ends.{rose_since}
-use Rattle.ds_stage.proofs.Failed.{Says}
-use Rattle.ds_stage.proofs.Left.{nothing_appended}
-use Rattle.ds_stage.proofs.Meant.{stream_wide}
+use Rattle.ds_stage.proofs.StageEnds.{rose_since}
+use Rattle.ds_stage.proofs.StageReadFailures.{Says}
+use Rattle.ds_stage.proofs.StagesLeaveNothing.{nothing_appended}
+use Rattle.ds_stage.proofs.FileMeaning.{stream_wide}
 use Rattle.ds_stage.proofs.Streams.{IsGiven, IsNextOf, all_given, given_many, more_given, next_of, none_given}
 
 -- so many rows of the width, a whole number of windows while there is more

@@ -11,10 +11,10 @@ use Rattle.ds_stage.specs.PeriodStage.{delays_stage, given_stage}
 use Rattle.ds_stage.specs.Stage.{OfFile, Stage, giving}
 use Rattle.ds_stage.specs.Stages.{lines_stage}
 use Rattle.ds_stage.specs.TimesStage.{IsTimesText, scheduled_stage}
-use Rattle.ds_stage.proofs.Ends.{ended, ends_after, ends_more, lines_since}
-use Rattle.ds_stage.proofs.Exclusive.{then_not_refused}
-use Rattle.ds_stage.proofs.Failed.{Says, lines_say, then_says}
-use Rattle.ds_stage.proofs.Left.{LeavesNothing, giving_nothing, lines_nothing, no_text, then_nothing}
+use Rattle.ds_stage.proofs.StageEnds.{ended, ends_after, ends_more, lines_since}
+use Rattle.ds_stage.proofs.ExclusiveStages.{then_not_refused}
+use Rattle.ds_stage.proofs.StageReadFailures.{Says, lines_say, then_says}
+use Rattle.ds_stage.proofs.StagesLeaveNothing.{LeavesNothing, giving_nothing, lines_nothing, no_text, then_nothing}
 use Rattle.ds_stage.proofs.PeriodStages.{delays_exclusive}
 use Rattle.ds_stage.proofs.Stages.{IsWider, stopped, wider_both}
 

@@ -11,12 +11,12 @@ const VECTORS: &str = "1\n1\n0\n1\n";
 
 // After how many firings each worker stops, and how many workers there are.
 #[derive(Clone, Copy)]
-struct Stop {
+struct StopCase {
     firings: usize,
     jobs: usize,
 }
 
-impl Stop {
+impl StopCase {
     // The command line of such a run.
     fn line(&self, alloc: Global) -> Result<String, AllocError> {
         let (firings, jobs) = (self.firings, self.jobs);
@@ -55,7 +55,7 @@ fn may_be_printed<'x, R: AllocGlobal + Threads + Sync>(
     rt: &R,
     net: &'x str,
     text: &'x str,
-    stop: Stop,
+    stop: StopCase,
     all: usize,
 ) -> Result<bool, OutOfMemory> {
     let Some((head, log)) = text.split_once("firings\n") else {
@@ -72,7 +72,7 @@ fn may_be_printed<'x, R: AllocGlobal + Threads + Sync>(
 fn stopped<R: AllocGlobal + Threads + Sync>(
     rt: &R,
     net: &str,
-    stop: Stop,
+    stop: StopCase,
     all: usize,
 ) -> Result<Option<String>, OutOfMemory> {
     let files = [("n", net), ("v", VECTORS)];
@@ -109,7 +109,10 @@ fn stores_by_its_log(text: &str) -> bool {
 }
 
 // Whether a run of the toggle that is stopped so prints what it may, and what is stored by its log.
-fn is_stopped<R: AllocGlobal + Threads + Sync>(rt: &R, stop: Stop) -> Result<bool, OutOfMemory> {
+fn is_stopped<R: AllocGlobal + Threads + Sync>(
+    rt: &R,
+    stop: StopCase,
+) -> Result<bool, OutOfMemory> {
     let text = stopped(rt, TOGGLE, stop, 32)?;
     Ok(text.is_some_and(|text| stores_by_its_log(text.as_str())))
 }
@@ -117,7 +120,7 @@ fn is_stopped<R: AllocGlobal + Threads + Sync>(rt: &R, stop: Stop) -> Result<boo
 #[test]
 fn one_worker_stops_at_each_number(rt: HostRuntime) -> Result<(), Fail> {
     for firings in 0..34 {
-        let stop = Stop { firings, jobs: 1 };
+        let stop = StopCase { firings, jobs: 1 };
         assert!(rt; is_stopped(&rt, stop)?, "{firings}");
     }
     Ok(())
@@ -126,7 +129,7 @@ fn one_worker_stops_at_each_number(rt: HostRuntime) -> Result<(), Fail> {
 #[test]
 fn four_workers_stop_within_four_times_the_number(rt: HostRuntime) -> Result<(), Fail> {
     for firings in 0..34 {
-        let stop = Stop { firings, jobs: 4 };
+        let stop = StopCase { firings, jobs: 4 };
         assert!(rt; is_stopped(&rt, stop)?, "{firings}");
     }
     Ok(())
@@ -137,7 +140,7 @@ fn is_same_without_a_log<R: AllocGlobal + Threads + Sync>(
     rt: &R,
     firings: usize,
 ) -> Result<bool, OutOfMemory> {
-    let Some(text) = stopped(rt, TOGGLE, Stop { firings, jobs: 1 }, 32)? else {
+    let Some(text) = stopped(rt, TOGGLE, StopCase { firings, jobs: 1 }, 32)? else {
         return Ok(false);
     };
     let files = [("n", TOGGLE), ("v", VECTORS)];
@@ -166,7 +169,7 @@ fn four_workers_stop_amid_a_hundred_registers(rt: HostRuntime) -> Result<(), Fai
     for seed in 0..60u64 {
         let net = tangle(rt.alloc(), seed)?;
         let firings = (seed as usize).saturating_mul(8);
-        let text = stopped(&rt, net.as_str(), Stop { firings, jobs: 4 }, 1_616)?;
+        let text = stopped(&rt, net.as_str(), StopCase { firings, jobs: 4 }, 1_616)?;
         assert!(rt; text.is_some(), "{seed}");
     }
     Ok(())

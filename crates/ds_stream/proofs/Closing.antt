@@ -13,7 +13,7 @@ use Rattle.ds_stream.specs.declared.fault.NextFault.{NextFault}
 use Rattle.ds_stream.specs.declared.fault.NextFault.TheVariants.{Memory, Read, TooLong, Vector}
 use Rattle.ds_stream.specs.declared.fault.StreamKind.TheVariants.{BadBit, BadWidth, TooMany}
 use Rattle.ds_stream.specs.Word.{GivesRow}
-use Rattle.ds_rows.proofs.Reading.{length-row_of}
+use Rattle.ds_rows.proofs.RowsSoFar.{length-row_of}
 use Rattle.ds_stream.proofs.Short.{is_short}
 use Rattle.ds_stream.proofs.WindowLaws.{window-none}
 

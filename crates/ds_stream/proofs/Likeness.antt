@@ -8,12 +8,12 @@ use Rattle.std.proofs.lemmas.Bool.{cases_Bool, eqb-true, false≢true}
 use Rattle.std.proofs.lemmas.List.Elements.{All-nil, All-cons}
 use Rattle.std.proofs.lemmas.List.Folds.{list_any-append}
 use Rattle.ds_lines.specs.Line.{is_backslash, is_blank, is_end, is_hash, is_joined, is_newline, joins, trimmed, uncommented, words_in, words_of}
-use Rattle.ds_lines.proofs.Joins.{words_of-joined}
+use Rattle.ds_lines.proofs.JoinedLines.{words_of-joined}
 use Rattle.ds_rows.specs.Vector.{has_width}
 use Rattle.ds_stream.specs.Alike.{AreAlike, AreWrong, IsBegun, IsFull, IsLike, told_line}
 use Rattle.ds_stream.specs.Stream.{Behind, Placed, longest, placed_in, placed_of, window}
 use Rattle.ds_stream.proofs.Cut.{AreEnds, cut_of, trimmed_at, trimmed_ends, trimmed-ends, trimmed-at, joined_at, joined_ends, joined-ends, joined-at, uncommented-behind, no_blank, blank_ends, plain_front}
-use Rattle.ds_stream.proofs.Wrong.{are_wrong, begins-append, words_of-blank}
+use Rattle.ds_stream.proofs.WrongWidthLines.{are_wrong, begins-append, words_of-blank}
 
 or_second : (a b : Bool) → (a || b) ≡ false → b ≡ false
 or_second true b none = absurd (false≢true (sym none))

@@ -13,7 +13,7 @@ use Rattle.ds_stream.specs.StreamLaws.{as_next, result_of}
 use Rattle.ds_stream.specs.declared.fault.NextFault.{NextFault}
 use Rattle.ds_stream.specs.declared.fault.NextFault.TheVariants.{TooLong}
 use Rattle.ds_lines.specs.declared.at.At.{At}
-use Rattle.ds_stream.proofs.Placed.{are_lines}
+use Rattle.ds_stream.proofs.StreamLines.{are_lines}
 use Rattle.ds_stream.proofs.WindowLaws.{cases_Option}
 use Rattle.ds_rows.specs.declared.fault.VectorKind.{VectorKind}
 use Rattle.ds_stream.specs.declared.fault.StreamKind.{StreamKind}

@@ -1,6 +1,6 @@
-pub mod Numbered
-pub mod Rising
-pub mod Flying
-pub mod Reached
-pub mod Answered
-pub mod Turned
+pub mod TicketNumbers
+pub mod TicketsRise
+pub mod FlightIsEnabled
+pub mod ShownCounts
+pub mod StepAnswers
+pub mod PassHomeOrOut

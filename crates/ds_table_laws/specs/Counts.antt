@@ -13,7 +13,7 @@ use Rattle.ds_rule.specs.declared.view.View.{View}
 -- what a pass has in flight is enabled at the counts that the words show
 abbrev pub FlightsAreEnabled : Type 0
 FlightsAreEnabled = (run : Run) (s : State ℕ View) → Lawful run s → (id : ℕ) (v : View)
-    → get_elem? s.views id ≡ some v → v.live ≡ true → 0 < v.stage
+    → get_elem? s.views id ≡ some v → v.live ≡ true → 0 < v.phase
     → Enabled run (shown s.words) (event run v)
 
 -- the counts that the words show are those of a legal list

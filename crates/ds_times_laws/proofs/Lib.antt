@@ -1,10 +1,10 @@
-pub mod Lists
-pub mod Legal
+pub mod ListPositions
+pub mod CausalOrders
 pub mod Arcs
-pub mod Unique
-pub mod Orders
+pub mod OneSchedule
+pub mod OneWayOrders
 pub mod OneOrder
 pub mod Legality
-pub mod Bounds
-pub mod Turns
-pub mod Following
+pub mod TimeBounds
+pub mod TurnListing
+pub mod ScheduleFollowsClock

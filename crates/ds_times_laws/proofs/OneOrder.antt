@@ -4,8 +4,8 @@ use Rattle.std.specs.Prelude.{All, AllPairs, Contains}
 use Rattle.std.proofs.lemmas.Bool.{cases_lt}
 use Rattle.std.proofs.lemmas.List.Elements.{All-contains, Contains-get_or}
 use Rattle.ds_times.specs.Order.{ComesFirst, IsByRank}
-use Rattle.ds_times_laws.proofs.Lists.{contains_head, contains_split, contains_tail, pairs_cons, pairs_first, pairs_rest}
-use Rattle.ds_times_laws.proofs.Orders.{first_one_way}
+use Rattle.ds_times_laws.proofs.ListPositions.{contains_head, contains_split, contains_tail, pairs_cons, pairs_first, pairs_rest}
+use Rattle.ds_times_laws.proofs.OneWayOrders.{first_one_way}
 use Rattle.ds_times_laws.specs.Listed.{EventsHaveOneOrder}
 
 -- nothing is in an empty list

@@ -30,7 +30,7 @@ use Rattle.ds_stage.specs.PeriodStage.{IsPeriodText, delays_stage, given_stage, 
 use Rattle.ds_stage.specs.RateStage.{bare_graph_stage, bare_stage}
 use Rattle.ds_stage.specs.TimesStage.{IsTimesText, scheduled_stage}
 use Rattle.ds_stage.proofs.RateStages.{bare_nothing}
-use Rattle.ds_stage.proofs.Left.{LeavesNothing, netlist_nothing, planned_nothing, split_nothing, vectors_nothing}
+use Rattle.ds_stage.proofs.StagesLeaveNothing.{LeavesNothing, netlist_nothing, planned_nothing, split_nothing, vectors_nothing}
 use Rattle.ds_app.specs.Job.{run_stage, stages_of}
 use Rattle.ds_app.specs.JobStages.{accept_stage, clock_stage, graph_stage, listing_stage, period_stage, replay_stage, times_stage}
 use Rattle.ds_app.specs.RunStage.{planned_run_stage, stopped_stage, traced_stage}

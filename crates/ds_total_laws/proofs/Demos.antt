@@ -7,11 +7,11 @@ use Rattle.ds_design.specs.Accepted.{IsAccepted}
 use Rattle.ds_design.specs.Circuit.{Circuit, columns, initial_row, initial_value}
 use Rattle.ds_design.specs.InRange.{IsInRange}
 use Rattle.ds_design.specs.declared.design.Register.{Register}
-use Rattle.ds_design.proofs.Runs.{some_run}
+use Rattle.ds_design.proofs.ClockedRuns.{some_run}
 use Rattle.ds_demo.specs.Demo.{demo_design, demo_vectors, seed_words}
 use Rattle.ds_demo.specs.Fold.{fold_of}
 use Rattle.ds_demo.proofs.Accepts.{accepted, vectors_fit}
-use Rattle.ds_demo.proofs.Ranges.{in_range}
+use Rattle.ds_demo.proofs.DemoInRange.{in_range}
 use Rattle.ds_run.specs.Summed.{ones_in}
 use Rattle.ds_app.specs.DemoStage.{demo_stage, summary_text}
 use Rattle.ds_total_laws.specs.Decided.{IsDecided}

@@ -25,13 +25,13 @@ use Rattle.ds_app.specs.JobStages.{accept_stage, clock_stage, graph_stage, listi
 use Rattle.ds_app.specs.RunStage.{planned_run_stage}
 use Rattle.ds_total_laws.specs.Decided.{IsDecided, JobsAreDecided}
 use Rattle.ds_total_laws.specs.There.{FilesAreThere}
-use Rattle.ds_total_laws.proofs.Decided.{then_decided}
+use Rattle.ds_total_laws.proofs.StagesDecided.{then_decided}
 use Rattle.ds_total_laws.proofs.Demos.{demo_decided}
 use Rattle.ds_total_laws.proofs.Netlists.{behind_netlist}
-use Rattle.ds_total_laws.proofs.Plans.{planned_decided}
+use Rattle.ds_total_laws.proofs.PlansDecided.{planned_decided}
 use Rattle.ds_total_laws.proofs.RateTexts.{rate_decided, scheduled_decided}
 use Rattle.ds_total_laws.proofs.Splits.{clustered_decided, controller_decided, ready_with, split_decided, split_ready}
-use Rattle.ds_total_laws.proofs.Texts.{clock_decided, ranks_decided, replay_decided, report_decided, run_decided, timed_decided}
+use Rattle.ds_total_laws.proofs.JobTextsExist.{clock_decided, ranks_decided, replay_decided, report_decided, run_decided, timed_decided}
 
 module _ (held : List ℕ → Held) where
   job_decided : (job : Job) → AreAllowed job → FilesAreThere held job → IsDecided (stages_of held job)

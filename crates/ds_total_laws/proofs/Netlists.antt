@@ -10,14 +10,14 @@ use Rattle.ds_design.specs.Circuit.{Circuit}
 use Rattle.ds_design.specs.InRange.{IsInRange}
 use Rattle.ds_netlist.specs.declared.fault.NetFault.{NetFault}
 use Rattle.ds_netlist.specs.declared.fault.NetFault.TheVariants as net
-use Rattle.ds_rank_laws.proofs.Decided.{designs_are_decided}
+use Rattle.ds_rank_laws.proofs.DesignsDecided.{designs_are_decided}
 use Rattle.ds_stage.specs.FaultText.{IsNetFaultText, blif_text, file_line, flat_text}
 use Rattle.ds_stage.specs.Stage.{Stage, then_stage}
 use Rattle.ds_stage.specs.Stages.{accepted_stage, file_stage, netlist_stage}
-use Rattle.ds_stage.proofs.Meant.{netlist_in_range, read_meant}
+use Rattle.ds_stage.proofs.FileMeaning.{netlist_in_range, read_meant}
 use Rattle.ds_total_laws.specs.Decided.{IsDecided}
 use Rattle.ds_total_laws.specs.There.{HasBytes}
-use Rattle.ds_total_laws.proofs.Decided.{file_decided, then_decided}
+use Rattle.ds_total_laws.proofs.StagesDecided.{file_decided, then_decided}
 
 -- each fault but want of memory has a text
 net_text_there : (c : Circuit) (fault : NetFault) → fault ≢ net.Memory → (text : List ℕ) × IsNetFaultText c fault text

@@ -9,15 +9,15 @@ use Rattle.ds_marked.specs.Graph.{AreEnds, Graph, IsKept, IsLive}
 use Rattle.ds_marked.specs.Log.{text_of_event}
 use Rattle.ds_rank.specs.Order.{HasEdge}
 use Rattle.ds_rank.specs.Free.{edge_of_arc}
-use Rattle.ds_rank.proofs.By.{cycle_by}
-use Rattle.ds_rank_laws.proofs.Ranked.{events_have_ranks_or_cycle, live_graphs_have_ranks, ranks_or_cycle}
+use Rattle.ds_rank.proofs.RelatedOrders.{cycle_by}
+use Rattle.ds_rank_laws.proofs.RanksOrCycle.{events_have_ranks_or_cycle, live_graphs_have_ranks, ranks_or_cycle}
 use Rattle.ds_period.specs.Controller.{HasPeriod}
 use Rattle.ds_period.specs.Read.{delays_of}
 use Rattle.ds_period.specs.Timing.{HasCycle, Leads, timed_arcs}
-use Rattle.ds_period.proofs.Circles.{cycle_closes, edge_by, ends_of, leads_from, none_closes}
-use Rattle.ds_period_laws.proofs.Graphs.{delays_are_one_each, graphs_have_periods}
-use Rattle.ds_times.proofs.Exist.{some_schedule}
-use Rattle.ds_times.proofs.Sorted.{ranked_live, timed_rises}
+use Rattle.ds_period.proofs.ClosedWalks.{cycle_closes, edge_by, ends_of, leads_from, none_closes}
+use Rattle.ds_period_laws.proofs.TimedGraphs.{delays_are_one_each, graphs_have_periods}
+use Rattle.ds_times.proofs.SchedulesExist.{some_schedule}
+use Rattle.ds_times.proofs.ArcsByRank.{ranked_live, timed_rises}
 use Rattle.ds_times_laws.proofs.OneOrder.{events_have_one_order}
 use Rattle.ds_astg.specs.Read.{graph_of_lines}
 use Rattle.ds_astg_laws.proofs.ReadKept.{read_kept}
@@ -29,11 +29,11 @@ use Rattle.ds_stage.specs.RateStage.{bare_graph_stage, bare_stage, cyclic_stage}
 use Rattle.ds_stage.specs.Stage.{giving}
 use Rattle.ds_stage.specs.Stages.{lines_stage, read_or_line, result_stage}
 use Rattle.ds_stage.specs.TimesStage.{IsTimesText, scheduled_stage, time_lines}
-use Rattle.ds_stage.proofs.Meant.{read_meant}
+use Rattle.ds_stage.proofs.FileMeaning.{read_meant}
 use Rattle.ds_app.specs.JobStages.{rate_stage}
 use Rattle.ds_total_laws.specs.Decided.{IsDecided}
 use Rattle.ds_total_laws.specs.There.{HasBytes}
-use Rattle.ds_total_laws.proofs.Decided.{lines_decided, result_decided, then_decided}
+use Rattle.ds_total_laws.proofs.StagesDecided.{lines_decided, result_decided, then_decided}
 
 -- a graph has a cycle, or none
 cycles_decided : (g : Graph) → AreEnds (length g.events) g.arcs → HasCycle g ⊎ (¬ HasCycle g)

@@ -18,23 +18,23 @@ use Rattle.ds_design.specs.Circuit.{Circuit}
 use Rattle.ds_latch.specs.Node.{Split, slackened}
 use Rattle.ds_latch.specs.Plan.{IsSplit}
 use Rattle.ds_split.specs.Split.{HasTooManyOrders, split_into}
-use Rattle.ds_split_laws.proofs.Controllers.{controller_exists}
+use Rattle.ds_split_laws.proofs.ControllersExist.{controller_exists}
 use Rattle.ds_split_laws.proofs.DataEdgesListed.{edges_listed}
-use Rattle.ds_split_laws.proofs.Decided.{orders_decided}
-use Rattle.ds_split_laws.proofs.Grouped.{grouped_clusterings_exist}
+use Rattle.ds_split_laws.proofs.SplitsDecided.{orders_decided}
+use Rattle.ds_split_laws.proofs.GroupedClusterings.{grouped_clusterings_exist}
 use Rattle.ds_split_laws.proofs.Slack.{few_at_slack, split_at_slack}
-use Rattle.ds_shake_laws.proofs.Controllers.{controllers_are_decided}
+use Rattle.ds_shake_laws.proofs.WantedGraphs.{controllers_are_decided}
 use Rattle.ds_stage.specs.FaultText.{file_line, too_many_text}
 use Rattle.ds_stage.specs.GraphStage.{IsGraphOf, controller_stage}
 use Rattle.ds_stage.specs.Stages.{OfBytes, lines_stage, read_or_line, text_stage}
 use Rattle.ds_stage.specs.GroupsStage.{group_text, grouped_stage, groups_stage}
 use Rattle.ds_stage.specs.ClustersStage.{clustered_stage, clusters_stage}
 use Rattle.ds_stage.specs.SplitStage.{IsInClusters, parted_stage, split_stage}
-use Rattle.ds_stage.proofs.Meant.{read_meant}
+use Rattle.ds_stage.proofs.FileMeaning.{read_meant}
 use Rattle.ds_stage.proofs.PlanAccepted.{in_clusters_split}
 use Rattle.ds_total_laws.specs.Decided.{IsDecided}
 use Rattle.ds_total_laws.specs.There.{HasBytesIn}
-use Rattle.ds_total_laws.proofs.Decided.{lines_decided, result_decided, then_decided}
+use Rattle.ds_total_laws.proofs.StagesDecided.{lines_decided, result_decided, then_decided}
 use Rattle.ds_total_laws.proofs.LineSome.{lines_have_some}
 
 -- a split design that asks for few orders

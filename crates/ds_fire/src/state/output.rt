@@ -12,7 +12,7 @@ ghost use Rattle.ds_split.specs.Cones.{IsSettlingAt};
 ghost use Rattle.ds_fire.specs.Snapshot.{Shows, split_of, count_of, held_row, is_open, width_of};
 
 use super::State;
-use crate::opening::{Opening, settle};
+use crate::opening::{NodeOpening, settle};
 use ds_base::{EventId, LatchId, Row3};
 use ds_latch::Node;
 use ds_settle::pick_values;
@@ -124,7 +124,7 @@ impl State<'_> {
     {
         let latches = self.plan.latches();
         let number = latch.index();
-        let opening = Opening { number, opened: 0 };
+        let opening = NodeOpening { number, opened: 0 };
         settle(
             latches,
             &self.feeds,

@@ -2,7 +2,7 @@ use Rattle.std.proofs.Common.{ℕ, ◌≡◌, ◌<◌, ◌∙◌, sym, arith, ge
 use Rattle.std.specs.Prelude.{All, Contains}
 use Rattle.std.proofs.lemmas.List.{get_or_default}
 use Rattle.ds_marked.specs.declared.marked.Arc.{Arc}
-use Rattle.ds_accept.proofs.Ordered.{all_kept}
+use Rattle.ds_accept.proofs.ArcsBySource.{all_kept}
 use Rattle.ds_accept.proofs.arcs.arcs_by.Goals as goal
 
 pub loop-event-preserved : goal.loop-event-preserved

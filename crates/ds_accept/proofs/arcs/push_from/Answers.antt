@@ -1,4 +1,4 @@
-use Rattle.ds_accept.proofs.Ordered.{with_range}
+use Rattle.ds_accept.proofs.ArcsBySource.{with_range}
 use Rattle.ds_accept.proofs.arcs.push_from.Goals as goal
 
 pub returns : goal.returns

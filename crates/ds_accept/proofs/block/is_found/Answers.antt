@@ -1,5 +1,5 @@
 use Rattle.std.proofs.Common.{◌<◌, arith}
-use Rattle.ds_accept.proofs.Steps.{place_lt}
+use Rattle.ds_accept.proofs.SweepSteps.{place_lt}
 use Rattle.ds_accept.proofs.block.is_found.Goals as goal
 
 pub overflow_mul-place : goal.overflow_mul-place

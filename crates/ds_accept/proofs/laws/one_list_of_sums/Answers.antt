@@ -1,4 +1,4 @@
-use Rattle.ds_accept.proofs.Least.{one_list_of_sums_lem}
+use Rattle.ds_accept.proofs.LeastSums.{one_list_of_sums_lem}
 use Rattle.ds_accept.proofs.laws.one_list_of_sums.Goals as goal
 
 pub returns : goal.returns

@@ -1,7 +1,7 @@
 use Rattle.std.proofs.Common.{ℕ, List, [], ◌∷◌, ◌++◌, ◌≡◌, ◌∙◌, ◌+◌, ap, arith, refl, subst, sym}
 use Rattle.ds_accept.specs.Codes.{Code}
 use Rattle.ds_accept.specs.Steps.{AreEventsNumbered, IsNumberOf}
-use Rattle.ds_accept.proofs.Numbering.{AreNumberedTo, all_numbered, in_room, none_numbered, one_more}
+use Rattle.ds_accept.proofs.EventNumbering.{AreNumberedTo, all_numbered, in_room, none_numbered, one_more}
 use Rattle.ds_accept.proofs.numbered.numbers_behind.Goals as goal
 
 pub loop-event-init : goal.loop-event-init

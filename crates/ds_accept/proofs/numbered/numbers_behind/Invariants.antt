@@ -1,4 +1,4 @@
-use Rattle.ds_accept.proofs.Numbering.{AreNumberedTo}
+use Rattle.ds_accept.proofs.EventNumbering.{AreNumberedTo}
 use Rattle.ds_accept.proofs.numbered.numbers_behind.Given as goal
 
 abbrev pub invariant-loop-event : goal.invariant-loop-event

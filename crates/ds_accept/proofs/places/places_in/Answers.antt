@@ -1,7 +1,7 @@
 use Rattle.std.proofs.Common.{◌≡◌, ◌∙◌, ap, arith, true, not, ◌+◌, ◌++◌, ◌∷◌, [], List, subst, sym, ℕ}
 use Rattle.std.specs.Result.{is_ok}
 use Rattle.ds_accept.specs.Codes.{Code, event_code, IsMissingCode, StandsAtCode}
-use Rattle.ds_accept.proofs.Placed.{no_place, one_more, ArePlacedTo}
+use Rattle.ds_accept.proofs.EventPlaces.{no_place, one_more, ArePlacedTo}
 use Rattle.ds_accept.proofs.places.places_in.Goals as goal
 
 pub returns-in_default-place : goal.returns-in_default-place

@@ -1,4 +1,4 @@
-use Rattle.ds_accept.proofs.Placed.{ArePlacedTo}
+use Rattle.ds_accept.proofs.EventPlaces.{ArePlacedTo}
 use Rattle.ds_accept.proofs.places.places_in.Given as goal
 
 abbrev pub invariant-loop-k : goal.invariant-loop-k

@@ -1,4 +1,4 @@
-use Rattle.ds_accept.proofs.Refused.{memory_alone}
+use Rattle.ds_accept.proofs.FaultyGraphs.{memory_alone}
 use Rattle.ds_accept.proofs.plan.accept.Goals as goal
 
 pub returns-clause-ok_exact : goal.returns-clause-ok_exact

@@ -3,7 +3,7 @@ use Rattle.ds_marked.specs.declared.marked.Arc.{Arc}
 use Rattle.ds_marked.specs.declared.marked.Event.{Event}
 use Rattle.ds_accept.specs.Steps.{AreEventsNumbered, moved}
 use Rattle.ds_accept.specs.declared.numbered.Numbered.{Numbered}
-use Rattle.ds_accept.proofs.Numbering.{all_in_room, made, made_ends, made_few, made_once}
+use Rattle.ds_accept.proofs.EventNumbering.{all_in_room, made, made_ends, made_few, made_once}
 use Rattle.ds_accept.proofs.renumber.ordered.Goals as goal
 
 -- events by other names

@@ -7,7 +7,7 @@ use Rattle.ds_marked.specs.declared.marked.Event.{Event}
 use Rattle.ds_accept.specs.Masks.{AreAllIn}
 use Rattle.ds_accept.specs.Sums.{AreLeastSums}
 use Rattle.ds_accept.specs.Lowered.{AreWalkSums, IsLowAt, sum_at}
-use Rattle.ds_accept.proofs.Ordered.{ends_in}
+use Rattle.ds_accept.proofs.ArcsBySource.{ends_in}
 use Rattle.ds_accept.proofs.Lower.{all_least, first_start, first_sums}
 use Rattle.ds_accept.proofs.sums.least_sums.Goals as goal
 

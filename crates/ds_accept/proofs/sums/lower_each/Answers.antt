@@ -3,7 +3,7 @@ use Rattle.std.specs.List.{AllWithin}
 use Rattle.std.proofs.lemmas.List.Elements.{AllWithin-more, at_read}
 use Rattle.ds_accept.specs.Lowered.{IsLowAt, IsLowering}
 use Rattle.ds_accept.proofs.Lower.{lower_both}
-use Rattle.ds_accept.proofs.Steps.{one_of, first_of, second_of}
+use Rattle.ds_accept.proofs.SweepSteps.{one_of, first_of, second_of}
 use Rattle.ds_accept.proofs.sums.lower_each.Goals as goal
 use Rattle.ds_accept.proofs.sums.lower_each.Goals.{then-changed, else-changed}
 

@@ -1,7 +1,7 @@
 use Rattle.std.proofs.Common.{ℕ, List, Bool, arith, subst, sym, ◌+◌, below_more}
 use Rattle.std.specs.Prelude.{All}
 use Rattle.ds_accept.specs.Masks.{IsClosedAt, IsSwept, AreAllClosed}
-use Rattle.ds_accept.proofs.Steps.{one_of, first_of, second_of, step_both}
+use Rattle.ds_accept.proofs.SweepSteps.{one_of, first_of, second_of, step_both}
 use Rattle.ds_accept.proofs.sweep.sweep.Goals as goal
 use Rattle.ds_accept.proofs.sweep.sweep.Goals.{then-changed, else-changed}
 

@@ -1,5 +1,5 @@
 use Rattle.std.proofs.Common.{ℕ, ◌≡◌, ◌+◌, ◌*◌, ap, arith}
-use Rattle.ds_accept.proofs.Steps.{step_arc_at}
+use Rattle.ds_accept.proofs.SweepSteps.{step_arc_at}
 use Rattle.ds_accept.proofs.sweep.sweep_arc.Goals as goal
 
 pub returns-then-next-levels : goal.returns-then-next-levels

@@ -2,7 +2,7 @@ use Rattle.std.proofs.Common.{ℕ, List, Bool, subst, sym, ◌+◌}
 use Rattle.std.specs.List.{AllWithin}
 use Rattle.std.proofs.lemmas.List.Elements.{AllWithin-more, at_read}
 use Rattle.ds_accept.specs.Masks.{IsClosedAt, IsSwept}
-use Rattle.ds_accept.proofs.Steps.{one_of, first_of, second_of, step_both}
+use Rattle.ds_accept.proofs.SweepSteps.{one_of, first_of, second_of, step_both}
 use Rattle.ds_accept.proofs.sweep.sweep_level.Goals as goal
 use Rattle.ds_accept.proofs.sweep.sweep_level.Goals.{then-changed, else-changed}
 

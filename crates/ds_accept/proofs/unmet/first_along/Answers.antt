@@ -1,7 +1,7 @@
 use Rattle.std.proofs.Common.{◌+◌, length}
 use Rattle.std.proofs.lemmas.List.Elements.{All-contains_itself}
 use Rattle.ds_accept.specs.Masks.{along_arcs}
-use Rattle.ds_accept.proofs.Found.{unmet_on_by, unmet_whole_by}
+use Rattle.ds_accept.proofs.MaskWalks.{unmet_on_by, unmet_whole_by}
 use Rattle.ds_accept.proofs.unmet.first_along.Goals as goal
 
 pub returns-in-Some : goal.returns-in-Some

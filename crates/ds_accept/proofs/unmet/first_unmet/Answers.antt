@@ -5,8 +5,8 @@ use Rattle.ds_marked.specs.declared.marked.Arc.{Arc}
 use Rattle.ds_marked.specs.declared.marked.Event.{Event}
 use Rattle.ds_accept.specs.Given.{IsFirstUnmet}
 use Rattle.ds_accept.specs.Masks.{along_arcs}
-use Rattle.ds_accept.proofs.Ordered.{ends_in}
-use Rattle.ds_accept.proofs.Found.{first_too}
+use Rattle.ds_accept.proofs.ArcsBySource.{ends_in}
+use Rattle.ds_accept.proofs.MaskWalks.{first_too}
 use Rattle.ds_accept.proofs.unmet.first_unmet.Goals as goal
 
 pub first_along-requires-clause-ends : goal.first_along-requires-clause-ends

@@ -1,5 +1,5 @@
 use Rattle.std.proofs.Common.{ℕ, List, ◌∙◌}
-use Rattle.ds_accept.proofs.Found.{begun_starts, begun_walks, unmet_first, unmet_none_by, smaller, source_near}
+use Rattle.ds_accept.proofs.MaskWalks.{begun_starts, begun_walks, unmet_first, unmet_none_by, smaller, source_near}
 use Rattle.ds_accept.proofs.unmet.unmet_by.Goals as goal
 
 pub sweeps-init : goal.sweeps-init

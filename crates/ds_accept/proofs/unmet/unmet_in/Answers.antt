@@ -1,6 +1,6 @@
 use Rattle.std.proofs.Common.{ℕ, List, ◌<◌, ◌+◌, ◌*◌, arith, length, get_or, subst, sym}
-use Rattle.ds_accept.proofs.Found.{source_near}
-use Rattle.ds_accept.proofs.Steps.{place_lt}
+use Rattle.ds_accept.proofs.MaskWalks.{source_near}
+use Rattle.ds_accept.proofs.SweepSteps.{place_lt}
 use Rattle.ds_accept.proofs.unmet.unmet_in.Goals as goal
 
 pub begun-requires-clause-inside : goal.begun-requires-clause-inside

@@ -4,7 +4,7 @@ use Rattle.ds_marked.specs.Graph.{AreEnds}
 use Rattle.ds_marked.specs.declared.marked.Arc.{Arc}
 use Rattle.ds_accept.specs.Given.{IsFirstUnmetBelow}
 use Rattle.ds_accept.specs.Masks.{IsBlock, along_arcs}
-use Rattle.ds_accept.proofs.Fewer.{capped_block, capped_ends, capped_given, capped_tokens}
+use Rattle.ds_accept.proofs.FewTokenOrders.{capped_block, capped_ends, capped_given, capped_tokens}
 use Rattle.ds_accept.proofs.unmet.unmet_of.Goals as goal
 
 pub unmet_in-requires-2-clause-asked : goal.unmet_in-requires-2-clause-asked

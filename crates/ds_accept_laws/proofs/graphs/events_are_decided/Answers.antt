@@ -1,4 +1,4 @@
-use Rattle.ds_accept_laws.proofs.Events.{events_are_decided}
+use Rattle.ds_accept_laws.proofs.EventsDecided.{events_are_decided}
 use Rattle.ds_accept_laws.proofs.graphs.events_are_decided.Goals as goal
 
 pub returns : goal.returns

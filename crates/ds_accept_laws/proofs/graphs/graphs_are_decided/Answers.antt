@@ -1,4 +1,4 @@
-use Rattle.ds_accept_laws.proofs.Decided.{graphs_are_decided}
+use Rattle.ds_accept_laws.proofs.GraphsDecided.{graphs_are_decided}
 use Rattle.ds_accept_laws.proofs.graphs.graphs_are_decided.Goals as goal
 
 pub returns : goal.returns

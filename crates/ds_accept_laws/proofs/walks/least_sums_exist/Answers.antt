@@ -1,4 +1,4 @@
-use Rattle.ds_accept_laws.proofs.Sums.{least_sums_exist}
+use Rattle.ds_accept_laws.proofs.LeastSumsExist.{least_sums_exist}
 use Rattle.ds_accept_laws.proofs.walks.least_sums_exist.Goals as goal
 
 pub returns : goal.returns

@@ -1,4 +1,4 @@
-use Rattle.ds_accept_laws.proofs.Sums.{walks_are_decided}
+use Rattle.ds_accept_laws.proofs.LeastSumsExist.{walks_are_decided}
 use Rattle.ds_accept_laws.proofs.walks.walks_are_decided.Goals as goal
 
 pub returns : goal.returns

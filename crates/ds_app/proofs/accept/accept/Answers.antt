@@ -6,12 +6,12 @@ use Rattle.ds_cmd.specs.declared.accept.AcceptJob.{AcceptJob}
 use Rattle.ds_stage.specs.Stage.{OfFile}
 use Rattle.ds_stage.specs.AcceptStage.{ranks_stage}
 use Rattle.ds_stage.specs.Ends.{Never, Output, RoseIn, output_between}
-use Rattle.ds_stage.proofs.Ends.{ends_more}
-use Rattle.ds_stage.proofs.Left.{giving_nothing}
-use Rattle.ds_app.proofs.Lent.{accept_ends}
+use Rattle.ds_stage.proofs.StageEnds.{ends_more}
+use Rattle.ds_stage.proofs.StagesLeaveNothing.{giving_nothing}
+use Rattle.ds_app.proofs.LentNames.{accept_ends}
 use Rattle.ds_app.proofs.PlannedEnds.{ends_planned, stops_netlist, stops_plan}
-use Rattle.ds_stage.proofs.Counts.{unwritten_or, well_read}
-use Rattle.ds_app.proofs.Since.{unread_since}
+use Rattle.ds_stage.proofs.FaultCounts.{unwritten_or, well_read}
+use Rattle.ds_app.proofs.FaultCountsSince.{unread_since}
 use Rattle.ds_app.proofs.accept.accept.Goals as goal
 
 pub returns-in_err-netlist-clause-value : goal.returns-in_err-netlist-clause-value

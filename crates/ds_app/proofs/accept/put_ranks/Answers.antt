@@ -1,6 +1,6 @@
 use Rattle.std.proofs.Common.{◌≡◌, ◌∙◌, ℕ, arith, length, subst, sym, ap, ap₂}
 use Rattle.std.specs.Prelude.{slice_index}
-use Rattle.ds_control.proofs.Two.{flat_map_next}
+use Rattle.ds_control.proofs.TwoForEach.{flat_map_next}
 use Rattle.ds_marked.specs.Graph.{Graph}
 use Rattle.ds_outside.specs.Pen.{Puts}
 use Rattle.ds_rows.specs.Log.{firing_text}

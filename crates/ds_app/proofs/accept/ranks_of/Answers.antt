@@ -3,7 +3,7 @@ use Rattle.ds_marked.specs.Graph.{Graph}
 use Rattle.ds_rank.specs.Rank.{IsRankFault}
 use Rattle.ds_rank.specs.declared.fault.RankFault.{RankFault}
 use Rattle.ds_rank.specs.declared.fault.RankFault.TheVariants.{Cycle}
-use Rattle.ds_app.proofs.Cycles.{no_cycle}
+use Rattle.ds_app.proofs.NoTokenFreeCycle.{no_cycle}
 use Rattle.ds_app.proofs.accept.ranks_of.Goals as goal
 
 pub unreachable-requires : goal.unreachable-requires

@@ -2,7 +2,7 @@ use Rattle.std.proofs.Common.{ℕ, List, map, refl}
 use Rattle.std.specs.Borrow.{Bor}
 use Rattle.ds_stage.specs.Ends.{output_between}
 use Rattle.ds_app.specs.Status.{Call}
-use Rattle.ds_app.proofs.Answered.{answered_end, answered_words, no_fault}
+use Rattle.ds_app.proofs.OneStatus.{answered_end, answered_words, no_fault}
 use Rattle.ds_app.proofs.Interleaved.{interleavings_lem}
 use Rattle.ds_app.proofs.app.desync_main.Goals as goal
 

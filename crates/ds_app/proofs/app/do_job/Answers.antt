@@ -4,8 +4,8 @@ use Rattle.ds_cmd.specs.declared.job.Job.TheVariants.{Demo}
 use Rattle.ds_stage.specs.Stage.{OfFile}
 use Rattle.ds_app.specs.DemoStage.{IsSummary}
 use Rattle.ds_stage.specs.Ends.{Output, RoseIn, output_between}
-use Rattle.ds_stage.proofs.Ends.{gives_more}
-use Rattle.ds_stage.proofs.Counts.{well_read}
+use Rattle.ds_stage.proofs.StageEnds.{gives_more}
+use Rattle.ds_stage.proofs.FaultCounts.{well_read}
 use Rattle.ds_app.proofs.app.do_job.Goals as goal
 
 pub returns-in-Run-clause-value : goal.returns-in-Run-clause-value

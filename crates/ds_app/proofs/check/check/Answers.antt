@@ -6,9 +6,9 @@ use Rattle.ds_stage.specs.Stage.{OfFile, then_stage}
 use Rattle.ds_stage.specs.Stages.{netlist_stage, report_stage}
 use Rattle.ds_stage.specs.Ends.{Ends, Never, Output, RoseIn, output_between}
 use Rattle.ds_stage.proofs.Stages.{stopped}
-use Rattle.ds_stage.proofs.Ends.{ended, ends_after, ends_more}
+use Rattle.ds_stage.proofs.StageEnds.{ended, ends_after, ends_more}
 use Rattle.ds_app.proofs.LeftAlone.{check_nothing, report_nothing}
-use Rattle.ds_stage.proofs.Counts.{unwritten_or, well_read}
+use Rattle.ds_stage.proofs.FaultCounts.{unwritten_or, well_read}
 use Rattle.ds_app.proofs.check.check.Goals as goal
 
 pub returns-in_err-netlist-clause-value : goal.returns-in_err-netlist-clause-value

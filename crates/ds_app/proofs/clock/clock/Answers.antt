@@ -9,12 +9,12 @@ use Rattle.ds_stage.specs.Stage.{OfFile}
 use Rattle.ds_stage.specs.Stages.{netlist_stage}
 use Rattle.ds_app.specs.JobStages.{clock_stage}
 use Rattle.ds_stage.specs.Ends.{Output, RoseIn, output_between}
-use Rattle.ds_stage.proofs.Ends.{ended_first, ends_after}
-use Rattle.ds_stage.proofs.Left.{netlist_nothing}
+use Rattle.ds_stage.proofs.StageEnds.{ended_first, ends_after}
+use Rattle.ds_stage.proofs.StagesLeaveNothing.{netlist_nothing}
 use Rattle.ds_stage.proofs.Streamed.{streamed_since}
-use Rattle.ds_app.proofs.Lent.{clock_ends}
-use Rattle.ds_stage.proofs.Counts.{unwritten_or}
-use Rattle.ds_app.proofs.Since.{well_read_since}
+use Rattle.ds_app.proofs.LentNames.{clock_ends}
+use Rattle.ds_stage.proofs.FaultCounts.{unwritten_or}
+use Rattle.ds_app.proofs.FaultCountsSince.{well_read_since}
 use Rattle.ds_app.proofs.clock.clock.Goals as goal
 
 pub returns-in_err-netlist-clause-value : goal.returns-in_err-netlist-clause-value

@@ -14,10 +14,10 @@ use Rattle.ds_stage.proofs.Streamed.{AreWritten, GivenOf, memory_stops, none_wri
 use Rattle.ds_app.proofs.ClockEnds.{ends_part, ends_whole, trace_spells}
 use Rattle.ds_app.proofs.RunEnds.{few_vectors}
 use Rattle.ds_app.proofs.WindowEnds.{is_there, more_here, state_long, stops_here}
-use Rattle.ds_stage.proofs.Ends.{rose_since}
+use Rattle.ds_stage.proofs.StageEnds.{rose_since}
 use Rattle.ds_stream.specs.Next.{FitsHeld}
-use Rattle.ds_stage.proofs.Counts.{unwritten_or}
-use Rattle.ds_app.proofs.Since.{unread_since}
+use Rattle.ds_stage.proofs.FaultCounts.{unwritten_or}
+use Rattle.ds_app.proofs.FaultCountsSince.{unread_since}
 use Rattle.ds_app.proofs.clock.write_clocked.Goals as goal
 
 pub new-reader-requires : goal.new-reader-requires

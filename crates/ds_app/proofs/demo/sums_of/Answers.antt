@@ -2,12 +2,12 @@ use Rattle.std.proofs.Common.{◌∙◌, [], ap, sym}
 use Rattle.ds_demo.proofs.Accepts.{vectors_fit}
 use Rattle.ds_design.specs.Circuit.{initial_row}
 use Rattle.ds_app.proofs.DemoSplit.{made_accepted, made_not_refused}
-use Rattle.ds_app.proofs.Summaries.{answer_sums, fits}
+use Rattle.ds_app.proofs.Summaries.{answer_sums, vectors_fit_netlist}
 use Rattle.ds_app.proofs.demo.sums_of.Goals as goal
 
 pub sum_run-requires-clause-width : goal.sum_run-requires-clause-width
 sum_run-requires-clause-width g c _ _ =
-    fits vectors_fit c.args.job.now.seed c.args.job.now.registers c.args.job.now.turns c.requires.turns c.in_ok-design.design c.in_ok-design.vectors
+    vectors_fit_netlist vectors_fit c.args.job.now.seed c.args.job.now.registers c.args.job.now.turns c.requires.turns c.in_ok-design.design c.in_ok-design.vectors
     c.in_ok-plan.plan.split.circuit c.in_ok-design.ensures.ok.0 c.in_ok-design.ensures.ok.1
     (c.in_ok-plan.ensures.netlist ∙ c.in_ok-netlist.ensures)
 

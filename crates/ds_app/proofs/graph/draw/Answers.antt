@@ -5,9 +5,9 @@ use Rattle.ds_stage.specs.Ends.{Never, Output, output_between}
 use Rattle.ds_stage.specs.GraphStage.{controller_stage, drawn_stage, wanted_stage}
 use Rattle.ds_stage.specs.declared.stop.Stop.{Stop}
 use Rattle.ds_stage.proofs.Stages.{stopped}
-use Rattle.ds_stage.proofs.Ends.{ended, ends_after}
-use Rattle.ds_stage.proofs.Left.{controller_nothing}
-use Rattle.ds_stage.proofs.Counts.{unwritten_or}
+use Rattle.ds_stage.proofs.StageEnds.{ended, ends_after}
+use Rattle.ds_stage.proofs.StagesLeaveNothing.{controller_nothing}
+use Rattle.ds_stage.proofs.FaultCounts.{unwritten_or}
 use Rattle.ds_app.proofs.graph.draw.Goals as goal
 
 pub returns-in_err-graph-clause-value : goal.returns-in_err-graph-clause-value

@@ -10,16 +10,16 @@ use Rattle.ds_stage.specs.Stages.{netlist_stage}
 use Rattle.ds_stage.specs.Ends.{Answers, Ends, Never, Output, RoseIn, output_between}
 use Rattle.ds_stage.specs.declared.stop.Stop.{Stop}
 use Rattle.ds_stage.proofs.Stages.{stopped, passed, widened}
-use Rattle.ds_stage.proofs.Counts.{unwritten_or, well_read}
-use Rattle.ds_app.proofs.Since.{unread_since}
+use Rattle.ds_stage.proofs.FaultCounts.{unwritten_or, well_read}
+use Rattle.ds_app.proofs.FaultCountsSince.{unread_since}
 use Rattle.ds_stage.specs.SplitStage.{split_stage}
 use Rattle.ds_stage.specs.GraphStage.{controller_stage}
-use Rattle.ds_stage.proofs.Ends.{ended, ends_after, ends_more, split_since}
-use Rattle.ds_stage.proofs.Left.{controller_nothing}
+use Rattle.ds_stage.proofs.StageEnds.{ended, ends_after, ends_more, split_since}
+use Rattle.ds_stage.proofs.StagesLeaveNothing.{controller_nothing}
 use Rattle.ds_stage.proofs.Expansions.{controller_says}
 use Rattle.ds_app.specs.JobStages.{graph_stage}
 use Rattle.ds_app.proofs.LeftAlone.{graph_nothing}
-use Rattle.ds_app.proofs.Lent.{graph_ends}
+use Rattle.ds_app.proofs.LentNames.{graph_ends}
 use Rattle.ds_app.proofs.graph.graph.Goals as goal
 
 pub returns-in_err-netlist-clause-value : goal.returns-in_err-netlist-clause-value

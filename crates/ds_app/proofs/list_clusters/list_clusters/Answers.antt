@@ -9,14 +9,14 @@ use Rattle.ds_stage.specs.Stages.{netlist_stage}
 use Rattle.ds_stage.specs.Ends.{Answers, Ends, Never, Output, RoseIn, output_between}
 use Rattle.ds_stage.specs.declared.stop.Stop.{Stop}
 use Rattle.ds_stage.proofs.Stages.{stopped, passed, widened}
-use Rattle.ds_stage.proofs.Counts.{unwritten_or, well_read}
-use Rattle.ds_app.proofs.Since.{unread_since}
+use Rattle.ds_stage.proofs.FaultCounts.{unwritten_or, well_read}
+use Rattle.ds_app.proofs.FaultCountsSince.{unread_since}
 use Rattle.ds_stage.specs.ClustersStage.{clustered_stage, listed_stage}
-use Rattle.ds_stage.proofs.Ends.{clustered_since, ended, ends_after, ends_more}
-use Rattle.ds_stage.proofs.Left.{giving_nothing}
+use Rattle.ds_stage.proofs.StageEnds.{clustered_since, ended, ends_after, ends_more}
+use Rattle.ds_stage.proofs.StagesLeaveNothing.{giving_nothing}
 use Rattle.ds_app.specs.JobStages.{listing_stage}
 use Rattle.ds_app.proofs.LeftAlone.{listing_nothing}
-use Rattle.ds_app.proofs.Lent.{listing_ends}
+use Rattle.ds_app.proofs.LentNames.{listing_ends}
 use Rattle.ds_app.proofs.list_clusters.list_clusters.Goals as goal
 
 pub returns-in_err-netlist-clause-value : goal.returns-in_err-netlist-clause-value

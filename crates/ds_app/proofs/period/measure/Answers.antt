@@ -5,7 +5,7 @@ use Rattle.ds_outside.specs.declared.files.Which.{Which}
 use Rattle.ds_stage.specs.Stage.{OfFile}
 use Rattle.ds_stage.specs.Ends.{Output, RoseIn, output_between}
 use Rattle.ds_app.proofs.PeriodEnds.{ends_text, stops_delays}
-use Rattle.ds_stage.proofs.Counts.{unwritten_or, well_read}
+use Rattle.ds_stage.proofs.FaultCounts.{unwritten_or, well_read}
 use Rattle.ds_app.proofs.period.measure.Goals as goal
 
 pub returns-in_err-delays-clause-value : goal.returns-in_err-delays-clause-value

@@ -9,11 +9,11 @@ use Rattle.ds_period.specs.Controller.{HasPeriod}
 use Rattle.ds_stage.specs.Ends.{Ends, Output, RoseIn, output_between}
 use Rattle.ds_stage.specs.PeriodStage.{timed_stage}
 use Rattle.ds_stage.proofs.PeriodStages.{timed_since}
-use Rattle.ds_app.proofs.Lent.{period_ends}
+use Rattle.ds_app.proofs.LentNames.{period_ends}
 use Rattle.ds_app.proofs.PeriodEnds.{timed_job}
 use Rattle.ds_app.proofs.PlannedEnds.{IsLater, ends_planned, later_still, stops_netlist, stops_plan}
-use Rattle.ds_stage.proofs.Counts.{unwritten_or}
-use Rattle.ds_app.proofs.Since.{unread_since, well_read_since}
+use Rattle.ds_stage.proofs.FaultCounts.{unwritten_or}
+use Rattle.ds_app.proofs.FaultCountsSince.{unread_since, well_read_since}
 use Rattle.ds_app.proofs.period.period.Goals as goal
 
 pub returns-in_err-netlist-clause-value : goal.returns-in_err-netlist-clause-value

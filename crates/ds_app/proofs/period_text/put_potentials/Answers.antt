@@ -1,4 +1,4 @@
-use Rattle.ds_app.proofs.PeriodTexts.{one_line_more}
+use Rattle.ds_app.proofs.PeriodLines.{one_line_more}
 use Rattle.ds_app.proofs.period_text.put_potentials.Goals as goal
 
 pub loop-v-preserved : goal.loop-v-preserved

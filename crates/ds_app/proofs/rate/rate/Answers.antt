@@ -4,8 +4,8 @@ use Rattle.ds_outside.specs.Held.{Held}
 use Rattle.ds_outside.specs.declared.files.Which.{Which}
 use Rattle.ds_stage.specs.Stage.{OfFile}
 use Rattle.ds_stage.specs.Ends.{Output, RoseIn, output_between}
-use Rattle.ds_stage.proofs.Counts.{unwritten_or}
-use Rattle.ds_app.proofs.Since.{well_read_since}
+use Rattle.ds_stage.proofs.FaultCounts.{unwritten_or}
+use Rattle.ds_app.proofs.FaultCountsSince.{well_read_since}
 use Rattle.ds_app.proofs.TimesEnds.{ends_rate, stops_rate}
 use Rattle.ds_app.proofs.rate.rate.Goals as goal
 

@@ -6,11 +6,11 @@ use Rattle.ds_latch.specs.Plan.{Planned}
 use Rattle.ds_cmd.specs.declared.replay.ReplayJob.{ReplayJob}
 use Rattle.ds_stage.specs.Ends.{Output, RoseIn, output_between}
 use Rattle.ds_stage.proofs.PlanAccepted.{planned_circuit, planned_in_clusters}
-use Rattle.ds_app.proofs.Lent.{replay_ends}
+use Rattle.ds_app.proofs.LentNames.{replay_ends}
 use Rattle.ds_app.proofs.PlannedEnds.{stops_netlist, stops_plan}
 use Rattle.ds_app.proofs.ReplayEnds.{ends_log, logged_job, stops_log, stops_vectors}
-use Rattle.ds_stage.proofs.Counts.{unwritten_or, well_read}
-use Rattle.ds_app.proofs.Since.{unread_since}
+use Rattle.ds_stage.proofs.FaultCounts.{unwritten_or, well_read}
+use Rattle.ds_app.proofs.FaultCountsSince.{unread_since}
 use Rattle.ds_app.proofs.replay.replay.Goals as goal
 
 pub returns-in_err-netlist-clause-value : goal.returns-in_err-netlist-clause-value

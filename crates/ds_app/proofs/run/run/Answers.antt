@@ -10,12 +10,12 @@ use Rattle.ds_app.specs.RunStage.{planned_run_stage}
 use Rattle.ds_stage.specs.Stage.{then_stage}
 use Rattle.ds_stage.specs.Stages.{netlist_stage}
 use Rattle.ds_stage.specs.Ends.{Ends, Output, RoseIn, output_between}
-use Rattle.ds_stage.proofs.Ends.{never_fell}
+use Rattle.ds_stage.proofs.StageEnds.{never_fell}
 use Rattle.ds_stage.proofs.PlanAccepted.{planned_circuit, planned_start}
 use Rattle.ds_app.proofs.PlannedEnds.{ends_planned, stops_netlist, stops_plan}
 use Rattle.ds_app.proofs.StoppedEnds.{planned_run_since}
-use Rattle.ds_stage.proofs.Counts.{unwritten_or}
-use Rattle.ds_app.proofs.Since.{unread_since, well_read_since}
+use Rattle.ds_stage.proofs.FaultCounts.{unwritten_or}
+use Rattle.ds_app.proofs.FaultCountsSince.{unread_since, well_read_since}
 use Rattle.ds_app.proofs.run.run.Goals as goal
 
 pub returns-in_err-netlist-clause-value : goal.returns-in_err-netlist-clause-value

@@ -12,20 +12,20 @@ use Rattle.ds_stage.specs.declared.stop.Stop.TheVariants.{Memory, Unwritten}
 use Rattle.ds_stage.specs.Stage.{OfFile, then_stage}
 use Rattle.ds_stage.specs.StreamStage.{most_vectors, streamed_stage}
 use Rattle.ds_stage.proofs.Streamed.{AreWritten, GivenOf, memory_stops, none_written, of_many, of_none, unwritten_window, written_more}
-use Rattle.ds_stage.proofs.Ends.{rose_since}
+use Rattle.ds_stage.proofs.StageEnds.{rose_since}
 use Rattle.ds_stream.specs.Next.{FitsHeld}
 use Rattle.ds_clocked.specs.Appends.{AppendsLines, AppendsLinesPart}
 use Rattle.ds_marked.specs.Graph.{Graph}
 use Rattle.ds_design.specs.InRange.{IsInRange}
 use Rattle.ds_latch.specs.Node.{Split, begun}
 use Rattle.ds_run.specs.Logged.{IsLogOf, LogGrows}
-use Rattle.ds_run.proofs.Ended.{logs_go_on}
+use Rattle.ds_run.proofs.WindowTexts.{logs_go_on}
 use Rattle.ds_app.specs.RunStage.{traced_stage}
 use Rattle.ds_app.proofs.RunEnds.{ends_of_file, run_end_of, run_ends_part, run_ends_whole, run_spells}
 use Rattle.ds_app.proofs.WindowEnds.{is_there, more_here, stops_here}
 use Rattle.ds_stage.specs.Ends.{UnreadOr, UnwrittenOr}
-use Rattle.ds_stage.proofs.Counts.{unread_or, unwritten_or}
-use Rattle.ds_app.proofs.Since.{unread_since}
+use Rattle.ds_stage.proofs.FaultCounts.{unread_or, unwritten_or}
+use Rattle.ds_app.proofs.FaultCountsSince.{unread_since}
 use Rattle.ds_app.proofs.run.write_traced.Goals as goal
 
 pub windows-init : goal.windows-init

@@ -10,10 +10,10 @@ use Rattle.ds_stage.specs.Stage.{OfFile}
 use Rattle.ds_stage.specs.Stages.{vectors_stage}
 use Rattle.ds_stage.specs.declared.stop.Stop.{Stop}
 use Rattle.ds_stage.specs.Ends.{Ends, Output, RoseIn, Stops, output_between}
-use Rattle.ds_stage.proofs.Ends.{ended_first, ends_after, gives_more}
-use Rattle.ds_stage.proofs.Left.{vectors_nothing}
+use Rattle.ds_stage.proofs.StageEnds.{ended_first, ends_after, gives_more}
+use Rattle.ds_stage.proofs.StagesLeaveNothing.{vectors_nothing}
 use Rattle.ds_app.specs.RunStage.{stopped_run_stage, stopped_stage}
-use Rattle.ds_stage.proofs.Counts.{unwritten_or, well_read}
+use Rattle.ds_stage.proofs.FaultCounts.{unwritten_or, well_read}
 use Rattle.ds_app.proofs.stopped.write_at_stop.Goals as goal
 
 pub returns-in_err-vectors-clause-value : goal.returns-in_err-vectors-clause-value

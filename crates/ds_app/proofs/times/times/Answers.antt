@@ -6,11 +6,11 @@ use Rattle.ds_cmd.specs.declared.times.TimesJob.{TimesJob}
 use Rattle.ds_latch.specs.Plan.{Planned}
 use Rattle.ds_stage.specs.Ends.{Output, RoseIn, output_between}
 use Rattle.ds_stage.proofs.TimesStages.{scheduled_since}
-use Rattle.ds_app.proofs.Lent.{times_ends}
+use Rattle.ds_app.proofs.LentNames.{times_ends}
 use Rattle.ds_app.proofs.TimesEnds.{scheduled_job}
 use Rattle.ds_app.proofs.PlannedEnds.{IsLater, ends_planned, later_still, stops_netlist, stops_plan}
-use Rattle.ds_stage.proofs.Counts.{unwritten_or}
-use Rattle.ds_app.proofs.Since.{unread_since, well_read_since}
+use Rattle.ds_stage.proofs.FaultCounts.{unwritten_or}
+use Rattle.ds_app.proofs.FaultCountsSince.{unread_since, well_read_since}
 use Rattle.ds_app.proofs.times.times.Goals as goal
 
 pub returns-in_err-netlist-clause-value : goal.returns-in_err-netlist-clause-value

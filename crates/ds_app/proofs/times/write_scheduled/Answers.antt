@@ -7,7 +7,7 @@ use Rattle.ds_stage.specs.Stage.{OfFile}
 use Rattle.ds_stage.specs.PeriodStage.{delays_stage}
 use Rattle.ds_stage.specs.TimesStage.{scheduled_stage}
 use Rattle.ds_stage.specs.Ends.{Ends, Output, RoseIn, Stops, output_between}
-use Rattle.ds_stage.proofs.Counts.{unwritten_or, well_read}
+use Rattle.ds_stage.proofs.FaultCounts.{unwritten_or, well_read}
 use Rattle.ds_stage.proofs.TimesStages.{ends_schedule, stops_schedule}
 use Rattle.ds_app.proofs.times.write_scheduled.Goals as goal
 

@@ -7,11 +7,11 @@ use Rattle.ds_period.specs.Timing.{timed_arcs}
 use Rattle.ds_times.specs.Course.{Course, HasSchedulesOf}
 use Rattle.ds_times.specs.Order.{IsByRank}
 use Rattle.ds_times.specs.Schedule.{IsSchedule}
-use Rattle.ds_times.proofs.Exist.{some_schedule}
-use Rattle.ds_times.proofs.Sorted.{timed_rises}
+use Rattle.ds_times.proofs.SchedulesExist.{some_schedule}
+use Rattle.ds_times.proofs.ArcsByRank.{timed_rises}
 use Rattle.ds_stage.specs.Ends.{Output, output_between}
 use Rattle.ds_stage.specs.TimesStage.{IsTimesText, time_lines}
-use Rattle.ds_stage.proofs.Counts.{unwritten_or}
+use Rattle.ds_stage.proofs.FaultCounts.{unwritten_or}
 use Rattle.ds_app.proofs.TimesTexts.{ends_unwritten, ends_written, is_times}
 use Rattle.ds_app.proofs.times.write_times.Goals as goal
 

@@ -2,7 +2,7 @@ use Rattle.std.proofs.Common.{◌∙◌, ◌<◌, ap, sym, arith}
 use Rattle.ds_marked.specs.declared.marked.Arc.{Arc}
 use Rattle.ds_astg.specs.Text.{arc_at, tokens_text}
 use Rattle.ds_outside.proofs.Pens.{puts_nothing, puts_on, with_put}
-use Rattle.ds_astg.proofs.Texts.{arc_is, no_entry, one_entry}
+use Rattle.ds_astg.proofs.GraphTextCases.{arc_is, no_entry, one_entry}
 use Rattle.ds_astg.proofs.entry.put_entry.Goals as goal
 
 pub returns-then-tokens-eq0 : goal.returns-then-tokens-eq0

@@ -1,6 +1,6 @@
 use Rattle.std.proofs.Common.{◌∙◌, ◌≤◌, arith}
 use Rattle.ds_outside.proofs.Pens.{puts_nothing, puts_on, with_put}
-use Rattle.ds_astg.proofs.Texts.{few_tokens, many_tokens}
+use Rattle.ds_astg.proofs.GraphTextCases.{few_tokens, many_tokens}
 use Rattle.ds_astg.proofs.entry.put_tokens.Goals as goal
 
 pub returns-then-tokens-lt2 : goal.returns-then-tokens-lt2

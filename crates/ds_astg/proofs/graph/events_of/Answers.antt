@@ -1,7 +1,7 @@
 use Rattle.std.proofs.Common.{◌∙◌, ◌++◌, ℕ, List, ap, sym, take, arith}
 use Rattle.ds_marked.specs.declared.marked.Event.{Event}
 use Rattle.ds_astg.specs.Read.{all_events, named_events}
-use Rattle.ds_astg.proofs.Graphs.{events-next}
+use Rattle.ds_astg.proofs.GraphOfText.{events-next}
 use Rattle.ds_astg.proofs.graph.events_of.Goals as goal
 
 pub loop-i-preserved : goal.loop-i-preserved

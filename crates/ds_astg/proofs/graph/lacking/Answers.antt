@@ -1,7 +1,7 @@
 use Rattle.std.proofs.Common.{◌∙◌, sym, ap, arith}
 use Rattle.ds_astg.specs.Read.{lacks as lacks_in}
 use Rattle.ds_astg.specs.declared.place.Place.{Place}
-use Rattle.ds_astg.proofs.Graphs.{lacking-next}
+use Rattle.ds_astg.proofs.GraphOfText.{lacking-next}
 use Rattle.ds_astg.proofs.graph.lacking.Goals as goal
 
 pub loop-i-preserved : goal.loop-i-preserved

@@ -1,4 +1,4 @@
-use Rattle.ds_astg.proofs.Graphs.{ends_in, once_in, few_in, marked_is}
+use Rattle.ds_astg.proofs.GraphOfText.{ends_in, once_in, few_in, marked_is}
 use Rattle.ds_astg.proofs.graph.marked.Goals as goal
 
 pub new-requires-clause-ends : goal.new-requires-clause-ends

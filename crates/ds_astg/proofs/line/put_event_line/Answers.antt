@@ -4,8 +4,8 @@ use Rattle.ds_outside.proofs.Pens.{puts_nothing, puts_on, with_put}
 use Rattle.ds_astg.specs.Pieces.{all_below}
 use Rattle.ds_marked.specs.Log.{text_of_event}
 use Rattle.ds_astg.specs.Text.{arc_text}
-use Rattle.ds_astg.proofs.Pieces.{line_some, some_piece}
-use Rattle.ds_astg.proofs.Texts.{no_line, some_target}
+use Rattle.ds_astg.proofs.TextPieces.{line_some, some_piece}
+use Rattle.ds_astg.proofs.GraphTextCases.{no_line, some_target}
 use Rattle.ds_astg.proofs.line.put_event_line.Goals as goal
 
 pub returns-then-range : goal.returns-then-range

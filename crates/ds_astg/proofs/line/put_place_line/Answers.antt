@@ -2,7 +2,7 @@ use Rattle.std.proofs.Common.{◌∙◌, ap, sym}
 use Rattle.ds_marked.specs.declared.marked.Arc.{Arc}
 use Rattle.ds_marked.specs.Log.{text_of_event}
 use Rattle.ds_outside.proofs.Pens.{puts_nothing, puts_on, with_put}
-use Rattle.ds_astg.proofs.Texts.{arc_is, no_place, one_place}
+use Rattle.ds_astg.proofs.GraphTextCases.{arc_is, no_place, one_place}
 use Rattle.ds_astg.proofs.line.put_place_line.Goals as goal
 
 pub returns-then-not-is_further : goal.returns-then-not-is_further

@@ -2,7 +2,7 @@ use Rattle.std.proofs.Common.{◌∙◌, ap, sym}
 use Rattle.ds_marked.specs.declared.marked.Arc.{Arc}
 use Rattle.ds_marked.specs.Log.{text_of_event}
 use Rattle.ds_outside.proofs.Pens.{puts_on, with_put}
-use Rattle.ds_astg.proofs.Texts.{arc_is, target_of_end, target_of_place}
+use Rattle.ds_astg.proofs.GraphTextCases.{arc_is, target_of_end, target_of_place}
 use Rattle.ds_astg.proofs.line.put_target.Goals as goal
 
 pub returns-then-is_further : goal.returns-then-is_further

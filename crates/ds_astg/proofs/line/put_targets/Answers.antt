@@ -2,8 +2,8 @@ use Rattle.std.proofs.Common.{arith, sym, ◌∙◌, ◌≡◌, ap}
 use Rattle.ds_outside.proofs.Pens.{puts_nothing, with_put}
 use Rattle.ds_astg.specs.Pieces.{all_below}
 use Rattle.ds_astg.specs.Text.{arc_text}
-use Rattle.ds_astg.proofs.Pieces.{one_more}
-use Rattle.ds_astg.proofs.Texts.{leads, none_before, none_behind}
+use Rattle.ds_astg.proofs.TextPieces.{one_more}
+use Rattle.ds_astg.proofs.GraphTextCases.{leads, none_before, none_behind}
 use Rattle.ds_astg.proofs.line.put_targets.Goals as goal
 
 pub loop-arc-init : goal.loop-arc-init

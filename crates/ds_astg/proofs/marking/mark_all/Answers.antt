@@ -1,6 +1,6 @@
 use Rattle.std.proofs.lemmas.Result.{err_from_is_err_and}
 use Rattle.ds_astg.specs.Marking.{mark as mark_in}
-use Rattle.ds_astg.proofs.Turns.{word_fault}
+use Rattle.ds_astg.proofs.StepSequence.{word_fault}
 use Rattle.ds_astg.proofs.marking.mark_all.Goals as goal
 
 pub returns-in_err-mark-clause-fault : goal.returns-in_err-mark-clause-fault

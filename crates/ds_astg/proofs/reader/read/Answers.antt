@@ -4,7 +4,7 @@ use Rattle.ds_lines.specs.Line.{line_or_none}
 use Rattle.ds_astg.specs.Line.{graph_head_of as head_in}
 use Rattle.ds_astg.specs.Read.{graph_of_lines as graph_in}
 use Rattle.ds_astg.proofs.Soundness.{step_sound}
-use Rattle.ds_astg.proofs.Reading.{line_done}
+use Rattle.ds_astg.proofs.LineSequence.{line_done}
 use Rattle.ds_astg.proofs.reader.read.Goals as goal
 
 pub loop-i-preserved : goal.loop-i-preserved

@@ -1,6 +1,6 @@
 use Rattle.std.proofs.Common.{◌∙◌, sym, refl}
 use Rattle.std.proofs.lemmas.Bool.{false≢true}
-use Rattle.ds_astg.proofs.Texts.{some_signal}
+use Rattle.ds_astg.proofs.GraphTextCases.{some_signal}
 use Rattle.ds_astg.proofs.signal_lines.has_signal.Goals as goal
 use Rattle.ds_astg.proofs.signal_lines.has_signal.Goals.{in-Rise, in_default}
 

@@ -2,7 +2,7 @@ use Rattle.std.proofs.Common.{◌∙◌, codes, sym}
 use Rattle.std.proofs.lemmas.Bool.{false≢true}
 use Rattle.ds_outside.proofs.Pens.{puts_nothing, puts_on, with_put}
 use Rattle.ds_astg.specs.Text.{signals_text}
-use Rattle.ds_astg.proofs.Texts.{no_further, some_further}
+use Rattle.ds_astg.proofs.GraphTextCases.{no_further, some_further}
 use Rattle.ds_astg.proofs.signal_lines.put_further.Goals as goal
 
 pub returns-then-not-has_signal : goal.returns-then-not-has_signal

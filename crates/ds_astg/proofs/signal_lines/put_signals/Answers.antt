@@ -1,6 +1,6 @@
 use Rattle.std.proofs.Common.{sym}
 use Rattle.ds_outside.proofs.Pens.{puts_on, with_put}
-use Rattle.ds_astg.proofs.Texts.{one_signal_more}
+use Rattle.ds_astg.proofs.GraphTextCases.{one_signal_more}
 use Rattle.ds_astg.proofs.signal_lines.put_signals.Goals as goal
 
 pub loop-event-preserved : goal.loop-event-preserved

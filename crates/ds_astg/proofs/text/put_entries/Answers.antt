@@ -1,5 +1,5 @@
 use Rattle.ds_astg.specs.Text.{entry_text}
-use Rattle.ds_astg.proofs.Pieces.{one_more}
+use Rattle.ds_astg.proofs.TextPieces.{one_more}
 use Rattle.ds_astg.proofs.text.put_entries.Goals as goal
 
 pub loop-arc-preserved : goal.loop-arc-preserved

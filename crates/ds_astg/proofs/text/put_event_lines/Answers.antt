@@ -1,7 +1,7 @@
 use Rattle.std.proofs.Common.{ap}
 use Rattle.ds_outside.proofs.Pens.{with_put}
 use Rattle.ds_astg.specs.Text.{event_line}
-use Rattle.ds_astg.proofs.Pieces.{one_more}
+use Rattle.ds_astg.proofs.TextPieces.{one_more}
 use Rattle.ds_astg.proofs.text.put_event_lines.Goals as goal
 
 pub loop-event-preserved : goal.loop-event-preserved

@@ -1,4 +1,4 @@
-use Rattle.ds_astg_laws.proofs.Written.{events_are_read}
+use Rattle.ds_astg_laws.proofs.WrittenWords.{events_are_read}
 use Rattle.ds_astg_laws.proofs.laws.events_are_read.Goals as goal
 
 pub returns : goal.returns

@@ -1,4 +1,4 @@
-use Rattle.ds_astg_laws.proofs.Written.{places_are_read}
+use Rattle.ds_astg_laws.proofs.WrittenWords.{places_are_read}
 use Rattle.ds_astg_laws.proofs.laws.places_are_read.Goals as goal
 
 pub returns : goal.returns

@@ -1,4 +1,4 @@
-use Rattle.ds_astg_laws.proofs.Whole.{written_is_read}
+use Rattle.ds_astg_laws.proofs.WrittenGraphs.{written_is_read}
 use Rattle.ds_astg_laws.proofs.laws.written_is_read.Goals as goal
 
 pub returns : goal.returns

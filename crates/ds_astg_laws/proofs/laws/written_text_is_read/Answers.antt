@@ -1,4 +1,4 @@
-use Rattle.ds_astg_laws.proofs.Lines.{written_text_is_read}
+use Rattle.ds_astg_laws.proofs.GraphTextLines.{written_text_is_read}
 use Rattle.ds_astg_laws.proofs.laws.written_text_is_read.Goals as goal
 
 pub returns : goal.returns

@@ -2,7 +2,7 @@ use Rattle.std.proofs.Common.{◌∙◌, ap, map, arith, List, ℕ, Bor}
 use Rattle.std.proofs.lemmas.List.{take_all}
 use Rattle.ds_lines.specs.Words.{texts}
 use Rattle.ds_blif.specs.Parts.{pair_of as pair_of_word}
-use Rattle.ds_blif.proofs.Pairs.{listed_more}
+use Rattle.ds_blif.proofs.UsePairs.{listed_more}
 use Rattle.ds_blif.proofs.part.pairs_of.Goals as goal
 
 pub loop-word-init : goal.loop-word-init

@@ -2,7 +2,7 @@ use Rattle.std.proofs.Common.{◌∙◌, ap, sym, arith, List, ℕ, Bor}
 use Rattle.std.proofs.lemmas.List.{drop_all}
 use Rattle.ds_lines.specs.Words.{texts}
 use Rattle.ds_blif.specs.Form.{has_bad_pairs as has_bad_pairs_word}
-use Rattle.ds_blif.proofs.Pairs.{pairs_not, pairs_twice, pairs_more}
+use Rattle.ds_blif.proofs.UsePairs.{pairs_not, pairs_twice, pairs_more}
 use Rattle.ds_blif.proofs.subckt.has_bad_pairs.Goals as goal
 
 pub loop-word-init : goal.loop-word-init

@@ -1,4 +1,4 @@
-use Rattle.ds_blif_laws.proofs.InOrder.{in_order}
+use Rattle.ds_blif_laws.proofs.FaultOrder.{in_order}
 use Rattle.ds_blif_laws.proofs.laws.fault_is_in_order.Goals as goal
 
 pub returns : goal.returns

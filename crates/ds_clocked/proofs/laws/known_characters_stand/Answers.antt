@@ -1,4 +1,4 @@
-use Rattle.ds_clocked.proofs.Stood.{known_characters_stand}
+use Rattle.ds_clocked.proofs.MonotoneTrace.{known_characters_stand}
 use Rattle.ds_clocked.proofs.laws.known_characters_stand.Goals as goal
 
 pub returns : goal.returns

@@ -8,7 +8,7 @@ use Rattle.ds_design.specs.declared.design.Register.{Register}
 use Rattle.ds_outside.specs.Pen.{Puts}
 use Rattle.ds_outside.proofs.Pens.{puts_nothing, puts_on, with_put}
 use Rattle.ds_clocked.specs.Loop.{IsWrittenTo}
-use Rattle.ds_clocked.proofs.Turns.{no_turn, one_turn, last_turn}
+use Rattle.ds_clocked.proofs.OneMoreTurn.{no_turn, one_turn, last_turn}
 use Rattle.ds_clocked.proofs.run.put_turns.Goals as goal
 use Rattle.ds_base.specs.Values.{Row}
 

@@ -1,4 +1,4 @@
-use Rattle.ds_cmd.proofs.Wanted.{wants_memory}
+use Rattle.ds_cmd.proofs.MemoryAnswers.{wants_memory}
 use Rattle.ds_cmd.proofs.graph.job.Goals as goal
 
 pub returns-in_err-new : goal.returns-in_err-new

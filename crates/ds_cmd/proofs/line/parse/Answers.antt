@@ -6,7 +6,7 @@ use Rattle.ds_cmd.specs.Line.{job_in}
 use Rattle.ds_cmd.specs.declared.job.Job.{Job}
 use Rattle.ds_cmd.specs.declared.fault.UsageFault.{UsageFault}
 use Rattle.ds_cmd.proofs.AllowedNumbers.{allowed_if_given}
-use Rattle.ds_cmd.proofs.Meant.{is_free, is_plainly, taken, refused}
+use Rattle.ds_cmd.proofs.ParsedJob.{is_free, is_plainly, taken, refused}
 use Rattle.ds_cmd.proofs.line.parse.Goals as goal
 
 pub returns-in_err-command-clause-value : goal.returns-in_err-command-clause-value

@@ -1,5 +1,5 @@
 use Rattle.std.proofs.Common.{arith, sym}
-use Rattle.ds_cmd.proofs.NumberLemmas.{number_low}
+use Rattle.ds_cmd.proofs.NumberWords.{number_low}
 use Rattle.ds_cmd.proofs.number.byte_number.Goals as goal
 
 pub overflow_cast-result : goal.overflow_cast-result

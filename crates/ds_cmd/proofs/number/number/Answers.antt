@@ -1,6 +1,6 @@
 use Rattle.std.proofs.Common.{◌≡◌, ◌∙◌, sym, ap, Some, arith}
 use Rattle.std.specs.Str.Parse.{digits_value}
-use Rattle.ds_cmd.proofs.NumberLemmas.{no_numeral, inside, below, above, value_read, not_read}
+use Rattle.ds_cmd.proofs.NumberWords.{no_numeral, inside, below, above, value_read, not_read}
 use Rattle.ds_cmd.proofs.number.number.Goals as goal
 
 pub returns-then-not-is_numeral : goal.returns-then-not-is_numeral

@@ -1,4 +1,4 @@
-use Rattle.ds_cmd_laws.proofs.Taken.{check_taken}
+use Rattle.ds_cmd_laws.proofs.TakenCommands.{check_taken}
 use Rattle.ds_cmd_laws.proofs.laws.check_is_taken.Goals as goal
 
 pub returns : goal.returns

@@ -1,4 +1,4 @@
-use Rattle.ds_cmd_laws.proofs.Taken.{graph_taken, graph_with_mode, graph_with_shake}
+use Rattle.ds_cmd_laws.proofs.TakenCommands.{graph_taken, graph_with_mode, graph_with_shake}
 use Rattle.ds_cmd_laws.proofs.TakenSlack.{graph_with_slack}
 use Rattle.ds_cmd_laws.proofs.laws.graph_is_taken.Goals as goal
 

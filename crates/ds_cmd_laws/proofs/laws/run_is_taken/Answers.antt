@@ -1,4 +1,4 @@
-use Rattle.ds_cmd_laws.proofs.Taken.{run_taken, run_with_mode}
+use Rattle.ds_cmd_laws.proofs.TakenCommands.{run_taken, run_with_mode}
 use Rattle.ds_cmd_laws.proofs.TakenGraph.{run_with_graph}
 use Rattle.ds_cmd_laws.proofs.TakenNumbers.{run_with_jobs, run_with_log, run_with_slack, run_with_stop}
 use Rattle.ds_cmd_laws.proofs.laws.run_is_taken.Goals as goal

@@ -1,5 +1,5 @@
 use Rattle.std.proofs.Common.{◌+◌, ◌*◌, ◌<◌, ◌≤◌, List, length, get_or, arith}
-use Rattle.ds_base.proofs.Lists.{get_or-self}
+use Rattle.ds_base.proofs.ListLemmas.{get_or-self}
 use Rattle.ds_latch.specs.Node.{Split, nodes}
 use Rattle.ds_latch.specs.declared.latches.Edge.{Edge}
 use Rattle.ds_control.proofs.Required.{edge_inside}

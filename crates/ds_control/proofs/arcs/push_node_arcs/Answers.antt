@@ -2,8 +2,8 @@ use Rattle.std.proofs.Common.{◌≡◌, ◌∙◌, ◌+◌, ◌*◌, ◌++◌, 
 use Rattle.ds_marked.specs.declared.marked.Arc.{Arc}
 use Rattle.ds_control.specs.Orders.{closing_arc, node_arcs, opening_arc}
 use Rattle.ds_control.specs.Part.{PushesPart}
-use Rattle.ds_control.proofs.Parts.{closing_pushed, nodes_pushed, on_any}
-use Rattle.ds_control.proofs.Pushed.{arc_is, node_pushed}
+use Rattle.ds_control.proofs.OrderPrefixes.{closing_pushed, nodes_pushed, on_any}
+use Rattle.ds_control.proofs.NodeOrders.{arc_is, node_pushed}
 use Rattle.ds_control.proofs.arcs.push_node_arcs.Goals as goal
 
 pub loop-i-preserved : goal.loop-i-preserved

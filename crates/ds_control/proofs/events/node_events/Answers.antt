@@ -2,7 +2,7 @@ use Rattle.std.proofs.Common.{◌∙◌, ◌++◌, List, ℕ, ap}
 use Rattle.ds_marked.specs.declared.marked.Event.{Event}
 use Rattle.ds_latch.specs.declared.node.Node.TheVariants.{In, Out, Master, Slave}
 use Rattle.ds_latch.specs.Plan.{node_events}
-use Rattle.ds_control.proofs.Pushed.{cluster_pushed}
+use Rattle.ds_control.proofs.NodeOrders.{cluster_pushed}
 use Rattle.ds_control.proofs.events.node_events.Goals as goal
 
 pub loop-i-preserved : goal.loop-i-preserved

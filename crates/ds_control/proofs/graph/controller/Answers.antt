@@ -5,11 +5,11 @@ use Rattle.ds_marked.specs.declared.marked.Event.{Event}
 use Rattle.ds_latch.specs.Node.{Split, nodes}
 use Rattle.ds_latch.specs.declared.node.Node.TheVariants.{In, Out}
 use Rattle.ds_latch.specs.Plan.{IsPlan, node_events, split_events}
-use Rattle.ds_latch.proofs.Rising.{events_long, orders_are_accepted}
+use Rattle.ds_latch.proofs.OrdersRise.{events_long, orders_are_accepted}
 use Rattle.ds_control.specs.Control.{AreOrders, IsSimple}
 use Rattle.ds_control.specs.Orders.{AreListed, cluster_events}
-use Rattle.ds_control.proofs.Named.{events_once}
-use Rattle.ds_control.proofs.Listed.{listed_ends, listed_few, sorted_simple, sorted_orders, if_ok, if_both}
+use Rattle.ds_control.proofs.DistinctEvents.{events_once}
+use Rattle.ds_control.proofs.ListedArcs.{listed_ends, listed_few, sorted_simple, sorted_orders, if_ok, if_both}
 use Rattle.ds_control.proofs.graph.controller.Goals as goal
 
 -- the events that are made are those of the nodes

@@ -1,6 +1,6 @@
 use Rattle.std.proofs.Common.{ap, arith}
 use Rattle.std.specs.Int.RustNames.{bit_and}
-use Rattle.ds_cover.proofs.Reading.{asked_more}
+use Rattle.ds_cover.proofs.WordBits.{asked_more}
 use Rattle.ds_cover.proofs.rows.asked.Goals as goal
 
 pub loop-i-preserved : goal.loop-i-preserved

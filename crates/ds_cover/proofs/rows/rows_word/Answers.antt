@@ -1,6 +1,6 @@
 use Rattle.std.proofs.Common.{ap, arith}
 use Rattle.std.specs.Int.RustNames.{bit_or}
-use Rattle.ds_cover.proofs.Reading.{some_more}
+use Rattle.ds_cover.proofs.WordBits.{some_more}
 use Rattle.ds_cover.proofs.rows.rows_word.Goals as goal
 
 pub loop-k-preserved : goal.loop-k-preserved

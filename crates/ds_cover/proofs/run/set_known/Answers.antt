@@ -1,9 +1,9 @@
 use Rattle.std.proofs.Common.{◌∙◌}
 use Rattle.ds_cover.specs.Small.{small_five, small_four, small_six, small_three, small_two}
 use Rattle.ds_cover.specs.Series.{in_table_order}
-use Rattle.ds_cover.proofs.Ended.{order_after}
+use Rattle.ds_cover.proofs.RunTables.{order_after}
 use Rattle.ds_cover.proofs.LentTables.{fives_part, fours_part, sixes_part, threes_part, twos_part}
-use Rattle.ds_cover.proofs.Runs.{order_within, part_after, part_within}
+use Rattle.ds_cover.proofs.TablesByRun.{order_within, part_after, part_within}
 use Rattle.ds_cover.proofs.run.set_known.Goals as goal
 
 pub set_twos-requires : goal.set_twos-requires

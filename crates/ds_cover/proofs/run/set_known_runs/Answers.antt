@@ -1,4 +1,4 @@
-use Rattle.ds_cover.proofs.Left.{known_less, left_less, left_none}
+use Rattle.ds_cover.proofs.RemainingRuns.{known_less, left_less, left_none}
 use Rattle.ds_cover.proofs.run.set_known_runs.Goals as goal
 
 pub set_known-requires-clause-known : goal.set_known-requires-clause-known

@@ -1,5 +1,5 @@
 use Rattle.std.proofs.Common.{drop}
-use Rattle.ds_cover.proofs.Left.{IsLeftKnown}
+use Rattle.ds_cover.proofs.RemainingRuns.{IsLeftKnown}
 use Rattle.ds_cover.proofs.run.set_known_runs.Given as goal
 
 abbrev pub invariant-loop-run : goal.invariant-loop-run

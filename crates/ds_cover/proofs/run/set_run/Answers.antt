@@ -1,9 +1,9 @@
 use Rattle.std.proofs.Common.{◌∙◌, arith}
 use Rattle.ds_cover.specs.Small.{small_three, small_two, worded_three, worded_two}
 use Rattle.ds_cover.specs.Series.{in_table_order}
-use Rattle.ds_cover.proofs.Ended.{order_after}
+use Rattle.ds_cover.proofs.RunTables.{order_after}
 use Rattle.ds_cover.proofs.LentTables.{threes_part, threes_words, twos_part, twos_words}
-use Rattle.ds_cover.proofs.Runs.{order_within, paired-short, part_within, words_after}
+use Rattle.ds_cover.proofs.TablesByRun.{order_within, paired-short, part_within, words_after}
 use Rattle.ds_cover.proofs.run.set_run.Goals as goal
 
 pub slice_bounds-set_worded_twos-end-in-Twos : goal.slice_bounds-set_worded_twos-end-in-Twos

@@ -1,4 +1,4 @@
-use Rattle.ds_cover.proofs.Left.{left_less, left_none}
+use Rattle.ds_cover.proofs.RemainingRuns.{left_less, left_none}
 use Rattle.ds_cover.proofs.run.set_runs.Goals as goal
 
 pub loop-run-preserved : goal.loop-run-preserved

@@ -1,5 +1,5 @@
 use Rattle.std.proofs.Common.{drop}
-use Rattle.ds_cover.proofs.Left.{IsLeft}
+use Rattle.ds_cover.proofs.RemainingRuns.{IsLeft}
 use Rattle.ds_cover.proofs.run.set_runs.Given as goal
 
 abbrev pub invariant-loop-run : goal.invariant-loop-run

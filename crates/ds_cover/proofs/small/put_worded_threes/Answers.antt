@@ -1,8 +1,8 @@
 use Rattle.std.proofs.Common.{◌≡◌, ◌+◌, ◌∙◌, ◌<◌, ℕ, ap, arith, sym, set, drop, get_or, length}
 use Rattle.ds_cover.specs.Small.{after_worded, paired, small_three, worded_three, worded_value}
 use Rattle.std.proofs.lemmas.List.{get_or_default}
-use Rattle.ds_cover.proofs.Lent.{length-set}
-use Rattle.ds_cover.proofs.Trits.{paired-step}
+use Rattle.ds_cover.proofs.LentRows.{length-set}
+use Rattle.ds_cover.proofs.TernaryPlaces.{paired-step}
 use Rattle.ds_cover.proofs.small.put_worded_threes.Goals as goal
 
 pub loop-i-preserved : goal.loop-i-preserved

@@ -1,7 +1,7 @@
 use Rattle.std.proofs.Common.{◌≡◌, ◌∙◌, ap, length, map}
 use Rattle.ds_cover.specs.Small.{after_smalls, small_four}
-use Rattle.ds_cover.proofs.Lent.{with-all}
-use Rattle.ds_cover.proofs.Runs.{length-after_smalls}
+use Rattle.ds_cover.proofs.LentRows.{with-all}
+use Rattle.ds_cover.proofs.TablesByRun.{length-after_smalls}
 use Rattle.ds_cover.proofs.small.set_fours.Goals as goal
 
 pub returns : goal.returns

@@ -1,6 +1,6 @@
 use Rattle.std.proofs.Common.{◌∙◌, ap}
 use Rattle.ds_cover.specs.Ternary.{coded_word}
-use Rattle.ds_cover.proofs.Places.{word_is}
+use Rattle.ds_cover.proofs.TruthWords.{word_is}
 use Rattle.ds_cover.proofs.ternary.word_of.Goals as goal
 
 pub returns : goal.returns

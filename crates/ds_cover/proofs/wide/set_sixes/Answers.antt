@@ -1,7 +1,7 @@
 use Rattle.std.proofs.Common.{◌≡◌, ◌∙◌, ap, length, map}
 use Rattle.ds_cover.specs.Small.{after_smalls, small_six}
-use Rattle.ds_cover.proofs.Lent.{with-all}
-use Rattle.ds_cover.proofs.Runs.{length-after_smalls}
+use Rattle.ds_cover.proofs.LentRows.{with-all}
+use Rattle.ds_cover.proofs.TablesByRun.{length-after_smalls}
 use Rattle.ds_cover.proofs.wide.set_sixes.Goals as goal
 
 pub returns : goal.returns

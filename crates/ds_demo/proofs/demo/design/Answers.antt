@@ -1,7 +1,7 @@
 use Rattle.std.proofs.Common.{◌≢◌, ℕ, List, AllPairs, rules, sym, subst}
 use Rattle.ds_design.specs.InRange.{IsInRange}
 use Rattle.ds_demo.specs.Demo.{design_of}
-use Rattle.ds_demo.proofs.Ranges.{in_range, outputs_once}
+use Rattle.ds_demo.proofs.DemoInRange.{in_range, outputs_once}
 use Rattle.ds_demo.proofs.demo.design.Goals as goal
 
 pub of-requires-4-clause-in_range : goal.of-requires-4-clause-in_range

@@ -1,6 +1,6 @@
 use Rattle.std.proofs.Common.{arith}
 use Rattle.rand_xoshiro.specs.SplitMix64.{mix_u64}
-use Rattle.ds_demo.proofs.Words.{drawn, all_drawn}
+use Rattle.ds_demo.proofs.GeneratorWords.{drawn, all_drawn}
 use Rattle.ds_demo.proofs.demo.draw.Goals as goal
 
 pub loop-preserved : goal.loop-preserved

@@ -1,7 +1,7 @@
 use Rattle.std.proofs.Common.{◌≡◌, ◌+◌, arith, ap, ◌∙◌, length, take, drop}
 use Rattle.rand_xoshiro.specs.SplitMix64.{mix_u64}
 use Rattle.ds_demo.specs.Demo.{demo_design, demo_vectors, design_of, vectors_of_words}
-use Rattle.ds_demo.proofs.Words.{length-first_words, take-first_words}
+use Rattle.ds_demo.proofs.GeneratorWords.{length-first_words, take-first_words}
 use Rattle.ds_demo.proofs.demo.make.Goals as goal
 
 pub split_at-requires : goal.split_at-requires

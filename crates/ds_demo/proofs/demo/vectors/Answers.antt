@@ -1,7 +1,7 @@
 use Rattle.std.proofs.Common.{arith, ap, ◌∙◌, map}
 use Rattle.std.proofs.lemmas.List.{take_all}
 use Rattle.ds_demo.specs.Demo.{vector_of}
-use Rattle.ds_demo.proofs.Ranges.{rows-are_vectors}
+use Rattle.ds_demo.proofs.DemoInRange.{rows-are_vectors}
 use Rattle.ds_demo.proofs.demo.vectors.Goals as goal
 
 pub of-requires-2 : goal.of-requires-2

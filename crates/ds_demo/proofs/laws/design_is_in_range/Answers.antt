@@ -1,5 +1,5 @@
 use Rattle.ds_demo.specs.Demo.{demo_design, seed_words}
-use Rattle.ds_demo.proofs.Ranges.{in_range}
+use Rattle.ds_demo.proofs.DemoInRange.{in_range}
 use Rattle.ds_demo.proofs.laws.design_is_in_range.Goals as goal
 
 pub returns : goal.returns

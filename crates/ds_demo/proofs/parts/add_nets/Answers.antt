@@ -1,5 +1,5 @@
 use Rattle.std.proofs.Common.{rules}
-use Rattle.ds_demo.proofs.Made.{one_more_after}
+use Rattle.ds_demo.proofs.BuiltLists.{one_more_after}
 use Rattle.ds_demo.proofs.parts.add_nets.Goals as goal
 
 pub loop-i-preserved : goal.loop-i-preserved

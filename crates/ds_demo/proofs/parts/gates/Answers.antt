@@ -1,5 +1,5 @@
 use Rattle.std.proofs.Common.{rules}
-use Rattle.ds_demo.proofs.Made.{one_more}
+use Rattle.ds_demo.proofs.BuiltLists.{one_more}
 use Rattle.ds_demo.proofs.parts.gates.Goals as goal
 
 pub loop-j-preserved : goal.loop-j-preserved

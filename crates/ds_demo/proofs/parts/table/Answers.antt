@@ -1,5 +1,5 @@
 use Rattle.std.proofs.Common.{rules}
-use Rattle.ds_demo.proofs.Ranges.{rows-fit}
+use Rattle.ds_demo.proofs.DemoInRange.{rows-fit}
 use Rattle.ds_demo.proofs.parts.table.Goals as goal
 
 pub of-requires : goal.of-requires

@@ -1,7 +1,7 @@
 use Rattle.std.proofs.Common.{rules}
 use Rattle.std.specs.Int.{bit_at}
 use Rattle.ds_demo.specs.Demo.{marks_of}
-use Rattle.ds_demo.proofs.Made.{filter_takes, filter_leaves}
+use Rattle.ds_demo.proofs.BuiltLists.{filter_takes, filter_leaves}
 use Rattle.ds_demo.proofs.rows.rows.Goals as goal
 use Rattle.ds_demo.proofs.rows.rows.Goals.{then-function-number-eq1+in_ok-marks+in_ok-push}
 use Rattle.ds_demo.proofs.rows.rows.Goals.{else-function-number-eq1}

@@ -1,5 +1,5 @@
 use Rattle.std.proofs.Common.{◌∙◌, eqb-true, refl, sym}
-use Rattle.ds_design.proofs.Controlled.{clock_first, clock_later}
+use Rattle.ds_design.proofs.ControlNames.{clock_first, clock_later}
 use Rattle.ds_design.proofs.netlist.has_clock.Goals as goal
 
 pub returns-then-not-is_empty : goal.returns-then-not-is_empty

@@ -1,5 +1,5 @@
 use Rattle.std.proofs.Common.{◌+◌, ◌∷◌, [], ℕ, arith, subst, sym, length-append}
-use Rattle.ds_rule.proofs.Lists.{each_snoc}
+use Rattle.ds_rule.proofs.GetElemLemmas.{each_snoc}
 use Rattle.ds_fabric.specs.Showing.{Blank, IsBlank}
 use Rattle.ds_fabric.specs.declared.history.History.{History}
 use Rattle.ds_fabric.proofs.build.histories.Goals as goal

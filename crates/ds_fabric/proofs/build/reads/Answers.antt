@@ -1,14 +1,14 @@
 use Rattle.std.proofs.Common.{◌≡◌, ◌<◌, ◌+◌, ℕ, List, ap, arith, sym, refl, length, ◌∙◌, slice_index_or}
 use Rattle.std.proofs.Common.{get_or, set, length-set}
 use Rattle.atomic_table.proofs.Lists.{at_index}
-use Rattle.ds_rule.proofs.Lists.{at_below, at_get}
+use Rattle.ds_rule.proofs.GetElemLemmas.{at_below, at_get}
 use Rattle.ds_rule.specs.Run.{Run}
 use Rattle.ds_rule.specs.Sound.{IsSound, edge_at, read_words}
 use Rattle.ds_rule.specs.Words.{width}
 use Rattle.ds_rule.specs.declared.layout.DataEdge.{DataEdge}
 use Rattle.ds_rule.proofs.RowLaws.{reads-into, reads_up}
 use Rattle.ds_fabric.proofs.Laying.{reads_next}
-use Rattle.ds_fabric.proofs.Ranges.{edge_read}
+use Rattle.ds_fabric.proofs.EdgeRanges.{edge_read}
 use Rattle.ds_fabric.proofs.build.reads.Given
 use Rattle.ds_fabric.proofs.build.reads.Goals as goal
 use Rattle.ds_fabric.proofs.build.reads.Goals.{After-index-edges-i, After-index_mut}

@@ -1,6 +1,6 @@
 use Rattle.std.proofs.Common.{arith, sym}
 use Rattle.ds_rule.specs.Run.{Run}
-use Rattle.ds_fabric.proofs.Turns.{stride-low, stride-high, width_small}
+use Rattle.ds_fabric.proofs.HistoryLayout.{stride-low, stride-high, width_small}
 use Rattle.ds_fabric.proofs.build.stride_of.Goals as goal
 
 pub returns-then-node-latches : goal.returns-then-node-latches

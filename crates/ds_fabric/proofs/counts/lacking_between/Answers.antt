@@ -1,5 +1,5 @@
 use Rattle.std.proofs.Common.{arith}
-use Rattle.ds_fabric.proofs.Parts.{peek_near}
+use Rattle.ds_fabric.proofs.IncomingArcs.{peek_near}
 use Rattle.ds_fabric.proofs.counts.lacking_between.Goals as goal
 
 pub peek-requires : goal.peek-requires

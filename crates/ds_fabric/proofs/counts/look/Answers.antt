@@ -9,10 +9,10 @@ use Rattle.ds_rule.proofs.PlaceLaws.{counts_inside}
 use Rattle.ds_fabric.proofs.counts.look.Goals as goal
 
 pub load-requires : goal.load-requires
-load-requires g c = let q = c.args.ground.now.built.over in let run : Run = c.args.ground.now.run.now in
+load-requires g c = let q = c.args.context.now.built.over in let run : Run = c.args.context.now.run.now in
     let P : Run → Type 0 =
-    λ r. Allows (Lawful r) c.args.ground.now.board.now.table_id.slots c.args.seat.now.id c.args.seat.now.me
-    (c.args.node + 1) (λ y. y) (looked (step c.args.ground.now.board.now.table_id.slots
+    λ r. Allows (Lawful r) c.args.context.now.board.now.table_id.slots c.args.seat.now.id c.args.seat.now.me
+    (c.args.node + 1) (λ y. y) (looked (step c.args.context.now.board.now.table_id.slots
     (c.args.node + 1) 0 0 none) c.args.seat.now.me) in (
       c.requires.table,
       omega (arith, q.sized, counts_inside run (c.args.node + 1) (omega (arith, c.requires.near))),

@@ -10,10 +10,10 @@ use Rattle.ds_fabric.specs.Looks.{LooksOn, IsSeenLacking}
 use Rattle.ds_fabric.specs.Into.{fired_of, IsInto}
 use Rattle.ds_fabric.specs.declared.arc_in.ArcIn.{ArcIn}
 use Rattle.ds_fabric.specs.declared.arc_in.Source.TheVariants.{Opening}
-use Rattle.ds_fabric.proofs.Chains.{read-off}
-use Rattle.ds_fabric.proofs.Parts.{ends_read, entry_into, look_near, none_before}
-use Rattle.ds_fabric.proofs.Parts.{enough_all, goes_on, stops}
-use Rattle.ds_fabric.proofs.Views.{looks_none}
+use Rattle.ds_fabric.proofs.ArcChains.{read-off}
+use Rattle.ds_fabric.proofs.IncomingArcs.{ends_read, entry_into, look_near, none_before}
+use Rattle.ds_fabric.proofs.IncomingArcs.{enough_all, goes_on, stops}
+use Rattle.ds_fabric.proofs.LoadedViews.{looks_none}
 use Rattle.ds_fabric.proofs.counts.survey.Given
 use Rattle.ds_fabric.proofs.counts.survey.Goals as goal
 use Rattle.ds_fabric.proofs.counts.survey.Goals.{After-look-fired}
@@ -27,7 +27,7 @@ index-i-requires g c = let all = c.requires.incoming in
 
 pub overflow_add-event : goal.overflow_add-event
 overflow_add-event g c =
-    omega (arith, c.requires.few.1, events-is c.args.ground.now.run.now, c.args.ground.now.built.over.sound.few)
+    omega (arith, c.requires.few.1, events-is c.args.context.now.run.now, c.args.context.now.built.over.sound.few)
 
 pub index-i-end-requires : goal.index-i-end-requires
 index-i-end-requires g c = let all = c.requires.incoming in
@@ -35,15 +35,15 @@ index-i-end-requires g c = let all = c.requires.incoming in
 
 pub loop-i-init : goal.loop-i-init
 loop-i-init g c =
-    let numbers : List ℕ = c.args.ground.now.incoming.now.numbers.items in
-    let e = ends_read c.args.ground.now.run.now c.args.event c.index-i.result.now
-    c.index-i-end.result.now c.args.ground.now.incoming.now.starts.items numbers
-    c.args.ground.now.incoming.now.arcs.items c.requires.few.1 c.requires.incoming
+    let numbers : List ℕ = c.args.context.now.incoming.now.numbers.items in
+    let e = ends_read c.args.context.now.run.now c.args.event c.index-i.result.now
+    c.index-i-end.result.now c.args.context.now.incoming.now.starts.items numbers
+    c.args.context.now.incoming.now.arcs.items c.requires.few.1 c.requires.incoming
     c.index-i.ensures c.index-i-end.ensures in (
       refl,
       refl,
       looks_none c.args.seat.now.me.0,
-      none_before c.args.ground.now.run.now c.args.seat.now.me.0 c.args.turn numbers _ _ e.0,
+      none_before c.args.context.now.run.now c.args.seat.now.me.0 c.args.turn numbers _ _ e.0,
       omega (arith, e.0),
       sym e.1,
     )
@@ -63,14 +63,14 @@ look-fired-requires-clause-table g c = c.loop-i.invariant.0 ∙ c.requires.table
 
 pub look-fired-requires-clause-rests : goal.look-fired-requires-clause-rests
 look-fired-requires-clause-rests g c = let q = c.loop-i.invariant.2 in
-    (q.live ∙ c.requires.rests.0, q.stage ∙ c.requires.rests.1)
+    (q.live ∙ c.requires.rests.0, q.phase ∙ c.requires.rests.1)
 
 -- the place of the arc that is looked at is one of the event's
 place : (g : Given.Over) (c : After-look-fired g)
-    → (c.loop-i.i < get_or c.args.ground.now.incoming.now.starts.items (c.args.event + 1) 0)
-    × (c.loop-i.i < length c.args.ground.now.incoming.now.numbers.items)
+    → (c.loop-i.i < get_or c.args.context.now.incoming.now.starts.items (c.args.event + 1) 0)
+    × (c.loop-i.i < length c.args.context.now.incoming.now.numbers.items)
 place g c = let all = c.requires.incoming in
-    let below : c.loop-i.i < get_or c.args.ground.now.incoming.now.starts.items (c.args.event + 1) 0 =
+    let below : c.loop-i.i < get_or c.args.context.now.incoming.now.starts.items (c.args.event + 1) 0 =
     omega (arith, c.loop-i-test.true, c.loop-i.invariant.5) in
     (below, omega (arith, below, (all.parts c.args.event c.requires.few.1).inside, all.numbers_long))
 
@@ -79,41 +79,41 @@ index-requires g c = omega (arith, (place g (goal.at.index-requires g c).After-l
 
 pub look-fired-requires-clause-near : goal.look-fired-requires-clause-near
 look-fired-requires-clause-near g c =
-    look_near c.args.ground.now.run.now c.args.event c.loop-i.i c.args.ground.now.incoming.now.starts.items
-    c.args.ground.now.incoming.now.numbers.items c.args.ground.now.incoming.now.arcs.items c.as_slice-arcs.result.now _
-    c.args.ground.now.built.over.sound c.requires.few.1 c.requires.incoming c.as_slice-arcs.ensures.value
+    look_near c.args.context.now.run.now c.args.event c.loop-i.i c.args.context.now.incoming.now.starts.items
+    c.args.context.now.incoming.now.numbers.items c.args.context.now.incoming.now.arcs.items c.as_slice-arcs.result.now _
+    c.args.context.now.built.over.sound c.requires.few.1 c.requires.incoming c.as_slice-arcs.ensures.value
     c.loop-i.invariant.4 (omega (arith, c.loop-i-test.true, c.loop-i.invariant.5))
 
 -- the arc that is looked at
 looked_at : (g : Given.Over) (c : After-look-fired g)
-    → IsInto c.args.ground.now.run.now c.args.event
-    (get_or c.args.ground.now.incoming.now.numbers.items c.loop-i.i 0)
+    → IsInto c.args.context.now.run.now c.args.event
+    (get_or c.args.context.now.incoming.now.numbers.items c.loop-i.i 0)
     (get_or c.as_slice-arcs.result.now c.loop-i.i
     (record { node = 0; ahead = 0; source = Opening }))
 looked_at g c =
-    entry_into c.args.ground.now.run.now c.args.event c.loop-i.i
-    c.args.ground.now.incoming.now.starts.items c.args.ground.now.incoming.now.numbers.items
-    c.args.ground.now.incoming.now.arcs.items c.as_slice-arcs.result.now _ c.requires.few.1
+    entry_into c.args.context.now.run.now c.args.event c.loop-i.i
+    c.args.context.now.incoming.now.starts.items c.args.context.now.incoming.now.numbers.items
+    c.args.context.now.incoming.now.arcs.items c.as_slice-arcs.result.now _ c.requires.few.1
     c.requires.incoming c.as_slice-arcs.ensures.value c.loop-i.invariant.4 (place g c).0
 
 -- what the look tells where it shows too few tokens
 halted : (g : Given.Over) (c : After-look-fired g)
     → fired_of (get_or c.as_slice-arcs.result.now c.loop-i.i
     (record { node = 0; ahead = 0; source = Opening })).source c.look-fired.result
-    + (arc_numbered c.args.ground.now.run.now
-    (get_or c.args.ground.now.incoming.now.numbers.items c.loop-i.i 0)).tokens < c.args.turn
+    + (arc_numbered c.args.context.now.run.now
+    (get_or c.args.context.now.incoming.now.numbers.items c.loop-i.i 0)).tokens < c.args.turn
     → LooksOn c.args.seat.now.me.0 c.look-fired.new.seat.me.0
-    × IsSeenLacking c.args.ground.now.run.now c.args.seat.now.me.0 c.look-fired.new.seat.me.0
-    c.args.event c.args.turn (get_or c.args.ground.now.incoming.now.numbers.items c.loop-i.i 0)
+    × IsSeenLacking c.args.context.now.run.now c.args.seat.now.me.0 c.look-fired.new.seat.me.0
+    c.args.event c.args.turn (get_or c.args.context.now.incoming.now.numbers.items c.loop-i.i 0)
     (fired_of (get_or c.as_slice-arcs.result.now c.loop-i.i
     (record { node = 0; ahead = 0; source = Opening })).source c.look-fired.result)
 halted g c short = let e = c.look-fired.ensures in
-    stops c.args.ground.now.run.now c.args.event c.args.turn
-    (get_or c.args.ground.now.incoming.now.numbers.items c.loop-i.i 0) c.args.seat.now.me.0
+    stops c.args.context.now.run.now c.args.event c.args.turn
+    (get_or c.args.context.now.incoming.now.numbers.items c.loop-i.i 0) c.args.seat.now.me.0
     c.loop-i.seat.me c.look-fired.new.seat.me
     (get_or c.as_slice-arcs.result.now c.loop-i.i
     (record { node = 0; ahead = 0; source = Opening })) c.look-fired.result
-    c.args.ground.now.built.over.sound (looked_at g c) e.me c.loop-i.invariant.2 c.requires.rests.2 e.up e.own
+    c.args.context.now.built.over.sound (looked_at g c) e.me c.loop-i.invariant.2 c.requires.rests.2 e.up e.own
     short
 
 pub returns-then-lacks-clause-table : goal.returns-then-lacks-clause-table
@@ -129,8 +129,8 @@ returns-then-lacks-clause-looks g c =
 
 pub returns-then-lacks-clause-some : goal.returns-then-lacks-clause-some
 returns-then-lacks-clause-some g c =
-    let run : Run = c.args.ground.now.run.now in let i : ℕ = c.loop-i.i in
-    let numbers : List ℕ = c.args.ground.now.incoming.now.numbers.items in
+    let run : Run = c.args.context.now.run.now in let i : ℕ = c.loop-i.i in
+    let numbers : List ℕ = c.args.context.now.incoming.now.numbers.items in
     let x : ArcIn = get_or c.as_slice-arcs.result.now i
     (record { node = 0; ahead = 0; source = Opening }) in
     let v : View = c.args.seat.now.me.0 in let w : View = c.look-fired.new.seat.me.0 in
@@ -145,8 +145,8 @@ returns-then-lacks-clause-some g c =
 
 pub loop-i-preserved : goal.loop-i-preserved
 loop-i-preserved g c =
-    let run : Run = c.args.ground.now.run.now in let i : ℕ = c.loop-i.i in let inv = c.loop-i.invariant in
-    let numbers : List ℕ = c.args.ground.now.incoming.now.numbers.items in
+    let run : Run = c.args.context.now.run.now in let i : ℕ = c.loop-i.i in let inv = c.loop-i.invariant in
+    let numbers : List ℕ = c.args.context.now.incoming.now.numbers.items in
     let x : ArcIn = get_or c.as_slice-arcs.result.now i
     (record { node = 0; ahead = 0; source = Opening }) in
     let r : ℕ = c.look-fired.result in let e = c.look-fired.ensures in
@@ -157,8 +157,8 @@ loop-i-preserved g c =
     not-less (fired_of x.source r + tokens) c.args.turn
     (λ t. false≢true ((c.if-lacks.ensures tokens into.says.ahead_is).1 t)) in
     let both = goes_on run c.args.event c.args.turn
-    (get_or c.args.ground.now.incoming.now.starts.items c.args.event 0) i numbers c.args.seat.now.me.0
-    c.loop-i.seat.me c.look-fired.new.seat.me x r c.args.ground.now.built.over.sound into e.me inv.2 inv.3
+    (get_or c.args.context.now.incoming.now.starts.items c.args.event 0) i numbers c.args.seat.now.me.0
+    c.loop-i.seat.me c.look-fired.new.seat.me x r c.args.context.now.built.over.sound into e.me inv.2 inv.3
     c.requires.rests.2 e.up e.own here in (
       e.table ∙ inv.0,
       ap (λ (y : Sat). y.1) e.me ∙ inv.1,
@@ -176,9 +176,9 @@ returns-clause-looks g c = c.loop-i.invariant.2
 
 pub returns-clause-none : goal.returns-clause-none
 returns-clause-none g c =
-    let inv = c.loop-i.invariant in let starts : List ℕ = c.args.ground.now.incoming.now.starts.items in
-    enough_all c.args.ground.now.run.now c.loop-i.seat.me.0 c.args.event c.args.turn
+    let inv = c.loop-i.invariant in let starts : List ℕ = c.args.context.now.incoming.now.starts.items in
+    enough_all c.args.context.now.run.now c.loop-i.seat.me.0 c.args.event c.args.turn
     (get_or starts c.args.event 0) (get_or starts (c.args.event + 1) 0)
-    c.args.ground.now.incoming.now.arcs.items c.args.ground.now.incoming.now.numbers.items
+    c.args.context.now.incoming.now.arcs.items c.args.context.now.incoming.now.numbers.items
     (c.requires.incoming.parts c.args.event c.requires.few.1)
     (λ j a b. inv.3 j a (omega (arith, b, c.loop-i-test.false, inv.5)))

@@ -1,13 +1,13 @@
 use Rattle.std.proofs.Common.{◌≡◌, ◌≤◌, ◌+◌, slice_index}
 use Rattle.ds_fabric.specs.Looks.{LooksOn}
-use Rattle.ds_fabric.proofs.Parts.{EnoughIn}
+use Rattle.ds_fabric.proofs.IncomingArcs.{EnoughIn}
 use Rattle.ds_fabric.proofs.counts.survey.Given as goal
 
 abbrev pub invariant-loop-i : goal.invariant-loop-i
 invariant-loop-i g l = (l.seat.table_id ≡ l.initial.seat.table_id)
     × (l.seat.me.1 ≡ l.initial.seat.me.1)
     × LooksOn l.initial.seat.me.0 l.seat.me.0
-    × EnoughIn l.ground.run.now l.seat.me.0 l.turn l.ground.incoming.now.numbers.items
-    (slice_index l.ground.incoming.now.starts.items l.event) l.i
-    × (slice_index l.ground.incoming.now.starts.items l.event ≤ l.i)
-    × (l.i-end ≡ slice_index l.ground.incoming.now.starts.items (l.event + 1))
+    × EnoughIn l.context.run.now l.seat.me.0 l.turn l.context.incoming.now.numbers.items
+    (slice_index l.context.incoming.now.starts.items l.event) l.i
+    × (slice_index l.context.incoming.now.starts.items l.event ≤ l.i)
+    × (l.i-end ≡ slice_index l.context.incoming.now.starts.items (l.event + 1))

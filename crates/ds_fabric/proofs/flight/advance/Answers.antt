@@ -6,14 +6,14 @@ use Rattle.ds_rule.specs.Rule.{seen}
 use Rattle.ds_rule.specs.Plays.{Sat}
 use Rattle.ds_rule.specs.declared.view.View.{View}
 use Rattle.ds_rule.proofs.EventLaws.{events-is}
-use Rattle.ds_rule.proofs.Lists.{at_below}
+use Rattle.ds_rule.proofs.GetElemLemmas.{at_below}
 use Rattle.ds_fabric.specs.Looks.{LooksOn, IsSeenLacking}
 use Rattle.ds_fabric.specs.Noted.{HasFired}
 use Rattle.ds_fabric.specs.Showing.{Keeps, Tells}
 use Rattle.ds_fabric.specs.Stepped.{FiresNext, done}
 use Rattle.ds_fabric.specs.declared.history.History.{History}
 use Rattle.ds_fabric.proofs.Flights.{Armed, Coming, arms, coming, near_run}
-use Rattle.ds_fabric.proofs.Passes.{looks_keep, fires_keep, fires, set_same}
+use Rattle.ds_fabric.proofs.PassMemory.{looks_keep, fires_keep, fires, set_same}
 use Rattle.ds_fabric.proofs.flight.advance.Given
 use Rattle.ds_fabric.proofs.flight.advance.Goals as goal
 use Rattle.ds_fabric.proofs.flight.advance.Goals.{After-turns-before, In_default}
@@ -26,19 +26,19 @@ tells me h lent = lent.2.listed lent.1 h lent.3
 
 -- what is known of the event that comes
 known : (g : Given.Over) (c : After-turns-before g)
-    → Coming c.args.ground.now.run.now c.args.seat.now.me.0 c.args.history.now.node
+    → Coming c.args.context.now.run.now c.args.seat.now.me.0 c.args.history.now.node
     c.next-event.result c.turns-before.result
 known g c = let me : Sat = c.args.seat.now.me in let h : History = c.args.history.now in
     let lent = c.requires.keeps in
-    coming c.args.ground.now.run.now me lent.0 h c.next-event.result c.turns-before.result
-    c.requires.run c.args.ground.now.built.over.sound lent.2 (tells me h lent) c.next-event.ensures
+    coming c.args.context.now.run.now me lent.0 h c.next-event.result c.turns-before.result
+    c.requires.run c.args.context.now.built.over.sound lent.2 (tells me h lent) c.next-event.ensures
     c.turns-before.ensures
 
 -- what its flight asks is there
 ready : (g : Given.Over) (c : In_default g)
-    → Armed c.args.ground.now.run.now c.survey.new.seat.me c.requires.keeps.0 c.args.history.now
+    → Armed c.args.context.now.run.now c.survey.new.seat.me c.requires.keeps.0 c.args.history.now
 ready g c = let lent = c.requires.keeps in let q = c.in_default.ensures in
-    arms c.args.ground.now.run.now c.args.seat.now.me c.survey.new.seat.me lent.0 lent.1
+    arms c.args.context.now.run.now c.args.seat.now.me c.survey.new.seat.me lent.0 lent.1
     c.args.history.now c.next-event.result c.turns-before.result c.requires.run lent.2 lent.3
     c.next-event.ensures c.turns-before.ensures
     (omega (arith, c.if-before-limit.false, c.limit.ensures)) q.looks q.table.1 q.none
@@ -46,13 +46,13 @@ ready g c = let lent = c.requires.keeps in let q = c.in_default.ensures in
 pub next-event-requires : goal.next-event-requires
 next-event-requires g c =
     let me : Sat = c.args.seat.now.me in let h : History = c.args.history.now in
-    let lent = c.requires.keeps in let sound = c.args.ground.now.built.over.sound in
-    let near = near_run c.args.ground.now.run.now me lent.0 h c.requires.run lent.2
+    let lent = c.requires.keeps in let sound = c.args.context.now.built.over.sound in
+    let near = near_run c.args.context.now.run.now me lent.0 h c.requires.run lent.2
     (tells me h lent) in
     (omega (arith, sound.among, sound.few), omega (arith, near, sound.few))
 
 pub turns-before-requires : goal.turns-before-requires
-turns-before-requires g c = let sound = c.args.ground.now.built.over.sound in
+turns-before-requires g c = let sound = c.args.context.now.built.over.sound in
     omega (arith, sound.among, sound.few)
 
 pub returns-then-before-limit-clause-step : goal.returns-then-before-limit-clause-step
@@ -75,28 +75,28 @@ survey-requires-clause-few g c =
         arith,
         c.if-before-limit.false,
         c.limit.ensures,
-        c.args.ground.now.built.over.sound.short,
+        c.args.context.now.built.over.sound.short,
       ),
       n.below,
     )
 
 pub overflow_cast-arc : goal.overflow_cast-arc
 overflow_cast-arc g c =
-    let s = c.in-Some.ensures.some in let run : Run = c.args.ground.now.run.now in
+    let s = c.in-Some.ensures.some in let run : Run = c.args.context.now.run.now in
     omega (
       arith,
       at_below run.arcs c.in-Some.arc s.a s.is_arc,
-      c.args.ground.now.built.over.sound.few_arcs,
+      c.args.context.now.built.over.sound.few_arcs,
     )
 
 pub overflow_cast-event : goal.overflow_cast-event
-overflow_cast-event g c = let sound = c.args.ground.now.built.over.sound in
+overflow_cast-event g c = let sound = c.args.context.now.built.over.sound in
     let n = known g (goal.at.overflow_cast-event g c).After-turns-before in
-    omega (arith, n.below, events-is c.args.ground.now.run.now, sound.among, sound.few)
+    omega (arith, n.below, events-is c.args.context.now.run.now, sound.among, sound.few)
 
 pub returns-in-Some-clause-step : goal.returns-in-Some-clause-step
 returns-in-Some-clause-step g c =
-    let run : Run = c.args.ground.now.run.now in let v : View = c.args.seat.now.me.0 in
+    let run : Run = c.args.context.now.run.now in let v : View = c.args.seat.now.me.0 in
     let n = known g (goal.at.returns-in-Some-clause-step g c).After-turns-before in
     let u : View = c.survey.new.seat.me.0 in let s = c.in-Some.ensures in
     let P : ℕ → ℕ → ℕ → Type 0 = λ e t x. LooksOn v u
@@ -134,7 +134,7 @@ fire-ticket-requires-clause-room g c =
 
 pub returns-clause-step : goal.returns-clause-step
 returns-clause-step g c =
-    let run : Run = c.args.ground.now.run.now in let me : Sat = c.args.seat.now.me in
+    let run : Run = c.args.context.now.run.now in let me : Sat = c.args.seat.now.me in
     let h : History = c.args.history.now in let lent = c.requires.keeps in
     let q = c.in_default.ensures in let e = c.fire-ticket.ensures in
     let n = known g (goal.at.returns-clause-step g c).After-turns-before in

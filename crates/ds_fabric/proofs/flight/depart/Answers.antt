@@ -10,8 +10,8 @@ use Rattle.ds_fabric.specs.Base.{IsInFlight}
 use Rattle.ds_fabric.proofs.flight.depart.Goals as goal
 
 pub load-requires : goal.load-requires
-load-requires g c = let q = c.args.ground.now.built.over in let run : Run = c.args.ground.now.run.now in
-    let n : ℕ = c.args.ground.now.board.now.table_id.slots in let l : ℕ = c.args.history.now.node in
+load-requires g c = let q = c.args.context.now.built.over in let run : Run = c.args.context.now.run.now in
+    let n : ℕ = c.args.context.now.board.now.table_id.slots in let l : ℕ = c.args.history.now.node in
     let h = c.requires.held in
     let P : Run → Type 0 = λ r. Allows (Lawful r) n c.args.seat.now.id c.args.seat.now.me (l + 1)
     (λ y. y) (departed (step n (l + 1) 0 0 none) c.args.seat.now.me) in (
@@ -38,11 +38,11 @@ returns-clause-me g c =
 
 pub returns-clause-flight : goal.returns-clause-flight
 returns-clause-flight g c = let l : ℕ = c.args.history.now.node in
-    let m : Sat = c.args.seat.now.me in let run : Run = c.args.ground.now.run.now in
+    let m : Sat = c.args.seat.now.me in let run : Run = c.args.context.now.run.now in
     subst (λ (x : Sat). IsInFlight run x.0 l c.args.history.now.fired)
     (sym (left l m c.load.new.seat.me c.load.ensures.2)) (record {
       live = c.requires.rests.0;
-      stage = refl;
+      phase = refl;
       node_is = refl;
       run_is = c.requires.rests.2;
       count = c.requires.held.2;

@@ -6,13 +6,13 @@ use Rattle.ds_fabric.proofs.Flights.{few}
 use Rattle.ds_fabric.proofs.flight.fire.Goals as goal
 
 pub note-requires-clause-few : goal.note-requires-clause-few
-note-requires-clause-few g c = let run : Run = c.args.ground.now.run.now in
+note-requires-clause-few g c = let run : Run = c.args.context.now.run.now in
     let l : ℕ = c.args.history.now.node in
     omega (
       arith,
       c.prepare.ensures.same.fired,
       few run c.args.seat.now.me.0 l c.args.history.now.fired
-          c.args.ground.now.built.over.sound.short c.requires.held.2 c.requires.ready,
+          c.args.context.now.built.over.sound.short c.requires.held.2 c.requires.ready,
     )
 
 pub note-requires-clause-room : goal.note-requires-clause-room
@@ -20,7 +20,7 @@ note-requires-clause-room g c = let q = c.prepare.ensures in omega (
   arith,
   ap length q.turns,
   length-append c.args.history.now.turns.items
-      (new_row c.args.ground.now.run.now c.args.history.now.node c.args.history.now.fired),
+      (new_row c.args.context.now.run.now c.args.history.now.node c.args.history.now.fired),
   q.same.turns_room,
   c.requires.room.turns,
 )

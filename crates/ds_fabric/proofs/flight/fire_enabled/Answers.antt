@@ -8,8 +8,8 @@ use Rattle.ds_fabric.specs.Noted.{HasFired}
 use Rattle.ds_fabric.specs.Stepped.{done}
 use Rattle.ds_fabric.specs.declared.history.History.{History}
 use Rattle.ds_fabric.proofs.Flights.{arms_enabled}
-use Rattle.ds_fabric.proofs.Passes.{fires, fires_keep}
-use Rattle.ds_fabric.proofs.Views.{looks_none}
+use Rattle.ds_fabric.proofs.PassMemory.{fires, fires_keep}
+use Rattle.ds_fabric.proofs.LoadedViews.{looks_none}
 use Rattle.ds_fabric.proofs.flight.fire_enabled.Goals as goal
 
 pub fire-requires-clause-rests : goal.fire-requires-clause-rests
@@ -17,22 +17,22 @@ fire-requires-clause-rests g c = let k = c.requires.keeps.2 in (k.live, k.rests,
 
 pub fire-requires-clause-held : goal.fire-requires-clause-held
 fire-requires-clause-held g c = let lent = c.requires.keeps in
-    let a = arms_enabled c.args.ground.now.run.now c.args.seat.now.me lent.0 lent.1 c.args.history.now
+    let a = arms_enabled c.args.context.now.run.now c.args.seat.now.me lent.0 lent.1 c.args.history.now
     c.requires.run lent.2 lent.3 c.requires.enabled in (a.held, a.near, a.fired)
 
 pub fire-requires-clause-ready : goal.fire-requires-clause-ready
 fire-requires-clause-ready g c = let lent = c.requires.keeps in
-    (arms_enabled c.args.ground.now.run.now c.args.seat.now.me lent.0 lent.1 c.args.history.now
+    (arms_enabled c.args.context.now.run.now c.args.seat.now.me lent.0 lent.1 c.args.history.now
     c.requires.run lent.2 lent.3 c.requires.enabled).ready
 
 pub fire-requires-clause-room : goal.fire-requires-clause-room
 fire-requires-clause-room g c = let lent = c.requires.keeps in
-    (arms_enabled c.args.ground.now.run.now c.args.seat.now.me lent.0 lent.1 c.args.history.now
+    (arms_enabled c.args.context.now.run.now c.args.seat.now.me lent.0 lent.1 c.args.history.now
     c.requires.run lent.2 lent.3 c.requires.enabled).room
 
 pub returns-clause-fires : goal.returns-clause-fires
 returns-clause-fires g c =
-    let run : Run = c.args.ground.now.run.now in let me : Sat = c.args.seat.now.me in
+    let run : Run = c.args.context.now.run.now in let me : Sat = c.args.seat.now.me in
     let h : History = c.args.history.now in let lent = c.requires.keeps in let v : View = me.0 in
     let l : ℕ = h.node in let E : ℕ = next run l (seen v l) in let on = c.requires.enabled in
     let e = c.fire.ensures in

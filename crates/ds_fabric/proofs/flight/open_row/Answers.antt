@@ -11,23 +11,23 @@ compute-requires-clause-node g c = omega (
   arith,
   c.requires.within.0,
   c.new.ensures,
-  ap (λ (r : Run). r.latches) c.args.ground.now.computes,
+  ap (λ (r : Run). r.latches) c.args.context.now.computes,
 )
 
 pub compute-requires-clause-turn : goal.compute-requires-clause-turn
 compute-requires-clause-turn g c = (
   omega (arith, c.requires.flight.0.number),
-  omega (arith, c.requires.within.1, ap (λ (r : Run). r.limit) c.args.ground.now.computes),
+  omega (arith, c.requires.within.1, ap (λ (r : Run). r.limit) c.args.context.now.computes),
 )
 
 pub compute-requires-clause-from : goal.compute-requires-clause-from
 compute-requires-clause-from g c =
-    let k : ℕ = c.args.turn in let at : Run = g.C.Compute.run c.args.ground.now.openings.now in
-    let learnt : ℕ → Bool = λ p. g.C.Compute.has_learnt c.args.ground.now.openings.now
+    let k : ℕ = c.args.turn in let at : Run = g.C.Compute.run c.args.context.now.openings.now in
+    let learnt : ℕ → Bool = λ p. g.C.Compute.has_learnt c.args.context.now.openings.now
     c.args.scratch.now p k in
     c.as_slice-from.ensures.value ∙ (c.read_rows.ensures.value
     ∙ (ap (λ (r : Run). supply_but r learnt c.args.history.now.node k (length r.edges))
-    (sym c.args.ground.now.computes)
+    (sym c.args.context.now.computes)
     ∙ ap (λ (l : ℕ). supply_but at learnt l k (length at.edges)) (sym c.new.ensures)))
 
 pub returns-clause-remembers : goal.returns-clause-remembers

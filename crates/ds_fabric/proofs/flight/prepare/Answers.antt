@@ -10,12 +10,12 @@ use Rattle.ds_fabric.specs.Base.{IsInFlight}
 use Rattle.ds_fabric.specs.declared.history.History.{History}
 use Rattle.ds_fabric.proofs.Flights.{still_flies}
 use Rattle.ds_rule.specs.declared.view.View.{View}
-use Rattle.ds_rule.proofs.Lists.{by_bool}
+use Rattle.ds_rule.proofs.GetElemLemmas.{by_bool}
 use Rattle.std.proofs.lemmas.List.{append-nil}
 use Rattle.ds_rule.proofs.EventLaws.{even_opens, opened-low}
 use Rattle.ds_fabric.specs.Told.{new_row}
-use Rattle.ds_fabric.proofs.Passes.{within}
-use Rattle.ds_fabric.proofs.Turns.{length-even, new_row-opens, new_row-else}
+use Rattle.ds_fabric.proofs.PassMemory.{within}
+use Rattle.ds_fabric.proofs.HistoryLayout.{length-even, new_row-opens, new_row-else}
 use Rattle.ds_fabric.proofs.flight.prepare.Goals as goal
 
 -- half the firings are openings, where the next event is one
@@ -23,13 +23,13 @@ half : (run : Run) (l f : ℕ) → opens run (next run l f) ≡ true → f / 2 +
 half run l f h = let o = even_opens run l f h in omega (arith, opened-low run l f o.0, o.1)
 
 pub open_row-requires-clause-flight : goal.open_row-requires-clause-flight
-open_row-requires-clause-flight g c = let run : Run = c.args.ground.now.run.now in
+open_row-requires-clause-flight g c = let run : Run = c.args.context.now.run.now in
     let v : View = c.args.seat.now.me.0 in let l : ℕ = c.args.history.now.node in
     let q = c.requires.flight in
     let fired = q.count in let h = c.if-opens_next.ensures.0 refl in (
       record {
         live = q.live;
-        stage = q.stage;
+        phase = q.phase;
         node_is = q.node_is;
         near = q.near;
         begins = ap (λ (x : ℕ). opens run (next run x (seen v x))) q.node_is
@@ -38,7 +38,7 @@ open_row-requires-clause-flight g c = let run : Run = c.args.ground.now.run.now 
       },
       record {
         live = q.live;
-        stage = q.stage;
+        phase = q.phase;
         node_is = q.node_is;
         written = c.requires.unwritten;
         run_is = q.run_is;
@@ -47,11 +47,11 @@ open_row-requires-clause-flight g c = let run : Run = c.args.ground.now.run.now 
 
 pub open_row-requires-clause-within : goal.open_row-requires-clause-within
 open_row-requires-clause-within g c =
-    within c.args.ground.now.run.now c.args.seat.now.me.0 c.args.history.now.node c.args.history.now.fired
+    within c.args.context.now.run.now c.args.seat.now.me.0 c.args.history.now.node c.args.history.now.fired
     c.requires.flight.count (c.if-opens_next.ensures.0 refl) c.requires.flight.enabled
 
 pub open_row-requires-clause-room : goal.open_row-requires-clause-room
-open_row-requires-clause-room g c = let run : Run = c.args.ground.now.run.now in
+open_row-requires-clause-room g c = let run : Run = c.args.context.now.run.now in
     let l : ℕ = c.args.history.now.node in let f : ℕ = c.args.history.now.fired in
     let even = even_opens run l f (c.if-opens_next.ensures.0 refl) in record {
       turns = omega (arith, length-even run l f even.0 even.1, c.requires.room.turns);
@@ -59,7 +59,7 @@ open_row-requires-clause-room g c = let run : Run = c.args.ground.now.run.now in
     }
 
 pub returns-then-opens_next-clause-turns : goal.returns-then-opens_next-clause-turns
-returns-then-opens_next-clause-turns g c = let run : Run = c.args.ground.now.run.now in
+returns-then-opens_next-clause-turns g c = let run : Run = c.args.context.now.run.now in
     let l : ℕ = c.args.history.now.node in let f : ℕ = c.args.history.now.fired in
     let h = c.if-opens_next.ensures.0 refl in
     c.open_row.ensures.value
@@ -68,12 +68,12 @@ returns-then-opens_next-clause-turns g c = let run : Run = c.args.ground.now.run
 
 pub returns-then-opens_next-clause-me : goal.returns-then-opens_next-clause-me
 returns-then-opens_next-clause-me g c = (
-  width c.args.ground.now.run.now c.args.history.now.node,
+  width c.args.context.now.run.now c.args.history.now.node,
   c.open_row.ensures.me,
 )
 
 pub returns-then-opens_next-clause-flight : goal.returns-then-opens_next-clause-flight
-returns-then-opens_next-clause-flight g c = let run : Run = c.args.ground.now.run.now in
+returns-then-opens_next-clause-flight g c = let run : Run = c.args.context.now.run.now in
     let h : History = c.open_row.new.history in let q = c.open_row.ensures in
     subst (λ (x : Sat). IsInFlight run x.0 h.node h.fired) (sym q.me)
     (still_flies run c.args.seat.now.me.0 c.args.history.now.node h.node c.args.history.now.fired
@@ -83,7 +83,7 @@ pub returns-then-opens_next-clause-written : goal.returns-then-opens_next-clause
 returns-then-opens_next-clause-written g c = λ _. let q = c.open_row.ensures in omega (
   arith,
   ap (λ (x : Sat). x.0.written) q.me,
-  ap (width c.args.ground.now.run.now) q.same.node,
+  ap (width c.args.context.now.run.now) q.same.node,
 )
 
 pub returns-else-opens_next-clause-me : goal.returns-else-opens_next-clause-me
@@ -100,7 +100,7 @@ returns-else-opens_next-clause-written g c =
     λ h. absurd (false≢true (c.if-opens_next.ensures.1 h))
 
 pub returns-else-opens_next-clause-turns : goal.returns-else-opens_next-clause-turns
-returns-else-opens_next-clause-turns g c = let run : Run = c.args.ground.now.run.now in
+returns-else-opens_next-clause-turns g c = let run : Run = c.args.context.now.run.now in
     let l : ℕ = c.args.history.now.node in let f : ℕ = c.args.history.now.fired in
     let old : List ℕ = c.args.history.now.turns.items in
     let none : new_row run l f ≡ [] = by_bool (new_row run l f ≡ []) (opens run (next run l f))

@@ -10,32 +10,32 @@ use Rattle.ds_fabric.proofs.Flights.{few, lands}
 use Rattle.ds_fabric.proofs.flight.publish.Goals as goal
 
 pub fetch_add-ticket-requires : goal.fetch_add-ticket-requires
-fetch_add-ticket-requires g c = let q = c.args.ground.now.built.over in
+fetch_add-ticket-requires g c = let q = c.args.context.now.built.over in
     let m : Sat = c.args.seat.now.me in let id : ℕ = c.args.seat.now.id in
-    let run : Run = c.args.ground.now.run.now in let n : ℕ = c.args.ground.now.board.now.table_id.slots in
+    let run : Run = c.args.context.now.run.now in let n : ℕ = c.args.context.now.board.now.table_id.slots in
     let P : Run → Type 0 = λ r. Allows (Lawful r) n id m 0 (λ y. (y + 1) % 2 ^ 64)
     (drew (step n 0 1 0 none) m) in (
       c.requires.table,
       omega (arith, q.sized, counts_inside run 0 (omega arith)),
-      subst P (sym q.keyed) (draws run n id m c.requires.flight.live c.requires.flight.stage),
+      subst P (sym q.keyed) (draws run n id m c.requires.flight.live c.requires.flight.phase),
     )
 
 pub overflow_add-history : goal.overflow_add-history
 overflow_add-history g c =
-    omega (arith, c.requires.flight.near, c.args.ground.now.built.over.sound.few)
+    omega (arith, c.requires.flight.near, c.args.context.now.built.over.sound.few)
 
 pub overflow_add-history-2 : goal.overflow_add-history-2
 overflow_add-history-2 g c = let f = c.requires.flight in
     omega (
       arith,
-      few c.args.ground.now.run.now c.args.seat.now.me.0 c.args.history.now.node
-          c.args.history.now.fired c.args.ground.now.built.over.sound.short f.count f.enabled,
+      few c.args.context.now.run.now c.args.seat.now.me.0 c.args.history.now.node
+          c.args.history.now.fired c.args.context.now.built.over.sound.short f.count f.enabled,
     )
 
 pub store-requires : goal.store-requires
-store-requires g c = let q = c.args.ground.now.built.over in let l : ℕ = c.args.history.now.node in
-    let m : Sat = c.args.seat.now.me in let run : Run = c.args.ground.now.run.now in
-    let n : ℕ = c.args.ground.now.board.now.table_id.slots in
+store-requires g c = let q = c.args.context.now.built.over in let l : ℕ = c.args.history.now.node in
+    let m : Sat = c.args.seat.now.me in let run : Run = c.args.context.now.run.now in
+    let n : ℕ = c.args.context.now.board.now.table_id.slots in
     let t : ℕ = c.fetch_add-ticket.result in let F : ℕ = c.args.history.now.fired in
     let id : ℕ = c.fetch_add-ticket.new.seat.id in
     let P : Run → Sat → Type 0 = λ r x. Allows (Lawful r) n id x (l + 1)

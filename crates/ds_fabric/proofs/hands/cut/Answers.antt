@@ -4,9 +4,9 @@ use mathlib.Core.Option.{none}
 use Rattle.atomic_table.specs.Table.{step, Allows, Splits}
 use Rattle.ds_rule.specs.Run.{Run}
 use Rattle.ds_rule.specs.Rule.{Lawful}
-use Rattle.ds_rule.specs.Plays.{Sat, after_point, pointed, without_cut, only_cut}
+use Rattle.ds_rule.specs.Plays.{Sat, with_cut, chose_cut, without_cut, only_cut}
 use Rattle.ds_rule.specs.declared.view.View.{View}
-use Rattle.ds_rule.proofs.Hands.{points, deals}
+use Rattle.ds_rule.proofs.Hands.{chooses_cut, deals}
 use Rattle.ds_rule.proofs.PlaceLaws.{counts_inside}
 use Rattle.ds_fabric.proofs.hands.cut.Goals as goal
 
@@ -14,11 +14,11 @@ pub compare_exchange-requires : goal.compare_exchange-requires
 compare_exchange-requires g c = let q = c.requires.table.1 in let run : Run = c.args.run.now in
     let n : ℕ = c.args.board.now.table_id.slots in let l : ℕ = c.args.node in
     let P : Run → Type 0 = λ r. Allows (Lawful r) n c.args.seat.now.id c.args.seat.now.me 0
-    (λ x. either (x == l) l x) (pointed (step n 0 l l none) c.args.seat.now.me) in (
+    (λ x. either (x == l) l x) (chose_cut (step n 0 l l none) c.args.seat.now.me) in (
       c.requires.table.0,
       omega (arith, q.sized, counts_inside run 0 (omega arith)),
       subst P (sym q.keyed)
-          (points run n c.args.seat.now.id c.args.seat.now.me l c.requires.rests.0 c.requires.rests.1),
+          (chooses_cut run n c.args.seat.now.id c.args.seat.now.me l c.requires.rests.0 c.requires.rests.1),
     )
 
 pub split_seat-requires : goal.split_seat-requires
@@ -30,7 +30,7 @@ split_seat-requires g c = let q = c.requires.table.1 in let run : Run = c.args.r
       omega (arith, q.sized, counts_inside run 0 (omega arith)),
       subst (λ r. P r c.compare_exchange.new.seat.me) (sym q.keyed)
           (subst (P run) (sym e) (deals run c.compare_exchange.new.seat.id
-          (after_point v c.args.node) c.requires.rests.0 c.requires.rests.1 c.requires.held)),
+          (with_cut v c.args.node) c.requires.rests.0 c.requires.rests.1 c.requires.held)),
     )
 
 pub returns : goal.returns

@@ -5,10 +5,10 @@ use mathlib.Core.Option.{none}
 use Rattle.atomic_table.specs.Table.{step, Allows, Joins}
 use Rattle.ds_rule.specs.Run.{Run, node_of, turns}
 use Rattle.ds_rule.specs.Rule.{Lawful, holds, seen, tickets}
-use Rattle.ds_rule.specs.Plays.{Sat, taken_in, learned, spent}
+use Rattle.ds_rule.specs.Plays.{Sat, taken_in, observed, spent}
 use Rattle.ds_rule.specs.declared.view.View.{View}
-use Rattle.ds_rule.proofs.Lists.{get-listed}
-use Rattle.ds_rule.proofs.Hands.{learns, gathers}
+use Rattle.ds_rule.proofs.GetElemLemmas.{get-listed}
+use Rattle.ds_rule.proofs.Hands.{observes, gathers}
 use Rattle.ds_rule.proofs.PlaceLaws.{counts_inside}
 use Rattle.ds_fabric.proofs.hands.mend.Goals as goal
 
@@ -28,11 +28,11 @@ load-requires g c = let q = c.requires.table.2 in let run : Run = c.args.run.now
     let n : ℕ = c.args.board.now.table_id.slots in let j = c.join_seat.ensures in
     let P : Run → Type 0 =
     λ r. Allows (Lawful r) n c.join_seat.new.seat.id c.join_seat.new.seat.me 0 (λ y. y)
-    (learned (step n 0 0 0 none) c.join_seat.new.seat.me) in (
+    (observed (step n 0 0 0 none) c.join_seat.new.seat.me) in (
       j.0 ∙ c.requires.table.0,
       omega (arith, q.sized, counts_inside run 0 (omega arith)),
-      subst P (sym q.keyed) (learns run n c.join_seat.new.seat.id c.join_seat.new.seat.me 0
-          (ap (λ (m : Sat). m.0.live) j.2 ∙ c.requires.live.0) (ap (λ (m : Sat). m.0.stage) j.2
+      subst P (sym q.keyed) (observes run n c.join_seat.new.seat.id c.join_seat.new.seat.me 0
+          (ap (λ (m : Sat). m.0.live) j.2 ∙ c.requires.live.0) (ap (λ (m : Sat). m.0.phase) j.2
           ∙ c.requires.rests.0)),
     )
 
@@ -44,7 +44,7 @@ returns g c = let j = c.join_seat.ensures in let e = c.load.ensures in
     (tickets m.0 x) in record {
       seat = (e.0 ∙ j.0, e.2.0 ∙ j.2);
       counts = subst C (sym e.2.0) e.2.1;
-      apart = λ l near h h'. let clear : get_or (taken_in v w).clash l false ≡ false =
+      distinct = λ l near h h'. let clear : get_or (taken_in v w).clash l false ≡ false =
           subst (λ (m : Sat). get_or m.0.clash l false ≡ false) j.2 (e.2.2 l) in
           false≢true (sym clear ∙ (get-listed (λ x. holds v x && holds w x) v.run.nodes l false near
           ∙ (ap (λ b. b && holds w l) h ∙ h')));

@@ -2,9 +2,9 @@ use Rattle.std.proofs.Common.{◌≡◌, ◌∙◌, ℕ, List, get_or, ap, arith
 use Rattle.ds_rule.specs.Run.{Run}
 use Rattle.ds_rule.specs.Log.{Recorded}
 use Rattle.ds_rule.specs.Rule.{Lawful, tickets}
-use Rattle.ds_rule.proofs.Lists.{at_get}
+use Rattle.ds_rule.proofs.GetElemLemmas.{at_get}
 use Rattle.ds_rule.proofs.Hands.{ends}
-use Rattle.ds_rule.proofs.Views.{St}
+use Rattle.ds_rule.proofs.PassAtRest.{St}
 use Rattle.ds_rule.proofs.PlaceLaws.{counts_inside}
 use Rattle.ds_fabric.proofs.hands.shut.Goals as goal
 

@@ -5,8 +5,8 @@ use Rattle.ds_marked.specs.declared.marked.Arc.{Arc}
 use Rattle.ds_fabric.specs.Chained.{arc_numbered, IsLastArc}
 use Rattle.ds_fabric.specs.Into.{IsArcIn, IsInto, IsLinedUp}
 use Rattle.ds_fabric.specs.declared.arc_in.ArcIn.{ArcIn}
-use Rattle.ds_fabric.proofs.Chains.{arc-there, same-arc, read-off}
-use Rattle.ds_fabric.proofs.Parts.{lined_none, lined_more}
+use Rattle.ds_fabric.proofs.ArcChains.{arc-there, same-arc, read-off}
+use Rattle.ds_fabric.proofs.IncomingArcs.{lined_none, lined_more}
 use Rattle.ds_fabric.proofs.incoming.line_up.Goals as goal
 
 pub back-init : goal.back-init

@@ -2,7 +2,7 @@ use Rattle.std.proofs.Common.{◌≡◌, ◌<◌, ◌+◌, ℕ, List, length}
 use Rattle.std.proofs.Common.{set, sym, subst, arith, slice_index_or}
 use mathlib.Core.Option.{some}
 use lib.ListN.{get_elem?}
-use Rattle.ds_rule.proofs.Lists.{at_or}
+use Rattle.ds_rule.proofs.GetElemLemmas.{at_or}
 use Rattle.ds_fabric.specs.declared.history.History.{History}
 use Rattle.ds_fabric.specs.Indexed.{IsIndexed}
 use Rattle.ds_fabric.proofs.Standing.{taken_inside, taken_last, taken_none, inside_old, inside_new}
@@ -49,7 +49,7 @@ returns-then-at-nodes c m r o l i =
     let y : History = slice_index_or ns c.args.at c.index-nodes-at.result in
     let e = came (goal.at.returns-then-at-nodes c).After-index-nodes-at in let z = l.node_is in
     subst (λ (n : ℕ). IsIndexed m r (length ns) ns (set (set ps n 0) y.node (c.args.at + 1))) z
-    (taken_inside m r c.args.at o ns ps l.history y l.apart l.without i l.there some-there e
+    (taken_inside m r c.args.at o ns ps l.history y l.distinct l.without i l.there some-there e
     (subst (λ (n : ℕ). n < length ps) (sym z)
     (inside_old m r c.args.at c.args.node o ns ps l i some-there))
     (inside_new m r c.args.at c.args.node o ns ps y l i some-there e))
@@ -60,7 +60,7 @@ returns-else-at-nodes c m r o l i =
     let some-there = full (goal.at.returns-else-at-nodes c).Else-len-eq0 in
     let z = l.node_is in
     subst (λ (n : ℕ). IsIndexed m r (length ns) ns (set ps n 0)) z
-    (taken_last m r c.args.at o ns ps l.history l.apart l.without i l.there some-there
+    (taken_last m r c.args.at o ns ps l.history l.distinct l.without i l.there some-there
     (λ less. omega (arith, less, c.if-at-nodes.false))
     (subst (λ (n : ℕ). n < length ps) (sym z)
     (inside_old m r c.args.at c.args.node o ns ps l i some-there)))

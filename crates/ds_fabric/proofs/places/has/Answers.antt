@@ -1,7 +1,7 @@
 use Rattle.std.proofs.Common.{◌≡◌, ℕ, List, length, get_or}
 use Rattle.std.proofs.Common.{arith, refl}
 use Rattle.std.proofs.lemmas.Bool.{false≢true}
-use Rattle.ds_rule.proofs.Lists.{at_below, at_or}
+use Rattle.ds_rule.proofs.GetElemLemmas.{at_below, at_or}
 use Rattle.ds_fabric.specs.declared.history.History.{History}
 use Rattle.ds_fabric.specs.Indexed.{IsHistoryAt}
 use Rattle.ds_fabric.proofs.Standing.{found_placed}

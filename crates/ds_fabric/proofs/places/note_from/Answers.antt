@@ -2,7 +2,7 @@ use Rattle.std.proofs.Common.{◌≡◌, ◌∙◌, ◌<◌, ◌+◌, ℕ, List,
 use Rattle.std.proofs.Common.{subst, arith, refl, slice_index_or, length-set}
 use mathlib.Core.Option.{some}
 use lib.ListN.{get_elem?}
-use Rattle.ds_rule.proofs.Lists.{at_or}
+use Rattle.ds_rule.proofs.GetElemLemmas.{at_or}
 use Rattle.ds_fabric.specs.declared.history.History.{History}
 use Rattle.ds_fabric.specs.Indexed.{IsIndexed}
 use Rattle.ds_fabric.proofs.Standing.{noted_more, noted_none}
@@ -38,7 +38,7 @@ loop-i-preserved c = let ns : List History = c.args.nodes.now in let i : ℕ = c
     let inv = c.loop-i.invariant in let ps : List ℕ = c.loop-i.places.items in
     let at : get_elem? ns i ≡ some h = at_or ns i c.index-nodes-i.result c.loop-i-test.true in (
       length-set ps h.node (i + 1) ∙ inv.0,
-      λ m r o room below. noted_more m r i (i + 1) ns ps h c.requires.apart
+      λ m r o room below. noted_more m r i (i + 1) ns ps h c.requires.distinct
           (inv.1 m r o room below) at refl (omega (arith, c.loop-i-test.true)) (below i h at)
           (λ z. c.if-len-eq0.false (omega (arith, z, c.len.ensures, inv.0))),
       omega (arith, inv.2),

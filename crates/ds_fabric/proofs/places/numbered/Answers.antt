@@ -2,7 +2,7 @@ use Rattle.std.proofs.Common.{◌≡◌, ◌∙◌, ◌+◌, ◌<◌, ◌++◌, 
 use Rattle.std.proofs.Common.{get_or, length-append}
 use mathlib.Core.Logic.{dite}
 use native.Mathlib.Decide.{ℕ_discrete}
-use Rattle.ds_rule.proofs.Lists.{get-first, get-second}
+use Rattle.ds_rule.proofs.GetElemLemmas.{get-first, get-second}
 use Rattle.ds_fabric.proofs.places.numbered.Goals as goal
 
 -- one place more

@@ -33,8 +33,8 @@ returns-clause-without c = let e = c.swap_remove-history.ensures in
 leaves : (xs ys zs : List History) (at : ℕ) (h : History) → IsOneEach xs → IsWithout xs ys at
     → get_elem? xs at ≡ some h → zs ≡ ys
     → IsTakenOut xs zs at h.node
-leaves xs ys zs at h apart w there is = record {
-  apart = apart;
+leaves xs ys zs at h distinct w there is = record {
+  distinct = distinct;
   without = subst (λ (l : List History). IsWithout xs l at) (sym is) w;
   history = h;
   there = there;
@@ -51,7 +51,7 @@ forget-requires c = let q = c.requires.indexed in let e = c.swap_remove-history.
       q.0,
       q.1,
       xs,
-      leaves xs ys c.as_slice.result.now c.args.at h c.requires.apart w
+      leaves xs ys c.as_slice.result.now c.args.at h c.requires.distinct w
           (at_index xs c.args.at h (omega (arith, c.requires.near)) e.value) c.as_slice.ensures.value,
       q.2,
     )
@@ -64,7 +64,7 @@ returns-clause-indexed c m r o = let e = c.swap_remove-history.ensures in
     let w = left xs ys _ _ c.args.at (omega arith)
     (omega arith) e.len c.requires.near e.by_index.0 e.by_index.1 in
     let f = c.forget.ensures m r xs
-    (leaves xs ys c.as_slice.result.now c.args.at h c.requires.apart w
+    (leaves xs ys c.as_slice.result.now c.args.at h c.requires.distinct w
     (at_index xs c.args.at h
     (omega (arith, c.requires.near)) e.value) c.as_slice.ensures.value) o in
     subst (λ (l : List History). IsIndexed m r

@@ -10,8 +10,8 @@ use Rattle.ds_rule.specs.Sound.{IsSound}
 use Rattle.ds_rule.specs.Rule.{Lawful, seen}
 use Rattle.ds_rule.specs.Plays.{Sat, read, listed}
 use Rattle.ds_rule.specs.declared.layout.DataEdge.{DataEdge}
-use Rattle.ds_rule.proofs.Values.{reads}
-use Rattle.ds_rule.proofs.Lists.{length-listed}
+use Rattle.ds_rule.proofs.ValueSteps.{reads}
+use Rattle.ds_rule.proofs.GetElemLemmas.{length-listed}
 use Rattle.ds_rule.proofs.RowLaws.{listed-next, told}
 use Rattle.ds_rule.proofs.PlaceLaws.{place-word, row_ends}
 use Rattle.ds_fabric.proofs.rows.read_row.Given
@@ -25,36 +25,36 @@ producer_near run sound e h = omega (arith, (sound.orders h.0 e h.1).from, sound
 
 -- where the row stands
 at_is : (g : Given.Over) (c : After-place_of-at g)
-    → c.place_of-at.result ≡ place c.args.ground.now.run.now c.args.edge.producer
+    → c.place_of-at.result ≡ place c.args.context.now.run.now c.args.edge.producer
     (c.args.turn - c.args.edge.tokens) 0
-at_is g c = c.place_of-at.ensures ∙ ap (λ (p : ℕ). place c.args.ground.now.run.now p
+at_is g c = c.place_of-at.ensures ∙ ap (λ (p : ℕ). place c.args.context.now.run.now p
     (c.args.turn - c.args.edge.tokens) 0) c.index-producer.ensures
 
 pub overflow_sub-before : goal.overflow_sub-before
 overflow_sub-before g c = let h = c.requires.edge in
-    let d = c.args.ground.now.built.over.sound.orders h.0 c.args.edge h.1 in
+    let d = c.args.context.now.built.over.sound.orders h.0 c.args.edge h.1 in
     omega (arith, d.tokens_few, c.requires.flight.0.number)
 
 pub place_of-at-requires-clause-near : goal.place_of-at-requires-clause-near
-place_of-at-requires-clause-near g c = let q = c.args.ground.now.built.over in
+place_of-at-requires-clause-near g c = let q = c.args.context.now.built.over in
     omega (
       arith,
-      producer_near c.args.ground.now.run.now q.sound c.args.edge c.requires.edge,
+      producer_near c.args.context.now.run.now q.sound c.args.edge c.requires.edge,
       c.index-producer.ensures,
     )
 
 pub width-i-end-requires : goal.width-i-end-requires
-width-i-end-requires g c = let q = c.args.ground.now.built.over in let h = c.requires.edge in
+width-i-end-requires g c = let q = c.args.context.now.built.over in let h = c.requires.edge in
     omega (
       arith,
-      producer_near c.args.ground.now.run.now q.sound c.args.edge h,
+      producer_near c.args.context.now.run.now q.sound c.args.edge h,
       q.sound.rows_of_all,
       c.index-producer.ensures,
     )
 
 pub overflow_add-at : goal.overflow_add-at
-overflow_add-at g c = let q = c.args.ground.now.built.over in let h = c.requires.edge in
-    let run : Run = c.args.ground.now.run.now in
+overflow_add-at g c = let q = c.args.context.now.built.over in let h = c.requires.edge in
+    let run : Run = c.args.context.now.run.now in
     omega (
       arith,
       row_ends run c.args.edge.producer (c.args.turn - c.args.edge.tokens)
@@ -64,12 +64,12 @@ overflow_add-at g c = let q = c.args.ground.now.built.over in let h = c.requires
       c.loop-i-test.true,
       c.loop-i.auto.i-end,
       (c.width-i-end.ensures
-          ∙ ap (width c.args.ground.now.run.now) c.index-producer.ensures),
+          ∙ ap (width c.args.context.now.run.now) c.index-producer.ensures),
     )
 
 pub load-requires : goal.load-requires
-load-requires g c = let q = c.args.ground.now.built.over in let run : Run = c.args.ground.now.run.now in
-    let n : ℕ = c.args.ground.now.board.now.table_id.slots in let j : ℕ = c.place_of-at.result + c.loop-i.i in
+load-requires g c = let q = c.args.context.now.built.over in let run : Run = c.args.context.now.run.now in
+    let n : ℕ = c.args.context.now.board.now.table_id.slots in let j : ℕ = c.place_of-at.result + c.loop-i.i in
     let h = c.requires.edge in let o = c.requires.flight.0 in
     let P : Run → Sat → Type 0 = λ r m. Allows (Lawful r) n c.loop-i.seat.id m j (λ y. y)
     (read (step n j 0 0 none) m) in (
@@ -83,11 +83,11 @@ load-requires g c = let q = c.args.ground.now.built.over in let run : Run = c.ar
         c.loop-i-test.true,
         c.loop-i.auto.i-end,
         (c.width-i-end.ensures
-            ∙ ap (width c.args.ground.now.run.now) c.index-producer.ensures),
+            ∙ ap (width c.args.context.now.run.now) c.index-producer.ensures),
       ),
       subst (λ r. P r c.loop-i.seat.me) (sym q.keyed) (subst (P run) (sym c.loop-i.invariant.2)
           (reads run n c.loop-i.seat.id c.args.seat.now.me j o.live
-          (omega (arith, o.stage)) o.begins)),
+          (omega (arith, o.phase)) o.begins)),
     )
 
 pub push_reserved-requires : goal.push_reserved-requires
@@ -105,7 +105,7 @@ loop-i-init g c = (
 
 pub push_reserved-requires-in-loop-i : goal.push_reserved-requires-in-loop-i
 push_reserved-requires-in-loop-i g c = let inv = c.loop-i.invariant in
-    let f : ℕ → ℕ = value c.args.ground.now.run.now c.args.edge.producer
+    let f : ℕ → ℕ = value c.args.context.now.run.now c.args.edge.producer
     (c.args.turn - c.args.edge.tokens) in
     omega (
       arith,
@@ -116,12 +116,12 @@ push_reserved-requires-in-loop-i g c = let inv = c.loop-i.invariant in
       c.requires.room,
       c.loop-i-test.true,
       c.loop-i.auto.i-end,
-      (c.width-i-end.ensures ∙ ap (width c.args.ground.now.run.now) c.index-producer.ensures),
+      (c.width-i-end.ensures ∙ ap (width c.args.context.now.run.now) c.index-producer.ensures),
     )
 
 pub loop-i-preserved : goal.loop-i-preserved
 loop-i-preserved g c = let inv = c.loop-i.invariant in let e = c.load.ensures in
-    let run : Run = c.args.ground.now.run.now in let h = c.requires.edge in let o = c.requires.flight.0 in
+    let run : Run = c.args.context.now.run.now in let h = c.requires.edge in let o = c.requires.flight.0 in
     let k : ℕ = c.args.turn - c.args.edge.tokens in
     let f : ℕ → ℕ = value run c.args.edge.producer k in let i : ℕ = c.loop-i.i in
     let r : ℕ = c.load.result in let p : ℕ = c.args.edge.producer in let j : ℕ = c.place_of-at.result + i in
@@ -135,7 +135,7 @@ loop-i-preserved g c = let inv = c.loop-i.invariant in let e = c.load.ensures in
       arith,
       c.loop-i-test.true,
       c.loop-i.auto.i-end,
-      (c.width-i-end.ensures ∙ ap (width c.args.ground.now.run.now) c.index-producer.ensures),
+      (c.width-i-end.ensures ∙ ap (width c.args.context.now.run.now) c.index-producer.ensures),
     ))
     (omega (arith, at_is g (goal.at.loop-i-preserved g c).After-place_of-at, place-word run c.args.edge.producer k i)) in (
       e.0 ∙ inv.0,
@@ -150,11 +150,11 @@ loop-i-preserved g c = let inv = c.loop-i.invariant in let e = c.load.ensures in
 
 pub returns-clause-value : goal.returns-clause-value
 returns-clause-value g c = let p : ℕ = c.args.edge.producer in
-    let f : ℕ → ℕ = value c.args.ground.now.run.now p (c.args.turn - c.args.edge.tokens) in
-    let end : c.loop-i.i ≡ width c.args.ground.now.run.now p = omega (
+    let f : ℕ → ℕ = value c.args.context.now.run.now p (c.args.turn - c.args.edge.tokens) in
+    let end : c.loop-i.i ≡ width c.args.context.now.run.now p = omega (
       arith,
       c.loop-i-test.false,
       c.loop-i.auto.i-end,
-      (c.width-i-end.ensures ∙ ap (width c.args.ground.now.run.now) c.index-producer.ensures),
+      (c.width-i-end.ensures ∙ ap (width c.args.context.now.run.now) c.index-producer.ensures),
     ) in
     c.loop-i.invariant.3 ∙ ap (λ (n : ℕ). c.args.into.now.items ++ p ∷ listed f n) end

@@ -7,5 +7,5 @@ abbrev pub invariant-loop-i : goal.invariant-loop-i
 invariant-loop-i g l = (l.seat.table_id ≡ l.fn.seat.table_id) × (l.seat.id ≡ l.fn.seat.id)
     × (l.seat.me ≡ l.fn.seat.me)
     × (l.into.items ≡ l.fn.into.items ++ l.fn.edge.producer ∷ listed
-    (value l.fn.ground.run.now l.fn.edge.producer (l.fn.turn - l.fn.edge.tokens)) l.i)
+    (value l.fn.context.run.now l.fn.edge.producer (l.fn.turn - l.fn.edge.tokens)) l.i)
     × (vec_capacity l.into ≡ vec_capacity l.fn.into)

@@ -5,39 +5,39 @@ use Rattle.ds_rule.specs.Plays.{Sat}
 use Rattle.ds_rule.specs.Rows.{row, supply_but, IsOpening}
 use Rattle.ds_rule.specs.declared.layout.DataEdge.{DataEdge}
 use Rattle.ds_rule.proofs.RowLaws.{reads_up, length-row, length-supply_but}
-use Rattle.ds_fabric.proofs.Ranges.{from_read, in_order, edge_of, grows, passes, before_range}
-use Rattle.ds_fabric.proofs.Ranges.{behind_range, EdgeOf}
+use Rattle.ds_fabric.proofs.EdgeRanges.{from_read, in_order, edge_of, grows, passes, before_range}
+use Rattle.ds_fabric.proofs.EdgeRanges.{behind_range, EdgeOf}
 use Rattle.ds_fabric.proofs.rows.read_rows.Given
 use Rattle.ds_fabric.proofs.rows.read_rows.Goals as goal
 use Rattle.ds_fabric.proofs.rows.read_rows.Goals.{After-index-edges-i}
 
 -- the edge that is read is one of the node
 edge_is : (g : Given.Over) (c : After-index-edges-i g)
-    → EdgeOf c.args.ground.now.run.now c.args.node c.loop-i.i c.index-edges-i.result
-edge_is g c = edge_of c.args.ground.now.run.now c.args.ground.now.index.now.firsts.items
+    → EdgeOf c.args.context.now.run.now c.args.node c.loop-i.i c.index-edges-i.result
+edge_is g c = edge_of c.args.context.now.run.now c.args.context.now.index.now.firsts.items
     c.edges-edges.result.now c.args.node c.index-first.result.now c.index-end.result.now c.loop-i.i
-    c.index-edges-i.result c.args.ground.now.built.ranged c.requires.flight.0.near
+    c.index-edges-i.result c.args.context.now.built.ranged c.requires.flight.0.near
     c.index-first.ensures c.index-end.ensures c.edges-edges.ensures c.loop-i.invariant.5
     c.loop-i-test.true c.index-edges-i.is
 
 pub index-first-requires : goal.index-first-requires
-index-first-requires g c = let q = c.args.ground.now.built.ranged in
+index-first-requires g c = let q = c.args.context.now.built.ranged in
     omega (arith, q.long, c.requires.flight.0.near)
 
 pub overflow_add-node : goal.overflow_add-node
-overflow_add-node g c = omega (arith, c.requires.flight.0.near, c.args.ground.now.built.over.sound.few)
+overflow_add-node g c = omega (arith, c.requires.flight.0.near, c.args.context.now.built.over.sound.few)
 
 pub index-end-requires : goal.index-end-requires
-index-end-requires g c = let q = c.args.ground.now.built.ranged in
+index-end-requires g c = let q = c.args.context.now.built.ranged in
     omega (arith, q.long, c.requires.flight.0.near)
 
 pub loop-i-init : goal.loop-i-init
-loop-i-init g c = let run : Run = c.args.ground.now.run.now in let q = c.args.ground.now.built in
+loop-i-init g c = let run : Run = c.args.context.now.run.now in let q = c.args.context.now.built in
     let o = c.requires.flight.0 in let l : ℕ = c.args.node in
     let k : ℕ = c.args.learnt.now.turn in
-    let learnt : ℕ → Bool = λ p. g.C.Compute.has_learnt c.args.ground.now.openings.now
+    let learnt : ℕ → Bool = λ p. g.C.Compute.has_learnt c.args.context.now.openings.now
     c.args.learnt.now.scratch.now p k in
-    let p = from_read run c.args.ground.now.index.now.firsts.items l c.index-first.result.now q.ranged (omega (arith, o.near)) c.index-first.ensures in (
+    let p = from_read run c.args.context.now.index.now.firsts.items l c.index-first.result.now q.ranged (omega (arith, o.near)) c.index-first.ensures in (
       refl,
       refl,
       refl,
@@ -47,9 +47,9 @@ loop-i-init g c = let run : Run = c.args.ground.now.run.now in let q = c.args.gr
     )
 
 pub bounds-edges-i : goal.bounds-edges-i
-bounds-edges-i g c = let run : Run = c.args.ground.now.run.now in
-    let end = from_read run c.args.ground.now.index.now.firsts.items (c.args.node + 1)
-    c.index-end.result.now c.args.ground.now.built.ranged (omega (arith, c.requires.flight.0.near))
+bounds-edges-i g c = let run : Run = c.args.context.now.run.now in
+    let end = from_read run c.args.context.now.index.now.firsts.items (c.args.node + 1)
+    c.index-end.result.now c.args.context.now.built.ranged (omega (arith, c.requires.flight.0.near))
     c.index-end.ensures in
     omega (
       arith,
@@ -61,14 +61,14 @@ bounds-edges-i g c = let run : Run = c.args.ground.now.run.now in
 pub has_learnt-requires-clause-producer : goal.has_learnt-requires-clause-producer
 has_learnt-requires-clause-producer g c =
     let h = edge_is g (goal.at.has_learnt-requires-clause-producer g c).After-index-edges-i in
-    let d = c.args.ground.now.built.over.sound.orders c.loop-i.i c.index-edges-i.result h.at in
-    omega (arith, d.from, ap (λ (x : Run). x.latches) c.args.ground.now.computes)
+    let d = c.args.context.now.built.over.sound.orders c.loop-i.i c.index-edges-i.result h.at in
+    omega (arith, d.from, ap (λ (x : Run). x.latches) c.args.context.now.computes)
 
 pub read_row-requires-clause-table : goal.read_row-requires-clause-table
 read_row-requires-clause-table g c = c.loop-i.invariant.0 ∙ c.requires.table
 
 pub read_row-requires-clause-flight : goal.read_row-requires-clause-flight
-read_row-requires-clause-flight g c = let run : Run = c.args.ground.now.run.now in
+read_row-requires-clause-flight g c = let run : Run = c.args.context.now.run.now in
     let h = edge_is g (goal.at.read_row-requires-clause-flight g c).After-index-edges-i in
     let P : Sat → ℕ → Type 0 = λ m l. IsOpening run m.0 l c.args.learnt.now.turn
     × (m.0.run ≡ run) in
@@ -81,12 +81,12 @@ read_row-requires-clause-edge g c =
     (c.loop-i.i, h.at)
 
 pub read_row-requires-clause-room : goal.read_row-requires-clause-room
-read_row-requires-clause-room g c = let run : Run = c.args.ground.now.run.now in
+read_row-requires-clause-room g c = let run : Run = c.args.context.now.run.now in
     let h = edge_is g (goal.at.read_row-requires-clause-room g c).After-index-edges-i in
     let inv = c.loop-i.invariant in let i : ℕ = c.loop-i.i in
     let l : ℕ = c.args.node in let k : ℕ = c.args.learnt.now.turn in
     let e : DataEdge = c.index-edges-i.result in
-    let learnt : ℕ → Bool = λ p. g.C.Compute.has_learnt c.args.ground.now.openings.now
+    let learnt : ℕ → Bool = λ p. g.C.Compute.has_learnt c.args.context.now.openings.now
     c.args.learnt.now.scratch.now p k in
     let more = grows run learnt l k i e h (sym c.if-has_learnt.ensures) in
     omega (
@@ -102,11 +102,11 @@ read_row-requires-clause-room g c = let run : Run = c.args.ground.now.run.now in
     )
 
 pub loop-i-preserved : goal.loop-i-preserved
-loop-i-preserved g c = let run : Run = c.args.ground.now.run.now in
+loop-i-preserved g c = let run : Run = c.args.context.now.run.now in
     let h = edge_is g (goal.at.loop-i-preserved g c).After-index-edges-i in
     let l : ℕ = c.args.node in let k : ℕ = c.args.learnt.now.turn in let i : ℕ = c.loop-i.i in
     let e : DataEdge = c.index-edges-i.result in let inv = c.loop-i.invariant in
-    let learnt : ℕ → Bool = λ p. g.C.Compute.has_learnt c.args.ground.now.openings.now
+    let learnt : ℕ → Bool = λ p. g.C.Compute.has_learnt c.args.context.now.openings.now
     c.args.learnt.now.scratch.now p k in
     let r = c.read_row.ensures in (
       r.seat.0 ∙ inv.0,
@@ -122,12 +122,12 @@ pub loop-i-preserved-then-has_learnt : goal.loop-i-preserved-then-has_learnt
 loop-i-preserved-then-has_learnt g c =
     let h = edge_is g (goal.at.loop-i-preserved-then-has_learnt g c).After-index-edges-i in
     let inv = c.loop-i.invariant in let k : ℕ = c.args.learnt.now.turn in
-    let learnt : ℕ → Bool = λ p. g.C.Compute.has_learnt c.args.ground.now.openings.now
+    let learnt : ℕ → Bool = λ p. g.C.Compute.has_learnt c.args.context.now.openings.now
     c.args.learnt.now.scratch.now p k in (
       inv.0,
       inv.1,
       inv.2,
-      inv.3 ∙ sym (passes c.args.ground.now.run.now learnt c.args.node k c.loop-i.i
+      inv.3 ∙ sym (passes c.args.context.now.run.now learnt c.args.node k c.loop-i.i
           c.index-edges-i.result h (sym c.if-has_learnt.ensures)),
       inv.4,
       omega (arith, inv.5),
@@ -140,14 +140,14 @@ pub returns-clause-room : goal.returns-clause-room
 returns-clause-room g c = c.loop-i.invariant.4
 
 pub returns-clause-value : goal.returns-clause-value
-returns-clause-value g c = let run : Run = c.args.ground.now.run.now in let q = c.args.ground.now.built in
+returns-clause-value g c = let run : Run = c.args.context.now.run.now in let q = c.args.context.now.built in
     let o = c.requires.flight.0 in let l : ℕ = c.args.node in
     let k : ℕ = c.args.learnt.now.turn in
-    let learnt : ℕ → Bool = λ p. g.C.Compute.has_learnt c.args.ground.now.openings.now
+    let learnt : ℕ → Bool = λ p. g.C.Compute.has_learnt c.args.context.now.openings.now
     c.args.learnt.now.scratch.now p k in
-    let from = from_read run c.args.ground.now.index.now.firsts.items l c.index-first.result.now q.ranged
+    let from = from_read run c.args.context.now.index.now.firsts.items l c.index-first.result.now q.ranged
     (omega (arith, o.near)) c.index-first.ensures in
-    let to = from_read run c.args.ground.now.index.now.firsts.items (l + 1) c.index-end.result.now q.ranged
+    let to = from_read run c.args.context.now.index.now.firsts.items (l + 1) c.index-end.result.now q.ranged
     (omega (arith, o.near)) c.index-end.ensures in
     let e : c.loop-i.i ≡ c.index-end.result.now =
     omega (

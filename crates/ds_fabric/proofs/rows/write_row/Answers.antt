@@ -8,7 +8,7 @@ use Rattle.ds_rule.specs.Rule.{Lawful}
 use Rattle.ds_rule.specs.Rows.{row}
 use Rattle.ds_rule.specs.Plays.{Sat, wrote}
 use Rattle.ds_rule.specs.declared.view.View.{View}
-use Rattle.ds_rule.proofs.Values.{writes}
+use Rattle.ds_rule.proofs.ValueSteps.{writes}
 use Rattle.ds_rule.proofs.RowLaws.{length-row, get-row, goes, value-own}
 use Rattle.ds_rule.proofs.PlaceLaws.{row_ends}
 use Rattle.ds_fabric.proofs.rows.write_row.Goals as goal
@@ -28,8 +28,8 @@ loop-i-init g c = (
 )
 
 pub overflow_add-at : goal.overflow_add-at
-overflow_add-at g c = let q = c.args.ground.now.built.over in let o = c.requires.flight.0 in
-    let run : Run = c.args.ground.now.run.now in
+overflow_add-at g c = let q = c.args.context.now.built.over in let o = c.requires.flight.0 in
+    let run : Run = c.args.context.now.run.now in
     omega (
       arith,
       row_ends run c.args.node c.args.turn o.near,
@@ -40,8 +40,8 @@ overflow_add-at g c = let q = c.args.ground.now.built.over in let o = c.requires
     )
 
 pub store-requires : goal.store-requires
-store-requires g c = let q = c.args.ground.now.built.over in let o = c.requires.flight.0 in
-    let run : Run = c.args.ground.now.run.now in let n : ℕ = c.args.ground.now.board.now.table_id.slots in
+store-requires g c = let q = c.args.context.now.built.over in let o = c.requires.flight.0 in
+    let run : Run = c.args.context.now.run.now in let n : ℕ = c.args.context.now.board.now.table_id.slots in
     let i : ℕ = c.loop-i.i in let j : ℕ = c.place_of-at.result + i in
     let new : ℕ = slice_index c.args.words.now i in let v : View = c.args.seat.now.me.0 in
     let wide = many run c.args.node c.args.turn c.args.words.now c.requires.words in
@@ -54,7 +54,7 @@ store-requires g c = let q = c.args.ground.now.built.over in let o = c.requires.
           (writes run n c.loop-i.seat.id (
             record v { written = i },
             c.args.seat.now.me.1,
-          ) j new o.live (omega (arith, o.stage)) o.begins
+          ) j new o.live (omega (arith, o.phase)) o.begins
           (omega (arith, ap (width run) o.node_is))
           (goes run v c.args.node c.args.turn o c.place_of-at.result i c.place_of-at.ensures)
           (ap (λ (ws : List ℕ). get_or ws i 0) c.requires.words
@@ -74,8 +74,8 @@ loop-i-preserved g c = let inv = c.loop-i.invariant in let e = c.store.ensures i
 
 pub returns-clause-me : goal.returns-clause-me
 returns-clause-me g c = let wide =
-    many c.args.ground.now.run.now c.args.node c.args.turn c.args.words.now c.requires.words in
-    let e : c.loop-i.i ≡ width c.args.ground.now.run.now c.args.node =
+    many c.args.context.now.run.now c.args.node c.args.turn c.args.words.now c.requires.words in
+    let e : c.loop-i.i ≡ width c.args.context.now.run.now c.args.node =
     omega (arith, c.loop-i-test.false, c.loop-i.auto.i-end) in
     c.loop-i.invariant.2 ∙ ap (λ (w : ℕ). (
       record c.args.seat.now.me.0 { written = w },

@@ -75,7 +75,7 @@ returns-then-history-latches-clause-filled c run can e here k below =
     (subst (λ (x : ℕ). get_elem? c.put.new.out (ticket_in run h x k) ≡ some x) (sym is)
     (c.put.ensures.filled run can.latches_is k
     (subst (λ (x : ℕ). k < turns run x h.fired) is below)))
-    (λ m below-m same. can.apart d' e on' here
+    (λ m below-m same. can.distinct d' e on' here
     (λ z. omega (arith, z, first, c.new-then-history-latches.ensures)) m k below-m below same))
     (λ second. let is : e ≡ d' = second ∙ sym c.new-then-history-latches.ensures in
     subst (λ (x : ℕ). get_elem? c.put-then-history-latches.new.out (ticket_in run h x k) ≡ some x)

@@ -4,7 +4,7 @@ use mathlib.Core.Option.{some}
 use native.Mathlib.Decide.{ℕ_discrete}
 use lib.ListN.{get_elem?}
 use Rattle.atomic_table.proofs.Lists.{at_index}
-use Rattle.ds_rule.proofs.Lists.{at_below, same_at, has_below}
+use Rattle.ds_rule.proofs.GetElemLemmas.{at_below, same_at, has_below}
 use Rattle.ds_fabric.specs.Spread.{CanSpread, HasSpread}
 use Rattle.ds_fabric.specs.declared.history.History.{History}
 use Rattle.ds_fabric.proofs.Spreads.{can_spread, stays}

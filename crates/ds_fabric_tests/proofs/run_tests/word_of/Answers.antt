@@ -2,7 +2,7 @@ use Rattle.std.proofs.Common.{◌<◌, arith, sym, subst}
 use Rattle.ds_rule.specs.Run.{Run}
 use Rattle.ds_rule.specs.Words.{width}
 use Rattle.ds_fabric_tests.proofs.Holdings.{few_latches}
-use Rattle.ds_fabric_tests.proofs.Toggles.{wide_one}
+use Rattle.ds_fabric_tests.proofs.ToggleRun.{wide_one}
 use Rattle.ds_fabric_tests.proofs.run_tests.word_of.Goals as goal
 
 pub stored-requires : goal.stored-requires

@@ -1,6 +1,6 @@
 use Rattle.std.proofs.Common.{sym, subst}
 use Rattle.ds_rule.specs.Sound.{IsSound}
-use Rattle.ds_fabric_tests.proofs.Toggles.{sound}
+use Rattle.ds_fabric_tests.proofs.ToggleRun.{sound}
 use Rattle.ds_fabric_tests.proofs.toggle.begin.Goals as goal
 
 pub build-requires-clause-sound : goal.build-requires-clause-sound

@@ -5,9 +5,9 @@ use Rattle.std.proofs.lemmas.List.{get_or-replicate, length-replicate}
 use Rattle.std.proofs.lemmas.Result.{IfOk-weaker}
 use Rattle.ds_rank.specs.declared.edge.Edge.{Edge}
 use Rattle.ds_rank.specs.Order.{HasEdge, IsRanks}
-use Rattle.ds_rank.proofs.By.{cycle_by}
+use Rattle.ds_rank.proofs.RelatedOrders.{cycle_by}
 use Rattle.ds_netlist.specs.Edges.{FeedsIn, edges_of}
-use Rattle.ds_netlist.proofs.Fed.{fed_ends, fed_from, fed_into}
+use Rattle.ds_netlist.proofs.TableEdges.{fed_ends, fed_from, fed_into}
 use Rattle.ds_feedback.specs.Links.{RiseAlong}
 use Rattle.ds_feedback.proofs.edges.ranks_of.Goals as goal
 

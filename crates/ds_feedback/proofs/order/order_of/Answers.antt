@@ -3,7 +3,7 @@ use Rattle.std.specs.Prelude.{All}
 use Rattle.std.specs.List.{range_with_len}
 use Rattle.std.proofs.lemmas.Result.{IfOk-weaker}
 use Rattle.ds_design.specs.Levels.{IsSortedByLevel}
-use Rattle.ds_netlist.proofs.Ordered.{range_below}
+use Rattle.ds_netlist.proofs.TablesByLevel.{range_below}
 use Rattle.ds_feedback.proofs.order.order_of.Goals as goal
 
 pub by_level-requires-clause-within : goal.by_level-requires-clause-within

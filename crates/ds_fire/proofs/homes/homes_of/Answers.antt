@@ -5,9 +5,9 @@ use Rattle.ds_design.specs.Circuit.{Circuit}
 use Rattle.ds_latch.specs.Node.{nets_of}
 use Rattle.ds_latch.specs.declared.node.Node.TheVariants.{In, Slave}
 use Rattle.ds_fire.specs.Feeds.{AreSourceNetsHoused}
-use Rattle.ds_fire.proofs.Fed.{housed_here, housed_kept, homes_from}
+use Rattle.ds_fire.proofs.NetHomes.{housed_here, housed_kept, homes_from}
 use Rattle.ds_split.proofs.NodeCones.{nets_within}
-use Rattle.ds_fire.proofs.Opened.{bits_are}
+use Rattle.ds_fire.proofs.RowsAfterOpening.{bits_are}
 use Rattle.ds_fire.proofs.homes.homes_of.Goals as goal
 
 pub place-requires : goal.place-requires

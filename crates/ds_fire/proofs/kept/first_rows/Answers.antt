@@ -4,7 +4,7 @@ use Rattle.ds_base.specs.Values.{Row}
 use Rattle.ds_latch.specs.Node.{IsNode, number_of}
 use Rattle.ds_latch.specs.declared.node.Node.{Node}
 use Rattle.ds_fire.specs.Snapshot.{row_index, rows_of}
-use Rattle.ds_fire.proofs.First.{first_all, first_more, the_first}
+use Rattle.ds_fire.proofs.InitialRows.{first_all, first_more, the_first}
 use Rattle.ds_fire.proofs.kept.first_rows.Goals as goal
 
 pub loop-k-preserved : goal.loop-k-preserved

@@ -1,7 +1,7 @@
 use Rattle.std.proofs.Common.{◌<◌, ◌≤◌, ◌*◌, ◌^◌, ◌∙◌, ℕ, List, length, subst, sym, arith}
 use Rattle.std.proofs.lemmas.Result.{err_from_is_err_and}
 use Rattle.std.proofs.Math.Nat.{mul-le-mul}
-use Rattle.ds_fire.proofs.First.{AreEmptyBelow, all_empty, more_empty, none_empty}
+use Rattle.ds_fire.proofs.InitialRows.{AreEmptyBelow, all_empty, more_empty, none_empty}
 use Rattle.ds_fire.proofs.kept.histories.Goals as goal
 
 -- the product is small

@@ -1,6 +1,6 @@
 use Rattle.std.proofs.Common.{◌≡◌, ◌<◌, ◌*◌, ℕ, List, [], length, get_or}
 use Rattle.std.specs.Prelude.{All}
-use Rattle.ds_fire.specs.History.{Stored}
+use Rattle.ds_fire.specs.StoredRows.{Stored}
 use Rattle.ds_fire.proofs.kept.histories.Given as goal
 
 abbrev pub invariant-loop-these : goal.invariant-loop-these

@@ -2,7 +2,7 @@ use Rattle.std.proofs.Common.{◌≡◌, ◌∙◌, ◌<◌, ◌+◌, ◌*◌, �
 use Rattle.std.proofs.lemmas.List.{get_or_default}
 use Rattle.ds_latch.specs.Node.{members, number_of}
 use Rattle.ds_latch.specs.declared.node.Node.TheVariants.{Slave}
-use Rattle.ds_fire.proofs.First.{slave_wide}
+use Rattle.ds_fire.proofs.InitialRows.{slave_wide}
 use Rattle.ds_fire.proofs.kept.set_first.Goals as goal
 
 pub set_initial-requires-clause-one_each : goal.set_initial-requires-clause-one_each

@@ -1,4 +1,4 @@
-use Rattle.ds_fire.proofs.Reached.{fired_after}
+use Rattle.ds_fire.proofs.OneFiringMore.{fired_after}
 use Rattle.ds_fire.proofs.laws.fired_after.Goals as goal
 
 pub returns : goal.returns

@@ -1,7 +1,7 @@
 use Rattle.std.proofs.Common.{◌≡◌, ◌∙◌, List, [], get_or, ap, arith}
 use Rattle.std.proofs.lemmas.List.{get_or-take, get_or_default}
 use Rattle.ds_base.specs.Values.{Row}
-use Rattle.ds_fire.proofs.Opened.{copy_is}
+use Rattle.ds_fire.proofs.RowsAfterOpening.{copy_is}
 use Rattle.ds_fire.proofs.opening.copy_row.Goals as goal
 
 pub returns : goal.returns

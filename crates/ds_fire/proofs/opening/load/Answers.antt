@@ -6,15 +6,15 @@ use Rattle.ds_base.specs.Values.{Row}
 use Rattle.ds_base.specs.declared.value.Value.{Value}
 use Rattle.ds_fire.specs.Feeds.{home_of}
 use Rattle.ds_fire.specs.Turn.{IsLoaded, IsThere, home_value}
-use Rattle.ds_fire.specs.declared.homes.Home.{Home}
-use Rattle.ds_fire.proofs.Opened.{load_more, read_home}
+use Rattle.ds_fire.specs.declared.homes.NetHome.{NetHome}
+use Rattle.ds_fire.proofs.RowsAfterOpening.{load_more, read_home}
 use Rattle.ds_fire.proofs.opening.load.Goals as goal
 
 pub loop-net-preserved : goal.loop-net-preserved
 loop-net-preserved c =
     let i : ℕ = c.loop-net.net-index in
     let net : ℕ = c.net-item.result in
-    let homes : List Home = c.args.homes.now in
+    let homes : List NetHome = c.args.homes.now in
     let rows : List Row = c.args.rows.now in
     let value : Value = c.value-value.result in
     let there : IsThere c.args.places c.args.rows.now (home_of c.args.homes.now c.net-item.result) =

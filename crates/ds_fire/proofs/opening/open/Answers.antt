@@ -2,7 +2,7 @@ use Rattle.std.proofs.Common.{◌≡◌, ◌∙◌, ◌<◌, length, ap, arith, 
 use Rattle.ds_latch.specs.Node.{number_of}
 use Rattle.ds_latch.specs.declared.node.Node.{Node}
 use Rattle.ds_latch.specs.declared.node.Node.TheVariants.{In, Out, Master, Slave}
-use Rattle.ds_latch.proofs.Counts.{same_node}
+use Rattle.ds_latch.proofs.OrderTokens.{same_node}
 use Rattle.ds_fire.specs.Turn.{IsOpened}
 use Rattle.ds_fire.proofs.opening.open.Goals as goal
 

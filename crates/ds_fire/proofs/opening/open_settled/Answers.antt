@@ -4,10 +4,10 @@ use Rattle.std.proofs.Math.ListN.{set}
 use Rattle.std.proofs.lemmas.List.{get_or_default}
 use Rattle.ds_base.specs.Values.{Row}
 use Rattle.ds_latch.specs.Node.{nets_of}
-use Rattle.ds_latch.proofs.Counts.{number_below}
+use Rattle.ds_latch.proofs.OrderTokens.{number_below}
 use Rattle.ds_split.proofs.NodeCones.{nets_within}
 use Rattle.ds_fire.specs.Turn.{IsSettledOn}
-use Rattle.ds_fire.proofs.Opened.{bits_are, opened_settled, settling_inside, settling_wide}
+use Rattle.ds_fire.proofs.RowsAfterOpening.{bits_are, opened_settled, settling_inside, settling_wide}
 use Rattle.ds_fire.proofs.opening.open_settled.Goals as goal
 
 pub index_mut-requires : goal.index_mut-requires

@@ -2,7 +2,7 @@ use Rattle.std.proofs.Common.{◌≡◌, ◌∙◌, ◌+◌, ◌-◌, ◌*◌, �
 use Rattle.std.proofs.Math.ListN.{set}
 use Rattle.std.proofs.lemmas.List.{with_items_is}
 use Rattle.ds_base.specs.Values.{Row}
-use Rattle.ds_fire.proofs.Opened.{each_before, each_under, same_width, slave_inside, opened_slave}
+use Rattle.ds_fire.proofs.RowsAfterOpening.{each_before, each_under, same_width, slave_inside, opened_slave}
 use Rattle.ds_fire.proofs.opening.open_slave.Goals as goal
 
 pub copy_row-requires-clause-width : goal.copy_row-requires-clause-width

@@ -2,10 +2,10 @@ use Rattle.std.proofs.Common.{◌≡◌, ◌∙◌, ◌<◌, ◌≤◌, ◌+◌,
 use Rattle.std.proofs.lemmas.List.{get_or_default}
 use Rattle.ds_base.specs.Values.{Row}
 use Rattle.ds_latch.specs.Node.{number_of, nets_of, place_of}
-use Rattle.ds_fire.specs.History.{Stored}
+use Rattle.ds_fire.specs.StoredRows.{Stored}
 use Rattle.ds_fire.specs.Snapshot.{rows_of}
 use Rattle.ds_fire.proofs.Settles.{place_low}
-use Rattle.ds_fire.proofs.Opened.{node_at, closed_is, next_row, next_inside}
+use Rattle.ds_fire.proofs.RowsAfterOpening.{node_at, closed_is, next_row, next_inside}
 use Rattle.ds_fire.proofs.turn.close.Goals as goal
 
 pub append-requires : goal.append-requires

@@ -1,4 +1,4 @@
-use Rattle.ds_firing_laws.proofs.Lists.{legal_lists_exist}
+use Rattle.ds_firing_laws.proofs.LegalListsExist.{legal_lists_exist}
 use Rattle.ds_firing_laws.proofs.firings.legal_lists_exist.Goals as goal
 
 pub returns : goal.returns

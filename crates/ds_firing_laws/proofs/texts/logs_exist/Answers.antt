@@ -1,4 +1,4 @@
-use Rattle.ds_firing_laws.proofs.Logs.{logs_exist}
+use Rattle.ds_firing_laws.proofs.LogsExist.{logs_exist}
 use Rattle.ds_firing_laws.proofs.texts.logs_exist.Goals as goal
 
 pub returns : goal.returns

@@ -1,4 +1,4 @@
-use Rattle.ds_firing_laws.proofs.Replayed.{replay_texts_exist}
+use Rattle.ds_firing_laws.proofs.ReplayTextsExist.{replay_texts_exist}
 use Rattle.ds_firing_laws.proofs.texts.replay_texts_exist.Goals as goal
 
 pub returns : goal.returns

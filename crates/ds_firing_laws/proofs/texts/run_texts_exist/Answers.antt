@@ -1,4 +1,4 @@
-use Rattle.ds_firing_laws.proofs.Runs.{run_texts_exist}
+use Rattle.ds_firing_laws.proofs.RunTextsExist.{run_texts_exist}
 use Rattle.ds_firing_laws.proofs.texts.run_texts_exist.Goals as goal
 
 pub returns : goal.returns

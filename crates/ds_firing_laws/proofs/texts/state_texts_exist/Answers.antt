@@ -1,4 +1,4 @@
-use Rattle.ds_firing_laws.proofs.States.{state_texts_exist}
+use Rattle.ds_firing_laws.proofs.StateTextsExist.{state_texts_exist}
 use Rattle.ds_firing_laws.proofs.texts.state_texts_exist.Goals as goal
 
 pub returns : goal.returns

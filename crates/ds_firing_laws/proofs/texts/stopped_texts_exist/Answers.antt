@@ -1,4 +1,4 @@
-use Rattle.ds_firing_laws.proofs.Stopped.{stopped_texts_exist}
+use Rattle.ds_firing_laws.proofs.StoppedTextsExist.{stopped_texts_exist}
 use Rattle.ds_firing_laws.proofs.texts.stopped_texts_exist.Goals as goal
 
 pub returns : goal.returns

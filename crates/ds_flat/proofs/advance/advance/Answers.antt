@@ -3,11 +3,11 @@ use Rattle.ds_design.specs.declared.blif.Command.{Command}
 use Rattle.ds_flat.specs.declared.frame.Open.{Open}
 use Rattle.ds_flat.specs.Run.{Rest, IsRestKept}
 use Rattle.ds_flat.specs.Turn.{most_turns}
-use Rattle.ds_flat.proofs.Kept.{first_part, kept_behind}
-use Rattle.ds_flat.proofs.Left.{turn_given}
-use Rattle.ds_flat.proofs.Steps.{fault_same}
-use Rattle.ds_flat.proofs.Taken.{turn_taken}
-use Rattle.ds_flat.proofs.Turns.{turns_behind}
+use Rattle.ds_flat.proofs.RestInvariant.{first_part, kept_behind}
+use Rattle.ds_flat.proofs.FinishedCopy.{turn_given}
+use Rattle.ds_flat.proofs.FrameSteps.{fault_same}
+use Rattle.ds_flat.proofs.AfterUse.{turn_taken}
+use Rattle.ds_flat.proofs.RemainingTurns.{turns_behind}
 use Rattle.ds_flat.proofs.Opens.{none_left}
 use Rattle.ds_flat.proofs.advance.advance.Goals as goal
 

@@ -1,6 +1,6 @@
 use Rattle.std.proofs.Common.{◌∙◌, ap}
 use Rattle.ds_flat.specs.Net.{Scope}
-use Rattle.ds_flat.proofs.NumberLemmas.{names_from}
+use Rattle.ds_flat.proofs.NetNumberLemmas.{names_from}
 use Rattle.ds_flat.proofs.Connected.{actual_step, actual_stop, bindings_more, fresh_formal}
 use Rattle.ds_flat.proofs.connect.connect.Goals as goal
 

@@ -1,8 +1,8 @@
 use Rattle.std.proofs.Common.{◌∙◌, ap, sym, Ok, refl}
 use Rattle.ds_flat.specs.Copies.{Flat, empty_design}
 use Rattle.ds_flat.specs.Stack.{Stacked}
-use Rattle.ds_flat.proofs.First.{first_kept, run-first}
-use Rattle.ds_flat.proofs.Steps.{fault_same, fault_bind}
+use Rattle.ds_flat.proofs.MainCopy.{first_kept, run-first}
+use Rattle.ds_flat.proofs.FrameSteps.{fault_same, fault_bind}
 use Rattle.ds_flat.proofs.flat.from_first.Goals as goal
 
 pub all_taken-requires-clause-parts : goal.all_taken-requires-clause-parts

@@ -1,6 +1,6 @@
 use Rattle.std.proofs.Common.{◌∙◌, ap, sym}
 use Rattle.ds_lines.specs.Names.{place_of_name}
-use Rattle.ds_flat.proofs.NumberLemmas.{names_from}
+use Rattle.ds_flat.proofs.NetNumberLemmas.{names_from}
 use Rattle.ds_flat.proofs.Models.{unknown_first, unknown_next}
 use Rattle.ds_flat.proofs.library.unknown_formal.Goals as goal
 

@@ -1,5 +1,5 @@
 use Rattle.std.proofs.Common.{arith}
-use Rattle.ds_flat.proofs.NumberLemmas.{word_from, step_names, stop_names}
+use Rattle.ds_flat.proofs.NetNumberLemmas.{word_from, step_names, stop_names}
 use Rattle.ds_flat.proofs.numbers.numbers.Goals as goal
 
 pub loop-k-preserved : goal.loop-k-preserved

@@ -1,4 +1,4 @@
-use Rattle.ds_flat.proofs.Grown.{grown_is, limit_fault}
+use Rattle.ds_flat.proofs.PassedLimits.{grown_is, limit_fault}
 use Rattle.ds_flat.proofs.open.open.Goals as goal
 
 pub returns-in-Ok-clause-value : goal.returns-in-Ok-clause-value

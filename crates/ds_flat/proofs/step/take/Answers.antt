@@ -5,8 +5,8 @@ use Rattle.ds_flat.specs.Stack.{frame_on, path_of}
 use Rattle.ds_flat.specs.declared.fault.FlatKind.{FlatKind}
 use Rattle.ds_flat.specs.Copies.{Flat}
 use Rattle.ds_flat.specs.Run.{Rest, IsRestKept, after_take, run_rest}
-use Rattle.ds_flat.proofs.Kept.{kept_part}
-use Rattle.ds_flat.proofs.Steps.{taken_part, part_fault}
+use Rattle.ds_flat.proofs.RestInvariant.{kept_part}
+use Rattle.ds_flat.proofs.FrameSteps.{taken_part, part_fault}
 use Rattle.ds_flat.proofs.Opens.{after_take-any, use_fine}
 use Rattle.ds_flat.specs.Turn.{most_turns}
 use Rattle.ds_flat.proofs.step.take.Goals as goal

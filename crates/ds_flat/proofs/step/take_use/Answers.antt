@@ -1,10 +1,10 @@
 use Rattle.std.proofs.Common.{sym, subst, ◌+◌, ◌≤◌, arith, ◌∷◌}
 use Rattle.ds_flat.specs.Stack.{Stacked, put_on, path_of}
-use Rattle.ds_flat.proofs.Kept.{rest_of, kept_use}
+use Rattle.ds_flat.proofs.RestInvariant.{rest_of, kept_use}
 use Rattle.ds_flat.specs.Run.{Rest, IsRestKept}
-use Rattle.ds_flat.proofs.Taken.{use_refused, use_fault, use_value}
+use Rattle.ds_flat.proofs.AfterUse.{use_refused, use_fault, use_value}
 use Rattle.ds_flat.specs.Turn.{most_turns}
-use Rattle.ds_flat.proofs.Turns.{turns_use}
+use Rattle.ds_flat.proofs.RemainingTurns.{turns_use}
 use Rattle.ds_flat.proofs.step.take_use.Goals as goal
 
 pub checked-requires : goal.checked-requires

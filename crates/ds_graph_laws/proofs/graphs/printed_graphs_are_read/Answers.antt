@@ -1,4 +1,4 @@
-use Rattle.ds_graph_laws.proofs.Taken.{printed_graphs_are_read}
+use Rattle.ds_graph_laws.proofs.PrintedIsTaken.{printed_graphs_are_read}
 use Rattle.ds_graph_laws.proofs.graphs.printed_graphs_are_read.Goals as goal
 
 pub returns : goal.returns

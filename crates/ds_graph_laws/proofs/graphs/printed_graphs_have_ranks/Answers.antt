@@ -1,4 +1,4 @@
-use Rattle.ds_graph_laws.proofs.Ranks.{printed_graphs_have_ranks}
+use Rattle.ds_graph_laws.proofs.PrintedRanks.{printed_graphs_have_ranks}
 use Rattle.ds_graph_laws.proofs.graphs.printed_graphs_have_ranks.Goals as goal
 
 pub returns : goal.returns

@@ -1,6 +1,6 @@
 use Rattle.std.proofs.Common.{◌≡◌, ◌∙◌, ◌-◌, ◌≤◌, ◌++◌, ◌∷◌, [], ℕ, List, length, get_or, map, ap, arith}
 use Rattle.std.specs.List.{range_with_len}
-use Rattle.ds_base.proofs.Lists.{get_or-default}
+use Rattle.ds_base.proofs.ListLemmas.{get_or-default}
 use Rattle.std.proofs.lemmas.List.Elements.{All-get_or}
 use Rattle.std.proofs.lemmas.List.FromFn.{length-map-range_with_len}
 use Rattle.ds_groups.specs.Members.{members_of}

@@ -3,7 +3,7 @@ use Rattle.std.proofs.lemmas.List.Elements.{All-get_or}
 use Rattle.ds_design.specs.declared.design.Net.{Net}
 use Rattle.ds_design.specs.declared.design.Register.{Register}
 use Rattle.std.specs.Prelude.{IfSome}
-use Rattle.ds_groups.proofs.Driven.{driven}
+use Rattle.ds_groups.proofs.DrivenNets.{driven}
 use Rattle.ds_groups.proofs.named.net_of.Goals as goal
 
 pub returns-clause-net : goal.returns-clause-net

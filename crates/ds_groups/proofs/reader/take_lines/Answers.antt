@@ -7,7 +7,7 @@ use Rattle.ds_lines.specs.declared.at.At.{At}
 use Rattle.ds_rows.specs.Nets.{net_text}
 use Rattle.ds_groups.specs.Read.{after_lines}
 use Rattle.ds_groups.specs.declared.fault.GroupKind.{GroupKind}
-use Rattle.ds_groups.proofs.Reading.{held_more, lines_all, lines_have_words, lines_more, lines_none, lines_refused}
+use Rattle.ds_groups.proofs.GroupsSoFar.{held_more, lines_all, lines_have_words, lines_more, lines_none, lines_refused}
 use Rattle.ds_groups.proofs.reader.take_lines.Goals as goal
 
 pub loop-i-init : goal.loop-i-init

@@ -2,7 +2,7 @@ use Rattle.std.proofs.Common.{◌≡◌, ◌∙◌, length, map, sym, arith}
 use Rattle.std.proofs.lemmas.List.{length-map}
 use Rattle.ds_lines.specs.Words.{texts}
 use Rattle.ds_rows.specs.Nets.{net_text}
-use Rattle.ds_groups.proofs.Reading.{words_all, words_more, words_none, words_refused}
+use Rattle.ds_groups.proofs.GroupsSoFar.{words_all, words_more, words_none, words_refused}
 use Rattle.ds_groups.proofs.reader.take_words.Goals as goal
 
 pub loop-i-init : goal.loop-i-init

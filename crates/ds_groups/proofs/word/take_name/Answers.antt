@@ -4,7 +4,7 @@ use Rattle.ds_rows.specs.Nets.{net_text}
 use Rattle.ds_groups.specs.Latest.{drives}
 use Rattle.ds_groups.specs.Read.{register_name}
 use Rattle.ds_groups.proofs.Copies.{named_none, named_copied}
-use Rattle.ds_groups.proofs.Words.{name_of, takes_as}
+use Rattle.ds_groups.proofs.PatternWords.{name_of, takes_as}
 use Rattle.ds_groups.proofs.Takings.{take_both}
 use Rattle.ds_groups.proofs.word.take_name.Goals as goal
 

@@ -1,7 +1,7 @@
 use Rattle.std.proofs.Common.{◌∙◌, map, sym}
 use Rattle.std.proofs.lemmas.List.{length-map}
 use Rattle.ds_rows.specs.Nets.{net_text}
-use Rattle.ds_groups.proofs.Words.{by_match, by_name, word_told}
+use Rattle.ds_groups.proofs.PatternWords.{by_match, by_name, word_told}
 use Rattle.ds_groups.proofs.word.take_word.Goals as goal
 
 pub returns-then-by_name : goal.returns-then-by_name

@@ -1,4 +1,4 @@
-use Rattle.ds_known_laws.proofs.Runs.{known_runs_are_known}
+use Rattle.ds_known_laws.proofs.RunsAreKnown.{known_runs_are_known}
 use Rattle.ds_known_laws.proofs.known.known_runs_are_known.Goals as goal
 
 pub returns : goal.returns

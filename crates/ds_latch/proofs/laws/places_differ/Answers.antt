@@ -1,4 +1,4 @@
-use Rattle.ds_latch.proofs.Events.{all_places_differ}
+use Rattle.ds_latch.proofs.EventNodes.{all_places_differ}
 use Rattle.ds_latch.proofs.laws.places_differ.Goals as goal
 
 pub returns : goal.returns

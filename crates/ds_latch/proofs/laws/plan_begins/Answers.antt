@@ -1,4 +1,4 @@
-use Rattle.ds_latch.proofs.Windows.{plan_begins}
+use Rattle.ds_latch.proofs.PlanWindows.{plan_begins}
 use Rattle.ds_latch.proofs.laws.plan_begins.Goals as goal
 
 pub returns : goal.returns

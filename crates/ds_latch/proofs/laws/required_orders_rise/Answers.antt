@@ -1,4 +1,4 @@
-use Rattle.ds_latch.proofs.Rising.{required_orders_rise}
+use Rattle.ds_latch.proofs.OrdersRise.{required_orders_rise}
 use Rattle.ds_latch.proofs.laws.required_orders_rise.Goals as goal
 
 pub returns : goal.returns

@@ -1,4 +1,4 @@
-use Rattle.ds_latch.proofs.Windows.{stored_in_windows}
+use Rattle.ds_latch.proofs.PlanWindows.{stored_in_windows}
 use Rattle.ds_latch.proofs.laws.stored_in_windows.Goals as goal
 
 pub returns : goal.returns

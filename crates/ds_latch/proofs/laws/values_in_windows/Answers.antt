@@ -1,4 +1,4 @@
-use Rattle.ds_latch.proofs.Windows.{values_in_windows}
+use Rattle.ds_latch.proofs.PlanWindows.{values_in_windows}
 use Rattle.ds_latch.proofs.laws.values_in_windows.Goals as goal
 
 pub returns : goal.returns

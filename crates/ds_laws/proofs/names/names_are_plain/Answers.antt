@@ -1,4 +1,4 @@
-use Rattle.ds_laws.proofs.Plain.{names_are_plain}
+use Rattle.ds_laws.proofs.PlainNames.{names_are_plain}
 use Rattle.ds_laws.proofs.names.names_are_plain.Goals as goal
 
 pub returns : goal.returns

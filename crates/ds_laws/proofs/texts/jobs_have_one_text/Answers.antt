@@ -1,4 +1,4 @@
-use Rattle.ds_netlist.proofs.Refused.{faults_are_refused_lem}
+use Rattle.ds_netlist.proofs.FaultyCircuits.{faults_are_refused_lem}
 use Rattle.ds_split.proofs.OneClustering.{one_grouped_lem}
 use Rattle.ds_laws.proofs.OneText.{jobs_have_one_text}
 use Rattle.ds_laws.proofs.texts.jobs_have_one_text.Goals as goal

@@ -3,7 +3,7 @@ use Rattle.std.specs.List.{slice_split, position_or_len}
 use Rattle.std.proofs.lemmas.List.{take_rest}
 use Rattle.ds_lines.specs.Line.{is_newline}
 use Rattle.ds_lines.specs.Draft.{is_stop}
-use Rattle.ds_lines.proofs.First.{position_le, newline_behind, split_alone}
+use Rattle.ds_lines.proofs.FirstLine.{position_le, newline_behind, split_alone}
 use Rattle.ds_lines.proofs.Split.{split_first}
 use Rattle.ds_lines.proofs.line.behind.Goals as goal
 

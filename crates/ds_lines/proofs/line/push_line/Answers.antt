@@ -1,5 +1,5 @@
 use Rattle.std.proofs.Common.{◌≡◌, ◌∙◌, length, refl, arith}
-use Rattle.ds_lines.proofs.Steps.{truncated, trimmed_again}
+use Rattle.ds_lines.proofs.LineSteps.{truncated, trimmed_again}
 use Rattle.ds_lines.proofs.line.push_line.Goals as goal
 
 pub returns-in_ok-push_words-clause-words : goal.returns-in_ok-push_words-clause-words

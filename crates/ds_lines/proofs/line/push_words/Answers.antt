@@ -2,7 +2,7 @@ use Rattle.std.proofs.Common.{◌∙◌, ◌≡◌, ◌+◌, ◌++◌, ◌-◌, 
 use Rattle.std.specs.List.{before_first}
 use Rattle.ds_lines.specs.Draft.{is_stop}
 use Rattle.ds_lines.specs.Line.{words_of}
-use Rattle.ds_lines.proofs.Steps.{blank_stop, blank_words, word_at, one_more, pushed}
+use Rattle.ds_lines.proofs.LineSteps.{blank_stop, blank_words, word_at, one_more, pushed}
 use Rattle.ds_lines.proofs.line.push_words.Goals as goal
 
 pub reading-preserved-then-blank : goal.reading-preserved-then-blank

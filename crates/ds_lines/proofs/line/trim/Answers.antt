@@ -3,7 +3,7 @@ use Rattle.std.proofs.Math.Bool.{or-false}
 use Rattle.std.proofs.lemmas.Bool.{false≢true, or_right}
 use Rattle.std.proofs.lemmas.List.Sums.{suffix_len-take_yes}
 use Rattle.ds_lines.specs.Line.{is_end, is_backslash}
-use Rattle.ds_lines.proofs.Steps.{words_less, backslash_more}
+use Rattle.ds_lines.proofs.LineSteps.{words_less, backslash_more}
 use Rattle.ds_lines.proofs.line.trim.Goals.{then-joined, else-joined}
 use Rattle.ds_lines.proofs.line.trim.Goals as goal
 

@@ -1,4 +1,4 @@
-use Rattle.ds_marked.proofs.Logs.{logs_in_windows}
+use Rattle.ds_marked.proofs.LogWindows.{logs_in_windows}
 use Rattle.ds_marked.proofs.laws.logs_in_windows.Goals as goal
 
 pub returns : goal.returns

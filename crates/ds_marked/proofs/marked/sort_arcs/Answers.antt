@@ -1,4 +1,4 @@
-use Rattle.ds_marked.proofs.Ordered.{sorted_stands}
+use Rattle.ds_marked.proofs.ArcComparison.{sorted_stands}
 use Rattle.ds_marked.proofs.marked.sort_arcs.Goals as goal
 
 pub returns-clause-ok : goal.returns-clause-ok

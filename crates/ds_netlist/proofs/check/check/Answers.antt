@@ -1,9 +1,9 @@
 use Rattle.std.proofs.Common.{◌∙◌, None, Some, subst, sym}
 use Rattle.ds_netlist.specs.Verdict.{IsRefusal}
 use Rattle.ds_netlist.specs.declared.fault.NetFault.{NetFault}
-use Rattle.ds_netlist.proofs.Found.{all_clocks, fault_first, fault_later, lent_columns}
+use Rattle.ds_netlist.proofs.FaultEvidence.{all_clocks, fault_first, fault_later, lent_columns}
 use Rattle.ds_netlist.proofs.Leveled.{are_parts, places_of}
-use Rattle.ds_netlist.proofs.Refused.{cycle_refusal, matched, refusal}
+use Rattle.ds_netlist.proofs.FaultyCircuits.{cycle_refusal, matched, refusal}
 use Rattle.ds_netlist.proofs.check.check.Goals as goal
 
 pub returns-in-Some : goal.returns-in-Some

@@ -1,5 +1,5 @@
 use Rattle.std.proofs.Common.{arith, refl}
-use Rattle.ds_netlist.proofs.Counted.{counted_more, item_at, item_low, times_few}
+use Rattle.ds_netlist.proofs.Multiplicity.{counted_more, item_at, item_low, times_few}
 use Rattle.ds_netlist.proofs.counts.counts_of.Goals as goal
 
 pub overflow_add-index_mut : goal.overflow_add-index_mut

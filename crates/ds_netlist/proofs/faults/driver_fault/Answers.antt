@@ -3,7 +3,7 @@ use Rattle.std.specs.Option.{option_or}
 use Rattle.ds_design.specs.Circuit.{drivers, used}
 use Rattle.ds_design.specs.declared.design.Net.{Net}
 use Rattle.ds_netlist.specs.Fault.{undriven}
-use Rattle.ds_netlist.proofs.Found.{are_drivers, drivers_low, free_found, none_free, none_twice, times_are, twice_found, twice_long, used_low}
+use Rattle.ds_netlist.proofs.FaultEvidence.{are_drivers, drivers_low, free_found, none_free, none_twice, times_are, twice_found, twice_long, used_low}
 use Rattle.ds_netlist.proofs.faults.driver_fault.Goals as goal
 
 pub counts_of-requires : goal.counts_of-requires

@@ -5,7 +5,7 @@ use Rattle.ds_design.specs.Levels.{table_nets}
 use Rattle.ds_netlist.specs.Fault.{clock_as_data, driven_clock, mixed_edges}
 use Rattle.ds_netlist.specs.declared.fault.NetFault.{NetFault}
 use Rattle.ds_netlist.specs.declared.fault.NetFault.TheVariants.{ClockAsData, DrivenClock}
-use Rattle.ds_netlist.proofs.Found.{later_data, later_rest, lent_clock}
+use Rattle.ds_netlist.proofs.FaultEvidence.{later_data, later_rest, lent_clock}
 use Rattle.ds_netlist.proofs.faults.later_fault.Goals as goal
 
 pub returns-in-Some-clock_in-2 : goal.returns-in-Some-clock_in-2

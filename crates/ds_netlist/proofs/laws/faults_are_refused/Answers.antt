@@ -1,4 +1,4 @@
-use Rattle.ds_netlist.proofs.Refused.{faults_are_refused_lem}
+use Rattle.ds_netlist.proofs.FaultyCircuits.{faults_are_refused_lem}
 use Rattle.ds_netlist.proofs.laws.faults_are_refused.Goals as goal
 
 pub returns : goal.returns

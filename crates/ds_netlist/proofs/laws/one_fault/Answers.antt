@@ -1,4 +1,4 @@
-use Rattle.ds_netlist.proofs.Refused.{one_fault_lem}
+use Rattle.ds_netlist.proofs.FaultyCircuits.{one_fault_lem}
 use Rattle.ds_netlist.proofs.laws.one_fault.Goals as goal
 
 pub returns : goal.returns

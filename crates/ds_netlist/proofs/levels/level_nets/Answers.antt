@@ -4,11 +4,11 @@ use Rattle.ds_design.specs.declared.design.Gate.{Gate}
 use Rattle.ds_design.specs.declared.design.Net.{Net}
 use Rattle.ds_rank.specs.declared.edge.Edge.{Edge}
 use Rattle.ds_rank.specs.Order.{HasEdge, IsCycle}
-use Rattle.ds_rank.proofs.By.{cycle_by, ranks_by}
+use Rattle.ds_rank.proofs.RelatedOrders.{cycle_by, ranks_by}
 use Rattle.ds_netlist.specs.Edges.{IsCycleOnly, edges_of, floor_in}
 use Rattle.ds_design.specs.Reach.{Feeds}
 use Rattle.ds_netlist.specs.declared.fault.NetFault.{NetFault}
-use Rattle.ds_netlist.proofs.Fed.{fed_ends, fed_from, fed_into}
+use Rattle.ds_netlist.proofs.TableEdges.{fed_ends, fed_from, fed_into}
 use Rattle.ds_netlist.proofs.levels.level_nets.Goals as goal
 
 pub least_ranks-requires-clause-ends : goal.least_ranks-requires-clause-ends

@@ -3,7 +3,7 @@ use Rattle.std.proofs.lemmas.List.{append-nil, take_all}
 use Rattle.ds_design.specs.Levels.{table_nets}
 use Rattle.ds_design.specs.declared.design.Gate.{Gate}
 use Rattle.ds_design.specs.declared.design.Register.{Register}
-use Rattle.ds_netlist.proofs.Listed.{listed_more}
+use Rattle.ds_netlist.proofs.ListedNets.{listed_more}
 use Rattle.ds_netlist.proofs.lists.driven_nets.Goals as goal
 
 pub loop-table-init : goal.loop-table-init

@@ -4,7 +4,7 @@ use Rattle.std.proofs.lemmas.List.{append-nil, take_all}
 use Rattle.ds_design.specs.Circuit.{data_nets}
 use Rattle.ds_design.specs.declared.design.Gate.{Gate}
 use Rattle.ds_design.specs.declared.design.Register.{Register}
-use Rattle.ds_netlist.proofs.Listed.{listed_more, flat_more}
+use Rattle.ds_netlist.proofs.ListedNets.{listed_more, flat_more}
 use Rattle.ds_netlist.proofs.lists.used_nets.Goals as goal
 
 -- the inputs of tables

@@ -4,7 +4,7 @@ use Rattle.std.specs.List.Sorted.{IsPermutation}
 use Rattle.std.proofs.lemmas.List.Sorted.{All-permutation, IsPermutation-trans}
 use Rattle.std.proofs.lemmas.Result.{IfOk-weaker}
 use Rattle.ds_design.specs.Levels.{IsSortedByLevel}
-use Rattle.ds_netlist.proofs.Ordered.{range_below}
+use Rattle.ds_netlist.proofs.TablesByLevel.{range_below}
 use Rattle.ds_netlist.proofs.order.table_order.Goals as goal
 
 pub by_level-requires-clause-within : goal.by_level-requires-clause-within

@@ -1,4 +1,4 @@
-use Rattle.ds_design.proofs.Banked.{bank-take_more}
+use Rattle.ds_design.proofs.PackedTables.{bank-take_more}
 use Rattle.ds_netlist.proofs.packed.bank_of.Goals as goal
 
 pub loop-gate-preserved : goal.loop-gate-preserved

@@ -3,8 +3,8 @@ use Rattle.std.specs.Prelude.{All, AllPairs}
 use Rattle.std.proofs.lemmas.List.{take_all}
 use Rattle.ds_settle.specs.Cone.{Parts as Cone}
 use Rattle.ds_opening.specs.Classes.{AreClasses, HasTables, IsSplitBy}
-use Rattle.ds_opening.proofs.Front.{take_item}
-use Rattle.ds_opening.proofs.Same.{classes_more}
+use Rattle.ds_opening.proofs.ListPrefix.{take_item}
+use Rattle.ds_opening.proofs.CommonCones.{classes_more}
 use Rattle.ds_opening.proofs.classes.classes_of.Goals as goal
 
 -- a cone among these has tables

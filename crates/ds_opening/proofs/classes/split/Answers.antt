@@ -2,7 +2,7 @@ use Rattle.std.proofs.Common.{◌≡◌, ◌∙◌, ◌<◌, ℕ, List, length, 
 use Rattle.std.specs.Prelude.{All}
 use Rattle.std.proofs.lemmas.List.{get_or_default, take_all, take_more}
 use Rattle.ds_opening.specs.Classes.{AreSplit, IsMovedTo}
-use Rattle.ds_opening.proofs.Front.{not_before}
+use Rattle.ds_opening.proofs.ListPrefix.{not_before}
 use Rattle.ds_opening.proofs.Moves.{all_below, split_all, split_more}
 use Rattle.ds_opening.proofs.classes.split.Goals as goal
 

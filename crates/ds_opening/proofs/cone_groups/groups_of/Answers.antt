@@ -9,7 +9,7 @@ use Rattle.ds_latch.specs.Node.{IsNode, Split, nets_of, nodes}
 use Rattle.ds_latch.specs.declared.node.Node.{Node}
 use Rattle.ds_latch.specs.declared.node.Node.TheVariants.{In, Master, Out, Slave}
 use Rattle.ds_latch.specs.Plan.{IsSplit}
-use Rattle.ds_latch.proofs.Events.{node_at as node_with}
+use Rattle.ds_latch.proofs.EventNodes.{node_at as node_with}
 use Rattle.ds_settle.specs.Cone.{IsCone, Parts as Cone}
 use Rattle.ds_split.specs.Cones.{AreCones}
 use Rattle.ds_split.proofs.NodeCones.{nets_within}

@@ -3,7 +3,7 @@ use Rattle.std.specs.List.{range_with_len}
 use Rattle.std.proofs.lemmas.List.FromFn.{map-range_with_len_more}
 use Rattle.ds_latch.specs.Node.{Split, IsNode, nets_of, nodes, number_of}
 use Rattle.ds_latch.specs.declared.node.Node.{Node}
-use Rattle.ds_latch.proofs.Events.{node_at as node_with}
+use Rattle.ds_latch.proofs.EventNodes.{node_at as node_with}
 use Rattle.ds_split.proofs.NodeCones.{lent}
 use Rattle.ds_opening.specs.Foreseen.{node_at}
 use Rattle.ds_opening.specs.Noted.{learnt_nets}

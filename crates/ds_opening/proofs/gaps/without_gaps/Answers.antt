@@ -1,7 +1,7 @@
 use Rattle.std.proofs.Common.{◌≡◌, ℕ, ◌+◌, List, length, get_or, set, replicate, ap, subst, sym, arith}
 use Rattle.std.proofs.Common.{Global, Vec}
 use Rattle.ds_opening.specs.Gaps.{AreAnewSoFar}
-use Rattle.ds_opening.proofs.Anew.{anew_none, are_anew, step_new, step_old}
+use Rattle.ds_opening.proofs.Renumbering.{anew_none, are_anew, step_new, step_old}
 use Rattle.ds_opening.proofs.gaps.without_gaps.Goals as goal
 use Rattle.ds_opening.proofs.gaps.without_gaps.Goals.{then-index-eq0, else-index-eq0}
 

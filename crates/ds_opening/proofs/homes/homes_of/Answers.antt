@@ -4,7 +4,7 @@ use Rattle.ds_design.specs.Circuit.{Circuit}
 use Rattle.ds_design.specs.declared.design.Net.{Net}
 use Rattle.ds_settle.specs.Cone.{nets_of_tables}
 use Rattle.ds_opening.specs.Homes.{AreNetsHoused}
-use Rattle.ds_opening.proofs.Housed.{are_homes}
+use Rattle.ds_opening.proofs.HomeSlots.{are_homes}
 use Rattle.ds_opening.proofs.homes.homes_of.Goals as goal
 
 pub returns : goal.returns

@@ -2,7 +2,7 @@ use Rattle.std.proofs.Common.{◌∙◌, ◌<◌, ℕ, [], List, ap, arith, leng
 use Rattle.std.proofs.lemmas.List.{get_or-map, length-map}
 use Rattle.ds_design.specs.Circuit.{Circuit}
 use Rattle.ds_settle.specs.Cone.{nets_of_tables}
-use Rattle.ds_opening.proofs.Housed.{housed_more}
+use Rattle.ds_opening.proofs.HomeSlots.{housed_more}
 use Rattle.ds_opening.proofs.homes.house_groups.Goals as goal
 
 pub loop-a-preserved : goal.loop-a-preserved

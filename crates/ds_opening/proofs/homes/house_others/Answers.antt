@@ -1,6 +1,6 @@
 use Rattle.std.proofs.Common.{◌∙◌, ◌+◌, [], refl}
-use Rattle.ds_base.proofs.Lists.{get_or-default}
-use Rattle.ds_opening.proofs.Housed.{housed_more}
+use Rattle.ds_base.proofs.ListLemmas.{get_or-default}
+use Rattle.ds_opening.proofs.HomeSlots.{housed_more}
 use Rattle.ds_opening.proofs.homes.house_others.Goals as goal
 
 pub loop-j-preserved : goal.loop-j-preserved

@@ -1,5 +1,5 @@
 use Rattle.ds_settle.specs.Cone.{nets_of_tables}
-use Rattle.ds_opening.proofs.Housed.{housed_none, housed_table}
+use Rattle.ds_opening.proofs.HomeSlots.{housed_none, housed_table}
 use Rattle.ds_opening.proofs.homes.house_tables.Goals as goal
 
 pub loop-table-init : goal.loop-table-init

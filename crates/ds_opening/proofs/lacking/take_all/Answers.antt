@@ -1,7 +1,7 @@
 use Rattle.std.proofs.Common.{◌≡◌, ◌∙◌, ◌<◌, ◌-◌, ◌++◌, ◌∷◌, [], ℕ, List, length, get_or, take, set, sym, subst, arith}
 use Rattle.std.proofs.lemmas.List.{get_or_default, take_more}
 use Rattle.ds_opening.specs.Lacking.{AreTaken}
-use Rattle.ds_opening.proofs.Front.{not_before}
+use Rattle.ds_opening.proofs.ListPrefix.{not_before}
 use Rattle.ds_opening.proofs.Lacks.{taken_more}
 use Rattle.ds_opening.proofs.lacking.take_all.Goals as goal
 

@@ -2,7 +2,7 @@ use Rattle.std.proofs.Common.{◌≡◌, ◌∙◌, ◌<◌, ◌+◌, ◌++◌, 
 use Rattle.std.proofs.Common.{Vec, Global}
 use Rattle.std.proofs.lemmas.List.{get_or_default, take_more}
 use Rattle.ds_opening.specs.Lists.{AreFoundSoFar}
-use Rattle.ds_opening.proofs.Found.{found_new, found_old}
+use Rattle.ds_opening.proofs.FoundTables.{found_new, found_old}
 use Rattle.ds_opening.proofs.lists.found.Goals as goal
 use Rattle.ds_opening.proofs.lists.found.Goals.{then-index-stamp+in_ok-push, else-index-stamp}
 

@@ -2,7 +2,7 @@ use Rattle.std.proofs.Common.{List, ℕ, subst, sym}
 use Rattle.std.specs.List.Sorted.{IsPermutation}
 use Rattle.std.proofs.lemmas.List.Sorted.{IsNonDecreasingBy-from_sort}
 use Rattle.ds_opening.specs.Lists.{IsListOf}
-use Rattle.ds_opening.proofs.Found.{found_sorted}
+use Rattle.ds_opening.proofs.FoundTables.{found_sorted}
 use Rattle.ds_opening.proofs.lists.list_of.Goals as goal
 
 pub returns-clause-ok : goal.returns-clause-ok

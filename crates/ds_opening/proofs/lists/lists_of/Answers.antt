@@ -4,8 +4,8 @@ use Rattle.std.proofs.lemmas.List.Elements.{All-weaker}
 use Rattle.ds_settle.specs.Cone.{Parts as Cone}
 use Rattle.ds_opening.specs.Classes.{HasTables}
 use Rattle.ds_opening.specs.Lists.{IsListOf, AreLists}
-use Rattle.ds_opening.proofs.Front.{take_item}
-use Rattle.ds_opening.proofs.Found.{lists_more}
+use Rattle.ds_opening.proofs.ListPrefix.{take_item}
+use Rattle.ds_opening.proofs.FoundTables.{lists_more}
 use Rattle.ds_opening.proofs.lists.lists_of.Goals as goal
 
 pub list_of-requires-clause-tables : goal.list_of-requires-clause-tables

@@ -1,8 +1,8 @@
 use Rattle.std.proofs.Common.{◌≡◌, ◌∙◌, ◌<◌, ◌++◌, ◌∷◌, [], ℕ, List, length, get_or, set, take, ap, subst, sym, arith}
 use Rattle.std.proofs.lemmas.List.{take_all, take_more}
-use Rattle.ds_base.proofs.Lists.{get_or-default}
+use Rattle.ds_base.proofs.ListLemmas.{get_or-default}
 use Rattle.ds_opening.specs.Members.{AreMembers}
-use Rattle.ds_opening.proofs.Gathered.{gathered_more, gathered_none}
+use Rattle.ds_opening.proofs.GatheredTables.{gathered_more, gathered_none}
 use Rattle.ds_opening.proofs.members.members_of.Goals as goal
 
 pub loop-table-init : goal.loop-table-init

@@ -4,7 +4,7 @@ use Rattle.ds_cover.specs.Cover.{values_at}
 use Rattle.ds_split.proofs.NodeCones.{lent}
 use Rattle.ds_opening.specs.Noted.{IsLearnt, IsSlot}
 use Rattle.ds_opening.specs.Packed.{AreInside, packed}
-use Rattle.ds_opening.proofs.Filled.{IsReadTo, of_next, read_all, read_first, read_more, room, row_is}
+use Rattle.ds_opening.proofs.RowsOfNodes.{IsReadTo, of_next, read_all, read_first, read_more, room, row_is}
 use Rattle.ds_opening.proofs.opening.learn_rows.Goals as goal
 
 pub rows-init : goal.rows-init

@@ -1,7 +1,7 @@
 use Rattle.std.proofs.Common.{ℕ, List, length}
 use Rattle.ds_base.specs.Values.{Row}
 use Rattle.ds_opening.specs.Noted.{AreReadRows, IsAsLong}
-use Rattle.ds_opening.proofs.Filled.{IsReadTo}
+use Rattle.ds_opening.proofs.RowsOfNodes.{IsReadTo}
 use Rattle.ds_opening.proofs.opening.learn_rows.Given as goal
 
 abbrev pub invariant-rows : goal.invariant-rows

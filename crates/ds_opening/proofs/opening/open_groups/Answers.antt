@@ -7,14 +7,14 @@ use Rattle.ds_design.specs.Banked.{IsBankOf}
 use Rattle.ds_design.specs.Circuit.{Circuit}
 use Rattle.ds_latch.specs.Node.{IsNode, Split, nets_of, nodes, number_of}
 use Rattle.ds_latch.specs.declared.node.Node.{Node}
-use Rattle.ds_latch.proofs.Counts.{number_below}
+use Rattle.ds_latch.proofs.OrderTokens.{number_below}
 use Rattle.ds_split.proofs.NodeCones.{lent, nets_within}
 use Rattle.ds_opening.specs.Groups.{group_of}
 use Rattle.ds_opening.specs.Noted.{AreRowsLearnt}
 use Rattle.ds_opening.specs.Packed.{packed}
 use Rattle.ds_opening.specs.Woven.{value_taken}
 use Rattle.ds_opening.proofs.Noting.{find_known, grouped, has_reads, node_slots, numbers, reads, settled_is, value}
-use Rattle.ds_opening.proofs.Stayed.{reads_on}
+use Rattle.ds_opening.proofs.UnchangedGroups.{reads_on}
 use Rattle.ds_opening.proofs.opening.open_groups.Goals as goal
 
 pub learn_rows-requires-clause-turn : goal.learn_rows-requires-clause-turn

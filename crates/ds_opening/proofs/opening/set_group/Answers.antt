@@ -8,10 +8,10 @@ use Rattle.ds_design.specs.Circuit.{Circuit}
 use Rattle.ds_opening.specs.Groups.{Grouping, group_of}
 use Rattle.ds_base.specs.Scratch.{Kept}
 use Rattle.ds_settle.specs.Cone.{nets_of_tables}
-use Rattle.ds_settle.proofs.Banked.{all_within}
+use Rattle.ds_settle.proofs.BankedOrder.{all_within}
 use Rattle.ds_opening.specs.Noted.{IsAsKnown, KeepsGroup}
 use Rattle.ds_opening.proofs.Learnt.{AreSet, after_long, all_set, now_noted}
-use Rattle.ds_opening.proofs.Stayed.{group_held, group_known}
+use Rattle.ds_opening.proofs.UnchangedGroups.{group_held, group_known}
 use Rattle.ds_opening.proofs.opening.set_group.Goals as goal
 
 pub put_group-requires-clause-within : goal.put_group-requires-clause-within

@@ -6,7 +6,7 @@ use Rattle.ds_base.specs.Scratch.{Kept, Memory, Remembers}
 use Rattle.ds_settle.specs.Cone.{nets_of_tables}
 use Rattle.ds_opening.specs.Noted.{FindInputs, FindKnown, AreGroupSlots, AreGroupsBefore, IsAsKnown, IsLearnt}
 use Rattle.ds_opening.proofs.Learnt.{all_found, groups_more, rest_finds}
-use Rattle.ds_opening.proofs.Stayed.{reads_on}
+use Rattle.ds_opening.proofs.UnchangedGroups.{reads_on}
 use Rattle.ds_opening.proofs.opening.set_groups.Goals as goal
 
 pub set_group-requires-clause-slots : goal.set_group-requires-clause-slots

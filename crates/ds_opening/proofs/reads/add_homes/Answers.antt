@@ -2,9 +2,9 @@ use Rattle.std.proofs.Common.{◌≡◌, ◌∙◌, ◌<◌, ◌+◌, ◌++◌, 
 use Rattle.std.proofs.Common.{Vec, Global}
 use Rattle.std.specs.Prelude.{All}
 use Rattle.std.proofs.lemmas.List.{take_all}
-use Rattle.ds_base.proofs.Lists.{get_or-default}
+use Rattle.ds_base.proofs.ListLemmas.{get_or-default}
 use Rattle.ds_opening.specs.Seen.{AreSearched, IsReadAt}
-use Rattle.ds_opening.proofs.Front.{take_item}
+use Rattle.ds_opening.proofs.ListPrefix.{take_item}
 use Rattle.ds_opening.proofs.Searched.{searched_new, searched_old}
 use Rattle.ds_opening.proofs.reads.add_homes.Goals as goal
 use Rattle.ds_opening.proofs.reads.add_homes.Goals.{then-index-own+in_ok-push, else-index-own}

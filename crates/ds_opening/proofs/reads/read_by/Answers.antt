@@ -1,7 +1,7 @@
 use Rattle.std.proofs.Common.{◌≡◌, ◌∙◌, ◌⊎◌, ◌∷◌, ◌+◌, ◌-◌, ◌<◌, ◌≤◌, ◌^◌, [], ℕ, List, length, get_or, set, take, sym, ap, subst, arith}
 use Rattle.std.specs.Prelude.{All}
 use Rattle.std.proofs.lemmas.List.{length-set, take_all, take_more}
-use Rattle.ds_base.proofs.Lists.{get_or-default}
+use Rattle.ds_base.proofs.ListLemmas.{get_or-default}
 use Rattle.ds_design.specs.Circuit.{Circuit}
 use Rattle.ds_design.specs.declared.design.Gate.{Gate}
 use Rattle.ds_opening.specs.Seen.{AreAt, AreSeen, IsReadAt, IsReadBy}

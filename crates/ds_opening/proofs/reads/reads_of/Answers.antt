@@ -3,7 +3,7 @@ use Rattle.std.specs.Prelude.{All}
 use Rattle.std.specs.List.{range_with_len}
 use Rattle.std.proofs.lemmas.List.{length-replicate}
 use Rattle.std.proofs.lemmas.List.Elements.{All-weaker}
-use Rattle.ds_base.proofs.Lists.{get_or-default}
+use Rattle.ds_base.proofs.ListLemmas.{get_or-default}
 use Rattle.ds_design.specs.Circuit.{Circuit}
 use Rattle.ds_opening.specs.Seen.{AreReadBy, AreReadsOf, IsReadBy}
 use Rattle.ds_opening.proofs.Searched.{are_reads, homes_low, if_ok, own_read, reads_more, reads_none, unseen_slots}

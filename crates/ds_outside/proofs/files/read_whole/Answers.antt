@@ -1,7 +1,7 @@
 use Rattle.std.proofs.Common.{◌≡◌, ◌∙◌, ◌≤◌, ap, arith, length, take, ◌-◌, subst, sym, List, ℕ, ◌++◌, vec_len, min}
 use Rattle.std.proofs.lemmas.Grind.{common_steps}
 use Rattle.ds_outside.specs.Held.{Held, ReadsHeld}
-use Rattle.ds_outside.proofs.Front.{front_more, FrontSoFar}
+use Rattle.ds_outside.proofs.PiecewiseRead.{front_more, FrontSoFar}
 use Rattle.ds_outside.proofs.files.read_whole.Goals as goal
 
 pub reading-preserved : goal.reading-preserved

@@ -1,5 +1,5 @@
 use Rattle.std.proofs.Common.{◌≡◌, ◌-◌, ◌≤◌, length, vec_len}
-use Rattle.ds_outside.proofs.Front.{FrontSoFar}
+use Rattle.ds_outside.proofs.PiecewiseRead.{FrontSoFar}
 use Rattle.ds_outside.proofs.files.read_whole.Given as goal
 
 abbrev pub invariant-reading : goal.invariant-reading

@@ -6,9 +6,9 @@ use Rattle.ds_marked.specs.declared.marked.Event.{Event}
 use Rattle.ds_rank.specs.declared.edge.Edge.{Edge}
 use Rattle.ds_rank.specs.Order.{HasEdge}
 use Rattle.ds_rank.specs.Free.{edge_of_arc}
-use Rattle.ds_rank.proofs.By.{cycle_by}
+use Rattle.ds_rank.proofs.RelatedOrders.{cycle_by}
 use Rattle.ds_period.specs.Timing.{Leads}
-use Rattle.ds_period.proofs.Circles.{cycle_closes, edge_by, ends_of, leads_from, none_closes, none_there, some_there}
+use Rattle.ds_period.proofs.ClosedWalks.{cycle_closes, edge_by, ends_of, leads_from, none_closes, none_there, some_there}
 use Rattle.ds_period.proofs.cyclic.has_cycle.Goals as goal
 
 pub least_ranks-requires-clause-ends : goal.least_ranks-requires-clause-ends

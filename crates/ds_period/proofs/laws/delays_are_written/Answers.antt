@@ -1,4 +1,4 @@
-use Rattle.ds_period.proofs.Written.{delays_written}
+use Rattle.ds_period.proofs.GivenDelays.{delays_written}
 use Rattle.ds_period.proofs.laws.delays_are_written.Goals as goal
 
 pub returns : goal.returns

@@ -1,4 +1,4 @@
-use Rattle.ds_period.proofs.Controlled.{plans}
+use Rattle.ds_period.proofs.InputCycle.{plans}
 use Rattle.ds_period.proofs.laws.plans_have_periods.Goals as goal
 
 pub returns : goal.returns

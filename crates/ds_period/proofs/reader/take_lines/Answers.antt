@@ -3,7 +3,7 @@ use Rattle.ds_base.specs.Refusal.{RefusesAs}
 use Rattle.ds_period.specs.Read.{delays_of}
 use Rattle.ds_base.specs.declared.refusal.Refusal.{Refusal}
 use Rattle.ds_lines.specs.declared.at.At.{At}
-use Rattle.ds_period.proofs.Taking.{refused, taken_all, taken_more, taken_none}
+use Rattle.ds_period.proofs.DelayLines.{refused, taken_all, taken_more, taken_none}
 use Rattle.ds_period.proofs.reader.take_lines.Goals as goal
 use Rattle.ds_period.specs.declared.fault.DelayKind.{DelayKind}
 

@@ -1,7 +1,7 @@
 use Rattle.std.proofs.Common.{◌≡◌, ◌∙◌, Bool, true, false, arith, ap, ap₂, get_or, refl, sym}
 use Rattle.ds_marked.specs.declared.marked.Arc.{Arc}
 use Rattle.ds_period.specs.Read.{is_from_to}
-use Rattle.ds_period.proofs.Filled.{filled_all, filled_more, filled_none, filled_up, first_ends}
+use Rattle.ds_period.proofs.ParallelArcs.{filled_all, filled_more, filled_none, filled_up, first_ends}
 use Rattle.ds_period.proofs.reading.fill.Goals as goal
 
 pub loop-k-init : goal.loop-k-init

@@ -1,6 +1,6 @@
 use Rattle.std.proofs.Common.{◌≤◌, ℕ}
 use Rattle.ds_period.specs.Step.{IsFirstBetween}
-use Rattle.ds_period.proofs.Filled.{AreFilled}
+use Rattle.ds_period.proofs.ParallelArcs.{AreFilled}
 use Rattle.ds_period.proofs.reading.fill.Given as goal
 
 abbrev pub invariant-loop-k : goal.invariant-loop-k

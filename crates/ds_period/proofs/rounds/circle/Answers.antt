@@ -4,7 +4,7 @@ use Rattle.ds_rank.specs.Order.{HasEdge}
 use Rattle.ds_period.specs.Parents.{AreParentEdges}
 use Rattle.ds_period.specs.Search.{IsParent}
 use Rattle.ds_period.proofs.Grow.{part_ends}
-use Rattle.ds_period.proofs.Ranked.{found_by}
+use Rattle.ds_period.proofs.CycleByRanks.{found_by}
 use Rattle.ds_period.proofs.rounds.circle.Goals as goal
 
 pub circle_along-requires-clause-ends : goal.circle_along-requires-clause-ends

@@ -1,7 +1,7 @@
 use Rattle.std.proofs.Common.{◌∙◌, ◌<◌, ◌≤◌, ◌^◌, ℕ, length, subst, sym, ap, Err}
 use Rattle.ds_rank.specs.Order.{HasEdge}
 use Rattle.ds_rank.specs.Search.{EndsAreNodes}
-use Rattle.ds_period.proofs.Ranked.{are_zeros, ranked, zeros_room}
+use Rattle.ds_period.proofs.CycleByRanks.{are_zeros, ranked, zeros_room}
 use Rattle.ds_period.proofs.rounds.circle_along.Goals as goal
 
 pub least_ranks-requires-clause-ends : goal.least_ranks-requires-clause-ends

@@ -1,4 +1,4 @@
-use Rattle.ds_period_laws.proofs.Alike.{fewest_reach}
+use Rattle.ds_period_laws.proofs.ParallelArcDelays.{fewest_reach}
 use Rattle.ds_period_laws.proofs.fewest.cycles_go_by_fewest_tokens.Goals as goal
 
 pub returns : goal.returns

@@ -1,4 +1,4 @@
-use Rattle.ds_period_laws.proofs.Graphs.{delays_are_one_each}
+use Rattle.ds_period_laws.proofs.TimedGraphs.{delays_are_one_each}
 use Rattle.ds_period_laws.proofs.periods.delays_are_one_each.Goals as goal
 
 pub returns : goal.returns

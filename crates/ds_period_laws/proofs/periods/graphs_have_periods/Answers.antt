@@ -1,4 +1,4 @@
-use Rattle.ds_period_laws.proofs.Graphs.{graphs_have_periods}
+use Rattle.ds_period_laws.proofs.TimedGraphs.{graphs_have_periods}
 use Rattle.ds_period_laws.proofs.periods.graphs_have_periods.Goals as goal
 
 pub returns : goal.returns

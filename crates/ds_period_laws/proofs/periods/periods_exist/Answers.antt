@@ -1,4 +1,4 @@
-use Rattle.ds_period_laws.proofs.Graphs.{periods_exist}
+use Rattle.ds_period_laws.proofs.TimedGraphs.{periods_exist}
 use Rattle.ds_period_laws.proofs.periods.periods_exist.Goals as goal
 
 pub returns : goal.returns

@@ -1,4 +1,4 @@
-use Rattle.ds_period_laws.proofs.Graphs.{plans_are_timed}
+use Rattle.ds_period_laws.proofs.TimedGraphs.{plans_are_timed}
 use Rattle.ds_period_laws.proofs.periods.plans_are_timed.Goals as goal
 
 pub returns : goal.returns

@@ -1,4 +1,4 @@
-use Rattle.ds_period_laws.proofs.Agree.{graphs_have_one_period}
+use Rattle.ds_period_laws.proofs.OnePeriod.{graphs_have_one_period}
 use Rattle.ds_period_laws.proofs.single.graphs_have_one_period.Goals as goal
 
 pub returns : goal.returns

@@ -9,7 +9,7 @@ use Rattle.ds_rank.specs.declared.fault.RankFault.{RankFault}
 use Rattle.ds_rank.specs.Free.{free_part}
 use Rattle.ds_rank.specs.Rank.{HasFreeArc, IsRankFault}
 use Rattle.ds_rank.proofs.Freed.{free_ends, free_from, free_into}
-use Rattle.ds_rank.proofs.By.{cycle_by, ranks_by}
+use Rattle.ds_rank.proofs.RelatedOrders.{cycle_by, ranks_by}
 use Rattle.ds_rank.proofs.find.rank.Goals as goal
 
 pub least_ranks-requires-clause-ends : goal.least_ranks-requires-clause-ends

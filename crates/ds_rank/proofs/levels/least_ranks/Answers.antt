@@ -3,7 +3,7 @@ use Rattle.std.specs.List.{slice_index}
 use Rattle.ds_base.specs.Greatest.{greatest}
 use Rattle.ds_rank.specs.Order.{HasEdge, IsRanks}
 use Rattle.ds_rank.specs.Search.{IsSearch, State}
-use Rattle.ds_rank.proofs.Begin.{ended, ended_few, met_done}
+use Rattle.ds_rank.proofs.SearchBeginAndEnd.{ended, ended_few, met_done}
 use Rattle.ds_rank.proofs.levels.least_ranks.Goals as goal
 use Rattle.ds_rank.proofs.levels.least_ranks.Goals.{then-color_of-eq2+in_ok-visit, else-color_of-eq2}
 

@@ -3,7 +3,7 @@ use Rattle.std.proofs.lemmas.List.{get_or_default}
 use Rattle.std.proofs.Math.ListN.{set}
 use Rattle.ds_rank.specs.Order.{target_at}
 use Rattle.ds_rank.specs.Search.{IsLinkedTo}
-use Rattle.ds_rank.proofs.Chains.{links_more}
+use Rattle.ds_rank.proofs.EdgeChains.{links_more}
 use Rattle.ds_rank.proofs.links.links.Goals as goal
 
 pub loop-k-preserved : goal.loop-k-preserved

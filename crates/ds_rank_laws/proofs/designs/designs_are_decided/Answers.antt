@@ -1,4 +1,4 @@
-use Rattle.ds_rank_laws.proofs.Decided.{designs_are_decided}
+use Rattle.ds_rank_laws.proofs.DesignsDecided.{designs_are_decided}
 use Rattle.ds_rank_laws.proofs.designs.designs_are_decided.Goals as goal
 
 pub returns : goal.returns

@@ -1,4 +1,4 @@
-use Rattle.ds_rank_laws.proofs.Decided.{designs_have_depth}
+use Rattle.ds_rank_laws.proofs.DesignsDecided.{designs_have_depth}
 use Rattle.ds_rank_laws.proofs.designs.designs_have_depth.Goals as goal
 
 pub returns : goal.returns

@@ -1,4 +1,4 @@
-use Rattle.ds_rank_laws.proofs.Ranked.{events_have_ranks_or_cycle}
+use Rattle.ds_rank_laws.proofs.RanksOrCycle.{events_have_ranks_or_cycle}
 use Rattle.ds_rank_laws.proofs.ranks.events_have_ranks_or_cycle.Goals as goal
 
 pub returns : goal.returns

@@ -1,4 +1,4 @@
-use Rattle.ds_rank_laws.proofs.Ranked.{live_graphs_have_ranks}
+use Rattle.ds_rank_laws.proofs.RanksOrCycle.{live_graphs_have_ranks}
 use Rattle.ds_rank_laws.proofs.ranks.live_graphs_have_ranks.Goals as goal
 
 pub returns : goal.returns

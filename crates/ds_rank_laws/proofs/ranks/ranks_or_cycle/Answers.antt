@@ -1,4 +1,4 @@
-use Rattle.ds_rank_laws.proofs.Ranked.{ranks_or_cycle}
+use Rattle.ds_rank_laws.proofs.RanksOrCycle.{ranks_or_cycle}
 use Rattle.ds_rank_laws.proofs.ranks.ranks_or_cycle.Goals as goal
 
 pub returns : goal.returns

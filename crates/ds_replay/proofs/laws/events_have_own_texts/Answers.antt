@@ -1,4 +1,4 @@
-use Rattle.ds_replay.proofs.Logs.{own_texts}
+use Rattle.ds_replay.proofs.LogLines.{own_texts}
 use Rattle.ds_replay.proofs.laws.events_have_own_texts.Goals as goal
 
 pub returns : goal.returns

@@ -1,5 +1,5 @@
 use Rattle.ds_replay.specs.Replay.{log_of}
-use Rattle.ds_replay.proofs.Logs.{fires, legal}
+use Rattle.ds_replay.proofs.LogLines.{fires, legal}
 use Rattle.ds_replay.proofs.laws.fires_legal_logs.Goals as goal
 
 pub returns : goal.returns

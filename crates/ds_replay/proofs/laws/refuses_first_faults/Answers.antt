@@ -1,4 +1,4 @@
-use Rattle.ds_replay.proofs.Logs.{refuses}
+use Rattle.ds_replay.proofs.LogLines.{refuses}
 use Rattle.ds_replay.proofs.laws.refuses_first_faults.Goals as goal
 
 pub returns : goal.returns

@@ -1,5 +1,5 @@
 use Rattle.std.proofs.Common.{◌∙◌, sym, arith}
-use Rattle.ds_replay.proofs.Places.{start_here, start_none}
+use Rattle.ds_replay.proofs.LogStart.{start_here, start_none}
 use Rattle.ds_replay.proofs.start.start.Goals as goal
 
 pub returns-then-is_firings-clause-value : goal.returns-then-is_firings-clause-value

@@ -6,7 +6,7 @@ use Rattle.ds_fire.specs.Snapshot.{split_of, stored_values}
 use Rattle.ds_outside.proofs.Pens.{puts_on, with_put}
 use Rattle.ds_rows.specs.Homes.{no_home}
 use Rattle.ds_rows.specs.declared.homes.Home.{Home}
-use Rattle.ds_replay.proofs.Registers.{line_is}
+use Rattle.ds_replay.proofs.StoredRegisters.{line_is}
 use Rattle.ds_replay.proofs.state_text.put_register.Goals as goal
 
 pub returns : goal.returns

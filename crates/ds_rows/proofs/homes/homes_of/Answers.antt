@@ -3,7 +3,7 @@ use Rattle.std.specs.Prelude.{All}
 use Rattle.std.proofs.lemmas.List.{get_or_default}
 use Rattle.ds_latch.specs.Node.{members}
 use Rattle.ds_rows.specs.Homes.{ArePlaced, IsPlacedOrKept, no_home}
-use Rattle.ds_rows.proofs.Housed.{housed_all, housed_more, members_within}
+use Rattle.ds_rows.proofs.RegisterHomes.{housed_all, housed_more, members_within}
 use Rattle.ds_rows.proofs.homes.homes_of.Goals as goal
 
 pub returns : goal.returns

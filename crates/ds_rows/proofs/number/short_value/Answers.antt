@@ -1,5 +1,5 @@
 use Rattle.std.proofs.Common.{◌-◌, ◌*◌, ◌+◌, ◌<◌, get_or, refl, arith}
-use Rattle.ds_rows.proofs.Numbers.{digit_more}
+use Rattle.ds_rows.proofs.DecimalDigits.{digit_more}
 use Rattle.ds_rows.proofs.number.short_value.Goals as goal
 
 pub overflow_mul-value : goal.overflow_mul-value

@@ -2,7 +2,7 @@ use Rattle.std.proofs.Common.{◌≡◌, ◌∙◌, ◌+◌, ap, sym, subst, Lis
 use Rattle.ds_base.specs.Values.{Row}
 use Rattle.ds_lines.specs.Line.{line_or_none}
 use Rattle.ds_rows.specs.Vector.{fault_of_vector, row_of}
-use Rattle.ds_rows.proofs.Reading.{IsRead, read_more}
+use Rattle.ds_rows.proofs.RowsSoFar.{IsRead, read_more}
 use Rattle.ds_rows.proofs.reader.read_vectors.Goals as goal
 
 pub loop-i-preserved : goal.loop-i-preserved

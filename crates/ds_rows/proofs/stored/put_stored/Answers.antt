@@ -1,7 +1,7 @@
 use Rattle.std.proofs.Common.{◌≡◌, ◌/◌, length, arith}
 use Rattle.ds_rows.specs.Log.{at_place}
 use Rattle.ds_rows.proofs.ValueWords.{all_places, no_places, places_long}
-use Rattle.ds_rows.proofs.Values.{value_chars-chunk}
+use Rattle.ds_rows.proofs.RowText.{value_chars-chunk}
 use Rattle.ds_outside.proofs.Pens.{puts_nothing, puts_on, with_put}
 use Rattle.ds_rows.proofs.stored.put_stored.Goals as goal
 

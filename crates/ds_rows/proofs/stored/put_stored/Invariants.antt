@@ -2,7 +2,7 @@ use Rattle.std.proofs.Common.{◌≡◌, List, take, length, ◌-◌, ◌≤◌,
 use Rattle.ds_base.specs.Values.{Row}
 use Rattle.ds_outside.specs.Pen.{Puts}
 use Rattle.ds_rows.specs.Log.{at_place, value_words}
-use Rattle.ds_rows.proofs.Values.{value_chars}
+use Rattle.ds_rows.proofs.RowText.{value_chars}
 use Rattle.ds_rows.proofs.stored.put_stored.Given as goal
 
 abbrev pub invariant-writing : goal.invariant-writing

@@ -5,7 +5,7 @@ use Rattle.std.specs.List.Sorted.{IsPermutation}
 use Rattle.ds_latch.specs.Node.{nodes}
 use Rattle.ds_rule.specs.declared.layout.DataEdge.{DataEdge}
 use Rattle.ds_run.specs.Tokened.{tokened}
-use Rattle.ds_run.proofs.Joined.{are_edges}
+use Rattle.ds_run.proofs.EdgeTokens.{are_edges}
 use Rattle.ds_run.proofs.edges.edges_of.Goals as goal
 use Rattle.ds_run.proofs.edges.edges_of.Goals.{In_ok-sort_by_consumer}
 

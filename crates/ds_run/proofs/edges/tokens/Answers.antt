@@ -1,6 +1,6 @@
 use Rattle.std.proofs.Common.{◌∙◌, ap, sym}
 use Rattle.ds_run.specs.Tokened.{tokens_of}
-use Rattle.ds_run.proofs.Joined.{tokens-node}
+use Rattle.ds_run.proofs.EdgeTokens.{tokens-node}
 use Rattle.ds_run.proofs.edges.tokens.Goals as goal
 
 pub returns : goal.returns

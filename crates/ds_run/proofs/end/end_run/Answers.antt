@@ -1,7 +1,7 @@
 use Rattle.std.proofs.Common.{rules, ◌++◌, refl}
 use Rattle.ds_design.specs.Trace.{end_line}
 use Rattle.ds_outside.proofs.Pens.{finished, puts_on}
-use Rattle.ds_run.proofs.Ended.{known_some}
+use Rattle.ds_run.proofs.WindowTexts.{known_some}
 use Rattle.ds_run.proofs.end.end_run.Goals as goal
 
 pub put_log-requires : goal.put_log-requires

@@ -1,4 +1,4 @@
-use Rattle.ds_run.proofs.Firings.{firings_are_legal_lem}
+use Rattle.ds_run.proofs.RecordFirings.{firings_are_legal_lem}
 use Rattle.ds_run.proofs.laws.firings_are_legal.Goals as goal
 
 pub returns : goal.returns

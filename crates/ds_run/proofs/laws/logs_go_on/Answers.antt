@@ -1,4 +1,4 @@
-use Rattle.ds_run.proofs.Ended.{logs_go_on}
+use Rattle.ds_run.proofs.WindowTexts.{logs_go_on}
 use Rattle.ds_run.proofs.laws.logs_go_on.Goals as goal
 
 pub returns : goal.returns

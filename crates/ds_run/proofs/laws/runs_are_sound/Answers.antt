@@ -1,4 +1,4 @@
-use Rattle.ds_run.proofs.Sound.{runs_are_sound_lem}
+use Rattle.ds_run.proofs.RunsAreSound.{runs_are_sound_lem}
 use Rattle.ds_run.proofs.laws.runs_are_sound.Goals as goal
 
 pub returns : goal.returns

@@ -11,8 +11,8 @@ use Rattle.ds_opening.specs.Foreseen.{foreseen_rows}
 use Rattle.ds_rule.specs.Run.{Run}
 use Rattle.ds_run.specs.Layout.{AreDataEdges, AreLengths, AreValues, IsRunOf}
 use Rattle.ds_run.specs.Laws.{IsRunWithin}
-use Rattle.ds_run.proofs.Sound.{room, run_accepted, run_sound}
-use Rattle.ds_run.proofs.Values.{values_are}
+use Rattle.ds_run.proofs.RunsAreSound.{room, run_accepted, run_sound}
+use Rattle.ds_run.proofs.ClockedValues.{values_are}
 use Rattle.ds_run.proofs.layout.layout_of.Goals as goal
 use Rattle.ds_run.proofs.layout.layout_of.Goals.{After-events, After-of}
 

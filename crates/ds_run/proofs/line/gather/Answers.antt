@@ -4,7 +4,7 @@ use Rattle.ds_latch.specs.Node.{Split, members, number_of}
 use Rattle.ds_latch.specs.declared.node.Node.TheVariants.{Slave}
 use Rattle.ds_rule.specs.Run.{Run}
 use Rattle.ds_rule.specs.Words.{node_values as stored_at}
-use Rattle.ds_run.proofs.Gathered.{gathered_all, one_cluster}
+use Rattle.ds_run.proofs.GatheredRegisters.{gathered_all, one_cluster}
 use Rattle.ds_run.proofs.line.gather.Goals as goal
 
 pub spread_row-requires-clause-stored : goal.spread_row-requires-clause-stored

@@ -10,7 +10,7 @@ use Rattle.ds_rule.specs.Run.{Run}
 use Rattle.ds_rule.specs.Words.{width, node_values as stored_at}
 use Rattle.ds_fabric.proofs.RowReads.{value-word, width_read}
 use Rattle.ds_run.specs.Line.{AreSpread}
-use Rattle.ds_run.proofs.Gathered.{one_word, part_shown}
+use Rattle.ds_run.proofs.GatheredRegisters.{one_word, part_shown}
 use Rattle.ds_run.proofs.line.spread_row.Goals as goal
 
 pub word-requires-clause-inside : goal.word-requires-clause-inside

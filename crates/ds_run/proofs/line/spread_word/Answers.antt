@@ -7,7 +7,7 @@ use Rattle.ds_base.specs.Values.{Row}
 use Rattle.ds_base.specs.Word.{number_of_values}
 use Rattle.ds_base.specs.declared.value.Value.{Value}
 use Rattle.ds_cover.specs.Cover.{value_at, values_at}
-use Rattle.ds_run.proofs.Gathered.{one_value}
+use Rattle.ds_run.proofs.GatheredRegisters.{one_value}
 use Rattle.ds_run.proofs.line.spread_word.Goals as goal
 
 pub loop-register-preserved : goal.loop-register-preserved

@@ -1,6 +1,6 @@
 use Rattle.std.proofs.Common.{◌≡◌, ℕ, arith, length, subst, sym}
 use Rattle.std.specs.List.{flat_map, range_with_len}
-use Rattle.ds_control.proofs.Two.{flat_map_next}
+use Rattle.ds_control.proofs.TwoForEach.{flat_map_next}
 use Rattle.ds_outside.specs.Pen.{Puts}
 use Rattle.ds_outside.proofs.Pens.{puts_nothing, puts_on, with_put}
 use Rattle.ds_run.specs.Left.{home_line}

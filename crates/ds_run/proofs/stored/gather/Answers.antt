@@ -4,7 +4,7 @@ use Rattle.std.proofs.lemmas.List.{take_all, take_more_set}
 use Rattle.ds_rows.specs.Log.{value_words}
 use Rattle.ds_rule.specs.Run.{Run}
 use Rattle.ds_run.specs.Latched.{word_values}
-use Rattle.ds_run.proofs.Pieces.{words_more}
+use Rattle.ds_run.proofs.RowPieces.{words_more}
 use Rattle.ds_run.proofs.stored.gather.Goals as goal
 
 pub overflow_add-from : goal.overflow_add-from

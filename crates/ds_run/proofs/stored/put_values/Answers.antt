@@ -7,7 +7,7 @@ use Rattle.ds_outside.proofs.Pens.{puts_nothing, puts_on, with_put}
 use Rattle.ds_rule.specs.Run.{Run}
 use Rattle.ds_rule.specs.Words.{node_values}
 use Rattle.ds_run.specs.Latched.{word_values}
-use Rattle.ds_run.proofs.Pieces.{text_all, text_more, values_of}
+use Rattle.ds_run.proofs.RowPieces.{text_all, text_more, values_of}
 use Rattle.ds_run.proofs.stored.put_values.Goals as goal
 
 pub writing-init : goal.writing-init

@@ -2,7 +2,7 @@ use Rattle.std.proofs.Common.{◌-◌, ◌≤◌, map}
 use Rattle.std.specs.List.{range_with_len}
 use Rattle.ds_design.specs.Trace.{value_text}
 use Rattle.ds_outside.specs.Pen.{Puts}
-use Rattle.ds_run.proofs.Pieces.{values_of}
+use Rattle.ds_run.proofs.RowPieces.{values_of}
 use Rattle.ds_run.proofs.stored.put_values.Given as goal
 
 abbrev pub invariant-writing : goal.invariant-writing

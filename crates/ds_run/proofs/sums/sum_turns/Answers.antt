@@ -7,7 +7,7 @@ use Rattle.ds_run.specs.Layout.{AreValues}
 use Rattle.ds_run.specs.Line.{HasLine}
 use Rattle.ds_run.specs.Summed.{ones_in, ones_of}
 use Rattle.ds_run.proofs.NodeRecords.{has_slaves, out_stored, out_wide}
-use Rattle.ds_run.proofs.Turns.{gathered_is, line_read, outputs_long, outputs_read}
+use Rattle.ds_run.proofs.FinishedTurns.{gathered_is, line_read, outputs_long, outputs_read}
 use Rattle.ds_run.proofs.Summed.{all_folded, none_folded, ones_more, outputs_few, turn_folded}
 use Rattle.ds_run.proofs.sums.sum_turns.Goals as goal
 

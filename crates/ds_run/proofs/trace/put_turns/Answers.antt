@@ -6,10 +6,10 @@ use Rattle.ds_fabric.specs.Showing.{Recorder}
 use Rattle.ds_outside.specs.Pen.{Puts}
 use Rattle.ds_outside.proofs.Pens.{puts_nothing, puts_on}
 use Rattle.ds_clocked.specs.Loop.{IsWrittenTo}
-use Rattle.ds_clocked.proofs.Turns.{no_turn, last_turn}
+use Rattle.ds_clocked.proofs.OneMoreTurn.{no_turn, last_turn}
 use Rattle.ds_run.specs.Line.{HasLine}
 use Rattle.ds_run.proofs.NodeRecords.{has_slaves, out_stored, out_wide}
-use Rattle.ds_run.proofs.Turns.{gathered_is, line_read, turn_written}
+use Rattle.ds_run.proofs.FinishedTurns.{gathered_is, line_read, turn_written}
 use Rattle.ds_run.proofs.trace.put_turns.Goals as goal
 
 pub loop-k-init : goal.loop-k-init

@@ -1,6 +1,6 @@
 use Rattle.std.proofs.Common.{◌≡◌, ◌∙◌, ap, length, subst, sym}
 use Rattle.ds_latch.specs.Node.{Split}
-use Rattle.ds_run.proofs.Ended.{row_long}
+use Rattle.ds_run.proofs.WindowTexts.{row_long}
 use Rattle.ds_run.proofs.window.write_window.Goals as goal
 
 pub returns-clause-ok_row : goal.returns-clause-ok_row

@@ -1,11 +1,11 @@
-use Rattle.ds_runner.proofs.Work.{rounds_end, shrinks}
+use Rattle.ds_runner.proofs.WorkLemmas.{rounds_end, shrinks}
 use Rattle.ds_runner.proofs.complete.fire_rounds.Goals as goal
 
 pub rounds-smaller : goal.rounds-smaller
-rounds-smaller g c = shrinks c.args.site.now.run c.rounds.pass.view c.go_round-busy.new.pass.view c.go_round-busy.result
+rounds-smaller g c = shrinks c.args.workload.now.run c.rounds.pass.view c.go_round-busy.new.pass.view c.go_round-busy.result
     c.go_round-busy.ensures.told c.if-not-busy.false
 
 pub returns-then-not-busy-clause-done : goal.returns-then-not-busy-clause-done
-returns-then-not-busy-clause-done g c short e near = rounds_end c.args.site.now.run c.requires.accepted.0 c.requires.accepted.1
+returns-then-not-busy-clause-done g c short e near = rounds_end c.args.workload.now.run c.requires.accepted.0 c.requires.accepted.1
     c.rounds.pass.view c.go_round-busy.new.pass.view c.go_round-busy.result c.go_round-busy.ensures.told
     c.if-not-busy.true e near

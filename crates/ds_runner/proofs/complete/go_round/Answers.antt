@@ -3,14 +3,14 @@ use Rattle.ds_rule.specs.Run.{Run}
 use Rattle.ds_rule.specs.declared.view.View.{View}
 use Rattle.ds_fabric.specs.Base.{Base}
 use Rattle.ds_runner.specs.Work.{AdvancesBelow}
-use Rattle.ds_runner.proofs.Work.{one_more_node, moved_on}
+use Rattle.ds_runner.proofs.WorkLemmas.{one_more_node, moved_on}
 use Rattle.ds_runner.proofs.complete.go_round.Goals as goal
 use Rattle.ds_runner.proofs.complete.go_round.Goals.{then-advance_twice+else-caller-eq0, else-advance_twice}
 
 pub nodes-preserved : goal.nodes-preserved
-nodes-preserved g c = let i = c.nodes.invariant in let run : Run = c.args.site.now.run in
+nodes-preserved g c = let i = c.nodes.invariant in let run : Run = c.args.workload.now.run in
     let v : View = c.args.pass.now.view in let w : View = c.advance_twice.new.pass.view in
-    let runs = c.site.invariant.0 ∙ ap (λ (x : Base). x.run) c.site.view_is in
+    let runs = c.workload.invariant.0 ∙ ap (λ (x : Base). x.run) c.workload.view_is in
     let both = one_more_node run v c.nodes.pass.view w c.nodes.node c.nodes.busy c.advance_twice.result c.requires.sound
     (omega (arith, ap (λ (r : Run). r.nodes) runs)) (i.1, i.2) c.advance_twice.ensures.told in
     let busy : cond c.advance_twice.result true c.nodes.busy ≡ c.if-advance_twice.busy = elim c.if-advance_twice.branch [
@@ -21,7 +21,7 @@ nodes-preserved g c = let i = c.nodes.invariant in let run : Run = c.args.site.n
       | then-advance_twice+else-caller-eq0 b ↦ omega (arith, b.if-caller-eq0.false)
       | else-advance_twice b ↦ c.advance_twice.ensures.stuck b.if-advance_twice.false
     ] in (
-      moved_on c.args.site.now.memory c.args.pass.now c.nodes.pass c.advance_twice.new.pass i.0 c.advance_twice.ensures.moved,
+      moved_on c.args.workload.now.memory c.args.pass.now c.nodes.pass c.advance_twice.new.pass i.0 c.advance_twice.ensures.moved,
       subst (λ (b : Bool). AdvancesBelow run v (c.nodes.node + 1) w b) busy both.0,
       both.1,
       c.advance_twice.ensures.fired ∙ i.3,

@@ -4,7 +4,7 @@ use mathlib.Core.Option.{some}
 use native.Mathlib.Decide.{ℕ_discrete}
 use lib.ListN.{get_elem?}
 use Rattle.ds_marked.specs.declared.marked.Arc.{Arc}
-use Rattle.ds_rule.proofs.Lists.{at_below, at_get}
+use Rattle.ds_rule.proofs.GetElemLemmas.{at_below, at_get}
 use Rattle.ds_runner.proofs.firing_order.rise.Goals as goal
 
 pub loop-i-preserved : goal.loop-i-preserved

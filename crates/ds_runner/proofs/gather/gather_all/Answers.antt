@@ -9,9 +9,9 @@ use Rattle.ds_fabric.specs.Base.{Base}
 use Rattle.ds_fabric.specs.Showing.{Showing}
 use Rattle.ds_runner.specs.Turns.{Alone, sum_below}
 use Rattle.ds_runner.specs.Work.{AreSingle}
-use Rattle.ds_runner.proofs.Hired.{taken_last}
-use Rattle.ds_runner.proofs.Starts.{fires-at, fires_of, sum-fires}
-use Rattle.ds_runner.proofs.Firings.{taken_tickets, tickets-nodes}
+use Rattle.ds_runner.proofs.HiringLemmas.{taken_last}
+use Rattle.ds_runner.proofs.TurnstileAtStart.{fires-at, fires_of, sum-fires}
+use Rattle.ds_runner.proofs.NodeFirings.{taken_tickets, tickets-nodes}
 use Rattle.ds_rule.specs.Run.{Run}
 use Rattle.ds_runner.proofs.gather.gather_all.Goals as goal
 
@@ -22,30 +22,30 @@ last b ps vs p items all = all (length ps) p
 
 pub fired-fired-requires : goal.fired-fired-requires
 fired-fired-requires g c =
-    let one = last c.args.site.now c.pop.new.self.items c.taking.passes.items c.in-Some.one c.in-Some.ensures.items c.taking.invariant.1 in
+    let one = last c.args.workload.now c.pop.new.self.items c.taking.passes.items c.in-Some.one c.in-Some.ensures.items c.taking.invariant.1 in
     let node : c.new.result ≡ length c.pop.new.self.items = omega (arith, c.new.ensures, c.len.ensures) in
     ap (holds c.in-Some.one.view) node ∙ one.2
 
 pub gather-requires-clause-other : goal.gather-requires-clause-other
 gather-requires-clause-other g c =
-    let one = last c.args.site.now c.pop.new.self.items c.taking.passes.items c.in-Some.one c.in-Some.ensures.items c.taking.invariant.1 in
+    let one = last c.args.workload.now c.pop.new.self.items c.taking.passes.items c.in-Some.one c.in-Some.ensures.items c.taking.invariant.1 in
     record {
-      table = one.0 ∙ ap (λ (x : Base). x.table_id) (sym c.site.view_is);
-      run = one.1 ∙ ap (λ (x : Base). x.run) (sym c.site.view_is);
+      table = one.0 ∙ ap (λ (x : Base). x.table_id) (sym c.workload.view_is);
+      run = one.1 ∙ ap (λ (x : Base). x.run) (sym c.workload.view_is);
     }
 
 pub gather-requires-clause-room : goal.gather-requires-clause-room
 gather-requires-clause-room g c =
-    let one = last c.args.site.now c.pop.new.self.items c.taking.passes.items c.in-Some.one c.in-Some.ensures.items c.taking.invariant.1 in
+    let one = last c.args.workload.now c.pop.new.self.items c.taking.passes.items c.in-Some.one c.in-Some.ensures.items c.taking.invariant.1 in
     let size : length c.taking.passes.items ≡ length c.pop.new.self.items + 1 =
     ap (λ (xs : List Showing). length xs) c.in-Some.ensures.items ∙ length-append c.pop.new.self.items (c.in-Some.one ∷ []) in
     omega (arith, one.3, size, c.taking.invariant.2)
 
 pub taking-preserved : goal.taking-preserved
 taking-preserved g c =
-    let b : Base = c.args.site.now in
+    let b : Base = c.args.workload.now in
     let ps : List Showing = c.pop.new.self.items in
-    let runs = c.site.invariant.0 ∙ ap (λ (x : Base). x.run) c.site.view_is in
+    let runs = c.workload.invariant.0 ∙ ap (λ (x : Base). x.run) c.workload.view_is in
     let start : 0 + length ps ≡ length ps = omega arith in
     let i = c.taking.invariant in let e = c.gather.ensures in
     let one = last b ps c.taking.passes.items c.in-Some.one c.in-Some.ensures.items i.1 in
@@ -67,17 +67,17 @@ taking-preserved g c =
           (λ k near far. i.4 k (omega (arith, near, size)) far),
       (λ k p there. i.5 k p (before k p there)),
       taken_tickets b c.taking.pass.view c.gather.new.pass.view c.in-Some.one (length ps) (fires_of c.args.passes.items 0)
-          (subst (λ (r : Run). r.latches ≤ r.nodes) runs c.site.invariant.1.among) i.0.run e.view one c.fired-fired.ensures.counted
+          (subst (λ (r : Run). r.latches ≤ r.nodes) runs c.workload.invariant.1.among) i.0.run e.view one c.fired-fired.ensures.counted
           (fires-at c.args.passes.items 0 (length ps) c.in-Some.one (i.5 (length ps) c.in-Some.one here) ∙ ap (seen c.in-Some.one.view) start)
           (λ k near far. i.6 k (omega (arith, near, size)) far),
     )
 
 pub returns-clause-fired : goal.returns-clause-fired
 returns-clause-fired g c =
-    let b : Base = c.args.site.now in
+    let b : Base = c.args.workload.now in
     let ps : List Showing = c.args.passes.items in
-    let runs = c.site.invariant.0 ∙ ap (λ (x : Base). x.run) c.site.view_is in
+    let runs = c.workload.invariant.0 ∙ ap (λ (x : Base). x.run) c.workload.view_is in
     let i = c.taking.invariant in
-    tickets-nodes b.run c.taking.pass.view (fires_of ps 0) (subst (λ (r : Run). r.latches ≤ r.nodes) runs c.site.invariant.1.among)
+    tickets-nodes b.run c.taking.pass.view (fires_of ps 0) (subst (λ (r : Run). r.latches ≤ r.nodes) runs c.workload.invariant.1.among)
     i.0.run (λ e near. i.6 e (omega (arith, c.in_default.ensures.cases.0)) near)
     ∙ (ap (sum_below (fires_of ps 0)) (sym c.requires.passes.1) ∙ sum-fires ps 0)

@@ -4,17 +4,17 @@ use lib.ListN.{get_elem?}
 use Rattle.ds_rule.specs.Run.{node_of, turns}
 use Rattle.ds_rule.specs.Rule.{holds, tickets}
 use Rattle.ds_fabric.specs.Showing.{Belongs, Showing}
-use Rattle.ds_runner.proofs.Starts.{fires_of}
+use Rattle.ds_runner.proofs.TurnstileAtStart.{fires_of}
 use Rattle.ds_runner.specs.Work.{AreSingle}
 use Rattle.ds_runner.proofs.gather.gather_all.Given as goal
 
 abbrev pub invariant-taking : goal.invariant-taking
-invariant-taking g l = Belongs l.site l.pass × AreSingle l.site l.passes.items
-    × (l.pass.many + length l.passes.items ≤ l.pass.room) × (length l.passes.items ≤ l.site.run.nodes)
-    × ((k : ℕ) → length l.passes.items ≤ k → k < l.site.run.nodes → holds l.pass.view k ≡ true)
+invariant-taking g l = Belongs l.workload l.pass × AreSingle l.workload l.passes.items
+    × (l.pass.many + length l.passes.items ≤ l.pass.room) × (length l.passes.items ≤ l.workload.run.nodes)
+    × ((k : ℕ) → length l.passes.items ≤ k → k < l.workload.run.nodes → holds l.pass.view k ≡ true)
     × ((k : ℕ) (p : Showing) → get_elem? l.passes.items k ≡ some p → get_elem? l.fn.passes.items k ≡ some p)
-    × ((e : ℕ) → length l.passes.items ≤ node_of l.site.run e → node_of l.site.run e < l.site.run.nodes
-    → length (tickets l.pass.view e) ≡ turns l.site.run e (fires_of l.fn.passes.items 0 (node_of l.site.run e)))
+    × ((e : ℕ) → length l.passes.items ≤ node_of l.workload.run e → node_of l.workload.run e < l.workload.run.nodes
+    → length (tickets l.pass.view e) ≡ turns l.workload.run e (fires_of l.fn.passes.items 0 (node_of l.workload.run e)))
 
 abbrev pub decreases-taking : goal.decreases-taking
 decreases-taking g l = length l.passes.items

@@ -5,7 +5,7 @@ use Rattle.ds_runner.specs.Shown.{IsTurnOf}
 use Rattle.ds_runner.specs.declared.turn_view.TurnView.{TurnView}
 use Rattle.ds_runner.specs.Work.{made_of}
 use Rattle.ds_runner.specs.declared.worker.Worker.{Worker}
-use Rattle.ds_runner.proofs.Hired.{all_split, joined_none}
+use Rattle.ds_runner.proofs.HiringLemmas.{all_split, joined_none}
 use Rattle.ds_runner.proofs.gather.join_all.Goals as goal
 
 pub joining-preserved : goal.joining-preserved

@@ -5,7 +5,7 @@ use Rattle.ds_fabric.specs.Showing.{Showing}
 use Rattle.ds_rule.specs.Rule.{seen}
 use Rattle.ds_runner.specs.Turns.{TurnSeat, Slot, Turning, fetched, gave, after_give}
 use Rattle.ds_runner.specs.declared.turn_view.TurnView.{TurnView}
-use Rattle.ds_runner.proofs.Wheels.{fetches, gives_pass}
+use Rattle.ds_runner.proofs.TurnstileRuleLemmas.{fetches, gives_pass}
 use Rattle.ds_runner.proofs.hands.give.Goals as goal
 
 front : List (ℕ × Slot) → Slot

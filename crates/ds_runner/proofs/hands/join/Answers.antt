@@ -1,5 +1,5 @@
 use Rattle.std.proofs.Common.{rules}
-use Rattle.ds_runner.proofs.LastTurns.{joins, learns}
+use Rattle.ds_runner.proofs.LastTurns.{joins, observes_parts}
 use Rattle.ds_runner.proofs.hands.join.Goals as goal
 
 pub join_seat-requires : goal.join_seat-requires
@@ -12,4 +12,4 @@ join_seat-requires c = (
 )
 
 pub load-requires : goal.load-requires
-load-requires c = (search rules, search rules, learns c.args.board.now.key c.args.board.now.table_id.slots c.join_seat.new.seat.id c.join_seat.new.seat.me)
+load-requires c = (search rules, search rules, observes_parts c.args.board.now.key c.args.board.now.table_id.slots c.join_seat.new.seat.id c.join_seat.new.seat.me)

@@ -6,7 +6,7 @@ use Rattle.ds_fabric.specs.Showing.{Showing}
 use Rattle.ds_rule.specs.Rule.{seen}
 use Rattle.ds_runner.specs.Turns.{TurnSeat, Slot, Turning, took, rested, rests_now, after_won_take, after_miss, Alone}
 use Rattle.ds_runner.specs.declared.turn_view.TurnView.{TurnView}
-use Rattle.ds_runner.proofs.Wheels.{takes_pass, rests}
+use Rattle.ds_runner.proofs.TurnstileRuleLemmas.{takes_pass, rests}
 use Rattle.ds_runner.proofs.hands.take.Goals as goal
 
 front : List (ℕ × Slot) → Slot

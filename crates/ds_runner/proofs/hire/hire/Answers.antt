@@ -1,5 +1,5 @@
 use Rattle.std.proofs.Common.{arith}
-use Rattle.ds_runner.proofs.Hired.{are_alone, is_crew, opened_fits}
+use Rattle.ds_runner.proofs.HiringLemmas.{are_alone, is_worker_pool, opened_fits}
 use Rattle.ds_runner.proofs.hire.hire.Goals as goal
 
 pub build-requires-clause-some : goal.build-requires-clause-some
@@ -7,18 +7,18 @@ build-requires-clause-some g c = omega (arith, c.in_ok-passes.ensures.ok.1, c.re
 
 pub build-requires-clause-alone : goal.build-requires-clause-alone
 build-requires-clause-alone g c =
-    are_alone c.args.site.now c.in_ok-passes.passes.items c.in_ok-passes.ensures.ok.0 (omega (arith, c.in_ok-passes.ensures.ok.1, c.requires.count.2))
+    are_alone c.args.workload.now c.in_ok-passes.passes.items c.in_ok-passes.ensures.ok.0 (omega (arith, c.in_ok-passes.ensures.ok.1, c.requires.count.2))
 
 pub staff-requires-clause-fits : goal.staff-requires-clause-fits
 staff-requires-clause-fits g c κs within = (
-  opened_fits c.args.site.now c.in_ok-passes.passes.items c.in_ok-stile.stile c.in_ok-passes.ensures.ok.0
+  opened_fits c.args.workload.now c.in_ok-passes.passes.items c.in_ok-stile.stile c.in_ok-passes.ensures.ok.0
       (omega (arith, c.in_ok-passes.ensures.ok.1, c.requires.count.2)) c.in_ok-passes.ensures.ok.1 c.in_ok-stile.ensures.ok.given_is,
   c.in_ok-stile.ensures.ok.belongs,
 )
 
 pub returns-clause-ok : goal.returns-clause-ok
 returns-clause-ok g c =
-    is_crew c.args.site.now _ c.in_ok-passes.passes.items c.in_ok-stile.turn c.args.count c.in_ok-passes.ensures.ok.0
+    is_worker_pool c.args.workload.now _ c.in_ok-passes.passes.items c.in_ok-stile.turn c.args.count c.in_ok-passes.ensures.ok.0
     c.in_ok-passes.ensures.ok.1 c.requires.count.2 c.in_ok-passes.ensures.ok_unfired c.in_ok-stile.ensures.ok
     c.in_ok-workers.ensures.ok_turn c.in_ok-workers.ensures.ok c.requires.count.0 c.in_ok-stile.ensures.ok_none
     (omega (arith, c.in_ok-stile.ensures.room, c.in_ok-passes.ensures.ok.2))

@@ -2,19 +2,19 @@ use Rattle.std.proofs.Common.{◌∙◌, ap, arith, refl, sym}
 use Rattle.ds_rule.specs.Run.{Run}
 use Rattle.ds_fabric.specs.Base.{Base}
 use Rattle.ds_runner.proofs.FiringOrders.{first_turn_of, still_has, unmoved}
-use Rattle.ds_runner.proofs.Work.{moved_on, still_belongs}
+use Rattle.ds_runner.proofs.WorkLemmas.{moved_on, still_belongs}
 use Rattle.ds_runner.proofs.in_order.fire_turns.Goals as goal
 
 pub is_unfired-requires-clause-run : goal.is_unfired-requires-clause-run
 is_unfired-requires-clause-run g c = (
-  c.requires.fits.run ∙ sym (c.site.invariant.0 ∙ ap (λ (x : Base). x.run) c.site.view_is),
-  c.site.invariant.1,
+  c.requires.fits.run ∙ sym (c.workload.invariant.0 ∙ ap (λ (x : Base). x.run) c.workload.view_is),
+  c.workload.invariant.1,
 )
 
 pub turns-init : goal.turns-init
-turns-init g c = let runs = c.site.invariant.0 ∙ ap (λ (x : Base). x.run) c.site.view_is in (
-  unmoved c.args.site.now.memory c.args.pass.now,
-  first_turn_of c.args.site.now.run c.args.pass.now.view c.args.order.now
+turns-init g c = let runs = c.workload.invariant.0 ∙ ap (λ (x : Base). x.run) c.workload.view_is in (
+  unmoved c.args.workload.now.memory c.args.pass.now,
+  first_turn_of c.args.workload.now.run c.args.pass.now.view c.args.order.now
       (c.requires.order (omega (arith, c.if-order-eq0.false)))
       (λ l near. c.if-not-is_unfired.ensures refl l
       (omega (arith, near, ap (λ (r : Run). r.nodes) runs))),
@@ -23,24 +23,24 @@ turns-init g c = let runs = c.site.invariant.0 ∙ ap (λ (x : Base). x.run) c.s
 
 pub fire_turn-requires-clause-fits : goal.fire_turn-requires-clause-fits
 fire_turn-requires-clause-fits g c κs within =
-    still_belongs c.args.site.now c.args.pass.now c.turns.pass c.requires.fits c.turns.invariant.0
+    still_belongs c.args.workload.now c.args.pass.now c.turns.pass c.requires.fits c.turns.invariant.0
 
 pub fire_turn-requires-clause-all : goal.fire_turn-requires-clause-all
 fire_turn-requires-clause-all g c κs within =
-    still_has c.args.site.now.memory c.args.pass.now c.turns.pass c.requires.all c.turns.invariant.0
+    still_has c.args.workload.now.memory c.args.pass.now c.turns.pass c.requires.all c.turns.invariant.0
 
 pub fire_turn-requires-clause-order : goal.fire_turn-requires-clause-order
 fire_turn-requires-clause-order g c κs within = c.requires.order (omega (arith, c.if-order-eq0.false))
 
 pub fire_turn-requires-clause-turn : goal.fire_turn-requires-clause-turn
-fire_turn-requires-clause-turn g c κs within = let runs = c.site.invariant.0 ∙ ap (λ (x : Base). x.run) c.site.view_is in (
+fire_turn-requires-clause-turn g c κs within = let runs = c.workload.invariant.0 ∙ ap (λ (x : Base). x.run) c.workload.view_is in (
   omega (arith, c.turns-test.true, c.limit-turn-end.ensures, c.turns.auto.turn-end, ap (λ (r : Run). r.limit) runs),
   c.turns.invariant.1,
 )
 
 pub turns-preserved : goal.turns-preserved
 turns-preserved g c = let e = c.if-not-fire_turn.ensures in let i = c.turns.invariant in (
-  moved_on c.args.site.now.memory c.args.pass.now c.turns.pass c.fire_turn.new.pass i.0 e.moved,
+  moved_on c.args.workload.now.memory c.args.pass.now c.turns.pass c.fire_turn.new.pass i.0 e.moved,
   e.turn refl,
   e.fired ∙ i.2,
 )

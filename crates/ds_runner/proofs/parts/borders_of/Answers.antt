@@ -2,7 +2,7 @@ use Rattle.std.proofs.Common.{◌≡◌, ◌∙◌, ℕ, ap, arith, subst}
 use Rattle.ds_rule.specs.Run.{Run}
 use Rattle.ds_fabric.specs.Base.{Base}
 use Rattle.ds_runner.specs.Parts.{AreBorders}
-use Rattle.ds_runner.proofs.Borders.{are_borders, one_longer, one_more_border}
+use Rattle.ds_runner.proofs.BorderLemmas.{are_borders, one_longer, one_more_border}
 use Rattle.ds_runner.proofs.parts.borders_of.Goals as goal
 
 pub loop-part-preserved : goal.loop-part-preserved
@@ -15,8 +15,8 @@ loop-part-preserved g c = let i = c.loop-part.invariant in let items = c.push_re
 
 pub returns : goal.returns
 returns g c = let i = c.loop-part.invariant in
-    let nodes : c.nodes.result ≡ c.args.site.now.run.nodes =
-    c.nodes.ensures ∙ ap (λ (r : Run). r.nodes) (c.site.invariant.0 ∙ ap (λ (b : Base). b.run) c.site.view_is) in
+    let nodes : c.nodes.result ≡ c.args.workload.now.run.nodes =
+    c.nodes.ensures ∙ ap (λ (r : Run). r.nodes) (c.workload.invariant.0 ∙ ap (λ (b : Base). b.run) c.workload.view_is) in
     record {
       ok = subst (λ (n : ℕ). AreBorders n c.args.parts c.push_reserved-2.new.self.items) nodes
           (are_borders c.nodes.result c.args.parts c.loop-part.at.node c.loop-part.borders.items c.push_reserved-2.new.self.items

@@ -4,8 +4,8 @@ use Rattle.ds_rule.specs.Rule.{holds, tickets}
 use Rattle.ds_rule.specs.declared.view.View.{View}
 use Rattle.ds_rule.proofs.EventLaws.{events-is, node_below}
 use Rattle.ds_runner.specs.Work.{HasFrom, tickets_below}
-use Rattle.ds_runner.proofs.Sums.{sum-next}
-use Rattle.ds_runner.proofs.Tickets.{turns-tickets}
+use Rattle.ds_runner.proofs.FiniteSums.{sum-next}
+use Rattle.ds_runner.proofs.TicketCounts.{turns-tickets}
 use Rattle.ds_runner.proofs.rest.left_of.Goals as goal
 
 -- the node of an event that is there

@@ -1,5 +1,5 @@
 use Rattle.std.proofs.Common.{arith}
-use Rattle.ds_runner.proofs.Work.{event_small}
+use Rattle.ds_runner.proofs.WorkLemmas.{event_small}
 use Rattle.ds_runner.proofs.unit.arrive.Goals as goal
 
 pub overflow_cast-event : goal.overflow_cast-event

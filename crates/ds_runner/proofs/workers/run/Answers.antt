@@ -4,8 +4,8 @@ use Rattle.ds_rule.specs.Sound.{IsSound}
 use Rattle.ds_fabric.specs.Showing.{IsFabricBegun}
 use Rattle.ds_runner.specs.FiringOrder.{IsFiringOrder}
 use Rattle.ds_runner.specs.Stopped.{IsRunRecord}
-use Rattle.ds_runner.proofs.Ends.{finished, still_holds}
-use Rattle.ds_runner.proofs.Work.{still_belongs}
+use Rattle.ds_runner.proofs.FinalRecord.{finished, still_holds}
+use Rattle.ds_runner.proofs.WorkLemmas.{still_belongs}
 use Rattle.ds_runner.proofs.workers.run.Goals as goal
 
 pub share_out-requires-clause-begun : goal.share_out-requires-clause-begun

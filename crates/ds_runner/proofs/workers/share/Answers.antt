@@ -3,8 +3,8 @@ use Rattle.ds_fabric.specs.Base.{Base}
 use Rattle.ds_runner.specs.Shown.{Stile}
 use Rattle.ds_runner.specs.Work.{IsWithin, IsWorker}
 use Rattle.ds_runner.specs.declared.worker.Worker.{Worker}
-use Rattle.ds_runner.proofs.Hired.{all_back, all_made}
-use Rattle.ds_runner.proofs.Work.{written}
+use Rattle.ds_runner.proofs.HiringLemmas.{all_back, all_made}
+use Rattle.ds_runner.proofs.WorkLemmas.{overwritten}
 use Rattle.ds_runner.proofs.workers.share.Goals as goal
 
 -- workers whom a call wrote over those that were hired are workers, and as many
@@ -13,14 +13,14 @@ all_written : (b : Base) (s : Stile) (n many : ℕ) (items now new : List Worker
     → All (IsWorker b s) (take many (new ++ drop (length new) items)) × (length (take many (new ++ drop (length new) items)) ≡ length items)
 all_written b s n many items now new is long wide each =
     let size : length new ≡ length items = long ∙ ap (λ (ws : List Worker). length ws) is in
-    let back : take many (new ++ drop (length new) items) ≡ new = written many items new (size ∙ wide) in (
+    let back : take many (new ++ drop (length new) items) ≡ new = overwritten many items new (size ∙ wide) in (
       subst (All (IsWorker b s)) (sym back) (all_back b s n new (λ i d near. each i d (omega (arith, near, long)))).0,
       ap (λ (ws : List Worker). length ws) back ∙ size,
     )
 
-pub gather-requires-clause-crew : goal.gather-requires-clause-crew
-gather-requires-clause-crew g c κs within = let crew = c.in_ok-crew.crew in let was = c.in_ok-crew.ensures.ok in
-    let home = all_written c.args.site.now crew.gear.stile c.args.budget.firings crew.workers.len crew.workers.items
+pub gather-requires-clause-pool : goal.gather-requires-clause-pool
+gather-requires-clause-pool g c κs within = let pool = c.in_ok-pool.pool in let was = c.in_ok-pool.ensures.ok in
+    let home = all_written c.args.workload.now pool.scheduler.stile c.args.budget.firings pool.workers.len pool.workers.items
     c.as_mut_slice.result.now c.drive_all.new.workers c.as_mut_slice.ensures.value c.drive_all.auto.workers (omega arith)
     c.drive_all.ensures in record {
       fits = was.fits;
@@ -36,10 +36,10 @@ gather-requires-clause-crew g c κs within = let crew = c.in_ok-crew.crew in let
     }
 
 pub returns-clause-ok_few : goal.returns-clause-ok_few
-returns-clause-ok_few g c = let crew = c.in_ok-crew.crew in omega (
+returns-clause-ok_few g c = let pool = c.in_ok-pool.pool in omega (
   arith,
   c.gather.ensures.fired,
-  all_made c.args.site.now crew.gear.stile c.args.budget.firings crew.workers.len c.args.budget.workers crew.workers.items
+  all_made c.args.workload.now pool.scheduler.stile c.args.budget.firings pool.workers.len c.args.budget.workers pool.workers.items
       c.as_mut_slice.result.now c.drive_all.new.workers c.as_mut_slice.ensures.value c.drive_all.auto.workers (omega arith)
-      c.in_ok-crew.ensures.ok_workers.0 c.drive_all.ensures,
+      c.in_ok-pool.ensures.ok_workers.0 c.drive_all.ensures,
 )

@@ -1,18 +1,18 @@
 use Rattle.std.proofs.Common.{arith, ap}
 use Rattle.ds_runner.specs.Work.{all_tickets, quota_of}
-use Rattle.ds_runner.proofs.Ends.{collected}
-use Rattle.ds_runner.proofs.Hired.{first_has, first_unfired}
-use Rattle.ds_runner.proofs.Tickets.{blank_first}
+use Rattle.ds_runner.proofs.FinalRecord.{collected}
+use Rattle.ds_runner.proofs.HiringLemmas.{first_has, first_unfired}
+use Rattle.ds_runner.proofs.TicketCounts.{blank_first}
 use Rattle.ds_runner.proofs.workers.share_out.Goals as goal
 
 pub share-requires-clause-has : goal.share-requires-clause-has
-share-requires-clause-has g c κs within = first_has c.args.site.now.run _ c.requires.begun.view
+share-requires-clause-has g c κs within = first_has c.args.workload.now.run _ c.requires.begun.view
 
 pub share-requires-clause-unfired : goal.share-requires-clause-unfired
-share-requires-clause-unfired g c κs within = first_unfired c.args.site.now.run _ c.requires.begun.view
+share-requires-clause-unfired g c κs within = first_unfired c.args.workload.now.run _ c.requires.begun.view
 
 pub returns-then-workers-eq1-clause-ok_few : goal.returns-then-workers-eq1-clause-ok_few
-returns-then-workers-eq1-clause-ok_few g c = omega (arith, ap all_tickets c.requires.begun.view, blank_first c.args.site.now.run)
+returns-then-workers-eq1-clause-ok_few g c = omega (arith, ap all_tickets c.requires.begun.view, blank_first c.args.workload.now.run)
 
 pub returns-clause-ok_few : goal.returns-clause-ok_few
 returns-clause-ok_few g c =

@@ -1,4 +1,4 @@
-use Rattle.ds_runner_tests.proofs.Stiles.{sum_of_three}
+use Rattle.ds_runner_tests.proofs.TestTurnstile.{sum_of_three}
 use Rattle.ds_runner_tests.proofs.hand.all_fired.Goals as goal
 
 pub returns : goal.returns

@@ -1,4 +1,4 @@
-use Rattle.ds_runner_tests.proofs.Stiles.{held, firings}
+use Rattle.ds_runner_tests.proofs.TestTurnstile.{held, firings}
 use Rattle.ds_runner_tests.proofs.hand.fired.Goals as goal
 
 pub fired-requires : goal.fired-requires

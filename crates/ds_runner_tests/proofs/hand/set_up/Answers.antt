@@ -2,7 +2,7 @@ use Rattle.std.proofs.Common.{List}
 use Rattle.ds_fabric.specs.Base.{Base}
 use Rattle.ds_fabric.specs.Showing.{Showing}
 use Rattle.ds_runner.specs.Shown.{Stile, Turned}
-use Rattle.ds_runner_tests.proofs.Stiles.{all_alone, opened, kept, new}
+use Rattle.ds_runner_tests.proofs.TestTurnstile.{all_alone, opened, kept, new}
 use Rattle.ds_runner_tests.proofs.hand.set_up.Goals as goal
 
 pub build-requires-clause-alone : goal.build-requires-clause-alone

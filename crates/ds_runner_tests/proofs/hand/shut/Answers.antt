@@ -1,6 +1,6 @@
 use Rattle.std.proofs.Common.{ap, arith}
 use Rattle.ds_runner.specs.declared.turn_view.TurnView.{TurnView}
-use Rattle.ds_runner_tests.proofs.Stiles.{back}
+use Rattle.ds_runner_tests.proofs.TestTurnstile.{back}
 use Rattle.ds_runner_tests.proofs.hand.shut.Goals as goal
 
 pub all_fired-requires : goal.all_fired-requires

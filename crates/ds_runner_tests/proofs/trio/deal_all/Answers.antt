@@ -1,6 +1,6 @@
 use Rattle.std.proofs.Common.{◌≡◌, ◌∙◌, ◌++◌, List, [], ◌∷◌, ap, arith}
 use Rattle.ds_fabric.specs.Showing.{Showing}
-use Rattle.ds_runner_tests.proofs.Passes.{three_dealt}
+use Rattle.ds_runner_tests.proofs.TestPasses.{three_dealt}
 use Rattle.ds_runner_tests.proofs.trio.deal_all.Goals as goal
 
 -- a list to which three passes were pushed

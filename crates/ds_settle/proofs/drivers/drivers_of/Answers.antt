@@ -3,8 +3,8 @@ use Rattle.std.proofs.Math.ListN.{replicate}
 use Rattle.ds_design.specs.Circuit.{Circuit}
 use Rattle.ds_design.specs.declared.design.Gate.{Gate}
 use Rattle.ds_settle.specs.Walk.{AreDrivers}
-use Rattle.ds_settle.proofs.Driven.{drivers_more, drivers_none}
-use Rattle.ds_settle.proofs.Tables.{net_is}
+use Rattle.ds_settle.proofs.TableDrivers.{drivers_more, drivers_none}
+use Rattle.ds_settle.proofs.CircuitTables.{net_is}
 use Rattle.ds_settle.proofs.drivers.drivers_of.Goals as goal
 
 -- where what holds of it holds of no number

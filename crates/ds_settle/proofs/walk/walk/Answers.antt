@@ -6,8 +6,8 @@ use Rattle.ds_design.specs.Circuit.{Circuit}
 use Rattle.ds_design.specs.declared.design.Gate.{Gate}
 use Rattle.ds_settle.specs.Cone.{Parts}
 use Rattle.ds_settle.specs.Walk.{AreFollowed, AreMet, IsFound}
-use Rattle.ds_settle.proofs.Agree.{reaches_itself}
-use Rattle.ds_settle.proofs.Ended.{followed_more, found_more, found_none, marks_kept, reached}
+use Rattle.ds_settle.proofs.ConeReach.{reaches_itself}
+use Rattle.ds_settle.proofs.FoundCone.{followed_more, found_more, found_none, marks_kept, reached}
 use Rattle.ds_settle.proofs.walk.walk.Goals as goal
 
 pub tables-init : goal.tables-init

@@ -1,4 +1,4 @@
-use Rattle.ds_shake.proofs.Made.{made_arcs}
+use Rattle.ds_shake.proofs.MadeExpansion.{made_arcs}
 use Rattle.ds_shake.proofs.arcs.arcs_of.Goals as goal
 
 pub returns : goal.returns

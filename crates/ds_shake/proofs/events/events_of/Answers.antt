@@ -1,4 +1,4 @@
-use Rattle.ds_shake.proofs.Made.{made_events}
+use Rattle.ds_shake.proofs.MadeExpansion.{made_events}
 use Rattle.ds_shake.proofs.events.events_of.Goals as goal
 
 pub returns : goal.returns

@@ -1,7 +1,7 @@
 use Rattle.std.proofs.Common.{◌≡◌, List, length, ap, arith}
-use Rattle.ds_accept.proofs.Planned.{plans_are_acceptable_lem}
+use Rattle.ds_accept.proofs.PlansAcceptable.{plans_are_acceptable_lem}
 use Rattle.ds_shake.specs.declared.handshake.Handshake.{Handshake}
-use Rattle.ds_shake.proofs.Expanded.{expansion_is_plan}
+use Rattle.ds_shake.proofs.ExpansionIsPlan.{expansion_is_plan}
 use Rattle.ds_shake.proofs.Simple.{expansion_is_simple}
 use Rattle.ds_shake.proofs.expansion.expand.Goals as goal
 

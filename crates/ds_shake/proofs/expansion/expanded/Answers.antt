@@ -1,9 +1,9 @@
 use Rattle.std.proofs.Common.{◌≡◌, IsPermutation}
 use Rattle.ds_marked.specs.Graph.{Graph}
-use Rattle.ds_control.proofs.Listed.{if_both}
+use Rattle.ds_control.proofs.ListedArcs.{if_both}
 use Rattle.ds_shake.specs.Expansion.{IsExpansion}
-use Rattle.ds_shake.proofs.Joined.{all_low}
-use Rattle.ds_shake.proofs.Made.{made, made_ends, made_few, made_once}
+use Rattle.ds_shake.proofs.HandshakeNodes.{all_low}
+use Rattle.ds_shake.proofs.MadeExpansion.{made, made_ends, made_few, made_once}
 use Rattle.ds_shake.proofs.expansion.expanded.Goals as goal
 
 pub arcs_of-requires-clause-low : goal.arcs_of-requires-clause-low

@@ -1,5 +1,5 @@
 use Rattle.std.proofs.Common.{sym}
-use Rattle.ds_shake.proofs.Numbered.{all_numbered, none_numbered, numbered_next}
+use Rattle.ds_shake.proofs.NumberedHandshakes.{all_numbered, none_numbered, numbered_next}
 use Rattle.ds_shake.proofs.handshake.numbered.Goals as goal
 
 pub loop-k-init : goal.loop-k-init

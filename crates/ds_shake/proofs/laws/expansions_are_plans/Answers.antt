@@ -1,4 +1,4 @@
-use Rattle.ds_shake.proofs.Expanded.{expansion_is_plan}
+use Rattle.ds_shake.proofs.ExpansionIsPlan.{expansion_is_plan}
 use Rattle.ds_shake.proofs.laws.expansions_are_plans.Goals as goal
 
 pub returns : goal.returns

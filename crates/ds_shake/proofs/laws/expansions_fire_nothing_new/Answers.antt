@@ -1,5 +1,5 @@
 use Rattle.ds_latch.proofs.NothingNew.{nothing_new_fires}
-use Rattle.ds_shake.proofs.Expanded.{expansion_is_plan}
+use Rattle.ds_shake.proofs.ExpansionIsPlan.{expansion_is_plan}
 use Rattle.ds_shake.proofs.laws.expansions_fire_nothing_new.Goals as goal
 
 pub returns : goal.returns

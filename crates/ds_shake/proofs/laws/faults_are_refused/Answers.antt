@@ -1,4 +1,4 @@
-use Rattle.ds_shake.proofs.Refused.{faults_are_refused_lem}
+use Rattle.ds_shake.proofs.FaultyExpansion.{faults_are_refused_lem}
 use Rattle.ds_shake.proofs.laws.faults_are_refused.Goals as goal
 
 pub returns : goal.returns

@@ -1,4 +1,4 @@
-use Rattle.ds_shake.proofs.One.{one_expansion_lem}
+use Rattle.ds_shake.proofs.OneExpansion.{one_expansion_lem}
 use Rattle.ds_shake.proofs.laws.one_expansion.Goals as goal
 
 pub returns : goal.returns

@@ -1,4 +1,4 @@
-use Rattle.ds_shake_laws.proofs.Controllers.{controllers_are_decided}
+use Rattle.ds_shake_laws.proofs.WantedGraphs.{controllers_are_decided}
 use Rattle.ds_shake_laws.proofs.expansions.controllers_are_decided.Goals as goal
 
 pub returns : goal.returns

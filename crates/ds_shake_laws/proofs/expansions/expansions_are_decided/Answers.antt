@@ -1,4 +1,4 @@
-use Rattle.ds_shake_laws.proofs.Expanded.{expansions_are_decided}
+use Rattle.ds_shake_laws.proofs.ExpansionsDecided.{expansions_are_decided}
 use Rattle.ds_shake_laws.proofs.expansions.expansions_are_decided.Goals as goal
 
 pub returns : goal.returns

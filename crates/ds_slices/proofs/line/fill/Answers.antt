@@ -6,7 +6,7 @@ use Rattle.ds_base.specs.declared.value.Value.TheVariants.{Zero}
 use Rattle.ds_cover.specs.Cover.{value_at, values_at}
 use Rattle.ds_cover.specs.Kept.{bit_value}
 use Rattle.ds_design.specs.Trace.{value_text}
-use Rattle.ds_rows.proofs.Values.{char_more}
+use Rattle.ds_rows.proofs.RowText.{char_more}
 use Rattle.ds_slices.specs.Turns.{turn_row}
 use Rattle.ds_slices.proofs.TurnBits.{value_in}
 use Rattle.ds_slices.proofs.line.fill.Goals as goal

@@ -3,7 +3,7 @@ use Rattle.std.proofs.lemmas.List.{length-map}
 use Rattle.ds_base.specs.Values.{Row}
 use Rattle.ds_cover.specs.Cover.{value_at, values_at}
 use Rattle.ds_design.specs.Trace.{values_text}
-use Rattle.ds_rows.proofs.Values.{value_chars, value_chars-chunk, values_text-some}
+use Rattle.ds_rows.proofs.RowText.{value_chars, value_chars-chunk, values_text-some}
 use Rattle.ds_outside.proofs.Pens.{puts_on, with_put}
 use Rattle.ds_slices.specs.Turns.{turn_row}
 use Rattle.ds_slices.proofs.line.put_bits.Goals as goal

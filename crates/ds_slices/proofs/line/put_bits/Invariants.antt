@@ -1,7 +1,7 @@
 use Rattle.std.proofs.Common.{take, length, ◌-◌, ◌≤◌}
 use Rattle.ds_cover.specs.Cover.{values_at}
 use Rattle.ds_outside.specs.Pen.{Puts}
-use Rattle.ds_rows.proofs.Values.{value_chars}
+use Rattle.ds_rows.proofs.RowText.{value_chars}
 use Rattle.ds_slices.specs.Turns.{turn_row}
 use Rattle.ds_slices.proofs.line.put_bits.Given as goal
 

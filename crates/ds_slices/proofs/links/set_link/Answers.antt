@@ -1,7 +1,7 @@
 use Rattle.std.proofs.Common.{◌≡◌, ◌∙◌, ◌+◌, ◌-◌, ◌<◌, ◌≤◌, ℕ, List, length, get_or, ap, arith, subst}
 use Rattle.ds_design.specs.Circuit.{Circuit}
 use Rattle.ds_design.specs.declared.design.Gate.{Gate}
-use Rattle.ds_design.proofs.Banked.{within_at}
+use Rattle.ds_design.proofs.PackedTables.{within_at}
 use Rattle.ds_cover.specs.Bank.{AreNetsWithin, driven_at}
 use Rattle.ds_base.specs.declared.value.Value.{Value}
 use Rattle.ds_design.specs.declared.design.Register.{Register}

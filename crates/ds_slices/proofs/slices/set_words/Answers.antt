@@ -4,7 +4,7 @@ use Rattle.std.proofs.lemmas.List.Elements.{Contains-append_left, Contains-get_o
 use Rattle.ds_base.specs.Values.{Row}
 use Rattle.ds_design.specs.Circuit.{Circuit, columns, drivers, register_nets}
 use Rattle.ds_design.specs.Levels.{table_nets}
-use Rattle.ds_settle.proofs.Step.{column_once, columns_in_range}
+use Rattle.ds_settle.proofs.OneTableMore.{column_once, columns_in_range}
 use Rattle.ds_slices.specs.Turns.{AreTurns, IsColumnWord}
 use Rattle.ds_slices.proofs.LinkedTurns.{are_turns, undriven_apart}
 use Rattle.ds_slices.proofs.LinkedWords.{column_apart}

@@ -2,7 +2,7 @@ use Rattle.std.proofs.Common.{◌≡◌, ◌∙◌, ◌<◌, ℕ, List, length, 
 use Rattle.std.specs.Prelude.{All, IfOk}
 use Rattle.ds_design.specs.Circuit.{Circuit}
 use Rattle.ds_latch.specs.Node.{nets_of, nodes, number_of}
-use Rattle.ds_latch.proofs.Counts.{number_below}
+use Rattle.ds_latch.proofs.OrderTokens.{number_below}
 use Rattle.ds_settle.specs.Cone.{IsCone}
 use Rattle.ds_split.specs.Cones.{IsConeAt}
 use Rattle.ds_split.proofs.NodeCones.{lent, nets_within}

@@ -2,7 +2,7 @@ use Rattle.std.proofs.Common.{◌≡◌, ℕ, ◌+◌, ◌<◌, List, [], length
 use Rattle.std.specs.Prelude.{All, Contains}
 use Rattle.std.proofs.lemmas.List.{get_or_default}
 use Rattle.std.proofs.lemmas.List.Elements.{Contains-get_or}
-use Rattle.ds_base.proofs.Lists.{cases_Contains}
+use Rattle.ds_base.proofs.ListLemmas.{cases_Contains}
 use Rattle.ds_split.specs.Groups.{group}
 use Rattle.ds_split.specs.Keyed.{AreHolders}
 use Rattle.ds_split.specs.Nets.{AreMarked}

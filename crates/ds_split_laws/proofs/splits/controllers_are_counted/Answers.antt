@@ -1,4 +1,4 @@
-use Rattle.ds_split_laws.proofs.Counted.{controllers_are_counted}
+use Rattle.ds_split_laws.proofs.ArcCount.{controllers_are_counted}
 use Rattle.ds_split_laws.proofs.splits.controllers_are_counted.Goals as goal
 
 pub returns : goal.returns

@@ -1,4 +1,4 @@
-use Rattle.ds_split_laws.proofs.Controllers.{controllers_exist}
+use Rattle.ds_split_laws.proofs.ControllersExist.{controllers_exist}
 use Rattle.ds_split_laws.proofs.splits.controllers_exist.Goals as goal
 
 pub returns : goal.returns

@@ -1,4 +1,4 @@
-use Rattle.ds_split_laws.proofs.Grouped.{grouped_clusterings_exist}
+use Rattle.ds_split_laws.proofs.GroupedClusterings.{grouped_clusterings_exist}
 use Rattle.ds_split_laws.proofs.splits.grouped_clusterings_exist.Goals as goal
 
 pub returns : goal.returns

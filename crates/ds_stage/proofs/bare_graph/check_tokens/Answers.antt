@@ -1,7 +1,7 @@
 use Rattle.std.proofs.Common.{subst}
 use Rattle.ds_rank.specs.Rank.{IsRankFault}
 use Rattle.ds_rank.specs.declared.fault.RankFault.{RankFault}
-use Rattle.ds_times.proofs.Sorted.{ranked_live}
+use Rattle.ds_times.proofs.ArcsByRank.{ranked_live}
 use Rattle.ds_stage.proofs.bare_graph.check_tokens.Goals as goal
 
 pub free_cycle-requires : goal.free_cycle-requires

@@ -7,7 +7,7 @@ use Rattle.ds_stage.specs.RateStage.{bare_graph_stage, bare_stage}
 use Rattle.ds_stage.specs.Ends.{Never, RoseIn}
 use Rattle.ds_stage.proofs.Stages.{widened}
 use Rattle.ds_stage.proofs.RateStages.{bare_wider}
-use Rattle.ds_stage.proofs.Counts.{well_read}
+use Rattle.ds_stage.proofs.FaultCounts.{well_read}
 use Rattle.ds_stage.proofs.bare_graph.read_bare_graph.Goals as goal
 
 pub returns-clause-value : goal.returns-clause-value

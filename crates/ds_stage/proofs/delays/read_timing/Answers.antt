@@ -8,7 +8,7 @@ use Rattle.ds_stage.specs.PeriodStage.{delays_stage, given_stage}
 use Rattle.ds_stage.specs.Ends.{Never, RoseIn}
 use Rattle.ds_stage.proofs.Stages.{widened}
 use Rattle.ds_stage.proofs.PeriodStages.{delays_wider}
-use Rattle.ds_stage.proofs.Counts.{well_read}
+use Rattle.ds_stage.proofs.FaultCounts.{well_read}
 use Rattle.ds_stage.proofs.delays.read_timing.Goals as goal
 
 pub returns-clause-value : goal.returns-clause-value

@@ -1,7 +1,7 @@
 use Rattle.std.proofs.Common.{◌≡◌, ◌∙◌, ◌++◌, ℕ, List, ap, sym}
 use Rattle.ds_marked.specs.Log.{sign, text_of_event}
 use Rattle.ds_control.specs.Part.{PushesPart}
-use Rattle.ds_control.proofs.Parts.{on_any}
+use Rattle.ds_control.proofs.OrderPrefixes.{on_any}
 use Rattle.ds_stage.proofs.TextParts.{event_is, last_pushed, last_refused, none_pushed}
 use Rattle.ds_stage.proofs.graph_text.put_event.Goals as goal
 

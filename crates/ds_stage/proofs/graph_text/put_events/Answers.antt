@@ -2,7 +2,7 @@ use Rattle.std.proofs.Common.{◌∙◌, ◌++◌, ℕ, List, ap, arith, map}
 use Rattle.std.proofs.lemmas.List.{take_all}
 use Rattle.ds_marked.specs.Log.{text_of_event}
 use Rattle.ds_control.specs.Part.{PushesPart}
-use Rattle.ds_control.proofs.Parts.{on_any}
+use Rattle.ds_control.proofs.OrderPrefixes.{on_any}
 use Rattle.ds_stage.specs.FaultText.{with_blanks}
 use Rattle.ds_stage.proofs.TextParts.{word_more, word_refused, words_pushed}
 use Rattle.ds_stage.proofs.graph_text.put_events.Goals as goal

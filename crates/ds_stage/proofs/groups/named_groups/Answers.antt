@@ -6,7 +6,7 @@ use Rattle.ds_stage.specs.Stage.{OfFile, then_stage}
 use Rattle.ds_stage.specs.Stages.{text_stage}
 use Rattle.ds_stage.specs.GroupsStage.{grouped_stage, named_groups_stage}
 use Rattle.ds_stage.specs.Ends.{Never, RoseIn}
-use Rattle.ds_stage.proofs.Counts.{well_read}
+use Rattle.ds_stage.proofs.FaultCounts.{well_read}
 use Rattle.ds_stage.proofs.GroupStages.{groups_wider}
 use Rattle.ds_stage.proofs.Stages.{widened}
 use Rattle.ds_stage.proofs.groups.named_groups.Goals as goal

@@ -1,4 +1,4 @@
-use Rattle.ds_stage.proofs.Meant.{vectors_wide}
+use Rattle.ds_stage.proofs.FileMeaning.{vectors_wide}
 use Rattle.ds_stage.proofs.laws.vectors_have_columns.Goals as goal
 
 pub returns : goal.returns

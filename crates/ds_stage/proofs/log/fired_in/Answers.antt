@@ -1,5 +1,5 @@
 use Rattle.std.proofs.Common.{◌∙◌, length, sym}
-use Rattle.ds_replay.proofs.Logs.{each_line}
+use Rattle.ds_replay.proofs.LogLines.{each_line}
 use Rattle.ds_stage.proofs.log.fired_in.Goals as goal
 
 pub returns-in-Ok : goal.returns-in-Ok

@@ -7,7 +7,7 @@ use Rattle.ds_stage.specs.ReplayStage.{fired_stage, kept_after, kept_stage}
 use Rattle.ds_stage.specs.Ends.{Never, RoseIn}
 use Rattle.ds_stage.proofs.Stages.{widened}
 use Rattle.ds_stage.proofs.LogStages.{kept_wider}
-use Rattle.ds_stage.proofs.Counts.{well_read}
+use Rattle.ds_stage.proofs.FaultCounts.{well_read}
 use Rattle.ds_stage.proofs.log.read_log.Goals as goal
 
 pub returns-clause-value : goal.returns-clause-value

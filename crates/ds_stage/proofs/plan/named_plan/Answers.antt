@@ -7,7 +7,7 @@ use Rattle.ds_stage.specs.PlanStage.{marked_stage, named_stage}
 use Rattle.ds_stage.specs.Ends.{Never, RoseIn}
 use Rattle.ds_stage.proofs.Stages.{widened}
 use Rattle.ds_stage.proofs.PlanStages.{named_wider}
-use Rattle.ds_stage.proofs.Counts.{well_read}
+use Rattle.ds_stage.proofs.FaultCounts.{well_read}
 use Rattle.ds_stage.proofs.plan.named_plan.Goals as goal
 
 pub returns-clause-value : goal.returns-clause-value

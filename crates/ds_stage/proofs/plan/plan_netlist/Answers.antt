@@ -12,8 +12,8 @@ use Rattle.ds_stage.specs.SplitStage.{split_stage}
 use Rattle.ds_stage.specs.PlanStage.{plan_stage}
 use Rattle.ds_stage.specs.Ends.{Answers, RoseIn}
 use Rattle.ds_stage.proofs.Stages.{passed, stopped, widened}
-use Rattle.ds_stage.proofs.Ends.{never_fell, plan_since}
-use Rattle.ds_stage.proofs.Counts.{well_read_so}
+use Rattle.ds_stage.proofs.StageEnds.{never_fell, plan_since}
+use Rattle.ds_stage.proofs.FaultCounts.{well_read_so}
 use Rattle.ds_stage.proofs.plan.plan_netlist.Goals as goal
 
 pub returns-in_err-latches-clause-value : goal.returns-in_err-latches-clause-value

@@ -8,7 +8,7 @@ use Rattle.ds_stage.specs.Stages.{accepted_stage, design_stage, file_stage, text
 use Rattle.ds_stage.specs.Ends.{Never, RoseIn}
 use Rattle.ds_stage.specs.declared.stop.Stop.{Stop}
 use Rattle.ds_stage.proofs.Stages.{stopped, passed, widened, file_wider}
-use Rattle.ds_stage.proofs.Counts.{unread_or, well_read}
+use Rattle.ds_stage.proofs.FaultCounts.{unread_or, well_read}
 use Rattle.ds_stage.proofs.source.read_netlist.Goals as goal
 
 pub returns-in_err-design-clause-value : goal.returns-in_err-design-clause-value

@@ -6,7 +6,7 @@ use Rattle.ds_stage.specs.Stage.{OfFile, then_stage}
 use Rattle.ds_stage.specs.Stages.{rows_stage, text_stage, vectors_stage}
 use Rattle.ds_stage.specs.Ends.{Answers, Never, RoseIn}
 use Rattle.ds_stage.proofs.Stages.{widened, rows_wider}
-use Rattle.ds_stage.proofs.Counts.{well_read}
+use Rattle.ds_stage.proofs.FaultCounts.{well_read}
 use Rattle.ds_stage.proofs.source.read_rows.Goals as goal
 
 pub returns-clause-value : goal.returns-clause-value

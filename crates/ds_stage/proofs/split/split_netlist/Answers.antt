@@ -10,8 +10,8 @@ use Rattle.ds_stage.specs.SplitStage.{parted_stage}
 use Rattle.ds_stage.specs.Ends.{Answers, Never, RoseIn}
 use Rattle.ds_stage.specs.declared.stop.Stop.{Stop}
 use Rattle.ds_stage.proofs.Stages.{passed, stopped, widened}
-use Rattle.ds_stage.proofs.Ends.{no_more}
-use Rattle.ds_stage.proofs.Counts.{well_read}
+use Rattle.ds_stage.proofs.StageEnds.{no_more}
+use Rattle.ds_stage.proofs.FaultCounts.{well_read}
 use Rattle.ds_stage.proofs.split.split_netlist.Goals as goal
 
 pub returns-in_err-groups-clause-value : goal.returns-in_err-groups-clause-value

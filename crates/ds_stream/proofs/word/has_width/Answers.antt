@@ -1,6 +1,6 @@
 use Rattle.std.proofs.Common.{◌∙◌, ap, sym}
 use Rattle.std.specs.Str.{bytes_eq}
-use Rattle.ds_stream.proofs.Kept.{one_cut, width_none, width_some, wrong_cut}
+use Rattle.ds_stream.proofs.CutLines.{one_cut, width_none, width_some, wrong_cut}
 use Rattle.ds_stream.proofs.word.has_width.Goals as goal
 
 pub returns-then-has_blank-clause-value : goal.returns-then-has_blank-clause-value

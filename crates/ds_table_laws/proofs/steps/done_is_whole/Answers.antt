@@ -1,4 +1,4 @@
-use Rattle.ds_table_laws.proofs.Answered.{done_is_whole_lem}
+use Rattle.ds_table_laws.proofs.StepAnswers.{done_is_whole_lem}
 use Rattle.ds_table_laws.proofs.steps.done_is_whole.Goals as goal
 
 pub returns : goal.returns

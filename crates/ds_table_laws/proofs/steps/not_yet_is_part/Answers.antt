@@ -1,4 +1,4 @@
-use Rattle.ds_table_laws.proofs.Answered.{not_yet_is_part_lem}
+use Rattle.ds_table_laws.proofs.StepAnswers.{not_yet_is_part_lem}
 use Rattle.ds_table_laws.proofs.steps.not_yet_is_part.Goals as goal
 
 pub returns : goal.returns

@@ -1,4 +1,4 @@
-use Rattle.ds_table_laws.proofs.Rising.{tickets_follow_lem}
+use Rattle.ds_table_laws.proofs.TicketsRise.{tickets_follow_lem}
 use Rattle.ds_table_laws.proofs.tickets.tickets_follow.Goals as goal
 
 pub returns : goal.returns

@@ -1,4 +1,4 @@
-use Rattle.ds_table_laws.proofs.Flying.{flights_are_enabled_lem}
+use Rattle.ds_table_laws.proofs.FlightIsEnabled.{flights_are_enabled_lem}
 use Rattle.ds_table_laws.proofs.words.flights_are_enabled.Goals as goal
 
 pub returns : goal.returns

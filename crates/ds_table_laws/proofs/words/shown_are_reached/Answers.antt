@@ -1,4 +1,4 @@
-use Rattle.ds_table_laws.proofs.Reached.{shown_are_reached_lem}
+use Rattle.ds_table_laws.proofs.ShownCounts.{shown_are_reached_lem}
 use Rattle.ds_table_laws.proofs.words.shown_are_reached.Goals as goal
 
 pub returns : goal.returns

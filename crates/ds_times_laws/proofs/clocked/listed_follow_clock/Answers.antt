@@ -1,4 +1,4 @@
-use Rattle.ds_times_laws.proofs.Following.{listed_follow}
+use Rattle.ds_times_laws.proofs.ScheduleFollowsClock.{listed_follow}
 use Rattle.ds_times_laws.proofs.clocked.listed_follow_clock.Goals as goal
 
 pub returns : goal.returns

@@ -1,4 +1,4 @@
-use Rattle.ds_total_laws.proofs.PeriodTexts.{rates_have_one_text}
+use Rattle.ds_total_laws.proofs.OnePeriodText.{rates_have_one_text}
 use Rattle.ds_total_laws.proofs.periods.rates_have_one_text.Goals as goal
 
 pub returns : goal.returns

@@ -1,7 +1,7 @@
 use Rattle.std.proofs.Common.{ℕ, List, Option, ◌<◌, ◌+◌, subst, sym}
 use Rattle.ds_marked.specs.Into.{Enters, IsNextInto}
 use Rattle.ds_marked.specs.declared.marked.Arc.{Arc}
-use Rattle.ds_marked.proofs.Into.{left, left_falls}
+use Rattle.ds_marked.proofs.ArcsIntoEvent.{left, left_falls}
 use Rattle.ds_accept.proofs.knots.Knots.take_sources.Goals as goal
 
 pub sources-smaller : goal.sources-smaller

@@ -1,6 +1,6 @@
 use Rattle.std.proofs.Common.{ℕ, ◌≡◌, Some}
 use Rattle.ds_marked.specs.Into.{Enters}
-use Rattle.ds_marked.proofs.Into.{left}
+use Rattle.ds_marked.proofs.ArcsIntoEvent.{left}
 use Rattle.ds_accept.proofs.knots.Knots.take_sources.Given as goal
 
 abbrev pub invariant-sources : goal.invariant-sources

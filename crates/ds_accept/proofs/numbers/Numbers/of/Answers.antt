@@ -1,5 +1,5 @@
 use Rattle.std.proofs.Common.{arith}
-use Rattle.ds_accept.proofs.Keys.{not_before, one_more}
+use Rattle.ds_accept.proofs.EventKeys.{not_before, one_more}
 use Rattle.ds_accept.proofs.numbers.Numbers.of.Goals as goal
 
 pub put-requires : goal.put-requires

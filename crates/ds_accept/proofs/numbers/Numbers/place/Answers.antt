@@ -1,5 +1,5 @@
 use Rattle.ds_accept.specs.Codes.{event_code}
-use Rattle.ds_accept.proofs.Keys.{found}
+use Rattle.ds_accept.proofs.EventKeys.{found}
 use Rattle.ds_accept.proofs.numbers.Numbers.place.Goals as goal
 
 pub returns : goal.returns

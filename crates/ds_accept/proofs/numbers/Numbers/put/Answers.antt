@@ -1,5 +1,5 @@
 use Rattle.ds_accept.specs.Codes.{event_code}
-use Rattle.ds_accept.proofs.Keys.{put_behind}
+use Rattle.ds_accept.proofs.EventKeys.{put_behind}
 use Rattle.ds_accept.proofs.numbers.Numbers.put.Goals as goal
 
 pub returns : goal.returns

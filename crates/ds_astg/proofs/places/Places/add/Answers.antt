@@ -1,5 +1,5 @@
 use Rattle.std.proofs.Common.{arith, sym, ◌∙◌}
-use Rattle.ds_astg.proofs.Keys.{added}
+use Rattle.ds_astg.proofs.PlaceKeys.{added}
 use Rattle.ds_astg.proofs.places.Places.add.Goals as goal
 
 pub returns-clause-ok : goal.returns-clause-ok

@@ -1,8 +1,8 @@
 use Rattle.std.proofs.Common.{◌∙◌, ap, sym}
-use Rattle.ds_lines.proofs.Keys.{position_some, position_none}
+use Rattle.ds_lines.proofs.WordKeys.{position_some, position_none}
 use Rattle.ds_astg.specs.Keys.{key_of}
 use Rattle.ds_astg.specs.Place.{Places as Kept, number_of_place}
-use Rattle.ds_astg.proofs.Keys.{place_key}
+use Rattle.ds_astg.proofs.PlaceKeys.{place_key}
 use Rattle.ds_astg.proofs.places.Places.number.Goals as goal
 
 pub returns-in-Some-clause-value : goal.returns-in-Some-clause-value

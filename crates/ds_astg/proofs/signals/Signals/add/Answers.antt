@@ -1,7 +1,7 @@
 use Rattle.std.proofs.Common.{◌≡◌, ◌<◌, false, length, subst, sym, refl, arith}
 use Rattle.ds_lines.specs.Names.{has_name}
 use Rattle.ds_astg.specs.Signals.{Declared}
-use Rattle.ds_astg.proofs.Numbered.{all_few, named_one, numbered_one}
+use Rattle.ds_astg.proofs.DeclaredNames.{all_few, named_one, numbered_one}
 use Rattle.ds_astg.proofs.signals.Signals.add.Goals as goal
 
 pub invariant_of-self-in_err-push : goal.invariant_of-self-in_err-push

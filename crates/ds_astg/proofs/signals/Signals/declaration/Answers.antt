@@ -1,5 +1,5 @@
 use Rattle.std.proofs.Common.{arith}
-use Rattle.ds_astg.proofs.Numbered.{kept_few, no_role}
+use Rattle.ds_astg.proofs.DeclaredNames.{kept_few, no_role}
 use Rattle.ds_astg.proofs.signals.Signals.declaration.Goals as goal
 
 pub returns-then-place-len-clause-few : goal.returns-then-place-len-clause-few

@@ -1,6 +1,6 @@
 use Rattle.std.proofs.lemmas.Result.{err_from_is_err_and}
 use Rattle.ds_astg.specs.Line.{declare as declare_in}
-use Rattle.ds_astg.proofs.Turns.{word_fault, word_ok}
+use Rattle.ds_astg.proofs.StepSequence.{word_fault, word_ok}
 use Rattle.ds_astg.proofs.signals.Signals.declare_all.Goals as goal
 
 pub returns-in_err-declare-clause-fault : goal.returns-in_err-declare-clause-fault

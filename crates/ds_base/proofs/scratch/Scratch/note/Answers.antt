@@ -2,7 +2,7 @@ use Rattle.std.proofs.Common.{◌≡◌, ◌∙◌, ◌<◌, ◌-◌, ℕ, Bool,
 use Rattle.std.proofs.lemmas.List.{length-map, with_items_is}
 use Rattle.ds_base.specs.Scratch.{IsNoted, Kept}
 use Rattle.ds_base.specs.Turns.{IsSameOrLost, noted_turn, noted_turns}
-use Rattle.ds_base.proofs.Turns.{kept, now_noted}
+use Rattle.ds_base.proofs.TurnBytes.{kept, now_noted}
 use Rattle.ds_base.proofs.scratch.Scratch.note.Goals as goal
 
 pub returns : goal.returns

@@ -4,7 +4,7 @@ use Rattle.ds_base.specs.Values.{Row}
 use Rattle.ds_base.specs.declared.value.Value.TheVariants.{Zero}
 use Rattle.ds_base.specs.Scratch.{Kept, Remembers}
 use Rattle.ds_base.specs.Turns.{noted_turns}
-use Rattle.ds_base.proofs.Turns.{kept, no_memory, no_turns}
+use Rattle.ds_base.proofs.TurnBytes.{kept, no_memory, no_turns}
 use Rattle.ds_base.proofs.scratch.Scratch.of.Goals as goal
 
 -- nothing is noted yet

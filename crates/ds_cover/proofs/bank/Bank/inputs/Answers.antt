@@ -1,6 +1,6 @@
 use Rattle.std.proofs.Common.{◌∙◌, ◌+◌, ◌≤◌, ℕ, List, ap, sym, subst, length, take, drop}
 use Rattle.ds_cover.specs.Bank.{Driven}
-use Rattle.ds_cover.proofs.Kept.{table_of_span}
+use Rattle.ds_cover.proofs.StoredTables.{table_of_span}
 use Rattle.ds_cover.proofs.bank.Bank.inputs.Goals as goal
 
 pub inputs_of-requires : goal.inputs_of-requires

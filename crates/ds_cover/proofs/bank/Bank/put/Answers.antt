@@ -2,7 +2,7 @@ use Rattle.std.proofs.Common.{◌≡◌, ◌∙◌, ◌<◌, ℕ, ap, sym, subst
 use Rattle.std.proofs.Math.ListN.{set}
 use Rattle.ds_base.specs.declared.value.Value.{Value}
 use Rattle.ds_cover.specs.Bank.{Driven, driven_at}
-use Rattle.ds_cover.proofs.Kept.{table_of_quick}
+use Rattle.ds_cover.proofs.StoredTables.{table_of_quick}
 use Rattle.ds_cover.proofs.bank.Bank.put.Goals as goal
 use Rattle.ds_cover.proofs.bank.Bank.put.Goals.{After-index-2}
 

@@ -1,7 +1,7 @@
 use Rattle.std.proofs.Common.{◌≡◌, ◌∙◌, ap, length}
 use Rattle.ds_base.specs.Values.{Row}
 use Rattle.ds_cover.specs.Bank.{after_tables}
-use Rattle.ds_cover.proofs.Lent.{length-after_tables, with-all}
+use Rattle.ds_cover.proofs.LentRows.{length-after_tables, with-all}
 use Rattle.ds_cover.proofs.bank.Bank.set_all.Goals as goal
 
 pub returns : goal.returns

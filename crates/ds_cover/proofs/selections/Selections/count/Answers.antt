@@ -1,6 +1,6 @@
 use Rattle.std.proofs.Common.{arith}
 use Rattle.ds_cover.specs.Series.{parts_of_lists}
-use Rattle.ds_cover.proofs.Between.{count_is}
+use Rattle.ds_cover.proofs.RunBounds.{count_is}
 use Rattle.ds_cover.proofs.selections.Selections.count.Goals as goal
 
 pub returns-clause-value : goal.returns-clause-value

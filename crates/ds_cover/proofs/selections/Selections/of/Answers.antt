@@ -4,7 +4,7 @@ use Rattle.std.proofs.lemmas.List.{get_or_default, take_all, take_more}
 use Rattle.ds_cover.specs.Selections.{Selected}
 use Rattle.ds_cover.specs.Series.{AreAdded, Parts, in_table_order, parts_of_lists}
 use Rattle.ds_cover.specs.declared.run.Run.{Run}
-use Rattle.ds_cover.proofs.Between.{AreListed, listed_more, listed_none}
+use Rattle.ds_cover.proofs.RunBounds.{AreListed, listed_more, listed_none}
 use Rattle.ds_cover.proofs.selections.Selections.of.Goals as goal
 
 pub add_list-requires-clause-places : goal.add_list-requires-clause-places

@@ -1,5 +1,5 @@
 use Rattle.ds_cover.specs.Series.{parts_of_lists}
-use Rattle.ds_cover.proofs.Between.{AreListed}
+use Rattle.ds_cover.proofs.RunBounds.{AreListed}
 use Rattle.ds_cover.proofs.selections.Selections.of.Given as goal
 
 abbrev pub invariant-loop-list : goal.invariant-loop-list

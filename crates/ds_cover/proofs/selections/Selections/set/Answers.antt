@@ -3,7 +3,7 @@ use Rattle.std.specs.Prelude.{All}
 use Rattle.ds_cover.specs.Bank.{after_tables}
 use Rattle.ds_cover.specs.Series.{IsRunOfTables, in_table_order, numbers_of, part_of, parts_of_lists}
 use Rattle.ds_cover.specs.declared.run.Run.{Run}
-use Rattle.ds_cover.proofs.Between.{bounds_inside, bounds_rise, count_is, each_part, set_list}
+use Rattle.ds_cover.proofs.RunBounds.{bounds_inside, bounds_rise, count_is, each_part, set_list}
 use Rattle.ds_cover.proofs.selections.Selections.set.Goals as goal
 
 pub index-requires : goal.index-requires

@@ -3,7 +3,7 @@ use Rattle.std.specs.Prelude.{All}
 use Rattle.ds_cover.specs.Bank.{after_tables}
 use Rattle.ds_cover.specs.Series.{IsRunOfTables, Ordered, in_table_order, numbers_of, parts_of_lists}
 use Rattle.ds_cover.specs.declared.run.Run.{Run}
-use Rattle.ds_cover.proofs.Left.{runs_each, runs_numbers}
+use Rattle.ds_cover.proofs.RemainingRuns.{runs_each, runs_numbers}
 use Rattle.ds_cover.proofs.series.Series.set_all.Goals as goal
 
 pub set_runs-requires-clause-runs : goal.set_runs-requires-clause-runs

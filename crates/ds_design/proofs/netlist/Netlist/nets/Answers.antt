@@ -1,6 +1,6 @@
 use Rattle.std.proofs.Common.{◌≡◌, ◌+◌, arith, length}
 use Rattle.ds_design.specs.Levels.{net_count}
-use Rattle.ds_design.proofs.Controlled.{lent_all, lent_but_one}
+use Rattle.ds_design.proofs.ControlNames.{lent_all, lent_but_one}
 use Rattle.ds_design.proofs.netlist.Netlist.nets.Goals as goal
 
 counted : (c : goal.Then-has_clock) → length c.nets.result.now ≡ net_count c.args.self.now + 1

@@ -5,9 +5,9 @@ use Rattle.ds_rule.specs.Run.{Run, events}
 use Rattle.ds_rule.specs.Sound.{IsSound}
 use Rattle.ds_marked.specs.declared.marked.Arc.{Arc}
 use Rattle.ds_rule.proofs.EventLaws.{events-is}
-use Rattle.ds_rule.proofs.Lists.{at_get}
+use Rattle.ds_rule.proofs.GetElemLemmas.{at_get}
 use Rattle.ds_fabric.specs.Chained.{arc_numbered, IsChained}
-use Rattle.ds_fabric.proofs.Chains.{arc-there, target_near, chained_none, chained_next}
+use Rattle.ds_fabric.proofs.ArcChains.{arc-there, target_near, chained_none, chained_next}
 use Rattle.ds_fabric.proofs.chain.Chains.of.Goals as goal
 
 pub loop-i-init : goal.loop-i-init

@@ -8,7 +8,7 @@ use Rattle.ds_rule.specs.Plays.{Sat}
 use Rattle.ds_fabric.specs.Indexed.{IsIndexed}
 use Rattle.ds_fabric.specs.Showing.{Blank, IsPass}
 use Rattle.ds_fabric.specs.declared.history.History.{History}
-use Rattle.ds_fabric.proofs.Joins.{first_keeps}
+use Rattle.ds_fabric.proofs.DealAndGather.{first_keeps}
 use Rattle.ds_fabric.proofs.Standing.{all_placed}
 use Rattle.ds_fabric.proofs.fabric.Fabric.build.Goals as goal
 

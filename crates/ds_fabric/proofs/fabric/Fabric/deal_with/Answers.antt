@@ -5,15 +5,15 @@ use Rattle.ds_rule.specs.Rule.{holds}
 use Rattle.ds_fabric.specs.Base.{Base}
 use Rattle.ds_fabric.specs.Showing.{Showing, Keeps}
 use Rattle.ds_fabric.specs.declared.history.History.{History}
-use Rattle.ds_fabric.proofs.Joins.{deals_left, deals_right}
+use Rattle.ds_fabric.proofs.DealAndGather.{deals_left, deals_right}
 use Rattle.ds_fabric.proofs.Finds.{indexed_same, stands_same, stands_below}
 use Rattle.std.proofs.Common.{◌≤◌, length}
 use Rattle.ds_rule.specs.Run.{Run}
-use Rattle.ds_rule.specs.Plays.{Sat, after_point, without_cut, only_cut}
-use Rattle.ds_rule.proofs.Lists.{same_at}
+use Rattle.ds_rule.specs.Plays.{Sat, with_cut, without_cut, only_cut}
+use Rattle.ds_rule.proofs.GetElemLemmas.{same_at}
 use Rattle.ds_fabric.specs.Indexed.{IsIndexed}
 use Rattle.ds_fabric.specs.Showing.{IsPass}
-use Rattle.ds_fabric.proofs.Passes.{near-node}
+use Rattle.ds_fabric.proofs.PassMemory.{near-node}
 use Rattle.ds_fabric.proofs.fabric.Fabric.deal_with.Goals as goal
 
 pub find-at-requires-clause-indexed : goal.find-at-requires-clause-indexed
@@ -37,8 +37,8 @@ pub take_out-history-requires-clause-indexed : goal.take_out-history-requires-cl
 take_out-history-requires-clause-indexed g c =
     (c.pass.inside.seat.me.0.run.nodes, c.pass.inside.room, c.pass.invariant.indexed)
 
-pub take_out-history-requires-clause-apart : goal.take_out-history-requires-clause-apart
-take_out-history-requires-clause-apart g c = c.pass.invariant.keeps.apart
+pub take_out-history-requires-clause-distinct : goal.take_out-history-requires-clause-distinct
+take_out-history-requires-clause-distinct g c = c.pass.invariant.keeps.distinct
 
 pub take_out-history-requires-clause-near : goal.take_out-history-requires-clause-near
 take_out-history-requires-clause-near g c =
@@ -56,7 +56,7 @@ taken ns zs i l node h e n at f =
 -- the new pass
 dealt : (me me' : Sat) (nodes items : List History) (i node room capacity count : ℕ) (h : History)
     (ps : List ℕ) → Keeps me nodes → get_elem? nodes i ≡ some h
-    → h.node ≡ node → me' ≡ (only_cut (after_point me.0 node), []) → items ≡ h ∷ []
+    → h.node ≡ node → me' ≡ (only_cut (with_cut me.0 node), []) → items ≡ h ∷ []
     → count ≡ me.0.run.nodes → IsIndexed count room 1 (h ∷ []) ps
     → room ≤ capacity → IsPass me' room capacity items ps
 dealt me me' nodes items i node room capacity count h ps k at same is items-is count-is o roomy =
@@ -83,7 +83,7 @@ invariant_of-result g c =
     dealt c.pass.inside.seat.me c.cut-seat.result.me nodes c.push_reserved.new.self.items c.find-at.result c.args.node c.args.room _ c.nodes.result h c.in_ok-places.places.items
     c.pass.invariant.keeps c.take_out-history.ensures.value same
     (c.cut-seat.ensures.new.1 ∙ ap (λ (n : ℕ). (
-      only_cut (after_point c.pass.inside.seat.me.0 n),
+      only_cut (with_cut c.pass.inside.seat.me.0 n),
       [],
     )) c.index-number.ensures) items
     (c.nodes.ensures ∙ runs) (c.in_ok-places.ensures h (same ∙ sym c.index-number.ensures))
@@ -97,7 +97,7 @@ invariant_of-pass g c =
     let same = taken nodes c.as_slice-held.result.now c.find-at.result c.index-number.result c.args.node h c.as_slice-held.ensures.value c.index-number.ensures
     c.take_out-history.ensures.value c.find-at.ensures in
     let is = c.cut-seat.ensures.lent.1 ∙ ap (λ (n : ℕ). (
-      without_cut (after_point me.0 n),
+      without_cut (with_cut me.0 n),
       me.1,
     )) c.index-number.ensures in
     let many : me.0.run.nodes ≡ me'.0.run.nodes = sym (ap (λ (m : Sat). m.0.run.nodes) is) in

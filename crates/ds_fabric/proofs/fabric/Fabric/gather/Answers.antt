@@ -3,7 +3,7 @@ use Rattle.ds_rule.specs.Plays.{Sat}
 use Rattle.ds_fabric.specs.Indexed.{IsIndexed}
 use Rattle.ds_fabric.specs.Showing.{Showing, Keeps}
 use Rattle.ds_fabric.specs.declared.history.History.{History}
-use Rattle.ds_fabric.proofs.Joins.{Gathered, gathers_keep, gathered}
+use Rattle.ds_fabric.proofs.DealAndGather.{Gathered, gathers_keep, gathered}
 use Rattle.ds_fabric.proofs.fabric.Fabric.gather.Given
 use Rattle.ds_fabric.proofs.fabric.Fabric.gather.Goals as goal
 use Rattle.ds_fabric.proofs.fabric.Fabric.gather.Goals.{After-as_slice}
@@ -17,7 +17,7 @@ kept g c =
     ∙ sym (ap (λ (x : Showing). x.view.run) c.pass.view_is))) in
     gathers_keep c.pass.inside.seat.me c.other.inside.seat.me c.mend.new.seat.me
     c.pass.inside.nodes.items c.other.inside.nodes.items c.pass.invariant.keeps
-    c.other.invariant.keeps run c.mend.ensures.seat.1 c.mend.ensures.counts c.mend.ensures.apart
+    c.other.invariant.keeps run c.mend.ensures.seat.1 c.mend.ensures.counts c.mend.ensures.distinct
 
 -- as many nodes as before are in the run
 same_run : (g : Given.Over) (c : After-as_slice g)
@@ -45,9 +45,9 @@ note_from-requires-clause-indexed g c =
     let q = got g (goal.at.note_from-requires-clause-indexed g c).After-as_slice in
     (c.pass.inside.seat.me.0.run.nodes, c.pass.inside.room, q.indexed, q.within, q.below)
 
-pub note_from-requires-clause-apart : goal.note_from-requires-clause-apart
-note_from-requires-clause-apart g c =
-    (got g (goal.at.note_from-requires-clause-apart g c).After-as_slice).apart
+pub note_from-requires-clause-distinct : goal.note_from-requires-clause-distinct
+note_from-requires-clause-distinct g c =
+    (got g (goal.at.note_from-requires-clause-distinct g c).After-as_slice).distinct
 
 pub note_from-requires-clause-near : goal.note_from-requires-clause-near
 note_from-requires-clause-near g c =

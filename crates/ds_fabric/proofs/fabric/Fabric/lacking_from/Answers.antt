@@ -5,7 +5,7 @@ use Rattle.ds_rule.proofs.EventLaws.{events-is}
 use Rattle.ds_fabric.specs.Base.{Base, IsOver}
 use Rattle.ds_fabric.specs.Into.{AreInto}
 use Rattle.ds_fabric.specs.declared.incoming.Incoming.{Incoming}
-use Rattle.ds_fabric.proofs.Parts.{ends_read}
+use Rattle.ds_fabric.proofs.IncomingArcs.{ends_read}
 use Rattle.ds_fabric.proofs.fabric.Fabric.lacking_from.Given
 use Rattle.ds_fabric.proofs.fabric.Fabric.lacking_from.Goals as goal
 use Rattle.ds_fabric.proofs.fabric.Fabric.lacking_from.Goals.{After-self}

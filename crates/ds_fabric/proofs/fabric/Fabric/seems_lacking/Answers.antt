@@ -2,7 +2,7 @@ use Rattle.std.proofs.Common.{◌<◌, ◌≤◌, ◌+◌, ap, arith}
 use Rattle.ds_rule.specs.Run.{Run, events}
 use Rattle.ds_rule.proofs.PlaceLaws.{counts_inside}
 use Rattle.ds_fabric.specs.Base.{Base}
-use Rattle.ds_fabric.proofs.Passes.{next_below}
+use Rattle.ds_fabric.proofs.PassMemory.{next_below}
 use Rattle.ds_fabric.proofs.fabric.Fabric.seems_lacking.Goals as goal
 
 pub peek-fired-requires : goal.peek-fired-requires

@@ -5,7 +5,7 @@ use Rattle.ds_rule.specs.Rule.{Lawful, first_view}
 use Rattle.ds_rule.specs.Sound.{IsSound}
 use Rattle.ds_rule.specs.Rows.{IsStarts}
 use Rattle.ds_rule.proofs.PlaceLaws.{size-start}
-use Rattle.ds_rule.proofs.Starts.{starts}
+use Rattle.ds_rule.proofs.RuleAtStart.{starts}
 use Rattle.ds_fabric.specs.Laid.{LaidBelow}
 use Rattle.ds_fabric.proofs.fabric.Fabric.stand.Goals as goal
 

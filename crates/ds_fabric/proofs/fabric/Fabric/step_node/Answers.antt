@@ -6,7 +6,7 @@ use Rattle.ds_fabric.specs.Indexed.{IsIndexed}
 use Rattle.ds_fabric.proofs.Standing.{put_back}
 use Rattle.ds_fabric.specs.Stepped.{Stepped, FiresIfEnabled}
 use Rattle.ds_rule.specs.declared.view.View.{View}
-use Rattle.ds_fabric.proofs.Steps.{fires_if_enabled}
+use Rattle.ds_fabric.proofs.FiresIfEnabled.{fires_if_enabled}
 use Rattle.ds_fabric.specs.declared.history.History.{History}
 use Rattle.ds_fabric.proofs.Finds.{indexed_same, node-found, stands_same, stands_below, there}
 use Rattle.ds_fabric.proofs.fabric.Fabric.step_node.Given

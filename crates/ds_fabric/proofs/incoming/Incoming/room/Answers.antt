@@ -1,5 +1,5 @@
 use Rattle.std.proofs.Common.{◌++◌, ◌∷◌, [], ◌∙◌, ℕ, List, ap}
-use Rattle.ds_fabric.proofs.Parts.{into_none}
+use Rattle.ds_fabric.proofs.IncomingArcs.{into_none}
 use Rattle.ds_fabric.proofs.incoming.Incoming.room.Goals as goal
 
 pub returns : goal.returns

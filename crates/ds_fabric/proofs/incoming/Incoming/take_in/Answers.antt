@@ -1,5 +1,5 @@
 use Rattle.std.proofs.Common.{◌≡◌, ◌∙◌, ◌++◌, ◌∷◌, [], ℕ, List, ap, arith, length}
-use Rattle.ds_fabric.proofs.Parts.{into_more}
+use Rattle.ds_fabric.proofs.IncomingArcs.{into_more}
 use Rattle.ds_fabric.proofs.incoming.Incoming.take_in.Goals as goal
 
 pub returns : goal.returns

@@ -1,7 +1,7 @@
 use Rattle.std.proofs.Common.{◌≡◌, ◌∙◌, ap, sym, true, arith, subst}
 use Rattle.ds_rule.specs.Rule.{seen, holds}
 use Rattle.ds_fabric.specs.Showing.{Showing, IsCounted}
-use Rattle.ds_fabric.proofs.Passes.{reads}
+use Rattle.ds_fabric.proofs.PassMemory.{reads}
 use Rattle.ds_fabric.proofs.Finds.{indexed_same, stands_same, at_node, stands_below}
 use Rattle.ds_fabric.proofs.pass.Pass.fired.Goals as goal
 

@@ -4,7 +4,7 @@ use Rattle.ds_rule.specs.Rule.{tickets}
 use Rattle.ds_rule.specs.declared.view.View.{View}
 use Rattle.ds_rule.proofs.EventLaws.{node_below}
 use Rattle.ds_fabric.specs.Showing.{Recorder}
-use Rattle.ds_fabric.proofs.Tickets.{counted}
+use Rattle.ds_fabric.proofs.HistoryTickets.{counted}
 use Rattle.ds_fabric.proofs.record.Record.count.Goals as goal
 
 pub history-history-requires : goal.history-history-requires

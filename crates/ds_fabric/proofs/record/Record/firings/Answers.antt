@@ -6,7 +6,7 @@ use Rattle.ds_rule.specs.Log.{firings}
 use Rattle.ds_fabric.specs.Showing.{Showing, Recorder, IsRecord, IsFiredInOrder}
 use Rattle.ds_fabric.specs.Spread.{HasSpread}
 use Rattle.ds_fabric.specs.declared.history.History.{History}
-use Rattle.ds_fabric.proofs.Spreads.{spread_is, written}
+use Rattle.ds_fabric.proofs.Spreads.{spread_is, overwritten}
 use Rattle.ds_fabric.proofs.record.Record.firings.Goals as goal
 
 -- the same of the same lists
@@ -26,7 +26,7 @@ returns-clause-ok c = let p : Showing = c.self.inside.shown.value in let q = c.s
     let long : length new ≡ length out = c.spread_all.ensures.long
     ∙ ap (λ (xs : List ℕ). length xs) c.as_mut_slice.ensures.value in
     let same : take c.in_ok-out.out.len (new ++ drop (length new) out) ≡ new =
-    written c.in_ok-out.out.len out new (omega (arith, long)) in
+    overwritten c.in_ok-out.out.len out new (omega (arith, long)) in
     let same-record : IsRecord p c.as_slice.result.now c.as_slice-2.result.now
     c.self.inside.latches (length c.as_mut_slice.result.now) = record_same p c.as_slice.result.now
     nodes c.as_slice-2.result.now c.self.inside.places.items c.self.inside.latches
@@ -55,5 +55,5 @@ returns-clause-ok_long c = let new : List ℕ = c.spread_all.new.out in
     let out : List ℕ = c.in_ok-out.out.items in
     let long : length new ≡ length out = c.spread_all.ensures.long
     ∙ ap (λ (xs : List ℕ). length xs) c.as_mut_slice.ensures.value in
-    ap (λ (xs : List ℕ). length xs) (written c.in_ok-out.out.len out new (omega (arith, long)))
+    ap (λ (xs : List ℕ). length xs) (overwritten c.in_ok-out.out.len out new (omega (arith, long)))
     ∙ (long ∙ (c.in_ok-out.ensures ∙ ap (λ (x : Recorder). x.many) c.self.view_is))

@@ -4,7 +4,7 @@ use Rattle.ds_rule.specs.Sound.{IsSound}
 use Rattle.ds_rule.specs.Rule.{tickets}
 use Rattle.ds_rule.specs.declared.view.View.{View}
 use Rattle.ds_fabric.specs.Showing.{Recorder, IsTold}
-use Rattle.ds_fabric.proofs.Passes.{reads}
+use Rattle.ds_fabric.proofs.PassMemory.{reads}
 use Rattle.ds_fabric.proofs.Finds.{indexed_same, stands_same, stands_below}
 use Rattle.ds_fabric.proofs.RowReads.{tickets_most}
 use Rattle.ds_fabric.proofs.record.Record.history.Goals as goal

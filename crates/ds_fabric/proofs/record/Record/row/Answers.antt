@@ -7,7 +7,7 @@ use Rattle.ds_rule.proofs.EventLaws.{node-closing}
 use Rattle.ds_fabric.specs.declared.history.History.{History}
 use Rattle.ds_fabric.proofs.RowReads.{width_read, value-word}
 use Rattle.ds_fabric.proofs.Unpacks.{in_part}
-use Rattle.ds_fabric.proofs.Tickets.{row_told, word_told}
+use Rattle.ds_fabric.proofs.HistoryTickets.{row_told, word_told}
 use Rattle.ds_fabric.proofs.record.Record.row.Goals as goal
 
 pub history-history-requires : goal.history-history-requires

@@ -1,5 +1,5 @@
 use Rattle.std.proofs.Common.{arith}
-use Rattle.ds_fabric.proofs.Tickets.{stored_told}
+use Rattle.ds_fabric.proofs.HistoryTickets.{stored_told}
 use Rattle.ds_fabric.proofs.record.Record.stored.Goals as goal
 
 pub history-history-requires : goal.history-history-requires

@@ -4,7 +4,7 @@ use Rattle.ds_rule.specs.declared.view.View.{View}
 use Rattle.ds_rule.proofs.EventLaws.{node_below}
 use Rattle.ds_fabric.specs.Showing.{Recorder}
 use Rattle.ds_fabric.specs.declared.history.History.{History}
-use Rattle.ds_fabric.proofs.Tickets.{ticket_inside, ticket_told, stands_in}
+use Rattle.ds_fabric.proofs.HistoryTickets.{ticket_inside, ticket_told, stands_in}
 use Rattle.ds_fabric.proofs.record.Record.ticket.Goals as goal
 
 pub history-history-requires : goal.history-history-requires

@@ -1,6 +1,6 @@
 use Rattle.std.proofs.Common.{◌+◌, ◌*◌, ◌<◌, length, arith}
 use Rattle.ds_rule.specs.Words.{width}
-use Rattle.ds_fabric.proofs.Tickets.{row_told, word_told}
+use Rattle.ds_fabric.proofs.HistoryTickets.{row_told, word_told}
 use Rattle.ds_fabric.proofs.record.Record.word.Goals as goal
 
 pub history-history-requires : goal.history-history-requires

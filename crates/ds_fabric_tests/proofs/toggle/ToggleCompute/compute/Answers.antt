@@ -1,5 +1,5 @@
 use Rattle.std.proofs.Common.{◌∙◌, ◌++◌, ℕ, List, ap, sym, arith}
-use Rattle.ds_fabric_tests.proofs.Toggles.{row_of, wide_one}
+use Rattle.ds_fabric_tests.proofs.ToggleRun.{row_of, wide_one}
 use Rattle.ds_fabric_tests.proofs.toggle.ToggleCompute.compute.Goals as goal
 
 pub push_reserved-requires : goal.push_reserved-requires

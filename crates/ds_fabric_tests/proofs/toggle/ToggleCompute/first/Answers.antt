@@ -1,5 +1,5 @@
 use Rattle.std.proofs.Common.{sym}
-use Rattle.ds_fabric_tests.proofs.Toggles.{first_zero}
+use Rattle.ds_fabric_tests.proofs.ToggleRun.{first_zero}
 use Rattle.ds_fabric_tests.proofs.toggle.ToggleCompute.first.Goals as goal
 
 pub returns : goal.returns

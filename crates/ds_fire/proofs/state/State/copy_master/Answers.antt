@@ -2,7 +2,7 @@ use Rattle.std.proofs.Common.{◌≡◌, ◌∙◌, length, ap, sym, arith}
 use Rattle.ds_latch.specs.Node.{number_of}
 use Rattle.ds_latch.specs.declared.node.Node.TheVariants.{Master}
 use Rattle.ds_fire.specs.Snapshot.{held_row}
-use Rattle.ds_fire.proofs.Transparent.{master_wide}
+use Rattle.ds_fire.proofs.OpenNodesHold.{master_wide}
 use Rattle.ds_fire.proofs.state.State.copy_master.Goals as goal
 
 pub copy_from-requires : goal.copy_from-requires

@@ -5,14 +5,14 @@ use Rattle.ds_cover.specs.Cover.{values_at}
 use Rattle.ds_latch.specs.Firing.{IsSettled}
 use Rattle.ds_latch.specs.Node.{Split, IsNode, nets_of, nodes, number_of}
 use Rattle.ds_latch.specs.declared.node.Node.{Node}
-use Rattle.ds_latch.proofs.Counts.{number_below}
+use Rattle.ds_latch.proofs.OrderTokens.{number_below}
 use Rattle.ds_split.specs.Cones.{IsSettlingAt}
 use Rattle.ds_split.proofs.NodeCones.{nets_within}
 use Rattle.ds_fire.specs.Fired.{IsSnapshotSound}
 use Rattle.ds_fire.specs.Snapshot.{Snapshot, split_of, held_row}
 use Rattle.ds_fire.specs.Turn.{IsSettledOn}
-use Rattle.ds_fire.proofs.Opened.{bits_are}
-use Rattle.ds_fire.proofs.Transparent.{settled_held}
+use Rattle.ds_fire.proofs.RowsAfterOpening.{bits_are}
+use Rattle.ds_fire.proofs.OpenNodesHold.{settled_held}
 use Rattle.ds_fire.proofs.state.State.copy_settled.Goals as goal
 
 -- the nets of the node with the number, as they are lent

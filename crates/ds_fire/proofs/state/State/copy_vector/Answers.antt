@@ -3,7 +3,7 @@ use Rattle.ds_latch.specs.Node.{closing}
 use Rattle.ds_latch.specs.declared.node.Node.TheVariants.{In}
 use Rattle.ds_fire.specs.Fired.{IsReached, IsSnapshotSound}
 use Rattle.ds_fire.specs.Snapshot.{Snapshot, limit_of, count_of}
-use Rattle.ds_fire.proofs.Transparent.{vector_there}
+use Rattle.ds_fire.proofs.OpenNodesHold.{vector_there}
 use Rattle.ds_fire.proofs.state.State.copy_vector.Goals as goal
 
 pub row-requires : goal.row-requires

@@ -8,7 +8,7 @@ use Rattle.ds_fire.specs.Turn.{AreTurnPlaces}
 use Rattle.ds_fire.specs.Snapshot.{Snapshot, split_of, count_of, held_row, rows_of}
 use Rattle.ds_fire.proofs.Settles.{place_low}
 use Rattle.ds_fire.proofs.Turning.{are_rows, count_low, events_enough}
-use Rattle.ds_fire.proofs.Opened.{same_row, same_inside}
+use Rattle.ds_fire.proofs.RowsAfterOpening.{same_row, same_inside}
 use Rattle.ds_fire.proofs.state.State.held.Goals as goal
 
 pub overflow_mul-number : goal.overflow_mul-number

@@ -1,7 +1,7 @@
 use Rattle.std.proofs.Common.{◌≡◌, ◌∙◌, ◌<◌, ◌≤◌, ◌+◌, ◌*◌, ◌^◌, ℕ, length, ap, subst, arith}
 use Rattle.ds_fire.specs.Fired.{IsReached, IsSnapshotSound}
 use Rattle.ds_fire.specs.Snapshot.{Snapshot, graph_of, limit_of, count_of}
-use Rattle.ds_fire.proofs.Transparent.{events_there}
+use Rattle.ds_fire.proofs.OpenNodesHold.{events_there}
 use Rattle.ds_fire.proofs.Turning.{count_low}
 use Rattle.ds_fire.proofs.state.State.is_open.Goals as goal
 

@@ -4,7 +4,7 @@ use Rattle.ds_design.specs.InRange.{IsInRange}
 use Rattle.ds_latch.specs.Node.{Split, nodes}
 use Rattle.ds_fire.specs.Feeds.{AreFeeds}
 use Rattle.ds_fire.specs.First.{AreEmpty, AreFirstRows}
-use Rattle.ds_fire.proofs.First.{first_is, first_reached, first_room, first_sound, plan_events}
+use Rattle.ds_fire.proofs.InitialRows.{first_is, first_reached, first_room, first_sound, plan_events}
 use Rattle.ds_fire.proofs.state.State.new.Goals as goal
 
 pub first-requires-clause-few : goal.first-requires-clause-few

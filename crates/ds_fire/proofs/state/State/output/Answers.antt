@@ -1,7 +1,7 @@
 use Rattle.std.proofs.Common.{◌∙◌, length, ap, sym}
 use Rattle.ds_fire.specs.Snapshot.{split_of}
-use Rattle.ds_fire.proofs.Opened.{node_at}
-use Rattle.ds_fire.proofs.Transparent.{held_is_shown, held_wide, made_is_held}
+use Rattle.ds_fire.proofs.RowsAfterOpening.{node_at}
+use Rattle.ds_fire.proofs.OpenNodesHold.{held_is_shown, held_wide, made_is_held}
 use Rattle.ds_fire.proofs.state.State.output.Goals as goal
 
 pub copy_from-requires : goal.copy_from-requires

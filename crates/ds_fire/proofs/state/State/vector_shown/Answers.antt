@@ -1,7 +1,7 @@
 use Rattle.std.proofs.Common.{◌<◌, ◌+◌, ◌*◌, length, subst, arith}
 use Rattle.ds_fire.specs.Fired.{IsSnapshotSound}
 use Rattle.ds_fire.specs.Snapshot.{graph_of}
-use Rattle.ds_fire.proofs.Transparent.{events_there}
+use Rattle.ds_fire.proofs.OpenNodesHold.{events_there}
 use Rattle.ds_fire.proofs.state.State.vector_shown.Goals as goal
 
 pub count-requires : goal.count-requires

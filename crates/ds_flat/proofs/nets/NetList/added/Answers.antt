@@ -1,5 +1,5 @@
 use Rattle.std.proofs.Common.{◌∙◌}
-use Rattle.ds_flat.proofs.Keys.{key_number, key_added}
+use Rattle.ds_flat.proofs.NetKeyLemmas.{key_number, key_added}
 use Rattle.ds_flat.proofs.nets.NetList.added.Goals as goal
 
 pub returns-clause-number : goal.returns-clause-number

@@ -1,6 +1,6 @@
 use Rattle.std.proofs.Common.{◌∙◌, sym, false}
-use Rattle.ds_lines.proofs.Keys.{position_some}
-use Rattle.ds_flat.proofs.Keys.{same_key, key_has, key_number, key_there}
+use Rattle.ds_lines.proofs.WordKeys.{position_some}
+use Rattle.ds_flat.proofs.NetKeyLemmas.{same_key, key_has, key_number, key_there}
 use Rattle.ds_flat.proofs.nets.NetList.number.Goals as goal
 
 pub added-requires : goal.added-requires

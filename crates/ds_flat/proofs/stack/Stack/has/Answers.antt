@@ -2,7 +2,7 @@ use Rattle.std.proofs.Common.{◌<◌, ◌==◌, ◌∙◌, ap, sym, subst, leng
 use Rattle.std.proofs.lemmas.List.{get_or_default}
 use Rattle.std.specs.List.{list_any}
 use Rattle.ds_flat.specs.Stack.{Stacked}
-use Rattle.ds_flat.proofs.Counts.{counts_has}
+use Rattle.ds_flat.proofs.WaitingCopies.{counts_has}
 use Rattle.ds_flat.proofs.stack.Stack.has.Goals as goal
 
 pub returns : goal.returns

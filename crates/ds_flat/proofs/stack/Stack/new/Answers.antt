@@ -1,7 +1,7 @@
 use Rattle.std.proofs.Common.{sym, subst, reverse, List}
 use Rattle.ds_flat.specs.declared.frame.Open.{Open}
 use Rattle.ds_flat.specs.Stack.{AreCounts}
-use Rattle.ds_flat.proofs.Counts.{counts_none}
+use Rattle.ds_flat.proofs.WaitingCopies.{counts_none}
 use Rattle.ds_flat.proofs.Frames.{places_of}
 use Rattle.ds_flat.proofs.stack.Stack.new.Goals as goal
 

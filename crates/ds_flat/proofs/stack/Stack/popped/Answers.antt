@@ -1,7 +1,7 @@
 use Rattle.std.proofs.Common.{◌-◌, ◌∙◌, ap, sym, subst, ℕ, length, arith, reverse, List, length-set, refl}
 use Rattle.std.proofs.lemmas.List.{get_or_default}
 use Rattle.ds_flat.specs.Stack.{AreCounts, put_on}
-use Rattle.ds_flat.proofs.Counts.{counts_pop, counts_top, counts_positive}
+use Rattle.ds_flat.proofs.WaitingCopies.{counts_pop, counts_top, counts_positive}
 use Rattle.ds_flat.proofs.Frames.{places_of, places_push, stacked_push, stacked}
 use Rattle.ds_flat.proofs.stack.Stack.popped.Goals as goal
 

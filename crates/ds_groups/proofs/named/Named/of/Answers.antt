@@ -1,7 +1,7 @@
 use Rattle.std.proofs.Common.{◌≡◌, ℕ, length, arith, ap, subst}
 use Rattle.ds_groups.specs.Indexed.{IsIndex}
 use Rattle.ds_groups.specs.Names.{driven_nets}
-use Rattle.ds_groups.proofs.Driven.{length-driven, put_next, short_all, short_more}
+use Rattle.ds_groups.proofs.DrivenNets.{length-driven, put_next, short_all, short_more}
 use Rattle.ds_groups.proofs.named.Named.of.Goals as goal
 
 pub loop-i-init : goal.loop-i-init

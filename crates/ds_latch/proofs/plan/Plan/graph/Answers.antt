@@ -1,6 +1,6 @@
 use Rattle.std.proofs.Common.{subst}
 use Rattle.ds_latch.specs.Plan.{IsController, Planned}
-use Rattle.ds_latch.proofs.Counts.{accepted_controls}
+use Rattle.ds_latch.proofs.OrderTokens.{accepted_controls}
 use Rattle.ds_latch.proofs.plan.Plan.graph.Goals as goal
 
 pub returns-clause-controls : goal.returns-clause-controls

@@ -1,6 +1,6 @@
 use Rattle.std.proofs.Common.{◌∙◌, ap, not, List, ℕ, map}
 use Rattle.ds_lines.specs.Names.{has_name, place_of_name, with_name}
-use Rattle.ds_lines.proofs.Keys.{any_key, place_key, insert_key_words}
+use Rattle.ds_lines.proofs.WordKeys.{any_key, place_key, insert_key_words}
 use Rattle.ds_lines.proofs.names.Names.insert.Goals as goal
 
 pub returns-clause-place : goal.returns-clause-place

@@ -1,6 +1,6 @@
 use Rattle.std.proofs.Common.{◌∙◌, ap, sym, List, ℕ}
 use Rattle.ds_lines.specs.Names.{place_of_name}
-use Rattle.ds_lines.proofs.Keys.{place_key, position_some, position_none}
+use Rattle.ds_lines.proofs.WordKeys.{place_key, position_some, position_none}
 use Rattle.ds_lines.proofs.names.Names.place.Goals as goal
 
 pub returns-in-Some-clause-value : goal.returns-in-Some-clause-value

@@ -3,7 +3,7 @@ use Rattle.std.specs.List.Sorted.{IsNonDecreasingBy}
 use Rattle.std.proofs.lemmas.List.Sorted.{IsPartitionedBy-ltb, IsPartitionedBy-leb, IsPartitionPoint-from_clause}
 use Rattle.ds_marked.specs.Graph.{IsRangeFrom}
 use Rattle.ds_marked.specs.declared.marked.Arc.{Arc}
-use Rattle.ds_marked.proofs.Ordered.{range_from, sources_rise}
+use Rattle.ds_marked.proofs.ArcComparison.{range_from, sources_rise}
 use Rattle.ds_marked.proofs.marked.Marked.arcs_from.Goals as goal
 
 pub returns : goal.returns

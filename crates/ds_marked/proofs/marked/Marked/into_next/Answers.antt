@@ -3,7 +3,7 @@ use Rattle.std.proofs.lemmas.List.{get_or_default}
 use Rattle.ds_marked.specs.Graph.{Graph}
 use Rattle.ds_marked.specs.Into.{IsNextPlace, AreChains}
 use Rattle.ds_marked.specs.declared.marked.Arc.{Arc}
-use Rattle.ds_marked.proofs.Into.{next_into}
+use Rattle.ds_marked.proofs.ArcsIntoEvent.{next_into}
 use Rattle.ds_marked.proofs.marked.Marked.into_next.Goals as goal
 
 pub returns : goal.returns

@@ -2,7 +2,7 @@ use Rattle.std.proofs.Common.{◌≡◌, ◌<◌, ◌≤◌, ◌+◌, ℕ, List,
 use Rattle.std.proofs.lemmas.Bool.{cases_lt, false≢true}
 use Rattle.std.proofs.lemmas.List.{get_or_default}
 use Rattle.ds_marked.specs.declared.marked.Arc.{Arc}
-use Rattle.ds_marked.proofs.Into.{IsWalked, left, left_falls, walk_next}
+use Rattle.ds_marked.proofs.ArcsIntoEvent.{IsWalked, left, left_falls, walk_next}
 use Rattle.ds_marked.proofs.marked.Marked.lacking.Goals as goal
 
 -- an arc has a token for the event's next firing

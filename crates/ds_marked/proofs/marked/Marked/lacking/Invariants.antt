@@ -1,5 +1,5 @@
 use Rattle.std.proofs.Common.{◌+◌, ◌≤◌, slice_index}
-use Rattle.ds_marked.proofs.Into.{IsWalked, left}
+use Rattle.ds_marked.proofs.ArcsIntoEvent.{IsWalked, left}
 use Rattle.ds_marked.proofs.marked.Marked.lacking.Given as goal
 
 abbrev pub invariant-walk : goal.invariant-walk

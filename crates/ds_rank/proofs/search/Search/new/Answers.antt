@@ -1,7 +1,7 @@
 use Rattle.std.proofs.Common.{◌≡◌, ℕ, List, [], length, subst, sym}
 use Rattle.std.proofs.Math.ListN.{replicate}
 use Rattle.ds_rank.specs.Search.{IsSearch}
-use Rattle.ds_rank.proofs.Begin.{begun}
+use Rattle.ds_rank.proofs.SearchBeginAndEnd.{begun}
 use Rattle.ds_rank.proofs.search.Search.new.Goals as goal
 
 pub returns : goal.returns

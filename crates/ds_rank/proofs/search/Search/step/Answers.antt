@@ -1,8 +1,8 @@
 use Rattle.std.proofs.Common.{◌≡◌, ◌∙◌, ◌-◌, ◌<◌, ℕ, List, length, get_or, subst, sym, arith, ap, Vec, Global, ◌≤◌}
 use Rattle.ds_rank.specs.Order.{HasEdge, source_at}
 use Rattle.ds_rank.specs.Search.{ClosesAt, IsPath, IsStep, State}
-use Rattle.ds_rank.proofs.Begin.{next_edge, path_few, room_above}
-use Rattle.ds_rank.proofs.Steps.{keeps_finished, less_finished, lower_finished, keeps_entered, less_entered, lower_entered, keeps_passed, less_passed}
+use Rattle.ds_rank.proofs.SearchBeginAndEnd.{next_edge, path_few, room_above}
+use Rattle.ds_rank.proofs.SearchSteps.{keeps_finished, less_finished, lower_finished, keeps_entered, less_entered, lower_entered, keeps_passed, less_passed}
 use Rattle.ds_rank.proofs.search.Search.step.Goals as goal
 
 pub returns-then-k-eq0-clause-ok : goal.returns-then-k-eq0-clause-ok

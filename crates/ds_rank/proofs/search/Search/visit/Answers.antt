@@ -2,7 +2,7 @@ use Rattle.std.proofs.Common.{◌≡◌, ◌<◌, ◌≤◌, ◌-◌, ℕ, List,
 use Rattle.std.proofs.Math.ListN.{set}
 use Rattle.ds_rank.specs.Order.{HasEdge}
 use Rattle.ds_rank.specs.Search.{IsSearch, State}
-use Rattle.ds_rank.proofs.Steps.{keeps_entered, lower_entered}
+use Rattle.ds_rank.proofs.SearchSteps.{keeps_entered, lower_entered}
 use Rattle.ds_rank.proofs.search.Search.visit.Goals as goal
 
 pub walk-init : goal.walk-init

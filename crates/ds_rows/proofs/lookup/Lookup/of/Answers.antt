@@ -2,7 +2,7 @@ use Rattle.std.proofs.Common.{◌≡◌, ◌∙◌, ℕ, Vec, Global, true, fals
 use Rattle.std.proofs.lemmas.Bool.{false≢true}
 use Rattle.std.proofs.lemmas.List.{get_or_default}
 use Rattle.ds_base.specs.declared.number.EventId.{EventId}
-use Rattle.ds_rows.proofs.Places.{firsts_more}
+use Rattle.ds_rows.proofs.FirstPlaces.{firsts_more}
 use Rattle.ds_rows.proofs.lookup.Lookup.of.Goals.{then-is_new+in_ok-push, else-is_new}
 use Rattle.ds_rows.proofs.lookup.Lookup.of.Goals as goal
 

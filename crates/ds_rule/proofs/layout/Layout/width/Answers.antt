@@ -2,7 +2,7 @@ use Rattle.std.proofs.Common.{◌≡◌, ◌∙◌, ◌<◌, ℕ, List, length, 
 use Rattle.ds_base.specs.Word.{count_of_words}
 use Rattle.atomic_table.proofs.Lists.{at_index}
 use Rattle.ds_rule.specs.Run.{Run}
-use Rattle.ds_rule.proofs.Lists.{at_get}
+use Rattle.ds_rule.proofs.GetElemLemmas.{at_get}
 use Rattle.ds_rule.proofs.PlaceLaws.{width-is}
 use Rattle.ds_rule.proofs.layout.Layout.width.Goals as goal
 

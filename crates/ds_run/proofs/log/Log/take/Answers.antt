@@ -1,5 +1,5 @@
 use Rattle.std.proofs.Common.{length}
-use Rattle.ds_run.proofs.Ended.{log_grown}
+use Rattle.ds_run.proofs.WindowTexts.{log_grown}
 use Rattle.ds_run.proofs.log.Log.take.Goals as goal
 
 pub returns-clause-ok : goal.returns-clause-ok

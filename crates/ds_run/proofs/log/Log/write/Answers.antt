@@ -2,7 +2,7 @@ use Rattle.std.proofs.Common.{◌∙◌, ap, length}
 use Rattle.std.specs.Prelude.{replicate}
 use Rattle.std.proofs.lemmas.List.{length-replicate}
 use Rattle.ds_run.specs.Logged.{Listed}
-use Rattle.ds_run.proofs.Ended.{listing, log_text}
+use Rattle.ds_run.proofs.WindowTexts.{listing, log_text}
 use Rattle.ds_run.proofs.log.Log.write.Goals as goal
 
 pub put_firings-requires-clause-counts : goal.put_firings-requires-clause-counts

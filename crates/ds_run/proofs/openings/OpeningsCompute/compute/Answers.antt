@@ -8,7 +8,7 @@ use Rattle.ds_rule.specs.Words.{width}
 use Rattle.ds_rule.specs.Rows.{supply_but}
 use Rattle.ds_base.specs.Scratch.{Kept, Memory, Remembers}
 use Rattle.ds_run.specs.Openings.{RunWithMemory, memory_of}
-use Rattle.ds_run.proofs.Opened.{gives_row, opens_at, room_at}
+use Rattle.ds_run.proofs.ComputedOpenings.{gives_row, opens_at, room_at}
 use Rattle.ds_run.proofs.Remembered.{noted}
 use Rattle.ds_run.proofs.openings.OpeningsCompute.compute.Goals as goal
 

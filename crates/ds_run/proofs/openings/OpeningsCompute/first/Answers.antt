@@ -2,7 +2,7 @@ use Rattle.std.proofs.Common.{◌≡◌, ◌<◌, ◌∙◌, ap, arith, length, 
 use Rattle.ds_latch.specs.Node.{number_of}
 use Rattle.ds_latch.specs.declared.node.Node.TheVariants.{In, Out, Master, Slave}
 use Rattle.ds_run.specs.Openings.{RunWithMemory}
-use Rattle.ds_run.proofs.Firsts.{first_start, first_zero, start_inside, start_wide}
+use Rattle.ds_run.proofs.InitialWords.{first_start, first_zero, start_inside, start_wide}
 use Rattle.ds_run.proofs.openings.OpeningsCompute.first.Goals as goal
 
 pub index-requires : goal.index-requires

@@ -1,13 +1,13 @@
 use Rattle.std.proofs.Common.{◌≡◌, ◌∙◌, ℕ, ◌<◌, Bool, List, Some, false, map, replicate, length, ap, sym, subst, arith}
 use Rattle.atomic_table.specs.Seated.{TableId}
 use Rattle.atomic_table.specs.Table.{opening}
-use Rattle.ds_rule.proofs.Lists.{replicate-default}
+use Rattle.ds_rule.proofs.GetElemLemmas.{replicate-default}
 use Rattle.ds_fabric.specs.Showing.{Showing}
 use Rattle.ds_runner.specs.Turns.{Slot, TurnSeat, Turning, fabric_of, first_turn, has_out, nodes_of_key, run_of}
 use Rattle.ds_runner.specs.Shown.{AreAlone, IsTurnstileOpened}
 use Rattle.ds_runner.specs.declared.turn_view.TurnView.{TurnView}
 use Rattle.ds_runner.specs.declared.turning.Key.{Key}
-use Rattle.ds_runner.proofs.Starts.{turning_starts}
+use Rattle.ds_runner.proofs.TurnstileAtStart.{turning_starts}
 use Rattle.ds_runner.proofs.turnstile.Turnstile.build.Goals as goal
 
 -- the rule at the start, of words and slots that are as they should
@@ -21,8 +21,8 @@ begun k ps n ws zs xs given some-turns few each count lent words slots =
     (subst (λ (ys : List Slot). Turning k (opening (replicate (nodes_of_key k) 0) ys (first_turn k))) slots-is start)
 
 pub new-requires : goal.new-requires
-new-requires c = begun (record { passes = c.of.result; turns = c.args.turns }) c.args.passes.now.items c.len.result c.as_slice.result.now c.in_ok-words.words.items c.shelve.new.slots.items
-    (ap (λ v. v.items) c.of.ensures) c.requires.turns (omega (arith, c.ranges.turns.fits)) c.requires.alone (omega (arith, c.len.ensures)) c.as_slice.ensures.value c.in_ok-words.ensures.words c.shelve.ensures.moved
+new-requires c = begun (record { passes = c.of.result; turns = c.args.turns }) c.args.passes.now.items c.len.result c.as_slice.result.now c.in_ok-words.words.items c.fill_slots.new.slots.items
+    (ap (λ v. v.items) c.of.ensures) c.requires.turns (omega (arith, c.ranges.turns.fits)) c.requires.alone (omega (arith, c.len.ensures)) c.as_slice.ensures.value c.in_ok-words.ensures.words c.fill_slots.ensures.moved
 
 -- what a turnstile shows that is made of a key, and its first turn
 opened : (k key : Key) (ps : List Showing) (id id' : TableId) (v : TurnView) → key ≡ k → k.passes.value.items ≡ ps → id' ≡ id

@@ -1,5 +1,5 @@
 use Rattle.std.proofs.Common.{◌<◌, ◌∙◌, ◌++◌, ℕ, List, ap, sym, arith}
-use Rattle.ds_runner_tests.proofs.Trios.{one_word, zero_row}
+use Rattle.ds_runner_tests.proofs.TrioRun.{one_word, zero_row}
 use Rattle.ds_runner_tests.proofs.trio.TrioCompute.compute.Goals as goal
 
 pub push_reserved-requires : goal.push_reserved-requires

@@ -1,5 +1,5 @@
 use Rattle.std.proofs.Common.{sym}
-use Rattle.ds_runner_tests.proofs.Trios.{zero_first}
+use Rattle.ds_runner_tests.proofs.TrioRun.{zero_first}
 use Rattle.ds_runner_tests.proofs.trio.TrioCompute.first.Goals as goal
 
 pub returns : goal.returns

@@ -4,7 +4,7 @@ use Rattle.ds_design.specs.Levels.{AreLevels, IsSortedByLevel}
 use Rattle.ds_design.specs.declared.design.Gate.{Gate}
 use Rattle.ds_settle.specs.Cone.{IsCone, Parts}
 use Rattle.ds_settle.specs.Walk.{AreReached}
-use Rattle.ds_settle.proofs.Ended.{is_cone}
+use Rattle.ds_settle.proofs.FoundCone.{is_cone}
 use Rattle.ds_settle.proofs.finder.Finder.cone.Goals as goal
 
 pub returns-clause-ok : goal.returns-clause-ok

@@ -1,5 +1,5 @@
 use Rattle.std.proofs.Common.{refl}
-use Rattle.ds_split.proofs.Keys.{placed_in}
+use Rattle.ds_split.proofs.KeyedBuses.{placed_in}
 use Rattle.ds_split.proofs.buses.Buses.place.Goals as goal
 
 pub returns : goal.returns

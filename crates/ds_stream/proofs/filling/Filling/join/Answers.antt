@@ -6,7 +6,7 @@ use Rattle.ds_lines.specs.Line.{is_hash, kept_len, trimmed, words_in, words_of}
 use Rattle.ds_stream.specs.Alike.{IsBegun, IsLike}
 use Rattle.ds_stream.specs.Filling.{Filled}
 use Rattle.ds_stream.proofs.Cut.{plain_front}
-use Rattle.ds_stream.proofs.Kept.{whole_kept, words_kept}
+use Rattle.ds_stream.proofs.CutLines.{whole_kept, words_kept}
 use Rattle.ds_stream.proofs.Likeness.{begun_take, join_next, plain_more}
 use Rattle.ds_stream.proofs.filling.Filling.join.Goals as goal
 

@@ -2,7 +2,7 @@ use Rattle.std.proofs.Common.{◌≡◌, ap, subst, arith, ℕ, ◌+◌, ◌-◌
 use Rattle.std.specs.Prelude.{max}
 use Rattle.std.proofs.lemmas.Grind.{common_steps}
 use Rattle.ds_stream.specs.Filling.{Filled}
-use Rattle.ds_stream.proofs.Least.{asks, bytes_in, kept_told, may_ask, one_or}
+use Rattle.ds_stream.proofs.FewestBytes.{asks, bytes_in, kept_told, may_ask, one_or}
 use Rattle.ds_stream.proofs.filling.Filling.least.Goals as goal
 
 pub returns-clause-before : goal.returns-clause-before

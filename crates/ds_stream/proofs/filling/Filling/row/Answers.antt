@@ -5,7 +5,7 @@ use Rattle.ds_stream.specs.Alike.{told_line}
 use Rattle.ds_stream.specs.Bounded.{fault_under}
 use Rattle.ds_stream.specs.Filling.{Filled}
 use Rattle.ds_stream.specs.Word.{IsCut}
-use Rattle.ds_stream.proofs.Kept.{is_cut, kept_words, none_kept, positive, words_kept}
+use Rattle.ds_stream.proofs.CutLines.{is_cut, kept_words, none_kept, positive, words_kept}
 use Rattle.ds_stream.proofs.filling.Filling.row.Goals as goal
 use Rattle.ds_stream.proofs.filling.Filling.row.Goals.{After-fault_of}
 

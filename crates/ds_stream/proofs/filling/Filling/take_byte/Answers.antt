@@ -4,7 +4,7 @@ use Rattle.ds_stream.specs.Filling.{Filled, TakesBytes, on_lines, on_text}
 use Rattle.ds_stream.specs.Stream.{Placed}
 use Rattle.ds_stream.specs.contracts.filling.Filling.{the_view}
 use Rattle.ds_stream.proofs.Likeness.{plain_told}
-use Rattle.ds_stream.proofs.Taking.{keep_takes, not_newline, placed_hash, placed_seen, too_long}
+use Rattle.ds_stream.proofs.TakenBytes.{keep_takes, not_newline, placed_hash, placed_seen, too_long}
 use Rattle.ds_stream.proofs.filling.Filling.take_byte.Goals as goal
 
 pub returns-then-self-ge-LONGEST-clause-takes : goal.returns-then-self-ge-LONGEST-clause-takes

@@ -1,7 +1,7 @@
 use Rattle.std.proofs.Common.{◌∙◌, sym, subst, ◌∷◌, []}
 use Rattle.ds_stream.specs.Filling.{Filled, TakesBytes}
 use Rattle.ds_stream.specs.contracts.filling.Filling.{the_view}
-use Rattle.ds_stream.proofs.Taking.{join_takes}
+use Rattle.ds_stream.proofs.TakenBytes.{join_takes}
 use Rattle.ds_stream.proofs.filling.Filling.take_newline.Goals as goal
 
 pub returns-then-joins-clause-takes : goal.returns-then-joins-clause-takes

@@ -1,7 +1,7 @@
 use Rattle.std.proofs.Common.{◌≡◌, ◌∙◌, ap, sym, arith, ℕ, ◌+◌, ◌-◌, ◌++◌, ◌∷◌, [], map, take}
 use Rattle.ds_rows.specs.Vector.{value_of_character}
 use Rattle.ds_stream.specs.Filling.{Filled, on_text}
-use Rattle.ds_stream.proofs.Plain.{plain_taken}
+use Rattle.ds_stream.proofs.PlainLines.{plain_taken}
 use Rattle.ds_stream.proofs.filling.Filling.take_plain.Goals as goal
 
 pub returns-clause-takes : goal.returns-clause-takes

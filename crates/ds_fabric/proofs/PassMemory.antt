@@ -1,0 +1,307 @@
+-- What a pass has in memory, beside its view, through loads and firings.
+use Rattle.std.proofs.Common.{◌≡◌, ℕ, suc, ◌+◌, ◌<◌, ◌≤◌, ◌≢◌, true, List}
+use Rattle.std.proofs.Common.{[], ◌∷◌, ◌++◌, length}
+use Rattle.std.proofs.Common.{get_or, set, sym, refl, ap, ◌∙◌, subst, arith, le_trans}
+use Rattle.std.proofs.Common.{le_of_eq, length-set}
+use Rattle.std.proofs.Common.{get_or-set_other, get_or-set_same, length-append}
+use Rattle.std.proofs.Common.{⊎_elim}
+use Rattle.std.proofs.Common.{zero, ◌/◌, cond, eq-eqb, ne_eqb}
+use Rattle.ds_rule.proofs.EventLaws.{opened-low}
+use mathlib.Core.Logic.{dite}
+use mathlib.Core.Option.{some}
+use native.Mathlib.Decide.{ℕ_discrete}
+use lib.ListN.{get_elem?}
+use Rattle.atomic_table.proofs.Lists.{at_set, set_else, at_index}
+use Rattle.ds_rule.specs.Run.{Run, events, node_of, next, turns, opens, opening, opened}
+use Rattle.ds_rule.specs.Run.{count, Enabled}
+use Rattle.ds_rule.specs.Rule.{holds, tickets, seen}
+use Rattle.ds_rule.specs.Plays.{Sat, after_depart, after_draw, after_publish}
+use Rattle.ds_rule.specs.declared.view.View.{View}
+use Rattle.ds_rule.proofs.GetElemLemmas.{same_at, set_there, apart_set, at_below, has_below}
+use Rattle.ds_rule.proofs.EventLaws.{node-next, turns-next, turns-other, event_below}
+use Rattle.ds_rule.proofs.EventLaws.{even_opens, next-opens, turns-opening, node-opening}
+use Rattle.ds_fabric.specs.declared.history.History.{History}
+use Rattle.ds_fabric.specs.Looks.{LooksOn}
+use Rattle.ds_fabric.specs.Told.{stride_of, new_row, turns_told}
+use Rattle.ds_fabric.specs.Noted.{HasFired}
+use Rattle.ds_fabric.specs.Showing.{HasHistoryRoom, Tells, Keeps}
+use Rattle.ds_fabric.specs.Stepped.{FiresNext, done, seen_at_departure}
+use Rattle.ds_marked.specs.declared.marked.Arc.{Arc}
+use Rattle.ds_fabric.proofs.LoadedViews.{has_after}
+use Rattle.ds_fabric.proofs.HistoryLayout.{told_same, told_fires}
+
+-- the history of a node, beside another view that says the same of the node
+pub tells_moved : (v w : View) (h : History) → Tells v h → w.run ≡ v.run → holds w h.node ≡ true
+    → seen w h.node ≡ seen v h.node
+    → ((e : ℕ) → node_of v.run e ≡ h.node → tickets w e ≡ tickets v e) → Tells w h
+tells_moved v w h t run has same ticks = let l : ℕ = h.node in record {
+  has = has;
+  fired = t.fired ∙ sym same;
+  stride = t.stride ∙ ap (λ (r : Run). stride_of r l) (sym run);
+  turns = t.turns ∙ sym (ap (λ (r : Run). turns_told r (tickets w) l (seen w l)) run
+      ∙ (ap (turns_told v.run (tickets w) l) same
+      ∙ told_same v.run (tickets v) (tickets w) l (seen v l) (λ g _.
+      ap (λ (ts : List ℕ). get_or ts (turns v.run (next v.run l g) g) 0)
+      (ticks (next v.run l g) (node-next v.run l g)))));
+  room = subst (λ (r : Run). HasHistoryRoom r l h) (sym run) t.room;
+}
+
+-- loads keep what a pass has in memory
+pub looks_keep : (me me' : Sat) (nodes : List History) → Keeps me nodes → LooksOn me.0 me'.0
+    → me'.1 ≡ me.1 → Keeps me' nodes
+looks_keep me me' nodes k q slots =
+    let v : View = me.0 in let w : View = me'.0 in
+    let has : (l : ℕ) → holds w l ≡ holds v l = λ l. has_after v w l q in
+    let ticks : (e : ℕ) → tickets w e ≡ tickets v e =
+    λ e. ap (λ (ts : List (List ℕ)). get_or ts e []) q.tickets_same in
+    let P : Run → Type 0 = λ r. (e : ℕ) → holds w (node_of r e) ≡ true
+    → turns r e (seen w (node_of r e)) ≡ length (tickets w e) in record {
+      no_slot = slots ∙ k.no_slot;
+      live = q.live ∙ k.live;
+      rests = q.phase ∙ k.rests;
+      held_long = ap length q.holds_same ∙ (k.held_long ∙ ap (λ (r : Run). r.nodes) (sym q.run));
+      tickets_long = ap length q.tickets_same ∙ (k.tickets_long ∙ ap events (sym q.run));
+      seen_long = q.seen_long ∙ (k.seen_long ∙ ap (λ (r : Run). r.nodes) (sym q.run));
+      among = subst (λ (r : Run). r.latches ≤ r.nodes) (sym q.run) k.among;
+      counts = subst P (sym q.run) (λ e h. let l : ℕ = node_of v.run e in
+          let h' : holds v l ≡ true = sym (has l) ∙ h in
+          ap (turns v.run e) (q.own l h') ∙ (k.counts e h' ∙ ap length (sym (ticks e))));
+      listed = λ i h at. let t = k.listed i h at in
+          tells_moved v w h t q.run (has h.node ∙ t.has) (q.own h.node t.has) (λ e is. ticks e);
+      found = λ l h. k.found l (sym (has l) ∙ h);
+      distinct = k.distinct;
+    }
+
+abbrev pub landed : View → ℕ → ℕ → View
+landed v l t = after_publish (after_draw (after_depart v l) t)
+
+-- the event that the node fires next
+abbrev coming : View → ℕ → ℕ
+coming v l = next v.run l (seen v l)
+
+pub near-node : (me : Sat) (nodes : List History) (l : ℕ) → Keeps me nodes → holds me.0 l ≡ true
+    → l < me.0.run.nodes
+near-node me nodes l k h = omega (arith, has_below me.0.holds l h, k.held_long)
+
+near-event : (me : Sat) (nodes : List History) (l : ℕ) → Keeps me nodes → holds me.0 l ≡ true
+    → coming me.0 l < length me.0.tickets
+near-event me nodes l k h = omega (
+  arith,
+  k.tickets_long,
+  event_below me.0.run (coming me.0 l) k.among
+      (omega (arith, node-next me.0.run l (seen me.0 l), near-node me nodes l k h)),
+)
+
+tickets-landed : (v : View) (l t e : ℕ) → coming v l < length v.tickets → e ≡ coming v l
+    → tickets (landed v l t) e ≡ tickets v (coming v l) ++ t ∷ []
+tickets-landed v l t e near is = ap (tickets (landed v l t)) is
+    ∙ get_or-set_same v.tickets (coming v l) (tickets v (coming v l) ++ t ∷ []) [] near
+
+tickets-else : (v : View) (l t e : ℕ) → e ≢ coming v l → tickets (landed v l t) e ≡ tickets v e
+tickets-else v l t e n = get_or-set_other v.tickets (coming v l) e (tickets v (coming v l)
+    ++ t ∷ []) [] n
+
+seen-landed : (v : View) (l t x : ℕ) → l < length v.seen → x ≡ l
+    → seen (landed v l t) x ≡ seen v l + 1
+seen-landed v l t x near is = ap (seen (landed v l t)) is
+    ∙ get_or-set_same v.seen l (seen v l + 1) 0 near
+
+seen-else : (v : View) (l t x : ℕ) → x ≢ l → seen (landed v l t) x ≡ seen v x
+seen-else v l t x n = get_or-set_other v.seen l x (seen v l + 1) 0 n
+
+-- a firing keeps what a pass has in memory
+pub fires_keep : (me me' : Sat) (nodes : List History) (i : ℕ) (h h' : History) (t : ℕ)
+    → Keeps me nodes → get_elem? nodes i ≡ some h → me' ≡ (landed me.0 h.node t, me.1)
+    → HasFired me.0.run h h' t → Keeps me' (set nodes i h')
+fires_keep me me' nodes i h h' t k at is f =
+    let v : View = me.0 in let l : ℕ = h.node in let w : View = landed v l t in
+    let R : Run = v.run in let E : ℕ = coming v l in
+    let old = k.listed i h at in
+    let of-l : node_of R E ≡ l = node-next R l (seen v l) in
+    let near-E = near-event me nodes l k old.has in
+    let near-l : l < length v.seen = omega (
+      arith,
+      k.seen_long,
+      near-node me nodes l k old.has,
+    ) in
+    let counted : turns R E (seen v l) ≡ length (tickets v E) =
+    ap (λ (y : ℕ). turns R E (seen v y)) (sym of-l) ∙ k.counts E (ap (holds v) of-l ∙ old.has) in
+    let far : (x e : ℕ) → x ≢ l → node_of R e ≡ x
+    → tickets w e ≡ tickets v e = λ x e n on. tickets-else v l t e
+    (λ z. n (sym on ∙ (ap (node_of R) z ∙ of-l))) in
+    let new : Tells w h' = record {
+      has = ap (holds v) f.node ∙ old.has;
+      fired = f.fired ∙ (ap (λ (x : ℕ). x + 1) old.fired
+          ∙ sym (seen-landed v l t h'.node near-l f.node));
+      stride = f.stride ∙ (old.stride ∙ ap (stride_of R) (sym f.node));
+      turns = f.turns ∙ (ap (λ (xs : List ℕ). (xs ++ new_row R l h.fired) ++ t ∷ []) old.turns
+          ∙ (ap (λ (x : ℕ). (turns_told R (tickets v) l (seen v l) ++ new_row R l x) ++ t ∷ []) old.fired
+          ∙ (sym (told_fires R (tickets v) (tickets w) l (seen v l) t counted
+          (tickets-landed v l t E near-E refl) (λ e n. tickets-else v l t e n))
+          ∙ (ap (turns_told R (tickets w) l) (sym (seen-landed v l t l near-l refl))
+          ∙ ap (λ (x : ℕ). turns_told R (tickets w) x (seen w x)) (sym f.node)))));
+      room = subst (λ (x : ℕ). HasHistoryRoom R x h') (sym f.node) (record {
+        turns = omega (arith, old.room.turns, f.turns_room);
+        from = omega (arith, old.room.from, f.from_room);
+      });
+    } in
+    let P : Sat → Type 0 = λ m. Keeps m (set nodes i h') in
+    subst P (sym is) (record {
+      no_slot = k.no_slot;
+      live = k.live;
+      rests = refl;
+      held_long = k.held_long;
+      tickets_long = length-set v.tickets E (tickets v E ++ t ∷ []) ∙ k.tickets_long;
+      seen_long = length-set v.seen l (seen v l + 1) ∙ k.seen_long;
+      among = k.among;
+      counts = λ e hx. let x : ℕ = node_of R e in dite (ℕ_discrete x l)
+          (λ on. ap (turns R e) (seen-landed v l t x near-l on) ∙ dite (ℕ_discrete e E)
+          (λ z. omega (
+            arith,
+            ap (λ (y : ℕ). turns R y (seen v l + 1)) z,
+            turns-next R l (seen v l),
+            counted,
+            ap length (tickets-landed v l t e near-E z),
+            length-append (tickets v E) (t ∷ []),
+          ))
+          (λ z. turns-other R e l (seen v l) on z ∙ (ap (λ (y : ℕ). turns R e (seen v y)) (sym on)
+          ∙ (k.counts e hx ∙ ap length (sym (tickets-else v l t e z))))))
+          (λ off. ap (turns R e) (seen-else v l t x off)
+          ∙ (k.counts e hx ∙ ap length (sym (far x e off refl))));
+      listed = λ j g at'. ⊎_elim
+          (λ e. subst (λ (x : History). Tells w x) e.1 new)
+          (λ e. let o = k.listed j g e.1 in let n : g.node ≢ l =
+          λ same. e.0 (k.distinct j i g h e.1 at same) in
+          tells_moved v w g o refl o.has (seen-else v l t g.node n) (λ x on. far g.node x n on))
+          (at_set nodes i j h' g at');
+      found = λ x hx. let r = k.found x hx in dite (ℕ_discrete r.0 i)
+          (λ e. (
+            i,
+            h',
+            set_there nodes i h h' at,
+            f.node
+                ∙ (ap (λ (y : History). y.node) (same_at nodes i h r.1 at
+                (subst (λ j. get_elem? nodes j ≡ some r.1) e r.2)) ∙ r.3),
+          ))
+          (λ n. (r.0, r.1, set_else nodes i r.0 h' n ∙ r.2, r.3));
+      distinct = λ j j' g g' a a' same. apart_set (λ
+          (x : History). x.node) nodes i h h' at f.node k.distinct j j' g g' a a' same;
+    })
+
+-- what was seen at departure: of the node itself what was seen before, of others what is seen
+pub at_departure-here : (v w : View) (l x : ℕ) → x ≡ l → seen_at_departure v w l x ≡ seen v l
+at_departure-here v w l x e = ap (λ b. cond b (seen v l) (seen w x)) (eq-eqb x l e)
+
+pub at_departure-else : (v w : View) (l x : ℕ) → x ≢ l → seen_at_departure v w l x ≡ seen w x
+at_departure-else v w l x n = ap (λ b. cond b (seen v l) (seen w x)) (ne_eqb x l n)
+
+-- what is enabled depends on the firings of its own node and of its sources
+pub enabled_same : (run : Run) (f g : ℕ → ℕ) (e : ℕ) → f (node_of run e) ≡ g (node_of run e)
+    → ((k : ℕ) (a : Arc) → get_elem? run.arcs k ≡ some a → a.target ≡ e
+    → f (node_of run a.source) ≡ g (node_of run a.source))
+    → Enabled run f e → Enabled run g e
+enabled_same run f g e own sources on = let here = ap (turns run e) own in (
+  omega (arith, on.0, here),
+  λ k a at into. omega (
+    arith,
+    on.1 k a at into,
+    here,
+    ap (turns run a.source) (sources k a at into),
+  ),
+)
+
+-- what a firing after loads says
+pub fires : (run : Run) (me me' : Sat) (nodes : List History) (w : View) (l event turn t : ℕ)
+    → me.0.run ≡ run → Keeps me nodes → holds me.0 l ≡ true → LooksOn me.0 me'.0 → me'.1 ≡ me.1
+    → event ≡ next run l (seen me.0 l) → turn ≡ done run me.0 l + 1 → turn ≤ run.limit
+    → Enabled run (seen me'.0) event → me'.0.drawn ≤ t → w ≡ landed me'.0 l t
+    → FiresNext run me.0 w l event turn t
+fires run me me' nodes w l event turn t run_is k has q slots event_is turn_is within on fresh is =
+    let v : View = me.0 in let u : View = me'.0 in let k' = looks_keep me me' nodes k q slots in
+    let has' : holds u l ≡ true = has_after v u l q ∙ has in
+    let P : View → Type 0 = λ x. FiresNext run v x l event turn t in
+    let own : seen u l ≡ seen v l = q.own l has in
+    let E-is : coming u l ≡ event = ap (λ (r : Run). next r l (seen u l)) (q.run ∙ run_is)
+    ∙ (ap (next run l) own ∙ sym event_is) in
+    let ticks : (e : ℕ) → tickets u e ≡ tickets v e =
+    λ e. ap (λ (ts : List (List ℕ)). get_or ts e []) q.tickets_same in
+    let near-E = near-event me' nodes l k' has' in
+    let near-l : l < length u.seen = omega (
+      arith,
+      k'.seen_long,
+      near-node me' nodes l k' has',
+    ) in
+    let rises : (x : ℕ) → seen u x ≤ seen (landed u l t) x = λ x. dite (ℕ_discrete x l)
+    (λ e. omega (arith, ap (seen u) e, seen-landed u l t x near-l e))
+    (λ n. le_of_eq (sym (seen-else u l t x n))) in
+    let left : (x : ℕ) → seen u x ≡ seen_at_departure v (landed u l t) l x = λ x. dite (ℕ_discrete x l)
+    (λ e. (ap (seen u) e ∙ own) ∙ sym (at_departure-here v (landed u l t) l x e))
+    (λ n. sym (seen-else u l t x n) ∙ sym (at_departure-else v (landed u l t) l x n)) in
+    subst P (sym is) (record {
+      event_is = event_is;
+      turn_is = turn_is;
+      within = within;
+      enabled = enabled_same run (seen u) (seen_at_departure v (landed u l t) l) event
+          (left (node_of run event)) (λ k a at into. left (node_of run a.source)) on;
+      fresh = omega (arith, fresh, q.drawn);
+      drawn = refl;
+      once_more = seen-landed u l t l near-l refl ∙ ap (λ (x : ℕ). x + 1) own;
+      no_other = λ x n h. seen-else u l t x n ∙ q.own x h;
+      one_more = tickets-landed u l t event near-E (sym E-is)
+          ∙ (ap (λ (x : ℕ). tickets u x ++ t ∷ []) E-is ∙ ap (λ ts. ts ++ t ∷ []) (ticks event));
+      others = λ e n. tickets-else u l t e (λ z. n (z ∙ E-is)) ∙ ticks e;
+      run_same = q.run;
+      holds_same = q.holds_same;
+      seen_up = λ x. le_trans (q.seen_up x) (rises x);
+      looks_up = omega (arith, q.looks_up);
+    })
+
+-- the history that was found, and is read or lent again
+pub record Found (me : Sat) (nodes : List History) (i node : ℕ) (h : History) : Type 0 where
+  pub at : get_elem? nodes i ≡ some h
+  pub node_is : h.node ≡ node
+  pub tells : Tells me.0 h
+  pub has : holds me.0 node ≡ true
+  pub near : node < me.0.run.nodes
+
+pub reads : (me : Sat) (nodes zs : List History) (i node : ℕ) (h : History) → zs ≡ nodes
+    → Keeps me nodes → (x : History) × (get_elem? zs i ≡ some x) × (x.node ≡ node)
+    → h ≡ get_or nodes i h
+    → Found me nodes i node h
+reads me nodes zs i node h e k f is =
+    let there : get_elem? nodes i ≡ some f.0 = subst (λ ys. get_elem? ys i ≡ some f.0) e f.1 in
+    let at : get_elem? nodes i ≡ some h = at_index nodes i h (at_below nodes i f.0 there) is in
+    let same : h.node ≡ node = ap (λ (x : History). x.node) (same_at nodes i h f.0 at there)
+    ∙ f.2 in let o = k.listed i h at in
+    let has : holds me.0 node ≡ true = subst (λ y. holds me.0 y ≡ true) same o.has in record {
+      at = at;
+      node_is = same;
+      tells = o;
+      has = has;
+      near = near-node me nodes node k has;
+    }
+
+-- an opening that is enabled is one of a latch, and of no turn past the limit
+pub within : (run : Run) (v : View) (l f : ℕ) → f ≡ seen v l → opens run (next run l f) ≡ true
+    → Enabled run (seen v) (next run l f) → (l < run.latches) × (f / 2 + 1 ≤ run.limit)
+within run v l f is o on =
+    let even = even_opens run l f o in let e = next-opens run l f o in
+    let is-count : count run (seen v) (next run l f) ≡ opened run l f =
+    ap (count run (seen v)) e ∙ (ap (λ (m : ℕ). turns run (opening l) (seen v m))
+    (node-opening run l even.0)
+    ∙ (turns-opening run l (seen v l) even.0 ∙ ap (opened run l) (sym is))) in
+    (even.0, omega (arith, on.0, is-count, opened-low run l f even.0, even.1))
+
+-- a history put where it stands
+pub set_same : (nodes : List History) (i : ℕ) (h : History) → get_elem? nodes i ≡ some h
+    → set nodes i h ≡ nodes
+set_same [] i h at = refl
+set_same (x ∷ xs) zero h at = ap (λ (y : History). y ∷ xs)
+    (sym (mathlib.Core.Option.some-injective x h at))
+set_same (x ∷ xs) (suc i) h at = ap (λ ys. x ∷ ys) (set_same xs i h at)
+
+-- the next event of a node is one of the events
+pub next_below : (run : Run) (l f : ℕ) → run.latches ≤ run.nodes → l < run.nodes
+    → next run l f < events run
+next_below run l f among near = event_below run (next run l f) among
+    (omega (arith, node-next run l f))
