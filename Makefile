@@ -29,6 +29,7 @@ help:
 	@echo "make transcripts         run what the documents and examples show"
 	@echo "make look                what the repository looks at itself: names, house rules, edges, memory"
 	@echo "make install             program, tools, pages of the manual, completions, documents and examples, to \$$DESTDIR\$$PREFIX"
+	@echo "make install PROGRAM=..  the same, with a program that is built already; so for run, transcripts, dist and deb"
 	@echo "make uninstall           take these away"
 	@echo "make dist                out/$(NAME).tar.gz, with the same"
 	@echo "make deb                 out/desync_$(VERSION)_amd64.deb, with the same, by dpkg-deb"
