@@ -9,6 +9,7 @@ import signal
 import sys
 from typing import IO, Any, Callable, Iterable, NoReturn, Optional, Sequence
 
+from desync_tools.manual import Manual
 from desync_tools.text import BadText, as_bytes, in_words, told
 
 HERE = os.path.dirname(os.path.realpath(__file__))
@@ -71,11 +72,11 @@ def as_installed(name: str, text: str) -> str:
     )
 
 
-def parser(name: str, description: Optional[str]) -> Parser:
-    """The words of a tool that is called by a name; its text names tools as `tools/NAME`."""
+def parser(name: str, description: Optional[str], manual: Manual = Manual()) -> Parser:
+    """The words of a tool that is called by a name; its texts name tools as `tools/NAME`."""
     form = argparse.RawDescriptionHelpFormatter
-    text = as_installed(name, description or "")
-    words = Parser(prog=name, description=text, formatter_class=form)
+    text, more = (as_installed(name, one) for one in (description or "", manual.epilog()))
+    words = Parser(prog=name, description=text, epilog=more, formatter_class=form)
     says = "print the version, and end"
     words.add_argument("--version", action=Version, nargs=0, help=says)
     return words

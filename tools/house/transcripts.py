@@ -28,6 +28,8 @@ class Runner:
     def __init__(self, program: str, verbose: bool) -> None:
         self.program, self.verbose = program, verbose
         self.done = self.wrong = 0
+        # Where commands run.
+        self.folder = ROOT
         self.status: Optional[int] = 0
         self.around = dict(os.environ, DESYNC=program)
         for name in ("MAKEFLAGS", "MFLAGS"):
@@ -52,15 +54,16 @@ class Runner:
         elif words[0].startswith("desync-"):
             words = ["tools/" + words[0][len("desync-") :]] + words[1:]
         if output:
-            os.makedirs(os.path.dirname(os.path.join(ROOT, output)), exist_ok=True)
-            with open(os.path.join(ROOT, output), "wb") as file:
+            path = os.path.join(self.folder, output)
+            os.makedirs(os.path.dirname(path), exist_ok=True)
+            with open(path, "wb") as file:
                 return self.ended(words, file)
         return self.ended(words, subprocess.PIPE)
 
     def ended(self, words: list[str], out: Union[int, IO[bytes]]) -> str:
         """What a command prints, but for what goes into a file."""
         none, pipe = subprocess.DEVNULL, subprocess.PIPE
-        how: dict[str, Any] = {"cwd": ROOT, "timeout": 600, "env": self.around}
+        how: dict[str, Any] = {"cwd": self.folder, "timeout": 600, "env": self.around}
         try:
             ended = subprocess.run(words, stdin=none, stdout=out, stderr=pipe, **how)
         except (OSError, subprocess.TimeoutExpired) as error:

@@ -1,4 +1,5 @@
-"""The commands: each module has `words`, its command line, and `main`, which runs it."""
+"""The commands: each module has `words`, its command line, MANUAL, its files and examples, and
+`main`, which runs it."""
 
 from __future__ import annotations
 
@@ -7,6 +8,7 @@ import os
 from typing import Any
 
 from desync_tools.command import STATUSES, Parser
+from desync_tools.manual import Manual
 
 HERE = os.path.dirname(os.path.realpath(__file__))
 
@@ -26,6 +28,12 @@ def words_of(command: str, name: str) -> Parser:
     """The command line of a command that is called by a name."""
     words: Parser = module_of(command).words(name)
     return words
+
+
+def manual_of(command: str) -> Manual:
+    """The files of a command, and its examples."""
+    manual: Manual = module_of(command).MANUAL
+    return manual
 
 
 def statuses_of(command: str) -> dict[int, str]:

@@ -14,24 +14,49 @@ is refused with a line for each such place. So are a marking of what is not ther
 signal that is not declared, and a graph of states.
 
 `desync rate` says the period of what is printed, under delays that have a line `SOURCE TARGET
-DELAY` for each arc that takes time. Dummies stand there by the names that they have got:
-
-    tools/astg vme.g > readable.g
-    desync rate readable.g vme.delays
+DELAY` for each arc that takes time. Dummies stand there by the names that they have got.
 """
 
 from __future__ import annotations
 
 from desync_tools.command import Parser, parser, put, say
 from desync_tools.literature import Literature
+from desync_tools.manual import Example, File, Manual
 from desync_tools.text import text_of
 
 
 FAILS = "The graph is no marked graph"
 
 
+MANUAL = Manual(
+    (
+        File("graph", "`.g` of petrify, SIS or Workcraft, read"),
+        File("output", "`.g`, written; FORMATS, Graphs that are read"),
+    ),
+    (
+        Example(
+            "Makes a graph readable, and asks for its period under some delays.",
+            """
+$ tools/astg examples/toggle.g > readable.g
+$ desync rate readable.g examples/toggle.delays
+period 7/1
+cycle M0+ S0+
+potential IN+ 0
+potential IN- 0
+potential OUT+ 0
+potential OUT- 0
+potential M0+ 0
+potential M0- 2
+potential S0+ 3
+potential S0- 3
+""",
+        ),
+    ),
+)
+
+
 def words(name: str) -> Parser:
-    taken = parser(name, __doc__)
+    taken = parser(name, __doc__, MANUAL)
     taken.add_argument("graph", nargs="?", help="the text; the standard input where it is left out")
     return taken
 

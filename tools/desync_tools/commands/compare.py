@@ -4,11 +4,7 @@ Each of the two is a trace; rows `TURN OUTPUTS`, as a test bench of `tools/testb
 or a waveform (VCD). Nets are matched by their names, which the netlist --net says for a trace, and
 --other for the second one where it has its own. Without --net two traces are matched by places. A
 waveform is looked at before each edge of --clock; without it each unit of time is a turn. `z` is
-`x`. With --x an `x` of that side stands for any value, and such bits are not counted:
-
-    desync clock counter.blif counter.vec > counter.trace
-    vvp -n counter_tb > source
-    tools/compare counter.trace source --net counter.blif --x second --least 1000
+`x`. With --x an `x` of that side stands for any value, and such bits are not counted.
 
 The last line says how many turns and bits were compared. The first difference is told with its
 turn, its net and both values, and the status is 1; it is 1 too where fewer bits than --least were
@@ -22,6 +18,7 @@ from itertools import chain, zip_longest
 from typing import Iterator, NamedTuple, Optional
 
 from desync_tools.command import Parser, parser, put
+from desync_tools.manual import Example, File, Manual, read
 from desync_tools.netlist import Netlist, printed, read_netlist
 from desync_tools.text import BadText, Text, file_text, given
 from desync_tools.vcd import Wave, is_wave, take_wave, told
@@ -192,8 +189,38 @@ def compared(pairs: Pairs, first: Run, second: Run, count: Count) -> Iterator[st
             return
 
 
+MANUAL = Manual(
+    (
+        File("first", "a trace, rows or VCD (IEEE 1364-2005), read; FORMATS, Trace"),
+        File("second", "the same"),
+        read("--net NET", "BLIF", "Netlists"),
+        read("--other NET", "BLIF", "Netlists"),
+    ),
+    (
+        Example(
+            "Compares a trace with a waveform of the same run.",
+            """
+$ tools/compare examples/counter.trace examples/counter.vcd --net examples/counter.blif
+compared: turns 9, bits 34
+""",
+        ),
+        Example(
+            "Compares a trace with what a simulator prints for the source in Verilog.",
+            """
+$ tools/testbench examples/counter.blif examples/counter.vec --top counter > counter_tb.v
+$ iverilog -o counter_tb counter_tb.v examples/counter.v
+$ vvp -n counter_tb > source
+$ tools/compare examples/counter.trace source --net examples/counter.blif --x second
+only in examples/counter.trace: nets 2, state[0] state[1]
+compared: turns 8, bits 16
+""",
+        ),
+    ),
+)
+
+
 def words(name: str) -> Parser:
-    taken = parser(name, __doc__)
+    taken = parser(name, __doc__, MANUAL)
     taken.add_argument("first", help="a trace, rows or a waveform; - is the standard input")
     taken.add_argument("second", help="another one")
     taken.add_argument("--net", metavar="NET", help="the netlist of the traces")

@@ -3,10 +3,7 @@
 It asks `desync period` for the period under the delays of a file, and prints the orders of a
 slowest cycle with their delays and tokens. Then each other order has its margin, by how much its
 delay may rise before the period rises, the least first. Behind each line stand the names of the
-registers:
-
-    tools/delays cpu.blif --clusters bus > cpu.delays
-    tools/critical cpu.blif cpu.delays --clusters bus
+registers.
 
 With --what-if an order takes more or less, and the period is asked for again; the option may stand
 several times, and each is tried by itself: `--what-if 'S4+ M33+ -8'`. Margins are exact for up to
@@ -32,6 +29,7 @@ from desync_tools.clusters import (
 from desync_tools.command import Parser, parser, put
 from desync_tools.delays import MOST, Order, delays_of, lines_of
 from desync_tools.graphs import Graph
+from desync_tools.manual import GROUPS, NETLIST, Example, File, Manual, read
 from desync_tools.netlist import read_netlist
 from desync_tools.periods import Period, number_of
 from desync_tools.text import BadText, Text, as_bytes, file_text
@@ -149,8 +147,35 @@ def report(design: Design) -> Iterator[str]:
         yield changed(design, word)
 
 
+MANUAL = Manual(
+    (
+        NETLIST,
+        read("delays", "delays", "Delays"),
+        GROUPS,
+        read("--graph FILE", "`.g`", "Graphs that are read"),
+        File("output", "lines of the slowest cycle and of margins, written"),
+    ),
+    (
+        Example(
+            "Shows the slowest cycle of a pipeline and its three least margins.",
+            """
+$ tools/delays examples/pipeline.blif --clusters bus > pipeline.delays
+$ tools/critical examples/pipeline.blif pipeline.delays --clusters bus --most 3
+period 13
+cycle M0+ S0+ delay 2 tokens 0 # peak[4:0]
+cycle S0+ M0+ delay 11 tokens 1 # peak[4:0]
+margin M0+ M0- delay 1 tokens 0 may rise by 1 # peak[4:0]
+margin M0- S0+ delay 0 tokens 0 may rise by 1 # peak[4:0]
+margin M0- S3+ delay 0 tokens 0 may rise by 1 # peak[4:0] to sum[4:0]
+# 37 more orders: --most 0 shows all
+""",
+        ),
+    ),
+)
+
+
 def words(name: str) -> Parser:
-    taken = parser(name, __doc__)
+    taken = parser(name, __doc__, MANUAL)
     taken.add_argument("netlist", help="the netlist in BLIF")
     taken.add_argument("delays", help="the delays of its orders")
     take_mode(taken)

@@ -3,10 +3,7 @@
 An order from a producer to a consumer takes the longest path of tables from the nets of the one to
 those of the other, and the latch; the two orders of a node take the controller each; an order back
 from a consumer takes 0. A line is `SOURCE TARGET DELAY`, in any unit of time; behind it stand the
-names of the registers as a comment:
-
-    tools/delays cpu.blif --clusters bus > cpu.delays
-    desync period cpu.blif cpu.delays --clusters bus
+names of the registers as a comment.
 
 With --gates a file of lines `INPUTS DELAY` or `NET DELAY` says how long tables take: by the number
 of their inputs, or by the net that they drive, which counts first. A word of digits is a number of
@@ -18,11 +15,41 @@ from __future__ import annotations
 from desync_tools.clusters import Split, take_groups, take_mode
 from desync_tools.command import Parser, parser, put
 from desync_tools.gates import Gates, edges_of, lines, take_delays
+from desync_tools.manual import GROUPS, NETLIST, Example, File, Manual
 from desync_tools.netlist import read_netlist
 
 
+MANUAL = Manual(
+    (
+        NETLIST,
+        GROUPS,
+        File("--gates FILE", "lines `INPUTS DELAY` or `NET DELAY`, read"),
+        File("output", "delays, written; FORMATS, Delays"),
+    ),
+    (
+        Example(
+            "Writes the delays of the toggle, and asks for the period under them.",
+            """
+$ tools/delays examples/toggle.blif > toggle.delays
+$ desync period examples/toggle.blif toggle.delays
+period 5/1
+cycle M0+ S0+
+potential IN+ 0
+potential IN- 1
+potential OUT+ 2
+potential OUT- 3
+potential M0+ 3
+potential M0- 4
+potential S0+ 5
+potential S0- 6
+""",
+        ),
+    ),
+)
+
+
 def words(name: str) -> Parser:
-    taken = parser(name, __doc__)
+    taken = parser(name, __doc__, MANUAL)
     taken.add_argument("netlist", help="the netlist in BLIF")
     take_mode(taken)
     take_groups(taken)

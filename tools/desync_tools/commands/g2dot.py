@@ -6,10 +6,7 @@ signals that are no nodes, and then it has their names: what a node takes when i
 graph gives them by walks through nodes alone the arrow is missing, and --orders shows what is
 there. With --net a box has the names of the registers too: three or more clusters whose names
 differ in one number, and that have the same producers and consumers, are one box, as rf[0..31],
-unless --apart is there. From the top of the repository:
-
-    desync graph examples/pipeline.blif --clusters bus > pipeline.g
-    tools/g2dot pipeline.g --net examples/pipeline.blif --clusters bus | dot -Tsvg > pipeline.svg
+unless --apart is there.
 
 With --orders it has each signal with its two events in place of that, `+` where a node opens and
 `-` where it closes, each dummy, and an arrow for each order; one with a token is red and has a dot.
@@ -31,6 +28,7 @@ from desync_tools.command import Parser, as_installed, parser, put
 from desync_tools.graphs import EVENT, NODE, Graph, Pair
 from desync_tools.groups import grouped, spans
 from desync_tools.heat import CYCLE, Heat
+from desync_tools.manual import GROUPS, Example, File, Manual, read
 from desync_tools.netlist import read_netlist
 from desync_tools.text import BadText, file_text, shown, text_of
 
@@ -214,8 +212,29 @@ def orders(
     yield "}"
 
 
+MANUAL = Manual(
+    (
+        read("graph", "`.g`", "Controller graph"),
+        read("--net NET", "BLIF", "Netlists"),
+        GROUPS,
+        File("--critical FILE", "what tools/critical printed with `--most 0`, read"),
+        File("output", "a picture in the language DOT of Graphviz, written"),
+    ),
+    (
+        Example(
+            "Draws the clusters of a pipeline, with the names of their registers.",
+            """
+$ desync graph examples/pipeline.blif --clusters bus > pipeline.g
+$ tools/g2dot pipeline.g --net examples/pipeline.blif --clusters bus > pipeline.dot
+$ dot -Tsvg -o pipeline.svg pipeline.dot
+""",
+        ),
+    ),
+)
+
+
 def words(name: str) -> Parser:
-    taken = parser(name, __doc__)
+    taken = parser(name, __doc__, MANUAL)
     taken.add_argument("graph", nargs="?", help="the text; the standard input where it is left out")
     taken.add_argument("--net", metavar="NET", help="the netlist, for the names of registers")
     take_mode(taken)

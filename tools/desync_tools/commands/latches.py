@@ -3,11 +3,7 @@
 The module has the tables as assignments, a master and a slave latch for each register, and for each
 node of the graph a process that waits for the tokens of its orders, and then for a delay that is
 drawn by --seed: of 4 to 19 units, and each fourth time of up to 259. A latch that is open follows
-its data one unit later. Each time OUT closes it prints `TURN OUTPUTS`:
-
-    desync graph toggle.blif > toggle.g
-    tools/latches toggle.blif toggle.g toggle.vec --seed 1 > latches.v
-    iverilog -o latches latches.v && vvp -n latches
+its data one unit later. Each time OUT closes it prints `TURN OUTPUTS`.
 
 These are the rows of `desync clock`, without the registers and the last line, for every seed, where
 `desync accept` takes the graph. It is not checked here: take an order out, and look. A graph with
@@ -24,6 +20,7 @@ from typing import Iterator
 from desync_tools.clusters import Cluster, Split, take_groups, take_mode
 from desync_tools.command import Parser, parser, put
 from desync_tools.graphs import Graph
+from desync_tools.manual import GROUPS, NETLIST, Example, File, Manual, read
 from desync_tools.netlist import Net, Netlist, Table, printed, read_netlist
 from desync_tools.text import BadText, text_of
 from desync_tools.vectors import vectors_of
@@ -191,8 +188,35 @@ def checked(graph: Graph, split: Split) -> Graph:
     return graph
 
 
+MANUAL = Manual(
+    (
+        NETLIST,
+        read("graph", "`.g`", "Controller graph"),
+        read("vectors", "vectors", "Vectors"),
+        GROUPS,
+        File("output", "Verilog (IEEE 1364-2005), written"),
+        File("latches.vcd", "a waveform, written by the simulator with --dump"),
+    ),
+    (
+        Example(
+            "Simulates the latches of the toggle by Icarus Verilog.",
+            """
+$ desync graph examples/toggle.blif > toggle.g
+$ tools/latches examples/toggle.blif toggle.g examples/toggle.vec --seed 1 > latches.v
+$ iverilog -o latches latches.v
+$ vvp -n latches
+0 0
+1 1
+2 0
+3 0
+""",
+        ),
+    ),
+)
+
+
 def words(name: str) -> Parser:
-    taken = parser(name, __doc__)
+    taken = parser(name, __doc__, MANUAL)
     taken.add_argument("netlist", help="the netlist in BLIF")
     taken.add_argument("graph", help="its controller graph")
     taken.add_argument("vectors", help="the vectors")

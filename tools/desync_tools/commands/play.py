@@ -1,11 +1,7 @@
 """Makes a page, one file of HTML, that plays what the workers of a run have fired.
 
 It reads what `desync run --log` printed from a file or, where none is named, from the standard
-input. From the top of the repository:
-
-    desync graph examples/shift.blif > shift.g
-    desync run examples/shift.blif examples/shift.vec --log > shift.run
-    tools/play examples/shift.blif shift.g shift.run --vectors examples/shift.vec > shift.html
+input.
 
 The page shows the nodes and data edges of the graph, the latches as waves, and the log. It computes
 no logic: the values that it shows are those of the trace. The graph is to be the one by which the
@@ -30,6 +26,7 @@ from desync_tools.command import Parser, parser, put
 from desync_tools.graphs import Arc, Graph
 from desync_tools.layers import places
 from desync_tools.logs import Line, is_firing, log_of
+from desync_tools.manual import GROUPS, NETLIST, TIMES, VECTORS, Example, File, Manual, read
 from desync_tools.netlist import Net, Netlist, read_netlist
 from desync_tools.text import BadText, Text, shown, text_of
 from desync_tools.times import firings_of, take_times, times_of
@@ -195,8 +192,37 @@ def page(told: dict[str, Any]) -> str:
     return before.replace("<!--NAME-->", title) + data + behind
 
 
+MANUAL = Manual(
+    (
+        NETLIST,
+        read("graph", "`.g`", "Controller graph"),
+        read("run", "a trace and a log", "Trace and Firing logs"),
+        VECTORS,
+        GROUPS,
+        *TIMES,
+        File("output", "a page of HTML, written"),
+    ),
+    (
+        Example(
+            "Makes a page of a run of the shift register.",
+            """
+$ desync graph examples/shift.blif > shift.g
+$ desync run examples/shift.blif examples/shift.vec --log > shift.run
+$ tools/play examples/shift.blif shift.g shift.run --vectors examples/shift.vec > shift.html
+""",
+        ),
+        Example(
+            "Makes a page of the run that is stored with the examples.",
+            """
+$ tools/play examples/shift.blif examples/shift.g examples/shift.run > shift.html
+""",
+        ),
+    ),
+)
+
+
 def words(name: str) -> Parser:
-    taken = parser(name, __doc__)
+    taken = parser(name, __doc__, MANUAL)
     taken.add_argument("netlist", help="the netlist in BLIF")
     taken.add_argument("graph", help="the graph by which the run fired")
     taken.add_argument("run", nargs="?", help="what desync run --log printed")

@@ -14,6 +14,7 @@ from typing import Iterator, Optional
 
 from desync_tools.clusters import Split, spans, take_groups, take_mode
 from desync_tools.command import Parser, parser, put
+from desync_tools.manual import GROUPS, NETLIST, Example, File, Manual
 from desync_tools.netlist import Net, printed, read_netlist
 
 
@@ -38,8 +39,32 @@ def cluster_lines(split: Split) -> Iterator[str]:
         yield "cluster %d M%d S%d: %s" % (number, number, number, told)
 
 
+MANUAL = Manual(
+    (NETLIST, GROUPS, File("output", "lines of names, written")),
+    (
+        Example(
+            "Lists the nets of a small netlist, and its clusters by buses.",
+            """
+$ tools/ports examples/bus.blif --clusters bus
+model b
+columns 1
+  0 a
+outputs 1
+  0 r
+registers 3
+  0 q[0]
+  1 r
+  2 q[1]
+cluster 0 M0 S0: q[1:0]
+cluster 1 M1 S1: r
+""",
+        ),
+    ),
+)
+
+
 def words(name: str) -> Parser:
-    taken = parser(name, __doc__)
+    taken = parser(name, __doc__, MANUAL)
     taken.add_argument("netlist", help="a netlist in BLIF")
     taken.add_argument(
         "--only",

@@ -5,9 +5,7 @@ latches and orders there are, how wide the widest cluster is, the period, and wh
 delays are those that `tools/delays` gives for that row, with the same options. With a file of
 delays they are those of the file, for the rows whose orders it names. --slack asks for the period
 with a slack, a column each. The status is 1 where no row has a period, or the row of a file of
-groups is refused:
-
-    tools/report cpu.blif --slack 0 --slack 1 --groups cpu.groups
+groups is refused. The row of such a file is called by the mode of --clusters and by the file.
 """
 
 from __future__ import annotations
@@ -23,6 +21,7 @@ from desync_tools.clusters import MODES, Split, options, slack_word
 from desync_tools.command import Parser, parser, put
 from desync_tools.gates import Gates, lines, take_delays
 from desync_tools.logic import Logic, TooMany, orders
+from desync_tools.manual import GROUPS, NETLIST, Example, File, Manual, read
 from desync_tools.netlist import Netlist, read_netlist
 from desync_tools.periods import Period, number_of
 from desync_tools.text import BadText, as_bytes, file_text, shown
@@ -56,7 +55,7 @@ class Kind:
 
     def __init__(self, mode: str, groups: Optional[str] = None) -> None:
         self.mode, self.groups = mode, groups
-        self.title = mode if groups is None else as_bytes(groups)
+        self.title = mode if groups is None else "%s and %s" % (mode, as_bytes(groups))
 
     def options(self) -> list[str]:
         """The words of it for the program."""
@@ -142,8 +141,32 @@ def as_html(title: str, rows: list[list[str]]) -> str:
     return PAGE % (html.escape(title), html.escape(title), "\n".join(told))
 
 
+MANUAL = Manual(
+    (
+        NETLIST,
+        read("delays", "delays", "Delays"),
+        GROUPS,
+        File("--gates FILE", "lines `INPUTS DELAY` or `NET DELAY`, read"),
+        File("output", "a table as text, CSV (RFC 4180) or HTML, written"),
+    ),
+    (
+        Example(
+            "Compares the modes and a file of groups, without slack and with slack 1.",
+            """
+$ tools/report examples/pipeline.blif --slack 0 --slack 1 --groups examples/pipeline.groups
+clusters by                        clusters  latches  orders  widest  slack 0  slack 1  refused
+each                                     18       36     294       1       13       13
+one                                       1        2      16      18       13       13
+bus                                       4        8      42       5       13       13
+each and examples/pipeline.groups         3        6      32       8       13       13
+""",
+        ),
+    ),
+)
+
+
 def words(name: str) -> Parser:
-    taken = parser(name, __doc__)
+    taken = parser(name, __doc__, MANUAL)
     taken.add_argument("netlist", help="the netlist in BLIF")
     taken.add_argument("delays", nargs="?", help="the delays of its orders")
     says = "a row for registers that share latches by the lines of a file; may stand several times"

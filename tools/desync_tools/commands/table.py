@@ -16,6 +16,7 @@ from typing import Iterator, Optional, Sequence
 
 from desync_tools.buses import Bus, buses
 from desync_tools.command import Parser, parser, put
+from desync_tools.manual import NETLIST, VECTORS, Example, File, Manual, read
 from desync_tools.netlist import Net, Netlist, read_netlist
 from desync_tools.text import BadText, as_bytes, shown, text_of
 from desync_tools.traces import fitting, vectors_beside
@@ -112,8 +113,37 @@ def checked(parts: list[Part], netlist: Netlist, only: Optional[list[str]]) -> l
     return parts
 
 
+MANUAL = Manual(
+    (
+        NETLIST,
+        read("trace", "a trace", "Trace"),
+        VECTORS,
+        File("output", "a table as text, written"),
+    ),
+    (
+        Example(
+            "Shows a run of the counter with its vectors.",
+            """
+$ tools/table examples/counter.blif examples/counter.trace --vectors examples/counter.vec
+     | vectors      | outputs | registers
+turn | reset enable |   count |     state
+   0 |     0      1 |       0 |         0
+   1 |     0      1 |       1 |         1
+   2 |     0      0 |       2 |         2
+   3 |     0      1 |       2 |         2
+   4 |     0      1 |       3 |         3
+   5 |     0      1 |       0 |         0
+   6 |     1      1 |       1 |         1
+   7 |     0      1 |       0 |         0
+ end |     -      - |       - |         1
+""",
+        ),
+    ),
+)
+
+
 def words(name: str) -> Parser:
-    taken = parser(name, __doc__)
+    taken = parser(name, __doc__, MANUAL)
     taken.add_argument("netlist", help="the netlist in BLIF")
     taken.add_argument("trace", nargs="?", help="what desync run or clock printed")
     taken.add_argument("--vectors", metavar="FILE", help="the vectors of the run")

@@ -2,12 +2,7 @@
 
 It gives the vectors to the module --top of the source, a turn each, and prints `TURN OUTPUTS`: what
 `desync clock NET VEC` prints, without the registers and the last line. So `tools/compare` decides,
-and takes an `x` of the source for any value:
-
-    tools/testbench counter.blif counter.vec --top counter > counter_tb.v
-    iverilog -o counter_tb counter_tb.v counter.v && vvp -n counter_tb > source
-    desync clock counter.blif counter.vec > counter.trace
-    tools/compare counter.trace source --net counter.blif --x second
+and takes an `x` of the source for any value.
 
 The names of the netlist's inputs and outputs are to be those of the ports, as Yosys writes them.
 Where --clock is left out, the clock is that of the netlist.
@@ -20,6 +15,7 @@ from typing import Any, Iterable, Iterator, Optional
 
 from desync_tools.buses import bit_of
 from desync_tools.command import Parser, parser, put
+from desync_tools.manual import NETLIST, Example, File, Manual, read
 from desync_tools.netlist import Net, Netlist, printed, read_netlist
 from desync_tools.text import BadText, as_bytes, shown, text_of
 from desync_tools.vectors import vectors_of
@@ -151,8 +147,30 @@ def clock_of(netlist: Netlist, asked: Optional[str]) -> str:
     return asked
 
 
+MANUAL = Manual(
+    (
+        NETLIST,
+        read("vectors", "vectors", "Vectors"),
+        File("output", "Verilog (IEEE 1364-2005), written"),
+    ),
+    (
+        Example(
+            "Compares a netlist with its source by Icarus Verilog.",
+            """
+$ tools/testbench examples/counter.blif examples/counter.vec --top counter > counter_tb.v
+$ iverilog -o counter_tb counter_tb.v examples/counter.v
+$ vvp -n counter_tb > source
+$ tools/compare examples/counter.trace source --net examples/counter.blif --x second
+only in examples/counter.trace: nets 2, state[0] state[1]
+compared: turns 8, bits 16
+""",
+        ),
+    ),
+)
+
+
 def words(name: str) -> Parser:
-    taken = parser(name, __doc__)
+    taken = parser(name, __doc__, MANUAL)
     taken.add_argument("netlist", help="the netlist in BLIF")
     taken.add_argument("vectors", help="the vectors")
     named: dict[str, Any] = {"metavar": "NAME", "type": as_bytes}

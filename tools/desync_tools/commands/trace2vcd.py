@@ -10,9 +10,7 @@ firing, as `M0+ 2 7`, with the turns counted from 1. `desync times` prints such 
 asks it for them. Each node is 1 while it is open, each register changes when its slave opens, each
 output when OUT opens, and each column when IN opens. A node that opens and closes at one time has a
 pulse without width. `M3:pc,u5/flag` is the master of the bus `pc` and of `u5.flag`; a `*` stands
-for all but three where a cluster has more than four such names. From the top of the repository:
-
-    tools/trace2vcd examples/toggle.blif examples/toggle.trace --delays examples/toggle.delays
+for all but three where a cluster has more than four such names.
 
 Bits of one bus that stand beside one another are one variable, the first of them its rightmost bit:
 `q[0] q[1]` is `q [1:0]`, and `q[1] q[0]` is `q [0:1]`. A dot in a name opens a scope: `u5.f.a` is
@@ -26,6 +24,7 @@ from typing import Iterator, Optional
 
 from desync_tools.clusters import MOST_NAMED, Split, names_of, take_groups, take_mode
 from desync_tools.command import Parser, parser, put
+from desync_tools.manual import GROUPS, NETLIST, TIMES, VECTORS, Example, File, Manual, read
 from desync_tools.netlist import Netlist, read_netlist
 from desync_tools.text import Text, text_of
 from desync_tools.times import Firing, alternate, firings_of, take_times, times_of
@@ -148,8 +147,34 @@ def fitting_firings(text: Text, split: Split, turns: int) -> list[Firing]:
     return firings
 
 
+MANUAL = Manual(
+    (
+        NETLIST,
+        read("trace", "a trace", "Trace"),
+        VECTORS,
+        GROUPS,
+        *TIMES,
+        File("output", "a waveform in VCD (IEEE 1364-2005), written"),
+    ),
+    (
+        Example(
+            "Makes a waveform of the counter, turn by turn.",
+            """
+$ tools/trace2vcd examples/counter.blif examples/counter.trace > counter.vcd
+""",
+        ),
+        Example(
+            "Makes a waveform of the latches of the toggle, by their delays.",
+            """
+$ tools/trace2vcd examples/toggle.blif examples/toggle.trace --delays examples/toggle.delays > q.vcd
+""",
+        ),
+    ),
+)
+
+
 def words(name: str) -> Parser:
-    taken = parser(name, __doc__)
+    taken = parser(name, __doc__, MANUAL)
     taken.add_argument("netlist", help="the netlist in BLIF")
     taken.add_argument("trace", nargs="?", help="what desync run or clock printed")
     taken.add_argument("--vectors", metavar="FILE", help="the vectors of the run")

@@ -2,15 +2,11 @@
 
 The same number gives the same vectors. Each column is 1 in half of the turns; --p says in how many
 for a bus or a net of it, and --set gives it a value in one turn, the leftmost bit first. Both may
-stand several times:
-
-    tools/vectors counter.blif --turns 100 --seed 1 --p reset=0.03 --set reset=1@0
+stand several times.
 
 With --from a waveform (VCD) of a test bench gives them: the values of the columns, by their names,
 just before each edge of --clock at which the registers take theirs. `z` is `x`, and values with
-which the waveform begins are no edge:
-
-    tools/vectors counter.blif --from tb.vcd --clock clk --scope tb.dut
+which the waveform begins are no edge.
 """
 
 from __future__ import annotations
@@ -22,6 +18,7 @@ from typing import Any, Iterator
 
 from desync_tools.buses import buses
 from desync_tools.command import Parser, parser, put
+from desync_tools.manual import NETLIST, Example, File, Manual
 from desync_tools.netlist import Netlist, printed, read_netlist
 from desync_tools.text import BadText, as_bytes, file_text, shown
 from desync_tools.vcd import Wave, take_wave
@@ -102,8 +99,29 @@ def drawn(netlist: Netlist, asked: argparse.Namespace) -> Iterator[str]:
     return vectors(shares(netlist, asked.p), given, asked.turns, asked.seed)
 
 
+MANUAL = Manual(
+    (
+        NETLIST,
+        File("--from FILE", "a waveform in VCD (IEEE 1364-2005), read"),
+        File("output", "vectors, written; FORMATS, Vectors"),
+    ),
+    (
+        Example(
+            "Makes four vectors; reset is 1 in the first turn and seldom after it.",
+            """
+$ tools/vectors examples/counter.blif --turns 4 --seed 7 --p reset=0.03 --set reset=1@0
+11
+01
+01
+00
+""",
+        ),
+    ),
+)
+
+
 def words(name: str) -> Parser:
-    taken = parser(name, __doc__)
+    taken = parser(name, __doc__, MANUAL)
     taken.add_argument("netlist", help="the netlist in BLIF")
     taken.add_argument("--turns", type=int, help="how many vectors, %d at most" % MOST)
     taken.add_argument("--seed", type=int, help="the number that they come from")
