@@ -1,8 +1,7 @@
 //! The last bytes of a pattern: a text that does not have them is refused before it is read.
-ghost use Rattle.std.specs.Prelude.{◌≡◌, ◌+◌, ◌<◌, ◌≤◌, List, ℕ, true, length};
-ghost use Rattle.ds_groups.specs.Match.{has_form as fits};
+ghost use Rattle.std.specs.Prelude.{◌≡◌, ◌+◌, ◌<◌, ◌≤◌, ℕ, true, length};
 ghost use Rattle.ds_groups.specs.Stand.{IsNoStar};
-ghost use Rattle.ds_groups.specs.Tail.{HasTail, IsTail, Reaches, StandsAt};
+ghost use Rattle.ds_groups.specs.Tail.{AreBytesAt, HasTail, ArePlainBefore, IsTail};
 
 /// So many bytes are compared at a place of a text at most, so that its time stays linear.
 const MOST: usize = 8;
@@ -62,9 +61,7 @@ fn start_of(word: &[u8], end: usize) -> usize
 // How many bytes before a place are no stars.
 fn plain_before(word: &[u8], place: usize) -> usize
     requires { place ≤ length word.now }
-    ensures within { result ≤ place }
-    ensures reached { (text : List ℕ) → fits word.now text ≡ true
-        → Reaches word.now place result text }
+    ensures { ArePlainBefore word.now place result }
 {
     let mut before = 0;
     for at in 0..place {
@@ -75,7 +72,7 @@ fn plain_before(word: &[u8], place: usize) -> usize
     before
 }
 
-/// Whether a text has the tail; one that has it not quite may pass.
+/// Whether a text may have the tail. Where the answer is false, it does not have it.
 pub(crate) fn may_have(tail: &Tail<'_>, text: &[u8]) -> bool
     ensures { HasTail tail.now text.now → result ≡ true }
 {
@@ -86,15 +83,23 @@ pub(crate) fn may_have(tail: &Tail<'_>, text: &[u8]) -> bool
     if end < tail.before {
         return false;
     }
-    let first = if tail.starred_behind { tail.before } else { end };
-    let last = if tail.starred_before { end } else { tail.before };
+    let first = if tail.starred_behind {
+        tail.before
+    } else {
+        end
+    };
+    let last = if tail.starred_before {
+        end
+    } else {
+        tail.before
+    };
     stands_between(tail.bytes, text, first, last)
 }
 
 // Whether bytes stand in a text at one of these places, or at the last one.
 fn stands_between(bytes: &[u8], text: &[u8], first: usize, last: usize) -> bool
     requires { last + length bytes.now ≤ length text.now }
-    ensures { (place : ℕ) → first ≤ place → place ≤ last → StandsAt bytes.now text.now place
+    ensures { (place : ℕ) → first ≤ place → place ≤ last → AreBytesAt bytes.now text.now place
         → result ≡ true }
 {
     let mut at = first;
@@ -110,7 +115,7 @@ fn stands_between(bytes: &[u8], text: &[u8], first: usize, last: usize) -> bool
 // Whether bytes stand at a place of a text. The last byte is compared first: names differ there.
 fn stands_at(bytes: &[u8], text: &[u8], place: usize) -> bool
     requires { place + length bytes.now ≤ length text.now }
-    ensures { StandsAt bytes.now text.now place → result ≡ true }
+    ensures { AreBytesAt bytes.now text.now place → result ≡ true }
 {
     let mut left = bytes.len();
     'comparing: while left > 0 {
