@@ -62,6 +62,15 @@ impl<'a> Pattern<'a> {
         if net.copy == 0 && !may_have(&self.tail, net.name.as_slice()) {
             return false;
         }
+        self.read_along(net)
+    }
+
+    // Whether the name of a net matches, byte by byte. It is kept apart from `matches`, which is then
+    // small enough to be inlined into loops over registers.
+    #[inline(never)]
+    fn read_along(&self, net: &Net) -> bool
+        ensures { result ≡ fits self.now (net_text net.now) }
+    {
         let mut stand = self.fixed(0);
         if net.copy != 0 {
             let mut buffer = Buffer::new();
