@@ -1,4 +1,4 @@
-use Rattle.std.proofs.Common.{◌-◌, ◌<◌}
+use Rattle.std.proofs.Common.{◌-◌}
 use Rattle.ds_groups.proofs.Tails.{StandsNowhere}
 use Rattle.ds_groups.proofs.tail.stands_between.Given as goal
 
