@@ -65,8 +65,8 @@ impl<'a> Pattern<'a> {
         self.read_along(net)
     }
 
-    // Whether the name of a net matches, byte by byte. It is kept apart from `matches`, so that that
-    // is small enough to be inlined into loops over registers.
+    // Whether the name of a net matches, byte by byte. Kept apart, it leaves `matches` small enough
+    // to be inlined into loops over registers.
     #[inline(never)]
     fn read_along(&self, net: &Net) -> bool
         ensures { result ≡ fits self.now (net_text net.now) }
