@@ -5,4 +5,8 @@ use Rattle.ds_rule.specs.declared.layout.DataEdge.{DataEdge}
 
 -- an edge with its tokens
 abbrev pub tokened : Edge → DataEdge
-tokened e = record { producer = e.producer; consumer = e.consumer; tokens = tokens_after e.producer }
+tokened e = record {
+  producer = e.producer;
+  consumer = e.consumer;
+  tokens = tokens_after e.producer;
+}
