@@ -1,18 +1,15 @@
 -- How `run` ends, and that there is a text of all vectors.
-use Rattle.std.proofs.Common.{◌≡◌, ◌∙◌, ◌++◌, ◌+◌, ◌<◌, ℕ, Bool, true, false, List, [], ◌∷◌, Option, Some, Result, Ok, Err, length, ap, inl, refl, subst, sym, arith}
+use Rattle.std.proofs.Common.{◌≡◌, ◌++◌, ◌+◌, ◌<◌, ℕ, Bool, true, false, List, [], ◌∷◌, Option, Some, Result, length, refl, subst, sym, arith}
 use Rattle.std.specs.Prelude.{All, codes, decimal}
 use Rattle.std.proofs.lemmas.List.Elements.{All-head, All-tail}
 use Rattle.ds_base.specs.Values.{Row}
 use Rattle.ds_marked.specs.Graph.{Graph, IsLive, counted}
 use Rattle.ds_marked.specs.Log.{IsLogFrom}
 use Rattle.ds_marked.proofs.Progress.{reachability}
-use Rattle.ds_outside.specs.Fault.{Rose}
 use Rattle.ds_outside.specs.Held.{Held}
-use Rattle.ds_outside.specs.Written.{appended, AppendsPart}
-use Rattle.ds_outside.proofs.Appended.{appended-append}
-use Rattle.ds_design.specs.Circuit.{columns, initial_row}
+use Rattle.ds_design.specs.Circuit.{initial_row}
 use Rattle.ds_design.specs.Rows.{Rows}
-use Rattle.ds_design.specs.Trace.{end_line}
+use Rattle.ds_design.specs.Trace.{AreLines, end_line}
 use Rattle.ds_latch.specs.Plan.{Planned}
 use Rattle.ds_clocked.proofs.OneMoreTurn.{whole_trace}
 use Rattle.ds_run.specs.Ended.{IsRunEnd}
@@ -20,12 +17,10 @@ use Rattle.ds_run.specs.Logged.{IsLogOf, Listed}
 use Rattle.ds_run.proofs.WindowTexts.{end_spells_run}
 use Rattle.ds_run.proofs.Logged.{legal_events, log_more}
 use Rattle.ds_stage.specs.declared.stop.Stop.{Stop}
-use Rattle.ds_stage.specs.declared.stop.Stop.TheVariants.{Unwritten}
 use Rattle.ds_stage.specs.Ends.{Ends, Output}
 use Rattle.ds_stage.specs.Stage.{OfFile}
 use Rattle.ds_stage.specs.StreamStage.{most_vectors}
-use Rattle.ds_stage.proofs.Streamed.{AreWritten, GivenOf, Spells, given_whole, of_many}
-use Rattle.ds_app.proofs.WindowEnds.{part_after}
+use Rattle.ds_stage.proofs.Streamed.{Spells}
 use Rattle.ds_app.specs.RunStage.{streamed_run_stage, traced_stage}
 
 -- firings have a log
@@ -56,40 +51,15 @@ run_spells p live true rows lines last are =
       ),
     )
 
-module _ (held : List ℕ → Held) (vec : List ℕ) (p : Planned) (log : Bool) (failed : OfFile) (out : Output) (mid : Option (List ℕ)) (given : ℕ) (rows : List Row) (state : Row)
-    (is : GivenOf (held vec) p.split.circuit (most_vectors log) given false rows) (written : AreWritten p.split.circuit rows state out.old mid)
-    (kept : Option Listed) (logged : IsLogOf log p.graph given kept) (text : List ℕ) (end : IsRunEnd p.graph kept state text) where
-  -- the vectors, and the text of their run
-  abbrev these : Rows
-  these = record { width = length (columns p.split.circuit); rows = rows }
-
-  means : (streamed_run_stage held vec log p.split.circuit p).means (written.lines ++ text)
-  means = (
-    these,
-    given_whole p.split.circuit (most_vectors log) (held vec) given rows is,
-    (
-      refl,
-      end_spells_run p log rows written.lines state kept text written.are
-          (subst (λ (turns : ℕ). IsLogOf log p.graph turns kept) (sym (of_many (held vec) p.split.circuit (most_vectors log) given false rows is)) logged) end,
-    ),
-  )
-
-  -- the end is written whole
-  pub run_ends_whole : out.new ≡ appended mid text → Ends {A = Unit {0}} (streamed_run_stage held vec log p.split.circuit p) failed out (Ok tt)
-  run_ends_whole more = (
-    written.lines ++ text,
-    means,
-    more ∙ (ap (λ (w : Option (List ℕ)). appended w text) written.written ∙ appended-append out.old written.lines text),
-  )
-
-  -- or in part
-  pub run_ends_part : AppendsPart mid out.new text → Rose out.before out.now → Ends {A = Unit {0}} (streamed_run_stage held vec log p.split.circuit p) failed out (Err Unwritten)
-  run_ends_part part cause = (
-    written.lines ++ text,
-    inl means,
-    part_after out.old mid out.new written.lines text written.written part,
-    cause,
-  )
+-- behind the lines of all turns the end of a run, by a graph that is the plan's, makes them its text
+pub run_is : (p : Planned) (log : Bool) (g : Graph) (first : ℕ) (last : Row) (kept : Option Listed) (text : List ℕ) → g ≡ p.graph → IsLogOf log p.graph first kept → IsRunEnd g kept last text
+    → (rows : Rows) (lines : List ℕ) → length rows.rows ≡ first → AreLines p.split.circuit 0 (initial_row p.split.circuit) rows.rows lines last
+    → (traced_stage log p.split.circuit p rows).means (lines ++ text)
+run_is p log g first last kept text same logged end rows lines many are = (
+  refl,
+  end_spells_run p log rows.rows lines last kept text are (subst (λ (turns : ℕ). IsLogOf log p.graph turns kept) (sym many) logged)
+      (subst (λ (k : Graph). IsRunEnd k kept last text) same end),
+)
 
 -- how a run ends on the vectors of a file, by the name that was lent of it
 pub ends_of_file : (held : List ℕ → Held) (vec file : List ℕ) (log : Bool) (p : Planned) (failed : OfFile) (out : Output) (result : Result (Unit {0}) Stop) → vec ≡ file
@@ -102,7 +72,3 @@ ends_of_file held vec file log p failed out result same is =
 pub few_vectors : (log : Bool) → most_vectors log < 4294967296
 few_vectors false = omega arith
 few_vectors true = omega arith
-
--- the end of a run by the same graph and the same registers
-pub run_end_of : (g other : Graph) (kept : Option Listed) (state : Row) (text : List ℕ) → g ≡ other → IsRunEnd other kept state text → IsRunEnd g kept state text
-run_end_of g other kept state text same end = subst (λ (k : Graph). IsRunEnd k kept state text) (sym same) end

@@ -8,8 +8,9 @@ ghost use Rattle.ds_stage.specs.Stage.{then_stage};
 ghost use Rattle.ds_stage.specs.Stages.{netlist_stage};
 ghost use Rattle.ds_app.specs.JobStages.{clock_stage};
 
+use crate::run::stop_of;
 use ds_base::{OutOfMemory, Row3};
-use ds_clocked::{SimFault, simulate_from};
+use ds_clocked::simulate_from;
 use ds_cmd::ClockJob;
 use ds_design::Netlist;
 use ds_outside::{Files, Sink};
@@ -68,8 +69,7 @@ fn write_clocked<F: Files, O: Sink>(
         let turns = vectors.count();
         match simulate_from(alloc, netlist, &state, first, &vectors, out) {
             Ok(row) => state = row,
-            Err(SimFault::Write) => return Err(Stop::Unwritten),
-            Err(SimFault::Memory) => return Err(Stop::Memory),
+            Err(fault) => return Err(stop_of(fault)),
         }
         reader = behind;
         first = reader.given();

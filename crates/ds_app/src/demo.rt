@@ -89,7 +89,7 @@ fn sums_of<R: AllocGlobal + Threads + Sync, G: Gate>(
         jobs: job.jobs,
         gate,
     };
-    sum_run(alloc, &plan, &vectors, &workers)
+    sum_run(&plan, &vectors, &workers)
 }
 
 // The netlist of a design that is accepted.

@@ -3,10 +3,10 @@ ghost use Rattle.std.specs.Prelude.{◌≡◌, ◌≤◌, ◌<◌, ◌⊎◌, le
 ghost use Rattle.std.specs.Prelude.{true, false, Some, None};
 ghost use Rattle.ds_design.specs.Circuit.{columns, initial_row};
 ghost use Rattle.ds_cmd.specs.declared.job.Job.TheVariants.{Run};
+ghost use Rattle.ds_clocked.specs.declared.run.SimFault.TheVariants as faults;
 ghost use Rattle.ds_stream.specs.Next.{FitsHeld};
 ghost use Rattle.ds_run.specs.Ended.{IsSomeLog, WritesEnd};
 ghost use Rattle.ds_run.specs.Logged.{IsLogOf};
-ghost use Rattle.ds_run.specs.declared.fault.RunFault.TheVariants as faults;
 ghost use Rattle.ds_stage.specs.declared.stop.Stop.TheVariants.{Memory, Unwritten};
 ghost use Rattle.ds_stage.specs.Ends.{Ends, RoseIn, UnlessUnread, UnlessUnwritten, output_between};
 ghost use Rattle.ds_stage.specs.StreamStage.{most_vectors as most_vectors_of};
@@ -15,10 +15,11 @@ ghost use Rattle.ds_app.specs.RunStage.{planned_run_stage, streamed_run_stage};
 
 use crate::stopped::{PlannedStop, write_at_stop};
 use ds_base::{OutOfMemory, Row3};
+use ds_clocked::SimFault;
 use ds_cmd::RunJob;
 use ds_latch::Plan;
 use ds_outside::{Files, Gate, Sink, WriteFault};
-use ds_run::{Log, RunFault, RunWindow, Workers, end_run, write_window};
+use ds_run::{Log, RunWindow, Workers, end_run, write_window};
 use ds_stage::{Splitting, Stop, WINDOW, most_vectors, plan_netlist, read_netlist, read_window};
 use ds_stream::VectorReader;
 use std::alloc::Global;
@@ -126,7 +127,7 @@ fn write_traced<R: AllocGlobal + Threads + Sync, G: Gate, F: Files, O: Sink>(
             vectors: &vectors,
             first,
         };
-        match write_window(alloc, &window, workers, &mut log, out) {
+        match write_window(&window, workers, &mut log, out) {
             Ok(row) => plan.begin(&row),
             Err(fault) => return Err(stop_of(fault)),
         }
@@ -141,13 +142,13 @@ fn write_traced<R: AllocGlobal + Threads + Sync, G: Gate, F: Files, O: Sink>(
 }
 
 // What ends the job where a window is not written whole.
-pub(crate) fn stop_of(fault: RunFault) -> Stop
+pub(crate) fn stop_of(fault: SimFault) -> Stop
     ensures { ((fault ≡ faults.Write) × (result ≡ Unwritten))
         ⊎ ((fault ≡ faults.Memory) × (result ≡ Memory)) }
 {
     match fault {
-        RunFault::Write => Stop::Unwritten,
-        RunFault::Memory => Stop::Memory,
+        SimFault::Write => Stop::Unwritten,
+        SimFault::Memory => Stop::Memory,
     }
 }
 

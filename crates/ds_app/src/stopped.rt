@@ -71,7 +71,7 @@ fn write_halted<R: AllocGlobal + Threads + Sync, G: Gate, O: Sink>(
 
     ensures same_writes { UnlessUnwritten result (O.faults out.new ≡ O.faults out.old) }
 {
-    match write_stopped(workers.threads.alloc(), halt, workers, log, out) {
+    match write_stopped(halt, workers, log, out) {
         Ok(()) => Ok(()),
         Err(fault) => Err(stop_of(fault)),
     }

@@ -4,11 +4,11 @@ use Rattle.ds_base.specs.Values.{Row}
 use Rattle.ds_latch.specs.Node.{Split}
 use Rattle.ds_outside.specs.Fault.{Rose}
 use Rattle.ds_clocked.specs.Appends.{AppendsLines, AppendsLinesPart}
-use Rattle.ds_run.specs.declared.fault.RunFault.{RunFault}
-use Rattle.ds_run.specs.declared.fault.RunFault.TheVariants.{Memory, Write}
+use Rattle.ds_clocked.specs.declared.run.SimFault.{SimFault}
+use Rattle.ds_clocked.specs.declared.run.SimFault.TheVariants.{Memory, Write}
 
 -- what a call promises that writes the lines of a split design, from a turn on, and nothing else
-pub record EndsLines (s : Split) (first : ℕ) (vectors : List Row) (result : Result Row RunFault)
+pub record EndsLines (s : Split) (first : ℕ) (vectors : List Row) (result : Result Row SimFault)
     (old new : Option (List ℕ)) (before now : ℕ) : Type 0 where
   pub ok : IfOk result (AppendsLines s.circuit first s.initial vectors old new)
   pub part : result ≡ Err Write → AppendsLinesPart s.circuit first s.initial vectors old new

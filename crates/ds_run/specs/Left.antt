@@ -22,8 +22,8 @@ use Rattle.ds_run.specs.Halted.{IsHalted, most_firings}
 use Rattle.ds_run.specs.Stored.{rows_told}
 use Rattle.ds_run.specs.Ended.{IsLogPart}
 use Rattle.ds_run.specs.Logged.{Listed}
-use Rattle.ds_run.specs.declared.fault.RunFault.{RunFault}
-use Rattle.ds_run.specs.declared.fault.RunFault.TheVariants.{Memory, Write}
+use Rattle.ds_clocked.specs.declared.run.SimFault.{SimFault}
+use Rattle.ds_clocked.specs.declared.run.SimFault.TheVariants.{Memory, Write}
 use Rattle.ds_run.specs.declared.left.Left.{Left}
 
 -- the firings of a record, the first one first, and a count for each event
@@ -85,7 +85,7 @@ WritesLeft result p vectors left old new before now =
 
 -- what a call that writes it promises
 pub record EndsLeft {T : Type 0} (p : Planned) (vectors : List Row) (left : Left)
-    (result : Result T RunFault) (old new : Option (List ℕ)) (before now : ℕ) : Type 0 where
+    (result : Result T SimFault) (old new : Option (List ℕ)) (before now : ℕ) : Type 0 where
   pub ok : OnOk result (AppendsLeft p vectors left old new)
   pub part : result ≡ Err Write → AppendsLeftPart p vectors left old new
   pub no_memory : result ≢ Err Memory

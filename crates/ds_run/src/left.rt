@@ -24,8 +24,7 @@ pub struct Left {
 
 impl Left {
     /// Runs until it is to stop.
-    pub fn of<R: Threads + Sync, G: Gate>(
-        alloc: Global,
+    pub fn of<R: AllocGlobal + Threads + Sync, G: Gate>(
         halt: &Halt<'_, '_>,
         workers: &Workers<'_, R, G>,
         log: bool,
@@ -36,7 +35,8 @@ impl Left {
         ensures { IfOk result (IsLeftOf log halt.now.stop workers.now.jobs halt.now.plan.now
             halt.now.vectors.now.rows) }
     {
-        let fired = run_to(alloc, halt.plan, halt.vectors, workers, halt.stop)?;
+        let alloc = workers.threads.alloc();
+        let fired = run_to(halt.plan, halt.vectors, workers, halt.stop)?;
         let homes = homes_of(alloc, halt.plan.latches())?;
         let log = wanted_log(alloc, halt.plan, &fired, log)?;
         Ok(Left { fired, homes, log })

@@ -25,7 +25,6 @@
 
 mod edges;
 mod end;
-mod fault;
 mod foreseen;
 mod halt;
 mod known;
@@ -38,7 +37,6 @@ mod line_text;
 mod log;
 mod openings;
 mod play;
-mod played;
 mod starts;
 mod stopped;
 mod stored;
@@ -49,7 +47,6 @@ mod window;
 
 pub use ds_runner::Workers;
 pub use end::end_run;
-pub use fault::RunFault;
 pub use foreseen::Foreseen;
 pub use halt::Halt;
 pub use layout::layout_of;

@@ -8,7 +8,7 @@ ghost use Rattle.ds_run.specs.Logged.{IsLogText, IsLonger, PutsLog};
 ghost use Rattle.ds_run.specs.Played.{IsPlayed};
 
 use crate::laws::firings_are_legal;
-use crate::played::Played;
+use crate::window::RunWindow;
 use ds_base::{EventId, OutOfMemory};
 use ds_fabric::Record;
 use ds_latch::Plan;
@@ -68,16 +68,20 @@ impl Log {
         })
     }
 
-    /// Takes the firings of a run that went to its end, behind those that it has.
-    pub(crate) fn take(&mut self, alloc: Global, played: &Played<'_, '_>) -> Result<(), OutOfMemory>
-        requires played { IsPlayed played.now.plan.now played.now.vectors.now.rows
-            played.now.fired.now }
-        ensures ok { OnOk result (IsLonger played.now.plan.now.graph
-            (length played.now.vectors.now.rows) self.old self.new) }
+    /// Takes the firings of a window that was run to its end, behind those that it has.
+    pub(crate) fn take(
+        &mut self,
+        alloc: Global,
+        window: &RunWindow<'_, '_>,
+        fired: &Record,
+    ) -> Result<(), OutOfMemory>
+        requires played { IsPlayed window.now.plan.now window.now.vectors.now.rows fired.now }
+        ensures ok { OnOk result (IsLonger window.now.plan.now.graph
+            (length window.now.vectors.now.rows) self.old self.new) }
         ensures same { OnErr result (self.new ≡ self.old) }
     {
         firings_are_legal();
-        let fired = played.fired.firings(alloc)?;
+        let fired = fired.firings(alloc)?;
         self.events.extend_from_slice(fired.as_slice())?;
         Ok(())
     }

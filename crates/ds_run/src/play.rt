@@ -12,12 +12,10 @@ use ds_fabric::Record;
 use ds_latch::Plan;
 use ds_outside::Gate;
 use ds_runner::Workers;
-use std::alloc::Global;
 use std::thread::Threads;
 
 /// Fires every event of a plan once a vector. Want of memory is the only fault.
-pub fn run<R: Threads + Sync, G: Gate>(
-    alloc: Global,
+pub fn run<R: AllocGlobal + Threads + Sync, G: Gate>(
     plan: &Plan<'_>,
     vectors: &Vectors,
     workers: &Workers<'_, R, G>,
@@ -26,14 +24,13 @@ pub fn run<R: Threads + Sync, G: Gate>(
     requires jobs { (0 < workers.now.jobs) × (workers.now.jobs ≤ 64) }
     ensures ok { IfOk result (IsPlayed plan.now vectors.now.rows) }
 {
-    work(alloc, plan, vectors, workers, None)
+    work(plan, vectors, workers, None)
 }
 
 /// Fires events of a plan, each worker at most so many, and in all at least so many, or all that
 /// there are.
 /// Want of memory is the only fault.
-pub fn run_to<R: Threads + Sync, G: Gate>(
-    alloc: Global,
+pub fn run_to<R: AllocGlobal + Threads + Sync, G: Gate>(
     plan: &Plan<'_>,
     vectors: &Vectors,
     workers: &Workers<'_, R, G>,
@@ -43,12 +40,11 @@ pub fn run_to<R: Threads + Sync, G: Gate>(
     requires jobs { (0 < workers.now.jobs) × (workers.now.jobs ≤ 64) }
     ensures ok { IfOk result (IsHalted stop workers.now.jobs plan.now vectors.now.rows) }
 {
-    work(alloc, plan, vectors, workers, Some(stop))
+    work(plan, vectors, workers, Some(stop))
 }
 
 // Has workers fire events of a plan, each as many as its quota, where there is one.
-fn work<R: Threads + Sync, G: Gate>(
-    alloc: Global,
+fn work<R: AllocGlobal + Threads + Sync, G: Gate>(
     plan: &Plan<'_>,
     vectors: &Vectors,
     workers: &Workers<'_, R, G>,
@@ -58,6 +54,7 @@ fn work<R: Threads + Sync, G: Gate>(
     requires jobs { (0 < workers.now.jobs) × (workers.now.jobs ≤ 64) }
     ensures { IfOk result (IsWorked quota workers.now.jobs plan.now vectors.now.rows) }
 {
+    let alloc = workers.threads.alloc();
     // Read for the fact that it is accepted for the latches.
     let _accepted = plan.graph();
     let run = layout_of(alloc, plan, vectors)?;

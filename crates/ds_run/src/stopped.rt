@@ -11,26 +11,24 @@ ghost use Rattle.ds_run.specs.Stopped.{AppendsStopped, AppendsStoppedPart};
 
 use crate::Workers;
 use crate::end::put_log;
-use crate::fault::RunFault;
 use crate::halt::Halt;
 use crate::left::Left;
 use crate::stored::put_values;
+use ds_clocked::SimFault;
 use ds_latch::{Latches, Node};
 use ds_outside::{Buffered, Gate, Pen, Sink, WriteFault};
 use ds_rows::{put_fired, put_register_name};
-use std::alloc::Global;
 use std::thread::Threads;
 
 /// Runs a plan by these workers until it is to stop, and writes for each register what it has
 /// stored by then and how many events have fired; behind them the line `firings` and the log where
 /// one is wanted. After `Memory` nothing is written, after `Write` a first part.
-pub fn write_stopped<R: Threads + Sync, G: Gate, O: Sink>(
-    alloc: Global,
+pub fn write_stopped<R: AllocGlobal + Threads + Sync, G: Gate, O: Sink>(
     halt: &Halt<'_, '_>,
     workers: &Workers<'_, R, G>,
     log: bool,
     out: &mut O,
-) -> Result<(), RunFault>
+) -> Result<(), SimFault>
     requires width { halt.now.vectors.now.width
         ≡ length (columns halt.now.plan.now.split.circuit) }
     requires jobs { (0 < workers.now.jobs) × (workers.now.jobs ≤ 64) }
@@ -39,24 +37,24 @@ pub fn write_stopped<R: Threads + Sync, G: Gate, O: Sink>(
         halt.now.vectors.now.rows (O.written out.old) (O.written out.new)) }
 
     // After a fault.
-    ensures part { result ≡ Err RunFault.Write → AppendsStoppedPart log halt.now.stop
+    ensures part { result ≡ Err SimFault.Write → AppendsStoppedPart log halt.now.stop
         workers.now.jobs halt.now.plan.now halt.now.vectors.now.rows
         (O.written out.old) (O.written out.new) }
-    ensures same { result ≡ Err RunFault.Memory → O.written out.new ≡ O.written out.old }
+    ensures same { result ≡ Err SimFault.Memory → O.written out.new ≡ O.written out.old }
 
     // When a write failed.
-    ensures same_faults { result ≢ Err RunFault.Write → O.faults out.new ≡ O.faults out.old }
+    ensures same_faults { result ≢ Err SimFault.Write → O.faults out.new ≡ O.faults out.old }
     ensures never_falls { O.faults out.old ≤ O.faults out.new }
-    ensures cause { result ≡ Err RunFault.Write → Rose (O.faults out.old) (O.faults out.new) }
+    ensures cause { result ≡ Err SimFault.Write → Rose (O.faults out.old) (O.faults out.new) }
 {
-    let Ok(left) = Left::of(alloc, halt, workers, log) else {
-        return Err(RunFault::Memory);
+    let Ok(left) = Left::of(halt, workers, log) else {
+        return Err(SimFault::Memory);
     };
     write_left(halt, left, out)
 }
 
 // Writes what was left.
-fn write_left<O: Sink>(halt: &Halt<'_, '_>, left: Left, out: &mut O) -> Result<(), RunFault>
+fn write_left<O: Sink>(halt: &Halt<'_, '_>, left: Left, out: &mut O) -> Result<(), SimFault>
     requires words { HasWords halt.now.plan.now.split left.fired }
     requires homes { AreHomes halt.now.plan.now.split left.homes.items }
     requires log { IsKnownLog halt.now.plan.now.graph left.log }
@@ -65,7 +63,7 @@ fn write_left<O: Sink>(halt: &Halt<'_, '_>, left: Left, out: &mut O) -> Result<(
 {
     match write_state(halt, left, out) {
         Ok(()) => Ok(()),
-        Err(_) => Err(RunFault::Write),
+        Err(_) => Err(SimFault::Write),
     }
 }
 

@@ -1,15 +1,16 @@
 //! What a run sums up to, without its text.
-ghost use Rattle.std.specs.Prelude.{◌≡◌, ◌<◌, ◌≤◌, IfOk, OnOk, length};
+ghost use Rattle.std.specs.Prelude.{◌≡◌, ◌<◌, ◌≤◌, ◌^◌, IfOk, List, OnOk, length};
+ghost use Rattle.ds_base.specs.Values.{Row};
 ghost use Rattle.ds_design.specs.Circuit.{columns, initial_row};
 ghost use Rattle.ds_design.specs.Trace.{trace_line as trace_text, end_line as end_text};
 ghost use Rattle.ds_demo.specs.Fold.{nothing, fold_after};
 ghost use Rattle.ds_run.specs.Line.{HasLine};
-ghost use Rattle.ds_run.specs.Played.{IsPlayed};
+ghost use Rattle.ds_run.specs.Played.{IsPlayedOn};
 ghost use Rattle.ds_run.specs.Summed.{IsSummed, IsSummedTo, ones_of};
 
 use crate::line::{Line, gather};
 use crate::line_text::LineText;
-use crate::played::Played;
+use crate::stored_turns::StoredTurns;
 use crate::{Workers, run};
 use ds_base::{LatchId, OutOfMemory, Row3, Value};
 use ds_demo::Fold;
@@ -30,8 +31,7 @@ pub struct Sums {
 
 /// Runs a plan by these workers and sums its trace up. One line is kept at a time. Want of memory
 /// is the only fault.
-pub fn sum_run<R: Threads + Sync, G: Gate>(
-    alloc: Global,
+pub fn sum_run<R: AllocGlobal + Threads + Sync, G: Gate>(
     plan: &Plan<'_>,
     vectors: &Vectors,
     workers: &Workers<'_, R, G>,
@@ -41,15 +41,16 @@ pub fn sum_run<R: Threads + Sync, G: Gate>(
     requires jobs { (0 < workers.now.jobs) × (workers.now.jobs ≤ 64) }
     ensures { IfOk result (IsSummed plan.now vectors.now.rows) }
 {
+    let alloc = workers.threads.alloc();
     let mut line = Line::of(alloc, plan.latches())?;
-    let fired = run(alloc, plan, vectors, workers)?;
-    let played = Played {
+    let fired = run(plan, vectors, workers)?;
+    let stored = StoredTurns {
         plan,
-        vectors,
         fired: &fired,
+        turns: vectors.count(),
     };
     let mut fold = Fold::new();
-    let ones = sum_turns(alloc, &played, &mut line, &mut fold)?;
+    let ones = sum_turns(alloc, &stored, &mut line, &mut fold)?;
     add_end(alloc, &line.registers, &mut fold)?;
     Ok(Sums {
         ones,
@@ -61,25 +62,26 @@ pub fn sum_run<R: Threads + Sync, G: Gate>(
 // ones in the output rows.
 fn sum_turns(
     alloc: Global,
-    played: &Played<'_, '_>,
+    stored: &StoredTurns<'_, '_>,
     line: &mut Line,
     fold: &mut Fold,
 ) -> Result<u64, OutOfMemory>
-    requires played { IsPlayed played.now.plan.now played.now.vectors.now.rows
-        played.now.fired.now }
-    requires line { HasLine played.now.plan.now.split line.old }
-    requires registers { line.old.registers ≡ played.now.plan.now.split.initial }
+    requires stored { (vectors : List Row)
+        × IsPlayedOn stored.now.plan.now stored.now.turns stored.now.fired.now vectors }
+    requires few { stored.now.turns < 2 ^ 32 }
+    requires line { HasLine stored.now.plan.now.split line.old }
+    requires registers { line.old.registers ≡ stored.now.plan.now.split.initial }
     requires fold { fold.old ≡ nothing }
-    ensures { IfOk result
-        (λ ones. IsSummedTo played.now.plan.now played.now.vectors.now.rows ones
-        line.new.registers fold.new) }
+    ensures { IfOk result (λ ones. (vectors : List Row)
+        → IsPlayedOn stored.now.plan.now stored.now.turns stored.now.fired.now vectors
+        → IsSummedTo stored.now.plan.now vectors ones line.new.registers fold.new) }
 {
     let mut ones = 0;
-    for k in 0..played.vectors.count() {
-        played.fired.row(LatchId::new(1), k, &mut line.outputs);
+    for k in 0..stored.turns {
+        stored.fired.row(LatchId::new(1), k, &mut line.outputs);
         ones += count_ones(&line.outputs);
         add_line(alloc, k as u64, line, fold)?;
-        gather(played.plan.latches(), played.fired, k, line);
+        gather(stored.plan.latches(), stored.fired, k, line);
     }
     Ok(ones)
 }

@@ -9,19 +9,17 @@ ghost use Rattle.ds_run.specs.Line.{HasLine};
 ghost use Rattle.ds_run.specs.Logged.{LogGrows};
 ghost use Rattle.ds_run.specs.Played.{IsPlayed};
 
-use crate::fault::RunFault;
 use crate::line::Line;
 use crate::log::Log;
-use crate::played::Played;
 use crate::stored_turns::StoredTurns;
 use crate::trace::write_turns;
 use crate::{Workers, run};
 use ds_base::{OutOfMemory, Row3};
+use ds_clocked::SimFault;
 use ds_design::Vectors;
 use ds_fabric::Record;
 use ds_latch::Plan;
 use ds_outside::{Gate, Sink};
-use std::alloc::Global;
 use std::thread::Threads;
 
 /// A plan begun with the registers before the window, the vectors of the window, and the number of
@@ -37,13 +35,12 @@ pub struct RunWindow<'a, 'n> {
 /// after its last turn, one value per register. Where a log is kept, it takes the firings of the
 /// window. Without vectors nobody runs. After `Memory` nothing is written and the log is as it was,
 /// after `Write` a first part of the lines is written and the log has the firings.
-pub fn write_window<R: Threads + Sync, G: Gate, O: Sink>(
-    alloc: Global,
+pub fn write_window<R: AllocGlobal + Threads + Sync, G: Gate, O: Sink>(
     window: &RunWindow<'_, '_>,
     workers: &Workers<'_, R, G>,
     log: &mut Option<Log>,
     out: &mut O,
-) -> Result<Row3, RunFault>
+) -> Result<Row3, SimFault>
     requires width { window.now.vectors.now.width
         ≡ length (columns window.now.plan.now.split.circuit) }
     requires few { window.now.first + length window.now.vectors.now.rows < 2 ^ 64 }
@@ -58,40 +55,34 @@ pub fn write_window<R: Threads + Sync, G: Gate, O: Sink>(
         (length window.now.vectors.now.rows) log.old log.new) }
 
     // After a fault.
-    ensures part { result ≡ Err RunFault.Write
+    ensures part { result ≡ Err SimFault.Write
         → AppendsLinesPart window.now.plan.now.split.circuit window.now.first
         window.now.plan.now.split.initial window.now.vectors.now.rows
         (O.written out.old) (O.written out.new) }
-    ensures same { result ≡ Err RunFault.Memory → O.written out.new ≡ O.written out.old }
-    ensures same_log { result ≡ Err RunFault.Memory → log.new ≡ log.old }
-    ensures back_log { result ≡ Err RunFault.Write → LogGrows window.now.plan.now.graph
+    ensures same { result ≡ Err SimFault.Memory → O.written out.new ≡ O.written out.old }
+    ensures same_log { result ≡ Err SimFault.Memory → log.new ≡ log.old }
+    ensures back_log { result ≡ Err SimFault.Write → LogGrows window.now.plan.now.graph
         (length window.now.vectors.now.rows) log.old log.new }
 
     // When a write failed.
-    ensures same_faults { result ≢ Err RunFault.Write → O.faults out.new ≡ O.faults out.old }
+    ensures same_faults { result ≢ Err SimFault.Write → O.faults out.new ≡ O.faults out.old }
     ensures never_falls { O.faults out.old ≤ O.faults out.new }
-    ensures cause { result ≡ Err RunFault.Write → Rose (O.faults out.old) (O.faults out.new) }
+    ensures cause { result ≡ Err SimFault.Write → Rose (O.faults out.old) (O.faults out.new) }
 {
-    let Ok(mut line) = Line::of(alloc, window.plan.latches()) else {
-        return Err(RunFault::Memory);
+    let Ok(mut line) = Line::of(workers.threads.alloc(), window.plan.latches()) else {
+        return Err(SimFault::Memory);
     };
     if window.vectors.count() == 0 {
         return Ok(line.registers);
     }
-    let Ok(fired) = fire(alloc, window, workers, log) else {
-        return Err(RunFault::Memory);
+    let Ok(fired) = fire(window, workers, log) else {
+        return Err(SimFault::Memory);
     };
-    let played = Played {
-        plan: window.plan,
-        vectors: window.vectors,
-        fired: &fired,
-    };
-    write_lines(&played, window.first, line, out)
+    write_lines(window, &fired, line, out)
 }
 
 // Runs a window to its end, and has the log take its firings.
-fn fire<R: Threads + Sync, G: Gate>(
-    alloc: Global,
+fn fire<R: AllocGlobal + Threads + Sync, G: Gate>(
     window: &RunWindow<'_, '_>,
     workers: &Workers<'_, R, G>,
     log: &mut Option<Log>,
@@ -104,53 +95,36 @@ fn fire<R: Threads + Sync, G: Gate>(
         (length window.now.vectors.now.rows) log.old log.new) }
     ensures same { OnErr result (log.new ≡ log.old) }
 {
-    let fired = run(alloc, window.plan, window.vectors, workers)?;
-    let played = Played {
-        plan: window.plan,
-        vectors: window.vectors,
-        fired: &fired,
-    };
-    take_in(alloc, &played, log)?;
+    let fired = run(window.plan, window.vectors, workers)?;
+    match log {
+        Some(log) => log.take(workers.threads.alloc(), window, &fired)?,
+        None => {}
+    }
     Ok(fired)
 }
 
-// Has a log, where one is kept, take the firings of a window.
-fn take_in(alloc: Global, played: &Played<'_, '_>, log: &mut Option<Log>) -> Result<(), OutOfMemory>
-    requires played { IsPlayed played.now.plan.now played.now.vectors.now.rows
-        played.now.fired.now }
-    ensures ok { OnOk result (LogGrows played.now.plan.now.graph
-        (length played.now.vectors.now.rows) log.old log.new) }
-    ensures same { OnErr result (log.new ≡ log.old) }
-{
-    match log {
-        Some(log) => log.take(alloc, played),
-        None => Ok(()),
-    }
-}
-
-// Writes the lines of a run from this number on, and gives the registers after it.
+// Writes the lines of a window that was run, and gives the registers after it.
 fn write_lines<O: Sink>(
-    played: &Played<'_, '_>,
-    first: u64,
+    window: &RunWindow<'_, '_>,
+    fired: &Record,
     line: Line,
     out: &mut O,
-) -> Result<Row3, RunFault>
-    requires played { IsPlayed played.now.plan.now played.now.vectors.now.rows
-        played.now.fired.now }
-    requires few { first + length played.now.vectors.now.rows < 2 ^ 64 }
-    requires line { HasLine played.now.plan.now.split line }
-    requires registers { line.registers ≡ played.now.plan.now.split.initial }
-    ensures { EndsLines played.now.plan.now.split first played.now.vectors.now.rows result
-        (O.written out.old) (O.written out.new) (O.faults out.old) (O.faults out.new) }
+) -> Result<Row3, SimFault>
+    requires played { IsPlayed window.now.plan.now window.now.vectors.now.rows fired.now }
+    requires few { window.now.first + length window.now.vectors.now.rows < 2 ^ 64 }
+    requires line { HasLine window.now.plan.now.split line }
+    requires registers { line.registers ≡ window.now.plan.now.split.initial }
+    ensures { EndsLines window.now.plan.now.split window.now.first window.now.vectors.now.rows
+        result (O.written out.old) (O.written out.new) (O.faults out.old) (O.faults out.new) }
 {
     let mut line = line;
     let stored = StoredTurns {
-        plan: played.plan,
-        fired: played.fired,
-        turns: played.vectors.count(),
+        plan: window.plan,
+        fired,
+        turns: window.vectors.count(),
     };
-    match write_turns(&stored, first, &mut line, out) {
+    match write_turns(&stored, window.first, &mut line, out) {
         Ok(()) => Ok(line.registers),
-        Err(_) => Err(RunFault::Write),
+        Err(_) => Err(SimFault::Write),
     }
 }

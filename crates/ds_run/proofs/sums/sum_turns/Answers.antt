@@ -14,90 +14,85 @@ use Rattle.ds_run.proofs.sums.sum_turns.Goals as goal
 pub loop-k-init : goal.loop-k-init
 loop-k-init c = record {
   line = c.requires.line;
-  registers = λ values. c.requires.registers ∙ sym values.clocked.starts;
-  ones = λ values. refl;
+  registers = λ vectors is values. c.requires.registers ∙ sym values.clocked.starts;
+  ones = λ vectors is values. refl;
   few = omega arith;
-  folded = none_folded c.args.played.now.plan.now.split c.args.played.now.vectors.now.rows
-      c.args.line.now.registers
+  folded = λ vectors is. none_folded c.args.stored.now.plan.now.split vectors c.args.line.now.registers
       c.args.fold.now c.requires.registers c.requires.fold;
 }
 
 pub row-requires-clause-stored : goal.row-requires-clause-stored
 row-requires-clause-stored c =
-    let stored = out_stored c.args.played.now.plan.now c.args.played.now.vectors.now.rows
-    c.args.played.now.fired.now
-    c.requires.played c.loop-k.k (omega arith) in
+    let (vectors, (played, many)) = c.requires.stored in
+    let below : c.loop-k.k < length vectors = omega (arith, many) in
+    let stored = out_stored c.args.stored.now.plan.now vectors c.args.stored.now.fired.now played c.loop-k.k below in
     rw c.new.ensures stored
 
 pub row-requires-clause-length : goal.row-requires-clause-length
 row-requires-clause-length c =
-    let wide = out_wide c.args.played.now.plan.now c.args.played.now.vectors.now.rows
-    c.args.played.now.fired.now
-    c.requires.played in
+    let (vectors, (played, many)) = c.requires.stored in
+    let wide = out_wide c.args.stored.now.plan.now vectors c.args.stored.now.fired.now played in
     rw c.new.ensures (c.loop-k.invariant.line.outputs ∙ sym wide)
 
 pub overflow_add-ones : goal.overflow_add-ones
 overflow_add-ones c =
-    let long : length c.row.new.into ≡ length c.args.played.now.plan.now.split.circuit.outputs =
-    outputs_long c.args.played.now.plan.now c.args.played.now.vectors.now.rows
-    c.args.played.now.fired.now c.requires.played
-    c.loop-k.k (omega arith) c.new.result c.row.new.into c.new.ensures c.row.ensures in
-    let few : length c.args.played.now.plan.now.split.circuit.outputs < 2 ^ 32 =
-    outputs_few c.args.played.now.plan.now c.args.played.now.vectors.now.rows
-    c.args.played.now.fired.now c.requires.played in
+    let (vectors, (played, many)) = c.requires.stored in
+    let long : length c.row.new.into ≡ length c.args.stored.now.plan.now.split.circuit.outputs =
+    outputs_long c.args.stored.now.plan.now vectors c.args.stored.now.fired.now played
+    c.loop-k.k (omega (arith, many)) c.new.result c.row.new.into c.new.ensures c.row.ensures in
+    let few : length c.args.stored.now.plan.now.split.circuit.outputs < 2 ^ 32 =
+    outputs_few c.args.stored.now.plan.now vectors c.args.stored.now.fired.now played in
     omega arith
 
 pub gather-requires-clause-rows : goal.gather-requires-clause-rows
 gather-requires-clause-rows c =
-    let slaves = has_slaves c.args.played.now.plan.now c.args.played.now.vectors.now.rows
-    c.args.played.now.fired.now
-    c.requires.played (c.loop-k.k + 1) (omega arith) in
+    let (vectors, (played, many)) = c.requires.stored in
+    let slaves = has_slaves c.args.stored.now.plan.now vectors c.args.stored.now.fired.now played (c.loop-k.k + 1)
+    (omega (arith, many)) in
     rw c.latches.ensures slaves
 
 pub gather-requires-clause-line : goal.gather-requires-clause-line
 gather-requires-clause-line c =
-    line_read c.args.played.now.plan.now c.args.played.now.vectors.now.rows
-    c.args.played.now.fired.now c.requires.played c.loop-k.k
-    (omega arith) c.latches.result.now c.loop-k.line c.new.result c.row.new.into c.latches.ensures
+    let (vectors, (played, many)) = c.requires.stored in
+    line_read c.args.stored.now.plan.now vectors c.args.stored.now.fired.now played c.loop-k.k
+    (omega (arith, many)) c.latches.result.now c.loop-k.line c.new.result c.row.new.into c.latches.ensures
     c.loop-k.invariant.line c.new.ensures c.row.ensures
 
 pub loop-k-preserved : goal.loop-k-preserved
 loop-k-preserved c =
-    let p : Planned = c.args.played.now.plan.now in
-    let vectors : List Row = c.args.played.now.vectors.now.rows in
-    let r : Recorder = c.args.played.now.fired.now in
+    let p : Planned = c.args.stored.now.plan.now in
+    let r : Recorder = c.args.stored.now.fired.now in
     let k : ℕ = c.loop-k.k in
     let t : Split = c.latches.result.now in
-    let below : c.loop-k.k < length c.args.played.now.vectors.now.rows = omega arith in
-    let long : length c.row.new.into ≡ length c.args.played.now.plan.now.split.circuit.outputs =
-    outputs_long p vectors r c.requires.played k below c.new.result c.row.new.into c.new.ensures
-    c.row.ensures in
-    let few : length c.args.played.now.plan.now.split.circuit.outputs < 2 ^ 32 =
-    outputs_few p vectors r c.requires.played in
+    let (some, (done, all)) = c.requires.stored in
+    let long : length c.row.new.into ≡ length c.args.stored.now.plan.now.split.circuit.outputs =
+    outputs_long p some r done k (omega (arith, all)) c.new.result c.row.new.into c.new.ensures c.row.ensures in
+    let few : length c.args.stored.now.plan.now.split.circuit.outputs < 2 ^ 32 = outputs_few p some r done in
+    let below : (vectors : List Row) → length vectors ≡ c.args.stored.now.turns → c.loop-k.k < length vectors =
+    (λ vectors many. omega (arith, many)) in
     record {
       line = subst (λ (q : Split). HasLine q c.gather.new.line) c.latches.ensures
           c.gather.ensures.line;
-      registers = gathered_is p vectors r c.requires.played k below t c.gather.new.line.registers
+      registers = λ vectors (played, many). gathered_is p vectors r played k (below vectors many) t c.gather.new.line.registers
           c.latches.ensures c.gather.ensures.gathered;
-      ones = λ values.
-          ap (λ (n : ℕ). n + c.count_ones-ones.result) (c.loop-k.invariant.ones values)
+      ones = λ vectors (played, many) values.
+          ap (λ (n : ℕ). n + c.count_ones-ones.result) (c.loop-k.invariant.ones vectors (played, many) values)
           ∙ (ap (λ (n : ℕ). ones_in p.split.circuit values.nets k + n)
-          (c.count_ones-ones.ensures.value ∙ ap ones_of (outputs_read p vectors r c.requires.played
-          k below values c.new.result c.row.new.into c.new.ensures c.row.ensures))
+          (c.count_ones-ones.ensures.value ∙ ap ones_of (outputs_read p vectors r played
+          k (below vectors many) values c.new.result c.row.new.into c.new.ensures c.row.ensures))
           ∙ sym (ones_more p.split.circuit values.nets k));
       few = omega arith;
-      folded = turn_folded p vectors r c.requires.played k below t c.new.result c.row.new.into
+      folded = λ vectors (played, many). turn_folded p vectors r played k (below vectors many) t c.new.result c.row.new.into
           c.loop-k.line.registers c.gather.new.line.registers c.loop-k.fold c.add_line.new.fold
-          c.new.ensures c.row.ensures c.loop-k.invariant.registers c.latches.ensures
-          c.gather.ensures.gathered c.loop-k.invariant.folded
+          c.new.ensures c.row.ensures (c.loop-k.invariant.registers vectors (played, many)) c.latches.ensures
+          c.gather.ensures.gathered (c.loop-k.invariant.folded vectors (played, many))
           c.in_ok-add_line.ensures;
     }
 
 pub returns : goal.returns
-returns c =
-    let values : AreValues c.args.played.now.plan.now.split c.args.played.now.vectors.now.rows
-    c.args.played.now.fired.now.shown.view.run = c.requires.played.planned.values_are in
-    all_folded c.args.played.now.plan.now c.args.played.now.vectors.now.rows c.loop-k.k
-    c.loop-k.ones
-    c.loop-k.line.registers c.loop-k.fold values.state values.nets (omega arith) values.clocked
-    (c.loop-k.invariant.ones values) c.loop-k.invariant.folded
+returns c = λ vectors (played, many).
+    let values : AreValues c.args.stored.now.plan.now.split vectors c.args.stored.now.fired.now.shown.view.run =
+    played.planned.values_are in
+    all_folded c.args.stored.now.plan.now vectors c.loop-k.k c.loop-k.ones
+    c.loop-k.line.registers c.loop-k.fold values.state values.nets (omega (arith, many)) values.clocked
+    (c.loop-k.invariant.ones vectors (played, many) values) (c.loop-k.invariant.folded vectors (played, many))

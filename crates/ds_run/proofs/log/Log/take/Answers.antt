@@ -4,9 +4,9 @@ use Rattle.ds_run.proofs.log.Log.take.Goals as goal
 
 pub returns-clause-ok : goal.returns-clause-ok
 returns-clause-ok c =
-    let (legal, full) = c.firings_are_legal.ensures c.args.played.now.plan.now
-    c.args.played.now.vectors.now.rows
-    c.args.played.now.fired.now c.requires.played.accepted c.requires.played.planned
+    let (legal, full) = c.firings_are_legal.ensures c.args.window.now.plan.now
+    c.args.window.now.vectors.now.rows
+    c.args.fired.now c.requires.played.accepted c.requires.played.planned
     c.requires.played.whole
     c.in_ok-fired.fired.items c.in_ok-fired.ensures.ok in (
       c.in_ok-fired.fired.items,
