@@ -12,7 +12,7 @@ use Rattle.ds_rule.specs.Sound.{IsSound}
 use Rattle.ds_marked.specs.declared.marked.Arc.{Arc}
 use Rattle.ds_rule.proofs.EventLaws.{event_below}
 use Rattle.ds_rule.proofs.GetElemLemmas.{at_get, get-first, get-second, replicate-default}
-use Rattle.ds_fabric.specs.Chained.{no_arc, arc_numbered, IsLastArc, IsChained}
+use Rattle.ds_fabric.specs.Chained.{absent_arc, arc_numbered, IsLastArc, IsChained}
 
 -- a place that was read off a list
 pub read-off : (xs : List ℕ) (i r : ℕ) → i < length xs → r ≡ slice_index_or xs i r → get_or xs i 0 ≡ r
@@ -22,12 +22,12 @@ read-off xs i r h is = at_get xs i r 0 (at_index xs i r h is)
 pub same-arc : (run : Run) (arcs : List Arc) (i : ℕ) (d : Arc) → arcs ≡ run.arcs
     → i < length run.arcs → get_or arcs i d ≡ arc_numbered run i
 same-arc run arcs i d is near =
-    ap (λ (xs : List Arc). get_or xs i d) is ∙ get_or_default run.arcs i d no_arc near
+    ap (λ (xs : List Arc). get_or xs i d) is ∙ get_or_default run.arcs i d absent_arc near
 
 pub target_near : (run : Run) (n : ℕ) → IsSound run → n < length run.arcs
     → (arc_numbered run n).target < events run
 target_near run n sound h =
-    event_below run (arc_numbered run n).target sound.among (sound.named n no_arc h).1
+    event_below run (arc_numbered run n).target sound.among (sound.named n absent_arc h).1
 
 pub chained_none : (run : Run) (heads : List ℕ) (n : ℕ) → heads ≡ replicate n 0 → n ≡ events run
     → IsChained run 0 heads []

@@ -9,7 +9,7 @@ use Rattle.ds_rule.specs.Rule.{seen}
 use Rattle.ds_rule.specs.declared.view.View.{View}
 use Rattle.ds_rule.proofs.EventLaws.{node-next}
 use Rattle.ds_rule.proofs.GraphLaws.{enabled_same}
-use Rattle.ds_fabric.specs.Chained.{no_arc, arc_numbered}
+use Rattle.ds_fabric.specs.Chained.{absent_arc, arc_numbered}
 use Rattle.ds_fabric.specs.declared.step.Step.{Step}
 use Rattle.ds_fabric.specs.declared.step.Step.TheVariants.{Fired, NotYet, Done}
 use Rattle.ds_fabric.specs.Stepped.{Stepped, FiresIfEnabled, seen_at_departure}
@@ -34,9 +34,9 @@ fires_if_enabled run v w l (NotYet arc n) sound s all = (
   λ on. let q = s.1 in
       absurd (omega (
         arith,
-        on.ready arc no_arc q.inside q.enters,
+        on.ready arc absent_arc q.inside q.enters,
         ap (turns run (next run l (seen v l))) (ap (seen v) (node-next run l (seen v l))),
-        q.own (all (node_of run (arc_numbered run arc).source) (sound.named arc no_arc q.inside).0),
+        q.own (all (node_of run (arc_numbered run arc).source) (sound.named arc absent_arc q.inside).0),
         q.short,
       )),
 )

@@ -17,7 +17,7 @@ use Rattle.ds_rule.specs.declared.view.View.{View}
 use Rattle.ds_rule.proofs.EventLaws.{turns_up}
 use Rattle.ds_rule.proofs.PlaceLaws.{counts_inside}
 use Rattle.ds_rule.proofs.GetElemLemmas.{at_below, at_either, at_end, at_get, at_or, get-first}
-use Rattle.ds_fabric.specs.Chained.{no_arc, arc_numbered, IsLastArc}
+use Rattle.ds_fabric.specs.Chained.{absent_arc, arc_numbered, IsLastArc}
 use Rattle.ds_fabric.specs.Looks.{LooksOn, Enough, IsSeenLacking}
 use Rattle.ds_fabric.specs.Into.{fired_of, IsInto, ArePart, AreIntoBelow, IsLinedUp}
 use Rattle.ds_fabric.specs.declared.arc_in.ArcIn.{ArcIn}
@@ -171,7 +171,7 @@ pub entry_near : (run : Run) (event k : ℕ) (x : ArcIn) → IsSound run → IsI
 entry_near run event k x sound into = omega (
   arith,
   into.says.node_is,
-  (sound.named k no_arc into.near).0,
+  (sound.named k absent_arc into.near).0,
 )
 
 -- what was seen is enough for this turn on the arcs from the first place on, before place i
@@ -190,7 +190,7 @@ pub enough_all : (run : Run) (w : View) (event turn first last : ℕ) (arcs : Li
     (numbers : List ℕ) → ArePart run event 0 first last arcs numbers
     → EnoughIn run w turn numbers first last → Enough run w event turn
 enough_all run w event turn first last arcs numbers part enough k d near to =
-    let same : arc_numbered run k ≡ get_or run.arcs k d = get_or_default run.arcs k no_arc d near in
+    let same : arc_numbered run k ≡ get_or run.arcs k d = get_or_default run.arcs k absent_arc d near in
     let f = part.all k (omega arith) near (ap (λ (x : Arc). x.target) same ∙ to) in
     subst (λ (x : Arc). turn ≤ count run (seen w) x.source + x.tokens)
     (ap (λ (y : ℕ). arc_numbered run y) f.3 ∙ same) (enough f.0 f.1 f.2)

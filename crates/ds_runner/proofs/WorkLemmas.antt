@@ -20,7 +20,7 @@ use Rattle.ds_rule.proofs.GraphLaws.{enabled_same}
 use Rattle.ds_rule.proofs.GetElemLemmas.{has_below, get-listed}
 use Rattle.ds_base.specs.Scratch.{Memory}
 use Rattle.ds_fabric.specs.Base.{Base}
-use Rattle.ds_fabric.specs.Chained.{no_arc, arc_numbered}
+use Rattle.ds_fabric.specs.Chained.{absent_arc, arc_numbered}
 use Rattle.ds_fabric.specs.Showing.{Showing, Belongs}
 use Rattle.ds_fabric.specs.Stepped.{Stepped}
 use Rattle.ds_fabric.specs.declared.step.Step.{Step}
@@ -95,13 +95,13 @@ advances run v w l (Fired event turn ticket) sound run-is all near s =
     (λ x. omega (arith, s.seen_up x)) (omega (arith, s.once_more, most))
 advances run v w l (NotYet arc n) sound run-is all near s =
     let lacks = s.1 in let u : ℕ = node_of run (arc_numbered run arc).source in
-    let source : u < run.nodes = (sound.named arc no_arc lacks.inside).0 in
+    let source : u < run.nodes = (sound.named arc absent_arc lacks.inside).0 in
     let own = lacks.own (all u (omega arith)
     (omega (arith, source, ap (λ (r : Run). r.nodes) run-is))) in (
       (λ x low. s.0.own x (all x (omega arith) (omega (arith, low, ap (λ (r : Run). r.nodes) run-is)))),
       λ on. absurd (omega (
         arith,
-        on.ready arc no_arc lacks.inside lacks.enters,
+        on.ready arc absent_arc lacks.inside lacks.enters,
         ap (turns run (next run l (seen v l))) (ap (seen v) (node-next run l (seen v l))),
         own,
         lacks.short,

@@ -2,7 +2,7 @@ use Rattle.std.proofs.Common.{◌≡◌, ◌<◌, ◌+◌, ◌-◌, ◌∙◌, �
 use Rattle.std.proofs.Common.{length}
 use Rattle.ds_rule.specs.Run.{Run, node_of}
 use Rattle.ds_marked.specs.declared.marked.Arc.{Arc}
-use Rattle.ds_fabric.specs.Chained.{no_arc, arc_numbered, IsLastArc}
+use Rattle.ds_fabric.specs.Chained.{absent_arc, arc_numbered, IsLastArc}
 use Rattle.ds_fabric.specs.Into.{IsArcIn, IsInto, IsLinedUp}
 use Rattle.ds_fabric.specs.declared.arc_in.ArcIn.{ArcIn}
 use Rattle.ds_fabric.proofs.ArcChains.{same-arc, read-off}
@@ -63,7 +63,7 @@ of-requires-clause-near g c = let run : Run = c.args.run.now in
     omega (
       arith,
       ap (λ (x : Arc). node_of run x.source) same,
-      (c.requires.sound.named m no_arc below).0,
+      (c.requires.sound.named m absent_arc below).0,
       c.requires.sound.few,
     )
 
