@@ -27,8 +27,8 @@ node_there run e among inside =
     node_below run e among (omega (arith, inside, length-replicate (events run) nameless))
 
 -- a graph with as many events and the same arcs is as live, and its counts are as consistent
-module _ (g h : Graph) (events_are : length g.events ≡ length h.events) (arcs_are : g.arcs ≡ h.arcs)
-    where
+module _ (g h : Graph) (events_are : length g.events ≡ length h.events)
+    (arcs_are : g.arcs ≡ h.arcs) where
   pub live_as : IsLive h → IsLive g
   live_as live = record {
     ends = subst (AreEnds (length g.events)) (sym arcs_are)
