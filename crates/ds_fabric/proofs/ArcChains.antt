@@ -3,38 +3,31 @@ use Rattle.std.proofs.Common.{◌≡◌, ℕ, ◌+◌, ◌-◌, ◌<◌, List, [
 use Rattle.std.proofs.Common.{replicate, slice_index_or}
 use Rattle.std.proofs.Common.{sym, refl, ap, ◌∙◌, subst, arith, length-set, get_or-set_same}
 use Rattle.std.proofs.Common.{get_or-set_other, length-append}
-use Rattle.std.proofs.lemmas.List.{length-replicate}
+use Rattle.std.proofs.lemmas.List.{length-replicate, get_or_default}
 use mathlib.Core.Logic.{dite}
-use mathlib.Core.Option.{some}
 use native.Mathlib.Decide.{ℕ_discrete}
-use lib.ListN.{get_elem?}
 use Rattle.atomic_table.proofs.Lists.{at_index}
 use Rattle.ds_rule.specs.Run.{Run, events}
 use Rattle.ds_rule.specs.Sound.{IsSound}
 use Rattle.ds_marked.specs.declared.marked.Arc.{Arc}
 use Rattle.ds_rule.proofs.EventLaws.{event_below}
-use Rattle.ds_rule.proofs.GetElemLemmas.{at_or, at_get, get-first, get-second, replicate-default}
-use Rattle.ds_fabric.specs.Chained.{arc_numbered, IsLastArc, IsChained}
+use Rattle.ds_rule.proofs.GetElemLemmas.{at_get, get-first, get-second, replicate-default}
+use Rattle.ds_fabric.specs.Chained.{absent_arc, arc_numbered, IsLastArc, IsChained}
 
 -- a place that was read off a list
 pub read-off : (xs : List ℕ) (i r : ℕ) → i < length xs → r ≡ slice_index_or xs i r → get_or xs i 0 ≡ r
 read-off xs i r h is = at_get xs i r 0 (at_index xs i r h is)
 
-pub arc-there : (run : Run) (n : ℕ) → n < length run.arcs
-    → get_elem? run.arcs n ≡ some (arc_numbered run n)
-arc-there run n h = at_or run.arcs n (record { source = 0; target = 0; tokens = 0 }) h
-
 -- an arc of the run, out of a list that is its arcs
 pub same-arc : (run : Run) (arcs : List Arc) (i : ℕ) (d : Arc) → arcs ≡ run.arcs
     → i < length run.arcs → get_or arcs i d ≡ arc_numbered run i
 same-arc run arcs i d is near =
-    ap (λ (xs : List Arc). get_or xs i d) is ∙ at_get run.arcs i (arc_numbered run i) d
-    (arc-there run i near)
+    ap (λ (xs : List Arc). get_or xs i d) is ∙ get_or_default run.arcs i d absent_arc near
 
 pub target_near : (run : Run) (n : ℕ) → IsSound run → n < length run.arcs
     → (arc_numbered run n).target < events run
-target_near run n sound h = event_below run (arc_numbered run n).target sound.among
-    (sound.named n (arc_numbered run n) (arc-there run n h)).1
+target_near run n sound h =
+    event_below run (arc_numbered run n).target sound.among (sound.named n absent_arc h).1
 
 pub chained_none : (run : Run) (heads : List ℕ) (n : ℕ) → heads ≡ replicate n 0 → n ≡ events run
     → IsChained run 0 heads []

@@ -11,6 +11,7 @@ use Rattle.ds_rule.specs.Rule.{Lawful, holds, tickets, seen}
 use Rattle.ds_rule.specs.Plays.{Sat, after_draw, published}
 use Rattle.ds_rule.specs.declared.view.View.{View}
 use Rattle.ds_rule.proofs.EventLaws.{node-next, fired_most}
+use Rattle.ds_rule.proofs.GraphLaws.{event_there}
 use Rattle.ds_rule.proofs.Publishes.{publishes}
 use Rattle.ds_fabric.specs.Base.{IsInFlight, HasWritten}
 use Rattle.ds_fabric.specs.declared.history.History.{History}
@@ -52,17 +53,20 @@ coming run me nodes h event before run_is sound k t e n =
     }
 
 -- the next event of a node is enabled at what was seen, where that is enough
-is_ready : (run : Run) (u : View) (l event turn : ℕ) → event ≡ next run l (seen u l)
+is_ready : (run : Run) (u : View) (l event turn : ℕ) → run.latches ≤ run.nodes → l < run.nodes
+    → event ≡ next run l (seen u l)
     → turn ≡ turns run event (seen u l) + 1 → turn ≤ run.limit → Enough run u event turn
     → Enabled run (seen u) (next run l (seen u l))
-is_ready run u l event turn event_is turn_is within enough =
+is_ready run u l event turn among near event_is turn_is within enough =
     let E : ℕ = next run l (seen u l) in let n : count run (seen u) E ≡ turns run E (seen u l) =
     ap (λ (x : ℕ). turns run E (seen u x)) (node-next run l (seen u l)) in
     let same : turns run event (seen u l) ≡ turns run E (seen u l) =
-    ap (λ (x : ℕ). turns run x (seen u l)) event_is in (
-      omega (arith, n, same, turn_is, within),
-      λ k a at into. omega (arith, n, same, turn_is, enough k a at (into ∙ sym event_is)),
-    )
+    ap (λ (x : ℕ). turns run x (seen u l)) event_is in record {
+      event = event_there run E among (omega (arith, node-next run l (seen u l)));
+      below = omega (arith, n, same, turn_is, within);
+      ready = λ k d inside into.
+          omega (arith, n, same, turn_is, enough k d inside (into ∙ sym event_is));
+    }
 
 -- there is room for what the next event tells
 room_next : (v : View) (h : History) → Tells v h
@@ -111,7 +115,7 @@ armed run me nodes h event turn run_is k t e n within enough =
       near = near-node me nodes l k t.has;
       fired = t.fired;
       ready = subst (λ (x : ℕ). Enabled R (seen u) x) (sym E-is)
-          (is_ready R u l event turn (e ∙ E-is) (n ∙ ap
+          (is_ready R u l event turn k.among (near-node me nodes l k t.has) (e ∙ E-is) (n ∙ ap
           (λ (x : ℕ). turns R event x + 1) t.fired) within enough);
       room = record { turns = omega (arith, room_next u h t below); from = t.room.from };
     }) e n within enough
@@ -134,7 +138,7 @@ few run v l f short is on = let n = node-next run l f in
     let below : turns run (next run l f) f < run.limit =
     omega (
       arith,
-      on.0,
+      on.below,
       ap (λ (x : ℕ). turns run (next run l f) (seen v x)) n,
       ap (turns run (next run l f)) is,
     ) in
@@ -177,7 +181,7 @@ arms_enabled run me nodes i h run_is k at on =
     subst P run_is (λ on. let R : Run = u.run in let E : ℕ = next R l (seen u l) in
     let below : turns R E (seen u l) < R.limit = omega (
       arith,
-      on.0,
+      on.below,
       ap (λ (x : ℕ). turns R E (seen u x)) (node-next R l (seen u l)),
     ) in record {
       keeps = k;

@@ -3,7 +3,7 @@
 use Rattle.std.proofs.Common.{◌≡◌, ℕ, ◌+◌, ◌<◌, ◌≤◌, List, [], ◌∷◌, ◌++◌, length, get_or, true}
 use Rattle.std.proofs.Common.{sym, refl, ap, ◌∙◌, subst, arith, length-append, ⊎_elim}
 use Rattle.std.proofs.Common.{slice_index_or}
-use Rattle.std.proofs.lemmas.List.{append_assoc, append-nil}
+use Rattle.std.proofs.lemmas.List.{append_assoc, append-nil, get_or_default}
 use mathlib.Core.Logic.{dite}
 use native.Mathlib.Decide.{ℕ_discrete, dec_lt}
 use Rattle.atomic_table.proofs.Lists.{at_last}
@@ -16,13 +16,13 @@ use Rattle.ds_rule.specs.Plays.{Sat, after_look}
 use Rattle.ds_rule.specs.declared.view.View.{View}
 use Rattle.ds_rule.proofs.EventLaws.{turns_up}
 use Rattle.ds_rule.proofs.PlaceLaws.{counts_inside}
-use Rattle.ds_rule.proofs.GetElemLemmas.{at_below, at_either, at_end, at_get, at_or, get-first, same_at}
-use Rattle.ds_fabric.specs.Chained.{arc_numbered, IsLastArc}
+use Rattle.ds_rule.proofs.GetElemLemmas.{at_below, at_either, at_end, at_get, at_or, get-first}
+use Rattle.ds_fabric.specs.Chained.{absent_arc, arc_numbered, IsLastArc}
 use Rattle.ds_fabric.specs.Looks.{LooksOn, Enough, IsSeenLacking}
 use Rattle.ds_fabric.specs.Into.{fired_of, IsInto, ArePart, AreIntoBelow, IsLinedUp}
 use Rattle.ds_fabric.specs.declared.arc_in.ArcIn.{ArcIn}
 use Rattle.ds_fabric.proofs.LoadedViews.{looks_more, seen-here, seen_rises, gives_up}
-use Rattle.ds_fabric.proofs.ArcChains.{arc-there, read-off}
+use Rattle.ds_fabric.proofs.ArcChains.{read-off}
 
 -- the last place of a list with one number more
 get-last : (xs : List ℕ) (m j : ℕ) → j ≡ length xs → get_or (xs ++ m ∷ []) j 0 ≡ m
@@ -171,7 +171,7 @@ pub entry_near : (run : Run) (event k : ℕ) (x : ArcIn) → IsSound run → IsI
 entry_near run event k x sound into = omega (
   arith,
   into.says.node_is,
-  (sound.named k (arc_numbered run k) (arc-there run k into.near)).0,
+  (sound.named k absent_arc into.near).0,
 )
 
 -- what was seen is enough for this turn on the arcs from the first place on, before place i
@@ -189,9 +189,8 @@ none_before run w turn numbers first i is j from below = absurd (omega arith)
 pub enough_all : (run : Run) (w : View) (event turn first last : ℕ) (arcs : List ArcIn)
     (numbers : List ℕ) → ArePart run event 0 first last arcs numbers
     → EnoughIn run w turn numbers first last → Enough run w event turn
-enough_all run w event turn first last arcs numbers part enough k a at to =
-    let near = at_below run.arcs k a at in
-    let same : arc_numbered run k ≡ a = same_at run.arcs k (arc_numbered run k) a (arc-there run k near) at in
+enough_all run w event turn first last arcs numbers part enough k d near to =
+    let same : arc_numbered run k ≡ get_or run.arcs k d = get_or_default run.arcs k absent_arc d near in
     let f = part.all k (omega arith) near (ap (λ (x : Arc). x.target) same ∙ to) in
     subst (λ (x : Arc). turn ≤ count run (seen w) x.source + x.tokens)
     (ap (λ (y : ℕ). arc_numbered run y) f.3 ∙ same) (enough f.0 f.1 f.2)
@@ -237,12 +236,9 @@ pub stops : (run : Run) (event turn k : ℕ) (u : View) (m m' : Sat) (x : ArcIn)
     → fired_of x.source r + (arc_numbered run k).tokens < turn
     → LooksOn u m'.0 × IsSeenLacking run u m'.0 event turn k (fired_of x.source r)
 stops run event turn k u m m' x r sound into is q long up own short =
-    let a : Arc = arc_numbered run k in let at = arc-there run k into.near in
-    let same = into.says.node_is in
-    gives_up run event turn k u m m' a r (fired_of x.source r) (into.says.turns_is r)
-    (is ∙ ap (λ (l : ℕ). (after_look m.0 l r, m.1)) same) q long (sound.named k a at).0
-    (subst (λ (l : ℕ). seen m.0 l ≤ r) same up)
-    (subst (λ (l : ℕ). holds m.0 l ≡ true → r ≡ seen m.0 l) same own) at into.enters short
+    gives_up run event turn k u m m' x.node r (fired_of x.source r) into.says.node_is
+    (into.says.turns_is r) is q long (entry_near run event k x sound into) up own into.near
+    into.enters short
 
 -- the entry at a place of the part of an event
 pub entry_into : (run : Run) (event i : ℕ) (starts numbers : List ℕ) (arcs ys : List ArcIn)

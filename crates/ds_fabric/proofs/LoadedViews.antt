@@ -4,15 +4,14 @@ use Rattle.std.proofs.Common.{get_or, sym, refl, ap, ◌∙◌, subst, arith, le
 use Rattle.std.proofs.Common.{length-set}
 use Rattle.std.proofs.Common.{get_or-set_other, get_or-set_same}
 use mathlib.Core.Logic.{dite}
-use mathlib.Core.Option.{some}
 use native.Mathlib.Decide.{ℕ_discrete}
-use lib.ListN.{get_elem?}
-use Rattle.ds_rule.specs.Run.{Run, node_of, turns}
+use Rattle.ds_rule.specs.Run.{Run, node_of, turns, count}
 use Rattle.ds_rule.specs.Rule.{holds, seen}
 use Rattle.ds_rule.specs.Plays.{Sat, after_look}
 use Rattle.ds_marked.specs.declared.marked.Arc.{Arc}
 use Rattle.ds_rule.specs.declared.view.View.{View}
 use Rattle.ds_rule.proofs.EventLaws.{turns_up}
+use Rattle.ds_fabric.specs.Chained.{arc_numbered}
 use Rattle.ds_fabric.specs.Looks.{LooksOn, IsSeenLacking}
 
 pub seen-here : (v : View) (l r x : ℕ) → l < length v.seen → x ≡ l → seen (after_look v l r) x ≡ r
@@ -65,33 +64,36 @@ looks_more u v l r q near up own = record {
 }
 
 -- the load of a source whose count is too small
-pub gives_up : (run : Run) (event turn n : ℕ) (u : View) (m m' : Sat) (a : Arc) (r c : ℕ)
-    → c ≡ turns run a.source r → m' ≡ (after_look m.0 (node_of run a.source) r, m.1) → LooksOn u m.0
-    → length u.seen ≡ run.nodes → node_of run a.source < run.nodes
-    → seen m.0 (node_of run a.source) ≤ r
-    → (holds m.0 (node_of run a.source) ≡ true → r ≡ seen m.0 (node_of run a.source))
-    → get_elem? run.arcs n ≡ some a → a.target ≡ event → c + a.tokens < turn
+pub gives_up : (run : Run) (event turn n : ℕ) (u : View) (m m' : Sat) (x r c : ℕ)
+    → x ≡ node_of run (arc_numbered run n).source → c ≡ turns run (arc_numbered run n).source r
+    → m' ≡ (after_look m.0 x r, m.1) → LooksOn u m.0 → length u.seen ≡ run.nodes → x < run.nodes
+    → seen m.0 x ≤ r → (holds m.0 x ≡ true → r ≡ seen m.0 x)
+    → n < length run.arcs → (arc_numbered run n).target ≡ event
+    → c + (arc_numbered run n).tokens < turn
     → LooksOn u m'.0 × IsSeenLacking run u m'.0 event turn n c
-gives_up run event turn n u m m' a r c gave is q long near up own at into short =
-    let x : ℕ = node_of run a.source in
+gives_up run event turn n u m m' x r c from gave is q long near up own there into short =
+    let a : Arc = arc_numbered run n in
     let inside : x < length m.0.seen = omega (arith, q.seen_long) in
     let P : Sat → Type 0 = λ y. LooksOn u y.0 × IsSeenLacking run u y.0 event turn n c in
+    let counted : (v : View) → turns run a.source (seen v x) ≡ count run (seen v) a.source =
+    λ v. ap (λ (l : ℕ). turns run a.source (seen v l)) from in
     subst P (sym is) (
       looks_more u m.0 x r q inside up own,
       record {
-        a = a;
-        is_arc = at;
+        inside = there;
         enters = into;
         looked = omega (arith, q.looks_up);
-        last = refl;
+        last = from;
         gave = gave;
         short = short;
         at_least = omega (
           arith,
           gave,
-          turns_up run a.source (seen u x) r
-              (le_trans (q.seen_up x) up),
+          counted u,
+          turns_up run a.source (seen u x) r (le_trans (q.seen_up x) up),
         );
-        own = λ h. gave ∙ ap (turns run a.source) (own (has_after u m.0 x q ∙ h) ∙ q.own x h);
+        own = λ h. let has : holds u x ≡ true = ap (holds u) from ∙ h in
+            gave ∙ (ap (turns run a.source) (own (has_after u m.0 x q ∙ has) ∙ q.own x has)
+            ∙ counted u);
       },
     )

@@ -18,6 +18,7 @@ use Rattle.ds_rule.specs.Rule.{holds, tickets, seen}
 use Rattle.ds_rule.specs.Plays.{Sat, after_depart, after_draw, after_publish}
 use Rattle.ds_rule.specs.declared.view.View.{View}
 use Rattle.ds_rule.proofs.GetElemLemmas.{same_at, set_there, apart_set, at_below, has_below}
+use Rattle.ds_rule.proofs.GraphLaws.{enabled_same}
 use Rattle.ds_rule.proofs.EventLaws.{node-next, turns-next, turns-other, event_below}
 use Rattle.ds_rule.proofs.EventLaws.{even_opens, next-opens, turns-opening, node-opening}
 use Rattle.ds_fabric.specs.declared.history.History.{History}
@@ -26,7 +27,6 @@ use Rattle.ds_fabric.specs.Told.{stride_of, new_row, turns_told}
 use Rattle.ds_fabric.specs.Noted.{HasFired}
 use Rattle.ds_fabric.specs.Showing.{HasHistoryRoom, Tells, Keeps}
 use Rattle.ds_fabric.specs.Stepped.{FiresNext, done, seen_at_departure}
-use Rattle.ds_marked.specs.declared.marked.Arc.{Arc}
 use Rattle.ds_fabric.proofs.LoadedViews.{has_after}
 use Rattle.ds_fabric.proofs.HistoryLayout.{told_same, told_fires}
 
@@ -195,21 +195,6 @@ at_departure-here v w l x e = ap (λ b. cond b (seen v l) (seen w x)) (eq-eqb x 
 pub at_departure-else : (v w : View) (l x : ℕ) → x ≢ l → seen_at_departure v w l x ≡ seen w x
 at_departure-else v w l x n = ap (λ b. cond b (seen v l) (seen w x)) (ne_eqb x l n)
 
--- what is enabled depends on the firings of its own node and of its sources
-pub enabled_same : (run : Run) (f g : ℕ → ℕ) (e : ℕ) → f (node_of run e) ≡ g (node_of run e)
-    → ((k : ℕ) (a : Arc) → get_elem? run.arcs k ≡ some a → a.target ≡ e
-    → f (node_of run a.source) ≡ g (node_of run a.source))
-    → Enabled run f e → Enabled run g e
-enabled_same run f g e own sources on = let here = ap (turns run e) own in (
-  omega (arith, on.0, here),
-  λ k a at into. omega (
-    arith,
-    on.1 k a at into,
-    here,
-    ap (turns run a.source) (sources k a at into),
-  ),
-)
-
 -- what a firing after loads says
 pub fires : (run : Run) (me me' : Sat) (nodes : List History) (w : View) (l event turn t : ℕ)
     → me.0.run ≡ run → Keeps me nodes → holds me.0 l ≡ true → LooksOn me.0 me'.0 → me'.1 ≡ me.1
@@ -242,7 +227,8 @@ fires run me me' nodes w l event turn t run_is k has q slots event_is turn_is wi
       turn_is = turn_is;
       within = within;
       enabled = enabled_same run (seen u) (seen_at_departure v (landed u l t) l) event
-          (left (node_of run event)) (λ k a at into. left (node_of run a.source)) on;
+          (left (node_of run event))
+          (λ k d near into. left (node_of run (get_or run.arcs k d).source)) on;
       fresh = omega (arith, fresh, q.drawn);
       drawn = refl;
       once_more = seen-landed u l t l near-l refl ∙ ap (λ (x : ℕ). x + 1) own;
@@ -290,7 +276,7 @@ within run v l f is o on =
     ap (count run (seen v)) e ∙ (ap (λ (m : ℕ). turns run (opening l) (seen v m))
     (node-opening run l even.0)
     ∙ (turns-opening run l (seen v l) even.0 ∙ ap (opened run l) (sym is))) in
-    (even.0, omega (arith, on.0, is-count, opened-low run l f even.0, even.1))
+    (even.0, omega (arith, on.below, is-count, opened-low run l f even.0, even.1))
 
 -- a history put where it stands
 pub set_same : (nodes : List History) (i : ℕ) (h : History) → get_elem? nodes i ≡ some h

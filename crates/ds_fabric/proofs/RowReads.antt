@@ -15,7 +15,7 @@ use Rattle.ds_rule.proofs.PlaceLaws.{width-is}
 pub times_most : (run : Run) (e : ℕ) (xs : List ℕ) → IsLegalList run xs → times e xs ≤ run.limit
 times_most run e [] h = omega arith
 times_most run e (x ∷ xs) h = dite (ℕ_discrete x e)
-    (λ s. omega (arith, times-here e x xs s, h.1, ap (λ (y : ℕ). times y xs) s))
+    (λ s. omega (arith, times-here e x xs s, h.1.below, ap (λ (y : ℕ). times y xs) s))
     (λ n. omega (arith, times-else e x xs n, times_most run e xs h.0))
 
 pub tickets_most : (run : Run) (ts : ℕ → List ℕ) (many e : ℕ) → Recorded run ts many

@@ -5,9 +5,13 @@ use Rattle.ds_rule.specs.Run.{Run, events}
 use Rattle.ds_marked.specs.declared.marked.Arc.{Arc}
 use Rattle.ds_fabric.specs.declared.chain.Chains.{Chains}
 
+-- what stands for an arc where there is none
+abbrev pub absent_arc : Arc
+absent_arc = record { source = 0; target = 0; tokens = 0 }
+
 -- an arc by its number
 abbrev pub arc_numbered : Run → ℕ → Arc
-arc_numbered run n = slice_index_or run.arcs n (record { source = 0; target = 0; tokens = 0 })
+arc_numbered run n = slice_index_or run.arcs n absent_arc
 
 -- h is the place of the last arc into the event among the first n arcs
 pub record IsLastArc (run : Run) (event n h : ℕ) : Type 0 where

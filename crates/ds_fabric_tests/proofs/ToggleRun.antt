@@ -1,5 +1,5 @@
 -- The run of the tests meets what a run must, and its rows by number.
-use Rattle.std.proofs.Common.{◌≡◌, ◌<◌, ◌≤◌, ◌+◌, ◌%◌, ◌*◌, ℕ, zero, suc, List, [], ◌∷◌, length, sym, subst, refl, arith, cond, Bool, true, false, ◌==◌}
+use Rattle.std.proofs.Common.{All, ◌≡◌, ◌<◌, ◌≤◌, ◌+◌, ◌%◌, ◌*◌, ℕ, zero, suc, List, [], ◌∷◌, length, sym, subst, refl, arith, cond, Bool, true, false, ◌==◌}
 use mathlib.Core.Option.{some, some-injective, some-ne-none}
 use lib.ListN.{get_elem?}
 use Rattle.ds_marked.specs.declared.marked.Arc.{Arc}
@@ -10,26 +10,17 @@ use Rattle.ds_rule.specs.Sound.{IsSound, HasOrders, read_words, edge_at}
 use Rattle.ds_rule.specs.Rows.{row}
 use Rattle.ds_fabric_tests.specs.Toggle.{arc, edge, toggle}
 
-abbrev Named : Arc → Type 0
-Named a = (node_of toggle a.source < 2) × (node_of toggle a.target < 2)
-
--- an arc by its number
-one_of : (a b : Arc) → some a ≡ some b → Named a → Named b
-one_of a b e h = subst Named (some-injective a b e) h
-
-named : (k : ℕ) (a : Arc) → get_elem? toggle.arcs k ≡ some a → Named a
+named : All (λ a. (node_of toggle a.source < 2) × (node_of toggle a.target < 2)) toggle.arcs
 unfolding node_of
-named zero a e = one_of (arc 0 1 0) a e (omega arith, omega arith)
-named (suc zero) a e = one_of (arc 1 0 1) a e (omega arith, omega arith)
-named (suc (suc zero)) a e = one_of (arc 2 3 0) a e (omega arith, omega arith)
-named (suc (suc (suc zero))) a e = one_of (arc 3 2 1) a e (omega arith, omega arith)
-named (suc (suc (suc (suc zero)))) a e = one_of (arc 0 2 1) a e (omega arith, omega arith)
-named (suc (suc (suc (suc (suc zero))))) a e = one_of (arc 3 0 0) a e (omega arith, omega arith)
-named (suc (suc (suc (suc (suc (suc zero)))))) a e =
-    one_of (arc 2 0 0) a e (omega arith, omega arith)
-named (suc (suc (suc (suc (suc (suc (suc zero))))))) a e =
-    one_of (arc 1 2 1) a e (omega arith, omega arith)
-named (suc (suc (suc (suc (suc (suc (suc (suc k)))))))) a e = absurd (some-ne-none a (sym e))
+named zero d inside = (omega arith, omega arith)
+named (suc zero) d inside = (omega arith, omega arith)
+named (suc (suc zero)) d inside = (omega arith, omega arith)
+named (suc (suc (suc zero))) d inside = (omega arith, omega arith)
+named (suc (suc (suc (suc zero)))) d inside = (omega arith, omega arith)
+named (suc (suc (suc (suc (suc zero))))) d inside = (omega arith, omega arith)
+named (suc (suc (suc (suc (suc (suc zero)))))) d inside = (omega arith, omega arith)
+named (suc (suc (suc (suc (suc (suc (suc zero))))))) d inside = (omega arith, omega arith)
+named (suc (suc (suc (suc (suc (suc (suc (suc k)))))))) d inside = absurd (omega arith)
 
 -- each row has one word
 one_word : (l : ℕ) → width toggle l ≤ 1
@@ -53,16 +44,16 @@ orders zero e at = subst (HasOrders toggle) (some-injective (edge 1 0 0) e at) (
   from = omega arith;
   into = omega arith;
   apart = λ t. omega (arith, t);
-  there = λ counts agreed. agreed 6 (arc 2 0 0) refl;
-  back = λ counts agreed. agreed 7 (arc 1 2 1) refl;
+  there = λ counts agreed. agreed 6 (arc 2 0 0) (omega arith);
+  back = λ counts agreed. agreed 7 (arc 1 2 1) (omega arith);
 })
 orders (suc zero) e at = subst (HasOrders toggle) (some-injective (edge 0 1 1) e at) (record {
   tokens_few = omega arith;
   from = omega arith;
   into = omega arith;
   apart = λ t. omega (arith, t);
-  there = λ counts agreed. agreed 4 (arc 0 2 1) refl;
-  back = λ counts agreed. agreed 5 (arc 3 0 0) refl;
+  there = λ counts agreed. agreed 4 (arc 0 2 1) (omega arith);
+  back = λ counts agreed. agreed 5 (arc 3 0 0) (omega arith);
 })
 orders (suc (suc k)) e at = absurd (some-ne-none e (sym at))
 

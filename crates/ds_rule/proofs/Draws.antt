@@ -12,7 +12,8 @@ use native.Mathlib.Decide.{ℕ_discrete}
 use Rattle.std.proofs.lemmas.List.{append-nil}
 use Rattle.atomic_table.specs.Table.{step, keeps}
 use Rattle.atomic_table.specs.Table.{Allows}
-use Rattle.ds_rule.specs.Run.{Run, node_of, next, turns, count}
+use Rattle.ds_marked.specs.declared.marked.Arc.{Arc}
+use Rattle.ds_rule.specs.Run.{Run, graph, node_of, next, turns, count}
 use Rattle.ds_rule.specs.Words.{place}
 use Rattle.ds_rule.specs.Log.{times, places, visits, IsLegalList, InTurn}
 use Rattle.ds_rule.specs.Rule.{shown, tickets, seen, event, Fits}
@@ -21,6 +22,7 @@ use Rattle.ds_rule.specs.Plays.{Sat, after_draw}
 use Rattle.ds_rule.specs.Plays.{drew}
 use Rattle.ds_rule.specs.declared.view.View.{View}
 use Rattle.ds_rule.proofs.EventLaws.{node-next, turns_up}
+use Rattle.ds_rule.proofs.GraphLaws.{enabled_at, consistent_same}
 use Rattle.ds_rule.proofs.PlaceLaws.{place_behind, counts_inside}
 use Rattle.ds_rule.proofs.LogCounts.{visits-here, visits-else, places-here, places-else, times-turns}
 use Rattle.ds_rule.proofs.LogCounts.{log_most}
@@ -51,16 +53,16 @@ draws run n id m live phase s o wide me _ =
     ∙ ap (turns run E) many' in
     let legal : IsLegalList run log = (
       o.legal,
-      omega (arith, stood, up.2.0),
-      (λ k a at into. let u : ℕ = node_of run a.source in let n' = (o.sound.named k a at).0 in
+      enabled_at (graph run) run.limit (count run (seen v)) (λ x. times x o.log) E stood
+          (λ k d near into. let a : Arc = get_or run.arcs k d in let u : ℕ = node_of run a.source in
+          let inside = (o.sound.named k d near).0 in
           omega (
             arith,
-            stood,
-            up.2.1 k a at into,
             times-turns run a.source o.log o.in_turn,
             turns_up run a.source (seen v u) (visits run u o.log)
-                (le_trans (f.known u n') (o.behind u n')),
-          )),
+                (le_trans (f.known u inside) (o.behind u inside)),
+          ))
+          up.2,
     ) in
     let in_turn : InTurn run log = (
       o.in_turn,
@@ -124,15 +126,9 @@ draws run n id m live phase s o wide me _ =
             most,
           ))
           legal
-          in_turn (
-            (λ k a at. omega (
-              arith,
-              o.consistent.0 k a at,
-              ap (turns run a.target) (same (node_of run a.target)),
-              ap (turns run a.source) (same (node_of run a.source)),
-            )),
-            λ e h. omega (arith, ap (turns run e) (same (node_of run e)), o.consistent.1 e h),
-          )
+          in_turn
+          (consistent_same run o.sound (count run (shown s.words)) (count run (shown ws))
+          (λ e h. ap (turns run e) (same (node_of run e))) o.consistent)
           (λ x h. omega (arith, same x, o.behind x h, rises x))
           mine
           (λ j u other g. later ws log g (λ x h. same x)

@@ -8,7 +8,6 @@ use Rattle.ds_marked.specs.declared.marked.Arc.{Arc}
 use Rattle.ds_rule.specs.Log.{times, firings}
 use Rattle.ds_rule.specs.Laws.{LogsAreLegal}
 use Rattle.ds_rule.proofs.EventLaws.{event_below}
-use Rattle.ds_rule.proofs.GetElemLemmas.{at_or}
 use Rattle.ds_rule.proofs.LogCounts.{times-here, times-else}
 
 -- one event more behind a list
@@ -41,11 +40,11 @@ logs_are_legal g run is (x ∷ xs) legal turn =
     let inside : x < length g.events = omega (arith, is.events_are, event_below run x is.among turn.1) in
     let on : IsEnabled g run.limit count x = record {
       event = inside;
-      below = omega (arith, before.1 x, legal.1);
+      below = omega (arith, before.1 x, legal.1.below);
       ready = subst (All (λ arc. arc.target ≡ x → count x + 1 ≤ count arc.source + arc.tokens))
           (sym is.arcs_are)
           (λ k d near into. let a : Arc = get_or run.arcs k d in
-          omega (arith, before.1 x, before.1 a.source, legal.2 k a (at_or run.arcs k d near) into));
+          omega (arith, before.1 x, before.1 a.source, legal.1.ready k d near into));
     } in (
       legal_push g run.limit (λ _. 0) (firings xs) x before.0 on,
       λ e. counts-push (λ _. 0) (firings xs) x e ∙ counted-times count e x xs (before.1 e),

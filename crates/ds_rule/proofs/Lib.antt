@@ -1,6 +1,7 @@
 -- Laws of the definitions, then the steps that keep the rule, then what follows from it.
 pub mod GetElemLemmas
 pub mod EventLaws
+pub mod GraphLaws
 pub mod PlaceLaws
 pub mod LogCounts
 pub mod PassAtRest

@@ -73,7 +73,7 @@ visits_most run l [] h t = omega arith
 visits_most run l (x ∷ xs) h t = dite (ℕ_discrete (node_of run x) l)
     (λ n. let f : ℕ = visits run (node_of run x) xs in
     let below : turns run (next run (node_of run x) f) f < run.limit =
-    omega (arith, h.1, times-turns run x xs t.0, ap (λ (y : ℕ). turns run y f) t.2) in
+    omega (arith, h.1.below, times-turns run x xs t.0, ap (λ (y : ℕ). turns run y f) t.2) in
     omega (
       arith,
       visits-here run l x xs n,

@@ -7,25 +7,26 @@ use Rattle.std.proofs.Common.{le_refl, le_of_eq, length-set, get_or-set_other}
 use Rattle.std.proofs.Common.{get_or-set_same}
 use Rattle.std.proofs.Common.{eq-eqb, ne_eqb}
 use mathlib.Core.Logic.{dite}
-use mathlib.Core.Option.{none, some}
+use mathlib.Core.Option.{none}
 use native.Mathlib.Decide.{ℕ_discrete}
-use lib.ListN.{get_elem?}
 use Rattle.std.proofs.lemmas.List.{append-nil}
 use Rattle.atomic_table.specs.Table.{step, Act, keeps, Valid, carried_after, stepped}
 use Rattle.atomic_table.specs.Table.{Allows}
-use Rattle.ds_rule.specs.Run.{Run, node_of, turns, opens, opened, count}
+use Rattle.ds_marked.specs.Graph.{counted}
+use Rattle.ds_marked.proofs.CountLemmas.{counted-same, counted-other}
+use Rattle.ds_rule.specs.Run.{Run, graph, node_of, turns, opens, opened, count}
 use Rattle.ds_rule.specs.Words.{width, place}
 use Rattle.ds_rule.specs.Log.{visits}
 use Rattle.ds_rule.specs.Rule.{shown, tickets, seen, event, pending, ahead, version, Fits}
 use Rattle.ds_rule.specs.Rule.{Lawful}
 use Rattle.ds_rule.specs.Plays.{Sat, after_publish}
 use Rattle.ds_rule.specs.Plays.{published}
-use Rattle.ds_marked.specs.declared.marked.Arc.{Arc}
 use Rattle.ds_rule.specs.declared.view.View.{View}
 use Rattle.ds_rule.proofs.GetElemLemmas.{by_bool}
-use Rattle.ds_rule.proofs.EventLaws.{node-next, turns-next, turns-other, turns_up}
+use Rattle.ds_rule.proofs.EventLaws.{node-next, turns-next, turns-other}
 use Rattle.ds_rule.proofs.EventLaws.{event_below}
 use Rattle.ds_rule.proofs.EventLaws.{opened-opens, opened-else}
+use Rattle.ds_rule.proofs.GraphLaws.{consistent_same, consistent_kept, flight_enabled}
 use Rattle.ds_rule.proofs.PlaceLaws.{place_behind, counts_inside}
 use Rattle.ds_rule.proofs.PassAtRest.{version-old, version-new}
 use Rattle.ds_rule.proofs.StepKeepsRule.{later, renewed, disjoint_holdings}
@@ -138,58 +139,32 @@ publishes run n id m i new at-node more live phase whole s o wide me _ =
       no_clash = f.no_clash;
     } in
     let once-more : turns run E (F + 1) ≡ turns run E F + 1 = turns-next run l F in
-    let had : count run (seen v) E ≡ turns run E F = ap (λ (x : ℕ). turns run E (seen v x)) of-l in
-    let rise : (e : ℕ) → count run (shown s.words) e ≤ count run (shown ws) e =
-    λ e. turns_up run e (shown s.words (node_of run e)) (shown ws (node_of run e))
-    (rises (node_of run e)) in
-    let agrees : (k : ℕ) (a : Arc) → get_elem? run.arcs k ≡ some a
-    → count run (shown ws) a.target ≤ count run (shown ws) a.source + a.tokens = λ k a at.
-    let t : ℕ = node_of run a.target in let u : ℕ = node_of run a.source in
-    dite (ℕ_discrete t l)
-    (λ e. dite (ℕ_discrete a.target E)
-    (λ into. omega (
+    -- the counts of the events, with one firing more
+    let counts : (e : ℕ) → count run (shown ws) e ≡ counted E (count run (shown s.words)) e =
+    λ e. dite (ℕ_discrete e E)
+    (λ is. let x : ℕ = node_of run e in let at-l : x ≡ l = ap (node_of run) is ∙ of-l in omega (
       arith,
-      ap (turns run a.target) (here t e),
-      ap (λ y. turns run y (F + 1)) into,
+      counted-same E e (count run (shown s.words)) is,
+      ap (turns run e) (here x at-l),
+      ap (turns run e) (ap (shown s.words) at-l ∙ was),
+      ap (λ (y : ℕ). turns run y (F + 1)) is,
+      ap (λ (y : ℕ). turns run y F) is,
       once-more,
-      had,
-      up.2.1 k a at into,
-      turns_up run a.source (seen v u) (shown s.words u) (f.known u (o.sound.named k a at).0),
-      rise a.source,
     ))
-    (λ apart-from. omega (
+    (λ far. let x : ℕ = node_of run e in
+    dite (ℕ_discrete x l)
+    (λ at-l. omega (
       arith,
-      ap (turns run a.target) (here t e),
-      turns-other run a.target l F e apart-from,
-      ap (turns run a.target) (ap (shown s.words) e ∙ was),
-      o.consistent.0 k a at,
-      rise a.source,
-    )))
-    (λ e. omega (
-      arith,
-      ap (turns run a.target) (same t e),
-      o.consistent.0 k a at,
-      rise a.source,
-    )) in
-    let within : (e : ℕ) → node_of run e < run.nodes → count run (shown ws) e ≤ run.limit = λ e h.
-    dite (ℕ_discrete (node_of run e) l)
-    (λ is. dite (ℕ_discrete e E)
-    (λ into. omega (
-      arith,
-      ap (turns run e) (here (node_of run e) is),
-      ap (λ y. turns run y (F + 1)) into,
-      once-more,
-      had,
-      up.2.0,
+      counted-other E e (count run (shown s.words)) far,
+      ap (turns run e) (here x at-l),
+      turns-other run e l F at-l far,
+      ap (turns run e) (ap (shown s.words) at-l ∙ was),
     ))
-    (λ apart-from. omega (
+    (λ off. omega (
       arith,
-      ap (turns run e) (here (node_of run e) is),
-      turns-other run e l F is apart-from,
-      ap (turns run e) (ap (shown s.words) is ∙ was),
-      o.consistent.1 e h,
-    )))
-    (λ is. omega (arith, ap (turns run e) (same (node_of run e) is), o.consistent.1 e h)) in
+      counted-other E e (count run (shown s.words)) far,
+      ap (turns run e) (same x off),
+    ))) in
     subst P (sym at-node) (
       w,
       keeps,
@@ -198,7 +173,10 @@ publishes run n id m i new at-node more live phase whole s o wide me _ =
           (get_or-set_other s.words (l + 1) 0 new 0 (λ e. omega arith) ∙ o.next_ticket)
           o.legal
           o.in_turn
-          (agrees, within)
+          (consistent_same run o.sound (counted E (count run (shown s.words)))
+          (count run (shown ws)) (λ e h. counts e)
+          (consistent_kept (graph run) run.limit (count run (shown s.words)) E
+          (flight_enabled run s o id v me live (omega arith)) o.consistent))
           (λ x h. dite (ℕ_discrete x l) (λ e. omega (
             arith,
             here x e,

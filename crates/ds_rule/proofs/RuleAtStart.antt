@@ -15,6 +15,7 @@ use Rattle.ds_rule.specs.declared.view.View.{View}
 use Rattle.ds_rule.proofs.GetElemLemmas.{replicate-default, only_item, held_inside}
 use Rattle.ds_rule.proofs.EventLaws.{turns-none}
 use Rattle.ds_rule.proofs.EventLaws.{opened-none}
+use Rattle.ds_rule.proofs.GraphLaws.{node_there}
 use Rattle.ds_rule.proofs.PassAtRest.{Resting, to_rest}
 
 -- the table at the start: no ticket is drawn, and one pass holds all nodes
@@ -58,10 +59,13 @@ starts run ws sound wide zeros firsts =
       next_ticket = zeros 0 (omega arith);
       legal = tt;
       in_turn = tt;
-      consistent = (
-        (λ k a at. omega (arith, counts a.target (sound.named k a at).1)),
-        λ e h. omega (arith, counts e h),
-      );
+      consistent = record {
+        agrees = λ k d near. omega (
+          arith,
+          counts (get_or run.arcs k d).target (sound.named k d near).1,
+        );
+        within = λ e inside. omega (arith, counts e (node_there run e sound.among inside));
+      };
       behind = λ x h. omega (arith, zero-at x h);
       held = λ x h. (v, refl, refl, get_or-replicate run.nodes x true false h);
       views = λ j u at lives. let t = only_item v u j at in

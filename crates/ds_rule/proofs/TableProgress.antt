@@ -1,71 +1,50 @@
--- Until every event has fired as often as it may, some event is enabled.
-use Rattle.std.proofs.Common.{◌≡◌, ℕ, zero, suc, ◌+◌, ◌-◌, ◌*◌, ◌/◌, ◌%◌, ◌<◌, ◌≤◌, ◌≢◌, ◌⊎◌}
-use Rattle.std.proofs.Common.{⊎_elim, sym, refl, ap, ◌∙◌, subst, arith, nat_lt, eqb, cond}
-use Rattle.std.proofs.Common.{eq-eqb, ne_eqb, lt-ltb, le-ltb}
+-- Until every event has fired as often as it may, the next event of some node is enabled.
+use Rattle.std.proofs.Common.{◌≡◌, ℕ, zero, suc, ◌+◌, ◌-◌, ◌*◌, ◌/◌, ◌%◌, ◌<◌, ◌≤◌, List, [], ◌∷◌, All}
+use Rattle.std.proofs.Common.{get_or, sym, ap, ◌∙◌, subst, arith, inl, inr}
+use Rattle.std.proofs.lemmas.Bool.{cases_eq, cases_lt}
 use mathlib.Core.Logic.{dite}
 use native.Mathlib.Decide.{ℕ_discrete, dec_lt}
-use Rattle.ds_rule.specs.Run.{Run, node_of, next, turns, opening, closing, count, Enabled}
-use Rattle.ds_rule.specs.Sound.{IsSound, Agreed}
+use Rattle.ds_marked.specs.Graph.{Graph, Agrees, IsEnabled, IsLegalFrom, counted, counts_after}
+use Rattle.ds_marked.proofs.CountLemmas.{agrees_kept, counted-same, counted-other}
+use Rattle.ds_marked.proofs.Progress.{reachability}
+use Rattle.ds_rule.specs.Run.{Run, graph, node_of, next, turns, opening, closing, count, Enabled}
+use Rattle.ds_rule.specs.Sound.{IsSound}
 use Rattle.ds_rule.specs.Progress.{IsRunAccepted, Stuck}
 use Rattle.ds_rule.proofs.EventLaws.{node-low, node-high, next-low, next-high, turns-low}
 use Rattle.ds_rule.proofs.EventLaws.{opening-is, closing-is, node-opening, node-closing}
+use Rattle.ds_rule.proofs.GraphLaws.{event_there, node_there}
 
--- 1 for each event below the closing of a latch in the numbering, and for the closing
-abbrev mark : (ℕ → ℕ) → ℕ → ℕ → ℕ
-mark rank l x = cond (nat_lt (rank x) (rank (closing l))) 1 (cond (eqb x (closing l)) 1 0)
+-- the first firing of a legal list that these counts do not have, and the counts before it
+record Missing (g : Graph) (limit : ℕ) (count : ℕ → ℕ) : Type 0 where
+  event : ℕ
+  before : ℕ → ℕ
+  agrees : All (Agrees before) g.arcs
+  enabled : IsEnabled g limit before event
+  most : (e : ℕ) → before e ≤ count e
+  last : count event ≤ before event
 
-mark-low : (rank : ℕ → ℕ) (l x : ℕ) → rank x < rank (closing l) → mark rank l x ≡ 1
-mark-low rank l x h = ap {B = ℕ} (λ b. cond b 1 (cond (eqb x (closing l)) 1 0))
-    (lt-ltb (rank x) (rank (closing l)) h)
-
-mark-high : (rank : ℕ → ℕ) (l x : ℕ) → rank (closing l) ≤ rank x
-    → mark rank l x ≡ cond (eqb x (closing l)) 1 0
-mark-high rank l x h = ap {B = ℕ} (λ b. cond b 1 (cond (eqb x (closing l)) 1 0))
-    (le-ltb (rank x) (rank (closing l)) h)
-
-mark_few : (rank : ℕ → ℕ) (l x : ℕ) → mark rank l x ≤ 1
-mark_few rank l x = dite (dec_lt (rank x) (rank (closing l)))
-    (λ low. omega (arith, mark-low rank l x low))
-    (λ high. dite (ℕ_discrete x (closing l))
-    (λ is. omega (
-      arith,
-      mark-high rank l x (omega arith),
-      ap {B = ℕ} (λ b. cond b 1 0) (eq-eqb x (closing l) is),
-    ))
-    (λ far. omega (
-      arith,
-      mark-high rank l x (omega arith),
-      ap {B = ℕ} (λ b. cond b 1 0) (ne_eqb x (closing l) far),
-    )))
-
--- they agree with each arc, since the numbering rises along arcs without tokens
-mark_agrees : (run : Run) (ok : IsRunAccepted run) (l : ℕ) → Agreed run (mark ok.rank l)
-mark_agrees run ok l k a at = let R : ℕ = ok.rank (closing l) in
-    dite (dec_lt (ok.rank a.source) R)
-    (λ low. omega (arith, mark-low ok.rank l a.source low, mark_few ok.rank l a.target))
-    (λ high. dite (ℕ_discrete a.tokens 0)
-    (λ none. let up = ok.rises k a at none in
-    omega (
-      arith,
-      mark-high ok.rank l a.target (omega arith),
-      ap {B = ℕ} (λ b. cond b 1 0)
-          (ne_eqb a.target (closing l) (λ t. omega (arith, ap ok.rank t))),
-    ))
-    (λ some-token. omega (arith, mark_few ok.rank l a.target)))
-
--- a latch opens before it closes in the numbering
-opens_first : (run : Run) (ok : IsRunAccepted run) (l : ℕ) → l < run.latches
-    → ok.rank (opening l) < ok.rank (closing l)
-opens_first run ok l low = dite (dec_lt (ok.rank (opening l)) (ok.rank (closing l))) (λ h. h)
-    (λ high. absurd (omega (
-      arith,
-      ok.closes l low (mark ok.rank l) (mark_agrees run ok l),
-      mark-high ok.rank l (closing l) (Rattle.std.proofs.Common.le_refl (ok.rank (closing l))),
-      ap {B = ℕ} (λ b. cond b 1 0) (eq-eqb (closing l) (closing l) refl),
-      mark-high ok.rank l (opening l) (omega arith),
-      ap {B = ℕ} (λ b. cond b 1 0) (ne_eqb (opening l) (closing l)
-          (λ t. omega (arith, t, opening-is l, closing-is l))),
-    )))
+missing : (g : Graph) (limit : ℕ) (count now : ℕ → ℕ) (events : List ℕ)
+    → IsLegalFrom g limit now events → All (Agrees now) g.arcs → ((e : ℕ) → now e ≤ count e)
+    → (e : ℕ) → count e < counts_after now events e → Missing g limit count
+missing g limit count now [] legal agrees most e less = absurd (omega (arith, most e))
+missing g limit count now (v ∷ events) (on, legal) agrees most e less =
+    elim (cases_lt (now v) (count v)) [
+      | inl low ↦ missing g limit count (counted v now) events legal
+          (agrees_kept g limit now v on agrees)
+          (λ u. elim (cases_eq u v) [
+            | inl here ↦ omega (arith, counted-same v u now here, ap now here, ap count here)
+            | inr far ↦ omega (arith, counted-other v u now far, most u)
+          ])
+          e less
+      | inr high ↦ record {
+        event = v;
+        before = now;
+        agrees = agrees;
+        enabled = on;
+        most = most;
+        last = high;
+      }
+    ]
 
 -- an event is the next of its node where the node closed no less often, and if it is the closing
 -- opened once more
@@ -95,50 +74,66 @@ own_turn run fired e closed opened = let l : ℕ = node_of run e in let f : ℕ 
     (λ high. let h = node-high run e (omega arith) in
     omega (arith, next-high run l f (omega arith)))
 
--- counts of m everywhere, and stuck: then m + 1 everywhere, by the numbering
-by_rank : (run : Run) (sound : IsSound run) (ok : IsRunAccepted run) (fired : ℕ → ℕ) (m : ℕ)
-    → m < run.limit → ((l : ℕ) → l < run.nodes → Stuck run fired l)
-    → ((e : ℕ) → node_of run e < run.nodes → m ≤ count run fired e) → (r e : ℕ)
-    → node_of run e < run.nodes → ok.rank e < r → m + 1 ≤ count run fired e
-by_rank run sound ok fired m below stuck all zero e near low = absurd (omega arith)
-by_rank run sound ok fired m below stuck all (suc r) e near low =
-    dite (dec_lt m (count run fired e)) (λ more. omega arith) (λ not-more.
-    let is : count run fired e ≡ m = omega (arith, all e near) in
-    let on : Enabled run fired e = (
-      omega arith,
-      (λ k a at into. dite (ℕ_discrete a.tokens 0)
-          (λ none. let up : ok.rank a.source < ok.rank e =
-          subst (λ (y : ℕ). ok.rank a.source < ok.rank y) into (ok.rises k a at none) in
-          omega (
-            arith,
-            by_rank run sound ok fired m below stuck all r a.source
-                (sound.named k a at).0 (omega arith),
-          ))
-          (λ some-token. omega (arith, all a.source (sound.named k a at).0))),
-    ) in
-    let l : ℕ = node_of run e in
-    let same : e ≡ next run l (fired l) = own_turn run fired e
-    (λ low-l. omega (arith, all (closing l) (omega (arith, node-closing run l low-l))))
-    (λ low-l closes. omega (
-      arith,
-      by_rank run sound ok fired m below stuck all r (opening l)
-          (omega (arith, node-opening run l low-l))
-          (omega (arith, opens_first run ok l low-l, ap ok.rank closes)),
-    )) in
-    ⊎_elim (λ off. absurd (off (subst (Enabled run fired) same on)))
-    (λ done. absurd (omega (arith, done, ap (λ (x : ℕ). turns run x (fired l)) same)))
-    (stuck l near))
+-- what is enabled and the next event of its node
+next_enabled : (run : Run) (fired : ℕ → ℕ) (v : ℕ) → node_of run v < run.nodes
+    → v ≡ next run (node_of run v) (fired (node_of run v)) → Enabled run fired v
+    → (l : ℕ) × (l < run.nodes) × Enabled run fired (next run l (fired l))
+next_enabled run fired v near is on = (node_of run v, near, subst (Enabled run fired) is on)
 
-counts_reach : (run : Run) (sound : IsSound run) (ok : IsRunAccepted run) (fired : ℕ → ℕ)
+-- where each event has fired m times, and one of them no more, the next event of some node is
+-- enabled: the first one of a legal list of m + 1 turns that has not fired
+some_enabled : (run : Run) → IsSound run → IsRunAccepted run → (fired : ℕ → ℕ) (m : ℕ)
+    → m < run.limit → ((e : ℕ) → node_of run e < run.nodes → m ≤ count run fired e) → (e : ℕ)
+    → node_of run e < run.nodes → count run fired e ≤ m
+    → (l : ℕ) × (l < run.nodes) × Enabled run fired (next run l (fired l))
+some_enabled run sound ok fired m below all e near least =
+    let g : Graph = graph run in let counts : ℕ → ℕ = count run fired in
+    let (events, legal, full) = reachability g ok.live (m + 1) (λ _. m + 1)
+    (record { agrees = λ k d inside. omega arith; within = λ v inside. omega arith }) in
+    let f : Missing g (m + 1) counts = missing g (m + 1) counts (λ _. 0) events legal
+    (λ k d inside. omega arith) (λ v. omega arith) e
+    (omega (arith, full e (event_there run e sound.among near))) in
+    let v : ℕ = f.event in let l : ℕ = node_of run v in
+    let near-l : l < run.nodes = node_there run v sound.among f.enabled.event in
+    let is : counts v ≡ m = omega (arith, f.last, f.enabled.below, all v near-l) in
+    let on : Enabled run fired v = record {
+      event = f.enabled.event;
+      below = omega arith;
+      ready = λ k d inside into. omega (
+        arith,
+        f.last,
+        f.enabled.ready k d inside into,
+        f.most (get_or run.arcs k d).source,
+      );
+    } in
+    let due : v ≡ next run l (fired l) = own_turn run fired v
+    (λ low. omega (arith, all (closing l) (omega (arith, node-closing run l low))))
+    (λ low closes. omega (
+      arith,
+      ok.closes l low (counted v f.before) (agrees_kept g (m + 1) f.before v f.enabled f.agrees),
+      counted-same v (closing l) f.before (sym closes),
+      counted-other v (opening l) f.before
+          (λ t. omega (arith, t, closes, opening-is l, closing-is l)),
+      ap f.before closes,
+      f.last,
+      f.most (opening l),
+    )) in
+    next_enabled run fired v near-l due on
+
+-- where every node is stuck, every event has fired as often as it may
+counts_reach : (run : Run) → IsSound run → IsRunAccepted run → (fired : ℕ → ℕ)
     → ((l : ℕ) → l < run.nodes → Stuck run fired l) → (m : ℕ) → m ≤ run.limit
     → (e : ℕ) → node_of run e < run.nodes → m ≤ count run fired e
 counts_reach run sound ok fired stuck zero h e near = omega arith
-counts_reach run sound ok fired stuck (suc m) h e near = let more =
-    by_rank run sound ok fired m (omega arith) stuck
-    (counts_reach run sound ok fired stuck m (omega arith)) (suc (ok.rank e)) e near
-    (omega arith) in omega arith
+counts_reach run sound ok fired stuck (suc m) h e near =
+    elim (cases_lt m (count run fired e)) [
+      | inl more ↦ omega arith
+      | inr least ↦
+          (let (l, near-l, on) = some_enabled run sound ok fired m (omega arith)
+          (counts_reach run sound ok fired stuck m (omega arith)) e near least in
+          absurd (stuck l near-l on))
+    ]
 
--- where every node is stuck, every event has fired as often as it may
 pub all_done : (run : Run) → IsSound run → IsRunAccepted run → (fired : ℕ → ℕ)
     → ((l : ℕ) → l < run.nodes → Stuck run fired l) → (e : ℕ) → node_of run e < run.nodes
     → run.limit ≤ count run fired e

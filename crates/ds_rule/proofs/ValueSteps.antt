@@ -1,6 +1,5 @@
 -- The two steps on value words. No word that is being read is being written.
 use Rattle.std.proofs.Common.{◌≡◌, ◌≢◌, ℕ, ◌+◌, ◌-◌, ◌<◌, ◌≤◌, true, List, length, get_or, set}
-use Rattle.std.proofs.Common.{eqb, cond, eq-eqb, ne_eqb}
 use Rattle.std.proofs.Common.{sym, refl, ap, ◌∙◌, subst, arith, le_refl, le_of_eq, length-set}
 use Rattle.std.proofs.Common.{get_or-set_other, get_or-set_same}
 use mathlib.Core.Logic.{dite}
@@ -8,16 +7,19 @@ use mathlib.Core.Option.{none, some}
 use native.Mathlib.Decide.{ℕ_discrete, dec_lt}
 use lib.ListN.{get_elem?}
 use Rattle.atomic_table.specs.Table.{step, keeps, Allows}
-use Rattle.ds_rule.specs.Run.{Run, node_of, turns, opens, opening, closing, opened, count}
+use Rattle.ds_marked.specs.Graph.{counted}
+use Rattle.ds_marked.proofs.CountLemmas.{agrees_kept, counted-same, counted-other}
+use Rattle.ds_rule.specs.Run.{Run, graph, node_of, turns, opens, opening, closing, opened, count}
 use Rattle.ds_rule.specs.Words.{width, place, value}
-use Rattle.ds_rule.specs.Sound.{Agreed, HasOrder}
+use Rattle.ds_rule.specs.Sound.{HasOrder}
 use Rattle.ds_rule.specs.Rule.{shown, seen, event, version, Fits, Lawful}
 use Rattle.ds_rule.specs.Plays.{Sat, read, wrote, after_write}
 use Rattle.ds_rule.specs.declared.layout.DataEdge.{DataEdge}
 use Rattle.ds_rule.specs.declared.view.View.{View}
-use Rattle.ds_rule.proofs.EventLaws.{node-next, turns_up, next-opens, node-opening}
+use Rattle.ds_rule.proofs.EventLaws.{next-opens, node-opening}
 use Rattle.ds_rule.proofs.EventLaws.{node-closing, turns-opening, turns-closing, opening-is}
 use Rattle.ds_rule.proofs.EventLaws.{closing-is}
+use Rattle.ds_rule.proofs.GraphLaws.{flight_enabled, consistent_same}
 use Rattle.ds_rule.proofs.PlaceLaws.{place_behind, place_inside, places_apart}
 use Rattle.ds_rule.proofs.PassAtRest.{St, inside, version-old, version-new}
 use Rattle.ds_rule.proofs.StepKeepsRule.{unmoved, renewed, later}
@@ -34,57 +36,20 @@ count-closing : (run : Run) (fired : ℕ → ℕ) (e l : ℕ) → e ≡ closing 
 count-closing run fired e l is low = ap (count run fired) is
     ∙ ap (λ (m : ℕ). turns run (closing l) (fired m)) (node-closing run l low)
 
--- the counts that the words show, and one more of the event in flight
-abbrev and_flight : Run → List ℕ → View → ℕ → ℕ
-and_flight run words v x = count run (shown words) x + cond (eqb x (event run v)) 1 0
-
-flight-other : (run : Run) (words : List ℕ) (v : View) (x : ℕ) → x ≢ event run v
-    → and_flight run words v x ≡ count run (shown words) x
-flight-other run words v x far = ap {B = ℕ} (λ b. count run (shown words) x + cond b 1 0)
-    (ne_eqb x (event run v) far) ∙ omega arith
-
-flight-here : (run : Run) (words : List ℕ) (v : View) (x : ℕ) → x ≡ event run v
-    → and_flight run words v x ≡ count run (shown words) x + 1
-flight-here run words v x is = ap {B = ℕ} (λ b. count run (shown words) x + cond b 1 0)
-    (eq-eqb x (event run v) is)
-
--- what is in flight is counted once more, and the counts still agree with each arc
-in_flight_agrees : (run : Run) (s : St) (o : Lawful run s) (id : ℕ) (v : View)
-    → get_elem? s.views id ≡ some v → v.live ≡ true → 0 < v.phase
-    → Agreed run (and_flight run s.words v)
-in_flight_agrees run s o id v me live flying k a at =
-    let f = o.views id v me live in let up = f.flies flying in let E : ℕ = event run v in
-    let more : count run (shown s.words) a.source ≤ and_flight run s.words v a.source =
-    omega arith in
-    dite (ℕ_discrete a.target E)
-    (λ into. let of-node : node_of run E ≡ v.node = node-next run v.node (seen v v.node) in
-    let here : count run (shown s.words) a.target ≡ count run (seen v) E =
-    ap (count run (shown s.words)) into
-    ∙ ap (turns run E) (ap (shown s.words) of-node
-    ∙ (f.counted v.node up.0 ∙ ap (seen v) (sym of-node))) in
-    omega (
-      arith,
-      flight-here run s.words v a.target into,
-      here,
-      up.2.1 k a at into,
-      turns_up run a.source (seen v (node_of run a.source)) (shown s.words (node_of run a.source))
-          (f.known (node_of run a.source) (o.sound.named k a at).0),
-      more,
-    ))
-    (λ far. omega (arith, flight-other run s.words v a.target far, o.consistent.0 k a at, more))
-
--- so an order into the event in flight is met with one firing to spare
+-- what is in flight is counted once more, and an order into it is met with one firing to spare
 flight_meets : (run : Run) (s : St) (o : Lawful run s) (id : ℕ) (v : View)
     → get_elem? s.views id ≡ some v → v.live ≡ true → 0 < v.phase
     → (source target tokens : ℕ) → HasOrder run source target tokens → target ≡ event run v
     → source ≢ event run v
     → count run (shown s.words) target + 1 ≤ count run (shown s.words) source + tokens
-flight_meets run s o id v me live flying source target tokens order is far = omega (
-  arith,
-  order (and_flight run s.words v) (in_flight_agrees run s o id v me live flying),
-  flight-here run s.words v target is,
-  flight-other run s.words v source far,
-)
+flight_meets run s o id v me live flying source target tokens order is far =
+    let E : ℕ = event run v in let counts : ℕ → ℕ = count run (shown s.words) in omega (
+      arith,
+      order (counted E counts) (agrees_kept (graph run) run.limit counts E
+          (flight_enabled run s o id v me live flying) o.consistent.agrees),
+      counted-same E target counts is,
+      counted-other E source counts far,
+    )
 
 -- the heart of the rule: what stands in a producer's words while its consumer is in flight with an
 -- opening
@@ -125,7 +90,7 @@ stands run s o id v me live flying begins k e i at consumer near =
     ) in
     -- the order back agrees
     let agrees : P ≤ n + run.slack =
-    omega (arith, d.back counts o.consistent.0, opens-p, closes-c, d.tokens_few) in
+    omega (arith, d.back counts o.consistent.agrees, opens-p, closes-c, d.tokens_few) in
     -- and so it does where the producer is in flight with its next opening
     let bounds : (n ≤ version run u p i) × (version run u p i ≤ n + run.slack) =
     dite (ℕ_discrete u.node p)
@@ -240,15 +205,9 @@ writes run n id m j new live flying begins small is value-is s o wide me _ =
       renewed run s o id v w ws o.log me live (λ x. refl) (length-set s.words j new)
           (get_or-set_other s.words j 0 new 0 (λ e. omega (arith, place_behind run c N v.written))
           ∙ o.next_ticket)
-          o.legal o.in_turn (
-            (λ k a at. omega (
-              arith,
-              o.consistent.0 k a at,
-              same-counts a.target (o.sound.named k a at).1,
-              same-counts a.source (o.sound.named k a at).0,
-            )),
-            λ e h. omega (arith, same-counts e h, o.consistent.1 e h),
-          )
+          o.legal o.in_turn
+          (consistent_same run o.sound (count run (shown s.words)) (count run (shown ws))
+          same-counts o.consistent)
           (λ x h. omega (arith, counts x h, o.behind x h))
           mine
           (λ j' u other g. later ws o.log g (λ x h. counts x (inside g x h)) (λ x h. refl)

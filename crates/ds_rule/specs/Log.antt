@@ -1,9 +1,7 @@
 -- Logs: the events that drew tickets, latest first. Ticket t is the entry with t entries behind it.
-use Rattle.std.specs.Prelude.{◌≡◌, ℕ, ◌+◌, ◌<◌, ◌≤◌, List, [], ◌∷◌, ◌++◌, length, cond, ◌==◌}
-use mathlib.Core.Option.{some}
-use lib.ListN.{get_elem?}
-use Rattle.ds_rule.specs.Run.{Run, node_of, next}
-use Rattle.ds_marked.specs.declared.marked.Arc.{Arc}
+use Rattle.std.specs.Prelude.{◌≡◌, ℕ, ◌+◌, ◌<◌, List, [], ◌∷◌, ◌++◌, length, cond, ◌==◌}
+use Rattle.ds_marked.specs.Graph.{IsEnabled}
+use Rattle.ds_rule.specs.Run.{Run, graph, node_of, next}
 
 -- how often an event stands in a log
 abbrev pub times : ℕ → List ℕ → ℕ
@@ -23,9 +21,8 @@ visits run l (x ∷ xs) = visits run l xs + cond (node_of run x == l) 1 0
 -- each entry was enabled at the counts of those before it
 abbrev pub IsLegalList : Run → List ℕ → Type 0
 IsLegalList run [] = Unit {0}
-IsLegalList run (e ∷ es) = IsLegalList run es × (times e es < run.limit)
-    × ((k : ℕ) (a : Arc) → get_elem? run.arcs k ≡ some a → a.target ≡ e
-    → times e es + 1 ≤ times a.source es + a.tokens)
+IsLegalList run (e ∷ es) =
+    IsLegalList run es × IsEnabled (graph run) run.limit (λ x. times x es) e
 
 -- each entry is the next event of its node
 abbrev pub InTurn : Run → List ℕ → Type 0

@@ -1,11 +1,12 @@
 -- What a run is of: nodes, their events, and the orders between events.
 -- The steps of the rule use these definitions by their laws alone (proofs/EventLaws).
-use Rattle.std.specs.Prelude.{◌≡◌, ℕ, ◌+◌, ◌-◌, ◌*◌, ◌/◌, ◌%◌, ◌<◌, ◌≤◌, Bool, List, [], cond, ◌==◌}
-use Rattle.std.specs.Prelude.{◌&&◌, nat_lt}
-use mathlib.Core.Option.{some}
-use lib.ListN.{get_elem?}
+use Rattle.std.specs.Prelude.{ℕ, ◌+◌, ◌-◌, ◌*◌, ◌/◌, ◌%◌, Bool, List, [], cond, ◌==◌, ◌&&◌, nat_lt}
+use Rattle.std.specs.Prelude.{replicate}
 use Rattle.ds_base.specs.Values.{Row}
+use Rattle.ds_marked.specs.Graph.{Graph, IsEnabled, IsConsistent}
 use Rattle.ds_marked.specs.declared.marked.Arc.{Arc}
+use Rattle.ds_marked.specs.declared.marked.Event.{Event}
+use Rattle.ds_marked.specs.declared.marked.Kind.TheVariants.{Dummy}
 use Rattle.ds_rule.specs.declared.layout.DataEdge.{DataEdge}
 
 -- nodes, their events and their values
@@ -76,16 +77,18 @@ opened run l f = cond (nat_lt l run.latches) ((f + 1) / 2) 0
 abbrev pub count : Run → (ℕ → ℕ) → ℕ → ℕ
 count run fired e = turns run e (fired (node_of run e))
 
--- the event may fire
-abbrev pub Enabled : Run → (ℕ → ℕ) → ℕ → Type 0
-Enabled run fired e =
-    (count run fired e < run.limit)
-    × ((k : ℕ) (a : Arc) → get_elem? run.arcs k ≡ some a → a.target ≡ e
-    → count run fired e + 1 ≤ count run fired a.source + a.tokens)
+-- an event of which its number alone is known
+abbrev pub nameless : Event
+nameless = record { signal = []; kind = Dummy }
 
--- every arc agrees, and no count is above the limit
+-- the marked graph of a run: its events have numbers, and no names
+abbrev pub graph : Run → Graph
+graph run = record { events = replicate (events run) nameless; arcs = run.arcs }
+
+-- the event may fire, where each node has fired so many times
+abbrev pub Enabled : Run → (ℕ → ℕ) → ℕ → Type 0
+Enabled run fired e = IsEnabled (graph run) run.limit (count run fired) e
+
+-- the counts of the events agree with the arcs, and none is above the limit
 abbrev pub Consistent : Run → (ℕ → ℕ) → Type 0
-Consistent run fired =
-    ((k : ℕ) (a : Arc) → get_elem? run.arcs k ≡ some a
-    → count run fired a.target ≤ count run fired a.source + a.tokens)
-    × ((e : ℕ) → node_of run e < run.nodes → count run fired e ≤ run.limit)
+Consistent run fired = IsConsistent (graph run) run.limit (count run fired)

@@ -1,9 +1,9 @@
 -- What a run must meet.
 use Rattle.std.specs.Prelude.{◌≡◌, ◌≢◌, ℕ, ◌+◌, ◌-◌, ◌*◌, ◌<◌, ◌≤◌, length, cond, ◌==◌, zero, suc}
-use Rattle.std.specs.Prelude.{slice_index, slice_index_or}
+use Rattle.std.specs.Prelude.{slice_index, slice_index_or, All}
 use mathlib.Core.Option.{some}
 use lib.ListN.{get_elem?}
-use Rattle.ds_marked.specs.declared.marked.Arc.{Arc}
+use Rattle.ds_marked.specs.Graph.{Agrees}
 use Rattle.ds_rule.specs.declared.layout.DataEdge.{DataEdge}
 use Rattle.ds_rule.specs.Run.{Run, node_of, opening, closing}
 use Rattle.ds_rule.specs.Words.{width, size, node_values}
@@ -20,15 +20,10 @@ read_words run l (suc n) =
     read_words run l n
     + cond ((edge_at run n).consumer == l) (1 + width run (edge_at run n).producer) 0
 
--- counts of events that agree with each arc
-abbrev pub Agreed : Run → (ℕ → ℕ) → Type 0
-Agreed run counts = (k : ℕ) (a : Arc) → get_elem? run.arcs k ≡ some a
-    → counts a.target ≤ counts a.source + a.tokens
-
 -- counts that agree with each arc meet the order between two events
 abbrev pub HasOrder : Run → ℕ → ℕ → ℕ → Type 0
 HasOrder run source target tokens =
-    (counts : ℕ → ℕ) → Agreed run counts → counts target ≤ counts source + tokens
+    (counts : ℕ → ℕ) → All (Agrees counts) run.arcs → counts target ≤ counts source + tokens
 
 -- the orders of a data edge, whose ends are two nodes: the consumer opens after the producer, and
 -- the producer opens again after the consumer closed
@@ -52,8 +47,8 @@ pub record IsSound (run : Run) : Type 0 where
   pub reads : (l : ℕ) → read_words run l (length run.edges) < 9223372036854775808
   pub stores : (l : ℕ) → run.limit * width run l < 9223372036854775808
   -- each arc joins events of nodes
-  pub named : (k : ℕ) (a : Arc) → get_elem? run.arcs k ≡ some a
-      → (node_of run a.source < run.nodes) × (node_of run a.target < run.nodes)
+  pub named : All (λ a. (node_of run a.source < run.nodes) × (node_of run a.target < run.nodes))
+      run.arcs
   -- each node has rows of one length
   pub rows_of_all : length run.lengths ≡ run.nodes
   pub same_length : (l k : ℕ) → l < run.nodes → k ≤ run.limit

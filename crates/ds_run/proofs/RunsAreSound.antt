@@ -3,8 +3,6 @@ use Rattle.std.proofs.Common.{◌≡◌, ℕ, zero, suc, ◌*◌, ◌<◌, ◌�
 use Rattle.std.proofs.lemmas.List.{length-map, length-replicate}
 use Rattle.std.proofs.lemmas.Bool.{cases_eq, cases_lt}
 use Rattle.std.proofs.Math.Nat.{mul-le-mul_right, mul-le-mul_left}
-use mathlib.Core.Option.{some}
-use lib.ListN.{get_elem?}
 use Rattle.ds_base.specs.Values.{Row}
 use Rattle.ds_base.specs.declared.value.Value.TheVariants.{Zero}
 use Rattle.ds_marked.specs.Graph.{Graph, Agrees}
@@ -21,16 +19,17 @@ use Rattle.ds_latch.specs.Numbered.{numbered}
 use Rattle.ds_latch.proofs.OrderTokens.{accepted_controls, edge_differs, edge_tokens, number_below}
 use Rattle.ds_latch.proofs.EventNodes.{node_at}
 use Rattle.ds_latch.proofs.OrdersRise.{edge_nodes, events_long}
-use Rattle.ds_rule.specs.Run.{Run, events, node_of, opening, closing}
+use Rattle.ds_rule.specs.Run.{Run, graph, events, node_of, opening, closing}
 use Rattle.ds_rule.specs.Words.{width, size, node_values as run_values}
-use Rattle.ds_rule.specs.Sound.{Agreed, HasOrder, HasOrders, IsSound, edge_at}
+use Rattle.ds_rule.specs.Sound.{HasOrder, HasOrders, IsSound, edge_at}
 use Rattle.ds_rule.specs.Progress.{IsRunAccepted}
 use Rattle.ds_rule.specs.Laws.{IsGraphOfRun}
 use Rattle.ds_rule.specs.declared.layout.DataEdge.{DataEdge}
-use Rattle.ds_rule.proofs.EventLaws.{events-is, node_below, opening-is, closing-is}
+use Rattle.ds_rule.proofs.EventLaws.{events-is, opening-is, closing-is}
+use Rattle.ds_rule.proofs.GraphLaws.{live_as, events_as, node_there}
 use Rattle.ds_run.specs.Layout.{IsRunOf, Joins}
 use Rattle.ds_run.specs.Laws.{IsRunWithin, RunsAreAccepted, RunsAreSound, RunsHaveGraphs}
-use Rattle.ds_run.proofs.ItemAccess.{all_at, all_from_at}
+use Rattle.ds_run.proofs.ItemAccess.{all_at}
 use Rattle.ds_run.proofs.Sizes.{read_few, width_few, size_few}
 
 few_tokens : (n : Node) → open_tokens n ≤ 1
@@ -48,10 +47,6 @@ room s g plan = omega (
   events_long s,
 )
 
--- these events are events of a graph
-abbrev Ends : Graph → Arc → Type 0
-Ends g a = (a.source < length g.events) × (a.target < length g.events)
-
 module _ (p : Planned) (vectors : List Row) (run : Run) (is : IsRunOf p vectors run)
     (plan : IsPlan p.split p.graph) where
   controls : IsController p.split p.graph
@@ -63,14 +58,10 @@ module _ (p : Planned) (vectors : List Row) (run : Run) (is : IsRunOf p vectors 
   events_are : length p.graph.events ≡ events run
   events_are = sym is.nodes_are ∙ sym (events-is run)
 
-  agreed : (counts : ℕ → ℕ) → Agreed run counts → All (Agrees counts) p.graph.arcs
-  agreed counts agrees = subst (All (Agrees counts)) is.arcs_are
-      (all_from_at (Agrees counts) run.arcs agrees)
-
   -- a required order is an order of the run
   order : (u v tokens : ℕ) → IsRequired p.split u v tokens → HasOrder run u v tokens
   order u v tokens required counts agrees =
-      controls.meets counts (agreed counts agrees) u v tokens required
+      controls.meets counts (subst (All (Agrees counts)) is.arcs_are agrees) u v tokens required
 
   opening-node : (l : ℕ) (n : Node) → l ≡ number_of n → opening l ≡ node_opening n
   opening-node l n e = opening-is l ∙ omega arith
@@ -122,29 +113,18 @@ module _ (p : Planned) (vectors : List Row) (run : Run) (is : IsRunOf p vectors 
         ap counts (closing-node l n (sym at)),
       )
 
-  -- what holds of the arcs of the graph holds of those of the run
-  each_arc : (P : Arc → Type 0) → All P p.graph.arcs → (k : ℕ) (a : Arc)
-      → get_elem? run.arcs k ≡ some a → P a
-  each_arc P all = all_at P run.arcs (subst (All P) (sym is.arcs_are) all)
-
-  rises : (k : ℕ) (a : Arc) → get_elem? run.arcs k ≡ some a → a.tokens ≡ 0
-      → plan.live.rank a.source < plan.live.rank a.target
-  rises = each_arc (λ a. a.tokens ≡ 0 → plan.live.rank a.source < plan.live.rank a.target)
-      plan.live.rises
-
-  pub run_accepted : IsRunAccepted run
-  run_accepted = record { closes = closes; rank = plan.live.rank; rises = rises }
-
   pub run_graph : IsGraphOfRun p.graph run
   run_graph = record { events_are = events_are; arcs_are = sym is.arcs_are; among = among }
 
-  named : (k : ℕ) (a : Arc) → get_elem? run.arcs k ≡ some a
-      → (node_of run a.source < run.nodes) × (node_of run a.target < run.nodes)
-  named k a at =
-      let ends : Ends p.graph a = each_arc (Ends p.graph) plan.live.ends k a at in (
-        node_below run a.source among (omega (arith, ends.0, events_are)),
-        node_below run a.target among (omega (arith, ends.1, events_are)),
-      )
+  pub run_accepted : IsRunAccepted run
+  run_accepted = record {
+    closes = closes;
+    live = live_as (graph run) p.graph (sym (events_as p.graph run run_graph)) is.arcs_are plan.live;
+  }
+
+  named : All (λ a. (node_of run a.source < run.nodes) × (node_of run a.target < run.nodes)) run.arcs
+  named k d inside = let ends = run_accepted.live.ends k d inside in
+      (node_there run _ among ends.0, node_there run _ among ends.1)
 
   by_consumer : (j k : ℕ) → j ≤ k → k < length run.edges
       → (edge_at run j).consumer ≤ (edge_at run k).consumer

@@ -1,10 +1,8 @@
 -- Firings in an order: which event is due, and what its firing changes.
-use Rattle.std.proofs.Common.{◌≡◌, ℕ, ◌+◌, ◌*◌, ◌%◌, ◌<◌, ◌≤◌, ◌≢◌, Bool, List, true, false, get_or, length}
+use Rattle.std.proofs.Common.{◌≡◌, ℕ, ◌+◌, ◌*◌, ◌%◌, ◌<◌, ◌≤◌, ◌≢◌, Bool, List, true, false, get_or, length, All}
 use Rattle.std.proofs.Common.{sym, refl, ap, ◌∙◌, subst, arith, le_refl}
 use mathlib.Core.Logic.{dite}
-use mathlib.Core.Option.{some}
 use native.Mathlib.Decide.{ℕ_discrete, dec_lt}
-use lib.ListN.{get_elem?}
 use Rattle.ds_base.specs.Scratch.{Memory}
 use Rattle.ds_marked.specs.declared.marked.Arc.{Arc}
 use Rattle.ds_rule.specs.Run.{Run, node_of, next, turns, count, Enabled}
@@ -13,6 +11,7 @@ use Rattle.ds_rule.specs.Rule.{holds, seen}
 use Rattle.ds_rule.specs.declared.view.View.{View}
 use Rattle.ds_rule.proofs.EventLaws.{event_below, events-is, next-high, next-low, node-high, node-low}
 use Rattle.ds_rule.proofs.EventLaws.{turns-low, turns-next, turns-none, turns-other}
+use Rattle.ds_rule.proofs.GraphLaws.{event_there}
 use Rattle.ds_fabric.specs.Showing.{Showing}
 use Rattle.ds_fabric.specs.Stepped.{FiresWith, done}
 use Rattle.ds_fabric.specs.declared.step.Step.TheVariants.{Fired}
@@ -89,10 +88,9 @@ module _ (run : Run) (v : View) (order : List ℕ) (i turn : ℕ) (sound : IsSou
       next-high run l (seen v l) (omega (arith, is)) ∙ omega (arith, is))
 
   -- an arc into the event at this place, from one that is not before it, has a token
-  tokened : (k : ℕ) (a : Arc) → get_elem? run.arcs k ≡ some a → place a.target ≡ i
-      → (place a.source < i → ⊥) → 0 < a.tokens
-  tokened k a there here high = dite (ℕ_discrete a.tokens 0)
-      (λ empty. absurd (high (omega (arith, o.rise k a there empty, here)))) (λ filled. omega arith)
+  tokened : All (λ a. place a.target ≡ i → (place a.source < i → ⊥) → 0 < a.tokens) run.arcs
+  tokened k d inside here high = dite (ℕ_discrete (get_or run.arcs k d).tokens 0)
+      (λ empty. absurd (high (omega (arith, o.rise k d inside empty, here)))) (λ filled. omega arith)
 
   -- the event at this place is due
   pub next_due : i < length order → turn < run.limit → IsDue run v (get_or order i 0)
@@ -100,9 +98,11 @@ module _ (run : Run) (v : View) (order : List ℕ) (i turn : ℕ) (sound : IsSou
       let own = at.waits i (le_refl i) near in record {
         near = s.0;
         next_is = next_here e s.0 s.1;
-        enabled = (
-          omega (arith, own, below),
-          λ k a there into. let source = (sound.named k a there).0 in
+        enabled = record {
+          event = event_there run e sound.among s.0;
+          below = omega (arith, own, below);
+          ready = λ k d inside into. let a : Arc = get_or run.arcs k d in
+              let source = (sound.named k d inside).0 in
               let here : place a.target ≡ i = ap place into ∙ s.1 in
               dite (dec_lt (place a.source) i)
               (λ low. omega (arith, own, before a.source source low))
@@ -110,9 +110,9 @@ module _ (run : Run) (v : View) (order : List ℕ) (i turn : ℕ) (sound : IsSou
                 arith,
                 own,
                 behind a.source source (omega arith),
-                tokened k a there here high,
-              )),
-        );
+                tokened k d inside here high,
+              ));
+        };
       }
 
   -- once it has fired, and no other event has, the next place comes

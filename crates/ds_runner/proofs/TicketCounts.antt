@@ -62,7 +62,7 @@ sum-times run (x ∷ xs) among h = sum_up (λ e. times e (x ∷ xs)) (λ e. time
 pub times_most : (run : Run) (e : ℕ) (log : List ℕ) → IsLegalList run log → times e log ≤ run.limit
 times_most run e [] legal = omega arith
 times_most run e (x ∷ xs) legal = dite (ℕ_discrete x e)
-    (λ here. omega (arith, times-here e x xs here, legal.1, ap (λ v. times v xs) here))
+    (λ here. omega (arith, times-here e x xs here, legal.1.below, ap (λ v. times v xs) here))
     (λ away. omega (arith, times-else e x xs away, times_most run e xs legal.0))
 
 -- a legal log has at most the firings of all events

@@ -1,7 +1,7 @@
 -- Lemmas of passes and rounds.
 use Rattle.std.proofs.Common.{◌≡◌, ℕ, ◌+◌, ◌-◌, ◌*◌, cond, Bool, ◌<◌, ◌≤◌, true, false, List, [], ◌∷◌, ◌++◌, length}
-use Rattle.std.proofs.Common.{sym, refl, ap, ◌∙◌, subst, arith, le_trans, replicate, ◌||◌, ⊎_elim, inl, inr}
-use Rattle.std.proofs.Common.{zero, suc, take, drop, get_or-set_other, get_or-set_same}
+use Rattle.std.proofs.Common.{sym, refl, ap, ◌∙◌, subst, arith, le_trans, replicate, ◌||◌}
+use Rattle.std.proofs.Common.{zero, suc, take, drop, get_or, get_or-set_other, get_or-set_same}
 use Rattle.std.proofs.lemmas.List.{length-replicate}
 use Rattle.std.proofs.Math.Seq.{drop-nil}
 use Rattle.std.proofs.lemmas.Bool.{false≢true}
@@ -16,9 +16,11 @@ use Rattle.ds_rule.specs.Plays.{with_cut, without_cut, only_cut, taken_in}
 use Rattle.ds_rule.specs.declared.view.View.{View}
 use Rattle.ds_rule.proofs.TableProgress.{all_done}
 use Rattle.ds_rule.proofs.EventLaws.{node-next, fired_most, event_below}
+use Rattle.ds_rule.proofs.GraphLaws.{enabled_same}
 use Rattle.ds_rule.proofs.GetElemLemmas.{has_below, get-listed}
 use Rattle.ds_base.specs.Scratch.{Memory}
 use Rattle.ds_fabric.specs.Base.{Base}
+use Rattle.ds_fabric.specs.Chained.{absent_arc, arc_numbered}
 use Rattle.ds_fabric.specs.Showing.{Showing, Belongs}
 use Rattle.ds_fabric.specs.Stepped.{Stepped}
 use Rattle.ds_fabric.specs.declared.step.Step.{Step}
@@ -92,46 +94,40 @@ advances run v w l (Fired event turn ticket) sound run-is all near s =
     falls_at (λ x. 2 * run.limit - seen v x) (λ x. 2 * run.limit - seen w x) run.nodes l near
     (λ x. omega (arith, s.seen_up x)) (omega (arith, s.once_more, most))
 advances run v w l (NotYet arc n) sound run-is all near s =
-    let lacks = s.1 in let a = lacks.a in
-    let source : node_of run a.source < run.nodes = (sound.named arc a lacks.is_arc).0 in
-    let own = lacks.own (all (node_of run a.source) (omega arith)
+    let lacks = s.1 in let u : ℕ = node_of run (arc_numbered run arc).source in
+    let source : u < run.nodes = (sound.named arc absent_arc lacks.inside).0 in
+    let own = lacks.own (all u (omega arith)
     (omega (arith, source, ap (λ (r : Run). r.nodes) run-is))) in (
       (λ x low. s.0.own x (all x (omega arith) (omega (arith, low, ap (λ (r : Run). r.nodes) run-is)))),
-      inl (λ on. absurd (omega (
+      λ on. absurd (omega (
         arith,
-        on.1 arc a lacks.is_arc lacks.enters,
+        on.ready arc absent_arc lacks.inside lacks.enters,
         ap (turns run (next run l (seen v l))) (ap (seen v) (node-next run l (seen v l))),
         own,
         lacks.short,
-      ))),
+      )),
     )
-advances run v w l Done sound run-is all near s = ((λ x low. ap (λ (y : View). seen y x) s.0), inr s.1)
+advances run v w l Done sound run-is all near s = (
+  (λ x low. ap (λ (y : View). seen y x) s.0),
+  λ on. absurd (omega (
+    arith,
+    on.below,
+    s.1,
+    ap (turns run (next run l (seen v l))) (ap (seen v) (node-next run l (seen v l))),
+  )),
+)
 
 same_left : (run : Run) (v w : View) → ((x : ℕ) → x < run.nodes → seen w x ≡ seen v x) → left run w ≡ left run v
 same_left run v w same = sum_same (λ l. 2 * run.limit - seen w l) (λ l. 2 * run.limit - seen v l) run.nodes
     (λ j h. ap (λ n. 2 * run.limit - n) (same j h))
 
--- what is enabled, and what is stuck, depends on the firings of the nodes that are there
-enabled_same : (run : Run) (f g : ℕ → ℕ) (e : ℕ) → IsSound run → ((x : ℕ) → x < run.nodes → f x ≡ g x)
-    → node_of run e < run.nodes → Enabled run f e → Enabled run g e
-enabled_same run f g e sound same near on = let here = ap (turns run e) (same (node_of run e) near) in (
-  omega (arith, on.0, here),
-  λ k a there into. omega (
-    arith,
-    on.1 k a there into,
-    here,
-    ap (turns run a.source) (same (node_of run a.source) (sound.named k a there).0),
-  ),
-)
-
+-- what is stuck depends on the firings of the nodes that are there
 stuck_same : (run : Run) (f g : ℕ → ℕ) (l : ℕ) → IsSound run → ((x : ℕ) → x < run.nodes → f x ≡ g x) → l < run.nodes
     → Stuck run f l → Stuck run g l
-stuck_same run f g l sound same near stuck = let e : f l ≡ g l = same l near in ⊎_elim
-    (λ off. inl (λ on. off (enabled_same run g f (next run l (f l)) sound (λ x h. sym (same x h))
-    (subst (λ (m : ℕ). m < run.nodes) (sym (node-next run l (f l))) near)
-    (subst (λ (n : ℕ). Enabled run g (next run l n)) (sym e) on))))
-    (λ full. inr (subst (λ (n : ℕ). run.limit ≤ turns run (next run l n) n) e full))
-    stuck
+stuck_same run f g l sound same near stuck on = let E : ℕ = next run l (f l) in
+    stuck (enabled_same run g f E (sym (same (node_of run E) (omega (arith, node-next run l (f l)))))
+    (λ k d inside into. sym (same (node_of run (get_or run.arcs k d).source) (sound.named k d inside).0))
+    (subst (λ (n : ℕ). Enabled run g (next run l n)) (sym (same l near)) on))
 
 abbrev Round : Run → View → ℕ → View → Bool → Type 0
 Round run v n w b = AdvancesBelow run v n w b × (left run w ≤ left run v)

@@ -1,8 +1,5 @@
 -- An order in which all events of a turn may fire, one after another.
-use Rattle.std.specs.Prelude.{◌≡◌, ℕ, ◌+◌, ◌*◌, ◌<◌, ◌≤◌, List, length, slice_index}
-use mathlib.Core.Option.{some}
-use lib.ListN.{get_elem?}
-use Rattle.ds_marked.specs.declared.marked.Arc.{Arc}
+use Rattle.std.specs.Prelude.{◌≡◌, ℕ, ◌+◌, ◌*◌, ◌<◌, ◌≤◌, List, length, slice_index, All}
 use Rattle.ds_rule.specs.Run.{Run, node_of, next, count, Enabled}
 use Rattle.ds_rule.specs.Rule.{seen}
 use Rattle.ds_rule.specs.declared.view.View.{View}
@@ -20,8 +17,8 @@ HavePlaces events order places = (e : ℕ) → e < events
 
 -- the places rise along each arc without tokens
 abbrev pub PlacesRise : Run → List ℕ → Type 0
-PlacesRise run places = (k : ℕ) (a : Arc) → get_elem? run.arcs k ≡ some a → a.tokens ≡ 0
-    → slice_index places a.source < slice_index places a.target
+PlacesRise run places =
+    All (λ a. a.tokens ≡ 0 → slice_index places a.source < slice_index places a.target) run.arcs
 
 -- each of so many latches opens before it closes
 abbrev pub CloseLater : ℕ → List ℕ → Type 0

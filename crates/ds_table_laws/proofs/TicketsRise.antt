@@ -34,14 +34,14 @@ abbrev Lower : ℕ → List ℕ → ℕ → ℕ → Type 0
 Lower e xs k t = (s : ℕ) × (get_elem? (places e xs) k ≡ some s) × (s < t)
 
 -- in a legal log the firing that is waited for has a lower ticket
-lower : (run : Run) (m : ℕ) (a : Arc) → get_elem? run.arcs m ≡ some a → (xs : List ℕ)
-    → IsLegalList run xs → (j t : ℕ) → a.tokens ≤ j → get_elem? (places a.target xs) j ≡ some t
-    → Lower a.source xs (j - a.tokens) t
-lower run m a at [] legal j t behind here = absurd (some-ne-none t (sym here))
-lower run m a at (x ∷ xs) legal j t behind here = ⊎_elim
-    (λ old. let (s, stood, below) = lower run m a at xs legal.0 j t behind old in
+lower : (run : Run) (m : ℕ) (d : Arc) → m < length run.arcs → (xs : List ℕ)
+    → IsLegalList run xs → (let a : Arc = get_or run.arcs m d in (j t : ℕ) → a.tokens ≤ j
+    → get_elem? (places a.target xs) j ≡ some t → Lower a.source xs (j - a.tokens) t)
+lower run m d inside [] legal j t behind here = absurd (some-ne-none t (sym here))
+lower run m d inside (x ∷ xs) legal j t behind here = let a : Arc = get_or run.arcs m d in ⊎_elim
+    (λ old. let (s, stood, below) = lower run m d inside xs legal.0 j t behind old in
     (s, stays a.source x xs (j - a.tokens) s stood, below))
-    (λ last. let enough = legal.2 m a at (sym last.0) in
+    (λ last. let enough = legal.1.ready m d inside (sym last.0) in
     let same : times x xs ≡ times a.target xs = ap (λ y. times y xs) last.0 in
     let (s, stood) = there_is (places a.source xs) (j - a.tokens)
     (omega (arith, length-places a.source xs, last.1)) in (
@@ -52,12 +52,12 @@ lower run m a at (x ∷ xs) legal j t behind here = ⊎_elim
     (old_or_last a.target x xs j t here)
 
 pub tickets_follow_lem : TicketsFollow
-tickets_follow_lem run tickets many sound r m a at j behind inside =
-    let (near-source, near-target) = sound.named m a at in
+tickets_follow_lem run tickets many sound r m d there j behind inside =
+    let a : Arc = get_or run.arcs m d in let (near-source, near-target) = sound.named m d there in
     let source = r.all a.source near-source in
     let target = r.all a.target near-target in
     let (t, here) = there_is (places a.target r.log) j (omega (arith, ap length target)) in
-    let (s, stood, below) = lower run m a at r.log r.legal j t behind here in (
+    let (s, stood, below) = lower run m d there r.log r.legal j t behind here in (
       omega (arith, at_below (places a.source r.log) (j - a.tokens) s stood, ap length source),
       omega (
         arith,

@@ -1,8 +1,7 @@
 -- Which tickets the firings of a run draw.
-use Rattle.std.specs.Prelude.{◌≡◌, ℕ, ◌-◌, ◌<◌, ◌≤◌, List, length, slice_index}
+use Rattle.std.specs.Prelude.{◌≡◌, ℕ, ◌-◌, ◌<◌, ◌≤◌, List, length, slice_index, All}
 use mathlib.Core.Option.{some}
 use lib.ListN.{get_elem?}
-use Rattle.ds_marked.specs.declared.marked.Arc.{Arc}
 use Rattle.ds_rule.specs.Run.{Run, node_of}
 use Rattle.ds_rule.specs.Sound.{IsSound}
 use Rattle.ds_rule.specs.Log.{Recorded}
@@ -21,7 +20,6 @@ TicketsAreNumbers = (run : Run) (tickets : ℕ → List ℕ) (many : ℕ) → Re
 -- lower by the tokens of the arc, is there and has a lower ticket
 abbrev pub TicketsFollow : Type 0
 TicketsFollow = (run : Run) (tickets : ℕ → List ℕ) (many : ℕ) → IsSound run
-    → Recorded run tickets many → (m : ℕ) (a : Arc) → get_elem? run.arcs m ≡ some a
-    → (j : ℕ) → a.tokens ≤ j → j < length (tickets a.target)
+    → Recorded run tickets many → All (λ a. (j : ℕ) → a.tokens ≤ j → j < length (tickets a.target)
     → (j - a.tokens < length (tickets a.source))
-    × (slice_index (tickets a.source) (j - a.tokens) < slice_index (tickets a.target) j)
+    × (slice_index (tickets a.source) (j - a.tokens) < slice_index (tickets a.target) j)) run.arcs

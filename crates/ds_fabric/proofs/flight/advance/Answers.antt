@@ -6,7 +6,6 @@ use Rattle.ds_rule.specs.Rule.{seen}
 use Rattle.ds_rule.specs.Plays.{Sat}
 use Rattle.ds_rule.specs.declared.view.View.{View}
 use Rattle.ds_rule.proofs.EventLaws.{events-is}
-use Rattle.ds_rule.proofs.GetElemLemmas.{at_below}
 use Rattle.ds_fabric.specs.Looks.{LooksOn, IsSeenLacking}
 use Rattle.ds_fabric.specs.Noted.{HasFired}
 use Rattle.ds_fabric.specs.Showing.{Keeps, Tells}
@@ -85,7 +84,7 @@ overflow_cast-arc g c =
     let s = c.in-Some.ensures.some in let run : Run = c.args.context.now.run.now in
     omega (
       arith,
-      at_below run.arcs c.in-Some.arc s.a s.is_arc,
+      s.inside,
       c.args.context.now.built.over.sound.few_arcs,
     )
 

@@ -38,7 +38,7 @@ returns-clause-fires g c =
     let e = c.fire.ensures in
     fires run me me lent.0 c.fire.new.seat.me.0 l E (done run v l + 1) c.fire.result c.requires.run
     lent.2 (lent.2.listed lent.1 h lent.3).has (looks_none v) refl refl refl
-    (omega (arith, on.0, ap (λ (x : ℕ). turns run E (seen v x)) (node-next run l (seen v l))))
+    (omega (arith, on.below, ap (λ (x : ℕ). turns run E (seen v x)) (node-next run l (seen v l))))
     on e.fresh (ap (λ (m : Sat). m.0) e.me)
 
 pub returns-clause-keeps : goal.returns-clause-keeps

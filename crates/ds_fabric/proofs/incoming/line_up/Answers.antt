@@ -2,10 +2,10 @@ use Rattle.std.proofs.Common.{◌≡◌, ◌<◌, ◌+◌, ◌-◌, ◌∙◌, �
 use Rattle.std.proofs.Common.{length}
 use Rattle.ds_rule.specs.Run.{Run, node_of}
 use Rattle.ds_marked.specs.declared.marked.Arc.{Arc}
-use Rattle.ds_fabric.specs.Chained.{arc_numbered, IsLastArc}
+use Rattle.ds_fabric.specs.Chained.{absent_arc, arc_numbered, IsLastArc}
 use Rattle.ds_fabric.specs.Into.{IsArcIn, IsInto, IsLinedUp}
 use Rattle.ds_fabric.specs.declared.arc_in.ArcIn.{ArcIn}
-use Rattle.ds_fabric.proofs.ArcChains.{arc-there, same-arc, read-off}
+use Rattle.ds_fabric.proofs.ArcChains.{same-arc, read-off}
 use Rattle.ds_fabric.proofs.IncomingArcs.{lined_none, lined_more}
 use Rattle.ds_fabric.proofs.incoming.line_up.Goals as goal
 
@@ -63,7 +63,7 @@ of-requires-clause-near g c = let run : Run = c.args.run.now in
     omega (
       arith,
       ap (λ (x : Arc). node_of run x.source) same,
-      (c.requires.sound.named m (arc_numbered run m) (arc-there run m below)).0,
+      (c.requires.sound.named m absent_arc below).0,
       c.requires.sound.few,
     )
 

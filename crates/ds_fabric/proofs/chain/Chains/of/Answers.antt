@@ -7,7 +7,7 @@ use Rattle.ds_marked.specs.declared.marked.Arc.{Arc}
 use Rattle.ds_rule.proofs.EventLaws.{events-is}
 use Rattle.ds_rule.proofs.GetElemLemmas.{at_get}
 use Rattle.ds_fabric.specs.Chained.{arc_numbered, IsChained}
-use Rattle.ds_fabric.proofs.ArcChains.{arc-there, target_near, chained_none, chained_next}
+use Rattle.ds_fabric.proofs.ArcChains.{same-arc, target_near, chained_none, chained_next}
 use Rattle.ds_fabric.proofs.chain.Chains.of.Goals as goal
 
 pub loop-i-init : goal.loop-i-init
@@ -23,8 +23,7 @@ near : (run : Run) (sound : IsSound run) (arcs : List Arc) (i : ℕ) (d : Arc) (
     → (t ≡ (arc_numbered run i).target) × (t < events run)
 near run sound arcs i d t is h read = let low : i < length run.arcs =
     omega (arith, ap (λ (xs : List Arc). length xs) is) in
-    let e : get_or arcs i d ≡ arc_numbered run i = ap (λ (xs : List Arc). get_or xs i d) is
-    ∙ at_get run.arcs i (arc_numbered run i) d (arc-there run i low) in
+    let e : get_or arcs i d ≡ arc_numbered run i = same-arc run arcs i d is low in
     let same : t ≡ (arc_numbered run i).target = read ∙ ap (λ (x : Arc). x.target) e in
     (same, omega (arith, same, target_near run i sound low))
 
