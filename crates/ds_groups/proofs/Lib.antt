@@ -4,6 +4,7 @@ pub mod Falling
 pub mod PatternTable
 pub mod KeyNets
 pub mod Stands
+pub mod Tails
 pub mod Indexing
 pub mod Takings
 pub mod DrivenNets

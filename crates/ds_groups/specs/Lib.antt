@@ -4,6 +4,7 @@ pub mod Pieces
 pub mod Names
 pub mod Read
 pub mod Stand
+pub mod Tail
 pub mod Copy
 pub mod Latest
 pub mod Keys

@@ -27,6 +27,7 @@ mod net_index;
 mod pattern;
 mod reader;
 mod stand;
+mod tail;
 mod taking;
 mod word;
 

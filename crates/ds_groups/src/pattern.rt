@@ -8,34 +8,41 @@ ghost use Rattle.ds_groups.specs.Stand.{IsStand};
 
 use crate::falls::{Piece, falls_of, held_behind};
 use crate::stand::Stand;
+use crate::tail::{Tail, may_have, tail_of};
 use ds_design::Net;
 use itoa::Buffer;
 use std::alloc::{AllocError, Global};
 use std::marker::Model;
 
-/// A word as a pattern, and for each of its places how much is held there without the first byte
-/// of the piece. Contracts see the word.
+/// A word as a pattern, for each of its places how much is held there without the first byte of
+/// the piece, and its tail, by which most names are refused. Contracts see the word.
 pub(crate) struct Pattern<'a> {
     word: &'a [u8],
     falls: Vec<usize>,
+    tail: Tail<'a>,
 }
 
 impl Drop for Pattern<'_> {
     fn drop(self) {
-        let Pattern { word: _, falls: _ } = self;
+        let Pattern {
+            word: _,
+            falls: _,
+            tail: _,
+        } = self;
     }
 }
 
 impl<'a> Model for Pattern<'a> {
     ghost use Rattle.std.specs.Prelude.{◌≡◌, ◌+◌, List, ℕ, length};
     ghost use Rattle.ds_groups.specs.Stand.{AreFalls};
+    ghost use Rattle.ds_groups.specs.Tail.{IsTail};
 
     ghost Value = { List ℕ };
 
     ghost view = { λ p. p.word.now };
 
     ghost invariant = { λ p. AreFalls p.word.now p.falls.items (length p.word.now + 1)
-        × (length p.falls.items ≡ length p.word.now + 1) };
+        × (length p.falls.items ≡ length p.word.now + 1) × IsTail p.word.now p.tail };
 }
 
 impl<'a> Pattern<'a> {
@@ -44,11 +51,24 @@ impl<'a> Pattern<'a> {
         ensures { IfOk result (λ p. p ≡ word.now) }
     {
         let falls = falls_of(alloc, word)?;
-        Ok(Pattern { word, falls })
+        let tail = tail_of(word);
+        Ok(Pattern { word, falls, tail })
     }
 
     /// Whether the name of a net matches.
     pub(crate) fn matches(&self, net: &Net) -> bool
+        ensures { result ≡ fits self.now (net_text net.now) }
+    {
+        if net.copy == 0 && !may_have(&self.tail, net.name.as_slice()) {
+            return false;
+        }
+        self.read_along(net)
+    }
+
+    // Whether the name of a net matches, byte by byte. Kept apart, it leaves `matches` small enough
+    // to be inlined into loops over registers.
+    #[inline(never)]
+    fn read_along(&self, net: &Net) -> bool
         ensures { result ≡ fits self.now (net_text net.now) }
     {
         let mut stand = self.fixed(0);
@@ -162,6 +182,9 @@ impl<'a> Pattern<'a> {
     {
         let mut stand = stand;
         for byte in bytes {
+            if stand == Stand::Lost {
+                return Stand::Lost;
+            }
             stand = self.step(stand, *byte);
         }
         stand

@@ -79,6 +79,7 @@ pub record SplitsByMode (held : List ℕ → Held) (net : List ℕ) (mode : Mode
   pub refused : (line : List ℕ)
       → (split_stage held net None mode c).refused line ↔ IsModeLine net mode c line
 
+-- whatever the files hold, each design is split by its mode alone where no file of groups is named
 abbrev pub WithoutFileOfGroups : Type 0
 WithoutFileOfGroups = (held : List ℕ → Held) (net : List ℕ) (mode : Mode) (c : Circuit)
     → SplitsByMode held net mode c

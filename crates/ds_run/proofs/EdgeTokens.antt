@@ -1,5 +1,5 @@
 -- Data edges with their tokens.
-use Rattle.std.proofs.Common.{◌≡◌, ◌≢◌, ◌⊎◌, inl, inr, ℕ, zero, suc, ◌+◌, ◌*◌, ◌%◌, ◌<◌, Bool, true, false, ◌&&◌, cond, eqb, ltb, eq-eqb, ne_eqb, lt-ltb, List, [], ◌∷◌, length, get_or, map, AllPairs, Any, Contains, refl, arith, ap, sym, ◌∙◌, subst, Decides, IsPermutation}
+use Rattle.std.proofs.Common.{◌≡◌, ◌≢◌, ◌⊎◌, inl, inr, ℕ, ◌<◌, Bool, ◌&&◌, eqb, List, [], ◌∷◌, length, get_or, map, AllPairs, Any, Contains, refl, arith, ap, sym, ◌∙◌, subst, Decides, IsPermutation}
 use Rattle.std.specs.List.Sorted.{IsNonDecreasingBy}
 use Rattle.std.proofs.lemmas.Bool.{cases_eq, false≢true}
 use Rattle.std.proofs.lemmas.Bool.Decides.{eqb_tells}
@@ -8,47 +8,15 @@ use Rattle.std.proofs.lemmas.Map.Keys.{IsDistinct-IsPermutation}
 use Rattle.std.proofs.lemmas.List.{get_or-map, length-map}
 use Rattle.std.proofs.lemmas.List.Sorted.{Contains-permutation, IsPermutation-map, IsPermutation-sym}
 use Rattle.ds_base.proofs.ListLemmas.{get_or-self}
-use Rattle.ds_latch.specs.Node.{Split, number_of}
-use Rattle.ds_latch.specs.declared.node.Node.{Node}
-use Rattle.ds_latch.specs.declared.node.Node.TheVariants.{In, Out, Master, Slave}
-use Rattle.ds_latch.specs.Order.{IsDataEdge, open_tokens}
+use Rattle.ds_latch.specs.Node.{Split}
+use Rattle.ds_latch.specs.Order.{IsDataEdge}
 use Rattle.ds_latch.specs.Latches.{HasEdges}
 use Rattle.ds_latch.specs.declared.latches.Edge.{Edge}
+use Rattle.ds_control.specs.Orders.{tokens_after}
+use Rattle.ds_control.proofs.Required.{named, tokens_is}
 use Rattle.ds_rule.specs.declared.layout.DataEdge.{DataEdge}
 use Rattle.ds_run.specs.Layout.{AreDataEdges, Joins}
-use Rattle.ds_run.specs.Tokened.{tokened, tokens_of}
-
--- a number is even or odd
-halves : (l : ℕ) → (i : ℕ) × ((l ≡ 2 * i) ⊎ (l ≡ 2 * i + 1))
-halves zero = (0, inl (omega arith))
-halves (suc l) = let (i, is) = halves l in elim is [
-  | inl e ↦ (i, inr (omega arith))
-  | inr e ↦ (i + 1, inl (omega arith))
-]
-
--- each number is a node's
-numbered_node : (l : ℕ) → (n : Node) × (number_of n ≡ l)
-numbered_node zero = (In, refl)
-numbered_node (suc zero) = (Out, refl)
-numbered_node (suc (suc l)) = let (i, is) = halves l in elim is [
-  | inl e ↦ (Master i, omega arith)
-  | inr e ↦ (Slave i, omega arith)
-]
-
--- an even number is no slave's
-untested : (n : ℕ) → n % 2 ≡ 0 → tokens_of n ≡ 0
-untested n even = let odd : eqb (n % 2) 1 ≡ false = ne_eqb (n % 2) 1 (λ e. absurd (omega arith)) in
-    ap (λ (b : Bool). cond (b && ltb 2 n) 1 0) odd
-
--- the tokens by the number of a node are those of the node
-pub tokens-node : (n : Node) → tokens_of (number_of n) ≡ open_tokens n
-tokens-node In = refl
-tokens-node Out = refl
-tokens-node (Master i) = untested (2 * i + 2) (omega arith)
-tokens-node (Slave i) =
-    let odd : eqb ((2 * i + 3) % 2) 1 ≡ true = eq-eqb ((2 * i + 3) % 2) 1 (omega arith) in
-    let above : ltb 2 (2 * i + 3) ≡ true = lt-ltb 2 (2 * i + 3) (omega arith) in
-    ap (λ (b : Bool). cond (b && ltb 2 (2 * i + 3)) 1 0) odd ∙ ap (λ (b : Bool). cond b 1 0) above
+use Rattle.ds_run.specs.Tokened.{tokened}
 
 flips : (m n : ℕ) → eqb m n ≡ eqb n m
 flips m n = elim (eqb_tells m n) [
@@ -135,15 +103,15 @@ module _ (s : Split) (given : List Edge) (has : HasEdges s given)
   each_joins : (e : DataEdge) → Contains edges e → (p c : Node) × IsDataEdge s p c × Joins p c e
   each_joins e there =
       let (x, (k, inside, is), at) = origin e there in
-      let (p, from) = numbered_node x.producer in
-      let (c, into) = numbered_node x.consumer in (
+      let (p, from) = named x.producer in
+      let (c, into) = named x.consumer in (
         p,
         c,
         (has p c).1 (k, x, inside, is, (sym from, sym into)),
         subst (Joins p c) at (record {
           from = sym from;
           into = sym into;
-          tokens = ap tokens_of (sym from) ∙ tokens-node p;
+          tokens = ap tokens_after (sym from) ∙ tokens_is p;
         }),
       )
 
@@ -165,7 +133,7 @@ module _ (s : Split) (given : List Edge) (has : HasEdges s given)
         record {
           from = from;
           into = into;
-          tokens = ap tokens_of from ∙ tokens-node p;
+          tokens = ap tokens_after from ∙ tokens_is p;
         },
       )
 

@@ -3,10 +3,11 @@ ghost use Rattle.std.specs.Prelude.{◌≡◌, ◌+◌, ◌*◌, ◌≤◌, leng
 ghost use Rattle.std.specs.List.Sorted.{IsNonDecreasingBy, IsPermutation};
 ghost use Rattle.ds_latch.specs.Node.{nodes};
 ghost use Rattle.ds_run.specs.Layout.{AreDataEdges};
-ghost use Rattle.ds_run.specs.Tokened.{tokened, tokens_of};
+ghost use Rattle.ds_run.specs.Tokened.{tokened};
 
-use ds_base::{LatchId, OutOfMemory};
-use ds_latch::{DataEdge as Edge, Latches, Node};
+use ds_base::OutOfMemory;
+use ds_control::tokens_after;
+use ds_latch::{DataEdge as Edge, Latches};
 use ds_rule::DataEdge;
 use std::alloc::{AllocError, Global};
 
@@ -29,17 +30,10 @@ fn with_tokens(alloc: Global, given: &[Edge]) -> Result<Vec<DataEdge>, AllocErro
         edges.push(DataEdge {
             producer: edge.producer,
             consumer: edge.consumer,
-            tokens: tokens(edge.producer),
+            tokens: tokens_after(edge.producer),
         })?;
     }
     Ok(edges)
-}
-
-// How many tokens the edges from a node have.
-fn tokens(producer: LatchId) -> u8
-    ensures { result ≡ tokens_of producer }
-{
-    Node::of(producer).open_tokens()
 }
 
 // Sorts by consumer.
