@@ -16,6 +16,7 @@ from typing import Iterable, Iterator, Optional
 
 from desync_tools.delays import Order
 from desync_tools.graphs import Arc
+from desync_tools.layers import Components
 from desync_tools.periods import Period
 from desync_tools.text import BadText
 
@@ -47,7 +48,8 @@ class Walks:
     """The shortest walks along orders, by numbers of events.
 
     A search steps over an event with one order into it, as M0- behind M0+: each walk to it comes
-    by that order. The source of that order is its `before`."""
+    by that order. The source of that order is its `before`. Events that lead to one another for
+    nothing have one number."""
 
     def __init__(self, ways: list[Way]) -> None:
         self.costs: dict[Order, int] = {}
@@ -60,26 +62,32 @@ class Walks:
             self.after.setdefault(source, []).append(target)
         single = {event: into[0] for event, into in self.into.items() if len(into) == 1}
         self.before = {event: one for event, one in single.items() if one not in single}
-        self.ids: dict[str, int] = {}
-        for event in (*self.after, *self.into):
-            self.ids.setdefault(event, len(self.ids))
-        self.out = [list(self.steps(event).items()) for event in self.ids]
+        steps = {event: self.steps(event) for event in {**self.after, **self.into}}
+        free = {event: [end for end, cost in to.items() if not cost] for event, to in steps.items()}
+        components = Components(free)
+        self.ids = components.number
+        found: list[dict[int, int]] = [{} for _ in range(components.count)]
+        for event, to in steps.items():
+            out = found[self.ids[event]]
+            for end, cost in to.items():
+                out[self.ids[end]] = min(cost, out.get(self.ids[end], cost))
+        self.out = [list(to.items()) for to in found]
 
     def lead(self, event: str) -> tuple[str, int]:
         """The event by which walks come to one where a search steps over it, and the cost."""
         before = self.before.get(event, event)
         return before, self.costs[before, event] if before != event else 0
 
-    def steps(self, event: str) -> dict[int, int]:
+    def steps(self, event: str) -> dict[str, int]:
         """Where a search goes from an event, each with the cost."""
-        found: dict[int, int] = {}
+        found: dict[str, int] = {}
         for other in self.after.get(event, ()):
             cost = self.costs[event, other]
             ends = {other: cost}
             if other in self.before:
                 ends = {end: cost + self.costs[other, end] for end in self.after.get(other, ())}
             for end, both in ends.items():
-                found[self.ids[end]] = min(both, found.get(self.ids[end], both))
+                found[end] = min(both, found.get(end, both))
         return found
 
     def short(self, source: str, target: str) -> Optional[int]:
@@ -114,7 +122,7 @@ class Walks:
 
         Events of one distance wait together; what is no shorter than all bounds does not wait."""
         wanted = sorted(bounds, key=bounds.__getitem__)
-        least = [bounds[wanted[-1]]] * len(self.ids)
+        least = [bounds[wanted[-1]]] * len(self.out)
         least[start] = 0
         waiting, heap, done = {0: [start]}, [0], set[int]()
         while heap:
