@@ -12,6 +12,8 @@ from desync_tools.logic import Edge, Logic
 from desync_tools.netlist import Netlist, Table, printed
 from desync_tools.text import BadText, file_text
 
+# The longest file that `desync` reads.
+MOST_BYTES = 16777216
 DIGITS = re.compile("^[0-9]+$")
 OPTIONS = (
     ("table", 1, "how long a table takes"),
@@ -72,6 +74,15 @@ def lines(split: Split, gates: Gates, edges: dict[Edge, int]) -> Iterator[str]:
         told = "%s to %s" % (names[producer], names[consumer])
         yield line_of((producer + "+", consumer + "+"), delay, told)
         yield line_of((consumer + "-", producer + "+"), 0, "hold, " + told)
+
+
+def short(whole: list[str]) -> list[str]:
+    """The lines of delays, without names and holds where `desync` would not read the file whole."""
+    if sum(map(len, whole)) + len(whole) <= MOST_BYTES:
+        return whole
+    read = [line.split(" #", 1)[0] for line in whole]
+    told = "# names, and orders that take 0, are left out: with them the file would be too long"
+    return [told, *(line for line in read if not line.endswith(" 0"))]
 
 
 def delay_word(word: str) -> int:

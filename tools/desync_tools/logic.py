@@ -12,6 +12,11 @@ from desync_tools.clusters import Split
 from desync_tools.netlist import Net, NotAccepted, Table
 
 Edge = tuple[str, str]
+# The longest path from each producer.
+Paths = dict[str, int]
+NONE: Paths = {}
+# So many producers are followed at once: more need more memory, fewer more passes.
+AT_ONCE = 64
 MOST_CLUSTERS, MOST_ORDERS = 4096, 1048576
 
 
@@ -45,7 +50,7 @@ class Logic:
         rows = ordered(self.inputs)
         if len(rows) < len(self.inputs):
             raise NotAccepted("%s: it has a cycle of tables" % split.netlist.path)
-        self.ranks = {output: rank for rank, output in enumerate(rows)}
+        self.rows = rows
         self.producers = dict(self.sources())
 
     def id(self, net: Net) -> int:
@@ -67,43 +72,48 @@ class Logic:
         for number, cluster in enumerate(self.split.clusters):
             yield "M%d" % number, [self.id(netlist.data[place]) for place in cluster.places]
 
-    def cone(self, nets: Sequence[int]) -> list[int]:
-        """The outputs of the tables that some nets rest on, those that read others first."""
-        seen = {net for net in nets if net in self.inputs}
-        waiting = list(seen)
-        while waiting:
-            for net in self.inputs[waiting.pop()]:
-                if net in self.inputs and net not in seen:
-                    seen.add(net)
-                    waiting.append(net)
-        return sorted(seen, key=self.ranks.__getitem__, reverse=True)
-
-    def paths_to(self, nets: Sequence[int]) -> dict[str, int]:
-        """The producers that reach some nets, each with the longest path of tables."""
-        longest = dict.fromkeys(nets, 0)
-        for output in self.cone(nets):
-            path = longest[output] + self.delays[output]
-            for net in self.inputs[output]:
-                if longest.get(net, -1) < path:
-                    longest[net] = path
-        found: dict[str, int] = {}
-        for net, path in longest.items():
-            if net in self.producers:
-                producer = self.producers[net]
-                found[producer] = max(path, found.get(producer, 0))
-        return found
+    def paths(self, nets: Sequence[int]) -> dict[int, Paths]:
+        """What nets of producers reach: nets, each with the longest path from each producer."""
+        longest: dict[int, Paths] = {net: {self.producers[net]: 0} for net in nets}
+        for output in self.rows:
+            found: Paths = {}
+            for paths in filter(None, map(longest.get, self.inputs[output])):
+                found = greatest(found, paths)
+            if found:
+                delay = self.delays[output]
+                longest[output] = {producer: path + delay for producer, path in found.items()}
+        return longest
 
     def edges(self) -> dict[Edge, int]:
         """The data edges, each with the longest path of tables."""
         found: dict[Edge, int] = {}
-        for consumer, nets in self.consumers():
-            for producer, path in self.paths_to(nets).items():
-                found[producer, consumer] = path
+        consumers, nets = list(self.consumers()), dict[str, list[int]]()
+        for net, producer in self.producers.items():
+            nets.setdefault(producer, []).append(net)
+        rest = list(nets.values())
+        while rest:
+            longest = self.paths(sum(rest[:AT_ONCE], []))
+            del rest[:AT_ONCE]
+            for consumer, taken in consumers:
+                for net in taken:
+                    for producer, path in longest.get(net, NONE).items():
+                        edge = producer, consumer
+                        found[edge] = max(path, found.get(edge, 0))
             if orders(len(self.split.nodes), len(found)) > MOST_ORDERS:
                 raise TooMany(self.split, "arcs", MOST_ORDERS)
         for number in range(len(self.split.clusters)):
             found["M%d" % number, "S%d" % number] = 0
         return found
+
+
+def greatest(one: Paths, other: Paths) -> Paths:
+    """The greater path of each producer; the first paths may change."""
+    if not one:
+        return dict(other)
+    for producer, path in other.items():
+        if one.get(producer, -1) < path:
+            one[producer] = path
+    return one
 
 
 def ordered(inputs: dict[int, list[int]]) -> list[int]:

@@ -11,10 +11,12 @@ from __future__ import annotations
 
 from fractions import Fraction
 from heapq import heappop, heappush
+from math import inf
 from typing import Iterable, Iterator, Optional
 
 from desync_tools.delays import Order
 from desync_tools.graphs import Arc
+from desync_tools.layers import Components
 from desync_tools.periods import Period
 from desync_tools.text import BadText
 
@@ -43,19 +45,50 @@ def ways_of(arcs: Iterable[Arc], delays: dict[Order, int], period: Period) -> li
 
 
 class Walks:
-    """The shortest walks along orders, by numbers of events."""
+    """The shortest walks along orders, by numbers of events.
+
+    A search steps over an event with one order into it, as M0- behind M0+: each walk to it comes
+    by that order. The source of that order is its `before`. Events that lead to one another for
+    nothing have one number."""
 
     def __init__(self, ways: list[Way]) -> None:
-        self.ids: dict[str, int] = {}
-        for way in ways:
-            for event in way.order():
-                self.ids.setdefault(event, len(self.ids))
         self.costs: dict[Order, int] = {}
         for way in ways:
             self.costs[way.order()] = min(way.cost, self.costs.get(way.order(), way.cost))
-        self.out: list[list[tuple[int, int]]] = [[] for _ in self.ids]
-        for (source, target), cost in self.costs.items():
-            self.out[self.ids[source]].append((self.ids[target], cost))
+        self.into: dict[str, list[str]] = {}
+        self.after: dict[str, list[str]] = {}
+        for source, target in self.costs:
+            self.into.setdefault(target, []).append(source)
+            self.after.setdefault(source, []).append(target)
+        single = {event: into[0] for event, into in self.into.items() if len(into) == 1}
+        self.before = {event: one for event, one in single.items() if one not in single}
+        steps = {event: self.steps(event) for event in {**self.after, **self.into}}
+        free = {event: [end for end, cost in to.items() if not cost] for event, to in steps.items()}
+        components = Components(free)
+        self.ids = components.number
+        found: list[dict[int, int]] = [{} for _ in range(components.count)]
+        for event, to in steps.items():
+            out = found[self.ids[event]]
+            for end, cost in to.items():
+                out[self.ids[end]] = min(cost, out.get(self.ids[end], cost))
+        self.out = [list(to.items()) for to in found]
+
+    def lead(self, event: str) -> tuple[str, int]:
+        """The event by which walks come to one where a search steps over it, and the cost."""
+        before = self.before.get(event, event)
+        return before, self.costs[before, event] if before != event else 0
+
+    def steps(self, event: str) -> dict[str, int]:
+        """Where a search goes from an event, each with the cost."""
+        found: dict[str, int] = {}
+        for other in self.after.get(event, ()):
+            cost = self.costs[event, other]
+            ends = {other: cost}
+            if other in self.before:
+                ends = {end: cost + self.costs[other, end] for end in self.after.get(other, ())}
+            for end, both in ends.items():
+                found[end] = min(both, found.get(end, both))
+        return found
 
     def short(self, source: str, target: str) -> Optional[int]:
         """A walk of one or two orders by the other event of a node, where there is one."""
@@ -65,33 +98,65 @@ class Walks:
             found.append(None if first is None or second is None else first + second)
         return min((cost for cost in found if cost is not None), default=None)
 
-    def back(self, target: str, sources: Iterable[str]) -> dict[str, int]:
-        """The shortest walk from an event to each of some events that it reaches.
+    def back(self, target: str) -> dict[str, int]:
+        """The shortest walk from an event to each source of an order into it that it reaches.
 
-        No walk is looked at that is as long as a short one to each event that is still wanted. A
-        waiting event is one number, its distance times the number of events and its own."""
-        size = len(self.ids)
-        short = {self.ids[source]: self.short(target, source) for source in sources}
-        limit = None if None in short.values() else max(filter(None, short.values()), default=0)
-        least = {self.ids[target]: 0}
-        wanted, heap = set(short), [self.ids[target]]
-        while heap and wanted:
-            distance, event = divmod(heappop(heap), size)
-            if distance > least[event]:
-                continue
-            wanted.discard(event)
-            for other, cost in self.out[event]:
-                new = distance + cost
-                if (limit is None or new < limit) and new < least.get(other, new + 1):
-                    least[other] = new
-                    heappush(heap, new * size + other)
+        The search does not step over the event."""
+        short = {source: self.short(target, source) for source in self.into[target]}
+        bounds: dict[int, float] = {}
+        for source, most in short.items():
+            event, cost = self.lead(source)
+            number, bound = self.ids[event], inf if most is None else most - cost
+            bounds[number] = max(bound, bounds.get(number, bound))
+        least = self.search(self.ids[target], bounds)
         found: dict[str, int] = {}
-        for source in sources:
-            both = (least.get(self.ids[source]), short[self.ids[source]])
-            costs = [cost for cost in both if cost is not None]
-            if costs:
-                found[source] = min(costs)
+        for source, most in short.items():
+            event, cost = self.lead(source)
+            rest = min(least[self.ids[event]] + cost, inf if most is None else most)
+            if rest < inf:
+                found[source] = int(rest)
         return found
+
+    def search(self, start: int, bounds: dict[int, float]) -> list[float]:
+        """The shortest walk to each event with a bound, where it is shorter than the bound.
+
+        Events of one distance wait together; what is no shorter than all bounds does not wait."""
+        wanted = sorted(bounds, key=bounds.__getitem__)
+        least = [bounds[wanted[-1]]] * len(self.out)
+        least[start] = 0
+        waiting, heap, done = {0: [start]}, [0], set[int]()
+        while heap:
+            distance = heappop(heap)
+            while wanted and (wanted[-1] in done or bounds[wanted[-1]] <= distance):
+                wanted.pop()
+            if not wanted:
+                break
+            events = waiting[distance]
+            for event in events:
+                if event in done:
+                    continue
+                done.add(event)
+                for other, cost in self.out[event]:
+                    new = distance + cost
+                    if new < least[other]:
+                        least[other] = new
+                        if new not in waiting:
+                            waiting[new] = []
+                            heappush(heap, new)
+                        waiting[new].append(other)
+        return least
+
+    def by_next(self, event: str, back: dict[str, dict[str, int]]) -> dict[str, int]:
+        """The shortest walk back from an event that is stepped over, by those from the next ones.
+
+        A walk from a next event back to this one ends with the order into this one."""
+        before, cost = self.lead(event)
+        costs = [
+            self.costs[event, end] + back[end][event] - cost
+            for end in self.after.get(event, ())
+            if event in back[end]
+        ]
+        return {before: min(costs)} if costs else {}
 
 
 def other_of(event: str) -> str:
@@ -101,11 +166,9 @@ def other_of(event: str) -> str:
 
 def exact(ways: list[Way], period: Period) -> Iterator[Optional[Fraction]]:
     """The margin of each order; None where no cycle goes through it."""
-    into: dict[str, list[str]] = {}
-    for way in ways:
-        into.setdefault(way.target, []).append(way.source)
     walks = Walks(ways)
-    back = {target: walks.back(target, sources) for target, sources in into.items()}
+    back = {target: walks.back(target) for target in walks.into if target not in walks.before}
+    back.update({event: walks.by_next(event, back) for event in walks.before})
     for way in ways:
         rest = back[way.target].get(way.source)
         yield None if rest is None else Fraction(way.cost + rest, period.q)

@@ -3,7 +3,8 @@
 An order from a producer to a consumer takes the longest path of tables from the nets of the one to
 those of the other, and the latch; the two orders of a node take the controller each; an order back
 from a consumer takes 0. A line is `SOURCE TARGET DELAY`, in any unit of time; behind it stand the
-names of the registers as a comment.
+names of the registers as a comment. Names, and orders that take 0, are left out where the file
+would be longer than the 16 MiB that `desync` reads.
 
 With --gates a file of lines `INPUTS DELAY` or `NET DELAY` says how long tables take: by the number
 of their inputs, or by the net that they drive, which counts first. A word of digits is a number of
@@ -14,7 +15,7 @@ from __future__ import annotations
 
 from desync_tools.clusters import Split, take_groups, take_mode
 from desync_tools.command import Parser, parser, put
-from desync_tools.gates import Gates, edges_of, lines, take_delays
+from desync_tools.gates import Gates, edges_of, lines, short, take_delays
 from desync_tools.manual import GROUPS, NETLIST, Example, File, Manual
 from desync_tools.netlist import read_netlist
 
@@ -62,5 +63,5 @@ def main(argv: list[str]) -> int:
     netlist = read_netlist(asked.netlist, True)
     gates = Gates(asked, netlist)
     split = Split(netlist, asked.clusters, asked.groups)
-    put("latin-1", list(lines(split, gates, edges_of(split, gates))))
+    put("latin-1", short(list(lines(split, gates, edges_of(split, gates)))))
     return 0
