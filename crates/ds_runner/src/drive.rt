@@ -14,7 +14,11 @@ use crate::workload::Workload;
 use ds_fabric::Compute;
 use ds_outside::Gate;
 use ds_rule::Rows;
+use std::hint;
 use std::thread;
+
+// A worker that finds nothing yields its processor once in so many searches.
+const SPINS: u32 = 8;
 
 /// Visits one node after another, within the budget.
 pub fn drive<J: Rows, C: Compute, G: Gate>(
@@ -77,8 +81,8 @@ fn tell_all<J: Rows, C: Compute, G: Gate>(
     }
 }
 
-// Lets others go first after a look at all nodes without a take: who has what it waits for may want
-// its processor. False: the worker ends.
+// After looks without a take: spins for a moment, or lets others go first, since who has what it
+// waits for may want its processor. False: the worker ends.
 fn wait<J: Rows, C: Compute, G: Gate>(
     workload: &Workload<'_, '_, J, C, G>,
     worker: &Worker,
@@ -86,15 +90,22 @@ fn wait<J: Rows, C: Compute, G: Gate>(
 ) -> bool
     ensures { IsTrue result → Waits left.old left.new }
 {
-    let looks = worker
-        .search_path
-        .part
-        .count()
-        .saturating_add(worker.search_path.all.count()) as u64;
+    let looks = looks_of(&worker.search_path);
     if left.looks <= looks || workload.fabric.seems_over() {
         return false;
     }
     left.looks -= looks + 1;
-    thread::yield_now();
+    if worker.search_path.dry % SPINS == 0 {
+        thread::yield_now();
+    } else {
+        hint::spin_loop();
+    }
     true
+}
+
+// How many nodes the last search looked at, where it found none.
+fn looks_of(search_path: &SearchPath) -> u64 {
+    let own = search_path.part.count();
+    let all = if search_path.far { search_path.all.count() } else { 0 };
+    own.saturating_add(all) as u64
 }

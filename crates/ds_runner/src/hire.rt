@@ -11,7 +11,7 @@ ghost use Rattle.ds_runner.specs.Work.{IsWorkerPool};
 ghost use Rattle.ds_runner.specs.Work.{IsUnfired};
 
 use crate::hints::Hints;
-use crate::parts::borders_of;
+use crate::parts::{borders_of, parts_of};
 use crate::round_robin::RoundRobin;
 use crate::scheduler::Scheduler;
 use crate::search_path::SearchPath;
@@ -26,6 +26,12 @@ use ds_fabric::{Compute, Pass};
 use ds_outside::Gate;
 use ds_rule::Rows;
 use std::alloc::Global;
+
+// How often in a row the own part of a worker may have nothing before it looks beyond it.
+const PATIENCE: u32 = 64;
+
+// The same for a worker without a part.
+const RARELY: u32 = 256;
 
 /// So many workers, with a turn more for the caller. The pass is left without nodes.
 pub fn hire<J: Rows, C: Compute, G: Gate>(
@@ -129,11 +135,11 @@ fn enlist<J: Rows, C: Compute, G: Gate>(
     ensures ok_turn { OnOk result (IsTurnOf stile.now turn.new × HasNone turn.new.view
         × (turn.new.view.parts ≡ 1) × (turn.new.view.made ≡ 0)) }
 {
-    let borders = borders_of(alloc, workload, count)?;
+    let parts = parts_of(workload, count);
+    let borders = borders_of(alloc, workload, parts)?;
     let mut workers = Vec::with_capacity(alloc, count as usize)?;
     'hiring: for number in 0..count {
-        let at = number as usize;
-        let part = RoundRobin::over(borders[at], borders[at + 1]);
+        let part = part_at(borders.as_slice(), number as usize);
         let (scratch, search_path) = outfit(alloc, workload, part)?;
         let own = stile.split(turn);
         workers.push_reserved(Worker {
@@ -144,6 +150,15 @@ fn enlist<J: Rows, C: Compute, G: Gate>(
         });
     }
     Ok(workers)
+}
+
+// The part of a worker: none where there are fewer parts than workers.
+fn part_at(borders: &[usize], number: usize) -> RoundRobin {
+    if number < borders.len().saturating_sub(1) {
+        RoundRobin::over(borders[number], borders[number + 1])
+    } else {
+        RoundRobin::over(0, 0)
+    }
 }
 
 // What a worker works in, and where it looks.
@@ -166,12 +181,16 @@ fn search_path_of(
     nodes: usize,
 ) -> Result<SearchPath, OutOfMemory> {
     let hints = Hints::of(alloc)?;
+    let patience = if part.count() == 0 { RARELY } else { PATIENCE };
     Ok(SearchPath {
         hints,
         part,
         all: RoundRobin::over(0, nodes),
         begins: vec![in alloc; 0u8; nodes]?,
         soon: false,
+        far: false,
+        dry: 0,
+        patience,
     })
 }
 

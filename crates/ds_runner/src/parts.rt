@@ -14,6 +14,9 @@ use std::alloc::Global;
 // What the two firings of a node in a turn take beside the work of its opening, counted in tables.
 const FIRINGS: u64 = 48;
 
+// The least work of a part in a turn, counted in tables.
+const PART: u64 = 1500;
+
 /// Where the parts begin, of which there are so many, and the number of nodes behind the last.
 pub fn borders_of<J: Rows, C: Compute, G: Gate>(
     alloc: Global,
@@ -32,6 +35,16 @@ pub fn borders_of<J: Rows, C: Compute, G: Gate>(
     }
     borders.push_reserved(workload.run.nodes());
     Ok(borders)
+}
+
+/// How many parts pay for so many workers: where a part has little work beside the firings, one
+/// worker waits for another longer than it works.
+pub fn parts_of<J: Rows, C: Compute, G: Gate>(workload: &Workload<'_, '_, J, C, G>, count: u32) -> u32
+    requires count { 0 < count }
+    ensures { (0 < result) × (result ≤ count) }
+{
+    let pay = (work_of(workload) / PART).min(count as u64) as u32;
+    if pay == 0 { 1 } else { pay }
 }
 
 /// The work of all nodes in a turn, counted in tables. A hint, as what it is made of.

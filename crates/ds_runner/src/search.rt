@@ -1,6 +1,7 @@
-//! How a worker finds a node to try: by a hint of its own, in its own part, by a hint of another
-//! worker, or in its round over all nodes. Plain looks say what seems due; a take alone says
-//! whether the pass is there.
+//! How a worker finds a node to try: in its own part; and where that has had nothing for long, by a
+//! hint, or in a round over all nodes. So a worker keeps its part, and what it has computed for one
+//! node serves the next. Plain looks say what seems due; a take alone says whether the pass is
+//! there.
 ghost use Rattle.std.specs.Prelude.{◌<◌, IsTrue, IfSome};
 ghost use Rattle.ds_runner.specs.Work.{HasPassOfEach};
 
@@ -31,14 +32,39 @@ pub fn search<J: Rows, C: Compute, G: Gate>(
     ensures near { IfSome result (λ n. n < workload.now.run.nodes) }
 {
     search_path.soon = false;
+    search_path.far = false;
+    let begins = search_path.begins.as_mut_slice();
+    if let Some(node) = next_due(workload, scheduler, begins, &mut search_path.part) {
+        search_path.soon = search_path.part.looks < SOON;
+        search_path.dry = 0;
+        return Some(node);
+    }
+    if search_path.dry < search_path.patience {
+        search_path.dry += 1;
+        return None;
+    }
+    search_path.far = true;
+    let found = elsewhere(workload, scheduler, number, search_path);
+    if found.is_none() || search_path.part.count() == 0 {
+        search_path.dry = 0;
+    }
+    found
+}
+
+// A node of any part that seems due: one that was told of, or one of all.
+fn elsewhere<J: Rows, C: Compute, G: Gate>(
+    workload: &Workload<'_, '_, J, C, G>,
+    scheduler: &Scheduler,
+    number: u32,
+    search_path: &mut SearchPath,
+) -> Option<usize>
+    requires fits { HasPassOfEach workload.now scheduler.now.stile }
+    ensures near { IfSome result (λ n. n < workload.now.run.nodes) }
+{
     if let Some(node) = hinted(workload, scheduler, search_path) {
         return Some(node);
     }
     let begins = search_path.begins.as_mut_slice();
-    if let Some(node) = next_due(workload, scheduler, begins, &mut search_path.part) {
-        search_path.soon = search_path.part.looks < SOON;
-        return Some(node);
-    }
     if let Some(node) = stolen(workload, scheduler, begins, number) {
         return Some(node);
     }

@@ -14,4 +14,10 @@ pub struct SearchPath {
     pub begins: Vec<u8>,
     /// The node found last is of the own part, and was found soon.
     pub soon: bool,
+    /// The last search went beyond the own part.
+    pub far: bool,
+    /// How often in a row the own part had nothing, and how often it may before the worker looks
+    /// beyond it.
+    pub dry: u32,
+    pub patience: u32,
 }
