@@ -14,10 +14,9 @@ use crate::workload::Workload;
 use ds_fabric::Compute;
 use ds_outside::Gate;
 use ds_rule::Rows;
-use std::hint;
-use std::thread;
+use std::{hint, thread};
 
-// A worker that finds nothing yields its processor once in so many searches.
+// A worker with a part that finds nothing yields its processor once in so many searches.
 const SPINS: u32 = 8;
 
 /// Visits one node after another, within the budget.
@@ -58,7 +57,7 @@ fn visit_next<J: Rows, C: Compute, G: Gate>(
 {
     let node = search(workload, scheduler, worker.number, &mut worker.search_path)?;
     let fired = visit(workload, scheduler, worker, node, most);
-    if !worker.search_path.soon {
+    if !worker.search_path.own {
         tell_all(workload, scheduler, &mut worker.search_path, fired);
     }
     Some(fired.count())
@@ -95,7 +94,7 @@ fn wait<J: Rows, C: Compute, G: Gate>(
         return false;
     }
     left.looks -= looks + 1;
-    if worker.search_path.dry % SPINS == 0 {
+    if is_time_to_yield(&worker.search_path) {
         thread::yield_now();
     } else {
         hint::spin_loop();
@@ -103,9 +102,18 @@ fn wait<J: Rows, C: Compute, G: Gate>(
     true
 }
 
+// Whether the worker lets others go first: always where it has no part of its own.
+fn is_time_to_yield(search_path: &SearchPath) -> bool {
+    search_path.part.count() == 0 || search_path.dry % SPINS == 0
+}
+
 // How many nodes the last search looked at, where it found none.
 fn looks_of(search_path: &SearchPath) -> u64 {
     let own = search_path.part.count();
-    let all = if search_path.far { search_path.all.count() } else { 0 };
+    let all = if search_path.far {
+        search_path.all.count()
+    } else {
+        0
+    };
     own.saturating_add(all) as u64
 }

@@ -16,6 +16,7 @@ use crate::round_robin::RoundRobin;
 use crate::scheduler::Scheduler;
 use crate::search_path::SearchPath;
 use crate::targets::arcs_from;
+use crate::watch::Watch;
 use crate::worker::Worker;
 use crate::worker_pool::WorkerPool;
 use crate::workload::Workload;
@@ -26,12 +27,6 @@ use ds_fabric::{Compute, Pass};
 use ds_outside::Gate;
 use ds_rule::Rows;
 use std::alloc::Global;
-
-// How often in a row the own part of a worker may have nothing before it looks beyond it.
-const PATIENCE: u32 = 64;
-
-// The same for a worker without a part.
-const RARELY: u32 = 256;
 
 /// So many workers, with a turn more for the caller. The pass is left without nodes.
 pub fn hire<J: Rows, C: Compute, G: Gate>(
@@ -181,16 +176,17 @@ fn search_path_of(
     nodes: usize,
 ) -> Result<SearchPath, OutOfMemory> {
     let hints = Hints::of(alloc)?;
-    let patience = if part.count() == 0 { RARELY } else { PATIENCE };
+    let mut all = RoundRobin::over(0, nodes);
+    all.at = if part.end < nodes { part.end } else { 0 };
     Ok(SearchPath {
         hints,
         part,
-        all: RoundRobin::over(0, nodes),
+        all,
         begins: vec![in alloc; 0u8; nodes]?,
-        soon: false,
-        far: false,
+        own: false,
         dry: 0,
-        patience,
+        far: false,
+        watch: Watch::new(),
     })
 }
 

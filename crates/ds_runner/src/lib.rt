@@ -3,9 +3,9 @@
 //!
 //! `run` gives each node a pass of its own and puts these into a turnstile, from which any worker
 //! takes the pass of any node that is due, steps it once or twice, and gives it back. A worker
-//! looks first where it was told of a node, then among its own part of the nodes, then at what
-//! others were told, then everywhere. It ends once all is done, or its budget is used up, of takes,
-//! of firings or of looks in rounds without a take. Then the caller takes all passes in and fires
+//! looks among its own part of the nodes. Where that has nothing, it watches a node of another
+//! part, and takes it if it is left for long. It ends once all is done, or its budget is used up,
+//! of takes, of firings or of looks in rounds without a take. Then the caller takes all passes in and fires
 //! what is left; with one job it fires all. The record at the end is that of one legal list in
 //! which each event stands as often as it may fire, whatever the gate does and however threads are
 //! timed. With a quota each worker ends after so many firings, and the caller fires only while
@@ -46,6 +46,7 @@ mod turning;
 mod turnstile;
 mod unit;
 mod visit;
+mod watch;
 mod worker;
 mod worker_pool;
 mod workers;

@@ -1,6 +1,5 @@
-//! The nodes shared out: each worker has a part of them, in which it looks where its own hints name
-//! no node that is due. By the hints of the run all parts take about the same work, where cones do
-//! not overlap.
+//! The nodes shared out among the workers, as many parts as pay. By the hints of the run all parts
+//! take about the same work, where cones do not overlap.
 ghost use Rattle.std.specs.Prelude.{◌≡◌, ◌<◌, ◌≤◌, IfOk};
 ghost use Rattle.ds_runner.specs.Parts.{AreBorders};
 
@@ -16,6 +15,12 @@ const FIRINGS: u64 = 48;
 
 // The least work of a part in a turn, counted in tables.
 const PART: u64 = 1500;
+
+// What the tickets of a node in a turn take, where several workers draw them, and what it takes
+// them to wait for each other, counted in tables.
+const DRAWS: u64 = 50;
+
+const MEETING: u64 = 330;
 
 /// Where the parts begin, of which there are so many, and the number of nodes behind the last.
 pub fn borders_of<J: Rows, C: Compute, G: Gate>(
@@ -37,14 +42,26 @@ pub fn borders_of<J: Rows, C: Compute, G: Gate>(
     Ok(borders)
 }
 
-/// How many parts pay for so many workers: where a part has little work beside the firings, one
-/// worker waits for another longer than it works.
-pub fn parts_of<J: Rows, C: Compute, G: Gate>(workload: &Workload<'_, '_, J, C, G>, count: u32) -> u32
-    requires count { 0 < count }
-    ensures { (0 < result) × (result ≤ count) }
+/// How many parts pay for so many workers: one, where the workers would take about as long as one
+/// of them alone, since draws of several workers take longer, and parts are uneven.
+pub fn parts_of<J: Rows, C: Compute, G: Gate>(
+    workload: &Workload<'_, '_, J, C, G>,
+    workers: u32,
+) -> u32
+    requires workers { 0 < workers }
+    ensures { (0 < result) × (result ≤ workers) }
 {
-    let pay = (work_of(workload) / PART).min(count as u64) as u32;
-    if pay == 0 { 1 } else { pay }
+    let work = work_of(workload);
+    let parts = (work / PART).min(workers as u64) as u32;
+    if parts < 2 {
+        return 1;
+    }
+    let part = work / parts as u64;
+    let draws = DRAWS.saturating_mul(workload.run.nodes() as u64);
+    let together = part
+        .saturating_add(part / 4)
+        .saturating_add(draws.saturating_add(MEETING));
+    if together < work - work / 8 { parts } else { 1 }
 }
 
 /// The work of all nodes in a turn, counted in tables. A hint, as what it is made of.

@@ -2,25 +2,23 @@
 ghost use Rattle.std.specs.Prelude.{◌≡◌};
 
 /// A round over the nodes from `first` up to but not including `end`, which begins again at its
-/// end. `at` comes next; `looks` counts those that the last search that found one passed over.
+/// end. `at` comes next.
 #[derive(Clone, Copy)]
 pub struct RoundRobin {
     pub first: usize,
     pub end: usize,
     pub at: usize,
-    pub looks: usize,
 }
 
 impl RoundRobin {
     /// The round that begins at `first`.
     pub fn over(first: usize, end: usize) -> RoundRobin
-        ensures { result ≡ record { first = first; end = end; at = first; looks = 0 } }
+        ensures { result ≡ record { first = first; end = end; at = first } }
     {
         RoundRobin {
             first,
             end,
             at: first,
-            looks: 0,
         }
     }
 

@@ -1,7 +1,7 @@
-//! How a worker finds a node to try: in its own part; and where that has had nothing for long, by a
-//! hint, or in a round over all nodes. So a worker keeps its part, and what it has computed for one
-//! node serves the next. Plain looks say what seems due; a take alone says whether the pass is
-//! there.
+//! How a worker finds a node to try: in its own part; and where that has nothing, it watches a node
+//! of another part, and takes it if it is left for long. So each worker keeps to its part, and what
+//! it has computed for one node serves the next; but where a worker is held up, others do its work.
+//! Plain looks say what seems due; a take alone says whether the pass is there.
 ghost use Rattle.std.specs.Prelude.{◌<◌, IsTrue, IfSome};
 ghost use Rattle.ds_runner.specs.Work.{HasPassOfEach};
 
@@ -18,8 +18,11 @@ use ds_rule::Rows;
 // The most hints that are tried before a worker looks for itself.
 const HINTS: usize = 256;
 
-// A part in which a node is found within so many looks needs no hints.
-const SOON: usize = 16;
+// A worker looks for a node of another part once in so many searches that find nothing.
+const RARELY: u32 = 16;
+
+// The same for a worker without a part.
+const SELDOM: u32 = 256;
 
 /// The node that the worker tries next. None: no node seems due.
 pub fn search<J: Rows, C: Compute, G: Gate>(
@@ -31,24 +34,58 @@ pub fn search<J: Rows, C: Compute, G: Gate>(
     requires fits { HasPassOfEach workload.now scheduler.now.stile }
     ensures near { IfSome result (λ n. n < workload.now.run.nodes) }
 {
-    search_path.soon = false;
     search_path.far = false;
     let begins = search_path.begins.as_mut_slice();
     if let Some(node) = next_due(workload, scheduler, begins, &mut search_path.part) {
-        search_path.soon = search_path.part.looks < SOON;
+        search_path.own = true;
         search_path.dry = 0;
+        search_path.watch.stop();
         return Some(node);
     }
-    if search_path.dry < search_path.patience {
-        search_path.dry += 1;
+    search_path.own = false;
+    search_path.dry = search_path.dry.saturating_add(1);
+    beyond(workload, scheduler, number, search_path)
+}
+
+// A node of another part that was left for long.
+fn beyond<J: Rows, C: Compute, G: Gate>(
+    workload: &Workload<'_, '_, J, C, G>,
+    scheduler: &Scheduler,
+    number: u32,
+    search_path: &mut SearchPath,
+) -> Option<usize>
+    requires fits { HasPassOfEach workload.now scheduler.now.stile }
+    ensures near { IfSome result (λ n. n < workload.now.run.nodes) }
+{
+    if let Some(node) = search_path.watch.node() {
+        let begins = search_path.begins.as_mut_slice();
+        if is_due(workload, scheduler, begins, node) {
+            if search_path.watch.is_left() {
+                return Some(node);
+            }
+        } else {
+            search_path.watch.give_up();
+        }
         return None;
     }
-    search_path.far = true;
-    let found = elsewhere(workload, scheduler, number, search_path);
-    if found.is_none() || search_path.part.count() == 0 {
-        search_path.dry = 0;
+    if looks_far(search_path) {
+        search_path.far = true;
+        match elsewhere(workload, scheduler, number, search_path) {
+            Some(node) => search_path.watch.begin(node),
+            None => search_path.watch.give_up(),
+        }
     }
-    found
+    None
+}
+
+// Whether it is time to look for a node of another part.
+fn looks_far(search_path: &SearchPath) -> bool {
+    let each = if search_path.part.count() == 0 {
+        SELDOM
+    } else {
+        RARELY
+    };
+    search_path.watch.is_brief() || search_path.dry % each == 0
 }
 
 // A node of any part that seems due: one that was told of, or one of all.
@@ -125,10 +162,9 @@ fn next_due<J: Rows, C: Compute, G: Gate>(
     requires fits { HasPassOfEach workload.now scheduler.now.stile }
     ensures near { IfSome result (λ n. n < workload.now.run.nodes) }
 {
-    for looks in 0..ring.count() {
+    for _ in 0..ring.count() {
         let node = ring.step();
         if is_due(workload, scheduler, begins, node) {
-            ring.looks = looks;
             return Some(node);
         }
     }

@@ -30,6 +30,9 @@ use std::alloc::Global;
 use std::thread;
 use std::thread::Threads;
 
+// The looks that each worker has at least: as long as it takes another worker to begin.
+const LOOKS: u64 = 8192;
+
 /// Who fires the events of a run: so many workers, from 1 to 64, in these threads. Each calls the
 /// gate before a step.
 #[derive(Drop)]
@@ -206,6 +209,6 @@ fn budget<J: Rows, C: Compute, G: Gate>(
         workers,
         takes,
         firings,
-        looks: due.saturating_mul(each) / workers as u64,
+        looks: (due.saturating_mul(each) / workers as u64).saturating_add(LOOKS),
     }
 }
