@@ -90,7 +90,7 @@ fn wait<J: Rows, C: Compute, G: Gate>(
     ensures { IsTrue result → Waits left.old left.new }
 {
     let looks = looks_of(&worker.search_path);
-    if left.looks <= looks || workload.fabric.seems_over() {
+    if left.looks <= looks || is_over(workload, &worker.search_path) {
         return false;
     }
     left.looks -= looks + 1;
@@ -100,6 +100,15 @@ fn wait<J: Rows, C: Compute, G: Gate>(
         hint::spin_loop();
     }
     true
+}
+
+// Whether all seems done. Only after a search over all nodes a worker looks at the word that each
+// draw of a ticket changes: a look makes the next draw slower.
+fn is_over<J: Rows, C: Compute, G: Gate>(
+    workload: &Workload<'_, '_, J, C, G>,
+    search_path: &SearchPath,
+) -> bool {
+    search_path.far && workload.fabric.seems_over()
 }
 
 // Whether the worker lets others go first: always where it has no part of its own.

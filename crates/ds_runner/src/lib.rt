@@ -5,12 +5,12 @@
 //! takes the pass of any node that is due, steps it once or twice, and gives it back. A worker
 //! looks among its own part of the nodes. Where that has nothing, it watches a node of another
 //! part, and takes it if it is left for long. It ends once all is done, or its budget is used up,
-//! of takes, of firings or of looks in rounds without a take. Then the caller takes all passes in and fires
-//! what is left; with one job it fires all. The record at the end is that of one legal list in
-//! which each event stands as often as it may fire, whatever the gate does and however threads are
-//! timed. With a quota each worker ends after so many firings, and the caller fires only while
-//! fewer have fired in all: the list has that many events, or all, or more, but at most as many for
-//! each worker. Nothing is promised of time, or of which worker fires what.
+//! of takes, of firings or of looks in rounds without a take. Then the caller takes all passes in
+//! and fires what is left; with one job it fires all. The record at the end is that of one legal
+//! list in which each event stands as often as it may fire, whatever the gate does and however
+//! threads are timed. With a quota each worker ends after so many firings, and the caller fires
+//! only while fewer have fired in all: the list has that many events, or all, or more, but at most
+//! as many for each worker. Nothing is promised of time, or of which worker fires what.
 //!
 //! A turnstile: any thread takes the pass of any node, one thread at a time. A `Turnstile` is seen
 //! as its table, the passes that it was built with, and the number of turns. It has a word and a

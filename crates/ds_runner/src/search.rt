@@ -44,36 +44,19 @@ pub fn search<J: Rows, C: Compute, G: Gate>(
     }
     search_path.own = false;
     search_path.dry = search_path.dry.saturating_add(1);
-    beyond(workload, scheduler, number, search_path)
-}
-
-// A node of another part that was left for long.
-fn beyond<J: Rows, C: Compute, G: Gate>(
-    workload: &Workload<'_, '_, J, C, G>,
-    scheduler: &Scheduler,
-    number: u32,
-    search_path: &mut SearchPath,
-) -> Option<usize>
-    requires fits { HasPassOfEach workload.now scheduler.now.stile }
-    ensures near { IfSome result (λ n. n < workload.now.run.nodes) }
-{
     if let Some(node) = search_path.watch.node() {
         let begins = search_path.begins.as_mut_slice();
-        if is_due(workload, scheduler, begins, node) {
-            if search_path.watch.is_left() {
-                return Some(node);
-            }
+        let due = is_due(workload, scheduler, begins, node);
+        return if search_path.watch.sees(due) {
+            Some(node)
         } else {
-            search_path.watch.give_up();
-        }
-        return None;
+            None
+        };
     }
     if looks_far(search_path) {
         search_path.far = true;
-        match elsewhere(workload, scheduler, number, search_path) {
-            Some(node) => search_path.watch.begin(node),
-            None => search_path.watch.give_up(),
-        }
+        let found = elsewhere(workload, scheduler, number, search_path);
+        search_path.watch.begin(found);
     }
     None
 }

@@ -1,5 +1,6 @@
 //! A node of another part that seems due, watched for as long as its own worker may take to come
 //! by.
+ghost use Rattle.std.specs.Prelude.{IsTrue};
 
 // At how many looks in a row a node has to seem due before a worker takes it from another part.
 const LONG: u32 = 64;
@@ -36,14 +37,24 @@ impl Watch {
         self.patience < LONG
     }
 
-    /// Watches this node from now on.
-    pub fn begin(&mut self, node: usize) {
-        self.node = Some(node);
+    /// Watches this node from now on. None: the others seem to be at work.
+    pub fn begin(&mut self, node: Option<usize>) {
+        if node.is_none() {
+            self.patience = LONG;
+        }
+        self.node = node;
         self.looks = 0;
     }
 
-    /// The node seems due at one look more. True: it was left for long, and the watch ends.
-    pub fn is_left(&mut self) -> bool {
+    /// The node is looked at once more, and seems due or not. True: it was left for long. Then the
+    /// watch ends, and where it does not seem due, as the others are at work.
+    pub fn sees(&mut self, due: bool) -> bool
+        ensures { IsTrue result → IsTrue due }
+    {
+        if !due {
+            self.begin(None);
+            return false;
+        }
         self.looks = self.looks.saturating_add(1);
         if self.looks < self.patience {
             return false;
@@ -56,11 +67,5 @@ impl Watch {
     /// No node is watched any more.
     pub fn stop(&mut self) {
         self.node = None;
-    }
-
-    /// The node does not seem due any more, or there is none: the others are at work.
-    pub fn give_up(&mut self) {
-        self.node = None;
-        self.patience = LONG;
     }
 }
