@@ -12,7 +12,7 @@ use Rattle.ds_design.specs.Rows.{Rows}
 use Rattle.ds_design.specs.Trace.{AreLines, end_line}
 use Rattle.ds_latch.specs.Plan.{Planned}
 use Rattle.ds_clocked.proofs.OneMoreTurn.{whole_trace}
-use Rattle.ds_run.specs.Ended.{IsRunEnd}
+use Rattle.ds_run.specs.WindowedText.{IsRunEnd}
 use Rattle.ds_run.specs.Logged.{IsLogOf, Listed}
 use Rattle.ds_run.proofs.WindowTexts.{end_spells_run}
 use Rattle.ds_run.proofs.Logged.{legal_events, log_more}

@@ -18,7 +18,7 @@ use ds_design::{Design, Netlist};
 use ds_latch::Plan;
 use ds_netlist::{NetFault, levelise};
 use ds_outside::{Gate, OnSink, Sink, WriteFault};
-use ds_run::{Sums, Workers, sum_run};
+use ds_run::{Sums, WorkerSettings, sum_run};
 use ds_stage::{Stop, no_groups, own_plan, put_count, split_groups};
 use std::alloc::Global;
 use std::thread::Threads;
@@ -84,7 +84,7 @@ fn sums_of<R: AllocGlobal + Threads + Sync, G: Gate>(
     let (design, vectors) = make(alloc, job.seed, job.registers, job.turns)?;
     let netlist = netlist_of(alloc, design)?;
     let plan = plan_for(alloc, &netlist)?;
-    let workers = Workers {
+    let workers = WorkerSettings {
         threads: rt,
         jobs: job.jobs,
         gate,

@@ -5,7 +5,7 @@ ghost use Rattle.ds_design.specs.Circuit.{columns, initial_row};
 ghost use Rattle.ds_cmd.specs.declared.job.Job.TheVariants.{Run};
 ghost use Rattle.ds_clocked.specs.declared.run.SimFault.TheVariants as faults;
 ghost use Rattle.ds_stream.specs.Next.{FitsHeld};
-ghost use Rattle.ds_run.specs.Ended.{IsSomeLog, WritesEnd};
+ghost use Rattle.ds_run.specs.WindowedText.{IsSomeLog, WritesEnd};
 ghost use Rattle.ds_run.specs.Logged.{IsLogOf};
 ghost use Rattle.ds_stage.specs.declared.stop.Stop.TheVariants.{Memory, Unwritten};
 ghost use Rattle.ds_stage.specs.Ends.{Ends, RoseIn, UnlessUnread, UnlessUnwritten, output_between};
@@ -19,7 +19,7 @@ use ds_clocked::SimFault;
 use ds_cmd::RunJob;
 use ds_latch::Plan;
 use ds_outside::{Files, Gate, Sink, WriteFault};
-use ds_run::{Log, RunWindow, Workers, end_run, write_window};
+use ds_run::{Log, RunWindow, WorkerSettings, end_run, write_window};
 use ds_stage::{Splitting, Stop, WINDOW, most_vectors, plan_netlist, read_netlist, read_window};
 use ds_stream::VectorReader;
 use std::alloc::Global;
@@ -55,7 +55,7 @@ pub fn run<R: AllocGlobal + Threads + Sync, G: Gate, F: Files, O: Sink>(
     let net = job.net.as_str();
     let netlist = read_netlist(alloc, files, net)?;
     let mut plan = plan_netlist(alloc, files, net, &netlist, &job.graph, splitting)?;
-    let workers = Workers {
+    let workers = WorkerSettings {
         threads: rt,
         jobs: job.jobs,
         gate,
@@ -65,7 +65,7 @@ pub fn run<R: AllocGlobal + Threads + Sync, G: Gate, F: Files, O: Sink>(
 
 // Runs a plan by these workers, to its end or to its stop.
 fn run_planned<R: AllocGlobal + Threads + Sync, G: Gate, F: Files, O: Sink>(
-    workers: &Workers<'_, R, G>,
+    workers: &WorkerSettings<'_, R, G>,
     job: &RunJob,
     plan: &mut Plan<'_>,
     files: &mut F,
@@ -94,7 +94,7 @@ fn run_planned<R: AllocGlobal + Threads + Sync, G: Gate, F: Files, O: Sink>(
 // Runs a plan by these workers window by window, each begun with the registers behind the one
 // before, and writes its trace, and its log where one is wanted.
 fn write_traced<R: AllocGlobal + Threads + Sync, G: Gate, F: Files, O: Sink>(
-    workers: &Workers<'_, R, G>,
+    workers: &WorkerSettings<'_, R, G>,
     job: &RunJob,
     plan: &mut Plan<'_>,
     files: &mut F,

@@ -11,7 +11,7 @@ use crate::run::stop_of;
 use ds_cmd::RunJob;
 use ds_latch::Plan;
 use ds_outside::{Files, Gate, Sink};
-use ds_run::{Halt, Workers, write_stopped};
+use ds_run::{Halt, WorkerSettings, write_stopped};
 use ds_stage::{Stop, read_rows};
 use std::thread::Threads;
 
@@ -26,7 +26,7 @@ pub struct PlannedStop<'a, 'n> {
 /// each register has stored then and how many firings there were, and the log where one is wanted.
 #[tactic(auto)]
 pub fn write_at_stop<R: AllocGlobal + Threads + Sync, G: Gate, F: Files, O: Sink>(
-    workers: &Workers<'_, R, G>,
+    workers: &WorkerSettings<'_, R, G>,
     job: &RunJob,
     planned: &PlannedStop<'_, '_>,
     files: &mut F,
@@ -57,7 +57,7 @@ pub fn write_at_stop<R: AllocGlobal + Threads + Sync, G: Gate, F: Files, O: Sink
 // Has these workers run a plan to its stop, and writes what its registers have stored.
 #[tactic(auto)]
 fn write_halted<R: AllocGlobal + Threads + Sync, G: Gate, O: Sink>(
-    workers: &Workers<'_, R, G>,
+    workers: &WorkerSettings<'_, R, G>,
     halt: &Halt<'_, '_>,
     log: bool,
     out: &mut O,

@@ -1,4 +1,4 @@
-//! The top call: the words to a job. `clap` splits them, and each command reads its values.
+//! The call of this crate: the words to a job. `clap` splits them, each command reads its values.
 ghost use Rattle.std.specs.Prelude.{◌≡◌, ◌⊎◌, drop, map, IfOk};
 ghost use Rattle.clap.specs.Words.{found_of, kind_of, rows_of, subcommand_rows_of};
 ghost use Rattle.ds_cmd.specs.Allowed.{AreAllowed};

@@ -14,7 +14,7 @@ use lib.ListN.{get_elem?}
 use Rattle.atomic_table.proofs.Lists.{at_longer}
 use Rattle.ds_rule.specs.Run.{Run, events, node_of, turns}
 use Rattle.ds_rule.specs.Sound.{IsSound}
-use Rattle.ds_fabric.specs.Told.{stride_of, turns_told}
+use Rattle.ds_fabric.specs.HistoryList.{stride_of, turns_told}
 use Rattle.ds_rule.specs.Rule.{holds, tickets, seen, first_view}
 use Rattle.ds_rule.specs.Plays.{Sat, with_cut, without_cut, only_cut, taken_in}
 use Rattle.ds_rule.specs.declared.view.View.{View}
@@ -41,7 +41,7 @@ first_keeps run me nodes sound is blank =
     subst P (sym is) (record {
       no_slot = refl;
       live = refl;
-      rests = refl;
+      idle = refl;
       held_long = length-replicate run.nodes true;
       tickets_long = length-replicate (events run) [];
       seen_long = length-replicate run.nodes 0;
@@ -112,7 +112,7 @@ deals_left me me' nodes ys i node h k at same is out =
     subst P (sym is) (record {
       no_slot = k.no_slot;
       live = k.live;
-      rests = k.rests;
+      idle = k.idle;
       held_long = length-set v.holds node false ∙ k.held_long;
       tickets_long = k.tickets_long;
       seen_long = k.seen_long;
@@ -163,7 +163,7 @@ deals_right me me' nodes i node h k at same is =
     subst P (sym is) (record {
       no_slot = refl;
       live = k.live;
-      rests = k.rests;
+      idle = k.idle;
       held_long = length-set blank node true ∙ (length-replicate (length v.holds) false
           ∙ k.held_long);
       tickets_long = k.tickets_long;
@@ -237,7 +237,7 @@ gathers_keep me he me' nodes others k g run is counts clear =
     subst P (sym is) (record {
       no_slot = k.no_slot;
       live = k.live;
-      rests = k.rests;
+      idle = k.idle;
       held_long = length-listed (λ l. holds v l || holds w l) R.nodes;
       tickets_long = length-listed (λ e. cond (holds w (node_of R e)) (tickets w e) (tickets v e))
           (events R);

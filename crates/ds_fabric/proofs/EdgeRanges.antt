@@ -13,7 +13,7 @@ use Rattle.ds_rule.specs.Rows.{row, supply_but}
 use Rattle.ds_rule.proofs.GetElemLemmas.{at_get, get-first}
 use Rattle.ds_rule.proofs.RowLaws.{supply_but-past, supply_but-into, supply_but-known}
 use Rattle.ds_rule.proofs.RowLaws.{edge-there}
-use Rattle.ds_rule.specs.declared.layout.DataEdge.{DataEdge}
+use Rattle.ds_rule.specs.declared.table_run.DataEdge.{DataEdge}
 use Rattle.ds_fabric.specs.Ranged.{IsFrom, AreFirstEdges}
 
 -- a number that was read off a list

@@ -3,7 +3,7 @@ use Rattle.std.proofs.Common.{◌≡◌, ℕ, ◌<◌, get_or, refl, sym, ap, �
 use Rattle.std.proofs.lemmas.Bool.{false≢true}
 use mathlib.Core.Logic.{dite}
 use native.Mathlib.Decide.{ℕ_discrete}
-use Rattle.ds_rule.specs.Run.{Run, node_of, next, turns, Enabled}
+use Rattle.ds_rule.specs.Run.{Run, node_of, next, turns, IsEnabledInRun}
 use Rattle.ds_rule.specs.Sound.{IsSound}
 use Rattle.ds_rule.specs.Rule.{seen}
 use Rattle.ds_rule.specs.declared.view.View.{View}
@@ -23,7 +23,7 @@ fires_if_enabled run v w l (Fired event turn ticket) sound s all =
     (λ e. at_departure-here v w l x e ∙ ap (seen v) (sym e))
     (λ n. at_departure-else v w l x n ∙ s.no_other x n (all x near)) in
     let own : node_of run event ≡ l = ap (node_of run) s.event_is ∙ node-next run l (seen v l) in (
-      λ _. subst (Enabled run (seen v)) s.event_is (enabled_same run (seen_at_departure v w l)
+      λ _. subst (IsEnabledInRun run (seen v)) s.event_is (enabled_same run (seen_at_departure v w l)
           (seen v) event (at_departure-here v w l (node_of run event) own ∙ ap (seen v) (sym own))
           (λ k d near into. left (node_of run (get_or run.arcs k d).source) (sound.named k d near).0)
           s.enabled),

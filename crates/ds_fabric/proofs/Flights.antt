@@ -4,7 +4,7 @@ use Rattle.std.proofs.Common.{sym, refl, ap, ◌∙◌, subst, arith}
 use mathlib.Core.Option.{none, some}
 use lib.ListN.{get_elem?}
 use Rattle.atomic_table.specs.Table.{step, Allows}
-use Rattle.ds_rule.specs.Run.{Run, count, events, next, opens, turns, Enabled}
+use Rattle.ds_rule.specs.Run.{Run, count, events, next, opens, turns, IsEnabledInRun}
 use Rattle.ds_rule.specs.Words.{width}
 use Rattle.ds_rule.specs.Sound.{IsSound}
 use Rattle.ds_rule.specs.Rule.{Lawful, holds, tickets, seen}
@@ -15,9 +15,9 @@ use Rattle.ds_rule.proofs.GraphLaws.{event_there}
 use Rattle.ds_rule.proofs.Publishes.{publishes}
 use Rattle.ds_fabric.specs.Base.{IsInFlight, HasWritten}
 use Rattle.ds_fabric.specs.declared.history.History.{History}
-use Rattle.ds_fabric.specs.Flown.{HasRoomToFire}
+use Rattle.ds_fabric.specs.Flight.{HasRoomToFire}
 use Rattle.ds_fabric.specs.Looks.{LooksOn, Enough}
-use Rattle.ds_fabric.specs.Told.{new_row}
+use Rattle.ds_fabric.specs.HistoryList.{new_row}
 use Rattle.ds_fabric.specs.Showing.{Tells, Keeps}
 use Rattle.ds_fabric.specs.Stepped.{done}
 use Rattle.ds_fabric.proofs.HistoryLayout.{told_fits}
@@ -53,10 +53,10 @@ coming run me nodes h event before run_is sound k t e n =
     }
 
 -- the next event of a node is enabled at what was seen, where that is enough
-is_ready : (run : Run) (u : View) (l event turn : ℕ) → run.latches ≤ run.nodes → l < run.nodes
+is_ready : (run : Run) (u : View) (l event turn : ℕ) → run.design_nodes ≤ run.nodes → l < run.nodes
     → event ≡ next run l (seen u l)
     → turn ≡ turns run event (seen u l) + 1 → turn ≤ run.limit → Enough run u event turn
-    → Enabled run (seen u) (next run l (seen u l))
+    → IsEnabledInRun run (seen u) (next run l (seen u l))
 is_ready run u l event turn among near event_is turn_is within enough =
     let E : ℕ = next run l (seen u l) in let n : count run (seen u) E ≡ turns run E (seen u l) =
     ap (λ (x : ℕ). turns run E (seen u x)) (node-next run l (seen u l)) in
@@ -87,7 +87,7 @@ pub record Armed (run : Run) (me : Sat) (nodes : List History) (h : History) : T
   pub held : holds me.0 h.node ≡ true
   pub near : h.node < run.nodes
   pub fired : h.fired ≡ seen me.0 h.node
-  pub ready : Enabled run (seen me.0) (next run h.node h.fired)
+  pub ready : IsEnabledInRun run (seen me.0) (next run h.node h.fired)
   pub room : HasRoomToFire run h
 
 armed : (run : Run) (me : Sat) (nodes : List History) (h : History) (event turn : ℕ)
@@ -114,7 +114,7 @@ armed run me nodes h event turn run_is k t e n within enough =
       held = t.has;
       near = near-node me nodes l k t.has;
       fired = t.fired;
-      ready = subst (λ (x : ℕ). Enabled R (seen u) x) (sym E-is)
+      ready = subst (λ (x : ℕ). IsEnabledInRun R (seen u) x) (sym E-is)
           (is_ready R u l event turn k.among (near-node me nodes l k t.has) (e ∙ E-is) (n ∙ ap
           (λ (x : ℕ). turns R event x + 1) t.fired) within enough);
       room = record { turns = omega (arith, room_next u h t below); from = t.room.from };
@@ -133,7 +133,7 @@ arms run me me' nodes i h event before run_is k at e n below looks slots enough 
 
 -- the firings of the node stay far below 64 bits
 pub few : (run : Run) (v : View) (l f : ℕ) → run.limit < 4611686018427387904 → f ≡ seen v l
-    → Enabled run (seen v) (next run l f) → f + 1 < 9223372036854775808
+    → IsEnabledInRun run (seen v) (next run l f) → f + 1 < 9223372036854775808
 few run v l f short is on = let n = node-next run l f in
     let below : turns run (next run l f) f < run.limit =
     omega (
@@ -174,10 +174,10 @@ still_flies run v l l' f f' n q node fired =
 -- what is enabled at what was seen arms the flight
 pub arms_enabled : (run : Run) (me : Sat) (nodes : List History) (i : ℕ) (h : History)
     → me.0.run ≡ run → Keeps me nodes → get_elem? nodes i ≡ some h
-    → Enabled run (seen me.0) (next run h.node (seen me.0 h.node)) → Armed run me nodes h
+    → IsEnabledInRun run (seen me.0) (next run h.node (seen me.0 h.node)) → Armed run me nodes h
 arms_enabled run me nodes i h run_is k at on =
     let u : View = me.0 in let l : ℕ = h.node in let t = k.listed i h at in
-    let P : Run → Type 0 = λ r. Enabled r (seen u) (next r l (seen u l)) → Armed r me nodes h in
+    let P : Run → Type 0 = λ r. IsEnabledInRun r (seen u) (next r l (seen u l)) → Armed r me nodes h in
     subst P run_is (λ on. let R : Run = u.run in let E : ℕ = next R l (seen u l) in
     let below : turns R E (seen u l) < R.limit = omega (
       arith,
@@ -189,14 +189,14 @@ arms_enabled run me nodes i h run_is k at on =
       held = t.has;
       near = near-node me nodes l k t.has;
       fired = t.fired;
-      ready = subst (λ (f : ℕ). Enabled R (seen u) (next R l f)) (sym t.fired) on;
+      ready = subst (λ (f : ℕ). IsEnabledInRun R (seen u) (next R l f)) (sym t.fired) on;
       room = record { turns = omega (arith, room_next u h t below); from = t.room.from };
     }) on
 
 -- what is enabled of a node is enabled of the node of its history, in the run of the table
 pub enabled_by : (run at : Run) (v : View) (l : ℕ) (h : History) → at ≡ run → h.node ≡ l
-    → Enabled run (seen v) (next run l (seen v l))
-    → Enabled at (seen v) (next at h.node (seen v h.node))
+    → IsEnabledInRun run (seen v) (next run l (seen v l))
+    → IsEnabledInRun at (seen v) (next at h.node (seen v h.node))
 enabled_by run at v l h run_is node on =
-    subst (λ (r : Run). Enabled r (seen v) (next r h.node (seen v h.node))) (sym run_is)
-    (subst (λ (x : ℕ). Enabled run (seen v) (next run x (seen v x))) (sym node) on)
+    subst (λ (r : Run). IsEnabledInRun r (seen v) (next r h.node (seen v h.node))) (sym run_is)
+    (subst (λ (x : ℕ). IsEnabledInRun run (seen v) (next run x (seen v x))) (sym node) on)

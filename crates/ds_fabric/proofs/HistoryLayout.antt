@@ -16,13 +16,13 @@ use Rattle.ds_rule.proofs.EventLaws.{turns-next, turns_up}
 use Rattle.ds_rule.specs.Sound.{IsSound}
 use Rattle.ds_rule.proofs.RowLaws.{length-row, get-row}
 use Rattle.ds_rule.proofs.PlaceLaws.{place_inside, place-word}
-use Rattle.ds_fabric.specs.Told.{stride_of, new_row, ticket_of, turns_told, ticket_place}
+use Rattle.ds_fabric.specs.HistoryList.{stride_of, new_row, ticket_of, turns_told, ticket_place}
 
-pub stride-low : (run : Run) (l : ℕ) → l < run.latches → stride_of run l ≡ width run l + 2
-stride-low run l h = ap (λ b. cond b (width run l + 2) 1) (lt-ltb l run.latches h)
+pub stride-low : (run : Run) (l : ℕ) → l < run.design_nodes → stride_of run l ≡ width run l + 2
+stride-low run l h = ap (λ b. cond b (width run l + 2) 1) (lt-ltb l run.design_nodes h)
 
-pub stride-high : (run : Run) (l : ℕ) → run.latches ≤ l → stride_of run l ≡ 1
-stride-high run l h = ap (λ b. cond b (width run l + 2) 1) (le-ltb l run.latches h)
+pub stride-high : (run : Run) (l : ℕ) → run.design_nodes ≤ l → stride_of run l ≡ 1
+stride-high run l h = ap (λ b. cond b (width run l + 2) 1) (le-ltb l run.design_nodes h)
 
 -- an opening has a row, any other firing none
 pub new_row-opens : (run : Run) (l f : ℕ) → opens run (next run l f) ≡ true
@@ -32,13 +32,13 @@ new_row-opens run l f h = ap (λ b. cond b (row run l (opened run l f + 1)) []) 
 pub new_row-else : (run : Run) (l f : ℕ) → opens run (next run l f) ≡ false → new_row run l f ≡ []
 new_row-else run l f h = ap (λ b. cond b (row run l (opened run l f + 1)) []) h
 
-pub length-even : (run : Run) (l f : ℕ) → l < run.latches → f % 2 ≡ 0
+pub length-even : (run : Run) (l f : ℕ) → l < run.design_nodes → f % 2 ≡ 0
     → length (new_row run l f) ≡ width run l
 length-even run l f low even =
     ap (λ (xs : List ℕ). length xs) (new_row-opens run l f (opens_even run l f low even))
     ∙ length-row run l (opened run l f + 1)
 
-pub length-other : (run : Run) (l f : ℕ) → (l < run.latches → f % 2 ≡ 0 → ⊥)
+pub length-other : (run : Run) (l f : ℕ) → (l < run.design_nodes → f % 2 ≡ 0 → ⊥)
     → length (new_row run l f) ≡ 0
 length-other run l f not_one = by_bool (length (new_row run l f) ≡ 0) (opens run (next run l f))
     (λ y. let o = even_opens run l f y in absurd (not_one o.0 o.1))
@@ -48,7 +48,7 @@ length-other run l f not_one = by_bool (length (new_row run l f) ≡ 0) (opens r
 pub told_small : (run : Run) (l : ℕ) → IsSound run
     → run.limit * stride_of run l < 18446744073709551616
 told_small run l sound = let n : ℕ = run.limit in let w : ℕ = width run l in dite
-    (dec_lt l run.latches)
+    (dec_lt l run.design_nodes)
     (λ low. let e : n * stride_of run l ≡ n * (w + 2) = ap (λ (x : ℕ). n * x) (stride-low run l low) in
     omega (arith, e, mul-add n w 2, sound.stores l, sound.short))
     (λ high. let e : n * stride_of run l ≡ n * 1 =
@@ -76,7 +76,7 @@ module _ (run : Run) (ts : ℕ → List ℕ) (l : ℕ) where
   )
 
   -- two firings are a turn of a latch
-  pub length-turns : (k f s : ℕ) → l < run.latches → s ≡ width run l + 2 → f ≡ 2 * k
+  pub length-turns : (k f s : ℕ) → l < run.design_nodes → s ≡ width run l + 2 → f ≡ 2 * k
       → length (turns_told run ts l f) ≡ k * s
   length-turns zero f s low wide is = let e : f ≡ zero = omega arith in
       let z : zero ≡ zero * s = omega arith in
@@ -92,7 +92,7 @@ module _ (run : Run) (ts : ℕ → List ℕ) (l : ℕ) where
         suc-mul k s,
       )
 
-  pub length-open : (k f s : ℕ) → l < run.latches → s ≡ width run l + 2 → f ≡ 2 * k + 1
+  pub length-open : (k f s : ℕ) → l < run.design_nodes → s ≡ width run l + 2 → f ≡ 2 * k + 1
       → length (turns_told run ts l f) ≡ k * s + width run l + 1
   length-open k f s low wide is = let g : ℕ = 2 * k in let e : f ≡ suc g = omega arith in
       ap (λ (x : ℕ). length (turns_told run ts l x)) e ∙ omega (
@@ -102,7 +102,7 @@ module _ (run : Run) (ts : ℕ → List ℕ) (l : ℕ) where
         length-turns k g s low wide refl,
       )
 
-  pub length-single : (f : ℕ) → run.latches ≤ l → length (turns_told run ts l f) ≡ f
+  pub length-single : (f : ℕ) → run.design_nodes ≤ l → length (turns_told run ts l f) ≡ f
   length-single zero high = refl
   length-single (suc f) high = omega (
     arith,
@@ -172,8 +172,8 @@ module _ (run : Run) (ts : ℕ → List ℕ) (l : ℕ) where
       let place : (b : Bool) → opens run e ≡ b
       → ticket_place run e s ≡ cond b (s - 2) (s - 1) =
       λ b o. ap (λ x. cond x (s - 2) (s - 1)) o in
-      dite (dec_lt e (2 * run.latches))
-      (λ low. let n = node-low run e low in let low-l : l < run.latches = omega arith in
+      dite (dec_lt e (2 * run.design_nodes))
+      (λ low. let n = node-low run e low in let low-l : l < run.design_nodes = omega arith in
       let wide = stride-low run l low-l in let t = turns-low run e f low in
       let at : (g : ℕ) → g ≡ 2 * k + e % 2
       → k * s + ticket_place run e s ≡ length (turns_told run ts l g) + length (new_row run l g)
@@ -199,8 +199,8 @@ module _ (run : Run) (ts : ℕ → List ℕ) (l : ℕ) where
         length-open k g s low-l wide refl,
         length-other run l g (λ _ even. absurd (omega arith)),
       ))))
-      (λ high. let high' : 2 * run.latches ≤ e = omega arith in let n = node-high run e high' in
-      let high-l : run.latches ≤ l = omega arith in let wide = stride-high run l high-l in
+      (λ high. let high' : 2 * run.design_nodes ≤ e = omega arith in let n = node-high run e high' in
+      let high-l : run.design_nodes ≤ l = omega arith in let wide = stride-high run l high-l in
       let one : k * s ≡ k = ap (λ (x : ℕ). k * x) wide ∙ omega arith in (
         k,
         record {
@@ -230,7 +230,7 @@ module _ (run : Run) (ts : ℕ → List ℕ) (l : ℕ) where
       )
 
   -- the row of turn k of a latch stands before its ticket
-  pub row_stands : (k f : ℕ) → l < run.latches → 2 * k < f
+  pub row_stands : (k f : ℕ) → l < run.design_nodes → 2 * k < f
       → k * stride_of run l + width run l < length (turns_told run ts l f)
   row_stands k f low h = let g : ℕ = 2 * k in omega (
     arith,
@@ -241,7 +241,7 @@ module _ (run : Run) (ts : ℕ → List ℕ) (l : ℕ) where
   )
 
   -- word i of the row of turn k of a latch stands in its place
-  pub word_stands : (k f i : ℕ) → l < run.latches → 2 * k < f → i < width run l
+  pub word_stands : (k f i : ℕ) → l < run.design_nodes → 2 * k < f → i < width run l
       → get_or (turns_told run ts l f) (k * stride_of run l + i) 0 ≡ value run l (k + 1) i
   word_stands k f i low h inside = let g : ℕ = 2 * k in let even : g % 2 ≡ 0 = omega arith in
       let s : ℕ = stride_of run l in
@@ -256,7 +256,7 @@ module _ (run : Run) (ts : ℕ → List ℕ) (l : ℕ) where
   pub told_fits : (f : ℕ) → turns run (next run l f) f < run.limit
       → length (turns_told run ts l f) + length (new_row run l f) < run.limit * stride_of run l
   told_fits f below = let s : ℕ = stride_of run l in let k : ℕ = f / 2 in
-      dite (dec_lt l run.latches)
+      dite (dec_lt l run.design_nodes)
       (λ low. let n = next-low run l f low in let wide = stride-low run l low in
       let t = turns-low run (next run l f) f (omega arith) in
       let less : suc k ≤ run.limit = omega arith in
@@ -276,7 +276,7 @@ module _ (run : Run) (ts : ℕ → List ℕ) (l : ℕ) where
         length-open k f s low wide (omega arith),
         length-other run l f (λ _ even. absurd (odd even)),
       )))
-      (λ high. let high-l : run.latches ≤ l = omega arith in let n = next-high run l f high-l in
+      (λ high. let high-l : run.design_nodes ≤ l = omega arith in let n = next-high run l f high-l in
       let one : run.limit * s ≡ run.limit =
       ap (λ (x : ℕ). run.limit * x) (stride-high run l high-l) ∙ omega arith in
       omega (

@@ -10,7 +10,7 @@ use Rattle.ds_rule.specs.Rule.{holds, tickets, seen}
 use Rattle.ds_rule.specs.declared.view.View.{View}
 use Rattle.ds_rule.proofs.EventLaws.{node-low, node-closing, opens_low, turns-low, closing-is}
 use Rattle.ds_fabric.specs.declared.history.History.{History}
-use Rattle.ds_fabric.specs.Told.{stride_of, turns_told, ticket_place, ticket_in, StandsIn}
+use Rattle.ds_fabric.specs.HistoryList.{stride_of, turns_told, ticket_place, ticket_in, StandsIn}
 use Rattle.ds_fabric.specs.Showing.{Tells, IsCounted, IsTold}
 use Rattle.ds_fabric.proofs.HistoryLayout.{stride-low, stride-high, ticket_stands, word_stands}
 use Rattle.ds_fabric.proofs.HistoryLayout.{row_stands}
@@ -31,7 +31,7 @@ ticket_read v h e k t here below = let l : ℕ = h.node in let s : ℕ = stride_
 pub stands_in : (v : View) (h : History) (e : ℕ) → Tells v h → node_of v.run e ≡ h.node
     → StandsIn v.run h e
 stands_in v h e t here = record {
-  wide = dite (dec_lt h.node v.run.latches)
+  wide = dite (dec_lt h.node v.run.design_nodes)
       (λ low. omega (arith, t.stride, stride-low v.run h.node low))
       (λ high. omega (arith, t.stride, stride-high v.run h.node (omega arith)));
   wider = λ o. let low = opens_low v.run e o in let n = node-low v.run e low.0 in
@@ -45,7 +45,7 @@ pub counted : (v : View) (h : History) (e : ℕ) → IsCounted v → Tells v h
 counted v h e c t here = ap (turns v.run e) t.fired
     ∙ (ap (λ (x : ℕ). turns v.run e (seen v x)) (sym here) ∙ c e (ap (holds v) here ∙ t.has))
 
-turn_inside : (v : View) (h : History) (k : ℕ) → Tells v h → h.node < v.run.latches
+turn_inside : (v : View) (h : History) (k : ℕ) → Tells v h → h.node < v.run.design_nodes
     → k < turns v.run (closing h.node) h.fired
     → k * h.stride + width v.run h.node < length h.turns.items
 turn_inside v h k t low below = let l : ℕ = h.node in let is = closing-is l in omega (
@@ -56,7 +56,7 @@ turn_inside v h k t low below = let l : ℕ = h.node in let is = closing-is l in
   ap length t.turns,
 )
 
-pub word_read : (v : View) (h : History) (k i : ℕ) → Tells v h → h.node < v.run.latches
+pub word_read : (v : View) (h : History) (k i : ℕ) → Tells v h → h.node < v.run.design_nodes
     → k < turns v.run (closing h.node) h.fired → i < width v.run h.node
     → get_or h.turns.items (k * h.stride + i) 0 ≡ value v.run h.node (k + 1) i
 word_read v h k i t low below inside = let l : ℕ = h.node in let is = closing-is l in
@@ -91,7 +91,7 @@ ticket_told v l event number k h i is on below =
     )
 
 closed_often : (v : View) (l node k : ℕ) (h : History) → IsTold v l h → l ≡ node
-    → node < v.run.latches → k < length (tickets v (closing node))
+    → node < v.run.design_nodes → k < length (tickets v (closing node))
     → k < turns v.run (closing h.node) h.fired
 closed_often v l node k h t is low below = let on : h.node ≡ node = t.node_is ∙ is in
     let here : node_of v.run (closing h.node) ≡ h.node =
@@ -104,7 +104,7 @@ closed_often v l node k h t is low below = let on : h.node ≡ node = t.node_is 
 
 -- a latch has stored a row for each closing
 pub stored_told : (v : View) (l node : ℕ) (h : History) → IsTold v l h → l ≡ node
-    → node < v.run.latches → (h.fired / 2 ≡ length (tickets v (closing node)))
+    → node < v.run.design_nodes → (h.fired / 2 ≡ length (tickets v (closing node)))
     × (length (tickets v (closing node)) ≤ v.run.limit)
 stored_told v l node h t is low = let on : h.node ≡ node = t.node_is ∙ is in
     let here = node-closing v.run node low in let e = closing-is node in (
@@ -118,14 +118,14 @@ stored_told v l node h t is low = let on : h.node ≡ node = t.node_is ∙ is in
 
 -- the row ends inside
 pub row_told : (v : View) (l node k : ℕ) (h : History) (turned : List ℕ) → IsTold v l h
-    → l ≡ node → node < v.run.latches → k < length (tickets v (closing node))
+    → l ≡ node → node < v.run.design_nodes → k < length (tickets v (closing node))
     → turned ≡ h.turns.items → k * h.stride + width v.run node < length turned
 row_told v l node k h turned t is low below same = let on : h.node ≡ node = t.node_is ∙ is in
     let r = turn_inside v h k t.tells (omega (arith, on)) (closed_often v l node k h t is low below) in
     omega (arith, r, ap (width v.run) on, ap length same)
 
 pub word_told : (v : View) (l node k i : ℕ) (h : History) (turned : List ℕ) → IsTold v l h
-    → l ≡ node → node < v.run.latches → k < length (tickets v (closing node))
+    → l ≡ node → node < v.run.design_nodes → k < length (tickets v (closing node))
     → i < width v.run node → turned ≡ h.turns.items
     → get_or turned (k * h.stride + i) 0 ≡ value v.run node (k + 1) i
 word_told v l node k i h turned t is low below inside same =

@@ -13,7 +13,7 @@ use native.Mathlib.Decide.{ℕ_discrete}
 use lib.ListN.{get_elem?}
 use Rattle.atomic_table.proofs.Lists.{at_set, set_else, at_index}
 use Rattle.ds_rule.specs.Run.{Run, events, node_of, next, turns, opens, opening, opened}
-use Rattle.ds_rule.specs.Run.{count, Enabled}
+use Rattle.ds_rule.specs.Run.{count, IsEnabledInRun}
 use Rattle.ds_rule.specs.Rule.{holds, tickets, seen}
 use Rattle.ds_rule.specs.Plays.{Sat, after_depart, after_draw, after_publish}
 use Rattle.ds_rule.specs.declared.view.View.{View}
@@ -23,7 +23,7 @@ use Rattle.ds_rule.proofs.EventLaws.{node-next, turns-next, turns-other, event_b
 use Rattle.ds_rule.proofs.EventLaws.{even_opens, next-opens, turns-opening, node-opening}
 use Rattle.ds_fabric.specs.declared.history.History.{History}
 use Rattle.ds_fabric.specs.Looks.{LooksOn}
-use Rattle.ds_fabric.specs.Told.{stride_of, new_row, turns_told}
+use Rattle.ds_fabric.specs.HistoryList.{stride_of, new_row, turns_told}
 use Rattle.ds_fabric.specs.Noted.{HasFired}
 use Rattle.ds_fabric.specs.Showing.{HasHistoryRoom, Tells, Keeps}
 use Rattle.ds_fabric.specs.Stepped.{FiresNext, done, seen_at_departure}
@@ -58,11 +58,11 @@ looks_keep me me' nodes k q slots =
     → turns r e (seen w (node_of r e)) ≡ length (tickets w e) in record {
       no_slot = slots ∙ k.no_slot;
       live = q.live ∙ k.live;
-      rests = q.phase ∙ k.rests;
+      idle = q.phase ∙ k.idle;
       held_long = ap length q.holds_same ∙ (k.held_long ∙ ap (λ (r : Run). r.nodes) (sym q.run));
       tickets_long = ap length q.tickets_same ∙ (k.tickets_long ∙ ap events (sym q.run));
       seen_long = q.seen_long ∙ (k.seen_long ∙ ap (λ (r : Run). r.nodes) (sym q.run));
-      among = subst (λ (r : Run). r.latches ≤ r.nodes) (sym q.run) k.among;
+      among = subst (λ (r : Run). r.design_nodes ≤ r.nodes) (sym q.run) k.among;
       counts = subst P (sym q.run) (λ e h. let l : ℕ = node_of v.run e in
           let h' : holds v l ≡ true = sym (has l) ∙ h in
           ap (turns v.run e) (q.own l h') ∙ (k.counts e h' ∙ ap length (sym (ticks e))));
@@ -149,7 +149,7 @@ fires_keep me me' nodes i h h' t k at is f =
     subst P (sym is) (record {
       no_slot = k.no_slot;
       live = k.live;
-      rests = refl;
+      idle = refl;
       held_long = k.held_long;
       tickets_long = length-set v.tickets E (tickets v E ++ t ∷ []) ∙ k.tickets_long;
       seen_long = length-set v.seen l (seen v l + 1) ∙ k.seen_long;
@@ -199,7 +199,7 @@ at_departure-else v w l x n = ap (λ b. cond b (seen v l) (seen w x)) (ne_eqb x 
 pub fires : (run : Run) (me me' : Sat) (nodes : List History) (w : View) (l event turn t : ℕ)
     → me.0.run ≡ run → Keeps me nodes → holds me.0 l ≡ true → LooksOn me.0 me'.0 → me'.1 ≡ me.1
     → event ≡ next run l (seen me.0 l) → turn ≡ done run me.0 l + 1 → turn ≤ run.limit
-    → Enabled run (seen me'.0) event → me'.0.drawn ≤ t → w ≡ landed me'.0 l t
+    → IsEnabledInRun run (seen me'.0) event → me'.0.drawn ≤ t → w ≡ landed me'.0 l t
     → FiresNext run me.0 w l event turn t
 fires run me me' nodes w l event turn t run_is k has q slots event_is turn_is within on fresh is =
     let v : View = me.0 in let u : View = me'.0 in let k' = looks_keep me me' nodes k q slots in
@@ -269,7 +269,7 @@ reads me nodes zs i node h e k f is =
 
 -- an opening that is enabled is one of a latch, and of no turn past the limit
 pub within : (run : Run) (v : View) (l f : ℕ) → f ≡ seen v l → opens run (next run l f) ≡ true
-    → Enabled run (seen v) (next run l f) → (l < run.latches) × (f / 2 + 1 ≤ run.limit)
+    → IsEnabledInRun run (seen v) (next run l f) → (l < run.design_nodes) × (f / 2 + 1 ≤ run.limit)
 within run v l f is o on =
     let even = even_opens run l f o in let e = next-opens run l f o in
     let is-count : count run (seen v) (next run l f) ≡ opened run l f =
@@ -287,7 +287,7 @@ set_same (x ∷ xs) zero h at = ap (λ (y : History). y ∷ xs)
 set_same (x ∷ xs) (suc i) h at = ap (λ ys. x ∷ ys) (set_same xs i h at)
 
 -- the next event of a node is one of the events
-pub next_below : (run : Run) (l f : ℕ) → run.latches ≤ run.nodes → l < run.nodes
+pub next_below : (run : Run) (l f : ℕ) → run.design_nodes ≤ run.nodes → l < run.nodes
     → next run l f < events run
 next_below run l f among near = event_below run (next run l f) among
     (omega (arith, node-next run l f))

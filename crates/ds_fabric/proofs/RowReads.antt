@@ -7,16 +7,16 @@ use native.Mathlib.Decide.{ℕ_discrete}
 use Rattle.ds_base.specs.Word.{word_of, count_of_words}
 use Rattle.ds_rule.specs.Run.{Run, node_of}
 use Rattle.ds_rule.specs.Words.{width, value, node_values}
-use Rattle.ds_rule.specs.Log.{times, IsLegalList, Recorded}
-use Rattle.ds_rule.proofs.LogCounts.{times-here, times-else, length-places}
+use Rattle.ds_rule.specs.Log.{count_in_log, IsLegalList, Recorded}
+use Rattle.ds_rule.proofs.LogCounts.{count_in_log-here, count_in_log-else, length-tickets_in_log}
 use Rattle.ds_rule.proofs.PlaceLaws.{width-is}
 
 -- no event stands more often in a legal list than the limit says
-pub times_most : (run : Run) (e : ℕ) (xs : List ℕ) → IsLegalList run xs → times e xs ≤ run.limit
+pub times_most : (run : Run) (e : ℕ) (xs : List ℕ) → IsLegalList run xs → count_in_log e xs ≤ run.limit
 times_most run e [] h = omega arith
 times_most run e (x ∷ xs) h = dite (ℕ_discrete x e)
-    (λ s. omega (arith, times-here e x xs s, h.1.below, ap (λ (y : ℕ). times y xs) s))
-    (λ n. omega (arith, times-else e x xs n, times_most run e xs h.0))
+    (λ s. omega (arith, count_in_log-here e x xs s, h.1.below, ap (λ (y : ℕ). count_in_log y xs) s))
+    (λ n. omega (arith, count_in_log-else e x xs n, times_most run e xs h.0))
 
 pub tickets_most : (run : Run) (ts : ℕ → List ℕ) (many e : ℕ) → Recorded run ts many
     → node_of run e < run.nodes → length (ts e) ≤ run.limit
@@ -24,7 +24,7 @@ tickets_most run ts many e r near =
     omega (
       arith,
       ap (λ (xs : List ℕ). length xs) (r.all e near),
-      length-places e r.log,
+      length-tickets_in_log e r.log,
       times_most run e r.log r.legal,
     )
 

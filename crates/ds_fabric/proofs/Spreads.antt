@@ -6,18 +6,18 @@ use Rattle.std.proofs.Math.Seq.{drop-nil}
 use mathlib.Core.Option.{some}
 use lib.ListN.{get_elem?}
 use Rattle.ds_rule.specs.Run.{Run, node_of, turns}
-use Rattle.ds_rule.specs.Log.{places, firings}
+use Rattle.ds_rule.specs.Log.{tickets_in_log, firings}
 use Rattle.ds_rule.proofs.GetElemLemmas.{at_below, at_get, at_or, same_at, has_below}
-use Rattle.ds_rule.proofs.LogCounts.{ticket_below, ticket_of_some, ticket_of_one, stands_at, node_inside, length-places}
+use Rattle.ds_rule.proofs.LogCounts.{ticket_below, ticket_of_some, ticket_of_one, stands_at, node_inside, length-tickets_in_log}
 use Rattle.ds_rule.proofs.LogCounts.{length-firings}
 use Rattle.ds_fabric.specs.declared.history.History.{History}
-use Rattle.ds_fabric.specs.Told.{ticket_in}
+use Rattle.ds_fabric.specs.HistoryList.{ticket_in}
 use Rattle.ds_fabric.specs.Showing.{Showing, IsRecord}
 use Rattle.ds_fabric.specs.Spread.{CanSpread, IsLeftOver, HasSpread}
 use Rattle.ds_fabric.proofs.HistoryTickets.{ticket_read, stands_in, counted}
 
-module _ (p : Showing) (nodes : List History) (places' : List ℕ) (latches many : ℕ)
-    (q : IsRecord p nodes places' latches many) where
+module _ (p : Showing) (nodes : List History) (places' : List ℕ) (design_nodes many : ℕ)
+    (q : IsRecord p nodes places' design_nodes many) where
   abbrev pub R : Run
   R = p.view.run
 
@@ -34,10 +34,10 @@ module _ (p : Showing) (nodes : List History) (places' : List ℕ) (latches many
   -- a word of a history that is a ticket is the place of a firing
   ticket-is : (i : ℕ) (h : History) → get_elem? nodes i ≡ some h → (e k : ℕ)
       → node_of R e ≡ h.node → k < turns R e h.fired
-      → get_elem? (places e log) k ≡ some (ticket_in R h e k)
+      → get_elem? (tickets_in_log e log) k ≡ some (ticket_in R h e k)
   ticket-is i h at e k here below = let t = q.keeps.listed i h at in
       let same = q.recorded.all e (omega (arith, here, near i h at)) in
-      at_or (places e log) k 0
+      at_or (tickets_in_log e log) k 0
       (omega (
         arith,
         below,
@@ -49,18 +49,18 @@ module _ (p : Showing) (nodes : List History) (places' : List ℕ) (latches many
 
   -- and there is one for each such place
   fired-often : (i : ℕ) (h : History) → get_elem? nodes i ≡ some h → (e k t : ℕ)
-      → node_of R e ≡ h.node → get_elem? (places e log) k ≡ some t → k < turns R e h.fired
+      → node_of R e ≡ h.node → get_elem? (tickets_in_log e log) k ≡ some t → k < turns R e h.fired
   fired-often i h at e k t here stands = omega (
     arith,
-    at_below (places e log) k t stands,
+    at_below (tickets_in_log e log) k t stands,
     counted p.view h e q.keeps.counts (q.keeps.listed i h at) here,
     ap (λ (xs : List ℕ). length xs) (q.recorded.all e (omega (arith, here, near i h at))),
   )
 
   pub can_spread : (i : ℕ) (h : History) → get_elem? nodes i ≡ some h
-      → CanSpread latches many R h
+      → CanSpread design_nodes many R h
   can_spread i h at = record {
-    latches_is = q.latches_is;
+    design_nodes_is = q.design_nodes_is;
     inside = λ e here. record {
       stands = stands_in p.view h e (q.keeps.listed i h at) here;
       below = λ k below. omega (
@@ -70,7 +70,7 @@ module _ (p : Showing) (nodes : List History) (places' : List ℕ) (latches many
       );
     };
     distinct = λ d e on here n j k below-j below-k same. n (ticket_of_one log d e j k (ticket_in R h e k)
-        (subst (λ (x : ℕ). get_elem? (places d log) j ≡ some x) same
+        (subst (λ (x : ℕ). get_elem? (tickets_in_log d log) j ≡ some x) same
         (ticket-is i h at d j on below-j)) (ticket-is i h at e k here below-k)).0;
   }
 
@@ -81,7 +81,7 @@ module _ (p : Showing) (nodes : List History) (places' : List ℕ) (latches many
   stays i j g h old new ne at at' s kept e here k below =
       kept (ticket_in R g e k) e (s e here k below) (λ d m on below-m same.
       let is = (ticket_of_one log d e m k (ticket_in R g e k)
-      (subst (λ (x : ℕ). get_elem? (places d log) m ≡ some x) same
+      (subst (λ (x : ℕ). get_elem? (tickets_in_log d log) m ≡ some x) same
       (ticket-is j h at' d m on below-m)) (ticket-is i g at e k here below)).0 in
       ne (q.keeps.distinct i j g h at at' (sym here ∙ (ap (node_of R) (sym is) ∙ on))))
 
@@ -95,11 +95,11 @@ module _ (p : Showing) (nodes : List History) (places' : List ℕ) (latches many
       let k : ℕ = d.1 in
       let l : ℕ = node_of R e in
       let l-near : l < R.nodes = node_inside R log e q.recorded.in_turn
-      (omega (arith, at_below (places e log) k t d.2, length-places e log)) in
+      (omega (arith, at_below (tickets_in_log e log) k t d.2, length-tickets_in_log e log)) in
       let f = q.keeps.found l (q.all l l-near) in let h : History = f.1 in
       let here : l ≡ h.node = sym f.3 in
       let often = fired-often f.0 h f.2 e k t here d.2 in
-      let is = same_at (places e log) k (ticket_in R h e k) t
+      let is = same_at (tickets_in_log e log) k (ticket_in R h e k) t
       (ticket-is f.0 h f.2 e k here often) d.2 in
       let put : get_elem? out t ≡ some e = subst (λ (x : ℕ). get_elem? out x ≡ some e) is
       (all f.0 h f.2 e here k often) in

@@ -2,7 +2,7 @@
 use Rattle.std.specs.Prelude.{◌≡◌, ◌<◌, ◌≤◌, ℕ, true}
 use Rattle.atomic_table.specs.Seated.{TableId}
 use Rattle.ds_base.specs.Scratch.{Memory}
-use Rattle.ds_rule.specs.Run.{Run, next, opens, Enabled}
+use Rattle.ds_rule.specs.Run.{Run, next, opens, IsEnabledInRun}
 use Rattle.ds_rule.specs.Sound.{IsSound}
 use Rattle.ds_rule.specs.Words.{size, width}
 use Rattle.ds_rule.specs.Rule.{seen}
@@ -46,7 +46,7 @@ pub record IsInFlight (run : Run) (v : View) (l f : ℕ) : Type 0 where
   pub run_is : v.run ≡ run
   pub count : f ≡ seen v l
   pub near : l < run.nodes
-  pub enabled : Enabled run (seen v) (next run l f)
+  pub enabled : IsEnabledInRun run (seen v) (next run l f)
 
 -- where that event is an opening, all words of its row are written
 abbrev pub HasWritten : Run → View → ℕ → ℕ → Type 0

@@ -6,25 +6,25 @@ use Rattle.ds_rule.specs.Run.{Run, events, node_of, turns}
 use Rattle.ds_marked.specs.declared.marked.Arc.{Arc}
 use Rattle.ds_fabric.specs.Chained.{arc_numbered}
 use Rattle.ds_fabric.specs.declared.arc_in.ArcIn.{ArcIn}
-use Rattle.ds_fabric.specs.declared.arc_in.Source.{Source}
-use Rattle.ds_fabric.specs.declared.arc_in.Source.TheVariants.{Opening, Closing, Alone}
+use Rattle.ds_fabric.specs.declared.arc_in.EventRole.{EventRole}
+use Rattle.ds_fabric.specs.declared.arc_in.EventRole.TheVariants.{Opening, Closing, Alone}
 use Rattle.ds_fabric.specs.declared.incoming.Incoming.{Incoming}
 
 -- how often an event of this kind has fired, after f firings of its node: a latch opens first
-abbrev pub fired_of : Source → ℕ → ℕ
+abbrev pub fired_of : EventRole → ℕ → ℕ
 fired_of Opening f = (f + 1) / 2
 fired_of Closing f = f / 2
 fired_of Alone f = f
 
 -- what so many tokens count beside the firings of the node
-abbrev pub ahead_of : Source → ℕ → ℕ
+abbrev pub ahead_of : EventRole → ℕ → ℕ
 ahead_of Opening t = 2 * t + 1
 ahead_of Closing t = 2 * t
 ahead_of Alone t = t
 
 -- the firings of the node, with what the tokens count beside them, that are enough for so many
 -- turns
-abbrev pub least_of : Source → ℕ → ℕ
+abbrev pub least_of : EventRole → ℕ → ℕ
 least_of Opening n = 2 * n
 least_of Closing n = 2 * n
 least_of Alone n = n

@@ -5,10 +5,10 @@ pub mod Chained
 pub mod Into
 pub mod Looks
 pub mod Stepped
-pub mod Told
+pub mod HistoryList
 pub mod Noted
 pub mod Laid
-pub mod Flown
+pub mod Flight
 pub mod Indexed
 pub mod Showing
 pub mod Spread

@@ -1,7 +1,7 @@
 -- A ticket more in the history of a node.
 use Rattle.std.specs.Prelude.{◌≡◌, ℕ, ◌+◌, ◌<◌, ◌++◌, ◌∷◌, [], List, vec_len, vec_capacity}
 use Rattle.ds_rule.specs.Run.{Run}
-use Rattle.ds_fabric.specs.Told.{new_row}
+use Rattle.ds_fabric.specs.HistoryList.{new_row}
 use Rattle.ds_fabric.specs.declared.history.History.{History}
 
 -- there is room for the ticket of the node's next event

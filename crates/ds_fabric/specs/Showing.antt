@@ -12,7 +12,7 @@ use Rattle.ds_rule.specs.Rule.{holds, tickets, seen, first_view}
 use Rattle.ds_rule.specs.Plays.{with_cut, without_cut, only_cut}
 use Rattle.ds_rule.specs.declared.view.View.{View}
 use Rattle.ds_fabric.specs.Base.{Base}
-use Rattle.ds_fabric.specs.Told.{stride_of, turns_told}
+use Rattle.ds_fabric.specs.HistoryList.{stride_of, turns_told}
 use Rattle.ds_fabric.specs.Indexed.{IsOneEach, IsIndexed}
 use Rattle.ds_fabric.specs.declared.history.History.{History}
 
@@ -118,11 +118,11 @@ IsCounted v = (e : ℕ) → holds v (node_of v.run e) ≡ true
 pub record Keeps (me : Me ℕ View) (nodes : List History) : Type 0 where
   pub no_slot : me.1 ≡ []
   pub live : me.0.live ≡ true
-  pub rests : me.0.phase ≡ 0
+  pub idle : me.0.phase ≡ 0
   pub held_long : length me.0.holds ≡ me.0.run.nodes
   pub tickets_long : length me.0.tickets ≡ events me.0.run
   pub seen_long : length me.0.seen ≡ me.0.run.nodes
-  pub among : me.0.run.latches ≤ me.0.run.nodes
+  pub among : me.0.run.design_nodes ≤ me.0.run.nodes
   pub counts : IsCounted me.0
   pub listed : (i : ℕ) (h : History) → get_elem? nodes i ≡ some h → Tells me.0 h
   pub found : (l : ℕ) → holds me.0 l ≡ true → (i : ℕ) × (h : History)
@@ -144,12 +144,12 @@ pub record Recorder : Type 0 where
 
 -- a record keeps the histories of all nodes, and its tickets are the places of one legal list
 pub record IsRecord (p : Showing) (nodes : List History) (places : List ℕ)
-    (latches many : ℕ) : Type 0 where
+    (design_nodes many : ℕ) : Type 0 where
   pub keeps : Keeps (p.view, []) nodes
   pub indexed : IsIndexed p.view.run.nodes p.room (length nodes) nodes places
   pub all : (l : ℕ) → l < p.view.run.nodes → holds p.view l ≡ true
   pub sound : IsSound p.view.run
-  pub latches_is : latches ≡ p.view.run.latches
+  pub design_nodes_is : design_nodes ≡ p.view.run.design_nodes
   pub recorded : Recorded p.view.run (tickets p.view) many
 
 -- the history of the node, out of a record: it has a ticket for each firing, and no event of it

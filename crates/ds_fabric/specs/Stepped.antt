@@ -1,7 +1,7 @@
 -- What a call of `step` says.
 use Rattle.std.specs.Prelude.{◌≡◌, ◌≢◌, ◌↔◌, ℕ, ◌+◌, ◌<◌, ◌≤◌, [], ◌∷◌, ◌++◌, cond, ◌==◌}
 use Rattle.std.specs.Prelude.{Bool, true, false}
-use Rattle.ds_rule.specs.Run.{Run, next, turns, Enabled}
+use Rattle.ds_rule.specs.Run.{Run, next, turns, IsEnabledInRun}
 use Rattle.ds_rule.specs.Rule.{holds, tickets, seen}
 use Rattle.ds_rule.specs.declared.view.View.{View}
 use Rattle.ds_fabric.specs.declared.step.Step.{Step}
@@ -23,7 +23,7 @@ pub record FiresNext (run : Run) (v w : View) (l event turn ticket : ℕ) : Type
   pub event_is : event ≡ next run l (seen v l)
   pub turn_is : turn ≡ done run v l + 1
   pub within : turn ≤ run.limit
-  pub enabled : Enabled run (seen_at_departure v w l) event
+  pub enabled : IsEnabledInRun run (seen_at_departure v w l) event
   pub fresh : v.drawn ≤ ticket
   pub drawn : w.drawn ≡ ticket + 1
   pub once_more : seen w l ≡ seen v l + 1
@@ -59,4 +59,4 @@ has_fired Done = false
 -- enabled
 abbrev pub FiresIfEnabled : Run → View → ℕ → Step → Type 0
 FiresIfEnabled run v l step = ((x : ℕ) → x < run.nodes → holds v x ≡ true)
-    → (has_fired step ≡ true) ↔ Enabled run (seen v) (next run l (seen v l))
+    → (has_fired step ≡ true) ↔ IsEnabledInRun run (seen v) (next run l (seen v l))

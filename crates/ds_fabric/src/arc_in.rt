@@ -7,11 +7,11 @@ ghost use Rattle.ds_rule.specs.Run.{node_of, turns};
 ghost use Rattle.ds_fabric.specs.Into.{IsArcIn, ahead_of, fired_of, least_of};
 
 use ds_marked::Arc;
-use ds_rule::{Layout, Rows};
+use ds_rule::{RunValues, TableRun};
 
 /// What an event is of its node: the opening or the closing of a latch, or its one event.
 #[derive(Clone, Copy)]
-pub enum Source {
+pub enum EventRole {
     Opening,
     Closing,
     Alone,
@@ -23,22 +23,22 @@ pub enum Source {
 pub struct ArcIn {
     pub node: u32,
     pub ahead: u16,
-    pub source: Source,
+    pub source: EventRole,
 }
 
-impl Source {
+impl EventRole {
     /// What an event of the run is.
-    pub fn of<J: Rows>(run: &Layout<J>, event: usize) -> Source
+    pub fn of<V: RunValues>(run: &TableRun<V>, event: usize) -> EventRole
         ensures { (fired : ℕ) → fired_of result fired ≡ turns run.now event fired }
     {
-        if event / 2 < run.latches() {
+        if event / 2 < run.design_nodes() {
             if event % 2 == 0 {
-                Source::Opening
+                EventRole::Opening
             } else {
-                Source::Closing
+                EventRole::Closing
             }
         } else {
-            Source::Alone
+            EventRole::Alone
         }
     }
 
@@ -47,9 +47,9 @@ impl Source {
         ensures { result ≡ fired_of self fired }
     {
         match self {
-            Source::Opening => fired / 2 + fired % 2,
-            Source::Closing => fired / 2,
-            Source::Alone => fired,
+            EventRole::Opening => fired / 2 + fired % 2,
+            EventRole::Closing => fired / 2,
+            EventRole::Alone => fired,
         }
     }
 
@@ -60,7 +60,7 @@ impl Source {
         ensures { result ≡ least_of self turns }
     {
         match self {
-            Source::Alone => turns,
+            EventRole::Alone => turns,
             _ => 2 * turns,
         }
     }
@@ -71,23 +71,23 @@ impl Source {
     {
         let many = tokens as u16;
         match self {
-            Source::Opening => 2 * many + 1,
-            Source::Closing => 2 * many,
-            Source::Alone => many,
+            EventRole::Opening => 2 * many + 1,
+            EventRole::Closing => 2 * many,
+            EventRole::Alone => many,
         }
     }
 }
 
 impl ArcIn {
     /// Of an arc of the run.
-    pub fn of<J: Rows>(run: &Layout<J>, arc: Arc) -> ArcIn
-        requires latches { run.now.latches < 4294967296 }
+    pub fn of<V: RunValues>(run: &TableRun<V>, arc: Arc) -> ArcIn
+        requires design_nodes { run.now.design_nodes < 4294967296 }
         requires near { node_of run.now arc.source < 4294967296 }
         ensures { IsArcIn run.now arc result }
     {
         let event = arc.source.index();
         let node = run.node_of(event) as u32;
-        let source = Source::of(run, event);
+        let source = EventRole::of(run, event);
         ArcIn {
             node,
             ahead: source.ahead(arc.tokens),

@@ -8,19 +8,19 @@ ghost use Rattle.ds_rule.specs.Words.{width};
 ghost use Rattle.ds_rule.specs.Rows.{row};
 ghost use Rattle.ds_fabric.specs.Laid.{LaidBelow};
 ghost use Rattle.ds_fabric.specs.Showing.{Blank, IsBlank};
-ghost use Rattle.ds_fabric.specs.Told.{stride_of};
+ghost use Rattle.ds_fabric.specs.HistoryList.{stride_of};
 
 use crate::compute::Compute;
 use crate::history::History;
 use crate::index::zeros;
 use ds_base::{LatchId, OutOfMemory};
-use ds_rule::{Layout, Rows};
+use ds_rule::{RunValues, TableRun};
 use std::alloc::Global;
 
 /// The words of the table, and where the rows of each node begin.
-pub fn lay<J: Rows, C: Compute>(
+pub fn lay<V: RunValues, C: Compute>(
     alloc: Global,
-    run: &Layout<J>,
+    run: &TableRun<V>,
     openings: &C,
 ) -> Result<(Vec<u64>, Vec<usize>), OutOfMemory>
     requires sound { IsSound run.now }
@@ -37,8 +37,8 @@ pub fn lay<J: Rows, C: Compute>(
 }
 
 // The rows of a node: its first one, and zeros for the others.
-fn lay_node<J: Rows, C: Compute>(
-    run: &Layout<J>,
+fn lay_node<V: RunValues, C: Compute>(
+    run: &TableRun<V>,
     openings: &C,
     node: usize,
     words: &mut Vec<u64>,
@@ -90,7 +90,10 @@ fn pad(words: &mut Vec<u64>, count: usize) -> Result<(), OutOfMemory>
 }
 
 /// The histories of all nodes.
-pub fn histories<J: Rows>(alloc: Global, run: &Layout<J>) -> Result<Vec<History>, OutOfMemory>
+pub fn histories<V: RunValues>(
+    alloc: Global,
+    run: &TableRun<V>,
+) -> Result<Vec<History>, OutOfMemory>
     requires { IsSound run.now }
     ensures blank { IfOk result (λ v. Blank run.now run.now.nodes v.items) }
     ensures room { IfOk result (λ v. run.now.nodes ≤ vec_capacity v) }
@@ -104,7 +107,7 @@ pub fn histories<J: Rows>(alloc: Global, run: &Layout<J>) -> Result<Vec<History>
 }
 
 // How many words each node reads at most.
-fn reads<J: Rows>(alloc: Global, run: &Layout<J>) -> Result<Vec<usize>, OutOfMemory>
+fn reads<V: RunValues>(alloc: Global, run: &TableRun<V>) -> Result<Vec<usize>, OutOfMemory>
     requires { IsSound run.now }
     ensures { IfOk result (λ v. (length v.items ≡ run.now.nodes) × ((l : ℕ)
         → l < run.now.nodes
@@ -120,9 +123,9 @@ fn reads<J: Rows>(alloc: Global, run: &Layout<J>) -> Result<Vec<usize>, OutOfMem
 }
 
 // A history with room for all firings of its node.
-fn history_of<J: Rows>(
+fn history_of<V: RunValues>(
     alloc: Global,
-    run: &Layout<J>,
+    run: &TableRun<V>,
     node: usize,
     reads: usize,
 ) -> Result<History, OutOfMemory>
@@ -144,12 +147,12 @@ fn history_of<J: Rows>(
 }
 
 // How many words a turn of the node takes: of a latch a row and two tickets.
-fn stride_of<J: Rows>(run: &Layout<J>, node: usize) -> usize
+fn stride_of<V: RunValues>(run: &TableRun<V>, node: usize) -> usize
     requires sound { IsSound run.now }
     requires near { node < run.now.nodes }
     ensures { result ≡ stride_of run.now node }
 {
-    if node < run.latches() {
+    if node < run.design_nodes() {
         run.width(node) + 2
     } else {
         1

@@ -6,7 +6,7 @@ ghost use Rattle.ds_fabric.specs.Chained.{AreChained};
 
 use crate::index::zeros;
 use ds_base::OutOfMemory;
-use ds_rule::{Layout, Rows};
+use ds_rule::{RunValues, TableRun};
 use std::alloc::Global;
 
 /// For each event, the arcs into it. `heads` has the place of the last arc into each event, `links`
@@ -25,12 +25,12 @@ impl Drop for Chains {
 
 impl Chains {
     /// The chains of all arcs.
-    pub fn of<J: Rows>(alloc: Global, run: &Layout<J>) -> Result<Chains, OutOfMemory>
+    pub fn of<V: RunValues>(alloc: Global, run: &TableRun<V>) -> Result<Chains, OutOfMemory>
         requires { IsSound run.now }
         ensures { IfOk result (λ c.
             AreChained run.now c) }
     {
-        let mut heads = zeros(alloc, run.nodes() + run.latches())?;
+        let mut heads = zeros(alloc, run.nodes() + run.design_nodes())?;
         let mut links = Vec::new(alloc);
         let arcs = run.arcs();
         for i in 0..arcs.len() {

@@ -38,7 +38,7 @@ pub trait Compute {
     /// Whether this scratch has learnt the row of the producer that openings of this turn read:
     /// `compute` is not handed it then.
     fn has_learnt(&self, producer: LatchId, turn: u64, scratch: &Scratch) -> bool
-        requires producer { producer < (run self.now).latches }
+        requires producer { producer < (run self.now).design_nodes }
         requires remembers { Remembers (memory self.now) scratch.now }
         ensures { result ≡ has_learnt self.now scratch.now producer turn };
 
@@ -53,7 +53,7 @@ pub trait Compute {
         scratch: &mut Scratch,
         into: &mut Vec<u64>,
     )
-        requires node { node < (run self.now).latches }
+        requires node { node < (run self.now).design_nodes }
         requires turn { (0 < turn) × (turn ≤ (run self.now).limit) }
         requires from { from.now ≡ supply_but (run self.now)
             (λ p. has_learnt self.now scratch.old p turn) node turn (length (run self.now).edges) }

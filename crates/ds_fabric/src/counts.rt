@@ -13,20 +13,20 @@ use crate::compute::Compute;
 use crate::context::Context;
 use crate::incoming::Incoming;
 use atomic_table::{Seat, Shared};
-use ds_rule::{Layout, Look, Order, Rows, View};
+use ds_rule::{FiringRule, Look, RunValues, TableRun, View};
 
 /// The table, as its steps see it.
-pub type Board<J> = Shared<u8, View, Layout<J>, Order>;
+pub type WordBoard<V> = Shared<u8, View, TableRun<V>, FiringRule>;
 
 /// Loads the count of a node.
-pub fn look<J: Rows, C: Compute>(
-    context: &Context<J, C>,
+pub fn look<V: RunValues, C: Compute>(
+    context: &Context<V, C>,
     seat: &mut Seat<u8, View>,
     node: usize,
 ) -> u64
     requires table { seat.old.table_id ≡ context.now.board.now.table_id }
     requires near { node < context.now.run.now.nodes }
-    requires rests { (seat.old.me.0.live ≡ true) × (seat.old.me.0.phase ≡ 0) }
+    requires idle { (seat.old.me.0.live ≡ true) × (seat.old.me.0.phase ≡ 0) }
 
     ensures table { seat.new.table_id ≡ seat.old.table_id }
     ensures me { seat.new.me ≡ (after_look seat.old.me.0 node result, seat.old.me.1) }
@@ -39,8 +39,8 @@ pub fn look<J: Rows, C: Compute>(
 /// The first of these arcs, which enter one event, on which plain looks at the counts, without a
 /// seat, show too few tokens for this turn. A hint: it tells nothing, as the counts may have risen
 /// since.
-pub fn lacking_between<J: Rows>(
-    board: &Board<J>,
+pub fn lacking_between<V: RunValues>(
+    board: &WordBoard<V>,
     incoming: &Incoming,
     turn: u64,
     first: usize,
@@ -64,15 +64,15 @@ pub fn lacking_between<J: Rows>(
 
 /// Loads the counts of the event's sources, from the last arc on, up to the first that is too
 /// small.
-pub fn survey<J: Rows, C: Compute>(
-    context: &Context<J, C>,
+pub fn survey<V: RunValues, C: Compute>(
+    context: &Context<V, C>,
     seat: &mut Seat<u8, View>,
     event: usize,
     turn: u64,
 ) -> Option<(usize, u64)>
     requires table { seat.old.table_id ≡ context.now.board.now.table_id }
     requires incoming { AreInto context.now.run.now context.now.incoming.now }
-    requires rests { (seat.old.me.0.live ≡ true) × (seat.old.me.0.phase ≡ 0)
+    requires idle { (seat.old.me.0.live ≡ true) × (seat.old.me.0.phase ≡ 0)
         × (length seat.old.me.0.seen ≡ context.now.run.now.nodes) }
     requires few { (turn < 9223372036854775808) × (event < events context.now.run.now) }
 

@@ -1,5 +1,7 @@
 //! The shared table with its calls: `build` makes it and the pass of all nodes, `step` fires,
-//! `deal`, `deal_bare` and `gather` hand nodes from pass to pass, `finish` makes the record.
+//! `deal`, `deal_bare` and `gather` hand nodes from pass to pass, `finish` makes the record. Two
+//! more calls that fire stand in files of their names: `step_in` for workers, with `step_node` and
+//! `scratch`, and `fire_due` for the caller that is alone.
 ghost use Rattle.std.specs.Prelude.{◌≡◌, ◌<◌, ◌≤◌, ◌+◌, true, ℕ, OnOk, OnErr, IfOk, length};
 ghost use Rattle.ds_base.specs.Scratch.{Remembers};
 ghost use Rattle.ds_rule.specs.Sound.{IsSound};
@@ -12,31 +14,31 @@ ghost use Rattle.ds_fabric.specs.Showing.{Stays, IsStood, no_scratch};
 
 use crate::build::{histories, lay};
 use crate::compute::Compute;
-use crate::hands::{cut, mend, shut};
 use crate::incoming::Incoming;
 use crate::index::Index;
 use crate::pass::Pass;
 use crate::places::{alone, find, note_from, numbered, take_out};
 use crate::record::Record;
+use crate::seat_steps::{close_table, deal_seat, gather_seats};
 use crate::step::Step;
 use atomic_table::{Seat, Table};
 use ds_base::{LatchId, OutOfMemory, Scratch};
-use ds_rule::{Layout, Order, Rows, View};
+use ds_rule::{FiringRule, RunValues, TableRun, View};
 use std::alloc::Global;
 use std::marker::Model;
 use std::snapshot::Snapshot;
 
 /// The shared table of a run.
 #[derive(Drop)]
-pub struct Fabric<'a, J: Rows, C: Compute> {
-    pub(crate) run: &'a Layout<J>,
+pub struct Fabric<'a, V: RunValues, C: Compute> {
+    pub(crate) run: &'a TableRun<V>,
     pub(crate) openings: &'a C,
     pub(crate) incoming: Incoming,
     pub(crate) index: Index,
-    pub(crate) table: Table<u8, View, Layout<J>, Order, Global>,
+    pub(crate) table: Table<u8, View, TableRun<V>, FiringRule, Global>,
 }
 
-impl<'a, J: Rows, C: Compute> Model for Fabric<'a, J, C> {
+impl<'a, V: RunValues, C: Compute> Model for Fabric<'a, V, C> {
     ghost use Rattle.std.specs.Prelude.{◌≡◌, length};
     ghost use Rattle.ds_fabric.specs.Base.{Base, IsBuilt};
     ghost use Rattle.ds_fabric.specs.Into.{AreInto};
@@ -54,13 +56,13 @@ impl<'a, J: Rows, C: Compute> Model for Fabric<'a, J, C> {
         × AreInto f.run.now f.incoming };
 }
 
-impl<'a, J: Rows, C: Compute> Fabric<'a, J, C> {
+impl<'a, V: RunValues, C: Compute> Fabric<'a, V, C> {
     /// The shared table of a run in which nothing has fired, and the pass that holds all nodes.
     pub fn build(
         alloc: Global,
-        run: &'a Layout<J>,
+        run: &'a TableRun<V>,
         openings: &'a C,
-    ) -> Result<(Fabric<'a, J, C>, Pass), OutOfMemory>
+    ) -> Result<(Fabric<'a, V, C>, Pass), OutOfMemory>
         requires sound { IsSound run.now }
         requires openings { C.run openings.now ≡ run.now }
         ensures { IfOk result (λ r. IsFabricBegun run.now r.0 r.1) }
@@ -83,9 +85,9 @@ impl<'a, J: Rows, C: Compute> Fabric<'a, J, C> {
     // The shared table of a run in which nothing has fired, and the one seat at it.
     fn stand(
         alloc: Global,
-        run: &'a Layout<J>,
+        run: &'a TableRun<V>,
         openings: &'a C,
-    ) -> Result<(Fabric<'a, J, C>, Seat<u8, View>), OutOfMemory>
+    ) -> Result<(Fabric<'a, V, C>, Seat<u8, View>), OutOfMemory>
         requires sound { IsSound run.now }
         requires openings { C.run openings.now ≡ run.now }
         ensures { IfOk result (λ r. IsStood run.now (C.memory openings.now) r.0 r.1.table_id
@@ -188,7 +190,7 @@ impl<'a, J: Rows, C: Compute> Fabric<'a, J, C> {
         let at = find(held, pass.places.as_slice(), number);
         let mut nodes = Vec::with_capacity(alloc, room as usize)?;
         let places = alone(alloc, self.run.nodes(), number, room)?;
-        let seat = cut(&self.table.shared, self.run, &mut pass.seat, number);
+        let seat = deal_seat(&self.table.shared, self.run, &mut pass.seat, number);
         let history = take_out(&mut pass.nodes, &mut pass.places, at);
         nodes.push_reserved(history);
         Ok(Pass {
@@ -218,7 +220,7 @@ impl<'a, J: Rows, C: Compute> Fabric<'a, J, C> {
             scratch: _,
             room: _,
         } = other;
-        mend(&self.table.shared, self.run, &mut pass.seat, seat);
+        gather_seats(&self.table.shared, self.run, &mut pass.seat, seat);
         let first = pass.nodes.len();
         let Ok(()) = pass.nodes.append(&mut nodes) else {
             unreachable!()
@@ -251,11 +253,11 @@ impl<'a, J: Rows, C: Compute> Fabric<'a, J, C> {
             scratch: _,
             room: _,
         } = pass;
-        let many = shut(table, run, seat);
+        let many = close_table(table, run, seat);
         Record {
             nodes,
             places,
-            latches: run.latches(),
+            design_nodes: run.design_nodes(),
             many,
             shown,
         }

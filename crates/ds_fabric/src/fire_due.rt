@@ -1,7 +1,7 @@
 //! The firing of an event that is known to be enabled: no arc is looked at.
 ghost use Rattle.std.specs.Prelude.{ℕ, ◌≡◌, true, length, vec_capacity};
 ghost use Rattle.ds_base.specs.Scratch.{Remembers};
-ghost use Rattle.ds_rule.specs.Run.{next, Enabled};
+ghost use Rattle.ds_rule.specs.Run.{next, IsEnabledInRun};
 ghost use Rattle.ds_rule.specs.Rule.{holds, seen};
 ghost use Rattle.ds_fabric.specs.Stepped.{FiresWith};
 ghost use Rattle.ds_fabric.specs.Showing.{Belongs, IsPass, Stays};
@@ -15,15 +15,15 @@ use crate::pass::Pass;
 use crate::places::find;
 use atomic_table::Seat;
 use ds_base::{LatchId, Scratch};
-use ds_rule::{Rows, View};
+use ds_rule::{RunValues, View};
 
-impl<'a, J: Rows, C: Compute> Fabric<'a, J, C> {
+impl<'a, V: RunValues, C: Compute> Fabric<'a, V, C> {
     /// Fires the next event of the node, which is enabled at what the pass has seen: no source of
     /// it is looked at. The ticket. It takes no memory and waits for nobody.
     pub fn fire_due(&self, pass: &mut Pass, node: LatchId) -> u64
         requires fits { Belongs self.now pass.old }
         requires held { holds pass.old.view node ≡ true }
-        requires due { Enabled self.now.run (seen pass.old.view)
+        requires due { IsEnabledInRun self.now.run (seen pass.old.view)
             (next self.now.run node (seen pass.old.view node)) }
 
         ensures same { Stays self.now.memory pass.old pass.new }
@@ -53,7 +53,7 @@ impl<'a, J: Rows, C: Compute> Fabric<'a, J, C> {
             nodes.old.items places.now.items }
         requires held { holds seat.old.me.0 node ≡ true }
         requires remembers { Remembers self.now.memory scratch.old }
-        requires due { Enabled self.now.run (seen seat.old.me.0)
+        requires due { IsEnabledInRun self.now.run (seen seat.old.me.0)
             (next self.now.run node (seen seat.old.me.0 node)) }
 
         ensures same { (seat.new.table_id ≡ seat.old.table_id)

@@ -1,23 +1,23 @@
-//! The firing of one event: its sources are looked at, and where they show enough, its node departs
-//! on what the rule calls a flight: rows are read and the new one is written, a ticket is drawn,
-//! and the count is published.
+//! The firing of one event. Unless it is known to be enabled, its sources are looked at first, and
+//! it fires only if they show enough. Its node departs on what the rule calls a flight: an opening
+//! reads rows and writes the new one; of each event a ticket is drawn and the count is published.
 ghost use Rattle.std.specs.Prelude.{ℕ, List, ◌≡◌, ◌<◌, ◌≤◌, ◌+◌, ◌++◌, true, length, slice_set};
 ghost use mathlib.Core.Option.{some};
 ghost use lib.ListN.{get_elem?};
 ghost use Rattle.ds_base.specs.Scratch.{Remembers};
-ghost use Rattle.ds_rule.specs.Run.{next, Enabled};
+ghost use Rattle.ds_rule.specs.Run.{next, IsEnabledInRun};
 ghost use Rattle.ds_rule.specs.Words.{width};
 ghost use Rattle.ds_rule.specs.Rows.{row, IsOpening};
 ghost use Rattle.ds_rule.specs.Rule.{holds, seen};
 ghost use Rattle.ds_rule.specs.Plays.{after_depart, after_draw, after_publish};
 ghost use Rattle.ds_fabric.specs.Base.{IsAway, IsInFlight, HasWritten};
-ghost use Rattle.ds_fabric.specs.Told.{new_row};
+ghost use Rattle.ds_fabric.specs.HistoryList.{new_row};
 ghost use Rattle.ds_fabric.specs.Noted.{HasFired};
 ghost use Rattle.ds_fabric.specs.Into.{AreInto};
 ghost use Rattle.ds_fabric.specs.Showing.{Keeps};
 ghost use Rattle.ds_fabric.specs.Stepped.{FiresWith, Stepped};
 ghost use Rattle.ds_fabric.specs.declared.history.History.{History};
-ghost use Rattle.ds_fabric.specs.Flown.{HasOpened, HasRoomFor, HasRoomToFire};
+ghost use Rattle.ds_fabric.specs.Flight.{HasOpened, HasRoomFor, HasRoomToFire};
 
 use crate::compute::Compute;
 use crate::context::Context;
@@ -28,11 +28,11 @@ use crate::rows::{read_rows, write_row};
 use crate::step::Step;
 use atomic_table::Seat;
 use ds_base::{ArcId, EventId, LatchId, Scratch};
-use ds_rule::{Depart, Draw, Publish, Rows, View};
+use ds_rule::{Depart, Draw, Publish, RunValues, View};
 
 /// Fires the next event of the history's node, if what its sources show is enough.
-pub fn advance<J: Rows, C: Compute>(
-    context: &Context<J, C>,
+pub fn fire_if_enabled<V: RunValues, C: Compute>(
+    context: &Context<V, C>,
     seat: &mut Seat<u8, View>,
     history: &mut History,
     scratch: &mut Scratch,
@@ -76,8 +76,8 @@ pub fn advance<J: Rows, C: Compute>(
 
 /// Fires the next event of the history's node, which is enabled at what was seen: its sources are
 /// not looked at.
-pub fn fire_enabled<J: Rows, C: Compute>(
-    context: &Context<J, C>,
+pub fn fire_enabled<V: RunValues, C: Compute>(
+    context: &Context<V, C>,
     seat: &mut Seat<u8, View>,
     history: &mut History,
     scratch: &mut Scratch,
@@ -87,7 +87,7 @@ pub fn fire_enabled<J: Rows, C: Compute>(
     requires run { seat.old.me.0.run ≡ context.now.run.now }
     requires keeps { (nodes : List History) × (i : ℕ) × Keeps seat.old.me nodes
         × (get_elem? nodes i ≡ some history.old) }
-    requires enabled { Enabled context.now.run.now (seen seat.old.me.0)
+    requires enabled { IsEnabledInRun context.now.run.now (seen seat.old.me.0)
         (next context.now.run.now history.old.node (seen seat.old.me.0 history.old.node)) }
 
     ensures table { seat.new.table_id ≡ seat.old.table_id }
@@ -104,20 +104,20 @@ pub fn fire_enabled<J: Rows, C: Compute>(
 }
 
 // Fires the next event of the node: what was seen is enough for it.
-fn fire<J: Rows, C: Compute>(
-    context: &Context<J, C>,
+fn fire<V: RunValues, C: Compute>(
+    context: &Context<V, C>,
     seat: &mut Seat<u8, View>,
     history: &mut History,
     scratch: &mut Scratch,
 ) -> u64
     requires table { seat.old.table_id ≡ context.now.board.now.table_id }
     requires remembers { Remembers (C.memory context.now.openings.now) scratch.old }
-    requires rests { (seat.old.me.0.live ≡ true) × (seat.old.me.0.phase ≡ 0)
+    requires idle { (seat.old.me.0.live ≡ true) × (seat.old.me.0.phase ≡ 0)
         × (seat.old.me.0.run ≡ context.now.run.now) }
     requires held { (holds seat.old.me.0 history.old.node ≡ true)
         × (history.old.node < context.now.run.now.nodes)
         × (history.old.fired ≡ seen seat.old.me.0 history.old.node) }
-    requires ready { Enabled context.now.run.now (seen seat.old.me.0)
+    requires ready { IsEnabledInRun context.now.run.now (seen seat.old.me.0)
         (next context.now.run.now history.old.node history.old.fired) }
     requires room { HasRoomToFire context.now.run.now history.old }
 
@@ -139,18 +139,18 @@ fn fire<J: Rows, C: Compute>(
 }
 
 // The flight of the node's next event begins.
-fn depart<J: Rows, C: Compute>(
-    context: &Context<J, C>,
+fn depart<V: RunValues, C: Compute>(
+    context: &Context<V, C>,
     seat: &mut Seat<u8, View>,
     history: &History,
 )
     requires table { seat.old.table_id ≡ context.now.board.now.table_id }
-    requires rests { (seat.old.me.0.live ≡ true) × (seat.old.me.0.phase ≡ 0)
+    requires idle { (seat.old.me.0.live ≡ true) × (seat.old.me.0.phase ≡ 0)
         × (seat.old.me.0.run ≡ context.now.run.now) }
     requires held { (holds seat.old.me.0 history.now.node ≡ true)
         × (history.now.node < context.now.run.now.nodes)
         × (history.now.fired ≡ seen seat.old.me.0 history.now.node) }
-    requires ready { Enabled context.now.run.now (seen seat.old.me.0)
+    requires ready { IsEnabledInRun context.now.run.now (seen seat.old.me.0)
         (next context.now.run.now history.now.node history.now.fired) }
 
     ensures table { (seat.new.table_id ≡ seat.old.table_id) × (seat.new.id ≡ seat.old.id) }
@@ -163,8 +163,8 @@ fn depart<J: Rows, C: Compute>(
 }
 
 // Draws the ticket of what is in flight, and publishes the count of its node.
-fn publish<J: Rows, C: Compute>(
-    context: &Context<J, C>,
+fn publish<V: RunValues, C: Compute>(
+    context: &Context<V, C>,
     seat: &mut Seat<u8, View>,
     history: &History,
 ) -> u64
@@ -187,8 +187,8 @@ fn publish<J: Rows, C: Compute>(
 }
 
 // Gives the node's next value, where its next event is an opening.
-fn prepare<J: Rows, C: Compute>(
-    context: &Context<J, C>,
+fn prepare<V: RunValues, C: Compute>(
+    context: &Context<V, C>,
     seat: &mut Seat<u8, View>,
     history: &mut History,
     scratch: &mut Scratch,
@@ -219,8 +219,8 @@ fn prepare<J: Rows, C: Compute>(
 }
 
 // Reads, computes and writes the row of the opening.
-fn open_row<J: Rows, C: Compute>(
-    context: &Context<J, C>,
+fn open_row<V: RunValues, C: Compute>(
+    context: &Context<V, C>,
     seat: &mut Seat<u8, View>,
     history: &mut History,
     scratch: &mut Scratch,
@@ -230,7 +230,7 @@ fn open_row<J: Rows, C: Compute>(
     requires remembers { Remembers (C.memory context.now.openings.now) scratch.old }
     requires flight { IsOpening context.now.run.now seat.old.me.0 history.old.node turn
         × IsAway context.now.run.now seat.old.me.0 history.old.node }
-    requires within { (history.old.node < context.now.run.now.latches)
+    requires within { (history.old.node < context.now.run.now.design_nodes)
         × (turn ≤ context.now.run.now.limit) }
     requires room { HasRoomFor context.now.run.now history.old }
 

@@ -7,9 +7,9 @@ use crate::compute::Compute;
 use crate::counts::lacking_between;
 use crate::fabric::Fabric;
 use ds_base::LatchId;
-use ds_rule::Rows;
+use ds_rule::RunValues;
 
-impl<'a, J: Rows, C: Compute> Fabric<'a, J, C> {
+impl<'a, V: RunValues, C: Compute> Fabric<'a, V, C> {
     /// The place, among the arcs into the next event of the node, of one on which plain looks at
     /// the counts show too few tokens, whoever holds the node. The looks begin at the place
     /// `first` and go round; a node that is done lacks there for ever. None: the event seems due.
@@ -30,7 +30,7 @@ impl<'a, J: Rows, C: Compute> Fabric<'a, J, C> {
 
     /// A plain look shows a ticket drawn for each firing of the run. A hint, as the others.
     pub fn seems_over(&self) -> bool {
-        let events = self.run.nodes() + self.run.latches();
+        let events = self.run.nodes() + self.run.design_nodes();
         let firings = (events as u64).saturating_mul(self.run.limit());
         self.table.shared.peek(0) >= firings
     }

@@ -1,7 +1,7 @@
 //! The history of a node: what its firings told, turn by turn, in one list.
 ghost use Rattle.std.specs.Prelude.{◌≡◌, ◌<◌, ◌+◌};
 ghost use Rattle.ds_rule.specs.Run.{Run, turns};
-ghost use Rattle.ds_fabric.specs.Told.{StandsIn, ticket_in};
+ghost use Rattle.ds_fabric.specs.HistoryList.{StandsIn, ticket_in};
 ghost use Rattle.ds_fabric.specs.Noted.{HasNoted, HasRoomToNote};
 
 use crate::events::ticket_place;
@@ -41,13 +41,14 @@ impl History {
     }
 
     /// The ticket of firing number k, from 0, of an event of the node.
-    pub fn ticket(&self, latches: usize, event: usize, k: usize) -> u64
-        requires { (run : Run) × (latches ≡ run.latches) × StandsIn run self.now event
+    pub fn ticket(&self, design_nodes: usize, event: usize, k: usize) -> u64
+        requires { (run : Run) × (design_nodes ≡ run.design_nodes) × StandsIn run self.now event
             × (k < turns run event self.now.fired) }
-        ensures { (run : Run) → latches ≡ run.latches → result ≡ ticket_in run self.now event k }
+        ensures { (run : Run) → design_nodes ≡ run.design_nodes
+            → result ≡ ticket_in run self.now event k }
     {
         let turns = self.turns.as_slice();
-        let first = ticket_place(latches, event, self.stride);
+        let first = ticket_place(design_nodes, event, self.stride);
         turns[k * self.stride + first]
     }
 }

@@ -9,7 +9,7 @@ ghost use Rattle.ds_fabric.specs.Into.{AreInto, AreIntoBelow, IsLinedUp};
 use crate::arc_in::ArcIn;
 use crate::chain::Chains;
 use ds_base::OutOfMemory;
-use ds_rule::{Layout, Rows};
+use ds_rule::{RunValues, TableRun};
 use std::alloc::Global;
 
 /// The arcs into each event, those of one event behind those of the event before it. `starts` has
@@ -33,26 +33,26 @@ impl Drop for Incoming {
 
 impl Incoming {
     /// The arcs of a run.
-    pub fn of<J: Rows>(alloc: Global, run: &Layout<J>) -> Result<Incoming, OutOfMemory>
+    pub fn of<V: RunValues>(alloc: Global, run: &TableRun<V>) -> Result<Incoming, OutOfMemory>
         requires { IsSound run.now }
         ensures { IfOk result (λ x. AreInto run.now x) }
     {
         let chains = Chains::of(alloc, run)?;
         let mut incoming = Incoming::room(alloc, run)?;
-        for event in 0..run.nodes() + run.latches() {
+        for event in 0..run.nodes() + run.design_nodes() {
             incoming.take_in(run, &chains, event)?;
         }
         Ok(incoming)
     }
 
     // Room for all arcs of a run, of which there is none yet.
-    fn room<J: Rows>(alloc: Global, run: &Layout<J>) -> Result<Incoming, OutOfMemory>
+    fn room<V: RunValues>(alloc: Global, run: &TableRun<V>) -> Result<Incoming, OutOfMemory>
         requires { IsSound run.now }
         ensures { IfOk result (λ x.
             AreIntoBelow run.now 0 x.starts.items x.arcs.items x.numbers.items) }
     {
         let many = run.arcs().len();
-        let mut starts = Vec::with_capacity(alloc, run.nodes() + run.latches() + 1)?;
+        let mut starts = Vec::with_capacity(alloc, run.nodes() + run.design_nodes() + 1)?;
         starts.push_reserved(0);
         let arcs = Vec::with_capacity(alloc, many)?;
         let numbers = Vec::with_capacity(alloc, many)?;
@@ -64,9 +64,9 @@ impl Incoming {
     }
 
     // The arcs into one event more.
-    fn take_in<J: Rows>(
+    fn take_in<V: RunValues>(
         &mut self,
-        run: &Layout<J>,
+        run: &TableRun<V>,
         chains: &Chains,
         event: usize,
     ) -> Result<(), OutOfMemory>
@@ -85,8 +85,8 @@ impl Incoming {
 }
 
 // Puts the arcs into the event behind all others, from the last one on.
-fn line_up<J: Rows>(
-    run: &Layout<J>,
+fn line_up<V: RunValues>(
+    run: &TableRun<V>,
     chains: &Chains,
     event: usize,
     arcs: &mut Vec<ArcIn>,

@@ -3,10 +3,10 @@ ghost use Rattle.std.specs.Prelude.{◌≡◌, ◌<◌, ◌≤◌, ◌+◌, ℕ,
 ghost use Rattle.ds_rule.specs.Sound.{IsSound, edge_at};
 ghost use Rattle.ds_rule.specs.Rows.{IsStarts};
 ghost use Rattle.ds_fabric.specs.Ranged.{IsFrom, AreFirstEdges};
-ghost use Rattle.ds_rule.specs.declared.layout.DataEdge.{DataEdge};
+ghost use Rattle.ds_rule.specs.declared.table_run.DataEdge.{DataEdge};
 
 use ds_base::OutOfMemory;
-use ds_rule::{DataEdge, Layout, Rows};
+use ds_rule::{DataEdge, RunValues, TableRun};
 use std::alloc::Global;
 
 /// Where the rows of each node begin among the words, and its edges among the edges, which stand by
@@ -27,9 +27,9 @@ impl Drop for Index {
 
 impl Index {
     /// Of where the rows of each node begin.
-    pub fn of<J: Rows>(
+    pub fn of<V: RunValues>(
         alloc: Global,
-        run: &Layout<J>,
+        run: &TableRun<V>,
         starts: Vec<usize>,
     ) -> Result<Index, OutOfMemory>
         requires { IsSound run.now }
@@ -49,7 +49,7 @@ pub fn zeros(alloc: Global, count: usize) -> Result<Vec<usize>, OutOfMemory>
 }
 
 // The first edge of each node.
-fn firsts<J: Rows>(alloc: Global, run: &Layout<J>) -> Result<Vec<usize>, OutOfMemory>
+fn firsts<V: RunValues>(alloc: Global, run: &TableRun<V>) -> Result<Vec<usize>, OutOfMemory>
     requires { IsSound run.now }
     ensures { IfOk result (λ v. AreFirstEdges run.now v.items) }
 {
@@ -64,7 +64,7 @@ fn firsts<J: Rows>(alloc: Global, run: &Layout<J>) -> Result<Vec<usize>, OutOfMe
 }
 
 // The first edge whose consumer is not below the node; those before `at` are passed.
-fn skip<J: Rows>(run: &Layout<J>, edges: &[DataEdge], at: usize, node: usize) -> usize
+fn skip<V: RunValues>(run: &TableRun<V>, edges: &[DataEdge], at: usize, node: usize) -> usize
     requires sound { IsSound run.now }
     requires edges { edges.now ≡ run.now.edges }
     requires passed { (at ≤ length edges.now) × ((k : ℕ) → k < at

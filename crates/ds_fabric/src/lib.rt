@@ -5,10 +5,10 @@
 //! passes; `step` fires the next event of a node where the counts that it loads are enough, and
 //! says else which arc lacks tokens, in the pass's own scratch, and `step_in` in one that is lent,
 //! for the small passes of `deal_bare`; `fire_due` fires what is known to be enabled, and looks at
-//! no arc; `finish` ends the run. A `Record` has the tickets of each
-//! event, which are the places of one legal list, and the rows of each node. How the row of a node
-//! comes from those of its producers is a `Compute`, which says what a scratch remembers, and which
-//! rows it has learnt: these are not read. Nothing is promised of time, or which pass fires what.
+//! no arc; `finish` ends the run. A `Record` has the tickets of each event, which are the places of
+//! one legal list, and the rows of each node. How the row of a node comes from those of its
+//! producers is a `Compute`, which says what a scratch remembers, and which rows it has learnt:
+//! these are not read. Nothing is promised of time, or which pass fires what.
 #![tactic(auto)]
 
 mod arc_in;
@@ -21,7 +21,6 @@ mod events;
 mod fabric;
 mod fire_due;
 mod flight;
-mod hands;
 mod hints;
 mod history;
 mod incoming;
@@ -31,6 +30,7 @@ mod pass;
 mod places;
 mod record;
 mod rows;
+mod seat_steps;
 mod spread;
 mod step;
 mod step_in;

@@ -25,7 +25,7 @@ use std::snapshot::Snapshot;
 pub struct Record {
     pub(crate) nodes: Vec<History>,
     pub(crate) places: Vec<usize>,
-    pub(crate) latches: usize,
+    pub(crate) design_nodes: usize,
     pub(crate) many: u64,
     pub(crate) shown: Snapshot<Pass>,
 }
@@ -37,7 +37,8 @@ impl Model for Record {
 
     ghost view = { λ r. record { shown = r.shown.value; many = r.many } };
 
-    ghost invariant = { λ r. IsRecord r.shown.value r.nodes.items r.places.items r.latches r.many };
+    ghost invariant = { λ r. IsRecord r.shown.value r.nodes.items r.places.items r.design_nodes
+        r.many };
 }
 
 impl Record {
@@ -54,8 +55,8 @@ impl Record {
         ensures { result ≡ slice_index (tickets self.now.shown.view event) k }
     {
         let number = event.index();
-        let history = self.history(node_of(self.latches, number));
-        history.ticket(self.latches, number, k)
+        let history = self.history(node_of(self.design_nodes, number));
+        history.ticket(self.design_nodes, number, k)
     }
 
     /// How often the event fired.
@@ -64,13 +65,14 @@ impl Record {
         ensures { result ≡ length (tickets self.now.shown.view event) }
     {
         let number = event.index();
-        let history = self.history(node_of(self.latches, number));
-        turns_of(self.latches, number, history.fired)
+        let history = self.history(node_of(self.design_nodes, number));
+        turns_of(self.design_nodes, number, history.fired)
     }
 
-    /// How many rows the latch has stored: one for each time that it closed.
+    /// How many rows the latch has stored: one for each time that it closed. Its history has each
+    /// row from the opening on, which computed it.
     pub fn stored(&self, node: LatchId) -> usize
-        requires { node < self.now.shown.view.run.latches }
+        requires { node < self.now.shown.view.run.design_nodes }
         ensures value { result ≡ length (tickets self.now.shown.view (closing node)) }
         ensures sound { IsSound self.now.shown.view.run }
         ensures most { result ≤ self.now.shown.view.run.limit }
@@ -81,7 +83,7 @@ impl Record {
 
     /// Value word i of stored row number k, from 0.
     pub fn word(&self, node: LatchId, k: usize, i: usize) -> u64
-        requires near { node < self.now.shown.view.run.latches }
+        requires near { node < self.now.shown.view.run.design_nodes }
         requires stored { k < length (tickets self.now.shown.view (closing node)) }
         requires inside { i < width self.now.shown.view.run node }
         ensures { result ≡ value self.now.shown.view.run node (k + 1) i }
@@ -93,7 +95,7 @@ impl Record {
 
     /// The values of stored row number k, from 0.
     pub fn row(&self, node: LatchId, k: usize, into: &mut Row3)
-        requires near { node < self.now.shown.view.run.latches }
+        requires near { node < self.now.shown.view.run.design_nodes }
         requires stored { k < length (tickets self.now.shown.view (closing node)) }
         requires length { length into.old ≡ slice_index self.now.shown.view.run.lengths node }
         ensures { into.new ≡ node_values self.now.shown.view.run node (k + 1) }
@@ -123,7 +125,7 @@ impl Record {
     {
         let mut out = no_events(alloc, self.many as usize)?;
         spread_all(
-            self.latches,
+            self.design_nodes,
             self.nodes.as_slice(),
             self.places.as_slice(),
             out.as_mut_slice(),

@@ -13,10 +13,10 @@ use crate::compute::Compute;
 use crate::context::Context;
 use crate::learnt::Learnt;
 use atomic_table::Seat;
-use ds_rule::{DataEdge, Layout, Read, Rows, View, Write};
+use ds_rule::{DataEdge, Read, RunValues, TableRun, View, Write};
 
 /// Where the row of an opening stands.
-pub fn place_of<J: Rows>(run: &Layout<J>, starts: &[usize], node: usize, turn: u64) -> usize
+pub fn place_of<V: RunValues>(run: &TableRun<V>, starts: &[usize], node: usize, turn: u64) -> usize
     requires sound { IsSound run.now × IsStarts run.now starts.now }
     requires near { node < run.now.nodes }
     ensures { result ≡ place run.now node turn 0 }
@@ -30,8 +30,8 @@ pub fn place_of<J: Rows>(run: &Layout<J>, starts: &[usize], node: usize, turn: u
 }
 
 // Puts down the number of a producer, and loads its row.
-fn read_row<J: Rows, C: Compute>(
-    context: &Context<J, C>,
+fn read_row<V: RunValues, C: Compute>(
+    context: &Context<V, C>,
     seat: &mut Seat<u8, View>,
     edge: DataEdge,
     turn: u64,
@@ -66,8 +66,8 @@ fn read_row<J: Rows, C: Compute>(
 
 /// Loads the rows of the node's producers that are not learnt, edge by edge, each behind the number
 /// of its producer.
-pub fn read_rows<J: Rows, C: Compute>(
-    context: &Context<J, C>,
+pub fn read_rows<V: RunValues, C: Compute>(
+    context: &Context<V, C>,
     learnt: &Learnt,
     seat: &mut Seat<u8, View>,
     node: usize,
@@ -104,8 +104,8 @@ pub fn read_rows<J: Rows, C: Compute>(
 }
 
 /// Stores the words of the node's next value.
-pub fn write_row<J: Rows, C: Compute>(
-    context: &Context<J, C>,
+pub fn write_row<V: RunValues, C: Compute>(
+    context: &Context<V, C>,
     seat: &mut Seat<u8, View>,
     words: &[u64],
     node: usize,

@@ -22,49 +22,56 @@ pub fn no_events(alloc: Global, count: usize) -> Result<Vec<EventId>, OutOfMemor
 }
 
 /// Puts the events of all nodes at the places of their tickets.
-pub fn spread_all(latches: usize, nodes: &[History], places: &[usize], out: &mut [EventId])
-    requires { (p : Showing) × IsRecord p nodes.now places.now latches (length out.old) }
+pub fn spread_all(design_nodes: usize, nodes: &[History], places: &[usize], out: &mut [EventId])
+    requires { (p : Showing) × IsRecord p nodes.now places.now design_nodes (length out.old) }
     ensures long { length out.new ≡ length out.old }
-    ensures filled { (p : Showing) → IsRecord p nodes.now places.now latches (length out.old)
+    ensures filled { (p : Showing) → IsRecord p nodes.now places.now design_nodes (length out.old)
         → (i : ℕ) (h : History) → get_elem? nodes.now i ≡ some h → HasSpread p.view.run h out.new }
 {
     for i in 0..nodes.len() {
-        spread(latches, &nodes[i], out);
+        spread(design_nodes, &nodes[i], out);
     }
 }
 
 // Puts the events of a node at the places of their tickets.
-fn spread(latches: usize, history: &History, out: &mut [EventId])
-    requires few { (2 * latches < 4294967296) × (latches + history.now.node < 4294967296) }
-    requires can { (run : Run) × CanSpread latches (length out.old) run history.now }
+fn spread(design_nodes: usize, history: &History, out: &mut [EventId])
+    requires few { (2 * design_nodes < 4294967296)
+        × (design_nodes + history.now.node < 4294967296) }
+    requires can { (run : Run) × CanSpread design_nodes (length out.old) run history.now }
 
     ensures long { length out.new ≡ length out.old }
-    ensures filled { (run : Run) → CanSpread latches (length out.old) run history.now
+    ensures filled { (run : Run) → CanSpread design_nodes (length out.old) run history.now
         → HasSpread run history.now out.new }
-    ensures kept { (run : Run) → latches ≡ run.latches
+    ensures kept { (run : Run) → design_nodes ≡ run.design_nodes
         → IsLeftOver run history.now out.old out.new }
 {
     let node = history.node as u32;
-    if history.node < latches {
-        put(latches, history, EventId::new(2 * node), out);
-        put(latches, history, EventId::new(2 * node + 1), out);
+    if history.node < design_nodes {
+        put(design_nodes, history, EventId::new(2 * node), out);
+        put(design_nodes, history, EventId::new(2 * node + 1), out);
     } else {
-        put(latches, history, EventId::new(node + latches as u32), out);
+        put(
+            design_nodes,
+            history,
+            EventId::new(node + design_nodes as u32),
+            out,
+        );
     }
 }
 
 // Puts the event at the places of its tickets.
-fn put(latches: usize, history: &History, event: EventId, out: &mut [EventId])
-    requires { (run : Run) × (latches ≡ run.latches)
+fn put(design_nodes: usize, history: &History, event: EventId, out: &mut [EventId])
+    requires { (run : Run) × (design_nodes ≡ run.design_nodes)
         × IsInside run history.now event (length out.old) }
 
     ensures long { length out.new ≡ length out.old }
-    ensures filled { (run : Run) → latches ≡ run.latches → IsFilled run history.now event out.new }
-    ensures kept { (run : Run) → latches ≡ run.latches
+    ensures filled { (run : Run) → design_nodes ≡ run.design_nodes
+        → IsFilled run history.now event out.new }
+    ensures kept { (run : Run) → design_nodes ≡ run.design_nodes
         → IsElsewhereKept run history.now event out.old out.new }
 {
     let number = event.index();
-    for k in 0..turns_of(latches, number, history.fired) as usize {
-        out[history.ticket(latches, number, k) as usize] = event;
+    for k in 0..turns_of(design_nodes, number, history.fired) as usize {
+        out[history.ticket(design_nodes, number, k) as usize] = event;
     }
 }

@@ -8,17 +8,17 @@ ghost use Rattle.ds_fabric.specs.Showing.{IsOf, IsPass, Stays};
 use crate::compute::Compute;
 use crate::context::Context;
 use crate::fabric::Fabric;
-use crate::flight::advance;
+use crate::flight::fire_if_enabled;
 use crate::history::History;
 use crate::pass::Pass;
 use crate::places::find;
 use crate::step::Step;
 use atomic_table::Seat;
 use ds_base::{LatchId, OutOfMemory, Scratch};
-use ds_rule::{Rows, View};
+use ds_rule::{RunValues, View};
 use std::alloc::Global;
 
-impl<'a, J: Rows, C: Compute> Fabric<'a, J, C> {
+impl<'a, V: RunValues, C: Compute> Fabric<'a, V, C> {
     /// A scratch for one worker.
     pub fn scratch(&self, alloc: Global) -> Result<Scratch, OutOfMemory>
         ensures { IfOk result (Remembers self.now.memory) }
@@ -77,6 +77,6 @@ impl<'a, J: Rows, C: Compute> Fabric<'a, J, C> {
             incoming: &self.incoming,
             index: &self.index,
         };
-        advance(&context, seat, &mut nodes[at], scratch)
+        fire_if_enabled(&context, seat, &mut nodes[at], scratch)
     }
 }

@@ -73,8 +73,8 @@ left f old p h d = record {
 pub few_events : (run : Run) (e : ℕ) → run ≡ toggle → e < 4 → e < events run
 few_events run e is h = omega (arith, ap events is, events-is toggle)
 
-pub few_latches : (run : Run) (l : ℕ) → run ≡ toggle → l < 2 → l < run.latches
-few_latches run l is h = subst (λ (r : Run). l < r.latches) (sym is) h
+pub few_latches : (run : Run) (l : ℕ) → run ≡ toggle → l < 2 → l < run.design_nodes
+few_latches run l is h = subst (λ (r : Run). l < r.design_nodes) (sym is) h
 
 pub few_nodes : (run : Run) (l : ℕ) → run ≡ toggle → l < 2 → l < run.nodes
 few_nodes run l is h = subst (λ (r : Run). l < r.nodes) (sym is) h

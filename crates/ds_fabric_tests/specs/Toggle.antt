@@ -4,7 +4,7 @@ use Rattle.std.specs.Prelude.{◌≡◌, ℕ, List, [], ◌∷◌, Bool, true, f
 use Rattle.ds_base.specs.Values.{Row}
 use Rattle.ds_base.specs.declared.value.Value.TheVariants.{Zero, One}
 use Rattle.ds_marked.specs.declared.marked.Arc.{Arc}
-use Rattle.ds_rule.specs.declared.layout.DataEdge.{DataEdge}
+use Rattle.ds_rule.specs.declared.table_run.DataEdge.{DataEdge}
 use Rattle.ds_rule.specs.Run.{Run}
 use Rattle.ds_base.specs.Scratch.{Memory}
 use Rattle.ds_fabric.specs.Base.{Base}
@@ -26,7 +26,7 @@ turned = (Zero ∷ []) ∷ (Zero ∷ []) ∷ (One ∷ []) ∷ (One ∷ []) ∷ (
 abbrev pub toggle : Run
 toggle = record {
   nodes = 2;
-  latches = 2;
+  design_nodes = 2;
   arcs = arc 0 1 0 ∷ arc 1 0 1 ∷ arc 2 3 0 ∷ arc 3 2 1 ∷ arc 0 2 1 ∷ arc 3 0 0 ∷ arc 2 0 0
       ∷ arc 1 2 1 ∷ [];
   limit = 2;

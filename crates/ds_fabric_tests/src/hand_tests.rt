@@ -3,11 +3,11 @@ ghost use Rattle.std.specs.Prelude.{◌≡◌, ◌<◌, IfSome, OnOk};
 ghost use Rattle.ds_fabric_tests.specs.Toggle.{toggle, HoldsBoth, HoldsMaster, HoldsSlave};
 
 use crate::toggle::{
-    Toggle, begin, end, fired, has, layout, master, part, slave, slave_seems_due, step, unite,
+    Toggle, begin, end, fired, has, master, part, slave, slave_seems_due, step, table_run, unite,
 };
 use ds_base::{ArcId, LatchId, OutOfMemory};
 use ds_fabric::{Fabric, Pass, Record, Step};
-use ds_rule::Layout;
+use ds_rule::TableRun;
 use std::alloc::Global;
 use std::thread;
 use std::thread::Threads;
@@ -100,7 +100,7 @@ fn passes_fire(
 }
 
 // Whether those of a run do.
-fn fires_in_turn(alloc: Global, run: &Layout<Toggle>) -> Result<bool, OutOfMemory>
+fn fires_in_turn(alloc: Global, run: &TableRun<Toggle>) -> Result<bool, OutOfMemory>
     requires { run.now ≡ toggle }
 {
     let (fabric, mut pass) = begin(alloc, run)?;
@@ -109,7 +109,7 @@ fn fires_in_turn(alloc: Global, run: &Layout<Toggle>) -> Result<bool, OutOfMemor
 
 #[test]
 fn two_passes_fire_in_turn(rt: HostRuntime) {
-    let Ok(run) = layout(rt.alloc()) else {
+    let Ok(run) = table_run(rt.alloc()) else {
         panic!(rt; "memory");
     };
     assert!(rt; matches!(fires_in_turn(rt.alloc(), &run), Ok(true)));
@@ -214,7 +214,7 @@ fn both_fire<R: AllocGlobal + Threads>(
 // The record of these firings; none where memory is lacking or another event fired.
 fn record_of<R: AllocGlobal + Threads>(
     rt: &R,
-    run: &Layout<Toggle>,
+    run: &TableRun<Toggle>,
     by_threads: bool,
 ) -> Option<Record>
     requires { run.now ≡ toggle }
@@ -230,7 +230,7 @@ fn record_of<R: AllocGlobal + Threads>(
 }
 
 // Whether such a record has the tickets of both openings.
-fn is_read_back<R: AllocGlobal + Threads>(rt: &R, run: &Layout<Toggle>, by_threads: bool) -> bool
+fn is_read_back<R: AllocGlobal + Threads>(rt: &R, run: &TableRun<Toggle>, by_threads: bool) -> bool
     requires { run.now ≡ toggle }
 {
     match record_of(rt, run, by_threads) {
@@ -241,7 +241,7 @@ fn is_read_back<R: AllocGlobal + Threads>(rt: &R, run: &Layout<Toggle>, by_threa
 
 #[test]
 fn read_back(rt: HostRuntime) {
-    let Ok(run) = layout(rt.alloc()) else {
+    let Ok(run) = table_run(rt.alloc()) else {
         panic!(rt; "memory");
     };
     assert!(rt; is_read_back(&rt, &run, false));

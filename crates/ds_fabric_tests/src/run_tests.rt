@@ -2,10 +2,10 @@
 ghost use Rattle.std.specs.Prelude.{◌≡◌, ◌<◌, IfSome};
 ghost use Rattle.ds_fabric_tests.specs.Toggle.{toggle, HoldsBoth};
 
-use crate::toggle::{Toggle, begin, end, fired, has, layout, step};
+use crate::toggle::{Toggle, begin, end, fired, has, step, table_run};
 use ds_base::{EventId, LatchId, OutOfMemory, Row3, Value};
 use ds_fabric::{Fabric, Pass, Record, unpack};
-use ds_rule::Layout;
+use ds_rule::TableRun;
 use std::alloc::Global;
 
 // In each turn the master opens and closes, then the slave: the master needs the slave's turn
@@ -40,7 +40,7 @@ fn fires(fabric: &Fabric<Toggle, Toggle>, pass: &mut Pass, many: u64) -> bool
 }
 
 // The record after so many of these firings; none where memory is lacking or another event fired.
-fn record_of(alloc: Global, run: &Layout<Toggle>, many: u64) -> Option<Record>
+fn record_of(alloc: Global, run: &TableRun<Toggle>, many: u64) -> Option<Record>
     requires { run.now ≡ toggle }
     ensures { IfSome result (λ r. r.shown.view.run ≡ toggle) }
 {
@@ -58,7 +58,7 @@ fn record_of(alloc: Global, run: &Layout<Toggle>, many: u64) -> Option<Record>
 fn record_after(alloc: Global, many: u64) -> Option<Record>
     ensures { IfSome result (λ r. r.shown.view.run ≡ toggle) }
 {
-    let Ok(run) = layout(alloc) else {
+    let Ok(run) = table_run(alloc) else {
         return None;
     };
     record_of(alloc, &run, many)

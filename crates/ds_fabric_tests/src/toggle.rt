@@ -6,14 +6,14 @@ ghost use Rattle.ds_fabric_tests.specs.Toggle.{HoldsBoth, HoldsSlave, HoldsMaste
 use ds_base::{ArcId, EventId, LatchId, OutOfMemory, Scratch};
 use ds_fabric::{Compute, Fabric, Pass, Record, Step};
 use ds_marked::Arc;
-use ds_rule::{DataEdge, Layout, Rows, Sizes};
+use ds_rule::{DataEdge, RunValues, Sizes, TableRun};
 use std::alloc::Global;
 
 /// Node 0 is the slave, node 1 the master.
 #[derive(Drop)]
 pub struct Toggle;
 
-impl Rows for Toggle {
+impl RunValues for Toggle {
     ghost rows = { λ _. turned };
 }
 
@@ -73,7 +73,7 @@ fn new_edge(producer: u32, consumer: u32, tokens: u8) -> DataEdge
 }
 
 /// What the run is of.
-pub fn layout(alloc: Global) -> Result<Layout<Toggle>, OutOfMemory>
+pub fn table_run(alloc: Global) -> Result<TableRun<Toggle>, OutOfMemory>
     ensures { IfOk result (λ l. l ≡ toggle) }
 {
     let arcs = [
@@ -91,17 +91,17 @@ pub fn layout(alloc: Global) -> Result<Layout<Toggle>, OutOfMemory>
     let lengths = Vec::from_array(alloc, [1, 1])?;
     let sizes = Sizes {
         nodes: 2,
-        latches: 2,
+        design_nodes: 2,
         limit: 2,
         slack: 0,
     };
-    Ok(Layout::of(sizes, arcs, edges, lengths, Toggle))
+    Ok(TableRun::of(sizes, arcs, edges, lengths, Toggle))
 }
 
 /// The table in which nothing has fired, and the pass of both nodes.
 pub fn begin(
     alloc: Global,
-    run: &Layout<Toggle>,
+    run: &TableRun<Toggle>,
 ) -> Result<(Fabric<'_, Toggle, Toggle>, Pass), OutOfMemory>
     requires { run.now ≡ toggle }
     ensures { IfOk result (λ r. HoldsBoth r.0 r.1) }

@@ -142,7 +142,7 @@ plan_events s g plan =
     let events_are : length g.events ≡ length (split_events s) + length plan.extra = ap length plan.events ∙ length-append (split_events s) plan.extra in
     omega arith
 
--- the histories of the first nodes, which have stored nothing
+-- the stored rows of the first nodes, which have stored nothing yet
 pub record AreEmptyBelow (limit i : ℕ) (bits : List (List ℕ)) (stored : List Stored) : Type 0 where
   pub one_each : length stored ≡ i
   pub none : All (λ h. h.values ≡ []) stored
@@ -155,7 +155,7 @@ none_empty limit bits stored is = record {
   room = λ j d e lt. absurd (omega arith);
 }
 
--- one history more
+-- the stored rows of one node more
 pub more_empty : (limit i : ℕ) (bits : List (List ℕ)) (stored stored' : List Stored) (h : Stored) (nets d' : List ℕ)
     → AreEmptyBelow limit i bits stored → stored' ≡ stored ++ h ∷ [] → h ≡ record { values = []; room = limit * length nets }
     → nets ≡ get_or bits i d' → i < length bits → AreEmptyBelow limit (i + 1) bits stored'
@@ -177,7 +177,7 @@ more_empty limit i bits stored stored' h nets d' before is h_is nets_are inside 
       ];
     }
 
--- the histories of all nodes
+-- the stored rows of all nodes
 pub all_empty : (s : Split) (limit i : ℕ) (bits : List (List ℕ)) (stored : List Stored) → AreEmptyBelow limit i bits stored
     → i ≡ length bits → length bits ≡ nodes s → ((n : Node) → IsNode s n → get_or bits (number_of n) [] ≡ nets_of s n)
     → AreEmpty s limit stored

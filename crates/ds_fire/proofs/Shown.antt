@@ -15,7 +15,7 @@ use Rattle.ds_latch.specs.Node.{Split, IsNode, number_of, nodes, opening, closin
 use Rattle.ds_latch.specs.declared.node.Node.{Node}
 use Rattle.ds_latch.specs.declared.node.Node.TheVariants.{In, Out, Master, Slave}
 use Rattle.ds_latch.specs.Order.{IsDataEdge, to_master, to_out}
-use Rattle.ds_latch.specs.Firing.{State, opened_state, closed_state, counted_state, changed, placed, Fires, opens, closes, passes, Takes, IsSettled, opening_read, read_rows}
+use Rattle.ds_latch.specs.Firing.{State, opened_state, closed_state, counted_state, changed, placed, Fires, opens, closes, counts_up, Takes, IsSettled, opening_read, read_rows}
 use Rattle.ds_latch.proofs.OrderTokens.{number_below, same_node, cases_changed}
 use Rattle.ds_latch.proofs.EventNodes.{IsEvent, is_opening, is_closing, is_extra}
 use Rattle.ds_fire.specs.Snapshot.{Snapshot, Shows, split_of, count_of, row_index, rows_of, stored_values, width_of}
@@ -284,7 +284,7 @@ module _ (old : Snapshot) (sound : IsSnapshotSound old) where
     pub passing_fires : (now : State) → Shows old now → (next : State) × Fires S old.vectors now (extra_event S e) next × Shows (kept_next old (extra_event S e) old.rows old.stored) next
     passing_fires now shows = (
       counted_state now (extra_event S e),
-      passes e,
+      counts_up e,
       record {
         counts = counts_shown old.counts (extra_event S e) inside now.count shows.counts;
         rows = shows.rows;

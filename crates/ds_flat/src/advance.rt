@@ -1,4 +1,4 @@
-//! A turn of the copies that are being taken.
+//! A step of the copies that are being taken.
 ghost use Rattle.std.specs.Prelude.{MatchResult};
 ghost use Rattle.ds_base.specs.Refusal.{RefusesAs};
 ghost use Rattle.ds_flat.specs.Run.{run_rest, HaveParts, IsRestKept};

@@ -93,7 +93,7 @@ fn from_first<'b, 'm>(
     }
 }
 
-// What is left is taken, turn by turn.
+// What is left is taken, step by step.
 fn all_taken<'b, 'm>(
     alloc: Global,
     library: &Library<'b, 'm>,

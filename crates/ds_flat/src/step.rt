@@ -44,7 +44,7 @@ impl<'b, 'm> Model for State<'b, 'm> {
     } };
 }
 
-/// What a turn gives: what is left to take, or the design.
+/// What a step gives: what is left to take, or the design.
 #[derive(Drop)]
 pub enum StepOutcome<'b, 'm> {
     Next(State<'b, 'm>),

@@ -21,7 +21,7 @@ use Rattle.ds_latch.specs.declared.node.Node.TheVariants.{In, Out, Master, Slave
 use Rattle.ds_latch.specs.Order.{IsSource, IsDataEdge, to_master, to_out, to_slave, opens_first, closes_before_next, after_producer, before_reuse, open_tokens, close_tokens, Supplies}
 use Rattle.ds_latch.specs.Plan.{IsSplit, IsController}
 use Rattle.ds_latch.specs.Numbered.{numbered}
-use Rattle.ds_latch.specs.Firing.{State, first_state, first_row, placed, changed, opening_read, read_rows, Fires, opens, closes, passes, opened_state, closed_state, counted_state, FiresAll, Takes, IsSettled, AreRegisters}
+use Rattle.ds_latch.specs.Firing.{State, first_state, first_row, placed, changed, opening_read, read_rows, Fires, opens, closes, counts_up, opened_state, closed_state, counted_state, FiresAll, Takes, IsSettled, AreRegisters}
 use Rattle.ds_latch.specs.Flow.{IsInStep}
 use Rattle.ds_base.proofs.ListLemmas.{map_agree, agree_from_map, Contains-map, get_or-default}
 use Rattle.ds_design.proofs.OneValuation.{depends_on_sources}
@@ -39,7 +39,7 @@ register_value nets state these is r net inside at =
 pub fires_count : (s : Split) (vectors : List Row) (now : State) (v : ℕ) (next : State) → Fires s vectors now v next → next.count ≡ counted v now.count
 fires_count s vectors now _ _ (opens n row is_node takes) = refl
 fires_count s vectors now _ _ (closes n is_node) = refl
-fires_count s vectors now _ _ (passes e) = refl
+fires_count s vectors now _ _ (counts_up e) = refl
 
 -- the nodes whose opening settles: every source that supplies them is a producer
 abbrev pub Settles : Split → Node → Type 0
@@ -223,7 +223,7 @@ module _ (s : Split) (g : Graph) (controller : IsController s g) (vectors : List
         stored = closing_stored n is_node enabled;
       };
     }
-    step_kept _ _ enabled (passes e) = record {
+    step_kept _ _ enabled (counts_up e) = record {
       agrees = agrees_kept g (length vectors) now.count (extra_event s e) enabled good.agrees;
       within = within_kept g (length vectors) now.count (extra_event s e) enabled good.within;
       step = record {
@@ -279,7 +279,7 @@ module _ (s : Split) (g : Graph) (controller : IsController s g) (vectors : List
   next_state : (now : State) → InStep now → (v : ℕ) → IsEnabled g (length vectors) now.count v → IsEvent s v → (next : State) × Fires s vectors now v next
   next_state now good _ enabled (is_opening n is_node) = (let (row, takes) = next_row now good n is_node enabled in (opened_state s now n row, opens n row is_node takes))
   next_state now good _ enabled (is_closing n is_node) = (closed_state s now n, closes n is_node)
-  next_state now good _ enabled (is_extra e) = (counted_state now (extra_event s e), passes e)
+  next_state now good _ enabled (is_extra e) = (counted_state now (extra_event s e), counts_up e)
 
   some_firing_from : (events : List ℕ) (now : State) → InStep now → IsLegalFrom g (length vectors) now.count events → (new : State) × FiresAll s vectors now events new
   some_firing_from [] now good legal = (now, refl)

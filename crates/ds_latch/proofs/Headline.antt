@@ -147,10 +147,10 @@ module _ (s : Split) (g : Graph) (plan : IsPlan s g) (vectors : List Row) (state
     stores = λ now all.
         let kept : InStep s g controls vectors state nets run now = steps_kept s g controls vectors state nets run events legal now all in
         stored_begins s vectors state nets now kept.step (length vectors) kept.within;
-    shows = λ now all.
+    outputs_stored = λ now all.
         let kept : InStep s g controls vectors state nets run now = steps_kept s g controls vectors state nets run events legal now all in
         outputs_begin s vectors state nets now kept.step (length vectors) kept.within;
-    closes = λ now all n is_node.
+    stores_once_a_closing = λ now all n is_node.
         let kept : InStep s g controls vectors state nets run now = steps_kept s g controls vectors state nets run events legal now all in
         stored_long s vectors state nets now kept.step n is_node
         ∙ ap (λ (count : ℕ → ℕ). count (closing n)) (fired_counts s vectors (first_state s) now events all);

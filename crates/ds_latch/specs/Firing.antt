@@ -95,7 +95,7 @@ pub data Fires (s : Split) (vectors : List Row) (now : State) : ℕ → State �
   opens : (n : Node) (row : Row) → IsNode s n → Takes s vectors now (now.count (opening n)) n row
       → Fires s vectors now (opening n) (opened_state s now n row)
   closes : (n : Node) → IsNode s n → Fires s vectors now (closing n) (closed_state s now n)
-  passes : (e : ℕ) → Fires s vectors now (extra_event s e) (counted_state now (extra_event s e))
+  counts_up : (e : ℕ) → Fires s vectors now (extra_event s e) (counted_state now (extra_event s e))
 
 -- the firings of a list, one after another
 abbrev pub FiresAll : Split → List Row → State → List ℕ → State → Type 0

@@ -68,9 +68,9 @@ pub record Interleaves (s : Split) (g : Graph) (vectors : List Row) (state nets 
       → (register cluster place : ℕ) → StandsAt s register cluster place
       → BeginsWith (values_clocked state (length vectors) register)
       (values_stored now cluster place)
-  pub shows : (now : State) → FiresAll s vectors (first_state s) events now
+  pub outputs_stored : (now : State) → FiresAll s vectors (first_state s) events now
       → BeginsWith (outputs_clocked s.circuit nets (length vectors)) (now.stored Out)
-  pub closes : (now : State) → FiresAll s vectors (first_state s) events now
+  pub stores_once_a_closing : (now : State) → FiresAll s vectors (first_state s) events now
       → (n : Node) → IsNode s n
       → length (now.stored n) ≡ counts_after (λ _. 0) events (closing n)
   pub goes_on : HasFiredAll g (length vectors) (counts_after (λ _. 0) events)

@@ -22,7 +22,7 @@ use Rattle.ds_split.specs.Settled.{IsSettling, IsSupplied}
 use Rattle.ds_split.proofs.NodeCones.{nets_within}
 use Rattle.ds_split.proofs.SettlesNextValue.{settles_next_value_lem}
 use Rattle.ds_opening.specs.Packed.{AreInside, AreLearnt, packed, packed_rows}
-use Rattle.ds_opening.specs.Woven.{IsFed, Turn, read_of, value_taken, woven}
+use Rattle.ds_opening.specs.TurnOfOpenings.{IsFed, Turn, read_of, value_taken, woven}
 
 -- no node reads OUT, and none that settles reads a master
 pub no_out : (s : Split) (n : Node) → IsDataEdge s Out n → ⊥

@@ -28,7 +28,7 @@ use Rattle.ds_opening.specs.Learnt.{is_learnt}
 use Rattle.ds_opening.specs.declared.opening.Opening.{Opening}
 use Rattle.ds_split.specs.Cones.{cone_place}
 use Rattle.ds_split.specs.Settled.{IsSettling}
-use Rattle.ds_opening.specs.Woven.{Turn, value_taken}
+use Rattle.ds_opening.specs.TurnOfOpenings.{Turn, value_taken}
 use Rattle.ds_opening.proofs.ReorderedCones.{cone_finds, these_learnt}
 use Rattle.ds_split.proofs.NodeCones.{place_is}
 use Rattle.ds_split.proofs.SettlesNextValue.{sources_agree, turn_value}

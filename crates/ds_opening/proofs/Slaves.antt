@@ -13,7 +13,7 @@ use Rattle.ds_latch.specs.declared.node.Node.TheVariants.{In, Out, Master, Slave
 use Rattle.ds_latch.specs.Numbered.{numbered}
 use Rattle.ds_latch.specs.Order.{IsDataEdge, to_slave}
 use Rattle.ds_opening.specs.Packed.{packed}
-use Rattle.ds_opening.specs.Woven.{IsFed, IsOpeningOf, Turn, read_of, value_taken, woven}
+use Rattle.ds_opening.specs.TurnOfOpenings.{IsFed, IsOpeningOf, Turn, read_of, value_taken, woven}
 use Rattle.ds_opening.proofs.RowsOfNodes.{behind_first, length-packed}
 
 -- a slave reads its master alone

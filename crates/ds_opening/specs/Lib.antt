@@ -12,7 +12,7 @@ pub mod Reads
 pub mod Homes
 pub mod Seen
 pub mod Packed
-pub mod Woven
+pub mod TurnOfOpenings
 pub mod Foreseen
 pub mod Learnt
 pub mod Noted

@@ -19,7 +19,7 @@ use Rattle.ds_split.specs.Cones.{AreCones, IsSettlingAt}
 use Rattle.ds_opening.specs.Foreseen.{node_at}
 use Rattle.ds_opening.specs.Learnt.{is_learnt}
 use Rattle.ds_opening.specs.Packed.{AreInside, AreLearnt, Learns, packed_rows}
-use Rattle.ds_opening.specs.Woven.{IsFed, IsOpeningOf, Turn}
+use Rattle.ds_opening.specs.TurnOfOpenings.{IsFed, IsOpeningOf, Turn}
 use Rattle.ds_opening.specs.declared.opening.Opening.{Opening}
 
 -- what others learn of a node as they settle: the nets of IN and of a slave

@@ -23,7 +23,7 @@ ghost use Rattle.ds_opening.specs.Noted.{IsAsKnown};
 ghost use Rattle.ds_opening.specs.Noted.{IsGroupBefore, KeepsGroup};
 ghost use Rattle.ds_opening.specs.Noted.{IsAsLong, IsLearnt, IsNotedOpening, IsSettlingOpening};
 ghost use Rattle.ds_opening.specs.Noted.{AreReadRows, IsSlot};
-ghost use Rattle.ds_opening.specs.Woven.{Turn, value_taken};
+ghost use Rattle.ds_opening.specs.TurnOfOpenings.{Turn, value_taken};
 
 use crate::TableGroups;
 use crate::packed::{push_all, push_row, push_words, put_values};

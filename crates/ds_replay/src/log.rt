@@ -1,4 +1,4 @@
-//! The top call: the lines of a log are read one after another, and each event fires if it may.
+//! The call of this crate: the lines of a log are read one by one, and each event fires if it may.
 ghost use Rattle.std.specs.Prelude.{◌≡◌, length};
 ghost use Rattle.ds_design.specs.Circuit.{columns};
 ghost use Rattle.ds_replay.specs.Replayed.{Replays};

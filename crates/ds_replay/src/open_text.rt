@@ -22,8 +22,8 @@ pub fn put_open_lines<P: Pen>(latches: &Latches<'_>, state: &State<'_>, rows: &[
         (open_lines (count_of state.now) (held_row state.now)
         (length (split_of state.now).clusters)) }
 {
-    put_open(state, LatchId::new(0), rows, pen);
-    put_open(state, LatchId::new(1), rows, pen);
+    put_open(state, Node::In.latch(), rows, pen);
+    put_open(state, Node::Out.latch(), rows, pen);
     put_pairs(latches, state, rows, pen);
 }
 

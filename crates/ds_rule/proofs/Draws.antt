@@ -15,8 +15,8 @@ use Rattle.atomic_table.specs.Table.{Allows}
 use Rattle.ds_marked.specs.declared.marked.Arc.{Arc}
 use Rattle.ds_rule.specs.Run.{Run, graph, node_of, next, turns, count}
 use Rattle.ds_rule.specs.Words.{place}
-use Rattle.ds_rule.specs.Log.{times, places, visits, IsLegalList, InTurn}
-use Rattle.ds_rule.specs.Rule.{shown, tickets, seen, event, Fits}
+use Rattle.ds_rule.specs.Log.{count_in_log, tickets_in_log, node_count_in_log, IsLegalList, InTurn}
+use Rattle.ds_rule.specs.Rule.{firings_shown, tickets, seen, event, Fits}
 use Rattle.ds_rule.specs.Rule.{Lawful}
 use Rattle.ds_rule.specs.Plays.{Sat, after_draw}
 use Rattle.ds_rule.specs.Plays.{drew}
@@ -24,7 +24,7 @@ use Rattle.ds_rule.specs.declared.view.View.{View}
 use Rattle.ds_rule.proofs.EventLaws.{node-next, turns_up}
 use Rattle.ds_rule.proofs.GraphLaws.{enabled_at, consistent_same}
 use Rattle.ds_rule.proofs.PlaceLaws.{place_behind, counts_inside}
-use Rattle.ds_rule.proofs.LogCounts.{visits-here, visits-else, places-here, places-else, times-turns}
+use Rattle.ds_rule.proofs.LogCounts.{node_count_in_log-here, node_count_in_log-else, tickets_in_log-here, tickets_in_log-else, count_in_log-turns}
 use Rattle.ds_rule.proofs.LogCounts.{log_most}
 use Rattle.ds_rule.proofs.PassAtRest.{pending-calm, ahead-calm}
 use Rattle.ds_rule.proofs.StepKeepsRule.{later, renewed, disjoint_holdings}
@@ -39,27 +39,27 @@ draws run n id m live phase s o wide me _ =
     let new : ℕ = (r + 1) % 2 ^ 64 in let ws : List ℕ = set s.words 0 new in
     let log : List ℕ = E ∷ o.log in
     let calm : eqb v.phase 2 ≡ false = ap (λ (y : ℕ). eqb y 2) phase in
-    let same : (x : ℕ) → shown ws x ≡ shown s.words x =
+    let same : (x : ℕ) → firings_shown ws x ≡ firings_shown s.words x =
     λ x. get_or-set_other s.words 0 (x + 1) new 0 (λ e. omega arith) in
     let untouched : (x j y : ℕ) → get_or ws (place run x j y) 0 ≡ get_or s.words
     (place run x j y) 0 =
     λ x j y. get_or-set_other s.words 0 (place run x j y) new 0
     (λ e. omega (arith, place_behind run x j y)) in
-    let many : visits run l o.log ≡ seen v l =
+    let many : node_count_in_log run l o.log ≡ seen v l =
     omega (arith, f.logged l up.0, ahead-calm v l calm) in
-    let many' : visits run (node_of run E) o.log ≡ seen v (node_of run E) =
-    ap (λ (x : ℕ). visits run x o.log) of-l ∙ (many ∙ ap (seen v) (sym of-l)) in
-    let stood : times E o.log ≡ count run (seen v) E = times-turns run E o.log o.in_turn
+    let many' : node_count_in_log run (node_of run E) o.log ≡ seen v (node_of run E) =
+    ap (λ (x : ℕ). node_count_in_log run x o.log) of-l ∙ (many ∙ ap (seen v) (sym of-l)) in
+    let stood : count_in_log E o.log ≡ count run (seen v) E = count_in_log-turns run E o.log o.in_turn
     ∙ ap (turns run E) many' in
     let legal : IsLegalList run log = (
       o.legal,
-      enabled_at (graph run) run.limit (count run (seen v)) (λ x. times x o.log) E stood
+      enabled_at (graph run) run.limit (count run (seen v)) (λ x. count_in_log x o.log) E stood
           (λ k d near into. let a : Arc = get_or run.arcs k d in let u : ℕ = node_of run a.source in
           let inside = (o.sound.named k d near).0 in
           omega (
             arith,
-            times-turns run a.source o.log o.in_turn,
-            turns_up run a.source (seen v u) (visits run u o.log)
+            count_in_log-turns run a.source o.log o.in_turn,
+            turns_up run a.source (seen v u) (node_count_in_log run u o.log)
                 (le_trans (f.known u inside) (o.behind u inside)),
           ))
           up.2,
@@ -71,7 +71,7 @@ draws run n id m live phase s o wide me _ =
           ∙ ap (next run (node_of run E)) (sym many'),
     ) in
     let most = log_most run log legal in_turn in
-    let rises : (x : ℕ) → visits run x o.log ≤ visits run x log =
+    let rises : (x : ℕ) → node_count_in_log run x o.log ≤ node_count_in_log run x log =
     λ x. Rattle.std.proofs.Common.le-add_right _ _ in
     let mine : Fits run ws log o.owner id w = record {
       same_run = f.same_run;
@@ -83,26 +83,26 @@ draws run n id m live phase s o wide me _ =
       logged = λ x h. dite (ℕ_discrete l x)
           (λ e. omega (
             arith,
-            visits-here run x E o.log (of-l ∙ e),
+            node_count_in_log-here run x E o.log (of-l ∙ e),
             f.logged x h,
             ahead-calm v x calm,
             ap {B = ℕ} (λ b. cond b 1 0) (eq-eqb l x e),
           ))
           (λ e. omega (
             arith,
-            visits-else run x E o.log (λ t. e (sym of-l ∙ t)),
+            node_count_in_log-else run x E o.log (λ t. e (sym of-l ∙ t)),
             f.logged x h,
             ahead-calm v x calm,
             ap {B = ℕ} (λ b. cond b 1 0) (ne_eqb l x e),
           ));
       known = λ x h. subst (λ (y : ℕ). seen v x ≤ y) (sym (same x)) (f.known x h);
-      kept = λ e h. let old : places e o.log ≡ tickets v e = f.kept e h
+      kept = λ e h. let old : tickets_in_log e o.log ≡ tickets v e = f.kept e h
           ∙ (ap (λ p. tickets v e ++ p) (pending-calm run v e calm) ∙ append-nil (tickets v e)) in
           dite (ℕ_discrete E e)
-          (λ is. places-here e E o.log is ∙ (ap (λ p. p ++ length o.log ∷ []) old
+          (λ is. tickets_in_log-here e E o.log is ∙ (ap (λ p. p ++ length o.log ∷ []) old
           ∙ ap (λ b. tickets v e ++ b) (sym (ap (λ b. cond b (r ∷ []) []) (eq-eqb E e is)
           ∙ ap (λ (y : ℕ). y ∷ []) o.next_ticket))))
-          (λ no-it. places-else e E o.log no-it ∙ (old
+          (λ no-it. tickets_in_log-else e E o.log no-it ∙ (old
           ∙ sym (ap (λ b. tickets v e ++ cond b (r ∷ []) []) (ne_eqb E e no-it)
           ∙ append-nil (tickets v e))));
       known_drawn = omega (arith, o.next_ticket);
@@ -127,13 +127,13 @@ draws run n id m live phase s o wide me _ =
           ))
           legal
           in_turn
-          (consistent_same run o.sound (count run (shown s.words)) (count run (shown ws))
+          (consistent_same run o.sound (count run (firings_shown s.words)) (count run (firings_shown ws))
           (λ e h. ap (turns run e) (same (node_of run e))) o.consistent)
           (λ x h. omega (arith, same x, o.behind x h, rises x))
           mine
           (λ j u other g. later ws log g (λ x h. same x)
-          (λ x h. visits-else run x E o.log (λ t. disjoint_holdings f g other x l up.0 h (sym of-l ∙ t)))
-          (λ e h. places-else e E o.log (λ t. disjoint_holdings f g other (node_of run e) l up.0 h (sym of-l
+          (λ x h. node_count_in_log-else run x E o.log (λ t. disjoint_holdings f g other x l up.0 h (sym of-l ∙ t)))
+          (λ e h. tickets_in_log-else e E o.log (λ t. disjoint_holdings f g other (node_of run e) l up.0 h (sym of-l
           ∙ ap (node_of run) t)))
           (λ x h. le_of_eq (sym (same x))) (omega arith) (λ x k y h near. untouched x k y)),
       (refl, omega (arith, f.known_drawn, o.next_ticket)),

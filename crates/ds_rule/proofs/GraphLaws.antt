@@ -8,20 +8,20 @@ use Rattle.std.proofs.lemmas.List.{length-replicate}
 use Rattle.ds_marked.specs.Graph.{Graph, Agrees, AreEnds, IsEnabled, IsConsistent, IsLive, counted}
 use Rattle.ds_marked.specs.declared.marked.Arc.{Arc}
 use Rattle.ds_marked.proofs.CountLemmas.{agrees_kept, counted-same, counted-other}
-use Rattle.ds_rule.specs.Run.{Run, graph, nameless, events, node_of, turns, count, Enabled}
+use Rattle.ds_rule.specs.Run.{Run, graph, nameless, events, node_of, turns, count, IsEnabledInRun}
 use Rattle.ds_rule.specs.Sound.{IsSound}
 use Rattle.ds_rule.specs.Laws.{IsGraphOfRun}
-use Rattle.ds_rule.specs.Rule.{shown, holds, seen, event, Fits, Lawful}
+use Rattle.ds_rule.specs.Rule.{firings_shown, holds, seen, event, Fits, Lawful}
 use Rattle.ds_rule.specs.declared.view.View.{View}
 use Rattle.ds_rule.proofs.EventLaws.{event_below, node_below, node-next, turns_up}
 
 -- the events of the graph are those of the nodes
-pub event_there : (run : Run) (e : ℕ) → run.latches ≤ run.nodes → node_of run e < run.nodes
+pub event_there : (run : Run) (e : ℕ) → run.design_nodes ≤ run.nodes → node_of run e < run.nodes
     → e < length (graph run).events
 event_there run e among near =
     omega (arith, event_below run e among near, length-replicate (events run) nameless)
 
-pub node_there : (run : Run) (e : ℕ) → run.latches ≤ run.nodes → e < length (graph run).events
+pub node_there : (run : Run) (e : ℕ) → run.design_nodes ≤ run.nodes → e < length (graph run).events
     → node_of run e < run.nodes
 node_there run e among inside =
     node_below run e among (omega (arith, inside, length-replicate (events run) nameless))
@@ -63,7 +63,7 @@ enabled_at g limit old new v same up on = record {
 -- what is enabled depends on the firings of its own node and of its sources
 pub enabled_same : (run : Run) (f g : ℕ → ℕ) (e : ℕ) → f (node_of run e) ≡ g (node_of run e)
     → All (λ a. a.target ≡ e → f (node_of run a.source) ≡ g (node_of run a.source)) run.arcs
-    → Enabled run f e → Enabled run g e
+    → IsEnabledInRun run f e → IsEnabledInRun run g e
 enabled_same run f g e own sources on =
     enabled_at (graph run) run.limit (count run f) (count run g) e (ap (turns run e) (sym own))
     (λ k d near into. let a : Arc = get_or run.arcs k d in
@@ -94,12 +94,12 @@ consistent_kept g limit old v on is = record {
 -- what a pass has in flight is enabled at the counts that the words show
 pub flight_enabled : (run : Run) (s : State ℕ View) → Lawful run s → (id : ℕ) (v : View)
     → get_elem? s.views id ≡ some v → v.live ≡ true → 0 < v.phase
-    → Enabled run (shown s.words) (event run v)
+    → IsEnabledInRun run (firings_shown s.words) (event run v)
 flight_enabled run s o id v at live flying =
     let f : Fits run s.words o.log o.owner id v = o.views id v at live in
     let up = f.flies flying in let e : ℕ = event run v in
     let own : node_of run e ≡ v.node = node-next run v.node (seen v v.node) in
-    enabled_at (graph run) run.limit (count run (seen v)) (count run (shown s.words)) e
+    enabled_at (graph run) run.limit (count run (seen v)) (count run (firings_shown s.words)) e
     (ap (turns run e) (f.counted (node_of run e) (ap (holds v) own ∙ up.0)))
     (λ k d near into. let a : Arc = get_or run.arcs k d in let u : ℕ = node_of run a.source in
-    turns_up run a.source (seen v u) (shown s.words u) (f.known u (o.sound.named k d near).0)) up.2
+    turns_up run a.source (seen v u) (firings_shown s.words u) (f.known u (o.sound.named k d near).0)) up.2

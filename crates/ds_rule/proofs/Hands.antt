@@ -14,7 +14,7 @@ use lib.ListN.{get_elem?}
 use Rattle.atomic_table.specs.Table.{step, keeps, Allows, Splits, Joins}
 use Rattle.atomic_table.proofs.Lists.{at_set, set_else, at_longer, at_last, exchanged}
 use Rattle.ds_rule.specs.Run.{Run, events, node_of, turns}
-use Rattle.ds_rule.specs.Log.{visits, Recorded}
+use Rattle.ds_rule.specs.Log.{node_count_in_log, Recorded}
 use Rattle.ds_rule.specs.Rule.{holds, tickets, seen, Fits, Lawful}
 use Rattle.ds_rule.specs.Plays.{Sat, with_cut, chose_cut, observed, without_cut, only_cut, taken_in}
 use Rattle.ds_rule.specs.Plays.{spent}
@@ -22,7 +22,7 @@ use Rattle.ds_rule.specs.declared.view.View.{View}
 use Rattle.ds_rule.proofs.GetElemLemmas.{by_bool, set_there, same_at, at_end, replicate-default}
 use Rattle.ds_rule.proofs.GetElemLemmas.{length-listed, get-listed, get-beyond, has_below}
 use Rattle.ds_rule.proofs.EventLaws.{event_below}
-use Rattle.ds_rule.proofs.LogCounts.{length-places, times-turns}
+use Rattle.ds_rule.proofs.LogCounts.{length-tickets_in_log, count_in_log-turns}
 use Rattle.ds_rule.proofs.PassAtRest.{St, inside, Rests, rests, moves, to_rest, unwritten}
 use Rattle.ds_rule.proofs.StepKeepsRule.{unmoved, disjoint_holdings}
 
@@ -54,7 +54,7 @@ chooses_cut run n id m l live rest s o wide me _ = let v : View = m.0 in let f =
 -- with no ticket drawn, each event that is held has the tickets of the log
 pub quiet : {run : Run} {ws log : List ℕ} {owner : ℕ → ℕ} {id : ℕ} {v : View}
     → Fits run ws log owner id v → v.phase ≡ 0 → (e : ℕ) → holds v (node_of run e) ≡ true
-    → Rattle.ds_rule.specs.Log.places e log ≡ tickets v e
+    → Rattle.ds_rule.specs.Log.tickets_in_log e log ≡ tickets v e
 quiet {run = run} f rest e h = (rests f rest (node_of run e) h).kept e refl
 
 pub observes : (run : Run) (n id : ℕ) (m : Sat) (i : ℕ) → m.0.live ≡ true → m.0.phase ≡ 0
@@ -63,8 +63,8 @@ observes run n id m i live rest s o wide me _ = let v : View = m.0 in let f = o.
     let Told : Run → Type 0 = λ r. (e : ℕ) → holds v (node_of r e) ≡ true
     → turns r e (seen v (node_of r e)) ≡ length (tickets v e) in
     let told : Told run = λ e h. ap (turns run e) (sym (rests f rest (node_of run e) h).logged)
-    ∙ (sym (times-turns run e o.log o.in_turn)
-    ∙ (sym (length-places e o.log) ∙ ap length (quiet f rest e h))) in (
+    ∙ (sym (count_in_log-turns run e o.log o.in_turn)
+    ∙ (sym (length-tickets_in_log e o.log) ∙ ap length (quiet f rest e h))) in (
       v,
       keeps,
       tt,

@@ -5,10 +5,10 @@ use mathlib.Core.Logic.{dite}
 use native.Mathlib.Decide.{ℕ_discrete}
 use Rattle.ds_marked.specs.Graph.{Graph, IsEnabled, IsLegalFrom, counted, counts_after}
 use Rattle.ds_marked.specs.declared.marked.Arc.{Arc}
-use Rattle.ds_rule.specs.Log.{times, firings}
+use Rattle.ds_rule.specs.Log.{count_in_log, firings}
 use Rattle.ds_rule.specs.Laws.{LogsAreLegal}
 use Rattle.ds_rule.proofs.EventLaws.{event_below}
-use Rattle.ds_rule.proofs.LogCounts.{times-here, times-else}
+use Rattle.ds_rule.proofs.LogCounts.{count_in_log-here, count_in_log-else}
 
 -- one event more behind a list
 counts-push : (count : ℕ → ℕ) (xs : List ℕ) (v e : ℕ)
@@ -24,13 +24,13 @@ legal_push g limit count (x ∷ xs) v legal on =
     (legal.0, legal_push g limit (counted x count) xs v legal.1 on)
 
 -- the count of an event, as its number of entries
-counted-times : (count : ℕ → ℕ) (e x : ℕ) (xs : List ℕ) → count e ≡ times e xs
-    → counted x count e ≡ times e (x ∷ xs)
-counted-times count e x xs same = dite (ℕ_discrete e x)
+counted-count_in_log : (count : ℕ → ℕ) (e x : ℕ) (xs : List ℕ) → count e ≡ count_in_log e xs
+    → counted x count e ≡ count_in_log e (x ∷ xs)
+counted-count_in_log count e x xs same = dite (ℕ_discrete e x)
     (λ here. ap (λ b. cond b (count e + 1) (count e)) (eq-eqb e x here)
-    ∙ (ap (λ n. n + 1) same ∙ sym (times-here e x xs (sym here))))
+    ∙ (ap (λ n. n + 1) same ∙ sym (count_in_log-here e x xs (sym here))))
     (λ away. ap (λ b. cond b (count e + 1) (count e)) (ne_eqb e x away)
-    ∙ (same ∙ sym (times-else e x xs (λ t. away (sym t)))))
+    ∙ (same ∙ sym (count_in_log-else e x xs (λ t. away (sym t)))))
 
 pub logs_are_legal : LogsAreLegal
 logs_are_legal g run is [] legal turn = (tt, λ e. refl)
@@ -47,5 +47,5 @@ logs_are_legal g run is (x ∷ xs) legal turn =
           omega (arith, before.1 x, before.1 a.source, legal.1.ready k d near into));
     } in (
       legal_push g run.limit (λ _. 0) (firings xs) x before.0 on,
-      λ e. counts-push (λ _. 0) (firings xs) x e ∙ counted-times count e x xs (before.1 e),
+      λ e. counts-push (λ _. 0) (firings xs) x e ∙ counted-count_in_log count e x xs (before.1 e),
     )

@@ -10,8 +10,8 @@ use mathlib.Core.Option.{none}
 use native.Mathlib.Decide.{ℕ_discrete}
 use Rattle.atomic_table.specs.Table.{step, keeps}
 use Rattle.atomic_table.specs.Table.{Allows}
-use Rattle.ds_rule.specs.Run.{Run, next, Enabled}
-use Rattle.ds_rule.specs.Rule.{shown, holds, tickets, seen, version, Fits}
+use Rattle.ds_rule.specs.Run.{Run, next, IsEnabledInRun}
+use Rattle.ds_rule.specs.Rule.{firings_shown, holds, tickets, seen, version, Fits}
 use Rattle.ds_rule.specs.Rule.{Lawful}
 use Rattle.ds_rule.specs.Plays.{Sat, after_look, after_depart, looked}
 use Rattle.ds_rule.specs.Plays.{departed}
@@ -26,7 +26,7 @@ pub looks : (run : Run) (n id : ℕ) (m : Sat) (l i : ℕ) → i ≡ l + 1 → l
 looks run n id m l i is near live rest s o wide me _ =
     let v : View = m.0 in let f = o.views id v me live in let r : ℕ = get_or s.words i 0 in
     let k : ℕ = i - 1 in let w : View = after_look v k r in
-    let here : k ≡ l = omega arith in let shows : r ≡ shown s.words k =
+    let here : k ≡ l = omega arith in let shows : r ≡ firings_shown s.words k =
     ap (λ (x : ℕ). get_or s.words x 0) (omega arith) in
     let at-k : seen w k ≡ r = get_or-set_same v.seen k r 0 (omega (arith, f.seen_long)) in
     let still : (x : ℕ) → holds v x ≡ true → seen w x ≡ seen v x = λ x h. dite (ℕ_discrete x k)
@@ -43,7 +43,7 @@ looks run n id m l i is near live rest s o wide me _ =
       written = unwritten f rest;
     }) f.owns (λ x h. moves w (rests f rest x h) (still x h) (λ e at. refl))
     (λ x h. dite (ℕ_discrete x k)
-    (λ e. omega (arith, ap (seen w) e, at-k, shows, ap (shown s.words) e))
+    (λ e. omega (arith, ap (seen w) e, at-k, shows, ap (firings_shown s.words) e))
     (λ e. omega (arith, get_or-set_other v.seen k x r 0 e, f.known x h)))
     f.known_drawn f.no_clash in (
       w,
@@ -55,7 +55,7 @@ looks run n id m l i is near live rest s o wide me _ =
 
 pub departs : (run : Run) (n id : ℕ) (m : Sat) (l i : ℕ) → i ≡ l + 1 → l < run.nodes
     → m.0.live ≡ true → m.0.phase ≡ 0 → holds m.0 l ≡ true
-    → Enabled run (seen m.0) (next run l (seen m.0 l))
+    → IsEnabledInRun run (seen m.0) (next run l (seen m.0 l))
     → Allows (Lawful run) n id m i (λ y. y) (departed (step n i 0 0 none) m)
 departs run n id m l i is near live rest has ready s o wide me _ =
     let v : View = m.0 in let f = o.views id v me live in let k : ℕ = i - 1 in
@@ -79,7 +79,7 @@ departs run n id m l i is near live rest has ready s o wide me _ =
           (omega (arith, same x y));
       writes = λ up. absurd (omega arith);
       flies = λ _. subst (λ (y : ℕ). (holds v y ≡ true) × (y < run.nodes)
-          × Enabled run (seen v) (next run y (seen v y))) here (has, near, ready);
+          × IsEnabledInRun run (seen v) (next run y (seen v y))) here (has, near, ready);
       no_clash = f.no_clash;
     } in (
       w,

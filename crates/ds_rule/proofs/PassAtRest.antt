@@ -10,8 +10,8 @@ use Rattle.std.proofs.lemmas.List.{append-nil}
 use Rattle.atomic_table.specs.Table.{State}
 use Rattle.ds_rule.specs.Run.{Run, events, node_of, opened}
 use Rattle.ds_rule.specs.Words.{width, place, value}
-use Rattle.ds_rule.specs.Log.{places, visits}
-use Rattle.ds_rule.specs.Rule.{shown, holds, tickets, seen, event, pending, ahead, version, Fits}
+use Rattle.ds_rule.specs.Log.{tickets_in_log, node_count_in_log}
+use Rattle.ds_rule.specs.Rule.{firings_shown, holds, tickets, seen, event, pending, ahead, version, Fits}
 use Rattle.ds_rule.specs.declared.view.View.{View}
 use Rattle.ds_rule.proofs.GetElemLemmas.{has_below}
 
@@ -50,9 +50,9 @@ inside {v = v} f l h = omega (arith, has_below v.holds l h, f.held_long)
 
 -- a pass that holds a node and is at rest there: the words, the log and the view agree
 pub record Rests (run : Run) (ws log : List ℕ) (v : View) (l : ℕ) : Type 0 where
-  pub counted : shown ws l ≡ seen v l
-  pub logged : visits run l log ≡ seen v l
-  pub kept : (e : ℕ) → node_of run e ≡ l → places e log ≡ tickets v e
+  pub counted : firings_shown ws l ≡ seen v l
+  pub logged : node_count_in_log run l log ≡ seen v l
+  pub kept : (e : ℕ) → node_of run e ≡ l → tickets_in_log e log ≡ tickets v e
   pub values : (k i : ℕ) → i < width run l → k ≤ opened run l (seen v l)
       → opened run l (seen v l) ≤ k + run.slack
       → get_or ws (place run l k i) 0 ≡ value run l k i
@@ -99,7 +99,7 @@ pub record Resting (run : Run) (w : View) : Type 0 where
 pub to_rest : (run : Run) (ws log : List ℕ) (owner : ℕ → ℕ) (id : ℕ) (w : View) → Resting run w
     → ((l : ℕ) → holds w l ≡ true → owner l ≡ id)
     → ((l : ℕ) → holds w l ≡ true → Rests run ws log w l)
-    → ((l : ℕ) → l < run.nodes → seen w l ≤ shown ws l) → w.drawn ≤ length log
+    → ((l : ℕ) → l < run.nodes → seen w l ≤ firings_shown ws l) → w.drawn ≤ length log
     → ((l : ℕ) → get_or w.clash l false ≡ false) → Fits run ws log owner id w
 to_rest run ws log owner id w q owns r known drawn clear = let calm : eqb w.phase 2 ≡ false =
     ap (λ (y : ℕ). eqb y 2) q.phase in

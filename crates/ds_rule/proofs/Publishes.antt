@@ -16,8 +16,8 @@ use Rattle.ds_marked.specs.Graph.{counted}
 use Rattle.ds_marked.proofs.CountLemmas.{counted-same, counted-other}
 use Rattle.ds_rule.specs.Run.{Run, graph, node_of, turns, opens, opened, count}
 use Rattle.ds_rule.specs.Words.{width, place}
-use Rattle.ds_rule.specs.Log.{visits}
-use Rattle.ds_rule.specs.Rule.{shown, tickets, seen, event, pending, ahead, version, Fits}
+use Rattle.ds_rule.specs.Log.{node_count_in_log}
+use Rattle.ds_rule.specs.Rule.{firings_shown, tickets, seen, event, pending, ahead, version, Fits}
 use Rattle.ds_rule.specs.Rule.{Lawful}
 use Rattle.ds_rule.specs.Plays.{Sat, after_publish}
 use Rattle.ds_rule.specs.Plays.{published}
@@ -45,18 +45,18 @@ publishes run n id m i new at-node more live phase whole s o wide me _ =
     let of-l : node_of run E ≡ l = node-next run l F in
     let E-is : event v.run v ≡ E = ap (λ (r : Run). event r v) f.same_run in
     let up = f.flies (omega arith) in
-    let was : shown s.words l ≡ F = f.counted l up.0 in
+    let was : firings_shown s.words l ≡ F = f.counted l up.0 in
     let near : l + 1 < length s.words = omega (
       arith,
       o.wide,
       counts_inside run (l + 1) (omega (arith, up.1)),
     ) in
-    let same : (x : ℕ) → x ≢ l → shown ws x ≡ shown s.words x =
+    let same : (x : ℕ) → x ≢ l → firings_shown ws x ≡ firings_shown s.words x =
     λ x e. get_or-set_other s.words (l + 1) (x + 1) new 0 (λ t. e (omega arith)) in
-    let here : (x : ℕ) → x ≡ l → shown ws x ≡ F + 1 = λ x e. ap (shown ws) e
+    let here : (x : ℕ) → x ≡ l → firings_shown ws x ≡ F + 1 = λ x e. ap (firings_shown ws) e
     ∙ (get_or-set_same s.words (l + 1) new 0 near ∙ more) in
-    let rises : (x : ℕ) → shown s.words x ≤ shown ws x =
-    λ x. dite (ℕ_discrete x l) (λ e. omega (arith, here x e, ap (shown s.words) e))
+    let rises : (x : ℕ) → firings_shown s.words x ≤ firings_shown ws x =
+    λ x. dite (ℕ_discrete x l) (λ e. omega (arith, here x e, ap (firings_shown s.words) e))
     (λ e. le_of_eq (sym (same x e))) in
     let untouched : (x j y : ℕ) → get_or ws (place run x j y) 0 ≡ get_or s.words
     (place run x j y) 0 =
@@ -85,7 +85,7 @@ publishes run n id m i new at-node more live phase whole s o wide me _ =
     λ e. ap (λ (y : ℕ). cond (eqb y 2) (cond (eqb E e) (v.ticket ∷ []) []) []) phase in
     let aheads : (x : ℕ) → ahead v x ≡ cond (eqb l x) 1 0 =
     λ x. ap (λ (y : ℕ). cond (eqb y 2) (cond (eqb l x) 1 0) 0) phase in
-    let drew-it : visits run l log ≡ F + 1 = omega (
+    let drew-it : node_count_in_log run l log ≡ F + 1 = omega (
       arith,
       f.logged l up.0,
       aheads l,
@@ -112,7 +112,7 @@ publishes run n id m i new at-node more live phase whole s o wide me _ =
       counted = λ x h. dite (ℕ_discrete x l) (λ e. here x e ∙ sym (S-here x e)) (λ e. same x e
           ∙ (f.counted x h ∙ sym (S-else x e)));
       logged = λ x h. dite (ℕ_discrete x l)
-          (λ e. omega (arith, ap (λ (y : ℕ). visits run y log) e, drew-it, S-here x e))
+          (λ e. omega (arith, ap (λ (y : ℕ). node_count_in_log run y log) e, drew-it, S-here x e))
           (λ e. omega (
             arith,
             f.logged x h,
@@ -140,13 +140,13 @@ publishes run n id m i new at-node more live phase whole s o wide me _ =
     } in
     let once-more : turns run E (F + 1) ≡ turns run E F + 1 = turns-next run l F in
     -- the counts of the events, with one firing more
-    let counts : (e : ℕ) → count run (shown ws) e ≡ counted E (count run (shown s.words)) e =
+    let counts : (e : ℕ) → count run (firings_shown ws) e ≡ counted E (count run (firings_shown s.words)) e =
     λ e. dite (ℕ_discrete e E)
     (λ is. let x : ℕ = node_of run e in let at-l : x ≡ l = ap (node_of run) is ∙ of-l in omega (
       arith,
-      counted-same E e (count run (shown s.words)) is,
+      counted-same E e (count run (firings_shown s.words)) is,
       ap (turns run e) (here x at-l),
-      ap (turns run e) (ap (shown s.words) at-l ∙ was),
+      ap (turns run e) (ap (firings_shown s.words) at-l ∙ was),
       ap (λ (y : ℕ). turns run y (F + 1)) is,
       ap (λ (y : ℕ). turns run y F) is,
       once-more,
@@ -155,14 +155,14 @@ publishes run n id m i new at-node more live phase whole s o wide me _ =
     dite (ℕ_discrete x l)
     (λ at-l. omega (
       arith,
-      counted-other E e (count run (shown s.words)) far,
+      counted-other E e (count run (firings_shown s.words)) far,
       ap (turns run e) (here x at-l),
       turns-other run e l F at-l far,
-      ap (turns run e) (ap (shown s.words) at-l ∙ was),
+      ap (turns run e) (ap (firings_shown s.words) at-l ∙ was),
     ))
     (λ off. omega (
       arith,
-      counted-other E e (count run (shown s.words)) far,
+      counted-other E e (count run (firings_shown s.words)) far,
       ap (turns run e) (same x off),
     ))) in
     subst P (sym at-node) (
@@ -173,14 +173,14 @@ publishes run n id m i new at-node more live phase whole s o wide me _ =
           (get_or-set_other s.words (l + 1) 0 new 0 (λ e. omega arith) ∙ o.next_ticket)
           o.legal
           o.in_turn
-          (consistent_same run o.sound (counted E (count run (shown s.words)))
-          (count run (shown ws)) (λ e h. counts e)
-          (consistent_kept (graph run) run.limit (count run (shown s.words)) E
+          (consistent_same run o.sound (counted E (count run (firings_shown s.words)))
+          (count run (firings_shown ws)) (λ e h. counts e)
+          (consistent_kept (graph run) run.limit (count run (firings_shown s.words)) E
           (flight_enabled run s o id v me live (omega arith)) o.consistent))
           (λ x h. dite (ℕ_discrete x l) (λ e. omega (
             arith,
             here x e,
-            ap (λ y. visits run y log) e,
+            ap (λ y. node_count_in_log run y log) e,
             drew-it,
           )) (λ e. omega (arith, same x e, o.behind x h)))
           mine

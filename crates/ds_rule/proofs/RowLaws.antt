@@ -11,7 +11,7 @@ use Rattle.ds_rule.specs.Sound.{edge_at, read_words}
 use Rattle.ds_rule.specs.Rows.{row, supply_but, IsOpening}
 use Rattle.ds_rule.specs.Rule.{seen}
 use Rattle.ds_rule.specs.Plays.{listed}
-use Rattle.ds_rule.specs.declared.layout.DataEdge.{DataEdge}
+use Rattle.ds_rule.specs.declared.table_run.DataEdge.{DataEdge}
 use Rattle.ds_rule.specs.declared.view.View.{View}
 use Rattle.ds_rule.proofs.GetElemLemmas.{at_or, length-listed, get-listed}
 use Rattle.ds_rule.proofs.PlaceLaws.{place-word}

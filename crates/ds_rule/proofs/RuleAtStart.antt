@@ -9,7 +9,7 @@ use Rattle.atomic_table.specs.Table.{opening}
 use Rattle.ds_rule.specs.Run.{Run, events, node_of, turns, opened, count}
 use Rattle.ds_rule.specs.Sound.{IsSound}
 use Rattle.ds_rule.specs.Words.{width, size, place, value}
-use Rattle.ds_rule.specs.Rule.{shown, holds, tickets, seen, Fits}
+use Rattle.ds_rule.specs.Rule.{firings_shown, holds, tickets, seen, Fits}
 use Rattle.ds_rule.specs.Rule.{Lawful, first_view}
 use Rattle.ds_rule.specs.declared.view.View.{View}
 use Rattle.ds_rule.proofs.GetElemLemmas.{replicate-default, only_item, held_inside}
@@ -26,12 +26,12 @@ pub starts : (run : Run) (ws : List ℕ) → IsSound run → length ws ≡ size 
     → Lawful run (opening ws [] (first_view run))
 starts run ws sound wide zeros firsts =
     let v : View = first_view run in
-    let zero-at : (x : ℕ) → x < run.nodes → shown ws x ≡ 0 = λ x h. zeros (x + 1) (omega arith) in
+    let zero-at : (x : ℕ) → x < run.nodes → firings_shown ws x ≡ 0 = λ x h. zeros (x + 1) (omega arith) in
     let none-kept : (e : ℕ) → tickets v e ≡ [] = λ e. replicate-default (events run) e [] in
     let none-seen : (x : ℕ) → seen v x ≡ 0 = λ x. replicate-default {A = ℕ} run.nodes x 0 in
     let within : (x : ℕ) → holds v x ≡ true → x < run.nodes = λ x h. held_inside run.nodes x h in
     let counts : (e : ℕ) → node_of run e < run.nodes
-    → count run (shown ws) e ≡ 0 = λ e h. ap (turns run e) (zero-at (node_of run e) h)
+    → count run (firings_shown ws) e ≡ 0 = λ e h. ap (turns run e) (zero-at (node_of run e) h)
     ∙ turns-none run e in
     let rest : Resting run v = record {
       same_run = refl;

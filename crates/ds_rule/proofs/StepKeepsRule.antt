@@ -11,10 +11,10 @@ use lib.ListN.{get_elem?}
 use lib.Seq.{set-get_or}
 use Rattle.atomic_table.proofs.Lists.{at_set, set_else}
 use Rattle.ds_rule.specs.Run.{Run, node_of}
-use Rattle.ds_rule.specs.Run.{Consistent}
+use Rattle.ds_rule.specs.Run.{IsConsistentInRun}
 use Rattle.ds_rule.specs.Words.{width, place}
-use Rattle.ds_rule.specs.Log.{places, visits, IsLegalList, InTurn}
-use Rattle.ds_rule.specs.Rule.{shown, holds, Fits}
+use Rattle.ds_rule.specs.Log.{tickets_in_log, node_count_in_log, IsLegalList, InTurn}
+use Rattle.ds_rule.specs.Rule.{firings_shown, holds, Fits}
 use Rattle.ds_rule.specs.Rule.{Lawful}
 use Rattle.ds_rule.specs.declared.view.View.{View}
 use Rattle.ds_rule.proofs.GetElemLemmas.{same_at, set_there}
@@ -41,10 +41,10 @@ held_set vs owner id l v w me live same (u, at, lives, has) = dite (ℕ_discrete
 -- a seat that makes no step, beside words that rose
 pub later : {run : Run} {ws log : List ℕ} {owner : ℕ → ℕ} {j : ℕ} {u : View} (ws' log' : List ℕ)
     → Fits run ws log owner j u
-    → ((l : ℕ) → holds u l ≡ true → shown ws' l ≡ shown ws l)
-    → ((l : ℕ) → holds u l ≡ true → visits run l log' ≡ visits run l log)
-    → ((e : ℕ) → holds u (node_of run e) ≡ true → places e log' ≡ places e log)
-    → ((l : ℕ) → l < run.nodes → shown ws l ≤ shown ws' l) → length log ≤ length log'
+    → ((l : ℕ) → holds u l ≡ true → firings_shown ws' l ≡ firings_shown ws l)
+    → ((l : ℕ) → holds u l ≡ true → node_count_in_log run l log' ≡ node_count_in_log run l log)
+    → ((e : ℕ) → holds u (node_of run e) ≡ true → tickets_in_log e log' ≡ tickets_in_log e log)
+    → ((l : ℕ) → l < run.nodes → firings_shown ws l ≤ firings_shown ws' l) → length log ≤ length log'
     → ((l k i : ℕ) → holds u l ≡ true → i < width run l
     → get_or ws' (place run l k i) 0 ≡ get_or ws (place run l k i) 0)
     → Fits run ws' log' owner j u
@@ -70,7 +70,7 @@ pub renewed : (run : Run) (s : St) (o : Lawful run s) (id : ℕ) (v w : View) (w
     → get_elem? s.views id ≡ some v → w.live ≡ true
     → ((l : ℕ) → holds w l ≡ holds v l) → length ws ≡ length s.words → get_or ws 0 0 ≡ length log
     → IsLegalList run log → InTurn run log
-    → Consistent run (shown ws) → ((l : ℕ) → l < run.nodes → shown ws l ≤ visits run l log)
+    → IsConsistentInRun run (firings_shown ws) → ((l : ℕ) → l < run.nodes → firings_shown ws l ≤ node_count_in_log run l log)
     → Fits run ws log o.owner id w
     → ((j : ℕ) (u : View) → j ≢ id → Fits run s.words o.log o.owner j u
     → Fits run ws log o.owner j u)

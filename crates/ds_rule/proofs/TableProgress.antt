@@ -7,7 +7,7 @@ use native.Mathlib.Decide.{ℕ_discrete, dec_lt}
 use Rattle.ds_marked.specs.Graph.{Graph, Agrees, IsEnabled, IsLegalFrom, counted, counts_after}
 use Rattle.ds_marked.proofs.CountLemmas.{agrees_kept, counted-same, counted-other}
 use Rattle.ds_marked.proofs.Progress.{reachability}
-use Rattle.ds_rule.specs.Run.{Run, graph, node_of, next, turns, opening, closing, count, Enabled}
+use Rattle.ds_rule.specs.Run.{Run, graph, node_of, next, turns, opening, closing, count, IsEnabledInRun}
 use Rattle.ds_rule.specs.Sound.{IsSound}
 use Rattle.ds_rule.specs.Progress.{IsRunAccepted, Stuck}
 use Rattle.ds_rule.proofs.EventLaws.{node-low, node-high, next-low, next-high, turns-low}
@@ -49,13 +49,13 @@ missing g limit count now (v ∷ events) (on, legal) agrees most e less =
 -- an event is the next of its node where the node closed no less often, and if it is the closing
 -- opened once more
 own_turn : (run : Run) (fired : ℕ → ℕ) (e : ℕ)
-    → (node_of run e < run.latches → count run fired e ≤ count run fired (closing (node_of run e)))
-    → (node_of run e < run.latches → e ≡ closing (node_of run e)
+    → (node_of run e < run.design_nodes → count run fired e ≤ count run fired (closing (node_of run e)))
+    → (node_of run e < run.design_nodes → e ≡ closing (node_of run e)
     → count run fired e + 1 ≤ count run fired (opening (node_of run e)))
     → e ≡ next run (node_of run e) (fired (node_of run e))
 own_turn run fired e closed opened = let l : ℕ = node_of run e in let f : ℕ = fired l in
-    dite (dec_lt e (2 * run.latches))
-    (λ low. let h = node-low run e low in let low-l : l < run.latches = omega arith in
+    dite (dec_lt e (2 * run.design_nodes))
+    (λ low. let h = node-low run e low in let low-l : l < run.design_nodes = omega arith in
     let n = next-low run l f low-l in
     let had-o : count run fired (opening l) ≡ turns run (opening l) f =
     ap (λ (x : ℕ). turns run (opening l) (fired x)) (node-opening run l low-l) in
@@ -76,16 +76,16 @@ own_turn run fired e closed opened = let l : ℕ = node_of run e in let f : ℕ 
 
 -- what is enabled and the next event of its node
 next_enabled : (run : Run) (fired : ℕ → ℕ) (v : ℕ) → node_of run v < run.nodes
-    → v ≡ next run (node_of run v) (fired (node_of run v)) → Enabled run fired v
-    → (l : ℕ) × (l < run.nodes) × Enabled run fired (next run l (fired l))
-next_enabled run fired v near is on = (node_of run v, near, subst (Enabled run fired) is on)
+    → v ≡ next run (node_of run v) (fired (node_of run v)) → IsEnabledInRun run fired v
+    → (l : ℕ) × (l < run.nodes) × IsEnabledInRun run fired (next run l (fired l))
+next_enabled run fired v near is on = (node_of run v, near, subst (IsEnabledInRun run fired) is on)
 
 -- where each event has fired m times, and one of them no more, the next event of some node is
 -- enabled: the first one of a legal list of m + 1 turns that has not fired
 some_enabled : (run : Run) → IsSound run → IsRunAccepted run → (fired : ℕ → ℕ) (m : ℕ)
     → m < run.limit → ((e : ℕ) → node_of run e < run.nodes → m ≤ count run fired e) → (e : ℕ)
     → node_of run e < run.nodes → count run fired e ≤ m
-    → (l : ℕ) × (l < run.nodes) × Enabled run fired (next run l (fired l))
+    → (l : ℕ) × (l < run.nodes) × IsEnabledInRun run fired (next run l (fired l))
 some_enabled run sound ok fired m below all e near least =
     let g : Graph = graph run in let counts : ℕ → ℕ = count run fired in
     let (events, legal, full) = reachability g ok.live (m + 1) (λ _. m + 1)
@@ -96,7 +96,7 @@ some_enabled run sound ok fired m below all e near least =
     let v : ℕ = f.event in let l : ℕ = node_of run v in
     let near-l : l < run.nodes = node_there run v sound.among f.enabled.event in
     let is : counts v ≡ m = omega (arith, f.last, f.enabled.below, all v near-l) in
-    let on : Enabled run fired v = record {
+    let on : IsEnabledInRun run fired v = record {
       event = f.enabled.event;
       below = omega arith;
       ready = λ k d inside into. omega (

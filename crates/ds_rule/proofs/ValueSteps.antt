@@ -12,9 +12,9 @@ use Rattle.ds_marked.proofs.CountLemmas.{agrees_kept, counted-same, counted-othe
 use Rattle.ds_rule.specs.Run.{Run, graph, node_of, turns, opens, opening, closing, opened, count}
 use Rattle.ds_rule.specs.Words.{width, place, value}
 use Rattle.ds_rule.specs.Sound.{HasOrder}
-use Rattle.ds_rule.specs.Rule.{shown, seen, event, version, Fits, Lawful}
+use Rattle.ds_rule.specs.Rule.{firings_shown, seen, event, version, Fits, Lawful}
 use Rattle.ds_rule.specs.Plays.{Sat, read, wrote, after_write}
-use Rattle.ds_rule.specs.declared.layout.DataEdge.{DataEdge}
+use Rattle.ds_rule.specs.declared.table_run.DataEdge.{DataEdge}
 use Rattle.ds_rule.specs.declared.view.View.{View}
 use Rattle.ds_rule.proofs.EventLaws.{next-opens, node-opening}
 use Rattle.ds_rule.proofs.EventLaws.{node-closing, turns-opening, turns-closing, opening-is}
@@ -25,13 +25,13 @@ use Rattle.ds_rule.proofs.PassAtRest.{St, inside, version-old, version-new}
 use Rattle.ds_rule.proofs.StepKeepsRule.{unmoved, renewed, later}
 
 -- the counts of a latch's two events
-count-opening : (run : Run) (fired : ℕ → ℕ) (e l : ℕ) → e ≡ opening l → l < run.latches
+count-opening : (run : Run) (fired : ℕ → ℕ) (e l : ℕ) → e ≡ opening l → l < run.design_nodes
     → count run fired e ≡ opened run l (fired l)
 count-opening run fired e l is low = ap (count run fired) is
     ∙ (ap (λ (m : ℕ). turns run (opening l) (fired m)) (node-opening run l low)
     ∙ turns-opening run l (fired l) low)
 
-count-closing : (run : Run) (fired : ℕ → ℕ) (e l : ℕ) → e ≡ closing l → l < run.latches
+count-closing : (run : Run) (fired : ℕ → ℕ) (e l : ℕ) → e ≡ closing l → l < run.design_nodes
     → count run fired e ≡ turns run (closing l) (fired l)
 count-closing run fired e l is low = ap (count run fired) is
     ∙ ap (λ (m : ℕ). turns run (closing l) (fired m)) (node-closing run l low)
@@ -41,9 +41,9 @@ flight_meets : (run : Run) (s : St) (o : Lawful run s) (id : ℕ) (v : View)
     → get_elem? s.views id ≡ some v → v.live ≡ true → 0 < v.phase
     → (source target tokens : ℕ) → HasOrder run source target tokens → target ≡ event run v
     → source ≢ event run v
-    → count run (shown s.words) target + 1 ≤ count run (shown s.words) source + tokens
+    → count run (firings_shown s.words) target + 1 ≤ count run (firings_shown s.words) source + tokens
 flight_meets run s o id v me live flying source target tokens order is far =
-    let E : ℕ = event run v in let counts : ℕ → ℕ = count run (shown s.words) in omega (
+    let E : ℕ = event run v in let counts : ℕ → ℕ = count run (firings_shown s.words) in omega (
       arith,
       order (counted E counts) (agrees_kept (graph run) run.limit counts E
           (flight_enabled run s o id v me live flying) o.consistent.agrees),
@@ -62,20 +62,20 @@ pub stands : (run : Run) (s : St) (o : Lawful run s) (id : ℕ) (v : View)
 stands run s o id v me live flying begins k e i at consumer near =
     let c : ℕ = v.node in let p : ℕ = e.producer in let f = o.views id v me live in
     let up = f.flies flying in let d = o.sound.orders k e at in
-    let low-p : p < run.latches = d.from in let low-c : c < run.latches =
+    let low-p : p < run.design_nodes = d.from in let low-c : c < run.design_nodes =
     omega (arith, d.into, consumer) in
     let near-p : p < run.nodes = omega (arith, o.sound.among) in
     let h = o.held p near-p in let u : View = h.0 in let g = o.views (o.owner p) u h.1 h.2 in
     let C : ℕ = opened run c (seen v c) in let P : ℕ = opened run p (seen u p) in
-    let n : ℕ = C + 1 - e.tokens in let counts : ℕ → ℕ = count run (shown s.words) in
+    let n : ℕ = C + 1 - e.tokens in let counts : ℕ → ℕ = count run (firings_shown s.words) in
     let opens-c : counts (opening e.consumer) ≡ C =
-    count-opening run (shown s.words) (opening e.consumer) c (ap opening consumer) low-c
+    count-opening run (firings_shown s.words) (opening e.consumer) c (ap opening consumer) low-c
     ∙ ap (opened run c) (f.counted c up.0) in
     let opens-p : counts (opening p) ≡ P =
-    count-opening run (shown s.words) (opening p) p refl low-p
+    count-opening run (firings_shown s.words) (opening p) p refl low-p
     ∙ ap (opened run p) (g.counted p h.3) in
     let closes-c : counts (closing e.consumer) ≡ C =
-    count-closing run (shown s.words) (closing e.consumer) c (ap closing consumer) low-c
+    count-closing run (firings_shown s.words) (closing e.consumer) c (ap closing consumer) low-c
     ∙ (ap (turns run (closing c)) (f.counted c up.0)
     ∙ turns-closing run c (seen v c) low-c begins) in
     let event-c : event run v ≡ opening c = next-opens run c (seen v c) begins in
@@ -142,13 +142,13 @@ writes run n id m j new live flying begins small is value-is s o wide me _ =
     let w : View = after_write v in let up = f.flies flying in
     let N : ℕ = opened run c (seen v c) + 1 in
     let ws : List ℕ = set s.words j new in
-    let counts : (x : ℕ) → x < run.nodes → shown ws x ≡ shown s.words x =
+    let counts : (x : ℕ) → x < run.nodes → firings_shown ws x ≡ firings_shown s.words x =
     λ x h. get_or-set_other s.words j (x + 1) new 0
     (λ e. omega (arith, place_behind run c N v.written)) in
     let here : get_or ws j 0 ≡ new = get_or-set_same s.words j new 0
     (omega (arith, o.wide, place_inside run c N v.written up.1 small)) in
     let same-counts : (a : ℕ) → node_of run a < run.nodes
-    → count run (shown ws) a ≡ count run (shown s.words) a =
+    → count run (firings_shown ws) a ≡ count run (firings_shown s.words) a =
     λ a h. ap (turns run a) (counts (node_of run a) h) in
     -- each other word of the latest values is as it was
     let still : (l k i : ℕ) → i < width run l
@@ -206,7 +206,7 @@ writes run n id m j new live flying begins small is value-is s o wide me _ =
           (get_or-set_other s.words j 0 new 0 (λ e. omega (arith, place_behind run c N v.written))
           ∙ o.next_ticket)
           o.legal o.in_turn
-          (consistent_same run o.sound (count run (shown s.words)) (count run (shown ws))
+          (consistent_same run o.sound (count run (firings_shown s.words)) (count run (firings_shown ws))
           same-counts o.consistent)
           (λ x h. omega (arith, counts x h, o.behind x h))
           mine

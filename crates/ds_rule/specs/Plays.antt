@@ -8,7 +8,7 @@ use Rattle.atomic_table.specs.Table.{Me, Step}
 use Rattle.ds_rule.specs.Run.{no_run, events, node_of, turns, opened}
 use Rattle.ds_rule.specs.Words.{width, place, value}
 use Rattle.ds_rule.specs.Rule.{holds, tickets, seen, event}
-use Rattle.ds_rule.specs.declared.layout.DataEdge.{DataEdge}
+use Rattle.ds_rule.specs.declared.table_run.DataEdge.{DataEdge}
 use Rattle.ds_rule.specs.declared.view.View.{View}
 
 -- a seat: its view and the slots that it holds

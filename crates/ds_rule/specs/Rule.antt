@@ -5,15 +5,16 @@ use Rattle.std.specs.Prelude.{slice_index_or, cond, ◌==◌, nat_lt, Bool, true
 use mathlib.Core.Option.{some}
 use lib.ListN.{get_elem?}
 use Rattle.atomic_table.specs.Table.{State}
-use Rattle.ds_rule.specs.Run.{Run, events, node_of, next, opens, opened, Enabled, Consistent}
+use Rattle.ds_rule.specs.Run.{Run, events, node_of, next, opens, opened, IsEnabledInRun}
+use Rattle.ds_rule.specs.Run.{IsConsistentInRun}
 use Rattle.ds_rule.specs.Sound.{IsSound}
 use Rattle.ds_rule.specs.Words.{width, size, place, value}
-use Rattle.ds_rule.specs.Log.{places, visits, IsLegalList, InTurn}
+use Rattle.ds_rule.specs.Log.{tickets_in_log, node_count_in_log, IsLegalList, InTurn}
 use Rattle.ds_rule.specs.declared.view.View.{View}
 
 -- the number of firings of a node that the words show
-abbrev pub shown : List ℕ → ℕ → ℕ
-shown words l = slice_index words (l + 1)
+abbrev pub firings_shown : List ℕ → ℕ → ℕ
+firings_shown words l = slice_index words (l + 1)
 
 -- the pass holds the node
 abbrev pub holds : View → ℕ → Bool
@@ -51,12 +52,12 @@ pub record Fits (run : Run) (words log : List ℕ) (owner : ℕ → ℕ) (id : �
   pub seen_long : length v.seen ≡ run.nodes
   pub owns : (l : ℕ) → holds v l ≡ true → owner l ≡ id
   -- the counts
-  pub counted : (l : ℕ) → holds v l ≡ true → shown words l ≡ seen v l
-  pub logged : (l : ℕ) → holds v l ≡ true → visits run l log ≡ seen v l + ahead v l
-  pub known : (l : ℕ) → l < run.nodes → seen v l ≤ shown words l
+  pub counted : (l : ℕ) → holds v l ≡ true → firings_shown words l ≡ seen v l
+  pub logged : (l : ℕ) → holds v l ≡ true → node_count_in_log run l log ≡ seen v l + ahead v l
+  pub known : (l : ℕ) → l < run.nodes → seen v l ≤ firings_shown words l
   -- the tickets
   pub kept : (e : ℕ) → holds v (node_of run e) ≡ true
-      → places e log ≡ tickets v e ++ pending run v e
+      → tickets_in_log e log ≡ tickets v e ++ pending run v e
   pub known_drawn : v.drawn ≤ length log
   -- the value words: the last openings of a node stand in its places
   pub values : (l k i : ℕ) → holds v l ≡ true → i < width run l → k ≤ version run v l i
@@ -64,7 +65,7 @@ pub record Fits (run : Run) (words log : List ℕ) (owner : ℕ → ℕ) (id : �
   pub writes : 0 < v.written → (0 < v.phase) × (opens run (event run v) ≡ true)
   -- what is in flight is enabled at what was seen
   pub flies : 0 < v.phase → (holds v v.node ≡ true) × (v.node < run.nodes)
-      × Enabled run (seen v) (event run v)
+      × IsEnabledInRun run (seen v) (event run v)
   pub no_clash : (l : ℕ) → slice_index_or v.clash l false ≡ false
 
 -- the rule: some log of draws is legal, the counts agree, and each node is held once
@@ -78,8 +79,8 @@ pub record Lawful (run : Run) (s : State ℕ View) : Type 0 where
   pub next_ticket : slice_index s.words 0 ≡ length log
   pub legal : IsLegalList run log
   pub in_turn : InTurn run log
-  pub consistent : Consistent run (shown s.words)
-  pub behind : (l : ℕ) → l < run.nodes → shown s.words l ≤ visits run l log
+  pub consistent : IsConsistentInRun run (firings_shown s.words)
+  pub behind : (l : ℕ) → l < run.nodes → firings_shown s.words l ≤ node_count_in_log run l log
   pub held : (l : ℕ) → l < run.nodes
       → (v : View) × (get_elem? s.views (owner l) ≡ some v) × (v.live ≡ true) × (holds v l ≡ true)
   pub views : (id : ℕ) (v : View) → get_elem? s.views id ≡ some v → v.live ≡ true

@@ -7,14 +7,14 @@ use Rattle.ds_marked.specs.Graph.{Graph, IsEnabled, IsConsistent}
 use Rattle.ds_marked.specs.declared.marked.Arc.{Arc}
 use Rattle.ds_marked.specs.declared.marked.Event.{Event}
 use Rattle.ds_marked.specs.declared.marked.Kind.TheVariants.{Dummy}
-use Rattle.ds_rule.specs.declared.layout.DataEdge.{DataEdge}
+use Rattle.ds_rule.specs.declared.table_run.DataEdge.{DataEdge}
 
 -- nodes, their events and their values
 pub record Run : Type 0 where
-  -- how many nodes there are; those below `latches` open and close in turn, the others have one
-  -- event each
+  -- how many nodes there are; those below `design_nodes` open and close in turn, the others have
+  -- one event each
   pub nodes : ℕ
-  pub latches : ℕ
+  pub design_nodes : ℕ
   -- the orders between events
   pub arcs : List Arc
   -- how often each event may fire
@@ -32,7 +32,7 @@ pub record Run : Type 0 where
 abbrev pub no_run : Run
 no_run = record {
   nodes = 0;
-  latches = 0;
+  design_nodes = 0;
   arcs = [];
   limit = 0;
   edges = [];
@@ -43,23 +43,23 @@ no_run = record {
 
 -- how many events there are: two of each latch, then one of each other node
 unfoldable pub events : Run → ℕ
-events run = run.nodes + run.latches
+events run = run.nodes + run.design_nodes
 
 -- the node of an event
 unfoldable pub node_of : Run → ℕ → ℕ
-node_of run e = cond (nat_lt e (2 * run.latches)) (e / 2) (e - run.latches)
+node_of run e = cond (nat_lt e (2 * run.design_nodes)) (e / 2) (e - run.design_nodes)
 
 -- the event that a node fires next, after f firings
 unfoldable pub next : Run → ℕ → ℕ → ℕ
-next run l f = cond (nat_lt l run.latches) (2 * l + f % 2) (l + run.latches)
+next run l f = cond (nat_lt l run.design_nodes) (2 * l + f % 2) (l + run.design_nodes)
 
 -- how often an event has fired, after f firings of its node
 unfoldable pub turns : Run → ℕ → ℕ → ℕ
-turns run e f = cond (nat_lt e (2 * run.latches)) ((f + (1 - e % 2)) / 2) f
+turns run e f = cond (nat_lt e (2 * run.design_nodes)) ((f + (1 - e % 2)) / 2) f
 
 -- the event is an opening
 unfoldable pub opens : Run → ℕ → Bool
-opens run e = nat_lt e (2 * run.latches) && (e % 2 == 0)
+opens run e = nat_lt e (2 * run.design_nodes) && (e % 2 == 0)
 
 -- a latch opens
 unfoldable pub opening : ℕ → ℕ
@@ -71,7 +71,7 @@ closing l = 2 * l + 1
 
 -- how often a node has opened, after f firings
 unfoldable pub opened : Run → ℕ → ℕ → ℕ
-opened run l f = cond (nat_lt l run.latches) ((f + 1) / 2) 0
+opened run l f = cond (nat_lt l run.design_nodes) ((f + 1) / 2) 0
 
 -- the count of an event, where each node has fired so many times
 abbrev pub count : Run → (ℕ → ℕ) → ℕ → ℕ
@@ -86,9 +86,9 @@ abbrev pub graph : Run → Graph
 graph run = record { events = replicate (events run) nameless; arcs = run.arcs }
 
 -- the event may fire, where each node has fired so many times
-abbrev pub Enabled : Run → (ℕ → ℕ) → ℕ → Type 0
-Enabled run fired e = IsEnabled (graph run) run.limit (count run fired) e
+abbrev pub IsEnabledInRun : Run → (ℕ → ℕ) → ℕ → Type 0
+IsEnabledInRun run fired e = IsEnabled (graph run) run.limit (count run fired) e
 
 -- the counts of the events agree with the arcs, and none is above the limit
-abbrev pub Consistent : Run → (ℕ → ℕ) → Type 0
-Consistent run fired = IsConsistent (graph run) run.limit (count run fired)
+abbrev pub IsConsistentInRun : Run → (ℕ → ℕ) → Type 0
+IsConsistentInRun run fired = IsConsistent (graph run) run.limit (count run fired)

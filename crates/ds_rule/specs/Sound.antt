@@ -4,7 +4,7 @@ use Rattle.std.specs.Prelude.{slice_index, slice_index_or, All}
 use mathlib.Core.Option.{some}
 use lib.ListN.{get_elem?}
 use Rattle.ds_marked.specs.Graph.{Agrees}
-use Rattle.ds_rule.specs.declared.layout.DataEdge.{DataEdge}
+use Rattle.ds_rule.specs.declared.table_run.DataEdge.{DataEdge}
 use Rattle.ds_rule.specs.Run.{Run, node_of, opening, closing}
 use Rattle.ds_rule.specs.Words.{width, size, node_values}
 
@@ -29,19 +29,19 @@ HasOrder run source target tokens =
 -- the producer opens again after the consumer closed
 pub record HasOrders (run : Run) (e : DataEdge) : Type 0 where
   pub tokens_few : e.tokens ≤ 1
-  pub from : e.producer < run.latches
-  pub into : e.consumer < run.latches
+  pub from : e.producer < run.design_nodes
+  pub into : e.consumer < run.design_nodes
   pub apart : e.producer ≢ e.consumer
   pub there : HasOrder run (opening e.producer) (opening e.consumer) e.tokens
   pub back : HasOrder run (closing e.consumer) (opening e.producer) (1 - e.tokens + run.slack)
 
 -- what a run must meet; the limits of a plan give the numbers
 pub record IsSound (run : Run) : Type 0 where
-  pub few : run.nodes + run.latches < 4294967296
+  pub few : run.nodes + run.design_nodes < 4294967296
   pub few_arcs : length run.arcs < 4294967296
   pub short : run.limit < 4611686018427387904
   pub near : run.slack < 4611686018427387904
-  pub among : run.latches ≤ run.nodes
+  pub among : run.design_nodes ≤ run.nodes
   pub narrow : run.nodes * (2 * run.limit) < 18446744073709551616
   pub sized : size run < 9223372036854775808
   pub reads : (l : ℕ) → read_words run l (length run.edges) < 9223372036854775808

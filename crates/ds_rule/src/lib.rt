@@ -10,14 +10,14 @@
 #![tactic(auto)]
 
 pub mod laws;
-mod layout;
 mod plays;
 mod sizes;
+mod table_run;
 mod view;
 
-pub use layout::{DataEdge, Layout, Rows, turns_of};
 pub use plays::{
-    ChooseCut, Deal, Depart, Draw, Gather, Look, Observe, Order, Publish, Read, Write,
+    ChooseCut, Deal, Depart, Draw, FiringRule, Gather, Look, Observe, Publish, Read, Write,
 };
 pub use sizes::Sizes;
+pub use table_run::{DataEdge, RunValues, TableRun, turns_of};
 pub use view::View;

@@ -4,14 +4,14 @@ ghost use Rattle.ds_rule.specs.Rule.{Lawful, first_view};
 ghost use Rattle.ds_rule.specs.Plays.{looked, departed, read, wrote, drew, published};
 ghost use Rattle.ds_rule.specs.Plays.{observed, chose_cut, without_cut, only_cut, taken_in, spent};
 
-use crate::layout::{Layout, Rows};
+use crate::table_run::{RunValues, TableRun};
 use crate::view::View;
 use atomic_table::{Join, Play, Split, TableRule};
 
 /// The rule of the table. No slot is used.
-pub struct Order;
+pub struct FiringRule;
 
-impl<J: Rows> TableRule<u8, View, Layout<J>> for Order {
+impl<V: RunValues> TableRule<u8, View, TableRun<V>> for FiringRule {
     ghost holds = { Lawful };
 
     ghost first = { first_view };

@@ -13,7 +13,7 @@ use Rattle.ds_rule.specs.Words.{node_values}
 use Rattle.ds_opening.specs.Foreseen.{foreseen, foreseen_rows, node_at, nets_in, state_before}
 use Rattle.ds_opening.proofs.Foreseen.{foresees_run_lem}
 use Rattle.ds_opening.proofs.ForeseenRows.{foresees_rows_lem}
-use Rattle.ds_run.specs.Layout.{AreValues}
+use Rattle.ds_run.specs.RunOfPlan.{AreValues}
 
 pub values_are : (s : Split) (order : List ℕ) (vectors : List Row) (run : Run) → IsSplit s
     → IsInRange s.circuit → IsTableOrder s.circuit order

@@ -9,7 +9,7 @@ use Rattle.ds_latch.proofs.EventNodes.{node_at}
 use Rattle.ds_design.specs.Rows.{Rows}
 use Rattle.ds_opening.specs.Groups.{Grouping}
 use Rattle.ds_opening.specs.Packed.{packed}
-use Rattle.ds_opening.specs.Woven.{IsOpeningOf, Turn, read_of, value_taken}
+use Rattle.ds_opening.specs.TurnOfOpenings.{IsOpeningOf, Turn, read_of, value_taken}
 use Rattle.ds_rule.specs.Run.{Run}
 use Rattle.ds_rule.specs.Rows.{row, supply_but}
 use Rattle.ds_rule.specs.Words.{width}
@@ -84,12 +84,12 @@ module _ {s : Split} {vectors : Rows} {run : Run} {groups : Grouping} {order : L
     turn_is : suc (turn - 1) ≡ turn
     turn_is = omega (some, arith)
 
-    pub opens_at : l < asked.latches → turn ≤ asked.limit → (known : ℕ → Bool)
+    pub opens_at : l < asked.design_nodes → turn ≤ asked.limit → (known : ℕ → Bool)
         → (from : List ℕ) → from ≡ supply_but asked known l turn (length asked.edges)
         → Opens number (turn - 1) known from
     opens_at near most known from from_is =
-        let latches_are : asked.latches ≡ nodes s
-        = ap (λ (r : Run). r.latches) asked_is ∙ w.planned.latches_are in
+        let latches_are : asked.design_nodes ≡ nodes s
+        = ap (λ (r : Run). r.design_nodes) asked_is ∙ w.planned.latches_are in
         let limit_is : asked.limit ≡ length vectors.rows
         = ap (λ (r : Run). r.limit) asked_is ∙ w.planned.limit_is in
         let low : number < nodes s = omega (near, latches_are, number_is, arith) in

@@ -15,8 +15,8 @@ use Rattle.ds_latch.specs.Latches.{HasEdges}
 use Rattle.ds_latch.specs.declared.latches.Edge.{Edge}
 use Rattle.ds_control.specs.Orders.{tokens_after}
 use Rattle.ds_control.proofs.Required.{named, tokens_is}
-use Rattle.ds_rule.specs.declared.layout.DataEdge.{DataEdge}
-use Rattle.ds_run.specs.Layout.{AreDataEdges, Joins}
+use Rattle.ds_rule.specs.declared.table_run.DataEdge.{DataEdge}
+use Rattle.ds_run.specs.RunOfPlan.{AreDataEdges, Joins}
 use Rattle.ds_run.specs.Tokened.{tokened}
 
 flips : (m n : ℕ) → eqb m n ≡ eqb n m

@@ -13,22 +13,22 @@ use Rattle.ds_clocked.specs.Loop.{IsWrittenTo}
 use Rattle.ds_clocked.proofs.OneMoreTurn.{one_turn}
 use Rattle.ds_rule.specs.Words.{node_values as stored_at}
 use Rattle.ds_fabric.specs.Showing.{Recorder}
-use Rattle.ds_run.specs.Layout.{AreValues}
-use Rattle.ds_run.specs.declared.line.Line.{Line}
-use Rattle.ds_run.specs.Line.{HasLine, IsGathered}
-use Rattle.ds_run.specs.Played.{IsPlayed}
+use Rattle.ds_run.specs.RunOfPlan.{AreValues}
+use Rattle.ds_run.specs.declared.trace_rows.TraceRows.{TraceRows}
+use Rattle.ds_run.specs.TraceRows.{HasLine, IsGathered}
+use Rattle.ds_run.specs.Finished.{IsFinished}
 use Rattle.ds_run.proofs.NodeRecords.{outputs_are, registers_are}
 
 -- a line with other outputs, of a split design that is known
-line_with : (s t : Split) (line : Line) (outputs : Row) → t ≡ s → HasLine s line
+line_with : (s t : Split) (line : TraceRows) (outputs : Row) → t ≡ s → HasLine s line
     → length outputs ≡ length s.circuit.outputs
     → HasLine t (record { outputs = outputs; registers = line.registers })
 line_with s t line outputs same has long =
-    let with : Line = record { outputs = outputs; registers = line.registers } in
+    let with : TraceRows = record { outputs = outputs; registers = line.registers } in
     subst (λ (q : Split). HasLine q with) (sym same)
     (record { outputs = long; registers = has.registers })
 
-module _ (p : Planned) (vectors : List Row) (r : Recorder) (played : IsPlayed p vectors r)
+module _ (p : Planned) (vectors : List Row) (r : Recorder) (finished_run : IsFinished p vectors r)
     (k : ℕ) (below : k < length vectors) where
   -- what was read of OUT are the outputs of the turn
   pub outputs_read : (values : AreValues p.split vectors r.shown.view.run) (n : ℕ) (row : Row)
@@ -37,16 +37,16 @@ module _ (p : Planned) (vectors : List Row) (r : Recorder) (played : IsPlayed p 
   outputs_read values n row at is =
       is
       ∙ (ap (λ (m : ℕ). stored_at r.shown.view.run m (k + 1)) at
-      ∙ outputs_are p vectors r played k below values)
+      ∙ outputs_are p vectors r finished_run k below values)
 
   pub outputs_long : (n : ℕ) (row : Row) → n ≡ 1 → row ≡ stored_at r.shown.view.run n (k + 1)
       → length row ≡ length p.split.circuit.outputs
   outputs_long n row at is =
-      let values : AreValues p.split vectors r.shown.view.run = played.planned.values_are in
+      let values : AreValues p.split vectors r.shown.view.run = finished_run.planned.values_are in
       ap length (outputs_read values n row at is)
       ∙ length-map p.split.circuit.outputs (value_at (values.nets k))
 
-  pub line_read : (t : Split) (line : Line) (n : ℕ) (row : Row) → t ≡ p.split
+  pub line_read : (t : Split) (line : TraceRows) (n : ℕ) (row : Row) → t ≡ p.split
       → HasLine p.split line → n ≡ 1 → row ≡ stored_at r.shown.view.run n (k + 1)
       → HasLine t (record { outputs = row; registers = line.registers })
   line_read t line n row same has at is =
@@ -57,7 +57,7 @@ module _ (p : Planned) (vectors : List Row) (r : Recorder) (played : IsPlayed p 
       → (values : AreValues p.split vectors r.shown.view.run) → row ≡ values.state (k + 1)
   gathered_is t row same gathered values =
       subst (λ (q : Split). IsGathered q r.shown.view.run k row) same gathered
-      (values.state (k + 1)) (registers_are p vectors r played k below values)
+      (values.state (k + 1)) (registers_are p vectors r finished_run k below values)
 
   -- one line more was written
   pub turn_written : (first : ℕ) (t : Split) (n : ℕ) (outputs before next : Row)
@@ -69,8 +69,8 @@ module _ (p : Planned) (vectors : List Row) (r : Recorder) (played : IsPlayed p 
       → ((text : List ℕ) → Before text → After (text ++ trace_line (first + k) outputs before))
       → IsWrittenTo p.split.circuit first p.split.initial vectors (k + 1) next After
   turn_written first t n outputs before next Before After at is was same gathered done line =
-      let values : AreValues p.split vectors r.shown.view.run = played.planned.values_are in
-      let nets : Row = played.planned.values_are.nets k in
+      let values : AreValues p.split vectors r.shown.view.run = finished_run.planned.values_are in
+      let nets : Row = finished_run.planned.values_are.nets k in
       let settled : IsValuation p.split.circuit before (row_at vectors k) nets =
       subst (λ (row : Row). IsValuation p.split.circuit row (row_at vectors k) nets)
       (sym (was values)) (values.clocked.settles k below) in

@@ -23,7 +23,7 @@ window_played : (p : Planned) (w : PlayedWindow) → IsPlayedWindow p w
     → IsWindow p.graph (window_of w)
 window_played p w is =
     let (legal, full) = firings_are_legal_lem (begun_plan p w.start) w.vectors w.recorder
-    is.played.accepted is.played.planned is.played.whole w.firings is.fired in
+    is.finished_run.accepted is.finished_run.planned is.finished_run.whole w.firings is.fired in
     record { legal = legal; full = full }
 
 -- windows that are joined are the whole
@@ -38,9 +38,9 @@ joined_whole (w ∷ windows) =
     (sym (length-append w.vectors (flat_map (λ v. v.vectors) windows)))
 
 pub firings_in_windows_lem : FiringsInWindows
-firings_in_windows_lem p plan windows played =
+firings_in_windows_lem p plan windows finished_run =
     let all : All (IsWindow p.graph) (map window_of windows) =
     All-map (IsWindow p.graph) window_of windows
-    (λ k d inside. window_played p _ (played k d inside)) in
+    (λ k d inside. window_played p _ (finished_run k d inside)) in
     subst (IsWindow p.graph) (joined_whole windows)
     (lists_in_windows p.graph plan.live (map window_of windows) all)

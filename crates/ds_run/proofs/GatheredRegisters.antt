@@ -18,7 +18,7 @@ use Rattle.ds_latch.specs.Firing.{AreRegisters}
 use Rattle.ds_rule.specs.Run.{Run}
 use Rattle.ds_rule.specs.Words.{node_values as stored_at}
 use Rattle.ds_fabric.proofs.Unpacks.{code_small}
-use Rattle.ds_run.specs.Line.{AreSpread}
+use Rattle.ds_run.specs.TraceRows.{AreSpread}
 
 -- what stands among some registers and is not the first stands behind it
 behind : (x : ℕ) (these : List ℕ) (r : ℕ) → r ≢ x → Contains (x ∷ these) r → Contains these r

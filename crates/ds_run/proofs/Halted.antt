@@ -8,8 +8,8 @@ use Rattle.ds_rule.proofs.EventLaws.{events-is}
 use Rattle.ds_fabric.specs.Showing.{Recorder}
 use Rattle.ds_runner.specs.Stopped.{IsRunRecord, all_firings}
 use Rattle.ds_run.specs.Halted.{IsHalted, IsWorked, most_firings}
-use Rattle.ds_run.specs.Layout.{IsRunOf}
-use Rattle.ds_run.specs.Played.{IsPlayed}
+use Rattle.ds_run.specs.RunOfPlan.{IsRunOf}
+use Rattle.ds_run.specs.Finished.{IsFinished}
 
 -- the run that is recorded is the one that was begun
 run_recorded : (quota : Option ℕ) (jobs : ℕ) (run : Run) (r : Recorder) → IsRunRecord quota jobs run r
@@ -30,7 +30,7 @@ worked p vectors quota jobs run r plan is ran =
 
 -- without a quota it went to its end
 pub played_worked : (p : Planned) (vectors : List Row) (jobs : ℕ) (r : Recorder)
-    → IsWorked None jobs p vectors r → IsPlayed p vectors r
+    → IsWorked None jobs p vectors r → IsFinished p vectors r
 played_worked p vectors jobs r is = record {
   accepted = is.accepted;
   planned = is.planned;

@@ -9,12 +9,12 @@ use Rattle.ds_rule.specs.Rule.{tickets}
 use Rattle.ds_rule.specs.Run.{Run, node_of}
 use Rattle.ds_rule.proofs.EventLaws.{node_below}
 use Rattle.ds_rule.proofs.LegalLogs.{logs_are_legal}
-use Rattle.ds_rule.proofs.LogCounts.{length-places}
+use Rattle.ds_rule.proofs.LogCounts.{length-tickets_in_log}
 use Rattle.ds_fabric.specs.Showing.{IsFiredInOrder, Recorder}
 use Rattle.ds_run.proofs.Records.{same_long}
 use Rattle.ds_run.proofs.RunsAreSound.{run_graph}
 use Rattle.ds_run.specs.Firings.{FiringsAreLegal, RecordsAreLegal}
-use Rattle.ds_run.specs.Layout.{IsRunOf}
+use Rattle.ds_run.specs.RunOfPlan.{IsRunOf}
 
 -- the firings of a record are a legal list, and each event fires as often as it has tickets
 pub fired_counts : (p : Planned) (vectors : List Row) (r : Recorder) → IsPlan p.split p.graph
@@ -36,7 +36,7 @@ fired_counts p vectors r plan is items fired =
           let near : node_of run v < run.nodes
           = node_below run v graph.among (omega (event, graph.events_are, arith)) in
           ap (λ (xs : List ℕ). counts_after (λ _. 0) xs v) fired.is
-          ∙ (law.1 v ∙ (sym (length-places v log)
+          ∙ (law.1 v ∙ (sym (length-tickets_in_log v log)
           ∙ ap (λ (xs : List ℕ). length xs) (sym (recorded.all v near)))),
     )
 

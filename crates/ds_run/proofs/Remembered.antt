@@ -17,7 +17,7 @@ use Rattle.ds_opening.specs.Foreseen.{nets_in, state_before}
 use Rattle.ds_opening.proofs.Foreseen.{foresees_run_lem}
 use Rattle.ds_opening.specs.Learnt.{is_learnt}
 use Rattle.ds_opening.specs.Noted.{IsNotedOpening}
-use Rattle.ds_opening.specs.Woven.{IsOpeningOf}
+use Rattle.ds_opening.specs.TurnOfOpenings.{IsOpeningOf}
 use Rattle.ds_opening.specs.declared.opening.Opening.{Opening}
 use Rattle.ds_run.specs.Openings.{AreOpenings, memory_of}
 use Rattle.ds_run.proofs.ComputedOpenings.{Opens}

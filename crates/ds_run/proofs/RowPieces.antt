@@ -14,7 +14,7 @@ use Rattle.ds_rows.specs.Log.{at_place, value_words}
 use Rattle.ds_rows.proofs.ValueWords.{value_words_more}
 use Rattle.ds_rule.specs.Run.{Run}
 use Rattle.ds_rule.specs.Words.{value, node_values}
-use Rattle.ds_run.specs.Latched.{word_values}
+use Rattle.ds_run.specs.LatchRows.{word_values}
 
 -- a word of a value is that of its part
 value-part : (run : Run) (l i k : ℕ) → value run l k i ≡ word_of (word_values run l i k) 0

@@ -16,7 +16,7 @@ use Rattle.ds_rule.specs.Plays.{listed}
 use Rattle.ds_rule.specs.Sound.{IsSound}
 use Rattle.ds_rule.specs.Words.{value, node_values, width}
 use Rattle.ds_rule.proofs.PlaceLaws.{width-is}
-use Rattle.ds_run.specs.Layout.{IsRunOf}
+use Rattle.ds_run.specs.RunOfPlan.{IsRunOf}
 
 -- what is listed is what is made of the numbers in order
 listed-map : {A : Type 0} (f : ℕ → A) (n : ℕ) → listed f n ≡ map f (range_with_len 0 n)

@@ -24,10 +24,10 @@ use Rattle.ds_rule.specs.Words.{width, size, node_values as run_values}
 use Rattle.ds_rule.specs.Sound.{HasOrder, HasOrders, IsSound, edge_at}
 use Rattle.ds_rule.specs.Progress.{IsRunAccepted}
 use Rattle.ds_rule.specs.Laws.{IsGraphOfRun}
-use Rattle.ds_rule.specs.declared.layout.DataEdge.{DataEdge}
+use Rattle.ds_rule.specs.declared.table_run.DataEdge.{DataEdge}
 use Rattle.ds_rule.proofs.EventLaws.{events-is, opening-is, closing-is}
 use Rattle.ds_rule.proofs.GraphLaws.{live_as, events_as, node_there}
-use Rattle.ds_run.specs.Layout.{IsRunOf, Joins}
+use Rattle.ds_run.specs.RunOfPlan.{IsRunOf, Joins}
 use Rattle.ds_run.specs.Laws.{IsRunWithin, RunsAreAccepted, RunsAreSound, RunsHaveGraphs}
 use Rattle.ds_run.proofs.ItemAccess.{all_at}
 use Rattle.ds_run.proofs.Sizes.{read_few, width_few, size_few}
@@ -52,7 +52,7 @@ module _ (p : Planned) (vectors : List Row) (run : Run) (is : IsRunOf p vectors 
   controls : IsController p.split p.graph
   controls = accepted_controls p.split p.graph plan
 
-  among : run.latches ≤ run.nodes
+  among : run.design_nodes ≤ run.nodes
   among = omega (arith, room p.split p.graph plan, is.latches_are, is.nodes_are)
 
   events_are : length p.graph.events ≡ events run
@@ -103,7 +103,7 @@ module _ (p : Planned) (vectors : List Row) (run : Run) (is : IsRunOf p vectors 
       let (a, c, edge, joins) = is.edges_are.each k d inside in
       there (get_or run.edges k d) a c edge joins
 
-  closes : (l : ℕ) → l < run.latches → HasOrder run (opening l) (closing l) 0
+  closes : (l : ℕ) → l < run.design_nodes → HasOrder run (opening l) (closing l) 0
   closes l low counts agrees =
       let (n, is_node, at) = node_at p.split l (omega (arith, is.latches_are)) in
       omega (

@@ -21,12 +21,12 @@ use Rattle.ds_rule.specs.Rule.{tickets}
 use Rattle.ds_rule.proofs.PlaceLaws.{width-is}
 use Rattle.ds_fabric.specs.Showing.{IsFiredInOrder, Recorder}
 use Rattle.ds_run.specs.Halted.{IsHalted, most_firings}
-use Rattle.ds_run.specs.Played.{IsRecordOf}
+use Rattle.ds_run.specs.Finished.{IsRecordOf}
 use Rattle.ds_run.specs.Stored.{IsRecorded, rows_told}
 use Rattle.ds_run.proofs.StoredAsFired.{records_store_as_fired_lem}
 use Rattle.ds_run.proofs.RecordFirings.{records_are_legal_lem}
 use Rattle.ds_run.proofs.Records.{record_near, record_fired}
-use Rattle.ds_run.specs.Ended.{IsKnownLog, IsLogPart}
+use Rattle.ds_run.specs.WindowedText.{IsKnownLog, IsLogPart}
 use Rattle.ds_run.specs.Left.{HasWords, IsLogLeft, IsLeftOf, home_line, AppendsLeft, AppendsLeftPart, homes_text}
 use Rattle.ds_run.specs.Logged.{Listed}
 use Rattle.ds_run.specs.Stopped.{AppendsStopped, AppendsStoppedPart, IsLogBehind, IsStoppedText}

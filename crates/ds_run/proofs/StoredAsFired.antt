@@ -19,7 +19,7 @@ use Rattle.ds_rule.specs.Run.{Run, closing as closing_in, events as events_in}
 use Rattle.ds_rule.specs.Rule.{first_view, tickets}
 use Rattle.ds_rule.specs.Words.{node_values}
 use Rattle.ds_rule.proofs.EventLaws.{closing-is}
-use Rattle.ds_run.specs.Layout.{AreValues}
+use Rattle.ds_run.specs.RunOfPlan.{AreValues}
 use Rattle.ds_run.specs.Stored.{FabricsShowFirst, RecordsStoreAsFired, ShowsFirst, StoresAsFired}
 use Rattle.ds_run.proofs.RecordFirings.{fired_counts}
 use Rattle.ds_run.proofs.Records.{record_among, record_near, record_played}
@@ -62,8 +62,8 @@ records_store_as_fired_lem p vectors r is events fired =
       record {
         fires = all;
         stores = λ n is_node.
-            let near : number_of n < run.latches = record_near p vectors r is n is_node in
-            let among : run.latches ≤ run.nodes = record_among p vectors r is in
+            let near : number_of n < run.design_nodes = record_near p vectors r is n is_node in
+            let among : run.design_nodes ≤ run.nodes = record_among p vectors r is in
             let event : closing n < length p.graph.events = omega (arith, is.planned.nodes_are) in
             let told : counts_after (λ _. 0) events (closing n) ≡ length (tickets r.shown.view (closing n)) = counts (closing n) event in
             let few : counts_after (λ _. 0) events (closing n) ≤ length vectors = closed_most p vectors events legal (closing n) event in
@@ -78,8 +78,8 @@ records_store_as_fired_lem p vectors r is events fired =
     )
 
 pub stores_as_fired_lem : StoresAsFired
-stores_as_fired_lem p vectors r played events fired =
-    records_store_as_fired_lem p vectors r (record_played p vectors r played) events fired
+stores_as_fired_lem p vectors r finished_run events fired =
+    records_store_as_fired_lem p vectors r (record_played p vectors r finished_run) events fired
 
 -- no event of the first view has a ticket
 none_drawn : (count e : ℕ) → get_or (replicate {A = List ℕ} count []) e [] ≡ []

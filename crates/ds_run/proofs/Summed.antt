@@ -15,10 +15,10 @@ use Rattle.ds_demo.specs.Fold.{Folded, nothing, fold_after}
 use Rattle.ds_demo.proofs.TextSums.{fold_after-append, sum_of_text}
 use Rattle.ds_rule.specs.Words.{node_values as stored_at}
 use Rattle.ds_fabric.specs.Showing.{Recorder}
-use Rattle.ds_run.specs.Layout.{AreValues}
+use Rattle.ds_run.specs.RunOfPlan.{AreValues}
 use Rattle.ds_run.specs.declared.sums.Sums.{Sums}
-use Rattle.ds_run.specs.Line.{IsGathered}
-use Rattle.ds_run.specs.Played.{IsPlayed}
+use Rattle.ds_run.specs.TraceRows.{IsGathered}
+use Rattle.ds_run.specs.Finished.{IsFinished}
 use Rattle.ds_run.specs.Summed.{IsSummed, IsSummedTo, ones_in, ones_of}
 use Rattle.ds_run.proofs.NodeRecords.{latches_among, out_near, out_wide}
 use Rattle.ds_run.proofs.FinishedTurns.{turn_written}
@@ -30,17 +30,17 @@ ones_more c nets k =
     sum_by-map-range_with_len_more ones_of (λ j. values_at (nets j) c.outputs) 0 k k (zero-add k)
 
 -- a row of outputs has fewer values than 2 ^ 32
-pub outputs_few : (p : Planned) (vectors : List Row) (r : Recorder) → IsPlayed p vectors r
+pub outputs_few : (p : Planned) (vectors : List Row) (r : Recorder) → IsFinished p vectors r
     → length p.split.circuit.outputs < 2 ^ 32
-outputs_few p vectors r played =
+outputs_few p vectors r finished_run =
     let lengths : List ℕ = r.shown.view.run.lengths in
-    let near : number_of Out < r.shown.view.run.latches = out_near p vectors r played in
-    let among : r.shown.view.run.latches ≤ r.shown.view.run.nodes =
-    latches_among p vectors r played in
+    let near : number_of Out < r.shown.view.run.design_nodes = out_near p vectors r finished_run in
+    let among : r.shown.view.run.design_nodes ≤ r.shown.view.run.nodes =
+    latches_among p vectors r finished_run in
     let inside : 1 < length r.shown.view.run.lengths =
-    omega (arith, played.planned.lengths_are.one_each) in
-    let few : get_or lengths 1 0 < 2 ^ 32 = played.planned.lengths_are.few 1 0 inside in
-    omega (arith, out_wide p vectors r played)
+    omega (arith, finished_run.planned.lengths_are.one_each) in
+    let few : get_or lengths 1 0 < 2 ^ 32 = finished_run.planned.lengths_are.few 1 0 inside in
+    omega (arith, out_wide p vectors r finished_run)
 
 -- the lines of so many turns were added, up to these registers
 abbrev pub IsFoldedTo : Split → List Row → ℕ → Row → Folded → Type 0
@@ -58,7 +58,7 @@ none_folded s vectors row fold starts none =
 
 -- one turn more
 pub turn_folded : (p : Planned) (vectors : List Row) (r : Recorder)
-    → (played : IsPlayed p vectors r)
+    → (finished_run : IsFinished p vectors r)
     → (k : ℕ) → k < length vectors
     → (t : Split) (n : ℕ) (outputs before next : Row) (fold more : Folded)
     → n ≡ 1 → outputs ≡ stored_at r.shown.view.run n (k + 1)
@@ -67,9 +67,9 @@ pub turn_folded : (p : Planned) (vectors : List Row) (r : Recorder)
     → IsFoldedTo p.split vectors k before fold
     → more ≡ fold_after fold (trace_line k outputs before)
     → IsFoldedTo p.split vectors (k + 1) next more
-turn_folded p vectors r played k below t n outputs before next fold more at is was same gathered
+turn_folded p vectors r finished_run k below t n outputs before next fold more at is was same gathered
     done added =
-    turn_written p vectors r played k below 0 t n outputs before next
+    turn_written p vectors r finished_run k below 0 t n outputs before next
     (λ text. fold ≡ fold_after nothing text) (λ text. more ≡ fold_after nothing text)
     at is was same gathered done
     (λ text folded. added

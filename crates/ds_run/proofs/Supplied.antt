@@ -12,12 +12,12 @@ use Rattle.ds_latch.specs.Order.{IsDataEdge, open_tokens}
 use Rattle.ds_latch.proofs.OrderTokens.{same_node}
 use Rattle.ds_latch.proofs.OrdersRise.{edge_nodes}
 use Rattle.ds_opening.specs.Packed.{packed}
-use Rattle.ds_opening.specs.Woven.{AreProducers, Turn, read_of, woven}
+use Rattle.ds_opening.specs.TurnOfOpenings.{AreProducers, Turn, read_of, woven}
 use Rattle.ds_rule.specs.Run.{Run}
 use Rattle.ds_rule.specs.Rows.{row, supply_but}
 use Rattle.ds_rule.specs.Sound.{edge_at}
-use Rattle.ds_rule.specs.declared.layout.DataEdge.{DataEdge}
-use Rattle.ds_run.specs.Layout.{AreDataEdges, Joins}
+use Rattle.ds_rule.specs.declared.table_run.DataEdge.{DataEdge}
+use Rattle.ds_run.specs.RunOfPlan.{AreDataEdges, Joins}
 
 -- the producers of the node with a number
 abbrev producers_in : List DataEdge → ℕ → List ℕ

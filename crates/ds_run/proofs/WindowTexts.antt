@@ -20,7 +20,7 @@ use Rattle.ds_clocked.proofs.OneMoreTurn.{whole_trace}
 use Rattle.ds_marked.specs.Log.{IsLog}
 use Rattle.ds_run.proofs.Logged.{legal_events}
 use Rattle.ds_run.specs.Logged.{HasLog, IsLogOf, IsLogText, IsLonger, Listed, PutsLog}
-use Rattle.ds_run.specs.Ended.{AreWindows, IsKnownLog, IsSomeLog, WrittenWindow}
+use Rattle.ds_run.specs.WindowedText.{AreWindows, IsKnownLog, IsSomeLog, WrittenWindow}
 use Rattle.ds_run.specs.Laws.{EndSpellsRun, LogsGoOn, WindowsSpellRun}
 
 -- a window behind another one is one window

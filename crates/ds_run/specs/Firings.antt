@@ -7,8 +7,8 @@ use Rattle.ds_latch.specs.Plan.{IsPlan, Planned}
 use Rattle.ds_rule.specs.Rule.{tickets}
 use Rattle.ds_fabric.specs.Showing.{IsFiredInOrder, Recorder}
 use Rattle.ds_runner.specs.Whole.{IsWhole}
-use Rattle.ds_run.specs.Layout.{IsRunOf}
-use Rattle.ds_run.specs.Played.{IsRecordOf}
+use Rattle.ds_run.specs.RunOfPlan.{IsRunOf}
+use Rattle.ds_run.specs.Finished.{IsRecordOf}
 
 -- the firings of a record, first one first, are a legal list of the plan's graph, and as many as
 -- the record counts

@@ -4,8 +4,8 @@ use Rattle.ds_base.specs.Values.{Row}
 use Rattle.ds_latch.specs.Plan.{IsPlan, Planned}
 use Rattle.ds_fabric.specs.Showing.{Recorder}
 use Rattle.ds_runner.specs.Stopped.{IsRunRecord}
-use Rattle.ds_run.specs.Layout.{IsRunOf}
-use Rattle.ds_run.specs.Played.{IsRecordOf}
+use Rattle.ds_run.specs.RunOfPlan.{IsRunOf}
+use Rattle.ds_run.specs.Finished.{IsRecordOf}
 
 -- how often the events of a plan fire in all, where each fires once a vector
 abbrev pub most_firings : Planned → List Row → ℕ

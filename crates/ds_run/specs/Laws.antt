@@ -9,13 +9,13 @@ use Rattle.ds_rule.specs.Run.{Run}
 use Rattle.ds_rule.specs.Sound.{IsSound}
 use Rattle.ds_rule.specs.Progress.{IsRunAccepted}
 use Rattle.ds_rule.specs.Laws.{IsGraphOfRun}
-use Rattle.ds_run.specs.Layout.{IsRunOf}
+use Rattle.ds_run.specs.RunOfPlan.{IsRunOf}
 use Rattle.std.specs.List.{flat_map}
 use Rattle.ds_design.specs.Trace.{AreLines}
 use Rattle.ds_marked.specs.Graph.{Graph, IsLive}
 use Rattle.ds_run.specs.RunText.{IsRunText}
 use Rattle.ds_run.specs.Logged.{IsLogOf, Listed, LogGrows}
-use Rattle.ds_run.specs.Ended.{AreWindows, IsRunEnd, WrittenWindow}
+use Rattle.ds_run.specs.WindowedText.{AreWindows, IsRunEnd, WrittenWindow}
 
 -- the numbers of a run of a plan: each vector has a value a column, and nothing is past its limit
 pub record IsRunWithin (p : Planned) (vectors : List Row) (run : Run) : Type 0 where
@@ -23,7 +23,7 @@ pub record IsRunWithin (p : Planned) (vectors : List Row) (run : Run) : Type 0 w
   pub few_vectors : length vectors ≤ 65536
   pub few_edges : 2 * nodes p.split + 2 * length run.edges ≤ 1048576
   pub low : p.split.slack ≤ 15
-  pub few_events : run.nodes + run.latches < 2 ^ 32
+  pub few_events : run.nodes + run.design_nodes < 2 ^ 32
   pub few_arcs : length p.graph.arcs < 2 ^ 32
 
 -- the run of a plan is sound

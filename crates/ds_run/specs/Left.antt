@@ -20,7 +20,7 @@ use Rattle.ds_rule.specs.Words.{width}
 use Rattle.ds_fabric.specs.Showing.{IsFiredInOrder, Recorder}
 use Rattle.ds_run.specs.Halted.{IsHalted, most_firings}
 use Rattle.ds_run.specs.Stored.{rows_told}
-use Rattle.ds_run.specs.Ended.{IsLogPart}
+use Rattle.ds_run.specs.WindowedText.{IsLogPart}
 use Rattle.ds_run.specs.Logged.{Listed}
 use Rattle.ds_clocked.specs.declared.run.SimFault.{SimFault}
 use Rattle.ds_clocked.specs.declared.run.SimFault.TheVariants.{Memory, Write}
@@ -47,7 +47,7 @@ pub record IsLeftOf (wanted : Bool) (stop jobs : ℕ) (p : Planned) (vectors : L
 
 -- each slave is a latch of the record, whose rows have a word for each 32 of its registers
 pub record HasWords (s : Split) (r : Recorder) : Type 0 where
-  pub near : (i : ℕ) → i < length s.clusters → number_of (Slave i) < r.shown.view.run.latches
+  pub near : (i : ℕ) → i < length s.clusters → number_of (Slave i) < r.shown.view.run.design_nodes
   pub wide : (i : ℕ) → i < length s.clusters
       → width r.shown.view.run (number_of (Slave i)) ≡ count_of_words (length (members s i))
 

@@ -1,20 +1,20 @@
 -- In the order in which to read.
-pub mod Layout
+pub mod RunOfPlan
 pub mod Tokened
 pub mod Openings
-pub mod Played
+pub mod Finished
 pub mod Halted
 pub mod Firings
 pub mod Windows
 pub mod Stored
 pub mod RunText
 pub mod Logged
-pub mod Ended
+pub mod WindowedText
 pub mod Laws
 pub mod Appends
 pub mod Stopped
-pub mod Latched
+pub mod LatchRows
 pub mod Left
-pub mod Line
+pub mod TraceRows
 pub mod Summed
 pub mod Refused

@@ -16,7 +16,7 @@ use Rattle.ds_opening.specs.Foreseen.{nets_in}
 use Rattle.ds_opening.specs.Noted.{AreConeGroups, slots_of}
 use Rattle.ds_rule.specs.Run.{Run}
 use Rattle.ds_rule.specs.Sound.{IsSound}
-use Rattle.ds_run.specs.Layout.{IsRunOf}
+use Rattle.ds_run.specs.RunOfPlan.{IsRunOf}
 
 -- what a clause sees: the run, what a scratch remembers of it, and how many groups there are, whose
 -- slots are the first

@@ -12,8 +12,8 @@ use Rattle.ds_rule.specs.Words.{node_values}
 use Rattle.ds_rule.specs.declared.view.View.{View}
 use Rattle.ds_fabric.specs.Base.{Base}
 use Rattle.ds_fabric.specs.Showing.{IsFabricBegun, IsFiredInOrder, Recorder, Showing}
-use Rattle.ds_run.specs.Layout.{IsRunOf}
-use Rattle.ds_run.specs.Played.{IsPlayed, IsRecordOf}
+use Rattle.ds_run.specs.RunOfPlan.{IsRunOf}
+use Rattle.ds_run.specs.Finished.{IsFinished, IsRecordOf}
 
 -- the rows that a latch has stored, one for each of its closings
 abbrev pub rows_stored : Recorder → ℕ → List Row
@@ -38,7 +38,7 @@ RecordsStoreAsFired = (p : Planned) (vectors : List Row) (r : Recorder) → IsRe
 
 -- so it does by the list of a run that went to its end
 abbrev pub StoresAsFired : Type 0
-StoresAsFired = (p : Planned) (vectors : List Row) (r : Recorder) → IsPlayed p vectors r
+StoresAsFired = (p : Planned) (vectors : List Row) (r : Recorder) → IsFinished p vectors r
     → (events : List ℕ) → IsFiredInOrder r.shown.view.run (tickets r.shown.view) events
     → (now : State) × IsRecorded p.split vectors r events now
 

@@ -1,7 +1,7 @@
 -- The data edges with their tokens.
 use Rattle.ds_latch.specs.declared.latches.Edge.{Edge}
 use Rattle.ds_control.specs.Orders.{tokens_after}
-use Rattle.ds_rule.specs.declared.layout.DataEdge.{DataEdge}
+use Rattle.ds_rule.specs.declared.table_run.DataEdge.{DataEdge}
 
 -- an edge with its tokens
 abbrev pub tokened : Edge → DataEdge

@@ -7,7 +7,7 @@ use Rattle.ds_latch.specs.Node.{begun}
 use Rattle.ds_latch.specs.Plan.{IsPlan, Planned}
 use Rattle.ds_rule.specs.Rule.{tickets}
 use Rattle.ds_fabric.specs.Showing.{IsFiredInOrder, Recorder}
-use Rattle.ds_run.specs.Played.{IsPlayed}
+use Rattle.ds_run.specs.Finished.{IsFinished}
 
 -- a plan, begun with these registers
 abbrev pub begun_plan : Planned → Row → Planned
@@ -23,7 +23,7 @@ pub record PlayedWindow : Type 0 where
 -- the plan, begun with the window's registers, was run on its vectors to the end, and these are
 -- the firings of that run, the first one first
 pub record IsPlayedWindow (p : Planned) (w : PlayedWindow) : Type 0 where
-  pub played : IsPlayed (begun_plan p w.start) w.vectors w.recorder
+  pub finished_run : IsFinished (begun_plan p w.start) w.vectors w.recorder
   pub fired : IsFiredInOrder w.recorder.shown.view.run (tickets w.recorder.shown.view) w.firings
 
 -- the firings of windows, one after another, are a legal list of the plan's graph that has each

@@ -2,7 +2,7 @@
 ghost use Rattle.std.specs.Prelude.{◌≡◌, ◌+◌, ◌*◌, ◌≤◌, length, map, IfOk, OnOk};
 ghost use Rattle.std.specs.List.Sorted.{IsNonDecreasingBy, IsPermutation};
 ghost use Rattle.ds_latch.specs.Node.{nodes};
-ghost use Rattle.ds_run.specs.Layout.{AreDataEdges};
+ghost use Rattle.ds_run.specs.RunOfPlan.{AreDataEdges};
 ghost use Rattle.ds_run.specs.Tokened.{tokened};
 
 use ds_base::OutOfMemory;

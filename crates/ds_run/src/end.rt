@@ -1,7 +1,7 @@
 //! The end of a run that was written window by window.
 ghost use Rattle.std.specs.Prelude.{◌≡◌, ℕ, List};
 ghost use Rattle.ds_outside.specs.Pen.{Puts};
-ghost use Rattle.ds_run.specs.Ended.{IsKnownLog, IsLogPart, IsSomeLog, WritesEnd};
+ghost use Rattle.ds_run.specs.WindowedText.{IsKnownLog, IsLogPart, IsSomeLog, WritesEnd};
 
 use crate::log::Log;
 use ds_base::Row3;

@@ -1,7 +1,7 @@
 //! The values that stand for a run before it has fired.
 use ds_design::Vectors;
 use ds_latch::Latches;
-use ds_rule::Rows;
+use ds_rule::RunValues;
 
 /// What stands for the values of the clocked run of a split design on vectors, for so many nodes.
 /// Contracts alone read these values.
@@ -14,7 +14,7 @@ pub struct Foreseen<'a, 'n> {
     pub count: usize,
 }
 
-impl<'a, 'n> Rows for Foreseen<'a, 'n> {
+impl<'a, 'n> RunValues for Foreseen<'a, 'n> {
     ghost use Rattle.ds_opening.specs.Foreseen.{foreseen_rows};
 
     ghost rows = { λ f. foreseen_rows f.latches.now f.count f.order.now f.vectors.now.rows };

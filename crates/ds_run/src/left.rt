@@ -5,7 +5,7 @@ ghost use Rattle.ds_run.specs.Left.{IsLogLeft, IsLeftOf};
 
 use crate::halt::Halt;
 use crate::log::Log;
-use crate::{Workers, run_to};
+use crate::{WorkerSettings, run_to};
 use ds_base::OutOfMemory;
 use ds_fabric::Record;
 use ds_latch::Plan;
@@ -26,7 +26,7 @@ impl Left {
     /// Runs until it is to stop.
     pub fn of<R: AllocGlobal + Threads + Sync, G: Gate>(
         halt: &Halt<'_, '_>,
-        workers: &Workers<'_, R, G>,
+        workers: &WorkerSettings<'_, R, G>,
         log: bool,
     ) -> Result<Self, OutOfMemory>
         requires width { halt.now.vectors.now.width
@@ -53,7 +53,7 @@ fn wanted_log(
     ensures { IfOk result (IsLogLeft wanted plan.now.graph fired.now) }
 {
     if wanted {
-        Ok(Some(Log::fired(alloc, plan, fired)?))
+        Ok(Some(Log::of_record(alloc, plan, fired)?))
     } else {
         Ok(None)
     }

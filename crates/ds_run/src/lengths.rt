@@ -1,7 +1,7 @@
 //! How many values the rows of the nodes have.
 ghost use Rattle.std.specs.Prelude.{◌≤◌, IfOk};
 ghost use Rattle.ds_latch.specs.Node.{nodes};
-ghost use Rattle.ds_run.specs.Layout.{AreLengths};
+ghost use Rattle.ds_run.specs.RunOfPlan.{AreLengths};
 
 use ds_base::OutOfMemory;
 use ds_latch::Latches;

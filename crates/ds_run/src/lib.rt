@@ -1,15 +1,15 @@
 //! The run of a plan on vectors, by workers on the shared table, with its trace and its log.
 //!
-//! `layout_of` lays a plan out as the rule of the table takes it: its nodes and arcs, the data
+//! `table_run_of` makes a plan a run that the rule of the table takes: its nodes and arcs, the data
 //! edges by consumer, the lengths of the rows, and the values of the clocked run, which no code
 //! knows before it has fired. What it gives is sound and accepted in the sense of the rule.
 //! `Openings` computes the row of an opening from the rows that it is handed, each behind the
-//! number of its producer, and from those that the scratch has learnt. `run` hires the workers, and
-//! its record tells of every node that it stored the rows of the clocked run, and that the firings
-//! by rising ticket are a legal list of the plan's graph with each event once a vector. So are the
-//! firings of windows, one after another (`laws`). `run_to` has each worker stop after so many
-//! firings: they are a legal list, and what is stored is what firing stores by that list. Nothing
-//! is promised of time, or of which worker fires what.
+//! number of its producer, and from those that the scratch has learnt. `run` has workers fire the
+//! events (`ds_runner::run`), and its record tells of every node that it stored the rows of the
+//! clocked run, and that the firings by rising ticket are a legal list of the plan's graph with
+//! each event once a vector. So are the firings of windows, one after another (`laws`). `run_to`
+//! has each worker stop after so many firings: they are a legal list, and what is stored is what
+//! firing stores by that list. Nothing is promised of time, or of which worker fires what.
 //!
 //! The trace and the log of a plan that workers have run. `write_window` runs a window of the
 //! vectors, from any registers and turn on, with so many workers, and writes the trace of what its
@@ -29,30 +29,30 @@ mod foreseen;
 mod halt;
 mod known;
 pub mod laws;
-mod layout;
 mod left;
 mod lengths;
-mod line;
 mod line_text;
 mod log;
 mod openings;
-mod play;
+mod run_plan;
 mod starts;
 mod stopped;
 mod stored;
 mod stored_turns;
 mod sums;
+mod table_run;
 mod trace;
+mod trace_rows;
 mod window;
 
-pub use ds_runner::Workers;
+pub use ds_runner::WorkerSettings;
 pub use end::end_run;
 pub use foreseen::Foreseen;
 pub use halt::Halt;
-pub use layout::layout_of;
 pub use log::Log;
 pub use openings::Openings;
-pub use play::{run, run_to};
+pub use run_plan::{run, run_to};
 pub use stopped::write_stopped;
 pub use sums::{Sums, sum_run};
+pub use table_run::table_run_of;
 pub use window::{RunWindow, write_window};

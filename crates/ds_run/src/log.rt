@@ -5,7 +5,7 @@ ghost use Rattle.std.specs.Prelude.{replicate};
 ghost use Rattle.ds_outside.specs.Pen.{Puts};
 ghost use Rattle.ds_run.specs.Left.{IsLogOfRecord};
 ghost use Rattle.ds_run.specs.Logged.{IsLogText, IsLonger, PutsLog};
-ghost use Rattle.ds_run.specs.Played.{IsPlayed};
+ghost use Rattle.ds_run.specs.Finished.{IsFinished};
 
 use crate::laws::firings_are_legal;
 use crate::window::RunWindow;
@@ -59,11 +59,15 @@ impl Log {
     }
 
     /// Of a record of firings.
-    pub(crate) fn fired(alloc: Global, plan: &Plan<'_>, fired: &Record) -> Result<Self, OutOfMemory>
-        ensures { IfOk result (IsLogOfRecord plan.now.graph fired.now) }
+    pub(crate) fn of_record(
+        alloc: Global,
+        plan: &Plan<'_>,
+        recorded: &Record,
+    ) -> Result<Self, OutOfMemory>
+        ensures { IfOk result (IsLogOfRecord plan.now.graph recorded.now) }
     {
         Ok(Log {
-            events: fired.firings(alloc)?,
+            events: recorded.firings(alloc)?,
             counts: Counts::zero(alloc, plan.graph().events().len())?,
         })
     }
@@ -73,15 +77,16 @@ impl Log {
         &mut self,
         alloc: Global,
         window: &RunWindow<'_, '_>,
-        fired: &Record,
+        recorded: &Record,
     ) -> Result<(), OutOfMemory>
-        requires played { IsPlayed window.now.plan.now window.now.vectors.now.rows fired.now }
+        requires finished_run { IsFinished window.now.plan.now window.now.vectors.now.rows
+            recorded.now }
         ensures ok { OnOk result (IsLonger window.now.plan.now.graph
             (length window.now.vectors.now.rows) self.old self.new) }
         ensures same { OnErr result (self.new ≡ self.old) }
     {
         firings_are_legal();
-        let fired = fired.firings(alloc)?;
+        let fired = recorded.firings(alloc)?;
         self.events.extend_from_slice(fired.as_slice())?;
         Ok(())
     }

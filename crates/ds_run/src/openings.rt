@@ -5,7 +5,7 @@ ghost use Rattle.ds_design.specs.InRange.{IsInRange};
 ghost use Rattle.ds_latch.specs.Plan.{IsSplit};
 ghost use Rattle.ds_opening.specs.Learnt.{is_learnt as row_is_learnt};
 ghost use Rattle.ds_opening.specs.Noted.{AreConeGroups};
-ghost use Rattle.ds_run.specs.Layout.{IsRunOf};
+ghost use Rattle.ds_run.specs.RunOfPlan.{IsRunOf};
 ghost use Rattle.ds_rule.specs.Sound.{IsSound};
 
 use crate::foreseen::Foreseen;
@@ -16,7 +16,7 @@ use ds_design::Vectors;
 use ds_fabric::Compute;
 use ds_latch::{Latches, Node, Plan};
 use ds_opening::{Opening, TableGroups, groups_of, is_learnt, open};
-use ds_rule::Layout;
+use ds_rule::TableRun;
 use ds_settle::Cone;
 use ds_split::cones_of;
 use std::alloc::{AllocError, Global};
@@ -25,7 +25,7 @@ use std::marker::Model;
 /// Computes the rows of a run from its plan: the groups of the tables that the nodes settle, and
 /// the rows that the slaves start with.
 pub struct Openings<'a, 'n> {
-    run: &'a Layout<Foreseen<'a, 'n>>,
+    run: &'a TableRun<Foreseen<'a, 'n>>,
     latches: &'a Latches<'n>,
     vectors: &'a Vectors,
     groups: TableGroups<'n>,
@@ -78,7 +78,7 @@ impl<'a, 'n> Openings<'a, 'n> {
         alloc: Global,
         plan: &'a Plan<'n>,
         vectors: &'a Vectors,
-        run: &'a Layout<Foreseen<'a, 'n>>,
+        run: &'a TableRun<Foreseen<'a, 'n>>,
     ) -> Result<Self, OutOfMemory>
         requires width { vectors.now.width ≡ length (columns plan.now.split.circuit) }
         requires run { IsRunOf plan.now vectors.now.rows run.now }

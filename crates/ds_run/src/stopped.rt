@@ -5,15 +5,15 @@ ghost use Rattle.ds_design.specs.Circuit.{columns};
 ghost use Rattle.ds_outside.specs.Fault.{Rose};
 ghost use Rattle.ds_outside.specs.Pen.{Puts};
 ghost use Rattle.ds_rows.specs.Homes.{AreHomes};
-ghost use Rattle.ds_run.specs.Ended.{IsKnownLog};
+ghost use Rattle.ds_run.specs.WindowedText.{IsKnownLog};
 ghost use Rattle.ds_run.specs.Left.{EndsLeft, HasWords, WritesLeft, home_line};
 ghost use Rattle.ds_run.specs.Stopped.{AppendsStopped, AppendsStoppedPart};
 
-use crate::Workers;
+use crate::WorkerSettings;
 use crate::end::put_log;
 use crate::halt::Halt;
 use crate::left::Left;
-use crate::stored::put_values;
+use crate::stored::put_stored_values;
 use ds_clocked::SimFault;
 use ds_latch::{Latches, Node};
 use ds_outside::{Buffered, Gate, Pen, Sink, WriteFault};
@@ -25,7 +25,7 @@ use std::thread::Threads;
 /// one is wanted. After `Memory` nothing is written, after `Write` a first part.
 pub fn write_stopped<R: AllocGlobal + Threads + Sync, G: Gate, O: Sink>(
     halt: &Halt<'_, '_>,
-    workers: &Workers<'_, R, G>,
+    workers: &WorkerSettings<'_, R, G>,
     log: bool,
     out: &mut O,
 ) -> Result<(), SimFault>
@@ -111,6 +111,6 @@ fn put_register<P: Pen>(latches: &Latches<'_>, left: &Left, r: usize, pen: &mut 
     let slave = Node::Slave(home.cluster as u32).latch();
     put_register_name(latches.netlist().design(), r, pen);
     pen.put(b": ");
-    put_values(&left.fired, slave, home.place, pen);
+    put_stored_values(&left.fired, slave, home.place, pen);
     pen.put(b"\n");
 }

@@ -7,7 +7,7 @@ ghost use Rattle.ds_rows.specs.Log.{at_place, value_words};
 ghost use Rattle.ds_rule.specs.Run.{closing};
 ghost use Rattle.ds_rule.specs.Rule.{tickets};
 ghost use Rattle.ds_rule.specs.Words.{width};
-ghost use Rattle.ds_run.specs.Latched.{rows_stored, word_values};
+ghost use Rattle.ds_run.specs.LatchRows.{rows_stored, word_values};
 
 use ds_base::LatchId;
 use ds_fabric::Record;
@@ -15,13 +15,13 @@ use ds_outside::Pen;
 use ds_rows::put_stored;
 
 /// Writes the value at a place of each row that a latch has stored; where there is no row, `-`.
-pub fn put_values<P: Pen>(fired: &Record, latch: LatchId, place: usize, pen: &mut P)
-    requires near { latch < fired.now.shown.view.run.latches }
-    requires inside { place < 32 * width fired.now.shown.view.run latch }
+pub fn put_stored_values<P: Pen>(recorded: &Record, latch: LatchId, place: usize, pen: &mut P)
+    requires near { latch < recorded.now.shown.view.run.design_nodes }
+    requires inside { place < 32 * width recorded.now.shown.view.run latch }
     ensures { Puts (P.writing pen.old) (P.writing pen.new)
-        (values_text (at_place place (rows_stored fired.now latch))) }
+        (values_text (at_place place (rows_stored recorded.now latch))) }
 {
-    let rows = fired.stored(latch);
+    let rows = recorded.stored(latch);
     if rows == 0 {
         pen.put(b"-");
         return;
@@ -30,25 +30,25 @@ pub fn put_values<P: Pen>(fired: &Record, latch: LatchId, place: usize, pen: &mu
     let mut done = 0;
     'writing: while done < rows {
         let count = (rows - done).min(64);
-        gather(&mut piece[..count], fired, latch, place / 32, done);
+        copy_stored(&mut piece[..count], recorded, latch, place / 32, done);
         put_stored(&piece[..count], 1, place % 32, pen);
         done += count;
     }
 }
 
 // Fills a piece with word i of each stored row, from a row on.
-fn gather(piece: &mut [u64], fired: &Record, latch: LatchId, i: usize, from: usize)
-    requires near { latch < fired.now.shown.view.run.latches }
-    requires inside { i < width fired.now.shown.view.run latch }
+fn copy_stored(piece: &mut [u64], recorded: &Record, latch: LatchId, i: usize, from: usize)
+    requires near { latch < recorded.now.shown.view.run.design_nodes }
+    requires inside { i < width recorded.now.shown.view.run latch }
     requires within { from + length piece.old
-        ≤ length (tickets fired.now.shown.view (closing latch)) }
+        ≤ length (tickets recorded.now.shown.view (closing latch)) }
     requires few { from + length piece.old < 18446744073709551616 }
     ensures same { length piece.new ≡ length piece.old }
     ensures value { piece.new ≡ value_words 1
-        (map (word_values fired.now.shown.view.run latch i)
+        (map (word_values recorded.now.shown.view.run latch i)
         (range_with_len (from + 1) (length piece.old))) }
 {
     for k in 0..piece.len() {
-        piece[k] = fired.word(latch, from + k, i);
+        piece[k] = recorded.word(latch, from + k, i);
     }
 }

@@ -6,6 +6,6 @@ use ds_latch::Plan;
 #[derive(Clone, Copy)]
 pub struct StoredTurns<'a, 'n> {
     pub plan: &'a Plan<'n>,
-    pub fired: &'a Record,
+    pub recorded: &'a Record,
     pub turns: usize,
 }

@@ -4,18 +4,18 @@ ghost use Rattle.ds_base.specs.Values.{Row};
 ghost use Rattle.ds_design.specs.Circuit.{columns, initial_row};
 ghost use Rattle.ds_design.specs.Trace.{trace_line as trace_text, end_line as end_text};
 ghost use Rattle.ds_demo.specs.Fold.{nothing, fold_after};
-ghost use Rattle.ds_run.specs.Line.{HasLine};
-ghost use Rattle.ds_run.specs.Played.{IsPlayedOn};
+ghost use Rattle.ds_run.specs.TraceRows.{HasLine};
+ghost use Rattle.ds_run.specs.Finished.{IsFinishedOn};
 ghost use Rattle.ds_run.specs.Summed.{IsSummed, IsSummedTo, ones_of};
 
-use crate::line::{Line, gather};
 use crate::line_text::LineText;
 use crate::stored_turns::StoredTurns;
-use crate::{Workers, run};
-use ds_base::{LatchId, OutOfMemory, Row3, Value};
+use crate::trace_rows::{TraceRows, copy_stored};
+use crate::{WorkerSettings, run};
+use ds_base::{OutOfMemory, Row3, Value};
 use ds_demo::Fold;
 use ds_design::Vectors;
-use ds_latch::Plan;
+use ds_latch::{Node, Plan};
 use ds_outside::Gate;
 use ds_rows::{end_line, trace_line};
 use std::alloc::Global;
@@ -34,7 +34,7 @@ pub struct Sums {
 pub fn sum_run<R: AllocGlobal + Threads + Sync, G: Gate>(
     plan: &Plan<'_>,
     vectors: &Vectors,
-    workers: &Workers<'_, R, G>,
+    workers: &WorkerSettings<'_, R, G>,
 ) -> Result<Sums, OutOfMemory>
     requires width { vectors.now.width ≡ length (columns plan.now.split.circuit) }
     requires start { plan.now.split.initial ≡ initial_row plan.now.split.circuit }
@@ -42,11 +42,11 @@ pub fn sum_run<R: AllocGlobal + Threads + Sync, G: Gate>(
     ensures { IfOk result (IsSummed plan.now vectors.now.rows) }
 {
     let alloc = workers.threads.alloc();
-    let mut line = Line::of(alloc, plan.latches())?;
-    let fired = run(plan, vectors, workers)?;
+    let mut line = TraceRows::of(alloc, plan.latches())?;
+    let recorded = run(plan, vectors, workers)?;
     let stored = StoredTurns {
         plan,
-        fired: &fired,
+        recorded: &recorded,
         turns: vectors.count(),
     };
     let mut fold = Fold::new();
@@ -63,25 +63,25 @@ pub fn sum_run<R: AllocGlobal + Threads + Sync, G: Gate>(
 fn sum_turns(
     alloc: Global,
     stored: &StoredTurns<'_, '_>,
-    line: &mut Line,
+    line: &mut TraceRows,
     fold: &mut Fold,
 ) -> Result<u64, OutOfMemory>
     requires stored { (vectors : List Row)
-        × IsPlayedOn stored.now.plan.now stored.now.turns stored.now.fired.now vectors }
+        × IsFinishedOn stored.now.plan.now stored.now.turns stored.now.recorded.now vectors }
     requires few { stored.now.turns < 2 ^ 32 }
     requires line { HasLine stored.now.plan.now.split line.old }
     requires registers { line.old.registers ≡ stored.now.plan.now.split.initial }
     requires fold { fold.old ≡ nothing }
     ensures { IfOk result (λ ones. (vectors : List Row)
-        → IsPlayedOn stored.now.plan.now stored.now.turns stored.now.fired.now vectors
+        → IsFinishedOn stored.now.plan.now stored.now.turns stored.now.recorded.now vectors
         → IsSummedTo stored.now.plan.now vectors ones line.new.registers fold.new) }
 {
     let mut ones = 0;
     for k in 0..stored.turns {
-        stored.fired.row(LatchId::new(1), k, &mut line.outputs);
+        stored.recorded.row(Node::Out.latch(), k, &mut line.outputs);
         ones += count_ones(&line.outputs);
         add_line(alloc, k as u64, line, fold)?;
-        gather(stored.plan.latches(), stored.fired, k, line);
+        copy_stored(stored.plan.latches(), stored.recorded, k, line);
     }
     Ok(ones)
 }
@@ -101,7 +101,7 @@ fn count_ones(row: &Row3) -> u64
 }
 
 // Adds the line of a turn.
-fn add_line(alloc: Global, turn: u64, line: &Line, fold: &mut Fold) -> Result<(), OutOfMemory>
+fn add_line(alloc: Global, turn: u64, line: &TraceRows, fold: &mut Fold) -> Result<(), OutOfMemory>
     ensures { OnOk result
         (fold.new ≡ fold_after fold.old (trace_text turn line.now.outputs line.now.registers)) }
 {

@@ -3,12 +3,12 @@
 ghost use Rattle.std.specs.Prelude.{◌≡◌, ◌+◌, ◌<◌, ◌^◌, List};
 ghost use Rattle.ds_base.specs.Values.{Row};
 ghost use Rattle.ds_clocked.specs.Appends.{PutsLines, WritesLines};
-ghost use Rattle.ds_run.specs.Line.{HasLine};
-ghost use Rattle.ds_run.specs.Played.{IsPlayedOn};
+ghost use Rattle.ds_run.specs.TraceRows.{HasLine};
+ghost use Rattle.ds_run.specs.Finished.{IsFinishedOn};
 
-use crate::line::{Line, gather};
 use crate::stored_turns::StoredTurns;
-use ds_base::LatchId;
+use crate::trace_rows::{TraceRows, copy_stored};
+use ds_latch::Node;
 use ds_outside::{Buffered, Pen, Sink, WriteFault};
 use ds_rows::put_trace_line;
 
@@ -17,16 +17,16 @@ use ds_rows::put_trace_line;
 pub fn write_turns<O: Sink>(
     stored: &StoredTurns<'_, '_>,
     first: u64,
-    line: &mut Line,
+    line: &mut TraceRows,
     out: &mut O,
 ) -> Result<(), WriteFault>
     requires stored { (vectors : List Row)
-        × IsPlayedOn stored.now.plan.now stored.now.turns stored.now.fired.now vectors }
+        × IsFinishedOn stored.now.plan.now stored.now.turns stored.now.recorded.now vectors }
     requires few { first + stored.now.turns < 2 ^ 64 }
     requires line { HasLine stored.now.plan.now.split line.old }
     requires registers { line.old.registers ≡ stored.now.plan.now.split.initial }
     ensures { (vectors : List Row)
-        → IsPlayedOn stored.now.plan.now stored.now.turns stored.now.fired.now vectors
+        → IsFinishedOn stored.now.plan.now stored.now.turns stored.now.recorded.now vectors
         → WritesLines result stored.now.plan.now.split.circuit first
         stored.now.plan.now.split.initial vectors line.new.registers
         (O.written out.old) (O.written out.new) (O.faults out.old) (O.faults out.new) }
@@ -37,21 +37,21 @@ pub fn write_turns<O: Sink>(
 }
 
 // The same by a pen.
-fn put_turns<P: Pen>(stored: &StoredTurns<'_, '_>, first: u64, line: &mut Line, pen: &mut P)
+fn put_turns<P: Pen>(stored: &StoredTurns<'_, '_>, first: u64, line: &mut TraceRows, pen: &mut P)
     requires stored { (vectors : List Row)
-        × IsPlayedOn stored.now.plan.now stored.now.turns stored.now.fired.now vectors }
+        × IsFinishedOn stored.now.plan.now stored.now.turns stored.now.recorded.now vectors }
     requires few { first + stored.now.turns < 2 ^ 64 }
     requires line { HasLine stored.now.plan.now.split line.old }
     requires registers { line.old.registers ≡ stored.now.plan.now.split.initial }
     ensures { (vectors : List Row)
-        → IsPlayedOn stored.now.plan.now stored.now.turns stored.now.fired.now vectors
+        → IsFinishedOn stored.now.plan.now stored.now.turns stored.now.recorded.now vectors
         → PutsLines (P.writing pen.old) (P.writing pen.new)
         stored.now.plan.now.split.circuit first stored.now.plan.now.split.initial
         vectors line.new.registers }
 {
     for k in 0..stored.turns {
-        stored.fired.row(LatchId::new(1), k, &mut line.outputs);
+        stored.recorded.row(Node::Out.latch(), k, &mut line.outputs);
         put_trace_line(first + k as u64, &line.outputs, &line.registers, pen);
-        gather(stored.plan.latches(), stored.fired, k, line);
+        copy_stored(stored.plan.latches(), stored.recorded, k, line);
     }
 }

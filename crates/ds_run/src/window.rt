@@ -5,15 +5,15 @@ ghost use Rattle.ds_design.specs.Circuit.{columns};
 ghost use Rattle.ds_outside.specs.Fault.{Rose};
 ghost use Rattle.ds_clocked.specs.Appends.{AppendsLines, AppendsLinesPart};
 ghost use Rattle.ds_run.specs.Appends.{EndsLines};
-ghost use Rattle.ds_run.specs.Line.{HasLine};
+ghost use Rattle.ds_run.specs.TraceRows.{HasLine};
 ghost use Rattle.ds_run.specs.Logged.{LogGrows};
-ghost use Rattle.ds_run.specs.Played.{IsPlayed};
+ghost use Rattle.ds_run.specs.Finished.{IsFinished};
 
-use crate::line::Line;
 use crate::log::Log;
 use crate::stored_turns::StoredTurns;
 use crate::trace::write_turns;
-use crate::{Workers, run};
+use crate::trace_rows::TraceRows;
+use crate::{WorkerSettings, run};
 use ds_base::{OutOfMemory, Row3};
 use ds_clocked::SimFault;
 use ds_design::Vectors;
@@ -37,7 +37,7 @@ pub struct RunWindow<'a, 'n> {
 /// after `Write` a first part of the lines is written and the log has the firings.
 pub fn write_window<R: AllocGlobal + Threads + Sync, G: Gate, O: Sink>(
     window: &RunWindow<'_, '_>,
-    workers: &Workers<'_, R, G>,
+    workers: &WorkerSettings<'_, R, G>,
     log: &mut Option<Log>,
     out: &mut O,
 ) -> Result<Row3, SimFault>
@@ -69,48 +69,49 @@ pub fn write_window<R: AllocGlobal + Threads + Sync, G: Gate, O: Sink>(
     ensures never_falls { O.faults out.old ≤ O.faults out.new }
     ensures cause { result ≡ Err SimFault.Write → Rose (O.faults out.old) (O.faults out.new) }
 {
-    let Ok(mut line) = Line::of(workers.threads.alloc(), window.plan.latches()) else {
+    let Ok(mut line) = TraceRows::of(workers.threads.alloc(), window.plan.latches()) else {
         return Err(SimFault::Memory);
     };
     if window.vectors.count() == 0 {
         return Ok(line.registers);
     }
-    let Ok(fired) = fire(window, workers, log) else {
+    let Ok(recorded) = fire_window(window, workers, log) else {
         return Err(SimFault::Memory);
     };
-    write_lines(window, &fired, line, out)
+    write_lines(window, &recorded, line, out)
 }
 
 // Runs a window to its end, and has the log take its firings.
-fn fire<R: AllocGlobal + Threads + Sync, G: Gate>(
+fn fire_window<R: AllocGlobal + Threads + Sync, G: Gate>(
     window: &RunWindow<'_, '_>,
-    workers: &Workers<'_, R, G>,
+    workers: &WorkerSettings<'_, R, G>,
     log: &mut Option<Log>,
 ) -> Result<Record, OutOfMemory>
     requires width { window.now.vectors.now.width
         ≡ length (columns window.now.plan.now.split.circuit) }
     requires jobs { (0 < workers.now.jobs) × (workers.now.jobs ≤ 64) }
-    ensures ok { IfOk result (IsPlayed window.now.plan.now window.now.vectors.now.rows) }
+    ensures ok { IfOk result (IsFinished window.now.plan.now window.now.vectors.now.rows) }
     ensures ok_log { OnOk result (LogGrows window.now.plan.now.graph
         (length window.now.vectors.now.rows) log.old log.new) }
     ensures same { OnErr result (log.new ≡ log.old) }
 {
-    let fired = run(window.plan, window.vectors, workers)?;
+    let recorded = run(window.plan, window.vectors, workers)?;
     match log {
-        Some(log) => log.take(workers.threads.alloc(), window, &fired)?,
+        Some(log) => log.take(workers.threads.alloc(), window, &recorded)?,
         None => {}
     }
-    Ok(fired)
+    Ok(recorded)
 }
 
 // Writes the lines of a window that was run, and gives the registers after it.
 fn write_lines<O: Sink>(
     window: &RunWindow<'_, '_>,
-    fired: &Record,
-    line: Line,
+    recorded: &Record,
+    line: TraceRows,
     out: &mut O,
 ) -> Result<Row3, SimFault>
-    requires played { IsPlayed window.now.plan.now window.now.vectors.now.rows fired.now }
+    requires finished_run { IsFinished window.now.plan.now window.now.vectors.now.rows
+        recorded.now }
     requires few { window.now.first + length window.now.vectors.now.rows < 2 ^ 64 }
     requires line { HasLine window.now.plan.now.split line }
     requires registers { line.registers ≡ window.now.plan.now.split.initial }
@@ -120,7 +121,7 @@ fn write_lines<O: Sink>(
     let mut line = line;
     let stored = StoredTurns {
         plan: window.plan,
-        fired,
+        recorded,
         turns: window.vectors.count(),
     };
     match write_turns(&stored, window.first, &mut line, out) {

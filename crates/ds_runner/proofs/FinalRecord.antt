@@ -9,7 +9,7 @@ use Rattle.ds_rule.specs.Log.{IsLegalList, InTurn, Recorded}
 use Rattle.ds_rule.specs.Rule.{holds, seen, tickets}
 use Rattle.ds_rule.specs.declared.view.View.{View}
 use Rattle.ds_rule.proofs.EventLaws.{node_below}
-use Rattle.ds_rule.proofs.LogCounts.{length-places, log_most}
+use Rattle.ds_rule.proofs.LogCounts.{length-tickets_in_log, log_most}
 use Rattle.ds_fabric.specs.Base.{Base}
 use Rattle.ds_fabric.specs.Showing.{Belongs, Recorder, Showing, IsCounted}
 use Rattle.ds_runner.specs.Work.{HasFrom, IsRest, Moved, quota_of, all_tickets, tickets_below}
@@ -33,13 +33,13 @@ whole run v r shown run-is recorded counted all done = record {
         own,
         done e near,
         ap length (recorded.all e near),
-        length-places e recorded.log,
+        length-tickets_in_log e recorded.log,
         times_most run e recorded.log recorded.legal,
       ));
 }
 
 -- the firings of a whole run
-whole-many : (run : Run) (r : Recorder) → run.latches ≤ run.nodes → IsWhole run r → all_firings run ≡ r.many
+whole-many : (run : Run) (r : Recorder) → run.design_nodes ≤ run.nodes → IsWhole run r → all_firings run ≡ r.many
 whole-many run r among w = let v : View = r.shown.view in
     sym (sum_all (λ e. length (tickets v e)) (events run) run.limit (λ e near. w.all e (node_below run e among near)))
     ∙ (ap (λ (x : Run). tickets_below v (events x)) (sym w.run_is) ∙ tickets-many run v r.many among w.run_is w.recorded)

@@ -2,7 +2,7 @@
 use Rattle.std.proofs.Common.{◌≡◌, ◌≢◌, ℕ, zero, suc, ◌+◌, ◌*◌, ◌<◌, ◌≤◌, sym, refl, ap, subst, arith, suc-mul}
 use mathlib.Core.Logic.{dite}
 use native.Mathlib.Decide.{ℕ_discrete}
-use Rattle.ds_runner.specs.Turns.{sum_below}
+use Rattle.ds_runner.specs.TurnstileRule.{sum_below}
 use Rattle.ds_runner.proofs.TurnstileRuleLemmas.{sum_same}
 
 pub sum-next : (f : ℕ → ℕ) (n : ℕ) → sum_below f (n + 1) ≡ sum_below f n + f n

@@ -5,7 +5,7 @@ use mathlib.Core.Logic.{dite}
 use native.Mathlib.Decide.{ℕ_discrete, dec_lt}
 use Rattle.ds_base.specs.Scratch.{Memory}
 use Rattle.ds_marked.specs.declared.marked.Arc.{Arc}
-use Rattle.ds_rule.specs.Run.{Run, node_of, next, turns, count, Enabled}
+use Rattle.ds_rule.specs.Run.{Run, node_of, next, turns, count, IsEnabledInRun}
 use Rattle.ds_rule.specs.Sound.{IsSound}
 use Rattle.ds_rule.specs.Rule.{holds, seen}
 use Rattle.ds_rule.specs.declared.view.View.{View}
@@ -37,7 +37,7 @@ unmoved m p = record {
 }
 
 -- an event that is there has a number below that of all events
-pub small : (run : Run) (e : ℕ) → IsSound run → node_of run e < run.nodes → e < run.nodes + run.latches
+pub small : (run : Run) (e : ℕ) → IsSound run → node_of run e < run.nodes → e < run.nodes + run.design_nodes
 small run e sound near = omega (arith, event_below run e sound.among near, events-is run)
 
 module _ (run : Run) (v : View) (order : List ℕ) (i turn : ℕ) (sound : IsSound run)
@@ -57,13 +57,13 @@ module _ (run : Run) (v : View) (order : List ℕ) (i turn : ℕ) (sound : IsSou
       ap (count run (seen v)) (sym s.1) ∙ at.waits (place e) high s.0
 
   -- the counts of both events of a latch tell which fires next
-  next_low : (e : ℕ) → e < 2 * run.latches → node_of run e < run.nodes → place e ≡ i
+  next_low : (e : ℕ) → e < 2 * run.design_nodes → node_of run e < run.nodes → place e ≡ i
       → next run (node_of run e) (seen v (node_of run e)) ≡ e
   next_low e low near here =
       let l : ℕ = node_of run e in let f : ℕ = seen v l in let is = node-low run e low in
-      let low-l : l < run.latches = omega (arith, is) in
-      let first-low : 2 * l < 2 * run.latches = omega arith in
-      let second-low : 2 * l + 1 < 2 * run.latches = omega arith in
+      let low-l : l < run.design_nodes = omega (arith, is) in
+      let first-low : 2 * l < 2 * run.design_nodes = omega arith in
+      let second-low : 2 * l + 1 < 2 * run.design_nodes = omega arith in
       let opens : node_of run (2 * l) ≡ l = omega (arith, node-low run (2 * l) first-low) in
       let closes : node_of run (2 * l + 1) ≡ l = omega (arith, node-low run (2 * l + 1) second-low) in
       let rise = o.close l low-l in let own = behind e near (omega (arith, here)) in
@@ -83,7 +83,7 @@ module _ (run : Run) (v : View) (order : List ℕ) (i turn : ℕ) (sound : IsSou
 
   next_here : (e : ℕ) → node_of run e < run.nodes → place e ≡ i
       → next run (node_of run e) (seen v (node_of run e)) ≡ e
-  next_here e near here = dite (dec_lt e (2 * run.latches)) (λ low. next_low e low near here)
+  next_here e near here = dite (dec_lt e (2 * run.design_nodes)) (λ low. next_low e low near here)
       (λ high. let l : ℕ = node_of run e in let is = node-high run e (omega arith) in
       next-high run l (seen v l) (omega (arith, is)) ∙ omega (arith, is))
 
@@ -163,9 +163,9 @@ next_of_due run v event node here due =
     subst (λ (l : ℕ). next run l (seen v l) ≡ event) (sym here) due.next_is
 
 pub enabled_of_due : (run : Run) (v : View) (event node : ℕ) → node ≡ node_of run event → IsDue run v event
-    → Enabled run (seen v) (next run node (seen v node))
+    → IsEnabledInRun run (seen v) (next run node (seen v node))
 enabled_of_due run v event node here due =
-    subst (Enabled run (seen v)) (sym (next_of_due run v event node here due)) due.enabled
+    subst (IsEnabledInRun run (seen v)) (sym (next_of_due run v event node here due)) due.enabled
 
 -- the next event of a node that fires is counted once more
 pub counted_once : (run : Run) (v w : View) (event node ticket : ℕ) → node ≡ node_of run event

@@ -15,7 +15,7 @@ use Rattle.ds_rule.proofs.GetElemLemmas.{at_end, replicate-default}
 use Rattle.ds_base.specs.Scratch.{Remembers}
 use Rattle.ds_fabric.specs.Base.{Base}
 use Rattle.ds_fabric.specs.Showing.{Showing, Belongs, IsDealt, IsLeft}
-use Rattle.ds_runner.specs.Turns.{Alone, HasNone, base, fabric_of, has_out, joined, keeps_parts, one_part, run_of}
+use Rattle.ds_runner.specs.TurnstileRule.{Alone, HasNone, base, fabric_of, has_out, joined, keeps_parts, one_part, run_of}
 use Rattle.ds_runner.specs.Shown.{AreAlone, IsTurnOf, IsTurnstileClosed, IsTurnstileOpened, Stile, Turned}
 use Rattle.ds_runner.specs.declared.turn_view.TurnView.{TurnView}
 use Rattle.ds_runner.specs.Work.{AreSingle, HasPassOfEach, HasFrom, IsWorkerPool, IsLent, IsUnfired, IsWithin, IsWorker, made_of}

@@ -12,10 +12,10 @@ use Rattle.atomic_table.proofs.Lists.{at_set, set_else, at_longer}
 use Rattle.ds_rule.specs.Rule.{seen}
 use Rattle.ds_rule.proofs.GetElemLemmas.{set_there, same_at, at_end, replicate-default, there_is}
 use Rattle.ds_runner.specs.declared.turn_view.TurnView.{TurnView}
-use Rattle.ds_runner.specs.declared.turning.Key.{Key}
+use Rattle.ds_runner.specs.declared.plays.Key.{Key}
 use Rattle.std.proofs.Common.{Some}
 use Rattle.ds_fabric.specs.Showing.{Showing}
-use Rattle.ds_runner.specs.Turns.{Slot, Alone, fabric, run, has_out, taken, nodes_of_key, Turning, TurnSeat, base, sum_below, observed_parts, keeps_parts, one_part, joined, spent_turn}
+use Rattle.ds_runner.specs.TurnstileRule.{Slot, Alone, fabric, run, has_out, taken, nodes_of_key, Turning, TurnSeat, base, sum_below, observed_parts, keeps_parts, one_part, joined, spent_turn}
 use Rattle.ds_runner.proofs.TurnstileRuleLemmas.{St, sum_changed, sum_same, unmoved, part, two_parts, word_home}
 use Rattle.ds_runner.proofs.TurnstileAtStart.{fires_of, fires-at, sum-fires}
 

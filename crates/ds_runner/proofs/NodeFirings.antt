@@ -11,7 +11,7 @@ use Rattle.ds_rule.proofs.EventLaws.{events-is, event_below, node-high, node-low
 use Rattle.ds_rule.proofs.GetElemLemmas.{get-listed}
 use Rattle.ds_fabric.specs.Base.{Base}
 use Rattle.ds_fabric.specs.Showing.{IsCounted, Showing}
-use Rattle.ds_runner.specs.Turns.{Alone, sum_below}
+use Rattle.ds_runner.specs.TurnstileRule.{Alone, sum_below}
 use Rattle.ds_runner.proofs.TurnstileRuleLemmas.{sum_same}
 use Rattle.ds_runner.specs.Work.{all_tickets, tickets_below}
 use Rattle.ds_runner.proofs.FiniteSums.{sum-next}
@@ -21,7 +21,7 @@ abbrev turns_of : Run → (ℕ → ℕ) → ℕ → ℕ
 turns_of run f e = turns run e (f (node_of run e))
 
 -- of the first latches, the firings of both events together are those of the node
-latch_events : (run : Run) (f : ℕ → ℕ) (n : ℕ) → n ≤ run.latches
+latch_events : (run : Run) (f : ℕ → ℕ) (n : ℕ) → n ≤ run.design_nodes
     → sum_below (turns_of run f) (2 * n) ≡ sum_below f n
 latch_events run f zero low = refl
 latch_events run f (suc n) low = let T : ℕ → ℕ = turns_of run f in
@@ -46,41 +46,41 @@ latch_events run f (suc n) low = let T : ℕ → ℕ = turns_of run f in
 
 -- and of those behind them
 more_events : (run : Run) (f : ℕ → ℕ) (n : ℕ)
-    → sum_below (turns_of run f) (2 * run.latches + n) ≡ sum_below f (run.latches + n)
-more_events run f zero = let twice : 2 * run.latches + 0 ≡ 2 * run.latches = omega arith in
-    let once : run.latches ≡ run.latches + 0 = omega arith in
+    → sum_below (turns_of run f) (2 * run.design_nodes + n) ≡ sum_below f (run.design_nodes + n)
+more_events run f zero = let twice : 2 * run.design_nodes + 0 ≡ 2 * run.design_nodes = omega arith in
+    let once : run.design_nodes ≡ run.design_nodes + 0 = omega arith in
     ap (sum_below (turns_of run f)) twice
-    ∙ (latch_events run f run.latches (omega arith) ∙ ap (sum_below f) once)
+    ∙ (latch_events run f run.design_nodes (omega arith) ∙ ap (sum_below f) once)
 more_events run f (suc n) = let T : ℕ → ℕ = turns_of run f in
-    let e : ℕ = 2 * run.latches + n in
-    let next : 2 * run.latches + suc n ≡ 2 * run.latches + n + 1 = omega arith in
-    let next' : run.latches + suc n ≡ run.latches + n + 1 = omega arith in
-    let here : node_of run (2 * run.latches + n) ≡ run.latches + n =
-    node-high run (2 * run.latches + n) (omega arith) ∙ omega arith in
-    let one : turns run (2 * run.latches + n) (f (node_of run (2 * run.latches + n)))
-    ≡ turns run (2 * run.latches + n) (f (run.latches + n)) =
-    ap (λ m. turns run (2 * run.latches + n) (f m)) here in
+    let e : ℕ = 2 * run.design_nodes + n in
+    let next : 2 * run.design_nodes + suc n ≡ 2 * run.design_nodes + n + 1 = omega arith in
+    let next' : run.design_nodes + suc n ≡ run.design_nodes + n + 1 = omega arith in
+    let here : node_of run (2 * run.design_nodes + n) ≡ run.design_nodes + n =
+    node-high run (2 * run.design_nodes + n) (omega arith) ∙ omega arith in
+    let one : turns run (2 * run.design_nodes + n) (f (node_of run (2 * run.design_nodes + n)))
+    ≡ turns run (2 * run.design_nodes + n) (f (run.design_nodes + n)) =
+    ap (λ m. turns run (2 * run.design_nodes + n) (f m)) here in
     omega (
       arith,
       ap (sum_below T) next,
       ap (sum_below f) next',
-      sum-next T (2 * run.latches + n),
-      sum-next f (run.latches + n),
+      sum-next T (2 * run.design_nodes + n),
+      sum-next f (run.design_nodes + n),
       one,
-      turns-high run (2 * run.latches + n) (f (run.latches + n)) (omega arith),
+      turns-high run (2 * run.design_nodes + n) (f (run.design_nodes + n)) (omega arith),
       more_events run f n,
     )
 
 -- the events of all nodes fire as often as the nodes
-pub events-nodes : (run : Run) (f : ℕ → ℕ) → run.latches ≤ run.nodes
+pub events-nodes : (run : Run) (f : ℕ → ℕ) → run.design_nodes ≤ run.nodes
     → sum_below (λ e. turns run e (f (node_of run e))) (events run) ≡ sum_below f run.nodes
-events-nodes run f among = let n : ℕ = run.nodes - run.latches in
-    let all : events run ≡ 2 * run.latches + n = omega (arith, events-is run) in
-    let nodes : run.latches + n ≡ run.nodes = omega arith in
+events-nodes run f among = let n : ℕ = run.nodes - run.design_nodes in
+    let all : events run ≡ 2 * run.design_nodes + n = omega (arith, events-is run) in
+    let nodes : run.design_nodes + n ≡ run.nodes = omega arith in
     ap (sum_below (turns_of run f)) all ∙ (more_events run f n ∙ ap (sum_below f) nodes)
 
 -- the tickets of a pass are the firings of the nodes, where this holds of each event
-pub tickets-nodes : (run : Run) (v : View) (f : ℕ → ℕ) → run.latches ≤ run.nodes → v.run ≡ run
+pub tickets-nodes : (run : Run) (v : View) (f : ℕ → ℕ) → run.design_nodes ≤ run.nodes → v.run ≡ run
     → ((e : ℕ) → node_of run e < run.nodes → length (tickets v e) ≡ turns run e (f (node_of run e)))
     → all_tickets v ≡ sum_below f run.nodes
 tickets-nodes run v f among is each = ap (λ (x : Run). tickets_below v (events x)) is
@@ -89,7 +89,7 @@ tickets-nodes run v f among is each = ap (λ (x : Run). tickets_below v (events 
     ∙ events-nodes run f among)
 
 -- a pass took in one that holds node n alone, which brings the tickets of its node
-pub taken_tickets : (b : Base) (v v' : View) (p : Showing) (n : ℕ) (f : ℕ → ℕ) → b.run.latches ≤ b.run.nodes → v.run ≡ b.run
+pub taken_tickets : (b : Base) (v v' : View) (p : Showing) (n : ℕ) (f : ℕ → ℕ) → b.run.design_nodes ≤ b.run.nodes → v.run ≡ b.run
     → v' ≡ taken_in v p.view → Alone b.table_id b.run n p → IsCounted p.view → f n ≡ seen p.view n
     → ((e : ℕ) → n + 1 ≤ node_of b.run e → node_of b.run e < b.run.nodes
     → length (tickets v e) ≡ turns b.run e (f (node_of b.run e)))

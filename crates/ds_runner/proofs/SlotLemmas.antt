@@ -2,7 +2,7 @@
 use Rattle.std.proofs.Common.{◌≡◌, ◌++◌, List, [], ◌∷◌, length, map, reverse, Some, None, refl, sym, ap, ◌∙◌, arith}
 use Rattle.std.proofs.lemmas.List.{append-nil, reverse-append}
 use Rattle.ds_fabric.specs.Showing.{Showing}
-use Rattle.ds_runner.specs.Turns.{Slot}
+use Rattle.ds_runner.specs.TurnstileRule.{Slot}
 
 -- the slot has a pass of which this holds
 abbrev pub InSlot : (Showing → Type 0) → Slot → Type 0

@@ -10,8 +10,8 @@ use Rattle.ds_rule.specs.Rule.{seen}
 use Rattle.ds_rule.proofs.GetElemLemmas.{there_is, replicate-default, only_item}
 use Rattle.ds_fabric.specs.Showing.{Showing}
 use Rattle.ds_runner.specs.declared.turn_view.TurnView.{TurnView}
-use Rattle.ds_runner.specs.declared.turning.Key.{Key}
-use Rattle.ds_runner.specs.Turns.{Alone, fabric, run, nodes_of_key, base, sum_below, has_out, Turning, first_turn}
+use Rattle.ds_runner.specs.declared.plays.Key.{Key}
+use Rattle.ds_runner.specs.TurnstileRule.{Alone, fabric, run, nodes_of_key, base, sum_below, has_out, Turning, first_turn}
 
 -- the firings of each pass of a list, whose first one holds the node b
 pub fires_of : List Showing → ℕ → ℕ → ℕ

@@ -16,8 +16,8 @@ use Rattle.ds_rule.specs.Rule.{seen}
 use Rattle.ds_rule.proofs.GetElemLemmas.{set_there, same_at, at_below, at_get}
 use Rattle.ds_fabric.specs.Showing.{Showing}
 use Rattle.ds_runner.specs.declared.turn_view.TurnView.{TurnView}
-use Rattle.ds_runner.specs.declared.turning.Key.{Key}
-use Rattle.ds_runner.specs.Turns.{Slot, Alone, fabric, run, sum_below, has_out, taken, nodes_of_key, Turning, TurnSeat, after_won_take, after_miss, after_give, took, rests_now, fetched, gave, spent_turn}
+use Rattle.ds_runner.specs.declared.plays.Key.{Key}
+use Rattle.ds_runner.specs.TurnstileRule.{Slot, Alone, fabric, run, sum_below, has_out, taken, nodes_of_key, Turning, TurnSeat, after_won_take, after_miss, after_give, took, rests_now, fetched, gave, spent_turn}
 
 abbrev pub St : Type 0
 St = State Slot TurnView

@@ -2,7 +2,7 @@
 use Rattle.std.proofs.Common.{◌≡◌, ℕ, ◌∙◌, sym, subst, false}
 use mathlib.Core.Logic.{dite}
 use native.Mathlib.Decide.{ℕ_discrete}
-use Rattle.ds_runner.specs.Turns.{HasNone, has_out}
+use Rattle.ds_runner.specs.TurnstileRule.{HasNone, has_out}
 use Rattle.ds_runner.specs.Shown.{TakesPass, GivesBack}
 use Rattle.ds_runner.specs.declared.turn_view.TurnView.{TurnView}
 

@@ -8,7 +8,7 @@ use Rattle.std.proofs.lemmas.Bool.{false≢true}
 use Rattle.std.proofs.Math.Bool.{or-true, true-or}
 use mathlib.Core.Logic.{dite}
 use native.Mathlib.Decide.{ℕ_discrete}
-use Rattle.ds_rule.specs.Run.{Run, events, node_of, next, turns, count, Enabled}
+use Rattle.ds_rule.specs.Run.{Run, events, node_of, next, turns, count, IsEnabledInRun}
 use Rattle.ds_rule.specs.Sound.{IsSound}
 use Rattle.ds_rule.specs.Progress.{IsRunAccepted, Stuck}
 use Rattle.ds_rule.specs.Rule.{holds, seen}
@@ -27,7 +27,7 @@ use Rattle.ds_fabric.specs.declared.step.Step.{Step}
 use Rattle.ds_fabric.specs.declared.step.Step.TheVariants.{Fired, NotYet, Done}
 use Rattle.ds_runner.specs.Work.{HasFrom, Moved}
 use Rattle.ds_runner.specs.Work.{left, Advances, AdvancesBelow}
-use Rattle.ds_runner.specs.Turns.{sum_below}
+use Rattle.ds_runner.specs.TurnstileRule.{sum_below}
 use Rattle.ds_runner.proofs.TurnstileRuleLemmas.{sum_same}
 
 pub moved_on : (o : Memory) (p q r : Showing) → Moved o p q → Moved o q r → Moved o p r
@@ -127,7 +127,7 @@ stuck_same : (run : Run) (f g : ℕ → ℕ) (l : ℕ) → IsSound run → ((x :
 stuck_same run f g l sound same near stuck on = let E : ℕ = next run l (f l) in
     stuck (enabled_same run g f E (sym (same (node_of run E) (omega (arith, node-next run l (f l)))))
     (λ k d inside into. sym (same (node_of run (get_or run.arcs k d).source) (sound.named k d inside).0))
-    (subst (λ (n : ℕ). Enabled run g (next run l n)) (sym (same l near)) on))
+    (subst (λ (n : ℕ). IsEnabledInRun run g (next run l n)) (sym (same l near)) on))
 
 abbrev Round : Run → View → ℕ → View → Bool → Type 0
 Round run v n w b = AdvancesBelow run v n w b × (left run w ≤ left run v)

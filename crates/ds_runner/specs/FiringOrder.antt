@@ -1,6 +1,6 @@
 -- An order in which all events of a turn may fire, one after another.
 use Rattle.std.specs.Prelude.{◌≡◌, ℕ, ◌+◌, ◌*◌, ◌<◌, ◌≤◌, List, length, slice_index, All}
-use Rattle.ds_rule.specs.Run.{Run, node_of, next, count, Enabled}
+use Rattle.ds_rule.specs.Run.{Run, node_of, next, count, IsEnabledInRun}
 use Rattle.ds_rule.specs.Rule.{seen}
 use Rattle.ds_rule.specs.declared.view.View.{View}
 
@@ -22,16 +22,16 @@ PlacesRise run places =
 
 -- each of so many latches opens before it closes
 abbrev pub CloseLater : ℕ → List ℕ → Type 0
-CloseLater latches places = (l : ℕ) → l < latches
+CloseLater design_nodes places = (l : ℕ) → l < design_nodes
     → slice_index places (2 * l) < slice_index places (2 * l + 1)
 
 -- the order has each event once, behind the sources of the arcs without tokens into it
 pub record IsFiringOrder (run : Run) (order : List ℕ) : Type 0 where
   pub places : List ℕ
   pub stand : StandInPlace run order places
-  pub all : HavePlaces (run.nodes + run.latches) order places
+  pub all : HavePlaces (run.nodes + run.design_nodes) order places
   pub rise : PlacesRise run places
-  pub close : CloseLater run.latches places
+  pub close : CloseLater run.design_nodes places
 
 -- the first i events of the order have fired once more than in so many turns, the others have not
 pub record StandsAt (run : Run) (v : View) (order : List ℕ) (i turn : ℕ) : Type 0 where
@@ -42,4 +42,4 @@ pub record StandsAt (run : Run) (v : View) (order : List ℕ) (i turn : ℕ) : T
 pub record IsDue (run : Run) (v : View) (event : ℕ) : Type 0 where
   pub near : node_of run event < run.nodes
   pub next_is : next run (node_of run event) (seen v (node_of run event)) ≡ event
-  pub enabled : Enabled run (seen v) event
+  pub enabled : IsEnabledInRun run (seen v) event

@@ -1,5 +1,5 @@
 -- In the order in which to read.
-pub mod Turns
+pub mod TurnstileRule
 pub mod Shown
 pub mod Whole
 pub mod Stopped

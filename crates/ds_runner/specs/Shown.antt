@@ -4,10 +4,11 @@ use mathlib.Core.Option.{some}
 use lib.ListN.{get_elem?}
 use Rattle.atomic_table.specs.Seated.{TableId}
 use Rattle.ds_fabric.specs.Showing.{Showing}
-use Rattle.ds_runner.specs.Turns.{TurnSeat, Alone, HasNone, has_out, taken, nodes_of_key, base}
-use Rattle.ds_runner.specs.Turns.{fabric_of, run_of}
+use Rattle.ds_runner.specs.TurnstileRule.{TurnSeat, Alone, HasNone, has_out, taken, nodes_of_key}
+use Rattle.ds_runner.specs.TurnstileRule.{base}
+use Rattle.ds_runner.specs.TurnstileRule.{fabric_of, run_of}
 use Rattle.ds_runner.specs.declared.turn_view.TurnView.{TurnView}
-use Rattle.ds_runner.specs.declared.turning.Key.{Key}
+use Rattle.ds_runner.specs.declared.plays.Key.{Key}
 
 -- a turnstile: its table, the passes that it was built with, and the number of turns
 pub record Stile : Type 0 where

@@ -10,7 +10,7 @@ use Rattle.ds_rule.specs.Progress.{Stuck}
 use Rattle.ds_rule.specs.declared.view.View.{View}
 use Rattle.ds_fabric.specs.Base.{Base}
 use Rattle.ds_fabric.specs.Showing.{Showing, Belongs}
-use Rattle.ds_runner.specs.Turns.{Alone, HasNone, fabric_of, run_of, base, sum_below}
+use Rattle.ds_runner.specs.TurnstileRule.{Alone, HasNone, fabric_of, run_of, base, sum_below}
 use Rattle.ds_runner.specs.Shown.{Stile, IsTurnOf}
 use Rattle.ds_runner.specs.declared.budget.Budget.{Budget}
 use Rattle.ds_runner.specs.declared.worker_pool.WorkerPool.{WorkerPool}

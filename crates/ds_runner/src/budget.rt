@@ -14,7 +14,7 @@ pub struct Budget {
 
 impl Budget {
     /// Takes off a take, and the firings of a visit.
-    pub fn take(&mut self, fired: u64)
+    pub fn spend(&mut self, fired: u64)
         requires takes { 0 < self.old.takes }
         requires firings { fired ≤ self.old.firings }
         ensures takes { self.new.takes < self.old.takes }

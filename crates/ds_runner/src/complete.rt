@@ -9,24 +9,24 @@ ghost use Rattle.ds_runner.specs.FiringOrder.{IsFiringOrder};
 ghost use Rattle.ds_runner.specs.Work.{HasFrom, Moved, Advances, AdvancesBelow, all_tickets};
 
 use crate::in_order::fire_turns;
-use crate::unit::unit;
+use crate::step_at_gate::step_at_gate;
 use crate::workload::Workload;
 use ds_base::EventId;
 use ds_fabric::{Compute, Pass, Step};
 use ds_outside::Gate;
-use ds_rule::Rows;
+use ds_rule::RunValues;
 
 /// The caller as one that fires: its number, and how often it may still fire.
 #[derive(Clone, Copy)]
 pub struct Caller {
     pub number: u32,
-    pub rest: u64,
+    pub quota_left: u64,
 }
 
 /// Fires each event as often as it may, with a pass that holds all nodes, until the caller has
 /// nothing left: in this order, where there is one, and what that leaves by rounds.
-pub fn complete<J: Rows, C: Compute, G: Gate>(
-    workload: &Workload<'_, '_, J, C, G>,
+pub fn complete<V: RunValues, C: Compute, G: Gate>(
+    workload: &Workload<'_, '_, V, C, G>,
     pass: &mut Pass,
     order: &[EventId],
     caller: Caller,
@@ -36,8 +36,8 @@ pub fn complete<J: Rows, C: Compute, G: Gate>(
     requires all { HasFrom pass.old.view 0 }
     requires order { 0 < length order.now → IsFiringOrder workload.now.run order.now }
     ensures moved { Moved workload.now.memory pass.old pass.new }
-    ensures most { all_tickets pass.new.view ≤ all_tickets pass.old.view + caller.rest }
-    ensures done { all_tickets pass.new.view < all_tickets pass.old.view + caller.rest
+    ensures most { all_tickets pass.new.view ≤ all_tickets pass.old.view + caller.quota_left }
+    ensures done { all_tickets pass.new.view < all_tickets pass.old.view + caller.quota_left
         → (e : ℕ) → node_of workload.now.run e < workload.now.run.nodes
         → workload.now.run.limit ≤ count workload.now.run (seen pass.new.view) e }
 {
@@ -47,8 +47,8 @@ pub fn complete<J: Rows, C: Compute, G: Gate>(
 }
 
 // The same by rounds over all nodes.
-fn fire_rounds<J: Rows, C: Compute, G: Gate>(
-    workload: &Workload<'_, '_, J, C, G>,
+fn fire_rounds<V: RunValues, C: Compute, G: Gate>(
+    workload: &Workload<'_, '_, V, C, G>,
     pass: &mut Pass,
     caller: Caller,
 )
@@ -56,13 +56,13 @@ fn fire_rounds<J: Rows, C: Compute, G: Gate>(
     requires fits { Belongs workload.now pass.old }
     requires all { HasFrom pass.old.view 0 }
     ensures moved { Moved workload.now.memory pass.old pass.new }
-    ensures most { all_tickets pass.new.view ≤ all_tickets pass.old.view + caller.rest }
-    ensures done { all_tickets pass.new.view < all_tickets pass.old.view + caller.rest
+    ensures most { all_tickets pass.new.view ≤ all_tickets pass.old.view + caller.quota_left }
+    ensures done { all_tickets pass.new.view < all_tickets pass.old.view + caller.quota_left
         → (e : ℕ) → node_of workload.now.run e < workload.now.run.nodes
         → workload.now.run.limit ≤ count workload.now.run (seen pass.new.view) e }
 {
     let mut own = caller;
-    'rounds: while own.rest > 0 {
+    'rounds: while own.quota_left > 0 {
         let busy = go_round(workload, pass, &mut own);
         if !busy {
             return;
@@ -72,25 +72,25 @@ fn fire_rounds<J: Rows, C: Compute, G: Gate>(
 
 // Steps each node, until the caller has nothing left. False: nothing fired, and every node is
 // stuck.
-fn go_round<J: Rows, C: Compute, G: Gate>(
-    workload: &Workload<'_, '_, J, C, G>,
+fn go_round<V: RunValues, C: Compute, G: Gate>(
+    workload: &Workload<'_, '_, V, C, G>,
     pass: &mut Pass,
     caller: &mut Caller,
 ) -> bool
     requires sound { IsSound workload.now.run }
     requires fits { Belongs workload.now pass.old }
     requires all { HasFrom pass.old.view 0 }
-    requires rest { 0 < caller.old.rest }
+    requires quota_left { 0 < caller.old.quota_left }
     ensures moved { Moved workload.now.memory pass.old pass.new }
     ensures told { AdvancesBelow workload.now.run pass.old.view workload.now.run.nodes
         pass.new.view result }
-    ensures fired { all_tickets pass.new.view + caller.new.rest
-        ≡ all_tickets pass.old.view + caller.old.rest }
+    ensures fired { all_tickets pass.new.view + caller.new.quota_left
+        ≡ all_tickets pass.old.view + caller.old.quota_left }
 {
     let mut busy = false;
     'nodes: for node in 0..workload.run.nodes() {
-        if advance_twice(workload, pass, caller, node) {
-            if caller.rest == 0 {
+        if fire_twice(workload, pass, caller, node) {
+            if caller.quota_left == 0 {
                 return true;
             }
             busy = true;
@@ -101,8 +101,8 @@ fn go_round<J: Rows, C: Compute, G: Gate>(
 
 // Steps a node, and once more where it fired and the caller has something left: behind an opening
 // the closing of the same node is mostly due. False: it is stuck.
-fn advance_twice<J: Rows, C: Compute, G: Gate>(
-    workload: &Workload<'_, '_, J, C, G>,
+fn fire_twice<V: RunValues, C: Compute, G: Gate>(
+    workload: &Workload<'_, '_, V, C, G>,
     pass: &mut Pass,
     caller: &mut Caller,
     node: usize,
@@ -110,26 +110,26 @@ fn advance_twice<J: Rows, C: Compute, G: Gate>(
     requires sound { IsSound workload.now.run }
     requires fits { Belongs workload.now pass.old }
     requires all { HasFrom pass.old.view 0 × (node < workload.now.run.nodes) }
-    requires rest { 0 < caller.old.rest }
+    requires quota_left { 0 < caller.old.quota_left }
     ensures moved { Moved workload.now.memory pass.old pass.new }
     ensures told { Advances workload.now.run pass.old.view node pass.new.view result }
-    ensures fired { all_tickets pass.new.view + caller.new.rest
-        ≡ all_tickets pass.old.view + caller.old.rest }
-    ensures stuck { result ≡ false → 0 < caller.new.rest }
+    ensures fired { all_tickets pass.new.view + caller.new.quota_left
+        ≡ all_tickets pass.old.view + caller.old.quota_left }
+    ensures stuck { result ≡ false → 0 < caller.new.quota_left }
 {
-    if !advance(workload, pass, caller.number, node) {
+    if !fire_next(workload, pass, caller.number, node) {
         return false;
     }
-    caller.rest -= 1;
-    if caller.rest > 0 && advance(workload, pass, caller.number, node) {
-        caller.rest -= 1;
+    caller.quota_left -= 1;
+    if caller.quota_left > 0 && fire_next(workload, pass, caller.number, node) {
+        caller.quota_left -= 1;
     }
     true
 }
 
 // Steps a node. False: it is stuck.
-fn advance<J: Rows, C: Compute, G: Gate>(
-    workload: &Workload<'_, '_, J, C, G>,
+fn fire_next<V: RunValues, C: Compute, G: Gate>(
+    workload: &Workload<'_, '_, V, C, G>,
     pass: &mut Pass,
     number: u32,
     node: usize,
@@ -141,7 +141,7 @@ fn advance<J: Rows, C: Compute, G: Gate>(
     ensures told { Advances workload.now.run pass.old.view node pass.new.view result }
     ensures fired { all_tickets pass.new.view ≡ all_tickets pass.old.view + cond result 1 0 }
 {
-    match unit(workload, pass, number, node) {
+    match step_at_gate(workload, pass, number, node) {
         Step::Fired { .. } => true,
         Step::NotYet { .. } => false,
         Step::Done => false,

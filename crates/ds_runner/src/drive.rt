@@ -13,12 +13,12 @@ use crate::worker::Worker;
 use crate::workload::Workload;
 use ds_fabric::Compute;
 use ds_outside::Gate;
-use ds_rule::Rows;
+use ds_rule::RunValues;
 use std::thread;
 
 /// Visits one node after another, within the budget.
-pub fn drive<J: Rows, C: Compute, G: Gate>(
-    workload: &Workload<'_, '_, J, C, G>,
+pub fn drive<V: RunValues, C: Compute, G: Gate>(
+    workload: &Workload<'_, '_, V, C, G>,
     scheduler: &Scheduler,
     worker: &mut Worker,
     budget: Budget,
@@ -30,7 +30,7 @@ pub fn drive<J: Rows, C: Compute, G: Gate>(
     let mut left = budget;
     'visits: while left.takes > 0 && left.firings > 0 {
         if let Some(fired) = visit_next(workload, scheduler, worker, left.firings) {
-            left.take(fired);
+            left.spend(fired);
         } else if !wait(workload, worker, &mut left) {
             return;
         }
@@ -38,8 +38,8 @@ pub fn drive<J: Rows, C: Compute, G: Gate>(
 }
 
 // Visits the next node that seems due, and says how often it fired. None: no node seems due.
-fn visit_next<J: Rows, C: Compute, G: Gate>(
-    workload: &Workload<'_, '_, J, C, G>,
+fn visit_next<V: RunValues, C: Compute, G: Gate>(
+    workload: &Workload<'_, '_, V, C, G>,
     scheduler: &Scheduler,
     worker: &mut Worker,
     most: u64,
@@ -61,8 +61,8 @@ fn visit_next<J: Rows, C: Compute, G: Gate>(
 }
 
 // Tells of the nodes that seem due behind each event that fired.
-fn tell_all<J: Rows, C: Compute, G: Gate>(
-    workload: &Workload<'_, '_, J, C, G>,
+fn tell_all<V: RunValues, C: Compute, G: Gate>(
+    workload: &Workload<'_, '_, V, C, G>,
     scheduler: &Scheduler,
     search_path: &mut SearchPath,
     fired: Fired,
@@ -79,8 +79,8 @@ fn tell_all<J: Rows, C: Compute, G: Gate>(
 
 // Lets others go first after a look at all nodes without a take: who has what it waits for may want
 // its processor. False: the worker ends.
-fn wait<J: Rows, C: Compute, G: Gate>(
-    workload: &Workload<'_, '_, J, C, G>,
+fn wait<V: RunValues, C: Compute, G: Gate>(
+    workload: &Workload<'_, '_, V, C, G>,
     worker: &Worker,
     left: &mut Budget,
 ) -> bool

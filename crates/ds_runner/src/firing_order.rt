@@ -9,13 +9,16 @@ ghost use Rattle.ds_runner.specs.FiringOrder.{StandInPlace};
 use crate::targets::arcs_from;
 use ds_base::{EventId, OutOfMemory};
 use ds_marked::Arc;
-use ds_rule::{Layout, Rows};
+use ds_rule::{RunValues, TableRun};
 use std::alloc::Global;
 
-/// All events, each behind the sources of the arcs without tokens into it. Of an event that fires
-/// the node's next one follows at once, where no other stands before it. None, where no such order
-/// was found.
-pub fn firing_order<J: Rows>(alloc: Global, run: &Layout<J>) -> Result<Vec<EventId>, OutOfMemory>
+/// All events, each behind the sources of the arcs without tokens into it. Behind an event its
+/// node's next event comes at once, if nothing else has to come first. None, if no such order was
+/// found.
+pub fn firing_order<V: RunValues>(
+    alloc: Global,
+    run: &TableRun<V>,
+) -> Result<Vec<EventId>, OutOfMemory>
     requires { IsSound run.now }
     ensures { IfOk result (λ v. 0 < length v.items → IsFiringOrder run.now v.items) }
 {
@@ -29,7 +32,7 @@ pub fn firing_order<J: Rows>(alloc: Global, run: &Layout<J>) -> Result<Vec<Event
 }
 
 // Whether this is an order, and these are the places of the events in it.
-fn is_order<J: Rows>(run: &Layout<J>, order: &[EventId], places: &[usize]) -> bool
+fn is_order<V: RunValues>(run: &TableRun<V>, order: &[EventId], places: &[usize]) -> bool
     requires { IsSound run.now }
     ensures { IsTrue result → IsFiringOrder run.now order.now }
 {
@@ -46,7 +49,7 @@ fn is_order<J: Rows>(run: &Layout<J>, order: &[EventId], places: &[usize]) -> bo
 }
 
 // Whether each event of the order is one of the run and stands at its place.
-fn stand_in_place<J: Rows>(run: &Layout<J>, order: &[EventId], places: &[usize]) -> bool
+fn stand_in_place<V: RunValues>(run: &TableRun<V>, order: &[EventId], places: &[usize]) -> bool
     requires { IsSound run.now }
     ensures { IsTrue result → StandInPlace run.now order.now places.now }
 {
@@ -59,7 +62,12 @@ fn stand_in_place<J: Rows>(run: &Layout<J>, order: &[EventId], places: &[usize])
 }
 
 // Whether the event is one of the run, and its place is this one.
-fn stands_at<J: Rows>(run: &Layout<J>, places: &[usize], event: EventId, place: usize) -> bool
+fn stands_at<V: RunValues>(
+    run: &TableRun<V>,
+    places: &[usize],
+    event: EventId,
+    place: usize,
+) -> bool
     requires { IsSound run.now }
     ensures { IsTrue result → (node_of run.now event < run.now.nodes)
         × (slice_index places.now event ≡ place) }
@@ -72,12 +80,12 @@ fn stands_at<J: Rows>(run: &Layout<J>, places: &[usize], event: EventId, place: 
 }
 
 // Whether each event has a place, at which it stands.
-fn have_places<J: Rows>(run: &Layout<J>, order: &[EventId], places: &[usize]) -> bool
+fn have_places<V: RunValues>(run: &TableRun<V>, order: &[EventId], places: &[usize]) -> bool
     requires { IsSound run.now }
     ensures { IsTrue result
-        → HavePlaces (run.now.nodes + run.now.latches) order.now places.now }
+        → HavePlaces (run.now.nodes + run.now.design_nodes) order.now places.now }
 {
-    for event in 0..run.nodes() + run.latches() {
+    for event in 0..run.nodes() + run.design_nodes() {
         if !has_place(order, places, event) {
             return false;
         }
@@ -97,7 +105,7 @@ fn has_place(order: &[EventId], places: &[usize], event: usize) -> bool
 }
 
 // Whether the places rise along each arc without tokens.
-fn rise<J: Rows>(run: &Layout<J>, places: &[usize]) -> bool
+fn rise<V: RunValues>(run: &TableRun<V>, places: &[usize]) -> bool
     ensures { IsTrue result → PlacesRise run.now places.now }
 {
     let arcs = run.arcs();
@@ -118,11 +126,11 @@ fn rises(places: &[usize], arc: Arc) -> bool
 }
 
 // Whether each latch opens before it closes.
-fn close_later<J: Rows>(run: &Layout<J>, places: &[usize]) -> bool
+fn close_later<V: RunValues>(run: &TableRun<V>, places: &[usize]) -> bool
     requires { IsSound run.now }
-    ensures { IsTrue result → CloseLater run.now.latches places.now }
+    ensures { IsTrue result → CloseLater run.now.design_nodes places.now }
 {
-    for latch in 0..run.latches() {
+    for latch in 0..run.design_nodes() {
         if !is_before(places, 2 * latch, 2 * latch + 1) {
             return false;
         }
@@ -141,14 +149,14 @@ fn is_before(places: &[usize], event: usize, other: usize) -> bool
 }
 
 // The place of each event in the order, or 0.
-fn places_of<J: Rows>(
+fn places_of<V: RunValues>(
     alloc: Global,
-    run: &Layout<J>,
+    run: &TableRun<V>,
     order: &[EventId],
 ) -> Result<Vec<usize>, OutOfMemory>
     requires { IsSound run.now }
 {
-    let mut places = vec![in alloc; 0usize; run.nodes() + run.latches()]?;
+    let mut places = vec![in alloc; 0usize; run.nodes() + run.design_nodes()]?;
     for i in 0..order.len() {
         let event = order[i].index();
         if event < places.len() {
@@ -159,7 +167,7 @@ fn places_of<J: Rows>(
 }
 
 // The events, each taken once all before it are: the one that became free last first.
-fn sorted<J: Rows>(alloc: Global, run: &Layout<J>) -> Result<Vec<EventId>, OutOfMemory>
+fn sorted<V: RunValues>(alloc: Global, run: &TableRun<V>) -> Result<Vec<EventId>, OutOfMemory>
     requires { IsSound run.now }
 {
     let firsts = arcs_from(alloc, run)?;
@@ -177,10 +185,10 @@ fn sorted<J: Rows>(alloc: Global, run: &Layout<J>) -> Result<Vec<EventId>, OutOf
 }
 
 // How many arcs without tokens enter each event.
-fn waits_of<J: Rows>(alloc: Global, run: &Layout<J>) -> Result<Vec<u32>, OutOfMemory>
+fn waits_of<V: RunValues>(alloc: Global, run: &TableRun<V>) -> Result<Vec<u32>, OutOfMemory>
     requires { IsSound run.now }
 {
-    let mut waits = vec![in alloc; 0u32; run.nodes() + run.latches()]?;
+    let mut waits = vec![in alloc; 0u32; run.nodes() + run.design_nodes()]?;
     let arcs = run.arcs();
     for i in 0..arcs.len() {
         let target = arcs[i].target.index();
@@ -192,15 +200,15 @@ fn waits_of<J: Rows>(alloc: Global, run: &Layout<J>) -> Result<Vec<u32>, OutOfMe
 }
 
 // The events that wait for none, the last one first.
-fn free_of<J: Rows>(
+fn free_of<V: RunValues>(
     alloc: Global,
-    run: &Layout<J>,
+    run: &TableRun<V>,
     waits: &[u32],
 ) -> Result<Vec<EventId>, OutOfMemory>
     requires { IsSound run.now }
 {
     let mut free = Vec::new(alloc);
-    let events = run.nodes() + run.latches();
+    let events = run.nodes() + run.design_nodes();
     for i in 0..events {
         let event = events - 1 - i;
         if event < waits.len() && waits[event] == 0 {
@@ -211,8 +219,8 @@ fn free_of<J: Rows>(
 }
 
 // The event is taken: what waited for it alone is free.
-fn release<J: Rows>(
-    run: &Layout<J>,
+fn release<V: RunValues>(
+    run: &TableRun<V>,
     firsts: &Vec<usize>,
     event: EventId,
     waits: &mut [u32],

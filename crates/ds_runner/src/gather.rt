@@ -2,7 +2,7 @@
 //! takes the passes in.
 ghost use Rattle.std.specs.Prelude.{◌≡◌, ◌<◌, ◌≤◌, ◌+◌, All, length, sum_by};
 ghost use Rattle.ds_fabric.specs.Showing.{Belongs};
-ghost use Rattle.ds_runner.specs.Turns.{HasNone, base};
+ghost use Rattle.ds_runner.specs.TurnstileRule.{HasNone, base};
 ghost use Rattle.ds_runner.specs.Shown.{IsTurnOf};
 ghost use Rattle.ds_runner.specs.Work.{HasBetween, AreSingle, IsWorkerPool, made_of, all_tickets};
 
@@ -14,11 +14,11 @@ use crate::{Turn, Turnstile};
 use ds_base::LatchId;
 use ds_fabric::{Compute, Pass};
 use ds_outside::Gate;
-use ds_rule::Rows;
+use ds_rule::RunValues;
 
 /// Takes the passes of all nodes in, of workers who are back.
-pub fn gather<J: Rows, C: Compute, G: Gate>(
-    workload: &Workload<'_, '_, J, C, G>,
+pub fn gather<V: RunValues, C: Compute, G: Gate>(
+    workload: &Workload<'_, '_, V, C, G>,
     pass: &mut Pass,
     pool: WorkerPool,
 )
@@ -70,8 +70,8 @@ fn join_all(stile: &Turnstile, turn: &mut Turn, mut workers: Vec<Worker>)
 }
 
 // The pass takes in those of all nodes.
-fn gather_all<J: Rows, C: Compute, G: Gate>(
-    workload: &Workload<'_, '_, J, C, G>,
+fn gather_all<V: RunValues, C: Compute, G: Gate>(
+    workload: &Workload<'_, '_, V, C, G>,
     pass: &mut Pass,
     mut passes: Vec<Pass>,
 )

@@ -14,12 +14,12 @@ use crate::workload::Workload;
 use ds_base::{EventId, LatchId};
 use ds_fabric::{Compute, Pass};
 use ds_outside::Gate;
-use ds_rule::{Layout, Rows};
+use ds_rule::{RunValues, TableRun};
 
 /// Fires turn after turn in this order, until all is done or the caller has nothing left. Where
 /// there is no order, or something has fired before, it fires nothing.
-pub fn fire_turns<J: Rows, C: Compute, G: Gate>(
-    workload: &Workload<'_, '_, J, C, G>,
+pub fn fire_turns<V: RunValues, C: Compute, G: Gate>(
+    workload: &Workload<'_, '_, V, C, G>,
     pass: &mut Pass,
     order: &[EventId],
     caller: &mut Caller,
@@ -29,8 +29,8 @@ pub fn fire_turns<J: Rows, C: Compute, G: Gate>(
     requires all { HasFrom pass.old.view 0 }
     requires order { 0 < length order.now → IsFiringOrder workload.now.run order.now }
     ensures moved { Moved workload.now.memory pass.old pass.new }
-    ensures fired { all_tickets pass.new.view + caller.new.rest
-        ≡ all_tickets pass.old.view + caller.old.rest }
+    ensures fired { all_tickets pass.new.view + caller.new.quota_left
+        ≡ all_tickets pass.old.view + caller.old.quota_left }
 {
     if order.len() == 0 {
         return;
@@ -46,7 +46,7 @@ pub fn fire_turns<J: Rows, C: Compute, G: Gate>(
 }
 
 // Whether no node has fired.
-fn is_unfired<J: Rows>(run: &Layout<J>, pass: &Pass) -> bool
+fn is_unfired<V: RunValues>(run: &TableRun<V>, pass: &Pass) -> bool
     requires run { (pass.now.view.run ≡ run.now) × IsSound run.now }
     requires all { HasFrom pass.now.view 0 }
     ensures { IsTrue result → (l : ℕ) → l < run.now.nodes → seen pass.now.view l ≡ 0 }
@@ -61,8 +61,8 @@ fn is_unfired<J: Rows>(run: &Layout<J>, pass: &Pass) -> bool
 }
 
 // Fires each event once, after so many turns. False: the caller has nothing left.
-fn fire_turn<J: Rows, C: Compute, G: Gate>(
-    workload: &Workload<'_, '_, J, C, G>,
+fn fire_turn<V: RunValues, C: Compute, G: Gate>(
+    workload: &Workload<'_, '_, V, C, G>,
     pass: &mut Pass,
     order: &[EventId],
     turn: u64,
@@ -75,12 +75,12 @@ fn fire_turn<J: Rows, C: Compute, G: Gate>(
     requires turn { (turn < workload.now.run.limit)
         × StandsAt workload.now.run pass.old.view order.now 0 turn }
     ensures moved { Moved workload.now.memory pass.old pass.new }
-    ensures fired { all_tickets pass.new.view + caller.new.rest
-        ≡ all_tickets pass.old.view + caller.old.rest }
+    ensures fired { all_tickets pass.new.view + caller.new.quota_left
+        ≡ all_tickets pass.old.view + caller.old.quota_left }
     ensures turn { IsTrue result → StandsAt workload.now.run pass.new.view order.now 0 (turn + 1) }
 {
     'events: for i in 0..order.len() {
-        if caller.rest == 0 {
+        if caller.quota_left == 0 {
             return false;
         }
         fire_event(workload, pass, order[i], turn, caller);
@@ -89,8 +89,8 @@ fn fire_turn<J: Rows, C: Compute, G: Gate>(
 }
 
 // Fires an event that is due, in the turn after so many.
-fn fire_event<J: Rows, C: Compute, G: Gate>(
-    workload: &Workload<'_, '_, J, C, G>,
+fn fire_event<V: RunValues, C: Compute, G: Gate>(
+    workload: &Workload<'_, '_, V, C, G>,
     pass: &mut Pass,
     event: EventId,
     turn: u64,
@@ -100,10 +100,10 @@ fn fire_event<J: Rows, C: Compute, G: Gate>(
     requires fits { Belongs workload.now pass.old }
     requires all { HasFrom pass.old.view 0 }
     requires due { IsDue workload.now.run pass.old.view event × (turn < workload.now.run.limit) }
-    requires rest { 0 < caller.old.rest }
+    requires quota_left { 0 < caller.old.quota_left }
     ensures moved { Moved workload.now.memory pass.old pass.new }
-    ensures fired { all_tickets pass.new.view + caller.new.rest
-        ≡ all_tickets pass.old.view + caller.old.rest }
+    ensures fired { all_tickets pass.new.view + caller.new.quota_left
+        ≡ all_tickets pass.old.view + caller.old.quota_left }
     ensures once { count workload.now.run (seen pass.new.view) event
         ≡ count workload.now.run (seen pass.old.view) event + 1 }
     ensures others { (x : ℕ) → node_of workload.now.run x < workload.now.run.nodes → x ≢ event
@@ -114,5 +114,5 @@ fn fire_event<J: Rows, C: Compute, G: Gate>(
     let node = workload.run.node_of(number);
     workload.gate.pause(caller.number, number as u32, turn + 1);
     workload.fabric.fire_due(pass, LatchId::new(node as u32));
-    caller.rest -= 1;
+    caller.quota_left -= 1;
 }

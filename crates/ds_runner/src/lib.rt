@@ -6,7 +6,8 @@
 //! looks first where it was told of a node, then among its own part of the nodes, then at what
 //! others were told, then everywhere. It ends once all is done, or its budget is used up, of takes,
 //! of firings or of looks in rounds without a take. Then the caller takes all passes in and fires
-//! what is left; with one job it fires all. The record at the end is that of one legal list in
+//! what is left; with one job it fires all, in an order of a turn's events that is found
+//! beforehand, if there is one (`firing_order`). The record at the end is that of one legal list in
 //! which each event stands as often as it may fire, whatever the gate does and however threads are
 //! timed. With a quota each worker ends after so many firings, and the caller fires only while
 //! fewer have fired in all: the list has that many events, or all, or more, but at most as many for
@@ -28,23 +29,23 @@ mod drive;
 mod fired;
 mod firing_order;
 mod gather;
-mod hands;
 mod hints;
-mod hire;
 mod in_order;
+mod make_pool;
 mod parts;
-mod rest;
+mod plays;
+mod quota_left;
 mod round_robin;
 mod scheduler;
 mod search;
 mod search_path;
+mod seat_steps;
 mod slots;
+mod step_at_gate;
 mod targets;
 mod turn;
 mod turn_view;
-mod turning;
 mod turnstile;
-mod unit;
 mod visit;
 mod worker;
 mod worker_pool;
@@ -54,4 +55,4 @@ mod workload;
 pub use turn::Turn;
 pub use turn_view::TurnView;
 pub use turnstile::Turnstile;
-pub use workers::{Workers, run};
+pub use workers::{WorkerSettings, run};

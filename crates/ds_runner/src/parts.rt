@@ -8,16 +8,16 @@ use crate::workload::Workload;
 use ds_base::{LatchId, OutOfMemory};
 use ds_fabric::Compute;
 use ds_outside::Gate;
-use ds_rule::Rows;
+use ds_rule::RunValues;
 use std::alloc::Global;
 
 // What the two firings of a node in a turn take beside the work of its opening, counted in tables.
 const FIRINGS: u64 = 48;
 
 /// Where the parts begin, of which there are so many, and the number of nodes behind the last.
-pub fn borders_of<J: Rows, C: Compute, G: Gate>(
+pub fn borders_of<V: RunValues, C: Compute, G: Gate>(
     alloc: Global,
-    workload: &Workload<'_, '_, J, C, G>,
+    workload: &Workload<'_, '_, V, C, G>,
     parts: u32,
 ) -> Result<Vec<usize>, OutOfMemory>
     requires parts { 0 < parts }
@@ -35,7 +35,7 @@ pub fn borders_of<J: Rows, C: Compute, G: Gate>(
 }
 
 /// The work of all nodes in a turn, counted in tables. A hint, as what it is made of.
-pub fn work_of<J: Rows, C: Compute, G: Gate>(workload: &Workload<'_, '_, J, C, G>) -> u64 {
+pub fn work_of<V: RunValues, C: Compute, G: Gate>(workload: &Workload<'_, '_, V, C, G>) -> u64 {
     let mut work: u64 = 0;
     for node in 0..workload.run.nodes() {
         work = work.saturating_add(work_at(workload, node));
@@ -51,8 +51,8 @@ struct Border {
 }
 
 // The next node by whose middle so much work is done.
-fn reach<J: Rows, C: Compute, G: Gate>(
-    workload: &Workload<'_, '_, J, C, G>,
+fn reach<V: RunValues, C: Compute, G: Gate>(
+    workload: &Workload<'_, '_, V, C, G>,
     from: Border,
     share: u64,
 ) -> Border
@@ -75,7 +75,10 @@ fn reach<J: Rows, C: Compute, G: Gate>(
 }
 
 // The work of a node in a turn.
-fn work_at<J: Rows, C: Compute, G: Gate>(workload: &Workload<'_, '_, J, C, G>, node: usize) -> u64
+fn work_at<V: RunValues, C: Compute, G: Gate>(
+    workload: &Workload<'_, '_, V, C, G>,
+    node: usize,
+) -> u64
     requires near { node < workload.now.run.nodes }
 {
     // A layout has fewer nodes than a `u32` counts.

@@ -12,7 +12,7 @@ use crossbeam_deque::Steal;
 use ds_base::LatchId;
 use ds_fabric::Compute;
 use ds_outside::Gate;
-use ds_rule::Rows;
+use ds_rule::RunValues;
 
 // The most hints that are tried before a worker looks for itself.
 const HINTS: usize = 256;
@@ -21,8 +21,8 @@ const HINTS: usize = 256;
 const SOON: usize = 16;
 
 /// The node that the worker tries next. None: no node seems due.
-pub fn search<J: Rows, C: Compute, G: Gate>(
-    workload: &Workload<'_, '_, J, C, G>,
+pub fn search<V: RunValues, C: Compute, G: Gate>(
+    workload: &Workload<'_, '_, V, C, G>,
     scheduler: &Scheduler,
     number: u32,
     search_path: &mut SearchPath,
@@ -47,8 +47,8 @@ pub fn search<J: Rows, C: Compute, G: Gate>(
 
 /// By plain looks the pass of the node is at home, and its next event may fire. What it lacks is
 /// kept for the next look. A number that is no node's is not due.
-pub fn is_due<J: Rows, C: Compute, G: Gate>(
-    workload: &Workload<'_, '_, J, C, G>,
+pub fn is_due<V: RunValues, C: Compute, G: Gate>(
+    workload: &Workload<'_, '_, V, C, G>,
     scheduler: &Scheduler,
     begins: &mut [u8],
     node: usize,
@@ -71,8 +71,8 @@ pub fn is_due<J: Rows, C: Compute, G: Gate>(
 }
 
 // The latest hint that still seems due.
-fn hinted<J: Rows, C: Compute, G: Gate>(
-    workload: &Workload<'_, '_, J, C, G>,
+fn hinted<V: RunValues, C: Compute, G: Gate>(
+    workload: &Workload<'_, '_, V, C, G>,
     scheduler: &Scheduler,
     search_path: &mut SearchPath,
 ) -> Option<usize>
@@ -90,19 +90,19 @@ fn hinted<J: Rows, C: Compute, G: Gate>(
 }
 
 // The next node of a round that seems due.
-fn next_due<J: Rows, C: Compute, G: Gate>(
-    workload: &Workload<'_, '_, J, C, G>,
+fn next_due<V: RunValues, C: Compute, G: Gate>(
+    workload: &Workload<'_, '_, V, C, G>,
     scheduler: &Scheduler,
     begins: &mut [u8],
-    ring: &mut RoundRobin,
+    round: &mut RoundRobin,
 ) -> Option<usize>
     requires fits { HasPassOfEach workload.now scheduler.now.stile }
     ensures near { IfSome result (λ n. n < workload.now.run.nodes) }
 {
-    for looks in 0..ring.count() {
-        let node = ring.step();
+    for looks in 0..round.count() {
+        let node = round.step();
         if is_due(workload, scheduler, begins, node) {
-            ring.looks = looks;
+            round.looks = looks;
             return Some(node);
         }
     }
@@ -110,8 +110,8 @@ fn next_due<J: Rows, C: Compute, G: Gate>(
 }
 
 // A hint of another worker that still seems due.
-fn stolen<J: Rows, C: Compute, G: Gate>(
-    workload: &Workload<'_, '_, J, C, G>,
+fn stolen<V: RunValues, C: Compute, G: Gate>(
+    workload: &Workload<'_, '_, V, C, G>,
     scheduler: &Scheduler,
     begins: &mut [u8],
     number: u32,

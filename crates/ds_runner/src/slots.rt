@@ -2,7 +2,7 @@
 ghost use Rattle.std.specs.Prelude.{◌≡◌, ◌≤◌, Some, [], map, replicate, length, vec_capacity};
 ghost use Rattle.std.specs.Prelude.{IfOk, vec_len};
 
-use crate::turning::Key;
+use crate::plays::Key;
 use ds_base::OutOfMemory;
 use ds_fabric::Pass;
 use std::alloc::Global;

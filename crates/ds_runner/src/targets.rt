@@ -10,15 +10,15 @@ use crate::workload::Workload;
 use ds_base::OutOfMemory;
 use ds_fabric::Compute;
 use ds_outside::Gate;
-use ds_rule::{Layout, Rows};
+use ds_rule::{RunValues, TableRun};
 use std::alloc::Global;
 
 // The most arcs of an event that are looked at.
 const TARGETS: usize = 64;
 
 /// Tells of the nodes that seem due along the first arcs from an event.
-pub fn tell_targets<J: Rows, C: Compute, G: Gate>(
-    workload: &Workload<'_, '_, J, C, G>,
+pub fn tell_targets<V: RunValues, C: Compute, G: Gate>(
+    workload: &Workload<'_, '_, V, C, G>,
     scheduler: &Scheduler,
     search_path: &mut SearchPath,
     event: usize,
@@ -43,16 +43,16 @@ pub fn tell_targets<J: Rows, C: Compute, G: Gate>(
 
 /// For each event the number of the first arc from it, or the number of all arcs where none is from
 /// it. The arcs of an event stand together.
-pub fn arcs_from<J: Rows>(alloc: Global, run: &Layout<J>) -> Result<Vec<usize>, OutOfMemory>
+pub fn arcs_from<V: RunValues>(alloc: Global, run: &TableRun<V>) -> Result<Vec<usize>, OutOfMemory>
     requires { IsSound run.now }
 {
-    let mut firsts = vec![in alloc; run.arcs().len(); run.nodes() + run.latches()]?;
+    let mut firsts = vec![in alloc; run.arcs().len(); run.nodes() + run.design_nodes()]?;
     note_firsts(run, firsts.as_mut_slice());
     Ok(firsts)
 }
 
 // Notes each arc at its source, the last arc first: what stays is the first of each source.
-fn note_firsts<J: Rows>(run: &Layout<J>, firsts: &mut [usize]) {
+fn note_firsts<V: RunValues>(run: &TableRun<V>, firsts: &mut [usize]) {
     let arcs = run.arcs();
     for i in 0..arcs.len() {
         let k = arcs.len() - 1 - i;

@@ -1,6 +1,6 @@
 ghost use Rattle.std.specs.Prelude.{◌≡◌};
 
-use crate::turning::Seated;
+use crate::plays::Seated;
 use std::marker::Model;
 
 /// What one thread may take from a turnstile, and has out.

@@ -2,16 +2,17 @@
 ghost use Rattle.std.specs.Prelude.{◌≡◌, ◌<◌, ◌≤◌, ◌+◌, [], length, true, false};
 ghost use Rattle.std.specs.Prelude.{IfOk, OnOk, OnErr, IfSome, IfNone, is_some, vec_capacity};
 ghost use Rattle.ds_rule.specs.Rule.{seen};
-ghost use Rattle.ds_runner.specs.Turns.{HasNone, has_out, taken, keeps_parts, one_part, joined};
+ghost use Rattle.ds_runner.specs.TurnstileRule.{HasNone, has_out, taken, keeps_parts, one_part};
+ghost use Rattle.ds_runner.specs.TurnstileRule.{joined};
 ghost use Rattle.ds_runner.specs.Shown.{AreAlone, IsTurnstileOpened, IsTurnOf, IsPassOf};
 ghost use Rattle.ds_runner.specs.Shown.{TakesPass, Misses};
 ghost use Rattle.ds_runner.specs.Shown.{GivesBack, IsTurnstileClosed};
 
-use crate::hands;
+use crate::plays::{Key, TurnstileRule};
+use crate::seat_steps;
 use crate::slots::{empty_slots, fill_slots, rooms};
 use crate::turn::Turn;
 use crate::turn_view::TurnView;
-use crate::turning::{Key, TurnstileRule};
 use atomic_table::{Refused, Table};
 use ds_base::{LatchId, OutOfMemory};
 use ds_fabric::Pass;
@@ -83,7 +84,7 @@ impl Turnstile {
         ensures none { HasNone result.view }
     {
         turn.parts -= 1;
-        let seat = hands::split(&self.table.shared, &mut turn.seat);
+        let seat = seat_steps::split(&self.table.shared, &mut turn.seat);
         Turn { seat, parts: 1 }
     }
 
@@ -97,7 +98,7 @@ impl Turnstile {
         ensures view { turn.new.view ≡ joined turn.old.view other.view }
     {
         let Turn { seat, parts } = other;
-        hands::join(&self.table.shared, &mut turn.seat, seat);
+        seat_steps::join(&self.table.shared, &mut turn.seat, seat);
         turn.parts += parts;
     }
 
@@ -115,7 +116,7 @@ impl Turnstile {
         ensures missed { IfNone result (Misses turn.old.view turn.new.view node) }
         ensures whole { turn.old.view.parts ≡ self.now.turns → is_some result ≡ true }
     {
-        hands::take(&self.table.shared, &mut turn.seat, node.index())
+        seat_steps::take(&self.table.shared, &mut turn.seat, node.index())
     }
 
     /// Puts the pass of the node back, which this turn has out.
@@ -128,7 +129,7 @@ impl Turnstile {
         ensures fits { IsTurnOf self.now turn.new }
         ensures gave { GivesBack turn.old.view turn.new.view node (seen pass.view node) }
     {
-        hands::give(&self.table.shared, &mut turn.seat, node.index(), pass);
+        seat_steps::give(&self.table.shared, &mut turn.seat, node.index(), pass);
     }
 
     /// A plain look shows the pass of the node at home. A hint: it tells nothing, as it may be out

@@ -2,24 +2,24 @@
 ghost use Rattle.std.specs.Prelude.{◌≡◌, ◌<◌, ◌≤◌, ◌+◌, MatchOption};
 ghost use Rattle.ds_base.specs.Scratch.{Remembers};
 ghost use Rattle.ds_rule.specs.Rule.{seen};
-ghost use Rattle.ds_runner.specs.Turns.{Alone};
+ghost use Rattle.ds_runner.specs.TurnstileRule.{Alone};
 ghost use Rattle.ds_runner.specs.Work.{HasPassOfEach, IsWorker, fired_count};
 
 use crate::fired::Fired;
 use crate::scheduler::Scheduler;
-use crate::unit::arrive;
+use crate::step_at_gate::pause_unless_done;
 use crate::worker::Worker;
 use crate::workload::Workload;
 use ds_base::{LatchId, Scratch};
 use ds_fabric::{Compute, Pass, Step};
 use ds_outside::Gate;
-use ds_rule::Rows;
+use ds_rule::RunValues;
 
 /// Takes the pass of the node, steps it, and once more where it fired and another firing is
 /// allowed, and gives it back: behind an opening the closing of the same node is mostly due. It
 /// fires `most` times at most.
-pub fn visit<J: Rows, C: Compute, G: Gate>(
-    workload: &Workload<'_, '_, J, C, G>,
+pub fn visit<V: RunValues, C: Compute, G: Gate>(
+    workload: &Workload<'_, '_, V, C, G>,
     scheduler: &Scheduler,
     worker: &mut Worker,
     node: usize,
@@ -49,8 +49,8 @@ pub fn visit<J: Rows, C: Compute, G: Gate>(
 }
 
 // Steps the node, and once more where it fired and another firing is allowed.
-fn step_twice<J: Rows, C: Compute, G: Gate>(
-    workload: &Workload<'_, '_, J, C, G>,
+fn step_twice<V: RunValues, C: Compute, G: Gate>(
+    workload: &Workload<'_, '_, V, C, G>,
     pass: &mut Pass,
     worker: &mut Worker,
     node: usize,
@@ -78,8 +78,8 @@ fn step_twice<J: Rows, C: Compute, G: Gate>(
 
 // Steps the node once, unless it is done, and pauses at the gate before it. The event that fired,
 // if there is one.
-fn step_once<J: Rows, C: Compute, G: Gate>(
-    workload: &Workload<'_, '_, J, C, G>,
+fn step_once<V: RunValues, C: Compute, G: Gate>(
+    workload: &Workload<'_, '_, V, C, G>,
     pass: &mut Pass,
     number: u32,
     node: usize,
@@ -94,7 +94,7 @@ fn step_once<J: Rows, C: Compute, G: Gate>(
         (λ _. seen pass.new.view node ≡ seen pass.old.view node + 1) }
     ensures remembers { Remembers workload.now.memory scratch.new }
 {
-    if !arrive(workload.run, pass, number, node, workload.gate) {
+    if !pause_unless_done(workload.run, pass, number, node, workload.gate) {
         return None;
     }
     match workload

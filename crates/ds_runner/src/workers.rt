@@ -1,5 +1,5 @@
-//! The top call: a run by workers. Threads may fail to start and workers may give up; the caller
-//! completes the run.
+//! The call of this crate: a run by workers. Threads may fail to start and workers may give up; the
+//! caller completes the run. With one job it fires all, in the firing order if there is one.
 ghost use Rattle.std.specs.Prelude.{◌≡◌, ◌<◌, ◌≤◌, ◌+◌, ◌*◌, ℕ, IfOk, OnOk, All, length};
 ghost use Rattle.std.specs.Prelude.{slice_index_or};
 ghost use Rattle.ds_rule.specs.Sound.{IsSound};
@@ -16,16 +16,16 @@ use crate::complete::{Caller, complete};
 use crate::drive::drive;
 use crate::firing_order::firing_order;
 use crate::gather::gather;
-use crate::hire::hire;
+use crate::make_pool::make_pool;
 use crate::parts::work_of;
-use crate::rest::rest;
+use crate::quota_left::quota_left;
 use crate::scheduler::Scheduler;
 use crate::worker::Worker;
 use crate::workload::Workload;
 use ds_base::{EventId, OutOfMemory};
 use ds_fabric::{Compute, Fabric, Pass, Record};
 use ds_outside::Gate;
-use ds_rule::{Layout, Rows};
+use ds_rule::{RunValues, TableRun};
 use std::alloc::Global;
 use std::thread;
 use std::thread::Threads;
@@ -33,7 +33,7 @@ use std::thread::Threads;
 /// Who fires the events of a run: so many workers, from 1 to 64, in these threads. Each calls the
 /// gate before a step.
 #[derive(Drop)]
-pub struct Workers<'a, R, G> {
+pub struct WorkerSettings<'a, R, G> {
     pub threads: &'a R,
     pub jobs: u32,
     pub gate: &'a G,
@@ -49,11 +49,11 @@ pub struct Workers<'a, R, G> {
 ///
 /// A quota is how often each worker fires at most. The caller fires only while fewer have fired in
 /// all. A step that does not fire counts nothing.
-pub fn run<R: Threads + Sync, J: Rows + Sync, C: Compute + Sync, G: Gate>(
+pub fn run<R: Threads + Sync, V: RunValues + Sync, C: Compute + Sync, G: Gate>(
     alloc: Global,
-    run: &Layout<J>,
+    run: &TableRun<V>,
     openings: &C,
-    workers: &Workers<'_, R, G>,
+    workers: &WorkerSettings<'_, R, G>,
     quota: Option<u64>,
 ) -> Result<Record, OutOfMemory>
     requires sound { IsSound run.now }
@@ -70,20 +70,20 @@ pub fn run<R: Threads + Sync, J: Rows + Sync, C: Compute + Sync, G: Gate>(
         gate: workers.gate,
     };
     let number = share_out(alloc, &workload, &mut pass, workers, quota)?;
-    let rest = rest(run, &pass, quota);
+    let quota_left = quota_left(run, &pass, quota);
     complete(
         &workload,
         &mut pass,
         order.as_slice(),
-        Caller { number, rest },
+        Caller { number, quota_left },
     );
     Ok(fabric.finish(pass))
 }
 
 // In which order the caller fires a whole run that it fires alone. There is none for others.
-fn order_for<J: Rows>(
+fn order_for<V: RunValues>(
     alloc: Global,
-    run: &Layout<J>,
+    run: &TableRun<V>,
     jobs: u32,
     quota: Option<u64>,
 ) -> Result<Vec<EventId>, OutOfMemory>
@@ -99,11 +99,11 @@ fn order_for<J: Rows>(
 
 // Shares the run among workers, where there are several, and two nodes or more. The number of the
 // caller.
-fn share_out<R: Threads + Sync, J: Rows + Sync, C: Compute + Sync, G: Gate>(
+fn share_out<R: Threads + Sync, V: RunValues + Sync, C: Compute + Sync, G: Gate>(
     alloc: Global,
-    workload: &Workload<'_, '_, J, C, G>,
+    workload: &Workload<'_, '_, V, C, G>,
     pass: &mut Pass,
-    workers: &Workers<'_, R, G>,
+    workers: &WorkerSettings<'_, R, G>,
     quota: Option<u64>,
 ) -> Result<u32, OutOfMemory>
     requires begun { IsFabricBegun workload.now.run workload.now pass.old }
@@ -121,10 +121,10 @@ fn share_out<R: Threads + Sync, J: Rows + Sync, C: Compute + Sync, G: Gate>(
 }
 
 // Workers fire what they can. Then the pass has all nodes again.
-fn share<R: Threads + Sync, J: Rows + Sync, C: Compute + Sync, G: Gate>(
+fn share<R: Threads + Sync, V: RunValues + Sync, C: Compute + Sync, G: Gate>(
     rt: &R,
     alloc: Global,
-    workload: &Workload<'_, '_, J, C, G>,
+    workload: &Workload<'_, '_, V, C, G>,
     pass: &mut Pass,
     budget: Budget,
 ) -> Result<(), OutOfMemory>
@@ -139,7 +139,7 @@ fn share<R: Threads + Sync, J: Rows + Sync, C: Compute + Sync, G: Gate>(
     ensures ok_few { OnOk result (all_tickets pass.new.view
         ≤ budget.workers * budget.firings) }
 {
-    let mut pool = hire(alloc, workload, pass, budget.workers)?;
+    let mut pool = make_pool(alloc, workload, pass, budget.workers)?;
     drive_all(
         rt,
         workload,
@@ -152,9 +152,9 @@ fn share<R: Threads + Sync, J: Rows + Sync, C: Compute + Sync, G: Gate>(
 }
 
 // Each worker drives, in a thread of its own.
-fn drive_all<R: Threads + Sync, J: Rows + Sync, C: Compute + Sync, G: Gate>(
+fn drive_all<R: Threads + Sync, V: RunValues + Sync, C: Compute + Sync, G: Gate>(
     rt: &R,
-    workload: &Workload<'_, '_, J, C, G>,
+    workload: &Workload<'_, '_, V, C, G>,
     scheduler: &Scheduler,
     workers: &mut [Worker],
     budget: Budget,
@@ -186,8 +186,8 @@ fn drive_all<R: Threads + Sync, J: Rows + Sync, C: Compute + Sync, G: Gate>(
 // which each is at work for a third of the time, longer where cones overlap; where workers wait for
 // processors, what they lose does not grow with their number; and who waits for one that has ended
 // at its quota ends soon.
-fn budget<J: Rows, C: Compute, G: Gate>(
-    workload: &Workload<'_, '_, J, C, G>,
+fn budget<V: RunValues, C: Compute, G: Gate>(
+    workload: &Workload<'_, '_, V, C, G>,
     jobs: u32,
     quota: Option<u64>,
 ) -> Budget

@@ -9,7 +9,7 @@ use Rattle.ds_rule.specs.declared.view.View.{View}
 use Rattle.ds_rule.proofs.GetElemLemmas.{has_below, replicate-default}
 use Rattle.ds_fabric.specs.Base.{Base}
 use Rattle.ds_fabric.specs.Showing.{Showing, IsFabricBegun, IsDealt, IsLeft}
-use Rattle.ds_runner.specs.Turns.{Alone, base}
+use Rattle.ds_runner.specs.TurnstileRule.{Alone, base}
 use Rattle.ds_runner_tests.specs.Trio.{trio, CarriesFrom, CarriesOne, AreTrio}
 
 all_three : (l : ℕ) → l < 3 → get_or (true ∷ true ∷ true ∷ []) l false ≡ true

@@ -8,7 +8,7 @@ use Rattle.ds_rule.proofs.GetElemLemmas.{at_or, same_at}
 use Rattle.ds_base.specs.Scratch.{Kept, Remembers}
 use Rattle.ds_fabric.specs.Base.{Base}
 use Rattle.ds_fabric.specs.Showing.{Showing}
-use Rattle.ds_runner.specs.Turns.{Alone, HasNone, fabric_of, run_of, keeps_parts, one_part, has_out, base}
+use Rattle.ds_runner.specs.TurnstileRule.{Alone, HasNone, fabric_of, run_of, keeps_parts, one_part, has_out, base}
 use Rattle.ds_runner.specs.Shown.{Stile, Turned, AreAlone, IsTurnstileOpened, IsTurnOf, IsTurnstileClosed}
 use Rattle.ds_runner.specs.declared.turn_view.TurnView.{TurnView}
 use Rattle.ds_runner_tests.specs.Trio.{AreTrio, IsTrioStile, IsIdle}

@@ -10,7 +10,7 @@ use Rattle.ds_rule.specs.Rule.{holds, seen}
 use Rattle.ds_base.specs.Scratch.{Kept, Memory, Remembers}
 use Rattle.ds_fabric.specs.Base.{Base}
 use Rattle.ds_fabric.specs.Showing.{Showing, IsOf}
-use Rattle.ds_runner.specs.Turns.{Alone, HasNone, fabric_of, run_of, base}
+use Rattle.ds_runner.specs.TurnstileRule.{Alone, HasNone, fabric_of, run_of, base}
 use Rattle.ds_runner.specs.Shown.{Stile, Turned, IsTurnOf}
 use Rattle.ds_runner.specs.declared.turn_view.TurnView.{TurnView}
 
@@ -22,7 +22,7 @@ zero_rows = replicate 9 (Zero ∷ [])
 abbrev pub trio : Run
 trio = record {
   nodes = 3;
-  latches = 2;
+  design_nodes = 2;
   arcs = [];
   limit = 2;
   edges = [];

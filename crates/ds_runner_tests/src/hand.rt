@@ -5,7 +5,7 @@ ghost use mathlib.Core.Option.{some};
 ghost use lib.ListN.{get_elem?};
 ghost use Rattle.ds_rule.specs.Rule.{seen};
 ghost use Rattle.ds_fabric.specs.Showing.{Showing};
-ghost use Rattle.ds_runner.specs.Turns.{base};
+ghost use Rattle.ds_runner.specs.TurnstileRule.{base};
 ghost use Rattle.ds_runner.specs.Shown.{Misses};
 ghost use Rattle.ds_runner_tests.specs.Trio.{AreTrio, IsTrioStile, IsIdle, IsFresh};
 

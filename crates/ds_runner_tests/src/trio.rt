@@ -1,19 +1,19 @@
 //! A run of three nodes that fire freely, on which the tests stand.
 ghost use Rattle.std.specs.Prelude.{◌≡◌, ◌<◌, ◌≤◌, ◌+◌, IfOk, OnOk, vec_capacity, false};
-ghost use Rattle.ds_runner.specs.Turns.{base};
+ghost use Rattle.ds_runner.specs.TurnstileRule.{base};
 ghost use Rattle.ds_runner_tests.specs.Trio.{zero_rows, trio, small_memory, CarriesFrom};
 ghost use Rattle.ds_runner_tests.specs.Trio.{CarriesOne, AreTrio};
 
 use ds_base::{LatchId, OutOfMemory, Scratch};
 use ds_fabric::{Compute, Fabric, Pass};
-use ds_rule::{Layout, Rows, Sizes};
+use ds_rule::{RunValues, Sizes, TableRun};
 use std::alloc::Global;
 
 /// Each value is zero.
 #[derive(Drop)]
 pub struct Trio;
 
-impl Rows for Trio {
+impl RunValues for Trio {
     ghost rows = { λ _. zero_rows };
 }
 
@@ -46,7 +46,7 @@ impl Compute for Trio {
 }
 
 /// What the run is of.
-pub fn layout(alloc: Global) -> Result<Layout<Trio>, OutOfMemory>
+pub fn table_run(alloc: Global) -> Result<TableRun<Trio>, OutOfMemory>
     ensures { IfOk result (λ l. l ≡ trio) }
 {
     let arcs = Vec::new(alloc);
@@ -54,17 +54,17 @@ pub fn layout(alloc: Global) -> Result<Layout<Trio>, OutOfMemory>
     let lengths = Vec::from_array(alloc, [1, 1, 1])?;
     let sizes = Sizes {
         nodes: 3,
-        latches: 2,
+        design_nodes: 2,
         limit: 2,
         slack: 0,
     };
-    Ok(Layout::of(sizes, arcs, edges, lengths, Trio))
+    Ok(TableRun::of(sizes, arcs, edges, lengths, Trio))
 }
 
 /// The table in which nothing has fired, and a pass for each node.
 pub fn begin(
     alloc: Global,
-    run: &Layout<Trio>,
+    run: &TableRun<Trio>,
 ) -> Result<(Fabric<'_, Trio, Trio>, Vec<Pass>), OutOfMemory>
     requires { run.now ≡ trio }
     ensures { IfOk result (λ r. AreTrio r.0 r.1.items × (base 0 r.1.items ≡ 0)

@@ -3,10 +3,10 @@ ghost use Rattle.std.specs.Prelude.{◌≡◌, IsTrue};
 ghost use Rattle.ds_runner_tests.specs.Trio.{trio, IsTrioStile, IsIdle, IsFresh, HasMissed};
 
 use crate::hand::{Hand, fires, set_up, shut};
-use crate::trio::{Trio, begin, layout};
+use crate::trio::{Trio, begin, table_run};
 use ds_base::{LatchId, OutOfMemory};
 use ds_fabric::Fabric;
-use ds_rule::Layout;
+use ds_rule::TableRun;
 use ds_runner::Turnstile;
 use std::alloc::Global;
 use std::thread;
@@ -55,7 +55,7 @@ fn misses_and_fires(
 }
 
 // Whether they do so, and what has fired is there once the turnstile is shut.
-fn is_missed(alloc: Global, run: &Layout<Trio>) -> Result<bool, OutOfMemory>
+fn is_missed(alloc: Global, run: &TableRun<Trio>) -> Result<bool, OutOfMemory>
     requires { run.now ≡ trio }
 {
     let (fabric, mut passes) = begin(alloc, run)?;
@@ -67,7 +67,7 @@ fn is_missed(alloc: Global, run: &Layout<Trio>) -> Result<bool, OutOfMemory>
 
 #[test]
 fn a_node_that_is_out_is_missed(rt: HostRuntime) {
-    let Ok(run) = layout(rt.alloc()) else {
+    let Ok(run) = table_run(rt.alloc()) else {
         panic!(rt; "memory");
     };
     assert!(rt; matches!(is_missed(rt.alloc(), &run), Ok(true)));
@@ -95,7 +95,7 @@ fn both_at_once(
 }
 
 // Whether both threads fire their nodes, and what has fired is there once the turnstile is shut.
-fn are_fired<R: AllocGlobal + Threads>(rt: &R, run: &Layout<Trio>) -> Result<bool, OutOfMemory>
+fn are_fired<R: AllocGlobal + Threads>(rt: &R, run: &TableRun<Trio>) -> Result<bool, OutOfMemory>
     requires { run.now ≡ trio }
 {
     let (fabric, mut passes) = begin(rt.alloc(), run)?;
@@ -107,7 +107,7 @@ fn are_fired<R: AllocGlobal + Threads>(rt: &R, run: &Layout<Trio>) -> Result<boo
 
 #[test]
 fn two_threads_fire_their_nodes(rt: HostRuntime) {
-    let Ok(run) = layout(rt.alloc()) else {
+    let Ok(run) = table_run(rt.alloc()) else {
         panic!(rt; "memory");
     };
     for _ in 0..100u32 {

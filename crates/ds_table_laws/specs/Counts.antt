@@ -4,8 +4,8 @@ use mathlib.Core.Option.{some}
 use lib.ListN.{get_elem?}
 use Rattle.atomic_table.specs.Table.{State}
 use Rattle.ds_marked.specs.Graph.{Graph, IsLegal, counts_after}
-use Rattle.ds_rule.specs.Run.{Run, count, Enabled}
-use Rattle.ds_rule.specs.Rule.{shown, event, Lawful}
+use Rattle.ds_rule.specs.Run.{Run, count, IsEnabledInRun}
+use Rattle.ds_rule.specs.Rule.{firings_shown, event, Lawful}
 use Rattle.ds_rule.specs.Progress.{IsRunAccepted}
 use Rattle.ds_rule.specs.Laws.{IsGraphOfRun}
 use Rattle.ds_rule.specs.declared.view.View.{View}
@@ -14,7 +14,7 @@ use Rattle.ds_rule.specs.declared.view.View.{View}
 abbrev pub FlightsAreEnabled : Type 0
 FlightsAreEnabled = (run : Run) (s : State ℕ View) → Lawful run s → (id : ℕ) (v : View)
     → get_elem? s.views id ≡ some v → v.live ≡ true → 0 < v.phase
-    → Enabled run (shown s.words) (event run v)
+    → IsEnabledInRun run (firings_shown s.words) (event run v)
 
 -- the counts that the words show are those of a legal list
 abbrev pub ShownAreReached : Type 0
@@ -22,4 +22,4 @@ ShownAreReached = (g : Graph) (run : Run) → IsGraphOfRun g run → IsRunAccept
     → (s : State ℕ View) → Lawful run s
     → (items : List ℕ) × IsLegal g run.limit items
     × ((e : ℕ) → e < length g.events
-    → counts_after (λ _. 0) items e ≡ count run (shown s.words) e)
+    → counts_after (λ _. 0) items e ≡ count run (firings_shown s.words) e)

@@ -4,9 +4,9 @@ use mathlib.Core.Option.{some}
 use lib.ListN.{get_elem?}
 use Rattle.atomic_table.specs.Table.{State}
 use Rattle.ds_fabric.specs.Showing.{Showing}
-use Rattle.ds_runner.specs.Turns.{Slot, Alone, Turning, fabric, has_out, nodes_of_key, run}
+use Rattle.ds_runner.specs.TurnstileRule.{Slot, Alone, Turning, fabric, has_out, nodes_of_key, run}
 use Rattle.ds_runner.specs.declared.turn_view.TurnView.{TurnView}
-use Rattle.ds_runner.specs.declared.turning.Key.{Key}
+use Rattle.ds_runner.specs.declared.plays.Key.{Key}
 
 -- the turn of that number lives, and has the node out
 abbrev pub HasIt : State Slot TurnView → ℕ → ℕ → Type 0

@@ -1,6 +1,6 @@
 use Rattle.std.proofs.Common.{◌≡◌, ℕ, ap, arith, refl, ◌*◌, ◌∙◌}
 use Rattle.ds_rule.specs.Run.{Run}
-use Rattle.ds_fabric.specs.Told.{stride_of}
+use Rattle.ds_fabric.specs.HistoryList.{stride_of}
 use Rattle.ds_fabric.proofs.HistoryLayout.{told_small}
 use Rattle.ds_fabric.proofs.build.history_of.Goals as goal
 

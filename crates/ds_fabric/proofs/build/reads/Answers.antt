@@ -5,7 +5,7 @@ use Rattle.ds_rule.proofs.GetElemLemmas.{at_below, at_get}
 use Rattle.ds_rule.specs.Run.{Run}
 use Rattle.ds_rule.specs.Sound.{IsSound, edge_at, read_words}
 use Rattle.ds_rule.specs.Words.{width}
-use Rattle.ds_rule.specs.declared.layout.DataEdge.{DataEdge}
+use Rattle.ds_rule.specs.declared.table_run.DataEdge.{DataEdge}
 use Rattle.ds_rule.proofs.RowLaws.{reads-into, reads_up}
 use Rattle.ds_fabric.proofs.Laying.{reads_next}
 use Rattle.ds_fabric.proofs.EdgeRanges.{edge_read}

@@ -17,7 +17,7 @@ load-requires g c = let q = c.args.context.now.built.over in let run : Run = c.a
       c.requires.table,
       omega (arith, q.sized, counts_inside run (c.args.node + 1) (omega (arith, c.requires.near))),
       subst P (sym q.keyed)
-          (looks run _ _ _ c.args.node _ refl c.requires.near c.requires.rests.0 c.requires.rests.1),
+          (looks run _ _ _ c.args.node _ refl c.requires.near c.requires.idle.0 c.requires.idle.1),
     )
 
 pub returns : goal.returns

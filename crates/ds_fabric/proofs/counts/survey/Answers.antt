@@ -9,7 +9,7 @@ use Rattle.ds_fabric.specs.Chained.{arc_numbered}
 use Rattle.ds_fabric.specs.Looks.{LooksOn, IsSeenLacking}
 use Rattle.ds_fabric.specs.Into.{fired_of, IsInto}
 use Rattle.ds_fabric.specs.declared.arc_in.ArcIn.{ArcIn}
-use Rattle.ds_fabric.specs.declared.arc_in.Source.TheVariants.{Opening}
+use Rattle.ds_fabric.specs.declared.arc_in.EventRole.TheVariants.{Opening}
 use Rattle.ds_fabric.proofs.ArcChains.{read-off}
 use Rattle.ds_fabric.proofs.IncomingArcs.{ends_read, entry_into, look_near, none_before}
 use Rattle.ds_fabric.proofs.IncomingArcs.{enough_all, goes_on, stops}
@@ -61,9 +61,9 @@ bounds-arcs-i g c =
 pub look-fired-requires-clause-table : goal.look-fired-requires-clause-table
 look-fired-requires-clause-table g c = c.loop-i.invariant.0 ∙ c.requires.table
 
-pub look-fired-requires-clause-rests : goal.look-fired-requires-clause-rests
-look-fired-requires-clause-rests g c = let q = c.loop-i.invariant.2 in
-    (q.live ∙ c.requires.rests.0, q.phase ∙ c.requires.rests.1)
+pub look-fired-requires-clause-idle : goal.look-fired-requires-clause-idle
+look-fired-requires-clause-idle g c = let q = c.loop-i.invariant.2 in
+    (q.live ∙ c.requires.idle.0, q.phase ∙ c.requires.idle.1)
 
 -- the place of the arc that is looked at is one of the event's
 place : (g : Given.Over) (c : After-look-fired g)
@@ -113,7 +113,7 @@ halted g c short = let e = c.look-fired.ensures in
     c.loop-i.seat.me c.look-fired.new.seat.me
     (get_or c.as_slice-arcs.result.now c.loop-i.i
     (record { node = 0; ahead = 0; source = Opening })) c.look-fired.result
-    c.args.context.now.built.over.sound (looked_at g c) e.me c.loop-i.invariant.2 c.requires.rests.2 e.up e.own
+    c.args.context.now.built.over.sound (looked_at g c) e.me c.loop-i.invariant.2 c.requires.idle.2 e.up e.own
     short
 
 pub returns-then-lacks-clause-table : goal.returns-then-lacks-clause-table
@@ -159,7 +159,7 @@ loop-i-preserved g c =
     let both = goes_on run c.args.event c.args.turn
     (get_or c.args.context.now.incoming.now.starts.items c.args.event 0) i numbers c.args.seat.now.me.0
     c.loop-i.seat.me c.look-fired.new.seat.me x r c.args.context.now.built.over.sound into e.me inv.2 inv.3
-    c.requires.rests.2 e.up e.own here in (
+    c.requires.idle.2 e.up e.own here in (
       e.table ∙ inv.0,
       ap (λ (y : Sat). y.1) e.me ∙ inv.1,
       both.0,

@@ -1,7 +1,7 @@
 use Rattle.std.proofs.Common.{◌≡◌, ◌+◌, ◌-◌, ◌∙◌, ℕ, ap, arith, sym, subst, refl}
 use mathlib.Core.Option.{none}
 use Rattle.atomic_table.specs.Table.{step, Allows}
-use Rattle.ds_rule.specs.Run.{Run, next, Enabled}
+use Rattle.ds_rule.specs.Run.{Run, next, IsEnabledInRun}
 use Rattle.ds_rule.specs.Rule.{Lawful, seen}
 use Rattle.ds_rule.specs.Plays.{Sat, after_depart, departed}
 use Rattle.ds_rule.proofs.PlaceLaws.{counts_inside}
@@ -18,8 +18,8 @@ load-requires g c = let q = c.args.context.now.built.over in let run : Run = c.a
       c.requires.table,
       omega (arith, q.sized, counts_inside run (l + 1) (omega (arith, h.1))),
       subst P (sym q.keyed) (departs run n c.args.seat.now.id c.args.seat.now.me l
-          (l + 1) refl h.1 c.requires.rests.0 c.requires.rests.1 h.0
-          (subst (λ (f : ℕ). Enabled run (seen c.args.seat.now.me.0)
+          (l + 1) refl h.1 c.requires.idle.0 c.requires.idle.1 h.0
+          (subst (λ (f : ℕ). IsEnabledInRun run (seen c.args.seat.now.me.0)
           (next run l f)) h.2 c.requires.ready)),
     )
 
@@ -41,10 +41,10 @@ returns-clause-flight g c = let l : ℕ = c.args.history.now.node in
     let m : Sat = c.args.seat.now.me in let run : Run = c.args.context.now.run.now in
     subst (λ (x : Sat). IsInFlight run x.0 l c.args.history.now.fired)
     (sym (left l m c.load.new.seat.me c.load.ensures.2)) (record {
-      live = c.requires.rests.0;
+      live = c.requires.idle.0;
       phase = refl;
       node_is = refl;
-      run_is = c.requires.rests.2;
+      run_is = c.requires.idle.2;
       count = c.requires.held.2;
       near = c.requires.held.1;
       enabled = c.requires.ready;

@@ -1,7 +1,7 @@
 use Rattle.std.proofs.Common.{ℕ, arith, ap}
 use Rattle.std.proofs.Common.{length, length-append}
 use Rattle.ds_rule.specs.Run.{Run}
-use Rattle.ds_fabric.specs.Told.{new_row}
+use Rattle.ds_fabric.specs.HistoryList.{new_row}
 use Rattle.ds_fabric.proofs.Flights.{few}
 use Rattle.ds_fabric.proofs.flight.fire.Goals as goal
 

@@ -12,8 +12,8 @@ use Rattle.ds_fabric.proofs.PassMemory.{fires, fires_keep}
 use Rattle.ds_fabric.proofs.LoadedViews.{looks_none}
 use Rattle.ds_fabric.proofs.flight.fire_enabled.Goals as goal
 
-pub fire-requires-clause-rests : goal.fire-requires-clause-rests
-fire-requires-clause-rests g c = let k = c.requires.keeps.2 in (k.live, k.rests, c.requires.run)
+pub fire-requires-clause-idle : goal.fire-requires-clause-idle
+fire-requires-clause-idle g c = let k = c.requires.keeps.2 in (k.live, k.idle, c.requires.run)
 
 pub fire-requires-clause-held : goal.fire-requires-clause-held
 fire-requires-clause-held g c = let lent = c.requires.keeps in

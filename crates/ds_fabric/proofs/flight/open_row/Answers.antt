@@ -11,7 +11,7 @@ compute-requires-clause-node g c = omega (
   arith,
   c.requires.within.0,
   c.new.ensures,
-  ap (λ (r : Run). r.latches) c.args.context.now.computes,
+  ap (λ (r : Run). r.design_nodes) c.args.context.now.computes,
 )
 
 pub compute-requires-clause-turn : goal.compute-requires-clause-turn

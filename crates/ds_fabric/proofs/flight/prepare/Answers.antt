@@ -13,7 +13,7 @@ use Rattle.ds_rule.specs.declared.view.View.{View}
 use Rattle.ds_rule.proofs.GetElemLemmas.{by_bool}
 use Rattle.std.proofs.lemmas.List.{append-nil}
 use Rattle.ds_rule.proofs.EventLaws.{even_opens, opened-low}
-use Rattle.ds_fabric.specs.Told.{new_row}
+use Rattle.ds_fabric.specs.HistoryList.{new_row}
 use Rattle.ds_fabric.proofs.PassMemory.{within}
 use Rattle.ds_fabric.proofs.HistoryLayout.{length-even, new_row-opens, new_row-else}
 use Rattle.ds_fabric.proofs.flight.prepare.Goals as goal

@@ -35,8 +35,8 @@ bounds-all-number g c =
       ap (λ (xs : List Arc). length xs) c.arcs-all.ensures,
     )
 
-pub of-requires-clause-latches : goal.of-requires-clause-latches
-of-requires-clause-latches g c = omega (arith, c.requires.sound.few)
+pub of-requires-clause-design_nodes : goal.of-requires-clause-design_nodes
+of-requires-clause-design_nodes g c = omega (arith, c.requires.sound.few)
 
 pub overflow_cast-number : goal.overflow_cast-number
 overflow_cast-number g c =

@@ -1,6 +1,6 @@
 use Rattle.std.proofs.Common.{ℕ, List, ap, arith, length}
 use Rattle.ds_rule.specs.Run.{Run}
-use Rattle.ds_rule.specs.declared.layout.DataEdge.{DataEdge}
+use Rattle.ds_rule.specs.declared.table_run.DataEdge.{DataEdge}
 use Rattle.ds_fabric.proofs.EdgeRanges.{stops, edge_same}
 use Rattle.ds_fabric.proofs.index.skip.Goals as goal
 

@@ -9,7 +9,7 @@ use Rattle.ds_rule.specs.Words.{width, place, value}
 use Rattle.ds_rule.specs.Sound.{IsSound}
 use Rattle.ds_rule.specs.Rule.{Lawful, seen}
 use Rattle.ds_rule.specs.Plays.{Sat, read, listed}
-use Rattle.ds_rule.specs.declared.layout.DataEdge.{DataEdge}
+use Rattle.ds_rule.specs.declared.table_run.DataEdge.{DataEdge}
 use Rattle.ds_rule.proofs.ValueSteps.{reads}
 use Rattle.ds_rule.proofs.GetElemLemmas.{length-listed}
 use Rattle.ds_rule.proofs.RowLaws.{listed-next, told}

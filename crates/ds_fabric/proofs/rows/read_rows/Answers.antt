@@ -3,7 +3,7 @@ use Rattle.std.proofs.Common.{slice_index_or, vec_capacity, length-append, refl,
 use Rattle.ds_rule.specs.Run.{Run}
 use Rattle.ds_rule.specs.Plays.{Sat}
 use Rattle.ds_rule.specs.Rows.{row, supply_but, IsOpening}
-use Rattle.ds_rule.specs.declared.layout.DataEdge.{DataEdge}
+use Rattle.ds_rule.specs.declared.table_run.DataEdge.{DataEdge}
 use Rattle.ds_rule.proofs.RowLaws.{reads_up, length-row, length-supply_but}
 use Rattle.ds_fabric.proofs.EdgeRanges.{from_read, in_order, edge_of, grows, passes, before_range}
 use Rattle.ds_fabric.proofs.EdgeRanges.{behind_range, EdgeOf}
@@ -62,7 +62,7 @@ pub has_learnt-requires-clause-producer : goal.has_learnt-requires-clause-produc
 has_learnt-requires-clause-producer g c =
     let h = edge_is g (goal.at.has_learnt-requires-clause-producer g c).After-index-edges-i in
     let d = c.args.context.now.built.over.sound.orders c.loop-i.i c.index-edges-i.result h.at in
-    omega (arith, d.from, ap (λ (x : Run). x.latches) c.args.context.now.computes)
+    omega (arith, d.from, ap (λ (x : Run). x.design_nodes) c.args.context.now.computes)
 
 pub read_row-requires-clause-table : goal.read_row-requires-clause-table
 read_row-requires-clause-table g c = c.loop-i.invariant.0 ∙ c.requires.table

@@ -5,7 +5,7 @@ use native.Mathlib.Decide.{ℕ_discrete}
 use lib.ListN.{get_elem?}
 use Rattle.atomic_table.proofs.Lists.{set_here, set_else}
 use Rattle.ds_rule.specs.Run.{Run, turns}
-use Rattle.ds_fabric.specs.Told.{StandsIn, ticket_in}
+use Rattle.ds_fabric.specs.HistoryList.{StandsIn, ticket_in}
 use Rattle.ds_fabric.specs.declared.history.History.{History}
 use Rattle.ds_fabric.proofs.spread.put.Goals as goal
 
@@ -22,9 +22,9 @@ pub loop-k-preserved : goal.loop-k-preserved
 loop-k-preserved c = let h : History = c.args.history.now in let k : ℕ = c.loop-k.k in
     let e : ℕ = c.args.event in let out : List ℕ = c.loop-k.out in let inv = c.loop-k.invariant in
     let p : ℕ = c.ticket.result in
-    let is-p : (run : Run) → c.args.latches ≡ run.latches → ticket_in run h e k ≡ p = λ run is.
+    let is-p : (run : Run) → c.args.design_nodes ≡ run.design_nodes → ticket_in run h e k ≡ p = λ run is.
     sym (c.ticket.ensures run is ∙ ap (λ (x : ℕ). ticket_in run h x k) c.index-number.ensures) in
-    let below : (run : Run) → c.args.latches ≡ run.latches → k < turns run e h.fired = λ run is.
+    let below : (run : Run) → c.args.design_nodes ≡ run.design_nodes → k < turns run e h.fired = λ run is.
     omega (
       arith,
       c.loop-k-test.true,

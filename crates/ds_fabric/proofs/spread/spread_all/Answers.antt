@@ -13,12 +13,12 @@ use Rattle.ds_fabric.proofs.spread.spread_all.Goals as goal
 pub spread-requires-clause-few : goal.spread-requires-clause-few
 spread-requires-clause-few c = let q = c.requires.1 in let h : History = c.index-nodes-i.result in
     let at = at_index c.args.nodes.now c.loop-i.i h c.loop-i-test.true c.index-nodes-i.is in (
-      omega (arith, q.latches_is, q.sound.among, q.sound.few),
+      omega (arith, q.design_nodes_is, q.sound.among, q.sound.few),
       omega (
         arith,
         has_below c.requires.0.view.holds h.node (q.keeps.listed c.loop-i.i h at).has,
         q.keeps.held_long,
-        q.latches_is,
+        q.design_nodes_is,
         q.sound.few,
       ),
     )
@@ -29,8 +29,8 @@ spread-requires-clause-can c = let p = c.requires.0 in let q = c.requires.1 in
     let at = at_index c.args.nodes.now i h c.loop-i-test.true c.index-nodes-i.is in
     let n : ℕ = length c.args.out.now in (
       p.view.run,
-      subst (λ (x : ℕ). CanSpread c.args.latches x p.view.run h) (sym c.loop-i.invariant.0)
-          (can_spread p c.args.nodes.now c.args.places.now c.args.latches n q i h at),
+      subst (λ (x : ℕ). CanSpread c.args.design_nodes x p.view.run h) (sym c.loop-i.invariant.0)
+          (can_spread p c.args.nodes.now c.args.places.now c.args.design_nodes n q i h at),
     )
 
 pub loop-i-preserved : goal.loop-i-preserved
@@ -39,14 +39,14 @@ loop-i-preserved c = let h : History = c.index-nodes-i.result in let i : ℕ = c
     let at = at_index c.args.nodes.now i h c.loop-i-test.true c.index-nodes-i.is in
     let n : ℕ = length c.args.out.now in (
       c.spread.ensures.long ∙ inv.0,
-      λ p q j g below at'. let can = subst (λ (x : ℕ). CanSpread c.args.latches x p.view.run h)
-          (sym inv.0) (can_spread p c.args.nodes.now c.args.places.now c.args.latches n q i h at) in
+      λ p q j g below at'. let can = subst (λ (x : ℕ). CanSpread c.args.design_nodes x p.view.run h)
+          (sym inv.0) (can_spread p c.args.nodes.now c.args.places.now c.args.design_nodes n q i h at) in
           dite (ℕ_discrete j i)
           (λ e. subst (λ (x : History). HasSpread p.view.run x c.spread.new.out)
           (same_at c.args.nodes.now i h g at (subst
           (λ (x : ℕ). get_elem? c.args.nodes.now x ≡ some g) e at'))
           (c.spread.ensures.filled p.view.run can))
-          (λ ne. stays p c.args.nodes.now c.args.places.now c.args.latches n q j i g h c.loop-i.out c.spread.new.out ne at' at (inv.1 p q j g (omega arith) at') (c.spread.ensures.kept p.view.run q.latches_is)),
+          (λ ne. stays p c.args.nodes.now c.args.places.now c.args.design_nodes n q j i g h c.loop-i.out c.spread.new.out ne at' at (inv.1 p q j g (omega arith) at') (c.spread.ensures.kept p.view.run q.design_nodes_is)),
     )
 
 pub returns-clause-filled : goal.returns-clause-filled

@@ -11,7 +11,7 @@ use Rattle.ds_split.specs.Settled.{IsSettling}
 use Rattle.ds_opening.specs.Groups.{Grouping}
 use Rattle.ds_opening.specs.Learnt.{is_learnt}
 use Rattle.ds_opening.specs.Noted.{IsNotedOpening, IsSettlingOpening}
-use Rattle.ds_opening.specs.Woven.{Turn}
+use Rattle.ds_opening.specs.TurnOfOpenings.{Turn}
 use Rattle.ds_opening.specs.declared.opening.Opening.{Opening}
 use Rattle.ds_opening.proofs.LearntRows.{master_unlearnt}
 use Rattle.ds_opening.proofs.Slaves.{slave_reads, slave_room, slave_takes}

@@ -12,7 +12,7 @@ use Rattle.ds_split.proofs.NodeCones.{lent, nets_within}
 use Rattle.ds_opening.specs.Groups.{group_of}
 use Rattle.ds_opening.specs.Noted.{AreRowsLearnt}
 use Rattle.ds_opening.specs.Packed.{packed}
-use Rattle.ds_opening.specs.Woven.{value_taken}
+use Rattle.ds_opening.specs.TurnOfOpenings.{value_taken}
 use Rattle.ds_opening.proofs.Noting.{find_known, grouped, has_reads, node_slots, numbers, reads, settled_is, value}
 use Rattle.ds_opening.proofs.UnchangedGroups.{reads_on}
 use Rattle.ds_opening.proofs.opening.open_groups.Goals as goal

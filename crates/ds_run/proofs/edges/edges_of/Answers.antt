@@ -3,7 +3,7 @@ use Rattle.std.proofs.lemmas.List.{length-map}
 use Rattle.std.proofs.lemmas.List.Sorted.{length_permutation}
 use Rattle.std.specs.List.Sorted.{IsPermutation}
 use Rattle.ds_latch.specs.Node.{nodes}
-use Rattle.ds_rule.specs.declared.layout.DataEdge.{DataEdge}
+use Rattle.ds_rule.specs.declared.table_run.DataEdge.{DataEdge}
 use Rattle.ds_run.specs.Tokened.{tokened}
 use Rattle.ds_run.proofs.EdgeTokens.{are_edges}
 use Rattle.ds_run.proofs.edges.edges_of.Goals as goal

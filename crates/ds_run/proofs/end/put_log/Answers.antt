@@ -1,5 +1,5 @@
 use Rattle.std.proofs.Common.{subst}
-use Rattle.ds_run.specs.Ended.{IsKnownLog}
+use Rattle.ds_run.specs.WindowedText.{IsKnownLog}
 use Rattle.ds_run.proofs.end.put_log.Goals as goal
 
 pub write-requires-clause-log : goal.write-requires-clause-log

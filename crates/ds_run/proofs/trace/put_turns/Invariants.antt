@@ -2,18 +2,18 @@ use Rattle.std.proofs.Common.{◌≡◌, List}
 use Rattle.ds_base.specs.Values.{Row}
 use Rattle.ds_outside.specs.Pen.{Puts}
 use Rattle.ds_clocked.specs.Loop.{IsWrittenTo}
-use Rattle.ds_run.specs.Layout.{AreValues}
-use Rattle.ds_run.specs.Line.{HasLine}
-use Rattle.ds_run.specs.Played.{IsPlayedOn}
+use Rattle.ds_run.specs.RunOfPlan.{AreValues}
+use Rattle.ds_run.specs.TraceRows.{HasLine}
+use Rattle.ds_run.specs.Finished.{IsFinishedOn}
 use Rattle.ds_run.proofs.trace.put_turns.Given as goal
 
 abbrev pub invariant-loop-k : goal.invariant-loop-k
 invariant-loop-k g l = record {
   line : HasLine l.stored.plan.now.split l.line;
-  registers : (vectors : List Row) → IsPlayedOn l.stored.plan.now l.stored.turns l.stored.fired.now vectors
-      → (values : AreValues l.stored.plan.now.split vectors l.stored.fired.now.shown.view.run)
+  registers : (vectors : List Row) → IsFinishedOn l.stored.plan.now l.stored.turns l.stored.recorded.now vectors
+      → (values : AreValues l.stored.plan.now.split vectors l.stored.recorded.now.shown.view.run)
       → l.line.registers ≡ values.state l.k;
-  written : (vectors : List Row) → IsPlayedOn l.stored.plan.now l.stored.turns l.stored.fired.now vectors
+  written : (vectors : List Row) → IsFinishedOn l.stored.plan.now l.stored.turns l.stored.recorded.now vectors
       → IsWrittenTo l.stored.plan.now.split.circuit l.first l.stored.plan.now.split.initial
       vectors l.k l.line.registers
       (Puts (g.P.Pen.writing l.initial.pen) (g.P.Pen.writing l.pen));

@@ -3,11 +3,11 @@ use Rattle.ds_run.proofs.window.write_lines.Goals as goal
 
 pub write_turns-requires-clause-stored : goal.write_turns-requires-clause-stored
 write_turns-requires-clause-stored g c =
-    (c.args.window.now.vectors.now.rows, (c.requires.played, sym c.count.ensures.value))
+    (c.args.window.now.vectors.now.rows, (c.requires.finished_run, sym c.count.ensures.value))
 
 pub returns-in-Ok : goal.returns-in-Ok
 returns-in-Ok g c =
-    let (lines, are, writes) = c.in-Ok.ensures c.args.window.now.vectors.now.rows (c.requires.played, sym c.count.ensures.value) in
+    let (lines, are, writes) = c.in-Ok.ensures c.args.window.now.vectors.now.rows (c.requires.finished_run, sym c.count.ensures.value) in
     record {
       ok = (lines, are, writes.ok);
       part = λ failed. cc;
@@ -19,7 +19,7 @@ returns-in-Ok g c =
 
 pub returns-in-Err : goal.returns-in-Err
 returns-in-Err g c =
-    let (lines, are, writes) = c.in-Err.ensures c.args.window.now.vectors.now.rows (c.requires.played, sym c.count.ensures.value) in
+    let (lines, are, writes) = c.in-Err.ensures c.args.window.now.vectors.now.rows (c.requires.finished_run, sym c.count.ensures.value) in
     record {
       ok = tt;
       part = λ failed. (lines, c.write_turns.new.line.registers, are, writes.err);

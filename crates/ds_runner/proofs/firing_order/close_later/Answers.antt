@@ -11,4 +11,4 @@ loop-latch-preserved g c j low = dite (ℕ_discrete j c.loop-latch.latch)
 
 pub returns : goal.returns
 returns g c so l low = c.loop-latch.invariant l
-    (omega (arith, low, c.loop-latch-test.false, c.loop-latch.auto.latch-end, c.latches-latch-end.ensures))
+    (omega (arith, low, c.loop-latch-test.false, c.loop-latch.auto.latch-end, c.design_nodes-latch-end.ensures))

@@ -12,4 +12,4 @@ loop-event-preserved g c j low = dite (ℕ_discrete j c.loop-event.event)
 
 pub returns : goal.returns
 returns g c so e low = c.loop-event.invariant e
-    (omega (arith, low, c.loop-event-test.false, c.loop-event.auto.event-end, c.nodes.ensures, c.latches.ensures))
+    (omega (arith, low, c.loop-event-test.false, c.loop-event.auto.event-end, c.nodes.ensures, c.design_nodes.ensures))

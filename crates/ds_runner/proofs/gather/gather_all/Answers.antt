@@ -7,7 +7,7 @@ use Rattle.ds_rule.specs.declared.view.View.{View}
 use Rattle.ds_base.specs.Scratch.{Remembers}
 use Rattle.ds_fabric.specs.Base.{Base}
 use Rattle.ds_fabric.specs.Showing.{Showing}
-use Rattle.ds_runner.specs.Turns.{Alone, sum_below}
+use Rattle.ds_runner.specs.TurnstileRule.{Alone, sum_below}
 use Rattle.ds_runner.specs.Work.{AreSingle}
 use Rattle.ds_runner.proofs.HiringLemmas.{taken_last}
 use Rattle.ds_runner.proofs.TurnstileAtStart.{fires-at, fires_of, sum-fires}
@@ -67,7 +67,7 @@ taking-preserved g c =
           (λ k near far. i.4 k (omega (arith, near, size)) far),
       (λ k p there. i.5 k p (before k p there)),
       taken_tickets b c.taking.pass.view c.gather.new.pass.view c.in-Some.one (length ps) (fires_of c.args.passes.items 0)
-          (subst (λ (r : Run). r.latches ≤ r.nodes) runs c.workload.invariant.1.among) i.0.run e.view one c.fired-fired.ensures.counted
+          (subst (λ (r : Run). r.design_nodes ≤ r.nodes) runs c.workload.invariant.1.among) i.0.run e.view one c.fired-fired.ensures.counted
           (fires-at c.args.passes.items 0 (length ps) c.in-Some.one (i.5 (length ps) c.in-Some.one here) ∙ ap (seen c.in-Some.one.view) start)
           (λ k near far. i.6 k (omega (arith, near, size)) far),
     )
@@ -78,6 +78,6 @@ returns-clause-fired g c =
     let ps : List Showing = c.args.passes.items in
     let runs = c.workload.invariant.0 ∙ ap (λ (x : Base). x.run) c.workload.view_is in
     let i = c.taking.invariant in
-    tickets-nodes b.run c.taking.pass.view (fires_of ps 0) (subst (λ (r : Run). r.latches ≤ r.nodes) runs c.workload.invariant.1.among)
+    tickets-nodes b.run c.taking.pass.view (fires_of ps 0) (subst (λ (r : Run). r.design_nodes ≤ r.nodes) runs c.workload.invariant.1.among)
     i.0.run (λ e near. i.6 e (omega (arith, c.in_default.ensures.cases.0)) near)
     ∙ (ap (sum_below (fires_of ps 0)) (sym c.requires.passes.1) ∙ sum-fires ps 0)

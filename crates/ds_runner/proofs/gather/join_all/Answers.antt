@@ -1,6 +1,6 @@
 use Rattle.std.proofs.Common.{◌≡◌, ◌∙◌, ◌∷◌, [], ◌+◌, List, ap, arith, subst, length, length-append, All, sum_by}
 use Rattle.std.proofs.lemmas.List.Sums.{sum_by-append}
-use Rattle.ds_runner.specs.Turns.{HasNone}
+use Rattle.ds_runner.specs.TurnstileRule.{HasNone}
 use Rattle.ds_runner.specs.Shown.{IsTurnOf}
 use Rattle.ds_runner.specs.declared.turn_view.TurnView.{TurnView}
 use Rattle.ds_runner.specs.Work.{made_of}

@@ -1,5 +1,5 @@
 use Rattle.std.proofs.Common.{◌≡◌, ◌+◌, All, length, sum_by}
-use Rattle.ds_runner.specs.Turns.{HasNone}
+use Rattle.ds_runner.specs.TurnstileRule.{HasNone}
 use Rattle.ds_runner.specs.Shown.{IsTurnOf}
 use Rattle.ds_runner.specs.Work.{made_of}
 use Rattle.ds_runner.specs.declared.worker.Worker.{Worker}

@@ -1,6 +1,6 @@
 use Rattle.std.proofs.Common.{◌≡◌, ◌∙◌, ap, arith, subst, sym}
 use Rattle.ds_base.specs.Scratch.{Remembers}
-use Rattle.ds_rule.specs.Run.{Run, node_of, next, Enabled}
+use Rattle.ds_rule.specs.Run.{Run, node_of, next, IsEnabledInRun}
 use Rattle.ds_rule.specs.Rule.{seen}
 use Rattle.ds_fabric.specs.Stepped.{FiresWith}
 use Rattle.ds_fabric.specs.Base.{Base}
@@ -40,7 +40,7 @@ fire_due-requires-clause-held g c = holds_node c.args.workload.now.run c.args.pa
 
 pub fire_due-requires-clause-due : goal.fire_due-requires-clause-due
 fire_due-requires-clause-due g c =
-    subst (λ (b : Base). Enabled b.run (seen c.args.pass.now.view)
+    subst (λ (b : Base). IsEnabledInRun b.run (seen c.args.pass.now.view)
     (next b.run c.new.result (seen c.args.pass.now.view c.new.result))) (sym c.workload.view_is)
     (enabled_of_due c.args.workload.now.run c.args.pass.now.view c.args.event c.new.result
     (c.new.ensures ∙ here g (goal.at.fire_due-requires-clause-due g c).After-node_of-node) c.requires.due.0)
@@ -66,7 +66,7 @@ returns-clause-fired g c =
       arith,
       one_ticket_more c.args.workload.now.run c.args.pass.now.view c.fire_due.new.pass.view c.new.result c.fire_due.result
           c.requires.sound c.requires.fits.run (omega (arith, own, c.requires.due.0.near)) fires,
-      c.requires.rest,
+      c.requires.quota_left,
     )
 
 pub returns-clause-once : goal.returns-clause-once

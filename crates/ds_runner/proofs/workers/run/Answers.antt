@@ -26,8 +26,8 @@ pub returns : goal.returns
 returns g c = let begun = c.in_ok-fabric.ensures in let pass = c.in_ok-number.ensures in let done = c.complete.ensures in
     subst (λ (r : Run). IsRunRecord c.args.quota c.args.workers.now.jobs r c.finish.result) begun.run_is
     (finished c.args.quota c.args.workers.now.jobs c.in_ok-fabric.fabric c.share_out.new.pass c.complete.new.pass c.finish.result
-    c.rest-rest.result (subst IsSound (sym begun.run_is) c.requires.sound) c.requires.jobs.0 pass.ok.0 pass.ok.1 pass.ok_few
-    c.rest-rest.ensures done.moved done.most done.done c.finish.ensures.same c.finish.ensures.legal c.finish.ensures.counted)
+    c.quota_left-quota_left.result (subst IsSound (sym begun.run_is) c.requires.sound) c.requires.jobs.0 pass.ok.0 pass.ok.1 pass.ok_few
+    c.quota_left-quota_left.ensures done.moved done.most done.done c.finish.ensures.same c.finish.ensures.legal c.finish.ensures.counted)
 
 pub complete-requires-clause-order : goal.complete-requires-clause-order
 complete-requires-clause-order g c κs within filled =

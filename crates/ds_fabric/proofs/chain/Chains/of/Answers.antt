@@ -12,10 +12,10 @@ use Rattle.ds_fabric.proofs.chain.Chains.of.Goals as goal
 
 pub loop-i-init : goal.loop-i-init
 loop-i-init g c = let run : Run = c.args.run.now in
-    let n : ℕ = c.nodes.result + c.latches.result in
+    let n : ℕ = c.nodes.result + c.design_nodes.result in
     subst (IsChained run 0 c.in_ok-heads.heads.items) (sym c.new-links.ensures.items)
     (chained_none run c.in_ok-heads.heads.items n c.in_ok-heads.ensures
-    (omega (arith, c.nodes.ensures, c.latches.ensures, events-is run)))
+    (omega (arith, c.nodes.ensures, c.design_nodes.ensures, events-is run)))
 
 -- the arc that was read, in the run
 near : (run : Run) (sound : IsSound run) (arcs : List Arc) (i : ℕ) (d : Arc) (t : ℕ)

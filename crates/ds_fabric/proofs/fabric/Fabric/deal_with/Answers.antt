@@ -80,9 +80,9 @@ invariant_of-result g c =
     let runs = ap (λ (x : Base). x.run.nodes) c.self.view_is
     ∙ (ap (λ (r : Run). r.nodes) (sym c.requires.fits.run)
     ∙ sym (ap (λ (x : Showing). x.view.run.nodes) c.pass.view_is)) in
-    dealt c.pass.inside.seat.me c.cut-seat.result.me nodes c.push_reserved.new.self.items c.find-at.result c.args.node c.args.room _ c.nodes.result h c.in_ok-places.places.items
+    dealt c.pass.inside.seat.me c.deal_seat-seat.result.me nodes c.push_reserved.new.self.items c.find-at.result c.args.node c.args.room _ c.nodes.result h c.in_ok-places.places.items
     c.pass.invariant.keeps c.take_out-history.ensures.value same
-    (c.cut-seat.ensures.new.1 ∙ ap (λ (n : ℕ). (
+    (c.deal_seat-seat.ensures.new.1 ∙ ap (λ (n : ℕ). (
       only_cut (with_cut c.pass.inside.seat.me.0 n),
       [],
     )) c.index-number.ensures) items
@@ -91,12 +91,12 @@ invariant_of-result g c =
 
 pub invariant_of-pass : goal.invariant_of-pass
 invariant_of-pass g c =
-    let me : Sat = c.pass.inside.seat.me in let me' : Sat = c.cut-seat.new.seat.me in
+    let me : Sat = c.pass.inside.seat.me in let me' : Sat = c.deal_seat-seat.new.seat.me in
     let nodes : List History = c.pass.inside.nodes.items in
     let h : History = c.take_out-history.result in
     let same = taken nodes c.as_slice-held.result.now c.find-at.result c.index-number.result c.args.node h c.as_slice-held.ensures.value c.index-number.ensures
     c.take_out-history.ensures.value c.find-at.ensures in
-    let is = c.cut-seat.ensures.lent.1 ∙ ap (λ (n : ℕ). (
+    let is = c.deal_seat-seat.ensures.lent.1 ∙ ap (λ (n : ℕ). (
       without_cut (with_cut me.0 n),
       me.1,
     )) c.index-number.ensures in

@@ -28,8 +28,8 @@ invariant_of-result g c =
           (c.requires.all l (subst (λ (r : Run). l < r.nodes) (sym run
           ∙ ap (λ (x : Base). x.run) c.self.view_is) h));
       sound = subst IsSound run c.self.invariant.0.over.sound;
-      latches_is = c.latches.ensures ∙ ap (λ (r : Run). r.latches) run;
-      recorded = subst (λ (v : View). Recorded p.view.run (tickets v) c.shut-many.result) view
+      design_nodes_is = c.design_nodes.ensures ∙ ap (λ (r : Run). r.design_nodes) run;
+      recorded = subst (λ (v : View). Recorded p.view.run (tickets v) c.close_table-many.result) view
           (subst (λ (r : Run). Recorded r
-          (tickets me.0) c.shut-many.result) run c.shut-many.ensures);
+          (tickets me.0) c.close_table-many.result) run c.close_table-many.ensures);
     }

@@ -1,6 +1,6 @@
 use Rattle.std.proofs.Common.{◌≡◌, ◌∙◌, ap, arith, sym, subst, true}
 use Rattle.ds_base.specs.Scratch.{Remembers}
-use Rattle.ds_rule.specs.Run.{next, Enabled}
+use Rattle.ds_rule.specs.Run.{next, IsEnabledInRun}
 use Rattle.ds_rule.specs.Rule.{holds, seen}
 use Rattle.ds_rule.specs.declared.view.View.{View}
 use Rattle.ds_fabric.specs.Showing.{Showing}
@@ -30,7 +30,7 @@ returns-clause-fires g c =
 
 pub fire_node-requires-clause-due : goal.fire_node-requires-clause-due
 fire_node-requires-clause-due g c =
-    subst (λ (x : Showing). Enabled c.args.self.now.run (seen x.view)
+    subst (λ (x : Showing). IsEnabledInRun c.args.self.now.run (seen x.view)
     (next c.args.self.now.run c.args.node (seen x.view c.args.node))) (sym c.pass.view_is) c.requires.due
 
 pub returns-clause-same : goal.returns-clause-same

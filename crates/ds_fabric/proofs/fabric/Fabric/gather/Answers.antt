@@ -10,26 +10,26 @@ use Rattle.ds_fabric.proofs.fabric.Fabric.gather.Goals.{After-as_slice}
 
 -- the pass keeps the histories of both
 kept : (g : Given.Over) (c : After-as_slice g)
-    → Keeps c.mend.new.seat.me (c.pass.inside.nodes.items ++ c.other.inside.nodes.items)
+    → Keeps c.gather_seats.new.seat.me (c.pass.inside.nodes.items ++ c.other.inside.nodes.items)
 kept g c =
     let run = ap (λ (x : Showing). x.view.run) c.other.view_is
     ∙ (c.requires.other.run ∙ (sym c.requires.fits.run
     ∙ sym (ap (λ (x : Showing). x.view.run) c.pass.view_is))) in
-    gathers_keep c.pass.inside.seat.me c.other.inside.seat.me c.mend.new.seat.me
+    gathers_keep c.pass.inside.seat.me c.other.inside.seat.me c.gather_seats.new.seat.me
     c.pass.inside.nodes.items c.other.inside.nodes.items c.pass.invariant.keeps
-    c.other.invariant.keeps run c.mend.ensures.seat.1 c.mend.ensures.counts c.mend.ensures.distinct
+    c.other.invariant.keeps run c.gather_seats.ensures.seat.1 c.gather_seats.ensures.counts c.gather_seats.ensures.distinct
 
 -- as many nodes as before are in the run
 same_run : (g : Given.Over) (c : After-as_slice g)
-    → c.mend.new.seat.me.0.run.nodes ≡ c.pass.inside.seat.me.0.run.nodes
-same_run g c = ap (λ (m : Sat). m.0.run.nodes) c.mend.ensures.seat.1
+    → c.gather_seats.new.seat.me.0.run.nodes ≡ c.pass.inside.seat.me.0.run.nodes
+same_run g c = ap (λ (m : Sat). m.0.run.nodes) c.gather_seats.ensures.seat.1
 
 -- the histories of both stand in the places of one
 got : (g : Given.Over) (c : After-as_slice g)
     → Gathered c.pass.inside.seat.me.0.run.nodes c.pass.inside.room c.len-first.result
     c.as_slice.result.now c.pass.inside.places.items
 got g c =
-    gathered c.mend.new.seat.me c.pass.inside.seat.me.0.run.nodes c.pass.inside.room
+    gathered c.gather_seats.new.seat.me c.pass.inside.seat.me.0.run.nodes c.pass.inside.room
     c.len-first.result c.pass.inside.nodes.items c.other.inside.nodes.items c.as_slice.result.now
     c.pass.inside.places.items (kept g c) (c.as_slice.ensures.value ∙ c.in-Ok.ensures.items)
     (same_run g c) c.pass.invariant.indexed (omega (arith, c.len-first.ensures)) (omega (
@@ -56,7 +56,7 @@ note_from-requires-clause-near g c =
 pub invariant_of-pass : goal.invariant_of-pass
 invariant_of-pass g c =
     let a = (goal.at.invariant_of-pass g c).After-as_slice in let q = got g a in
-    let me : Sat = c.pass.inside.seat.me in let me' : Sat = c.mend.new.seat.me in
+    let me : Sat = c.pass.inside.seat.me in let me' : Sat = c.gather_seats.new.seat.me in
     let o = c.note_from.ensures me.0.run.nodes c.pass.inside.room q.indexed q.within q.below in
     let items : c.as_slice.result.now ≡ c.append.new.self.items = c.as_slice.ensures.value in
     record {

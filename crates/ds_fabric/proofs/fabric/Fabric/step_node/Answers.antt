@@ -11,7 +11,7 @@ use Rattle.ds_fabric.specs.declared.history.History.{History}
 use Rattle.ds_fabric.proofs.Finds.{indexed_same, node-found, stands_same, stands_below, there}
 use Rattle.ds_fabric.proofs.fabric.Fabric.step_node.Given
 use Rattle.ds_fabric.proofs.fabric.Fabric.step_node.Goals as goal
-use Rattle.ds_fabric.proofs.fabric.Fabric.step_node.Goals.{After-advance}
+use Rattle.ds_fabric.proofs.fabric.Fabric.step_node.Goals.{After-fire_if_enabled}
 
 pub find-at-requires-clause-indexed : goal.find-at-requires-clause-indexed
 find-at-requires-clause-indexed g c = (
@@ -33,12 +33,12 @@ index_mut-requires g c =
     let b = stands_below c.args.nodes.now.items c.as_slice-held.result.now c.find-at.result
     c.index-number.result c.as_slice-held.ensures.value c.find-at.ensures in omega (arith, b)
 
-pub advance-requires-clause-run : goal.advance-requires-clause-run
-advance-requires-clause-run g c =
+pub fire_if_enabled-requires-clause-run : goal.fire_if_enabled-requires-clause-run
+fire_if_enabled-requires-clause-run g c =
     c.requires.table.1 ∙ sym (ap (λ (x : Base). x.run) c.self.view_is)
 
-pub advance-requires-clause-keeps : goal.advance-requires-clause-keeps
-advance-requires-clause-keeps g c = (
+pub fire_if_enabled-requires-clause-keeps : goal.fire_if_enabled-requires-clause-keeps
+fire_if_enabled-requires-clause-keeps g c = (
   c.args.nodes.now.items,
   c.find-at.result,
   c.requires.pass.1.keeps,
@@ -52,19 +52,19 @@ returns-clause-pass g c room p =
     let h : History = c.index_mut.result.now in
     let at = there nodes c.as_slice-held.result.now i c.index-number.result h
     c.as_slice-held.ensures.value c.find-at.ensures c.index_mut.ensures.value in
-    let q = c.advance.ensures in record {
+    let q = c.fire_if_enabled.ensures in record {
       keeps = q.keeps nodes i p.keeps at;
       indexed = subst (λ (r : Run). IsIndexed r.nodes room
-          (length (set nodes i c.advance.new.history))
-          (set nodes i c.advance.new.history) c.args.places.now.items)
-          (sym q.same.0) (put_back c.args.seat.now.me.0.run.nodes room i nodes h c.advance.new.history
+          (length (set nodes i c.fire_if_enabled.new.history))
+          (set nodes i c.fire_if_enabled.new.history) c.args.places.now.items)
+          (sym q.same.0) (put_back c.args.seat.now.me.0.run.nodes room i nodes h c.fire_if_enabled.new.history
           c.args.places.now.items p.indexed at q.node);
       roomy = p.roomy;
       few = p.few;
     }
 
 -- the history that was advanced is that of the node
-node-is : (g : Given.Over) (c : After-advance g) → c.index_mut.result.now.node ≡ c.args.node
+node-is : (g : Given.Over) (c : After-fire_if_enabled g) → c.index_mut.result.now.node ≡ c.args.node
 node-is g c =
     let nodes : List History = c.args.nodes.now.items in let h : History = c.index_mut.result.now in
     let at = there nodes c.as_slice-held.result.now c.find-at.result c.index-number.result h
@@ -75,16 +75,16 @@ node-is g c =
 pub returns-clause-step : goal.returns-clause-step
 returns-clause-step g c =
     let P : Run → ℕ → Type 0 =
-    λ r l. Stepped r c.args.seat.now.me.0 l c.advance.result c.advance.new.seat.me.0 in
-    subst (P c.args.self.now.run) (node-is g (goal.at.returns-clause-step g c).After-advance)
+    λ r l. Stepped r c.args.seat.now.me.0 l c.fire_if_enabled.result c.fire_if_enabled.new.seat.me.0 in
+    subst (P c.args.self.now.run) (node-is g (goal.at.returns-clause-step g c).After-fire_if_enabled)
     (subst (λ (r : Run). P r c.index_mut.result.now.node)
-    (ap (λ (x : Base). x.run) c.self.view_is) c.advance.ensures.step)
+    (ap (λ (x : Base). x.run) c.self.view_is) c.fire_if_enabled.ensures.step)
 
 pub returns-clause-exact : goal.returns-clause-exact
 returns-clause-exact g c =
     let v : View = c.args.seat.now.me.0 in let l : ℕ = c.index_mut.result.now.node in
-    let P : Run → ℕ → Type 0 = λ r l. FiresIfEnabled r v l c.advance.result in
-    subst (P c.args.self.now.run) (node-is g (goal.at.returns-clause-exact g c).After-advance)
+    let P : Run → ℕ → Type 0 = λ r l. FiresIfEnabled r v l c.fire_if_enabled.result in
+    subst (P c.args.self.now.run) (node-is g (goal.at.returns-clause-exact g c).After-fire_if_enabled)
     (subst (λ (r : Run). P r l) (ap (λ (x : Base). x.run) c.self.view_is)
-    (fires_if_enabled c.self.inside.run.now v c.advance.new.seat.me.0 l c.advance.result
-    c.self.invariant.0.over.sound c.advance.ensures.step))
+    (fires_if_enabled c.self.inside.run.now v c.fire_if_enabled.new.seat.me.0 l c.fire_if_enabled.result
+    c.self.invariant.0.over.sound c.fire_if_enabled.ensures.step))

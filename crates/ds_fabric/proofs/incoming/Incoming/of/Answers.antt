@@ -5,7 +5,7 @@ use Rattle.ds_fabric.specs.Into.{AreIntoBelow}
 use Rattle.ds_fabric.proofs.incoming.Incoming.of.Goals as goal
 
 pub overflow_add-event-end : goal.overflow_add-event-end
-overflow_add-event-end g c = omega (arith, c.requires.few, c.nodes.ensures, c.latches.ensures)
+overflow_add-event-end g c = omega (arith, c.requires.few, c.nodes.ensures, c.design_nodes.ensures)
 
 pub loop-event-init : goal.loop-event-init
 loop-event-init g c = c.in_ok-incoming.ensures
@@ -24,7 +24,7 @@ take_in-requires-clause-near g c = omega (
   arith,
   c.loop-event-test.true,
   c.nodes.ensures,
-  c.latches.ensures,
+  c.design_nodes.ensures,
   events-is c.args.run.now,
 )
 
@@ -37,7 +37,7 @@ returns g c = let run : Run = c.args.run.now in
       c.loop-event-test.false,
       c.loop-event.auto.event-end,
       c.nodes.ensures,
-      c.latches.ensures,
+      c.design_nodes.ensures,
       events-is run,
     ))
     c.loop-event.invariant

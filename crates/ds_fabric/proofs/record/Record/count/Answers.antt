@@ -9,8 +9,8 @@ use Rattle.ds_fabric.proofs.record.Record.count.Goals as goal
 
 pub history-history-requires : goal.history-history-requires
 history-history-requires c = let v : View = c.args.self.now.shown.view in let run : Run = v.run in
-    let same : c.self.inside.latches ≡ v.run.latches = c.self.invariant.latches_is
-    ∙ ap (λ (x : Recorder). x.shown.view.run.latches) c.self.view_is in
+    let same : c.self.inside.design_nodes ≡ v.run.design_nodes = c.self.invariant.design_nodes_is
+    ∙ ap (λ (x : Recorder). x.shown.view.run.design_nodes) c.self.view_is in
     λ sound. omega (
       arith,
       c.node_of.ensures run same,
@@ -20,8 +20,8 @@ history-history-requires c = let v : View = c.args.self.now.shown.view in let ru
 
 pub returns : goal.returns
 returns c = let v : View = c.args.self.now.shown.view in let run : Run = v.run in
-    let same : c.self.inside.latches ≡ v.run.latches = c.self.invariant.latches_is
-    ∙ ap (λ (x : Recorder). x.shown.view.run.latches) c.self.view_is in
+    let same : c.self.inside.design_nodes ≡ v.run.design_nodes = c.self.invariant.design_nodes_is
+    ∙ ap (λ (x : Recorder). x.shown.view.run.design_nodes) c.self.view_is in
     let h = c.history-history.result.now in let i = c.history-history.ensures in
     c.turns_of.ensures run same
     ∙ (counted v h c.index-number.result i.counts i.tells

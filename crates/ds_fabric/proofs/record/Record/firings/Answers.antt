@@ -10,12 +10,12 @@ use Rattle.ds_fabric.proofs.Spreads.{spread_is, overwritten}
 use Rattle.ds_fabric.proofs.record.Record.firings.Goals as goal
 
 -- the same of the same lists
-record_same : (p : Showing) (ns zs : List History) (ps qs : List ℕ) (latches n m : ℕ) → ns ≡ zs
-    → ps ≡ qs → n ≡ m → IsRecord p zs qs latches m → IsRecord p ns ps latches n
-record_same p ns zs ps qs latches n m a b e q =
-    subst (λ (xs : List History). IsRecord p xs ps latches n) (sym a)
-    (subst (λ (ys : List ℕ). IsRecord p zs ys latches n) (sym b)
-    (subst (λ (x : ℕ). IsRecord p zs qs latches x) (sym e) q))
+record_same : (p : Showing) (ns zs : List History) (ps qs : List ℕ) (design_nodes n m : ℕ) → ns ≡ zs
+    → ps ≡ qs → n ≡ m → IsRecord p zs qs design_nodes m → IsRecord p ns ps design_nodes n
+record_same p ns zs ps qs design_nodes n m a b e q =
+    subst (λ (xs : List History). IsRecord p xs ps design_nodes n) (sym a)
+    (subst (λ (ys : List ℕ). IsRecord p zs ys design_nodes n) (sym b)
+    (subst (λ (x : ℕ). IsRecord p zs qs design_nodes x) (sym e) q))
 
 pub returns-clause-ok : goal.returns-clause-ok
 returns-clause-ok c = let p : Showing = c.self.inside.shown.value in let q = c.self.invariant in
@@ -28,15 +28,15 @@ returns-clause-ok c = let p : Showing = c.self.inside.shown.value in let q = c.s
     let same : take c.in_ok-out.out.len (new ++ drop (length new) out) ≡ new =
     overwritten c.in_ok-out.out.len out new (omega (arith, long)) in
     let same-record : IsRecord p c.as_slice.result.now c.as_slice-2.result.now
-    c.self.inside.latches (length c.as_mut_slice.result.now) = record_same p c.as_slice.result.now
-    nodes c.as_slice-2.result.now c.self.inside.places.items c.self.inside.latches
+    c.self.inside.design_nodes (length c.as_mut_slice.result.now) = record_same p c.as_slice.result.now
+    nodes c.as_slice-2.result.now c.self.inside.places.items c.self.inside.design_nodes
     (length c.as_mut_slice.result.now) c.self.inside.many c.as_slice.ensures.value
     c.as_slice-2.ensures.value (ap (λ (xs : List ℕ). length xs) c.as_mut_slice.ensures.value ∙ many) q in
     let all = subst (λ (hs : List History). (i : ℕ) (h : History) → get_elem? hs i ≡ some h
     → HasSpread p.view.run h new) c.as_slice.ensures.value
     (c.spread_all.ensures.filled p same-record) in
     let is : new ≡ firings q.recorded.log =
-    spread_is p nodes c.self.inside.places.items c.self.inside.latches c.self.inside.many q new
+    spread_is p nodes c.self.inside.places.items c.self.inside.design_nodes c.self.inside.many q new
     (long ∙ many) all in
     subst (λ (x : Recorder). IsFiredInOrder x.shown.view.run (tickets x.shown.view)
     (take c.in_ok-out.out.len (new ++ drop (length new) out))) c.self.view_is (record {

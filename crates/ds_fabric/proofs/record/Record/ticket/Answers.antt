@@ -9,8 +9,8 @@ use Rattle.ds_fabric.proofs.record.Record.ticket.Goals as goal
 
 pub history-history-requires : goal.history-history-requires
 history-history-requires c = let v : View = c.args.self.now.shown.view in let run : Run = v.run in
-    let same : c.self.inside.latches ≡ v.run.latches = c.self.invariant.latches_is
-    ∙ ap (λ (x : Recorder). x.shown.view.run.latches) c.self.view_is in
+    let same : c.self.inside.design_nodes ≡ v.run.design_nodes = c.self.invariant.design_nodes_is
+    ∙ ap (λ (x : Recorder). x.shown.view.run.design_nodes) c.self.view_is in
     let long = subst (λ (x : Recorder). length x.shown.view.tickets ≡ events x.shown.view.run)
     c.self.view_is c.self.invariant.keeps.tickets_long in
     λ sound. omega (
@@ -23,8 +23,8 @@ history-history-requires c = let v : View = c.args.self.now.shown.view in let ru
 
 pub ticket-requires : goal.ticket-requires
 ticket-requires c = let v : View = c.args.self.now.shown.view in
-    let same : c.self.inside.latches ≡ v.run.latches = c.self.invariant.latches_is
-    ∙ ap (λ (x : Recorder). x.shown.view.run.latches) c.self.view_is in
+    let same : c.self.inside.design_nodes ≡ v.run.design_nodes = c.self.invariant.design_nodes_is
+    ∙ ap (λ (x : Recorder). x.shown.view.run.design_nodes) c.self.view_is in
     let h : History = c.history-history.result.now in let i = c.history-history.ensures in (
       v.run,
       same,
@@ -35,8 +35,8 @@ ticket-requires c = let v : View = c.args.self.now.shown.view in
 
 pub returns : goal.returns
 returns c = let v : View = c.args.self.now.shown.view in
-    let same : c.self.inside.latches ≡ v.run.latches = c.self.invariant.latches_is
-    ∙ ap (λ (x : Recorder). x.shown.view.run.latches) c.self.view_is in
+    let same : c.self.inside.design_nodes ≡ v.run.design_nodes = c.self.invariant.design_nodes_is
+    ∙ ap (λ (x : Recorder). x.shown.view.run.design_nodes) c.self.view_is in
     c.ticket.ensures v.run same
     ∙ (ticket_told v c.node_of.result c.args.event c.index-number.result c.args.k
     c.history-history.result.now c.history-history.ensures c.index-number.ensures

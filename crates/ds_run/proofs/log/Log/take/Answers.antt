@@ -6,8 +6,8 @@ pub returns-clause-ok : goal.returns-clause-ok
 returns-clause-ok c =
     let (legal, full) = c.firings_are_legal.ensures c.args.window.now.plan.now
     c.args.window.now.vectors.now.rows
-    c.args.fired.now c.requires.played.accepted c.requires.played.planned
-    c.requires.played.whole
+    c.args.recorded.now c.requires.finished_run.accepted c.requires.finished_run.planned
+    c.requires.finished_run.whole
     c.in_ok-fired.fired.items c.in_ok-fired.ensures.ok in (
       c.in_ok-fired.fired.items,
       record { legal = legal; full = full },

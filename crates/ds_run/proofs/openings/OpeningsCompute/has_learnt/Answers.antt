@@ -13,8 +13,8 @@ is_learnt-requires c =
     let m : Memory = memory_of s c.self.inside.groups c.self.inside.order.now c.self.inside.vectors.now.rows in
     let memory_is : m ≡ c.args.self.now.memory = ap (λ (x : RunWithMemory). x.memory) c.self.view_is in
     let run_is = ap (λ (x : RunWithMemory). x.run) c.self.view_is in
-    let latches : c.args.self.now.run.latches ≡ nodes s =
-    ap (λ (r : Run). r.latches) (sym run_is) ∙ c.self.invariant.0.planned.latches_are in
+    let latches : c.args.self.now.run.design_nodes ≡ nodes s =
+    ap (λ (r : Run). r.design_nodes) (sym run_is) ∙ c.self.invariant.0.planned.latches_are in
     omega (
       arith,
       c.requires.producer,

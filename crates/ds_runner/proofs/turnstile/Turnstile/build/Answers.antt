@@ -3,10 +3,10 @@ use Rattle.atomic_table.specs.Seated.{TableId}
 use Rattle.atomic_table.specs.Table.{opening}
 use Rattle.ds_rule.proofs.GetElemLemmas.{replicate-default}
 use Rattle.ds_fabric.specs.Showing.{Showing}
-use Rattle.ds_runner.specs.Turns.{Slot, TurnSeat, Turning, fabric_of, first_turn, has_out, nodes_of_key, run_of}
+use Rattle.ds_runner.specs.TurnstileRule.{Slot, TurnSeat, Turning, fabric_of, first_turn, has_out, nodes_of_key, run_of}
 use Rattle.ds_runner.specs.Shown.{AreAlone, IsTurnstileOpened}
 use Rattle.ds_runner.specs.declared.turn_view.TurnView.{TurnView}
-use Rattle.ds_runner.specs.declared.turning.Key.{Key}
+use Rattle.ds_runner.specs.declared.plays.Key.{Key}
 use Rattle.ds_runner.proofs.TurnstileAtStart.{turning_starts}
 use Rattle.ds_runner.proofs.turnstile.Turnstile.build.Goals as goal
 

@@ -7,10 +7,10 @@ use lib.ListN.{get_elem?}
 use Rattle.ds_rule.specs.Rule.{seen}
 use Rattle.ds_rule.proofs.GetElemLemmas.{each_snoc, at_below}
 use Rattle.ds_fabric.specs.Showing.{Showing}
-use Rattle.ds_runner.specs.Turns.{Slot, Alone, Turning, HasNone, has_out, nodes_of_key, fabric, run}
+use Rattle.ds_runner.specs.TurnstileRule.{Slot, Alone, Turning, HasNone, has_out, nodes_of_key, fabric, run}
 use Rattle.ds_runner.specs.Shown.{Stile, Turned, IsTurnstileClosed}
 use Rattle.ds_runner.specs.declared.turn_view.TurnView.{TurnView}
-use Rattle.ds_runner.specs.declared.turning.Key.{Key}
+use Rattle.ds_runner.specs.declared.plays.Key.{Key}
 use Rattle.ds_runner.proofs.TurnstileRuleLemmas.{St}
 use Rattle.ds_runner.proofs.LastTurns.{every_pass_home, made_more}
 use Rattle.ds_runner.proofs.SlotLemmas.{InSlot}

@@ -1,6 +1,0 @@
-use Rattle.std.proofs.Common.{ap}
-use Rattle.ds_rule.specs.Run.{Run}
-use Rattle.ds_rule.proofs.layout.Layout.turns.Goals as goal
-
-pub returns : goal.returns
-returns g c = c.turns_of.ensures c.args.self.now (ap (λ (r : Run). r.latches) c.self.view_is)

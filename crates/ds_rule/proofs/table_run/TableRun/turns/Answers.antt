@@ -1,0 +1,6 @@
+use Rattle.std.proofs.Common.{ap}
+use Rattle.ds_rule.specs.Run.{Run}
+use Rattle.ds_rule.proofs.table_run.TableRun.turns.Goals as goal
+
+pub returns : goal.returns
+returns g c = c.turns_of.ensures c.args.self.now (ap (λ (r : Run). r.design_nodes) c.self.view_is)

@@ -1,6 +1,0 @@
-use Rattle.std.specs.Prelude.{vec_capacity}
-use Rattle.ds_runner.proofs.HiringLemmas.{IsHiring}
-use Rattle.ds_runner.proofs.hire.enlist.Given as goal
-
-abbrev pub invariant-hiring : goal.invariant-hiring
-invariant-hiring g l = IsHiring l.workload l.stile l.number l.count (vec_capacity l.workers) l.workers.items l.turn

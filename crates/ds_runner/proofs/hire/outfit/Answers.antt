@@ -1,7 +1,0 @@
-use Rattle.std.proofs.Common.{subst}
-use Rattle.ds_base.specs.Scratch.{Remembers}
-use Rattle.ds_fabric.specs.Base.{Base}
-use Rattle.ds_runner.proofs.hire.outfit.Goals as goal
-
-pub returns : goal.returns
-returns g c = subst (λ (b : Base). Remembers b.memory c.in_ok-scratch.scratch) c.workload.view_is c.in_ok-scratch.ensures
