@@ -9,6 +9,10 @@ use std::thread::Threads;
 // Seven vectors.
 const VECTORS: &str = "1\n0\n1\n1\n0\n0\n1\n";
 
+// Seven groups of registers, by their last digits: with them a run has 16 nodes, so few that it has
+// as many workers as jobs.
+const SEVEN: &str = "*0\n*1\n*2\n*3\n*4\n*5\n*\n";
+
 // Whether a hundred registers, run with such options, print the clocked trace and a log that is
 // fired again to its end with the same slack.
 fn is_run_and_fired_again<R: AllocGlobal + Threads + Sync>(
@@ -17,8 +21,10 @@ fn is_run_and_fired_again<R: AllocGlobal + Threads + Sync>(
     slack: &str,
     jobs: &str,
 ) -> Result<bool, OutOfMemory> {
-    let files = [("n", net), ("v", VECTORS)];
-    let line = format!(in rt.alloc(); "desync run n v --log --jobs {jobs} --slack {slack}")?;
+    let files = [("n", net), ("v", VECTORS), ("f", SEVEN)];
+    let line = format!(in rt.alloc();
+        "desync run n v --groups f --log --jobs {jobs} --slack {slack}"
+    )?;
     let Some(clocked) = printed(rt, &files, "desync clock n v", &OpenGate) else {
         return Ok(false);
     };
@@ -36,11 +42,11 @@ fn is_fired_again<'x, R: AllocGlobal + Threads + Sync>(
     log: &'x str,
     slack: &str,
 ) -> Result<bool, OutOfMemory> {
-    let files = [("n", net), ("v", VECTORS), ("l", log)];
-    let line = format!(in rt.alloc(); "desync replay n v l --slack {slack}")?;
+    let files = [("n", net), ("v", VECTORS), ("f", SEVEN), ("l", log)];
+    let line = format!(in rt.alloc(); "desync replay n v l --groups f --slack {slack}")?;
     let state = printed(rt, &files, line.as_str(), &OpenGate);
-    // Each of 202 nodes opens and closes in each of 7 turns
-    Ok(state.is_some_and(|state| state.as_str().ends_with("\nfired 2828 of 2828\n")))
+    // Each of 16 nodes opens and closes in each of 7 turns
+    Ok(state.is_some_and(|state| state.as_str().ends_with("\nfired 224 of 224\n")))
 }
 
 #[test]

@@ -1,17 +1,18 @@
 //! Workers on the shared table of a run: every event is fired as often as it may, by several
 //! threads.
 //!
-//! `run` gives each node a pass of its own and puts these into a turnstile, from which any worker
-//! takes the pass of any node that is due, steps it once or twice, and gives it back. A worker
-//! looks first where it was told of a node, then among its own part of the nodes, then at what
-//! others were told, then everywhere. It ends once all is done, or its budget is used up, of takes,
-//! of firings or of looks in rounds without a take. Then the caller takes all passes in and fires
-//! what is left; with one job it fires all, in an order of a turn's events that is found
-//! beforehand, if there is one (`firing_order`). The record at the end is that of one legal list in
-//! which each event stands as often as it may fire, whatever the gate does and however threads are
-//! timed. With a quota each worker ends after so many firings, and the caller fires only while
-//! fewer have fired in all: the list has that many events, or all, or more, but at most as many for
-//! each worker. Nothing is promised of time, or of which worker fires what.
+//! `run` has as many workers as pay, by what its nodes cost; with a quota, or at most 16 nodes, as
+//! many as jobs. It gives each node a pass of its own and puts these into a turnstile, from which
+//! any worker takes the pass of any node that is due, steps it once or twice, and gives it back. A
+//! worker looks first where it was told of a node, then among its own part of the nodes, then at
+//! what others were told, then everywhere. It ends once all is done, or its budget is used up, of
+//! takes, of firings or of looks in rounds without a take. Then the caller takes all passes in and
+//! fires what is left. If no second worker pays it fires all, without turnstile, in an order of a
+//! turn's events that is found beforehand, if there is one (`firing_order`). The record at the end
+//! is that of one legal list in which each event stands as often as it may fire, whatever the gate
+//! does and however threads are timed. With a quota each worker ends after so many firings, and the
+//! caller fires only while fewer have fired in all: the list has that many events, or all, or more,
+//! but at most as many for each worker. Nothing is promised of time, or of which worker fires what.
 //!
 //! A turnstile: any thread takes the pass of any node, one thread at a time. A `Turnstile` is seen
 //! as its table, the passes that it was built with, and the number of turns. It has a word and a

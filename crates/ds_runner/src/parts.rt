@@ -1,6 +1,6 @@
-//! The nodes shared out: each worker has a part of them, in which it looks where its own hints name
-//! no node that is due. By the hints of the run all parts take about the same work, where cones do
-//! not overlap.
+//! The nodes shared out, in as many parts as pay: each worker has one, in which it looks where its
+//! own hints name no node that is due. By the hints of the run all parts take about the same work,
+//! where cones do not overlap.
 ghost use Rattle.std.specs.Prelude.{◌≡◌, ◌<◌, ◌≤◌, IfOk};
 ghost use Rattle.ds_runner.specs.Parts.{AreBorders};
 
@@ -13,6 +13,18 @@ use std::alloc::Global;
 
 // What the two firings of a node in a turn take beside the work of its opening, counted in tables.
 const FIRINGS: u64 = 48;
+
+// The least work of a part in a turn, counted in tables.
+const PART: u64 = 1500;
+
+// What several workers add to the work of a turn, counted in tables, of which one takes about 1.4
+// nanoseconds: of each node two draws of tickets, which take 56 to 95 nanoseconds each in place of
+// 6, and four steps of 6 that take its pass and give it back; and once for all nodes the four lines
+// of memory, 137 nanoseconds each, by which two parts hear of each other. Draws go one after
+// another, so they are not shared.
+const DRAWS: u64 = 120;
+
+const MEETING: u64 = 400;
 
 /// Where the parts begin, of which there are so many, and the number of nodes behind the last.
 pub fn borders_of<V: RunValues, C: Compute, G: Gate>(
@@ -32,6 +44,22 @@ pub fn borders_of<V: RunValues, C: Compute, G: Gate>(
     }
     borders.push_reserved(workload.run.nodes());
     Ok(borders)
+}
+
+/// How many parts pay for at most so many workers, if the nodes have so much work in a turn. One:
+/// no number of workers gains an eighth of the time. One part takes a quarter more than the others.
+pub fn paying_parts(nodes: usize, work: u64, most: u32) -> u32
+    requires most { 0 < most }
+    ensures { (0 < result) × (result ≤ most) }
+{
+    let parts = (work / PART).min(most as u64) as u32;
+    if parts < 2 {
+        return 1;
+    }
+    let part = work / parts as u64;
+    let added = DRAWS.saturating_mul(nodes as u64).saturating_add(MEETING);
+    let together = part.saturating_add(part / 4).saturating_add(added);
+    if together < work - work / 8 { parts } else { 1 }
 }
 
 /// The work of all nodes in a turn, counted in tables. A hint, as what it is made of.

@@ -114,8 +114,14 @@ fn each_firing_in_texts_shows(alloc: Global, net: &str, run: &str) -> Result<boo
 #[test]
 fn each_node_shows_what_it_holds_at_each_firing(rt: HostRuntime) -> Result<(), Fail> {
     let net = tangle(rt.alloc(), 1)?;
+    // A stop behind all firings, so that four workers fire whether that pays or not.
     let files = [("n", net.as_str()), ("v", VECTORS)];
-    let Some(run) = printed(&rt, &files, "desync run n v --jobs 4 --log", &OpenGate) else {
+    let Some(run) = printed(
+        &rt,
+        &files,
+        "desync run n v --jobs 4 --log --stop 9999",
+        &OpenGate,
+    ) else {
         panic!(rt; "no log");
     };
     let all = each_firing_in_texts_shows(rt.alloc(), net.as_str(), run.as_str());

@@ -4,7 +4,8 @@ use Rattle.ds_rule.specs.Sound.{IsSound}
 use Rattle.ds_fabric.specs.Showing.{IsFabricBegun}
 use Rattle.ds_runner.specs.FiringOrder.{IsFiringOrder}
 use Rattle.ds_runner.specs.Stopped.{IsRunRecord}
-use Rattle.ds_runner.proofs.FinalRecord.{finished, still_holds}
+use Rattle.ds_runner.specs.Work.{quota_of}
+use Rattle.ds_runner.proofs.FinalRecord.{collected, finished, still_holds}
 use Rattle.ds_runner.proofs.WorkLemmas.{still_belongs}
 use Rattle.ds_runner.proofs.workers.run.Goals as goal
 
@@ -24,9 +25,12 @@ finish-requires-clause-all g c =
 
 pub returns : goal.returns
 returns g c = let begun = c.in_ok-fabric.ensures in let pass = c.in_ok-number.ensures in let done = c.complete.ensures in
+    let budget = c.budget-budget.result in
     subst (λ (r : Run). IsRunRecord c.args.quota c.args.workers.now.jobs r c.finish.result) begun.run_is
     (finished c.args.quota c.args.workers.now.jobs c.in_ok-fabric.fabric c.share_out.new.pass c.complete.new.pass c.finish.result
-    c.quota_left-quota_left.result (subst IsSound (sym begun.run_is) c.requires.sound) c.requires.jobs.0 pass.ok.0 pass.ok.1 pass.ok_few
+    c.quota_left-quota_left.result (subst IsSound (sym begun.run_is) c.requires.sound) c.requires.jobs.0 pass.ok.0 pass.ok.1
+    (collected _ budget.workers c.args.workers.now.jobs budget.firings (quota_of c.args.quota) pass.ok_few
+    c.budget-budget.ensures.workers.1 c.budget-budget.ensures.firings)
     c.quota_left-quota_left.ensures done.moved done.most done.done c.finish.ensures.same c.finish.ensures.legal c.finish.ensures.counted)
 
 pub complete-requires-clause-order : goal.complete-requires-clause-order

@@ -1,6 +1,5 @@
 use Rattle.std.proofs.Common.{arith, ap}
-use Rattle.ds_runner.specs.Work.{all_tickets, quota_of}
-use Rattle.ds_runner.proofs.FinalRecord.{collected}
+use Rattle.ds_runner.specs.Work.{all_tickets}
 use Rattle.ds_runner.proofs.HiringLemmas.{first_has, first_unfired}
 use Rattle.ds_runner.proofs.TicketCounts.{blank_first}
 use Rattle.ds_runner.proofs.workers.share_out.Goals as goal
@@ -11,10 +10,5 @@ share-requires-clause-has g c κs within = first_has c.args.workload.now.run _ c
 pub share-requires-clause-unfired : goal.share-requires-clause-unfired
 share-requires-clause-unfired g c κs within = first_unfired c.args.workload.now.run _ c.requires.begun.view
 
-pub returns-then-workers-eq1-clause-ok_few : goal.returns-then-workers-eq1-clause-ok_few
-returns-then-workers-eq1-clause-ok_few g c = omega (arith, ap all_tickets c.requires.begun.view, blank_first c.args.workload.now.run)
-
-pub returns-clause-ok_few : goal.returns-clause-ok_few
-returns-clause-ok_few g c =
-    collected _ c.budget-budget.result.workers c.args.workers.now.jobs c.budget-budget.result.firings (quota_of c.args.quota)
-    c.in_ok-share.ensures.ok_few c.budget-budget.ensures.workers.1 c.budget-budget.ensures.firings
+pub returns-then-budget-eq1-clause-ok_few : goal.returns-then-budget-eq1-clause-ok_few
+returns-then-budget-eq1-clause-ok_few g c = omega (arith, ap all_tickets c.requires.begun.view, blank_first c.args.workload.now.run)
