@@ -74,10 +74,6 @@ fn meet(met: &mut [bool], event: EventId) {
 // Whether an arc without tokens leads from an event to one that was met.
 fn leads_back(graph: &Marked, event: EventId, met: &[bool]) -> bool {
     let range = graph.arcs_from(event);
-    for arc in &graph.arcs()[range.start..range.end] {
-        if arc.tokens == 0 && met.get(arc.target.index()) == Some(&true) {
-            return true;
-        }
-    }
-    false
+    graph.arcs()[range.start..range.end].iter().any(|arc| arc.tokens == 0
+        && met.get(arc.target.index()) == Some(&true))
 }

@@ -19,11 +19,7 @@ pub(crate) fn in_turn(alloc: Global, events: usize) -> Result<Vec<EventId>, Allo
     requires { events < 2 ^ 32 }
     ensures { IfOk result (λ order. (v : ℕ) → v < events → Contains order.items v) }
 {
-    let mut order: Vec<EventId> = Vec::new(alloc);
-    for place in 0..events {
-        order.push(EventId::new(place as u32))?;
-    }
-    Ok(order)
+    (0..events as u32).map(EventId::new).collect(alloc)
 }
 
 // The events by their ranks.
@@ -47,13 +43,13 @@ fn with_ranks(alloc: Global, events: usize, ranks: &Ranks) -> Result<Vec<EventRa
     requires ranks { length ranks.now ≡ events }
     ensures { IfOk result (λ all. AreRanked events all.items) }
 {
-    let mut all: Vec<EventRank> = Vec::new(alloc);
-    for place in 0..events {
-        let event = EventId::new(place as u32);
-        let rank = ranks.at(event);
-        all.push(EventRank { rank, event })?;
-    }
-    Ok(all)
+    (0..events as u32)
+        .map(EventId::new)
+        .map(|event| EventRank {
+            rank: ranks.at(event),
+            event,
+        })
+        .collect(alloc)
 }
 
 // Sorts by rank, and leaves those of one rank in their order.

@@ -34,11 +34,7 @@ pub(crate) fn moved_arcs(
     requires { AreEnds (length places.now) arcs.now }
     ensures { IfOk result (λ v. v.items ≡ map (moved (slice_index places.now)) arcs.now) }
 {
-    let mut others: Vec<Arc> = Vec::new(alloc);
-    for arc in arcs {
-        others.push(moved_arc(arc, places))?;
-    }
-    Ok(others)
+    arcs.iter().map(|arc| moved_arc(arc, places)).collect(alloc)
 }
 
 // An arc with its ends at these places.

@@ -23,12 +23,7 @@ pub(crate) fn first_twice(counts: &[u64]) -> Option<usize>
         ((k : ℕ) → k < length counts.now → slice_index counts.now k < 2)
         (λ k. IsFirstTwice counts.now k) }
 {
-    for (i, times) in counts.iter().enumerate() {
-        if *times >= 2 {
-            return Some(i);
-        }
-    }
-    None
+    counts.iter().position(|times| *times >= 2)
 }
 
 // The first place that is used and not driven.
@@ -39,10 +34,7 @@ pub(crate) fn first_free(uses: &[u64], counts: &[u64]) -> Option<usize>
         → 0 < slice_index counts.now k)
         (λ k. IsFirstFree uses.now counts.now k) }
 {
-    for (i, times) in counts.iter().enumerate() {
-        if uses[i] > 0 && *times == 0 {
-            return Some(i);
-        }
-    }
-    None
+    uses.iter()
+        .zip(counts)
+        .position(|(uses, times)| *uses > 0 && *times == 0)
 }

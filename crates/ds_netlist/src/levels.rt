@@ -76,9 +76,5 @@ fn cycle_of(alloc: Global, nodes: &[u32]) -> NetFault
 fn ids(alloc: Global, nodes: &[u32]) -> Result<Vec<NetId>, AllocError>
     ensures ok { IfOk result (λ v. v.items ≡ nodes.now) }
 {
-    let mut nets: Vec<NetId> = Vec::new(alloc);
-    for node in nodes {
-        nets.push(NetId::new(*node))?;
-    }
-    Ok(nets)
+    nodes.iter().map(|node| NetId::new(*node)).collect(alloc)
 }

@@ -51,14 +51,13 @@ fn is_the_clock(clock: Option<NetId>, net: NetId) -> bool
 pub(crate) fn driven_nets(alloc: Global, design: &Design) -> Result<Vec<NetId>, AllocError>
     ensures ok { IfOk result (λ v. v.items ≡ table_nets design.now ++ register_nets design.now) }
 {
-    let mut nets: Vec<NetId> = Vec::new(alloc);
-    for table in design.tables() {
-        nets.push(table.output)?;
-    }
-    for register in design.registers() {
-        nets.push(register.output)?;
-    }
-    Ok(nets)
+    let registers = design.registers().iter().map(|r| r.output);
+    design
+        .tables()
+        .iter()
+        .map(|table| table.output)
+        .chain(registers)
+        .collect(alloc)
 }
 
 // The inputs of the tables and of the registers, then the outputs of the design.

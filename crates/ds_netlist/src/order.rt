@@ -55,9 +55,5 @@ fn width_at(widths: &[u8], place: u32) -> u8 {
 fn first_places(alloc: Global, count: u32) -> Result<Vec<u32>, AllocError>
     ensures ok { IfOk result (λ v. v.items ≡ range_with_len 0 count) }
 {
-    let mut places: Vec<u32> = Vec::new(alloc);
-    for place in 0..count {
-        places.push(place)?;
-    }
-    Ok(places)
+    (0..count).collect(alloc)
 }

@@ -10,13 +10,7 @@ pub fn check_ranks(graph: &Marked, ranks: &Ranks) -> bool
     requires one_each { length ranks.now ≡ length graph.now.events }
     ensures { IsTrue result ↔ RisesAlong graph.now ranks.now }
 {
-    let arcs = graph.arcs();
-    for arc in arcs {
-        if !rises(arc, ranks) {
-            return false;
-        }
-    }
-    true
+    graph.arcs().iter().all(|arc| rises(arc, ranks))
 }
 
 // Whether the numbers rise along the arc, if it has no tokens.

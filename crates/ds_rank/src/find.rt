@@ -74,9 +74,5 @@ fn cycle_of(alloc: Global, nodes: &[u32]) -> RankFault
 fn ids(alloc: Global, nodes: &[u32]) -> Result<Vec<EventId>, AllocError>
     ensures { IfOk result (λ v. v.items ≡ nodes.now) }
 {
-    let mut events: Vec<EventId> = Vec::new(alloc);
-    for node in nodes {
-        events.push(EventId::new(*node))?;
-    }
-    Ok(events)
+    nodes.iter().map(|node| EventId::new(*node)).collect(alloc)
 }

@@ -1,6 +1,6 @@
 -- A key for each bus.
 use Rattle.std.proofs.Common.{◌≡◌, ◌≢◌, inl, inr, ℕ, ◌+◌, ◌<◌, ◌≤◌, List, [], ◌∷◌, ◌++◌, length, get_or, refl, sym, ◌∙◌, ap, subst, replicate, arith, length-append}
-use Rattle.std.specs.Prelude.{All, ⊤}
+use Rattle.std.specs.Prelude.{⊤}
 use Rattle.std.proofs.lemmas.Bool.{cases_lt}
 use Rattle.std.proofs.lemmas.List.{length-replicate}
 use Rattle.std.proofs.lemmas.List.Elements.{All-from_get_or}
@@ -108,17 +108,6 @@ bus_keys c count keys buses have = record {
   same = λ a b low also. (
     (λ e. have.once (get_or keys a 0) (get_or keys b 0) (have.low a low) (have.low b also) (have.at a low ∙ (e ∙ sym (have.at b also)))),
     (λ e. sym (have.at a low) ∙ (ap (λ k. get_or buses k no_net) e ∙ have.at b also)),
-  );
-}
-
--- each register has a key of its own
-pub rising_keys : (count : ℕ) (keys : List ℕ) → length keys ≡ count → ((r : ℕ) → r < count → get_or keys r 0 ≡ r) → AreKeys (λ a b. a ≡ b) count count keys
-rising_keys count keys size at = record {
-  one_each = size;
-  few = All-from_get_or (λ key. key < count) keys 0 (λ r below. let low : r < count = omega arith in let e = at r low in omega (arith, e, low));
-  same = λ a b low also. (
-    (λ e. ap (λ r. get_or keys r 0) e),
-    (λ e. let x = at a low in let y = at b also in omega (arith, x, y, e)),
   );
 }
 

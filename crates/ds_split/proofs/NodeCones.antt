@@ -1,5 +1,5 @@
 -- The nets of the nodes, and the cone of each that settles.
-use Rattle.std.proofs.Common.{◌≡◌, ◌∙◌, ℕ, ◌+◌, ◌/◌, ◌<◌, List, [], ◌∷◌, ◌++◌, length, get_or, not, arith, ap, refl, sym, subst, inl, inr, ◌==◌}
+use Rattle.std.proofs.Common.{◌≡◌, ◌∙◌, ℕ, ◌+◌, ◌<◌, List, [], ◌∷◌, ◌++◌, length, get_or, not, arith, ap, refl, sym, subst, inl, inr, ◌==◌}
 use Rattle.std.specs.Prelude.{All}
 use Rattle.std.specs.List.{list_any}
 use Rattle.std.proofs.lemmas.Bool.{cases_eq}
@@ -45,16 +45,16 @@ pub lent : (bits : List (List ℕ)) (node index : ℕ) (item list : List ℕ) �
 lent bits node index item list list_is item_is index_is inside =
     list_is ∙ (item_is ∙ (ap (λ (n : ℕ). get_or bits n item) index_is ∙ get_or_default bits node item [] inside))
 
--- the cone of a node that settles stands at half its number
-pub place_is : (n : Node) → IsSettling n → cone_place n ≡ number_of n / 2
-place_is In settling = absurd settling
-place_is Out settling = omega arith
-place_is (Master i) settling = omega arith
-place_is (Slave i) settling = absurd settling
+-- the cone of a node that settles stands at its place
+pub cone_low : (s : Split) (n : Node) → IsNode s n → IsSettling n → cone_place n < length s.clusters + 1
+cone_low s In is_node settling = absurd settling
+cone_low s Out is_node settling = omega arith
+cone_low s (Master i) is_node settling = (let h : i < length s.clusters = is_node in omega (h, arith))
+cone_low s (Slave i) is_node settling = absurd settling
 
-pub cone_at : (s : Split) (cones : List Parts) → AreCones s cones → (number : ℕ) (cone : Parts) → cone ≡ get_or cones (number / 2) cone → IsConeAt s number cone
-cone_at s cones are number cone is n at =
-    subst (IsCone s.circuit (nets_of s n)) (ap (λ (k : ℕ). get_or cones k cone) (place_is n at.settling ∙ ap (λ (m : ℕ). m / 2) at.is) ∙ sym is)
+pub cone_at : (s : Split) (cones : List Parts) → AreCones s cones → (number place : ℕ) → ((n : Node) → number_of n ≡ number → place ≡ cone_place n) → (cone : Parts) → cone ≡ get_or cones place cone → IsConeAt s number cone
+cone_at s cones are number place place_is cone is n at =
+    subst (IsCone s.circuit (nets_of s n)) (ap (λ (k : ℕ). get_or cones k cone) (sym (place_is n at.is)) ∙ sym is)
     (are.each n at.node at.settling cone)
 
 -- the first cone, that of OUT

@@ -5,8 +5,9 @@ ghost use Rattle.ds_latch.specs.declared.node.Node.{Node};
 ghost use Rattle.ds_latch.specs.Node.{number_of};
 ghost use Rattle.ds_latch.specs.Plan.{IsSplit};
 ghost use Rattle.ds_split.specs.Cones.{AreCones, HasConeMore, IsConeAt, IsSettlingAt};
+ghost use Rattle.ds_split.specs.Cones.{cone_place as place_of_cone};
 
-use ds_base::OutOfMemory;
+use ds_base::{LatchId, OutOfMemory};
 use ds_latch::{Latches, Node};
 use ds_settle::{Cone, Finder};
 use std::alloc::Global;
@@ -18,6 +19,16 @@ pub fn cones_of(alloc: Global, latches: &Latches) -> Result<Vec<Cone>, OutOfMemo
 {
     let mut finder = Finder::of(alloc, latches.netlist())?;
     cones_by(alloc, latches, &mut finder)
+}
+
+/// The place of the cone of the node with this number, where it settles: OUT, M0, M1, ..
+pub fn cone_place(latch: LatchId) -> usize
+    ensures { (n : Node) → number_of n ≡ latch → result ≡ place_of_cone n }
+{
+    match Node::of(latch) {
+        Node::In | Node::Out | Node::Slave(_) => 0,
+        Node::Master(i) => i as usize + 1,
+    }
 }
 
 // The cones, by a finder of the netlist.

@@ -14,10 +14,11 @@
 //! opens, IN takes the next vector, a slave the row of its master, and OUT and the masters what
 //! their nets settle to over the rows of their producers: for that the tables of one cone are
 //! enough. `cones_of` finds these cones, those of OUT, M0, M1, .., one after another, in time
-//! linear in their sizes up to the sorts of their tables. Where each producer shows the value that
-//! the orders of its edge fix, what the node takes is its next value in the clocked run, and so is
-//! what its cone settles to, whatever the other nets had (`laws`). In which order the sources of a
-//! cone stand, or its tables of one level, is not promised.
+//! linear in their sizes up to the sorts of their tables, and `cone_place` tells where that of a
+//! node stands. Where each producer shows the value that the orders of its edge fix, what the node
+//! takes is its next value in the clocked run, and so is what its cone settles to, whatever the
+//! other nets had (`laws`). In which order the sources of a cone stand, or its tables of one level,
+//! is not promised.
 #![tactic(auto)]
 
 mod bus;
@@ -36,7 +37,7 @@ mod producers;
 mod register_keys;
 
 pub use clusters::Clusters;
-pub use cones::cones_of;
+pub use cones::{cone_place, cones_of};
 pub use fault::SplitFault;
 pub use graph::split;
 pub use grouping::{cluster, cluster_groups};

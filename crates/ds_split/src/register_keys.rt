@@ -78,11 +78,7 @@ fn mode_keys(alloc: Global, design: &Design, mode: Mode) -> Result<Vec<usize>, O
 fn rising(alloc: Global, count: usize) -> Result<Vec<usize>, OutOfMemory>
     ensures { IfOk result (λ keys. AreKeys (λ a b. a ≡ b) count count keys.items) }
 {
-    let mut keys = Vec::new(alloc);
-    for register in 0..count {
-        keys.push(register)?;
-    }
-    Ok(keys)
+    Ok((0..count).collect(alloc)?)
 }
 
 // One key for all registers.

@@ -1,12 +1,8 @@
-use Rattle.std.proofs.Common.{◌∙◌, ◌++◌, ◌+◌, ◌∷◌, [], ℕ, List, arith, ap, sym}
-use Rattle.std.specs.List.{range_with_len}
-use Rattle.std.proofs.lemmas.List.{map-id}
-use Rattle.std.proofs.lemmas.List.FromFn.{map-range_with_len_more}
+use Rattle.std.proofs.Common.{arith, refl}
+use Rattle.std.proofs.lemmas.Iterator.{items_from_collect, YieldsList-from_range}
 use Rattle.ds_netlist.proofs.order.first_places.Goals as goal
 
-pub loop-place-preserved : goal.loop-place-preserved
-loop-place-preserved c =
-    let place : ℕ = c.loop-place.place in
-    c.in_ok-push.ensures.items
-    ∙ (ap (λ (xs : List ℕ). xs ++ place ∷ []) (c.loop-place.invariant ∙ sym (map-id (range_with_len 0 place)))
-    ∙ (sym (map-range_with_len_more (λ (k : ℕ). k) 0 place place (omega arith)) ∙ map-id (range_with_len 0 (place + 1))))
+pub returns : goal.returns
+returns c = record {
+  ok = items_from_collect _ c.collect.ensures.ran (YieldsList-from_range 0 _ _ refl (omega arith));
+}
