@@ -25,20 +25,6 @@ use Rattle.ds_fire.specs.declared.row_places.RowPlaces.{RowPlaces}
 use Rattle.ds_fire.proofs.Settles.{home_place, place_low, read, takes_settled}
 use Rattle.ds_fire.proofs.Shown.{index_inside}
 
--- each number is that of a node
-pub node_at : (s : Split) (l : ℕ) → l < nodes s → (n : Node) × IsNode s n × (number_of n ≡ l)
-node_at s l below =
-    elim (cases_eq l 0) [
-      | inl e ↦ (In, tt, sym e)
-      | inr ne ↦ elim (cases_eq l 1) [
-        | inl e ↦ (Out, tt, sym e)
-        | inr other ↦ elim (cases_eq (l % 2) 0) [
-          | inl even ↦ (Master ((l - 2) / 2), (let low : (l - 2) / 2 < length s.clusters = omega arith in low), (let is : 2 * ((l - 2) / 2) + 2 ≡ l = omega arith in is))
-          | inr odd ↦ (Slave ((l - 2) / 2), (let low : (l - 2) / 2 < length s.clusters = omega arith in low), (let is : 2 * ((l - 2) / 2) + 3 ≡ l = omega arith in is))
-        ]
-      ]
-    ]
-
 -- the nets of the node with a number, as they are lent
 pub bits_are : (s : Split) (bits : List (List ℕ)) (number : ℕ) (bit : List ℕ) → number < length bits → bit ≡ get_or bits number bit → ((n : Node) → IsNode s n → get_or bits (number_of n) [] ≡ nets_of s n) → (n : Node) → IsNode s n → number_of n ≡ number → bit ≡ nets_of s n
 bits_are s bits number bit inside is lent n is_node e =

@@ -40,7 +40,7 @@ fn first_rows(alloc: Global, latches: &Latches) -> Result<Vec<Row3>, OutOfMemory
     ensures { IfOk result (λ rows. AreFirstRows latches.now rows.items) }
 {
     let places = latches.slack() as usize + 1;
-    let nodes = latches.bits().len();
+    let nodes = latches.nodes();
     let mut rows = Vec::with_capacity(alloc, nodes * places)?;
     for k in 0..nodes * places {
         rows.push(first_row(alloc, latches, k / places, k % places)?)?;

@@ -21,11 +21,12 @@ use ds_base::{LatchId, NetId, Row3};
 use ds_design::Vectors;
 use ds_latch::{Latches, Node};
 use ds_settle::{pick_values, settle_part};
+use ds_split::cone_place;
 
-// Which node opens, by its number, and how often it has opened before.
+// Which node opens, and how often it has opened before.
 #[derive(Clone, Copy)]
 pub(crate) struct NodeOpening {
-    pub(crate) number: usize,
+    pub(crate) latch: LatchId,
     pub(crate) opened: usize,
 }
 
@@ -38,7 +39,7 @@ pub(crate) fn open(
     opening: NodeOpening,
     kept: &mut Kept,
 )
-    requires node { opening.number < nodes latches.now }
+    requires node { opening.latch < nodes latches.now }
     requires few { opening.opened < 2 ^ 32 }
     requires design { IsInRange latches.now.circuit × IsSplit latches.now }
     requires vector { opening.opened < length vectors.now.rows }
@@ -46,14 +47,12 @@ pub(crate) fn open(
     requires feeds { AreFeeds latches.now feeds.now }
     requires rows { AreRows latches.now kept.old.rows.items }
     requires nets { length kept.old.nets ≡ length latches.now.circuit.nets }
-    ensures opens { Opens latches.now vectors.now.rows opening.opened opening.number
+    ensures opens { Opens latches.now vectors.now.rows opening.opened opening.latch
         kept.old.rows.items kept.new.rows.items }
     ensures nets { length kept.new.nets ≡ length kept.old.nets }
     ensures stored { kept.new.stored.items ≡ kept.old.stored.items }
 {
-    // The nodes are counted for the fact that there are not too many.
-    let _nodes = latches.nodes();
-    match Node::of(LatchId::new(opening.number as u32)) {
+    match Node::of(opening.latch) {
         Node::In => open_in(latches, vectors, opening.opened, kept),
         Node::Out => open_settled(latches, feeds, opening, kept),
         Node::Master(_) => open_settled(latches, feeds, opening, kept),
@@ -80,31 +79,32 @@ fn open_in(latches: &Latches, vectors: &Vectors, opened: usize, kept: &mut Kept)
 fn open_slave(latches: &Latches, opening: NodeOpening, kept: &mut Kept)
     requires few { opening.opened < 2 ^ 32 }
     requires slave { (i : ℕ) × IsNode latches.now (Slave i)
-        × (number_of (Slave i) ≡ opening.number) }
+        × (number_of (Slave i) ≡ opening.latch) }
     requires rows { AreRows latches.now kept.old.rows.items }
-    ensures opens { (vectors : List Row) → Opens latches.now vectors opening.opened opening.number
+    ensures opens { (vectors : List Row) → Opens latches.now vectors opening.opened opening.latch
         kept.old.rows.items kept.new.rows.items }
     ensures nets { length kept.new.nets ≡ length kept.old.nets }
     ensures stored { kept.new.stored.items ≡ kept.old.stored.items }
 {
     let places = RowPlaces::of(latches, opening.opened);
-    let at = opening.number * places.each + places.next;
+    let at = opening.latch.index() * places.each + places.next;
     copy_row(&mut kept.rows, at - places.each, at);
 }
 
 // A node that settles takes what its cone settles to, for what its producers keep.
 fn open_settled(latches: &Latches, feeds: &Feeds, opening: NodeOpening, kept: &mut Kept)
     requires few { opening.opened < 2 ^ 32 }
-    requires node { (n : Node) × IsSettlingAt latches.now n opening.number }
+    requires node { (n : Node) × IsSettlingAt latches.now n opening.latch }
     requires design { IsInRange latches.now.circuit × IsSplit latches.now }
     requires feeds { AreFeeds latches.now feeds.now }
     requires rows { AreRows latches.now kept.old.rows.items }
     requires nets { length kept.old.nets ≡ length latches.now.circuit.nets }
-    ensures opens { (vectors : List Row) → Opens latches.now vectors opening.opened opening.number
+    ensures opens { (vectors : List Row) → Opens latches.now vectors opening.opened opening.latch
         kept.old.rows.items kept.new.rows.items }
     ensures nets { length kept.new.nets ≡ length kept.old.nets }
     ensures stored { kept.new.stored.items ≡ kept.old.stored.items }
 {
+    let number = opening.latch.index();
     let places = RowPlaces::of(latches, opening.opened);
     settle(
         latches,
@@ -113,10 +113,10 @@ fn open_settled(latches: &Latches, feeds: &Feeds, opening: NodeOpening, kept: &m
         kept.rows.as_slice(),
         &mut kept.nets,
     );
-    let into = opening.number * places.each + places.next;
+    let into = number * places.each + places.next;
     pick_values(
         &kept.nets,
-        latches.bits()[opening.number].as_slice(),
+        latches.bits()[number].as_slice(),
         &mut kept.rows[into],
     );
 }
@@ -130,17 +130,17 @@ pub(crate) fn settle(
     nets: &mut Row3,
 )
     requires few { opening.opened < 2 ^ 32 }
-    requires node { (n : Node) × IsSettlingAt latches.now n opening.number }
+    requires node { (n : Node) × IsSettlingAt latches.now n opening.latch }
     requires design { IsInRange latches.now.circuit × IsSplit latches.now }
     requires feeds { AreFeeds latches.now feeds.now }
     requires rows { AreRows latches.now rows.now }
     requires nets { length nets.old ≡ length latches.now.circuit.nets }
-    ensures settled { (n : Node) → IsSettlingAt latches.now n opening.number
+    ensures settled { (n : Node) → IsSettlingAt latches.now n opening.latch
         → IsSettledOn latches.now rows.now opening.opened n nets.new }
     ensures same { length nets.new ≡ length nets.old }
 {
     let places = RowPlaces::of(latches, opening.opened);
-    let cone = &feeds.cones[opening.number / 2];
+    let cone = &feeds.cones[cone_place(opening.latch)];
     load(cone.sources(), feeds.homes.as_slice(), rows, places, nets);
     settle_part(latches.netlist(), cone, nets);
 }

@@ -12,7 +12,7 @@ use crate::feeds::Feeds;
 use crate::kept::Kept;
 use crate::opening::{NodeOpening, open};
 use crate::row_places::RowPlaces;
-use ds_base::EventId;
+use ds_base::{EventId, LatchId};
 use ds_design::Vectors;
 use ds_latch::Latches;
 
@@ -44,16 +44,16 @@ pub(crate) fn turn(
     ensures { IsTurned latches.now vectors.now.rows firing.event firing.count
         kept.old kept.new }
 {
-    let number = firing.event.index() / 2;
-    if number < latches.bits().len() {
-        if firing.event.index() % 2 == 0 {
+    let latch = LatchId::new(firing.event.number() / 2);
+    if latch.index() < latches.nodes() {
+        if firing.event.number() % 2 == 0 {
             let opening = NodeOpening {
-                number,
+                latch,
                 opened: firing.count,
             };
             open(latches, vectors, feeds, opening, kept);
         } else {
-            close(latches, number, firing.count, kept);
+            close(latches, latch.index(), firing.count, kept);
         }
     }
 }

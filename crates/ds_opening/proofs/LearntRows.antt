@@ -1,22 +1,23 @@
 -- Which rows are learnt.
-use Rattle.std.proofs.Common.{◌≡◌, ◌∙◌, ℕ, ◌+◌, ◌*◌, ◌%◌, Bool, true, false, eqb, get_or, refl, ap, ne_eqb, arith, ◌&&◌, ◌||◌}
+use Rattle.std.proofs.Common.{◌≡◌, ◌∙◌, ℕ, ◌+◌, Bool, true, false, eqb, get_or, refl, ap, sym, ◌&&◌}
 use Rattle.std.proofs.lemmas.Bool.{and_right, eqb-true, false≢true}
 use Rattle.ds_latch.specs.Node.{number_of}
+use Rattle.ds_latch.specs.declared.node.Node.{Node}
 use Rattle.ds_latch.specs.declared.node.Node.TheVariants.{Master}
 use Rattle.ds_base.specs.Scratch.{Kept}
+use Rattle.ds_opening.specs.Foreseen.{node_at}
 use Rattle.ds_opening.specs.Learnt.{is_learnt, is_no_master}
+use Rattle.ds_opening.proofs.ForeseenRows.{node_by_number}
+
+-- the node with the number of a node
+pub at_number : (n : Node) (number : ℕ) → number_of n ≡ number → node_at number ≡ n
+at_number n number is = ap node_at (sym is) ∙ node_by_number n
 
 -- no row of a master is learnt
-master_is_none : (i : ℕ) → is_no_master (number_of (Master i)) ≡ false
-master_is_none i =
-    let node : ℕ = 2 * i + 2 in
-    ap (λ (b : Bool). b || eqb node 0) (ne_eqb (node % 2) 1 (λ e. absurd (omega (e, arith))))
-    ∙ ne_eqb node 0 (λ e. absurd (omega (e, arith)))
-
 pub master_unlearnt : (first : ℕ) (k : Kept) (turn i : ℕ) → is_learnt first k turn (number_of (Master i)) ≡ false
 master_unlearnt first k turn i =
-    and_right (eqb (get_or k.turns (first + number_of (Master i)) 0) turn) (is_no_master (number_of (Master i)))
-    (master_is_none i)
+    and_right (eqb (get_or k.turns (first + number_of (Master i)) 0) turn) (is_no_master (node_at (number_of (Master i))))
+    (ap is_no_master (node_by_number (Master i)))
 
 front : (x y : Bool) → (x && y) ≡ true → x ≡ true
 front true y is = refl
@@ -27,4 +28,4 @@ pub slot_noted : (first : ℕ) (k : Kept) (turn node : ℕ) → is_learnt first 
     → get_or k.turns (first + node) 0 ≡ turn
 slot_noted first k turn node is =
     let noted : ℕ = get_or k.turns (first + node) 0 in
-    eqb-true noted turn (front (eqb noted turn) (is_no_master node) is)
+    eqb-true noted turn (front (eqb noted turn) (is_no_master (node_at node)) is)

@@ -1,5 +1,5 @@
 -- The opening of a node that settles, in a row that remembers.
-use Rattle.std.proofs.Common.{◌≡◌, ◌∙◌, ℕ, ◌+◌, ◌-◌, ◌/◌, ◌<◌, ◌≤◌, Bool, List, [], length, get_or, map, sym, ap, subst, arith}
+use Rattle.std.proofs.Common.{◌≡◌, ◌∙◌, ℕ, ◌+◌, ◌-◌, ◌<◌, ◌≤◌, Bool, List, [], length, get_or, map, sym, ap, subst, arith}
 use Rattle.std.specs.Prelude.{All, Contains}
 use Rattle.std.proofs.lemmas.List.{get_or-map, length-map}
 use Rattle.std.proofs.lemmas.List.Elements.{All-contains}
@@ -30,7 +30,7 @@ use Rattle.ds_split.specs.Cones.{cone_place}
 use Rattle.ds_split.specs.Settled.{IsSettling}
 use Rattle.ds_opening.specs.TurnOfOpenings.{Turn, value_taken}
 use Rattle.ds_opening.proofs.ReorderedCones.{cone_finds, these_learnt}
-use Rattle.ds_split.proofs.NodeCones.{place_is}
+use Rattle.ds_split.proofs.NodeCones.{cone_low}
 use Rattle.ds_split.proofs.SettlesNextValue.{sources_agree, turn_value}
 use Rattle.ds_opening.proofs.Slots.{slot_of_group, slot_of_source, slots_apart, slots_long}
 use Rattle.ds_opening.proofs.ComputesNextValue.{from_is, no_master, no_out, numbers_inside, numbers_within, supplied}
@@ -41,12 +41,6 @@ reads_source s In n edge settling = tt
 reads_source s Out n edge settling = no_out s n edge
 reads_source s (Master i) n edge settling = no_master s i n edge settling
 reads_source s (Slave i) n edge settling = tt
-
-cone_low : (s : Split) (n : Node) → IsNode s n → IsSettling n → cone_place n < length s.clusters + 1
-cone_low s In is_node settling = absurd settling
-cone_low s Out is_node settling = omega arith
-cone_low s (Master i) is_node settling = (let h : i < length s.clusters = is_node in omega (h, arith))
-cone_low s (Slave i) is_node settling = absurd settling
 
 -- stands for a cone where there is none
 pub blank_cone : Cone
@@ -59,7 +53,7 @@ module _ {s : Split} (split : IsSplit s) (range : IsInRange s.circuit)
     {o : Opening} {k : Kept} {n : Node} {t : Turn} {m : Memory}
     (opens : IsSettlingOpening s g o k n t m) where
   abbrev pub list : List ℕ
-  list = get_or g.lists (o.number / 2) []
+  list = get_or g.lists (cone_place n) []
 
   abbrev pub known : Row
   known = t.nets t.opened
@@ -74,9 +68,6 @@ module _ {s : Split} (split : IsSplit s) (range : IsInRange s.circuit)
   abbrev cone : Cone
   cone = get_or are.cones (cone_place n) blank_cone
 
-  place : cone_place n ≡ o.number / 2
-  place = place_is n opens.at.settling ∙ ap (λ (k : ℕ). k / 2) opens.at.is
-
   inside : cone_place n < length are.cones
   inside = (let low : cone_place n < length s.clusters + 1 = cone_low s n opens.at.node opens.at.settling in
       let size : length are.cones ≡ length s.clusters + 1 = are.are_cones.one_each in omega (low, size, arith))
@@ -85,7 +76,7 @@ module _ {s : Split} (split : IsSplit s) (range : IsInRange s.circuit)
   is_cone = are.are_cones.each n opens.at.node opens.at.settling blank_cone
 
   pub grouped : IsGrouped s.circuit g cone list
-  grouped = subst (λ (k : ℕ). IsGrouped s.circuit g cone (get_or g.lists k [])) place (are.are.each (cone_place n) blank_cone inside)
+  grouped = are.are.each (cone_place n) blank_cone inside
 
   slots_are_long : length m.slots ≡ length g.groups + nodes s
   slots_are_long = ap (λ (xs : List (List ℕ)). length xs) opens.memory.slots ∙ slots_long s split g

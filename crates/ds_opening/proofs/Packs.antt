@@ -1,9 +1,11 @@
 -- Words of values, written and read back.
-use Rattle.std.proofs.Common.{◌≡◌, ◌≢◌, ◌∙◌, ℕ, zero, suc, ◌+◌, ◌-◌, ◌*◌, ◌/◌, ◌%◌, ◌^◌, ◌<◌, ◌≤◌, List, [], ◌∷◌, ◌++◌, length, get_or, map, take, drop, refl, ap, sym, subst, arith, inl, inr, set}
+use Rattle.std.proofs.Common.{◌≡◌, ◌≢◌, ◌∙◌, ℕ, zero, suc, ◌+◌, ◌-◌, ◌*◌, ◌/◌, ◌%◌, ◌^◌, ◌<◌, ◌≤◌, List, [], ◌∷◌, ◌++◌, length, get_or, map, take, drop, refl, ap, sym, subst, arith, inl, inr, set, false, not}
 use Rattle.std.specs.List.{range_with_len}
 use Rattle.std.proofs.lemmas.List.{length-map, get_or-map, get_or-set_other, get_or-set_same, take-map, take_all, take_more, take_rest, append_assoc}
 use Rattle.std.specs.Prelude.{All, Contains}
-use Rattle.std.proofs.lemmas.Bool.{cases_eq}
+use Rattle.std.proofs.lemmas.Bool.{cases_eq, false≢true}
+use denote.Enum.Bare.{sameb}
+use Rattle.ds_base.specs.contracts.value.Value.{the_type}
 use Rattle.std.proofs.lemmas.List.Elements.{All-drop, All-take, Contains-append_cases, Contains-append_left, Contains-append_right, Contains-push}
 use Rattle.ds_settle.specs.Settle.{LeavesOthers}
 use Rattle.ds_settle.proofs.SetBits.{value_at-set_other}
@@ -12,7 +14,7 @@ use Rattle.std.proofs.Math.Seq.{take-add}
 use Rattle.ds_base.specs.Values.{Row}
 use Rattle.ds_base.specs.Word.{code_of, number_of_values, word_of, count_of_words}
 use Rattle.ds_base.specs.declared.value.Value.{Value}
-use Rattle.ds_base.specs.declared.value.Value.TheVariants.{Zero}
+use Rattle.ds_base.specs.declared.value.Value.TheVariants.{Zero, One, Unknown}
 use Rattle.ds_base.proofs.PackedWords.{code_of-few, number_of_values-drop_room, number_of_values-one_more}
 use Rattle.ds_cover.specs.Cover.{value_at, values_at}
 use Rattle.ds_opening.specs.Packed.{AreAsBefore, Learns, packed}
@@ -189,3 +191,22 @@ set_again row at value inside has net = elim (cases_eq net at) [
       ∙ (get_or-set_same row at value Zero inside ∙ (sym has ∙ sym (ap (value_at row) e)))
   | inr ne ↦ value_at-set_other row at net value ne
 ]
+
+-- the values by their codes
+pub of_code : (value other : Value)
+    → get_or (Zero ∷ One ∷ Unknown ∷ Unknown ∷ []) (code_of value) other ≡ value
+of_code Zero other = refl
+of_code One other = refl
+of_code Unknown other = refl
+
+-- values that do not differ are the same
+pub no_other : (value other : Value) → not (sameb the_type value other) ≡ false → value ≡ other
+no_other Zero Zero is = refl
+no_other Zero One is = absurd (false≢true (sym is))
+no_other Zero Unknown is = absurd (false≢true (sym is))
+no_other One Zero is = absurd (false≢true (sym is))
+no_other One One is = refl
+no_other One Unknown is = absurd (false≢true (sym is))
+no_other Unknown Zero is = absurd (false≢true (sym is))
+no_other Unknown One is = absurd (false≢true (sym is))
+no_other Unknown Unknown is = refl

@@ -1,5 +1,5 @@
 -- What the opening of a slave takes.
-use Rattle.std.proofs.Common.{◌≡◌, ◌≢◌, ◌⊎◌, ◌∙◌, ℕ, suc, ◌-◌, ◌%◌, ◌<◌, Bool, false, cond, List, [], ◌∷◌, ◌++◌, length, get_or, take, drop, ◌≤◌, refl, arith, ap, sym, subst, inl, inr}
+use Rattle.std.proofs.Common.{◌≡◌, ◌≢◌, ◌∙◌, ℕ, suc, ◌-◌, ◌<◌, Bool, false, cond, List, [], ◌∷◌, ◌++◌, length, get_or, take, drop, ◌≤◌, refl, arith, ap, sym, subst}
 use Rattle.std.specs.Prelude.{All, AllPairs, Contains}
 use Rattle.std.proofs.lemmas.List.{append-nil, length-map}
 use Rattle.std.proofs.lemmas.List.Elements.{All-head, All-tail, All-weaker}
@@ -9,7 +9,8 @@ use Rattle.ds_cover.specs.Cover.{value_at}
 use Rattle.ds_design.specs.Circuit.{register_nets}
 use Rattle.ds_latch.specs.Node.{Split, IsNode, number_of, members, nets_of}
 use Rattle.ds_latch.specs.declared.node.Node.{Node}
-use Rattle.ds_latch.specs.declared.node.Node.TheVariants.{In, Out, Master, Slave}
+use Rattle.ds_latch.specs.declared.node.Node.TheVariants.{Master, Slave}
+use Rattle.ds_latch.proofs.OrderTokens.{same_node}
 use Rattle.ds_latch.specs.Numbered.{numbered}
 use Rattle.ds_latch.specs.Order.{IsDataEdge, to_slave}
 use Rattle.ds_opening.specs.Packed.{packed}
@@ -37,40 +38,29 @@ slave_words s i is_node learnt unlearnt from t fed =
     fed.words ∙ (ap (woven learnt (read_of s t)) one ∙ (ap (λ (b : Bool). cond b [] row ++ []) unlearnt ∙ (append-nil row
     ∙ ap (λ (k : ℕ). number_of (Master i) ∷ packed (numbered s t.vectors t.state t.nets (Master i) k)) number)))
 
--- a node that is neither IN nor settles is a slave
-is_slave : (n : Node) → number_of n ≢ 0 → ¬ ((number_of n ≡ 1) ⊎ (number_of n % 2 ≡ 0)) → (i : ℕ) × (n ≡ Slave i)
-is_slave In some other = absurd (some refl)
-is_slave Out some other = absurd (other (inl refl))
-is_slave (Master i) some other = absurd (other (inr (omega arith)))
-is_slave (Slave i) some other = (i, refl)
-
-module _ (s : Split) (vectors : List Row) (number opened : ℕ) (some : number ≢ 0) (other : ¬ ((number ≡ 1) ⊎ (number % 2 ≡ 0)))
+module _ (s : Split) (vectors : List Row) (number opened i : ℕ) (slave : number_of (Slave i) ≡ number)
     (learnt : ℕ → Bool) (unlearnt : (i : ℕ) → learnt (number_of (Master i)) ≡ false) (from : List ℕ)
     (n : Node) (t : Turn) (o : IsOpeningOf s vectors number opened learnt from n t) where
-  slave_is : (i : ℕ) × (n ≡ Slave i)
-  slave_is = is_slave n (λ e. some (sym o.is ∙ e)) (subst (λ (m : ℕ). ¬ ((m ≡ 1) ⊎ (m % 2 ≡ 0))) (sym o.is) other)
+  is : n ≡ Slave i
+  is = same_node n (Slave i) (o.is ∙ sym slave)
 
-  fed_slave : (i : ℕ) → n ≡ Slave i → from ≡ number_of (Master i) ∷ packed (value_taken s t n)
-  fed_slave i is =
+  fed_slave : from ≡ number_of (Master i) ∷ packed (value_taken s t n)
+  fed_slave =
       let node : IsNode s (Slave i) = subst (IsNode s) is o.node in
       let fed : IsFed s (Slave i) learnt from t = subst (λ (m : Node). IsFed s m learnt from t) is o.fed in
       slave_words s i node learnt (unlearnt i) from t fed ∙ ap (λ (m : Node). number_of (Master i) ∷ packed (value_taken s t m)) (sym is)
 
   -- the words that a slave reads behind a number are those of the row that it takes
   pub slave_takes : take (length from - 1) (drop 1 from) ≡ packed (value_taken s t n)
-  slave_takes =
-      let (i, is) = slave_is in
-      behind_first (number_of (Master i)) (packed (value_taken s t n)) from (fed_slave i is)
+  slave_takes = behind_first (number_of (Master i)) (packed (value_taken s t n)) from fed_slave
 
   pub slave_reads : 1 ≤ length from
   slave_reads =
-      let (i, is) = slave_is in
-      let long : length from ≡ suc (length (packed (value_taken s t n))) = ap (λ (ws : List ℕ). length ws) (fed_slave i is) in
+      let long : length from ≡ suc (length (packed (value_taken s t n))) = ap (λ (ws : List ℕ). length ws) fed_slave in
       omega (long, arith)
 
   pub slave_room : length (take (length from - 1) (drop 1 from)) ≡ count_of_words (length (nets_of s n))
   slave_room =
-      let (i, is) = slave_is in
       let size : length (value_taken s t (Slave i)) ≡ length (members s i) = length-map (members s i) (value_at (t.state (suc t.opened))) in
       let nets : length (nets_of s (Slave i)) ≡ length (members s i) = length-map (members s i) (λ r. get_or (register_nets s.circuit) r 0) in
       ap (λ (ws : List ℕ). length ws) slave_takes ∙ (length-packed (value_taken s t n) ∙ (ap (λ (m : Node). count_of_words (length (value_taken s t m))) is

@@ -4,12 +4,11 @@ ghost use Rattle.ds_design.specs.InRange.{IsInRange};
 ghost use Rattle.ds_latch.specs.Node.{Split, nets_of};
 ghost use Rattle.ds_latch.specs.Plan.{IsSplit};
 ghost use Rattle.ds_split.specs.Cones.{AreCones};
-ghost use Rattle.ds_opening.specs.Foreseen.{node_at};
 ghost use Rattle.ds_opening.specs.Noted.{AreConeGroups, all_learnt_nets, learnt_nets};
 
 use crate::TableGroups;
-use ds_base::{NetId, OutOfMemory, Seq};
-use ds_latch::Latches;
+use ds_base::{LatchId, NetId, OutOfMemory, Seq};
+use ds_latch::{Latches, Node};
 use ds_settle::Cone;
 use std::alloc::Global;
 
@@ -32,23 +31,23 @@ fn learnt_of(alloc: Global, latches: &Latches<'_>) -> Result<Vec<Seq<NetId>>, Ou
     requires { IsSplit latches.now }
     ensures { IfOk result (λ lists. lists.items ≡ all_learnt_nets latches.now) }
 {
-    // The edges are read for the fact that there are not too many nodes.
-    let (bits, _edges) = (latches.bits(), latches.edges());
-    let mut lists = Vec::with_capacity(alloc, bits.len())?;
-    for node in 0..bits.len() {
-        lists.push(nets_learnt(alloc, node, bits[node].as_slice())?)?;
+    let (bits, nodes) = (latches.bits(), latches.nodes());
+    let mut lists = Vec::with_capacity(alloc, nodes)?;
+    for number in 0..nodes {
+        let node = Node::of(LatchId::new(number as u32));
+        lists.push(nets_learnt(alloc, node, bits[number].as_slice())?)?;
     }
     Ok(lists)
 }
 
-// What others learn of the node with this number, which has these nets.
-fn nets_learnt(alloc: Global, node: usize, these: &[NetId]) -> Result<Seq<NetId>, OutOfMemory>
-    ensures { IfOk result (λ list. (s : Split) → nets_of s (node_at node) ≡ these.now
-        → list ≡ learnt_nets s (node_at node)) }
+// What others learn of a node, which has these nets.
+fn nets_learnt(alloc: Global, node: Node, these: &[NetId]) -> Result<Seq<NetId>, OutOfMemory>
+    ensures { IfOk result (λ list. (s : Split) → nets_of s node ≡ these.now
+        → list ≡ learnt_nets s node) }
 {
-    let mut list = Vec::new(alloc);
-    if node == 0 || (node > 1 && node % 2 == 1) {
-        list.extend_from_slice(these)?;
-    }
+    let list = match node {
+        Node::In | Node::Slave(_) => Vec::from_slice(alloc, these)?,
+        Node::Out | Node::Master(_) => Vec::new(alloc),
+    };
     Ok(Seq::of(list))
 }

@@ -1,5 +1,5 @@
 //! What the opening of a node computes, in a row that remembers what was computed in a turn.
-ghost use Rattle.std.specs.Prelude.{◌≡◌, ◌≤◌, ◌<◌, ◌+◌, ◌%◌, ◌⊎◌, ◌↔◌, ◌++◌, ℕ};
+ghost use Rattle.std.specs.Prelude.{◌≡◌, ◌≤◌, ◌<◌, ◌+◌, ◌++◌, ℕ};
 ghost use Rattle.std.specs.Prelude.{◌^◌, true, All, IsTrue, List, [], length};
 ghost use Rattle.std.specs.Prelude.{slice_index_or, vec_capacity, vec_len};
 ghost use Rattle.ds_base.specs.Values.{Row};
@@ -27,16 +27,17 @@ ghost use Rattle.ds_opening.specs.TurnOfOpenings.{Turn, value_taken};
 
 use crate::TableGroups;
 use crate::packed::{push_all, push_row, push_words, put_values};
-use ds_base::{NetId, Row3, Scratch, Seq, words_of};
+use ds_base::{LatchId, NetId, Row3, Scratch, Seq, words_of};
 use ds_design::{Netlist, Vectors};
-use ds_latch::Latches;
+use ds_latch::{Latches, Node};
+use ds_split::cone_place;
 
 /// The opening of the node with a number, in a turn, from 1 on, and what it reads: of each producer
 /// whose row is not learnt its number, and behind it the words of its row. Where no start value and
 /// no value of a vector is unknown, `known` may say so; then tables are set by shorter words.
 #[derive(Drop)]
 pub struct Opening<'a> {
-    pub number: usize,
+    pub number: LatchId,
     pub turn: u64,
     pub from: &'a [u64],
     pub known: bool,
@@ -74,22 +75,15 @@ pub fn open(
         → Remembers m scratch.new }
     ensures room { vec_capacity into.new ≡ vec_capacity into.old }
 {
-    if opening.number == 0 {
-        push_row(vectors.row((opening.turn - 1) as usize), into);
-    } else if has_cone(opening.number) {
-        open_groups(latches, groups, opening, scratch, into);
-    } else {
-        // The number of its master stands before the words.
-        let words = &opening.from[1..];
-        push_all(words, into);
+    match Node::of(opening.number) {
+        Node::In => push_row(vectors.row((opening.turn - 1) as usize), into),
+        Node::Out | Node::Master(_) => open_groups(latches, groups, opening, scratch, into),
+        Node::Slave(_) => {
+            // The number of its master stands before the words.
+            let words = &opening.from[1..];
+            push_all(words, into);
+        }
     }
-}
-
-// Whether the node with this number, which is not IN, settles a cone.
-fn has_cone(number: usize) -> bool
-    ensures { IsTrue result ↔ ((number ≡ 1) ⊎ (number % 2 ≡ 0)) }
-{
-    number == 1 || number % 2 == 0
 }
 
 // The same of a node that settles.
@@ -119,9 +113,13 @@ fn open_groups(
     // The edges are read for the fact that there are not too many nodes.
     let (bits, _edges) = (latches.bits(), latches.edges());
     learn_rows(bits, groups.count(), opening, scratch);
-    let list = groups.of_cone(opening.number / 2);
+    let list = groups.of_cone(cone_place(opening.number));
     set_groups(latches.netlist(), groups, list, opening, scratch);
-    push_words(scratch.nets(), bits[opening.number].as_slice(), into);
+    push_words(
+        scratch.nets(),
+        bits[opening.number.index()].as_slice(),
+        into,
+    );
 }
 
 // Gives the nets of the producers the values of the rows that were read. Behind the first so many

@@ -9,6 +9,9 @@ ghost use Rattle.ds_opening.specs.Packed.{AreAsBefore, Learns, packed};
 
 use ds_base::{NetId, Row3, Value, words_of};
 
+// The values by their two bits. No value has both bits set.
+const VALUES: [Value; 4] = [Value::Zero, Value::One, Value::Unknown, Value::Unknown];
+
 // Puts the words of these nets' values behind what stands in `into`.
 pub(crate) fn push_words(nets: &Row3, these: &[NetId], into: &mut Vec<u64>)
     requires within { All (λ net. net < length nets.now) these.now }
@@ -75,6 +78,19 @@ pub(crate) fn put_values(words: &[u64], these: &[NetId], nets: &mut Row3) -> boo
     ensures same { length nets.new ≡ length nets.old }
     ensures stayed { IsTrue result → AreAsBefore nets.old nets.new }
 {
+    put_words(words, these, nets.values_mut())
+}
+
+// The same on the values that a row lends, which no store moves.
+fn put_words(words: &[u64], these: &[NetId], nets: &mut [Value]) -> bool
+    requires within { All (λ net. net < length nets.old) these.now }
+    requires words { length words.now ≡ count_of_words (length these.now) }
+    ensures value { (known : Row) → words.now ≡ packed (values_at known these.now)
+        → Learns known these.now nets.old nets.new }
+    ensures others { LeavesOthers these.now nets.old nets.new }
+    ensures same { length nets.new ≡ length nets.old }
+    ensures stayed { IsTrue result → AreAsBefore nets.old nets.new }
+{
     // Most rows are one word.
     if words.len() == 1 {
         return put_word(words[0], these, nets);
@@ -90,7 +106,7 @@ pub(crate) fn put_values(words: &[u64], these: &[NetId], nets: &mut Row3) -> boo
 
 // Gives these nets the values that stand in a word, the first of them the lowest. Where it tells
 // true, no net has changed.
-fn put_word(word: u64, these: &[NetId], nets: &mut Row3) -> bool
+fn put_word(word: u64, these: &[NetId], nets: &mut [Value]) -> bool
     requires within { All (λ net. net < length nets.old) these.now }
     ensures value { (known : Row) → word ≡ number_of_values (values_at known these.now)
         → Learns known these.now nets.old nets.new }
@@ -101,11 +117,12 @@ fn put_word(word: u64, these: &[NetId], nets: &mut Row3) -> bool
     let mut rest = word;
     let mut stayed = true;
     for net in these {
-        let code = rest % 4;
-        if nets.value(net.index()).code() != code {
+        let place = net.index();
+        let value = VALUES[(rest % 4) as usize];
+        if nets[place] != value {
             stayed = false;
         }
-        nets.set(net.index(), Value::of_code(code));
+        nets[place] = value;
         rest /= 4;
     }
     stayed

@@ -18,7 +18,7 @@ use ds_latch::{Latches, Node, Plan};
 use ds_opening::{Opening, TableGroups, groups_of, is_learnt, open};
 use ds_rule::TableRun;
 use ds_settle::Cone;
-use ds_split::cones_of;
+use ds_split::{cone_place, cones_of};
 use std::alloc::{AllocError, Global};
 use std::marker::Model;
 
@@ -114,16 +114,13 @@ impl<'a, 'n> Compute for Openings<'a, 'n> {
 
     fn scratch(&self, alloc: Global) -> Result<Scratch, OutOfMemory> {
         let nets = self.latches.netlist().design().nets().len();
-        // The edges are read for the fact that there are not too many nodes.
-        let (nodes, _edges) = (self.latches.bits().len(), self.latches.edges());
-        Scratch::of(alloc, nets, self.groups.count() + nodes)
+        Scratch::of(alloc, nets, self.groups.count() + self.latches.nodes())
     }
 
     fn cost(&self, node: LatchId) -> u64 {
         let place = match Node::of(node) {
             Node::In | Node::Slave(_) => return 0,
-            Node::Out => 0,
-            Node::Master(i) => i as usize + 1,
+            Node::Out | Node::Master(_) => cone_place(node),
         };
         if place >= self.sizes.len() {
             return 0;
@@ -141,7 +138,7 @@ impl<'a, 'n> Compute for Openings<'a, 'n> {
     }
 
     fn has_learnt(&self, producer: LatchId, turn: u64, scratch: &Scratch) -> bool {
-        is_learnt(&self.groups, scratch, producer.index(), turn)
+        is_learnt(&self.groups, scratch, producer, turn)
     }
 
     fn compute(
@@ -152,9 +149,8 @@ impl<'a, 'n> Compute for Openings<'a, 'n> {
         scratch: &mut Scratch,
         into: &mut Vec<u64>,
     ) {
-        let number = node.index();
         let opening = Opening {
-            number,
+            number: node,
             turn,
             from,
             known: self.known,

@@ -28,7 +28,7 @@ pub fn table_run_of<'a, 'n>(
     let (split, graph) = (plan.latches(), plan.graph());
     let limit = vectors.count() as u64;
     // A node of the design has two events; an extra event is a node of its own, behind them.
-    let design_nodes = split.bits().len();
+    let design_nodes = split.nodes();
     let nodes = graph.events().len() - design_nodes;
     let arcs = graph.arcs().to_vec(alloc)?;
     let edges = edges_of(alloc, split)?;

@@ -123,8 +123,7 @@ impl State<'_> {
         ensures same { length nets.new ≡ length nets.old }
     {
         let latches = self.plan.latches();
-        let number = latch.index();
-        let opening = NodeOpening { number, opened: 0 };
+        let opening = NodeOpening { latch, opened: 0 };
         settle(
             latches,
             &self.feeds,
@@ -132,6 +131,6 @@ impl State<'_> {
             self.kept.rows.as_slice(),
             nets,
         );
-        pick_values(nets, latches.bits()[number].as_slice(), into);
+        pick_values(nets, latches.bits()[latch.index()].as_slice(), into);
     }
 }

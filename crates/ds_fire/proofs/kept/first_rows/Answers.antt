@@ -20,4 +20,4 @@ loop-k-preserved c =
 
 pub returns : goal.returns
 returns c =
-    first_all c.args.latches.now c.loop-k.rows.items c.loop-k.k (c.slack.result + 1) (length c.bits-nodes.result.now) (ap (λ (n : ℕ). n + 1) c.slack.ensures.slack) c.bits-nodes.ensures.one_each c.loop-k.invariant.one_each (omega arith) c.loop-k.invariant.each
+    first_all c.args.latches.now c.loop-k.rows.items c.loop-k.k (c.slack.result + 1) c.nodes-nodes.result (ap (λ (n : ℕ). n + 1) c.slack.ensures.slack) c.nodes-nodes.ensures.nodes c.loop-k.invariant.one_each (omega arith) c.loop-k.invariant.each

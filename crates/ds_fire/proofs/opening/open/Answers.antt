@@ -8,18 +8,18 @@ use Rattle.ds_fire.proofs.opening.open.Goals as goal
 
 pub open_slave-requires-clause-slave : goal.open_slave-requires-clause-slave
 open_slave-requires-clause-slave c =
-    let is : number_of (Slave c.in-Slave.field-0) ≡ c.args.opening.number = ap number_of (sym c.in-Slave.is) ∙ (c.of.ensures ∙ c.new.ensures) in
+    let is : number_of (Slave c.in-Slave.field-0) ≡ c.args.opening.latch = ap number_of (sym c.in-Slave.is) ∙ c.of.ensures in
     let low : c.in-Slave.field-0 < length c.args.latches.now.clusters = omega (is, c.requires.node, arith) in
     (c.in-Slave.field-0, low, is)
 
 pub open_settled-requires-clause-node : goal.open_settled-requires-clause-node
 open_settled-requires-clause-node c =
-    let is : number_of Out ≡ c.args.opening.number = ap number_of (sym c.in-Out.is) ∙ (c.of.ensures ∙ c.new.ensures) in
+    let is : number_of Out ≡ c.args.opening.latch = ap number_of (sym c.in-Out.is) ∙ c.of.ensures in
     (Out, record { node = tt; settling = tt; is = is })
 
 pub open_settled-requires-in-Master-clause-node : goal.open_settled-requires-in-Master-clause-node
 open_settled-requires-in-Master-clause-node c =
-    let is : number_of (Master c.in-Master.field-0) ≡ c.args.opening.number = ap number_of (sym c.in-Master.is) ∙ (c.of.ensures ∙ c.new.ensures) in
+    let is : number_of (Master c.in-Master.field-0) ≡ c.args.opening.latch = ap number_of (sym c.in-Master.is) ∙ c.of.ensures in
     let low : c.in-Master.field-0 < length c.args.latches.now.clusters = omega (is, c.requires.node, arith) in
     (Master c.in-Master.field-0, record { node = low; settling = tt; is = is })
 
@@ -33,7 +33,7 @@ open_in-requires c = record {
 
 pub returns-in-In : goal.returns-in-In
 returns-in-In c =
-    let is : number_of In ≡ c.args.opening.number = ap number_of (sym c.in-In.is) ∙ (c.of.ensures ∙ c.new.ensures) in
+    let is : number_of In ≡ c.args.opening.latch = ap number_of (sym c.in-In.is) ∙ c.of.ensures in
     record {
       opens = λ n is_node e.
           subst (λ (m : Node). IsOpened c.args.latches.now c.args.vectors.now.rows c.args.opening.opened m c.args.kept.now.rows.items c.open_in.new.kept.rows.items)

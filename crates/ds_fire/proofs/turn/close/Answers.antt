@@ -5,7 +5,8 @@ use Rattle.ds_latch.specs.Node.{number_of, nets_of, place_of}
 use Rattle.ds_fire.specs.StoredRows.{Stored}
 use Rattle.ds_fire.specs.Snapshot.{rows_of}
 use Rattle.ds_fire.proofs.Settles.{place_low}
-use Rattle.ds_fire.proofs.RowsAfterOpening.{node_at, closed_is, next_row, next_inside}
+use Rattle.ds_latch.proofs.EventNodes.{node_at}
+use Rattle.ds_fire.proofs.RowsAfterOpening.{closed_is, next_row, next_inside}
 use Rattle.ds_fire.proofs.turn.close.Goals as goal
 
 pub append-requires : goal.append-requires

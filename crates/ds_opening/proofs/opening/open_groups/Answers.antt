@@ -9,13 +9,17 @@ use Rattle.ds_latch.specs.Node.{IsNode, Split, nets_of, nodes, number_of}
 use Rattle.ds_latch.specs.declared.node.Node.{Node}
 use Rattle.ds_latch.proofs.OrderTokens.{number_below}
 use Rattle.ds_split.proofs.NodeCones.{lent, nets_within}
-use Rattle.ds_opening.specs.Groups.{group_of}
+use Rattle.ds_opening.specs.Groups.{Grouping, group_of}
 use Rattle.ds_opening.specs.Noted.{AreRowsLearnt}
 use Rattle.ds_opening.specs.Packed.{packed}
 use Rattle.ds_opening.specs.TurnOfOpenings.{value_taken}
 use Rattle.ds_opening.proofs.Noting.{find_known, grouped, has_reads, node_slots, numbers, reads, settled_is, value}
 use Rattle.ds_opening.proofs.UnchangedGroups.{reads_on}
 use Rattle.ds_opening.proofs.opening.open_groups.Goals as goal
+
+-- the list of groups at the place of a cone
+at_place : (g : Grouping) {place other : ℕ} → place ≡ other → get_or g.lists place [] ≡ get_or g.lists other []
+at_place g is = ap (λ (k : ℕ). get_or g.lists k []) is
 
 pub learn_rows-requires-clause-turn : goal.learn_rows-requires-clause-turn
 learn_rows-requires-clause-turn c = let (n, t, m, o) = c.requires.settling in o.some
@@ -42,7 +46,7 @@ set_groups-requires-clause-known c is =
     (node_slots c.requires.design.1 c.requires.design.0 c.bits-bits.result.now c.bits-bits.ensures.one_each c.bits-bits.ensures.nets c.requires.groups o c.count.result c.count.ensures.value)
     o.memory.remembers in
     find_known c.requires.design.1 c.requires.design.0 c.bits-bits.result.now c.bits-bits.ensures.one_each c.bits-bits.ensures.nets c.requires.groups o
-    c.learn_rows.new.scratch rows (o.known is) c.netlist.result.now c.netlist.ensures.netlist c.of_cone-list.result.now c.of_cone-list.ensures
+    c.learn_rows.new.scratch rows (o.known is) c.netlist.result.now c.netlist.ensures.netlist c.of_cone-list.result.now (c.of_cone-list.ensures ∙ at_place c.args.groups.now (c.cone_place.ensures n o.at.is))
 
 pub set_groups-requires-clause-turn : goal.set_groups-requires-clause-turn
 set_groups-requires-clause-turn c = let (n, t, m, o) = c.requires.settling in o.some
@@ -79,7 +83,7 @@ pub set_groups-requires-clause-groups : goal.set_groups-requires-clause-groups
 set_groups-requires-clause-groups c =
     let (n, t, m, o) = c.requires.settling in
     let h = grouped c.requires.design.1 c.requires.design.0 c.bits-bits.result.now c.bits-bits.ensures.one_each c.bits-bits.ensures.nets c.requires.groups o in
-    subst (λ (xs : List ℕ). All (λ a. a < length c.args.groups.now.groups) xs) (sym c.of_cone-list.ensures) h.within
+    subst (λ (xs : List ℕ). All (λ a. a < length c.args.groups.now.groups) xs) (sym (c.of_cone-list.ensures ∙ at_place c.args.groups.now (c.cone_place.ensures n o.at.is))) h.within
 
 -- the nets of the node, as they are lent
 these_are : (s : Split) (bits : List (List ℕ)) → length bits ≡ nodes s
@@ -95,7 +99,7 @@ push_words-requires-clause-within c =
     let (n, t, m, o) = c.requires.settling in
     let s : Split = c.args.latches.now in
     let these : c.as_slice.result.now ≡ nets_of s n =
-    these_are s c.bits-bits.result.now c.bits-bits.ensures.one_each c.bits-bits.ensures.nets n o.at.node c.args.opening.now.number o.at.is c.index-bits-opening.result c.as_slice.result.now c.as_slice.ensures c.index-bits-opening.is in
+    these_are s c.bits-bits.result.now c.bits-bits.ensures.one_each c.bits-bits.ensures.nets n o.at.node c.index.result (o.at.is ∙ sym c.index.ensures) c.index-bits-index.result c.as_slice.result.now c.as_slice.ensures c.index-bits-index.is in
     let size : length c.nets.result.now ≡ length s.circuit.nets =
     ap (λ (r : Row). length r) c.nets.ensures ∙ (c.set_groups.ensures.same.nets ∙ (c.learn_rows.ensures.same.nets ∙ (o.memory.remembers.nets ∙ o.memory.nets))) in
     subst (λ (xs : List ℕ). All (λ net. net < length c.nets.result.now) xs) (sym these)
@@ -106,7 +110,7 @@ push_words-requires-clause-room c =
     let (n, t, m, o) = c.requires.settling in
     let s : Split = c.args.latches.now in
     subst (λ (xs : List ℕ). vec_len c.args.into.now + count_of_words (length xs) ≤ vec_capacity c.args.into.now)
-    (sym (these_are s c.bits-bits.result.now c.bits-bits.ensures.one_each c.bits-bits.ensures.nets n o.at.node c.args.opening.now.number o.at.is c.index-bits-opening.result c.as_slice.result.now c.as_slice.ensures c.index-bits-opening.is))
+    (sym (these_are s c.bits-bits.result.now c.bits-bits.ensures.one_each c.bits-bits.ensures.nets n o.at.node c.index.result (o.at.is ∙ sym c.index.ensures) c.index-bits-index.result c.as_slice.result.now c.as_slice.ensures c.index-bits-index.is))
     (c.requires.room n o.at.node o.at.is)
 
 pub returns-clause-room : goal.returns-clause-room
@@ -124,10 +128,10 @@ returns-clause-value c n t m o =
     o.memory.remembers in
     let settled = settled_is c.requires.design.1 c.requires.design.0 c.bits-bits.result.now c.bits-bits.ensures.one_each c.bits-bits.ensures.nets c.requires.groups o
     c.learn_rows.new.scratch rows c.set_groups.new.scratch
-    c.netlist.result.now c.netlist.ensures.netlist c.of_cone-list.result.now c.of_cone-list.ensures (c.set_groups.ensures.value m known) in
+    c.netlist.result.now c.netlist.ensures.netlist c.of_cone-list.result.now (c.of_cone-list.ensures ∙ at_place c.args.groups.now (c.cone_place.ensures n o.at.is)) (c.set_groups.ensures.value m known) in
     let s : Split = c.args.latches.now in
     let these : c.as_slice.result.now ≡ nets_of s n =
-    these_are s bits c.bits-bits.ensures.one_each c.bits-bits.ensures.nets n o.at.node c.args.opening.now.number o.at.is c.index-bits-opening.result c.as_slice.result.now c.as_slice.ensures c.index-bits-opening.is in
+    these_are s bits c.bits-bits.ensures.one_each c.bits-bits.ensures.nets n o.at.node c.index.result (o.at.is ∙ sym c.index.ensures) c.index-bits-index.result c.as_slice.result.now c.as_slice.ensures c.index-bits-index.is in
     let row : values_at c.set_groups.new.scratch.nets (nets_of s n) ≡ value_taken s t n =
     value c.requires.design.1 c.requires.design.0 c.bits-bits.result.now c.bits-bits.ensures.one_each c.bits-bits.ensures.nets c.requires.groups o
     c.learn_rows.new.scratch rows c.set_groups.new.scratch settled in
@@ -145,4 +149,4 @@ returns-clause-remembers c n t m o =
     o.memory.remembers in
     (settled_is c.requires.design.1 c.requires.design.0 c.bits-bits.result.now c.bits-bits.ensures.one_each c.bits-bits.ensures.nets c.requires.groups o
     c.learn_rows.new.scratch rows c.set_groups.new.scratch
-    c.netlist.result.now c.netlist.ensures.netlist c.of_cone-list.result.now c.of_cone-list.ensures (c.set_groups.ensures.value m known)).remembers
+    c.netlist.result.now c.netlist.ensures.netlist c.of_cone-list.result.now (c.of_cone-list.ensures ∙ at_place c.args.groups.now (c.cone_place.ensures n o.at.is)) (c.set_groups.ensures.value m known)).remembers

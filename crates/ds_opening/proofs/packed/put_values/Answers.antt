@@ -1,42 +1,17 @@
-use Rattle.std.proofs.Common.{◌∙◌, ◌<◌, ◌*◌, ℕ, arith, length, subst, sym}
-use Rattle.std.specs.Prelude.{All}
-use Rattle.ds_opening.proofs.Packs.{all_learnt, learns_part, others_part, part_within, word_is_number}
-use Rattle.std.proofs.lemmas.List.{take_all}
-use Rattle.ds_opening.proofs.packed.put_values.Goals.{then-not-put_word, else-not-put_word}
+use Rattle.std.proofs.Common.{◌≡◌, ◌∙◌, ap, length, subst, sym}
+use Rattle.ds_base.specs.Lent.{with_values}
+use Rattle.ds_base.specs.Values.{Row}
+use Rattle.ds_cover.proofs.LentRows.{with-all}
+use Rattle.ds_opening.specs.Packed.{Learns}
 use Rattle.ds_opening.proofs.packed.put_values.Goals as goal
 
-pub put_word-requires-in-loop-i : goal.put_word-requires-in-loop-i
-put_word-requires-in-loop-i c = record {
-  within = part_within c.args.these.now c.nets_of_word.result.now c.loop-i.i (length c.loop-i.nets)
-      c.nets_of_word.ensures (subst (λ (n : ℕ). All (λ net. net < n) c.args.these.now)
-      (sym c.loop-i.invariant.same) c.requires.within);
-}
-
-pub loop-i-preserved : goal.loop-i-preserved
-loop-i-preserved c = record {
-  same = c.put_word-in-loop-i.ensures.same ∙ c.loop-i.invariant.same;
-  learns = λ known is. learns_part known c.args.these.now c.nets_of_word.result.now c.loop-i.i
-      c.args.nets.now c.loop-i.nets c.put_word-in-loop-i.new.nets c.nets_of_word.ensures
-      (c.loop-i.invariant.learns known is)
-      (c.put_word-in-loop-i.ensures.value known (word_is_number known c.args.words.now c.args.these.now
-      c.nets_of_word.result.now c.loop-i.i is (omega arith) c.nets_of_word.ensures));
-  others = others_part c.args.these.now c.nets_of_word.result.now c.loop-i.i c.args.nets.now
-      c.loop-i.nets c.put_word-in-loop-i.new.nets c.nets_of_word.ensures c.loop-i.invariant.others
-      c.put_word-in-loop-i.ensures.others;
-  stayed = λ so. elim c.if-not-put_word.branch [
-    | then-not-put_word w ↦ absurd (cc)
-    | else-not-put_word w ↦ λ net.
-        c.put_word-in-loop-i.ensures.stayed w.if-not-put_word.false net
-        ∙ c.loop-i.invariant.stayed (sym w.stayed-is ∙ so) net
-  ];
-}
-
 pub returns-clause-value : goal.returns-clause-value
-returns-clause-value c = λ known is. all_learnt known c.args.these.now (32 * c.loop-i.i)
-    c.args.nets.now c.loop-i.nets (omega (c.requires.words, c.loop-i-test.false, arith))
-    (c.loop-i.invariant.learns known is)
-
-pub returns-then-words-eq1-clause-value : goal.returns-then-words-eq1-clause-value
-returns-then-words-eq1-clause-value c = λ known is. c.put_word.ensures.value known
-    (word_is_number known c.args.words.now c.args.these.now c.args.these.now 0 is (omega arith)
-    (sym (take_all 32 c.args.these.now (omega (c.requires.words, arith)))))
+returns-clause-value c known is =
+    let old : Row = c.args.nets.now in
+    let new : Row = c.put_words.new.nets in
+    let base : c.values_mut.result.now ≡ old = c.values_mut.ensures.value in
+    let all : with_values old new ≡ new =
+    with-all old new (c.put_words.ensures.same ∙ ap (λ (r : Row). length r) base) in
+    subst (λ (r : Row). Learns known c.args.these.now old r) (sym all)
+    (subst (λ (r : Row). Learns known c.args.these.now r new) base
+    (c.put_words.ensures.value known is))

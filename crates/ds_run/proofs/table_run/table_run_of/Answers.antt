@@ -31,19 +31,19 @@ pub overflow_sub-nodes : goal.overflow_sub-nodes
 overflow_sub-nodes c = omega (
   arith,
   room_there (goal.at.overflow_sub-nodes c).After-events,
-  c.bits-design_nodes.ensures.one_each,
+  c.nodes-design_nodes.ensures.nodes,
 )
 
 pub lengths_of-requires : goal.lengths_of-requires
 lengths_of-requires c = omega (
   arith,
   room_there (goal.at.lengths_of-requires c).After-events,
-  c.bits-design_nodes.ensures.one_each,
+  c.nodes-design_nodes.ensures.nodes,
 )
 
 -- how many nodes the run has
 abbrev count_of : After-of → ℕ
-count_of c = length c.events.result.now - length c.bits-design_nodes.result.now
+count_of c = length c.events.result.now - c.nodes-design_nodes.result
 
 -- the values of so many nodes of a split design
 abbrev rows_of : After-of → Split → ℕ → List Row
@@ -51,7 +51,7 @@ rows_of c s n = foreseen_rows s n c.order-order.result.now c.args.vectors.now.ro
 
 of_is : (c : After-of) → c.of.result ≡ record {
   nodes = count_of c;
-  design_nodes = length c.bits-design_nodes.result.now;
+  design_nodes = c.nodes-design_nodes.result;
   arcs = c.in_ok-arcs.arcs.items;
   limit = c.count-limit.result;
   edges = c.in_ok-edges.edges.items;
@@ -66,7 +66,7 @@ split_is c = c.latches-split.ensures
 
 latches_are : (c : After-of) → c.of.result.design_nodes ≡ nodes c.args.plan.now.split
 latches_are c = ap (λ (r : Run). r.design_nodes) (of_is c)
-    ∙ (c.bits-design_nodes.ensures.one_each ∙ ap (λ (s : Split). nodes s) (split_is c))
+    ∙ (c.nodes-design_nodes.ensures.nodes ∙ ap (λ (s : Split). nodes s) (split_is c))
 
 nodes_are : (c : After-of)
     → c.of.result.nodes + c.of.result.design_nodes ≡ length c.args.plan.now.graph.events
@@ -75,7 +75,7 @@ nodes_are c = omega (
   ap (λ (r : Run). r.nodes) (of_is c),
   ap (λ (r : Run). r.design_nodes) (of_is c),
   room c.args.plan.now.split c.args.plan.now.graph c.graph-graph.ensures.accepted,
-  c.bits-design_nodes.ensures.one_each,
+  c.nodes-design_nodes.ensures.nodes,
   ap (λ (s : Split). nodes s) (split_is c),
   ap (λ (g : Graph). length g.events) c.graph-graph.ensures.graph,
   ap (λ (es : List Event). length es) c.events.ensures.events,

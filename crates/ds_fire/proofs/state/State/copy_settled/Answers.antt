@@ -28,8 +28,8 @@ pick_values-requires-clause-within c =
     let (m, at, wide) = c.requires.node in
     let sound : IsSnapshotSound c.args.self.now = subst IsSnapshotSound c.self.view_is c.self.invariant.sound in
     let same : c.latches-latches.result.now ≡ split_of c.args.self.now = c.latches-latches.ensures ∙ ap (λ (k : Snapshot). split_of k) c.self.view_is in
-    let bit : c.index-bits-number.result ≡ nets_of (split_of c.args.self.now) m =
-    bit_is c.latches-latches.result.now (split_of c.args.self.now) same c.bits.result.now c.bits.ensures.one_each c.bits.ensures.nets c.index-number.result c.index-bits-number.result c.index-bits-number.is m at.node (at.is ∙ sym c.index-number.ensures) in
+    let bit : c.index-bits-index.result ≡ nets_of (split_of c.args.self.now) m =
+    bit_is c.latches-latches.result.now (split_of c.args.self.now) same c.bits.result.now c.bits.ensures.one_each c.bits.ensures.nets c.index.result c.index-bits-index.result c.index-bits-index.is m at.node (at.is ∙ sym c.index.ensures) in
     let long : length c.settle.new.nets ≡ length (split_of c.args.self.now).circuit.nets = c.settle.ensures.same ∙ c.requires.nets in
     subst (λ (n : ℕ). All (λ net. net < n) c.as_slice-2.result.now) (sym long)
     (subst (λ (these : List ℕ). All (λ net. net < length (split_of c.args.self.now).circuit.nets) these) (sym (c.as_slice-2.ensures ∙ bit))
@@ -39,10 +39,9 @@ pub returns-clause-settled : goal.returns-clause-settled
 returns-clause-settled c n at =
     let nets : Row = c.settle.new.nets in
     let same : c.latches-latches.result.now ≡ split_of c.args.self.now = c.latches-latches.ensures ∙ ap (λ (k : Snapshot). split_of k) c.self.view_is in
-    let bit : c.index-bits-number.result ≡ nets_of (split_of c.args.self.now) n =
-    bit_is c.latches-latches.result.now (split_of c.args.self.now) same c.bits.result.now c.bits.ensures.one_each c.bits.ensures.nets c.index-number.result c.index-bits-number.result c.index-bits-number.is n at.node (at.is ∙ sym c.index-number.ensures) in
-    let here : IsSettlingAt c.latches-latches.result.now n c.index-number.result =
-    subst (λ (k : ℕ). IsSettlingAt c.latches-latches.result.now n k) (sym c.index-number.ensures) (subst (λ (s : Split). IsSettlingAt s n c.args.latch) (sym same) at) in
+    let bit : c.index-bits-index.result ≡ nets_of (split_of c.args.self.now) n =
+    bit_is c.latches-latches.result.now (split_of c.args.self.now) same c.bits.result.now c.bits.ensures.one_each c.bits.ensures.nets c.index.result c.index-bits-index.result c.index-bits-index.is n at.node (at.is ∙ sym c.index.ensures) in
+    let here : IsSettlingAt c.latches-latches.result.now n c.args.latch = subst (λ (s : Split). IsSettlingAt s n c.args.latch) (sym same) at in
     let lent : IsSettledOn c.latches-latches.result.now c.self.inside.kept.rows.items 0 n c.settle.new.nets =
     subst (λ (rs : List Row). IsSettledOn c.latches-latches.result.now rs 0 n c.settle.new.nets) c.as_slice.ensures.value (c.settle.ensures.settled n here) in
     let inside : IsSettledOn c.self.inside.plan.now.split c.self.inside.kept.rows.items 0 n c.settle.new.nets =

@@ -1,6 +1,6 @@
 use Rattle.std.proofs.Common.{◌∙◌, length, ap, sym}
 use Rattle.ds_fire.specs.Snapshot.{split_of}
-use Rattle.ds_fire.proofs.RowsAfterOpening.{node_at}
+use Rattle.ds_latch.proofs.EventNodes.{node_at}
 use Rattle.ds_fire.proofs.OpenNodesHold.{held_is_shown, held_wide, made_is_held}
 use Rattle.ds_fire.proofs.state.State.output.Goals as goal
 

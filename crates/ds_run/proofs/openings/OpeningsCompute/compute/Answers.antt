@@ -30,7 +30,7 @@ open-requires-clause-opening c =
     = is_learnt (length c.self.inside.groups.groups) c.args.scratch.now c.args.turn in
     let from = counted c.args.self.now.run c.args.self.now.groups (length c.self.inside.groups.groups)
     groups_are c.args.scratch.now c.args.node c.args.turn c.args.from.now c.requires.from in
-    let o = opens_at c.self.invariant.0 (sym run_is) c.index-number.ensures c.requires.turn.0
+    let o = opens_at c.self.invariant.0 (sym run_is) refl c.requires.turn.0
     c.requires.node c.requires.turn.1 learnt
     c.args.from.now from in (
       o.node,
@@ -45,7 +45,7 @@ open-requires-clause-room c n is_node is =
     let run_is = ap (λ (m : RunWithMemory). m.run) c.self.view_is in
     let nets = nets_of c.self.inside.latches.now n in
     let wide : width c.args.self.now.run c.args.node ≡ count_of_words (length nets)
-    = room_at c.self.invariant.0 (sym run_is) c.index-number.ensures n is_node is in
+    = room_at c.self.invariant.0 (sym run_is) refl n is_node is in
     let most : vec_len c.args.into.now + width c.args.self.now.run c.args.node
     ≤ vec_capacity c.args.into.now = c.requires.room in
     omega (wide, most, arith)
@@ -60,10 +60,10 @@ returns-clause-value c =
     = is_learnt (length c.self.inside.groups.groups) c.args.scratch.now c.args.turn in
     let from = counted c.args.self.now.run c.args.self.now.groups (length c.self.inside.groups.groups)
     groups_are c.args.scratch.now c.args.node c.args.turn c.args.from.now c.requires.from in
-    let o = opens_at c.self.invariant.0 (sym run_is) c.index-number.ensures c.requires.turn.0
+    let o = opens_at c.self.invariant.0 (sym run_is) refl c.requires.turn.0
     c.requires.node c.requires.turn.1 learnt
     c.args.from.now from in
-    let row_is = gives_row c.self.invariant.0 (sym run_is) c.index-number.ensures c.requires.turn.0 in
+    let row_is = gives_row c.self.invariant.0 (sym run_is) refl c.requires.turn.0 in
     c.open.ensures.value o.node o.turn (memory_of c.self.inside.latches.now c.self.inside.groups c.self.inside.order.now c.self.inside.vectors.now.rows)
     (noted c.self.invariant.0 (sym run_is) c.requires.turn.0 c.requires.turn.1 c.args.scratch.now o _ refl refl refl c.self.invariant.1
     (subst (λ (m : Memory). Remembers m c.args.scratch.now) (sym memory_is) c.requires.remembers))
@@ -79,7 +79,7 @@ returns-clause-remembers c =
     = is_learnt (length c.self.inside.groups.groups) c.args.scratch.now c.args.turn in
     let from = counted c.args.self.now.run c.args.self.now.groups (length c.self.inside.groups.groups)
     groups_are c.args.scratch.now c.args.node c.args.turn c.args.from.now c.requires.from in
-    let o = opens_at c.self.invariant.0 (sym run_is) c.index-number.ensures c.requires.turn.0
+    let o = opens_at c.self.invariant.0 (sym run_is) refl c.requires.turn.0
     c.requires.node c.requires.turn.1 learnt
     c.args.from.now from in
     subst (λ (m : Memory). Remembers m c.open.new.scratch) memory_is

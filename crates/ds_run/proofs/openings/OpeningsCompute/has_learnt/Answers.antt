@@ -18,7 +18,6 @@ is_learnt-requires c =
     omega (
       arith,
       c.requires.producer,
-      c.index.ensures,
       latches,
       c.requires.remembers.turns,
       ap (λ (x : Memory). length x.slots) memory_is,
@@ -28,6 +27,5 @@ is_learnt-requires c =
 pub returns : goal.returns
 returns c =
     c.is_learnt.ensures
-    ∙ (ap (λ (m : RunWithMemory). is_learnt m.groups c.args.scratch.now c.args.turn c.index.result)
+    ∙ ap (λ (m : RunWithMemory). is_learnt m.groups c.args.scratch.now c.args.turn c.args.producer)
     c.self.view_is
-    ∙ ap (is_learnt c.args.self.now.groups c.args.scratch.now c.args.turn) c.index.ensures)

@@ -4,7 +4,7 @@ use Rattle.ds_cover.specs.Cover.{values_at}
 use Rattle.std.specs.Prelude.{IsTrue}
 use Rattle.ds_opening.specs.Packed.{AreAsBefore, Learns, packed}
 use Rattle.ds_settle.specs.Settle.{LeavesOthers}
-use Rattle.ds_opening.proofs.packed.put_values.Given as goal
+use Rattle.ds_opening.proofs.packed.put_words.Given as goal
 
 abbrev pub invariant-loop-i : goal.invariant-loop-i
 invariant-loop-i l = record {
