@@ -1,7 +1,7 @@
 //! Runs and clocked traces over more vectors than a window has, up to their limit and to a fault.
 use ds_base::OutOfMemory;
 use ds_outside::OpenGate;
-use ds_trial::{TOGGLE, is_refused, printed};
+use ds_trial::{TOGGLE, chain, is_refused, printed};
 use std::alloc::{AllocError, Global};
 use std::test::Fail;
 use std::thread::Threads;
@@ -39,6 +39,47 @@ fn windows_are_one_trace(rt: HostRuntime) -> Result<(), Fail> {
     assert!(rt; is_traced(&rt, ones(alloc, 4_096)?, b"\n4095 1 1\nend 0\n")?);
     assert!(rt; is_traced(&rt, ones(alloc, 4_097)?, b"\n4096 0 0\nend 1\n")?);
     assert!(rt; is_traced(&rt, ones(alloc, 8_193)?, b"\n8192 0 0\nend 1\n")?);
+    Ok(())
+}
+
+// As many vectors of one value, each third of them 0.
+fn thirds(alloc: Global, count: usize) -> Result<String, AllocError> {
+    let mut text = String::new(alloc);
+    for turn in 0..count {
+        text.push_str(if turn % 3 == 0 { "0\n" } else { "1\n" })?;
+    }
+    Ok(text)
+}
+
+// Whether several workers print the clocked trace of 64 registers in a row, of which they make the
+// lines of some 700 turns at a time.
+fn is_shared<R: AllocGlobal + Threads + Sync>(
+    rt: &R,
+    turns: usize,
+    line: &str,
+) -> Result<bool, OutOfMemory> {
+    let (net, vectors) = (chain(rt.alloc(), 64)?, thirds(rt.alloc(), turns)?);
+    let files = [("n", net.as_str()), ("v", vectors.as_str())];
+    let Some(clocked) = printed(rt, &files, "desync clock n v", &OpenGate) else {
+        return Ok(false);
+    };
+    let Some(run) = printed(rt, &files, line, &OpenGate) else {
+        return Ok(false);
+    };
+    Ok(run.as_str() == clocked.as_str())
+}
+
+#[test]
+fn several_workers_make_the_lines_of_a_window(rt: HostRuntime) -> Result<(), Fail> {
+    for turns in [1_457, 2_184, 4_097] {
+        for line in [
+            "desync run n v --clusters one --jobs 2",
+            "desync run n v --clusters one --jobs 3",
+            "desync run n v --clusters one --jobs 64",
+        ] {
+            assert!(rt; is_shared(&rt, turns, line)?, "{line}");
+        }
+    }
     Ok(())
 }
 

@@ -17,6 +17,7 @@ pub mod Halted
 pub mod Remembered
 pub mod GatheredRegisters
 pub mod FinishedTurns
+pub mod TraceLines
 pub mod Logged
 pub mod Summed
 pub mod WindowTexts

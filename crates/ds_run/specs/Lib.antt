@@ -16,5 +16,6 @@ pub mod Stopped
 pub mod LatchRows
 pub mod Left
 pub mod TraceRows
+pub mod TraceLines
 pub mod Summed
 pub mod Refused

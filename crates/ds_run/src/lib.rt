@@ -16,7 +16,8 @@
 //! nodes have stored, turn by turn: the outputs that OUT stored, and the registers that the slaves
 //! stored in the turn before. A `Log` takes the firings, until `end_run` writes the last line and
 //! that log. `write_stopped` stops the workers early and writes what the registers have stored by
-//! then, which is what firing stores by the log. Each takes all memory before its first byte.
+//! then, which is what firing stores by the log. Each takes all memory that it cannot do without
+//! before its first byte.
 //! `sum_run` gives the number of ones in the outputs and the sum of the trace, and keeps one line
 //! at a time. What is written and summed is that of the clocked run, whatever the workers do. By
 //! the laws windows, one after another, are the text of the run; `ds_laws` says that what is
@@ -31,6 +32,7 @@ mod known;
 pub mod laws;
 mod left;
 mod lengths;
+mod line_sharing;
 mod line_text;
 mod log;
 mod openings;
@@ -42,7 +44,11 @@ mod stored_turns;
 mod sums;
 mod table_run;
 mod trace;
+mod trace_block;
+mod trace_part;
+mod trace_range;
 mod trace_rows;
+mod turn_range;
 mod window;
 
 pub use ds_runner::WorkerSettings;

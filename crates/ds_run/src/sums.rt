@@ -48,6 +48,7 @@ pub fn sum_run<R: AllocGlobal + Threads + Sync, G: Gate>(
         plan,
         recorded: &recorded,
         turns: vectors.count(),
+        first: 0,
     };
     let mut fold = Fold::new();
     let ones = sum_turns(alloc, &stored, &mut line, &mut fold)?;

@@ -78,7 +78,7 @@ pub fn write_window<R: AllocGlobal + Threads + Sync, G: Gate, O: Sink>(
     let Ok(recorded) = fire_window(window, workers, log) else {
         return Err(SimFault::Memory);
     };
-    write_lines(window, &recorded, line, out)
+    write_lines(workers, window, &recorded, line, out)
 }
 
 // Runs a window to its end, and has the log take its firings.
@@ -104,12 +104,14 @@ fn fire_window<R: AllocGlobal + Threads + Sync, G: Gate>(
 }
 
 // Writes the lines of a window that was run, and gives the registers after it.
-fn write_lines<O: Sink>(
+fn write_lines<R: AllocGlobal + Threads + Sync, G, O: Sink>(
+    workers: &WorkerSettings<'_, R, G>,
     window: &RunWindow<'_, '_>,
     recorded: &Record,
     line: TraceRows,
     out: &mut O,
 ) -> Result<Row3, SimFault>
+    requires jobs { (0 < workers.now.jobs) × (workers.now.jobs ≤ 64) }
     requires finished_run { IsFinished window.now.plan.now window.now.vectors.now.rows
         recorded.now }
     requires few { window.now.first + length window.now.vectors.now.rows < 2 ^ 64 }
@@ -123,8 +125,9 @@ fn write_lines<O: Sink>(
         plan: window.plan,
         recorded,
         turns: window.vectors.count(),
+        first: window.first,
     };
-    match write_turns(&stored, window.first, &mut line, out) {
+    match write_turns(workers, &stored, &mut line, out) {
         Ok(()) => Ok(line.registers),
         Err(_) => Err(SimFault::Write),
     }

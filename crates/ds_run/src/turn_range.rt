@@ -1,0 +1,6 @@
+/// The turns from one on, up to another, which is not among them.
+#[derive(Clone, Copy)]
+pub(crate) struct TurnRange {
+    pub(crate) from: usize,
+    pub(crate) to: usize,
+}
