@@ -3,9 +3,11 @@
 ghost use Rattle.std.specs.Prelude.{◌≡◌, ◌<◌, ◌≤◌, ◌+◌, IfOk, length, slice_index};
 ghost use Rattle.ds_rule.specs.Run.{closing, events};
 ghost use Rattle.ds_rule.specs.Sound.{IsSound};
+ghost use Rattle.ds_base.specs.Word.{count_of_words};
 ghost use Rattle.ds_rule.specs.Words.{width, value, node_values};
 ghost use Rattle.ds_rule.specs.Rule.{tickets};
 ghost use Rattle.ds_fabric.specs.Showing.{IsFiredInOrder, IsTold};
+ghost use Rattle.ds_fabric.specs.Unpacked.{IsPacked};
 
 use crate::events::node_of;
 use crate::history::History;
@@ -13,7 +15,7 @@ use crate::pass::Pass;
 use crate::places::find;
 use crate::spread::{no_events, spread_all};
 use crate::words::unpack;
-use ds_base::{EventId, LatchId, OutOfMemory, Row3, words_of};
+use ds_base::{EventId, LatchId, OutOfMemory, Row3};
 use ds_rule::turns_of;
 use std::alloc::Global;
 use std::marker::Model;
@@ -81,6 +83,24 @@ impl Record {
         (history.fired / 2) as usize
     }
 
+    /// The value words of stored row number k, from 0.
+    pub fn words(&self, node: LatchId, k: usize) -> &[u64]
+        requires near { node < self.now.shown.view.run.design_nodes }
+        requires stored { k < length (tickets self.now.shown.view (closing node)) }
+        ensures long { length result.now
+            ≡ count_of_words (slice_index self.now.shown.view.run.lengths node) }
+        ensures value { IsPacked (node_values self.now.shown.view.run node (k + 1)) result.now }
+        ensures same { length (node_values self.now.shown.view.run node (k + 1))
+            ≡ slice_index self.now.shown.view.run.lengths node }
+    {
+        let history = self.history(node.index());
+        let turns = history.turns.as_slice();
+        let from = k * history.stride;
+        // Behind the row stand the tickets of the opening and of the closing.
+        let width = history.stride - 2;
+        &turns[from..from + width]
+    }
+
     /// Value word i of stored row number k, from 0.
     pub fn word(&self, node: LatchId, k: usize, i: usize) -> u64
         requires near { node < self.now.shown.view.run.design_nodes }
@@ -88,9 +108,8 @@ impl Record {
         requires inside { i < width self.now.shown.view.run node }
         ensures { result ≡ value self.now.shown.view.run node (k + 1) i }
     {
-        let history = self.history(node.index());
-        let turns = history.turns.as_slice();
-        turns[k * history.stride + i]
+        let words = self.words(node, k);
+        words[i]
     }
 
     /// The values of stored row number k, from 0.
@@ -100,11 +119,7 @@ impl Record {
         requires length { length into.old ≡ slice_index self.now.shown.view.run.lengths node }
         ensures { into.new ≡ node_values self.now.shown.view.run node (k + 1) }
     {
-        let width = words_of(into.len());
-        let history = self.history(node.index());
-        let turns = history.turns.as_slice();
-        let from = k * history.stride;
-        unpack(&turns[from..from + width], into);
+        unpack(self.words(node, k), into);
     }
 
     // The history of a node. The run is sound, for a caller too.

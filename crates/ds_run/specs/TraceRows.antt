@@ -1,7 +1,6 @@
 -- The rows that a line of a trace is written from.
-use Rattle.std.specs.Prelude.{◌≡◌, ◌⊎◌, ℕ, ◌+◌, List, length, Contains}
+use Rattle.std.specs.Prelude.{◌≡◌, ℕ, ◌+◌, length}
 use Rattle.ds_base.specs.Values.{Row}
-use Rattle.ds_cover.specs.Cover.{value_at, values_at}
 use Rattle.ds_latch.specs.Node.{Split, number_of}
 use Rattle.ds_latch.specs.Firing.{AreRegisters}
 use Rattle.ds_rule.specs.Run.{Run}
@@ -12,15 +11,6 @@ use Rattle.ds_run.specs.declared.trace_rows.TraceRows.{TraceRows}
 pub record HasLine (s : Split) (line : TraceRows) : Type 0 where
   pub outputs : length line.outputs ≡ length s.circuit.outputs
   pub registers : length line.registers ≡ length s.circuit.registers
-
--- these registers got these values: beside any row that has the values there, each of them agrees
--- with that row, and so does each register that agreed before
-abbrev pub AreSpread : List ℕ → Row → Row → Row → Type 0
-AreSpread these values old new =
-    (length new ≡ length old)
-    × ((row : Row) → values_at row these ≡ values
-    → (r : ℕ) → Contains these r ⊎ (value_at old r ≡ value_at row r)
-    → value_at new r ≡ value_at row r)
 
 -- the row shows what the slaves have stored in a turn, as no other one does
 abbrev pub IsGathered : Split → Run → ℕ → Row → Type 0

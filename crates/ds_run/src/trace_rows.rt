@@ -2,16 +2,21 @@
 ghost use Rattle.std.specs.Prelude.{◌≡◌, ◌<◌, ◌+◌, All, length, slice_index, IfOk};
 ghost use Rattle.ds_base.specs.Values.{Row};
 ghost use Rattle.ds_base.specs.Word.{number_of_values};
+ghost use Rattle.ds_cover.specs.Cover.{values_at};
+ghost use Rattle.ds_opening.specs.Packed.{Learns};
 ghost use Rattle.ds_rule.specs.Run.{closing};
 ghost use Rattle.ds_rule.specs.Rule.{tickets};
 ghost use Rattle.ds_rule.specs.Words.{node_values};
 ghost use Rattle.ds_run.specs.Finished.{HasSlaves};
-ghost use Rattle.ds_run.specs.TraceRows.{AreSpread, HasLine, IsGathered};
+ghost use Rattle.ds_run.specs.TraceRows.{HasLine, IsGathered};
 
-use ds_base::{LatchId, OutOfMemory, RegId, Row3, Value};
+use ds_base::{LatchId, OutOfMemory, RegId, Row3, Value, words_of};
 use ds_fabric::Record;
 use ds_latch::{Latches, Node};
 use std::alloc::Global;
+
+// The values by their two bits. No value has both bits set.
+const VALUES: [Value; 4] = [Value::Zero, Value::One, Value::Unknown, Value::Unknown];
 
 /// The rows of a line.
 #[derive(Drop)]
@@ -55,39 +60,48 @@ pub fn copy_stored(latches: &Latches<'_>, recorded: &Record, k: usize, line: &mu
             slave,
             k,
             clusters[i].as_slice(),
-            &mut line.registers,
+            line.registers.values_mut(),
         );
     }
 }
 
 // Each value of the row that a slave has stored goes to its register, a word at a time.
-fn spread_row(recorded: &Record, slave: LatchId, k: usize, members: &[RegId], registers: &mut Row3)
+fn spread_row(
+    recorded: &Record,
+    slave: LatchId,
+    k: usize,
+    members: &[RegId],
+    registers: &mut [Value],
+)
     requires near { slave < recorded.now.shown.view.run.design_nodes }
     requires stored { k < length (tickets recorded.now.shown.view (closing slave)) }
     requires wide { slice_index recorded.now.shown.view.run.lengths slave ≡ length members.now }
     requires within { All (λ r. r < length registers.old) members.now }
-    ensures { AreSpread members.now (node_values recorded.now.shown.view.run slave (k + 1))
-        registers.old registers.new }
+    ensures value { (row : Row)
+        → values_at row members.now ≡ node_values recorded.now.shown.view.run slave (k + 1)
+        → Learns row members.now registers.old registers.new }
+    ensures same { length registers.new ≡ length registers.old }
 {
     let mut rest = members;
-    let mut i = 0;
-    'words: while !rest.is_empty() {
+    for i in 0..words_of(members.len()) {
         let (these, others) = rest.split_at(rest.len().min(32));
         spread_word(recorded.word(slave, k, i), these, registers);
         rest = others;
-        i += 1;
     }
 }
 
 // Each value of a word goes to its register.
-fn spread_word(word: u64, members: &[RegId], registers: &mut Row3)
-    requires { All (λ r. r < length registers.old) members.now }
-    ensures { (values : Row) → word ≡ number_of_values values
-        → AreSpread members.now values registers.old registers.new }
+fn spread_word(word: u64, members: &[RegId], registers: &mut [Value])
+    requires within { All (λ r. r < length registers.old) members.now }
+    ensures value { (row : Row) → word ≡ number_of_values (values_at row members.now)
+        → Learns row members.now registers.old registers.new }
+    ensures same { length registers.new ≡ length registers.old }
 {
     let mut rest = word;
     for register in members {
-        registers.set(register.index(), Value::of_code(rest % 4));
+        let place = register.index();
+        let value = VALUES[(rest % 4) as usize];
+        registers[place] = value;
         rest /= 4;
     }
 }
