@@ -9,6 +9,7 @@ use native.Mathlib.Decide.{ℕ_discrete, dec_lt}
 use Rattle.atomic_table.proofs.Lists.{at_last}
 use Rattle.ds_marked.specs.declared.marked.Arc.{Arc}
 use Rattle.ds_rule.specs.Run.{Run, events, node_of, turns, count}
+use Rattle.ds_rule.specs.Event.{fired_of}
 use Rattle.ds_rule.specs.Sound.{IsSound}
 use Rattle.ds_rule.specs.Words.{size}
 use Rattle.ds_rule.specs.Rule.{holds, seen}
@@ -19,7 +20,7 @@ use Rattle.ds_rule.proofs.PlaceLaws.{counts_inside}
 use Rattle.ds_rule.proofs.GetElemLemmas.{at_below, at_either, at_end, at_get, at_or, get-first}
 use Rattle.ds_fabric.specs.Chained.{absent_arc, arc_numbered, IsLastArc}
 use Rattle.ds_fabric.specs.Looks.{LooksOn, Enough, IsSeenLacking}
-use Rattle.ds_fabric.specs.Into.{fired_of, IsInto, ArePart, AreIntoBelow, IsLinedUp}
+use Rattle.ds_fabric.specs.Into.{IsInto, ArePart, AreIntoBelow, IsLinedUp}
 use Rattle.ds_fabric.specs.declared.arc_in.ArcIn.{ArcIn}
 use Rattle.ds_fabric.proofs.LoadedViews.{looks_more, seen-here, seen_rises, gives_up}
 use Rattle.ds_fabric.proofs.ArcChains.{read-off}

@@ -269,14 +269,14 @@ reads me nodes zs i node h e k f is =
 
 -- an opening that is enabled is one of a latch, and of no turn past the limit
 pub within : (run : Run) (v : View) (l f : ℕ) → f ≡ seen v l → opens run (next run l f) ≡ true
-    → IsEnabledInRun run (seen v) (next run l f) → (l < run.design_nodes) × (f / 2 + 1 ≤ run.limit)
+    → IsEnabledInRun run (seen v) (next run l f) → (l < run.design_nodes) × ((f + 1) / 2 + 1 ≤ run.limit)
 within run v l f is o on =
     let even = even_opens run l f o in let e = next-opens run l f o in
     let is-count : count run (seen v) (next run l f) ≡ opened run l f =
     ap (count run (seen v)) e ∙ (ap (λ (m : ℕ). turns run (opening l) (seen v m))
     (node-opening run l even.0)
     ∙ (turns-opening run l (seen v l) even.0 ∙ ap (opened run l) (sym is))) in
-    (even.0, omega (arith, on.below, is-count, opened-low run l f even.0, even.1))
+    (even.0, omega (arith, on.below, is-count, opened-low run l f even.0))
 
 -- a history put where it stands
 pub set_same : (nodes : List History) (i : ℕ) (h : History) → get_elem? nodes i ≡ some h

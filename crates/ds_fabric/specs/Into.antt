@@ -1,20 +1,15 @@
 -- The arcs into each event, side by side: one list of all arcs, of which each event has a part.
-use Rattle.std.specs.Prelude.{◌≡◌, ℕ, ◌+◌, ◌*◌, ◌/◌, ◌<◌, ◌≤◌, ◌++◌, List, length, slice_index}
+use Rattle.std.specs.Prelude.{◌≡◌, ℕ, ◌+◌, ◌*◌, ◌<◌, ◌≤◌, ◌++◌, List, length, slice_index}
 use mathlib.Core.Option.{some}
 use lib.ListN.{get_elem?}
 use Rattle.ds_rule.specs.Run.{Run, events, node_of, turns}
 use Rattle.ds_marked.specs.declared.marked.Arc.{Arc}
 use Rattle.ds_fabric.specs.Chained.{arc_numbered}
 use Rattle.ds_fabric.specs.declared.arc_in.ArcIn.{ArcIn}
-use Rattle.ds_fabric.specs.declared.arc_in.EventRole.{EventRole}
-use Rattle.ds_fabric.specs.declared.arc_in.EventRole.TheVariants.{Opening, Closing, Alone}
+use Rattle.ds_rule.specs.Event.{fired_of}
+use Rattle.ds_rule.specs.declared.event_role.EventRole.{EventRole}
+use Rattle.ds_rule.specs.declared.event_role.EventRole.TheVariants.{Opening, Closing, Alone}
 use Rattle.ds_fabric.specs.declared.incoming.Incoming.{Incoming}
-
--- how often an event of this kind has fired, after f firings of its node: a latch opens first
-abbrev pub fired_of : EventRole → ℕ → ℕ
-fired_of Opening f = (f + 1) / 2
-fired_of Closing f = f / 2
-fired_of Alone f = f
 
 -- what so many tokens count beside the firings of the node
 abbrev pub ahead_of : EventRole → ℕ → ℕ

@@ -28,7 +28,7 @@ use crate::rows::{read_rows, write_row};
 use crate::step::Step;
 use atomic_table::Seat;
 use ds_base::{ArcId, EventId, LatchId, Scratch};
-use ds_rule::{Depart, Draw, Publish, RunValues, View};
+use ds_rule::{Depart, Draw, EventRole, Publish, RunValues, View};
 
 /// Fires the next event of the history's node, if what its sources show is enough.
 pub fn fire_if_enabled<V: RunValues, C: Compute>(
@@ -213,7 +213,7 @@ fn prepare<V: RunValues, C: Compute>(
     ensures remembers { Remembers (C.memory context.now.openings.now) scratch.new }
 {
     if context.run.opens_next(history.node, history.fired) {
-        let turn = history.fired / 2 + 1;
+        let turn = EventRole::Opening.turns(history.fired) + 1;
         open_row(context, seat, history, scratch, turn);
     }
 }

@@ -17,7 +17,6 @@ mod chain;
 mod compute;
 mod context;
 mod counts;
-mod events;
 mod fabric;
 mod fire_due;
 mod flight;

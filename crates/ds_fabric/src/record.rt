@@ -9,14 +9,13 @@ ghost use Rattle.ds_rule.specs.Rule.{tickets};
 ghost use Rattle.ds_fabric.specs.Showing.{IsFiredInOrder, IsTold};
 ghost use Rattle.ds_fabric.specs.Unpacked.{IsPacked};
 
-use crate::events::node_of;
 use crate::history::History;
 use crate::pass::Pass;
 use crate::places::find;
 use crate::spread::{no_events, spread_all};
 use crate::words::unpack;
 use ds_base::{EventId, LatchId, OutOfMemory, Row3};
-use ds_rule::turns_of;
+use ds_rule::{EventRole, NodeEvent};
 use std::alloc::Global;
 use std::marker::Model;
 use std::snapshot::Snapshot;
@@ -56,9 +55,8 @@ impl Record {
         requires { k < length (tickets self.now.shown.view event) }
         ensures { result ≡ slice_index (tickets self.now.shown.view event) k }
     {
-        let number = event.index();
-        let history = self.history(node_of(self.design_nodes, number));
-        history.ticket(self.design_nodes, number, k)
+        let event = NodeEvent::of(event.index(), self.design_nodes);
+        self.history(event.node).ticket(event.role, k)
     }
 
     /// How often the event fired.
@@ -66,9 +64,8 @@ impl Record {
         requires { event < events self.now.shown.view.run }
         ensures { result ≡ length (tickets self.now.shown.view event) }
     {
-        let number = event.index();
-        let history = self.history(node_of(self.design_nodes, number));
-        turns_of(self.design_nodes, number, history.fired)
+        let event = NodeEvent::of(event.index(), self.design_nodes);
+        event.role.turns(self.history(event.node).fired)
     }
 
     /// How many rows the latch has stored: one for each time that it closed. Its history has each
@@ -80,7 +77,7 @@ impl Record {
         ensures most { result ≤ self.now.shown.view.run.limit }
     {
         let history = self.history(node.index());
-        (history.fired / 2) as usize
+        EventRole::Closing.turns(history.fired) as usize
     }
 
     /// The value words of stored row number k, from 0.

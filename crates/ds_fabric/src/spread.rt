@@ -11,7 +11,7 @@ ghost use Rattle.ds_fabric.specs.declared.history.History.{History};
 
 use crate::history::History;
 use ds_base::{EventId, OutOfMemory};
-use ds_rule::turns_of;
+use ds_rule::NodeEvent;
 use std::alloc::Global;
 
 /// Room for so many events.
@@ -70,8 +70,8 @@ fn put(design_nodes: usize, history: &History, event: EventId, out: &mut [EventI
     ensures kept { (run : Run) → design_nodes ≡ run.design_nodes
         → IsElsewhereKept run history.now event out.old out.new }
 {
-    let number = event.index();
-    for k in 0..turns_of(design_nodes, number, history.fired) as usize {
-        out[history.ticket(design_nodes, number, k) as usize] = event;
+    let role = NodeEvent::of(event.index(), design_nodes).role;
+    for k in 0..role.turns(history.fired) as usize {
+        out[history.ticket(role, k) as usize] = event;
     }
 }

@@ -5,6 +5,8 @@ use Rattle.std.proofs.lemmas.Bool.{false≢true}
 use mathlib.Core.Logic.{dite}
 use native.Mathlib.Decide.{ℕ_discrete, dec_lt}
 use Rattle.ds_rule.specs.Run.{Run, events, node_of, next, turns, opens, opening, closing, opened}
+use Rattle.ds_rule.specs.Event.{IsNodeEvent}
+use Rattle.ds_rule.specs.declared.event_role.EventRole.TheVariants.{Opening, Closing, Alone}
 
 -- what the definitions say of a latch, and of another node
 pub node-low : (run : Run) (e : ℕ) → e < 2 * run.design_nodes → node_of run e ≡ e / 2
@@ -251,3 +253,31 @@ events_of run l e here apart = dite (dec_lt e (2 * run.design_nodes))
 pub events-is : (run : Run) → events run ≡ run.nodes + run.design_nodes
 unfolding events
 events-is run = refl
+
+-- the events of a latch, and of another node, as data
+pub opening_event : (run : Run) (l e : ℕ) → l < run.design_nodes → e ≡ 2 * l
+    → IsNodeEvent run (record { node = l; role = Opening }) e
+opening_event run l e near is = let low : e < 2 * run.design_nodes = omega arith in record {
+  number_is = is;
+  node_is = omega (arith, node-low run e low);
+  turns_is = λ f. omega (arith, turns-low run e f low);
+  opens_is = opens-low run e low ∙ eq-eqb (e % 2) 0 (omega arith);
+}
+
+pub closing_event : (run : Run) (l e : ℕ) → l < run.design_nodes → e ≡ 2 * l + 1
+    → IsNodeEvent run (record { node = l; role = Closing }) e
+closing_event run l e near is = let low : e < 2 * run.design_nodes = omega arith in record {
+  number_is = is;
+  node_is = omega (arith, node-low run e low);
+  turns_is = λ f. omega (arith, turns-low run e f low);
+  opens_is = opens-low run e low ∙ ne_eqb (e % 2) 0 (omega arith);
+}
+
+pub alone_event : (run : Run) (l e : ℕ) → run.design_nodes ≤ l → e ≡ l + run.design_nodes
+    → IsNodeEvent run (record { node = l; role = Alone }) e
+alone_event run l e near is = let high : 2 * run.design_nodes ≤ e = omega arith in record {
+  number_is = is;
+  node_is = omega (arith, node-high run e high);
+  turns_is = λ f. sym (turns-high run e f high);
+  opens_is = opens-high run e high;
+}

@@ -1,5 +1,6 @@
 -- In the order in which to read.
 pub mod Run
+pub mod Event
 pub mod Words
 pub mod Sound
 pub mod Log

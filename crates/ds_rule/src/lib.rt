@@ -9,15 +9,19 @@
 //! `proofs` by which it keeps the rule. Nothing is said of time, or of which pass fires what.
 #![tactic(auto)]
 
+mod event_role;
 pub mod laws;
+mod node_event;
 mod plays;
 mod sizes;
 mod table_run;
 mod view;
 
+pub use event_role::EventRole;
+pub use node_event::NodeEvent;
 pub use plays::{
     ChooseCut, Deal, Depart, Draw, FiringRule, Gather, Look, Observe, Publish, Read, Write,
 };
 pub use sizes::Sizes;
-pub use table_run::{DataEdge, RunValues, TableRun, turns_of};
+pub use table_run::{DataEdge, RunValues, TableRun};
 pub use view::View;

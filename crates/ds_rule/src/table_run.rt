@@ -5,6 +5,7 @@ ghost use Rattle.ds_base.specs.Values.{Row};
 ghost use Rattle.ds_rule.specs.Run.{Run, node_of, next, turns, opens};
 ghost use Rattle.ds_rule.specs.Words.{width};
 
+use crate::node_event::NodeEvent;
 use crate::sizes::Sizes;
 use ds_base::LatchId;
 use ds_marked::Arc;
@@ -147,11 +148,7 @@ impl<V: RunValues> TableRun<V> {
         requires { self.now.design_nodes < 4294967296 }
         ensures { result ≡ node_of self.now event }
     {
-        if event < 2 * self.sizes.design_nodes {
-            event / 2
-        } else {
-            event - self.sizes.design_nodes
-        }
+        NodeEvent::of(event, self.sizes.design_nodes).node
     }
 
     /// The event that the node fires next, where it has fired so often.
@@ -159,18 +156,16 @@ impl<V: RunValues> TableRun<V> {
         requires { (self.now.design_nodes < 4294967296) × (node < 4294967296) }
         ensures { result ≡ next self.now node fired }
     {
-        if node < self.sizes.design_nodes {
-            2 * node + (fired % 2) as usize
-        } else {
-            node + self.sizes.design_nodes
-        }
+        let design_nodes = self.sizes.design_nodes;
+        NodeEvent::next(node, fired, design_nodes).number(design_nodes)
     }
 
     /// The node's next event is an opening.
     pub fn opens_next(&self, node: usize, fired: u64) -> bool
         ensures { IsTrue result ↔ (opens self.now (next self.now node fired) ≡ true) }
     {
-        node < self.sizes.design_nodes && fired % 2 == 0
+        let next = NodeEvent::next(node, fired, self.sizes.design_nodes);
+        next.role.opens()
     }
 
     /// How often the event has fired, where its node has fired so often.
@@ -178,19 +173,7 @@ impl<V: RunValues> TableRun<V> {
         requires { self.now.design_nodes < 4294967296 }
         ensures { result ≡ turns self.now event fired }
     {
-        turns_of(self.sizes.design_nodes, event, fired)
-    }
-}
-
-/// How often the event has fired, where its node has fired so often.
-pub fn turns_of(design_nodes: usize, event: usize, fired: u64) -> u64
-    ensures { (run : Run) → design_nodes ≡ run.design_nodes → result ≡ turns run event fired }
-{
-    if event / 2 >= design_nodes {
-        fired
-    } else if event % 2 == 0 {
-        fired / 2 + fired % 2
-    } else {
-        fired / 2
+        let event = NodeEvent::of(event, self.sizes.design_nodes);
+        event.role.turns(fired)
     }
 }

@@ -7,9 +7,10 @@ use Rattle.ds_rule.proofs.EventLaws.{events-is}
 use Rattle.ds_rule.specs.declared.view.View.{View}
 use Rattle.ds_fabric.specs.Chained.{arc_numbered}
 use Rattle.ds_fabric.specs.Looks.{LooksOn, IsSeenLacking}
-use Rattle.ds_fabric.specs.Into.{fired_of, IsInto}
+use Rattle.ds_rule.specs.Event.{fired_of}
+use Rattle.ds_fabric.specs.Into.{IsInto}
 use Rattle.ds_fabric.specs.declared.arc_in.ArcIn.{ArcIn}
-use Rattle.ds_fabric.specs.declared.arc_in.EventRole.TheVariants.{Opening}
+use Rattle.ds_rule.specs.declared.event_role.EventRole.TheVariants.{Opening}
 use Rattle.ds_fabric.proofs.ArcChains.{read-off}
 use Rattle.ds_fabric.proofs.IncomingArcs.{ends_read, entry_into, look_near, none_before}
 use Rattle.ds_fabric.proofs.IncomingArcs.{enough_all, goes_on, stops}

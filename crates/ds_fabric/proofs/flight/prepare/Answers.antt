@@ -18,9 +18,10 @@ use Rattle.ds_fabric.proofs.PassMemory.{within}
 use Rattle.ds_fabric.proofs.HistoryLayout.{length-even, new_row-opens, new_row-else}
 use Rattle.ds_fabric.proofs.flight.prepare.Goals as goal
 
--- half the firings are openings, where the next event is one
-half : (run : Run) (l f : ℕ) → opens run (next run l f) ≡ true → f / 2 + 1 ≡ opened run l f + 1
-half run l f h = let o = even_opens run l f h in omega (arith, opened-low run l f o.0, o.1)
+-- how often a latch has opened, where it opens next
+turn : (run : Run) (l f t : ℕ) → t ≡ (f + 1) / 2 → opens run (next run l f) ≡ true
+    → t + 1 ≡ opened run l f + 1
+turn run l f t is h = omega (arith, opened-low run l f (even_opens run l f h).0)
 
 pub open_row-requires-clause-flight : goal.open_row-requires-clause-flight
 open_row-requires-clause-flight g c = let run : Run = c.args.context.now.run.now in
@@ -34,7 +35,8 @@ open_row-requires-clause-flight g c = let run : Run = c.args.context.now.run.now
         near = q.near;
         begins = ap (λ (x : ℕ). opens run (next run x (seen v x))) q.node_is
             ∙ (ap (λ (f : ℕ). opens run (next run l f)) (sym fired) ∙ h);
-        number = half run l c.args.history.now.fired h ∙ ap (λ (f : ℕ). opened run l f + 1) fired;
+        number = turn run l c.args.history.now.fired c.turns-turn.result c.turns-turn.ensures h
+            ∙ ap (λ (f : ℕ). opened run l f + 1) fired;
       },
       record {
         live = q.live;
@@ -47,8 +49,9 @@ open_row-requires-clause-flight g c = let run : Run = c.args.context.now.run.now
 
 pub open_row-requires-clause-within : goal.open_row-requires-clause-within
 open_row-requires-clause-within g c =
-    within c.args.context.now.run.now c.args.seat.now.me.0 c.args.history.now.node c.args.history.now.fired
-    c.requires.flight.count (c.if-opens_next.ensures.0 refl) c.requires.flight.enabled
+    let w = within c.args.context.now.run.now c.args.seat.now.me.0 c.args.history.now.node c.args.history.now.fired
+    c.requires.flight.count (c.if-opens_next.ensures.0 refl) c.requires.flight.enabled in
+    (w.0, omega (arith, c.turns-turn.ensures, w.1))
 
 pub open_row-requires-clause-room : goal.open_row-requires-clause-room
 open_row-requires-clause-room g c = let run : Run = c.args.context.now.run.now in
@@ -64,7 +67,7 @@ returns-then-opens_next-clause-turns g c = let run : Run = c.args.context.now.ru
     let h = c.if-opens_next.ensures.0 refl in
     c.open_row.ensures.value
     ∙ ap (λ (xs : List ℕ). c.args.history.now.turns.items ++ xs)
-    (ap (row run l) (half run l f h) ∙ sym (new_row-opens run l f h))
+    (ap (row run l) (turn run l f c.turns-turn.result c.turns-turn.ensures h) ∙ sym (new_row-opens run l f h))
 
 pub returns-then-opens_next-clause-me : goal.returns-then-opens_next-clause-me
 returns-then-opens_next-clause-me g c = (

@@ -35,9 +35,6 @@ bounds-all-number g c =
       ap (λ (xs : List Arc). length xs) c.arcs-all.ensures,
     )
 
-pub of-requires-clause-design_nodes : goal.of-requires-clause-design_nodes
-of-requires-clause-design_nodes g c = omega (arith, c.requires.sound.few)
-
 pub overflow_cast-number : goal.overflow_cast-number
 overflow_cast-number g c =
     omega (arith, c.back.invariant.0, c.back-test.true, c.requires.sound.few_arcs)
@@ -54,8 +51,8 @@ back-smaller g c = let run : Run = c.args.run.now in let q = c.requires.chains i
     (omega (arith, q.links_long, below)) c.index-at-in-back.ensures in
     omega (arith, got, (q.link m below).below, c.back-test.true)
 
-pub of-requires-clause-near : goal.of-requires-clause-near
-of-requires-clause-near g c = let run : Run = c.args.run.now in
+pub of-requires : goal.of-requires
+of-requires g c = let run : Run = c.args.run.now in
     let m : ℕ = c.back.at - 1 in
     let below : m < length run.arcs = omega (arith, c.back.invariant.0, c.back-test.true) in
     let same : c.index-all-number.result ≡ arc_numbered run m = c.index-all-number.is

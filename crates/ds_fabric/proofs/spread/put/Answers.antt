@@ -13,9 +13,15 @@ pub ticket-requires : goal.ticket-requires
 ticket-requires c = let h : History = c.args.history.now in
     let (run, is, inside) = c.requires in (
       run,
-      is,
-      subst (λ (x : ℕ). StandsIn run h x) (sym c.index-number.ensures) inside.stands,
-      omega (arith, c.loop-k-test.true, c.turns_of-k-end.ensures run is),
+      c.index.result,
+      (c.of-role.ensures run is).opens_is,
+      subst (λ (x : ℕ). StandsIn run h x) (sym c.index.ensures) inside.stands,
+      omega (
+        arith,
+        c.loop-k-test.true,
+        c.turns-k-end.ensures,
+        (c.of-role.ensures run is).turns_is h.fired,
+      ),
     )
 
 pub loop-k-preserved : goal.loop-k-preserved
@@ -23,13 +29,14 @@ loop-k-preserved c = let h : History = c.args.history.now in let k : ℕ = c.loo
     let e : ℕ = c.args.event in let out : List ℕ = c.loop-k.out in let inv = c.loop-k.invariant in
     let p : ℕ = c.ticket.result in
     let is-p : (run : Run) → c.args.design_nodes ≡ run.design_nodes → ticket_in run h e k ≡ p = λ run is.
-    sym (c.ticket.ensures run is ∙ ap (λ (x : ℕ). ticket_in run h x k) c.index-number.ensures) in
+    sym (c.ticket.ensures run c.index.result (c.of-role.ensures run is).opens_is ∙ ap (λ (x : ℕ). ticket_in run h x k) c.index.ensures) in
     let below : (run : Run) → c.args.design_nodes ≡ run.design_nodes → k < turns run e h.fired = λ run is.
     omega (
       arith,
       c.loop-k-test.true,
-      c.turns_of-k-end.ensures run is,
-      ap (λ (x : ℕ). turns run x h.fired) c.index-number.ensures,
+      c.turns-k-end.ensures,
+      (c.of-role.ensures run is).turns_is h.fired,
+      ap (λ (x : ℕ). turns run x h.fired) c.index.ensures,
     ) in
     let (run0, is0, inside) = c.requires in
     let near = inside.below k (below run0 is0) in

@@ -7,14 +7,14 @@ use Rattle.ds_fabric.specs.Showing.{Recorder}
 use Rattle.ds_fabric.proofs.HistoryTickets.{counted}
 use Rattle.ds_fabric.proofs.record.Record.count.Goals as goal
 
-pub history-history-requires : goal.history-history-requires
-history-history-requires c = let v : View = c.args.self.now.shown.view in let run : Run = v.run in
+pub history-requires : goal.history-requires
+history-requires c = let v : View = c.args.self.now.shown.view in let run : Run = v.run in
     let same : c.self.inside.design_nodes ≡ v.run.design_nodes = c.self.invariant.design_nodes_is
     ∙ ap (λ (x : Recorder). x.shown.view.run.design_nodes) c.self.view_is in
     λ sound. omega (
       arith,
-      c.node_of.ensures run same,
-      ap (node_of run) c.index-number.ensures,
+      (c.of-event.ensures run same).node_is,
+      ap (node_of run) c.index.ensures,
       node_below run c.args.event sound.among c.requires,
     )
 
@@ -22,8 +22,7 @@ pub returns : goal.returns
 returns c = let v : View = c.args.self.now.shown.view in let run : Run = v.run in
     let same : c.self.inside.design_nodes ≡ v.run.design_nodes = c.self.invariant.design_nodes_is
     ∙ ap (λ (x : Recorder). x.shown.view.run.design_nodes) c.self.view_is in
-    let h = c.history-history.result.now in let i = c.history-history.ensures in
-    c.turns_of.ensures run same
-    ∙ (counted v h c.index-number.result i.counts i.tells
-    (sym (c.node_of.ensures run same) ∙ sym i.node_is)
-    ∙ ap (λ (e : ℕ). length (tickets v e)) c.index-number.ensures)
+    let h = c.history.result.now in let i = c.history.ensures in let e = c.of-event.ensures run same in
+    c.turns.ensures ∙ (e.turns_is h.fired
+    ∙ (counted v h c.index.result i.counts i.tells (sym e.node_is ∙ sym i.node_is)
+    ∙ ap (λ (e : ℕ). length (tickets v e)) c.index.ensures))

@@ -7,16 +7,16 @@ use Rattle.ds_fabric.specs.declared.history.History.{History}
 use Rattle.ds_fabric.proofs.HistoryTickets.{ticket_inside, ticket_told, stands_in}
 use Rattle.ds_fabric.proofs.record.Record.ticket.Goals as goal
 
-pub history-history-requires : goal.history-history-requires
-history-history-requires c = let v : View = c.args.self.now.shown.view in let run : Run = v.run in
+pub history-requires : goal.history-requires
+history-requires c = let v : View = c.args.self.now.shown.view in let run : Run = v.run in
     let same : c.self.inside.design_nodes ≡ v.run.design_nodes = c.self.invariant.design_nodes_is
     ∙ ap (λ (x : Recorder). x.shown.view.run.design_nodes) c.self.view_is in
     let long = subst (λ (x : Recorder). length x.shown.view.tickets ≡ events x.shown.view.run)
     c.self.view_is c.self.invariant.keeps.tickets_long in
     λ sound. omega (
       arith,
-      c.node_of.ensures run same,
-      ap (node_of run) c.index-number.ensures,
+      (c.of-event.ensures run same).node_is,
+      ap (node_of run) c.index.ensures,
       node_below run c.args.event sound.among
           (ticket_inside v c.args.event c.args.k long c.requires),
     )
@@ -25,19 +25,21 @@ pub ticket-requires : goal.ticket-requires
 ticket-requires c = let v : View = c.args.self.now.shown.view in
     let same : c.self.inside.design_nodes ≡ v.run.design_nodes = c.self.invariant.design_nodes_is
     ∙ ap (λ (x : Recorder). x.shown.view.run.design_nodes) c.self.view_is in
-    let h : History = c.history-history.result.now in let i = c.history-history.ensures in (
+    let h : History = c.history.result.now in let i = c.history.ensures in
+    let e = c.of-event.ensures v.run same in (
       v.run,
-      same,
-      stands_in v h c.index-number.result i.tells (sym (c.node_of.ensures v.run same) ∙ sym i.node_is),
-      (ticket_told v c.node_of.result c.args.event c.index-number.result c.args.k h i
-          c.index-number.ensures (c.node_of.ensures v.run same) c.requires).0,
+      c.index.result,
+      e.opens_is,
+      stands_in v h c.index.result i.tells (sym e.node_is ∙ sym i.node_is),
+      (ticket_told v c.of-event.result.node c.args.event c.index.result c.args.k h i c.index.ensures
+          e.node_is c.requires).0,
     )
 
 pub returns : goal.returns
 returns c = let v : View = c.args.self.now.shown.view in
     let same : c.self.inside.design_nodes ≡ v.run.design_nodes = c.self.invariant.design_nodes_is
     ∙ ap (λ (x : Recorder). x.shown.view.run.design_nodes) c.self.view_is in
-    c.ticket.ensures v.run same
-    ∙ (ticket_told v c.node_of.result c.args.event c.index-number.result c.args.k
-    c.history-history.result.now c.history-history.ensures c.index-number.ensures
-    (c.node_of.ensures v.run same) c.requires).1
+    let e = c.of-event.ensures v.run same in
+    c.ticket.ensures v.run c.index.result e.opens_is
+    ∙ (ticket_told v c.of-event.result.node c.args.event c.index.result c.args.k c.history.result.now
+    c.history.ensures c.index.ensures e.node_is c.requires).1
