@@ -13,7 +13,7 @@ ghost use Rattle.ds_slices.specs.Turns.{turn_row};
 use ds_base::{OutOfMemory, Row3};
 use ds_design::{Netlist, Vectors};
 use ds_outside::{Buffered, Pen, Sink, WriteFault};
-use ds_slices::{Slices, put_turn_line, set_state, set_words};
+use ds_slices::{Slices, begin_turn, put_turn_line, set_state, set_words};
 use std::alloc::Global;
 
 // Shorter windows go turn by turn: to look for feedback takes as long as some hundred turns.
@@ -118,31 +118,30 @@ fn put_slice<P: Pen>(netlist: &Netlist, first: u64, count: usize, words: &mut Sl
     requires state { length words.old.state ≡ length netlist.now.registers }
     requires count { (0 < count) × (count ≤ 64) }
     requires few { first + count < 2 ^ 64 }
-    ensures slices { words.new.slices ≡ words.old.slices }
+    ensures ready { AreReady netlist.now words.new.slices }
     ensures state { words.new.state
         ≡ values_at (turn_row words.old.slices.words.items (count - 1)) (data_nets netlist.now) }
     ensures lines { PutsTurns (P.writing pen.old) (P.writing pen.new) netlist.now first count
         words.old.slices.words.items }
 {
     let design = netlist.design();
-    put_lines(&words.slices, netlist, first, count, pen);
+    put_lines(netlist, first, count, &mut words.slices, pen);
     let bits = words.slices.words.as_slice();
     set_state(design.registers(), bits, count - 1, &mut words.state);
 }
 
 // Writes the lines of so many turns of the words, numbered from a first one on.
-fn put_lines<P: Pen>(slices: &Slices, netlist: &Netlist, first: u64, count: usize, pen: &mut P)
-    requires ready { AreReady netlist.now slices.now }
+fn put_lines<P: Pen>(netlist: &Netlist, first: u64, count: usize, slices: &mut Slices, pen: &mut P)
+    requires ready { AreReady netlist.now slices.old }
     requires count { count ≤ 64 }
     requires few { first + count < 2 ^ 64 }
+    ensures ready { AreReady netlist.now slices.new }
+    ensures same { slices.new.words ≡ slices.old.words }
     ensures lines { PutsTurns (P.writing pen.old) (P.writing pen.new) netlist.now first count
-        slices.now.words.items }
+        slices.old.words.items }
 {
-    let design = netlist.design();
-    let outputs = design.outputs();
-    // Read for the fact that the registers are in range.
-    let _registers = design.registers();
     for turn in 0..count {
-        put_turn_line(slices, outputs, turn, first + turn as u64, pen);
+        begin_turn(netlist, turn, slices);
+        put_turn_line(slices, turn % 8, first + turn as u64, pen);
     }
 }
