@@ -19,6 +19,9 @@ use std::alloc::Global;
 // Shorter windows go turn by turn: to look for feedback takes as long as some hundred turns.
 const LEAST: usize = 1_024;
 
+// So many vectors are looked at before feedback is looked for, and the others behind that.
+const FIRST: usize = 16;
+
 /// The registers before a turn, and what the words of 64 turns are worked out in.
 #[derive(Drop)]
 pub struct Sliced {
@@ -38,13 +41,17 @@ pub(crate) fn words_for(
     ensures begun { IfOk result (λ found. IfSome found
         (IsKnownWindow netlist.now start.now vectors.now.rows)) }
 {
-    if vectors.count() < LEAST || !start.all_known() || !are_known(vectors) {
+    let turns = vectors.count();
+    if turns < LEAST || !start.all_known() || !are_known(vectors, FIRST) {
         return Ok(None);
     }
-    match Slices::of(alloc, netlist)? {
-        Some(slices) => Ok(Some(begun(alloc, start, slices)?)),
-        None => Ok(None),
+    let Some(slices) = Slices::of(alloc, netlist)? else {
+        return Ok(None);
+    };
+    if !are_known(vectors, turns) {
+        return Ok(None);
     }
+    Ok(Some(begun(alloc, start, slices)?))
 }
 
 // Begun with these registers.
@@ -57,11 +64,12 @@ fn begun(alloc: Global, start: &Row3, slices: Slices) -> Result<Sliced, OutOfMem
     Ok(Sliced { state, slices })
 }
 
-// Whether no vector has an unknown value.
-fn are_known(vectors: &Vectors) -> bool
-    ensures { IsTrue result → All AreKnown vectors.now.rows }
+// Whether none of the first vectors has an unknown value.
+fn are_known(vectors: &Vectors, count: usize) -> bool
+    requires { count ≤ length vectors.now.rows }
+    ensures { IsTrue result → count ≡ length vectors.now.rows → All AreKnown vectors.now.rows }
 {
-    for k in 0..vectors.count() {
+    for k in 0..count {
         if !vectors.row(k).all_known() {
             return false;
         }

@@ -1,10 +1,10 @@
-use Rattle.std.proofs.Common.{◌≡◌, ◌∙◌, ◌+◌, ◌*◌, ◌/◌, ◌%◌, ◌<◌, List, ℕ, ap, refl, sym, arith, subst}
+use Rattle.std.proofs.Common.{◌≡◌, ◌∙◌, ◌+◌, ◌/◌, ◌%◌, List, ℕ, ap, refl, sym, arith, subst}
 use Rattle.ds_base.specs.Values.{Row}
 use Rattle.ds_cover.specs.Cover.{values_at}
 use Rattle.ds_design.specs.Circuit.{Circuit, register_nets}
 use Rattle.ds_design.specs.Trace.{trace_line}
 use Rattle.ds_outside.proofs.Pens.{puts_nothing, puts_on, with_put}
-use Rattle.ds_slices.specs.Bytes.{AreBytes, AreTurnBytes}
+use Rattle.ds_slices.specs.Bytes.{AreTurnBytes}
 use Rattle.ds_slices.specs.Turns.{turn_row}
 use Rattle.ds_slices.specs.declared.slices.Slices.{Slices}
 use Rattle.ds_clocked.specs.Words.{registers_in}
