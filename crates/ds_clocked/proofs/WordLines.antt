@@ -1,5 +1,5 @@
 -- Lines that are written out of words are lines of the run.
-use Rattle.std.proofs.Common.{◌≡◌, ◌∙◌, ℕ, zero, suc, ◌+◌, ◌-◌, ◌<◌, ◌≤◌, List, [], ◌∷◌, ◌++◌, length, take, drop, refl, sym, ap, arith, subst, append-nil, flat_map}
+use Rattle.std.proofs.Common.{◌≡◌, ◌∙◌, ℕ, zero, suc, ◌+◌, ◌-◌, ◌*◌, ◌/◌, ◌%◌, ◌<◌, ◌≤◌, List, [], ◌∷◌, ◌++◌, length, take, drop, refl, sym, ap, arith, subst, append-nil, flat_map}
 use Rattle.std.specs.List.{range_with_len}
 use Rattle.std.proofs.Math.Seq.{take-add}
 use Rattle.std.proofs.lemmas.List.{get_or-drop, get_or-take, length-drop, length-take-le, map-id}
@@ -17,6 +17,7 @@ use Rattle.ds_outside.specs.Pen.{Writing}
 use Rattle.ds_outside.proofs.Pens.{puts_nothing, puts_on}
 use Rattle.ds_clocked.specs.Appends.{PutsLines}
 use Rattle.ds_clocked.specs.Words.{PutsTurns, registers_in}
+use Rattle.ds_slices.specs.Bytes.{AreBytes}
 use Rattle.ds_slices.specs.Turns.{AreTurns, registers_before, turn_row}
 
 -- the line of a turn of words
@@ -31,6 +32,14 @@ line_more c first k words =
     let more : range_with_len 0 (k + 1) ≡ range_with_len 0 k ++ k ∷ [] =
     sym (map-id (range_with_len 0 (k + 1))) ∙ (map-range_with_len_more (λ (j : ℕ). j) 0 k k (omega arith) ∙ ap (λ (xs : List ℕ). xs ++ k ∷ []) (map-id (range_with_len 0 k))) in
     ap (flat_map f) more ∙ (flat_map-append f (range_with_len 0 k) (k ∷ []) ∙ ap (λ (t : List ℕ). flat_map f (range_with_len 0 k) ++ t) (append-nil (f k)))
+
+-- the values of nets in a turn, by their bytes
+pub row_of_bytes : (words words' nets bytes : List ℕ) (k : ℕ) → words ≡ words' → AreBytes words nets (k / 8) bytes
+    → turn_row bytes (k % 8) ≡ values_at (turn_row words' k) nets
+row_of_bytes words words' nets bytes k same made =
+    made (k % 8) (omega arith)
+    ∙ (ap (λ (n : ℕ). values_at (turn_row words n) nets) (let e : 8 * (k / 8) + k % 8 ≡ k = omega arith in e)
+    ∙ ap (λ (ws : List ℕ). values_at (turn_row ws k) nets) same)
 
 -- lines that agree
 lines_agree : (line line' : ℕ → List ℕ) (from turns : ℕ) → ((k : ℕ) → k < from + turns → line k ≡ line' k)

@@ -13,11 +13,14 @@ ghost use Rattle.ds_slices.specs.Turns.{turn_row};
 use ds_base::{OutOfMemory, Row3};
 use ds_design::{Netlist, Vectors};
 use ds_outside::{Buffered, Pen, Sink, WriteFault};
-use ds_slices::{Slices, put_turn_line, set_state, set_words};
+use ds_slices::{Slices, begin_turn, put_turn_line, set_state, set_words};
 use std::alloc::Global;
 
 // Shorter windows go turn by turn: to look for feedback takes as long as some hundred turns.
 const LEAST: usize = 1_024;
+
+// So many vectors are looked at before feedback is looked for, and the others behind that.
+const FIRST: usize = 16;
 
 /// The registers before a turn, and what the words of 64 turns are worked out in.
 #[derive(Drop)]
@@ -38,13 +41,17 @@ pub(crate) fn words_for(
     ensures begun { IfOk result (λ found. IfSome found
         (IsKnownWindow netlist.now start.now vectors.now.rows)) }
 {
-    if vectors.count() < LEAST || !start.all_known() || !are_known(vectors) {
+    let turns = vectors.count();
+    if turns < LEAST || !start.all_known() || !are_known(vectors, FIRST) {
         return Ok(None);
     }
-    match Slices::of(alloc, netlist)? {
-        Some(slices) => Ok(Some(begun(alloc, start, slices)?)),
-        None => Ok(None),
+    let Some(slices) = Slices::of(alloc, netlist)? else {
+        return Ok(None);
+    };
+    if !are_known(vectors, turns) {
+        return Ok(None);
     }
+    Ok(Some(begun(alloc, start, slices)?))
 }
 
 // Begun with these registers.
@@ -57,11 +64,12 @@ fn begun(alloc: Global, start: &Row3, slices: Slices) -> Result<Sliced, OutOfMem
     Ok(Sliced { state, slices })
 }
 
-// Whether no vector has an unknown value.
-fn are_known(vectors: &Vectors) -> bool
-    ensures { IsTrue result → All AreKnown vectors.now.rows }
+// Whether none of the first vectors has an unknown value.
+fn are_known(vectors: &Vectors, count: usize) -> bool
+    requires { count ≤ length vectors.now.rows }
+    ensures { IsTrue result → count ≡ length vectors.now.rows → All AreKnown vectors.now.rows }
 {
-    for k in 0..vectors.count() {
+    for k in 0..count {
         if !vectors.row(k).all_known() {
             return false;
         }
@@ -118,31 +126,30 @@ fn put_slice<P: Pen>(netlist: &Netlist, first: u64, count: usize, words: &mut Sl
     requires state { length words.old.state ≡ length netlist.now.registers }
     requires count { (0 < count) × (count ≤ 64) }
     requires few { first + count < 2 ^ 64 }
-    ensures slices { words.new.slices ≡ words.old.slices }
+    ensures ready { AreReady netlist.now words.new.slices }
     ensures state { words.new.state
         ≡ values_at (turn_row words.old.slices.words.items (count - 1)) (data_nets netlist.now) }
     ensures lines { PutsTurns (P.writing pen.old) (P.writing pen.new) netlist.now first count
         words.old.slices.words.items }
 {
     let design = netlist.design();
-    put_lines(&words.slices, netlist, first, count, pen);
+    put_lines(netlist, first, count, &mut words.slices, pen);
     let bits = words.slices.words.as_slice();
     set_state(design.registers(), bits, count - 1, &mut words.state);
 }
 
 // Writes the lines of so many turns of the words, numbered from a first one on.
-fn put_lines<P: Pen>(slices: &Slices, netlist: &Netlist, first: u64, count: usize, pen: &mut P)
-    requires ready { AreReady netlist.now slices.now }
+fn put_lines<P: Pen>(netlist: &Netlist, first: u64, count: usize, slices: &mut Slices, pen: &mut P)
+    requires ready { AreReady netlist.now slices.old }
     requires count { count ≤ 64 }
     requires few { first + count < 2 ^ 64 }
+    ensures ready { AreReady netlist.now slices.new }
+    ensures same { slices.new.words ≡ slices.old.words }
     ensures lines { PutsTurns (P.writing pen.old) (P.writing pen.new) netlist.now first count
-        slices.now.words.items }
+        slices.old.words.items }
 {
-    let design = netlist.design();
-    let outputs = design.outputs();
-    // Read for the fact that the registers are in range.
-    let _registers = design.registers();
     for turn in 0..count {
-        put_turn_line(slices, outputs, turn, first + turn as u64, pen);
+        begin_turn(netlist, turn, slices);
+        put_turn_line(slices, turn % 8, first + turn as u64, pen);
     }
 }

@@ -3,3 +3,4 @@ pub mod Turns
 pub mod Picked
 pub mod Linked
 pub mod Ready
+pub mod Bytes

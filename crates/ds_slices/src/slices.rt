@@ -15,13 +15,15 @@ use ds_design::{Netlist, Register, Vectors};
 use ds_feedback::sequence;
 use std::alloc::{AllocError, Global};
 
-/// An order of the tables and registers of a netlist, a word for each net, a row to work in, and
-/// the nets that the registers drive.
+/// An order of the tables and registers of a netlist, a word for each net, a row to work in, the
+/// nets that the registers drive, and a byte for each output and each of these nets.
 pub struct Slices {
     pub order: Vec<u32>,
     pub words: Vec<u64>,
     pub nets: Row3,
     pub registers: Vec<NetId>,
+    pub output_bytes: Vec<u8>,
+    pub register_bytes: Vec<u8>,
 }
 
 impl Drop for Slices {
@@ -31,6 +33,8 @@ impl Drop for Slices {
             words: _,
             nets: _,
             registers: _,
+            output_bytes: _,
+            register_bytes: _,
         } = self;
     }
 }
@@ -60,6 +64,8 @@ impl Slices {
             words: vec![in alloc; 0; design.nets().len()]?,
             nets: Row3::with_len(alloc, design.nets().len())?,
             registers: register_nets(alloc, design.registers())?,
+            output_bytes: vec![in alloc; 0; design.outputs().len()]?,
+            register_bytes: vec![in alloc; 0; design.registers().len()]?,
         })
     }
 }

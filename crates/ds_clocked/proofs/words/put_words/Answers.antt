@@ -4,7 +4,6 @@ use Rattle.ds_base.specs.Values.{AreKnown, Row}
 use Rattle.ds_cover.specs.Cover.{value_at, values_at}
 use Rattle.ds_design.specs.Circuit.{Circuit, data_nets}
 use Rattle.ds_design.specs.declared.design.Register.{Register}
-use Rattle.ds_slices.specs.Ready.{AreReady}
 use Rattle.ds_slices.specs.Turns.{turn_row}
 use Rattle.ds_slices.proofs.TurnBits.{turns_known}
 use Rattle.ds_clocked.specs.Appends.{PutsLines}
@@ -36,7 +35,7 @@ writing-preserved g c =
       within = omega arith;
       begun = record {
         state = refl;
-        ready = subst (AreReady circuit) (sym c.put_slice.ensures.slices) c.set_words.ensures.ready;
+        ready = c.put_slice.ensures.ready;
         one_each = ap length state_is ∙ (length-map (data_nets circuit) (value_at (turn_row bits (count - 1))) ∙ length-map circuit.registers (λ (r : Register). r.data_net));
         start_known = subst (λ (row : Row). AreKnown row) (sym state_is) (turns_known bits (count - 1) (data_nets circuit));
         vectors_known = c.writing.invariant.begun.vectors_known;

@@ -1,5 +1,4 @@
 use Rattle.std.proofs.Common.{take, length, ◌-◌, ◌≤◌}
-use Rattle.ds_cover.specs.Cover.{values_at}
 use Rattle.ds_outside.specs.Pen.{Puts}
 use Rattle.ds_rows.proofs.RowText.{value_chars}
 use Rattle.ds_slices.specs.Turns.{turn_row}
@@ -7,9 +6,9 @@ use Rattle.ds_slices.proofs.line.put_bits.Given as goal
 
 abbrev pub invariant-writing : goal.invariant-writing
 invariant-writing g l = record {
-  within : l.done ≤ length l.nets;
-  written : Puts (g.P.Pen.writing l.initial.pen) (g.P.Pen.writing l.pen) (value_chars (take l.done (values_at (turn_row l.words l.turn) l.nets)));
+  within : l.done ≤ length l.bytes;
+  written : Puts (g.P.Pen.writing l.initial.pen) (g.P.Pen.writing l.pen) (value_chars (take l.done (turn_row l.bytes l.turn)));
 }
 
 abbrev pub decreases-writing : goal.decreases-writing
-decreases-writing g l = length l.nets - l.done
+decreases-writing g l = length l.bytes - l.done
