@@ -4,14 +4,13 @@ from __future__ import annotations
 
 import argparse
 import re
-from typing import Iterator
 
 from desync_tools.clusters import Split
 from desync_tools.delay_lines import DelayLines
 from desync_tools.delays import is_delay
 from desync_tools.logic import Edges, Logic
 from desync_tools.netlist import Netlist, Table, printed
-from desync_tools.text import BadText, file_text
+from desync_tools.text import file_text
 
 DIGITS = re.compile("^[0-9]+$")
 OPTIONS = (
