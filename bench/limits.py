@@ -3,6 +3,9 @@
 
 Each job is run some times, and its median processor time is printed beside its greatest memory. The
 exit status is 1 where a job answers another status than the one it is to give.
+
+With `--long` it times one job alone, once, some fifteen minutes long: a ring whose times pass 2^64.
+The last two lines must be those that a sum gives; the exit status is 1 where they are not.
 """
 
 import argparse
@@ -15,6 +18,9 @@ import tempfile
 
 HERE = os.path.dirname(os.path.abspath(__file__))
 PROGRAM = os.path.join(os.path.dirname(HERE), "crates", "desync", "out", "desync")
+MOST_DELAY = 2 ** 32 - 1
+# The events and the turns of the long job.
+RING = [131064, 32780]
 
 
 def write(folder, name, lines):
@@ -202,6 +208,48 @@ def jobs(folder):
     yield from timed_jobs(folder)
 
 
+def ring(folder, events, turns):
+    """The words of a run of the toggle beside a ring of so many events, an even number, with one
+    token, each of whose arcs has the longest delay."""
+    net = write(folder, "toggle.blif", toggle())
+    told = subprocess.run([PROGRAM, "graph", net], stdout=subprocess.PIPE, check=True).stdout
+    names = ["r%d" % i for i in range(events // 2)]
+    around = [name + sign for name in names for sign in "+-"]
+    arcs = list(zip(around, around[1:] + around[:1]))
+    lines = []
+    for line in told.decode().splitlines():
+        if line.startswith(".outputs"):
+            line += " " + " ".join(names)
+        elif line.startswith(".marking"):
+            lines += ["%s %s" % arc for arc in arcs]
+            line = line.replace("}", "<%s,%s> }" % arcs[-1])
+        lines.append(line)
+    graph = write(folder, "ring.g", lines)
+    text = write(folder, "ring.delays", ("%s %s %d" % (*arc, MOST_DELAY) for arc in arcs))
+    return ["times", net, text, str(turns), "--graph", graph]
+
+
+def last_times(events, turns):
+    """The last two times of the ring: an event fires a delay after the one before it."""
+    last = events * turns - 1
+    return [MOST_DELAY * (last - 1), MOST_DELAY * last]
+
+
+def long_job(events, turns):
+    """Times the ring, and looks at the ends of the last two lines that are written."""
+    with tempfile.TemporaryDirectory() as folder:
+        words = [PROGRAM] + ring(folder, events, turns)
+        program = subprocess.Popen(words, stdout=subprocess.PIPE)
+        last = subprocess.run(["tail", "-n", "2"], stdin=program.stdout, stdout=subprocess.PIPE)
+        _, ended, used = os.wait4(program.pid, 0)
+    found = [int(line.split()[-1]) for line in last.stdout.splitlines()]
+    if ended or found != last_times(events, turns):
+        sys.exit("the ring: ended with %d, last times %s" % (ended, found))
+    cells = (format(events, ","), format(turns, ","), used.ru_utime + used.ru_stime)
+    print("| times: a ring of %s events, %s turns | %.2f | %.0f |"
+          % (*cells, used.ru_maxrss / 1000))
+
+
 # Starts a program and tells how it ended, its processor time and its greatest memory. A process
 # begins with the memory of the one that starts it, so this one is small.
 STARTER = """
@@ -226,10 +274,15 @@ def timed(words, status):
 def main():
     parser = argparse.ArgumentParser(description=__doc__.split("\n")[0])
     parser.add_argument("--times", type=int, default=3, help="runs that a median is of")
+    parser.add_argument("--long", action="store_true", help="the long job alone, once")
+    parser.add_argument("--ring", type=int, nargs=2, metavar=("EVENTS", "TURNS"), default=RING,
+                        help="the size of its ring, %d %d where it is left out" % tuple(RING))
     options = parser.parse_args()
     if not os.path.exists(PROGRAM):
         sys.exit("%s is not there: build it first" % PROGRAM)
     print("| Job | Seconds | MB |\n|---|---|---|")
+    if options.long:
+        return long_job(*options.ring)
     with tempfile.TemporaryDirectory() as folder:
         for name, words, status in jobs(folder):
             runs = [timed([PROGRAM] + words, status) for _ in range(options.times)]

@@ -3,6 +3,10 @@
 
 Each job is run some times, and its median processor time is printed beside its greatest memory. The
 exit status is 1 where a job answers another status than 0.
+
+With `--base PROGRAM` each job is run turn about by that program and by the built one, so that what
+else the machine does meets both alike. The least processor time of each is printed, and how many
+times as long the base takes; the exit status is 1 too where the two write different bytes.
 """
 
 import argparse
@@ -88,18 +92,40 @@ def jobs(folder):
     )
 
 
+def medians(name, words, times):
+    """The line of a job: the median time, and the greatest memory."""
+    runs = [limits.timed([limits.PROGRAM] + words, 0) for _ in range(times)]
+    seconds = statistics.median(seconds for seconds, _ in runs)
+    return "| %s | %.2f | %.0f |" % (name, seconds, max(size for _, size in runs))
+
+
+def ratios(name, words, times, base):
+    """The line of a job: the least time of the base and of the program, and their ratio."""
+    programs = [base, limits.PROGRAM]
+    texts = [subprocess.run([path] + words, stdout=subprocess.PIPE).stdout for path in programs]
+    if texts[0] != texts[1]:
+        sys.exit("%s: different bytes" % name)
+    runs = [[limits.timed([path] + words, 0)[0] for path in programs] for _ in range(times)]
+    old, new = map(min, zip(*runs))
+    return "| %s | %.3f | %.3f | %.2f |" % (name, old, new, old / new)
+
+
 def main():
     parser = argparse.ArgumentParser(description=__doc__.split("\n")[0])
-    parser.add_argument("--times", type=int, default=3, help="runs that a median is of")
+    parser.add_argument("--times", type=int, default=3, help="runs of each job by a program")
+    parser.add_argument("--base", metavar="PROGRAM", help="the program to compare with")
     options = parser.parse_args()
     if not os.path.exists(limits.PROGRAM):
         sys.exit("%s is not there: build it first" % limits.PROGRAM)
-    print("| Job | Seconds | MB |\n|---|---|---|")
+    base = options.base and os.path.abspath(options.base)
+    print("| Job | Old | New | Old/new |\n|---|---|---|---|" if base else
+          "| Job | Seconds | MB |\n|---|---|---|")
     with tempfile.TemporaryDirectory() as folder:
         for name, words in jobs(folder):
-            runs = [limits.timed([limits.PROGRAM] + words, 0) for _ in range(options.times)]
-            seconds = statistics.median(seconds for seconds, _ in runs)
-            print("| %s | %.2f | %.0f |" % (name, seconds, max(size for _, size in runs)))
+            if base:
+                print(ratios(name, words, options.times, base), flush=True)
+            else:
+                print(medians(name, words, options.times), flush=True)
 
 
 if __name__ == "__main__":

@@ -31,13 +31,7 @@ def delays_of(text: Text) -> dict[Order, int]:
     return found
 
 
-def line_of(order: Order, delay: int, comment: str = "") -> str:
-    """A line of delays; behind it may stand a comment."""
-    line = "%s %s %d" % (order + (delay,))
-    return "%s # %s" % (line, comment) if comment else line
-
-
 def lines_of(delays: dict[Order, int]) -> Iterator[str]:
     """The lines of some delays."""
     for order, delay in delays.items():
-        yield line_of(order, delay)
+        yield "%s %s %d" % (order + (delay,))

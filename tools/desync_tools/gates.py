@@ -4,16 +4,14 @@ from __future__ import annotations
 
 import argparse
 import re
-from typing import Iterator
 
 from desync_tools.clusters import Split
-from desync_tools.delays import MOST, is_delay, line_of
-from desync_tools.logic import Edge, Logic
+from desync_tools.delay_lines import DelayLines
+from desync_tools.delays import is_delay
+from desync_tools.logic import Edges, Logic
 from desync_tools.netlist import Netlist, Table, printed
-from desync_tools.text import BadText, file_text
+from desync_tools.text import file_text
 
-# The longest file that `desync` reads.
-MOST_BYTES = 16777216
 DIGITS = re.compile("^[0-9]+$")
 OPTIONS = (
     ("table", 1, "how long a table takes"),
@@ -53,36 +51,18 @@ class Gates:
         return self.by_inputs.get(len(table.inputs), self.table) if found is None else found
 
 
-def edges_of(split: Split, gates: Gates) -> dict[Edge, int]:
+def edges_of(split: Split, gates: Gates) -> Edges:
     """The data edges, each with the longest path of tables."""
     return Logic(split, gates.delay).edges()
 
 
-def lines(split: Split, gates: Gates, edges: dict[Edge, int]) -> Iterator[str]:
+def lines(split: Split, gates: Gates, edges: Edges) -> list[str]:
     """The lines of delays: those of each node, then those of each data edge."""
-    names = split.names()
-    for node in split.nodes:
-        for source, target in ((node + "+", node + "-"), (node + "-", node + "+")):
-            yield line_of((source, target), gates.controller, names[node])
-    place = {node: number for number, node in enumerate(split.nodes)}
-    for edge in sorted(edges, key=lambda edge: (place[edge[0]], place[edge[1]])):
-        producer, consumer = edge
-        delay = edges[edge] + gates.latch
-        if delay > MOST:
-            long = (split.netlist.path, producer, consumer, MOST)
-            raise BadText("%s: %s+ to %s+ takes more than %d" % long)
-        told = "%s to %s" % (names[producer], names[consumer])
-        yield line_of((producer + "+", consumer + "+"), delay, told)
-        yield line_of((consumer + "-", producer + "+"), 0, "hold, " + told)
-
-
-def short(whole: list[str]) -> list[str]:
-    """The lines of delays, without names and holds where `desync` would not read the file whole."""
-    if sum(map(len, whole)) + len(whole) <= MOST_BYTES:
-        return whole
-    read = [line.split(" #", 1)[0] for line in whole]
-    told = "# names, and orders that take 0, are left out: with them the file would be too long"
-    return [told, *(line for line in read if not line.endswith(" 0"))]
+    delays = {
+        producer: {consumer: path + gates.latch for consumer, path in paths.items()}
+        for producer, paths in edges.items()
+    }
+    return DelayLines(split, gates.controller, delays).lines()
 
 
 def delay_word(word: str) -> int:

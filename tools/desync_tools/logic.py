@@ -6,17 +6,15 @@ through tables, what the other takes; and from each master to its slave.
 
 from __future__ import annotations
 
-from typing import Callable, Iterator, Sequence
+from functools import reduce
+from typing import Callable, Iterator
 
 from desync_tools.clusters import Split
+from desync_tools.lanes import Lanes
 from desync_tools.netlist import Net, NotAccepted, Table
 
-Edge = tuple[str, str]
-# The longest path from each producer.
-Paths = dict[str, int]
-NONE: Paths = {}
-# So many producers are followed at once: more need more memory, fewer more passes.
-AT_ONCE = 64
+# From each producer, in the order of nodes, the longest path to each consumer, in that order too.
+Edges = dict[str, dict[str, int]]
 MOST_CLUSTERS, MOST_ORDERS = 4096, 1048576
 
 
@@ -27,9 +25,9 @@ class TooMany(NotAccepted):
         super().__init__("%s: too many %s (limit %d)" % (split.netlist.path, what, most))
 
 
-def orders(nodes: int, edges: int) -> int:
+def orders(split: Split, edges: Edges) -> int:
     """The number of required orders."""
-    return 2 * (nodes + edges)
+    return 2 * (len(split.nodes) + sum(map(len, edges.values())))
 
 
 class Logic:
@@ -72,48 +70,47 @@ class Logic:
         for number, cluster in enumerate(self.split.clusters):
             yield "M%d" % number, [self.id(netlist.data[place]) for place in cluster.places]
 
-    def paths(self, nets: Sequence[int]) -> dict[int, Paths]:
-        """What nets of producers reach: nets, each with the longest path from each producer."""
-        longest: dict[int, Paths] = {net: {self.producers[net]: 0} for net in nets}
+    def longest(self) -> int:
+        """The longest of all paths."""
+        found: dict[int, int] = {}
         for output in self.rows:
-            found: Paths = {}
-            for paths in filter(None, map(longest.get, self.inputs[output])):
-                found = greatest(found, paths)
-            if found:
-                delay = self.delays[output]
-                longest[output] = {producer: path + delay for producer, path in found.items()}
-        return longest
+            before = [found.get(net, 0) for net in self.inputs[output]]
+            found[output] = max(before, default=0) + self.delays[output]
+        return max(found.values(), default=0)
 
-    def edges(self) -> dict[Edge, int]:
-        """The data edges, each with the longest path of tables."""
-        found: dict[Edge, int] = {}
-        consumers, nets = list(self.consumers()), dict[str, list[int]]()
-        for net, producer in self.producers.items():
-            nets.setdefault(producer, []).append(net)
-        rest = list(nets.values())
-        while rest:
-            longest = self.paths(sum(rest[:AT_ONCE], []))
-            del rest[:AT_ONCE]
-            for consumer, taken in consumers:
-                for net in taken:
-                    for producer, path in longest.get(net, NONE).items():
-                        edge = producer, consumer
-                        found[edge] = max(path, found.get(edge, 0))
-            if orders(len(self.split.nodes), len(found)) > MOST_ORDERS:
-                raise TooMany(self.split, "arcs", MOST_ORDERS)
-        for number in range(len(self.split.clusters)):
-            found["M%d" % number, "S%d" % number] = 0
+    def paths(self, some: list[str], lanes: Lanes, start: int) -> dict[int, int]:
+        """What nets of some producers reach: nets, each with lanes in the order of the producers.
+        In a lane is the longest path and the start; less than the start where there is none."""
+        place = {producer: number for number, producer in enumerate(some)}
+        found = {
+            net: lanes.single(place[producer], start)
+            for net, producer in self.producers.items()
+            if producer in place
+        }
+        for output in self.rows:
+            before = [found[net] for net in self.inputs[output] if net in found]
+            if before:
+                found[output] = reduce(lanes.greatest, before) + self.delays[output] * lanes.ones
         return found
 
-
-def greatest(one: Paths, other: Paths) -> Paths:
-    """The greater path of each producer; the first paths may change."""
-    if not one:
-        return dict(other)
-    for producer, path in other.items():
-        if one.get(producer, -1) < path:
-            one[producer] = path
-    return one
+    def edges(self) -> Edges:
+        """The data edges, each with the longest path of tables."""
+        edges: Edges = {node: {} for node in self.split.nodes}
+        start = self.longest() + 1
+        lanes, producers = Lanes(2 * start), list(dict.fromkeys(self.producers.values()))
+        for first in range(0, len(producers), lanes.count):
+            some = producers[first : first + lanes.count]
+            found, rows = self.paths(some, lanes, start), [edges[producer] for producer in some]
+            for consumer, taken in self.consumers():
+                into = [found[net] for net in taken if net in found]
+                for row, path in zip(rows, lanes.numbers(reduce(lanes.greatest, into, 0))):
+                    if path >= start:
+                        row[consumer] = path - start
+            if orders(self.split, edges) > MOST_ORDERS:
+                raise TooMany(self.split, "arcs", MOST_ORDERS)
+        for number in range(len(self.split.clusters)):
+            edges["M%d" % number]["S%d" % number] = 0
+        return edges
 
 
 def ordered(inputs: dict[int, list[int]]) -> list[int]:

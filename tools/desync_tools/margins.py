@@ -10,7 +10,6 @@ walk back from v to u, by Q.
 from __future__ import annotations
 
 from fractions import Fraction
-from heapq import heappop, heappush
 from math import inf
 from typing import Iterable, Iterator, Optional
 
@@ -18,6 +17,7 @@ from desync_tools.delays import Order
 from desync_tools.graphs import Arc
 from desync_tools.layers import Components
 from desync_tools.periods import Period
+from desync_tools.shortest import Shortest
 from desync_tools.text import BadText
 
 MOST_EXACT = 20000
@@ -71,7 +71,7 @@ class Walks:
             out = found[self.ids[event]]
             for end, cost in to.items():
                 out[self.ids[end]] = min(cost, out.get(self.ids[end], cost))
-        self.out = [list(to.items()) for to in found]
+        self.shortest = Shortest(found)
 
     def lead(self, event: str) -> tuple[str, int]:
         """The event by which walks come to one where a search steps over it, and the cost."""
@@ -108,7 +108,7 @@ class Walks:
             event, cost = self.lead(source)
             number, bound = self.ids[event], inf if most is None else most - cost
             bounds[number] = max(bound, bounds.get(number, bound))
-        least = self.search(self.ids[target], bounds)
+        least = self.shortest.least(self.ids[target], bounds)
         found: dict[str, int] = {}
         for source, most in short.items():
             event, cost = self.lead(source)
@@ -116,35 +116,6 @@ class Walks:
             if rest < inf:
                 found[source] = int(rest)
         return found
-
-    def search(self, start: int, bounds: dict[int, float]) -> list[float]:
-        """The shortest walk to each event with a bound, where it is shorter than the bound.
-
-        Events of one distance wait together; what is no shorter than all bounds does not wait."""
-        wanted = sorted(bounds, key=bounds.__getitem__)
-        least = [bounds[wanted[-1]]] * len(self.out)
-        least[start] = 0
-        waiting, heap, done = {0: [start]}, [0], set[int]()
-        while heap:
-            distance = heappop(heap)
-            while wanted and (wanted[-1] in done or bounds[wanted[-1]] <= distance):
-                wanted.pop()
-            if not wanted:
-                break
-            events = waiting[distance]
-            for event in events:
-                if event in done:
-                    continue
-                done.add(event)
-                for other, cost in self.out[event]:
-                    new = distance + cost
-                    if new < least[other]:
-                        least[other] = new
-                        if new not in waiting:
-                            waiting[new] = []
-                            heappush(heap, new)
-                        waiting[new].append(other)
-        return least
 
     def by_next(self, event: str, back: dict[str, dict[str, int]]) -> dict[str, int]:
         """The shortest walk back from an event that is stepped over, by those from the next ones.

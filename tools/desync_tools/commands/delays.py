@@ -15,7 +15,7 @@ from __future__ import annotations
 
 from desync_tools.clusters import Split, take_groups, take_mode
 from desync_tools.command import Parser, parser, put
-from desync_tools.gates import Gates, edges_of, lines, short, take_delays
+from desync_tools.gates import Gates, edges_of, lines, take_delays
 from desync_tools.manual import GROUPS, NETLIST, Example, File, Manual
 from desync_tools.netlist import read_netlist
 
@@ -63,5 +63,5 @@ def main(argv: list[str]) -> int:
     netlist = read_netlist(asked.netlist, True)
     gates = Gates(asked, netlist)
     split = Split(netlist, asked.clusters, asked.groups)
-    put("latin-1", short(list(lines(split, gates, edges_of(split, gates)))))
+    put("latin-1", lines(split, gates, edges_of(split, gates)))
     return 0

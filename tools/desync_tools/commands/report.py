@@ -19,7 +19,7 @@ from typing import Iterator, Optional
 from desync_tools import program
 from desync_tools.clusters import MODES, Split, options, slack_word
 from desync_tools.command import Parser, parser, put
-from desync_tools.gates import Gates, lines, short, take_delays
+from desync_tools.gates import Gates, lines, take_delays
 from desync_tools.logic import Logic, TooMany, orders
 from desync_tools.manual import GROUPS, NETLIST, Example, File, Manual, read
 from desync_tools.netlist import Netlist, read_netlist
@@ -93,10 +93,10 @@ class Report:
         widest = str(max(widths, default=0))
         try:
             edges = Logic(split, self.gates.delay).edges()
-            cells += [str(orders(len(split.nodes), len(edges))), widest]
+            cells += [str(orders(split, edges)), widest]
             text = self.delays
             if text is None:
-                text = "\n".join(short(list(lines(split, self.gates, edges))))
+                text = "\n".join(lines(split, self.gates, edges))
             return cells + [self.period(kind, text, slack) for slack in self.slacks] + [""]
         except TooMany as error:
             return self.refused(cells + ["", widest], str(error))
