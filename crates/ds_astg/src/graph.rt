@@ -93,12 +93,8 @@ fn event(alloc: Global, signal: &[u8], kind: Kind) -> Result<Event, AllocError>
 fn arcs_of(alloc: Global, places: &Places<'_>) -> Result<Vec<Arc>, OutOfMemory>
     ensures { IfOk result (λ a. a.items ≡ map arc_in places.now.places) }
 {
-    let places = places.places();
-    let mut arcs = Vec::new(alloc);
-    for i in 0..places.len() {
-        arcs.push(arc_of(places[i]))?;
-    }
-    Ok(arcs)
+    let places = places.places().iter();
+    Ok(places.map(|place| arc_of(*place)).collect(alloc)?)
 }
 
 // The arc of a place.

@@ -53,12 +53,7 @@ fn is_number(text: &[u8]) -> bool
 fn are_digits(text: &[u8]) -> bool
     ensures { result ≡ list_all is_ascii_digit text.now }
 {
-    for byte in text {
-        if !byte.is_ascii_digit() {
-            return false;
-        }
-    }
-    true
+    text.iter().all(|byte| byte.is_ascii_digit())
 }
 
 // The number of at most three digits.

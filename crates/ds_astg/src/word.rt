@@ -52,12 +52,7 @@ pub fn rest<'a>(text: &'a [u8]) -> &'a [u8]
 pub fn has_slash(word: &[u8]) -> bool
     ensures { result ≡ slash_in word.now }
 {
-    for byte in word {
-        if *byte == b'/' {
-            return true;
-        }
-    }
-    false
+    word.contains(&b'/')
 }
 
 // Whether no name has this byte.
@@ -78,12 +73,7 @@ fn is_reserved(byte: u8) -> bool
 pub fn has_reserved(word: &[u8]) -> bool
     ensures { result ≡ reserved_in word.now }
 {
-    for byte in word {
-        if is_reserved(*byte) {
-            return true;
-        }
-    }
-    false
+    word.iter().any(|byte| is_reserved(*byte))
 }
 
 /// Whether a word ends in `+` or `-`.

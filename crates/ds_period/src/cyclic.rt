@@ -27,12 +27,10 @@ pub fn has_cycle(alloc: Global, graph: &Marked) -> Result<bool, OutOfMemory>
 fn edges(alloc: Global, arcs: &[Arc]) -> Result<Vec<Edge>, AllocError>
     ensures { IfOk result (λ v. v.items ≡ map edge_of_arc arcs.now) }
 {
-    let mut edges: Vec<Edge> = Vec::new(alloc);
-    for arc in arcs {
-        edges.push(Edge {
+    arcs.iter()
+        .map(|arc| Edge {
             source: arc.source.number(),
             target: arc.target.number(),
-        })?;
-    }
-    Ok(edges)
+        })
+        .collect(alloc)
 }

@@ -1,12 +1,10 @@
 -- The sorted ends of the data edges, numbered, are the handshakes.
-use Rattle.std.proofs.Common.{◌≡◌, ◌≢◌, ℕ, ◌+◌, ◌<◌, ◌≤◌, List, [], ◌∷◌, ◌++◌, length, length-append, get_or, map, take, sym, ◌∙◌, ap, subst, arith, inl, inr, AllPairs, Contains, IsPermutation}
+use Rattle.std.proofs.Common.{◌≡◌, ◌≢◌, ℕ, ◌+◌, ◌<◌, ◌≤◌, List, [], ◌∷◌, length, get_or, map, refl, sym, ◌∙◌, ap, subst, zero, suc, arith, inl, inr, AllPairs, Contains, IsPermutation}
 use Rattle.std.specs.Prelude.{Any}
-use Rattle.std.specs.List.{HoldsAt}
-use Rattle.std.proofs.lemmas.Bool.{cases_lt}
-use Rattle.std.proofs.lemmas.List.{get_or-map, length-map, length-take-le, map_more, map_push, take_all, take_more}
+use Rattle.std.specs.List.{range_with_len, zip}
+use Rattle.std.proofs.lemmas.List.{get_or-map, length-map}
 use Rattle.std.proofs.lemmas.List.Sorted.{Contains-permutation, IsPermutation-sym, length_permutation}
 use Rattle.ds_base.proofs.ListLemmas.{get_or-self}
-use Rattle.ds_base.proofs.AppendedPairs.{get_or-left, get_or-right}
 use Rattle.ds_latch.specs.Node.{Split, number_of}
 use Rattle.ds_latch.specs.declared.node.Node.{Node}
 use Rattle.ds_latch.specs.Order.{IsDataEdge}
@@ -39,51 +37,32 @@ some_edge = record { producer = 0; consumer = 0 }
 some_handshake : Handshake
 some_handshake = record { number = 0; producer = 0; consumer = 0 }
 
--- no ends have no numbers
-pub none_numbered : (pairs : List EdgeEnds) (all : List Handshake) → all ≡ [] → AreNumberedEnds (take 0 pairs) all
-none_numbered pairs all e = record {
-  ends = ap (map ends_of) e;
-  numbered = λ k inside. absurd (let size : length all ≡ 0 = ap (λ (xs : List Handshake). length xs) e in omega (inside, size, arith));
-}
+-- ends with a number
+abbrev pub numbered_pair : ℕ × EdgeEnds → Handshake
+numbered_pair p = record { number = p.0; producer = p.1.producer; consumer = p.1.consumer }
 
--- the next ends have the next number
-module _ (pairs : List EdgeEnds) (k : ℕ) (all new : List Handshake) (p : EdgeEnds) (inside : k < length pairs) (is : get_or pairs k p ≡ p)
-    (before : AreNumberedEnds (take k pairs) all) (pushed : new ≡ all ++ record { number = k; producer = p.producer; consumer = p.consumer } ∷ []) where
-  next : Handshake
-  next = record { number = k; producer = p.producer; consumer = p.consumer }
+-- the ends, with the numbers from one on
+abbrev numbered_from : ℕ → List EdgeEnds → List Handshake
+numbered_from number pairs = map numbered_pair (zip (range_with_len number (length pairs)) pairs)
 
-  so_many : length all ≡ k
-  so_many = sym (length-map all ends_of) ∙ (ap (λ (ps : List EdgeEnds). length ps) before.ends ∙ length-take-le k pairs (omega (inside, arith)))
+ends_from : (pairs : List EdgeEnds) (number : ℕ) → map ends_of (numbered_from number pairs) ≡ pairs
+ends_from [] number = refl
+ends_from (p ∷ pairs) number = ap (λ (ps : List EdgeEnds). p ∷ ps) (ends_from pairs (number + 1))
 
-  next_ends : map ends_of (all ++ next ∷ []) ≡ take (k + 1) pairs
-  unfolding next
-  next_ends = map_push ends_of all next ∙ (ap (λ (ps : List EdgeEnds). ps ++ p ∷ []) before.ends
-      ∙ (ap (λ (x : EdgeEnds). take k pairs ++ x ∷ []) (sym is) ∙ sym (take_more pairs k p inside)))
+number_at : (pairs : List EdgeEnds) (number k : ℕ) (d : Handshake) → k < length pairs → (get_or (numbered_from number pairs) k d).number ≡ number + k
+number_at [] number k d low = absurd (omega (low, arith))
+number_at (p ∷ pairs) number zero d low = omega arith
+number_at (p ∷ pairs) number (suc k) d low = number_at pairs (number + 1) k d (omega (low, arith)) ∙ omega arith
 
-  next_numbered : (m : ℕ) → m < length (all ++ next ∷ []) → HoldsAt (λ h. h.number ≡ m) (all ++ next ∷ []) m
-  unfolding next
-  next_numbered m low d =
-      let size : length (all ++ next ∷ []) ≡ length all + 1 = length-append all (next ∷ []) in
-      elim (cases_lt m (length all)) [
-        | inl here ↦ ap (λ (h : Handshake). h.number) (get_or-left all (next ∷ []) m d here) ∙ before.numbered m here d
-        | inr past ↦ (let last : length all + 0 ≡ m = omega (past, low, size, arith) in
-            ap (λ (h : Handshake). h.number) (get_or-right all (next ∷ []) 0 m d last) ∙ (let e : k ≡ m = omega (so_many, last, arith) in e))
-      ]
-
-  pub numbered_next : AreNumberedEnds (take (k + 1) pairs) new
-  unfolding next
-  numbered_next = subst (AreNumberedEnds (take (k + 1) pairs)) (sym pushed) (record { ends = next_ends; numbered = next_numbered })
-
--- after the last ends all have numbers
-pub all_numbered : (pairs : List EdgeEnds) (k : ℕ) (all : List Handshake) → length pairs ≤ k → AreNumberedEnds (take k pairs) all → AreNumberedEnds pairs all
-all_numbered pairs k all done before = subst (λ (ps : List EdgeEnds). AreNumberedEnds ps all) (take_all k pairs done) before
-
--- one pair more
-pub pairs_next : (edges : List Edge) (k : ℕ) (edge : Edge) (pairs new : List EdgeEnds) → k < length edges → edge ≡ get_or edges k edge → pairs ≡ map ends_of_edge (take k edges)
-    → new ≡ pairs ++ ends_of_edge edge ∷ [] → new ≡ map ends_of_edge (take (k + 1) edges)
-pairs_next edges k edge pairs new inside is before pushed =
-    pushed ∙ (ap (λ (ps : List EdgeEnds). ps ++ ends_of_edge edge ∷ []) before
-    ∙ (ap (λ (e : Edge). map ends_of_edge (take k edges) ++ ends_of_edge e ∷ []) is ∙ sym (map_more ends_of_edge edges k edge inside)))
+-- each with the number of its place
+pub all_numbered : (pairs : List EdgeEnds) (all : List Handshake) → all ≡ map numbered_pair (zip (range_with_len 0 (length pairs)) pairs) → AreNumberedEnds pairs all
+all_numbered pairs all is =
+    let ends : map ends_of all ≡ pairs = ap (map ends_of) is ∙ ends_from pairs 0 in
+    let size : length all ≡ length pairs = sym (length-map all ends_of) ∙ ap (λ (ps : List EdgeEnds). length ps) ends in
+    record {
+      ends = ends;
+      numbered = λ k inside d. ap (λ (hs : List Handshake). (get_or hs k d).number) is ∙ (number_at pairs 0 k d (omega (size, inside, arith)) ∙ omega arith);
+    }
 
 -- sorting keeps how many there are
 pub sorted_long : (edges : List Edge) (sorted : List EdgeEnds) → IsPermutation (map ends_of_edge edges) sorted → length sorted ≡ length edges

@@ -17,14 +17,13 @@ pub struct EdgeEnds {
 pub(crate) fn pairs_of(alloc: Global, edges: &[DataEdge]) -> Result<Vec<EdgeEnds>, AllocError>
     ensures { IfOk result (λ pairs. pairs.items ≡ map ends_of_edge edges.now) }
 {
-    let mut pairs = Vec::with_capacity(alloc, edges.len())?;
-    for edge in edges {
-        pairs.push(EdgeEnds {
+    edges
+        .iter()
+        .map(|edge| EdgeEnds {
             producer: edge.producer,
             consumer: edge.consumer,
-        })?;
-    }
-    Ok(pairs)
+        })
+        .collect(alloc)
 }
 
 // Sorts by producer, and then by consumer.

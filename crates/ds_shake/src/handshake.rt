@@ -33,13 +33,12 @@ fn numbered(alloc: Global, pairs: &[EdgeEnds]) -> Result<Vec<Handshake>, AllocEr
     requires { length pairs.now < 2 ^ 32 }
     ensures { IfOk result (λ all. AreNumberedEnds pairs.now all.items) }
 {
-    let mut all = Vec::with_capacity(alloc, pairs.len())?;
-    for (k, pair) in pairs.iter().enumerate() {
-        all.push(Handshake {
-            number: k as u32,
+    (0..pairs.len() as u32)
+        .zip(pairs)
+        .map(|(number, pair)| Handshake {
+            number,
             producer: pair.producer,
             consumer: pair.consumer,
-        })?;
-    }
-    Ok(all)
+        })
+        .collect(alloc)
 }
