@@ -94,7 +94,8 @@ fn open_groups(
     scratch: &mut Scratch,
     into: &mut Vec<u64>,
 )
-    requires design { IsInRange latches.now.circuit × IsSplit latches.now }
+    requires range { IsInRange latches.now.circuit }
+    requires split { IsSplit latches.now }
     requires groups { AreConeGroups latches.now groups.now }
     requires settling { (n : Node) × (t : Turn) × (m : Memory)
         × IsSettlingOpening latches.now groups.now opening.now scratch.old n t m }

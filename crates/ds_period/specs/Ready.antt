@@ -10,7 +10,9 @@ AreBeginnings count arcs firsts = (length firsts ≡ count + 1) × All (λ k. k 
 
 -- arcs and events are few, the ends of the arcs are events, and the potentials so far are low
 pub record MayGoOn (arcs : List Timed) (p q : ℕ) (h parent : List ℕ) : Type 0 where
-  pub few : (length arcs < 2 ^ 32) × (q < 2 ^ 40) × (length h < 2 ^ 32)
+  pub few_arcs : length arcs < 2 ^ 32
+  pub low_ratio : q < 2 ^ 40
+  pub few_events : length h < 2 ^ 32
   pub ends : AreEvents (length h) arcs
   pub search : IsRaising arcs p q (length h) h parent
   pub low : IsLow (2 ^ 104) h

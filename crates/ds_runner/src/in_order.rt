@@ -47,7 +47,8 @@ pub fn fire_turns<V: RunValues, C: Compute, G: Gate>(
 
 // Whether no node has fired.
 fn is_unfired<V: RunValues>(run: &TableRun<V>, pass: &Pass) -> bool
-    requires run { (pass.now.view.run ≡ run.now) × IsSound run.now }
+    requires run { pass.now.view.run ≡ run.now }
+    requires sound { IsSound run.now }
     requires all { HasFrom pass.now.view 0 }
     ensures { IsTrue result → (l : ℕ) → l < run.now.nodes → seen pass.now.view l ≡ 0 }
 {
@@ -72,8 +73,8 @@ fn fire_turn<V: RunValues, C: Compute, G: Gate>(
     requires fits { Belongs workload.now pass.old }
     requires all { HasFrom pass.old.view 0 }
     requires order { IsFiringOrder workload.now.run order.now }
-    requires turn { (turn < workload.now.run.limit)
-        × StandsAt workload.now.run pass.old.view order.now 0 turn }
+    requires turn { turn < workload.now.run.limit }
+    requires stands { StandsAt workload.now.run pass.old.view order.now 0 turn }
     ensures moved { Moved workload.now.memory pass.old pass.new }
     ensures fired { all_tickets pass.new.view + caller.new.quota_left
         ≡ all_tickets pass.old.view + caller.old.quota_left }
@@ -99,7 +100,8 @@ fn fire_event<V: RunValues, C: Compute, G: Gate>(
     requires sound { IsSound workload.now.run }
     requires fits { Belongs workload.now pass.old }
     requires all { HasFrom pass.old.view 0 }
-    requires due { IsDue workload.now.run pass.old.view event × (turn < workload.now.run.limit) }
+    requires due { IsDue workload.now.run pass.old.view event }
+    requires turn { turn < workload.now.run.limit }
     requires quota_left { 0 < caller.old.quota_left }
     ensures moved { Moved workload.now.memory pass.old pass.new }
     ensures fired { all_tickets pass.new.view + caller.new.quota_left

@@ -73,8 +73,9 @@ fn deal_all<V: RunValues, C: Compute, G: Gate>(
     requires unfired { IsUnfired pass.old.view }
 
     ensures ok_unfired { IfOk result (λ v. base 0 v.items ≡ 0) }
-    ensures ok { IfOk result (λ v. AreSingle workload.now v.items
-        × (length v.items ≡ workload.now.run.nodes) × (workload.now.run.nodes ≤ vec_capacity v)) }
+    ensures ok { IfOk result (λ v. AreSingle workload.now v.items) }
+    ensures ok_size { IfOk result (λ v. length v.items ≡ workload.now.run.nodes) }
+    ensures ok_room { IfOk result (λ v. workload.now.run.nodes ≤ vec_capacity v) }
     ensures ok_lent { OnOk result (IsLent workload.now pass.old 0 workload.now.run.nodes pass.new) }
 {
     let nodes = workload.run.nodes();

@@ -21,7 +21,8 @@ pub fn quota_left<V: RunValues>(run: &TableRun<V>, pass: &Pass, quota: Option<u6
 
 // The quota without what has fired.
 fn left_of<V: RunValues>(run: &TableRun<V>, pass: &Pass, quota: u64) -> u64
-    requires run { (pass.now.view.run ≡ run.now) × IsSound run.now }
+    requires run { pass.now.view.run ≡ run.now }
+    requires sound { IsSound run.now }
     requires all { HasFrom pass.now.view 0 }
     ensures { result ≡ quota - all_tickets pass.now.view }
 {

@@ -5,7 +5,7 @@ use Rattle.std.proofs.lemmas.List.{get_or_default}
 use Rattle.ds_opening.proofs.opening.have_stayed.Goals as goal
 
 pub loop-slot-preserved : goal.loop-slot-preserved
-loop-slot-preserved c k d low = elim (cases_lt k c.loop-slot.slot-index) [
+loop-slot-preserved c k d low = let (stayed, _) = c.has_stayed.ensures in elim (cases_lt k c.loop-slot.slot-index) [
   | inl early ↦ c.loop-slot.invariant k d early
   | inr past ↦
       (let here : c.loop-slot.slot-index ≡ k = omega (past, low, arith) in
@@ -13,7 +13,7 @@ loop-slot-preserved c k d low = elim (cases_lt k c.loop-slot.slot-index) [
       × (slice_index_or c.args.scratch.now.stayed s false ≡ true))
       (get_or_default c.args.slots.now c.loop-slot.slot-index 0 d c.loop-slot-test.true
       ∙ ap (λ (n : ℕ). get_or c.args.slots.now n d) here)
-      (c.has_stayed.ensures.0 c.if-not-has_stayed.false))
+      (stayed c.if-not-has_stayed.false))
 ]
 
 pub returns : goal.returns

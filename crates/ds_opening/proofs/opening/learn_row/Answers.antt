@@ -10,6 +10,7 @@ use Rattle.ds_opening.proofs.opening.learn_row.Goals as goal
 pub returns-clause-value : goal.returns-clause-value
 returns-clause-value c m known at row remembers =
     let old : Kept = c.args.scratch.now in
+    let (was_noted, _) = c.is_noted-was_noted.ensures in
     let these : List ℕ = c.args.these.now in
     let nets : Row = c.put_values.new.nets in
     let base : c.nets_mut.result.now ≡ old.nets = c.nets_mut.ensures.value in
@@ -22,7 +23,7 @@ returns-clause-value c m known at row remembers =
     λ so later. elim c.if-put_values.branch [
       | then-put_values w ↦
           held_before m c.args.turn c.args.slot these known at c.requires.turn old remembers later
-          (c.is_noted-was_noted.ensures.0 (sym w.stayed-is ∙ so)) nets
+          (was_noted (sym w.stayed-is ∙ so)) nets
           (subst (λ (r : Row). AreAsBefore r nets) base (c.put_values.ensures.stayed w.if-put_values.true))
       | else-put_values w ↦ absurd (cc)
     ] in

@@ -14,19 +14,16 @@ rows-init c = record {
 }
 
 pub bounds-bits-node : goal.bounds-bits-node
-bounds-bits-node c =
-    let (known, nodes, reads) = c.requires.read in
+bounds-bits-node c = let (known, nodes, reads) = c.requires.read in
     of_next reads (c.rows.invariant.read known nodes reads) c.rows-test.true (λ n. n < length c.args.bits.now) reads.inside
 
 pub offset_bounds-bits-node : goal.offset_bounds-bits-node
-offset_bounds-bits-node c =
-    let (known, nodes, reads) = c.requires.read in
+offset_bounds-bits-node c = let (known, nodes, reads) = c.requires.read in
     let inside = of_next reads (c.rows.invariant.read known nodes reads) c.rows-test.true (λ n. n < length c.args.bits.now) reads.inside in
-    omega (inside, c.requires.few.1, arith)
+    omega (inside, c.requires.few, arith)
 
 pub split_at-requires : goal.split_at-requires
-split_at-requires c =
-    let bits : List (List ℕ) = c.args.bits.now in
+split_at-requires c = let bits : List (List ℕ) = c.args.bits.now in
     let (known, nodes, reads) = c.requires.read in
     let read = c.rows.invariant.read known nodes reads in
     let node : ℕ = get_or c.rows.rest.now 0 0 in
@@ -37,14 +34,12 @@ split_at-requires c =
     rw (c.words_of.ensures, list) most
 
 pub overflow_add-first : goal.overflow_add-first
-overflow_add-first c =
-    let (known, nodes, reads) = c.requires.read in
+overflow_add-first c = let (known, nodes, reads) = c.requires.read in
     let inside = of_next reads (c.rows.invariant.read known nodes reads) c.rows-test.true (λ n. n < length c.args.bits.now) reads.inside in
-    omega (inside, c.requires.few.0, c.requires.few.1, arith)
+    omega (inside, c.requires.few, arith)
 
 pub learn_row-requires-clause-within : goal.learn_row-requires-clause-within
-learn_row-requires-clause-within c =
-    let bits : List (List ℕ) = c.args.bits.now in
+learn_row-requires-clause-within c = let bits : List (List ℕ) = c.args.bits.now in
     let (known, nodes, reads) = c.requires.read in
     let read = c.rows.invariant.read known nodes reads in
     let node : ℕ = get_or c.rows.rest.now 0 0 in
@@ -58,8 +53,7 @@ learn_row-requires-clause-within c =
     omega (h, c.rows.invariant.same.nets, arith))
 
 pub learn_row-requires-clause-slot : goal.learn_row-requires-clause-slot
-learn_row-requires-clause-slot c =
-    let (known, nodes, reads) = c.requires.read in
+learn_row-requires-clause-slot c = let (known, nodes, reads) = c.requires.read in
     let near : c.args.first + get_or c.rows.rest.now 0 0 < length c.args.scratch.now.turns =
     of_next reads (c.rows.invariant.read known nodes reads) c.rows-test.true (λ n. c.args.first + n < length c.args.scratch.now.turns) reads.slots in
     record {

@@ -39,8 +39,11 @@ settling_opening s rows g o k n t m is at number settles = record {
   known = subst (λ (vectors : List Row). o.known ≡ true → AreKnown s.initial × All AreKnown vectors) (sym is.opening.same) is.known;
 }
 
-pub open_groups-requires-clause-design : goal.open_groups-requires-clause-design
-open_groups-requires-clause-design c = c.requires.design
+pub open_groups-requires-clause-range : goal.open_groups-requires-clause-range
+open_groups-requires-clause-range c = let (range, _) = c.requires.design in range
+
+pub open_groups-requires-clause-split : goal.open_groups-requires-clause-split
+open_groups-requires-clause-split c = let (_, split) = c.requires.design in split
 
 pub open_groups-requires-clause-groups : goal.open_groups-requires-clause-groups
 open_groups-requires-clause-groups c = c.requires.groups

@@ -5,11 +5,13 @@ use Rattle.ds_period.proofs.ParallelArcs.{filled_all, filled_more, filled_none, 
 use Rattle.ds_period.proofs.reading.fill.Goals as goal
 
 pub loop-k-init : goal.loop-k-init
-loop-k-init c = (omega arith, λ u v is. filled_none u v c.args.delay c.args.arcs.now c.args.delays.now c.requires.one_each c.args.first is)
+loop-k-init c = record {
+  behind = omega arith;
+  filled = λ u v is. filled_none u v c.args.delay c.args.arcs.now c.args.delays.now c.requires.one_each c.args.first is;
+}
 
 pub returns-then-not-leads : goal.returns-then-not-leads
-returns-then-not-leads c u v is =
-    let a : Arc = c.index-arcs-k.result in
+returns-then-not-leads c u v is = let a : Arc = c.index-arcs-k.result in
     let (source, target) = first_ends u v (get_or c.args.arcs.now c.args.first c.index-arcs-first.result).source (get_or c.args.arcs.now c.args.first c.index-arcs-first-2.result).target c.args.arcs.now c.args.first
     c.index-arcs-first.result c.index-arcs-first-2.result is c.requires.inside
     refl refl in
@@ -17,12 +19,12 @@ returns-then-not-leads c u v is =
     ap (is_from_to u v) (sym c.index-arcs-k.is) ∙ ap₂ (λ s t. is_from_to s t a) (sym source) (sym target)
     ∙ sym c.leads.ensures ∙ c.if-not-leads.true in
     filled_up u v c.args.delay c.args.arcs.now c.args.delays.now c.requires.one_each c.requires.sorted c.args.first c.loop-k.k a c.loop-k.delays is
-    c.loop-k.invariant.0 c.loop-k-test.true other (c.loop-k.invariant.1 u v is)
+    c.loop-k.invariant.behind c.loop-k-test.true other (c.loop-k.invariant.filled u v is)
 
 pub loop-k-preserved : goal.loop-k-preserved
-loop-k-preserved c = (
-  omega (arith, c.loop-k.invariant.0),
-  λ u v is.
+loop-k-preserved c = record {
+  behind = omega (arith, c.loop-k.invariant.behind);
+  filled = λ u v is.
       let a : Arc = c.index-arcs-k.result in
       let (source, target) = first_ends u v (get_or c.args.arcs.now c.args.first c.index-arcs-first.result).source (get_or c.args.arcs.now c.args.first c.index-arcs-first-2.result).target c.args.arcs.now c.args.first
       c.index-arcs-first.result c.index-arcs-first-2.result is c.requires.inside
@@ -31,10 +33,10 @@ loop-k-preserved c = (
       ap (is_from_to u v) (sym c.index-arcs-k.is) ∙ ap₂ (λ s t. is_from_to s t a) (sym source) (sym target)
       ∙ sym c.leads.ensures ∙ c.if-not-leads.false in
       filled_more u v c.args.delay c.args.arcs.now c.args.delays.now c.requires.one_each c.loop-k.delays c.loop-k.k a
-      c.loop-k-test.true leads (c.loop-k.invariant.1 u v is),
-)
+      c.loop-k-test.true leads (c.loop-k.invariant.filled u v is);
+}
 
 pub returns : goal.returns
 returns c u v is =
     filled_all u v c.args.delay c.args.arcs.now c.args.delays.now c.requires.one_each c.loop-k.delays c.loop-k.k
-    (omega arith) (c.loop-k.invariant.1 u v is)
+    (omega arith) (c.loop-k.invariant.filled u v is)

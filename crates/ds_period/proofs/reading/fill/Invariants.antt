@@ -4,5 +4,7 @@ use Rattle.ds_period.proofs.ParallelArcs.{AreFilled}
 use Rattle.ds_period.proofs.reading.fill.Given as goal
 
 abbrev pub invariant-loop-k : goal.invariant-loop-k
-invariant-loop-k l = (l.first ≤ l.k) × ((u v : ℕ) → IsFirstBetween u v l.arcs l.first
-    → AreFilled u v l.delay l.arcs l.initial.delays l.delays l.k)
+invariant-loop-k l = record {
+  behind : l.first ≤ l.k;
+  filled : (u v : ℕ) → IsFirstBetween u v l.arcs l.first → AreFilled u v l.delay l.arcs l.initial.delays l.delays l.k;
+}

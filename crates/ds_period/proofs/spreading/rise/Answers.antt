@@ -15,7 +15,7 @@ returns-then-chase-gt0 c = record {
 }
 
 pub pass-requires-clause-few : goal.pass-requires-clause-few
-pass-requires-clause-few c = (c.requires.ready.few.0, c.requires.ready.few.1)
+pass-requires-clause-few c = (c.requires.ready.few_arcs, c.requires.ready.low_ratio)
 
 pub pass-requires-clause-ends : goal.pass-requires-clause-ends
 pass-requires-clause-ends c = subst (λ (n : ℕ). AreEvents n c.args.weighted.now.arcs.now) (sym c.chase.auto.h) c.requires.ready.ends

@@ -6,6 +6,7 @@ rounds-smaller g c = shrinks c.args.workload.now.run c.rounds.pass.view c.go_rou
     c.go_round-busy.ensures.told c.if-not-busy.false
 
 pub returns-then-not-busy-clause-done : goal.returns-then-not-busy-clause-done
-returns-then-not-busy-clause-done g c short e near = rounds_end c.args.workload.now.run c.requires.accepted.0 c.requires.accepted.1
+returns-then-not-busy-clause-done g c short e near = let (sound, accepted) = c.requires.accepted in
+    rounds_end c.args.workload.now.run sound accepted
     c.rounds.pass.view c.go_round-busy.new.pass.view c.go_round-busy.result c.go_round-busy.ensures.told
     c.if-not-busy.true e near

@@ -10,7 +10,7 @@ use Rattle.ds_runner.proofs.complete.go_round.Goals.{then-fire_twice+else-caller
 pub nodes-preserved : goal.nodes-preserved
 nodes-preserved g c = let i = c.nodes.invariant in let run : Run = c.args.workload.now.run in
     let v : View = c.args.pass.now.view in let w : View = c.fire_twice.new.pass.view in
-    let runs = c.workload.invariant.0 ∙ ap (λ (x : Base). x.run) c.workload.view_is in
+    let (same, _) = c.workload.invariant in let runs = same ∙ ap (λ (x : Base). x.run) c.workload.view_is in
     let both = one_more_node run v c.nodes.pass.view w c.nodes.node c.nodes.busy c.fire_twice.result c.requires.sound
     (omega (arith, ap (λ (r : Run). r.nodes) runs)) (i.1, i.2) c.fire_twice.ensures.told in
     let busy : cond c.fire_twice.result true c.nodes.busy ≡ c.if-fire_twice.busy = elim c.if-fire_twice.branch [

@@ -22,13 +22,13 @@ last b ps vs p items all = all (length ps) p
 
 pub fired-fired-requires : goal.fired-fired-requires
 fired-fired-requires g c =
-    let one = last c.args.workload.now c.pop.new.self.items c.taking.passes.items c.in-Some.one c.in-Some.ensures.items c.taking.invariant.1 in
+    let one = last c.args.workload.now c.pop.new.self.items c.taking.passes.items c.in-Some.one c.in-Some.ensures.items c.taking.invariant.single in
     let node : c.new.result ≡ length c.pop.new.self.items = omega (arith, c.new.ensures, c.len.ensures) in
     ap (holds c.in-Some.one.view) node ∙ one.2
 
 pub gather-requires-clause-other : goal.gather-requires-clause-other
 gather-requires-clause-other g c =
-    let one = last c.args.workload.now c.pop.new.self.items c.taking.passes.items c.in-Some.one c.in-Some.ensures.items c.taking.invariant.1 in
+    let one = last c.args.workload.now c.pop.new.self.items c.taking.passes.items c.in-Some.one c.in-Some.ensures.items c.taking.invariant.single in
     record {
       table = one.0 ∙ ap (λ (x : Base). x.table_id) (sym c.workload.view_is);
       run = one.1 ∙ ap (λ (x : Base). x.run) (sym c.workload.view_is);
@@ -36,48 +36,46 @@ gather-requires-clause-other g c =
 
 pub gather-requires-clause-room : goal.gather-requires-clause-room
 gather-requires-clause-room g c =
-    let one = last c.args.workload.now c.pop.new.self.items c.taking.passes.items c.in-Some.one c.in-Some.ensures.items c.taking.invariant.1 in
+    let one = last c.args.workload.now c.pop.new.self.items c.taking.passes.items c.in-Some.one c.in-Some.ensures.items c.taking.invariant.single in
     let size : length c.taking.passes.items ≡ length c.pop.new.self.items + 1 =
     ap (λ (xs : List Showing). length xs) c.in-Some.ensures.items ∙ length-append c.pop.new.self.items (c.in-Some.one ∷ []) in
-    omega (arith, one.3, size, c.taking.invariant.2)
+    omega (arith, one.3, size, c.taking.invariant.room)
 
 pub taking-preserved : goal.taking-preserved
-taking-preserved g c =
-    let b : Base = c.args.workload.now in
+taking-preserved g c = let b : Base = c.args.workload.now in
     let ps : List Showing = c.pop.new.self.items in
-    let runs = c.workload.invariant.0 ∙ ap (λ (x : Base). x.run) c.workload.view_is in
+    let (same, sound) = c.workload.invariant in let runs = same ∙ ap (λ (x : Base). x.run) c.workload.view_is in
     let start : 0 + length ps ≡ length ps = omega arith in
     let i = c.taking.invariant in let e = c.gather.ensures in
-    let one = last b ps c.taking.passes.items c.in-Some.one c.in-Some.ensures.items i.1 in
+    let one = last b ps c.taking.passes.items c.in-Some.one c.in-Some.ensures.items i.single in
     let size : length c.taking.passes.items ≡ length ps + 1 =
     ap (λ (xs : List Showing). length xs) c.in-Some.ensures.items ∙ length-append ps (c.in-Some.one ∷ []) in
     let before : (k : ℕ) (p : Showing) → get_elem? ps k ≡ some p → get_elem? c.taking.passes.items k ≡ some p =
     λ k p there. subst (λ (zs : List Showing). get_elem? zs k ≡ some p) (sym c.in-Some.ensures.items) (at_longer ps (c.in-Some.one ∷ []) k p there) in
     let here : get_elem? c.taking.passes.items (length ps) ≡ some c.in-Some.one =
-    subst (λ (zs : List Showing). get_elem? zs (length ps) ≡ some c.in-Some.one) (sym c.in-Some.ensures.items) (at_last ps c.in-Some.one (length ps) refl) in (
-      record {
-        table = e.same.0 ∙ i.0.table;
-        run = ap (λ (x : View). x.run) e.view ∙ i.0.run;
-        remembers = subst (Remembers b.memory) (sym e.same.2) i.0.remembers;
-      },
-      (λ k p there. i.1 k p (before k p there)),
-      omega (arith, e.same.1, e.many, one.3, size, i.2),
-      omega (arith, size, i.3),
-      taken_last b c.taking.pass.view c.gather.new.pass.view c.in-Some.one (length ps) i.0.run e.view one
-          (λ k near far. i.4 k (omega (arith, near, size)) far),
-      (λ k p there. i.5 k p (before k p there)),
-      taken_tickets b c.taking.pass.view c.gather.new.pass.view c.in-Some.one (length ps) (fires_of c.args.passes.items 0)
-          (subst (λ (r : Run). r.design_nodes ≤ r.nodes) runs c.workload.invariant.1.among) i.0.run e.view one c.fired-fired.ensures.counted
-          (fires-at c.args.passes.items 0 (length ps) c.in-Some.one (i.5 (length ps) c.in-Some.one here) ∙ ap (seen c.in-Some.one.view) start)
-          (λ k near far. i.6 k (omega (arith, near, size)) far),
-    )
+    subst (λ (zs : List Showing). get_elem? zs (length ps) ≡ some c.in-Some.one) (sym c.in-Some.ensures.items) (at_last ps c.in-Some.one (length ps) refl) in record {
+      fits = record {
+        table = e.same.0 ∙ i.fits.table;
+        run = ap (λ (x : View). x.run) e.view ∙ i.fits.run;
+        remembers = subst (Remembers b.memory) (sym e.same.2) i.fits.remembers;
+      };
+      single = λ k p there. i.single k p (before k p there);
+      room = omega (arith, e.same.1, e.many, one.3, size, i.room);
+      few = omega (arith, size, i.few);
+      held = taken_last b c.taking.pass.view c.gather.new.pass.view c.in-Some.one (length ps) i.fits.run e.view one
+          (λ k near far. i.held k (omega (arith, near, size)) far);
+      first = λ k p there. i.first k p (before k p there);
+      fired = taken_tickets b c.taking.pass.view c.gather.new.pass.view c.in-Some.one (length ps) (fires_of c.args.passes.items 0)
+          (subst (λ (r : Run). r.design_nodes ≤ r.nodes) runs sound.among) i.fits.run e.view one c.fired-fired.ensures.counted
+          (fires-at c.args.passes.items 0 (length ps) c.in-Some.one (i.first (length ps) c.in-Some.one here) ∙ ap (seen c.in-Some.one.view) start)
+          (λ k near far. i.fired k (omega (arith, near, size)) far);
+    }
 
 pub returns-clause-fired : goal.returns-clause-fired
-returns-clause-fired g c =
-    let b : Base = c.args.workload.now in
+returns-clause-fired g c = let (_, size) = c.requires.passes in let (none, _) = c.in_default.ensures.cases in let b : Base = c.args.workload.now in
     let ps : List Showing = c.args.passes.items in
-    let runs = c.workload.invariant.0 ∙ ap (λ (x : Base). x.run) c.workload.view_is in
+    let (same, sound) = c.workload.invariant in let runs = same ∙ ap (λ (x : Base). x.run) c.workload.view_is in
     let i = c.taking.invariant in
-    tickets-nodes b.run c.taking.pass.view (fires_of ps 0) (subst (λ (r : Run). r.design_nodes ≤ r.nodes) runs c.workload.invariant.1.among)
-    i.0.run (λ e near. i.6 e (omega (arith, c.in_default.ensures.cases.0)) near)
-    ∙ (ap (sum_below (fires_of ps 0)) (sym c.requires.passes.1) ∙ sum-fires ps 0)
+    tickets-nodes b.run c.taking.pass.view (fires_of ps 0) (subst (λ (r : Run). r.design_nodes ≤ r.nodes) runs sound.among)
+    i.fits.run (λ e near. i.fired e (omega (arith, none)) near)
+    ∙ (ap (sum_below (fires_of ps 0)) (sym size) ∙ sum-fires ps 0)

@@ -10,22 +10,20 @@ use Rattle.ds_runner.proofs.in_order.fire_turn.Goals as goal
 
 pub fire_event-requires-clause-fits : goal.fire_event-requires-clause-fits
 fire_event-requires-clause-fits g c κs within =
-    still_belongs c.args.workload.now c.args.pass.now c.events.pass c.requires.fits c.events.invariant.0
+    still_belongs c.args.workload.now c.args.pass.now c.events.pass c.requires.fits c.events.invariant.moved
 
 pub fire_event-requires-clause-all : goal.fire_event-requires-clause-all
 fire_event-requires-clause-all g c κs within =
-    still_has c.args.workload.now.memory c.args.pass.now c.events.pass c.requires.all c.events.invariant.0
+    still_has c.args.workload.now.memory c.args.pass.now c.events.pass c.requires.all c.events.invariant.moved
 
 pub fire_event-requires-clause-due : goal.fire_event-requires-clause-due
 fire_event-requires-clause-due g c κs within =
     let inside : c.events.i < length c.args.order.now = omega (arith, c.events-test.true, c.events.auto.i-end) in
     let event : c.index-order-i.result ≡ get_or c.args.order.now c.events.i 0 =
-    c.index-order-i.is ∙ get_or_default c.args.order.now c.events.i c.index-order-i.result 0 inside in (
-      subst (IsDue c.args.workload.now.run c.events.pass.view) (sym event)
-          (next_due c.args.workload.now.run c.events.pass.view c.args.order.now c.events.i c.args.turn c.requires.sound
-          c.requires.order c.events.invariant.1 inside c.requires.turn.0),
-      c.requires.turn.0,
-    )
+    c.index-order-i.is ∙ get_or_default c.args.order.now c.events.i c.index-order-i.result 0 inside in
+    subst (IsDue c.args.workload.now.run c.events.pass.view) (sym event)
+    (next_due c.args.workload.now.run c.events.pass.view c.args.order.now c.events.i c.args.turn c.requires.sound
+    c.requires.order c.events.invariant.stands inside c.requires.turn)
 
 pub events-preserved : goal.events-preserved
 events-preserved g c = let e = c.fire_event.ensures in let i = c.events.invariant in
@@ -33,14 +31,14 @@ events-preserved g c = let e = c.fire_event.ensures in let i = c.events.invarian
     let w : View = c.fire_event.new.pass.view in
     let inside : c.events.i < length c.args.order.now = omega (arith, c.events-test.true, c.events.auto.i-end) in
     let event : c.index-order-i.result ≡ get_or c.args.order.now c.events.i 0 =
-    c.index-order-i.is ∙ get_or_default c.args.order.now c.events.i c.index-order-i.result 0 inside in (
-      moved_on c.args.workload.now.memory c.args.pass.now c.events.pass c.fire_event.new.pass i.0 e.moved,
-      goes_on run v c.args.order.now c.events.i c.args.turn c.requires.sound c.requires.order i.1 w inside
+    c.index-order-i.is ∙ get_or_default c.args.order.now c.events.i c.index-order-i.result 0 inside in record {
+      moved = moved_on c.args.workload.now.memory c.args.pass.now c.events.pass c.fire_event.new.pass i.moved e.moved;
+      stands = goes_on run v c.args.order.now c.events.i c.args.turn c.requires.sound c.requires.order i.stands w inside
           (subst (λ (x : ℕ). count run (seen w) x ≡ count run (seen v) x + 1) event e.once)
-          (λ x near apart. e.others x near (λ z. apart (z ∙ event))),
-      e.fired ∙ i.2,
-    )
+          (λ x near apart. e.others x near (λ z. apart (z ∙ event)));
+      fired = e.fired ∙ i.fired;
+    }
 
 pub returns-clause-turn : goal.returns-clause-turn
 returns-clause-turn g c so = next_turn c.args.workload.now.run c.events.pass.view c.args.order.now c.events.i c.args.turn
-    (omega (arith, c.events-test.false, c.events.auto.i-end)) c.events.invariant.1
+    (omega (arith, c.events-test.false, c.events.auto.i-end)) c.events.invariant.stands

@@ -11,7 +11,7 @@ overflow_cast-node g c = omega (
   c.looking-test.true,
   c.looking.auto.node-end,
   c.nodes-node-end.ensures,
-  c.requires.run.1.few,
+  c.requires.sound.few,
 )
 
 pub fired-fired-requires : goal.fired-fired-requires
@@ -21,7 +21,7 @@ fired-fired-requires g c = c.requires.all c.new.result (omega arith) (omega (
   c.looking-test.true,
   c.looking.auto.node-end,
   c.nodes-node-end.ensures,
-  ap (λ (r : Run). r.nodes) c.requires.run.0,
+  ap (λ (r : Run). r.nodes) c.requires.run,
 ))
 
 pub looking-preserved : goal.looking-preserved

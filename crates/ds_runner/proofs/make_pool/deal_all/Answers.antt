@@ -9,8 +9,7 @@ use Rattle.ds_runner.proofs.HiringLemmas.{dealt_alone, lent_one, one_more_single
 use Rattle.ds_runner.proofs.make_pool.deal_all.Goals as goal
 
 pub dealing-preserved : goal.dealing-preserved
-dealing-preserved g c =
-    let b : Base = c.args.workload.now in
+dealing-preserved g c = let b : Base = c.args.workload.now in
     let n : ℕ = c.dealing.node in
     let i = c.dealing.invariant in
     let mid : Showing = c.dealing.pass in
@@ -18,7 +17,8 @@ dealing-preserved g c =
     let dealt : IsDealt mid n 1 one = subst (λ (m : ℕ). IsDealt mid m 1 one) c.new.ensures c.in_ok-one.ensures.ok in
     let rest : IsLeft mid n c.deal_bare.new.pass = subst (λ (m : ℕ). IsLeft mid m c.deal_bare.new.pass) c.new.ensures c.in_ok-one.ensures.ok_left in
     let near : n < c.nodes-nodes.result = c.dealing-test.true in
-    let runs : c.nodes-nodes.result ≡ b.run.nodes = c.nodes-nodes.ensures ∙ ap (λ (r : Run). r.nodes) (c.workload.invariant.0 ∙ ap (λ (x : Base). x.run) c.workload.view_is) in
+    let (same, _) = c.workload.invariant in
+    let runs : c.nodes-nodes.result ≡ b.run.nodes = c.nodes-nodes.ensures ∙ ap (λ (r : Run). r.nodes) (same ∙ ap (λ (x : Base). x.run) c.workload.view_is) in
     let there : n < mid.view.run.nodes = omega (arith, near, runs, ap (λ (r : Run). r.nodes) i.2.fits.run) in
     let has : holds mid.view n ≡ true = i.2.has n (omega arith) there in
     let alone : Alone b.table_id b.run n one = dealt_alone b mid one n 1 i.2.fits has dealt in (

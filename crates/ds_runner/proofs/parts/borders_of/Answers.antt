@@ -14,9 +14,9 @@ loop-part-preserved g c = let i = c.loop-part.invariant in let items = c.push_re
 )
 
 pub returns : goal.returns
-returns g c = let i = c.loop-part.invariant in
+returns g c = let i = c.loop-part.invariant in let (same, _) = c.workload.invariant in
     let nodes : c.nodes.result ≡ c.args.workload.now.run.nodes =
-    c.nodes.ensures ∙ ap (λ (r : Run). r.nodes) (c.workload.invariant.0 ∙ ap (λ (b : Base). b.run) c.workload.view_is) in
+    c.nodes.ensures ∙ ap (λ (r : Run). r.nodes) (same ∙ ap (λ (b : Base). b.run) c.workload.view_is) in
     record {
       ok = subst (λ (n : ℕ). AreBorders n c.args.parts c.push_reserved-2.new.self.items) nodes
           (are_borders c.nodes.result c.args.parts c.loop-part.at.node c.loop-part.borders.items c.push_reserved-2.new.self.items

@@ -17,9 +17,9 @@ pub overflow_cast-node_of : goal.overflow_cast-node_of
 overflow_cast-node_of g c = omega (
   arith,
   c.node_of.ensures,
-  near c.args.run.now c.events.event c.nodes.result c.design_nodes.result c.requires.run.1.among c.nodes.ensures
+  near c.args.run.now c.events.event c.nodes.result c.design_nodes.result c.requires.sound.among c.nodes.ensures
       c.design_nodes.ensures c.events-test.true,
-  c.requires.run.1.few,
+  c.requires.sound.few,
 )
 
 -- a pass that holds all nodes holds that one
@@ -33,7 +33,7 @@ is_held run v event node nodes design_nodes run-is all among n l low here = all 
 
 pub fired-fired-requires : goal.fired-fired-requires
 fired-fired-requires g c = is_held c.args.run.now c.args.pass.now.view c.events.event c.new.result c.nodes.result
-    c.design_nodes.result c.requires.run.0 c.requires.all c.requires.run.1.among c.nodes.ensures c.design_nodes.ensures
+    c.design_nodes.result c.requires.run c.requires.all c.requires.sound.among c.nodes.ensures c.design_nodes.ensures
     c.events-test.true (c.new.ensures ∙ c.node_of.ensures)
 
 pub events-preserved : goal.events-preserved
@@ -43,10 +43,10 @@ events-preserved g c = let v : View = c.args.pass.now.view in let run : Run = c.
       c.saturating_sub-left.ensures,
       c.turns.ensures,
       c.events.invariant,
-      turns-tickets run v c.events.event c.new.result c.fired-fired.result c.requires.run.0
+      turns-tickets run v c.events.event c.new.result c.fired-fired.result c.requires.run
           c.fired-fired.ensures.counted here
-          (is_held run v c.events.event c.new.result c.nodes.result c.design_nodes.result c.requires.run.0 c.requires.all
-          c.requires.run.1.among c.nodes.ensures c.design_nodes.ensures c.events-test.true here)
+          (is_held run v c.events.event c.new.result c.nodes.result c.design_nodes.result c.requires.run c.requires.all
+          c.requires.sound.among c.nodes.ensures c.design_nodes.ensures c.events-test.true here)
           c.fired-fired.ensures.value,
       sum-next (λ e. length (tickets v e)) c.events.event,
     )
@@ -59,5 +59,5 @@ returns g c = let v : View = c.args.pass.now.view in let all : c.events.event �
   c.nodes.ensures,
   c.design_nodes.ensures,
   events-is c.args.run.now,
-  ap events c.requires.run.0,
+  ap events c.requires.run,
 ) in c.events.invariant ∙ ap (λ (n : ℕ). c.args.quota - tickets_below v n) all

@@ -3,12 +3,12 @@ use Rattle.ds_runner.proofs.LastTurns.{joins, observes_parts}
 use Rattle.ds_runner.proofs.seat_steps.join.Goals as goal
 
 pub join_seat-requires : goal.join_seat-requires
-join_seat-requires c = (
-  c.requires.table.0,
-  c.requires.table.1,
-  c.requires.live.2,
-  c.requires.table.2,
-  joins c.args.board.now.key c.args.seat.now.id c.args.other.id c.args.seat.now.me.0 c.args.other.me.0 c.requires.live.0 c.requires.live.1 c.requires.home,
+join_seat-requires c = let (same, alike, words) = c.requires.table in let (live, other, empty) = c.requires.live in (
+  same,
+  alike,
+  empty,
+  words,
+  joins c.args.board.now.key c.args.seat.now.id c.args.other.id c.args.seat.now.me.0 c.args.other.me.0 live other c.requires.home,
 )
 
 pub load-requires : goal.load-requires
