@@ -1,6 +1,6 @@
 pub mod TurnBits
 pub mod PickedBits
-pub mod TurnBytes
+pub mod LineBytes
 pub mod ColumnWords
 pub mod LinkedWords
 pub mod LinkedTurns

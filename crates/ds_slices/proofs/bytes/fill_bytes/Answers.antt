@@ -5,7 +5,7 @@ use Rattle.ds_base.specs.Values.{Row}
 use Rattle.ds_cover.specs.Cover.{value_at, values_at}
 use Rattle.ds_cover.specs.Kept.{bit_value}
 use Rattle.ds_slices.specs.Turns.{turn_row}
-use Rattle.ds_slices.proofs.TurnBytes.{byte_more}
+use Rattle.ds_slices.proofs.LineBytes.{byte_more}
 use Rattle.ds_slices.proofs.bytes.fill_bytes.Goals as goal
 
 pub loop-i-init : goal.loop-i-init
