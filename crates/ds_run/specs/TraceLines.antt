@@ -5,6 +5,8 @@ use Rattle.ds_latch.specs.Plan.{Planned}
 use Rattle.ds_clocked.specs.Loop.{IsWrittenTo}
 use Rattle.ds_fabric.specs.Showing.{Recorder}
 use Rattle.ds_run.specs.RunOfPlan.{AreValues}
+use Rattle.ds_run.specs.TraceRows.{HasLine}
+use Rattle.ds_run.specs.declared.trace_rows.TraceRows.{TraceRows}
 use Rattle.ds_run.specs.Finished.{IsFinished, IsFinishedOn}
 
 -- the row is that of the registers before turn k, from 0
@@ -12,6 +14,11 @@ abbrev pub AreRegistersBefore : Planned → Recorder → ℕ → ℕ → Row →
 AreRegistersBefore p r turns k row =
     (vectors : List Row) → IsFinishedOn p turns r vectors
     → (values : AreValues p.split vectors r.shown.view.run) → row ≡ values.state k
+
+-- a line that has its rows, and the registers before turn k
+pub record StandsBefore (p : Planned) (r : Recorder) (turns k : ℕ) (line : TraceRows) : Type 0 where
+  pub has : HasLine p.split line
+  pub registers : AreRegistersBefore p r turns k line.registers
 
 -- the lines up to one turn go on by a text like this to the lines up to another
 abbrev pub AreLinesOf : Planned → Recorder → ℕ → ℕ → ℕ → ℕ → (List ℕ → Type 0) → Type 0

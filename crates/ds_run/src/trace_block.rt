@@ -2,8 +2,7 @@
 ghost use Rattle.std.specs.Prelude.{◌≡◌, ◌+◌, ◌*◌, ◌<◌, ◌≤◌, ◌^◌, List, IfSome, min};
 ghost use Rattle.ds_base.specs.Values.{Row};
 ghost use Rattle.ds_outside.specs.Pen.{Puts};
-ghost use Rattle.ds_run.specs.TraceRows.{HasLine};
-ghost use Rattle.ds_run.specs.TraceLines.{AreLinesOf, AreRegistersBefore};
+ghost use Rattle.ds_run.specs.TraceLines.{AreLinesOf, StandsBefore};
 ghost use Rattle.ds_run.specs.Finished.{IsFinishedOn};
 
 use crate::line_sharing::LineSharing;
@@ -31,16 +30,14 @@ pub(crate) fn put_block<R: AllocGlobal + Threads + Sync, P: Pen>(
         × IsFinishedOn stored.now.plan.now stored.now.turns stored.now.recorded.now vectors }
     requires few { stored.now.first + stored.now.turns < 2 ^ 64 }
     requires from { from < stored.now.turns }
-    requires line { HasLine stored.now.plan.now.split line.old }
-    requires registers { AreRegistersBefore stored.now.plan.now stored.now.recorded.now
-        stored.now.turns from line.old.registers }
+    requires line { StandsBefore stored.now.plan.now stored.now.recorded.now stored.now.turns
+        from line.old }
 
     ensures more { (from < result) × (result ≤ stored.now.turns) }
     ensures lines { AreLinesOf stored.now.plan.now stored.now.recorded.now stored.now.turns
         stored.now.first from result (Puts (P.writing pen.old) (P.writing pen.new)) }
-    ensures line { HasLine stored.now.plan.now.split line.new }
-    ensures registers { AreRegistersBefore stored.now.plan.now stored.now.recorded.now
-        stored.now.turns result line.new.registers }
+    ensures line { StandsBefore stored.now.plan.now stored.now.recorded.now stored.now.turns
+        result line.new }
 {
     let (alloc, last) = (sharing.threads.alloc(), stored.turns);
     let (parts, turns, room) = (sharing.parts, sharing.turns, sharing.room);
@@ -112,15 +109,13 @@ fn put_part<P: Pen>(
     requires text { IfSome text.now (λ text. AreLinesOf stored.now.plan.now
         stored.now.recorded.now stored.now.turns stored.now.first range.from range.to
         (λ lines. text.bytes.items ≡ lines)) }
-    requires line { HasLine stored.now.plan.now.split line.old }
-    requires registers { AreRegistersBefore stored.now.plan.now stored.now.recorded.now
-        stored.now.turns range.from line.old.registers }
+    requires line { StandsBefore stored.now.plan.now stored.now.recorded.now stored.now.turns
+        range.from line.old }
 
     ensures lines { AreLinesOf stored.now.plan.now stored.now.recorded.now stored.now.turns
         stored.now.first range.from range.to (Puts (P.writing pen.old) (P.writing pen.new)) }
-    ensures line { HasLine stored.now.plan.now.split line.new }
-    ensures registers { AreRegistersBefore stored.now.plan.now stored.now.recorded.now
-        stored.now.turns range.to line.new.registers }
+    ensures line { StandsBefore stored.now.plan.now stored.now.recorded.now stored.now.turns
+        range.to line.new }
 {
     match text {
         Some(text) => {

@@ -3,8 +3,7 @@
 ghost use Rattle.std.specs.Prelude.{◌≡◌, ◌+◌, ◌<◌, ◌≤◌, ◌^◌, List};
 ghost use Rattle.ds_base.specs.Values.{Row};
 ghost use Rattle.ds_outside.specs.Pen.{Puts};
-ghost use Rattle.ds_run.specs.TraceRows.{HasLine};
-ghost use Rattle.ds_run.specs.TraceLines.{AreLinesOf, AreRegistersBefore};
+ghost use Rattle.ds_run.specs.TraceLines.{AreLinesOf, StandsBefore};
 ghost use Rattle.ds_run.specs.Finished.{IsFinishedOn};
 
 use crate::stored_turns::StoredTurns;
@@ -26,15 +25,13 @@ pub(crate) fn put_range<P: Pen>(
         × IsFinishedOn stored.now.plan.now stored.now.turns stored.now.recorded.now vectors }
     requires few { stored.now.first + stored.now.turns < 2 ^ 64 }
     requires range { (range.from ≤ range.to) × (range.to ≤ stored.now.turns) }
-    requires line { HasLine stored.now.plan.now.split line.old }
-    requires registers { AreRegistersBefore stored.now.plan.now stored.now.recorded.now
-        stored.now.turns range.from line.old.registers }
+    requires line { StandsBefore stored.now.plan.now stored.now.recorded.now stored.now.turns
+        range.from line.old }
 
     ensures lines { AreLinesOf stored.now.plan.now stored.now.recorded.now stored.now.turns
         stored.now.first range.from range.to (Puts (P.writing pen.old) (P.writing pen.new)) }
-    ensures line { HasLine stored.now.plan.now.split line.new }
-    ensures registers { AreRegistersBefore stored.now.plan.now stored.now.recorded.now
-        stored.now.turns range.to line.new.registers }
+    ensures line { StandsBefore stored.now.plan.now stored.now.recorded.now stored.now.turns
+        range.to line.new }
 {
     for k in range.from..range.to {
         stored.recorded.row(Node::Out.latch(), k, &mut line.outputs);

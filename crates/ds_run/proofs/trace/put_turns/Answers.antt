@@ -12,15 +12,17 @@ returns-then-sharing-lt2 g c = λ vectors is.
     all_lines c.args.stored.now.plan.now c.args.stored.now.recorded.now c.args.stored.now.turns
     c.args.stored.now.first vectors c.put_range.new.line.registers
     (Puts (g.P.Pen.writing c.args.pen.now) (g.P.Pen.writing c.put_range.new.pen)) is
-    c.put_range.ensures.registers c.put_range.ensures.lines
+    c.put_range.ensures.line.registers c.put_range.ensures.lines
 
 pub blocks-2-init : goal.blocks-2-init
 blocks-2-init g c =
     let none = Puts (g.P.Pen.writing c.args.pen.now) (g.P.Pen.writing c.args.pen.now) in
     record {
       within = omega arith;
-      line = c.requires.line;
-      registers = λ vectors is values. c.requires.registers ∙ sym values.clocked.starts;
+      line = record {
+        has = c.requires.line;
+        registers = λ vectors is values. c.requires.registers ∙ sym values.clocked.starts;
+      };
       lines = no_lines c.args.stored.now.plan.now c.args.stored.now.recorded.now
           c.args.stored.now.turns c.args.stored.now.first 0 none
           (puts_nothing (g.P.Pen.writing c.args.pen.now));
@@ -32,7 +34,6 @@ blocks-2-preserved g c =
     record {
       within = within;
       line = c.put_block-done.ensures.line;
-      registers = c.put_block-done.ensures.registers;
       lines = lines_on c.args.stored.now.plan.now c.args.stored.now.recorded.now
           c.args.stored.now.turns c.args.stored.now.first 0 c.blocks-2.done c.put_block-done.result
           (Puts (g.P.Pen.writing c.args.pen.now) (g.P.Pen.writing c.blocks-2.pen))
@@ -50,6 +51,6 @@ returns g c =
     let all : c.blocks-2.done ≡ turns = omega (c.blocks-2.invariant.within, arith) in
     λ vectors is. all_lines p r turns c.args.stored.now.first vectors c.blocks-2.line.registers text is
     (subst (λ (k : ℕ). AreRegistersBefore p r turns k c.blocks-2.line.registers) all
-    c.blocks-2.invariant.registers)
+    c.blocks-2.invariant.line.registers)
     (subst (λ (k : ℕ). AreLinesOf p r turns c.args.stored.now.first 0 k text) all
     c.blocks-2.invariant.lines)

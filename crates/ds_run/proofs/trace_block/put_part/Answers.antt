@@ -1,9 +1,8 @@
 use Rattle.std.proofs.Common.{◌≡◌, ◌∙◌, ◌+◌, ◌-◌, ◌<◌, ℕ, List, Option, Some, IfSome, arith, length, subst, sym, ap}
-use Rattle.ds_latch.specs.Plan.{Planned}
-use Rattle.ds_fabric.specs.Showing.{Recorder}
+use Rattle.ds_latch.specs.Node.{Split}
 use Rattle.ds_outside.specs.Pen.{Puts, Writing}
 use Rattle.ds_outside.proofs.Pens.{with_put}
-use Rattle.ds_run.specs.TraceLines.{AreLinesOf}
+use Rattle.ds_run.specs.TraceRows.{HasLine}
 use Rattle.ds_run.specs.declared.line_text.LineText.{LineText}
 use Rattle.ds_run.proofs.NodeRecords.{has_slaves}
 use Rattle.ds_run.proofs.TraceLines.{put_text, registers_after}
@@ -22,14 +21,18 @@ returns-then-range-clause-lines g c =
     c.args.stored.now.first c.args.range.from c.args.range.to c.args.text.now c.in-Some.text
     c.bytes.result.now _ _ c.in-Some.is c.bytes.ensures c.put.ensures c.requires.text
 
-pub returns-then-range-clause-registers : goal.returns-then-range-clause-registers
-returns-then-range-clause-registers g c =
+pub returns-then-range-clause-line : goal.returns-then-range-clause-line
+returns-then-range-clause-line g c =
     let after = registers_after c.args.stored.now.plan.now c.args.stored.now.recorded.now
     c.args.stored.now.turns c.args.stored.now.first (c.args.range.to - 1)
     c.latches.result.now c.copy_stored.new.line.registers (omega arith) c.latches.ensures
     c.copy_stored.ensures.gathered in
     let behind : c.args.range.to - 1 + 1 ≡ c.args.range.to = omega arith in
-    λ vectors is values. after vectors is values ∙ ap values.state behind
+    record {
+      has = subst (λ (s : Split). HasLine s c.copy_stored.new.line) c.latches.ensures
+          c.copy_stored.ensures.line;
+      registers = λ vectors is values. after vectors is values ∙ ap values.state behind;
+    }
 
 pub returns-else-range-clause-lines : goal.returns-else-range-clause-lines
 returns-else-range-clause-lines g c =

@@ -13,7 +13,6 @@ use Rattle.ds_run.proofs.trace_range.put_range.Goals as goal
 pub loop-k-init : goal.loop-k-init
 loop-k-init g c = record {
   line = c.requires.line;
-  registers = c.requires.registers;
   lines = no_lines c.args.stored.now.plan.now c.args.stored.now.recorded.now c.args.stored.now.turns
       c.args.stored.now.first c.args.range.from
       (Puts (g.P.Pen.writing c.args.pen.now) (g.P.Pen.writing c.args.pen.now))
@@ -31,7 +30,7 @@ pub row-requires-clause-length : goal.row-requires-clause-length
 row-requires-clause-length g c =
     let (vectors, (finished_run, many)) = c.requires.stored in
     let wide = out_wide c.args.stored.now.plan.now vectors c.args.stored.now.recorded.now finished_run in
-    rw c.latch.ensures (c.loop-k.invariant.line.outputs ∙ sym wide)
+    rw c.latch.ensures (c.loop-k.invariant.line.has.outputs ∙ sym wide)
 
 pub copy_stored-requires-clause-rows : goal.copy_stored-requires-clause-rows
 copy_stored-requires-clause-rows g c =
@@ -45,7 +44,7 @@ copy_stored-requires-clause-line g c =
     let (vectors, (finished_run, many)) = c.requires.stored in
     line_read c.args.stored.now.plan.now vectors c.args.stored.now.recorded.now finished_run c.loop-k.k
     (omega (arith, many)) c.latches.result.now c.loop-k.line c.latch.result c.row.new.into c.latches.ensures
-    c.loop-k.invariant.line c.latch.ensures c.row.ensures
+    c.loop-k.invariant.line.has c.latch.ensures c.row.ensures
 
 pub loop-k-preserved : goal.loop-k-preserved
 loop-k-preserved g c =
@@ -54,15 +53,17 @@ loop-k-preserved g c =
     let turns : ℕ = c.args.stored.now.turns in
     let inside : c.loop-k.k < turns = omega arith in
     record {
-      line = subst (λ (q : Split). HasLine q c.copy_stored.new.line) c.latches.ensures
-          c.copy_stored.ensures.line;
-      registers = registers_after p r turns c.args.stored.now.first c.loop-k.k c.latches.result.now
-          c.copy_stored.new.line.registers inside c.latches.ensures c.copy_stored.ensures.gathered;
+      line = record {
+        has = subst (λ (q : Split). HasLine q c.copy_stored.new.line) c.latches.ensures
+            c.copy_stored.ensures.line;
+        registers = registers_after p r turns c.args.stored.now.first c.loop-k.k c.latches.result.now
+            c.copy_stored.new.line.registers inside c.latches.ensures c.copy_stored.ensures.gathered;
+      };
       lines = one_more p r turns c.args.stored.now.first c.args.range.from c.loop-k.k c.latches.result.now
           c.latch.result c.row.new.into c.loop-k.line.registers c.copy_stored.new.line.registers
           (Puts (g.P.Pen.writing c.args.pen.now) (g.P.Pen.writing c.loop-k.pen))
           (Puts (g.P.Pen.writing c.args.pen.now) (g.P.Pen.writing c.put_trace_line.new.pen))
-          inside c.latch.ensures c.row.ensures c.loop-k.invariant.registers c.latches.ensures
+          inside c.latch.ensures c.row.ensures c.loop-k.invariant.line.registers c.latches.ensures
           c.copy_stored.ensures.gathered (λ text before. puts_on before c.put_trace_line.ensures)
           c.loop-k.invariant.lines;
     }
