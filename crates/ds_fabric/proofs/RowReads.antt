@@ -1,15 +1,13 @@
 -- The words of stored rows, row by row.
 use Rattle.std.proofs.Common.{◌≡◌, ◌∙◌, ◌<◌, ◌≤◌, ℕ, List, [], ◌∷◌}
-use Rattle.std.proofs.Common.{length}
-use Rattle.std.proofs.Common.{ap, sym, arith, refl, slice_index}
+use Rattle.std.proofs.Common.{length, ap, arith, refl}
 use mathlib.Core.Logic.{dite}
 use native.Mathlib.Decide.{ℕ_discrete}
-use Rattle.ds_base.specs.Word.{word_of, count_of_words}
+use Rattle.ds_base.specs.Word.{word_of}
 use Rattle.ds_rule.specs.Run.{Run, node_of}
-use Rattle.ds_rule.specs.Words.{width, value, node_values}
+use Rattle.ds_rule.specs.Words.{value, node_values}
 use Rattle.ds_rule.specs.Log.{count_in_log, IsLegalList, Recorded}
 use Rattle.ds_rule.proofs.LogCounts.{count_in_log-here, count_in_log-else, length-tickets_in_log}
-use Rattle.ds_rule.proofs.PlaceLaws.{width-is}
 
 -- no event stands more often in a legal list than the limit says
 pub times_most : (run : Run) (e : ℕ) (xs : List ℕ) → IsLegalList run xs → count_in_log e xs ≤ run.limit
@@ -32,8 +30,3 @@ tickets_most run ts many e r near =
 pub value-word : (run : Run) (l k i : ℕ) → value run l k i ≡ word_of (node_values run l k) i
 unfolding value
 value-word run l k i = refl
-
--- the width of a row of this length
-pub width_read : (run : Run) (l n w : ℕ) → n ≡ slice_index run.lengths l → w ≡ count_of_words n
-    → w ≡ width run l
-width_read run l n w is w-is = w-is ∙ (ap count_of_words is ∙ sym (width-is run l))
