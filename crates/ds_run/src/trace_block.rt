@@ -2,7 +2,7 @@
 ghost use Rattle.std.specs.Prelude.{◌≡◌, ◌+◌, ◌*◌, ◌<◌, ◌≤◌, ◌^◌, List, IfSome, min};
 ghost use Rattle.ds_base.specs.Values.{Row};
 ghost use Rattle.ds_outside.specs.Pen.{Puts};
-ghost use Rattle.ds_run.specs.TraceLines.{AreLinesOf, StandsBefore};
+ghost use Rattle.ds_run.specs.TraceLines.{AreLinesOf, HasLineBefore};
 ghost use Rattle.ds_run.specs.Finished.{IsFinishedOn};
 
 use crate::line_sharing::LineSharing;
@@ -30,13 +30,13 @@ pub(crate) fn put_block<R: AllocGlobal + Threads + Sync, P: Pen>(
         × IsFinishedOn stored.now.plan.now stored.now.turns stored.now.recorded.now vectors }
     requires few { stored.now.first + stored.now.turns < 2 ^ 64 }
     requires from { from < stored.now.turns }
-    requires line { StandsBefore stored.now.plan.now stored.now.recorded.now stored.now.turns
+    requires line { HasLineBefore stored.now.plan.now stored.now.recorded.now stored.now.turns
         from line.old }
 
     ensures more { (from < result) × (result ≤ stored.now.turns) }
     ensures lines { AreLinesOf stored.now.plan.now stored.now.recorded.now stored.now.turns
         stored.now.first from result (Puts (P.writing pen.old) (P.writing pen.new)) }
-    ensures line { StandsBefore stored.now.plan.now stored.now.recorded.now stored.now.turns
+    ensures line { HasLineBefore stored.now.plan.now stored.now.recorded.now stored.now.turns
         result line.new }
 {
     let (alloc, last) = (sharing.threads.alloc(), stored.turns);
@@ -109,12 +109,12 @@ fn put_part<P: Pen>(
     requires text { IfSome text.now (λ text. AreLinesOf stored.now.plan.now
         stored.now.recorded.now stored.now.turns stored.now.first range.from range.to
         (λ lines. text.bytes.items ≡ lines)) }
-    requires line { StandsBefore stored.now.plan.now stored.now.recorded.now stored.now.turns
+    requires line { HasLineBefore stored.now.plan.now stored.now.recorded.now stored.now.turns
         range.from line.old }
 
     ensures lines { AreLinesOf stored.now.plan.now stored.now.recorded.now stored.now.turns
         stored.now.first range.from range.to (Puts (P.writing pen.old) (P.writing pen.new)) }
-    ensures line { StandsBefore stored.now.plan.now stored.now.recorded.now stored.now.turns
+    ensures line { HasLineBefore stored.now.plan.now stored.now.recorded.now stored.now.turns
         range.to line.new }
 {
     match text {

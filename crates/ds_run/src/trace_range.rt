@@ -3,7 +3,7 @@
 ghost use Rattle.std.specs.Prelude.{◌≡◌, ◌+◌, ◌<◌, ◌≤◌, ◌^◌, List};
 ghost use Rattle.ds_base.specs.Values.{Row};
 ghost use Rattle.ds_outside.specs.Pen.{Puts};
-ghost use Rattle.ds_run.specs.TraceLines.{AreLinesOf, StandsBefore};
+ghost use Rattle.ds_run.specs.TraceLines.{AreLinesOf, HasLineBefore};
 ghost use Rattle.ds_run.specs.Finished.{IsFinishedOn};
 
 use crate::stored_turns::StoredTurns;
@@ -25,12 +25,12 @@ pub(crate) fn put_range<P: Pen>(
         × IsFinishedOn stored.now.plan.now stored.now.turns stored.now.recorded.now vectors }
     requires few { stored.now.first + stored.now.turns < 2 ^ 64 }
     requires range { (range.from ≤ range.to) × (range.to ≤ stored.now.turns) }
-    requires line { StandsBefore stored.now.plan.now stored.now.recorded.now stored.now.turns
+    requires line { HasLineBefore stored.now.plan.now stored.now.recorded.now stored.now.turns
         range.from line.old }
 
     ensures lines { AreLinesOf stored.now.plan.now stored.now.recorded.now stored.now.turns
         stored.now.first range.from range.to (Puts (P.writing pen.old) (P.writing pen.new)) }
-    ensures line { StandsBefore stored.now.plan.now stored.now.recorded.now stored.now.turns
+    ensures line { HasLineBefore stored.now.plan.now stored.now.recorded.now stored.now.turns
         range.to line.new }
 {
     for k in range.from..range.to {
