@@ -1,7 +1,7 @@
 -- What computes the rows of a run from its plan.
-use Rattle.std.specs.Prelude.{◌≡◌, ℕ, List, length, map, All}
+use Rattle.std.specs.Prelude.{◌≡◌, ℕ, Bool, List, length, map, true, All}
 use Rattle.std.specs.List.{range_with_len}
-use Rattle.ds_base.specs.Values.{Row}
+use Rattle.ds_base.specs.Values.{AreKnown, Row}
 use Rattle.ds_cover.specs.Cover.{values_at}
 use Rattle.ds_marked.specs.Graph.{Graph}
 use Rattle.ds_design.specs.Circuit.{columns}
@@ -47,3 +47,9 @@ pub record AreOpenings (s : Split) (vectors : Rows) (run : Run) (groups : Groupi
   pub sound : IsSound run
   pub groups_are : AreConeGroups s groups
   pub starts_are : starts ≡ map (values_at s.initial) s.clusters
+
+-- the same, and where it is said that all is known, so it is
+pub record AreOpeningsWith (s : Split) (vectors : Rows) (run : Run) (groups : Grouping)
+    (order : List ℕ) (starts : List Row) (told : Bool) : Type 0 where
+  pub openings : AreOpenings s vectors run groups order starts
+  pub known : told ≡ true → AreKnown s.initial × All AreKnown vectors.rows

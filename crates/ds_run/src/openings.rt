@@ -54,9 +54,8 @@ impl<'a, 'n> Drop for Openings<'a, 'n> {
 }
 
 impl<'a, 'n> Model for Openings<'a, 'n> {
-    ghost use Rattle.std.specs.Prelude.{◌≡◌, length, true, All};
-    ghost use Rattle.ds_base.specs.Values.{AreKnown};
-    ghost use Rattle.ds_run.specs.Openings.{AreOpenings, RunWithMemory, memory_of};
+    ghost use Rattle.std.specs.Prelude.{length};
+    ghost use Rattle.ds_run.specs.Openings.{AreOpeningsWith, RunWithMemory, memory_of};
 
     ghost Value = { RunWithMemory };
 
@@ -66,10 +65,8 @@ impl<'a, 'n> Model for Openings<'a, 'n> {
       groups = length w.groups.groups;
     } };
 
-    ghost invariant = { λ w. AreOpenings w.latches.now w.vectors.now w.run.now w.groups
-        w.order.now w.starts.items
-        × (w.known ≡ true
-        → AreKnown w.latches.now.initial × All AreKnown w.vectors.now.rows) };
+    ghost invariant = { λ w. AreOpeningsWith w.latches.now w.vectors.now w.run.now w.groups
+        w.order.now w.starts.items w.known };
 }
 
 impl<'a, 'n> Openings<'a, 'n> {

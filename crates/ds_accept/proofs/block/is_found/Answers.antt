@@ -3,13 +3,11 @@ use Rattle.ds_accept.proofs.SweepSteps.{place_lt}
 use Rattle.ds_accept.proofs.block.is_found.Goals as goal
 
 pub overflow_mul-place : goal.overflow_mul-place
-overflow_mul-place c =
-    let near : c.args.order.now.target < c.args.events = c.requires.inside.0 in
+overflow_mul-place c = let (near, _) = c.requires.inside in
     let low : c.loop-level.level < c.args.levels = omega arith in
     omega (arith, place_lt c.args.events c.args.levels c.loop-level.level c.args.order.now.target low near)
 
 pub overflow_add-place : goal.overflow_add-place
-overflow_add-place c =
-    let near : c.args.order.now.target < c.args.events = c.requires.inside.0 in
+overflow_add-place c = let (near, _) = c.requires.inside in
     let low : c.loop-level.level < c.args.levels = omega arith in
     omega (arith, place_lt c.args.events c.args.levels c.loop-level.level c.args.order.now.target low near)

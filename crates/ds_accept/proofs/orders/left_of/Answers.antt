@@ -10,7 +10,7 @@ not_true : (b : Bool) → b ≡ false → IsTrue b → ⊥
 not_true b e t = absurd (cc)
 
 pub loop-order-preserved : goal.loop-order-preserved
-loop-order-preserved c =
+loop-order-preserved c = let (gives, given) = c.is_given.ensures in
     let k : ℕ = c.loop-order.order-index in
     let old : List Arc = c.loop-order.left.items in
     record {
@@ -20,12 +20,12 @@ loop-order-preserved c =
             let left : c.if-not-is_given.left.items ≡ old ++ c.order-item.result ∷ [] = ap (λ (v : Vec Arc Global). v.items) w.left-is ∙ w.in_ok-push.ensures.items in
             subst (AreLeftOf c.args.orders.now c.args.arcs.now (k + 1)) (sym left)
             (left_lacks c.args.orders.now c.args.arcs.now c.requires.orders k old c.loop-order.invariant.left c.order-item.result c.order-item.is c.loop-order-test.true
-            (λ by. not_true c.is_given.result w.if-not-is_given.true (c.is_given.ensures.1 by))))
+            (λ by. not_true c.is_given.result w.if-not-is_given.true (given by))))
         | else-not-is_given w ↦ (
             let left : c.if-not-is_given.left.items ≡ old = ap (λ (v : Vec Arc Global). v.items) w.left-is in
             subst (AreLeftOf c.args.orders.now c.args.arcs.now (k + 1)) (sym left)
             (left_given c.args.orders.now c.args.arcs.now c.requires.orders k old c.loop-order.invariant.left c.order-item.result c.order-item.is c.loop-order-test.true
-            (c.is_given.ensures.0 w.if-not-is_given.false)))
+            (gives w.if-not-is_given.false)))
       ];
       before = later c.args.orders.now c.args.arcs.now c.requires.orders c.requires.arcs k c.first_from-place.result c.order-item.result c.order-item.is (omega arith) c.first_from-place.ensures.before;
     }

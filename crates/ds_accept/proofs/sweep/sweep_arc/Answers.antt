@@ -3,7 +3,7 @@ use Rattle.ds_accept.proofs.SweepSteps.{step_arc_at}
 use Rattle.ds_accept.proofs.sweep.sweep_arc.Goals as goal
 
 pub returns-then-next-levels : goal.returns-then-next-levels
-returns-then-next-levels c arcs in_arcs =
+returns-then-next-levels c arcs in_arcs = let (from, to) = c.requires.ends in
     let level : (c.args.level + c.from.result) * c.args.events ≡ (c.args.level + c.args.arc.now.tokens) * c.args.events = ap (λ (n : ℕ). (c.args.level + n) * c.args.events) c.from.ensures in
-    step_arc_at arcs c.args.events c.args.levels c.args.level c.args.arc.now c.args.masks.now in_arcs c.requires.ends.0 c.requires.ends.1 c.requires.size (omega arith)
+    step_arc_at arcs c.args.events c.args.levels c.args.level c.args.arc.now c.args.masks.now in_arcs from to c.requires.size (omega arith)
     _ _ c.pour.new.masks c.pour.result c.pour.ensures.after c.pour.ensures.changed c.pour.ensures.same (omega arith) (omega arith)

@@ -13,25 +13,25 @@ overflow_add-from c = omega (
   c.requires.few,
   c.loop-k-test.true,
   c.loop-k.auto.k-end,
-  c.loop-k.invariant.0,
+  c.loop-k.invariant.size,
 )
 
 pub loop-k-preserved : goal.loop-k-preserved
 loop-k-preserved c = let run : Run = c.args.recorded.now.shown.view.run in let k : ℕ = c.loop-k.k in
     let piece : List ℕ = c.loop-k.piece in let w : ℕ = c.word.result in
-    let inv = c.loop-k.invariant in (
-      length-set piece k w ∙ inv.0,
-      take_more_set piece k w
-          (omega (arith, c.loop-k-test.true, c.loop-k.auto.k-end, inv.0))
-          ∙ words_more run c.args.latch c.args.i c.args.from k w (take k piece) c.word.ensures inv.1,
-    )
+    let inv = c.loop-k.invariant in record {
+      size = length-set piece k w ∙ inv.size;
+      copied = take_more_set piece k w
+          (omega (arith, c.loop-k-test.true, c.loop-k.auto.k-end, inv.size))
+          ∙ words_more run c.args.latch c.args.i c.args.from k w (take k piece) c.word.ensures inv.copied;
+    }
 
 pub returns-clause-value : goal.returns-clause-value
 returns-clause-value c = let piece : List ℕ = c.loop-k.piece in let k : ℕ = c.loop-k.k in
     let inv = c.loop-k.invariant in
     let e : k ≡ length c.args.piece.now =
-    omega (arith, c.loop-k-test.false, c.loop-k.auto.k-end, inv.0) in
-    sym (take_all k piece (omega (arith, e, inv.0)))
-    ∙ (inv.1 ∙ ap (λ (n : ℕ). value_words 1 (map
+    omega (arith, c.loop-k-test.false, c.loop-k.auto.k-end, inv.size) in
+    sym (take_all k piece (omega (arith, e, inv.size)))
+    ∙ (inv.copied ∙ ap (λ (n : ℕ). value_words 1 (map
     (word_values c.args.recorded.now.shown.view.run c.args.latch c.args.i)
     (range_with_len (c.args.from + 1) n))) e)

@@ -14,14 +14,14 @@ is_learnt-requires c =
     let memory_is : m ≡ c.args.self.now.memory = ap (λ (x : RunWithMemory). x.memory) c.self.view_is in
     let run_is = ap (λ (x : RunWithMemory). x.run) c.self.view_is in
     let latches : c.args.self.now.run.design_nodes ≡ nodes s =
-    ap (λ (r : Run). r.design_nodes) (sym run_is) ∙ c.self.invariant.0.planned.latches_are in
+    ap (λ (r : Run). r.design_nodes) (sym run_is) ∙ c.self.invariant.openings.planned.latches_are in
     omega (
       arith,
       c.requires.producer,
       latches,
       c.requires.remembers.turns,
       ap (λ (x : Memory). length x.slots) memory_is,
-      slots_long s c.self.invariant.0.split c.self.inside.groups,
+      slots_long s c.self.invariant.openings.split c.self.inside.groups,
     )
 
 pub returns : goal.returns
