@@ -16,7 +16,8 @@ AreRegistersBefore p r turns k row =
     → (values : AreValues p.split vectors r.shown.view.run) → row ≡ values.state k
 
 -- a line that has its rows, and the registers before turn k
-pub record HasLineBefore (p : Planned) (r : Recorder) (turns k : ℕ) (line : TraceRows) : Type 0 where
+pub record HasLineBefore (p : Planned) (r : Recorder) (turns k : ℕ) (line : TraceRows)
+    : Type 0 where
   pub has : HasLine p.split line
   pub registers : AreRegistersBefore p r turns k line.registers
 
