@@ -2,7 +2,7 @@
 use Rattle.std.proofs.Common.{◌≡◌, ◌∙◌, ◌<◌, ◌≤◌, ◌+◌, ℕ, List, [], ◌∷◌, ◌++◌, length, get_or, map, take, refl, arith, ap, ap₂, sym, subst}
 use Rattle.std.specs.Prelude.{All, slice_index}
 use Rattle.std.specs.List.Sorted.{IsNonDecreasingBy, IsPermutation}
-use Rattle.std.proofs.lemmas.List.{get_or-map, length-map, map_push}
+use Rattle.std.proofs.lemmas.List.{get_or-map, length-map, length-take-le, map_push, take_more}
 use Rattle.std.proofs.lemmas.List.Elements.{All-map, All-push, All-weaker, Contains-get_or}
 use Rattle.std.proofs.lemmas.List.Sorted.{All-permutation, IsPermutation-map}
 use Rattle.ds_marked.specs.Graph.{AreEnds, Graph, IsLive}
@@ -10,7 +10,7 @@ use Rattle.ds_marked.specs.declared.marked.Arc.{Arc}
 use Rattle.ds_period.specs.declared.timed.Timed.{Timed}
 use Rattle.ds_period.specs.Search.{no_arc}
 use Rattle.ds_period.specs.Timing.{timed, timed_arcs}
-use Rattle.ds_period.proofs.TimedArcs.{timed_all, timed_more}
+use Rattle.ds_period.proofs.TimedArcs.{timed_all}
 use Rattle.ds_rank.specs.Rank.{AreRanks}
 use Rattle.ds_times.specs.Schedule.{RankRises}
 use Rattle.ds_times.specs.Ranked.{AreByRank, AreRankedArcs, IsSmall}
@@ -40,6 +40,24 @@ ranked_rises g ranks ends are delays = timed_rises g (ranked_live g ranks ends a
 -- an arc with its rank
 abbrev pub IsRankedArc : (ℕ → ℕ) → RankedArc → Type 0
 IsRankedArc rank r = (r.rank ≡ rank r.arc.target) × IsSmall rank r.arc
+
+-- an arc at the end
+timed_push : (arcs : List Arc) (delays : List ℕ) (arc : Arc) (delay : ℕ) → length delays ≡ length arcs
+    → timed_arcs (arcs ++ arc ∷ []) (delays ++ delay ∷ []) ≡ timed_arcs arcs delays ++ timed arc delay ∷ []
+timed_push [] [] arc delay same = refl
+timed_push [] (d ∷ delays) arc delay same = absurd (omega arith)
+timed_push (a ∷ arcs) [] arc delay same = absurd (omega arith)
+timed_push (a ∷ arcs) (d ∷ delays) arc delay same =
+    ap (λ (xs : List Timed). timed a d ∷ xs) (timed_push arcs delays arc delay (omega arith))
+
+-- one arc more with its delay
+timed_more : (arcs : List Arc) (delays : List ℕ) (k : ℕ) (a : Arc) (d : ℕ) → k < length arcs → length delays ≡ length arcs
+    → timed_arcs (take (k + 1) arcs) (take (k + 1) delays)
+    ≡ timed_arcs (take k arcs) (take k delays) ++ timed (get_or arcs k a) (get_or delays k d) ∷ []
+timed_more arcs delays k a d lt same =
+    ap₂ (λ (xs : List Arc) (ds : List ℕ). timed_arcs xs ds) (take_more arcs k a lt) (take_more delays k d (omega arith))
+    ∙ timed_push (take k arcs) (take k delays) (get_or arcs k a) (get_or delays k d)
+    (length-take-le k delays (omega arith) ∙ sym (length-take-le k arcs (omega arith)))
 
 -- one arc more
 pub ranked_more : (arcs : List Arc) (delays : List ℕ) (k : ℕ) (a : Arc) (d : ℕ) (rank : ℕ → ℕ) (ranked : List RankedArc) (r : RankedArc)
