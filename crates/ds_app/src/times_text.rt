@@ -1,7 +1,6 @@
 //! The text of a timed run, written as it goes on turn by turn.
-ghost use Rattle.std.specs.Prelude.{◌≡◌, ◌++◌, ◌<◌, ◌≤◌, ◌-◌, ◌^◌, ℕ, All, codes, decimal, length};
+ghost use Rattle.std.specs.Prelude.{◌≡◌, ◌<◌, ◌≤◌, ◌-◌, ◌^◌, ℕ, All, length};
 ghost use Rattle.std.specs.List.{flat_map};
-ghost use Rattle.ds_marked.specs.Log.{text_of_event};
 ghost use Rattle.ds_outside.specs.Pen.{Puts};
 ghost use Rattle.ds_outside.specs.Writes.{Writes};
 ghost use Rattle.ds_times.specs.Order.{firings_in};
@@ -9,10 +8,10 @@ ghost use Rattle.ds_times.specs.Schedule.{IsSchedule};
 ghost use Rattle.ds_stage.specs.TimesStage.{time_line, time_lines};
 
 use ds_base::EventId;
-use ds_latch::{Plan, event_text};
+use ds_latch::Plan;
 use ds_outside::{Buffered, Pen, Sink, WriteFault};
+use ds_stage::put_time;
 use ds_times::Schedule;
-use itoa::Buffer;
 
 /// Writes the times of so many turns by way of a buffer, in each turn those of the events in this
 /// order. Takes no memory.
@@ -74,22 +73,4 @@ fn put_turn<P: Pen>(plan: &Plan<'_>, order: &[EventId], turn: u32, schedule: &Sc
         let time = schedule.time(event);
         put_time(plan, event, turn, time, pen);
     }
-}
-
-// Writes the line of a firing: the event, the turn, and the time.
-fn put_time<P: Pen>(plan: &Plan<'_>, event: EventId, turn: u32, time: u128, pen: &mut P)
-    requires { event < length plan.now.graph.events }
-    ensures { Puts (P.writing pen.old) (P.writing pen.new) (text_of_event plan.now.graph event
-        ++ codes " " ++ decimal turn ++ codes " " ++ decimal time ++ codes "\n") }
-{
-    let mut of = Buffer::new();
-    let mut buffer = Buffer::new();
-    let text = event_text(plan, event);
-    pen.put(text.name);
-    pen.put(text.sign);
-    pen.put(b" ");
-    pen.put(of.format(turn).as_bytes());
-    pen.put(b" ");
-    pen.put(buffer.format(time).as_bytes());
-    pen.put(b"\n");
 }

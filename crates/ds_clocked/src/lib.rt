@@ -3,18 +3,20 @@
 //! In each turn the nets take the one valuation of the registers and the vector, a line with the
 //! outputs and the registers is written, and each register takes the value of its data net.
 //!
-//! Where no register feeds back, a window has 1,024 turns or more and no value of it is unknown, 64
-//! turns are worked out at once, in words.
+//! Where no register feeds back and no value of a window is unknown, 64 turns are worked out at
+//! once, in words. A run looks for feedback in its first window of 1,024 turns or more.
 //!
 //! `simulate_from` writes the lines of a window, from any row and turn number on, and gives the row
-//! after it. It answers `Write` only where the sink's faults rose, and then a first part of the
+//! after it. A `ClockedRun` has the netlist, and keeps the words from window to window. The call answers `Write` only where the sink's faults rose, and then a first part of the
 //! lines was appended; on `Memory` nothing was. `laws` has what a reader of traces may rely on
 //! where some values are unknown: known ones in their place change no other character. When memory
 //! is found is not promised.
 #![tactic(auto)]
 
+mod clocked_run;
 pub mod laws;
 mod run;
 mod words;
 
+pub use clocked_run::ClockedRun;
 pub use run::{SimFault, simulate_from};

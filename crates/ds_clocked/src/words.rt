@@ -10,13 +10,15 @@ ghost use Rattle.ds_clocked.specs.Words.{IsKnownWindow, PutsTurns};
 ghost use Rattle.ds_slices.specs.Ready.{AreReady};
 ghost use Rattle.ds_slices.specs.Turns.{turn_row};
 
+use crate::clocked_run::ClockedRun;
 use ds_base::{OutOfMemory, Row3};
 use ds_design::{Netlist, Vectors};
 use ds_outside::{Buffered, Pen, Sink, WriteFault};
 use ds_slices::{Slices, begin_turn, put_turn_line, set_state, set_words};
 use std::alloc::Global;
 
-// Shorter windows go turn by turn: to look for feedback takes as long as some hundred turns.
+// A run begins to look for feedback in a window of so many turns: to look takes as long as some
+// hundred turns.
 const LEAST: usize = 1_024;
 
 // So many vectors are looked at before feedback is looked for, and the others behind that.
@@ -30,28 +32,31 @@ pub struct Sliced {
 }
 
 // Room for a window that begins with these registers, where it is long, no register feeds back and
-// no value is unknown.
+// no value is unknown. It is taken out of the run, which takes it back behind the window.
 pub(crate) fn words_for(
     alloc: Global,
-    netlist: &Netlist,
+    run: &mut ClockedRun<'_>,
     start: &Row3,
     vectors: &Vectors,
 ) -> Result<Option<Sliced>, OutOfMemory>
-    requires start { length start.now ≡ length netlist.now.registers }
+    requires start { length start.now ≡ length run.old.registers }
     ensures begun { IfOk result (λ found. IfSome found
-        (IsKnownWindow netlist.now start.now vectors.now.rows)) }
+        (IsKnownWindow run.old start.now vectors.now.rows)) }
+    ensures same { run.new ≡ run.old }
 {
     let turns = vectors.count();
-    if turns < LEAST || !start.all_known() || !are_known(vectors, FIRST) {
+    let is_long = run.asked || turns >= LEAST;
+    if !is_long || !start.all_known() || !are_known(vectors, turns.min(FIRST)) {
         return Ok(None);
     }
-    let Some(slices) = Slices::of(alloc, netlist)? else {
-        return Ok(None);
-    };
-    if !are_known(vectors, turns) {
+    run.ask(alloc)?;
+    if run.slices.is_none() || !are_known(vectors, turns) {
         return Ok(None);
     }
-    Ok(Some(begun(alloc, start, slices)?))
+    match run.slices.take() {
+        Some(slices) => Ok(Some(begun(alloc, start, slices)?)),
+        None => Ok(None),
+    }
 }
 
 // Begun with these registers.
@@ -88,8 +93,10 @@ pub(crate) fn write_words<O: Sink>(
     requires width { vectors.now.width ≡ length (columns netlist.now) }
     requires begun { IsKnownWindow netlist.now words.old.state vectors.now.rows words.old }
     requires few { first + length vectors.now.rows < 2 ^ 64 }
-    ensures { WritesLines result netlist.now first words.old.state vectors.now.rows words.new.state
-        (O.written out.old) (O.written out.new) (O.faults out.old) (O.faults out.new) }
+    ensures written { WritesLines result netlist.now first words.old.state vectors.now.rows
+        words.new.state (O.written out.old) (O.written out.new) (O.faults out.old)
+        (O.faults out.new) }
+    ensures ready { AreReady netlist.now words.new.slices }
 {
     let mut pen = Buffered::new(out);
     put_words(netlist, first, vectors, words, &mut pen);
@@ -107,8 +114,9 @@ fn put_words<P: Pen>(
     requires width { vectors.now.width ≡ length (columns netlist.now) }
     requires begun { IsKnownWindow netlist.now words.old.state vectors.now.rows words.old }
     requires few { first + length vectors.now.rows < 2 ^ 64 }
-    ensures { PutsLines (P.writing pen.old) (P.writing pen.new) netlist.now first
+    ensures lines { PutsLines (P.writing pen.old) (P.writing pen.new) netlist.now first
         words.old.state vectors.now.rows words.new.state }
+    ensures ready { AreReady netlist.now words.new.slices }
 {
     let mut from = 0;
     'writing: while from < vectors.count() {

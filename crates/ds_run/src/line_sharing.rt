@@ -5,8 +5,8 @@ use crate::WorkerSettings;
 use crate::stored_turns::StoredTurns;
 use std::thread::Threads;
 
-// The least bytes of a window whose lines several workers make: one makes them in some 300
-// microseconds, and a thread starts in some 40.
+// The least bytes of a window whose lines several workers make: fewer are made sooner than a thread
+// starts and ends.
 const SHARED: usize = 131_072;
 
 // The bytes of a part, about.

@@ -15,7 +15,8 @@
 //! that of `ds_replay`; all memory is taken before its first byte is written. `read_timing` reads
 //! the delays of a graph's arcs (`specs/PeriodStage`), `read_bare_graph` a graph that stands alone
 //! (`specs/RateStage`), and `own_graph` makes the graph of the required orders, `wanted_graph` that
-//! which is written (`specs/GraphStage`). `specs/TimesStage` has the text of a timed run.
+//! which is written (`specs/GraphStage`). `put_time` writes a line of a timed run
+//! (`specs/TimesStage`).
 //! `write_report` writes the report on a netlist (`specs/Report`).
 //!
 //! The lines that name faults of files, and the texts that stand in them. A line has the file, the
@@ -49,6 +50,7 @@ mod splitting;
 mod state_text;
 mod stop;
 mod stream;
+mod times_text;
 
 pub use bare_graph::read_bare_graph;
 pub use delays::{own_graph, read_timing};
@@ -67,3 +69,4 @@ pub use splitting::Splitting;
 pub use state_text::write_state;
 pub use stop::Stop;
 pub use stream::{WINDOW, most_vectors, read_window};
+pub use times_text::put_time;

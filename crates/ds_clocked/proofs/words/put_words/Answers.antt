@@ -44,8 +44,11 @@ writing-preserved g c =
           c.set_words.ensures.turns (omega arith) (omega arith) (omega arith) c.put_slice.ensures.lines state_is;
     }
 
-pub returns : goal.returns
-returns g c =
+pub returns-clause-lines : goal.returns-clause-lines
+returns-clause-lines g c =
     let all : c.writing.from ≡ length c.args.vectors.now.rows = omega arith in
     subst (λ (vs : List Row). PutsLines (g.P.Pen.writing c.args.pen.now) (g.P.Pen.writing c.writing.pen) c.args.netlist.now c.args.first c.args.words.now.state vs c.writing.words.state)
     (take_all c.writing.from c.args.vectors.now.rows (omega arith)) c.writing.invariant.written
+
+pub returns-clause-ready : goal.returns-clause-ready
+returns-clause-ready g c = c.writing.invariant.begun.ready

@@ -1,6 +1,6 @@
 use Rattle.std.proofs.Common.{◌∙◌}
 use Rattle.ds_outside.proofs.Pens.{puts_on, with_put}
-use Rattle.ds_app.proofs.times_text.put_time.Goals as goal
+use Rattle.ds_stage.proofs.times_text.put_time.Goals as goal
 
 pub returns : goal.returns
 returns g c =

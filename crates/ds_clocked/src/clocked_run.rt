@@ -1,0 +1,53 @@
+//! A netlist that is clocked window by window, and what is kept of it from window to window.
+ghost use Rattle.std.specs.Prelude.{◌≡◌};
+
+use ds_base::OutOfMemory;
+use ds_design::Netlist;
+use ds_slices::Slices;
+use std::alloc::Global;
+use std::marker::Model;
+
+/// A netlist that is clocked window by window. Whether a register feeds back is looked for once, in
+/// the first window that is long enough for it; where none does, the room for words is kept. A
+/// caller sees the circuit of the netlist.
+#[derive(Drop)]
+pub struct ClockedRun<'n> {
+    pub(crate) netlist: &'n Netlist,
+    pub(crate) asked: bool,
+    pub(crate) slices: Option<Slices>,
+}
+
+impl<'n> Model for ClockedRun<'n> {
+    ghost use Rattle.ds_design.specs.Circuit.{Circuit};
+    ghost use Rattle.ds_clocked.specs.Words.{AreKept};
+
+    ghost Value = { Circuit };
+
+    ghost view = { λ r. r.netlist.now };
+
+    ghost invariant = { λ r. AreKept r.netlist.now r.slices };
+}
+
+impl<'n> ClockedRun<'n> {
+    /// Begins with nothing kept.
+    pub fn new(netlist: &'n Netlist) -> ClockedRun<'n>
+        ensures { result ≡ netlist.now }
+    {
+        ClockedRun {
+            netlist,
+            asked: false,
+            slices: None,
+        }
+    }
+
+    // Looks for feedback, the first time, and makes the room for words where there is none.
+    pub(crate) fn ask(&mut self, alloc: Global) -> Result<(), OutOfMemory>
+        ensures { self.new ≡ self.old }
+    {
+        if !self.asked {
+            self.slices = Slices::of(alloc, self.netlist)?;
+            self.asked = true;
+        }
+        Ok(())
+    }
+}
