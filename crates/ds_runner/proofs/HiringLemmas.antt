@@ -15,7 +15,7 @@ use Rattle.ds_rule.proofs.GetElemLemmas.{at_end, replicate-default}
 use Rattle.ds_base.specs.Scratch.{Remembers}
 use Rattle.ds_fabric.specs.Base.{Base}
 use Rattle.ds_fabric.specs.Showing.{Showing, Belongs, IsDealt, IsLeft}
-use Rattle.ds_runner.specs.TurnstileRule.{Alone, HasNone, base, fabric_of, has_out, joined, keeps_parts, one_part, run_of}
+use Rattle.ds_runner.specs.TurnstileRule.{Alone, HasNone, base, fabric_of, has_out, joined, keeps_permits, one_permit, run_of}
 use Rattle.ds_runner.specs.Shown.{AreAlone, IsTurnOf, IsTurnstileClosed, IsTurnstileOpened, Stile, Turned}
 use Rattle.ds_runner.specs.declared.turn_view.TurnView.{TurnView}
 use Rattle.ds_runner.specs.Work.{AreSingle, HasPassOfEach, HasFrom, IsWorkerPool, IsLent, IsUnfired, IsWithin, IsWorker, made_of}
@@ -85,12 +85,12 @@ pub closed_single : (b : Base) (s : Stile) (made : ℕ) (ps : List Showing) → 
 closed_single b s made ps fits closed l p there =
     subst (λ (z : TableId). Alone z b.run l p) fits.fabric_is (subst (λ (r : Run). Alone (fabric_of s.given) r l p) fits.run_is (closed.each l p there))
 
--- a turn that gives a part away has out what it had, and the new one has nothing out
-pub keeps_none : (v w : TurnView) → w ≡ keeps_parts v → HasNone v → HasNone w
+-- a turn that gives a permit away has out what it had, and the new one has nothing out
+pub keeps_none : (v w : TurnView) → w ≡ keeps_permits v → HasNone v → HasNone w
 keeps_none v w is none l = ap (λ (x : TurnView). has_out x l) is ∙ none l
 
-pub part_none : (v w : TurnView) → w ≡ one_part v → HasNone w
-part_none v w is l = ap (λ (x : TurnView). has_out x l) is ∙ no_more (length v.out) l
+pub permit_none : (v w : TurnView) → w ≡ one_permit v → HasNone w
+permit_none v w is l = ap (λ (x : TurnView). has_out x l) is ∙ no_more (length v.out) l
 
 pub joined_none : (v w x : TurnView) → x ≡ joined v w → HasNone v → HasNone x
 joined_none v w x is none l = ap (λ (y : TurnView). has_out y l) is ∙ none l
@@ -163,37 +163,37 @@ all_workers b s n (w ∷ ws) all =
     All-cons (IsWorker b s) w ws (All-head (IsWithin b s n) w ws all).worker
     (all_workers b s n ws (All-tail (IsWithin b s n) w ws all))
 
--- so many of the workers are hired, for whom there is room, and the turn has the other parts
+-- so many of the workers are hired, for whom there is room, and the turn has the other permits
 pub record IsHiring (b : Base) (s : Stile) (number count room : ℕ) (ws : List Worker) (t : Turned) : Type 0 where
   pub are : All (IsWithin b s 0) ws
   pub many : length ws ≡ number
   pub belongs : IsTurnOf s t
   pub none : HasNone t.view
-  pub parts : t.view.parts + number ≡ count + 1
+  pub permits : t.view.permits + number ≡ count + 1
   pub fits : count ≤ room
   pub made : t.view.made ≡ 0
 
 -- one worker more, whose turn was split off
 pub one_more_hired : (b : Base) (s : Stile) (number count : ℕ) {room room' : ℕ} (ws vs : List Worker) (w : Worker) (t u : Turned)
     → IsHiring b s number count room ws t → number < count → vs ≡ ws ++ w ∷ [] → room' ≡ room → IsTurnOf s u
-    → u.view ≡ keeps_parts t.view → IsTurnOf s w.turn → w.turn.view ≡ one_part t.view → Remembers b.memory w.scratch
+    → u.view ≡ keeps_permits t.view → IsTurnOf s w.turn → w.turn.view ≡ one_permit t.view → Remembers b.memory w.scratch
     → IsHiring b s (number + 1) count room' vs u
 one_more_hired b s number count ws vs w t u hiring near is same fits left own new remembers =
     let one : IsWithin b s 0 w = record {
       worker = record {
         belongs = own;
-        none = part_none t.view w.turn.view new;
-        one = ap (λ (v : TurnView). v.parts) new;
+        none = permit_none t.view w.turn.view new;
+        one = ap (λ (v : TurnView). v.permits) new;
         remembers = remembers;
       };
       few = le_of_eq (ap (λ (v : TurnView). v.made) new);
     } in
-    let parts : u.view.parts ≡ t.view.parts - 1 = ap (λ (v : TurnView). v.parts) left in record {
+    let permits : u.view.permits ≡ t.view.permits - 1 = ap (λ (v : TurnView). v.permits) left in record {
       are = all_more (IsWithin b s 0) ws vs w is hiring.are one;
       many = omega (arith, one_longer ws vs w is, hiring.many);
       belongs = fits;
       none = keeps_none t.view u.view left hiring.none;
-      parts = omega (arith, parts, hiring.parts, near);
+      permits = omega (arith, permits, hiring.permits, near);
       fits = omega (arith, same, hiring.fits);
       made = ap (λ (v : TurnView). v.made) left ∙ hiring.made;
     }
@@ -201,7 +201,7 @@ one_more_hired b s number count ws vs w t u hiring near is same fits left own ne
 -- what was hired is a pool: the turnstile was opened over the passes, and each worker has a turn
 pub is_worker_pool : (b : Base) (k : WorkerPool) (ps : List Showing) (t : Turned) (count : ℕ) → AreSingle b ps → length ps ≡ b.run.nodes
     → 0 < b.run.nodes → base 0 ps ≡ 0 → IsTurnstileOpened ps (count + 1) k.scheduler.stile t
-    → IsTurnOf k.scheduler.stile k.turn × HasNone k.turn.view × (k.turn.view.parts ≡ 1) × (k.turn.view.made ≡ 0)
+    → IsTurnOf k.scheduler.stile k.turn × HasNone k.turn.view × (k.turn.view.permits ≡ 1) × (k.turn.view.made ≡ 0)
     → All (IsWithin b k.scheduler.stile 0) k.workers.items × (length k.workers.items ≡ count) → 0 < count
     → k.passes.items ≡ [] → b.run.nodes ≤ vec_capacity k.passes → IsWorkerPool b k
 is_worker_pool b k ps t count all long some_nodes unfired opened turn hired some_count empty room =
@@ -212,7 +212,7 @@ is_worker_pool b k ps t count all long some_nodes unfired opened turn hired some
       none = turn.1;
       made = turn.3;
       unfired = ap (base 0) opened.given_is ∙ unfired;
-      parts = omega (arith, turn.2, hired.1, opened.turns_is);
+      permits = omega (arith, turn.2, hired.1, opened.turns_is);
       are = all_workers b k.scheduler.stile 0 k.workers.items hired.0;
       some_workers = omega (arith, hired.1, some_count);
       empty = empty;

@@ -15,13 +15,13 @@ use Rattle.ds_runner.specs.declared.turn_view.TurnView.{TurnView}
 use Rattle.ds_runner.specs.declared.plays.Key.{Key}
 use Rattle.std.proofs.Common.{Some}
 use Rattle.ds_fabric.specs.Showing.{Showing}
-use Rattle.ds_runner.specs.TurnstileRule.{Slot, Alone, fabric, run, has_out, taken, nodes_of_key, Turning, TurnSeat, base, sum_below, observed_parts, keeps_parts, one_part, joined, spent_turn}
-use Rattle.ds_runner.proofs.TurnstileRuleLemmas.{St, sum_changed, sum_same, unmoved, part, two_parts, word_home}
+use Rattle.ds_runner.specs.TurnstileRule.{Slot, Alone, fabric, run, has_out, taken, nodes_of_key, Turning, TurnSeat, base, sum_below, observed_permits, keeps_permits, one_permit, joined, spent_turn}
+use Rattle.ds_runner.proofs.TurnstileRuleLemmas.{St, sum_changed, sum_same, unmoved, permits_low, two_permits, word_home}
 use Rattle.ds_runner.proofs.TurnstileAtStart.{fires_of, fires-at, sum-fires}
 
-pub splits : (k : Key) (id : ℕ) (v : TurnView) → v.live ≡ true → 1 < v.parts → Splits (Turning k) id v (keeps_parts v) (one_part v)
-splits k id v live some-parts s o me =
-    let left : TurnView = keeps_parts v in let right : TurnView = one_part v in let vs : List TurnView = set s.views id left in let long = o.long id v me live in
+pub splits : (k : Key) (id : ℕ) (v : TurnView) → v.live ≡ true → 1 < v.permits → Splits (Turning k) id v (keeps_permits v) (one_permit v)
+splits k id v live some-permits s o me =
+    let left : TurnView = keeps_permits v in let right : TurnView = one_permit v in let vs : List TurnView = set s.views id left in let long = o.long id v me live in
     let none-out : (j : ℕ) → has_out right j ≡ false = λ j. replicate-default (length v.out) j false in record {
       fires = o.fires;
       owner = o.owner;
@@ -47,10 +47,10 @@ splits k id v live some-parts s o me =
           (at_end vs right u i at);
       long = λ i u at lives. ⊎_elim
           (λ old. ⊎_elim
-          (λ t. (ap (λ (x : TurnView). length x.out) (sym t.1) ∙ long.0, ap (λ (x : TurnView). length x.taken) (sym t.1) ∙ long.1, omega (arith, ap (λ (x : TurnView). x.parts) t.1), ap (λ (x : TurnView). x.fabric) (sym t.1) ∙ long.3, ap (λ (x : TurnView). x.run) (sym t.1) ∙ long.4, ap (λ (x : TurnView). x.turns) (sym t.1) ∙ long.5))
+          (λ t. (ap (λ (x : TurnView). length x.out) (sym t.1) ∙ long.0, ap (λ (x : TurnView). length x.taken) (sym t.1) ∙ long.1, omega (arith, ap (λ (x : TurnView). x.permits) t.1), ap (λ (x : TurnView). x.fabric) (sym t.1) ∙ long.3, ap (λ (x : TurnView). x.run) (sym t.1) ∙ long.4, ap (λ (x : TurnView). x.turns) (sym t.1) ∙ long.5))
           (λ t. o.long i u t.1 lives)
           (at_set s.views id i left u old))
-          (λ t. (ap (λ (x : TurnView). length x.out) (sym t.1) ∙ (length-replicate (length v.out) false ∙ long.0), ap (λ (x : TurnView). length x.taken) (sym t.1) ∙ (length-replicate (length v.taken) 0 ∙ long.1), omega (arith, ap (λ (x : TurnView). x.parts) t.1), ap (λ (x : TurnView). x.fabric) (sym t.1) ∙ long.3, ap (λ (x : TurnView). x.run) (sym t.1) ∙ long.4, ap (λ (x : TurnView). x.turns) (sym t.1) ∙ long.5))
+          (λ t. (ap (λ (x : TurnView). length x.out) (sym t.1) ∙ (length-replicate (length v.out) false ∙ long.0), ap (λ (x : TurnView). length x.taken) (sym t.1) ∙ (length-replicate (length v.taken) 0 ∙ long.1), omega (arith, ap (λ (x : TurnView). x.permits) t.1), ap (λ (x : TurnView). x.fabric) (sym t.1) ∙ long.3, ap (λ (x : TurnView). x.run) (sym t.1) ∙ long.4, ap (λ (x : TurnView). x.turns) (sym t.1) ∙ long.5))
           (at_end vs right u i at);
       few = o.few;
       spent_made = λ i u at dead. ⊎_elim
@@ -60,7 +60,7 @@ splits k id v live some-parts s o me =
           (at_set s.views id i left u old))
           (λ t. absurd (false≢true (sym (ap (λ (x : TurnView). x.live) t.1 ∙ dead))))
           (at_end vs right u i at);
-      whole = omega (arith, o.whole, sum_changed (λ (x : TurnView). x.parts) s.views id v left me, sum_by-append (λ (x : TurnView). x.parts) vs (right ∷ []));
+      whole = omega (arith, o.whole, sum_changed (λ (x : TurnView). x.permits) s.views id v left me, sum_by-append (λ (x : TurnView). x.permits) vs (right ∷ []));
       total = omega (arith, o.total, sum_changed (λ (x : TurnView). x.made) s.views id v left me, sum_by-append (λ (x : TurnView). x.made) vs (right ∷ []));
     }
 
@@ -99,7 +99,7 @@ joins k id other v w live live' none-out s o me apart him =
           (λ r. (
             ap (λ (y : TurnView). length y.out) (sym r.1) ∙ long.0,
             ap (λ (y : TurnView). length y.taken) (sym r.1) ∙ long.1,
-            omega (arith, long.2, ap (λ (y : TurnView). y.parts) r.1),
+            omega (arith, long.2, ap (λ (y : TurnView). y.permits) r.1),
             ap (λ (y : TurnView). y.fabric) (sym r.1) ∙ long.3,
             ap (λ (y : TurnView). y.run) (sym r.1) ∙ long.4,
             ap (λ (y : TurnView). y.turns) (sym r.1) ∙ long.5,
@@ -115,23 +115,23 @@ joins k id other v w live live' none-out s o me apart him =
           (λ r. o.spent_made i x r.1 dead)
           (at_set s.views id i u x t.1))
           (at_set vs other i spent_turn x at);
-      whole = omega (arith, o.whole, sum_changed (λ (x : TurnView). x.parts) s.views id v u me, sum_changed (λ (x : TurnView). x.parts) vs other w spent_turn him);
+      whole = omega (arith, o.whole, sum_changed (λ (x : TurnView). x.permits) s.views id v u me, sum_changed (λ (x : TurnView). x.permits) vs other w spent_turn him);
       total = omega (arith, o.total, sum_changed (λ (x : TurnView). x.made) s.views id v u me, sum_changed (λ (x : TurnView). x.made) vs other w spent_turn him);
     }
 
--- a load tells how many parts there may be
-pub observes_parts : (k : Key) (n id : ℕ) (m : TurnSeat)
-    → Allows (Turning k) n id m 0 (λ y. y) (observed_parts (step n 0 0 0 none) m)
-observes_parts k n id m s o wide me _ = (
+-- a load tells how many permits there may be
+pub observes_permits : (k : Key) (n id : ℕ) (m : TurnSeat)
+    → Allows (Turning k) n id m 0 (λ y. y) (observed_permits (step n 0 0 0 none) m)
+observes_permits k n id m s o wide me _ = (
   m.0,
   keeps,
   tt,
   unmoved k s o 0 id m.0 m.0 me refl refl refl refl refl refl refl refl refl,
-  (refl, omega (arith, part s.views id m.0 me, o.whole, o.few)),
+  (refl, omega (arith, permits_low s.views id m.0 me, o.whole, o.few)),
 )
 
--- the turn that has all parts and no node out finds the pass of every node in its slot
-pub every_pass_home : (k : Key) (s : St) (o : Turning k s) (id : ℕ) (v : TurnView) → get_elem? s.views id ≡ some v → v.live ≡ true → v.parts ≡ k.turns → ((j : ℕ) → has_out v j ≡ false)
+-- the turn that has all permits and no node out finds the pass of every node in its slot
+pub every_pass_home : (k : Key) (s : St) (o : Turning k s) (id : ℕ) (v : TurnView) → get_elem? s.views id ≡ some v → v.live ≡ true → v.permits ≡ k.turns → ((j : ℕ) → has_out v j ≡ false)
     → (xs : List Slot) → length s.homes ≡ length xs → ((j : ℕ) (y : Slot) → get_elem? s.homes j ≡ some (some y) → get_elem? xs j ≡ some y)
     → (l : ℕ) → l < nodes_of_key k → (p : Showing) × (get_elem? xs l ≡ some (Some p)) × Alone (fabric k) (run k) l p × (seen p.view l ≡ o.fires l)
 every_pass_home k s o id v me live all none-out xs long stay l near =
@@ -150,14 +150,14 @@ only_made [] id v at zeros = absurd (some-ne-none v (sym at))
 only_made (x ∷ vs) zero v at zeros = omega (arith, sum_by-cons made-of x vs, ap made-of (some-injective x v at), none_made vs (λ j w there. zeros (suc j) w (λ e. omega (arith, e)) there))
 only_made (x ∷ vs) (suc id) v at zeros = omega (arith, sum_by-cons made-of x vs, zeros 0 x (λ e. omega (arith, e)) refl, only_made vs id v at (λ j w n there. zeros (suc j) w (λ e. n (omega (arith, e))) there))
 
--- beside a turn with all parts no other has made a firing
-made_zero : (k : Key) (s : St) (o : Turning k s) (id : ℕ) (v : TurnView) → get_elem? s.views id ≡ some v → v.parts ≡ k.turns
+-- beside a turn with all permits no other has made a firing
+made_zero : (k : Key) (s : St) (o : Turning k s) (id : ℕ) (v : TurnView) → get_elem? s.views id ≡ some v → v.permits ≡ k.turns
     → (j : ℕ) (w : TurnView) → j ≢ id → get_elem? s.views j ≡ some w → (b : Bool) → w.live ≡ b → w.made ≡ 0
-made_zero k s o id v me all j w n at true e = absurd (omega (arith, two_parts s.views id j v w (λ t. n (sym t)) me at, o.whole, (o.long j w at e).2))
+made_zero k s o id v me all j w n at true e = absurd (omega (arith, two_permits s.views id j v w (λ t. n (sym t)) me at, o.whole, (o.long j w at e).2))
 made_zero k s o id v me all j w n at false e = o.spent_made j w at e
 
 -- passes with the firings that the rule tells have so many more than at the start
-pub made_more : (k : Key) (s : St) (o : Turning k s) (id : ℕ) (v : TurnView) → get_elem? s.views id ≡ some v → v.parts ≡ k.turns
+pub made_more : (k : Key) (s : St) (o : Turning k s) (id : ℕ) (v : TurnView) → get_elem? s.views id ≡ some v → v.permits ≡ k.turns
     → (ps : List Showing) → length ps ≡ nodes_of_key k → ((l : ℕ) (p : Showing) → get_elem? ps l ≡ some p → seen p.view l ≡ o.fires l)
     → base 0 ps ≡ base 0 k.passes.value.items + v.made
 made_more k s o id v me all ps long each =

@@ -1,4 +1,4 @@
--- A turnstile at the start: every pass is at home, and the first turn has all parts.
+-- A turnstile at the start: every pass is at home, and the first turn has all permits.
 use Rattle.std.proofs.Common.{◌≡◌, ℕ, zero, suc, ◌+◌, ◌<◌, Bool, false, List, [], ◌∷◌, length, get_or, map, replicate, Some, sym, refl, ap, ◌∙◌, inl, arith}
 use Rattle.std.proofs.lemmas.Bool.{false≢true}
 use Rattle.std.proofs.lemmas.List.{length-replicate, length-map}
@@ -51,7 +51,7 @@ turning_starts k some-turns few each = let ps : List Showing = k.passes.value.it
       long = λ id u at lives. let t = only_item v u id at in (
         ap (λ (x : TurnView). length x.out) (sym t.1) ∙ length-replicate (nodes_of_key k) false,
         ap (λ (x : TurnView). length x.taken) (sym t.1) ∙ length-replicate (nodes_of_key k) 0,
-        omega (arith, ap (λ (x : TurnView). x.parts) t.1),
+        omega (arith, ap (λ (x : TurnView). x.permits) t.1),
         ap (λ (x : TurnView). x.fabric) (sym t.1),
         ap (λ (x : TurnView). x.run) (sym t.1),
         ap (λ (x : TurnView). x.turns) (sym t.1),

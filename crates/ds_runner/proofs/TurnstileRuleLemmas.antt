@@ -40,9 +40,9 @@ sum_below_changed f g (suc n) l h same = dite (ℕ_discrete l n)
     (λ e. omega (arith, sum_below_changed f g n l (omega arith) same, same n (λ t. e (sym t))))
 
 -- a step of the seat id that changes neither words nor homes, nor what the turn has
-pub unmoved : (k : Key) (s : St) (o : Turning k s) (i id : ℕ) (v w : TurnView) → get_elem? s.views id ≡ some v → w.live ≡ v.live → w.parts ≡ v.parts → w.turns ≡ v.turns → w.out ≡ v.out → w.taken ≡ v.taken → w.busy ≡ v.busy → w.made ≡ v.made → w.fabric ≡ v.fabric → w.run ≡ v.run
+pub unmoved : (k : Key) (s : St) (o : Turning k s) (i id : ℕ) (v w : TurnView) → get_elem? s.views id ≡ some v → w.live ≡ v.live → w.permits ≡ v.permits → w.turns ≡ v.turns → w.out ≡ v.out → w.taken ≡ v.taken → w.busy ≡ v.busy → w.made ≡ v.made → w.fabric ≡ v.fabric → w.run ≡ v.run
     → Turning k (wheel (set s.words i (get_or s.words i 0)) s.homes (set s.views id w))
-unmoved k s o i id v w me live parts turns out taken-is busy made fab runs = subst (λ (ws : List ℕ). Turning k (wheel ws s.homes (set s.views id w))) (sym (set-get_or s.words i 0)) (record {
+unmoved k s o i id v w me live permits turns out taken-is busy made fab runs = subst (λ (ws : List ℕ). Turning k (wheel ws s.homes (set s.views id w))) (sym (set-get_or s.words i 0)) (record {
   fires = o.fires;
   owner = o.owner;
   wide = o.wide;
@@ -65,7 +65,7 @@ unmoved k s o i id v w me live parts turns out taken-is busy made fab runs = sub
       (at_set s.views id i w u at);
   long = λ i u at lives. ⊎_elim
       (λ t. let r = o.long id v me (sym live ∙ (ap (λ (x : TurnView). x.live) t.1 ∙ lives)) in
-      (ap (λ (x : TurnView). length x.out) (sym t.1) ∙ (ap length out ∙ r.0), ap (λ (x : TurnView). length x.taken) (sym t.1) ∙ (ap length taken-is ∙ r.1), omega (arith, r.2, parts, ap (λ (x : TurnView). x.parts) t.1), ap (λ (x : TurnView). x.fabric) (sym t.1) ∙ (fab ∙ r.3), ap (λ (x : TurnView). x.run) (sym t.1) ∙ (runs ∙ r.4), ap (λ (x : TurnView). x.turns) (sym t.1) ∙ (turns ∙ r.5)))
+      (ap (λ (x : TurnView). length x.out) (sym t.1) ∙ (ap length out ∙ r.0), ap (λ (x : TurnView). length x.taken) (sym t.1) ∙ (ap length taken-is ∙ r.1), omega (arith, r.2, permits, ap (λ (x : TurnView). x.permits) t.1), ap (λ (x : TurnView). x.fabric) (sym t.1) ∙ (fab ∙ r.3), ap (λ (x : TurnView). x.run) (sym t.1) ∙ (runs ∙ r.4), ap (λ (x : TurnView). x.turns) (sym t.1) ∙ (turns ∙ r.5)))
       (λ t. o.long i u t.1 lives)
       (at_set s.views id i w u at);
   few = o.few;
@@ -73,12 +73,12 @@ unmoved k s o i id v w me live parts turns out taken-is busy made fab runs = sub
       (λ t. ap (λ (x : TurnView). x.made) (sym t.1) ∙ (made ∙ o.spent_made id v me (sym live ∙ (ap (λ (x : TurnView). x.live) t.1 ∙ dead))))
       (λ t. o.spent_made i u t.1 dead)
       (at_set s.views id i w u at);
-  whole = omega (arith, o.whole, sum_changed (λ (x : TurnView). x.parts) s.views id v w me, parts);
+  whole = omega (arith, o.whole, sum_changed (λ (x : TurnView). x.permits) s.views id v w me, permits);
   total = omega (arith, o.total, sum_changed (λ (x : TurnView). x.made) s.views id v w me, made);
 })
 
 -- the rule after a change of the word, the home and the turn of node l alone
-changed : (k : Key) (s : St) (o : Turning k s) (id l bit : ℕ) (v w : TurnView) (h : mathlib.Core.Option.Option Slot) (fires owner : ℕ → ℕ) → get_elem? s.views id ≡ some v → v.live ≡ true → w.live ≡ true → l < nodes_of_key k → w.parts ≡ v.parts → w.turns ≡ v.turns → w.fabric ≡ v.fabric → w.run ≡ v.run
+changed : (k : Key) (s : St) (o : Turning k s) (id l bit : ℕ) (v w : TurnView) (h : mathlib.Core.Option.Option Slot) (fires owner : ℕ → ℕ) → get_elem? s.views id ≡ some v → v.live ≡ true → w.live ≡ true → l < nodes_of_key k → w.permits ≡ v.permits → w.turns ≡ v.turns → w.fabric ≡ v.fabric → w.run ≡ v.run
     → length w.out ≡ nodes_of_key k → length w.taken ≡ nodes_of_key k
     → ((j : ℕ) → j ≢ l → (fires j ≡ o.fires j) × (owner j ≡ o.owner j) × (has_out w j ≡ has_out v j) × (taken w j ≡ taken v j) × (w.busy ≢ j + 1 → v.busy ≢ j + 1))
     → (bit ≡ 0) ⊎ (bit ≡ 1)
@@ -87,7 +87,7 @@ changed : (k : Key) (s : St) (o : Turning k s) (id l bit : ℕ) (v w : TurnView)
     → ((i : ℕ) (u : TurnView) → i ≢ id → get_elem? s.views i ≡ some u → u.live ≡ true → has_out u l ≡ true → ⊥)
     → sum_below fires (nodes_of_key k) + v.made ≡ sum_below o.fires (nodes_of_key k) + w.made
     → Turning k (wheel (set s.words l bit) (set s.homes l h) (set s.views id w))
-changed k s o id l bit v w h fires owner me live live' near parts turns fab runs out-long taken-long else-same bits home away nobody made =
+changed k s o id l bit v w h fires owner me live live' near permits turns fab runs out-long taken-long else-same bits home away nobody made =
     let here : get_or (set s.words l bit) l 0 ≡ bit = get_or-set_same s.words l bit 0 (omega (arith, o.wide)) in
     let other : (j : ℕ) → j ≢ l → get_or (set s.words l bit) j 0 ≡ get_or s.words j 0 = λ j n. get_or-set_other s.words l j bit 0 n in
     let home-here : get_elem? (set s.homes l h) l ≡ some h = set_here s.homes l h (omega (arith, o.slots)) in
@@ -130,7 +130,7 @@ changed k s o id l bit v w h fires owner me live live' near parts turns fab runs
           (λ t. let r = o.outs i u j t.1 lives has in (r.0, other j n ∙ r.1, q.1 ∙ r.2, r.3 ∙ sym q.0))
           (at_set s.views id i w u at));
       long = λ i u at lives. ⊎_elim
-          (λ t. let r = o.long id v me live in (ap (λ (x : TurnView). length x.out) (sym t.1) ∙ out-long, ap (λ (x : TurnView). length x.taken) (sym t.1) ∙ taken-long, omega (arith, r.2, parts, ap (λ (x : TurnView). x.parts) t.1), ap (λ (x : TurnView). x.fabric) (sym t.1) ∙ (fab ∙ r.3), ap (λ (x : TurnView). x.run) (sym t.1) ∙ (runs ∙ r.4), ap (λ (x : TurnView). x.turns) (sym t.1) ∙ (turns ∙ r.5)))
+          (λ t. let r = o.long id v me live in (ap (λ (x : TurnView). length x.out) (sym t.1) ∙ out-long, ap (λ (x : TurnView). length x.taken) (sym t.1) ∙ taken-long, omega (arith, r.2, permits, ap (λ (x : TurnView). x.permits) t.1), ap (λ (x : TurnView). x.fabric) (sym t.1) ∙ (fab ∙ r.3), ap (λ (x : TurnView). x.run) (sym t.1) ∙ (runs ∙ r.4), ap (λ (x : TurnView). x.turns) (sym t.1) ∙ (turns ∙ r.5)))
           (λ t. o.long i u t.1 lives)
           (at_set s.views id i w u at);
       few = o.few;
@@ -138,25 +138,25 @@ changed k s o id l bit v w h fires owner me live live' near parts turns fab runs
           (λ t. absurd (false≢true (sym (ap (λ (x : TurnView). x.live) t.1 ∙ dead) ∙ live')))
           (λ t. o.spent_made i u t.1 dead)
           (at_set s.views id i w u at);
-      whole = omega (arith, o.whole, sum_changed (λ (x : TurnView). x.parts) s.views id v w me, parts);
+      whole = omega (arith, o.whole, sum_changed (λ (x : TurnView). x.permits) s.views id v w me, permits);
       total = omega (arith, o.total, sum_changed (λ (x : TurnView). x.made) s.views id v w me, made);
     }
 
--- no turn has more parts than all
-pub part : (vs : List TurnView) (j : ℕ) (w : TurnView) → get_elem? vs j ≡ some w → w.parts ≤ sum_by (λ (x : TurnView). x.parts) vs
-part vs j w q = omega (arith, sum_changed (λ (x : TurnView). x.parts) vs j w spent_turn q)
+-- no turn has more permits than all
+pub permits_low : (vs : List TurnView) (j : ℕ) (w : TurnView) → get_elem? vs j ≡ some w → w.permits ≤ sum_by (λ (x : TurnView). x.permits) vs
+permits_low vs j w q = omega (arith, sum_changed (λ (x : TurnView). x.permits) vs j w spent_turn q)
 
--- two turns have no more parts than all
-pub two_parts : (vs : List TurnView) (i j : ℕ) (v w : TurnView) → i ≢ j → get_elem? vs i ≡ some v → get_elem? vs j ≡ some w → v.parts + w.parts ≤ sum_by (λ (x : TurnView). x.parts) vs
-two_parts vs i j v w n p q = omega (arith, sum_changed (λ (x : TurnView). x.parts) vs i v spent_turn p, part (set vs i spent_turn) j w (set_else vs i j spent_turn (λ e. n (sym e)) ∙ q))
+-- two turns have no more permits than all
+pub two_permits : (vs : List TurnView) (i j : ℕ) (v w : TurnView) → i ≢ j → get_elem? vs i ≡ some v → get_elem? vs j ≡ some w → v.permits + w.permits ≤ sum_by (λ (x : TurnView). x.permits) vs
+two_permits vs i j v w n p q = omega (arith, sum_changed (λ (x : TurnView). x.permits) vs i v spent_turn p, permits_low (set vs i spent_turn) j w (set_else vs i j spent_turn (λ e. n (sym e)) ∙ q))
 
--- a turn with all parts finds the word of each node home that it does not have out itself
-pub word_home : (k : Key) (s : St) (o : Turning k s) (id : ℕ) (v : TurnView) → get_elem? s.views id ≡ some v → v.live ≡ true → v.parts ≡ k.turns
+-- a turn with all permits finds the word of each node home that it does not have out itself
+pub word_home : (k : Key) (s : St) (o : Turning k s) (id : ℕ) (v : TurnView) → get_elem? s.views id ≡ some v → v.live ≡ true → v.permits ≡ k.turns
     → (j : ℕ) → has_out v j ≡ false → j < nodes_of_key k → get_or s.words j 0 ≡ 0
 word_home k s o id v me live all j free h = ⊎_elim (λ e. e)
     (λ e. let a = o.away j h e in dite (ℕ_discrete (o.owner j) id)
     (λ mine. let u-is : a.0 ≡ v = same_at s.views id a.0 v (subst (λ i. get_elem? s.views i ≡ some a.0) mine a.1) me in absurd (false≢true (sym free ∙ (ap (λ (x : TurnView). has_out x j) (sym u-is) ∙ a.3))))
-    (λ far. absurd (omega (arith, two_parts s.views id (o.owner j) v a.0 (λ t. far (sym t)) me a.1, o.whole, (o.long (o.owner j) a.0 a.1 a.2).2))))
+    (λ far. absurd (omega (arith, two_permits s.views id (o.owner j) v a.0 (λ t. far (sym t)) me a.1, o.whole, (o.long (o.owner j) a.0 a.1 a.2).2))))
     (o.bits j h)
 
 -- the owners after the seat k took the node l

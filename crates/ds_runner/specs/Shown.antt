@@ -37,12 +37,12 @@ abbrev pub AreAlone : List Showing → Type 0
 AreAlone ps = (l : ℕ) (p : Showing) → get_elem? ps l ≡ some p
     → Alone (fabric_of ps) (run_of ps) l p
 
--- a turnstile of these passes, and the turn that has all parts and no node out
+-- a turnstile of these passes, and the turn that has all permits and no node out
 pub record IsTurnstileOpened (ps : List Showing) (turns : ℕ) (s : Stile) (t : Turned) : Type 0 where
   pub given_is : s.given ≡ ps
   pub turns_is : s.turns ≡ turns
   pub belongs : IsTurnOf s t
-  pub parts : t.view.parts ≡ turns
+  pub permits : t.view.permits ≡ turns
   pub none : HasNone t.view
   pub made : t.view.made ≡ 0
   pub missed : t.view.missed ≡ 0
@@ -56,7 +56,7 @@ pub record TakesPass (v w : TurnView) (l f : ℕ) : Type 0 where
   pub won : w.won ≡ v.won + 1
   pub missed : w.missed ≡ v.missed
   pub missed_node : w.missed_node ≡ v.missed_node
-  pub parts : w.parts ≡ v.parts
+  pub permits : w.permits ≡ v.permits
   pub made : w.made ≡ v.made
 
 -- one take more missed, at this node, and all else is as it was
@@ -65,7 +65,7 @@ pub record Misses (v w : TurnView) (l : ℕ) : Type 0 where
   pub missed_node : w.missed_node ≡ l
   pub won : w.won ≡ v.won
   pub same : (j : ℕ) → (has_out w j ≡ has_out v j) × (taken w j ≡ taken v j)
-  pub parts : w.parts ≡ v.parts
+  pub permits : w.permits ≡ v.permits
   pub made : w.made ≡ v.made
 
 -- the node is home with f firings, and all else is as it was
@@ -73,7 +73,7 @@ pub record GivesBack (v w : TurnView) (l f : ℕ) : Type 0 where
   pub home : has_out w l ≡ false
   pub others : (j : ℕ) → j ≢ l → (has_out w j ≡ has_out v j) × (taken w j ≡ taken v j)
   pub made : w.made ≡ v.made + (f - taken v l)
-  pub parts : w.parts ≡ v.parts
+  pub permits : w.permits ≡ v.permits
   pub won : w.won ≡ v.won
   pub missed : w.missed ≡ v.missed
   pub missed_node : w.missed_node ≡ v.missed_node
@@ -85,11 +85,11 @@ pub record IsTurnstileClosed (s : Stile) (made : ℕ) (ps : List Showing) : Type
   pub sum : base 0 ps ≡ base 0 s.given + made
 
 -- the memory of a turn, beside its view
-pub record IsTurn (id : TableId) (me : TurnSeat) (parts : ℕ) : Type 0 where
+pub record IsTurn (id : TableId) (me : TurnSeat) (permits : ℕ) : Type 0 where
   pub no_slot : me.1 ≡ []
   pub live : me.0.live ≡ true
   pub idle : me.0.busy ≡ 0
-  pub parts_is : parts ≡ me.0.parts
+  pub permits_is : permits ≡ me.0.permits
   pub out_long : length me.0.out ≡ id.words
   pub taken_long : length me.0.taken ≡ id.words
 

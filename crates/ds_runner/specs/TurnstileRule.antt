@@ -98,25 +98,25 @@ pub record Turning (k : Key) (s : State Slot TurnView) : Type 0 where
   pub outs : (id : ℕ) (v : TurnView) (l : ℕ) → get_elem? s.views id ≡ some v → v.live ≡ true
       → has_out v l ≡ true → (l < nodes_of_key k) × (slice_index s.words l ≡ 1) × (owner l ≡ id)
       × (taken v l ≡ fires l)
-  -- each turn that is live is of this many nodes, and has a part
+  -- each turn that is live is of this many nodes, and has a permit
   pub long : (id : ℕ) (v : TurnView) → get_elem? s.views id ≡ some v → v.live ≡ true
-      → (length v.out ≡ nodes_of_key k) × (length v.taken ≡ nodes_of_key k) × (0 < v.parts)
+      → (length v.out ≡ nodes_of_key k) × (length v.taken ≡ nodes_of_key k) × (0 < v.permits)
       × (v.fabric ≡ fabric k) × (v.run ≡ run k) × (v.turns ≡ k.turns)
-  -- all parts together are the turns, and what was made is what the firings grew by
+  -- all permits together are the turns, and what was made is what the firings grew by
   pub few : k.turns < 4294967296
   pub spent_made : (id : ℕ) (v : TurnView) → get_elem? s.views id ≡ some v → v.live ≡ false
       → v.made ≡ 0
-  pub whole : sum_by (λ (v : TurnView). v.parts) s.views ≡ k.turns
+  pub whole : sum_by (λ (v : TurnView). v.permits) s.views ≡ k.turns
   pub total : sum_below fires (nodes_of_key k)
       ≡ base 0 k.passes.value.items + sum_by (λ (v : TurnView). v.made) s.views
 
--- the turn that has all parts
+-- the turn that has all permits
 abbrev pub first_turn : Key → TurnView
 first_turn k = record {
   live = true;
   fabric = fabric k;
   run = run k;
-  parts = k.turns;
+  permits = k.turns;
   turns = k.turns;
   out = replicate (nodes_of_key k) false;
   taken = replicate (nodes_of_key k) 0;
@@ -156,12 +156,12 @@ after_give v l f = record v {
   made = v.made + (f - taken v l);
 }
 
--- the word was home, and the turn has the pass; or it was out, and so some other turn has a part
+-- the word was home, and the turn has the pass; or it was out, and so some other turn has a permit
 abbrev pub took : TurnPlay
 took st m r n =
     (r ≡ 0 → (p : Showing) × Alone m.0.fabric m.0.run st.word p × (st.word < length m.0.out)
     × (n ≡ (after_won_take m.0 st.word (seen p.view st.word), (st.word, Some p) ∷ m.1)))
-    × (r ≢ 0 → (n ≡ (after_miss m.0 st.word, m.1)) × (m.0.parts ≢ m.0.turns))
+    × (r ≢ 0 → (n ≡ (after_miss m.0 st.word, m.1)) × (m.0.permits ≢ m.0.turns))
 
 -- the turn has no slot in hand
 abbrev pub rested : TurnView → TurnView
@@ -171,9 +171,9 @@ rested v = record v { busy = 0 }
 abbrev pub rests_now : TurnPlay
 rests_now st m r n = n ≡ (rested m.0, [])
 
--- all parts together are few
-abbrev pub observed_parts : TurnPlay
-observed_parts st m r n = (n ≡ m) × (m.0.parts < 4294967296)
+-- all permits together are few
+abbrev pub observed_permits : TurnPlay
+observed_permits st m r n = (n ≡ m) × (m.0.permits < 4294967296)
 
 -- the empty slot of a node that is out comes to hand
 abbrev pub fetched : TurnPlay
@@ -184,17 +184,17 @@ abbrev pub gave : TurnPlay
 gave st m r n = (p : Showing) → m.1 ≡ (st.word, Some p) ∷ []
     → n ≡ (after_give m.0 st.word (seen p.view st.word), [])
 
--- one part goes to a new turn
-abbrev pub keeps_parts : TurnView → TurnView
-keeps_parts v = record v { parts = v.parts - 1 }
+-- one permit goes to a new turn
+abbrev pub keeps_permits : TurnView → TurnView
+keeps_permits v = record v { permits = v.permits - 1 }
 
 -- and is all that this one has
-abbrev pub one_part : TurnView → TurnView
-one_part v = record {
+abbrev pub one_permit : TurnView → TurnView
+one_permit v = record {
   live = true;
   fabric = v.fabric;
   run = v.run;
-  parts = 1;
+  permits = 1;
   turns = v.turns;
   out = replicate (length v.out) false;
   taken = replicate (length v.taken) 0;
@@ -208,7 +208,7 @@ one_part v = record {
 -- two turns put together
 abbrev pub joined : TurnView → TurnView → TurnView
 joined v w = record v {
-  parts = v.parts + w.parts;
+  permits = v.permits + w.permits;
   made = v.made + w.made;
   missed = v.missed + w.missed;
   won = v.won + w.won;
@@ -220,7 +220,7 @@ spent_turn = record {
   live = false;
   fabric = no_table;
   run = no_run;
-  parts = 0;
+  permits = 0;
   turns = 0;
   out = [];
   taken = [];

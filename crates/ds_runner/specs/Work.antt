@@ -58,11 +58,11 @@ pub record HasPassOfEach (b : Base) (s : Stile) : Type 0 where
   pub run_is : run_of s.given ≡ b.run
   pub long : length s.given ≡ b.run.nodes
 
--- a worker between two visits: it has one part and no node out, and a scratch that remembers
+-- a worker between two visits: it has one permit and no node out, and a scratch that remembers
 pub record IsWorker (b : Base) (s : Stile) (w : Worker) : Type 0 where
   pub belongs : IsTurnOf s w.turn
   pub none : HasNone w.turn.view
-  pub one : w.turn.view.parts ≡ 1
+  pub one : w.turn.view.permits ≡ 1
   pub remembers : Remembers b.memory w.scratch
 
 -- the same, and it has fired at most so often
@@ -74,7 +74,7 @@ pub record IsWithin (b : Base) (s : Stile) (most : ℕ) (w : Worker) : Type 0 wh
 abbrev pub made_of : Worker → ℕ
 made_of w = w.turn.view.made
 
--- workers who together with the turn that is left have all parts, and no node is out; the passes
+-- workers who together with the turn that is left have all permits, and no node is out; the passes
 -- were given before anything fired
 pub record IsWorkerPool (b : Base) (c : WorkerPool) : Type 0 where
   pub fits : HasPassOfEach b c.scheduler.stile
@@ -82,7 +82,7 @@ pub record IsWorkerPool (b : Base) (c : WorkerPool) : Type 0 where
   pub none : HasNone c.turn.view
   pub made : c.turn.view.made ≡ 0
   pub unfired : base 0 c.scheduler.stile.given ≡ 0
-  pub parts : c.turn.view.parts + length c.workers.items ≡ c.scheduler.stile.turns
+  pub permits : c.turn.view.permits + length c.workers.items ≡ c.scheduler.stile.turns
   pub are : All (IsWorker b c.scheduler.stile) c.workers.items
   pub some_workers : 0 < length c.workers.items
   pub empty : c.passes.items ≡ []

@@ -50,11 +50,11 @@ pub fn gather<V: RunValues, C: Compute, G: Gate>(
 fn join_all(stile: &Turnstile, turn: &mut Turn, mut workers: Vec<Worker>)
     requires fits { IsTurnOf stile.now turn.old × HasNone turn.old.view }
     requires workers { All (λ (w : Worker). IsTurnOf stile.now w.turn × HasNone w.turn.view
-        × (w.turn.view.parts ≡ 1)) workers.items }
+        × (w.turn.view.permits ≡ 1)) workers.items }
 
     ensures fits { IsTurnOf stile.now turn.new × HasNone turn.new.view }
-    ensures parts { turn.new.view.parts
-        ≡ turn.old.view.parts + length workers.items }
+    ensures permits { turn.new.view.permits
+        ≡ turn.old.view.permits + length workers.items }
     ensures made { turn.new.view.made
         ≡ turn.old.view.made + sum_by made_of workers.items }
 {

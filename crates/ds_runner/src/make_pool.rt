@@ -89,7 +89,7 @@ fn deal_all<V: RunValues, C: Compute, G: Gate>(
     Ok(passes)
 }
 
-// So many workers, each with a turn, and one part is left; a handle to steal from each worker's
+// So many workers, each with a turn, and one permit is left; a handle to steal from each worker's
 // hints; and for each event the first arc from it.
 fn make_workers_and_stealers<V: RunValues, C: Compute, G: Gate>(
     alloc: Global,
@@ -100,13 +100,13 @@ fn make_workers_and_stealers<V: RunValues, C: Compute, G: Gate>(
 ) -> Result<(Vec<Worker>, Vec<Stealer<u32>>, Vec<usize>), OutOfMemory>
     requires count { (0 < count) × (count ≤ 64) }
     requires fits { HasPassOfEach workload.now stile.now × IsTurnOf stile.now turn.old }
-    requires turn { HasNone turn.old.view × (turn.old.view.parts ≡ count + 1) }
+    requires turn { HasNone turn.old.view × (turn.old.view.permits ≡ count + 1) }
     requires made { turn.old.view.made ≡ 0 }
 
     ensures ok { IfOk result (λ r. All (IsWithin workload.now stile.now 0) r.0.items
         × (length r.0.items ≡ count)) }
     ensures ok_turn { OnOk result (IsTurnOf stile.now turn.new × HasNone turn.new.view
-        × (turn.new.view.parts ≡ 1) × (turn.new.view.made ≡ 0)) }
+        × (turn.new.view.permits ≡ 1) × (turn.new.view.made ≡ 0)) }
 {
     let arcs_from = arcs_from(alloc, workload.run)?;
     let workers = make_workers(alloc, workload, stile, turn, count)?;
@@ -114,7 +114,7 @@ fn make_workers_and_stealers<V: RunValues, C: Compute, G: Gate>(
     Ok((workers, stealers, arcs_from))
 }
 
-// So many workers, each with a turn; one part is left.
+// So many workers, each with a turn; one permit is left.
 fn make_workers<V: RunValues, C: Compute, G: Gate>(
     alloc: Global,
     workload: &Workload<'_, '_, V, C, G>,
@@ -124,13 +124,13 @@ fn make_workers<V: RunValues, C: Compute, G: Gate>(
 ) -> Result<Vec<Worker>, OutOfMemory>
     requires count { (0 < count) × (count ≤ 64) }
     requires fits { HasPassOfEach workload.now stile.now × IsTurnOf stile.now turn.old }
-    requires turn { HasNone turn.old.view × (turn.old.view.parts ≡ count + 1) }
+    requires turn { HasNone turn.old.view × (turn.old.view.permits ≡ count + 1) }
     requires made { turn.old.view.made ≡ 0 }
 
     ensures ok { IfOk result (λ v. All (IsWithin workload.now stile.now 0) v.items
         × (length v.items ≡ count)) }
     ensures ok_turn { OnOk result (IsTurnOf stile.now turn.new × HasNone turn.new.view
-        × (turn.new.view.parts ≡ 1) × (turn.new.view.made ≡ 0)) }
+        × (turn.new.view.permits ≡ 1) × (turn.new.view.made ≡ 0)) }
 {
     let borders = borders_of(alloc, workload, count)?;
     let mut workers = Vec::with_capacity(alloc, count as usize)?;

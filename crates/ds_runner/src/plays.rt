@@ -1,7 +1,7 @@
 //! The rule of a turnstile, and its steps.
 ghost use Rattle.ds_runner.specs.TurnstileRule.{Turning, first_turn, took, rests_now, fetched};
-ghost use Rattle.ds_runner.specs.TurnstileRule.{gave};
-ghost use Rattle.ds_runner.specs.TurnstileRule.{observed_parts, keeps_parts, one_part, joined};
+ghost use Rattle.ds_runner.specs.TurnstileRule.{gave, joined};
+ghost use Rattle.ds_runner.specs.TurnstileRule.{observed_permits, keeps_permits, one_permit};
 ghost use Rattle.ds_runner.specs.TurnstileRule.{spent_turn};
 
 use crate::turn_view::TurnView;
@@ -53,20 +53,20 @@ impl Play<Option<Pass>, TurnView> for Give {
     ghost then = { gave };
 }
 
-/// A load that tells how many parts there may be.
-pub struct ObserveParts;
+/// A load that tells how many permits there may be.
+pub struct ObservePermits;
 
-impl Play<Option<Pass>, TurnView> for ObserveParts {
-    ghost then = { observed_parts };
+impl Play<Option<Pass>, TurnView> for ObservePermits {
+    ghost then = { observed_permits };
 }
 
-/// One part of a turn goes to a new turn.
-pub struct SplitOnePart;
+/// One permit of a turn goes to a new turn.
+pub struct SplitOnePermit;
 
-impl Split<TurnView> for SplitOnePart {
-    ghost left = { keeps_parts };
+impl Split<TurnView> for SplitOnePermit {
+    ghost left = { keeps_permits };
 
-    ghost right = { one_part };
+    ghost right = { one_permit };
 }
 
 /// A turn takes in another, which has no node out.

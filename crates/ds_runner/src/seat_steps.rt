@@ -3,10 +3,10 @@ ghost use Rattle.std.specs.Prelude.{◌≡◌, ◌≢◌, ◌<◌, ◌≤◌, �
 ghost use Rattle.ds_rule.specs.Rule.{seen};
 ghost use Rattle.ds_runner.specs.TurnstileRule.{Alone, HasNone, has_out, taken, nodes_of_key};
 ghost use Rattle.ds_runner.specs.TurnstileRule.{after_won_take, after_miss, after_give, rested};
-ghost use Rattle.ds_runner.specs.TurnstileRule.{keeps_parts, one_part, joined};
+ghost use Rattle.ds_runner.specs.TurnstileRule.{keeps_permits, one_permit, joined};
 
 use crate::plays::{
-    Fetch, Give, Merge, ObserveParts, PassBoard, ReturnEmptySlot, Seated, SplitOnePart, Take,
+    Fetch, Give, Merge, ObservePermits, PassBoard, ReturnEmptySlot, Seated, SplitOnePermit, Take,
 };
 use ds_fabric::Pass;
 
@@ -22,7 +22,7 @@ pub fn take(board: &PassBoard, seat: &mut Seated, node: usize) -> Option<Pass>
     ensures idle { seat.new.me.1 ≡ [] }
     ensures told { MatchOption result
         ((seat.new.me.0 ≡ after_miss seat.old.me.0 node)
-        × (seat.old.me.0.parts ≢ seat.old.me.0.turns))
+        × (seat.old.me.0.permits ≢ seat.old.me.0.turns))
         (λ p. Alone seat.old.me.0.fabric seat.old.me.0.run node p
         × (seat.new.me.0 ≡ rested (after_won_take seat.old.me.0 node (seen p.view node)))) }
 {
@@ -57,20 +57,20 @@ pub fn give(board: &PassBoard, seat: &mut Seated, node: usize, pass: Pass)
     board.store::<Give>(seat, node, 0);
 }
 
-/// One part goes to a new turn.
+/// One permit goes to a new turn.
 pub fn split(board: &PassBoard, seat: &mut Seated) -> Seated
     requires table { (seat.old.table_id ≡ board.now.table_id) × (0 < board.now.table_id.words) }
-    requires parts { (seat.old.me.0.live ≡ true) × (1 < seat.old.me.0.parts) }
+    requires permits { (seat.old.me.0.live ≡ true) × (1 < seat.old.me.0.permits) }
 
     ensures lent { (seat.new.table_id ≡ seat.old.table_id)
-        × (seat.new.me ≡ (keeps_parts seat.old.me.0, seat.old.me.1)) }
+        × (seat.new.me ≡ (keeps_permits seat.old.me.0, seat.old.me.1)) }
     ensures new { (result.table_id ≡ seat.old.table_id)
-        × (result.me ≡ (one_part seat.old.me.0, [])) }
+        × (result.me ≡ (one_permit seat.old.me.0, [])) }
 {
-    board.split_seat::<SplitOnePart>(seat)
+    board.split_seat::<SplitOnePermit>(seat)
 }
 
-/// Takes in a turn that has no node out. All parts together are no more than a `u32` has.
+/// Takes in a turn that has no node out. All permits together are no more than a `u32` has.
 pub fn join(board: &PassBoard, seat: &mut Seated, other: Seated)
     requires table { (seat.old.table_id ≡ board.now.table_id)
         × (other.table_id ≡ board.now.table_id) × (0 < board.now.table_id.words) }
@@ -79,8 +79,8 @@ pub fn join(board: &PassBoard, seat: &mut Seated, other: Seated)
 
     ensures table { seat.new.table_id ≡ seat.old.table_id }
     ensures me { seat.new.me ≡ (joined seat.old.me.0 other.me.0, seat.old.me.1) }
-    ensures few { seat.old.me.0.parts + other.me.0.parts < 4294967296 }
+    ensures few { seat.old.me.0.permits + other.me.0.permits < 4294967296 }
 {
     board.join_seat::<Merge>(seat, other);
-    board.load::<ObserveParts>(seat, 0);
+    board.load::<ObservePermits>(seat, 0);
 }

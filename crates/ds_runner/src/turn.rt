@@ -7,7 +7,7 @@ use std::marker::Model;
 #[derive(Drop)]
 pub struct Turn {
     pub(crate) seat: Seated,
-    pub(crate) parts: u32,
+    pub(crate) permits: u32,
 }
 
 impl Model for Turn {
@@ -17,14 +17,14 @@ impl Model for Turn {
 
     ghost view = { λ t. record { table_id = t.seat.table_id; view = t.seat.me.0 } };
 
-    ghost invariant = { λ t. IsTurn t.seat.table_id t.seat.me t.parts };
+    ghost invariant = { λ t. IsTurn t.seat.table_id t.seat.me t.permits };
 }
 
 impl Turn {
-    /// How many parts it has.
-    pub fn parts(&self) -> u32
-        ensures { result ≡ self.now.view.parts }
+    /// How many permits it has.
+    pub fn permits(&self) -> u32
+        ensures { result ≡ self.now.view.permits }
     {
-        self.parts
+        self.permits
     }
 }

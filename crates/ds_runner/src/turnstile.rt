@@ -2,7 +2,7 @@
 ghost use Rattle.std.specs.Prelude.{◌≡◌, ◌<◌, ◌≤◌, ◌+◌, [], length, true, false};
 ghost use Rattle.std.specs.Prelude.{IfOk, OnOk, OnErr, IfSome, IfNone, is_some, vec_capacity};
 ghost use Rattle.ds_rule.specs.Rule.{seen};
-ghost use Rattle.ds_runner.specs.TurnstileRule.{HasNone, has_out, taken, keeps_parts, one_part};
+ghost use Rattle.ds_runner.specs.TurnstileRule.{HasNone, has_out, taken, keeps_permits, one_permit};
 ghost use Rattle.ds_runner.specs.TurnstileRule.{joined};
 ghost use Rattle.ds_runner.specs.Shown.{AreAlone, IsTurnstileOpened, IsTurnOf, IsPassOf};
 ghost use Rattle.ds_runner.specs.Shown.{TakesPass, Misses};
@@ -42,7 +42,7 @@ impl Model for Turnstile {
 
 impl Turnstile {
     /// The turnstile of passes of one fabric, the l-th of which holds node l alone, and the turn
-    /// that has all parts. The vector is left empty, as the room for `close`; on a refusal the
+    /// that has all permits. The vector is left empty, as the room for `close`; on a refusal the
     /// passes are in it as before.
     pub fn build(
         alloc: Global,
@@ -65,7 +65,7 @@ impl Turnstile {
         let (words, mut slots) = rooms(alloc, passes.len())?;
         fill_slots(passes, &mut slots);
         match Table::new(alloc, words.as_slice(), slots, &key) {
-            Ok((table, seat)) => Ok((Turnstile { table }, Turn { seat, parts: turns })),
+            Ok((table, seat)) => Ok((Turnstile { table }, Turn { seat, permits: turns })),
             Err(Refused { slots }) => {
                 empty_slots(&key, slots, passes);
                 Err(OutOfMemory)
@@ -73,19 +73,19 @@ impl Turnstile {
         }
     }
 
-    /// One part goes to a new turn, which has no node out.
+    /// One permit goes to a new turn, which has no node out.
     pub fn split(&self, turn: &mut Turn) -> Turn
         requires fits { IsTurnOf self.now turn.old }
-        requires parts { 1 < turn.old.view.parts }
+        requires permits { 1 < turn.old.view.permits }
 
         ensures fits { IsTurnOf self.now turn.new × IsTurnOf self.now result }
-        ensures left { turn.new.view ≡ keeps_parts turn.old.view }
-        ensures new { result.view ≡ one_part turn.old.view }
+        ensures left { turn.new.view ≡ keeps_permits turn.old.view }
+        ensures new { result.view ≡ one_permit turn.old.view }
         ensures none { HasNone result.view }
     {
-        turn.parts -= 1;
+        turn.permits -= 1;
         let seat = seat_steps::split(&self.table.shared, &mut turn.seat);
-        Turn { seat, parts: 1 }
+        Turn { seat, permits: 1 }
     }
 
     /// The first turn takes in the second, which has no node out.
@@ -97,13 +97,13 @@ impl Turnstile {
         ensures fits { IsTurnOf self.now turn.new }
         ensures view { turn.new.view ≡ joined turn.old.view other.view }
     {
-        let Turn { seat, parts } = other;
+        let Turn { seat, permits } = other;
         seat_steps::join(&self.table.shared, &mut turn.seat, seat);
-        turn.parts += parts;
+        turn.permits += permits;
     }
 
     /// The pass of the node, which this turn does not have out; none where another has it out, so
-    /// never where this turn has all parts. It waits for nobody.
+    /// never where this turn has all permits. It waits for nobody.
     pub fn take(&self, turn: &mut Turn, node: LatchId) -> Option<Pass>
         requires fits { IsTurnOf self.now turn.old }
         requires near { node < length self.now.given }
@@ -114,7 +114,7 @@ impl Turnstile {
         ensures took { IfSome result (λ p.
             TakesPass turn.old.view turn.new.view node (seen p.view node)) }
         ensures missed { IfNone result (Misses turn.old.view turn.new.view node) }
-        ensures whole { turn.old.view.parts ≡ self.now.turns → is_some result ≡ true }
+        ensures whole { turn.old.view.permits ≡ self.now.turns → is_some result ≡ true }
     {
         seat_steps::take(&self.table.shared, &mut turn.seat, node.index())
     }
@@ -141,16 +141,16 @@ impl Turnstile {
     }
 
     /// Ends the turnstile, and puts all passes back in order into the vector, which is empty and
-    /// has room for them. The turn has all parts, and no node out.
+    /// has room for them. The turn has all permits, and no node out.
     pub fn close(self, turn: Turn, into: &mut Vec<Pass>)
         requires fits { IsTurnOf self turn }
-        requires whole { turn.view.parts ≡ self.turns }
+        requires whole { turn.view.permits ≡ self.turns }
         requires none { HasNone turn.view }
         requires room { (into.old.items ≡ []) × (length self.given ≤ vec_capacity into.old) }
         ensures { IsTurnstileClosed self turn.view.made into.new.items }
     {
         let Turnstile { table } = self;
-        let Turn { seat, parts: _ } = turn;
+        let Turn { seat, permits: _ } = turn;
         let mut closed = table.close_with(seat);
         for i in 0..closed.slot_count() {
             let Some(pass) = closed.take(i) else {

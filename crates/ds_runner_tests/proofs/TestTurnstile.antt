@@ -8,7 +8,7 @@ use Rattle.ds_rule.proofs.GetElemLemmas.{at_or, same_at}
 use Rattle.ds_base.specs.Scratch.{Kept, Remembers}
 use Rattle.ds_fabric.specs.Base.{Base}
 use Rattle.ds_fabric.specs.Showing.{Showing}
-use Rattle.ds_runner.specs.TurnstileRule.{Alone, HasNone, fabric_of, run_of, keeps_parts, one_part, has_out, base}
+use Rattle.ds_runner.specs.TurnstileRule.{Alone, HasNone, fabric_of, run_of, keeps_permits, one_permit, has_out, base}
 use Rattle.ds_runner.specs.Shown.{Stile, Turned, AreAlone, IsTurnstileOpened, IsTurnOf, IsTurnstileClosed}
 use Rattle.ds_runner.specs.declared.turn_view.TurnView.{TurnView}
 use Rattle.ds_runner_tests.specs.Trio.{AreTrio, IsTrioStile, IsIdle}
@@ -38,20 +38,20 @@ opened f ps s t a unfired o = let q = of_one f ps a in record {
 
 -- the turn that was split, and the new one
 pub kept : (f : Base) (ps : List Showing) (s : Stile) (t u : Turned) (scratch : Kept) → Remembers f.memory scratch
-    → IsTurnstileOpened ps 2 s t → IsTurnOf s u → u.view ≡ keeps_parts t.view → IsIdle f s u scratch
+    → IsTurnstileOpened ps 2 s t → IsTurnOf s u → u.view ≡ keeps_permits t.view → IsIdle f s u scratch
 kept f ps s t u scratch remembers o fits is = record {
   belongs = fits;
   none = λ l. ap (λ (v : TurnView). has_out v l) is ∙ o.none l;
-  one = ap (λ (v : TurnView). v.parts) is ∙ ap (λ (n : ℕ). n - 1) o.parts;
+  one = ap (λ (v : TurnView). v.permits) is ∙ ap (λ (n : ℕ). n - 1) o.permits;
   remembers = remembers;
 }
 
 pub new : (f : Base) (s : Stile) (t u : Turned) (scratch : Kept) → Remembers f.memory scratch → IsTurnOf s u
-    → u.view ≡ one_part t.view → HasNone u.view → IsIdle f s u scratch
+    → u.view ≡ one_permit t.view → HasNone u.view → IsIdle f s u scratch
 new f s t u scratch remembers fits is none = record {
   belongs = fits;
   none = none;
-  one = ap (λ (v : TurnView). v.parts) is;
+  one = ap (λ (v : TurnView). v.permits) is;
   remembers = remembers;
 }
 

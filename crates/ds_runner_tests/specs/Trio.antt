@@ -62,11 +62,11 @@ pub record IsTrioStile (f : Base) (s : Stile) : Type 0 where
   pub unfired : base 0 s.given ≡ 0
   pub two : s.turns ≡ 2
 
--- a turn of this turnstile that has one part and no node out, beside a scratch that remembers
+-- a turn of this turnstile that has one permit and no node out, beside a scratch that remembers
 pub record IsIdle (f : Base) (s : Stile) (t : Turned) (scratch : Kept) : Type 0 where
   pub belongs : IsTurnOf s t
   pub none : HasNone t.view
-  pub one : t.view.parts ≡ 1
+  pub one : t.view.permits ≡ 1
   pub remembers : Remembers f.memory scratch
 
 -- a turn that has taken nothing

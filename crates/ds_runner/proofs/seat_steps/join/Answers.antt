@@ -1,5 +1,5 @@
 use Rattle.std.proofs.Common.{rules}
-use Rattle.ds_runner.proofs.LastTurns.{joins, observes_parts}
+use Rattle.ds_runner.proofs.LastTurns.{joins, observes_permits}
 use Rattle.ds_runner.proofs.seat_steps.join.Goals as goal
 
 pub join_seat-requires : goal.join_seat-requires
@@ -12,4 +12,4 @@ join_seat-requires c = let (same, alike, words) = c.requires.table in let (live,
 )
 
 pub load-requires : goal.load-requires
-load-requires c = (search rules, search rules, observes_parts c.args.board.now.key c.args.board.now.table_id.slots c.join_seat.new.seat.id c.join_seat.new.seat.me)
+load-requires c = (search rules, search rules, observes_permits c.args.board.now.key c.args.board.now.table_id.slots c.join_seat.new.seat.id c.join_seat.new.seat.me)

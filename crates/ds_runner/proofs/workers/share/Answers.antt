@@ -28,7 +28,7 @@ gather-requires-clause-pool g c κs within = let pool = c.in_ok-pool.pool in let
       none = was.none;
       made = was.made;
       unfired = was.unfired;
-      parts = omega (arith, was.parts, home.1);
+      permits = omega (arith, was.permits, home.1);
       are = home.0;
       some_workers = omega (arith, was.some_workers, home.1);
       empty = was.empty;

@@ -38,7 +38,7 @@ opened k key ps id id' v same given table first =
         run_is = ap (λ (x : TurnView). x.run) first ∙ ap run_of (sym given-is);
         turns_is = ap (λ (x : TurnView). x.turns) first ∙ ap (λ (x : Key). x.turns) (sym same);
       };
-      parts = ap (λ (x : TurnView). x.parts) first;
+      permits = ap (λ (x : TurnView). x.permits) first;
       none = λ l. ap (λ (x : TurnView). has_out x l) first ∙ replicate-default {A = Bool} (nodes_of_key k) l false;
       made = ap (λ (x : TurnView). x.made) first;
       missed = ap (λ (x : TurnView). x.missed) first;
