@@ -19,10 +19,8 @@ ghost use Rattle.ds_opening.specs.Packed.{AreInside, packed};
 ghost use Rattle.ds_base.specs.Word.{count_of_words};
 ghost use Rattle.ds_opening.specs.Noted.{AreConeGroups, FindInputs, FindKnown, AreGroupSlots};
 ghost use Rattle.ds_opening.specs.Noted.{AreGroupsBefore, AreRowsLearnt, HasReads, HaveStayed};
-ghost use Rattle.ds_opening.specs.Noted.{IsAsKnown};
-ghost use Rattle.ds_opening.specs.Noted.{IsGroupBefore, KeepsGroup};
+ghost use Rattle.ds_opening.specs.Noted.{AreReadRows, IsAsKnown, IsGroupBefore, IsSlot, KeepsGroup};
 ghost use Rattle.ds_opening.specs.Noted.{IsAsLong, IsLearnt, IsNotedOpening, IsSettlingOpening};
-ghost use Rattle.ds_opening.specs.Noted.{AreReadRows, IsSlot};
 ghost use Rattle.ds_opening.specs.TurnOfOpenings.{Turn, value_taken};
 
 use crate::TableGroups;
