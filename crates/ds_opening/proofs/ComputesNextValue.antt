@@ -38,21 +38,21 @@ module _ (s : Split) (split : IsSplit s) (bits : List (List ℕ)) (one_each : le
     (nets_are : (n : Node) → IsNode s n → get_or bits (number_of n) [] ≡ nets_of s n)
     (n : Node) (number : ℕ) (at : IsSettlingAt s n number) (learnt : ℕ → Bool) (from : List ℕ) (t : Turn)
     (fed : IsFed s n learnt from t) where
-  abbrev pub known : Row
-  known = t.nets t.opened
+  abbrev pub foreseen : Row
+  foreseen = t.nets t.opened
 
   -- the numbers of the producers
   abbrev pub numbers : List ℕ
   numbers = map number_of fed.nodes
 
   -- the registers of a cluster, on the nets of the turn
-  slave_value : (d : ℕ) → d < length s.clusters → values_at known (nets_of s (Slave d)) ≡ values_at (t.state t.opened) (members s d)
+  slave_value : (d : ℕ) → d < length s.clusters → values_at foreseen (nets_of s (Slave d)) ≡ values_at (t.state t.opened) (members s d)
   slave_value d inside =
       let sizes : length (register_nets s.circuit) ≡ length s.circuit.registers = length-map s.circuit.registers (λ (r : Register). r.output) in
       let within : All (λ r. r < length (register_nets s.circuit)) (members s d) = λ j e low. (let w : get_or (members s d) j e < length s.circuit.registers = split.within d [] inside j e low in omega arith) in
-      picked known (register_nets s.circuit) (members s d) within ∙ ap (λ (w : Row). values_at w (members s d)) (fed.run.settles t.opened fed.below).register
+      picked foreseen (register_nets s.circuit) (members s d) within ∙ ap (λ (w : Row). values_at w (members s d)) (fed.run.settles t.opened fed.below).register
 
-  source_value : (p : Node) → IsNode s p → IsDataEdge s p n → values_at known (nets_of s p) ≡ read_of s t p
+  source_value : (p : Node) → IsNode s p → IsDataEdge s p n → values_at foreseen (nets_of s p) ≡ read_of s t p
   source_value In is_p edge =
       (fed.run.settles t.opened fed.below).column ∙ ap (numbered s t.vectors t.state t.nets In) (let e : suc t.opened ≡ suc t.opened - 0 = omega arith in e)
   source_value Out is_p edge = absurd (no_out s n edge)
@@ -60,17 +60,17 @@ module _ (s : Split) (split : IsSplit s) (bits : List (List ℕ)) (one_each : le
   source_value (Slave d) is_p edge =
       slave_value d is_p ∙ ap (numbered s t.vectors t.state t.nets (Slave d)) (let e : t.opened ≡ suc t.opened - 1 = omega arith in e)
 
-  weave_rows : (ps : List Node) → All (λ p. IsNode s p × IsDataEdge s p n) ps → woven learnt (read_of s t) ps ≡ packed_rows learnt known bits (map number_of ps)
+  weave_rows : (ps : List Node) → All (λ p. IsNode s p × IsDataEdge s p n) ps → woven learnt (read_of s t) ps ≡ packed_rows learnt foreseen bits (map number_of ps)
   weave_rows [] each = refl
   weave_rows (p ∷ ps) each =
       let (is_p, edge) = All-head (λ p. IsNode s p × IsDataEdge s p n) p ps each in
-      let row : read_of s t p ≡ values_at known (get_or bits (number_of p) []) = sym (source_value p is_p edge) ∙ ap (values_at known) (sym (nets_are p is_p)) in
+      let row : read_of s t p ≡ values_at foreseen (get_or bits (number_of p) []) = sym (source_value p is_p edge) ∙ ap (values_at foreseen) (sym (nets_are p is_p)) in
       ap (λ (r : Row). cond (learnt (number_of p)) [] (number_of p ∷ packed r) ++ woven learnt (read_of s t) ps) row
-      ∙ ap (λ (ws : List ℕ). cond (learnt (number_of p)) [] (number_of p ∷ packed (values_at known (get_or bits (number_of p) []))) ++ ws)
+      ∙ ap (λ (ws : List ℕ). cond (learnt (number_of p)) [] (number_of p ∷ packed (values_at foreseen (get_or bits (number_of p) []))) ++ ws)
       (weave_rows ps (All-tail (λ p. IsNode s p × IsDataEdge s p n) p ps each))
 
   -- the words are those of the producers' rows on the nets of the turn
-  pub from_is : from ≡ packed_rows learnt known bits numbers
+  pub from_is : from ≡ packed_rows learnt foreseen bits numbers
   from_is = fed.words ∙ weave_rows fed.nodes fed.producers.each
 
   -- the producer with a number
@@ -100,7 +100,7 @@ module _ (s : Split) (split : IsSplit s) (bits : List (List ℕ)) (one_each : le
       (subst (λ (these : List ℕ). AreInside these nets) (sym (nets_are p.node p.is_node))
       (subst (λ (m : ℕ). All (λ net. net < m) (nets_of s p.node)) (sym size) (nets_within s split range p.node p.is_node)))
 
-  pub supplied : (filled : Row) → AreLearnt known bits numbers filled → IsSupplied s (numbered s t.vectors t.state t.nets) t.opened n filled
+  pub supplied : (filled : Row) → AreLearnt foreseen bits numbers filled → IsSupplied s (numbered s t.vectors t.state t.nets) t.opened n filled
   supplied filled rows p is_p edge =
       let (k, inside, is) = fed.producers.all p edge in
       let has : Contains numbers (number_of p) = (
@@ -108,11 +108,11 @@ module _ (s : Split) (split : IsSplit s) (bits : List (List ℕ)) (one_each : le
         omega (length-map fed.nodes number_of, inside, arith),
         get_or-map number_of fed.nodes k p (number_of p) inside ∙ ap number_of is,
       ) in
-      let here : values_at filled (nets_of s p) ≡ values_at known (nets_of s p) =
-      subst (λ (these : List ℕ). values_at filled these ≡ values_at known these) (nets_are p is_p) (rows (number_of p) has) in
+      let here : values_at filled (nets_of s p) ≡ values_at foreseen (nets_of s p) =
+      subst (λ (these : List ℕ). values_at filled these ≡ values_at foreseen these) (nets_are p is_p) (rows (number_of p) has) in
       here ∙ source_value p is_p edge
 
-  pub value : (filled settled : Row) → AreLearnt known bits numbers filled → (cone : Parts) → IsCone s.circuit (nets_of s n) cone → IsPartSettled s.circuit cone filled settled
+  pub value : (filled settled : Row) → AreLearnt foreseen bits numbers filled → (cone : Parts) → IsCone s.circuit (nets_of s n) cone → IsPartSettled s.circuit cone filled settled
       → values_at settled (nets_of s n) ≡ value_taken s t n
   value filled settled rows cone is_cone part =
       settles_next_value_lem s split t.vectors t.state t.nets fed.run n at.node at.settling t.opened fed.below cone is_cone filled settled (supplied filled rows) part

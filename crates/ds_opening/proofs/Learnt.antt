@@ -29,18 +29,18 @@ use Rattle.ds_settle.specs.Cone.{net_of, nets_of_tables}
 use Rattle.ds_settle.specs.Settle.{LeavesOthers}
 use Rattle.ds_settle.proofs.SetBits.{value_at-set_other}
 use Rattle.ds_settle.proofs.CircuitTables.{net_is}
-use Rattle.ds_opening.specs.Noted.{FindInputs, IsAsKnown, IsLearnt, IsSlot}
+use Rattle.ds_opening.specs.Noted.{FindInputs, IsAsForeseen, IsLearnt, IsSlot}
 use Rattle.ds_opening.specs.Packed.{AreAsBefore, Learns}
 
 -- stands for a table where there is none
 pub blank : Gate
 blank = record { table = record { inputs = []; rows = []; on = true }; output = 0; line = 0 }
 
-module _ (m : Memory) (turn slot : ℕ) (these : List ℕ) (known : Row)
-    (at : IsSlot m turn slot these known) (some : 0 < turn)
+module _ (m : Memory) (turn slot : ℕ) (these : List ℕ) (foreseen : Row)
+    (at : IsSlot m turn slot these foreseen) (some : 0 < turn)
     (old : Kept) (remembers : Remembers m old) where
   -- a slot that is noted has its values
-  pub was_noted : get_or old.turns slot 0 ≡ turn → IsLearnt m known these old old
+  pub was_noted : get_or old.turns slot 0 ≡ turn → IsLearnt m foreseen these old old
   was_noted is =
       let held : HoldsTurn m old.nets (get_or old.turns slot 0) (get_or m.slots slot []) =
       remembers.each slot at.inside (subst (λ (n : ℕ). 0 < n) (sym is) some) in
@@ -68,7 +68,7 @@ module _ (m : Memory) (turn slot : ℕ) (these : List ℕ) (known : Row)
       as_before (get_or these k d) ∙ here k d low
 
   module _ (nets : Row) (size : length nets ≡ length old.nets)
-      (learns : Learns known these old.nets nets) (others : LeavesOthers these old.nets nets)
+      (learns : Learns foreseen these old.nets nets) (others : LeavesOthers these old.nets nets)
       (stays : Bool) (held : stays ≡ true → 1 < turn → HoldsTurn m nets (turn - 1) these)
       (new : Kept) (noted : IsNoted slot turn stays (with_nets old nets) new) where
     holds_these : HoldsTurn m nets turn these
@@ -136,7 +136,7 @@ module _ (m : Memory) (turn slot : ℕ) (these : List ℕ) (known : Row)
     ]
 
     -- a slot is noted now
-    pub now_noted : IsLearnt m known these old new
+    pub now_noted : IsLearnt m foreseen these old new
     now_noted = record {
       remembers = record {
         nets = ap (λ (r : Row). length r) noted.nets ∙ (size ∙ remembers.nets);
@@ -150,11 +150,11 @@ module _ (m : Memory) (turn slot : ℕ) (these : List ℕ) (known : Row)
             subst (λ (r : Row). HoldsTurn m r (get_or new.turns s 0 - 1) (get_or m.slots s [])) (sym noted.nets)
             (holds_before s there turned is);
       };
-      learns = subst (λ (r : Row). Learns known these old.nets r) (sym noted.nets) learns;
+      learns = subst (λ (r : Row). Learns foreseen these old.nets r) (sym noted.nets) learns;
     }
 
-pub learnt_none : (m : Memory) (known : Row) (old : Kept) → Remembers m old → IsLearnt m known [] old old
-learnt_none m known old remembers = record {
+pub learnt_none : (m : Memory) (foreseen : Row) (old : Kept) → Remembers m old → IsLearnt m foreseen [] old old
+learnt_none m foreseen old remembers = record {
   remembers = remembers;
   learns = λ net which. elim which [
     | inl has ↦ absurd (let (k, low, is) = has in let h : k < 0 = low in omega (h, arith))
@@ -162,10 +162,10 @@ learnt_none m known old remembers = record {
   ];
 }
 
-pub learnt_more : (m : Memory) (known : Row) (xs ys : List ℕ) (old between new : Kept)
-    → IsLearnt m known xs old between → IsLearnt m known ys between new
-    → IsLearnt m known (xs ++ ys) old new
-learnt_more m known xs ys old between new first then = record {
+pub learnt_more : (m : Memory) (foreseen : Row) (xs ys : List ℕ) (old between new : Kept)
+    → IsLearnt m foreseen xs old between → IsLearnt m foreseen ys between new
+    → IsLearnt m foreseen (xs ++ ys) old new
+learnt_more m foreseen xs ys old between new first then = record {
   remembers = then.remembers;
   learns = λ net which. elim which [
     | inl has ↦ elim (Contains-append_cases xs ys net has) [
@@ -184,9 +184,9 @@ after_long bank (k ∷ ks) nets =
     after_long bank ks (after_table bank nets k)
     ∙ length-set nets (driven_at bank k).output (packed_value (driven_at bank k).cover nets)
 
-module _ (c : Circuit) (known : Row) where
+module _ (c : Circuit) (foreseen : Row) where
   pub finds_weaker : (P Q : ℕ → Type 0) → ((net : ℕ) → P net → Q net) → (ks : List ℕ)
-      → FindInputs c known P ks → FindInputs c known Q ks
+      → FindInputs c foreseen P ks → FindInputs c foreseen Q ks
   finds_weaker P Q so [] finds = tt
   finds_weaker P Q so (k ∷ ks) finds = (
     λ d. ((finds.0 d).0, λ i e low. so (get_or (get_or c.tables k d).table.inputs i e) ((finds.0 d).1 i e low)),
@@ -194,12 +194,12 @@ module _ (c : Circuit) (known : Row) where
         (λ net which. elim which [ inl p ↦ inl (so net p) | inr e ↦ inr e ]) ks finds.1,
   )
 
-  pub finds_front : (P : ℕ → Type 0) (xs ys : List ℕ) → FindInputs c known P (xs ++ ys) → FindInputs c known P xs
+  pub finds_front : (P : ℕ → Type 0) (xs ys : List ℕ) → FindInputs c foreseen P (xs ++ ys) → FindInputs c foreseen P xs
   finds_front P [] ys finds = tt
   finds_front P (k ∷ xs) ys finds = (finds.0, finds_front (λ net. P net ⊎ (net ≡ net_of c k)) xs ys finds.1)
 
-  pub finds_back : (P : ℕ → Type 0) (xs ys : List ℕ) → FindInputs c known P (xs ++ ys)
-      → FindInputs c known (λ net. P net ⊎ Contains (nets_of_tables c xs) net) ys
+  pub finds_back : (P : ℕ → Type 0) (xs ys : List ℕ) → FindInputs c foreseen P (xs ++ ys)
+      → FindInputs c foreseen (λ net. P net ⊎ Contains (nets_of_tables c xs) net) ys
   finds_back P [] ys finds = finds_weaker P (λ net. P net ⊎ Contains [] net) (λ net p. inl p) ys finds
   finds_back P (k ∷ xs) ys finds =
       finds_weaker (λ net. (P net ⊎ (net ≡ net_of c k)) ⊎ Contains (nets_of_tables c xs) net)
@@ -216,12 +216,12 @@ module _ (c : Circuit) (known : Row) where
     -- what the tables of a group set
     pub record AreSet (ks : List ℕ) (old new : Row) : Type 0 where
       pub size : length new ≡ length old
-      pub learns : Learns known (nets_of_tables c ks) old new
+      pub learns : Learns foreseen (nets_of_tables c ks) old new
       pub others : LeavesOthers (nets_of_tables c ks) old new
 
     module _ (k : ℕ) (inside : k < length c.tables) (nets : Row) (size : length nets ≡ length c.nets)
-        (finds : (d : Gate) → (value_at known (get_or c.tables k d).output ≡ value_of (get_or c.tables k d).table known)
-        × All (IsAsKnown known nets) (get_or c.tables k d).table.inputs) where
+        (finds : (d : Gate) → (value_at foreseen (get_or c.tables k d).output ≡ value_of (get_or c.tables k d).table foreseen)
+        × All (IsAsForeseen foreseen nets) (get_or c.tables k d).table.inputs) where
       abbrev gate : Gate
       gate = get_or c.tables k blank
 
@@ -231,8 +231,8 @@ module _ (c : Circuit) (known : Row) where
       near : gate.output < length nets
       near = (let low : gate.output < length c.nets = (range.tables k blank inside).1 in omega (low, size, arith))
 
-      value_is : value_of gate.table nets ≡ value_at known gate.output
-      value_is = value_agrees gate.table nets known (finds blank).1 ∙ sym (finds blank).0
+      value_is : value_of gate.table nets ≡ value_at foreseen gate.output
+      value_is = value_agrees gate.table nets foreseen (finds blank).1 ∙ sym (finds blank).0
 
       set_is : after_table bank nets k ≡ set nets gate.output (value_of gate.table nets)
       set_is = after_table-is c.tables bank banked nets k blank inside
@@ -245,7 +245,7 @@ module _ (c : Circuit) (known : Row) where
               ap (value_at (after_table bank nets k)) e
               ∙ (ap (λ (r : Row). value_at r gate.output) set_is
               ∙ (get_or-set_same nets gate.output (value_of gate.table nets) Zero near
-              ∙ (value_is ∙ ap (value_at known) (sym e))))
+              ∙ (value_is ∙ ap (value_at foreseen) (sym e))))
           | inr ne ↦
               ap (λ (r : Row). value_at r net) set_is
               ∙ (value_at-set_other nets gate.output net (value_of gate.table nets) ne
@@ -268,16 +268,16 @@ module _ (c : Circuit) (known : Row) where
 
     -- those behind a table that is set
     finds_on : (k : ℕ) (ks : List ℕ) (nets next : Row) → AreSet (k ∷ []) nets next
-        → FindInputs c known (λ net. IsAsKnown known nets net ⊎ (net ≡ net_of c k)) ks → FindInputs c known (IsAsKnown known next) ks
+        → FindInputs c foreseen (λ net. IsAsForeseen foreseen nets net ⊎ (net ≡ net_of c k)) ks → FindInputs c foreseen (IsAsForeseen foreseen next) ks
     finds_on k ks nets next one finds =
-        finds_weaker (λ net. IsAsKnown known nets net ⊎ (net ≡ net_of c k)) (IsAsKnown known next)
+        finds_weaker (λ net. IsAsForeseen foreseen nets net ⊎ (net ≡ net_of c k)) (IsAsForeseen foreseen next)
         (λ net which. elim which [
           | inl before ↦ one.learns net (inr before)
           | inr e ↦ one.learns net (inl (subst (λ (n : ℕ). Contains (net_of c k ∷ []) n) (sym e) (Contains-head (net_of c k) [])))
         ]) ks finds
 
     pub all_set : (ks : List ℕ) (nets : Row) → All (λ k. k < length c.tables) ks
-        → length nets ≡ length c.nets → FindInputs c known (IsAsKnown known nets) ks
+        → length nets ≡ length c.nets → FindInputs c foreseen (IsAsForeseen foreseen nets) ks
         → AreSet ks nets (after_tables bank nets ks)
     all_set [] nets within size finds = record {
       size = refl;
@@ -291,7 +291,7 @@ module _ (c : Circuit) (known : Row) where
         let inside : k < length c.tables = within 0 0 (omega arith) in
         let next : Row = after_table bank nets k in
         let one : AreSet (k ∷ []) nets next = one_set k inside nets size finds.0 in
-        let rest : FindInputs c known (IsAsKnown known next) ks = finds_on k ks nets next one finds.1 in
+        let rest : FindInputs c foreseen (IsAsForeseen foreseen next) ks = finds_on k ks nets next one finds.1 in
         let more : AreSet ks next (after_tables bank next ks) =
         all_set ks next (λ i d low. within (suc i) d (omega (low, arith))) (one.size ∙ size) rest in
         record {
@@ -314,9 +314,9 @@ module _ (c : Circuit) (known : Row) where
           | inr none ↦ absurd (let (j, low, is) = none in let h : j < 0 = low in omega (h, arith))
         ]
 
-    -- where no known value is unknown, each of these tables finds its inputs known
-    pub all_found : (ks : List ℕ) (nets : Row) → ((net : ℕ) → value_at known net ≢ Unknown) → All (λ k. k < length c.tables) ks
-        → length nets ≡ length c.nets → FindInputs c known (IsAsKnown known nets) ks → FindsKnown (in_table_order bank ks) nets
+    -- where no foreseen value is unknown, each of these tables finds its inputs known
+    pub all_found : (ks : List ℕ) (nets : Row) → ((net : ℕ) → value_at foreseen net ≢ Unknown) → All (λ k. k < length c.tables) ks
+        → length nets ≡ length c.nets → FindInputs c foreseen (IsAsForeseen foreseen nets) ks → FindsKnown (in_table_order bank ks) nets
     all_found [] nets sure within size finds = tt
     all_found (k ∷ ks) nets sure within size finds =
         let inside : k < length c.tables = within 0 0 (omega arith) in
@@ -348,27 +348,27 @@ module _ (c : Circuit) (g : Grouping) (list : List ℕ) (i : ℕ) (inside : i < 
       ap (λ (xs : List ℕ). flat_map (group_of g) xs) (drop_more list i 0 inside)
       ∙ flat_map-cons (group_of g) next (drop (i + 1) list)
 
-  pub groups_more : (m : Memory) (known : Row) (old between new : Kept)
-      → IsLearnt m known (nets_of_tables c (tables_in g (take i list))) old between
-      → IsLearnt m known (nets_of_tables c (group_of g next)) between new
-      → IsLearnt m known (nets_of_tables c (tables_in g (take (i + 1) list))) old new
-  groups_more m known old between new first then =
-      subst (λ (xs : List ℕ). IsLearnt m known xs old new)
+  pub groups_more : (m : Memory) (foreseen : Row) (old between new : Kept)
+      → IsLearnt m foreseen (nets_of_tables c (tables_in g (take i list))) old between
+      → IsLearnt m foreseen (nets_of_tables c (group_of g next)) between new
+      → IsLearnt m foreseen (nets_of_tables c (tables_in g (take (i + 1) list))) old new
+  groups_more m foreseen old between new first then =
+      subst (λ (xs : List ℕ). IsLearnt m foreseen xs old new)
       (sym (ap (nets_of_tables c) front_is ∙ nets_append (tables_in g (take i list)) (group_of g next)))
-      (learnt_more m known (nets_of_tables c (tables_in g (take i list))) (nets_of_tables c (group_of g next)) old between new first then)
+      (learnt_more m foreseen (nets_of_tables c (tables_in g (take i list))) (nets_of_tables c (group_of g next)) old between new first then)
 
   -- the tables of the next group, and those behind them once these are set
-  pub rest_finds : (known nets : Row) → FindInputs c known (IsAsKnown known nets) (tables_in g (drop i list))
-      → FindInputs c known (IsAsKnown known nets) (group_of g next)
-      × ((new : Row) → Learns known (nets_of_tables c (group_of g next)) nets new
-      → FindInputs c known (IsAsKnown known new) (tables_in g (drop (i + 1) list)))
-  rest_finds known nets finds =
-      let cut : FindInputs c known (IsAsKnown known nets) (group_of g next ++ tables_in g (drop (i + 1) list)) =
-      subst (λ (xs : List ℕ). FindInputs c known (IsAsKnown known nets) xs) back_is finds in (
-        finds_front c known (IsAsKnown known nets) (group_of g next) (tables_in g (drop (i + 1) list)) cut,
-        λ new learns. finds_weaker c known (λ net. IsAsKnown known nets net ⊎ Contains (nets_of_tables c (group_of g next)) net)
-            (IsAsKnown known new)
+  pub rest_finds : (foreseen nets : Row) → FindInputs c foreseen (IsAsForeseen foreseen nets) (tables_in g (drop i list))
+      → FindInputs c foreseen (IsAsForeseen foreseen nets) (group_of g next)
+      × ((new : Row) → Learns foreseen (nets_of_tables c (group_of g next)) nets new
+      → FindInputs c foreseen (IsAsForeseen foreseen new) (tables_in g (drop (i + 1) list)))
+  rest_finds foreseen nets finds =
+      let cut : FindInputs c foreseen (IsAsForeseen foreseen nets) (group_of g next ++ tables_in g (drop (i + 1) list)) =
+      subst (λ (xs : List ℕ). FindInputs c foreseen (IsAsForeseen foreseen nets) xs) back_is finds in (
+        finds_front c foreseen (IsAsForeseen foreseen nets) (group_of g next) (tables_in g (drop (i + 1) list)) cut,
+        λ new learns. finds_weaker c foreseen (λ net. IsAsForeseen foreseen nets net ⊎ Contains (nets_of_tables c (group_of g next)) net)
+            (IsAsForeseen foreseen new)
             (λ net which. elim which [ inl before ↦ learns net (inr before) | inr has ↦ learns net (inl has) ])
             (tables_in g (drop (i + 1) list))
-            (finds_back c known (IsAsKnown known nets) (group_of g next) (tables_in g (drop (i + 1) list)) cut),
+            (finds_back c foreseen (IsAsForeseen foreseen nets) (group_of g next) (tables_in g (drop (i + 1) list)) cut),
       )

@@ -8,7 +8,7 @@ pub mod Lacks
 pub mod Schedules
 pub mod Concatenation
 pub mod GroupedCones
-pub mod HomeSlots
+pub mod NetSlotLemmas
 pub mod Renumbering
 pub mod GatheredTables
 pub mod Searched

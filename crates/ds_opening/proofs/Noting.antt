@@ -10,7 +10,7 @@ use Rattle.ds_cover.proofs.TableValues.{value_agrees}
 use Rattle.ds_design.specs.declared.design.Gate.{Gate}
 use Rattle.ds_opening.specs.Reads.{ReadFrom}
 use Rattle.ds_opening.specs.Foreseen.{node_at}
-use Rattle.ds_opening.specs.Noted.{AreDriven, AreGroupsBefore, HasReads, all_learnt_nets, learnt_nets, nets_of_turn, FindInputs, FindKnown, AreGroupSlots, AreConeGroups, AreRowsLearnt, IsAsKnown, IsLearnt, AreReadRows, IsSettlingOpening, IsSlot, slots_of}
+use Rattle.ds_opening.specs.Noted.{AreDriven, AreGroupsBefore, HasReads, all_learnt_nets, learnt_nets, nets_of_turn, FindInputs, FindKnown, AreGroupSlots, AreConeGroups, AreRowsLearnt, IsAsForeseen, IsLearnt, AreReadRows, IsSettlingOpening, IsSlot, slots_of}
 use Rattle.ds_design.specs.Circuit.{Circuit}
 use Rattle.ds_design.specs.InRange.{IsInRange}
 use Rattle.ds_design.specs.Run.{row_at}
@@ -55,8 +55,8 @@ module _ {s : Split} (split : IsSplit s) (range : IsInRange s.circuit)
   abbrev pub list : List ℕ
   list = get_or g.lists (cone_place n) []
 
-  abbrev pub known : Row
-  known = t.nets t.opened
+  abbrev pub foreseen : Row
+  foreseen = t.nets t.opened
 
   -- the numbers of the producers
   abbrev pub numbers : List ℕ
@@ -109,7 +109,7 @@ module _ {s : Split} (split : IsSplit s) (range : IsInRange s.circuit)
   nets_long = opens.memory.remembers.nets ∙ opens.memory.nets
 
   slot_is : (slot : ℕ) (these : List ℕ) → slot < length g.groups + nodes s → get_or (slots_of s g) slot [] ≡ these
-      → IsSlot m o.turn slot these known
+      → IsSlot m o.turn slot these foreseen
   slot_is slot these low this = record {
     inside = omega (low, slots_are_long, arith);
     is = ap (λ (xs : List (List ℕ)). get_or xs slot []) opens.memory.slots ∙ this;
@@ -158,12 +158,12 @@ module _ {s : Split} (split : IsSplit s) (range : IsInRange s.circuit)
     driven = λ later. drove later a;
   }
 
-  pub group_slots : AreGroupSlots s.circuit g m o.turn known
+  pub group_slots : AreGroupSlots s.circuit g m o.turn foreseen
   group_slots a low = slot_is a (nets_of_tables s.circuit (group_of g a)) (omega (low, arith)) (slot_of_group s split g a low)
 
   -- the slots of the producers, behind those of the groups
   abbrev pub AreNodeSlots : ℕ → Type 0
-  AreNodeSlots first = All (λ node. IsSlot m o.turn (first + node) (get_or bits node []) known) numbers
+  AreNodeSlots first = All (λ node. IsSlot m o.turn (first + node) (get_or bits node []) foreseen) numbers
 
   behind_groups : AreNodeSlots (length g.groups)
   behind_groups i d low =
@@ -173,14 +173,14 @@ module _ {s : Split} (split : IsSplit s) (range : IsInRange s.circuit)
       let these : get_or (slots_of s g) (length g.groups + number) [] ≡ get_or bits number [] =
       slot_of_source s split g p.node p.is_node (reads_source s p.node n p.edge opens.at.settling)
       ∙ sym (nets_are p.node p.is_node) in
-      subst (λ (v : ℕ). IsSlot m o.turn (length g.groups + v) (get_or bits v []) known) (sym p.is)
+      subst (λ (v : ℕ). IsSlot m o.turn (length g.groups + v) (get_or bits v []) foreseen) (sym p.is)
       (slot_is (length g.groups + number) (get_or bits number []) (omega (below, arith)) these)
 
   pub node_slots : (first : ℕ) → first ≡ length g.groups → AreNodeSlots first
   node_slots first first_is = subst AreNodeSlots (sym first_is) behind_groups
 
   -- what the opening reads
-  reads_behind : AreReadRows bits (length g.groups) o k known numbers
+  reads_behind : AreReadRows bits (length g.groups) o k foreseen numbers
   reads_behind = record {
     from = from_is s split bits one_each nets_are n o.number opens.at learnt o.from.now t opens.fed;
     inside = numbers_inside s split bits one_each nets_are n o.number opens.at learnt o.from.now t opens.fed;
@@ -188,35 +188,35 @@ module _ {s : Split} (split : IsSplit s) (range : IsInRange s.circuit)
     slots = slots_inside;
   }
 
-  pub reads : (first : ℕ) → first ≡ length g.groups → AreReadRows bits first o k known numbers
-  reads first first_is = subst (λ (f : ℕ). AreReadRows bits f o k known numbers) (sym first_is) reads_behind
+  pub reads : (first : ℕ) → first ≡ length g.groups → AreReadRows bits first o k foreseen numbers
+  reads first first_is = subst (λ (f : ℕ). AreReadRows bits f o k foreseen numbers) (sym first_is) reads_behind
 
-  module _ (filled : Kept) (rows : AreRowsLearnt m known bits numbers filled) where
-    sources : All (IsAsKnown known filled.nets) cone.sources
+  module _ (filled : Kept) (rows : AreRowsLearnt m foreseen bits numbers filled) where
+    sources : All (IsAsForeseen foreseen filled.nets) cone.sources
     sources = sources_agree s split t.vectors t.state t.nets opens.fed.run n opens.at.node opens.at.settling t.opened opens.fed.below
         cone is_cone filled.nets filled.nets
         (supplied s split bits one_each nets_are n o.number opens.at learnt o.from.now t opens.fed filled.nets rows.learnt)
 
-    pub list_finds : FindInputs s.circuit known (IsAsKnown known filled.nets) (tables_in g list)
+    pub list_finds : FindInputs s.circuit foreseen (IsAsForeseen foreseen filled.nets) (tables_in g list)
     list_finds = cone_finds s.circuit (nets_of s n) cone is_cone (tables_in g list) grouped.order grouped.same
-        (t.state t.opened) (row_at t.vectors t.opened) known (opens.fed.run.settles t.opened opens.fed.below) filled.nets sources
+        (t.state t.opened) (row_at t.vectors t.opened) foreseen (opens.fed.run.settles t.opened opens.fed.below) filled.nets sources
 
     pub value : (settled : Kept)
-        → IsLearnt m known (nets_of_tables s.circuit (tables_in g list)) filled settled
+        → IsLearnt m foreseen (nets_of_tables s.circuit (tables_in g list)) filled settled
         → values_at settled.nets (nets_of s n) ≡ value_taken s t n
     value settled set =
         these_learnt s.circuit (nets_of s n) cone is_cone (tables_in g list) grouped.order grouped.same
-        known filled.nets settled.nets sources set.learns
+        foreseen filled.nets settled.nets sources set.learns
         ∙ turn_value s split t.vectors t.state t.nets opens.fed.run n opens.at.node opens.at.settling t.opened opens.fed.below
 
     -- what setting the groups of a list gives
     abbrev pub Sets : Kept → Circuit → List ℕ → Type 0
-    Sets settled net xs = AreGroupSlots net g m o.turn known → AreGroupsBefore net g m o.turn
-        → FindInputs net known (IsAsKnown known filled.nets) (tables_in g xs) → Remembers m filled
-        → IsLearnt m known (nets_of_tables net (tables_in g xs)) filled settled
+    Sets settled net xs = AreGroupSlots net g m o.turn foreseen → AreGroupsBefore net g m o.turn
+        → FindInputs net foreseen (IsAsForeseen foreseen filled.nets) (tables_in g xs) → Remembers m filled
+        → IsLearnt m foreseen (nets_of_tables net (tables_in g xs)) filled settled
 
     pub settled_is : (settled : Kept) (net : Circuit) → net ≡ s.circuit → (xs : List ℕ) → xs ≡ list
-        → Sets settled net xs → IsLearnt m known (nets_of_tables s.circuit (tables_in g list)) filled settled
+        → Sets settled net xs → IsLearnt m foreseen (nets_of_tables s.circuit (tables_in g list)) filled settled
     settled_is settled net net_is xs xs_is sets =
         subst (λ (c : Circuit). Sets settled c list) net_is (subst (Sets settled net) xs_is sets)
         group_slots groups_before list_finds rows.remembers
@@ -230,7 +230,7 @@ module _ {s : Split} (split : IsSplit s) (range : IsInRange s.circuit)
         subst (λ (c : Circuit). FindKnown c g o.turn xs filled) (sym net_is)
         (subst (λ (ns : List ℕ). FindKnown s.circuit g o.turn ns filled) (sym xs_is) (record {
           memory = m;
-          known = known;
+          foreseen = foreseen;
           sure = nets_known s.circuit split.accepted s.initial t.vectors all_known.0 all_known.1 t.state t.nets opens.fed.run t.opened opens.fed.below
               (known_at t.opened (let low : t.opened < length t.vectors = opens.fed.below in omega (low, arith)));
           slots = group_slots;

@@ -73,19 +73,19 @@ number_of_part nets these part i is =
     ap (λ (xs : List ℕ). number_of_values (values_at nets xs)) is
     ∙ ap number_of_values (values_at-part nets these 32 (32 * i))
 
--- a word of known nets, as the number of its part of them
-pub word_is_number : (known : Row) (words these part : List ℕ) (i : ℕ)
-    → words ≡ packed (values_at known these) → i < length words
+-- a word of foreseen nets, as the number of its part of them
+pub word_is_number : (foreseen : Row) (words these part : List ℕ) (i : ℕ)
+    → words ≡ packed (values_at foreseen these) → i < length words
     → part ≡ take 32 (drop (32 * i) these)
-    → get_or words i 0 ≡ number_of_values (values_at known part)
-word_is_number known words these part i words_are inside part_is =
-    let row : Row = values_at known these in
+    → get_or words i 0 ≡ number_of_values (values_at foreseen part)
+word_is_number foreseen words these part i words_are inside part_is =
+    let row : Row = values_at foreseen these in
     let many : length words ≡ count_of_words (length row) = ap (λ (ws : List ℕ). length ws) words_are
     ∙ length-map-range_with_len (word_of row) 0 (count_of_words (length row)) in
     let near : i < count_of_words (length row) = omega (many, inside, arith) in
     ap (λ (ws : List ℕ). get_or ws i 0) words_are
     ∙ (get_or-map-range_with_len (word_of row) 0 (count_of_words (length row)) i i 0 near (omega arith)
-    ∙ sym (number_of_part known these part i part_is))
+    ∙ sym (number_of_part foreseen these part i part_is))
 
 -- one word more
 pub word_more : (values : Row) (old items new : List ℕ) (i word : ℕ) → items ≡ old ++ map (word_of values) (range_with_len 0 i)
@@ -110,16 +110,16 @@ lowest values i rest inside is =
     (number_of_values-one_more values (i + 1) (omega arith) (omega arith)) in
     (omega (few, more, is, arith), omega (few, more, is, arith))
 
--- one net more is as it is known
-pub learns_more : (known : Row) (these : List ℕ) (i net : ℕ) (old row new : Row) (value : Value) → i < length these → net ≡ get_or these i net
-    → net < length row → value ≡ get_or (values_at known these) i Zero → new ≡ set row net value
-    → Learns known (take i these) old row → Learns known (take (i + 1) these) old new
-learns_more known these i net old row new value inside net_is within value_is is learns other which =
+-- one net more is as foreseen
+pub learns_more : (foreseen : Row) (these : List ℕ) (i net : ℕ) (old row new : Row) (value : Value) → i < length these → net ≡ get_or these i net
+    → net < length row → value ≡ get_or (values_at foreseen these) i Zero → new ≡ set row net value
+    → Learns foreseen (take i these) old row → Learns foreseen (take (i + 1) these) old new
+learns_more foreseen these i net old row new value inside net_is within value_is is learns other which =
     elim (cases_eq other net) [
       | inl same ↦ (
           let read : value_at new other ≡ value = ap (value_at new) same ∙ (ap (λ (r : Row). value_at r net) is ∙ get_or-set_same row net value Zero within) in
-          let known_is : value ≡ value_at known net = value_is ∙ (get_or-map (value_at known) these i net Zero inside ∙ ap (value_at known) (sym net_is)) in
-          read ∙ (known_is ∙ ap (value_at known) (sym same)))
+          let foreseen_is : value ≡ value_at foreseen net = value_is ∙ (get_or-map (value_at foreseen) these i net Zero inside ∙ ap (value_at foreseen) (sym net_is)) in
+          read ∙ (foreseen_is ∙ ap (value_at foreseen) (sym same)))
       | inr differs ↦ (
           let kept : value_at new other ≡ value_at row other = ap (λ (r : Row). value_at r other) is ∙ get_or-set_other row net other value Zero differs in
           kept ∙ learns other (elim which [
@@ -135,8 +135,8 @@ learns_more known these i net old row new value inside net_is within value_is is
     alone x (zero, low, e) = sym e
     alone x (suc k, low, e) = absurd (omega arith)
 
-pub all_learnt : (known : Row) (these : List ℕ) (i : ℕ) (old new : Row) → length these ≤ i → Learns known (take i these) old new → Learns known these old new
-all_learnt known these i old new past learns = subst (λ (xs : List ℕ). Learns known xs old new) (take_all i these past) learns
+pub all_learnt : (foreseen : Row) (these : List ℕ) (i : ℕ) (old new : Row) → length these ≤ i → Learns foreseen (take i these) old new → Learns foreseen these old new
+all_learnt foreseen these i old new past learns = subst (λ (xs : List ℕ). Learns foreseen xs old new) (take_all i these past) learns
 
 -- one net more, and the others as they were
 pub others_more : (these : List ℕ) (i net : ℕ) (old row new : Row) (value : Value) → i < length these → net ≡ get_or these i net → new ≡ set row net value
@@ -156,12 +156,12 @@ take-part these part i is =
     ap (λ (n : ℕ). take n these) up ∙ (take-add (32 * i) 32 these
     ∙ ap (λ (xs : List ℕ). take (32 * i) these ++ xs) (sym is))
 
--- the nets of one word more are as they are known
-pub learns_part : (known : Row) (these part : List ℕ) (i : ℕ) (old row new : Row)
+-- the nets of one word more are as foreseen
+pub learns_part : (foreseen : Row) (these part : List ℕ) (i : ℕ) (old row new : Row)
     → part ≡ take 32 (drop (32 * i) these)
-    → Learns known (take (32 * i) these) old row → Learns known part row new
-    → Learns known (take (32 * (i + 1)) these) old new
-learns_part known these part i old row new is first then net which =
+    → Learns foreseen (take (32 * i) these) old row → Learns foreseen part row new
+    → Learns foreseen (take (32 * (i + 1)) these) old new
+learns_part foreseen these part i old row new is first then net which =
     then net (elim which [
       | inl there ↦ elim (Contains-append_cases (take (32 * i) these) part net
           (subst (λ (xs : List ℕ). Contains xs net) (take-part these part i is) there)) [

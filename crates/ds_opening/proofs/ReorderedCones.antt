@@ -16,7 +16,7 @@ use Rattle.ds_design.specs.declared.design.Gate.{Gate}
 use Rattle.ds_settle.specs.Cone.{AreInOrder, IsCone, Parts as Cone, ReachesSome, net_of, nets_of_tables}
 use Rattle.ds_settle.proofs.ConeReach.{reaches_itself, reaches_some_before}
 use Rattle.ds_settle.proofs.CircuitTables.{net_is}
-use Rattle.ds_opening.specs.Noted.{FindInputs, IsAsKnown}
+use Rattle.ds_opening.specs.Noted.{FindInputs, IsAsForeseen}
 use Rattle.ds_opening.specs.Packed.{Learns}
 
 module _ (c : Circuit) (these : List ℕ) (cone : Cone) (is_cone : IsCone c these cone)
@@ -29,7 +29,7 @@ module _ (c : Circuit) (these : List ℕ) (cone : Cone) (is_cone : IsCone c thes
       let net_m : net_of c m ≡ net = net_is c m t near ∙ (ap (λ (u : Gate). u.output) is ∙ drives) in
       ((same m).1 ((is_cone.tables m near).1 (subst (ReachesSome c these) (sym net_m) reaches)), net_m)
 
-  module _ (state vector known : Row) (valuation : IsValuation c state vector known) where
+  module _ (state vector foreseen : Row) (valuation : IsValuation c state vector foreseen) where
     -- what a table reads is a source, or driven by an earlier one
     reads : (done rest : List ℕ) (k : ℕ) → list ≡ done ++ k ∷ rest → (P : ℕ → Type 0) → All P cone.sources
         → ((m : ℕ) → Contains done m → P (net_of c m)) → (d : Gate) → All P (get_or c.tables k d).table.inputs
@@ -66,7 +66,7 @@ module _ (c : Circuit) (these : List ℕ) (cone : Cone) (is_cone : IsCone c thes
         ]
 
     finds_rest : (rest done : List ℕ) → list ≡ done ++ rest → (P : ℕ → Type 0) → All P cone.sources
-        → ((m : ℕ) → Contains done m → P (net_of c m)) → FindInputs c known P rest
+        → ((m : ℕ) → Contains done m → P (net_of c m)) → FindInputs c foreseen P rest
     finds_rest [] done cut P sources set = tt
     finds_rest (k ∷ rest) done cut P sources set =
         let i : ℕ = length done in
@@ -83,17 +83,17 @@ module _ (c : Circuit) (these : List ℕ) (cone : Cone) (is_cone : IsCone c thes
               ]),
         )
 
-    pub cone_finds : (nets : Row) → All (IsAsKnown known nets) cone.sources → FindInputs c known (IsAsKnown known nets) list
-    cone_finds nets sources = finds_rest list [] refl (IsAsKnown known nets) sources (λ m has. absurd (nothing m has))
+    pub cone_finds : (nets : Row) → All (IsAsForeseen foreseen nets) cone.sources → FindInputs c foreseen (IsAsForeseen foreseen nets) list
+    cone_finds nets sources = finds_rest list [] refl (IsAsForeseen foreseen nets) sources (λ m has. absurd (nothing m has))
       where
         nothing : (x : ℕ) → ¬ Contains [] x
         nothing x (k, inside, is) = absurd (let h : k < 0 = inside in omega (h, arith))
 
-  -- once they are set, all that reach these are as they are known
-  pub these_learnt : (known old new : Row) → All (IsAsKnown known old) cone.sources
-      → Learns known (nets_of_tables c list) old new → values_at new these ≡ values_at known these
-  these_learnt known old new sources learns =
-      map_agree (value_at new) (value_at known) these (λ j e low.
+  -- once they are set, all that reach these are as foreseen
+  pub these_learnt : (foreseen old new : Row) → All (IsAsForeseen foreseen old) cone.sources
+      → Learns foreseen (nets_of_tables c list) old new → values_at new these ≡ values_at foreseen these
+  these_learnt foreseen old new sources learns =
+      map_agree (value_at new) (value_at foreseen) these (λ j e low.
       let net : ℕ = get_or these j e in
       let reaches : ReachesSome c these net = reaches_itself c these j e low in
       elim (cases_Contains (table_nets c) net) [
@@ -102,5 +102,5 @@ module _ (c : Circuit) (these : List ℕ) (cone : Cone) (is_cone : IsCone c thes
             let (listed, net_m) = driver_listed net m t near is drives reaches in
             learns net (inl (subst (Contains (nets_of_tables c list)) net_m (Contains-map (net_of c) list m listed))))
         | inr free ↦
-            learns net (inr (All-contains (IsAsKnown known old) cone.sources net sources ((is_cone.sources net).1 (reaches, free))))
+            learns net (inr (All-contains (IsAsForeseen foreseen old) cone.sources net sources ((is_cone.sources net).1 (reaches, free))))
       ])

@@ -17,93 +17,93 @@ use Rattle.ds_design.specs.Circuit.{Circuit}
 use Rattle.ds_design.specs.InRange.{IsInRange}
 use Rattle.ds_design.specs.declared.design.Gate.{Gate}
 use Rattle.ds_settle.specs.Cone.{nets_of_tables}
-use Rattle.ds_opening.specs.Homes.{AreNetHomes}
+use Rattle.ds_opening.specs.NetSlots.{AreNetSlots}
 use Rattle.ds_opening.specs.Reads.{IsInSlots, ReadFrom}
 use Rattle.ds_opening.specs.Seen.{AreAt, AreReadBy, AreReadsOf, AreSearched, AreSeen, IsReadAt, IsReadBy}
 
--- a home is still found where more is
-pub at_kept : (homes : List ℕ) (own : ℕ) (list more : List ℕ) → ((s : ℕ) → Contains list s → Contains more s)
-    → (net : ℕ) → IsReadAt homes own list net → IsReadAt homes own more net
-at_kept homes own list more kept net (inl e) = inl e
-at_kept homes own list more kept net (inr has) = inr (kept (get_or homes net 0) has)
+-- the slot of a net is still found where more is
+pub at_kept : (net_slots : List ℕ) (own : ℕ) (list more : List ℕ) → ((s : ℕ) → Contains list s → Contains more s)
+    → (net : ℕ) → IsReadAt net_slots own list net → IsReadAt net_slots own more net
+at_kept net_slots own list more kept net (inl e) = inl e
+at_kept net_slots own list more kept net (inr has) = inr (kept (get_or net_slots net 0) has)
 
 -- a slot more
-seen_new : (own : ℕ) (seen list : List ℕ) → AreSeen own seen list → (home : ℕ) → home < length seen
-    → AreSeen own (set seen home (own + 1)) (list ++ home ∷ [])
-seen_new own seen list are home inside =
-    let size : length (set seen home (own + 1)) ≡ length seen = length-set seen home (own + 1) in
+seen_new : (own : ℕ) (seen list : List ℕ) → AreSeen own seen list → (net_slot : ℕ) → net_slot < length seen
+    → AreSeen own (set seen net_slot (own + 1)) (list ++ net_slot ∷ [])
+seen_new own seen list are net_slot inside =
+    let size : length (set seen net_slot (own + 1)) ≡ length seen = length-set seen net_slot (own + 1) in
     record {
-      within = subst (λ (n : ℕ). All (λ s. s < n) (list ++ home ∷ [])) (sym size)
-          (All-push (λ s. s < length seen) list home are.within inside);
-      low = All-set (λ s. s ≤ own + 1) seen home (own + 1) (omega arith) are.low;
-      stamped = λ s low is. elim (cases_eq s home) [
-        | inl e ↦ inr (subst (Contains (list ++ home ∷ [])) (sym e) (Contains-push list home))
+      within = subst (λ (n : ℕ). All (λ s. s < n) (list ++ net_slot ∷ [])) (sym size)
+          (All-push (λ s. s < length seen) list net_slot are.within inside);
+      low = All-set (λ s. s ≤ own + 1) seen net_slot (own + 1) (omega arith) are.low;
+      stamped = λ s low is. elim (cases_eq s net_slot) [
+        | inl e ↦ inr (subst (Contains (list ++ net_slot ∷ [])) (sym e) (Contains-push list net_slot))
         | inr ne ↦
-            elim (are.stamped s (omega (low, size, arith)) (sym (get_or-set_other seen home s (own + 1) 0 ne) ∙ is)) [
+            elim (are.stamped s (omega (low, size, arith)) (sym (get_or-set_other seen net_slot s (own + 1) 0 ne) ∙ is)) [
               | inl e ↦ inl e
-              | inr has ↦ inr (Contains-append_left list (home ∷ []) s has)
+              | inr has ↦ inr (Contains-append_left list (net_slot ∷ []) s has)
             ]
       ];
     }
 
-module _ (homes : List ℕ) (own slots : ℕ) (before nets seen list : List ℕ)
-    (are : AreSearched homes own slots before nets seen list) (net : ℕ)
-    (inside : get_or homes net 0 < length seen) where
-  -- a net whose home is found
-  pub searched_old : get_or seen (get_or homes net 0) 0 ≡ own + 1
-      → AreSearched homes own slots before (nets ++ net ∷ []) seen list
+module _ (net_slots : List ℕ) (own slots : ℕ) (before nets seen list : List ℕ)
+    (are : AreSearched net_slots own slots before nets seen list) (net : ℕ)
+    (inside : get_or net_slots net 0 < length seen) where
+  -- a net whose slot is found
+  pub searched_old : get_or seen (get_or net_slots net 0) 0 ≡ own + 1
+      → AreSearched net_slots own slots before (nets ++ net ∷ []) seen list
   searched_old is = record {
     found = are.found;
     long = are.long;
-    at = All-push (IsReadAt homes own list) nets net are.at (are.found.stamped (get_or homes net 0) inside is);
+    at = All-push (IsReadAt net_slots own list) nets net are.at (are.found.stamped (get_or net_slots net 0) inside is);
     kept = are.kept;
   }
 
   -- a net with a new one
-  pub searched_new : AreSearched homes own slots before (nets ++ net ∷ [])
-      (set seen (get_or homes net 0) (own + 1)) (list ++ get_or homes net 0 ∷ [])
+  pub searched_new : AreSearched net_slots own slots before (nets ++ net ∷ [])
+      (set seen (get_or net_slots net 0) (own + 1)) (list ++ get_or net_slots net 0 ∷ [])
   searched_new =
-      let home : ℕ = get_or homes net 0 in
-      let more : (s : ℕ) → Contains list s → Contains (list ++ home ∷ []) s =
-      λ s has. Contains-append_left list (home ∷ []) s has in
+      let net_slot : ℕ = get_or net_slots net 0 in
+      let more : (s : ℕ) → Contains list s → Contains (list ++ net_slot ∷ []) s =
+      λ s has. Contains-append_left list (net_slot ∷ []) s has in
       record {
-        found = seen_new own seen list are.found home inside;
-        long = length-set seen home (own + 1) ∙ are.long;
-        at = All-push (IsReadAt homes own (list ++ home ∷ [])) nets net
-            (All-weaker (IsReadAt homes own list) (IsReadAt homes own (list ++ home ∷ []))
-            (at_kept homes own list (list ++ home ∷ []) more) nets are.at)
-            (inr (Contains-push list home));
+        found = seen_new own seen list are.found net_slot inside;
+        long = length-set seen net_slot (own + 1) ∙ are.long;
+        at = All-push (IsReadAt net_slots own (list ++ net_slot ∷ [])) nets net
+            (All-weaker (IsReadAt net_slots own list) (IsReadAt net_slots own (list ++ net_slot ∷ []))
+            (at_kept net_slots own list (list ++ net_slot ∷ []) more) nets are.at)
+            (inr (Contains-push list net_slot));
         kept = λ s has. more s (are.kept s has);
       }
 
 -- a table more
-pub at_more : (c : Circuit) (homes : List ℕ) (own : ℕ) (list more done : List ℕ) (table : ℕ)
-    → AreAt c homes own list done → ((s : ℕ) → Contains list s → Contains more s)
-    → ((d : Gate) → All (IsReadAt homes own more) (get_or c.tables table d).table.inputs)
-    → AreAt c homes own more (done ++ table ∷ [])
-at_more c homes own list more done table are kept step k d has = elim (Contains-push_cases done table k has) [
+pub at_more : (c : Circuit) (net_slots : List ℕ) (own : ℕ) (list more done : List ℕ) (table : ℕ)
+    → AreAt c net_slots own list done → ((s : ℕ) → Contains list s → Contains more s)
+    → ((d : Gate) → All (IsReadAt net_slots own more) (get_or c.tables table d).table.inputs)
+    → AreAt c net_slots own more (done ++ table ∷ [])
+at_more c net_slots own list more done table are kept step k d has = elim (Contains-push_cases done table k has) [
   | inl early ↦
-      All-weaker (IsReadAt homes own list) (IsReadAt homes own more) (at_kept homes own list more kept)
+      All-weaker (IsReadAt net_slots own list) (IsReadAt net_slots own more) (at_kept net_slots own list more kept)
       (get_or c.tables k d).table.inputs (are k d early)
   | inr e ↦
-      subst (λ (n : ℕ). All (IsReadAt homes own more) (get_or c.tables n d).table.inputs) e (step d)
+      subst (λ (n : ℕ). All (IsReadAt net_slots own more) (get_or c.tables n d).table.inputs) e (step d)
 ]
 
 -- before the first group
-pub reads_none : (c : Circuit) (homes : List ℕ) (slots : ℕ) (groups reads : List (List ℕ)) → reads ≡ []
-    → AreReadBy c homes slots 0 groups reads
-reads_none c homes slots groups reads is = record {
+pub reads_none : (c : Circuit) (net_slots : List ℕ) (slots : ℕ) (groups reads : List (List ℕ)) → reads ≡ []
+    → AreReadBy c net_slots slots 0 groups reads
+reads_none c net_slots slots groups reads is = record {
   one_each = ap (λ (rs : List (List ℕ)). length rs) is;
   each = λ a low. absurd (omega (low, arith));
 }
 
--- a home is a slot that has a place among those seen, or there is none
-pub homes_low : (c : Circuit) (groups others : List (List ℕ)) (count places : ℕ) (homes : List ℕ)
-    → AreNetHomes (map (nets_of_tables c) groups ++ others) count homes
+-- the slot of a net is one that has a place among those seen, or there is none
+pub net_slots_low : (c : Circuit) (groups others : List (List ℕ)) (count places : ℕ) (net_slots : List ℕ)
+    → AreNetSlots (map (nets_of_tables c) groups ++ others) count net_slots
     → places ≡ length groups + length others
-    → All (λ s. (s < places) ⊎ (s ≡ 2 ^ 64 - 1)) homes
-homes_low c groups others count places homes are size =
-    subst (λ (n : ℕ). All (λ s. (s < n) ⊎ (s ≡ 2 ^ 64 - 1)) homes)
+    → All (λ s. (s < places) ⊎ (s ≡ 2 ^ 64 - 1)) net_slots
+net_slots_low c groups others count places net_slots are size =
+    subst (λ (n : ℕ). All (λ s. (s < n) ⊎ (s ≡ 2 ^ 64 - 1)) net_slots)
     (length-append (map (nets_of_tables c) groups) others
     ∙ (ap (λ (n : ℕ). n + length others) (length-map groups (nets_of_tables c)) ∙ sym size)) are.low
 
@@ -129,16 +129,16 @@ seen_own own seen inside low = record {
 }
 
 -- before the first table
-pub at_none : (c : Circuit) (homes : List ℕ) (own : ℕ) (list : List ℕ) → AreAt c homes own list []
-at_none c homes own list k d has =
+pub at_none : (c : Circuit) (net_slots : List ℕ) (own : ℕ) (list : List ℕ) → AreAt c net_slots own list []
+at_none c net_slots own list k d has =
     absurd (let (j, inside, is) = has in let h : j < 0 = inside in omega (h, arith))
 
--- what a table reads has its places among the homes
+-- what a table reads has its places among the slots of nets
 pub inputs_low : (c : Circuit) → IsInRange c → (gates : List Gate) (gate : Gate) (table : ℕ)
-    (inputs homes lent : List ℕ) → table < length c.tables → gates ≡ c.tables
-    → inputs ≡ (get_or gates table gate).table.inputs → length homes ≡ length c.nets → lent ≡ homes
+    (inputs net_slots lent : List ℕ) → table < length c.tables → gates ≡ c.tables
+    → inputs ≡ (get_or gates table gate).table.inputs → length net_slots ≡ length c.nets → lent ≡ net_slots
     → All (λ net. net < length lent) inputs
-inputs_low c in_range gates gate table inputs homes lent low same is long at =
+inputs_low c in_range gates gate table inputs net_slots lent low same is long at =
     subst (λ (n : ℕ). All (λ net. net < n) inputs) (sym (ap (λ (xs : List ℕ). length xs) at ∙ long))
     (subst (λ (xs : List ℕ). All (λ net. net < length c.nets) xs)
     (sym (is ∙ ap (λ (gs : List Gate). (get_or gs table gate).table.inputs) same)) (in_range.tables table gate low).0)
@@ -149,20 +149,20 @@ on_ok (Ok x) P p = p
 on_ok (Err e) P p = tt
 
 -- a group more
-pub reads_more : (c : Circuit) (homes : List ℕ) (slots n : ℕ) (groups reads : List (List ℕ)) (list : List ℕ)
-    → AreReadBy c homes slots n groups reads → IsReadBy c homes slots n (get_or groups n []) list
-    → AreReadBy c homes slots (n + 1) groups (reads ++ list ∷ [])
-reads_more c homes slots n groups reads list are step =
+pub reads_more : (c : Circuit) (net_slots : List ℕ) (slots n : ℕ) (groups reads : List (List ℕ)) (list : List ℕ)
+    → AreReadBy c net_slots slots n groups reads → IsReadBy c net_slots slots n (get_or groups n []) list
+    → AreReadBy c net_slots slots (n + 1) groups (reads ++ list ∷ [])
+reads_more c net_slots slots n groups reads list are step =
     let size : length reads ≡ n = are.one_each in
     record {
       one_each = length-append reads (list ∷ []) ∙ ap (λ (m : ℕ). m + 1) size;
       each = λ a low. elim (cases_eq a n) [
         | inl e ↦
-            subst (λ (m : ℕ). IsReadBy c homes slots m (get_or groups m []) (get_or (reads ++ list ∷ []) m [])) (sym e)
-            (subst (IsReadBy c homes slots n (get_or groups n [])) (sym (get_or_push reads list [] n size)) step)
+            subst (λ (m : ℕ). IsReadBy c net_slots slots m (get_or groups m []) (get_or (reads ++ list ∷ []) m [])) (sym e)
+            (subst (IsReadBy c net_slots slots n (get_or groups n [])) (sym (get_or_push reads list [] n size)) step)
         | inr ne ↦
             (let before : a < n = omega (low, ne, arith) in
-            subst (IsReadBy c homes slots a (get_or groups a []))
+            subst (IsReadBy c net_slots slots a (get_or groups a []))
             (sym (get_or_append_left reads (list ∷ []) [] a (omega (before, size, arith)))) (are.each a before))
       ];
     }
@@ -181,10 +181,10 @@ no_tables c groups slots a list past k d has =
     absurd (let (i, low, is) = subst (λ (xs : List ℕ). Contains xs k) (get_or_past groups a [] past) has in
     let h : i < 0 = low in omega (h, arith))
 
-module _ (c : Circuit) (in_range : IsInRange c) (others groups reads : List (List ℕ)) (homes : List ℕ)
+module _ (c : Circuit) (in_range : IsInRange c) (others groups reads : List (List ℕ)) (net_slots : List ℕ)
     (within : All (λ these. All (λ k. k < length c.tables) these) groups)
-    (are_homes : AreNetHomes (map (nets_of_tables c) groups ++ others) (length c.nets) homes)
-    (are : AreReadBy c homes (length groups + length others) (length groups) groups reads) where
+    (are_net_slots : AreNetSlots (map (nets_of_tables c) groups ++ others) (length c.nets) net_slots)
+    (are : AreReadBy c net_slots (length groups + length others) (length groups) groups reads) where
   abbrev slots : List (List ℕ)
   slots = map (nets_of_tables c) groups ++ others
 
@@ -196,16 +196,16 @@ module _ (c : Circuit) (in_range : IsInRange c) (others groups reads : List (Lis
     abbrev list : List ℕ
     list = get_or reads a []
 
-    by : IsReadBy c homes (length groups + length others) a (get_or groups a []) (get_or reads a [])
+    by : IsReadBy c net_slots (length groups + length others) a (get_or groups a []) (get_or reads a [])
     by = are.each a inside
 
-    found : (net : ℕ) → net < length c.nets → IsReadAt homes a list net → IsInSlots slots a list net
+    found : (net : ℕ) → net < length c.nets → IsReadAt net_slots a list net → IsInSlots slots a list net
     found net low (inl e) =
-        (get_or homes net 0, inl e, are_homes.has net low (omega (e, inside, many, arith)))
+        (get_or net_slots net 0, inl e, are_net_slots.has net low (omega (e, inside, many, arith)))
     found net low (inr has) =
-        let near : get_or homes net 0 < length groups + length others =
-        All-contains (λ s. s < length groups + length others) list (get_or homes net 0) by.within has in
-        (get_or homes net 0, inr has, are_homes.has net low (omega (near, many, arith)))
+        let near : get_or net_slots net 0 < length groups + length others =
+        All-contains (λ s. s < length groups + length others) list (get_or net_slots net 0) by.within has in
+        (get_or net_slots net 0, inr has, are_net_slots.has net low (omega (near, many, arith)))
 
     all_found : ¬ Contains list a → (k : ℕ) (d : Gate) → Contains (get_or groups a []) k
         → All (IsInSlots slots a list) (get_or c.tables k d).table.inputs
@@ -237,9 +237,9 @@ if_ok (Ok x) P Q so is = so x is
 if_ok (Err e) P Q so is = tt
 
 -- a list of the own slot says nothing
-pub own_by : (c : Circuit) (homes : List ℕ) (slots own : ℕ) (tables list : List ℕ) → own < slots
-    → list ≡ own ∷ [] → IsReadBy c homes slots own tables list
-own_by c homes slots own tables these inside is = record {
+pub own_by : (c : Circuit) (net_slots : List ℕ) (slots own : ℕ) (tables list : List ℕ) → own < slots
+    → list ≡ own ∷ [] → IsReadBy c net_slots slots own tables list
+own_by c net_slots slots own tables these inside is = record {
   within = subst (λ (xs : List ℕ). All (λ s. s < slots) xs) (sym is) (one_below own slots inside);
   each = λ free. absurd (free (subst (λ (xs : List ℕ). Contains xs own) (sym is) (Contains-head own [])));
 }

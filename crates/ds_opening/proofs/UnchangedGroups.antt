@@ -13,7 +13,7 @@ use Rattle.ds_opening.specs.Groups.{Grouping, group_of}
 use Rattle.ds_base.specs.Scratch.{HoldsTurn, Kept, Memory, Remembers, value_in}
 use Rattle.ds_settle.specs.Cone.{net_of, nets_of_tables}
 use Rattle.ds_settle.proofs.CircuitTables.{net_is}
-use Rattle.ds_opening.specs.Noted.{AreDriven, FindInputs, HasReads, IsAsKnown, IsGroupBefore, IsSlot, KeepsGroup, nets_of_turn}
+use Rattle.ds_opening.specs.Noted.{AreDriven, FindInputs, HasReads, IsAsForeseen, IsGroupBefore, IsSlot, KeepsGroup, nets_of_turn}
 use Rattle.ds_opening.proofs.Learnt.{blank}
 
 -- the slots are there as the row goes on
@@ -27,46 +27,46 @@ reads_on g old new turns stayed has = record {
 }
 
 -- tables that read on these nets what they read the turn before drive what they drove, and where
--- they read known values, that is known
-module _ (c : Circuit) (known before nets : Row) where
+-- they read foreseen values, that is as foreseen
+module _ (c : Circuit) (foreseen before nets : Row) where
   -- these nets have the values of the turn before
   abbrev IsAsBefore : ℕ → Type 0
   IsAsBefore net = value_at nets net ≡ value_at before net
 
-  pub all_known : (ks : List ℕ) → All (λ k. k < length c.tables) ks → AreDriven c before ks
+  pub all_foreseen : (ks : List ℕ) → All (λ k. k < length c.tables) ks → AreDriven c before ks
       → ((k : ℕ) (d : Gate) → Contains ks k → All IsAsBefore (get_or c.tables k d).table.inputs)
       → ((net : ℕ) → Contains (nets_of_tables c ks) net → IsAsBefore net)
-      → (P : ℕ → Type 0) → ((net : ℕ) → P net → IsAsKnown known nets net)
-      → FindInputs c known P ks
-      → (net : ℕ) → Contains (nets_of_tables c ks) net → IsAsKnown known nets net
-  all_known [] within driven reads drives P so finds net has =
+      → (P : ℕ → Type 0) → ((net : ℕ) → P net → IsAsForeseen foreseen nets net)
+      → FindInputs c foreseen P ks
+      → (net : ℕ) → Contains (nets_of_tables c ks) net → IsAsForeseen foreseen nets net
+  all_foreseen [] within driven reads drives P so finds net has =
       absurd (let (k, low, is) = has in let h : k < 0 = low in omega (h, arith))
-  all_known (k ∷ ks) within driven reads drives P so finds net has =
+  all_foreseen (k ∷ ks) within driven reads drives P so finds net has =
       let gate : Gate = get_or c.tables k blank in
       let inside : k < length c.tables = within 0 0 (omega arith) in
       let here : Contains (k ∷ ks) k = Contains-head k ks in
       let out : net_of c k ≡ gate.output = net_is c k blank inside in
-      let first : IsAsKnown known nets (net_of c k) =
+      let first : IsAsForeseen foreseen nets (net_of c k) =
       drives (net_of c k) (Contains-head (net_of c k) (nets_of_tables c ks))
       ∙ (ap (value_at before) out ∙ (driven k blank here
       ∙ (sym (value_agrees gate.table nets before (reads k blank here))
-      ∙ (value_agrees gate.table nets known (λ i d low. so (get_or gate.table.inputs i d) ((finds.0 blank).1 i d low))
-      ∙ (sym (finds.0 blank).0 ∙ ap (value_at known) (sym out)))))) in
+      ∙ (value_agrees gate.table nets foreseen (λ i d low. so (get_or gate.table.inputs i d) ((finds.0 blank).1 i d low))
+      ∙ (sym (finds.0 blank).0 ∙ ap (value_at foreseen) (sym out)))))) in
       elim (Contains-split (net_of c k) (nets_of_tables c ks) net has) [
-        | inl e ↦ subst (IsAsKnown known nets) e first
-        | inr late ↦ all_known ks (λ i d low. within (suc i) d (omega (low, arith)))
+        | inl e ↦ subst (IsAsForeseen foreseen nets) e first
+        | inr late ↦ all_foreseen ks (λ i d low. within (suc i) d (omega (low, arith)))
             (λ j d has_j. driven j d (Contains-tail k ks j has_j))
             (λ j d has_j. reads j d (Contains-tail k ks j has_j))
             (λ n has_n. drives n (Contains-tail (net_of c k) (nets_of_tables c ks) n has_n))
             (λ n. P n ⊎ (n ≡ net_of c k))
             (λ n which. elim which [
               | inl p ↦ so n p
-              | inr e ↦ subst (IsAsKnown known nets) (sym e) first
+              | inr e ↦ subst (IsAsForeseen foreseen nets) (sym e) first
             ]) finds.1 net late
       ]
 
-module _ (c : Circuit) (g : Grouping) (m : Memory) (turn a : ℕ) (known : Row)
-    (at : IsSlot m turn a (nets_of_tables c (group_of g a)) known)
+module _ (c : Circuit) (g : Grouping) (m : Memory) (turn a : ℕ) (foreseen : Row)
+    (at : IsSlot m turn a (nets_of_tables c (group_of g a)) foreseen)
     (was : IsGroupBefore c g m turn a) (old : Kept) (remembers : Remembers m old)
     (keeps : KeepsGroup g turn a old)
     (within : All (λ s. s < length old.turns) (get_or g.reads a [])) where
@@ -117,13 +117,13 @@ module _ (c : Circuit) (g : Grouping) (m : Memory) (turn a : ℕ) (known : Row)
       → value_at old.nets net ≡ value_at before net
   drives net has = held a net own (subst (λ (xs : List ℕ). Contains xs net) (sym at.is) has)
 
-  -- what the group holds is known, and it is what it held the turn before
-  pub group_known : All (λ k. k < length c.tables) (group_of g a)
-      → FindInputs c known (IsAsKnown known old.nets) (group_of g a)
-      → (net : ℕ) → Contains (nets_of_tables c (group_of g a)) net → IsAsKnown known old.nets net
-  group_known inside finds =
-      all_known c known before old.nets (group_of g a) inside (was.driven keeps.later) reads drives
-      (IsAsKnown known old.nets) (λ net p. p) finds
+  -- what the group holds is as foreseen, and it is what it held the turn before
+  pub group_foreseen : All (λ k. k < length c.tables) (group_of g a)
+      → FindInputs c foreseen (IsAsForeseen foreseen old.nets) (group_of g a)
+      → (net : ℕ) → Contains (nets_of_tables c (group_of g a)) net → IsAsForeseen foreseen old.nets net
+  group_foreseen inside finds =
+      all_foreseen c foreseen before old.nets (group_of g a) inside (was.driven keeps.later) reads drives
+      (IsAsForeseen foreseen old.nets) (λ net p. p) finds
 
   pub group_held : HoldsTurn m old.nets (turn - 1) (nets_of_tables c (group_of g a))
   group_held = subst (λ (xs : List ℕ). HoldsTurn m old.nets (turn - 1) xs) at.is own

@@ -9,7 +9,7 @@ pub mod Scheduled
 pub mod Lists
 pub mod Groups
 pub mod Reads
-pub mod Homes
+pub mod NetSlots
 pub mod Seen
 pub mod Packed
 pub mod TurnOfOpenings

@@ -49,17 +49,17 @@ abbrev pub AreSlotsApart : List (List ℕ) → Type 0
 AreSlotsApart slots = (a b net : ℕ) → Contains (slice_index_or slots a []) net
     → Contains (slice_index_or slots b []) net → a ≡ b
 
--- a slot has these nets and no other slot has one of them, and in the turn they have known values
-pub record IsSlot (m : Memory) (turn slot : ℕ) (these : List ℕ) (known : Row) : Type 0 where
+-- a slot has these nets and no other slot has one of them; in the turn they have foreseen values
+pub record IsSlot (m : Memory) (turn slot : ℕ) (these : List ℕ) (foreseen : Row) : Type 0 where
   pub inside : slot < length m.slots
   pub is : slice_index_or m.slots slot [] ≡ these
   pub distinct : AreSlotsApart m.slots
-  pub values : (net : ℕ) → value_in m turn net ≡ value_at known net
+  pub values : (net : ℕ) → value_in m turn net ≡ value_at foreseen net
 
 -- each group has its slot
 abbrev pub AreGroupSlots : Circuit → Grouping → Memory → ℕ → Row → Type 0
-AreGroupSlots c g m turn known = (a : ℕ) → a < length g.groups
-    → IsSlot m turn a (nets_of_tables c (group_of g a)) known
+AreGroupSlots c g m turn foreseen = (a : ℕ) → a < length g.groups
+    → IsSlot m turn a (nets_of_tables c (group_of g a)) foreseen
 
 -- these slots are all noted for this turn and as ones that have stayed
 abbrev pub HaveStayed : ℕ → Kept → List ℕ → Type 0
@@ -72,9 +72,9 @@ pub record KeepsGroup (g : Grouping) (turn a : ℕ) (k : Kept) : Type 0 where
   pub noted : slice_index k.turns a ≡ turn - 1
   pub stayed : HaveStayed turn k (slice_index_or g.reads a [])
 
--- a net is as it is known
-abbrev pub IsAsKnown : Row → Row → ℕ → Type 0
-IsAsKnown known nets net = value_at nets net ≡ value_at known net
+-- a net is as foreseen
+abbrev pub IsAsForeseen : Row → Row → ℕ → Type 0
+IsAsForeseen foreseen nets net = value_at nets net ≡ value_at foreseen net
 
 -- as many nets and as many slots
 pub record IsAsLong (old new : Kept) : Type 0 where
@@ -109,44 +109,44 @@ pub record HasReads (g : Grouping) (k : Kept) : Type 0 where
   pub stayed : length k.stayed ≡ length k.turns
   pub slots : (a : ℕ) → All (λ s. s < length k.turns) (slice_index_or g.reads a [])
 
--- these nets are as they are known, and so is each that was so, and what is noted is remembered
-pub record IsLearnt (m : Memory) (known : Row) (these : List ℕ) (old new : Kept) : Type 0 where
+-- these nets are as foreseen, and so is each that was so, and what is noted is remembered
+pub record IsLearnt (m : Memory) (foreseen : Row) (these : List ℕ) (old new : Kept) : Type 0 where
   pub remembers : Remembers m new
-  pub learns : Learns known these old.nets new.nets
+  pub learns : Learns foreseen these old.nets new.nets
 
--- the nets of these nodes are as they are known, and what is noted is remembered
-pub record AreRowsLearnt (m : Memory) (known : Row) (bits : List (List ℕ)) (numbers : List ℕ)
+-- the nets of these nodes are as foreseen, and what is noted is remembered
+pub record AreRowsLearnt (m : Memory) (foreseen : Row) (bits : List (List ℕ)) (numbers : List ℕ)
     (new : Kept) : Type 0 where
   pub remembers : Remembers m new
-  pub learnt : AreLearnt known bits numbers new.nets
+  pub learnt : AreLearnt foreseen bits numbers new.nets
 
--- the opening reads the rows of those of these nodes that are not learnt, on known nets, and each
--- node has its slot
-pub record AreReadRows (bits : List (List ℕ)) (first : ℕ) (o : Opening) (k : Kept) (known : Row)
+-- the opening reads the rows of those of these nodes that are not learnt, on foreseen nets, and
+-- each node has its slot
+pub record AreReadRows (bits : List (List ℕ)) (first : ℕ) (o : Opening) (k : Kept) (foreseen : Row)
     (nodes : List ℕ) : Type 0 where
-  pub from : o.from.now ≡ packed_rows (is_learnt first k o.turn) known bits nodes
+  pub from : o.from.now ≡ packed_rows (is_learnt first k o.turn) foreseen bits nodes
   pub inside : All (λ node. node < length bits) nodes
   pub within : All (λ node. AreInside (slice_index_or bits node []) k.nets) nodes
   pub slots : All (λ node. first + node < length k.turns) nodes
 
--- each of these tables reads what P holds of or what an earlier one drives, and the known values
+-- each of these tables reads what P holds of or what an earlier one drives, and the foreseen values
 -- are those of the tables
 abbrev pub FindInputs : Circuit → Row → (ℕ → Type 0) → List ℕ → Type 0
-FindInputs c known P [] = ⊤
-FindInputs c known P (k ∷ ks) = ((d : Gate) → let t = slice_index_or c.tables k d in
-    (value_at known t.output ≡ value_of t.table known) × All P t.table.inputs)
-    × FindInputs c known (λ net. P net ⊎ (net ≡ net_of c k)) ks
+FindInputs c foreseen P [] = ⊤
+FindInputs c foreseen P (k ∷ ks) = ((d : Gate) → let t = slice_index_or c.tables k d in
+    (value_at foreseen t.output ≡ value_of t.table foreseen) × All P t.table.inputs)
+    × FindInputs c foreseen (λ net. P net ⊎ (net ≡ net_of c k)) ks
 
--- what these groups read, each when it is set, is as it is known in a row that remembers, and of
--- the known row no value is unknown
+-- what these groups read, each when it is set, is as foreseen in a row that remembers, and of
+-- the foreseen row no value is unknown
 pub record FindKnown (c : Circuit) (g : Grouping) (turn : ℕ) (list : List ℕ) (k : Kept) : Type 0
   where
     pub memory : Memory
-    pub known : Row
-    pub sure : (net : ℕ) → value_at known net ≢ Unknown
-    pub slots : AreGroupSlots c g memory turn known
+    pub foreseen : Row
+    pub sure : (net : ℕ) → value_at foreseen net ≢ Unknown
+    pub slots : AreGroupSlots c g memory turn foreseen
     pub before : AreGroupsBefore c g memory turn
-    pub finds : FindInputs c known (IsAsKnown known k.nets) (tables_in g list)
+    pub finds : FindInputs c foreseen (IsAsForeseen foreseen k.nets) (tables_in g list)
     pub remembers : Remembers memory k
 
 -- the memory of a split design in a turn of its clocked run and the one before, which a row fits

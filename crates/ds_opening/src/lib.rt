@@ -28,12 +28,12 @@
 mod classes;
 mod cone_groups;
 mod gaps;
-mod homes;
 mod lacking;
 pub mod laws;
 mod learning;
 mod lists;
 mod members;
+mod net_slots;
 mod opening;
 mod packed;
 mod ranked;

@@ -1,7 +1,6 @@
 //! What the opening of a node computes, in a row that remembers what was computed in a turn.
-ghost use Rattle.std.specs.Prelude.{◌≡◌, ◌≤◌, ◌<◌, ◌+◌, ◌++◌, ℕ};
-ghost use Rattle.std.specs.Prelude.{◌^◌, true, All, IsTrue, List, [], length};
-ghost use Rattle.std.specs.Prelude.{slice_index_or, vec_capacity, vec_len};
+ghost use Rattle.std.specs.Prelude.{◌≡◌, ◌≤◌, ◌<◌, ◌+◌, ◌++◌, ℕ, ◌^◌, true, All, IsTrue};
+ghost use Rattle.std.specs.Prelude.{List, [], length, slice_index_or, vec_capacity, vec_len};
 ghost use Rattle.ds_base.specs.Values.{Row};
 ghost use Rattle.ds_cover.specs.Bank.{AreNetsWithin, after_tables};
 ghost use Rattle.ds_cover.specs.Cover.{values_at};
@@ -19,10 +18,9 @@ ghost use Rattle.ds_opening.specs.Packed.{AreInside, packed};
 ghost use Rattle.ds_base.specs.Word.{count_of_words};
 ghost use Rattle.ds_opening.specs.Noted.{AreConeGroups, FindInputs, FindKnown, AreGroupSlots};
 ghost use Rattle.ds_opening.specs.Noted.{AreGroupsBefore, AreRowsLearnt, HasReads, HaveStayed};
-ghost use Rattle.ds_opening.specs.Noted.{IsAsKnown};
-ghost use Rattle.ds_opening.specs.Noted.{IsGroupBefore, KeepsGroup};
+ghost use Rattle.ds_opening.specs.Noted.{AreReadRows, IsAsForeseen, IsGroupBefore, KeepsGroup};
+ghost use Rattle.ds_opening.specs.Noted.{IsSlot};
 ghost use Rattle.ds_opening.specs.Noted.{IsAsLong, IsLearnt, IsNotedOpening, IsSettlingOpening};
-ghost use Rattle.ds_opening.specs.Noted.{AreReadRows, IsSlot};
 ghost use Rattle.ds_opening.specs.TurnOfOpenings.{Turn, value_taken};
 
 use crate::TableGroups;
@@ -129,15 +127,15 @@ fn learn_rows(bits: &[Seq<NetId>], first: usize, opening: &Opening, scratch: &mu
     requires turn { 0 < opening.now.turn }
     requires slots { length scratch.old.stayed ≡ length scratch.old.turns }
     requires few { (first < 2 ^ 63) × (length bits.now < 2 ^ 32) }
-    requires read { (known : Row) × (nodes : List ℕ)
-        × AreReadRows bits.now first opening.now scratch.old known nodes }
+    requires read { (foreseen : Row) × (nodes : List ℕ)
+        × AreReadRows bits.now first opening.now scratch.old foreseen nodes }
 
-    ensures value { (m : Memory) (known : Row) (nodes : List ℕ)
-        → AreReadRows bits.now first opening.now scratch.old known nodes
+    ensures value { (m : Memory) (foreseen : Row) (nodes : List ℕ)
+        → AreReadRows bits.now first opening.now scratch.old foreseen nodes
         → All (λ node. IsSlot m opening.now.turn (first + node)
-        (slice_index_or bits.now node []) known) nodes
+        (slice_index_or bits.now node []) foreseen) nodes
         → Remembers m scratch.old
-        → AreRowsLearnt m known bits.now nodes scratch.new }
+        → AreRowsLearnt m foreseen bits.now nodes scratch.new }
     ensures same { IsAsLong scratch.old scratch.new }
 {
     let mut rest = opening.from;
@@ -158,9 +156,9 @@ fn learn_row(row: &[u64], these: &[NetId], slot: usize, turn: u64, scratch: &mut
     requires slot { HasSlot slot scratch.old }
     requires words { length row.now ≡ count_of_words (length these.now) }
 
-    ensures value { (m : Memory) (known : Row) → IsSlot m turn slot these.now known
-        → row.now ≡ packed (values_at known these.now) → Remembers m scratch.old
-        → IsLearnt m known these.now scratch.old scratch.new }
+    ensures value { (m : Memory) (foreseen : Row) → IsSlot m turn slot these.now foreseen
+        → row.now ≡ packed (values_at foreseen these.now) → Remembers m scratch.old
+        → IsLearnt m foreseen these.now scratch.old scratch.new }
     ensures same { IsAsLong scratch.old scratch.new }
 {
     let was_noted = scratch.is_noted(slot, turn - 1);
@@ -185,14 +183,14 @@ fn set_groups(
     requires known { opening.now.known ≡ true
         → FindKnown netlist.now groups.now opening.now.turn list.now scratch.old }
 
-    ensures value { (m : Memory) (known : Row)
-        → AreGroupSlots netlist.now groups.now m opening.now.turn known
+    ensures value { (m : Memory) (foreseen : Row)
+        → AreGroupSlots netlist.now groups.now m opening.now.turn foreseen
         → AreGroupsBefore netlist.now groups.now m opening.now.turn
-        → FindInputs netlist.now known (IsAsKnown known scratch.old.nets)
+        → FindInputs netlist.now foreseen (IsAsForeseen foreseen scratch.old.nets)
         (tables_in groups.now list.now)
         → Remembers m scratch.old
-        → IsLearnt m known (nets_of_tables netlist.now (tables_in groups.now list.now)) scratch.old
-        scratch.new }
+        → IsLearnt m foreseen (nets_of_tables netlist.now (tables_in groups.now list.now))
+        scratch.old scratch.new }
     ensures same { IsAsLong scratch.old scratch.new }
 {
     // Read for the fact that its numbers name what is there.
@@ -220,14 +218,14 @@ fn set_group(
         → FindsKnown (in_table_order groups.now.bank (group_of groups.now number))
         scratch.old.nets }
 
-    ensures value { (m : Memory) (known : Row)
+    ensures value { (m : Memory) (foreseen : Row)
         → IsSlot m opening.now.turn number
-        (nets_of_tables netlist.now (group_of groups.now number)) known
+        (nets_of_tables netlist.now (group_of groups.now number)) foreseen
         → IsGroupBefore netlist.now groups.now m opening.now.turn number
-        → FindInputs netlist.now known (IsAsKnown known scratch.old.nets)
+        → FindInputs netlist.now foreseen (IsAsForeseen foreseen scratch.old.nets)
         (group_of groups.now number)
         → Remembers m scratch.old
-        → IsLearnt m known (nets_of_tables netlist.now (group_of groups.now number)) scratch.old
+        → IsLearnt m foreseen (nets_of_tables netlist.now (group_of groups.now number)) scratch.old
         scratch.new }
     ensures same { IsAsLong scratch.old scratch.new }
 {

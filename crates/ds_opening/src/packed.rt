@@ -72,8 +72,8 @@ fn word_from(nets: &Row3, these: &[NetId]) -> u64
 pub(crate) fn put_values(words: &[u64], these: &[NetId], nets: &mut Row3) -> bool
     requires within { All (λ net. net < length nets.old) these.now }
     requires words { length words.now ≡ count_of_words (length these.now) }
-    ensures value { (known : Row) → words.now ≡ packed (values_at known these.now)
-        → Learns known these.now nets.old nets.new }
+    ensures value { (foreseen : Row) → words.now ≡ packed (values_at foreseen these.now)
+        → Learns foreseen these.now nets.old nets.new }
     ensures others { LeavesOthers these.now nets.old nets.new }
     ensures same { length nets.new ≡ length nets.old }
     ensures stayed { IsTrue result → AreAsBefore nets.old nets.new }
@@ -85,8 +85,8 @@ pub(crate) fn put_values(words: &[u64], these: &[NetId], nets: &mut Row3) -> boo
 fn put_words(words: &[u64], these: &[NetId], nets: &mut [Value]) -> bool
     requires within { All (λ net. net < length nets.old) these.now }
     requires words { length words.now ≡ count_of_words (length these.now) }
-    ensures value { (known : Row) → words.now ≡ packed (values_at known these.now)
-        → Learns known these.now nets.old nets.new }
+    ensures value { (foreseen : Row) → words.now ≡ packed (values_at foreseen these.now)
+        → Learns foreseen these.now nets.old nets.new }
     ensures others { LeavesOthers these.now nets.old nets.new }
     ensures same { length nets.new ≡ length nets.old }
     ensures stayed { IsTrue result → AreAsBefore nets.old nets.new }
@@ -108,8 +108,8 @@ fn put_words(words: &[u64], these: &[NetId], nets: &mut [Value]) -> bool
 // true, no net has changed.
 fn put_word(word: u64, these: &[NetId], nets: &mut [Value]) -> bool
     requires within { All (λ net. net < length nets.old) these.now }
-    ensures value { (known : Row) → word ≡ number_of_values (values_at known these.now)
-        → Learns known these.now nets.old nets.new }
+    ensures value { (foreseen : Row) → word ≡ number_of_values (values_at foreseen these.now)
+        → Learns foreseen these.now nets.old nets.new }
     ensures others { LeavesOthers these.now nets.old nets.new }
     ensures same { length nets.new ≡ length nets.old }
     ensures stayed { IsTrue result → AreAsBefore nets.old nets.new }

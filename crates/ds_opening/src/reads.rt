@@ -5,16 +5,16 @@ ghost use Rattle.std.specs.List.{range_with_len};
 ghost use Rattle.ds_design.specs.InRange.{IsInRange};
 ghost use Rattle.ds_opening.specs.Seen.{AreReadsOf, AreSeen, IsReadAt, IsReadBy};
 
-use crate::homes::homes_of;
+use crate::net_slots::net_slots_of;
 use ds_base::{NetId, OutOfMemory, Seq};
 use ds_design::Design;
 use std::alloc::Global;
 
 // A design, and for each of its nets a slot that has it, or `usize::MAX`.
 #[derive(Drop)]
-struct Housed<'n> {
+struct Assigned<'n> {
     design: &'n Design,
-    homes: Vec<usize>,
+    net_slots: Vec<usize>,
 }
 
 /// The slots that each of these groups reads, or its own alone where it reads what is in no slot,
@@ -33,12 +33,12 @@ pub(crate) fn reads_of(
     if !are_large(groups.len(), design.tables().len()) {
         return own_lists(alloc, groups.len());
     }
-    let homes = homes_of(alloc, design, groups, others)?;
-    let housed = Housed { design, homes };
+    let net_slots = net_slots_of(alloc, design, groups, others)?;
+    let assigned = Assigned { design, net_slots };
     let mut seen: Vec<usize> = vec![in alloc; 0; groups.len() + others.len()]?;
     let mut reads = Vec::with_capacity(alloc, groups.len())?;
     for (own, group) in groups.iter().enumerate() {
-        reads.push(read_by(alloc, &housed, group.as_slice(), &mut seen, own)?)?;
+        reads.push(read_by(alloc, &assigned, group.as_slice(), &mut seen, own)?)?;
     }
     Ok(reads)
 }
@@ -74,61 +74,62 @@ fn own_list(alloc: Global, own: usize) -> Result<Seq<usize>, OutOfMemory>
 // is one more than the group's own.
 fn read_by(
     alloc: Global,
-    housed: &Housed,
+    assigned: &Assigned,
     tables: &[u32],
     seen: &mut Vec<usize>,
     own: usize,
 ) -> Result<Seq<usize>, OutOfMemory>
-    requires tables { All (λ k. k < length housed.now.design.now.tables) tables.now }
-    requires nets { length housed.now.homes.items ≡ length housed.now.design.now.nets }
-    requires homes { All (λ s. (s < length seen.old.items) ⊎ (s ≡ 2 ^ 64 - 1))
-        housed.now.homes.items }
+    requires tables { All (λ k. k < length assigned.now.design.now.tables) tables.now }
+    requires nets { length assigned.now.net_slots.items ≡ length assigned.now.design.now.nets }
+    requires net_slots { All (λ s. (s < length seen.old.items) ⊎ (s ≡ 2 ^ 64 - 1))
+        assigned.now.net_slots.items }
     requires own { own < length seen.old.items }
     requires unseen { All (λ s. s < own + 1) seen.old.items }
 
-    ensures ok { IfOk result (IsReadBy housed.now.design.now housed.now.homes.items
+    ensures ok { IfOk result (IsReadBy assigned.now.design.now assigned.now.net_slots.items
         (length seen.old.items) own tables.now) }
     ensures same { OnOk result (length seen.new.items ≡ length seen.old.items) }
     ensures seen { OnOk result (All (λ s. s ≤ own + 1) seen.new.items) }
 {
-    let gates = housed.design.tables();
+    let gates = assigned.design.tables();
     let mut list = Seq::new(alloc);
     seen[own] = own + 1;
     for table in tables {
         let inputs = gates[*table as usize].table.inputs();
-        if !add_homes(housed.homes.as_slice(), inputs, seen, own, &mut list)? {
+        if !add_slots(assigned.net_slots.as_slice(), inputs, seen, own, &mut list)? {
             return own_list(alloc, own);
         }
     }
     Ok(list)
 }
 
-// Adds the homes of these nets that are not seen, and says whether each has one.
-fn add_homes(
-    homes: &[usize],
+// Adds the slots of these nets that are not seen, and says whether each has one.
+fn add_slots(
+    net_slots: &[usize],
     nets: &[NetId],
     seen: &mut Vec<usize>,
     own: usize,
     list: &mut Seq<usize>,
 ) -> Result<bool, OutOfMemory>
-    requires nets { All (λ net. net < length homes.now) nets.now }
-    requires homes { All (λ s. (s < length seen.old.items) ⊎ (s ≡ 2 ^ 64 - 1)) homes.now }
+    requires nets { All (λ net. net < length net_slots.now) nets.now }
+    requires net_slots { All (λ s. (s < length seen.old.items) ⊎ (s ≡ 2 ^ 64 - 1)) net_slots.now }
     requires own { own < length seen.old.items }
     requires seen { AreSeen own seen.old.items list.old }
 
-    ensures all { IfOk result (λ all. IsTrue all → All (IsReadAt homes.now own list.new) nets.now) }
+    ensures all { IfOk result
+        (λ all. IsTrue all → All (IsReadAt net_slots.now own list.new) nets.now) }
     ensures seen { OnOk result (AreSeen own seen.new.items list.new) }
     ensures same { OnOk result (length seen.new.items ≡ length seen.old.items) }
     ensures kept { OnOk result ((s : ℕ) → Contains list.old s → Contains list.new s) }
 {
     for net in nets {
-        let home = homes[net.index()];
-        if home == usize::MAX {
+        let net_slot = net_slots[net.index()];
+        if net_slot == usize::MAX {
             return Ok(false);
         }
-        if seen[home] != own + 1 {
-            seen[home] = own + 1;
-            list.push(home)?;
+        if seen[net_slot] != own + 1 {
+            seen[net_slot] = own + 1;
+            list.push(net_slot)?;
         }
     }
     Ok(true)

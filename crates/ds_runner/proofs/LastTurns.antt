@@ -1,4 +1,4 @@
--- Turns are split and joined, and the last turn finds every pass at home.
+-- Turns are split and joined, and the last turn finds every pass free.
 use Rattle.std.proofs.Common.{◌≡◌, ◌≢◌, ℕ, zero, suc, refl, Bool, ◌+◌, ◌<◌, true, false, List, [], ◌∷◌, length, set, sym, ap, ◌∙◌, subst, ⊎_elim, arith, sum_by}
 use Rattle.std.proofs.lemmas.Bool.{false≢true}
 use Rattle.std.proofs.lemmas.List.{length-replicate}
@@ -16,7 +16,7 @@ use Rattle.ds_runner.specs.declared.plays.Key.{Key}
 use Rattle.std.proofs.Common.{Some}
 use Rattle.ds_fabric.specs.Showing.{Showing}
 use Rattle.ds_runner.specs.TurnstileRule.{Slot, Alone, fabric, run, has_out, taken, nodes_of_key, Turning, TurnSeat, base, sum_below, observed_permits, keeps_permits, one_permit, joined, spent_turn}
-use Rattle.ds_runner.proofs.TurnstileRuleLemmas.{St, sum_changed, sum_same, unmoved, permits_low, two_permits, word_home}
+use Rattle.ds_runner.proofs.TurnstileRuleLemmas.{St, sum_changed, sum_same, unmoved, permits_low, two_permits, word_free}
 use Rattle.ds_runner.proofs.TurnstileAtStart.{fires_of, fires-at, sum-fires}
 
 pub splits : (k : Key) (id : ℕ) (v : TurnView) → v.live ≡ true → 1 < v.permits → Splits (Turning k) id v (keeps_permits v) (one_permit v)
@@ -28,7 +28,7 @@ splits k id v live some-permits s o me =
       wide = o.wide;
       slots = o.slots;
       bits = o.bits;
-      home = o.home;
+      free = o.free;
       away = λ j h e. let a = o.away j h e in dite (ℕ_discrete (o.owner j) id)
           (λ mine. let u-is : a.0 ≡ v = same_at s.views id a.0 v (subst (λ i. get_elem? s.views i ≡ some a.0) mine a.1) me in (
             left,
@@ -75,7 +75,7 @@ joins k id other v w live live' none-out s o me apart him =
       wide = o.wide;
       slots = o.slots;
       bits = o.bits;
-      home = o.home;
+      free = o.free;
       away = λ j h e. let a = o.away j h e in dite (ℕ_discrete (o.owner j) id)
           (λ mine. let u-is : a.0 ≡ v = same_at s.views id a.0 v (subst (λ i. get_elem? s.views i ≡ some a.0) mine a.1) me in (
             u,
@@ -131,11 +131,11 @@ observes_permits k n id m s o wide me _ = (
 )
 
 -- the turn that has all permits and no node out finds the pass of every node in its slot
-pub every_pass_home : (k : Key) (s : St) (o : Turning k s) (id : ℕ) (v : TurnView) → get_elem? s.views id ≡ some v → v.live ≡ true → v.permits ≡ k.turns → ((j : ℕ) → has_out v j ≡ false)
+pub every_pass_free : (k : Key) (s : St) (o : Turning k s) (id : ℕ) (v : TurnView) → get_elem? s.views id ≡ some v → v.live ≡ true → v.permits ≡ k.turns → ((j : ℕ) → has_out v j ≡ false)
     → (xs : List Slot) → length s.homes ≡ length xs → ((j : ℕ) (y : Slot) → get_elem? s.homes j ≡ some (some y) → get_elem? xs j ≡ some y)
     → (l : ℕ) → l < nodes_of_key k → (p : Showing) × (get_elem? xs l ≡ some (Some p)) × Alone (fabric k) (run k) l p × (seen p.view l ≡ o.fires l)
-every_pass_home k s o id v me live all none-out xs long stay l near =
-    let r = o.home l near (word_home k s o id v me live all l (none-out l) near) in (r.0, stay l (Some r.0) r.1, r.2, r.3)
+every_pass_free k s o id v me live all none-out xs long stay l near =
+    let r = o.free l near (word_free k s o id v me live all l (none-out l) near) in (r.0, stay l (Some r.0) r.1, r.2, r.3)
 
 abbrev made-of : TurnView → ℕ
 made-of v = v.made

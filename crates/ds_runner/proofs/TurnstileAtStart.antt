@@ -1,4 +1,4 @@
--- A turnstile at the start: every pass is at home, and the first turn has all permits.
+-- A turnstile at the start: every pass is free, and the first turn has all permits.
 use Rattle.std.proofs.Common.{◌≡◌, ℕ, zero, suc, ◌+◌, ◌<◌, Bool, false, List, [], ◌∷◌, length, get_or, map, replicate, Some, sym, refl, ap, ◌∙◌, inl, arith}
 use Rattle.std.proofs.lemmas.Bool.{false≢true}
 use Rattle.std.proofs.lemmas.List.{length-replicate, length-map}
@@ -44,7 +44,7 @@ turning_starts k some-turns few each = let ps : List Showing = k.passes.value.it
       wide = length-replicate (nodes_of_key k) 0;
       slots = length-map (map Some ps) some ∙ length-map ps Some;
       bits = λ l h. inl (zero-at l);
-      home = λ l h z. let r = there_is ps l h in
+      free = λ l h z. let r = there_is ps l h in
           (r.0, at_map some (map Some ps) l (Some r.0) (at_map Some ps l r.0 r.1), each l r.0 r.1, sym (fires-at ps 0 l r.0 r.1 ∙ (let e : 0 + l ≡ l = omega arith in ap (seen r.0.view) e)));
       away = λ l h o. absurd (omega (arith, zero-at l));
       outs = λ id u l at lives has. let t = only_item v u id at in absurd (false≢true (sym (none-out l) ∙ (ap (λ (x : TurnView). has_out x l) t.1 ∙ has)));

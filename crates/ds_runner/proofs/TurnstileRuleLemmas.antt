@@ -39,7 +39,7 @@ sum_below_changed f g (suc n) l h same = dite (ℕ_discrete l n)
     (λ e. omega (arith, sum_same f g n (λ j u. same j (λ t. omega arith)), ap f e, ap g e))
     (λ e. omega (arith, sum_below_changed f g n l (omega arith) same, same n (λ t. e (sym t))))
 
--- a step of the seat id that changes neither words nor homes, nor what the turn has
+-- a step of the seat id that changes neither words nor slots, nor what the turn has
 pub unmoved : (k : Key) (s : St) (o : Turning k s) (i id : ℕ) (v w : TurnView) → get_elem? s.views id ≡ some v → w.live ≡ v.live → w.permits ≡ v.permits → w.turns ≡ v.turns → w.out ≡ v.out → w.taken ≡ v.taken → w.busy ≡ v.busy → w.made ≡ v.made → w.fabric ≡ v.fabric → w.run ≡ v.run
     → Turning k (wheel (set s.words i (get_or s.words i 0)) s.homes (set s.views id w))
 unmoved k s o i id v w me live permits turns out taken-is busy made fab runs = subst (λ (ws : List ℕ). Turning k (wheel ws s.homes (set s.views id w))) (sym (set-get_or s.words i 0)) (record {
@@ -48,7 +48,7 @@ unmoved k s o i id v w me live permits turns out taken-is busy made fab runs = s
   wide = o.wide;
   slots = o.slots;
   bits = o.bits;
-  home = o.home;
+  free = o.free;
   away = λ j h e. let a = o.away j h e in dite (ℕ_discrete (o.owner j) id)
       (λ mine. let u-is : a.0 ≡ v = same_at s.views id a.0 v (subst (λ i. get_elem? s.views i ≡ some a.0) mine a.1) me in (
         w,
@@ -77,7 +77,7 @@ unmoved k s o i id v w me live permits turns out taken-is busy made fab runs = s
   total = omega (arith, o.total, sum_changed (λ (x : TurnView). x.made) s.views id v w me, made);
 })
 
--- the rule after a change of the word, the home and the turn of node l alone
+-- the rule after a change of the word, the slot and the turn of node l alone
 changed : (k : Key) (s : St) (o : Turning k s) (id l bit : ℕ) (v w : TurnView) (h : mathlib.Core.Option.Option Slot) (fires owner : ℕ → ℕ) → get_elem? s.views id ≡ some v → v.live ≡ true → w.live ≡ true → l < nodes_of_key k → w.permits ≡ v.permits → w.turns ≡ v.turns → w.fabric ≡ v.fabric → w.run ≡ v.run
     → length w.out ≡ nodes_of_key k → length w.taken ≡ nodes_of_key k
     → ((j : ℕ) → j ≢ l → (fires j ≡ o.fires j) × (owner j ≡ o.owner j) × (has_out w j ≡ has_out v j) × (taken w j ≡ taken v j) × (w.busy ≢ j + 1 → v.busy ≢ j + 1))
@@ -87,10 +87,10 @@ changed : (k : Key) (s : St) (o : Turning k s) (id l bit : ℕ) (v w : TurnView)
     → ((i : ℕ) (u : TurnView) → i ≢ id → get_elem? s.views i ≡ some u → u.live ≡ true → has_out u l ≡ true → ⊥)
     → sum_below fires (nodes_of_key k) + v.made ≡ sum_below o.fires (nodes_of_key k) + w.made
     → Turning k (wheel (set s.words l bit) (set s.homes l h) (set s.views id w))
-changed k s o id l bit v w h fires owner me live live' near permits turns fab runs out-long taken-long else-same bits home away nobody made =
+changed k s o id l bit v w h fires owner me live live' near permits turns fab runs out-long taken-long else-same bits free away nobody made =
     let here : get_or (set s.words l bit) l 0 ≡ bit = get_or-set_same s.words l bit 0 (omega (arith, o.wide)) in
     let other : (j : ℕ) → j ≢ l → get_or (set s.words l bit) j 0 ≡ get_or s.words j 0 = λ j n. get_or-set_other s.words l j bit 0 n in
-    let home-here : get_elem? (set s.homes l h) l ≡ some h = set_here s.homes l h (omega (arith, o.slots)) in
+    let free-here : get_elem? (set s.homes l h) l ≡ some h = set_here s.homes l h (omega (arith, o.slots)) in
     let mine : get_elem? (set s.views id w) id ≡ some w = set_there s.views id v w me in record {
       fires = fires;
       owner = owner;
@@ -99,13 +99,13 @@ changed k s o id l bit v w h fires owner me live live' near permits turns fab ru
       bits = λ j b. dite (ℕ_discrete j l)
           (λ e. subst (λ (x : ℕ). (x ≡ 0) ⊎ (x ≡ 1)) (sym (ap (λ z. get_or (set s.words l bit) z 0) e ∙ here)) bits)
           (λ n. subst (λ (x : ℕ). (x ≡ 0) ⊎ (x ≡ 1)) (sym (other j n)) (o.bits j b));
-      home = λ j b z. dite (ℕ_discrete j l)
-          (λ e. let r = home (sym here ∙ (ap (λ y. get_or (set s.words l bit) y 0) (sym e) ∙ z)) in
-          (r.0, ap (get_elem? (set s.homes l h)) e ∙ (home-here ∙ ap some r.1), subst (λ (y : ℕ). Alone (fabric k) (run k) y r.0) (sym e) r.2, ap (seen r.0.view) e ∙ (r.3 ∙ ap fires (sym e))))
-          (λ n. let r = o.home j b (sym (other j n) ∙ z) in (r.0, set_else s.homes l j h n ∙ r.1, r.2, r.3 ∙ sym (else-same j n).0));
+      free = λ j b z. dite (ℕ_discrete j l)
+          (λ e. let r = free (sym here ∙ (ap (λ y. get_or (set s.words l bit) y 0) (sym e) ∙ z)) in
+          (r.0, ap (get_elem? (set s.homes l h)) e ∙ (free-here ∙ ap some r.1), subst (λ (y : ℕ). Alone (fabric k) (run k) y r.0) (sym e) r.2, ap (seen r.0.view) e ∙ (r.3 ∙ ap fires (sym e))))
+          (λ n. let r = o.free j b (sym (other j n) ∙ z) in (r.0, set_else s.homes l j h n ∙ r.1, r.2, r.3 ∙ sym (else-same j n).0));
       away = λ j b z. dite (ℕ_discrete j l)
           (λ e. let r = away (sym here ∙ (ap (λ y. get_or (set s.words l bit) y 0) (sym e) ∙ z)) in
-          (w, subst (λ i. get_elem? (set s.views id w) i ≡ some w) (sym (ap owner e ∙ r.0)) mine, live', ap (has_out w) e ∙ r.1, λ n. ap (get_elem? (set s.homes l h)) e ∙ (home-here ∙ ap some (r.3 (λ t. n (t ∙ ap (λ y. y + 1) (sym e)))))))
+          (w, subst (λ i. get_elem? (set s.views id w) i ≡ some w) (sym (ap owner e ∙ r.0)) mine, live', ap (has_out w) e ∙ r.1, λ n. ap (get_elem? (set s.homes l h)) e ∙ (free-here ∙ ap some (r.3 (λ t. n (t ∙ ap (λ y. y + 1) (sym e)))))))
           (λ n. let a = o.away j b (sym (other j n) ∙ z) in let q = else-same j n in dite (ℕ_discrete (o.owner j) id)
           (λ own. let u-is : a.0 ≡ v = same_at s.views id a.0 v (subst (λ i. get_elem? s.views i ≡ some a.0) own a.1) me in (
             w,
@@ -118,7 +118,7 @@ changed k s o id l bit v w h fires owner me live live' near permits turns fab ru
       outs = λ i u j at lives has. dite (ℕ_discrete j l)
           (λ e. ⊎_elim
           (λ t. let has' : has_out w l ≡ true = ap (λ (x : TurnView). has_out x l) t.1 ∙ (ap (has_out u) (sym e) ∙ has) in ⊎_elim
-          (λ zero-bit. absurd (false≢true (sym (home zero-bit).4 ∙ has')))
+          (λ zero-bit. absurd (false≢true (sym (free zero-bit).4 ∙ has')))
           (λ one. let r = away one in
           (omega (arith, near, e), ap (λ z. get_or (set s.words l bit) z 0) e ∙ (here ∙ one), ap owner e ∙ (r.0 ∙ sym t.0), ap (taken u) e ∙ (ap (λ (x : TurnView). taken x l) (sym t.1) ∙ (r.2 ∙ ap fires (sym e)))))
           bits)
@@ -150,10 +150,10 @@ permits_low vs j w q = omega (arith, sum_changed (λ (x : TurnView). x.permits) 
 pub two_permits : (vs : List TurnView) (i j : ℕ) (v w : TurnView) → i ≢ j → get_elem? vs i ≡ some v → get_elem? vs j ≡ some w → v.permits + w.permits ≤ sum_by (λ (x : TurnView). x.permits) vs
 two_permits vs i j v w n p q = omega (arith, sum_changed (λ (x : TurnView). x.permits) vs i v spent_turn p, permits_low (set vs i spent_turn) j w (set_else vs i j spent_turn (λ e. n (sym e)) ∙ q))
 
--- a turn with all permits finds the word of each node home that it does not have out itself
-pub word_home : (k : Key) (s : St) (o : Turning k s) (id : ℕ) (v : TurnView) → get_elem? s.views id ≡ some v → v.live ≡ true → v.permits ≡ k.turns
+-- a turn with all permits finds the word of each node free that it does not have out itself
+pub word_free : (k : Key) (s : St) (o : Turning k s) (id : ℕ) (v : TurnView) → get_elem? s.views id ≡ some v → v.live ≡ true → v.permits ≡ k.turns
     → (j : ℕ) → has_out v j ≡ false → j < nodes_of_key k → get_or s.words j 0 ≡ 0
-word_home k s o id v me live all j free h = ⊎_elim (λ e. e)
+word_free k s o id v me live all j free h = ⊎_elim (λ e. e)
     (λ e. let a = o.away j h e in dite (ℕ_discrete (o.owner j) id)
     (λ mine. let u-is : a.0 ≡ v = same_at s.views id a.0 v (subst (λ i. get_elem? s.views i ≡ some a.0) mine a.1) me in absurd (false≢true (sym free ∙ (ap (λ (x : TurnView). has_out x j) (sym u-is) ∙ a.3))))
     (λ far. absurd (omega (arith, two_permits s.views id (o.owner j) v a.0 (λ t. far (sym t)) me a.1, o.whole, (o.long (o.owner j) a.0 a.1 a.2).2))))
@@ -177,7 +177,7 @@ pub takes_pass : (k : Key) (n id : ℕ) (v : TurnView) (l : ℕ) (said : mathlib
 takes_pass k n id v l said live idle free near s o wide me _ =
     let x : ℕ = get_or s.words l 0 in let long = o.long id v me live in
     exchanged x 0 1 (Goes k s l id (v, []) (took (step n l 0 1 said) (v, [])))
-    (λ e. let h = o.home l near e in let p : Showing = h.0 in let f : ℕ = seen p.view l in let w : TurnView = after_won_take v l f in (
+    (λ e. let h = o.free l near e in let p : Showing = h.0 in let f : ℕ = seen p.view l in let w : TurnView = after_won_take v l f in (
       w,
       takes l (Some p),
       h.1,
@@ -190,9 +190,9 @@ takes_pass k n id v l said live idle free near s o wide me _ =
           refl,
       ((λ _. (p, subst (λ (r : Run). Alone v.fabric r l p) (sym long.4) (subst (λ (z : TableId). Alone z (run k) l p) (sym long.3) h.2), omega (arith, long.0), refl)), λ ne. absurd (ne e)),
     ))
-    (λ ne. (after_miss v l, keeps, tt, unmoved k s o l id v (after_miss v l) me refl refl refl refl refl refl refl refl refl, ((λ e. absurd (ne e)), λ _. (refl, λ all. ne (word_home k s o id v me live (all ∙ long.5) l free near)))))
+    (λ ne. (after_miss v l, keeps, tt, unmoved k s o l id v (after_miss v l) me refl refl refl refl refl refl refl refl refl, ((λ e. absurd (ne e)), λ _. (refl, λ all. ne (word_free k s o id v me live (all ∙ long.5) l free near)))))
 
--- the empty slot goes home
+-- the empty slot goes back
 pub rests : (k : Key) (n id : ℕ) (v : TurnView) (l : ℕ) → v.live ≡ true → v.busy ≡ l + 1 → has_out v l ≡ true
     → Allows (Turning k) n id (v, (l, None) ∷ []) l (λ y. y) (rests_now (step n l 0 0 none) (v, (l, None) ∷ []))
 rests k n id v l live busy has s o wide me _ =
@@ -240,7 +240,7 @@ same_pass : (l : ℕ) (p q : Showing) → ◌≡◌ {A = List (ℕ × Slot)} ((l
 unfolding in_hand
 same_pass l p q e = ap (in_hand l) e
 
--- the slot goes home with the pass
+-- the slot goes back with the pass
 pub gives_pass : (k : Key) (n id : ℕ) (v : TurnView) (l : ℕ) (p : Showing) → v.live ≡ true → v.busy ≡ l + 1 → has_out v l ≡ true → Alone v.fabric v.run l p → taken v l ≤ seen p.view l
     → Allows (Turning k) n id (v, (l, Some p) ∷ []) l (λ _. 0) (λ _. gave (step n l 0 0 none) (v, (l, Some p) ∷ []) 0)
 gives_pass k n id v l p live busy has alone up s o wide me _ =

@@ -68,9 +68,9 @@ pub record Misses (v w : TurnView) (l : ℕ) : Type 0 where
   pub permits : w.permits ≡ v.permits
   pub made : w.made ≡ v.made
 
--- the node is home with f firings, and all else is as it was
+-- the node is free with f firings, and all else is as it was
 pub record GivesBack (v w : TurnView) (l f : ℕ) : Type 0 where
-  pub home : has_out w l ≡ false
+  pub free : has_out w l ≡ false
   pub others : (j : ℕ) → j ≢ l → (has_out w j ≡ has_out v j) × (taken w j ≡ taken v j)
   pub made : w.made ≡ v.made + (f - taken v l)
   pub permits : w.permits ≡ v.permits

@@ -1,4 +1,4 @@
--- The rule of a turnstile. Word l is 0 where the pass of node l is at home, and 1 where a turn has
+-- The rule of a turnstile. Word l is 0 where the pass of node l is free, and 1 where a turn has
 -- it out.
 use Rattle.std.specs.Prelude.{◌≡◌, ◌≢◌, ℕ, zero, suc, ◌+◌, ◌-◌, ◌<◌, List, [], ◌∷◌, length, ◌⊎◌}
 use Rattle.std.specs.Prelude.{slice_index, slice_index_or, slice_set, Bool, true, false, replicate}
@@ -80,7 +80,7 @@ base l (p ∷ ps) = seen p.view l + base (suc l) ps
 
 -- where the pass of node l is, and with how many firings
 pub record Turning (k : Key) (s : State Slot TurnView) : Type 0 where
-  -- the firings of each node, at home or at the take, and the turn that has it out
+  -- the firings of each node, free or at the take, and the turn that has it out
   pub fires : ℕ → ℕ
   pub owner : ℕ → ℕ
   -- each node has a word, which is 0 or 1, and a slot
@@ -88,8 +88,8 @@ pub record Turning (k : Key) (s : State Slot TurnView) : Type 0 where
   pub slots : length s.homes ≡ nodes_of_key k
   pub bits : (l : ℕ) → l < nodes_of_key k
       → (slice_index s.words l ≡ 0) ⊎ (slice_index s.words l ≡ 1)
-  -- at home the slot has the pass; else one turn has the node out, and the slot is empty
-  pub home : (l : ℕ) → l < nodes_of_key k → slice_index s.words l ≡ 0 → (p : Showing)
+  -- where it is free the slot has the pass; else one turn has the node out, and the slot is empty
+  pub free : (l : ℕ) → l < nodes_of_key k → slice_index s.words l ≡ 0 → (p : Showing)
       × (get_elem? s.homes l ≡ some (some (Some p))) × Alone (fabric k) (run k) l p
       × (seen p.view l ≡ fires l)
   pub away : (l : ℕ) → l < nodes_of_key k → slice_index s.words l ≡ 1 → (v : TurnView)
@@ -156,7 +156,7 @@ after_give v l f = record v {
   made = v.made + (f - taken v l);
 }
 
--- the word was home, and the turn has the pass; or it was out, and so some other turn has a permit
+-- the node was free, and the turn has the pass; or it was out, and so some other turn has a permit
 abbrev pub took : TurnPlay
 took st m r n =
     (r ≡ 0 → (p : Showing) × Alone m.0.fabric m.0.run st.word p × (st.word < length m.0.out)
@@ -167,7 +167,7 @@ took st m r n =
 abbrev pub rested : TurnView → TurnView
 rested v = record v { busy = 0 }
 
--- the slot, now empty, goes home
+-- the slot, now empty, goes back
 abbrev pub rests_now : TurnPlay
 rests_now st m r n = n ≡ (rested m.0, [])
 
@@ -179,7 +179,7 @@ observed_permits st m r n = (n ≡ m) × (m.0.permits < 4294967296)
 abbrev pub fetched : TurnPlay
 fetched st m r n = n ≡ (record m.0 { busy = st.word + 1 }, (st.word, None) ∷ [])
 
--- the slot goes home with the pass, and the word says so
+-- the slot goes back with the pass, and the word says so
 abbrev pub gave : TurnPlay
 gave st m r n = (p : Showing) → m.1 ≡ (st.word, Some p) ∷ []
     → n ≡ (after_give m.0 st.word (seen p.view st.word), [])

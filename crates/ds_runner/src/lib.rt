@@ -16,7 +16,7 @@
 //!
 //! A turnstile: any thread takes the pass of any node, one thread at a time. A `Turnstile` is seen
 //! as its table, the passes that it was built with, and the number of turns. It has a word and a
-//! slot a node: at home the slot has the node's pass. A `Turn` shows its permits, the nodes that it
+//! slot a node: the slot of a free node has its pass. A `Turn` shows its permits, the nodes that it
 //! has out, each with its firings at the take, `made`, what the firings of the passes that it gave
 //! back grew by, `won` and `missed`, the takes that had the pass and those that found it out.
 //! `build` gives one turn with all permits, `split` and `join` pass permits on, `take` and `give`

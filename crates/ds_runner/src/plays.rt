@@ -25,14 +25,14 @@ impl TableRule<Option<Pass>, TurnView, Key> for TurnstileRule {
     ghost first = { first_turn };
 }
 
-/// A word goes from home to out, and the slot comes to hand; or the word is out.
+/// A node goes from free to out, and the slot comes to hand; or it is out.
 pub struct Take;
 
 impl Play<Option<Pass>, TurnView> for Take {
     ghost then = { took };
 }
 
-/// The slot, now empty, goes home.
+/// The slot, now empty, goes back.
 pub struct ReturnEmptySlot;
 
 impl Play<Option<Pass>, TurnView> for ReturnEmptySlot {
@@ -46,7 +46,7 @@ impl Play<Option<Pass>, TurnView> for Fetch {
     ghost then = { fetched };
 }
 
-/// The slot goes home with the pass, and the word says so.
+/// The slot goes back with the pass, and the word says so.
 pub struct Give;
 
 impl Play<Option<Pass>, TurnView> for Give {

@@ -45,7 +45,7 @@ pub fn search<V: RunValues, C: Compute, G: Gate>(
     next_due(workload, scheduler, begins, &mut search_path.all)
 }
 
-/// By plain looks the pass of the node is at home, and its next event may fire. What it lacks is
+/// By plain looks the pass of the node is free, and its next event may fire. What it lacks is
 /// kept for the next look. A number that is no node's is not due.
 pub fn is_due<V: RunValues, C: Compute, G: Gate>(
     workload: &Workload<'_, '_, V, C, G>,
@@ -60,7 +60,7 @@ pub fn is_due<V: RunValues, C: Compute, G: Gate>(
         return false;
     }
     let latch = LatchId::new(node as u32);
-    if !scheduler.stile.seems_home(latch) {
+    if !scheduler.stile.seems_free(latch) {
         return false;
     }
     let Some(at) = workload.fabric.seems_lacking(latch, begins[node] as usize) else {

@@ -10,13 +10,13 @@ use crate::plays::{
 };
 use ds_fabric::Pass;
 
-/// The pass of the node, where it is at home.
+/// The pass of the node, where it is free.
 pub fn take(board: &PassBoard, seat: &mut Seated, node: usize) -> Option<Pass>
     requires table { (seat.old.table_id ≡ board.now.table_id) × (node < board.now.table_id.words)
         × (board.now.table_id.words ≡ nodes_of_key board.now.key) }
     requires idle { (seat.old.me.1 ≡ []) × (seat.old.me.0.live ≡ true)
         × (seat.old.me.0.busy ≡ 0) }
-    requires home { has_out seat.old.me.0 node ≡ false }
+    requires free { has_out seat.old.me.0 node ≡ false }
 
     ensures table { seat.new.table_id ≡ seat.old.table_id }
     ensures idle { seat.new.me.1 ≡ [] }
@@ -75,7 +75,7 @@ pub fn join(board: &PassBoard, seat: &mut Seated, other: Seated)
     requires table { (seat.old.table_id ≡ board.now.table_id)
         × (other.table_id ≡ board.now.table_id) × (0 < board.now.table_id.words) }
     requires live { (seat.old.me.0.live ≡ true) × (other.me.0.live ≡ true) × (other.me.1 ≡ []) }
-    requires home { HasNone other.me.0 }
+    requires free { HasNone other.me.0 }
 
     ensures table { seat.new.table_id ≡ seat.old.table_id }
     ensures me { seat.new.me ≡ (joined seat.old.me.0 other.me.0, seat.old.me.1) }

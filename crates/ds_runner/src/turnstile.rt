@@ -20,7 +20,7 @@ use std::alloc::Global;
 use std::marker::Model;
 use std::snapshot::Snapshot;
 
-/// The passes of all nodes, each at home or with one turn.
+/// The passes of all nodes, each free or with one turn.
 #[derive(Drop)]
 pub struct Turnstile {
     table: Table<Option<Pass>, TurnView, Key, TurnstileRule, Global>,
@@ -113,7 +113,7 @@ impl Turnstile {
     pub fn take(&self, turn: &mut Turn, node: LatchId) -> Option<Pass>
         requires fits { IsTurnOf self.now turn.old }
         requires near { node < length self.now.given }
-        requires home { has_out turn.old.view node ≡ false }
+        requires free { has_out turn.old.view node ≡ false }
 
         ensures fits { IsTurnOf self.now turn.new }
         ensures pass { IfSome result (λ p. IsPassOf self.now node p) }
@@ -138,9 +138,9 @@ impl Turnstile {
         seat_steps::give(&self.table.shared, &mut turn.seat, node.index(), pass);
     }
 
-    /// A plain look shows the pass of the node at home. A hint: it tells nothing, as it may be out
+    /// A plain look shows the pass of the node free. A hint: it tells nothing, as it may be out
     /// since.
-    pub fn seems_home(&self, node: LatchId) -> bool
+    pub fn seems_free(&self, node: LatchId) -> bool
         requires near { node < length self.now.given }
     {
         self.table.shared.peek(node.index()) == 0

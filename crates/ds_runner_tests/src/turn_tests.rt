@@ -48,7 +48,7 @@ fn misses_and_fires(
     ensures two { IsIdle fabric.now stile.now two.new.turn two.new.scratch }
 {
     let missed = misses(fabric, stile, one, two);
-    let back = stile.seems_home(LatchId::new(1)) && one.turn.permits() == 1;
+    let back = stile.seems_free(LatchId::new(1)) && one.turn.permits() == 1;
     let first = fires(fabric, stile, one, 1, 2) == Some(2);
     let second = fires(fabric, stile, two, 2, 1) == Some(1);
     missed && back && first && second

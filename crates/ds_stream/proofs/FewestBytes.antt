@@ -13,7 +13,7 @@ use Rattle.ds_stream.specs.Filling.{AreBefore, Filled}
 use Rattle.ds_stream.specs.Stream.{Behind, FitsText, Placed, RowWindow, Shown, least_bytes, longest, next_window, placed_behind, placed_in, placed_of, window}
 use Rattle.ds_stream.specs.declared.fault.StreamKind.TheVariants.{BadBit, BadWidth, TooMany}
 use Rattle.ds_stream.proofs.Behind.{goes_on_behind}
-use Rattle.ds_stream.proofs.Closing.{passed}
+use Rattle.ds_stream.proofs.TakenLine.{passed}
 use Rattle.ds_stream.proofs.Likeness.{told_hash}
 use Rattle.ds_stream.proofs.TakenBytes.{AreFrom, some_from}
 use Rattle.ds_stream.proofs.WindowLaws.{cases_Option}
@@ -157,17 +157,17 @@ none_times : (u : ℕ) → 0 * u ≡ 0
 none_times u = grind arith
 
 -- the line that ends first
-closed_long : (width most size n seen : ℕ) (behind : Behind) (p : Placed) (ps : List Placed) (place have total : ℕ)
+taken_long : (width most size n seen : ℕ) (behind : Behind) (p : Placed) (ps : List Placed) (place have total : ℕ)
     → chars p.line.words ≤ total → Has (max width 1) have total → place ≤ p.behind.place
     → ((m : ℕ) → IsLong (max width 1) (place + 1) m 0 (window width most size (suc m) p.behind (seen + 1) ps))
     → IsLong (max width 1) place n have (window width most size (suc n) behind seen (p ∷ ps))
-closed_long width most size zero seen behind p ps place have total few has near more = λ whole.
+taken_long width most size zero seen behind p ps place have total few has near more = λ whole.
     let first = is_first width most size 0 seen behind p ps whole in
     let cells = max width 1 in
     let some : cells ≤ have = has_cells cells have total has (let all = enough most width seen p.line.words first.none in omega (arith, all, few)) in
     subst (λ (b : Behind). place + 0 * (cells + 1) + cells ≤ b.place + have) (sym first.ends)
     (last_sum place cells (0 * (cells + 1)) p.behind.place have (none_times (cells + 1)) near some)
-closed_long width most size (suc m) seen behind p ps place have total few has near more = λ whole.
+taken_long width most size (suc m) seen behind p ps place have total few has near more = λ whole.
     let first = is_first width most size (suc m) seen behind p ps whole in
     let cells = max width 1 in
     let some : cells ≤ have = has_cells cells have total has (let all = enough most width seen p.line.words first.none in omega (arith, all, few)) in
@@ -177,15 +177,15 @@ closed_long width most size (suc m) seen behind p ps place have total few has ne
 no_lines : (width most size n seen : ℕ) (behind : Behind) (cells place have : ℕ) → IsLong cells place n have (window width most size (suc n) behind seen [])
 no_lines width most size n seen behind cells place have = λ whole. absurd (let e : 0 ≡ suc n = whole in omega (arith, e))
 
--- the open line, where it ends
-open_long : (width most size n seen : ℕ) (behind : Behind) (first : ℕ) (words : List (List ℕ)) (here : Behind) (ps : List Placed) (place have total : ℕ)
+-- the current line, where it ends
+current_long : (width most size n seen : ℕ) (behind : Behind) (first : ℕ) (words : List (List ℕ)) (here : Behind) (ps : List Placed) (place have total : ℕ)
     → chars words ≤ total → Has (max width 1) have total → place ≤ here.place
     → IsLong (max width 1) place n have (window width most size (suc n) behind seen ps)
     → ((m : ℕ) → IsLong (max width 1) (place + 1) m 0 (window width most size (suc m) here (seen + 1) ps))
     → IsLong (max width 1) place n have (window width most size (suc n) behind seen (placed_of first words here ++ ps))
-open_long width most size n seen behind first [] here ps place have total few has near rest more = rest
-open_long width most size n seen behind first (word ∷ words) here ps place have total few has near rest more =
-    closed_long width most size n seen behind (record { line = record { number = first; words = word ∷ words }; behind = here }) ps place have total few has near more
+current_long width most size n seen behind first [] here ps place have total few has near rest more = rest
+current_long width most size n seen behind first (word ∷ words) here ps place have total few has near rest more =
+    taken_long width most size n seen behind (record { line = record { number = first; words = word ∷ words }; behind = here }) ps place have total few has near more
 
 window_long : (width most size n seen : ℕ) (behind : Behind) (first : ℕ) (words : List (List ℕ)) (line : List ℕ) (place lines : ℕ) (text : List ℕ) (have : ℕ)
     → Has (max width 1) have (chars words + bytes_in line)
@@ -195,7 +195,7 @@ window_long width most size n seen behind first words line place lines [] have h
     let all = words ++ words_in line in
     let few : chars all ≤ chars words + bytes_in line = omega (arith, chars-append words (words_in line), chars_in line) in
     subst (λ (ps : List Placed). IsLong (max width 1) place n have (window width most size (suc n) behind seen ps)) (append-nil (placed_of first all here))
-    (open_long width most size n seen behind first all here [] place have (chars words + bytes_in line) few has (omega arith)
+    (current_long width most size n seen behind first all here [] place have (chars words + bytes_in line) few has (omega arith)
     (no_lines width most size n seen behind (max width 1) place have) (λ m. no_lines width most size m (seen + 1) here (max width 1) (place + 1) 0))
 window_long width most size n seen behind first words line place lines (byte ∷ text) have has = elim (cases_Bool (is_newline byte)) [
   | inr other ↦ rw other (λ whole.
@@ -219,7 +219,7 @@ window_long width most size n seen behind first words line place lines (byte ∷
         | inr ends ↦ rw ends (
             let here : Behind = record { place = place + 1; lines = lines + 1 } in
             let ps = placed_in (lines + 2) [] [] (place + 1) (lines + 1) text in
-            open_long width most size n seen behind first all here ps place have (chars words + bytes_in line) few has (omega arith)
+            current_long width most size n seen behind first all here ps place have (chars words + bytes_in line) few has (omega arith)
             (λ whole. earlier_sum place (n * (cells + 1)) cells (window width most size (suc n) behind seen ps).behind.place have 0
             (window_long width most size n seen behind (lines + 2) [] [] (place + 1) (lines + 1) text 0 (inl (omega arith)) whole) (omega arith))
             (λ m. window_long width most size m (seen + 1) here (lines + 2) [] [] (place + 1) (lines + 1) text 0 (inl (omega arith))))
@@ -237,7 +237,7 @@ window_from width most size (suc n) seen least behind (p ∷ ps) are whole =
     let first = is_first width most size (suc n) seen behind p ps whole in
     subst (λ (b : Behind). least ≤ b.place) (sym first.ends) (window_from width most size n (seen + 1) least p.behind ps are.1 first.rest)
 
--- how many bytes may be asked for of what is being read, so many of the open line being had
+-- how many bytes may be asked for of what is being read, so many of the current line being had
 abbrev pub MayAsk : Filled → ℕ → ℕ → Type 0
 MayAsk f had n = (n ≤ 1) ⊎ (n ≤ (f.missing - 1) * (max f.width 1 + 1) + (max f.width 1 - had))
 
@@ -273,7 +273,7 @@ may_ask f had n missing short may = λ size rest some whole.
           (window_long f.width f.most size k f.seen f.behind f.first [] f.line f.place f.lines rest have (has_less cells have (bytes_in f.line) (0 + bytes_in f.line) has (omega arith)) full_one))
     ])
 
--- what is kept of the open line is no less than it has, unless it is longer than a vector
+-- what is kept of the current line is no less than it has, unless it is longer than a vector
 pub kept_told : (width : ℕ) (comment joined : Bool) (items : List ℕ) → list_any is_hash items ≡ false → (joined ≡ true → IsFull width items)
     → (bytes_in (told_line comment joined items) ≤ length items) ⊎ (max width 1 < length items)
 kept_told width comment false items plain full = inl (let same : bytes_in (told_line comment false items) ≡ length items = ap length (told_hash comment false items plain) in omega (arith, same))

@@ -7,7 +7,7 @@ pub mod WrongWidthLines
 pub mod Likeness
 pub mod CutLines
 pub mod TakenBytes
-pub mod Closing
+pub mod TakenLine
 pub mod Nexting
 pub mod PlainLines
 pub mod Stepping

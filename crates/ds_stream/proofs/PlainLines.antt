@@ -12,9 +12,9 @@ use Rattle.ds_stream.specs.Bounded.{fault_under}
 use Rattle.ds_stream.specs.Filling.{Filled, on_lines, on_text}
 use Rattle.ds_stream.specs.Plain.{IsPlainLine}
 use Rattle.ds_stream.specs.Stream.{Placed, placed_in}
-use Rattle.ds_stream.proofs.Closing.{closes_with}
+use Rattle.ds_stream.proofs.TakenLine.{takes_with}
 use Rattle.ds_stream.proofs.Cut.{joined_at, trimmed_at, uncommented-behind}
-use Rattle.ds_stream.proofs.TakenBytes.{close_taken}
+use Rattle.ds_stream.proofs.TakenBytes.{line_taken}
 use Rattle.ds_stream.proofs.WrongWidthLines.{one_word}
 
 -- a byte that parts neither lines nor words
@@ -134,8 +134,8 @@ word_taken f row word size rest missing fresh some few room wide bits is =
     let none : fault_under f.most f.width f.seen (words_in word) ≡ None = ap (fault_under f.most f.width f.seen) words ∙ no_fault f.most f.width f.seen word few some wide bits in
     let same : row ≡ row_of f.width (words_in word) = is ∙ (row_bits f.width word some ∙ ap (row_of f.width) (sym words)) in
     let g : Filled = behind_plain f row (f.place + f.width + 1) in
-    close_taken h g tt size rest (joins_bits word long bits)
-    (λ n lines. closes_with (record h { place = f.place + f.width + 1; lines = f.lines + 1 }) row n lines missing (omega (arith, room)) (ap is_some words) none same)
+    line_taken h g tt size rest (joins_bits word long bits)
+    (λ n lines. takes_with (record h { place = f.place + f.width + 1; lines = f.lines + 1 }) row n lines missing (omega (arith, room)) (ap is_some words) none same)
     refl refl refl refl
     ∙ (ap (λ (ps : List Placed). on_lines f size ps)
     (ap (λ (p : ℕ). placed_in f.first [] word p f.lines (10 ∷ rest)) (ap (λ (n : ℕ). f.place + n) (sym wide))

@@ -6,7 +6,7 @@ use Rattle.std.proofs.lemmas.Bool.{cases_Bool, eqb-true, lt-ltb, false≢true}
 use Rattle.ds_lines.specs.Line.{is_hash, is_newline, joins, uncommented, words_in}
 use Rattle.ds_stream.specs.Stream.{Behind, Placed, longest, placed_in, placed_of, window}
 use Rattle.ds_stream.specs.Alike.{IsLike}
-use Rattle.ds_stream.specs.Filling.{ClosesLine, Filled, TakesBytes, TellsWhy, with_front, on_text}
+use Rattle.ds_stream.specs.Filling.{TakesLine, Filled, TakesBytes, TellsWhy, with_front, on_text}
 use Rattle.ds_stream.proofs.Likeness.{like_window}
 use Rattle.ds_stream.specs.declared.fault.NextFault.{NextFault}
 use Rattle.ds_stream.specs.declared.fault.NextFault.TheVariants.{Memory, TooLong}
@@ -129,13 +129,13 @@ pub join_taken : (f : Filled) (line : List ℕ) (size : ℕ) (rest : List ℕ) �
 join_taken f line size rest yes_joins like =
     rw yes_joins (ap (with_front f.rows) (like_window f.width f.most size f.missing f.behind f.seen f.first [] line (words_in f.line) [] (f.place + 1) (f.lines + 1) rest like))
 
--- a line that ends is taken with its newline, once it is closed
-pub close_taken : (f g : Filled) (u : Unit {0}) (size : ℕ) (rest : List ℕ) → joins f.line ≡ false → ClosesLine (Ok u) (record f { place = f.place + 1; lines = f.lines + 1 }) g
+-- a line that ends is taken with its newline, once its row is given
+pub line_taken : (f g : Filled) (u : Unit {0}) (size : ℕ) (rest : List ℕ) → joins f.line ≡ false → TakesLine (Ok u) (record f { place = f.place + 1; lines = f.lines + 1 }) g
     → g.first ≡ f.lines + 1 + 1 → g.line ≡ [] → g.place ≡ f.place + 1 → g.lines ≡ f.lines + 1
     → on_text g size rest ≡ on_text f size (10 ∷ rest)
-close_taken f g u size rest ends closes first line place lines =
+line_taken f g u size rest ends takes first line place lines =
     let two : f.lines + 2 ≡ f.lines + 1 + 1 = omega arith in
-    rw (ends, two) (rw (first, line, place, lines) (closes size (placed_in (f.lines + 1 + 1) [] [] (f.place + 1) (f.lines + 1) rest)))
+    rw (ends, two) (rw (first, line, place, lines) (takes size (placed_in (f.lines + 1 + 1) [] [] (f.place + 1) (f.lines + 1) rest)))
 
 pub not_newline : (byte : ℕ) → (byte ≡ 10 → ⊥) → is_newline byte ≡ false
 not_newline byte other = elim (cases_Bool (is_newline byte)) [

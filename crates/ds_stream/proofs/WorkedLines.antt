@@ -12,7 +12,7 @@ abbrev has_none : List ℕ → Bool
 has_none [] = true
 has_none (byte ∷ bytes) = if is_newline byte then false else has_none bytes
 
--- bytes of the open physical line
+-- bytes of the current physical line
 onto_line : (first : ℕ) (words : List (List ℕ)) (line : List ℕ) (place lines : ℕ) (front text : List ℕ) → has_none front ≡ true
     → placed_in first words line place lines (front ++ text) ≡ placed_in first words (line ++ front) (place + length front) lines text
 onto_line first words line place lines [] text none =

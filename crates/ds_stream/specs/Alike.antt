@@ -14,8 +14,8 @@ pub record AreWrong (width : ℕ) (words : List (List ℕ)) : Type 0 where
 abbrev pub AreAlike : ℕ → List (List ℕ) → List (List ℕ) → Type 0
 AreAlike width words others = (words ≡ others) ⊎ (AreWrong width words × AreWrong width others)
 
--- an open line with these words and these bytes, and another one: with the same bytes behind them,
--- both join the next line or neither, and their words are alike
+-- a current line with these words and these bytes, and another one: with the same bytes behind
+-- them, both join the next line or neither, and their words are alike
 pub record IsLike (width : ℕ) (words : List (List ℕ)) (line : List ℕ) (others : List (List ℕ))
     (other : List ℕ) : Type 0 where
   pub joins_as : (more : List ℕ) → joins (line ++ more) ≡ joins (other ++ more)

@@ -1,4 +1,4 @@
--- Vectors that are being read: what has been given, and the line that is open.
+-- Vectors that are being read: what has been given, and the current line.
 use Rattle.std.specs.Prelude.{◌≡◌, ◌≤◌, ℕ, ◌+◌, List, [], ◌++◌, length, Option, None, Some}
 use Rattle.std.specs.Prelude.{Result, Ok, Err, take, ◌<◌}
 use Rattle.ds_base.specs.Values.{Row}
@@ -8,8 +8,8 @@ use Rattle.ds_stream.specs.declared.fault.NextFault.{NextFault}
 use Rattle.ds_stream.specs.declared.fault.NextFault.TheVariants.{Vector, TooLong, Read, Memory}
 
 -- the rows of this window and where the last line ends that gave one; how many vectors are before
--- what comes, and how many are wanted; the number of the open line, bytes that mean what it has so
--- far, the place, and the physical lines before it
+-- what comes, and how many are wanted; the number of the current line, bytes that mean what it has
+-- so far, the place, and the physical lines before it
 pub record Filled : Type 0 where
   pub width : ℕ
   pub most : ℕ
@@ -55,15 +55,15 @@ abbrev pub TakesFront : Result ℕ NextFault → Filled → Filled → List ℕ 
 TakesFront (Ok n) old new bytes = TakesBytes (Ok tt) old new (take n bytes)
 TakesFront (Err why) old new bytes = TakesBytes (Err why) old new bytes
 
--- the open line, which ends where it stands
+-- the current line, which ends where it stands
 abbrev pub last_line : Filled → List Placed
 last_line f = placed_of f.first (words_in f.line) (record { place = f.place; lines = f.lines })
 
--- the open line is closed where it stands
-abbrev pub ClosesLine : Result (Unit {0}) NextFault → Filled → Filled → Type 0
-ClosesLine (Ok done) old new = (size : ℕ) (lines : List Placed)
+-- the current line is taken, and ends where it stands
+abbrev pub TakesLine : Result (Unit {0}) NextFault → Filled → Filled → Type 0
+TakesLine (Ok done) old new = (size : ℕ) (lines : List Placed)
     → on_lines new size lines ≡ on_lines old size (last_line old ++ lines)
-ClosesLine (Err why) old new = (size : ℕ) (lines : List Placed)
+TakesLine (Err why) old new = (size : ℕ) (lines : List Placed)
     → TellsWhy why (on_lines old size (last_line old ++ lines)).stop
 
 -- the text ends

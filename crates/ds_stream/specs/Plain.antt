@@ -4,7 +4,7 @@ use Rattle.std.specs.List.{list_all}
 use Rattle.ds_rows.specs.Vector.{is_bit}
 use Rattle.ds_stream.specs.Filling.{Filled}
 
--- no line is open, and there is room for a line of the width and for its vector
+-- no line has begun, and there is room for a line of the width and for its vector
 pub record HasLineRoom (f : Filled) : Type 0 where
   pub fresh : f.line ≡ []
   pub some : 0 < f.width

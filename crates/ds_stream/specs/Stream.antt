@@ -27,7 +27,7 @@ placed_of first words behind =
     else []
 
 -- The lines of a rest of a text from a place on, so many physical lines being before it, where the
--- open line began at `first` and has these words so far, and its open physical line these bytes.
+-- current line began at `first` and has these words so far, and its last physical line these bytes.
 -- A physical line ends behind its newline, the last one at the end of the text.
 abbrev pub placed_in : ℕ → List (List ℕ) → List ℕ → ℕ → ℕ → List ℕ → List Placed
 placed_in first words line place lines [] = placed_of first (words ++ words_in line)

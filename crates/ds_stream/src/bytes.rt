@@ -28,7 +28,7 @@ impl Filling {
         Ok(())
     }
 
-    /// The text ends, and with it the open line.
+    /// The text ends, and with it the current line.
     pub(crate) fn end(&mut self, alloc: Global) -> Result<(), NextFault>
         requires some { 0 < self.old.missing }
         requires bounds { self.old.lines ≤ self.old.place + self.old.seen }
@@ -36,7 +36,7 @@ impl Filling {
         ensures same { OnOk result (IsLater self.old self.new) }
     {
         self.lines += 1;
-        self.close(alloc)
+        self.take_line(alloc)
     }
 
     // A plain line is taken where one begins these bytes, else their first byte. Says how many
@@ -60,7 +60,7 @@ impl Filling {
         }
     }
 
-    // A plain line begins these bytes, where no line is open and one vector more may be.
+    // A plain line begins these bytes, where no line has begun and one vector more may be.
     fn is_plain(&self, bytes: &[u8]) -> bool
         ensures { result ≡ true → IsPlainLine self.now bytes.now }
     {
@@ -70,7 +70,7 @@ impl Filling {
         bytes[self.width] == b'\n' && are_bits(&bytes[..self.width])
     }
 
-    // No line is open, and there is room for a line of the width and for its vector.
+    // No line has begun, and there is room for a line of the width and for its vector.
     fn is_ready(&self) -> bool
         ensures { result ≡ true → HasLineRoom self.now }
     {
@@ -96,7 +96,7 @@ impl Filling {
         let values = values_of(alloc, &bytes[..width])?;
         self.pass(width as u64 + 1);
         self.give(Row3::of(values))?;
-        self.open();
+        self.begin_line();
         Ok(width + 1)
     }
 
@@ -139,7 +139,7 @@ impl Filling {
         }
     }
 
-    // The open physical line ends with a newline.
+    // The current physical line ends with a newline.
     fn take_newline(&mut self, alloc: Global) -> Result<(), NextFault>
         requires some { 0 < self.old.missing }
         requires room { self.old.place < 281474976710656 }
@@ -154,7 +154,7 @@ impl Filling {
         if self.joins() {
             self.join()
         } else {
-            self.close(alloc)
+            self.take_line(alloc)
         }
     }
 }

@@ -1,5 +1,5 @@
 //! A `Filling`: vectors that are being read, what is kept of them, and how much to read next. Its
-//! other methods stand in bytes.rt and open_line.rt.
+//! other methods stand in bytes.rt and current_line.rt.
 ghost use Rattle.std.specs.Prelude.{◌≡◌, ◌≤◌, ◌<◌, ◌+◌, []};
 ghost use Rattle.ds_stream.specs.Filling.{AreBefore};
 
@@ -12,15 +12,15 @@ use std::marker::Model;
 /// How many bytes a file of vectors may have.
 pub(crate) const LONGEST: u64 = 281_474_976_710_656;
 
-/// The rows that are read, and the line that is open. `line` has bytes that mean what the open line
+/// The rows that are read, and the current line. `line` has bytes that mean what the current line
 /// has so far, at most the width and one (two for width 0): blanks at its front are left out; what
 /// stands behind a full line is told by its last byte alone, which no longer ends it, and by
 /// `joined`, which is a `\` behind all of them. A blank stands where physical lines are joined.
 ///
 /// `seen` vectors were given so far, and `missing` are wanted still. `place` and `lines` are those
 /// of the next byte, `behind_place` and `behind_lines` those behind the last line that gave a row,
-/// where a reader stands; `first` is the number of the open line. `comment` says that a `#` stands
-/// in the open physical line.
+/// where a reader stands; `first` is the number of the current line. `comment` says that a `#`
+/// stands in the current physical line.
 #[derive(Drop)]
 pub(crate) struct Filling {
     pub(crate) width: usize,
@@ -128,9 +128,9 @@ impl Filling {
             return least;
         }
         let unit = self.width.max(1).saturating_add(1);
-        let open = unit.saturating_sub(self.line.len()).max(1);
+        let rest = unit.saturating_sub(self.line.len()).max(1);
         if unit <= 65536 {
-            65536 - (65536 - open) % unit
+            65536 - (65536 - rest) % unit
         } else {
             65536
         }
@@ -143,9 +143,9 @@ impl Filling {
         ensures before { (n : _) → n ≤ result → AreBefore self.now n }
     {
         let unit = self.width.max(1).saturating_add(1);
-        let open = unit.saturating_sub(self.line.len());
+        let rest = unit.saturating_sub(self.line.len());
         let others = (self.missing - 1).saturating_mul(unit);
-        others.saturating_add(open.saturating_sub(1)).max(1)
+        others.saturating_add(rest.saturating_sub(1)).max(1)
     }
 
     /// The reader behind these rows, and the rows.

@@ -3,4 +3,4 @@ pub mod TicketsRise
 pub mod FlightIsEnabled
 pub mod ShownCounts
 pub mod StepAnswers
-pub mod PassHomeOrOut
+pub mod PassFreeOrOut

@@ -14,8 +14,8 @@ HasIt s id l = (v : TurnView) × (get_elem? s.views id ≡ some v) × (v.live �
     × (has_out v l ≡ true)
 
 -- the slot of the node has a pass that holds it and no other, and no turn has the node out
-abbrev pub IsAtHome : Key → State Slot TurnView → ℕ → Type 0
-IsAtHome k s l =
+abbrev pub IsFree : Key → State Slot TurnView → ℕ → Type 0
+IsFree k s l =
     ((p : Showing) × (get_elem? s.homes l ≡ some (some (Some p))) × Alone (fabric k) (run k) l p)
     × ((id : ℕ) → ¬ HasIt s id l)
 
@@ -24,7 +24,7 @@ abbrev pub OneTurnHasIt : Type 0
 OneTurnHasIt = (k : Key) (s : State Slot TurnView) → Turning k s → (l id other : ℕ)
     → HasIt s id l → HasIt s other l → id ≡ other
 
--- the pass of each node is at home, or with a turn
+-- the pass of each node is free, or with a turn
 abbrev pub PassesAreSomewhere : Type 0
 PassesAreSomewhere = (k : Key) (s : State Slot TurnView) → Turning k s → (l : ℕ)
-    → l < nodes_of_key k → IsAtHome k s l ⊎ ((id : ℕ) × HasIt s id l)
+    → l < nodes_of_key k → IsFree k s l ⊎ ((id : ℕ) × HasIt s id l)

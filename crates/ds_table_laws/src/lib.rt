@@ -3,7 +3,7 @@
 //! The tickets of a run are the numbers below the number of its firings, and those that a firing
 //! waits for are there and have lower ones. What a pass has in flight is enabled at the counts
 //! that the words show, and some legal list has these counts. A step says that a node is done
-//! exactly where each of its events has fired as often as it may. The pass of a node is at home, or
+//! exactly where each of its events has fired as often as it may. The pass of a node is free, or
 //! with one turn. Each law is the contract of a function that does nothing.
 #![tactic(auto)]
 

@@ -6,7 +6,7 @@ pub fn one_turn_has_it()
     ensures { OneTurnHasIt }
 {}
 
-/// The pass of each node is at home, and with no turn, or some turn has it out.
+/// The pass of each node is free, and with no turn, or some turn has it out.
 pub fn passes_are_somewhere()
     ensures { PassesAreSomewhere }
 {}

@@ -10,22 +10,22 @@ use Rattle.ds_opening.proofs.opening.learn_rows.Goals as goal
 pub rows-init : goal.rows-init
 rows-init c = record {
   same = record { nets = refl; turns = refl; stayed = refl };
-  read = λ known nodes reads. read_first reads;
+  read = λ foreseen nodes reads. read_first reads;
 }
 
 pub bounds-bits-node : goal.bounds-bits-node
-bounds-bits-node c = let (known, nodes, reads) = c.requires.read in
-    of_next reads (c.rows.invariant.read known nodes reads) c.rows-test.true (λ n. n < length c.args.bits.now) reads.inside
+bounds-bits-node c = let (foreseen, nodes, reads) = c.requires.read in
+    of_next reads (c.rows.invariant.read foreseen nodes reads) c.rows-test.true (λ n. n < length c.args.bits.now) reads.inside
 
 pub offset_bounds-bits-node : goal.offset_bounds-bits-node
-offset_bounds-bits-node c = let (known, nodes, reads) = c.requires.read in
-    let inside = of_next reads (c.rows.invariant.read known nodes reads) c.rows-test.true (λ n. n < length c.args.bits.now) reads.inside in
+offset_bounds-bits-node c = let (foreseen, nodes, reads) = c.requires.read in
+    let inside = of_next reads (c.rows.invariant.read foreseen nodes reads) c.rows-test.true (λ n. n < length c.args.bits.now) reads.inside in
     omega (inside, c.requires.few, arith)
 
 pub split_at-requires : goal.split_at-requires
 split_at-requires c = let bits : List (List ℕ) = c.args.bits.now in
-    let (known, nodes, reads) = c.requires.read in
-    let read = c.rows.invariant.read known nodes reads in
+    let (foreseen, nodes, reads) = c.requires.read in
+    let read = c.rows.invariant.read foreseen nodes reads in
     let node : ℕ = get_or c.rows.rest.now 0 0 in
     let inside : node < length bits = of_next reads read c.rows-test.true (λ n. n < length bits) reads.inside in
     let list : c.as_slice-these.result.now ≡ get_or bits node [] =
@@ -34,14 +34,14 @@ split_at-requires c = let bits : List (List ℕ) = c.args.bits.now in
     rw (c.words_of.ensures, list) most
 
 pub overflow_add-first : goal.overflow_add-first
-overflow_add-first c = let (known, nodes, reads) = c.requires.read in
-    let inside = of_next reads (c.rows.invariant.read known nodes reads) c.rows-test.true (λ n. n < length c.args.bits.now) reads.inside in
+overflow_add-first c = let (foreseen, nodes, reads) = c.requires.read in
+    let inside = of_next reads (c.rows.invariant.read foreseen nodes reads) c.rows-test.true (λ n. n < length c.args.bits.now) reads.inside in
     omega (inside, c.requires.few, arith)
 
 pub learn_row-requires-clause-within : goal.learn_row-requires-clause-within
 learn_row-requires-clause-within c = let bits : List (List ℕ) = c.args.bits.now in
-    let (known, nodes, reads) = c.requires.read in
-    let read = c.rows.invariant.read known nodes reads in
+    let (foreseen, nodes, reads) = c.requires.read in
+    let read = c.rows.invariant.read foreseen nodes reads in
     let node : ℕ = get_or c.rows.rest.now 0 0 in
     let inside : node < length bits = of_next reads read c.rows-test.true (λ n. n < length bits) reads.inside in
     let list : c.as_slice-these.result.now ≡ get_or bits node [] =
@@ -53,9 +53,9 @@ learn_row-requires-clause-within c = let bits : List (List ℕ) = c.args.bits.no
     omega (h, c.rows.invariant.same.nets, arith))
 
 pub learn_row-requires-clause-slot : goal.learn_row-requires-clause-slot
-learn_row-requires-clause-slot c = let (known, nodes, reads) = c.requires.read in
+learn_row-requires-clause-slot c = let (foreseen, nodes, reads) = c.requires.read in
     let near : c.args.first + get_or c.rows.rest.now 0 0 < length c.args.scratch.now.turns =
-    of_next reads (c.rows.invariant.read known nodes reads) c.rows-test.true (λ n. c.args.first + n < length c.args.scratch.now.turns) reads.slots in
+    of_next reads (c.rows.invariant.read foreseen nodes reads) c.rows-test.true (λ n. c.args.first + n < length c.args.scratch.now.turns) reads.slots in
     record {
       turn = omega (near, c.rows.invariant.same.turns, arith);
       stayed = omega (near, c.rows.invariant.same.stayed, c.requires.slots, arith);
@@ -68,10 +68,10 @@ rows-preserved c = record {
     turns = c.learn_row.ensures.same.turns ∙ c.rows.invariant.same.turns;
     stayed = c.learn_row.ensures.same.stayed ∙ c.rows.invariant.same.stayed;
   };
-  read = λ known nodes reads.
+  read = λ foreseen nodes reads.
       let bits : List (List ℕ) = c.args.bits.now in
       let rest : List ℕ = c.rows.rest.now in
-      let read = c.rows.invariant.read known nodes reads in
+      let read = c.rows.invariant.read foreseen nodes reads in
       let node : ℕ = get_or rest 0 0 in
       let slot : ℕ = c.args.first + node in
       let turn : ℕ = c.args.opening.now.turn in
@@ -81,17 +81,17 @@ rows-preserved c = record {
       let words : List ℕ = take (length rest - 1) (drop 1 rest) in
       let count : c.words_of.result ≡ count_of_words (length (get_or bits node [])) =
       c.words_of.ensures ∙ ap (λ (xs : List ℕ). count_of_words (length xs)) list in
-      let row : c.split_at.result.0.now ≡ packed (values_at known c.as_slice-these.result.now) =
+      let row : c.split_at.result.0.now ≡ packed (values_at foreseen c.as_slice-these.result.now) =
       c.split_at.ensures.front ∙ (ap (λ (n : ℕ). take n words) count ∙ (row_is reads read c.rows-test.true
-      ∙ ap (λ (xs : List ℕ). packed (values_at known xs)) (sym list))) in
+      ∙ ap (λ (xs : List ℕ). packed (values_at foreseen xs)) (sym list))) in
       let others : c.split_at.result.1.now ≡ drop (count_of_words (length (get_or bits node []))) words =
       c.split_at.ensures.back ∙ ap (λ (n : ℕ). drop n words) count in
-      subst (λ (xs : List ℕ). IsReadTo bits c.args.first c.args.opening.now c.args.scratch.now known nodes xs c.learn_row.new.scratch) (sym others)
+      subst (λ (xs : List ℕ). IsReadTo bits c.args.first c.args.opening.now c.args.scratch.now foreseen nodes xs c.learn_row.new.scratch) (sym others)
       (read_more reads read c.rows-test.true c.learn_row.new.scratch (λ m at remembers.
-      subst (λ (xs : List ℕ). IsLearnt m known xs c.rows.scratch c.learn_row.new.scratch) list
-      (c.learn_row.ensures.value m known (subst (λ (xs : List ℕ). IsSlot m turn slot xs known) (sym list) at) row remembers)));
+      subst (λ (xs : List ℕ). IsLearnt m foreseen xs c.rows.scratch c.learn_row.new.scratch) list
+      (c.learn_row.ensures.value m foreseen (subst (λ (xs : List ℕ). IsSlot m turn slot xs foreseen) (sym list) at) row remembers)));
 }
 
 pub returns-clause-value : goal.returns-clause-value
-returns-clause-value c m known nodes reads slots remembers =
-    read_all reads (c.rows.invariant.read known nodes reads) c.rows-test.false c.requires.turn m slots remembers
+returns-clause-value c m foreseen nodes reads slots remembers =
+    read_all reads (c.rows.invariant.read foreseen nodes reads) c.rows-test.false c.requires.turn m slots remembers

@@ -7,9 +7,9 @@ use Rattle.ds_opening.proofs.opening.learn_rows.Given as goal
 abbrev pub invariant-rows : goal.invariant-rows
 invariant-rows l = record {
   same : IsAsLong l.fn.scratch l.scratch;
-  read : (known : Row) (nodes : List ℕ)
-      → AreReadRows l.bits l.first l.opening l.fn.scratch known nodes
-      → IsReadTo l.bits l.first l.opening l.fn.scratch known nodes l.rest l.scratch;
+  read : (foreseen : Row) (nodes : List ℕ)
+      → AreReadRows l.bits l.first l.opening l.fn.scratch foreseen nodes
+      → IsReadTo l.bits l.first l.opening l.fn.scratch foreseen nodes l.rest l.scratch;
 }
 
 abbrev pub decreases-rows : goal.decreases-rows

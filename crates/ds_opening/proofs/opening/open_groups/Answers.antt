@@ -110,17 +110,17 @@ pub returns-clause-room : goal.returns-clause-room
 returns-clause-room c = c.push_words.ensures.room
 
 pub returns-clause-value : goal.returns-clause-value
-returns-clause-value c n t m o = let known : Row = t.nets t.opened in
+returns-clause-value c n t m o = let foreseen : Row = t.nets t.opened in
     let bits : List (List ℕ) = c.bits-bits.result.now in
     let producers : List ℕ = numbers c.requires.split c.requires.range c.bits-bits.result.now c.bits-bits.ensures.one_each c.bits-bits.ensures.nets c.requires.groups o in
-    let rows : AreRowsLearnt m known bits producers c.learn_rows.new.scratch =
-    c.learn_rows.ensures.value m known producers
+    let rows : AreRowsLearnt m foreseen bits producers c.learn_rows.new.scratch =
+    c.learn_rows.ensures.value m foreseen producers
     (reads c.requires.split c.requires.range c.bits-bits.result.now c.bits-bits.ensures.one_each c.bits-bits.ensures.nets c.requires.groups o c.count.result c.count.ensures.value)
     (node_slots c.requires.split c.requires.range c.bits-bits.result.now c.bits-bits.ensures.one_each c.bits-bits.ensures.nets c.requires.groups o c.count.result c.count.ensures.value)
     o.memory.remembers in
     let settled = settled_is c.requires.split c.requires.range c.bits-bits.result.now c.bits-bits.ensures.one_each c.bits-bits.ensures.nets c.requires.groups o
     c.learn_rows.new.scratch rows c.set_groups.new.scratch
-    c.netlist.result.now c.netlist.ensures.netlist c.of_cone-list.result.now (c.of_cone-list.ensures ∙ at_place c.args.groups.now (c.cone_place.ensures n o.at.is)) (c.set_groups.ensures.value m known) in
+    c.netlist.result.now c.netlist.ensures.netlist c.of_cone-list.result.now (c.of_cone-list.ensures ∙ at_place c.args.groups.now (c.cone_place.ensures n o.at.is)) (c.set_groups.ensures.value m foreseen) in
     let s : Split = c.args.latches.now in
     let these : c.as_slice.result.now ≡ nets_of s n =
     these_are s bits c.bits-bits.ensures.one_each c.bits-bits.ensures.nets n o.at.node c.index.result (o.at.is ∙ sym c.index.ensures) c.index-bits-index.result c.as_slice.result.now c.as_slice.ensures c.index-bits-index.is in
@@ -131,13 +131,13 @@ returns-clause-value c n t m o = let known : Row = t.nets t.opened in
     (ap (λ (r : Row). values_at r c.as_slice.result.now) c.nets.ensures ∙ (ap (values_at c.set_groups.new.scratch.nets) these ∙ row))
 
 pub returns-clause-remembers : goal.returns-clause-remembers
-returns-clause-remembers c n t m o = let known : Row = t.nets t.opened in
+returns-clause-remembers c n t m o = let foreseen : Row = t.nets t.opened in
     let producers : List ℕ = numbers c.requires.split c.requires.range c.bits-bits.result.now c.bits-bits.ensures.one_each c.bits-bits.ensures.nets c.requires.groups o in
-    let rows : AreRowsLearnt m known c.bits-bits.result.now producers c.learn_rows.new.scratch =
-    c.learn_rows.ensures.value m known producers
+    let rows : AreRowsLearnt m foreseen c.bits-bits.result.now producers c.learn_rows.new.scratch =
+    c.learn_rows.ensures.value m foreseen producers
     (reads c.requires.split c.requires.range c.bits-bits.result.now c.bits-bits.ensures.one_each c.bits-bits.ensures.nets c.requires.groups o c.count.result c.count.ensures.value)
     (node_slots c.requires.split c.requires.range c.bits-bits.result.now c.bits-bits.ensures.one_each c.bits-bits.ensures.nets c.requires.groups o c.count.result c.count.ensures.value)
     o.memory.remembers in
     (settled_is c.requires.split c.requires.range c.bits-bits.result.now c.bits-bits.ensures.one_each c.bits-bits.ensures.nets c.requires.groups o
     c.learn_rows.new.scratch rows c.set_groups.new.scratch
-    c.netlist.result.now c.netlist.ensures.netlist c.of_cone-list.result.now (c.of_cone-list.ensures ∙ at_place c.args.groups.now (c.cone_place.ensures n o.at.is)) (c.set_groups.ensures.value m known)).remembers
+    c.netlist.result.now c.netlist.ensures.netlist c.of_cone-list.result.now (c.of_cone-list.ensures ∙ at_place c.args.groups.now (c.cone_place.ensures n o.at.is)) (c.set_groups.ensures.value m foreseen)).remembers

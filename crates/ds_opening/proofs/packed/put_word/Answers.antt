@@ -21,14 +21,14 @@ loop-net-preserved c =
     c.requires.within i c.net-item.result inside in
     omega (low, c.net-item.is, c.index-place.ensures, c.loop-net.invariant.same, arith)) in record {
       same = length-set nets place value ∙ c.loop-net.invariant.same;
-      learns = λ known word. let before = c.loop-net.invariant.learns known word in
-          let low = lowest (values_at known these) i c.loop-net.rest
-          (rw (length-map these (value_at known)) inside) before.0 in (
+      learns = λ foreseen word. let before = c.loop-net.invariant.learns foreseen word in
+          let low = lowest (values_at foreseen these) i c.loop-net.rest
+          (rw (length-map these (value_at foreseen)) inside) before.0 in (
             low.1,
-            learns_more known these i place c.args.nets.now nets (set nets place value) value
+            learns_more foreseen these i place c.args.nets.now nets (set nets place value) value
                 inside place_is within
                 (ap (λ (code : ℕ). get_or (Zero ∷ One ∷ Unknown ∷ Unknown ∷ []) code Zero) low.0
-                ∙ of_code (get_or (values_at known these) i Zero) Zero)
+                ∙ of_code (get_or (values_at foreseen these) i Zero) Zero)
                 refl before.1,
           );
       others = others_more these i place c.args.nets.now nets (set nets place value) value
@@ -43,5 +43,5 @@ loop-net-preserved c =
     }
 
 pub returns-clause-value : goal.returns-clause-value
-returns-clause-value c = λ known is. all_learnt known c.args.these.now c.loop-net.net-index
-    c.args.nets.now c.loop-net.nets (omega arith) (c.loop-net.invariant.learns known is).1
+returns-clause-value c = λ foreseen is. all_learnt foreseen c.args.these.now c.loop-net.net-index
+    c.args.nets.now c.loop-net.nets (omega arith) (c.loop-net.invariant.learns foreseen is).1

@@ -15,10 +15,10 @@ put_word-requires-in-loop-i c = record {
 pub loop-i-preserved : goal.loop-i-preserved
 loop-i-preserved c = record {
   same = c.put_word-in-loop-i.ensures.same ∙ c.loop-i.invariant.same;
-  learns = λ known is. learns_part known c.args.these.now c.nets_of_word.result.now c.loop-i.i
+  learns = λ foreseen is. learns_part foreseen c.args.these.now c.nets_of_word.result.now c.loop-i.i
       c.args.nets.now c.loop-i.nets c.put_word-in-loop-i.new.nets c.nets_of_word.ensures
-      (c.loop-i.invariant.learns known is)
-      (c.put_word-in-loop-i.ensures.value known (word_is_number known c.args.words.now c.args.these.now
+      (c.loop-i.invariant.learns foreseen is)
+      (c.put_word-in-loop-i.ensures.value foreseen (word_is_number foreseen c.args.words.now c.args.these.now
       c.nets_of_word.result.now c.loop-i.i is (omega arith) c.nets_of_word.ensures));
   others = others_part c.args.these.now c.nets_of_word.result.now c.loop-i.i c.args.nets.now
       c.loop-i.nets c.put_word-in-loop-i.new.nets c.nets_of_word.ensures c.loop-i.invariant.others
@@ -32,11 +32,11 @@ loop-i-preserved c = record {
 }
 
 pub returns-clause-value : goal.returns-clause-value
-returns-clause-value c = λ known is. all_learnt known c.args.these.now (32 * c.loop-i.i)
+returns-clause-value c = λ foreseen is. all_learnt foreseen c.args.these.now (32 * c.loop-i.i)
     c.args.nets.now c.loop-i.nets (omega (c.requires.words, c.loop-i-test.false, arith))
-    (c.loop-i.invariant.learns known is)
+    (c.loop-i.invariant.learns foreseen is)
 
 pub returns-then-words-eq1-clause-value : goal.returns-then-words-eq1-clause-value
-returns-then-words-eq1-clause-value c = λ known is. c.put_word.ensures.value known
-    (word_is_number known c.args.words.now c.args.these.now c.args.these.now 0 is (omega arith)
+returns-then-words-eq1-clause-value c = λ foreseen is. c.put_word.ensures.value foreseen
+    (word_is_number foreseen c.args.words.now c.args.these.now c.args.these.now 0 is (omega arith)
     (sym (take_all 32 c.args.these.now (omega (c.requires.words, arith)))))

@@ -9,8 +9,8 @@ use Rattle.ds_opening.proofs.packed.put_words.Given as goal
 abbrev pub invariant-loop-i : goal.invariant-loop-i
 invariant-loop-i l = record {
   same : length l.nets ≡ length l.fn.nets;
-  learns : (known : Row) → l.words ≡ packed (values_at known l.these)
-      → Learns known (take (32 * l.i) l.these) l.fn.nets l.nets;
+  learns : (foreseen : Row) → l.words ≡ packed (values_at foreseen l.these)
+      → Learns foreseen (take (32 * l.i) l.these) l.fn.nets l.nets;
   others : LeavesOthers (take (32 * l.i) l.these) l.fn.nets l.nets;
   stayed : IsTrue l.stayed → AreAsBefore l.fn.nets l.nets;
 }

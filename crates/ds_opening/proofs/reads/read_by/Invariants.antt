@@ -4,7 +4,7 @@ use Rattle.ds_opening.proofs.reads.read_by.Given as goal
 
 abbrev pub invariant-loop-table : goal.invariant-loop-table
 invariant-loop-table l = record {
-  at : AreAt l.housed.design.now l.housed.homes.items l.own l.list (take l.table-index l.tables);
+  at : AreAt l.assigned.design.now l.assigned.net_slots.items l.own l.list (take l.table-index l.tables);
   seen : AreSeen l.own l.seen.items l.list;
   same : length l.seen.items ≡ length l.fn.seen.items;
 }

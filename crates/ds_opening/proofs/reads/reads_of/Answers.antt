@@ -6,14 +6,14 @@ use Rattle.std.proofs.lemmas.List.Elements.{All-weaker}
 use Rattle.ds_base.proofs.ListLemmas.{get_or-default}
 use Rattle.ds_design.specs.Circuit.{Circuit}
 use Rattle.ds_opening.specs.Seen.{AreReadBy, AreReadsOf, IsReadBy}
-use Rattle.ds_opening.proofs.Searched.{are_reads, homes_low, if_ok, own_read, reads_more, reads_none, unseen_slots}
+use Rattle.ds_opening.proofs.Searched.{are_reads, net_slots_low, if_ok, own_read, reads_more, reads_none, unseen_slots}
 use Rattle.ds_opening.proofs.reads.reads_of.Goals as goal
 
-pub homes_of-requires-clause-groups : goal.homes_of-requires-clause-groups
-homes_of-requires-clause-groups c = c.requires.groups
+pub net_slots_of-requires-clause-groups : goal.net_slots_of-requires-clause-groups
+net_slots_of-requires-clause-groups c = c.requires.groups
 
-pub homes_of-requires-clause-others : goal.homes_of-requires-clause-others
-homes_of-requires-clause-others c = c.requires.others
+pub net_slots_of-requires-clause-others : goal.net_slots_of-requires-clause-others
+net_slots_of-requires-clause-others c = c.requires.others
 
 pub loop-own-init : goal.loop-own-init
 loop-own-init c =
@@ -22,7 +22,7 @@ loop-own-init c =
     let seen : c.in_ok-seen.seen.items ≡ replicate {A = ℕ} slots 0 =
     c.in_ok-seen.ensures.items_if_clones_equal (λ y e. e) in
     record {
-      are = reads_none c.args.design.now c.in_ok-homes.homes.items slots groups c.in_ok-reads.reads.items c.in_ok-reads.ensures.items;
+      are = reads_none c.args.design.now c.in_ok-net_slots.net_slots.items slots groups c.in_ok-reads.reads.items c.in_ok-reads.ensures.items;
       long = ap (λ (xs : List ℕ). length xs) seen ∙ length-replicate {A = ℕ} slots 0;
       unseen = unseen_slots slots c.in_ok-seen.seen.items seen;
     }
@@ -36,12 +36,12 @@ read_by-requires-clause-tables c =
     (c.requires.groups own [] c.loop-own-test.true)
 
 pub read_by-requires-clause-nets : goal.read_by-requires-clause-nets
-read_by-requires-clause-nets c = c.in_ok-homes.ensures.ok.one_each
+read_by-requires-clause-nets c = c.in_ok-net_slots.ensures.ok.one_each
 
-pub read_by-requires-clause-homes : goal.read_by-requires-clause-homes
-read_by-requires-clause-homes c =
-    homes_low c.args.design.now c.args.groups.now c.args.others.now (length c.args.design.now.nets) (length c.loop-own.seen.items)
-    c.in_ok-homes.homes.items c.in_ok-homes.ensures.ok c.loop-own.invariant.long
+pub read_by-requires-clause-net_slots : goal.read_by-requires-clause-net_slots
+read_by-requires-clause-net_slots c =
+    net_slots_low c.args.design.now c.args.groups.now c.args.others.now (length c.args.design.now.nets) (length c.loop-own.seen.items)
+    c.in_ok-net_slots.net_slots.items c.in_ok-net_slots.ensures.ok c.loop-own.invariant.long
 
 pub read_by-requires-clause-own : goal.read_by-requires-clause-own
 read_by-requires-clause-own c =
@@ -53,17 +53,17 @@ read_by-requires-clause-unseen c = c.loop-own.invariant.unseen
 pub loop-own-preserved : goal.loop-own-preserved
 loop-own-preserved c =
     let d : Circuit = c.args.design.now in
-    let homes : List ℕ = c.in_ok-homes.homes.items in
+    let net_slots : List ℕ = c.in_ok-net_slots.net_slots.items in
     let groups : List (List ℕ) = c.args.groups.now in
     let slots : ℕ = length groups + length c.args.others.now in
     let own : ℕ = c.loop-own.own in
-    let by : IsReadBy d homes slots own (get_or groups own []) c.in_ok-read_by.field-0 =
-    subst (λ (xs : List ℕ). IsReadBy d homes slots own xs c.in_ok-read_by.field-0)
+    let by : IsReadBy d net_slots slots own (get_or groups own []) c.in_ok-read_by.field-0 =
+    subst (λ (xs : List ℕ). IsReadBy d net_slots slots own xs c.in_ok-read_by.field-0)
     (c.as_slice.ensures ∙ (c.index-groups-own.is ∙ get_or-default groups own c.index-groups-own.result [] c.loop-own-test.true))
-    (subst (λ (n : ℕ). IsReadBy d homes n own c.as_slice.result.now c.in_ok-read_by.field-0) c.loop-own.invariant.long c.in_ok-read_by.ensures.ok) in
+    (subst (λ (n : ℕ). IsReadBy d net_slots n own c.as_slice.result.now c.in_ok-read_by.field-0) c.loop-own.invariant.long c.in_ok-read_by.ensures.ok) in
     record {
-      are = subst (λ (rs : List (List ℕ)). AreReadBy d homes slots (own + 1) groups rs) (sym c.in_ok-push.ensures.items)
-          (reads_more d homes slots own groups c.loop-own.reads.items c.in_ok-read_by.field-0 c.loop-own.invariant.are by);
+      are = subst (λ (rs : List (List ℕ)). AreReadBy d net_slots slots (own + 1) groups rs) (sym c.in_ok-push.ensures.items)
+          (reads_more d net_slots slots own groups c.loop-own.reads.items c.in_ok-read_by.field-0 c.loop-own.invariant.are by);
       long = c.in_ok-read_by.ensures.same ∙ c.loop-own.invariant.long;
       unseen = All-weaker (λ s. s ≤ own + 1) (λ s. s < own + 1 + 1) (λ s low. omega (low, arith)) c.read_by.new.seen.items c.in_ok-read_by.ensures.seen;
     }
@@ -71,13 +71,13 @@ loop-own-preserved c =
 pub returns : goal.returns
 returns c =
     let d : Circuit = c.args.design.now in
-    let homes : List ℕ = c.in_ok-homes.homes.items in
+    let net_slots : List ℕ = c.in_ok-net_slots.net_slots.items in
     let groups : List (List ℕ) = c.args.groups.now in
     let others : List (List ℕ) = c.args.others.now in
     let at_end : c.loop-own.own ≡ length groups = omega (c.loop-own-test.false, c.loop-own.auto.own-end, arith) in
     record {
-      ok = are_reads d c.requires.in_range others groups c.loop-own.reads.items homes c.requires.groups c.in_ok-homes.ensures.ok
-          (subst (λ (n : ℕ). AreReadBy d homes (length groups + length others) n groups c.loop-own.reads.items) at_end c.loop-own.invariant.are);
+      ok = are_reads d c.requires.in_range others groups c.loop-own.reads.items net_slots c.requires.groups c.in_ok-net_slots.ensures.ok
+          (subst (λ (n : ℕ). AreReadBy d net_slots (length groups + length others) n groups c.loop-own.reads.items) at_end c.loop-own.invariant.are);
     }
 
 pub returns-then-not-are_large : goal.returns-then-not-are_large

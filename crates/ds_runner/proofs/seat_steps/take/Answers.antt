@@ -17,7 +17,7 @@ pub compare_exchange-requires : goal.compare_exchange-requires
 compare_exchange-requires c = let (empty, live, free) = c.requires.idle in let (_, words, nodes) = c.requires.table in
     let me : TurnSeat = c.args.seat.now.me in let is : me ≡ (me.0, []) = ap (λ (cs : List (ℕ × Slot)). (me.0, cs)) empty in let n : ℕ = c.args.board.now.table_id.slots in
     let P : TurnSeat → Type 0 = λ m. Allows (Turning c.args.board.now.key) n c.args.seat.now.id m c.args.node (λ y. either (eqb y 0) 1 y) (took (step n c.args.node 0 1 none) m) in
-    (search rules, search rules, subst P (sym is) (takes_pass c.args.board.now.key n c.args.seat.now.id me.0 c.args.node none live free c.requires.home (omega (arith, words, nodes))))
+    (search rules, search rules, subst P (sym is) (takes_pass c.args.board.now.key n c.args.seat.now.id me.0 c.args.node none live free c.requires.free (omega (arith, words, nodes))))
 
 pub exchange-pass-requires : goal.exchange-pass-requires
 exchange-pass-requires c = let h = c.compare_exchange.ensures.2.0 c.if-compare_exchange-ne0.false in

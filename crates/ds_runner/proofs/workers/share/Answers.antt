@@ -20,7 +20,7 @@ all_written b s n many items now new is long wide each =
 
 pub gather-requires-clause-pool : goal.gather-requires-clause-pool
 gather-requires-clause-pool g c κs within = let pool = c.in_ok-pool.pool in let was = c.in_ok-pool.ensures.ok in
-    let home = all_written c.args.workload.now pool.scheduler.stile c.args.budget.firings pool.workers.len pool.workers.items
+    let written = all_written c.args.workload.now pool.scheduler.stile c.args.budget.firings pool.workers.len pool.workers.items
     c.as_mut_slice.result.now c.drive_all.new.workers c.as_mut_slice.ensures.value c.drive_all.auto.workers (omega arith)
     c.drive_all.ensures in record {
       fits = was.fits;
@@ -28,9 +28,9 @@ gather-requires-clause-pool g c κs within = let pool = c.in_ok-pool.pool in let
       none = was.none;
       made = was.made;
       unfired = was.unfired;
-      permits = omega (arith, was.permits, home.1);
-      are = home.0;
-      some_workers = omega (arith, was.some_workers, home.1);
+      permits = omega (arith, was.permits, written.1);
+      are = written.0;
+      some_workers = omega (arith, was.some_workers, written.1);
       empty = was.empty;
       room = was.room;
     }

@@ -12,7 +12,7 @@ use Rattle.ds_runner.specs.Shown.{Stile, Turned, IsTurnstileClosed}
 use Rattle.ds_runner.specs.declared.turn_view.TurnView.{TurnView}
 use Rattle.ds_runner.specs.declared.plays.Key.{Key}
 use Rattle.ds_runner.proofs.TurnstileRuleLemmas.{St}
-use Rattle.ds_runner.proofs.LastTurns.{every_pass_home, made_more}
+use Rattle.ds_runner.proofs.LastTurns.{every_pass_free, made_more}
 use Rattle.ds_runner.proofs.SlotLemmas.{InSlot}
 use Rattle.ds_runner.proofs.turnstile.Turnstile.close.Goals as goal
 
@@ -27,7 +27,7 @@ all_of k v id ids s t self-is turn-is whole none = (
 pub unreachable-requires : goal.unreachable-requires
 unreachable-requires c = let (_, _, f) = c.close_with-closed.ensures.values in let (_, slots) = c.close_with-closed.ensures.counts in let k = c.self.inside.table.shared.key in let i : ℕ = c.loop-i.i in let xs : List Slot = slots_items c.close_with-closed.result.slots in
     let v : TurnView = c.turn.inside.seat.me.0 in let q = all_of k v _ _ c.args.self c.args.turn c.self.view_is c.turn.view_is c.requires.whole c.requires.none in
-    let r = every_pass_home k f.0 f.1.0 c.turn.inside.seat.id v f.1.1 c.turn.invariant.live q.0 q.1 xs f.3 f.4 i
+    let r = every_pass_free k f.0 f.1.0 c.turn.inside.seat.id v f.1.1 c.turn.invariant.live q.0 q.1 xs f.3 f.4 i
     (omega (arith, c.loop-i-test.true, c.slot_count-i-end.ensures, slots, c.self.invariant.slots)) in
     let is : c.take.result ≡ Some r.0 = some-injective c.take.result (Some r.0) (sym c.take.ensures.value ∙ (ap (λ (ys : List Slot). get_elem? ys i) c.loop-i.invariant.items ∙ r.1)) in
     c.in_default.not-Some r.0 is
@@ -74,7 +74,7 @@ returns c = let (_, _, f) = c.close_with-closed.ensures.values in let (_, slots)
     let ps : List Showing = c.loop-i.into.items in
     let long : length ps ≡ nodes_of_key k = omega (arith, c.loop-i-test.false, c.loop-i.auto.i-end, c.slot_count-i-end.ensures, slots, c.self.invariant.slots, c.loop-i.invariant.moved) in
     let back : (l : ℕ) (p : Showing) → get_elem? ps l ≡ some p → Back k f.0 f.1.0 l p = λ l p at.
-    let r = every_pass_home k f.0 f.1.0 c.turn.inside.seat.id v f.1.1 c.turn.invariant.live q.0 q.1 xs f.3 f.4 l (omega (arith, at_below ps l p at, long)) in
+    let r = every_pass_free k f.0 f.1.0 c.turn.inside.seat.id v f.1.1 c.turn.invariant.live q.0 q.1 xs f.3 f.4 l (omega (arith, at_below ps l p at, long)) in
     subst (InSlot (Back k f.0 f.1.0 l)) (some-injective (Some r.0) (Some p) (sym r.1 ∙ c.loop-i.invariant.given l p at)) (r.2, r.3) in
     let made-is : v.made ≡ c.args.turn.view.made = ap (λ (x : Turned). x.view.made) c.turn.view_is in
     subst (λ (m : ℕ). IsTurnstileClosed c.args.self m ps) made-is (subst (λ (s : Stile). IsTurnstileClosed s v.made ps) c.self.view_is (record {

@@ -11,7 +11,7 @@ returns-clause-takes c = λ size rest.
     let bytes = c.args.bytes.now in
     let w : c.self.inside.width ≡ f.width = ap (λ (v : Filled). v.width) c.self.view_is in
     let is : row ≡ map value_of_character (take f.width bytes) = c.of.ensures ∙ (c.in_ok-values.ensures ∙ ap (λ (n : ℕ). map value_of_character (take n bytes)) w) in
-    ap (λ (g : Filled). on_text g size rest) (c.open.ensures
+    ap (λ (g : Filled). on_text g size rest) (c.begin_line.ensures
     ∙ ap (λ (g : Filled). record g { first = g.lines + 1; line = [] }) (c.in_ok-give.ensures
     ∙ ap (λ (g : Filled). record g { rows = g.rows ++ row ∷ []; seen = g.seen + 1; missing = g.missing - 1; behind = record { place = g.place; lines = g.lines } }) c.pass.ensures))
     ∙ (plain_taken f row bytes (f.place + (c.self.inside.width + 1)) size rest c.requires.missing c.requires.plain is (omega (arith, w))

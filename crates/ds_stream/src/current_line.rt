@@ -1,10 +1,10 @@
-//! The open line of a `Filling`: what is kept of it, and the row that it gives.
+//! The current line of a `Filling`: what is kept of it, and the row that it gives.
 ghost use Rattle.std.specs.Prelude.{◌≡◌, ◌≤◌, ◌<◌, ◌+◌, ◌-◌, ◌∷◌, false, ◌++◌, [], length, OnOk};
 ghost use Rattle.std.specs.Prelude.{MatchResult};
 ghost use Rattle.ds_lines.specs.Line.{is_hash, joins, words_in};
 ghost use Rattle.std.specs.List.{list_any};
 ghost use Rattle.ds_stream.specs.Alike.{IsFull, IsLike};
-ghost use Rattle.ds_stream.specs.Filling.{ClosesLine, IsLater};
+ghost use Rattle.ds_stream.specs.Filling.{TakesLine, IsLater};
 ghost use Rattle.ds_stream.specs.Word.{GivesRow};
 
 use crate::NextFault;
@@ -15,14 +15,14 @@ use ds_lines::{At, blank, trim};
 use std::alloc::Global;
 
 impl Filling {
-    /// The next physical line is joined to the open one.
+    /// The next physical line is joined to the current one.
     pub(crate) fn joins(&self) -> bool
         ensures { result ≡ joins self.now.line }
     {
         self.joined || trim(&self.line).1
     }
 
-    /// A blank stands for the end of the open physical line.
+    /// A blank stands for the end of the current physical line.
     pub(crate) fn join(&mut self) -> Result<(), NextFault>
         ensures ok { OnOk result (IsLike self.old.width [] self.new.line
             (words_in self.old.line) []) }
@@ -37,7 +37,7 @@ impl Filling {
         self.keep(b' ')
     }
 
-    /// A byte is kept of the open line, where it means something.
+    /// A byte is kept of the current line, where it means something.
     pub(crate) fn keep(&mut self, byte: u8) -> Result<(), NextFault>
         requires plain { list_any is_hash (self.old.line ++ byte ∷ []) ≡ false }
         ensures ok { OnOk result (IsLike self.old.width [] self.new.line
@@ -73,31 +73,31 @@ impl Filling {
         }
     }
 
-    /// The open line is closed.
-    pub(crate) fn close(&mut self, alloc: Global) -> Result<(), NextFault>
+    /// The current line ends: its row is given, and the next line begins.
+    pub(crate) fn take_line(&mut self, alloc: Global) -> Result<(), NextFault>
         requires some { 0 < self.old.missing }
         requires near { self.old.place ≤ 281474976710656 }
-        ensures closes { ClosesLine result self.old self.new }
+        ensures takes { TakesLine result self.old self.new }
         ensures same { OnOk result (IsLater self.old self.new) }
-        ensures open { OnOk result ((self.new.first ≡ self.old.lines + 1)
+        ensures begins { OnOk result ((self.new.first ≡ self.old.lines + 1)
             × (self.new.line ≡ []) × (self.new.place ≡ self.old.place)
             × (self.new.lines ≡ self.old.lines)) }
     {
         match self.row(alloc) {
             Err(why) => Err(why),
             Ok(None) => {
-                self.open();
+                self.begin_line();
                 Ok(())
             }
             Ok(Some(row)) => {
                 self.give(row)?;
-                self.open();
+                self.begin_line();
                 Ok(())
             }
         }
     }
 
-    // The row of the open line, if it has words.
+    // The row of the current line, if it has words.
     fn row(&self, alloc: Global) -> Result<Option<Row3>, NextFault>
         ensures { GivesRow self.now.most self.now.width self.now.seen self.now.first
             (words_in self.now.line) result }
@@ -136,7 +136,7 @@ impl Filling {
     }
 
     /// The next line begins here.
-    pub(crate) fn open(&mut self)
+    pub(crate) fn begin_line(&mut self)
         ensures { self.new ≡ record self.old { first = self.old.lines + 1; line = [] } }
     {
         self.line.clear();

@@ -1,4 +1,4 @@
--- The pass of a node is at home, or with one turn.
+-- The pass of a node is free, or with one turn.
 use Rattle.std.proofs.Common.{⊎_elim, inl, inr, sym, ◌∙◌, arith}
 use Rattle.ds_table_laws.specs.Turned.{OneTurnHasIt, PassesAreSomewhere}
 
@@ -8,7 +8,7 @@ one_turn_has_it_lem k s t l id other (v, at, live, out) (w, there, lives, away) 
 
 pub passes_are_somewhere_lem : PassesAreSomewhere
 passes_are_somewhere_lem k s t l near = ⊎_elim
-    (λ zero. let (p, at, alone, fires) = t.home l near zero in inl (
+    (λ zero. let (p, at, alone, fires) = t.free l near zero in inl (
       (p, at, alone),
       λ id (v, there, live, out). omega (arith, zero, (t.outs id v l there live out).1),
     ))
