@@ -1,8 +1,8 @@
 #!/usr/bin/env python3
 """Times `desync clock` and `desync run` beside other simulators, and compares all traces.
 
-It makes netlists by make_netlist.py in a folder of its own, and runs each simulator on the same
-netlist and the same vectors. A simulator that is not installed is left out: Icarus Verilog
+It makes netlists by make_netlist.py and make_circuit.py in a folder of its own, and runs each
+simulator on the same netlist and the same vectors. A simulator that is not installed is left out: Icarus Verilog
 (iverilog, vvp), Verilator, Yosys by its C++ simulation (yosys, g++), and interpreter.cpp and
 bytes.cpp (g++).
 Each time is the median of some runs from the start of the process to its end, in seconds, with
@@ -30,17 +30,21 @@ SIZES = [
     ("mapped 10000", 2000, ["mapped", "10000"]),
     ("pipeline 64x32x8", 1000, ["pipeline", "64", "32", "8"]),
     ("pipeline 64x60x16", 200, ["pipeline", "64", "60", "16"]),
+    ("mul32", 20000, ["mul32"]),
 ]
+# What make_circuit.py makes.
+CIRCUITS = ("cpu", "mul32", "sha")
 SMALLEST = ("random 100", "pipeline 16x8x4")
 
 
 class Design:
-    """A netlist of make_netlist.py, with its tables by level."""
+    """A netlist, with its tables by level. The nets have names that are Verilog's too."""
 
     def __init__(self, path):
         self.inputs, self.outputs, self.tables, self.registers = [], [], [], []
         with open(path) as file:
-            for words in map(str.split, file):
+            for line in file:
+                words = line.replace("[", "_").replace("]", "").split()
                 if words[0] == ".inputs":
                     self.inputs = words[2:]
                 elif words[0] == ".outputs":
@@ -280,8 +284,10 @@ def trace_of(printed):
 def measure(name, turns, words, program, times):
     """One line of the table. It answers whether all traces are equal."""
     with tempfile.TemporaryDirectory() as folder:
-        make = [sys.executable, os.path.join(HERE, "make_netlist.py"), "--turns", str(turns)]
-        subprocess.run(make + [os.path.join(folder, "net")] + words, check=True)
+        maker = "make_circuit.py" if words[0] in CIRCUITS else "make_netlist.py"
+        make = [sys.executable, os.path.join(HERE, maker), "--turns", str(turns)]
+        made = subprocess.run(make + [os.path.join(folder, "net")] + words, stdout=subprocess.DEVNULL)
+        made.check_returncode()
         runs = {word: ([program, word, "net.blif", "net.vec"], None) for word in ("clock", "run")}
         runs.update(prepare(folder, turns))
         cells, traces = {}, {}
