@@ -1,6 +1,6 @@
 -- What is known of a graph once its events have places, and what follows.
 use Rattle.std.proofs.Common.{◌≡◌, ◌≢◌, ℕ, ◌<◌, List, ◌++◌, length, get_or, map, sym, ◌∙◌, ap, subst, All, AllPairs, Result, Ok, Err, Some, slice_index}
-use Rattle.std.specs.Prelude.{Contains, IsErrAnd, MatchResult}
+use Rattle.std.specs.Prelude.{Contains, IsErr, IsErrAnd, MatchResult}
 use Rattle.std.specs.List.{HoldsAt}
 use Rattle.std.proofs.lemmas.List.{get_or-map, get_or_default, length-map}
 use Rattle.std.proofs.lemmas.List.Elements.{All-contains, All-map}
@@ -25,9 +25,9 @@ left_ends orders arcs left are places ends k d inside =
     All-contains (λ (x : Arc). (x.source < length places) × (x.target < length places)) orders (get_or left k d) ends (are.some k d inside)
 
 -- what follows of the error that a call passes on
-pub matched : {T E : Type 0} (P : T → Type 0) (Q R : E → Type 0) (r : Result T E) → IsErrAnd r R → ((e : E) → R e → Q e) → MatchResult r P Q
-matched P Q R (Ok x) is so = absurd is
-matched P Q R (Err e) is so = so e is
+pub matched : {T E : Type 0} (P : T → Type 0) (Q R : E → Type 0) (r : Result T E) → IsErr r × IsErrAnd r R → ((e : E) → R e → Q e) → MatchResult r P Q
+matched P Q R (Ok x) (_, is) so = absurd is
+matched P Q R (Err e) (_, is) so = so e is
 
 -- the graph of the required orders
 pub record Facts (s : Split) (g required : Graph) : Type 0 where

@@ -9,7 +9,7 @@ use Rattle.ds_accept.proofs.plan.check_required.Goals as goal
 
 pub returns-in_err-places : goal.returns-in_err-places
 returns-in_err-places c = record {
-  checked = matched _ _ _ c.from_residual.result c.from_residual.ensures.1
+  checked = matched _ _ _ c.from_residual.result c.from_residual.ensures
       (λ e is. subst (λ (fault : AcceptFault). IsAcceptFault c.args.latches.now c.args.graph.now fault) (sym is)
       (lacking c.args.latches.now c.args.graph.now c.args.required.now c.requires.events c.in_err-places.field-0.0 c.in_err-places.ensures.value));
 }
@@ -42,7 +42,7 @@ returns-in_err-check_walks c =
     = subst (λ (ps : List ℕ). AreAsked c.args.required.now.arcs c.in_ok-other.other.arcs (slice_index ps) c.in_ok-asked.asked.items) c.as_slice.ensures.value c.in_ok-asked.ensures in
     let shown : IsUnmet c.args.graph.now c.in_ok-asked.asked.items c.in_err-check_walks.field-0.0
     = subst (λ (xs : List Arc). IsUnmet c.args.graph.now xs c.in_err-check_walks.field-0.0) c.as_slice-2.ensures.value c.in_err-check_walks.ensures in record {
-      checked = matched _ _ _ c.from_residual-in_err-check_walks.result c.from_residual-in_err-check_walks.ensures.1
+      checked = matched _ _ _ c.from_residual-in_err-check_walks.result c.from_residual-in_err-check_walks.ensures
           (λ e is. subst (λ (fault : AcceptFault). IsAcceptFault c.args.latches.now c.args.graph.now fault) (sym is)
           (unmet c.args.latches.now c.args.graph.now c.args.required.now f c.in_ok-places.places.items c.in_ok-places.ensures.value c.in_ok-other.other c.in_ok-other.ensures c.in_ok-asked.asked.items a c.in_err-check_walks.field-0.0 shown));
     }

@@ -10,7 +10,7 @@ pub loop-i-init : goal.loop-i-init
 loop-i-init g c = sym (append-nil c.args.words.now.items)
 
 pub first-requires-clause-node : goal.first-requires-clause-node
-first-requires-clause-node g c = omega (arith, c.new.ensures, c.requires.near.0)
+first-requires-clause-node g c = let (node, _) = c.requires.near in omega (arith, c.new.ensures, node)
 
 pub first-requires-clause-word : goal.first-requires-clause-word
 first-requires-clause-word g c =

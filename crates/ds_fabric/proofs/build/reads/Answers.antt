@@ -89,7 +89,7 @@ overflow_add-width g c =
 pub index_mut-requires : goal.index_mut-requires
 index_mut-requires g c =
     let r = edge_is g (goal.at.index_mut-requires g c).After-index-edges-i in
-    omega (arith, r.into, c.loop-i.invariant.0, c.index-in-loop-i.ensures)
+    omega (arith, r.into, c.loop-i.invariant.long, c.index-in-loop-i.ensures)
 
 -- what the total of the edge's consumer was, and what it is
 record Counted (run : Run) (i k was n : ℕ) (ts : List ℕ) : Type 0 where
@@ -109,11 +109,11 @@ counted g c r = let run : Run = c.args.run.now in let i : ℕ = c.loop-i.i in
     ∙ ap (λ (x : DataEdge). x.consumer) (sym r.same) in
     let n-is = wide run i c.index.result c.width.result _ r c.index.ensures c.width.ensures in
     let near : k < run.nodes = omega (arith, r.into, c.index-in-loop-i.ensures) in
-    let q = grown run c.requires i k ts c.index_mut.result.now n r.near inv.0 inv.1 k-is near
+    let q = grown run c.requires i k ts c.index_mut.result.now n r.near inv.long inv.each k-is near
     c.index_mut.ensures.value n-is in record {
       is = q.0;
       few = q.1;
-      next = reads_next run ts i k n k-is n-is inv.0 near inv.1;
+      next = reads_next run ts i k n k-is n-is inv.long near inv.each;
     }
 
 pub overflow_add-index_mut : goal.overflow_add-index_mut
@@ -124,7 +124,7 @@ pub loop-i-preserved : goal.loop-i-preserved
 loop-i-preserved g c = let at = goal.at.loop-i-preserved g c in
     let k : ℕ = c.index-in-loop-i.result in let ts : List ℕ = c.loop-i.totals.items in
     let n : ℕ = 1 + c.width.result in
-    let s = counted g at.After-index_mut (edge_is g at.After-index-edges-i) in (
-      length-set ts k (c.index_mut.result.now + n) ∙ c.loop-i.invariant.0,
-      λ x h. ap (λ (y : ℕ). get_or (set ts k (y + n)) x 0) s.is ∙ s.next x h,
-    )
+    let s = counted g at.After-index_mut (edge_is g at.After-index-edges-i) in record {
+      long = length-set ts k (c.index_mut.result.now + n) ∙ c.loop-i.invariant.long;
+      each = λ x h. ap (λ (y : ℕ). get_or (set ts k (y + n)) x 0) s.is ∙ s.next x h;
+    }

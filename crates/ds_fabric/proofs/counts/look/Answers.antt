@@ -9,7 +9,7 @@ use Rattle.ds_rule.proofs.PlaceLaws.{counts_inside}
 use Rattle.ds_fabric.proofs.counts.look.Goals as goal
 
 pub load-requires : goal.load-requires
-load-requires g c = let q = c.args.context.now.built.over in let run : Run = c.args.context.now.run.now in
+load-requires g c = let (live, at_rest) = c.requires.idle in let q = c.args.context.now.built.over in let run : Run = c.args.context.now.run.now in
     let P : Run → Type 0 =
     λ r. Allows (Lawful r) c.args.context.now.board.now.table_id.slots c.args.seat.now.id c.args.seat.now.me
     (c.args.node + 1) (λ y. y) (looked (step c.args.context.now.board.now.table_id.slots
@@ -17,7 +17,7 @@ load-requires g c = let q = c.args.context.now.built.over in let run : Run = c.a
       c.requires.table,
       omega (arith, q.sized, counts_inside run (c.args.node + 1) (omega (arith, c.requires.near))),
       subst P (sym q.keyed)
-          (looks run _ _ _ c.args.node _ refl c.requires.near c.requires.idle.0 c.requires.idle.1),
+          (looks run _ _ _ c.args.node _ refl c.requires.near live at_rest),
     )
 
 pub returns : goal.returns

@@ -23,67 +23,65 @@ not-less : (a b : ℕ) → (a < b → ⊥) → b ≤ a
 not-less a b h = omega arith
 
 pub index-i-requires : goal.index-i-requires
-index-i-requires g c = let all = c.requires.incoming in
-    omega (arith, all.starts_long, c.requires.few.1)
+index-i-requires g c = let (_, near) = c.requires.few in omega (arith, c.requires.incoming.starts_long, near)
 
 pub overflow_add-event : goal.overflow_add-event
-overflow_add-event g c =
-    omega (arith, c.requires.few.1, events-is c.args.context.now.run.now, c.args.context.now.built.over.sound.few)
+overflow_add-event g c = let (_, near) = c.requires.few in
+    omega (arith, near, events-is c.args.context.now.run.now, c.args.context.now.built.over.sound.few)
 
 pub index-i-end-requires : goal.index-i-end-requires
-index-i-end-requires g c = let all = c.requires.incoming in
-    omega (arith, all.starts_long, c.requires.few.1)
+index-i-end-requires g c = let (_, near) = c.requires.few in omega (arith, c.requires.incoming.starts_long, near)
 
 pub loop-i-init : goal.loop-i-init
-loop-i-init g c =
+loop-i-init g c = let (_, near) = c.requires.few in
     let numbers : List ℕ = c.args.context.now.incoming.now.numbers.items in
     let e = ends_read c.args.context.now.run.now c.args.event c.index-i.result.now
     c.index-i-end.result.now c.args.context.now.incoming.now.starts.items numbers
-    c.args.context.now.incoming.now.arcs.items c.requires.few.1 c.requires.incoming
-    c.index-i.ensures c.index-i-end.ensures in (
-      refl,
-      refl,
-      looks_none c.args.seat.now.me.0,
-      none_before c.args.context.now.run.now c.args.seat.now.me.0 c.args.turn numbers _ _ e.0,
-      omega (arith, e.0),
-      sym e.1,
-    )
+    c.args.context.now.incoming.now.arcs.items near c.requires.incoming
+    c.index-i.ensures c.index-i-end.ensures in record {
+      table = refl;
+      slots = refl;
+      looks = looks_none c.args.seat.now.me.0;
+      enough = none_before c.args.context.now.run.now c.args.seat.now.me.0 c.args.turn numbers _ _ e.0;
+      from = omega (arith, e.0);
+      end = sym e.1;
+    }
 
 pub bounds-arcs-i : goal.bounds-arcs-i
-bounds-arcs-i g c =
+bounds-arcs-i g c = let (_, near) = c.requires.few in
     omega (
       arith,
       c.loop-i-test.true,
-      c.loop-i.invariant.5,
-      (c.requires.incoming.parts c.args.event c.requires.few.1).inside,
+      c.loop-i.invariant.end,
+      (c.requires.incoming.parts c.args.event near).inside,
       ap (λ (xs : List ArcIn). length xs) c.as_slice-arcs.ensures.value,
     )
 
 pub look-fired-requires-clause-table : goal.look-fired-requires-clause-table
-look-fired-requires-clause-table g c = c.loop-i.invariant.0 ∙ c.requires.table
+look-fired-requires-clause-table g c = c.loop-i.invariant.table ∙ c.requires.table
 
 pub look-fired-requires-clause-idle : goal.look-fired-requires-clause-idle
-look-fired-requires-clause-idle g c = let q = c.loop-i.invariant.2 in
-    (q.live ∙ c.requires.idle.0, q.phase ∙ c.requires.idle.1)
+look-fired-requires-clause-idle g c = let q = c.loop-i.invariant.looks in
+    let (live, at_rest, _) = c.requires.idle in (q.live ∙ live, q.phase ∙ at_rest)
 
 -- the place of the arc that is looked at is one of the event's
 place : (g : Given.Over) (c : After-look-fired g)
     → (c.loop-i.i < get_or c.args.context.now.incoming.now.starts.items (c.args.event + 1) 0)
     × (c.loop-i.i < length c.args.context.now.incoming.now.numbers.items)
-place g c = let all = c.requires.incoming in
+place g c = let all = c.requires.incoming in let (_, near) = c.requires.few in
     let below : c.loop-i.i < get_or c.args.context.now.incoming.now.starts.items (c.args.event + 1) 0 =
-    omega (arith, c.loop-i-test.true, c.loop-i.invariant.5) in
-    (below, omega (arith, below, (all.parts c.args.event c.requires.few.1).inside, all.numbers_long))
+    omega (arith, c.loop-i-test.true, c.loop-i.invariant.end) in
+    (below, omega (arith, below, (all.parts c.args.event near).inside, all.numbers_long))
 
 pub index-requires : goal.index-requires
 index-requires g c = omega (arith, (place g (goal.at.index-requires g c).After-look-fired).1)
 
 pub look-fired-requires-clause-near : goal.look-fired-requires-clause-near
-look-fired-requires-clause-near g c =
+look-fired-requires-clause-near g c = let (_, near) = c.requires.few in
     look_near c.args.context.now.run.now c.args.event c.loop-i.i c.args.context.now.incoming.now.starts.items
     c.args.context.now.incoming.now.numbers.items c.args.context.now.incoming.now.arcs.items c.as_slice-arcs.result.now _
-    c.args.context.now.built.over.sound c.requires.few.1 c.requires.incoming c.as_slice-arcs.ensures.value
-    c.loop-i.invariant.4 (omega (arith, c.loop-i-test.true, c.loop-i.invariant.5))
+    c.args.context.now.built.over.sound near c.requires.incoming c.as_slice-arcs.ensures.value
+    c.loop-i.invariant.from (omega (arith, c.loop-i-test.true, c.loop-i.invariant.end))
 
 -- the arc that is looked at
 looked_at : (g : Given.Over) (c : After-look-fired g)
@@ -91,11 +89,11 @@ looked_at : (g : Given.Over) (c : After-look-fired g)
     (get_or c.args.context.now.incoming.now.numbers.items c.loop-i.i 0)
     (get_or c.as_slice-arcs.result.now c.loop-i.i
     (record { node = 0; ahead = 0; source = Opening }))
-looked_at g c =
+looked_at g c = let (_, near) = c.requires.few in
     entry_into c.args.context.now.run.now c.args.event c.loop-i.i
     c.args.context.now.incoming.now.starts.items c.args.context.now.incoming.now.numbers.items
-    c.args.context.now.incoming.now.arcs.items c.as_slice-arcs.result.now _ c.requires.few.1
-    c.requires.incoming c.as_slice-arcs.ensures.value c.loop-i.invariant.4 (place g c).0
+    c.args.context.now.incoming.now.arcs.items c.as_slice-arcs.result.now _ near
+    c.requires.incoming c.as_slice-arcs.ensures.value c.loop-i.invariant.from (place g c).0
 
 -- what the look tells where it shows too few tokens
 halted : (g : Given.Over) (c : After-look-fired g)
@@ -108,19 +106,19 @@ halted : (g : Given.Over) (c : After-look-fired g)
     c.args.event c.args.turn (get_or c.args.context.now.incoming.now.numbers.items c.loop-i.i 0)
     (fired_of (get_or c.as_slice-arcs.result.now c.loop-i.i
     (record { node = 0; ahead = 0; source = Opening })).source c.look-fired.result)
-halted g c short = let e = c.look-fired.ensures in
+halted g c short = let e = c.look-fired.ensures in let (_, _, seen_long) = c.requires.idle in
     stops c.args.context.now.run.now c.args.event c.args.turn
     (get_or c.args.context.now.incoming.now.numbers.items c.loop-i.i 0) c.args.seat.now.me.0
     c.loop-i.seat.me c.look-fired.new.seat.me
     (get_or c.as_slice-arcs.result.now c.loop-i.i
     (record { node = 0; ahead = 0; source = Opening })) c.look-fired.result
-    c.args.context.now.built.over.sound (looked_at g c) e.me c.loop-i.invariant.2 c.requires.idle.2 e.up e.own
+    c.args.context.now.built.over.sound (looked_at g c) e.me c.loop-i.invariant.looks seen_long e.up e.own
     short
 
 pub returns-then-lacks-clause-table : goal.returns-then-lacks-clause-table
 returns-then-lacks-clause-table g c = (
-  c.look-fired.ensures.table ∙ c.loop-i.invariant.0,
-  ap (λ (y : Sat). y.1) c.look-fired.ensures.me ∙ c.loop-i.invariant.1,
+  c.look-fired.ensures.table ∙ c.loop-i.invariant.table,
+  ap (λ (y : Sat). y.1) c.look-fired.ensures.me ∙ c.loop-i.invariant.slots,
 )
 
 pub returns-then-lacks-clause-looks : goal.returns-then-lacks-clause-looks
@@ -145,7 +143,7 @@ returns-then-lacks-clause-some g c =
     (halted g a ((c.if-lacks.ensures _ into.says.ahead_is).0 refl)).1)
 
 pub loop-i-preserved : goal.loop-i-preserved
-loop-i-preserved g c =
+loop-i-preserved g c = let (_, _, seen_long) = c.requires.idle in
     let run : Run = c.args.context.now.run.now in let i : ℕ = c.loop-i.i in let inv = c.loop-i.invariant in
     let numbers : List ℕ = c.args.context.now.incoming.now.numbers.items in
     let x : ArcIn = get_or c.as_slice-arcs.result.now i
@@ -159,27 +157,27 @@ loop-i-preserved g c =
     (λ t. false≢true ((c.if-lacks.ensures tokens into.says.ahead_is).1 t)) in
     let both = goes_on run c.args.event c.args.turn
     (get_or c.args.context.now.incoming.now.starts.items c.args.event 0) i numbers c.args.seat.now.me.0
-    c.loop-i.seat.me c.look-fired.new.seat.me x r c.args.context.now.built.over.sound into e.me inv.2 inv.3
-    c.requires.idle.2 e.up e.own here in (
-      e.table ∙ inv.0,
-      ap (λ (y : Sat). y.1) e.me ∙ inv.1,
-      both.0,
-      both.1,
-      omega (arith, inv.4),
-      inv.5,
-    )
+    c.loop-i.seat.me c.look-fired.new.seat.me x r c.args.context.now.built.over.sound into e.me inv.looks inv.enough
+    seen_long e.up e.own here in record {
+      table = e.table ∙ inv.table;
+      slots = ap (λ (y : Sat). y.1) e.me ∙ inv.slots;
+      looks = both.0;
+      enough = both.1;
+      from = omega (arith, inv.from);
+      end = inv.end;
+    }
 
 pub returns-clause-table : goal.returns-clause-table
-returns-clause-table g c = (c.loop-i.invariant.0, c.loop-i.invariant.1)
+returns-clause-table g c = (c.loop-i.invariant.table, c.loop-i.invariant.slots)
 
 pub returns-clause-looks : goal.returns-clause-looks
-returns-clause-looks g c = c.loop-i.invariant.2
+returns-clause-looks g c = c.loop-i.invariant.looks
 
 pub returns-clause-none : goal.returns-clause-none
-returns-clause-none g c =
+returns-clause-none g c = let (_, near) = c.requires.few in
     let inv = c.loop-i.invariant in let starts : List ℕ = c.args.context.now.incoming.now.starts.items in
     enough_all c.args.context.now.run.now c.loop-i.seat.me.0 c.args.event c.args.turn
     (get_or starts c.args.event 0) (get_or starts (c.args.event + 1) 0)
     c.args.context.now.incoming.now.arcs.items c.args.context.now.incoming.now.numbers.items
-    (c.requires.incoming.parts c.args.event c.requires.few.1)
-    (λ j a b. inv.3 j a (omega (arith, b, c.loop-i-test.false, inv.5)))
+    (c.requires.incoming.parts c.args.event near)
+    (λ j a b. inv.enough j a (omega (arith, b, c.loop-i-test.false, inv.end)))

@@ -10,7 +10,7 @@ use Rattle.ds_fabric.specs.Base.{IsInFlight}
 use Rattle.ds_fabric.proofs.flight.depart.Goals as goal
 
 pub load-requires : goal.load-requires
-load-requires g c = let q = c.args.context.now.built.over in let run : Run = c.args.context.now.run.now in
+load-requires g c = let (live, at_rest, _) = c.requires.idle in let q = c.args.context.now.built.over in let run : Run = c.args.context.now.run.now in
     let n : ℕ = c.args.context.now.board.now.table_id.slots in let l : ℕ = c.args.history.now.node in
     let h = c.requires.held in
     let P : Run → Type 0 = λ r. Allows (Lawful r) n c.args.seat.now.id c.args.seat.now.me (l + 1)
@@ -18,7 +18,7 @@ load-requires g c = let q = c.args.context.now.built.over in let run : Run = c.a
       c.requires.table,
       omega (arith, q.sized, counts_inside run (l + 1) (omega (arith, h.1))),
       subst P (sym q.keyed) (departs run n c.args.seat.now.id c.args.seat.now.me l
-          (l + 1) refl h.1 c.requires.idle.0 c.requires.idle.1 h.0
+          (l + 1) refl h.1 live at_rest h.0
           (subst (λ (f : ℕ). IsEnabledInRun run (seen c.args.seat.now.me.0)
           (next run l f)) h.2 c.requires.ready)),
     )
@@ -33,23 +33,24 @@ left : (l : ℕ) (m m' : Sat) → m' ≡ (after_depart m.0 (l + 1 - 1), m.1)
 left l m m' is = is ∙ ap (λ (x : ℕ). (after_depart m.0 x, m.1)) (same l)
 
 pub returns-clause-me : goal.returns-clause-me
-returns-clause-me g c =
-    left c.args.history.now.node c.args.seat.now.me c.load.new.seat.me c.load.ensures.2
+returns-clause-me g c = let (_, _, me) = c.load.ensures in
+    left c.args.history.now.node c.args.seat.now.me c.load.new.seat.me me
 
 pub returns-clause-flight : goal.returns-clause-flight
-returns-clause-flight g c = let l : ℕ = c.args.history.now.node in
+returns-clause-flight g c = let (live, _, run_is) = c.requires.idle in let (_, near, count) = c.requires.held in
+    let (_, _, me) = c.load.ensures in let l : ℕ = c.args.history.now.node in
     let m : Sat = c.args.seat.now.me in let run : Run = c.args.context.now.run.now in
     subst (λ (x : Sat). IsInFlight run x.0 l c.args.history.now.fired)
-    (sym (left l m c.load.new.seat.me c.load.ensures.2)) (record {
-      live = c.requires.idle.0;
+    (sym (left l m c.load.new.seat.me me)) (record {
+      live = live;
       phase = refl;
       node_is = refl;
-      run_is = c.requires.idle.2;
-      count = c.requires.held.2;
-      near = c.requires.held.1;
+      run_is = run_is;
+      count = count;
+      near = near;
       enabled = c.requires.ready;
     })
 
 pub returns-clause-unwritten : goal.returns-clause-unwritten
-returns-clause-unwritten g c = ap (λ (x : Sat). x.0.written)
-    (left c.args.history.now.node c.args.seat.now.me c.load.new.seat.me c.load.ensures.2)
+returns-clause-unwritten g c = let (_, _, me) = c.load.ensures in ap (λ (x : Sat). x.0.written)
+    (left c.args.history.now.node c.args.seat.now.me c.load.new.seat.me me)

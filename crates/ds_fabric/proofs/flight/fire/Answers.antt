@@ -6,13 +6,13 @@ use Rattle.ds_fabric.proofs.Flights.{few}
 use Rattle.ds_fabric.proofs.flight.fire.Goals as goal
 
 pub note-requires-clause-few : goal.note-requires-clause-few
-note-requires-clause-few g c = let run : Run = c.args.context.now.run.now in
+note-requires-clause-few g c = let (_, _, count) = c.requires.held in let run : Run = c.args.context.now.run.now in
     let l : ℕ = c.args.history.now.node in
     omega (
       arith,
       c.prepare.ensures.same.fired,
       few run c.args.seat.now.me.0 l c.args.history.now.fired
-          c.args.context.now.built.over.sound.short c.requires.held.2 c.requires.ready,
+          c.args.context.now.built.over.sound.short count c.requires.ready,
     )
 
 pub note-requires-clause-room : goal.note-requires-clause-room

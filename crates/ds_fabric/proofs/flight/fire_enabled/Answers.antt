@@ -13,7 +13,7 @@ use Rattle.ds_fabric.proofs.LoadedViews.{looks_none}
 use Rattle.ds_fabric.proofs.flight.fire_enabled.Goals as goal
 
 pub fire-requires-clause-idle : goal.fire-requires-clause-idle
-fire-requires-clause-idle g c = let k = c.requires.keeps.2 in (k.live, k.idle, c.requires.run)
+fire-requires-clause-idle g c = let (_, _, k, _) = c.requires.keeps in (k.live, k.idle, c.requires.run)
 
 pub fire-requires-clause-held : goal.fire-requires-clause-held
 fire-requires-clause-held g c = let lent = c.requires.keeps in

@@ -64,7 +64,7 @@ returns-then-before-limit-clause-keeps g c ns j k a =
     subst (Keeps c.args.seat.now.me) (sym (set_same ns j c.args.history.now a)) k
 
 pub survey-requires-clause-idle : goal.survey-requires-clause-idle
-survey-requires-clause-idle g c = let k = c.requires.keeps.2 in
+survey-requires-clause-idle g c = let (_, _, k, _) = c.requires.keeps in
     (k.live, k.idle, k.seen_long ∙ ap (λ (r : Run). r.nodes) c.requires.run)
 
 pub survey-requires-clause-few : goal.survey-requires-clause-few

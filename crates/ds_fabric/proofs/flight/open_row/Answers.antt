@@ -4,20 +4,20 @@ use Rattle.ds_rule.specs.Rows.{supply_but}
 use Rattle.ds_fabric.proofs.flight.open_row.Goals as goal
 
 pub read_rows-requires-clause-flight : goal.read_rows-requires-clause-flight
-read_rows-requires-clause-flight g c = (c.requires.flight.0, c.requires.flight.1.run_is)
+read_rows-requires-clause-flight g c = let (opening, away) = c.requires.flight in (opening, away.run_is)
 
 pub compute-requires-clause-node : goal.compute-requires-clause-node
-compute-requires-clause-node g c = omega (
+compute-requires-clause-node g c = let (node, _) = c.requires.within in omega (
   arith,
-  c.requires.within.0,
+  node,
   c.new.ensures,
   ap (λ (r : Run). r.design_nodes) c.args.context.now.computes,
 )
 
 pub compute-requires-clause-turn : goal.compute-requires-clause-turn
-compute-requires-clause-turn g c = (
-  omega (arith, c.requires.flight.0.number),
-  omega (arith, c.requires.within.1, ap (λ (r : Run). r.limit) c.args.context.now.computes),
+compute-requires-clause-turn g c = let (opening, _) = c.requires.flight in let (_, turn) = c.requires.within in (
+  omega (arith, opening.number),
+  omega (arith, turn, ap (λ (r : Run). r.limit) c.args.context.now.computes),
 )
 
 pub compute-requires-clause-from : goal.compute-requires-clause-from

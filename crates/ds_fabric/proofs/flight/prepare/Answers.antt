@@ -24,10 +24,10 @@ turn : (run : Run) (l f t : ℕ) → t ≡ (f + 1) / 2 → opens run (next run l
 turn run l f t is h = omega (arith, opened-low run l f (even_opens run l f h).0)
 
 pub open_row-requires-clause-flight : goal.open_row-requires-clause-flight
-open_row-requires-clause-flight g c = let run : Run = c.args.context.now.run.now in
+open_row-requires-clause-flight g c = let (to, _) = c.if-opens_next.ensures in let run : Run = c.args.context.now.run.now in
     let v : View = c.args.seat.now.me.0 in let l : ℕ = c.args.history.now.node in
     let q = c.requires.flight in
-    let fired = q.count in let h = c.if-opens_next.ensures.0 refl in (
+    let fired = q.count in let h = to refl in (
       record {
         live = q.live;
         phase = q.phase;
@@ -48,23 +48,23 @@ open_row-requires-clause-flight g c = let run : Run = c.args.context.now.run.now
     )
 
 pub open_row-requires-clause-within : goal.open_row-requires-clause-within
-open_row-requires-clause-within g c =
+open_row-requires-clause-within g c = let (to, _) = c.if-opens_next.ensures in
     let w = within c.args.context.now.run.now c.args.seat.now.me.0 c.args.history.now.node c.args.history.now.fired
-    c.requires.flight.count (c.if-opens_next.ensures.0 refl) c.requires.flight.enabled in
+    c.requires.flight.count (to refl) c.requires.flight.enabled in
     (w.0, omega (arith, c.turns-turn.ensures, w.1))
 
 pub open_row-requires-clause-room : goal.open_row-requires-clause-room
-open_row-requires-clause-room g c = let run : Run = c.args.context.now.run.now in
+open_row-requires-clause-room g c = let (to, _) = c.if-opens_next.ensures in let run : Run = c.args.context.now.run.now in
     let l : ℕ = c.args.history.now.node in let f : ℕ = c.args.history.now.fired in
-    let even = even_opens run l f (c.if-opens_next.ensures.0 refl) in record {
+    let even = even_opens run l f (to refl) in record {
       turns = omega (arith, length-even run l f even.0 even.1, c.requires.room.turns);
       from = c.requires.room.from;
     }
 
 pub returns-then-opens_next-clause-turns : goal.returns-then-opens_next-clause-turns
-returns-then-opens_next-clause-turns g c = let run : Run = c.args.context.now.run.now in
+returns-then-opens_next-clause-turns g c = let (to, _) = c.if-opens_next.ensures in let run : Run = c.args.context.now.run.now in
     let l : ℕ = c.args.history.now.node in let f : ℕ = c.args.history.now.fired in
-    let h = c.if-opens_next.ensures.0 refl in
+    let h = to refl in
     c.open_row.ensures.value
     ∙ ap (λ (xs : List ℕ). c.args.history.now.turns.items ++ xs)
     (ap (row run l) (turn run l f c.turns-turn.result c.turns-turn.ensures h) ∙ sym (new_row-opens run l f h))
@@ -99,13 +99,13 @@ returns-else-opens_next-clause-me g c = (
 )
 
 pub returns-else-opens_next-clause-written : goal.returns-else-opens_next-clause-written
-returns-else-opens_next-clause-written g c =
-    λ h. absurd (false≢true (c.if-opens_next.ensures.1 h))
+returns-else-opens_next-clause-written g c = let (_, from) = c.if-opens_next.ensures in
+    λ h. absurd (false≢true (from h))
 
 pub returns-else-opens_next-clause-turns : goal.returns-else-opens_next-clause-turns
-returns-else-opens_next-clause-turns g c = let run : Run = c.args.context.now.run.now in
+returns-else-opens_next-clause-turns g c = let (_, from) = c.if-opens_next.ensures in let run : Run = c.args.context.now.run.now in
     let l : ℕ = c.args.history.now.node in let f : ℕ = c.args.history.now.fired in
     let old : List ℕ = c.args.history.now.turns.items in
     let none : new_row run l f ≡ [] = by_bool (new_row run l f ≡ []) (opens run (next run l f))
-    (λ h. absurd (false≢true (c.if-opens_next.ensures.1 h))) (λ h. new_row-else run l f h) in
+    (λ h. absurd (false≢true (from h))) (λ h. new_row-else run l f h) in
     sym (ap (λ (xs : List ℕ). old ++ xs) none ∙ append-nil old)

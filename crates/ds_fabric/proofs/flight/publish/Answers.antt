@@ -33,16 +33,16 @@ overflow_add-history-2 g c = let f = c.requires.flight in
     )
 
 pub store-requires : goal.store-requires
-store-requires g c = let q = c.args.context.now.built.over in let l : ℕ = c.args.history.now.node in
+store-requires g c = let (table, _, (me, _)) = c.fetch_add-ticket.ensures in let q = c.args.context.now.built.over in let l : ℕ = c.args.history.now.node in
     let m : Sat = c.args.seat.now.me in let run : Run = c.args.context.now.run.now in
     let n : ℕ = c.args.context.now.board.now.table_id.slots in
     let t : ℕ = c.fetch_add-ticket.result in let F : ℕ = c.args.history.now.fired in
     let id : ℕ = c.fetch_add-ticket.new.seat.id in
     let P : Run → Sat → Type 0 = λ r x. Allows (Lawful r) n id x (l + 1)
     (λ _. F + 1) (λ _. published (step n (l + 1) (F + 1) 0 none) x (F + 1)) in (
-      c.fetch_add-ticket.ensures.0 ∙ c.requires.table,
+      table ∙ c.requires.table,
       omega (arith, q.sized, counts_inside run (l + 1) (omega (arith, c.requires.flight.near))),
       subst (λ r. P r c.fetch_add-ticket.new.seat.me) (sym q.keyed)
-          (subst (P run) (sym c.fetch_add-ticket.ensures.2.0)
+          (subst (P run) (sym me)
           (lands run n id m l F t c.requires.flight c.requires.written)),
     )

@@ -16,12 +16,12 @@ back-init g c = let run : Run = c.args.run.now in let q = c.requires.chains in
     (omega (arith, q.heads_long, c.requires.near)) c.index-at.ensures in
     let last : IsLastArc run c.args.event (length run.arcs) h =
     subst (λ (x : ℕ). IsLastArc run c.args.event (length run.arcs) x) is
-    (q.head c.args.event c.requires.near) in (
-      last.below,
-      last.hit,
-      lined_none run c.args.event h c.args.arcs.now.items c.args.numbers.now.items c.requires.long
-          last,
-    )
+    (q.head c.args.event c.requires.near) in record {
+      below = last.below;
+      hit = last.hit;
+      lined = lined_none run c.args.event h c.args.arcs.now.items c.args.numbers.now.items c.requires.long
+          last;
+    }
 
 pub index-at-requires : goal.index-at-requires
 index-at-requires g c = omega (arith, c.requires.chains.heads_long, c.requires.near)
@@ -30,23 +30,23 @@ pub bounds-all-number : goal.bounds-all-number
 bounds-all-number g c =
     omega (
       arith,
-      c.back.invariant.0,
+      c.back.invariant.below,
       c.back-test.true,
       ap (λ (xs : List Arc). length xs) c.arcs-all.ensures,
     )
 
 pub overflow_cast-number : goal.overflow_cast-number
 overflow_cast-number g c =
-    omega (arith, c.back.invariant.0, c.back-test.true, c.requires.sound.few_arcs)
+    omega (arith, c.back.invariant.below, c.back-test.true, c.requires.sound.few_arcs)
 
 pub index-at-requires-in-back : goal.index-at-requires-in-back
 index-at-requires-in-back g c =
-    omega (arith, c.requires.chains.links_long, c.back.invariant.0, c.back-test.true)
+    omega (arith, c.requires.chains.links_long, c.back.invariant.below, c.back-test.true)
 
 pub back-smaller : goal.back-smaller
 back-smaller g c = let run : Run = c.args.run.now in let q = c.requires.chains in
     let m : ℕ = c.back.at - 1 in
-    let below : m < length run.arcs = omega (arith, c.back.invariant.0, c.back-test.true) in
+    let below : m < length run.arcs = omega (arith, c.back.invariant.below, c.back-test.true) in
     let got = read-off c.args.chains.now.links.items m c.index-at-in-back.result.now
     (omega (arith, q.links_long, below)) c.index-at-in-back.ensures in
     omega (arith, got, (q.link m below).below, c.back-test.true)
@@ -54,7 +54,7 @@ back-smaller g c = let run : Run = c.args.run.now in let q = c.requires.chains i
 pub of-requires : goal.of-requires
 of-requires g c = let run : Run = c.args.run.now in
     let m : ℕ = c.back.at - 1 in
-    let below : m < length run.arcs = omega (arith, c.back.invariant.0, c.back-test.true) in
+    let below : m < length run.arcs = omega (arith, c.back.invariant.below, c.back-test.true) in
     let same : c.index-all-number.result ≡ arc_numbered run m = c.index-all-number.is
     ∙ same-arc run c.arcs-all.result.now m _ c.arcs-all.ensures below in
     omega (
@@ -68,9 +68,9 @@ pub back-preserved : goal.back-preserved
 back-preserved g c = let run : Run = c.args.run.now in let q = c.requires.chains in
     let m : ℕ = c.back.at - 1 in let inv = c.back.invariant in
     let new : ℕ = c.index-at-in-back.result.now in let x : ArcIn = c.of.result in
-    let below : m < length run.arcs = omega (arith, inv.0, c.back-test.true) in
+    let below : m < length run.arcs = omega (arith, inv.below, c.back-test.true) in
     let into : (arc_numbered run m).target ≡ c.args.event =
-    inv.1 (omega (arith, c.back-test.true)) in
+    inv.hit (omega (arith, c.back-test.true)) in
     let got = read-off c.args.chains.now.links.items m new
     (omega (arith, q.links_long, below)) c.index-at-in-back.ensures in
     let last : IsLastArc run c.args.event m new =
@@ -87,11 +87,11 @@ back-preserved g c = let run : Run = c.args.run.now in let q = c.requires.chains
     let old : IsLinedUp run c.args.event (m + 1) c.args.arcs.now.items c.args.numbers.now.items
     c.back.arcs.items c.back.numbers.items =
     subst (λ (y : ℕ). IsLinedUp run c.args.event y c.args.arcs.now.items
-    c.args.numbers.now.items c.back.arcs.items c.back.numbers.items) (sym step) inv.2 in (
-      omega (arith, last.below, below),
-      last.hit,
-      lined_more run c.args.event m new c.args.arcs.now.items c.back.arcs.items
+    c.args.numbers.now.items c.back.arcs.items c.back.numbers.items) (sym step) inv.lined in record {
+      below = omega (arith, last.below, below);
+      hit = last.hit;
+      lined = lined_more run c.args.event m new c.args.arcs.now.items c.back.arcs.items
           c.push.new.self.items c.args.numbers.now.items c.back.numbers.items
           c.push-in-back.new.self.items x entry last old c.in_ok-push.ensures.items
-          c.in_ok-push-2.ensures.items,
-    )
+          c.in_ok-push-2.ensures.items;
+    }

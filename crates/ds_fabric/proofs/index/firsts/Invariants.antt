@@ -4,7 +4,9 @@ use Rattle.ds_fabric.specs.Ranged.{IsFrom}
 use Rattle.ds_fabric.proofs.index.firsts.Given as goal
 
 abbrev pub invariant-loop-node : goal.invariant-loop-node
-invariant-loop-node g l = (length l.firsts.items ≡ l.node)
-    × ((x : ℕ) → x < l.node → IsFrom l.fn.run x (slice_index l.firsts.items x))
-    × (l.at ≤ length l.fn.run.edges) × ((k : ℕ) → k < l.at
-    → (edge_at l.fn.run k).consumer < l.node)
+invariant-loop-node g l = record {
+  long : length l.firsts.items ≡ l.node;
+  each : (x : ℕ) → x < l.node → IsFrom l.fn.run x (slice_index l.firsts.items x);
+  near : l.at ≤ length l.fn.run.edges;
+  passed : (k : ℕ) → k < l.at → (edge_at l.fn.run k).consumer < l.node;
+}

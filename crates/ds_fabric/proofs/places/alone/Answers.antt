@@ -4,16 +4,16 @@ use Rattle.ds_fabric.proofs.Standing.{one_alone, none_alone}
 use Rattle.ds_fabric.proofs.places.alone.Goals as goal
 
 pub returns-then-room-eq1 : goal.returns-then-room-eq1
-returns-then-room-eq1 c =
+returns-then-room-eq1 c = let (_, _, few) = c.requires in
     λ h is. none_alone c.args.count c.args.room c.args.node h c.new.result.items (
-      c.requires.2,
+      few,
       omega (arith, c.if-room-eq1.true),
     ) c.if-room-eq1.true c.new.ensures.items
 
 pub returns : goal.returns
-returns c = λ h is. one_alone c.args.count c.args.room c.args.node h
+returns c = let (near, some, few) = c.requires in λ h is. one_alone c.args.count c.args.room c.args.node h
     (set c.in_ok-places.places.items c.args.node 1) (
-      c.requires.2,
+      few,
       omega (arith, c.ranges.room.fits),
-    ) c.requires.0 c.requires.1 is
+    ) near some is
     (ap (λ (xs : List ℕ). set xs c.args.node 1) c.in_ok-places.ensures)

@@ -28,7 +28,7 @@ index_mut-requires c = let q = c.requires.indexed in let ns : List History = c.a
     at_or ns c.loop-i.i c.index-nodes-i.result c.loop-i-test.true in
     omega (
       arith,
-      noted_inside q.0 q.1 c.args.first ns c.args.places.now.items c.loop-i.places.items h c.loop-i.i q.2 c.loop-i.invariant.0
+      noted_inside q.0 q.1 c.args.first ns c.args.places.now.items c.loop-i.places.items h c.loop-i.i q.2 c.loop-i.invariant.long
           (λ z. c.if-len-eq0.false (omega (arith, z, c.len.ensures))) q.4 at,
     )
 
@@ -36,22 +36,22 @@ pub loop-i-preserved : goal.loop-i-preserved
 loop-i-preserved c = let ns : List History = c.args.nodes.now in let i : ℕ = c.loop-i.i in
     let h : History = slice_index_or ns i c.index-nodes-i.result in
     let inv = c.loop-i.invariant in let ps : List ℕ = c.loop-i.places.items in
-    let at : get_elem? ns i ≡ some h = at_or ns i c.index-nodes-i.result c.loop-i-test.true in (
-      length-set ps h.node (i + 1) ∙ inv.0,
-      λ m r o room below. noted_more m r i (i + 1) ns ps h c.requires.distinct
-          (inv.1 m r o room below) at refl (omega (arith, c.loop-i-test.true)) (below i h at)
-          (λ z. c.if-len-eq0.false (omega (arith, z, c.len.ensures, inv.0))),
-      omega (arith, inv.2),
-    )
+    let at : get_elem? ns i ≡ some h = at_or ns i c.index-nodes-i.result c.loop-i-test.true in record {
+      long = length-set ps h.node (i + 1) ∙ inv.long;
+      indexed = λ m r o room below. noted_more m r i (i + 1) ns ps h c.requires.distinct
+          (inv.indexed m r o room below) at refl (omega (arith, c.loop-i-test.true)) (below i h at)
+          (λ z. c.if-len-eq0.false (omega (arith, z, c.len.ensures, inv.long)));
+      from = omega (arith, inv.from);
+    }
 
 pub returns : goal.returns
-returns c = λ m r o room below. let e : c.loop-i.i ≡ length c.args.nodes.now =
+returns c = let (near, _) = c.requires.near in λ m r o room below. let e : c.loop-i.i ≡ length c.args.nodes.now =
     omega (
       arith,
       c.loop-i-test.false,
       c.loop-i.auto.i-end,
-      c.loop-i.invariant.2,
-      c.requires.near.0,
+      c.loop-i.invariant.from,
+      near,
     ) in
     subst (λ (n : ℕ). IsIndexed m r n c.args.nodes.now c.loop-i.places.items) e
-    (c.loop-i.invariant.1 m r o room below)
+    (c.loop-i.invariant.indexed m r o room below)

@@ -33,24 +33,24 @@ stands g c = let run : Run = c.args.run.now in let l : ℕ = c.args.node in
     )
 
 pub returns-then-slack-eq0 : goal.returns-then-slack-eq0
-returns-then-slack-eq0 g c = let run : Run = c.args.run.now in let l : ℕ = c.args.node in
+returns-then-slack-eq0 g c = let (_, (_, started)) = c.requires.sound in let run : Run = c.args.run.now in let l : ℕ = c.args.node in
     omega (
       arith,
       one_alone c.args.turn run.slack (width run l)
           (omega (arith, c.if-slack-eq0.true, c.slack-slack.ensures)),
       place-turn run l c.args.turn,
-      c.requires.sound.1.1 l c.requires.near,
+      started l c.requires.near,
     )
 
 pub overflow_mul-result : goal.overflow_mul-result
-overflow_mul-result g c = let s = stands g (goal.at.overflow_mul-result g c).After-width in
-    omega (arith, s.0, s.1, c.requires.sound.0.sized)
+overflow_mul-result g c = let (sound, _) = c.requires.sound in let s = stands g (goal.at.overflow_mul-result g c).After-width in
+    omega (arith, s.0, s.1, sound.sized)
 
 pub overflow_add-result : goal.overflow_add-result
-overflow_add-result g c = let s = stands g (goal.at.overflow_add-result g c).After-width in
-    let first = c.requires.sound.1.1 c.args.node c.requires.near in
-    omega (arith, s.0, s.1, c.requires.sound.0.sized, first)
+overflow_add-result g c = let (sound, (_, started)) = c.requires.sound in let s = stands g (goal.at.overflow_add-result g c).After-width in
+    let first = started c.args.node c.requires.near in
+    omega (arith, s.0, s.1, sound.sized, first)
 
 pub returns : goal.returns
-returns g c = let s = stands g (goal.at.returns g c).After-width in
-    omega (arith, s.0, c.requires.sound.1.1 c.args.node c.requires.near)
+returns g c = let (_, (_, started)) = c.requires.sound in let s = stands g (goal.at.returns g c).After-width in
+    omega (arith, s.0, started c.args.node c.requires.near)

@@ -31,9 +31,9 @@ at_is g c = c.place_of-at.ensures ∙ ap (λ (p : ℕ). place c.args.context.now
     (c.args.turn - c.args.edge.tokens) 0) c.index-producer.ensures
 
 pub overflow_sub-before : goal.overflow_sub-before
-overflow_sub-before g c = let h = c.requires.edge in
+overflow_sub-before g c = let (opening, _) = c.requires.flight in let h = c.requires.edge in
     let d = c.args.context.now.built.over.sound.orders h.0 c.args.edge h.1 in
-    omega (arith, d.tokens_few, c.requires.flight.0.number)
+    omega (arith, d.tokens_few, opening.number)
 
 pub place_of-at-requires-clause-near : goal.place_of-at-requires-clause-near
 place_of-at-requires-clause-near g c = let q = c.args.context.now.built.over in
@@ -68,12 +68,12 @@ overflow_add-at g c = let q = c.args.context.now.built.over in let h = c.require
     )
 
 pub load-requires : goal.load-requires
-load-requires g c = let q = c.args.context.now.built.over in let run : Run = c.args.context.now.run.now in
+load-requires g c = let (o, _) = c.requires.flight in let q = c.args.context.now.built.over in let run : Run = c.args.context.now.run.now in
     let n : ℕ = c.args.context.now.board.now.table_id.slots in let j : ℕ = c.place_of-at.result + c.loop-i.i in
-    let h = c.requires.edge in let o = c.requires.flight.0 in
+    let h = c.requires.edge in
     let P : Run → Sat → Type 0 = λ r m. Allows (Lawful r) n c.loop-i.seat.id m j (λ y. y)
     (read (step n j 0 0 none) m) in (
-      c.loop-i.invariant.0 ∙ c.requires.table,
+      c.loop-i.invariant.table ∙ c.requires.table,
       omega (
         arith,
         row_ends run c.args.edge.producer (c.args.turn - c.args.edge.tokens)
@@ -85,7 +85,7 @@ load-requires g c = let q = c.args.context.now.built.over in let run : Run = c.a
         (c.width-i-end.ensures
             ∙ ap (width c.args.context.now.run.now) c.index-producer.ensures),
       ),
-      subst (λ r. P r c.loop-i.seat.me) (sym q.keyed) (subst (P run) (sym c.loop-i.invariant.2)
+      subst (λ r. P r c.loop-i.seat.me) (sym q.keyed) (subst (P run) (sym c.loop-i.invariant.me)
           (reads run n c.loop-i.seat.id c.args.seat.now.me j o.live
           (omega (arith, o.phase)) o.begins)),
     )
@@ -94,14 +94,14 @@ pub push_reserved-requires : goal.push_reserved-requires
 push_reserved-requires g c = omega (arith, c.requires.room)
 
 pub loop-i-init : goal.loop-i-init
-loop-i-init g c = (
-  refl,
-  refl,
-  refl,
-  c.push_reserved.ensures.items
-      ∙ ap (λ (x : ℕ). c.args.into.now.items ++ x ∷ []) c.index-producer.ensures,
-  c.push_reserved.ensures.capacity,
-)
+loop-i-init g c = record {
+  table = refl;
+  id = refl;
+  me = refl;
+  items = c.push_reserved.ensures.items
+      ∙ ap (λ (x : ℕ). c.args.into.now.items ++ x ∷ []) c.index-producer.ensures;
+  room = c.push_reserved.ensures.capacity;
+}
 
 pub push_reserved-requires-in-loop-i : goal.push_reserved-requires-in-loop-i
 push_reserved-requires-in-loop-i g c = let inv = c.loop-i.invariant in
@@ -109,10 +109,10 @@ push_reserved-requires-in-loop-i g c = let inv = c.loop-i.invariant in
     (c.args.turn - c.args.edge.tokens) in
     omega (
       arith,
-      ap length inv.3,
+      ap length inv.items,
       length-append c.args.into.now.items (c.args.edge.producer ∷ listed f c.loop-i.i),
       length-listed f c.loop-i.i,
-      inv.4,
+      inv.room,
       c.requires.room,
       c.loop-i-test.true,
       c.loop-i.auto.i-end,
@@ -120,8 +120,8 @@ push_reserved-requires-in-loop-i g c = let inv = c.loop-i.invariant in
     )
 
 pub loop-i-preserved : goal.loop-i-preserved
-loop-i-preserved g c = let inv = c.loop-i.invariant in let e = c.load.ensures in
-    let run : Run = c.args.context.now.run.now in let h = c.requires.edge in let o = c.requires.flight.0 in
+loop-i-preserved g c = let (o, away) = c.requires.flight in let inv = c.loop-i.invariant in let e = c.load.ensures in
+    let run : Run = c.args.context.now.run.now in let h = c.requires.edge in
     let k : ℕ = c.args.turn - c.args.edge.tokens in
     let f : ℕ → ℕ = value run c.args.edge.producer k in let i : ℕ = c.loop-i.i in
     let r : ℕ = c.load.result in let p : ℕ = c.args.edge.producer in let j : ℕ = c.place_of-at.result + i in
@@ -129,24 +129,24 @@ loop-i-preserved g c = let inv = c.loop-i.invariant in let e = c.load.ensures in
     → e.consumer ≡ m.0.node → i < width m.0.run e.producer
     → j ≡ place m.0.run e.producer (opened m.0.run m.0.node (seen m.0 m.0.node) + 1 - e.tokens) i
     → r ≡ value m.0.run e.producer (opened m.0.run m.0.node (seen m.0 m.0.node) + 1 - e.tokens) i in
-    let fact : T c.args.seat.now.me = subst T inv.2 e.2.1 in
-    let is : r ≡ f i = told run c.args.seat.now.me.0 c.args.edge.consumer c.args.turn o c.requires.flight.1 j r fact h.0 c.args.edge i h.1 refl
+    let fact : T c.args.seat.now.me = subst T inv.me e.2.1 in
+    let is : r ≡ f i = told run c.args.seat.now.me.0 c.args.edge.consumer c.args.turn o away j r fact h.0 c.args.edge i h.1 refl
     (omega (
       arith,
       c.loop-i-test.true,
       c.loop-i.auto.i-end,
       (c.width-i-end.ensures ∙ ap (width c.args.context.now.run.now) c.index-producer.ensures),
     ))
-    (omega (arith, at_is g (goal.at.loop-i-preserved g c).After-place_of-at, place-word run c.args.edge.producer k i)) in (
-      e.0 ∙ inv.0,
-      e.1 ∙ inv.1,
-      e.2.0 ∙ inv.2,
-      c.push_reserved-in-loop-i.ensures.items ∙ (ap (λ (xs : List ℕ). xs ++ r ∷ []) inv.3
+    (omega (arith, at_is g (goal.at.loop-i-preserved g c).After-place_of-at, place-word run c.args.edge.producer k i)) in record {
+      table = e.0 ∙ inv.table;
+      id = e.1 ∙ inv.id;
+      me = e.2.0 ∙ inv.me;
+      items = c.push_reserved-in-loop-i.ensures.items ∙ (ap (λ (xs : List ℕ). xs ++ r ∷ []) inv.items
           ∙ (append_assoc c.args.into.now.items (p ∷ listed f i) (r ∷ [])
           ∙ ap (λ (xs : List ℕ). c.args.into.now.items
-          ++ p ∷ xs) (ap (λ (x : ℕ). listed f i ++ x ∷ []) is ∙ sym (listed-next f i)))),
-      c.push_reserved-in-loop-i.ensures.capacity ∙ inv.4,
-    )
+          ++ p ∷ xs) (ap (λ (x : ℕ). listed f i ++ x ∷ []) is ∙ sym (listed-next f i))));
+      room = c.push_reserved-in-loop-i.ensures.capacity ∙ inv.room;
+    }
 
 pub returns-clause-value : goal.returns-clause-value
 returns-clause-value g c = let p : ℕ = c.args.edge.producer in
@@ -157,4 +157,4 @@ returns-clause-value g c = let p : ℕ = c.args.edge.producer in
       c.loop-i.auto.i-end,
       (c.width-i-end.ensures ∙ ap (width c.args.context.now.run.now) c.index-producer.ensures),
     ) in
-    c.loop-i.invariant.3 ∙ ap (λ (n : ℕ). c.args.into.now.items ++ p ∷ listed f n) end
+    c.loop-i.invariant.items ∙ ap (λ (n : ℕ). c.args.into.now.items ++ p ∷ listed f n) end

@@ -18,17 +18,14 @@ many : (run : Run) (l k : ℕ) (ws : List ℕ) → ws ≡ row run l k → length
 many run l k ws is = ap (λ (xs : List ℕ). length xs) is ∙ length-row run l k
 
 pub loop-i-init : goal.loop-i-init
-loop-i-init g c = (
-  refl,
-  refl,
-  ap (λ (w : ℕ). (
-    record c.args.seat.now.me.0 { written = w },
-    c.args.seat.now.me.1,
-  )) c.requires.flight.1,
-)
+loop-i-init g c = let (_, unwritten) = c.requires.flight in record {
+  table = refl;
+  id = refl;
+  me = ap (λ (w : ℕ). (record c.args.seat.now.me.0 { written = w }, c.args.seat.now.me.1)) unwritten;
+}
 
 pub overflow_add-at : goal.overflow_add-at
-overflow_add-at g c = let q = c.args.context.now.built.over in let o = c.requires.flight.0 in
+overflow_add-at g c = let q = c.args.context.now.built.over in let (o, _) = c.requires.flight in
     let run : Run = c.args.context.now.run.now in
     omega (
       arith,
@@ -40,7 +37,7 @@ overflow_add-at g c = let q = c.args.context.now.built.over in let o = c.require
     )
 
 pub store-requires : goal.store-requires
-store-requires g c = let q = c.args.context.now.built.over in let o = c.requires.flight.0 in
+store-requires g c = let q = c.args.context.now.built.over in let (o, _) = c.requires.flight in
     let run : Run = c.args.context.now.run.now in let n : ℕ = c.args.context.now.board.now.table_id.slots in
     let i : ℕ = c.loop-i.i in let j : ℕ = c.place_of-at.result + i in
     let new : ℕ = slice_index c.args.words.now i in let v : View = c.args.seat.now.me.0 in
@@ -48,9 +45,9 @@ store-requires g c = let q = c.args.context.now.built.over in let o = c.requires
     let small : i < width run c.args.node = omega (arith, wide, c.loop-i-test.true) in
     let P : Run → Sat → Type 0 = λ r m. Allows (Lawful r) n c.loop-i.seat.id m j (λ _. new)
     (λ _. wrote (step n j new 0 none) m new) in (
-      c.loop-i.invariant.0 ∙ c.requires.table,
+      c.loop-i.invariant.table ∙ c.requires.table,
       omega (arith, row_ends run c.args.node c.args.turn o.near, c.place_of-at.ensures, q.sized),
-      subst (λ r. P r c.loop-i.seat.me) (sym q.keyed) (subst (P run) (sym c.loop-i.invariant.2)
+      subst (λ r. P r c.loop-i.seat.me) (sym q.keyed) (subst (P run) (sym c.loop-i.invariant.me)
           (writes run n c.loop-i.seat.id (
             record v { written = i },
             c.args.seat.now.me.1,
@@ -63,21 +60,18 @@ store-requires g c = let q = c.args.context.now.built.over in let o = c.requires
     )
 
 pub loop-i-preserved : goal.loop-i-preserved
-loop-i-preserved g c = let inv = c.loop-i.invariant in let e = c.store.ensures in (
-  e.0 ∙ inv.0,
-  e.1 ∙ inv.1,
-  e.2 ∙ ap (λ (m : Sat). (
-    record m.0 { written = m.0.written + 1 },
-    m.1,
-  )) inv.2,
-)
+loop-i-preserved g c = let inv = c.loop-i.invariant in let e = c.store.ensures in record {
+  table = e.0 ∙ inv.table;
+  id = e.1 ∙ inv.id;
+  me = e.2 ∙ ap (λ (m : Sat). (record m.0 { written = m.0.written + 1 }, m.1)) inv.me;
+}
 
 pub returns-clause-me : goal.returns-clause-me
 returns-clause-me g c = let wide =
     many c.args.context.now.run.now c.args.node c.args.turn c.args.words.now c.requires.words in
     let e : c.loop-i.i ≡ width c.args.context.now.run.now c.args.node =
     omega (arith, c.loop-i-test.false, c.loop-i.auto.i-end) in
-    c.loop-i.invariant.2 ∙ ap (λ (w : ℕ). (
+    c.loop-i.invariant.me ∙ ap (λ (w : ℕ). (
       record c.args.seat.now.me.0 { written = w },
       c.args.seat.now.me.1,
     )) e

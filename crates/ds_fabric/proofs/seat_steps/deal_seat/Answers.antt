@@ -11,26 +11,26 @@ use Rattle.ds_rule.proofs.PlaceLaws.{counts_inside}
 use Rattle.ds_fabric.proofs.seat_steps.deal_seat.Goals as goal
 
 pub compare_exchange-requires : goal.compare_exchange-requires
-compare_exchange-requires g c = let q = c.requires.table.1 in let run : Run = c.args.run.now in
+compare_exchange-requires g c = let (table, q) = c.requires.table in let (live, at_rest) = c.requires.idle in let run : Run = c.args.run.now in
     let n : ℕ = c.args.board.now.table_id.slots in let l : ℕ = c.args.node in
     let P : Run → Type 0 = λ r. Allows (Lawful r) n c.args.seat.now.id c.args.seat.now.me 0
     (λ x. either (x == l) l x) (chose_cut (step n 0 l l none) c.args.seat.now.me) in (
-      c.requires.table.0,
+      table,
       omega (arith, q.sized, counts_inside run 0 (omega arith)),
       subst P (sym q.keyed)
-          (chooses_cut run n c.args.seat.now.id c.args.seat.now.me l c.requires.idle.0 c.requires.idle.1),
+          (chooses_cut run n c.args.seat.now.id c.args.seat.now.me l live at_rest),
     )
 
 pub split_seat-requires : goal.split_seat-requires
-split_seat-requires g c = let q = c.requires.table.1 in let run : Run = c.args.run.now in
-    let e = c.compare_exchange.ensures.2 in let v : View = c.args.seat.now.me.0 in
+split_seat-requires g c = let (table, q) = c.requires.table in let (live, at_rest) = c.requires.idle in let (same, _, e) = c.compare_exchange.ensures in
+    let run : Run = c.args.run.now in let v : View = c.args.seat.now.me.0 in
     let P : Run → Sat → Type 0 = λ r m. Splits (Lawful r) c.compare_exchange.new.seat.id m.0
     (without_cut m.0) (only_cut m.0) in (
-      c.compare_exchange.ensures.0 ∙ c.requires.table.0,
+      same ∙ table,
       omega (arith, q.sized, counts_inside run 0 (omega arith)),
       subst (λ r. P r c.compare_exchange.new.seat.me) (sym q.keyed)
           (subst (P run) (sym e) (deals run c.compare_exchange.new.seat.id
-          (with_cut v c.args.node) c.requires.idle.0 c.requires.idle.1 c.requires.held)),
+          (with_cut v c.args.node) live at_rest c.requires.held)),
     )
 
 pub returns : goal.returns

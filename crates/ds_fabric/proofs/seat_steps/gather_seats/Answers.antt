@@ -13,27 +13,28 @@ use Rattle.ds_rule.proofs.PlaceLaws.{counts_inside}
 use Rattle.ds_fabric.proofs.seat_steps.gather_seats.Goals as goal
 
 pub join_seat-requires : goal.join_seat-requires
-join_seat-requires g c = let q = c.requires.table.2 in let run : Run = c.args.run.now in
+join_seat-requires g c = let (table, also, q) = c.requires.table in let (live, alive, no_slot) = c.requires.live in let (at_rest, resting) = c.requires.idle in
+    let run : Run = c.args.run.now in
     let v : View = c.args.seat.now.me.0 in let w : View = c.args.other.me.0 in (
-      c.requires.table.0,
-      c.requires.table.1,
-      c.requires.live.2,
+      table,
+      also,
+      no_slot,
       omega (arith, q.sized, counts_inside run 0 (omega arith)),
       subst (λ (r : Run). Joins (Lawful r) c.args.seat.now.id v c.args.other.id w (taken_in v w) spent)
-          (sym q.keyed) (gathers run c.args.seat.now.id c.args.other.id v w c.requires.live.0 c.requires.live.1 c.requires.idle.0 c.requires.idle.1),
+          (sym q.keyed) (gathers run c.args.seat.now.id c.args.other.id v w live alive at_rest resting),
     )
 
 pub load-requires : goal.load-requires
-load-requires g c = let q = c.requires.table.2 in let run : Run = c.args.run.now in
+load-requires g c = let (table, _, q) = c.requires.table in let (live, _, _) = c.requires.live in let (at_rest, _) = c.requires.idle in let run : Run = c.args.run.now in
     let n : ℕ = c.args.board.now.table_id.slots in let j = c.join_seat.ensures in
     let P : Run → Type 0 =
     λ r. Allows (Lawful r) n c.join_seat.new.seat.id c.join_seat.new.seat.me 0 (λ y. y)
     (observed (step n 0 0 0 none) c.join_seat.new.seat.me) in (
-      j.0 ∙ c.requires.table.0,
+      j.0 ∙ table,
       omega (arith, q.sized, counts_inside run 0 (omega arith)),
       subst P (sym q.keyed) (observes run n c.join_seat.new.seat.id c.join_seat.new.seat.me 0
-          (ap (λ (m : Sat). m.0.live) j.2 ∙ c.requires.live.0) (ap (λ (m : Sat). m.0.phase) j.2
-          ∙ c.requires.idle.0)),
+          (ap (λ (m : Sat). m.0.live) j.2 ∙ live) (ap (λ (m : Sat). m.0.phase) j.2
+          ∙ at_rest)),
     )
 
 pub returns : goal.returns

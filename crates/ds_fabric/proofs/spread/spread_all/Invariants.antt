@@ -7,7 +7,9 @@ use Rattle.ds_fabric.specs.declared.history.History.{History}
 use Rattle.ds_fabric.proofs.spread.spread_all.Given as goal
 
 abbrev pub invariant-loop-i : goal.invariant-loop-i
-invariant-loop-i l = (length l.out ≡ length l.fn.out)
-    × ((p : Showing) → IsRecord p l.fn.nodes l.fn.places l.fn.design_nodes (length l.fn.out)
-    → (i : ℕ) (h : History) → i < l.i → get_elem? l.fn.nodes i ≡ some h
-    → HasSpread p.view.run h l.out)
+invariant-loop-i l = record {
+  long : length l.out ≡ length l.fn.out;
+  spread : (p : Showing) → IsRecord p l.fn.nodes l.fn.places l.fn.design_nodes (length l.fn.out)
+      → (i : ℕ) (h : History) → i < l.i → get_elem? l.fn.nodes i ≡ some h
+      → HasSpread p.view.run h l.out;
+}

@@ -16,13 +16,13 @@ latch-requires c =
 
 pub cone-requires : goal.cone-requires
 cone-requires c =
-    let (n, at) = c.requires.node in
+    let (n, at) = c.requires.node in let (range, split) = c.requires.design in
     let low : number_of n < nodes c.args.latches.now = number_below c.args.latches.now n at.node in
     let inside : number_of n < length c.bits.result.now = omega (low, c.bits.ensures.one_each, arith) in
     let these : c.as_slice.result.now ≡ nets_of c.args.latches.now n = lent c.bits.result.now (number_of n) c.index-place.result c.index-bits-place.result c.as_slice.result.now c.as_slice.ensures c.index-bits-place.is (c.index-place.ensures ∙ (c.latch.ensures ∙ sym at.is)) inside
     ∙ c.bits.ensures.nets n at.node in
     subst (λ (d : Circuit). All (λ net. net < length d.nets) c.as_slice.result.now) (sym c.requires.finder)
-    (subst (λ (xs : List ℕ). All (λ net. net < length c.args.latches.now.circuit.nets) xs) (sym these) (nets_within c.args.latches.now c.requires.design.1 c.requires.design.0 n at.node))
+    (subst (λ (xs : List ℕ). All (λ net. net < length c.args.latches.now.circuit.nets) xs) (sym these) (nets_within c.args.latches.now split range n at.node))
 
 -- what follows where there is an answer
 if_ok : {T E : Type 0} (r : Result T E) (P Q : T → Type 0) → ((x : T) → P x → Q x) → IfOk r P → IfOk r Q

@@ -25,19 +25,19 @@ consume-requires-clause-producers c =
     ∙ (c.in_ok-producers.ensures.one_each ∙ ap (λ (d : Circuit). length d.nets) (sym c.requires.finder))
 
 pub consume-requires-clause-before : goal.consume-requires-clause-before
-consume-requires-clause-before c =
+consume-requires-clause-before c = let (count, _) = c.requires.nodes.listed in
     let begun : c.in_ok-search.search ≡ begun_with c.in_ok-producers.producers.items (nodes (split_into c.args.netlist.now c.args.clusters.now)) =
-    c.in_ok-search.ensures ∙ ap (begun_with c.in_ok-producers.producers.items) c.requires.nodes.listed.0 in
+    c.in_ok-search.ensures ∙ ap (begun_with c.in_ok-producers.producers.items) count in
     let found : IsFoundBelow (split_into c.args.netlist.now c.args.clusters.now) 1 c.in_ok-search.search =
     subst (λ (f : Found). IsFoundBelow (split_into c.args.netlist.now c.args.clusters.now) 1 f) (sym begun) (found_none (split_into c.args.netlist.now c.args.clusters.now) c.in_ok-producers.producers.items c.in_ok-producers.ensures) in
     found.before
 
 pub returns-clause-ok : goal.returns-clause-ok
-returns-clause-ok c =
+returns-clause-ok c = let (count, _) = c.requires.nodes.listed in
     let these : c.as_slice.result.now ≡ nets_of (split_into c.args.netlist.now c.args.clusters.now) Out =
     c.as_slice.ensures ∙ node_at (split_into c.args.netlist.now c.args.clusters.now) c.args.nets.now c.requires.nodes.listed Out tt 1 refl c.index-nets-1.result c.index-nets-1.is in
     let begun : c.in_ok-search.search ≡ begun_with c.in_ok-producers.producers.items (nodes (split_into c.args.netlist.now c.args.clusters.now)) =
-    c.in_ok-search.ensures ∙ ap (begun_with c.in_ok-producers.producers.items) c.requires.nodes.listed.0 in
+    c.in_ok-search.ensures ∙ ap (begun_with c.in_ok-producers.producers.items) count in
     let found : IsFoundBelow (split_into c.args.netlist.now c.args.clusters.now) 1 c.in_ok-search.search =
     subst (λ (f : Found). IsFoundBelow (split_into c.args.netlist.now c.args.clusters.now) 1 f) (sym begun) (found_none (split_into c.args.netlist.now c.args.clusters.now) c.in_ok-producers.producers.items c.in_ok-producers.ensures) in
     consumed_out (split_into c.args.netlist.now c.args.clusters.now) c.args.nets.now c.requires.nodes c.in_ok-search.search c.consume.new.self found

@@ -10,7 +10,7 @@ pub nets_and_edges-requires-clause-few : goal.nets_and_edges-requires-clause-few
 nets_and_edges-requires-clause-few c = omega (arith, c.if-members-most.false, c.most.ensures, ap length c.members.ensures)
 
 pub of-requires : goal.of-requires
-of-requires c =
+of-requires c = let (nodes, edges) = c.in_ok-nets.ensures.ok in
     let row : c.in_ok-initial.initial ≡ initial_row c.args.netlist.now =
     c.in_ok-initial.ensures ∙ ap (λ (rs : List Register). map (λ r. initial_value r.initial) rs)
     (c.registers.ensures.registers ∙ ap (λ (d : Circuit). d.registers) c.design.ensures.design) in
@@ -27,4 +27,4 @@ of-requires c =
       initial = start;
       slack = 0;
     }) c.in_ok-nets.nets c.in_ok-nets.edges) (sym row)
-    (parts c.args.netlist.now c.args.clusters.now c.in_ok-nets.nets c.in_ok-nets.edges c.in_ok-nets.ensures.ok.0 c.in_ok-nets.ensures.ok.1))
+    (parts c.args.netlist.now c.args.clusters.now c.in_ok-nets.nets c.in_ok-nets.edges nodes edges))

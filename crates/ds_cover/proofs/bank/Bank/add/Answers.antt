@@ -21,7 +21,7 @@ returns-in_err-span-clause-same c =
     ap (λ (ss : List TableSpan). map (driven_in c.add_parts.new.inputs.items c.add_parts.new.masks.items) ss) c.reserve.ensures.items
     ∙ (spans_stay c.self.inside.inputs.items c.self.inside.masks.items c.self.inside.spans.items c.self.inside.quicks.items c.self.invariant
     c.add_parts.new.inputs.items c.add_parts.new.masks.items c.in_err-span.ensures.inputs c.in_err-span.ensures.masks ∙ sym view) in
-    let (_, refused, _) = err_from_is_err_and c.from_residual-in_err-span.result c.from_residual-in_err-span.ensures.1 in
+    let (_, error) = c.from_residual-in_err-span.ensures in let (_, refused, _) = err_from_is_err_and c.from_residual-in_err-span.result error in
     rw refused same
 
 pub invariant_of-self-2 : goal.invariant_of-self-2

@@ -28,11 +28,11 @@ begun run me room capacity n nodes ps sound is blank room-is roomy n-is long eac
 }
 
 pub invariant_of-pass : goal.invariant_of-pass
-invariant_of-pass g c =
+invariant_of-pass g c = let (long, each) = c.in_ok-places.ensures in
     begun c.args.run.now c.in_ok-fabric.seat.me c.nodes-room.result _ c.nodes.result
     c.in_ok-nodes.nodes.items c.in_ok-places.places.items c.requires.sound
     c.in_ok-fabric.ensures.first c.in_ok-nodes.ensures.blank c.nodes-room.ensures
-    c.in_ok-nodes.ensures.room c.nodes.ensures c.in_ok-places.ensures.0 c.in_ok-places.ensures.1
+    c.in_ok-nodes.ensures.room c.nodes.ensures long each
 
 pub returns : goal.returns
 returns g c = let s = c.in_ok-fabric.ensures in let b = c.in_ok-nodes.ensures.blank in record {

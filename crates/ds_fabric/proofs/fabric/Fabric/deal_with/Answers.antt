@@ -70,7 +70,7 @@ dealt me me' nodes items i node room capacity count h ps k at same is items-is c
     })
 
 pub invariant_of-result : goal.invariant_of-result
-invariant_of-result g c =
+invariant_of-result g c = let (_, dealt_me) = c.deal_seat-seat.ensures.new in
     let nodes : List History = c.pass.inside.nodes.items in
     let h : History = c.take_out-history.result in
     let same = taken nodes c.as_slice-held.result.now c.find-at.result c.index-number.result c.args.node h c.as_slice-held.ensures.value c.index-number.ensures
@@ -82,7 +82,7 @@ invariant_of-result g c =
     ∙ sym (ap (λ (x : Showing). x.view.run.nodes) c.pass.view_is)) in
     dealt c.pass.inside.seat.me c.deal_seat-seat.result.me nodes c.push_reserved.new.self.items c.find-at.result c.args.node c.args.room _ c.nodes.result h c.in_ok-places.places.items
     c.pass.invariant.keeps c.take_out-history.ensures.value same
-    (c.deal_seat-seat.ensures.new.1 ∙ ap (λ (n : ℕ). (
+    (dealt_me ∙ ap (λ (n : ℕ). (
       only_cut (with_cut c.pass.inside.seat.me.0 n),
       [],
     )) c.index-number.ensures) items
@@ -90,13 +90,13 @@ invariant_of-result g c =
     (omega (arith, c.push_reserved.ensures.capacity, c.in_ok-nodes.ensures.capacity))
 
 pub invariant_of-pass : goal.invariant_of-pass
-invariant_of-pass g c =
+invariant_of-pass g c = let (_, lent_me) = c.deal_seat-seat.ensures.lent in
     let me : Sat = c.pass.inside.seat.me in let me' : Sat = c.deal_seat-seat.new.seat.me in
     let nodes : List History = c.pass.inside.nodes.items in
     let h : History = c.take_out-history.result in
     let same = taken nodes c.as_slice-held.result.now c.find-at.result c.index-number.result c.args.node h c.as_slice-held.ensures.value c.index-number.ensures
     c.take_out-history.ensures.value c.find-at.ensures in
-    let is = c.deal_seat-seat.ensures.lent.1 ∙ ap (λ (n : ℕ). (
+    let is = lent_me ∙ ap (λ (n : ℕ). (
       without_cut (with_cut me.0 n),
       me.1,
     )) c.index-number.ensures in
@@ -112,7 +112,7 @@ invariant_of-pass g c =
     }
 
 pub alone-requires : goal.alone-requires
-alone-requires g c =
+alone-requires g c = let (built, _, _) = c.self.invariant in
     let runs = ap (λ (x : Base). x.run.nodes) c.self.view_is
     ∙ (ap (λ (r : Run). r.nodes) (sym c.requires.fits.run)
     ∙ sym (ap (λ (x : Showing). x.view.run.nodes) c.pass.view_is)) in
@@ -121,5 +121,5 @@ alone-requires g c =
     (sym c.pass.view_is) c.requires.held) in (
       omega (arith, near, runs, c.nodes.ensures, c.index-number.ensures),
       c.requires.room,
-      omega (arith, c.nodes.ensures, c.self.invariant.0.over.sound.few),
+      omega (arith, c.nodes.ensures, built.over.sound.few),
     )

@@ -11,7 +11,7 @@ use Rattle.ds_fabric.specs.Showing.{Showing, Keeps}
 use Rattle.ds_fabric.proofs.fabric.Fabric.finish.Goals as goal
 
 pub invariant_of-result : goal.invariant_of-result
-invariant_of-result g c =
+invariant_of-result g c = let (built, _, _) = c.self.invariant in
     let me : Sat = c.pass.inside.seat.me in let p : Showing = c.of-shown.result.value in
     let view : me.0 ≡ p.view = ap (λ (x : Showing). x.view) (c.pass.view_is
     ∙ sym c.of-shown.ensures) in
@@ -27,7 +27,7 @@ invariant_of-result g c =
       all = λ l h. subst (λ (x : Showing). holds x.view l ≡ true) (sym c.of-shown.ensures)
           (c.requires.all l (subst (λ (r : Run). l < r.nodes) (sym run
           ∙ ap (λ (x : Base). x.run) c.self.view_is) h));
-      sound = subst IsSound run c.self.invariant.0.over.sound;
+      sound = subst IsSound run built.over.sound;
       design_nodes_is = c.design_nodes.ensures ∙ ap (λ (r : Run). r.design_nodes) run;
       recorded = subst (λ (v : View). Recorded p.view.run (tickets v) c.close_table-many.result) view
           (subst (λ (r : Run). Recorded r

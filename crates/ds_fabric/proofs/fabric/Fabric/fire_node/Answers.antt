@@ -13,19 +13,19 @@ use Rattle.ds_fabric.proofs.fabric.Fabric.fire_node.Goals as goal
 use Rattle.ds_fabric.proofs.fabric.Fabric.fire_node.Goals.{After-fire_enabled}
 
 pub find-at-requires-clause-indexed : goal.find-at-requires-clause-indexed
-find-at-requires-clause-indexed g c = (
+find-at-requires-clause-indexed g c = let (room, pass) = c.requires.pass in (
   c.args.seat.now.me.0.run.nodes,
-  c.requires.pass.0,
-  indexed_same c.args.seat.now.me.0.run.nodes c.requires.pass.0 c.args.nodes.now.items
+  room,
+  indexed_same c.args.seat.now.me.0.run.nodes room c.args.nodes.now.items
       c.as_slice-held.result.now c.args.places.now.items c.as_slice.result.now
-      c.as_slice-held.ensures.value c.as_slice.ensures.value c.requires.pass.1.indexed,
+      c.as_slice-held.ensures.value c.as_slice.ensures.value pass.indexed,
 )
 
 pub find-at-requires-clause-there : goal.find-at-requires-clause-there
-find-at-requires-clause-there g c =
+find-at-requires-clause-there g c = let (_, pass) = c.requires.pass in
     stands_same c.args.nodes.now.items c.as_slice-held.result.now c.index-number.result c.args.node
     c.as_slice-held.ensures.value c.index-number.ensures
-    (c.requires.pass.1.keeps.found c.args.node c.requires.held)
+    (pass.keeps.found c.args.node c.requires.held)
 
 pub index_mut-requires : goal.index_mut-requires
 index_mut-requires g c =
@@ -33,14 +33,14 @@ index_mut-requires g c =
     c.index-number.result c.as_slice-held.ensures.value c.find-at.ensures in omega (arith, b)
 
 pub fire_enabled-requires-clause-run : goal.fire_enabled-requires-clause-run
-fire_enabled-requires-clause-run g c =
-    c.requires.table.1 ∙ sym (ap (λ (x : Base). x.run) c.self.view_is)
+fire_enabled-requires-clause-run g c = let (_, run) = c.requires.table in
+    run ∙ sym (ap (λ (x : Base). x.run) c.self.view_is)
 
 pub fire_enabled-requires-clause-keeps : goal.fire_enabled-requires-clause-keeps
-fire_enabled-requires-clause-keeps g c = (
+fire_enabled-requires-clause-keeps g c = let (_, pass) = c.requires.pass in (
   c.args.nodes.now.items,
   c.find-at.result,
-  c.requires.pass.1.keeps,
+  pass.keeps,
   there c.args.nodes.now.items c.as_slice-held.result.now c.find-at.result c.index-number.result
       c.index_mut.result.now c.as_slice-held.ensures.value c.find-at.ensures c.index_mut.ensures.value,
 )

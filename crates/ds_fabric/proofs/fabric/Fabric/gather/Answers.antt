@@ -11,18 +11,18 @@ use Rattle.ds_fabric.proofs.fabric.Fabric.gather.Goals.{After-as_slice}
 -- the pass keeps the histories of both
 kept : (g : Given.Over) (c : After-as_slice g)
     → Keeps c.gather_seats.new.seat.me (c.pass.inside.nodes.items ++ c.other.inside.nodes.items)
-kept g c =
+kept g c = let (_, me) = c.gather_seats.ensures.seat in
     let run = ap (λ (x : Showing). x.view.run) c.other.view_is
     ∙ (c.requires.other.run ∙ (sym c.requires.fits.run
     ∙ sym (ap (λ (x : Showing). x.view.run) c.pass.view_is))) in
     gathers_keep c.pass.inside.seat.me c.other.inside.seat.me c.gather_seats.new.seat.me
     c.pass.inside.nodes.items c.other.inside.nodes.items c.pass.invariant.keeps
-    c.other.invariant.keeps run c.gather_seats.ensures.seat.1 c.gather_seats.ensures.counts c.gather_seats.ensures.distinct
+    c.other.invariant.keeps run me c.gather_seats.ensures.counts c.gather_seats.ensures.distinct
 
 -- as many nodes as before are in the run
 same_run : (g : Given.Over) (c : After-as_slice g)
     → c.gather_seats.new.seat.me.0.run.nodes ≡ c.pass.inside.seat.me.0.run.nodes
-same_run g c = ap (λ (m : Sat). m.0.run.nodes) c.gather_seats.ensures.seat.1
+same_run g c = let (_, me) = c.gather_seats.ensures.seat in ap (λ (m : Sat). m.0.run.nodes) me
 
 -- the histories of both stand in the places of one
 got : (g : Given.Over) (c : After-as_slice g)

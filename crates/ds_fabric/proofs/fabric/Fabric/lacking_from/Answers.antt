@@ -12,36 +12,30 @@ use Rattle.ds_fabric.proofs.fabric.Fabric.lacking_from.Goals.{After-self}
 
 -- the event is one of the run
 near : (g : Given.Over) (c : After-self g) → c.args.event < events c.self.inside.run.now
-near g c = omega (arith, c.requires.1, ap (λ (x : Base). events x.run) c.self.view_is)
+near g c = let (_, inside) = c.requires in omega (arith, inside, ap (λ (x : Base). events x.run) c.self.view_is)
 
 pub index-start-requires : goal.index-start-requires
-index-start-requires g c = omega (
-  arith,
-  near g c,
-  c.self.invariant.2.starts_long,
-)
+index-start-requires g c = let (_, _, incoming) = c.self.invariant in
+    omega (arith, near g c, incoming.starts_long)
 
 pub overflow_add-event : goal.overflow_add-event
-overflow_add-event g c = omega (
+overflow_add-event g c = let (built, _, _) = c.self.invariant in omega (
   arith,
   near g (goal.at.overflow_add-event g c).After-self,
   events-is c.self.inside.run.now,
-  c.self.invariant.0.over.sound.few,
+  built.over.sound.few,
 )
 
 pub index-end-requires : goal.index-end-requires
-index-end-requires g c = omega (
-  arith,
-  near g (goal.at.index-end-requires g c).After-self,
-  c.self.invariant.2.starts_long,
-)
+index-end-requires g c = let (_, _, incoming) = c.self.invariant in
+    omega (arith, near g (goal.at.index-end-requires g c).After-self, incoming.starts_long)
 
 pub place_in-middle-requires : goal.place_in-middle-requires
-place_in-middle-requires g c =
+place_in-middle-requires g c = let (_, _, incoming) = c.self.invariant in
     (ends_read c.self.inside.run.now c.args.event c.index-start.result.now c.index-end.result.now
     c.self.inside.incoming.starts.items c.self.inside.incoming.numbers.items
     c.self.inside.incoming.arcs.items
-    (near g (goal.at.place_in-middle-requires g c).After-self) c.self.invariant.2
+    (near g (goal.at.place_in-middle-requires g c).After-self) incoming
     c.index-start.ensures c.index-end.ensures).2
 
 -- what looks between two places of the part of an event ask
@@ -56,21 +50,21 @@ asked run x id key event a b first end over into near a-is b-is from to =
     (run, event, over, into, near, omega (arith, e.0, from), omega (arith, e.1, to))
 
 pub lacking_between-ahead-requires-clause-inside : goal.lacking_between-ahead-requires-clause-inside
-lacking_between-ahead-requires-clause-inside g c =
+lacking_between-ahead-requires-clause-inside g c = let (built, _, incoming) = c.self.invariant in let (from, _) = c.place_in-middle.ensures in
     asked c.self.inside.run.now c.self.inside.incoming _ _ c.args.event c.index-start.result.now
-    c.index-end.result.now _ _ c.self.invariant.0.over c.self.invariant.2
+    c.index-end.result.now _ _ built.over incoming
     (near g (goal.at.lacking_between-ahead-requires-clause-inside g c).After-self)
-    c.index-start.ensures c.index-end.ensures c.place_in-middle.ensures.0 (le_refl _)
+    c.index-start.ensures c.index-end.ensures from (le_refl _)
 
 pub lacking_between-ahead-requires-clause-few : goal.lacking_between-ahead-requires-clause-few
-lacking_between-ahead-requires-clause-few g c = c.requires.0
+lacking_between-ahead-requires-clause-few g c = let (few, _) = c.requires in few
 
 pub lacking_between-found-requires-clause-inside : goal.lacking_between-found-requires-clause-inside
-lacking_between-found-requires-clause-inside g c =
+lacking_between-found-requires-clause-inside g c = let (built, _, incoming) = c.self.invariant in let (_, to) = c.place_in-middle.ensures in
     asked c.self.inside.run.now c.self.inside.incoming _ _ c.args.event c.index-start.result.now
-    c.index-end.result.now _ _ c.self.invariant.0.over c.self.invariant.2
+    c.index-end.result.now _ _ built.over incoming
     (near g (goal.at.lacking_between-found-requires-clause-inside g c).After-self)
-    c.index-start.ensures c.index-end.ensures (le_refl _) c.place_in-middle.ensures.1
+    c.index-start.ensures c.index-end.ensures (le_refl _) to
 
 pub lacking_between-found-requires-clause-few : goal.lacking_between-found-requires-clause-few
-lacking_between-found-requires-clause-few g c = c.requires.0
+lacking_between-found-requires-clause-few g c = let (few, _) = c.requires in few

@@ -40,9 +40,9 @@ invariant_of-fabric g c =
     )
 
 pub returns : goal.returns
-returns g c = record {
+returns g c = let (_, _, table, _, first, _) = c.in_ok-table.ensures in record {
   run_is = refl;
   memory = refl;
-  table = c.in_ok-table.ensures.2;
-  first = c.in_ok-table.ensures.4;
+  table = table;
+  first = first;
 }

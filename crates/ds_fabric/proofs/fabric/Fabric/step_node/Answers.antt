@@ -14,19 +14,19 @@ use Rattle.ds_fabric.proofs.fabric.Fabric.step_node.Goals as goal
 use Rattle.ds_fabric.proofs.fabric.Fabric.step_node.Goals.{After-fire_if_enabled}
 
 pub find-at-requires-clause-indexed : goal.find-at-requires-clause-indexed
-find-at-requires-clause-indexed g c = (
+find-at-requires-clause-indexed g c = let (room, pass) = c.requires.pass in (
   c.args.seat.now.me.0.run.nodes,
-  c.requires.pass.0,
-  indexed_same c.args.seat.now.me.0.run.nodes c.requires.pass.0 c.args.nodes.now.items
+  room,
+  indexed_same c.args.seat.now.me.0.run.nodes room c.args.nodes.now.items
       c.as_slice-held.result.now c.args.places.now.items c.as_slice.result.now
-      c.as_slice-held.ensures.value c.as_slice.ensures.value c.requires.pass.1.indexed,
+      c.as_slice-held.ensures.value c.as_slice.ensures.value pass.indexed,
 )
 
 pub find-at-requires-clause-there : goal.find-at-requires-clause-there
-find-at-requires-clause-there g c =
+find-at-requires-clause-there g c = let (_, pass) = c.requires.pass in
     stands_same c.args.nodes.now.items c.as_slice-held.result.now c.index-number.result c.args.node
     c.as_slice-held.ensures.value c.index-number.ensures
-    (c.requires.pass.1.keeps.found c.args.node c.requires.held)
+    (pass.keeps.found c.args.node c.requires.held)
 
 pub index_mut-requires : goal.index_mut-requires
 index_mut-requires g c =
@@ -34,14 +34,14 @@ index_mut-requires g c =
     c.index-number.result c.as_slice-held.ensures.value c.find-at.ensures in omega (arith, b)
 
 pub fire_if_enabled-requires-clause-run : goal.fire_if_enabled-requires-clause-run
-fire_if_enabled-requires-clause-run g c =
-    c.requires.table.1 ∙ sym (ap (λ (x : Base). x.run) c.self.view_is)
+fire_if_enabled-requires-clause-run g c = let (_, run) = c.requires.table in
+    run ∙ sym (ap (λ (x : Base). x.run) c.self.view_is)
 
 pub fire_if_enabled-requires-clause-keeps : goal.fire_if_enabled-requires-clause-keeps
-fire_if_enabled-requires-clause-keeps g c = (
+fire_if_enabled-requires-clause-keeps g c = let (_, pass) = c.requires.pass in (
   c.args.nodes.now.items,
   c.find-at.result,
-  c.requires.pass.1.keeps,
+  pass.keeps,
   there c.args.nodes.now.items c.as_slice-held.result.now c.find-at.result c.index-number.result
       c.index_mut.result.now c.as_slice-held.ensures.value c.find-at.ensures c.index_mut.ensures.value,
 )
@@ -81,10 +81,10 @@ returns-clause-step g c =
     (ap (λ (x : Base). x.run) c.self.view_is) c.fire_if_enabled.ensures.step)
 
 pub returns-clause-exact : goal.returns-clause-exact
-returns-clause-exact g c =
+returns-clause-exact g c = let (built, _, _) = c.self.invariant in
     let v : View = c.args.seat.now.me.0 in let l : ℕ = c.index_mut.result.now.node in
     let P : Run → ℕ → Type 0 = λ r l. FiresIfEnabled r v l c.fire_if_enabled.result in
     subst (P c.args.self.now.run) (node-is g (goal.at.returns-clause-exact g c).After-fire_if_enabled)
     (subst (λ (r : Run). P r l) (ap (λ (x : Base). x.run) c.self.view_is)
     (fires_if_enabled c.self.inside.run.now v c.fire_if_enabled.new.seat.me.0 l c.fire_if_enabled.result
-    c.self.invariant.0.over.sound c.fire_if_enabled.ensures.step))
+    built.over.sound c.fire_if_enabled.ensures.step))

@@ -18,11 +18,11 @@ held me ns zs l node k e n f =
     subst (λ (x : ℕ). holds me.0 x ≡ true) (f.1.2 ∙ n) t.has
 
 pub returns : goal.returns
-returns c = let me : Sat = c.self.inside.seat.me in
+returns c = let (to, from) = c.has.ensures in let me : Sat = c.self.inside.seat.me in
     let ns : List History = c.self.inside.nodes.items in (
       (λ t. subst (λ (x : Showing). holds x.view c.args.node ≡ true) c.self.view_is
-          (held me ns c.as_slice-nodes.result.now c.index.result c.args.node c.self.invariant.keeps c.as_slice-nodes.ensures.value c.index.ensures (c.has.ensures.0 t))),
-      (λ h. c.has.ensures.1
+          (held me ns c.as_slice-nodes.result.now c.index.result c.args.node c.self.invariant.keeps c.as_slice-nodes.ensures.value c.index.ensures (to t))),
+      (λ h. from
           (stands_same ns c.as_slice-nodes.result.now c.index.result c.args.node c.as_slice-nodes.ensures.value c.index.ensures
           (c.self.invariant.keeps.found c.args.node
           (subst (λ (x : Showing). holds x.view c.args.node ≡ true) (sym c.self.view_is) h)))),
