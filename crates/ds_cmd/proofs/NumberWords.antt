@@ -1,6 +1,6 @@
 -- Words that are numbers.
 use Rattle.std.proofs.Common.{◌≡◌, ◌==◌, ◌&&◌, ◌<◌, ◌≤◌, ◌^◌, ℕ, Bool, true, false, not, length}
-use Rattle.std.proofs.Common.{◌∷◌, [], Option, Some, None, Ok, Err, inl, inr, refl, arith, ap, sym}
+use Rattle.std.proofs.Common.{◌∷◌, [], Some, None, Ok, Err, inl, inr, refl, arith, ap, sym}
 use Rattle.std.proofs.Common.{◌∙◌, if◌then◌else◌, rules}
 use Rattle.std.specs.Prelude.{nat_lt, nat_le}
 use Rattle.std.specs.Char.{is_ascii_digit}

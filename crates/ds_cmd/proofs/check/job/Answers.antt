@@ -2,4 +2,4 @@ use Rattle.ds_cmd.proofs.MemoryAnswers.{wants_memory}
 use Rattle.ds_cmd.proofs.check.job.Goals as goal
 
 pub returns-in_err-new : goal.returns-in_err-new
-returns-in_err-new c = wants_memory _ _ c.from_residual.ensures.1
+returns-in_err-new c = wants_memory _ _ c.from_residual.ensures

@@ -1,17 +1,16 @@
-use Rattle.std.proofs.Common.{◌≡◌, ◌∙◌, inl, inr, refl, ap, sym, subst, true, map, [], Result}
-use Rattle.std.proofs.lemmas.Result.{err_from_is_err_and}
+use Rattle.std.proofs.Common.{◌≡◌, ◌∙◌, inl, inr, ap, sym, subst, true, map, [], Result}
 use Rattle.clap.specs.Words.{App, HasMatchesOf, HasKind, fault_of, is_simple_and_free, kind_of}
 use Rattle.ds_cmd.specs.Fault.{Gives}
 use Rattle.ds_cmd.specs.Line.{job_in}
 use Rattle.ds_cmd.specs.declared.job.Job.{Job}
 use Rattle.ds_cmd.specs.declared.fault.UsageFault.{UsageFault}
 use Rattle.ds_cmd.proofs.AllowedNumbers.{allowed_if_given}
+use Rattle.ds_cmd.proofs.MemoryAnswers.{wants_memory}
 use Rattle.ds_cmd.proofs.ParsedJob.{is_free, is_plainly, taken, refused}
 use Rattle.ds_cmd.proofs.line.parse.Goals as goal
 
 pub returns-in_err-command-clause-value : goal.returns-in_err-command-clause-value
-returns-in_err-command-clause-value c =
-    let p = err_from_is_err_and c.from_residual.result c.from_residual.ensures.1 in rw (p.1, p.2) (inl refl)
+returns-in_err-command-clause-value c = wants_memory _ _ c.from_residual.ensures
 
 pub returns-in-Ok-clause-value : goal.returns-in-Ok-clause-value
 returns-in-Ok-clause-value c =

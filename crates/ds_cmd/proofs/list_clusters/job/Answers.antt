@@ -2,7 +2,7 @@ use Rattle.ds_cmd.proofs.MemoryAnswers.{wants_memory}
 use Rattle.ds_cmd.proofs.list_clusters.job.Goals as goal
 
 pub returns-in_err-new : goal.returns-in_err-new
-returns-in_err-new c = wants_memory _ _ c.from_residual.ensures.1
+returns-in_err-new c = wants_memory _ _ c.from_residual.ensures
 
 pub returns-in_err-named : goal.returns-in_err-named
-returns-in_err-named c = wants_memory _ _ c.from_residual-in_err-named.ensures.1
+returns-in_err-named c = wants_memory _ _ c.from_residual-in_err-named.ensures

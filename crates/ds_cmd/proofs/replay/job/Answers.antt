@@ -2,16 +2,16 @@ use Rattle.ds_cmd.proofs.MemoryAnswers.{wants_memory}
 use Rattle.ds_cmd.proofs.replay.job.Goals as goal
 
 pub returns-in_err-new : goal.returns-in_err-new
-returns-in_err-new c = wants_memory _ _ c.from_residual.ensures.1
+returns-in_err-new c = wants_memory _ _ c.from_residual.ensures
 
 pub returns-in_err-new-2 : goal.returns-in_err-new-2
-returns-in_err-new-2 c = wants_memory _ _ c.from_residual-in_err-new-2.ensures.1
+returns-in_err-new-2 c = wants_memory _ _ c.from_residual-in_err-new-2.ensures
 
 pub returns-in_err-new-3 : goal.returns-in_err-new-3
-returns-in_err-new-3 c = wants_memory _ _ c.from_residual-in_err-new-3.ensures.1
+returns-in_err-new-3 c = wants_memory _ _ c.from_residual-in_err-new-3.ensures
 
 pub returns-in_err-named : goal.returns-in_err-named
-returns-in_err-named c = wants_memory _ _ c.from_residual-in_err-named.ensures.1
+returns-in_err-named c = wants_memory _ _ c.from_residual-in_err-named.ensures
 
 pub returns-in_err-named-2 : goal.returns-in_err-named-2
-returns-in_err-named-2 c = wants_memory _ _ c.from_residual-in_err-named-2.ensures.1
+returns-in_err-named-2 c = wants_memory _ _ c.from_residual-in_err-named-2.ensures

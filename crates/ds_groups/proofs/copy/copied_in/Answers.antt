@@ -16,5 +16,6 @@ returns-in_err-copy-clause-none c = subst (λ (o : Option Copied). IfNone o (IsO
     (copied_digits c.args.word.now name copy c.place_of-place.result few e c.place_of-place.ensures.value))
 
 pub returns-clause-some : goal.returns-clause-some
-returns-clause-some c = cut_at c.args.word.now c.in_ok-copy.copy c.place_of-place.result c.place_of-place.ensures.value
-    (omega (arith, c.place_of-place.ensures.within, c.if-place-word.false)) c.in_ok-copy.ensures.some.1
+returns-clause-some c = let (_, digits) = c.in_ok-copy.ensures.some in
+    cut_at c.args.word.now c.in_ok-copy.copy c.place_of-place.result c.place_of-place.ensures.value
+    (omega (arith, c.place_of-place.ensures.within, c.if-place-word.false)) digits

@@ -5,5 +5,7 @@ use Rattle.ds_groups.specs.Names.{driven_nets}
 use Rattle.ds_groups.proofs.named.Named.of.Given as goal
 
 abbrev pub invariant-loop-i : goal.invariant-loop-i
-invariant-loop-i l = IsIndex (driven_nets l.design) l.i l.index
-    × ((r : ℕ) → r < l.i → (driven_net (driven_nets l.design) r).copy < 2 ^ 32)
+invariant-loop-i l = record {
+  index : IsIndex (driven_nets l.design) l.i l.index;
+  short : (r : ℕ) → r < l.i → (driven_net (driven_nets l.design) r).copy < 2 ^ 32;
+}
