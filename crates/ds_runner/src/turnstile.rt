@@ -65,7 +65,13 @@ impl Turnstile {
         let (words, mut slots) = rooms(alloc, passes.len())?;
         fill_slots(passes, &mut slots);
         match Table::new(alloc, words.as_slice(), slots, &key) {
-            Ok((table, seat)) => Ok((Turnstile { table }, Turn { seat, permits: turns })),
+            Ok((table, seat)) => Ok((
+                Turnstile { table },
+                Turn {
+                    seat,
+                    permits: turns,
+                },
+            )),
             Err(Refused { slots }) => {
                 empty_slots(&key, slots, passes);
                 Err(OutOfMemory)
